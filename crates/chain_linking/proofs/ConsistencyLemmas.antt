@@ -1,10 +1,10 @@
--- Interlinks that are answered, index by index, agree.
+-- Interlinks that are consistent at each index are consistent.
 use Rattle.std.proofs.Common.{◌≡◌, ◌↔◌, ℕ, zero, suc, ◌+◌, ◌≤◌, ◌<◌, Bool, Option, None, Some, refl, sym, ap, ◌∙◌, subst, arith}
 use Rattle.std.specs.Prelude.{IsTrue}
 use Rattle.chain_laws.specs.Chains.{LinkMap, Interlinks, IsWellLinked, HasLinksWithin, prev_in, next_in}
 use Rattle.chain_linking.specs.Consistency.{IsWellLinkedAt}
 
--- a look at the one index that an interlink names tells whether that interlink is answered
+-- reading the link that an interlink names decides consistency
 pub is_answered : (named naming : ℕ → Option ℕ) (i j : ℕ) (look : Option ℕ) (answer : Bool) → Some j ≡ named i → look ≡ naming j → (IsTrue answer ↔ (look ≡ Some i))
     → IsTrue answer ↔ ((k : ℕ) → named i ≡ Some k → naming k ≡ Some i)
 is_answered named naming i j look answer names looked test = (
@@ -13,14 +13,14 @@ is_answered named naming i j look answer names looked test = (
 )
 
 module _ (link_map : LinkMap) where
-  -- where no link stands there is nothing to answer
+  -- an index without a link is consistent
   nothing_there : (i : ℕ) → link_map i ≡ None → IsWellLinkedAt link_map i
   nothing_there i none = record {
     forth = λ j at. absurd (let both = sym (ap next_in none) ∙ at in cc);
     back = λ j at. absurd (let both = sym (ap prev_in none) ∙ at in cc);
   }
 
-  -- all links stand within so many slots, so no more has to be looked at
+  -- interlinks that are consistent within the slots are consistent
   pub agrees_all : (slots : ℕ) → HasLinksWithin link_map slots → ((k : ℕ) → k < slots → IsWellLinkedAt link_map (k + 1)) → IsWellLinked link_map
   agrees_all slots within each = record { both = λ i j. ((at i).forth j, (at j).back i) } where
     there : (i : ℕ) → (1 ≤ i) × (i ≤ slots) → IsWellLinkedAt link_map i

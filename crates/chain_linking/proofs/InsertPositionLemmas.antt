@@ -1,4 +1,4 @@
--- Lemmas on the names of links, and on the gaps that kinds give.
+-- Lemmas on the names of links and on insertion positions.
 use Rattle.std.proofs.Common.{◌≡◌, ℕ, true, Option, None, Some, ap, sym, ◌∙◌}
 use Rattle.std.specs.Prelude.{is_some, IfSome}
 use Rattle.std.specs.Option.{option_map}
@@ -14,12 +14,12 @@ use Rattle.chain_links.proofs.LinkStateLemmas.{entry_at-links_view}
 use Rattle.chain_linking.specs.InsertPositions.{IsPositionOf}
 use Rattle.chain_linking.proofs.ConnectionLemmas.{value_at}
 
--- what follows where there is some
+-- `IfSome` is monotone
 pub if_some : {A : Type 0} {P Q : A → Type 0} (o : Option A) → ((x : A) → P x → Q x) → IfSome o P → IfSome o Q
 if_some None then given = tt
 if_some (Some x) then given = then x given
 
--- what a link that stands shows
+-- the entry and the interlinks at an index
 module _ {Gen K T : Type 0} (number : K → Option ℕ) (a : Arena Gen (LinkBody K T)) (i : ℕ) where
   pub stands-seen : (g : Gen) (link : LinkBody K T) → entry_at a i ≡ Some (g, link) → entry (links_view number a) i ≡ Some (g, link.t)
   stands-seen g link stands = value_at number a i ∙ ap (option_map (on_value (λ l. l.t))) stands
@@ -33,7 +33,7 @@ module _ {Gen K T : Type 0} (number : K → Option ℕ) (a : Arena Gen (LinkBody
   pub nothing-seen : entry_at a i ≡ None → entry (links_view number a) i ≡ None
   nothing-seen none = value_at number a i ∙ ap (option_map (on_value (λ l. l.t))) none
 
--- what kinds ask of a link that stands
+-- a link meets the conditions of these kinds
 module _ {Gen T : Type 0} (entry : ℕ → Option (Gen × T)) (interlinks : LinkMap) (a : LinkName Gen) (l : Interlinks) (has : HasName entry a) (shows : interlinks a.0 ≡ Some l) where
   pub may_follow : l.next ≡ None → MayInsert entry interlinks (chain_end a)
   may_follow none = (has, (record { link = l; shows = shows }, ap next_in shows ∙ none))
@@ -47,14 +47,14 @@ module _ {Gen T : Type 0} (entry : ℕ → Option (Gen × T)) (interlinks : Link
   pub may_come_before : MayInsert entry interlinks (prev_to a)
   may_come_before = (has, record { link = l; shows = shows })
 
-  -- .. which one that has a neighbour there does not meet
+  -- a link with a neighbor on that side does not meet the condition
   pub not_an_end : is_some l.next ≡ true → MayInsert entry interlinks (chain_end a) → ⊥
   not_an_end some may = false≢true (sym (ap is_some (sym (ap next_in shows) ∙ may.1.1)) ∙ some)
 
   pub not_a_start : is_some l.prev ≡ true → MayInsert entry interlinks (chain_start a) → ⊥
   not_a_start some may = false≢true (sym (ap is_some (sym (ap prev_in shows) ∙ may.1.1)) ∙ some)
 
--- where a kind may not be inserted there is no gap
+-- a kind that may not be inserted has no position
 pub no_gap : {I Gen T : Type 0} (number : I → ℕ) (entry : ℕ → Option (Gen × T)) (interlinks : LinkMap) (kind : InsertKind (LinkName Gen)) → (MayInsert entry interlinks kind → ⊥) → IsPositionOf number entry interlinks kind None
 no_gap number entry interlinks kind never = record { some = (λ is. absurd (false≢true is), λ may. absurd (never may)); before = tt; after = tt }
 
@@ -63,7 +63,7 @@ pub found_valid : {A : Type 0} (interlinks : LinkMap) (i : ℕ) (f : A → Inter
 found_valid interlinks i f None some shows = cc
 found_valid interlinks i f (Some x) some shows = record { link = f x; shows = shows }
 
--- two links that stand, the one before the other
+-- a new link may come between neighbors
 pub may_come_between : {Gen T : Type 0} (at : ℕ → Option (Gen × T)) (interlinks : LinkMap) (a b : LinkName Gen) (l : Interlinks) → HasName at a → HasName at b
     → interlinks a.0 ≡ Some l → HasLink interlinks b.0 → l.next ≡ Some b.0 → MayInsert at interlinks (at_interlink a b)
 may_come_between at interlinks a b l has_a has_b shows valid next = ((has_a, has_b), (record { link = l; shows = shows }, valid, ap next_in shows ∙ next))

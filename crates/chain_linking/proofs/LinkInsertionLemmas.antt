@@ -1,4 +1,4 @@
--- What the insertion of a link between two does to the state of a chain arena.
+-- The insertion of a link between two others in the state of an arena.
 use Rattle.std.proofs.Common.{◌≡◌, ℕ, Bool, true, false, Option, Some, refl, ap, sym, ◌∙◌, subst, ⊎_elim}
 use Rattle.std.specs.Prelude.{◌==◌, if◌then◌else◌, is_some, IfSome}
 use Rattle.std.proofs.lemmas.Bool.{cases_eq}
@@ -34,7 +34,7 @@ module _ {Gen T : Type 0} where
       ∙ relinked-again a followed (prev_set followed v (Some q)) fits))
 
 module _ {Gen T : Type 0} (a : Arena Gen (LinkView T)) (free : AreFree a.slots a.freed) (t : T) where
-  -- a link that names others is a lone link with its interlinks written, where b tells whether it is looked at
+  -- a link that names others is a lone link with interlinks written, at each index
   named_at : (b : Bool) (u v : Option ℕ) (e : Option (Gen × LinkView T)) → (if b then Some (a.counter, new_link t u v) else e)
       ≡ relink (if b then Some (link u v) else option_map interlinks_of e) (if b then Some (a.counter, lone t) else e)
   named_at true u v e = refl
@@ -53,7 +53,7 @@ module _ {Gen T : Type 0} (a : Arena Gen (LinkView T)) (free : AreFree a.slots a
   FitsLinks-with_link : (u v : Option ℕ) → FitsLinks (with_link (link_map a) (next_index a) u v) (insert_lone a t)
   FitsLinks-with_link u v i = fits_at (i == next_index a) u v (entry_at a i) ∙ ap is_some (sym (slot_at-filled a.freed a.slots (a.counter, lone t) i free))
 
-  -- a link that names u and v, and is then named by them, is inserted between them
+  -- a link that names u and v and is named by them is inserted between them
   pub placed : (u v : Option ℕ) → (u ≡ Some (next_index a) → v ≡ Some (next_index a)) → named_by (insert_next a (new_link t u v)) u v (next_index a) ≡ insert_between a t u v
   placed u v itself =
       let base = insert_lone a t in
@@ -64,21 +64,21 @@ module _ {Gen T : Type 0} (a : Arena Gen (LinkView T)) (free : AreFree a.slots a
       ∙ (ap (λ (m : LinkMap). relinked (relinked base named) (prev_set (next_set m u (Some q)) v (Some q))) (link_map-relinked base named fits)
       ∙ (relinked-again base named (prev_set (next_set named u (Some q)) v (Some q)) fits ∙ ap (relinked base) (inserted_by_writes (link_map a) q u v itself)))
 
-  -- a link that names none, and is then named by itself, is inserted in a ring of its own
+  -- a lone link that is then named by itself is a ring
   pub ringed : named_by (insert_lone a t) (Some (next_index a)) (Some (next_index a)) (next_index a) ≡ insert_between a t (Some (next_index a)) (Some (next_index a))
   ringed =
       let q = next_index a in
       ap (λ (m : LinkMap). relinked (insert_lone a t) (linked m (Some q) (Some q))) (link_map-insert_lone a t free)
       ∙ ap (relinked (insert_lone a t)) (ringed_by_writes (link_map a) q)
 
-  -- the new link of a gap, named by the links of the gap, is inserted in it
+  -- a new link that the links of its position name is inserted there
   pub placed_in : {I : Type 0} (number : I → ℕ) (gap : InsertPosition I) → (before_in number gap (next_index a) ≡ Some (next_index a) → after_in number gap (next_index a) ≡ Some (next_index a))
       → named_by (insert_next a (new_link t (named_before number gap) (named_after number gap))) (before_in number gap (next_index a)) (after_in number gap (next_index a)) (next_index a)
       ≡ insert_between a t (before_in number gap (next_index a)) (after_in number gap (next_index a))
   placed_in number Itself itself = ringed
   placed_in number (Between u v) itself = placed (option_map number u) (option_map number v) itself
 
--- an insertion into the arena that holds the links, where those of the gap then name the new one
+-- an insertion in the stored arena of links
 module _ {Gen K T I : Type 0} (packed : K → Option ℕ) (number : I → ℕ) (a b : Arena Gen (LinkBody K T)) (d : Arena Gen (LinkView T)) (gap : InsertPosition I) (t : T) (link : LinkBody K T)
     (listed : IsListed a) (link_is : link_view packed link ≡ new_link t (named_before number gap) (named_after number gap))
     (itself : before_in number gap (next_index (links_view packed a)) ≡ Some (next_index (links_view packed a)) → after_in number gap (next_index (links_view packed a)) ≡ Some (next_index (links_view packed a)))
@@ -99,7 +99,7 @@ module _ {Gen K T I : Type 0} (packed : K → Option ℕ) (number : I → ℕ) (
   pub placed_in_room : b ≡ insert_next a link → d ≡ in_gap
   placed_in_room is = tied_next ∙ (ap (λ (x : Arena Gen (LinkBody K T)). tied_at_next (links_view packed x)) is ∙ named_next)
 
--- what stands after the insertion of a link
+-- the entries after the insertion of a link
 module _ {Gen T : Type 0} (a : Arena Gen (LinkView T)) (free : AreFree a.slots a.freed) (l : LinkView T) where
   abbrev entry_after : ℕ → Option (Gen × LinkView T)
   entry_after i = if i == next_index a then Some (a.counter, l) else entry_at a i
@@ -113,7 +113,7 @@ module _ {Gen T : Type 0} (a : Arena Gen (LinkView T)) (free : AreFree a.slots a
   old_stands : (i : ℕ) → HasLink (link_map a) i → HasLink (link_map (insert_next a l)) i
   old_stands i has = ⊎_elim (new_stands i) (λ other. record { link = has.link; shows = shows_after i ∙ (ap (option_map interlinks_of) (if_other i (next_index a) _ _ other) ∙ has.shows) }) (cases_eq i (next_index a))
 
-  -- the links of a gap stand
+  -- the links of the position exist
   gap_stands : (u v : Option ℕ) → IsWellLinked (link_map a) → IsInsertPosition (link_map a) (next_index a) u v → IfSome u (HasLink (link_map (insert_next a l))) × IfSome v (HasLink (link_map (insert_next a l)))
   gap_stands u v agrees gap =
       let between = gap_between (link_map a) (next_index a) u v agrees (link_map-next a free) gap in (
@@ -121,7 +121,7 @@ module _ {Gen T : Type 0} (a : Arena Gen (LinkView T)) (free : AreFree a.slots a
         if_each v (HasLink (link_map (insert_next a l))) (λ i is. ⊎_elim (old_stands i) (new_stands i) (between.valid_after i is)),
       )
 
--- the links of a gap stand in the arena that holds the links, when the new one is there
+-- the links of a position exist in the stored arena of links after the insertion
 module _ {Gen K T I : Type 0} (packed : K → Option ℕ) (number : I → ℕ) (a b : Arena Gen (LinkBody K T)) (gap : InsertPosition I) (link : LinkBody K T) (listed : IsListed a) (agrees : IsWellLinked (link_map (links_view packed a)))
     (is_gap : IsInsertPosition (link_map (links_view packed a)) (next_index (links_view packed a)) (before_in number gap (next_index (links_view packed a))) (after_in number gap (next_index (links_view packed a))))
     (i : ℕ) (at : i ≡ next_index a) (is : b ≡ insert_next a link) where

@@ -1,4 +1,4 @@
--- Links stand at the indexes that links name.
+-- There are links at the indexes that links name.
 use Rattle.std.proofs.Common.{◌≡◌, ◌≢◌, ℕ, Option, None, Some, refl, ap, sym, ◌∙◌}
 use Rattle.std.specs.Prelude.{is_some, IsSome, IfSome}
 use Rattle.std.specs.Option.{option_map}
@@ -16,12 +16,12 @@ use Rattle.arena_base.specs.Arena.{Arena, entry_at, IsValid}
 use Rattle.chain_linking.specs.ChainArenaLaws.{links_exist}
 use Rattle.chain_linking.proofs.LinkWriteLemmas.{FitsLinks, FitsLinks-link_map, link_map-relinked}
 
--- what holds of each index that an optional one may be
+-- `IfSome` by cases of the option
 pub if_each : {A : Type 0} (o : Option A) (P : A → Type 0) → ((x : A) → o ≡ Some x → P x) → IfSome o P
 if_each None P each = tt
 if_each (Some x) P each = each x refl
 
--- where something is shown a link stands
+-- an index in the link map has a link
 link_where : (link_map : LinkMap) (i : ℕ) → IsSome (link_map i) → HasLink link_map i
 link_where link_map i some = of (link_map i) refl some
   where
@@ -29,25 +29,25 @@ link_where link_map i some = of (link_map i) refl some
     of None is none = absurd (false≢true none)
     of (Some l) is here = shows_valid link_map i l is
 
--- where interlinks agree, a link stands after each that names one ..
+-- with consistent interlinks, the index after a link has a link
 pub next_named : (link_map : LinkMap) (i : ℕ) → IsWellLinked link_map → IfSome (next_of link_map i) (HasLink link_map)
 next_named link_map i agrees = if_each (next_of link_map i) (HasLink link_map) (λ j is. prev_valid link_map j i ((agrees.both i j).0 is))
 
--- .. and before it
+-- with consistent interlinks, the index before a link has a link
 pub prev_named : (link_map : LinkMap) (i : ℕ) → IsWellLinked link_map → IfSome (prev_of link_map i) (HasLink link_map)
 prev_named link_map i agrees = if_each (prev_of link_map i) (HasLink link_map) (λ j is. next_valid link_map j i ((agrees.both j i).1 is))
 
--- another one stands when a link is gone
+-- other links stay when the link at i is removed
 pub apart_named : (link_map : LinkMap) (i : ℕ) (o : Option ℕ) → IfSome o (HasLink link_map) → o ≢ Some i → IfSome o (HasLink (vacated link_map i))
 apart_named link_map i None stands apart = tt
 apart_named link_map i (Some j) stands apart = (HasLink-vacated link_map i j).1 (stands, λ same. apart (ap Some same))
 
 module _ {Gen T : Type 0} where
-  -- a link stands at the index of a valid pointer
+  -- a valid pointer has a link
   pub valid_link : (a : Arena Gen (LinkView T)) (p : ℕ × Gen) → IsValid (entry a) p → HasLink (link_map a) p.0
   valid_link a p valid = link_where (link_map a) p.0 (links_exist a p.0 ∙ ap is_some valid.stands)
 
-  -- links stand where they stood, whatever they name
+  -- a write of interlinks removes no link
   pub still_named : (a b : Arena Gen (LinkView T)) (interlinks : LinkMap) (i : Option ℕ) → FitsLinks interlinks a → b ≡ relinked a interlinks → IfSome i (HasLink (link_map a)) → IfSome i (HasLink (link_map b))
   still_named a b interlinks None fits is stands = tt
   still_named a b interlinks (Some i) fits is stands = link_where (link_map b) i
@@ -55,12 +55,12 @@ module _ {Gen T : Type 0} where
       ∙ (ap (λ (m : LinkMap). is_some (m i)) (link_map-relinked a interlinks fits) ∙ (fits i ∙ (sym (FitsLinks-link_map a i) ∙ ap is_some stands.shows))))
 
 module _ {Gen K T : Type 0} (number : K → Option ℕ) where
-  -- no link stands where no entry does ..
+  -- an index without an entry has no link
   pub nothing_at : (a : Arena Gen (LinkBody K T)) (n : ℕ) → entry_at a n ≡ None → HasLink (link_map (links_view number a)) n → ⊥
   nothing_at a n none stands =
       let nothing : link_map (links_view number a) n ≡ None = ap (option_map interlinks_of) (entry_at-links_view number a n ∙ ap (option_map (pair_view number)) none) in
       not_both_ways (link_map (links_view number a) n) stands.link nothing stands.shows
 
-  -- .. and where no value does
+  -- an index without a value has no link
   pub nothing_named : (a : Arena Gen (LinkBody K T)) (n : ℕ) → option_map (λ (e : Gen × LinkBody K T). e.1) (entry_at a n) ≡ None → HasLink (link_map (links_view number a)) n → ⊥
   nothing_named a n none stands = nothing_at a n (no_entry (entry_at a n) none) stands

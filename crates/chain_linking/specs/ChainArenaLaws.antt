@@ -1,4 +1,4 @@
--- A link stands where an entry stands, and an advancer that has no step left passes nothing.
+-- Links exist where entries exist, and an advancer without steps left passes nothing.
 use Rattle.std.specs.Prelude.{◌≡◌, ℕ, zero, suc, List, [], ◌∷◌, map, Option, None, Some, is_some, slice_index_or}
 use Rattle.std.specs.Option.{option_map}
 use Rattle.std.proofs.Common.{refl, subst}

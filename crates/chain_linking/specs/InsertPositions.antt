@@ -1,4 +1,4 @@
--- The gap that a kind of insertion gives: the two links that a new one comes between.
+-- The insertion position of a kind: the links that a new one comes between.
 use Rattle.std.specs.Prelude.{◌≡◌, ◌↔◌, ℕ, IsSome, IfSome, Option, None, Some}
 use Rattle.std.specs.Option.{option_map}
 use Rattle.chain_laws.specs.Chains.{LinkMap, prev_of, next_of}
@@ -28,21 +28,21 @@ module _ {I : Type 0} (number : I → ℕ) where
   named_after Itself = None
   named_after (Between u v) = option_map number v
 
-  -- the answer is the gap of the kind, where that may be inserted
+  -- the result is the position of the kind, or `None` if it may not be inserted
   pub record IsPositionOf {Gen T : Type 0} (entry : ℕ → Option (Gen × T)) (interlinks : LinkMap) (kind : InsertKind (LinkName Gen)) (answer : Option (InsertPosition I)) : Type 0 where
     pub some : IsSome answer ↔ MayInsert entry interlinks kind
     pub before : IfSome answer (λ gap. (q : ℕ) → before_in gap q ≡ link_before interlinks (by_index kind) q)
     pub after : IfSome answer (λ gap. (q : ℕ) → after_in gap q ≡ link_after interlinks (by_index kind) q)
 
   module _ {Gen T : Type 0} where
-    -- .. in an arena of links
+    -- the position of a kind in an arena of links
     abbrev pub IsPositionIn : Arena Gen (LinkView T) → InsertKind (LinkName Gen) → Option (InsertPosition I) → Type 0
     IsPositionIn a kind answer = IsPositionOf (entry a) (link_map a) kind answer
 
-    -- where a link has the name, the answer is the index of the link after it
+    -- the index after the link with the name, if there is such a link
     abbrev pub IsNextOf : Arena Gen (LinkView T) → LinkName Gen → Option I → Type 0
     IsNextOf a name answer = HasName (entry a) name → option_map number answer ≡ next_of (link_map a) name.0
 
-    -- .. and of the link before it
+    -- the index before the link with the name, if there is such a link
     abbrev pub IsPrevOf : Arena Gen (LinkView T) → LinkName Gen → Option I → Type 0
     IsPrevOf a name answer = HasName (entry a) name → option_map number answer ≡ prev_of (link_map a) name.0

@@ -1,4 +1,4 @@
--- Interlinks written in the state: what was written is shown, and nothing else has changed.
+-- Writes to interlinks in the state of an arena, which change nothing else.
 use Rattle.std.specs.Prelude.{◌≡◌, ◌≢◌, ℕ, IfSome, Option, None, Some}
 use Rattle.std.specs.Option.{option_map}
 use Rattle.chain_laws.specs.Chains.{LinkMap, HasLink, prev_of, next_of}
@@ -11,11 +11,11 @@ abbrev pub numbers : {I : Type 0} → (I → ℕ) → Option I × Option I → O
 numbers number p = (option_map number p.0, option_map number p.1)
 
 module _ {Gen T : Type 0} where
-  -- the link at i names another as the one after it
+  -- the `next` of the link at i is written
   abbrev pub next_written : Arena Gen (LinkView T) → Option ℕ → Option ℕ → Arena Gen (LinkView T)
   next_written a i next = relinked a (next_set (link_map a) i next)
 
-  -- .. and as the one before it
+  -- the `prev` of the link at i is written
   abbrev pub prev_written : Arena Gen (LinkView T) → Option ℕ → Option ℕ → Arena Gen (LinkView T)
   prev_written a i prev = relinked a (prev_set (link_map a) i prev)
 
@@ -23,7 +23,7 @@ module _ {Gen T : Type 0} where
   abbrev pub linked_up : Arena Gen (LinkView T) → Option ℕ → Option ℕ → Arena Gen (LinkView T)
   linked_up a u v = relinked a (linked (link_map a) u v)
 
-  -- .. and then the second of another pair after its first
+  -- the pair p is linked, then the pair q
   abbrev pub linked_twice : Arena Gen (LinkView T) → Option ℕ × Option ℕ → Option ℕ × Option ℕ → Arena Gen (LinkView T)
   linked_twice a p q = relinked a (linked (linked (link_map a) p.0 p.1) q.0 q.1)
 
@@ -33,12 +33,13 @@ module _ {Gen T : Type 0} (entry : ℕ → Option (Gen × T)) (interlinks : Link
     pub valid : IsValid entry p
     pub end : next_of interlinks p.0 ≡ None
 
-  -- .. and no link comes before it
+  -- p is valid, and no link comes before it
   pub record IsValidStart : Type 0 where
     pub valid : IsValid entry p
     pub start : prev_of interlinks p.0 ≡ None
 
--- what a link that has gone from i stood between: each of u and v stands, or it was alone in a ring, and both are i
+-- u and v were beside the link removed from i: they have links, or both are i, which was alone
+-- in a ring
 pub record WereBeside (link_map : LinkMap) (i : ℕ) (u v : Option ℕ) : Type 0 where
   pub gone : link_map i ≡ None
   pub before : u ≢ Some i → IfSome u (HasLink link_map)

@@ -11,7 +11,7 @@ use arena_base::{Arena, ArenaSlot, ArenaTrait};
 use arena_ptr::{InxKey, PtrKey, SlotStack};
 use chain_links::LinkNoGen;
 
-/// Whether the pointer is valid and no link comes after its own.
+/// Returns whether `p` is valid and no link comes after its link.
 pub fn is_end<P: PtrKey, T: Drop, S: SlotStack<Item = ArenaSlot<P, LinkNoGen<P, T>>>>(
     arena: &Arena<P, LinkNoGen<P, T>, S>,
     p: P,
@@ -25,7 +25,7 @@ pub fn is_end<P: PtrKey, T: Drop, S: SlotStack<Item = ArenaSlot<P, LinkNoGen<P, 
     }
 }
 
-/// Whether the pointer is valid and no link comes before its own.
+/// Returns whether `p` is valid and no link comes before its link.
 pub fn is_start<P: PtrKey, T: Drop, S: SlotStack<Item = ArenaSlot<P, LinkNoGen<P, T>>>>(
     arena: &Arena<P, LinkNoGen<P, T>, S>,
     p: P,
@@ -39,7 +39,7 @@ pub fn is_start<P: PtrKey, T: Drop, S: SlotStack<Item = ArenaSlot<P, LinkNoGen<P
     }
 }
 
-// The index that is given, if a link stands there.
+// Returns `i` if a link is stored there.
 fn standing_at<P: PtrKey, T: Drop, S: SlotStack<Item = ArenaSlot<P, LinkNoGen<P, T>>>>(
     arena: &Arena<P, LinkNoGen<P, T>, S>,
     i: Option<P::Inx>,
@@ -61,7 +61,7 @@ fn standing_at<P: PtrKey, T: Drop, S: SlotStack<Item = ArenaSlot<P, LinkNoGen<P,
     }
 }
 
-// Sets the index after the link at i, if i is an index and a link is stored there.
+// Sets the index after the link at `i`, if there is a link.
 fn set_next<P: PtrKey, T: Drop, S: SlotStack<Item = ArenaSlot<P, LinkNoGen<P, T>>>>(
     arena: &mut Arena<P, LinkNoGen<P, T>, S>,
     i: Option<P::Inx>,
@@ -75,7 +75,7 @@ fn set_next<P: PtrKey, T: Drop, S: SlotStack<Item = ArenaSlot<P, LinkNoGen<P, T>
     link_writes::set_next(arena, i, next);
 }
 
-// The link at i, if one stands there, names none as the one after it. It is not the likely way, so it stays out of line.
+// Clears the index after the link at `i`, if there is a link. Unlikely, so out of line.
 #[cold]
 #[inline(never)]
 fn take_back<P: PtrKey, T: Drop, S: SlotStack<Item = ArenaSlot<P, LinkNoGen<P, T>>>>(
@@ -88,8 +88,10 @@ fn take_back<P: PtrKey, T: Drop, S: SlotStack<Item = ArenaSlot<P, LinkNoGen<P, T
     set_next(arena, Some(i), None);
 }
 
-/// q comes after p, if it may. So that each slot is looked at once, p names q before q is looked at, and where q may not be
-/// named takes that back.
+/// Links `q` after `p`, or returns `None` and changes nothing if they cannot be connected.
+///
+/// To visit each slot once, it writes `q` to the link of `p` before it checks `q`, and undoes that
+/// write if the check fails.
 pub fn join<P: PtrKey, T: Drop, S: SlotStack<Item = ArenaSlot<P, LinkNoGen<P, T>>>>(
     arena: &mut Arena<P, LinkNoGen<P, T>, S>,
     p: P,

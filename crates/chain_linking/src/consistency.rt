@@ -1,4 +1,4 @@
-// Whether the interlinks of an arena of links agree.
+// Checks whether the interlinks of an arena of links are consistent.
 ghost use Rattle.std.specs.Prelude.{◌≡◌, ◌↔◌, IsTrue};
 ghost use Rattle.std.specs.Option.{option_map};
 ghost use Rattle.chain_laws.specs.Chains.{IsWellLinked, prev_of, next_of};
@@ -11,7 +11,7 @@ use arena_base::{Arena, ArenaSlot, ArenaTrait, inx_at};
 use arena_ptr::{InxKey, PtrKey, SlotStack};
 use chain_links::LinkNoGen;
 
-/// The indexes that the link at an index names: of the link before it and of the one after it. No link stands there: none.
+/// Returns the indexes before and after the link at `i`, both `None` if there is no link.
 pub fn neighbors_at<P: PtrKey, T: Drop, S: SlotStack<Item = ArenaSlot<P, LinkNoGen<P, T>>>>(
     arena: &Arena<P, LinkNoGen<P, T>, S>,
     i: P::Inx,
@@ -27,7 +27,7 @@ pub fn neighbors_at<P: PtrKey, T: Drop, S: SlotStack<Item = ArenaSlot<P, LinkNoG
     }
 }
 
-/// Whether the link that comes after the one at an index, if there is one, names it as the link before.
+/// Returns whether the link after `i`, if any, names `i` as the one before it.
 pub fn agrees_forth<P: PtrKey, T: Drop, S: SlotStack<Item = ArenaSlot<P, LinkNoGen<P, T>>>>(
     arena: &Arena<P, LinkNoGen<P, T>, S>,
     i: P::Inx,
@@ -42,7 +42,7 @@ pub fn agrees_forth<P: PtrKey, T: Drop, S: SlotStack<Item = ArenaSlot<P, LinkNoG
     }
 }
 
-// Whether the link that comes before the one at an index, if there is one, names it as the link after.
+// Returns whether the link before `i`, if any, names `i` as the one after it.
 fn agrees_back<P: PtrKey, T: Drop, S: SlotStack<Item = ArenaSlot<P, LinkNoGen<P, T>>>>(
     arena: &Arena<P, LinkNoGen<P, T>, S>,
     i: P::Inx,
@@ -56,7 +56,7 @@ fn agrees_back<P: PtrKey, T: Drop, S: SlotStack<Item = ArenaSlot<P, LinkNoGen<P,
     }
 }
 
-/// Whether the interlinks of the link at an index are answered.
+/// Returns whether each neighbor of the link at `i` names `i` in turn.
 pub fn agrees_at<P: PtrKey, T: Drop, S: SlotStack<Item = ArenaSlot<P, LinkNoGen<P, T>>>>(
     arena: &Arena<P, LinkNoGen<P, T>, S>,
     i: P::Inx,
@@ -67,10 +67,12 @@ pub fn agrees_at<P: PtrKey, T: Drop, S: SlotStack<Item = ArenaSlot<P, LinkNoGen<
     agrees_forth(arena, i) && agrees_back(arena, i)
 }
 
-/// Whether the interlinks agree: a link comes after another exactly if that comes before it. So each interlink names a
-/// valid index. No clause tells its time: as it is written, that is in proportion to the slots.
+/// Returns whether the interlinks are consistent: j comes after i exactly if i comes before j.
 ///
-/// It stands in place of `_check_interlinks` of `triple_arena`, which is hidden there.
+/// Each interlink then names a valid index. The time is linear in the number of slots, which
+/// is not proved.
+///
+/// Takes the place of `_check_interlinks` of `triple_arena`, which is hidden there.
 pub fn links_agree<P: PtrKey, T: Drop, S: SlotStack<Item = ArenaSlot<P, LinkNoGen<P, T>>>>(
     arena: &Arena<P, LinkNoGen<P, T>, S>,
 ) -> bool

@@ -1,4 +1,4 @@
-// Where a kind puts a new link: the two links that it comes between, found once for all kinds.
+// Finds the insertion position of a kind: the two links that a new one comes between.
 ghost use Rattle.std.specs.Prelude.{◌≡◌, IsTrue, IsSome, IfSome, ◌↔◌, Some, None};
 ghost use Rattle.std.specs.Option.{option_map};
 ghost use Rattle.chain_laws.specs.Insertions.{chain_end, chain_start, next_to, prev_to, at_interlink, bridge};
@@ -12,14 +12,14 @@ use arena_ptr::{InxKey, PtrKey, SlotStack};
 use chain_links::LinkNoGen;
 use chain_links::kinds::{Name, NamedKind, index_of};
 
-/// The two links that a new one comes between: itself on both sides, or others, of which each may be missing.
+/// The two links that a new one comes between: itself on both sides, or others, each optional.
 #[derive(Clone, Copy)]
 pub enum InsertPosition<I> {
     Itself,
     Between(Option<I>, Option<I>),
 }
 
-// The link that has a name.
+// Returns the link with a name, if there is one.
 fn find<P: PtrKey, T: Drop, S: SlotStack<Item = ArenaSlot<P, LinkNoGen<P, T>>>>(
     arena: &Arena<P, LinkNoGen<P, T>, S>,
     name: Name<P, P::Inx>,
@@ -39,7 +39,7 @@ fn find<P: PtrKey, T: Drop, S: SlotStack<Item = ArenaSlot<P, LinkNoGen<P, T>>>>(
     }
 }
 
-/// The index of the link after the one that has a name.
+/// Returns the index after the link with a name. `None` if either is missing.
 pub fn next_of<P: PtrKey, T: Drop, S: SlotStack<Item = ArenaSlot<P, LinkNoGen<P, T>>>>(
     arena: &Arena<P, LinkNoGen<P, T>, S>,
     name: Name<P, P::Inx>,
@@ -55,7 +55,7 @@ pub fn next_of<P: PtrKey, T: Drop, S: SlotStack<Item = ArenaSlot<P, LinkNoGen<P,
     }
 }
 
-/// The index of the link before the one that has a name.
+/// Returns the index before the link with a name. `None` if either is missing.
 pub fn prev_of<P: PtrKey, T: Drop, S: SlotStack<Item = ArenaSlot<P, LinkNoGen<P, T>>>>(
     arena: &Arena<P, LinkNoGen<P, T>, S>,
     name: Name<P, P::Inx>,
@@ -71,7 +71,7 @@ pub fn prev_of<P: PtrKey, T: Drop, S: SlotStack<Item = ArenaSlot<P, LinkNoGen<P,
     }
 }
 
-/// Whether an optional index is this one.
+/// Returns whether `i` is the index `j`.
 pub fn is_index<I: InxKey>(i: Option<I>, j: I) -> bool
     ensures { IsTrue result ↔ (option_map I.number i ≡ Some (I.number j)) }
 {
@@ -81,7 +81,7 @@ pub fn is_index<I: InxKey>(i: Option<I>, j: I) -> bool
     }
 }
 
-// After the end of a chain.
+// Returns the position after `a`, if that is the end of a chain.
 fn after_end<P: PtrKey, T: Drop, S: SlotStack<Item = ArenaSlot<P, LinkNoGen<P, T>>>>(
     arena: &Arena<P, LinkNoGen<P, T>, S>,
     a: Name<P, P::Inx>,
@@ -101,7 +101,7 @@ fn after_end<P: PtrKey, T: Drop, S: SlotStack<Item = ArenaSlot<P, LinkNoGen<P, T
     }
 }
 
-// Before the start of a chain.
+// Returns the position before `b`, if that is the start of a chain.
 fn before_start<P: PtrKey, T: Drop, S: SlotStack<Item = ArenaSlot<P, LinkNoGen<P, T>>>>(
     arena: &Arena<P, LinkNoGen<P, T>, S>,
     b: Name<P, P::Inx>,
@@ -121,7 +121,7 @@ fn before_start<P: PtrKey, T: Drop, S: SlotStack<Item = ArenaSlot<P, LinkNoGen<P
     }
 }
 
-// After a link.
+// Returns the position after a link, if there is one.
 fn after<P: PtrKey, T: Drop, S: SlotStack<Item = ArenaSlot<P, LinkNoGen<P, T>>>>(
     arena: &Arena<P, LinkNoGen<P, T>, S>,
     a: Name<P, P::Inx>,
@@ -135,7 +135,7 @@ fn after<P: PtrKey, T: Drop, S: SlotStack<Item = ArenaSlot<P, LinkNoGen<P, T>>>>
     }
 }
 
-// Before a link.
+// Returns the position before a link, if there is one.
 fn before<P: PtrKey, T: Drop, S: SlotStack<Item = ArenaSlot<P, LinkNoGen<P, T>>>>(
     arena: &Arena<P, LinkNoGen<P, T>, S>,
     b: Name<P, P::Inx>,
@@ -149,7 +149,7 @@ fn before<P: PtrKey, T: Drop, S: SlotStack<Item = ArenaSlot<P, LinkNoGen<P, T>>>
     }
 }
 
-// Between two neighbors.
+// Returns the position between `a` and `b`, if they are neighbors.
 fn between<P: PtrKey, T: Drop, S: SlotStack<Item = ArenaSlot<P, LinkNoGen<P, T>>>>(
     arena: &Arena<P, LinkNoGen<P, T>, S>,
     a: Name<P, P::Inx>,
@@ -170,7 +170,7 @@ fn between<P: PtrKey, T: Drop, S: SlotStack<Item = ArenaSlot<P, LinkNoGen<P, T>>
     }
 }
 
-// After the end of a chain and before the start of one.
+// Returns the position after `a` and before `b`, if they are an end and a start of chains.
 fn bridging<P: PtrKey, T: Drop, S: SlotStack<Item = ArenaSlot<P, LinkNoGen<P, T>>>>(
     arena: &Arena<P, LinkNoGen<P, T>, S>,
     a: Name<P, P::Inx>,
@@ -186,7 +186,9 @@ fn bridging<P: PtrKey, T: Drop, S: SlotStack<Item = ArenaSlot<P, LinkNoGen<P, T>
     }
 }
 
-/// The gap of a kind. `None`: what the kind asks is not met. Inlined, a kind that is known leaves its own arm alone.
+/// Returns the insertion position of a kind, or `None` if its conditions are not met.
+///
+/// Inlined, so that a kind known at compile time leaves only its own branch.
 #[inline(always)]
 pub fn gap_of<P: PtrKey, T: Drop, S: SlotStack<Item = ArenaSlot<P, LinkNoGen<P, T>>>>(
     arena: &Arena<P, LinkNoGen<P, T>, S>,

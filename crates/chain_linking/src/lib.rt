@@ -1,5 +1,5 @@
-//! How the interlinks of a plain arena of links are read and written: gaps for new links, links tied and taken out, walks,
-//! and whether the interlinks agree.
+//! Reads and writes the interlinks of a plain arena of links: insertion positions, links, walks and
+//! a consistency check.
 #![tactic(auto)]
 
 pub mod connection;

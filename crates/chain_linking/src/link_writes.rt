@@ -1,4 +1,4 @@
-// How the interlinks of links are read and written that are known to stand: none is looked for where it is written.
+// Reads and writes links at indexes that are proved occupied, so no write checks for a link.
 ghost use Rattle.std.specs.Prelude.{◌≡◌, IsSome, IfSome, None};
 ghost use Rattle.std.specs.Option.{option_map, option_and_then};
 ghost use Rattle.arena_ptr.specs.Invalidation.{value_within, invalidation_result};
@@ -15,7 +15,7 @@ use arena_base::{Arena, ArenaSlot, ArenaTrait, excluded, outcome};
 use arena_ptr::{InvalidationResult, InxKey, PtrKey, SlotStack};
 use chain_links::{LinkNoGen, link_access};
 
-/// The pointer of now to the link that an interlink names.
+/// Returns the current pointer to the link that an interlink names.
 pub fn neighbor<P: PtrKey, T: Drop, S: SlotStack<Item = ArenaSlot<P, LinkNoGen<P, T>>>>(
     arena: &Arena<P, LinkNoGen<P, T>, S>,
     i: Option<P::Inx>,
@@ -34,7 +34,7 @@ pub fn neighbor<P: PtrKey, T: Drop, S: SlotStack<Item = ArenaSlot<P, LinkNoGen<P
     }
 }
 
-/// The link at i, if i is an index, names another as the one after it.
+/// Sets the index after the link at `i`, if `i` is an index.
 pub fn set_next<P: PtrKey, T: Drop, S: SlotStack<Item = ArenaSlot<P, LinkNoGen<P, T>>>>(
     arena: &mut Arena<P, LinkNoGen<P, T>, S>,
     i: Option<P::Inx>,
@@ -55,7 +55,7 @@ pub fn set_next<P: PtrKey, T: Drop, S: SlotStack<Item = ArenaSlot<P, LinkNoGen<P
     }
 }
 
-/// The link at i, if i is an index, names another as the one before it.
+/// Sets the index before the link at `i`, if `i` is an index.
 pub fn set_prev<P: PtrKey, T: Drop, S: SlotStack<Item = ArenaSlot<P, LinkNoGen<P, T>>>>(
     arena: &mut Arena<P, LinkNoGen<P, T>, S>,
     i: Option<P::Inx>,
@@ -76,7 +76,7 @@ pub fn set_prev<P: PtrKey, T: Drop, S: SlotStack<Item = ArenaSlot<P, LinkNoGen<P
     }
 }
 
-/// One link follows another, each where it is some index.
+/// Links `next` after `prev`. If either is `None`, only the other link is written.
 pub fn link_up<P: PtrKey, T: Drop, S: SlotStack<Item = ArenaSlot<P, LinkNoGen<P, T>>>>(
     arena: &mut Arena<P, LinkNoGen<P, T>, S>,
     prev: Option<P::Inx>,
@@ -94,7 +94,7 @@ pub fn link_up<P: PtrKey, T: Drop, S: SlotStack<Item = ArenaSlot<P, LinkNoGen<P,
     set_prev(arena, next, prev);
 }
 
-/// One link follows another, and then a third a fourth, each where it is some index.
+/// Links two pairs, one after another, each as `link_up` does.
 pub fn link_twice<P: PtrKey, T: Drop, S: SlotStack<Item = ArenaSlot<P, LinkNoGen<P, T>>>>(
     arena: &mut Arena<P, LinkNoGen<P, T>, S>,
     first: (Option<P::Inx>, Option<P::Inx>),
@@ -116,7 +116,7 @@ pub fn link_twice<P: PtrKey, T: Drop, S: SlotStack<Item = ArenaSlot<P, LinkNoGen
     link_up(arena, second.0, second.1);
 }
 
-/// The links of a gap name the new one.
+/// Sets the index of a new link in the links of its insertion position.
 pub fn tie<P: PtrKey, T: Drop, S: SlotStack<Item = ArenaSlot<P, LinkNoGen<P, T>>>>(
     arena: &mut Arena<P, LinkNoGen<P, T>, S>,
     gap: InsertPosition<P::Inx>,
@@ -137,7 +137,7 @@ pub fn tie<P: PtrKey, T: Drop, S: SlotStack<Item = ArenaSlot<P, LinkNoGen<P, T>>
     set_prev(arena, next, Some(i));
 }
 
-// The links beside one that has gone from i follow one another. One that came before itself is gone with what it named.
+// Links the former neighbors of the link removed from `i`, unless it was its own neighbor.
 fn close_over<P: PtrKey, T: Drop, S: SlotStack<Item = ArenaSlot<P, LinkNoGen<P, T>>>>(
     arena: &mut Arena<P, LinkNoGen<P, T>, S>,
     i: P::Inx,
@@ -160,7 +160,10 @@ fn close_over<P: PtrKey, T: Drop, S: SlotStack<Item = ArenaSlot<P, LinkNoGen<P, 
     }
 }
 
-/// Takes the link at an index out, and links those that it stood between.
+/// Removes the link at `i` and links its former neighbors.
+///
+/// Returns its generation and the link as it was. If there is none, returns `InvalidPtr` and
+/// changes nothing.
 pub fn take_out<P: PtrKey, T: Drop, S: SlotStack<Item = ArenaSlot<P, LinkNoGen<P, T>>>>(
     arena: &mut Arena<P, LinkNoGen<P, T>, S>,
     i: P::Inx,

@@ -1,4 +1,4 @@
-// The new link of a gap, and the links beside it.
+// The new link of an insertion position, and the links beside it.
 ghost use Rattle.std.specs.Prelude.{◌≡◌};
 ghost use Rattle.std.specs.Option.{option_map};
 ghost use Rattle.chain_links.specs.ChainArena.{new_link};
@@ -9,7 +9,9 @@ use crate::insert_position::InsertPosition;
 use arena_ptr::{InxKey, PtrKey};
 use chain_links::{LinkBody, LinkNoGen};
 
-/// The new link of a gap. Where it is its own neighbor it names none yet, since its index is not known.
+/// Creates the new link of an insertion position.
+///
+/// A link that is its own neighbor names none yet, since its index is not known.
 pub fn link_in<P: PtrKey, T>(gap: InsertPosition<P::Inx>, t: T) -> LinkNoGen<P, T>
     ensures { link_view P.Inx.packed_number result ≡ new_link t (named_before P.Inx.number gap)
         (named_after P.Inx.number gap) }
@@ -20,7 +22,7 @@ pub fn link_in<P: PtrKey, T>(gap: InsertPosition<P::Inx>, t: T) -> LinkNoGen<P, 
     }
 }
 
-/// The links beside a new one at an index.
+/// Returns the links beside a new link at `i`.
 pub fn around<I: InxKey>(gap: InsertPosition<I>, i: I) -> (Option<I>, Option<I>)
     ensures before { option_map I.number result.0 ≡ before_in I.number gap (I.number i) }
     ensures after { option_map I.number result.1 ≡ after_in I.number gap (I.number i) }

@@ -1,4 +1,4 @@
-// What a walker along a chain passes next, in any plain arena of links.
+// The next step of a walker along a chain of a plain arena.
 ghost use Rattle.std.specs.Prelude.{◌≡◌, IfSome, IfNone};
 ghost use Rattle.std.specs.Option.{option_map};
 ghost use Rattle.arena_base.specs.Arena.{entry_at, IsValid};
@@ -12,7 +12,7 @@ use arena_ptr::{PtrKey, SlotStack};
 use chain_links::LinkNoGen;
 use chain_links::walk_direction::going;
 
-/// The pointer and the link at an index.
+/// Returns the pointer and the link at an index, if there is one.
 pub fn look<P: PtrKey, T: Drop, S: SlotStack<Item = ArenaSlot<P, LinkNoGen<P, T>>>>(
     arena: &Arena<P, LinkNoGen<P, T>, S>,
     i: P::Inx,
@@ -29,7 +29,9 @@ pub fn look<P: PtrKey, T: Drop, S: SlotStack<Item = ArenaSlot<P, LinkNoGen<P, T>
     }
 }
 
-/// The link that a walker passes next, by its pointer, and where it goes from there.
+/// Returns the pointer of the link that a walker passes next, and where the walker goes from there.
+///
+/// Returns `None` if there is no such link.
 pub fn step<P: PtrKey, T: Drop, S: SlotStack<Item = ArenaSlot<P, LinkNoGen<P, T>>>>(
     arena: &Arena<P, LinkNoGen<P, T>, S>,
     start: P::Inx,

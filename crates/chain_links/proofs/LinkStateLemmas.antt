@@ -1,4 +1,4 @@
--- Lemmas on the state of a chain arena, entry by entry.
+-- The state of a chain arena, entry by entry.
 use Rattle.std.proofs.Common.{◌≡◌, ℕ, zero, suc, ◌+◌, List, [], ◌∷◌, length, true, false, Option, None, Some, refl, ap, sym, ◌∙◌, arith}
 use Rattle.std.specs.Prelude.{slice_index_or, slice_set, ◌==◌, if◌then◌else◌}
 use Rattle.std.proofs.Math.Dec.{eqb-suc-suc}
@@ -13,11 +13,11 @@ use Rattle.chain_links.specs.Links.{link_view, pair_view, links_view}
 use Rattle.arena_base.specs.Arena.{Arena, slot_at, with_slot, entry_at, with_value}
 use Rattle.chain_links.specs.ChainArena.{LinkView, relink, relink_from, relinked}
 
--- numbers are equal if those before them are
+-- numbers are equal exactly if their successors are
 pub if_suc : {A : Type 0} (j k : ℕ) (x y : A) → (if j == k then x else y) ≡ (if suc j == suc k then x else y)
 if_suc j k x y = ap (λ b. if b then x else y) (sym (eqb-suc-suc j k))
 
--- a list with one item changed, at that item and elsewhere
+-- lookup in a list with one item changed
 slice_index_or-slice_set : {X : Type 0} (xs : List (Option X)) (k j : ℕ) (f : Option X → Option X) → f None ≡ None
     → slice_index_or (slice_set xs k (f (slice_index_or xs k None))) j None ≡ (if j == k then f (slice_index_or xs j None) else slice_index_or xs j None)
 slice_index_or-slice_set {X} [] k j f none = elim (j == k) as (λ b. let o : Option X = None in o ≡ (if b then f None else None)) [ true ↦ sym none | false ↦ refl ]
@@ -26,7 +26,7 @@ slice_index_or-slice_set (y ∷ xs) zero (suc j) f none = sym (if_other (suc j) 
 slice_index_or-slice_set (y ∷ xs) (suc k) zero f none = sym (if_other 0 (suc k) _ _ (λ is. absurd (omega (arith, is))))
 slice_index_or-slice_set (y ∷ xs) (suc k) (suc j) f none = slice_index_or-slice_set xs k j f none ∙ if_suc j k _ _
 
--- slots with what stands at one index changed, at that index and elsewhere
+-- the slot at each index, with one slot changed
 pub slot_at-changed : {X : Type 0} (slots : List (Option X)) (n i : ℕ) (f : Option X → Option X) → f None ≡ None
     → slot_at (with_slot slots n (f (slot_at slots n))) i ≡ (if i == n then f (slot_at slots i) else slot_at slots i)
 slot_at-changed {X} slots zero zero f none = sym (if_same 0 0 (f None) None refl ∙ none)
@@ -66,7 +66,7 @@ module _ {Gen T : Type 0} where
   pub length-relinked : (a : Arena Gen (LinkView T)) (interlinks : LinkMap) → length (relinked a interlinks).slots ≡ length a.slots
   length-relinked a interlinks = length-relink_from interlinks 1 a.slots
 
-  -- an arena that has the entries of another with other interlinks, and else is as that, is that arena
+  -- an arena that differs only in interlinks is `relinked`
   pub is_relinked : (a b : Arena Gen (LinkView T)) (interlinks : LinkMap) → length b.slots ≡ length a.slots → b ≡ record a { slots = b.slots }
       → ((i : ℕ) → entry_at b i ≡ relink (interlinks i) (entry_at a i)) → b ≡ relinked a interlinks
   is_relinked a b interlinks long rest entries =

@@ -1,4 +1,4 @@
--- An arena with something else for each value: what stands at each index, and what each call makes of it.
+-- An arena with a function applied to each value: its entries, and calls on it.
 use Rattle.std.proofs.Common.{◌≡◌, ◌↔◌, ℕ, zero, suc, ◌+◌, ◌≤◌, List, [], ◌∷◌, length, map, Option, None, Some, refl, ap, ap₂, sym, ◌∙◌, subst}
 use Rattle.std.specs.Prelude.{count_by, is_some, slice_index_or, if◌then◌else◌}
 use Rattle.std.specs.Option.{option_map}
@@ -7,17 +7,17 @@ use Rattle.std.proofs.lemmas.List.Sums.{sum_by-cons}
 use Rattle.arena_base.specs.Arena.{Arena, slot_at, with_slot, filled, entry_at, entry_count, insert_next, remove_at, renewed_at, with_value, cleared, counter_after_clear, IsListed, IsValid}
 use Rattle.chain_links.specs.ChainArena.{on_value, with_each}
 
--- whether there is one, mapped
+-- a mapped option is `Some` exactly if the option is
 pub is_some-map : {X Y : Type 0} (f : X → Y) (o : Option X) → is_some (option_map f o) ≡ is_some o
 is_some-map f None = refl
 is_some-map f (Some x) = refl
 
--- a list with one item changed at an index, mapped
+-- a list with one item changed, mapped
 pub map-with_slot : {X Y : Type 0} (f : X → Y) (xs : List X) (n : ℕ) (x : X) → map f (with_slot xs n x) ≡ with_slot (map f xs) n (f x)
 map-with_slot f xs zero x = refl
 map-with_slot f xs (suc k) x = map-set f xs k x
 
--- what stands at an index of mapped slots
+-- the slot at an index of mapped slots
 pub slot_at-map : {X Y : Type 0} (f : X → Y) (slots : List (Option X)) (i : ℕ) → slot_at (map (option_map f) slots) i ≡ option_map f (slot_at slots i)
 slot_at-map f slots zero = refl
 slot_at-map {X} {Y} f slots (suc k) = by slots k where
@@ -81,7 +81,7 @@ module _ {Gen X Y : Type 0} (f : X → Y) where
   map-filled [] slots e = map-append (option_map (on_value f)) slots (Some e ∷ [])
   map-filled (i ∷ freed) slots e = map-with_slot (option_map (on_value f)) slots i (Some e)
 
-  -- each call on the arena is that call on what is seen of it
+  -- each call commutes with `with_each`
   pub with_each-insert_next : (a : Arena Gen X) (x : X) → with_each f (insert_next a x) ≡ insert_next (with_each f a) (f x)
   with_each-insert_next a x = ap (over (insert_next a x)) (map-filled a.freed a.slots (a.counter, x))
 

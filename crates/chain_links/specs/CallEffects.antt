@@ -1,5 +1,4 @@
--- What a call adds to an arena of links, or takes out of it. Three functions tell of the arena: what generic code sees of it,
--- the entry at each index, and the interlinks at each.
+-- The effects of calls on an arena of links, by its view, its entries and its interlinks.
 use Rattle.std.specs.Prelude.{◌≡◌, ℕ, IsOk, Option, Result}
 use Rattle.std.specs.Option.{option_map}
 use Rattle.chain_laws.specs.Chains.{LinkMap}
@@ -17,21 +16,21 @@ module _ {Gen T : Type 0} where
   abbrev pub IsFull : ArenaView Gen T → Type 0
   IsFull s = count s ≡ s.capacity
 
-  -- where there is room for one entry more, the call succeeds, and the capacity stays
+  -- with capacity for one more entry, the call succeeds and keeps the capacity
   abbrev pub SucceedsWithinCapacity : {X E : Type 0} → ArenaView Gen T → Result X E → ArenaView Gen T → Type 0
   SucceedsWithinCapacity old result new = HasFreeCapacity old → IsOk result × (new.capacity ≡ old.capacity)
 
 module _ {A Gen T : Type 0} (seen : A → ArenaView Gen T) (interlinks : A → LinkMap) where
-  -- the link at an index is gone: those that it stood between are linked, and the counter is the next
+  -- the link at i is removed, its neighbors are linked, and the counter advances
   abbrev pub LosesLink : (Gen → Gen) → ℕ → A → A → Type 0
   LosesLink following i old new = (seen new ≡ entry_removed following (seen old) i) × (interlinks new ≡ removed (interlinks old) i)
 
 module _ {A Gen T : Type 0} (seen : A → ArenaView Gen T) (entry : A → ℕ → Option (Gen × T)) (interlinks : A → LinkMap) where
-  -- a link of a kind, with a value, came to p
+  -- a link of a kind, with a value, is inserted at p
   abbrev pub GainsLink : InsertKind (LinkName Gen) → T → A → ℕ × Gen → A → Type 0
   GainsLink kind t old p new = IsInsertion (by_index kind) (seen old) (seen new) (entry old) (entry new) (interlinks old) (interlinks new) p t
 
-  -- the link of a pointer is gone, and answered as it stood
+  -- the link of a pointer is removed, and returned as it was
   abbrev pub YieldsLink : {K : Type 0} → (K → Option ℕ) → (Gen → Gen) → ℕ × Gen → A → Option (LinkBody K T) → A → Type 0
   YieldsLink packed following p old answer new =
       (option_map (λ link. (p.1, link_view packed link)) answer ≡ link_at (entry old) (interlinks old) p.0) × LosesLink seen interlinks following p.0 old new

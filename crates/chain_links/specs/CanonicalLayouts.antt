@@ -1,4 +1,4 @@
--- A canonical compression: each chain comes to one run of indexes, the chains one after another.
+-- A canonical compression: chains in runs of indexes, one after another.
 use Rattle.std.specs.Prelude.{◌≡◌, ℕ, ◌+◌, ◌*◌, Bool, List, map, length, All, Option, Some, IfSome}
 use Rattle.std.specs.Option.{option_map}
 use Rattle.std.specs.List.{range_with_len}
@@ -8,22 +8,22 @@ use Rattle.chain_laws.specs.Arrangements.{place_in, in_runs, IsLeastIndexOrder}
 use Rattle.arena_base.specs.Entries.{ArenaView, Slots, found, index_of}
 use Rattle.arena_base.specs.Compressions.{counter_after_compression, values_in, AreFilledAnew, IfKnown}
 
--- so many links are in exactly as many slots, none is freed, each was placed once, and there were at most four times as many
--- touches as slots and twelve times as many as links
+-- If the slots are known, `count` links fill that many slots, none is freed, and each was placed
+-- once. There were at most four touches per old slot plus twelve per link.
 abbrev pub AreCompactedCanonically : ℕ → Option Slots → Option Slots → Type 0
 AreCompactedCanonically count = IfKnown (λ old. AreFilledAnew count (4 * old.count + 12 * count) old)
 
--- All links are carried by one bijection onto the indexes from 1 to their number, each chain to one run in `next` order, a
--- linear one from its start. Each link keeps its value and its neighbors. All have one generation, which is the counter where
--- that is told.
+-- A bijection moves all links to the indexes from 1 to their number. Each chain is one run in
+-- `next` order, a linear one from its start. Links keep their value and neighbors. All have one
+-- generation, the counter if that is known.
 pub record IsCanonicalLayout {Gen T : Type 0} (first : Gen) (following : Gen → Gen) (reset : Bool) (old : ArenaView Gen T) (links : LinkMap) (new : ArenaView Gen T) (new_links : LinkMap) : Type 0 where
-  -- the links in the order in which they lie then: the chains by their least index, each linear one from its start, each
-  -- cyclic one from its least index
+  -- the links in their new order: chains by least index, linear from the start, cyclic from the
+  -- least index
   pub indexes : List ℕ
   pub order : IsLeastIndexOrder links indexes
-  -- the k-th of them comes to index k, and names the new indexes of its neighbors ..
+  -- the k-th is moved to index k, and names the new indexes of its neighbors
   pub renamed : IsRenaming (place_in indexes) links new_links
-  -- .. so that the chains lie in runs, one after another
+  -- the chains are in runs, one after another
   pub runs : AreChains new_links (in_runs 1 order.chains)
   pub keys : map index_of new.entries ≡ range_with_len 1 (length old.entries)
   pub values : map (λ t. Some t) (values_in new.entries) ≡ map (λ i. option_map (λ e. e.1) (found i old.entries)) indexes

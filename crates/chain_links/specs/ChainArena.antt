@@ -11,11 +11,11 @@ use Rattle.chain_laws.specs.Insertions.{InsertKind, inserted, inserted_as}
 use Rattle.arena_base.specs.Arena.{Arena, with_slot, entry_at, next_index, insert_next, remove_at, IsValid}
 use Rattle.arena_base.specs.Entries.{ArenaView, view_of}
 
--- a pair of a generation and a value, with something else for the value
+-- a generation and a value, with a function applied to the value
 abbrev pub on_value : {Gen X Y : Type 0} → (X → Y) → Gen × X → Gen × Y
 on_value f e = (e.0, f e.1)
 
--- an arena with something else for each value
+-- an arena with a function applied to each value
 abbrev pub with_each : {Gen X Y : Type 0} → (X → Y) → Arena Gen X → Arena Gen Y
 with_each f a = record {
   slots = map (option_map (on_value f)) a.slots;
@@ -28,17 +28,17 @@ with_each f a = record {
   touched = a.touched;
 }
 
--- a link: the indexes of its neighbours, where it has them, and its value
+-- a link: the indexes of its neighbors, and its value
 pub record LinkView (T : Type 0) : Type 0 where
   pub prev : Option ℕ
   pub next : Option ℕ
   pub value : T
 
--- a link with these neighbours
+-- a link with these neighbors
 abbrev pub new_link : {T : Type 0} → T → Option ℕ → Option ℕ → LinkView T
 new_link t u v = record { prev = u; next = v; value = t }
 
--- a link without neighbours
+-- a link without neighbors
 abbrev pub lone : {T : Type 0} → T → LinkView T
 lone t = record { prev = None; next = None; value = t }
 
@@ -61,7 +61,7 @@ module _ {Gen T : Type 0} where
   abbrev pub interlinks_of : Gen × LinkView T → Interlinks
   interlinks_of e = interlinks_in e.1
 
-  -- the interlinks that the arena shows
+  -- the interlinks of the links of the arena
   abbrev pub link_map : Arena Gen (LinkView T) → LinkMap
   link_map a i = option_map interlinks_of (entry_at a i)
 
@@ -69,7 +69,7 @@ module _ {Gen T : Type 0} where
   abbrev pub values_of : Arena Gen (LinkView T) → Arena Gen T
   values_of a = with_each link_value a
 
-  -- the values as generic code sees them, and what stands at each index
+  -- the values as generic code sees them, and the entry at each index
   abbrev pub value_view : Arena Gen (LinkView T) → ArenaView Gen T
   value_view a = view_of (values_of a)
 
@@ -87,68 +87,68 @@ module _ {Gen T : Type 0} where
   relink_from interlinks i [] = []
   relink_from interlinks i (e ∷ es) = relink (interlinks i) e ∷ relink_from interlinks (suc i) es
 
-  -- the arena with other interlinks: values, generations, counter, freed list, room and totals stay
+  -- the arena with other interlinks and nothing else changed
   abbrev pub relinked : Arena Gen (LinkView T) → LinkMap → Arena Gen (LinkView T)
   relinked a interlinks = record a { slots = relink_from interlinks 1 a.slots }
 
-  -- the arena after the insertion of a link that stands alone
+  -- a link without neighbors is inserted
   abbrev pub insert_lone : Arena Gen (LinkView T) → T → Arena Gen (LinkView T)
   insert_lone a t = insert_next a (lone t)
 
-  -- u and v name q, the one as the link after it, the other as the link before it
+  -- q is the next link of u and the previous one of v
   abbrev pub named_by : Arena Gen (LinkView T) → Option ℕ → Option ℕ → ℕ → Arena Gen (LinkView T)
   named_by a u v q = relinked a (prev_set (next_set (link_map a) u (Some q)) v (Some q))
 
-  -- the arena after the insertion of a link between u and v
+  -- a link is inserted between u and v
   abbrev pub insert_between : Arena Gen (LinkView T) → T → Option ℕ → Option ℕ → Arena Gen (LinkView T)
   insert_between a t u v = relinked (insert_lone a t) (inserted (link_map a) (next_index a) u v)
 
-  -- .. and of one of a kind
+  -- a link of a kind is inserted
   abbrev pub insert_as : Arena Gen (LinkView T) → InsertKind ℕ → T → Arena Gen (LinkView T)
   insert_as a kind t = relinked (insert_lone a t) (inserted_as (link_map a) kind (next_index a))
 
-  -- the arena with another value in the link at an index, if one stands there
+  -- the link at i, if there is one, with another value
   abbrev pub with_value_at : Arena Gen (LinkView T) → ℕ → T → Arena Gen (LinkView T)
   with_value_at a i t = record a { slots = with_slot a.slots i (option_map (on_value (with_link_value t)) (entry_at a i)) }
 
-  -- the arena after the removal of the link at an index, where those that it stood between are linked
+  -- the link at i is removed and its neighbors are linked
   abbrev pub remove_link : (Gen → Gen) → Arena Gen (LinkView T) → ℕ → Arena Gen (LinkView T)
   remove_link following a i = relinked (remove_at following a i) (removed (link_map a) i)
 
-  -- the link at an index was removed: in the state, and so in what is shown, in chains and in pairs
+  -- the link at i was removed, by state, link map, chains and pairs
   pub record IsRemoval (following : Gen → Gen) (old : Arena Gen (LinkView T)) (i : ℕ) (new : Arena Gen (LinkView T)) : Type 0 where
     pub state : new ≡ remove_link following old i
     pub shows : link_map new ≡ removed (link_map old) i
     pub chains : Removes (link_map old) (link_map new) i
     pub pairs : RemovesPairs (link_map old) (link_map new) i
 
-  -- a start was joined to an end: in the state, and so in what is shown, in pairs and in chains
+  -- the start b was joined to the end a, by state, link map, pairs and chains
   pub record IsJoin (old new : Arena Gen (LinkView T)) (a b : ℕ) : Type 0 where
     pub state : new ≡ relinked old (joined (link_map old) a b)
     pub shows : link_map new ≡ joined (link_map old) a b
     pub pair : AddsPair (link_map old) (link_map new) a b
     pub chains : Connects (link_map old) (link_map new) a b
 
-  -- two neighbours were cut apart: in the state, and so in what is shown, in pairs and in chains
+  -- the neighbors a and b were cut, by state, link map, pairs and chains
   pub record IsCut (old new : Arena Gen (LinkView T)) (a b : ℕ) : Type 0 where
     pub state : new ≡ relinked old (cut (link_map old) a b)
     pub shows : link_map new ≡ cut (link_map old) a b
     pub pair : TakesPair (link_map old) (link_map new) a b
     pub chains : Cuts (link_map old) (link_map new) a b
 
-  -- what comes after two links was exchanged
+  -- the links after p and q were exchanged, by state, link map, pairs and chains
   pub record IsExchange (old new : Arena Gen (LinkView T)) (p q : ℕ) : Type 0 where
     pub state : new ≡ relinked old (exchanged (link_map old) p q)
     pub shows : link_map new ≡ exchanged (link_map old) p q
     pub pairs : ExchangesPairs (link_map old) (link_map new) p q
     pub chains : Exchanges (link_map old) (link_map new) p q
 
-  -- the links of the walk from an index, each with its index and generation
+  -- the links of the walk from i, with indexes and generations
   pub record IsWalkOf (a : Arena Gen (LinkView T)) (i : ℕ) (links : List (ℕ × (Gen × LinkView T))) : Type 0 where
     pub walk : IsWalk (link_map a) i (map (λ e. e.0) links)
     pub stands : All (λ e. entry_at a e.0 ≡ Some e.1) links
 
--- Links of any arena, where the entry and the interlinks at each index are given.
+-- Links of any arena, from its entries and interlinks.
 module _ {Gen T : Type 0} where
   abbrev pub link_of : Option (Gen × T) → Option Interlinks → Option (Gen × LinkView T)
   link_of None interlinks = None
@@ -156,11 +156,11 @@ module _ {Gen T : Type 0} where
   link_of (Some e) (Some l) = Some (e.0, record { prev = l.prev; next = l.next; value = e.1 })
 
 module _ {Gen T : Type 0} (entry : ℕ → Option (Gen × T)) where
-  -- the pointer of now to a neighbour
+  -- the current pointer to the link at an index
   abbrev pub ptr_at : ℕ → Option (ℕ × Gen)
   ptr_at i = option_map (λ e. (i, e.0)) (entry i)
 
-  -- what stands at each index is told, and one index is new
+  -- the free index p has the value t, and every other entry is unchanged
   pub record IsInserted (after : ℕ → Option (Gen × T)) (p : ℕ × Gen) (t : T) : Type 0 where
     pub free : entry p.0 ≡ None
     pub stands : after p.0 ≡ Some (p.1, t)
@@ -171,21 +171,21 @@ module _ {Gen T : Type 0} (entry : ℕ → Option (Gen × T)) (interlinks : Link
   abbrev pub link_at : ℕ → Option (Gen × LinkView T)
   link_at i = link_of (entry i) (interlinks i)
 
-  -- q may come after p: both are valid, p has no next and q no prev
+  -- q may be linked after p: both are valid, p has no next and q no prev
   pub record CanConnect (p q : ℕ × Gen) : Type 0 where
     pub first_valid : IsValid entry p
     pub second_valid : IsValid entry q
     pub no_next : next_of interlinks p.0 ≡ None
     pub no_prev : prev_of interlinks q.0 ≡ None
 
-  -- what comes after p and after q may be exchanged: both are valid, and have a next
+  -- the links after p and q may be exchanged: both are valid and have a next
   pub record CanExchange (p q : ℕ × Gen) : Type 0 where
     pub first_valid : IsValid entry p
     pub second_valid : IsValid entry q
     pub first_next : IsSome (next_of interlinks p.0)
     pub second_next : IsSome (next_of interlinks q.0)
 
-  -- the link of a pointer, with the pointers of now to its neighbours
+  -- the link of a pointer, with current pointers to its neighbors
   pub record IsLinkAt (p : ℕ × Gen) (prev next : Option (ℕ × Gen)) (t : T) : Type 0 where
     pub stands : entry p.0 ≡ Some (p.1, t)
     pub before : prev ≡ option_and_then (ptr_at entry) (prev_of interlinks p.0)

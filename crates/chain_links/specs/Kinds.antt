@@ -1,4 +1,4 @@
--- Kinds of insertion, as contracts see them: what they name, and what they ask.
+-- Kinds of insertion as contracts see them: their names and conditions.
 use Rattle.std.specs.Prelude.{ℕ, IsSome, Option, None, Some}
 use Rattle.chain_laws.specs.Chains.{LinkMap}
 use Rattle.chain_laws.specs.Insertions.{InsertKind, disconnected, single_link_cyclic, chain_end, chain_start, next_to, prev_to, at_interlink, bridge}
@@ -11,7 +11,7 @@ use Rattle.chain_links.specs.declared.kinds.NamedKind.TheVariants as named
 use Rattle.chain_links.specs.declared.kinds.Name.{Name}
 use Rattle.chain_links.specs.declared.kinds.Name.TheVariants.{Pointer, Index}
 
--- what names a link: its index, and its generation where it is named by a pointer
+-- the name of a link: its index, and for a pointer its generation
 abbrev pub LinkName : Type 0 → Type 0
 LinkName Gen = ℕ × Option Gen
 
@@ -52,12 +52,12 @@ module _ {Gen : Type 0} where
   by_index (bridge a b) = bridge a.0 b.0
 
 module _ {Gen T : Type 0} (entry : ℕ → Option (Gen × T)) where
-  -- a link has the name: it stands at the index, with the generation where there is one
+  -- a link is at the index, with the generation if the name has one
   abbrev pub HasName : LinkName Gen → Type 0
   HasName (i, None) = IsSome (entry i)
   HasName (i, Some g) = IsValid entry (i, g)
 
-  -- all links that a kind names stand
+  -- each name in a kind is the name of a link
   abbrev pub HasNames : InsertKind (LinkName Gen) → Type 0
   HasNames disconnected = Unit {0}
   HasNames single_link_cyclic = Unit {0}
@@ -72,7 +72,7 @@ module _ {Gen T : Type 0} (entry : ℕ → Option (Gen × T)) where
   abbrev pub MayInsert : LinkMap → InsertKind (LinkName Gen) → Type 0
   MayInsert interlinks kind = HasNames kind × CanInsert interlinks (by_index kind)
 
--- the code's own forms of names and kinds
+-- names and kinds in the forms of the code
 module _ {P I Gen : Type 0} (key : P → ℕ × Gen) (number : I → ℕ) where
   abbrev pub name_of : Name P I → LinkName Gen
   name_of (Pointer p) = pointed key number p

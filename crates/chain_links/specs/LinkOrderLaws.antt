@@ -1,4 +1,4 @@
--- The laws of comparisons, at links: they hold where those of the values do.
+-- The laws of comparisons hold for links if they hold for values.
 use Rattle.std.specs.Prelude.{◌≡◌, ℕ, Bool, true, ◌++◌, nat_eq, Option, None, Some}
 use Rattle.std.specs.Option.{option_eq, option_cmp}
 use Rattle.std.specs.declared.cmp.Ordering.{Ordering}

@@ -1,4 +1,4 @@
--- Links as contracts see them: their interlinks as numbers.
+-- Links as contracts see them, with interlinks as numbers.
 use Rattle.std.specs.Prelude.{ℕ, List, map, Option}
 use Rattle.std.specs.Borrow.{Bor}
 use Rattle.arena_base.specs.Arena.{Arena}
@@ -21,18 +21,18 @@ module _ {Gen K T : Type 0} where
   abbrev pub pair_view : (K → Option ℕ) → Gen × LinkBody K T → Gen × LinkView T
   pair_view number e = on_value (link_view number) e
 
-  -- a generation and a link as a look at them shows them
+  -- a generation and a borrowed link, as contracts see them
   abbrev pub borrowed_link : (K → Option ℕ) → Gen × Bor (LinkBody K T) → Gen × LinkView T
   borrowed_link number e = (e.0, link_view number e.1.now)
 
-  -- an arena of links
+  -- an arena of links, as contracts see it
   abbrev pub links_view : (K → Option ℕ) → Arena Gen (LinkBody K T) → Arena Gen (LinkView T)
   links_view number a = with_each (link_view number) a
 
-  -- entries of links by rising index, each link as contracts see it
+  -- entries of links by ascending index, as contracts see them
   abbrev pub entry_views : (K → Option ℕ) → List ((ℕ × Gen) × LinkBody K T) → List ((ℕ × Gen) × LinkView T)
   entry_views number es = map (on_value (link_view number)) es
 
-  -- .. and the value of each alone
+  -- entries with the values of links alone
   abbrev pub held_entries : List ((ℕ × Gen) × LinkBody K T) → List ((ℕ × Gen) × T)
   held_entries es = map (on_value held_in) es

@@ -1,4 +1,4 @@
--- What a walker over a chain arena still yields.
+-- The links that a walker over a chain arena still yields.
 use Rattle.std.specs.Prelude.{◌≡◌, ℕ, List, [], ◌∷◌, Option, None, Some, IfSome, IfNone}
 use Rattle.std.specs.Option.{option_map}
 use Rattle.std.specs.Borrow.{Bor}
@@ -10,12 +10,13 @@ use Rattle.chain_links.specs.ChainArena.{LinkView, link_map}
 use Rattle.chain_links.specs.Links.{link_view}
 
 module _ {Gen T : Type 0} where
-  -- the links at these indexes, up to the first where none stands
+  -- the links at these indexes, up to the first without one
   abbrev pub links_at : Arena Gen (LinkView T) → List ℕ → List (ℕ × (Gen × LinkView T))
   links_at a [] = []
   links_at a (i ∷ indexes) = elim (entry_at a i) [ None ↦ [] | Some e ↦ (i, e) ∷ links_at a indexes ]
 
-  -- the links that a walker passes that began at `start`, has `forth` and `back` before it, and makes at most `left` steps
+  -- the links ahead of a walker that began at `start`, goes on at `forth` and `back`, and makes at
+  -- most `left` steps
   abbrev pub links_ahead : Arena Gen (LinkView T) → ℕ → ℕ → Option ℕ → Option ℕ → List (ℕ × (Gen × LinkView T))
   links_ahead a left start forth back = links_at a (walk_ahead left (link_map a) start forth back)
 
@@ -28,13 +29,13 @@ module _ {P Gen K T : Type 0} where
   abbrev pub item_view : (P → ℕ × Gen) → (K → Option ℕ) → P × Bor (LinkBody K T) → ℕ × (Gen × LinkView T)
   item_view key number item = ((key item.0).0, ((key item.0).1, link_view number item.1.now))
 
--- one call of an advancer along a chain: where a link stands at its next step, it passes that and takes the step, in the arena of
--- the call; and else it passes nothing any more
+-- one call of an advancer: it passes the link at its next step and takes the step; without such a
+-- link it has no steps left
 pub record IsPassing {Gen T : Type 0} (entry : ℕ → Option (Gen × T)) (interlinks : LinkMap) (old : Walker) (answer : Option (ℕ × Gen)) (new : Walker) : Type 0 where
   pub passed : IfSome answer (λ p. IsValid entry p × (step_of interlinks old ≡ Some (p.0, new)))
   pub spent : IfNone answer (new.left ≡ 0)
   pub end : IfNone answer (IfSome (step_of interlinks old) (λ step. entry step.0 ≡ None))
 
--- the walker of an advancer, where its indexes are numbers
+-- the walker of an advancer, with its indexes as numbers
 abbrev pub walker_of : {I : Type 0} → (I → ℕ) → ℕ → I → Option I → Option I → Walker
 walker_of number left start forth back = record { left = left; start = number start; forth = option_map number forth; back = option_map number back }

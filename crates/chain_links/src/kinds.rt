@@ -1,37 +1,38 @@
+// Kinds of insertion, with their links named by pointers or by indexes.
 ghost use Rattle.std.specs.Prelude.{◌≡◌};
 ghost use Rattle.chain_links.specs.Kinds.{names_in, named_in, name_of};
 
 use arena_ptr::{InxKey, PtrKey};
 use std::alloc::AllocError;
 
-/// Where a new link comes, beside links that are named by pointers of a type `P` or by indexes of a type `I`.
+/// Where a new link is inserted, relative to links named by pointers (`P`) or by indexes (`I`).
 ///
-/// A link that is named by a pointer has to be valid, one that is named by an index has to stand there, whatever its
-/// generation: in all else the two forms of a kind are the same.
+/// A pointer must be valid; an index must be occupied, whatever the generation. Otherwise both
+/// forms of a kind are the same.
 #[derive(Copy, Debug, PartialEq, Eq)]
 pub enum InsertKindBody<P, I> {
-    /// The new link is a linear chain of its own. This asks nothing.
+    /// A linear chain of its own. There is no condition.
     Disconnected,
-    /// The new link is a cyclic chain of its own: it comes before and after itself. This asks nothing.
+    /// A cyclic chain of its own, before and after itself. There is no condition.
     SingleLinkCyclic,
-    /// After the end of a linear chain: the link has no next one.
+    /// After a link without a next one, the end of a linear chain.
     ChainEnd(P),
     /// `ChainEnd` by index.
     ChainEndInx(I),
-    /// Before the start of a linear chain: the link has no previous one.
+    /// Before a link without a previous one, the start of a linear chain.
     ChainStart(P),
     /// `ChainStart` by index.
     ChainStartInx(I),
-    /// Directly after a link. At the end of a chain the new one is the end.
+    /// Directly after a link. After an end, the new link is the end.
     NextTo(P),
     /// `NextTo` by index.
     NextToInx(I),
-    /// Directly before a link. At the start of a chain the new one is the start.
+    /// Directly before a link. Before a start, the new link is the start.
     PrevTo(P),
     /// `PrevTo` by index.
     PrevToInx(I),
-    /// Between two neighbours: `prev_to` is the link after `next_to`. A link that is a cyclic chain of its own is its
-    /// own neighbour.
+    /// Between neighbors: `prev_to` is the link after `next_to`. A link alone in a cyclic chain is
+    /// its own neighbor.
     AtInterlink {
         /// The link before the new one.
         next_to: P,
@@ -45,8 +46,8 @@ pub enum InsertKindBody<P, I> {
         /// The link after the new one.
         prev_to: I,
     },
-    /// After the end of one linear chain and before the start of another, so that the two become one; of one chain's
-    /// own end and start, so that it becomes cyclic.
+    /// Between the end and the start of linear chains. Two chains become one; a single
+    /// one becomes cyclic.
     Bridge {
         /// The end of a chain: a link without a next one.
         end: P,
@@ -62,7 +63,7 @@ pub enum InsertKindBody<P, I> {
     },
 }
 
-// A clone is a copy, for which no kind has to be taken apart.
+// A clone is a copy, so no kind has to be matched.
 impl<P: Copy, I: Copy> Clone for InsertKindBody<P, I> {
     ghost use Rattle.std.specs.Prelude.{◌≡◌, ⊤};
 
@@ -75,19 +76,19 @@ impl<P: Copy, I: Copy> Clone for InsertKindBody<P, I> {
     }
 }
 
-/// The kinds of insertion.
+/// The kinds of insertion for pointers of type `P`.
 ///
-/// Carries `LinkInsertKind` of `triple_arena`.
+/// Port of `LinkInsertKind`.
 pub type LinkInsertKind<P> = InsertKindBody<P, <P as PtrKey>::Inx>;
 
-/// What names a link: a pointer to it, or its index.
+/// The name of a link: a pointer to it, or its index.
 #[derive(Clone, Copy)]
 pub enum Name<P, I> {
     Pointer(P),
     Index(I),
 }
 
-/// A kind of insertion by what names the links: the two forms of a kind are one.
+/// A kind of insertion whose links are named by an `N`, one variant for both forms.
 #[derive(Copy)]
 pub enum NamedKind<N> {
     Disconnected,
@@ -112,7 +113,7 @@ impl<N: Copy> Clone for NamedKind<N> {
     }
 }
 
-/// The index of the link that is named.
+/// Returns the index of the link that is named.
 pub fn index_of<P: PtrKey>(name: Name<P, P::Inx>) -> P::Inx
     ensures { P.Inx.number result ≡ (name_of P.key P.Inx.number name).0 }
 {
@@ -122,7 +123,7 @@ pub fn index_of<P: PtrKey>(name: Name<P, P::Inx>) -> P::Inx
     }
 }
 
-/// The kind by names.
+/// Converts a kind to the form with names.
 #[inline(always)]
 pub fn by_names<P: PtrKey>(kind: LinkInsertKind<P>) -> NamedKind<Name<P, P::Inx>>
     ensures { named_in P.key P.Inx.number result ≡ names_in P.key P.Inx.number kind }

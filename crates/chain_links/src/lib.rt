@@ -1,5 +1,4 @@
-//! Links that name their neighbours by index, the kinds of insertion, and the words in which contracts speak of an arena of
-//! links.
+//! Links that name their neighbors by index, kinds of insertion, and the specs of arenas of links.
 #![tactic(auto)]
 
 pub mod kinds;

@@ -1,4 +1,4 @@
-//! Reads and writes the private parts of a link, for the crates that link and move links.
+//! Reads and writes the private fields of a link, for the crates that link and move links.
 //!
 //! `chain_arena` does not export this module, so a link that a caller can see has no destination.
 ghost use Rattle.std.specs.Prelude.{◌≡◌, None};

@@ -1,4 +1,4 @@
-// How links compare: by the indexes of their neighbours first, then by their values.
+// The order, equality and hashes of links: neighbors first, then values.
 ghost use Rattle.std.specs.Prelude.{◌≡◌, ◌<◌};
 ghost use Rattle.std.specs.Option.{option_map};
 ghost use Rattle.std.specs.declared.cmp.Ordering.TheVariants.{Less};
@@ -9,7 +9,7 @@ use arena_ptr::{InxKey, PackedOption, Ptr};
 use std::cmp::Ordering;
 use std::hash::{Hash, Hasher};
 
-// The number of an index, if there is one.
+// Returns the number of an index, if there is one.
 fn number_of<I: InxKey>(i: Option<I>) -> Option<usize>
     ensures { result ≡ option_map I.number i }
 {
@@ -20,7 +20,7 @@ fn number_of<I: InxKey>(i: Option<I>) -> Option<usize>
 }
 
 impl<W: Copy, I: InxKey<Word = W>, T> LinkBody<PackedOption<I, W>, T> {
-    // The numbers of both neighbours, by which links compare first.
+    // Returns the numbers of both neighbors, by which links compare first.
     fn numbers(&self) -> (Option<usize>, Option<usize>)
         ensures { result ≡ (I.packed_number self.now.prev, I.packed_number self.now.next) }
     {
@@ -109,9 +109,10 @@ impl<W: Copy, I: InxKey<Word = W>, T: Hash> Hash for LinkBody<PackedOption<I, W>
     }
 }
 
-/// Links compare by the pair of their neighbours first, then by their values: equal are those with the same neighbours
-/// and equal values, and the order goes by the link before, then by the one after, then by the value, where none is
-/// below each index or pointer. Indexes go by their numbers, pointers by their own order.
+/// States that links compare by previous neighbor, then by next neighbor, then by value.
+///
+/// Links are equal if their neighbors are the same and their values are equal. `None` is below each
+/// index or pointer. Indexes compare by number, pointers by their own order.
 pub fn links_compare_by_neighbors<P: Ptr, T: Ord>()
     ensures no_gen { CompareByParts (body_parts P.Inx.packed_number) ◌<◌ T.eq T.cmp ⟦<LinkNoGen<P, T> as PartialEq>⟧.eq ⟦<LinkNoGen<P, T> as Ord>⟧.cmp }
     ensures pointers { CompareByParts parts_of (λ p q. P.cmp p q ≡ Less) T.eq T.cmp ⟦<Link<P, T> as PartialEq>⟧.eq ⟦<Link<P, T> as Ord>⟧.cmp }

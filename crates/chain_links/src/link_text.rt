@@ -1,4 +1,4 @@
-// The texts of links.
+// The texts of links, by `Debug` and by `Display`.
 ghost use Rattle.std.specs.Option.{option_map};
 ghost use Rattle.std.specs.Fmt.{WritesOnOk, DisplaysOnOk};
 ghost use Rattle.chain_links.specs.LinkText.{index_text, neighbors_text};
@@ -7,7 +7,7 @@ use crate::links::{Link, LinkBody, index_of};
 use arena_ptr::{PackedOption, Ptr, PtrInx};
 use std::fmt;
 
-// Writes an index, or what stands where there is none.
+// Writes an index, or `none` if there is none.
 fn write_index<I: PtrInx, F: fmt::Write>(
     f: &mut fmt::Formatter<F>,
     i: Option<I>,
@@ -22,7 +22,7 @@ fn write_index<I: PtrInx, F: fmt::Write>(
     }
 }
 
-// Writes what stands before the value of a link.
+// Writes the part of a link's text before its value.
 fn write_neighbors<I: PtrInx, F: fmt::Write>(
     f: &mut fmt::Formatter<F>,
     prev: Option<I>,
@@ -38,7 +38,7 @@ fn write_neighbors<I: PtrInx, F: fmt::Write>(
     f.write_str("} ")
 }
 
-// Writes a value by `Debug`. Of the caller's format only the alternate mark reaches it.
+// Writes a value by `Debug`. Of the caller's format only the alternate flag reaches it.
 fn write_debug<T: fmt::Debug, F: fmt::Write>(f: &mut fmt::Formatter<F>, value: &T) -> fmt::Result
     ensures { DisplaysOnOk F.write_str_gives f.old result (T.debug_output value.now) f.new }
 {
@@ -49,7 +49,7 @@ fn write_debug<T: fmt::Debug, F: fmt::Write>(f: &mut fmt::Formatter<F>, value: &
     }
 }
 
-// .. by `Display`.
+// Writes a value by `Display`. Of the caller's format only the alternate flag reaches it.
 fn write_display<T: fmt::Display, F: fmt::Write>(
     f: &mut fmt::Formatter<F>,
     value: &T,
@@ -63,8 +63,10 @@ fn write_display<T: fmt::Display, F: fmt::Write>(
     }
 }
 
-/// `{`, the index before or `(start)`, the index after or `(end)`, `} `, and the text of the value, as `{1, (end)} "B"`.
-/// Of the caller's format only the alternate mark reaches the value.
+/// Writes the indexes of the neighbors and the value, as `{1, (end)} "B"`.
+///
+/// `(start)` and `(end)` replace a missing index. Of the caller's format only the alternate flag
+/// reaches the value.
 impl<W: Copy, I: PtrInx<Word = W>, T: fmt::Debug> fmt::Debug for LinkBody<PackedOption<I, W>, T> {
     ghost use Rattle.chain_links.specs.LinkText.{link_text};
 
@@ -77,7 +79,7 @@ impl<W: Copy, I: PtrInx<Word = W>, T: fmt::Debug> fmt::Debug for LinkBody<Packed
     }
 }
 
-/// As by `Debug`, with the value's text by `Display`.
+/// Writes the same text as `Debug`, with the value by `Display`.
 impl<W: Copy, I: PtrInx<Word = W>, T: fmt::Display> fmt::Display
     for LinkBody<PackedOption<I, W>, T> {
     ghost use Rattle.chain_links.specs.LinkText.{link_text};
@@ -91,7 +93,7 @@ impl<W: Copy, I: PtrInx<Word = W>, T: fmt::Display> fmt::Display
     }
 }
 
-/// As the text of a link without generations: those of the pointers are not shown.
+/// Writes the same text as a link without generations; those of the pointers are left out.
 impl<P: Ptr, T: fmt::Debug> fmt::Debug for Link<P, T> {
     ghost use Rattle.std.specs.Option.{option_map};
     ghost use Rattle.chain_links.specs.Links.{index_in};
@@ -106,7 +108,7 @@ impl<P: Ptr, T: fmt::Debug> fmt::Debug for Link<P, T> {
     }
 }
 
-/// As by `Debug`, with the value's text by `Display`.
+/// Writes the same text as `Debug`, with the value by `Display`.
 impl<P: Ptr, T: fmt::Display> fmt::Display for Link<P, T> {
     ghost use Rattle.std.specs.Option.{option_map};
     ghost use Rattle.chain_links.specs.Links.{index_in};

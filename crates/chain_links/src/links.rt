@@ -1,3 +1,4 @@
+// Links with their interlinks as packed indexes or as pointers.
 ghost use Rattle.std.specs.Prelude.{◌≡◌, None};
 ghost use Rattle.std.specs.Option.{option_map};
 ghost use Rattle.chain_links.specs.Links.{link_view, index_in};
@@ -5,7 +6,7 @@ ghost use Rattle.chain_links.specs.Links.{link_view, index_in};
 use arena_ptr::{InxKey, PackedOption, PtrKey, ToolPtr};
 use std::alloc::AllocError;
 
-/// A link with interlinks of a type `K`, each an optional index: the links before it and after it, and its value.
+/// A link: the optional indexes of its neighbors, each stored as a `K`, and its value.
 #[derive(Copy)]
 pub struct LinkBody<K: Vacant, T> {
     pub(crate) prev: K,
@@ -18,9 +19,9 @@ pub struct LinkBody<K: Vacant, T> {
     pub t: T,
 }
 
-/// What holds an optional index, and so can hold none.
+/// A type that stores an optional index.
 pub trait Vacant: Copy {
-    /// No index.
+    /// Returns the value that stores no index.
     fn vacant() -> Self;
 }
 
@@ -53,28 +54,28 @@ pub type Interlink<P> = PackedOption<<P as PtrKey>::Inx, <<P as PtrKey>::Inx as 
 
 /// A link whose interlinks have no generation.
 ///
-/// Carries `LinkNoGen` of `triple_arena`.
+/// Port of `LinkNoGen`.
 pub type LinkNoGen<P, T> = LinkBody<Interlink<P>, T>;
 
-// An interlink takes no more than its index, and so does a destination.
+// An interlink is no larger than its index, and neither is a destination.
 const _: () = prove!(size_of::<LinkNoGen<ToolPtr, u32>>() == 16);
 
 impl<W: Copy, I: InxKey<Word = W>, T> LinkBody<PackedOption<I, W>, T> {
-    /// The index of the link before this one in its chain. `None` at the start of the chain.
+    /// Returns the index of the link before this one, or `None` at the start of the chain.
     pub fn prev(&self) -> Option<I>
         ensures { option_map I.number result ≡ (link_view I.packed_number self.now).prev }
     {
         I::unpack(self.prev)
     }
 
-    /// The index of the link after this one in its chain. `None` at the end of the chain.
+    /// Returns the index of the link after this one, or `None` at the end of the chain.
     pub fn next(&self) -> Option<I>
         ensures { option_map I.number result ≡ (link_view I.packed_number self.now).next }
     {
         I::unpack(self.next)
     }
 
-    /// Both interlinks: `(self.prev(), self.next())`.
+    /// Returns both interlinks: `(self.prev(), self.next())`.
     pub fn prev_next(&self) -> (Option<I>, Option<I>)
         ensures prev { option_map I.number result.0 ≡ (link_view I.packed_number self.now).prev }
         ensures next { option_map I.number result.1 ≡ (link_view I.packed_number self.now).next }
@@ -82,7 +83,7 @@ impl<W: Copy, I: InxKey<Word = W>, T> LinkBody<PackedOption<I, W>, T> {
         (self.prev(), self.next())
     }
 
-    /// A link of its parts.
+    /// Creates a link from its interlinks and its value.
     pub fn new(prev_next: (Option<I>, Option<I>), t: T) -> Self
         ensures { link_view I.packed_number result
             ≡ record {
@@ -101,9 +102,9 @@ impl<W: Copy, I: InxKey<Word = W>, T> LinkBody<PackedOption<I, W>, T> {
     }
 }
 
-/// A link whose interlinks are pointers, with the generations of the time of the look.
+/// A link whose interlinks are pointers, with the generations of its neighbors when it was read.
 ///
-/// Carries `Link` of `triple_arena`.
+/// Port of `Link`.
 #[derive(Copy, PartialEq, Eq, PartialOrd, Ord, Hash)]
 pub struct Link<P, T> {
     prev: Option<P>,
@@ -130,28 +131,28 @@ impl<P: Copy, T: Clone> Clone for Link<P, T> {
 }
 
 impl<P: Copy, T> Link<P, T> {
-    /// The pointer to the link before this one in its chain. `None` at the start of the chain.
+    /// Returns the pointer to the link before this one, or `None` at the start of the chain.
     pub fn prev(&self) -> Option<P>
         ensures { result ≡ self.now.prev }
     {
         self.prev
     }
 
-    /// The pointer to the link after this one in its chain. `None` at the end of the chain.
+    /// Returns the pointer to the link after this one, or `None` at the end of the chain.
     pub fn next(&self) -> Option<P>
         ensures { result ≡ self.now.next }
     {
         self.next
     }
 
-    /// Both interlinks: `(self.prev(), self.next())`.
+    /// Returns both interlinks: `(self.prev(), self.next())`.
     pub fn prev_next(&self) -> (Option<P>, Option<P>)
         ensures { result ≡ (self.now.prev, self.now.next) }
     {
         (self.prev, self.next)
     }
 
-    /// A link of its parts.
+    /// Creates a link from its interlinks and its value.
     pub fn new(prev_next: (Option<P>, Option<P>), t: T) -> Self
         ensures prev { result.prev ≡ prev_next.0 }
         ensures next { result.next ≡ prev_next.1 }
@@ -166,7 +167,7 @@ impl<P: Copy, T> Link<P, T> {
 }
 
 impl<P: PtrKey, T> Link<P, T> {
-    /// The same link without the generations of its neighbours.
+    /// Converts to a link without the generations of its neighbors.
     pub fn no_gen(self) -> LinkNoGen<P, T>
         ensures { link_view P.Inx.packed_number result
             ≡ record {
@@ -179,7 +180,7 @@ impl<P: PtrKey, T> Link<P, T> {
         LinkBody::new((index_of(self.prev), index_of(self.next)), self.t)
     }
 
-    /// The same link without the generations of its neighbours, with its value by reference.
+    /// Returns the link without the generations of its neighbors, with its value by reference.
     pub fn no_gen_ref(&self) -> LinkNoGen<P, &T>
         ensures prev { (link_view P.Inx.packed_number result).prev ≡ option_map
             (index_in P.key) self.now.prev }
@@ -191,7 +192,7 @@ impl<P: PtrKey, T> Link<P, T> {
     }
 }
 
-/// The index of a pointer, if there is one.
+/// Returns the index of a pointer, if there is one.
 pub fn index_of<P: PtrKey>(p: Option<P>) -> Option<P::Inx>
     ensures { option_map P.Inx.number result ≡ option_map (index_in P.key) p }
 {

@@ -1,11 +1,11 @@
-// Where a walk along a chain goes.
+// The next step of a walk along a chain, forwards or backwards.
 ghost use Rattle.std.specs.Prelude.{◌≡◌};
 ghost use Rattle.std.specs.Option.{option_map};
 ghost use Rattle.chain_laws.specs.Walks.{step_forward, step_back};
 
 use arena_ptr::InxKey;
 
-/// Where a walk goes on to from a link: to the next one, unless it has come round to its start.
+/// Returns where a walk goes from a link: to the next link, unless the walk started there.
 pub fn going_on<I: InxKey>(start: I, next: Option<I>) -> Option<I>
     ensures { option_map I.number result ≡ step_forward (I.number start)
         (option_map I.number next) }
@@ -16,8 +16,10 @@ pub fn going_on<I: InxKey>(start: I, next: Option<I>) -> Option<I>
     }
 }
 
-/// Where a walk goes on to from a link, and where it goes back to from the end of the chain: nowhere, where it has come round
-/// to its start. Each case has an arm of its own, so that a walk takes branches, which are predicted, and no conditional moves.
+/// Returns where a walk goes forwards from a link, and where it goes backwards from the end.
+///
+/// Both are `None` if the next link is the start of the walk. Each case has its own branch, so that
+/// walks take predicted branches and no conditional moves.
 pub fn going<I: InxKey>(start: I, next: Option<I>, back: Option<I>) -> (Option<I>, Option<I>)
     ensures on { option_map I.number result.0 ≡ step_forward (I.number start)
         (option_map I.number next) }

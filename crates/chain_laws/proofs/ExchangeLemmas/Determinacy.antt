@@ -1,4 +1,4 @@
--- The chains after an exchange are those of the two links and those that stay: what exchanges leaves no choice.
+-- The chains after an exchange are determined: those of the two links, and the unchanged ones.
 use Rattle.std.specs.Prelude.{◌≡◌, ◌≢◌, ◌↔◌, ℕ, ◌⊎◌, List, [], ◌∷◌, ◌++◌}
 use Rattle.std.proofs.Common.{sym, refl, ap, ◌∙◌, subst, inl, inr, ⊎_elim}
 use Rattle.std.proofs.lemmas.Bool.{cases_eq}
@@ -12,15 +12,15 @@ use Rattle.chain_laws.proofs.ChainLemmas.Existence.{ChainOf, stands_in, has_chai
 use Rattle.chain_laws.proofs.ChainLemmas.Determinacy.{NamesChains, settled}
 use Rattle.chain_laws.proofs.ExchangeLemmas.Chains.{exchanged_exchanges}
 
--- the links after p and after q are exchanged, as a word for the new arena
+-- an exchange as a predicate on the new arena
 abbrev Crosses : LinkMap → ℕ → ℕ → LinkMap → Type 0
 Crosses old p q new = Exchanges old new p q
 
--- the chains of p and of q wherever they are
+-- the chains of p and q after any exchange
 abbrev Crossed : LinkMap → ℕ → ℕ → Type 0
 Crossed old p q = NamesChains (Crosses old p q) p q
 
--- what settles the chains of two indexes settles them in either order
+-- the order of the two indexes does not matter
 settles_mutually : (Holds : LinkMap → Type 0) (a b : ℕ) → NamesChains Holds a b → NamesChains Holds b a
 settles_mutually Holds a b settles =
     record {
@@ -100,7 +100,7 @@ two_cyclic_settle old p q xs ys left right has_p has_q none =
       right_stands = stands;
     }
 
--- a cyclic chain with two links, written from the one
+-- a cyclic chain with p and q, written from p
 written_round : (link_map : LinkMap) (p q : ℕ) (xs : List ℕ) → p ≢ q → IsChain link_map (cyclic xs) → IsMember xs p → IsMember xs q
     → (x : List ℕ) × (y : List ℕ) × IsChain link_map (cyclic (p ∷ x ++ q ∷ y))
 written_round link_map p q xs ne chain has_p has_q = by ((t.2 q).0 has_q)
@@ -163,7 +163,7 @@ crossed_apart old p q ne (stands_in (cyclic xs) left has_p) (stands_in d right h
         (taken_in_settles old (Crosses old p q) q p (λ new exchanges. exchanges.in_other_order) ys xs right left has_q has_p)
     by (cyclic ys) right has_q (inr none) = two_cyclic_settle old p q xs ys left right has_p has_q none
 
--- one and the same link
+-- the same link twice
 crossed_itself : (old : LinkMap) (p q : ℕ) → p ≡ q → ChainOf old p → Crossed old p q
 crossed_itself old p q e (stands_in c chain has) =
     record {
@@ -175,7 +175,7 @@ crossed_itself old p q e (stands_in c chain has) =
       right_stands = λ new exchanges. (exchanges.itself e c).0 chain;
     }
 
--- what exchanges the links after two links has the chains of the exchange
+-- any exchange has the chains of `exchanged`
 pub exchange_is_determined : ExchangeIsDetermined
 exchange_is_determined old new slots p q agrees within valid_p valid_q exchanges =
     let of_p = has_chain old slots agrees within p valid_p in
@@ -184,7 +184,7 @@ exchange_is_determined old new slots p q agrees within valid_p valid_q exchanges
     settled old new (exchanged old p q) (Crosses old p q) p q (λ s made. made.rest)
     crossed exchanges (exchanged_exchanges old p q agrees valid_p valid_q)
 
--- two links of one cyclic chain stand in two after the exchange
+-- an exchange splits a cyclic chain
 pub exchange_splits : ExchangeSplitsACycle
 exchange_splits link_map p q xs agrees ne chain has_p has_q =
     let w = written_round link_map p q xs ne chain has_p has_q in
@@ -192,7 +192,7 @@ exchange_splits link_map p q xs agrees ne chain has_p has_q =
     let parts = exchanges.one_cyclic w.0 w.1 w.2 in
     (w.0, w.1, one_ring link_map xs (p ∷ w.0 ++ q ∷ w.1) p chain w.2 has_p (inl refl), parts.0, parts.1)
 
--- links of two cyclic chains stand in one after the exchange
+-- an exchange merges two cyclic chains
 pub exchange_merges : ExchangeMergesCycles
 exchange_merges link_map p q xs ys agrees left right has_p has_q none =
     let v = turned_to link_map xs p left has_p in

@@ -1,4 +1,4 @@
--- What an insertion does to the interlinks: the new link comes between two, and they still agree.
+-- Interlinks after an insertion: the new link is between two, and they stay consistent.
 use Rattle.std.specs.Prelude.{◌≡◌, ◌≢◌, ◌↔◌, ℕ, ◌⊎◌, Option, None, Some}
 use Rattle.std.proofs.Common.{sym, refl, ap, ◌∙◌, inl, inr, ⊎_elim}
 use Rattle.chain_laws.specs.Chains.{LinkMap, HasLink, IsWellLinked, prev_in, next_in, prev_of, next_of}
@@ -13,17 +13,17 @@ use Rattle.chain_laws.proofs.InterlinkLemmas.Skips.{names_or_not}
 use Rattle.chain_laws.proofs.InterlinkLemmas.Puts.{Puts, IsOpenPlace, puts_pairs, puts_undo}
 use Rattle.chain_laws.proofs.ChainLemmas.Determinacy.{pairs_decide}
 
--- the place of a change at an index, where it is one ..
+-- the changed index, if it is one
 pub put_at-same : (f : ℕ → Option ℕ) (u o : Option ℕ) (j : ℕ) → u ≡ Some j → put_at f u o j ≡ o
 put_at-same f None o j e = absurd (cc)
 put_at-same f (Some i) o j e = altered-same f i o j (sym (one_some e))
 
--- .. and any other place
+-- any other index
 pub put_at-other : (f : ℕ → Option ℕ) (u o : Option ℕ) (j : ℕ) → u ≢ Some j → put_at f u o j ≡ f j
 put_at-other f None o j ne = refl
 put_at-other f (Some i) o j ne = altered-other f i o j (λ e. ne (ap Some (sym e)))
 
--- where no link stands, none is valid
+-- a free index is not valid
 pub free_invalid : (link_map : LinkMap) (q : ℕ) → link_map q ≡ None → HasLink link_map q → ⊥
 free_invalid link_map q free valid = let shows = sym free ∙ valid.shows in cc
 
@@ -31,28 +31,28 @@ free_invalid link_map q free valid = let shows = sym free ∙ valid.shows in cc
 abbrev pub appended : LinkMap → ℕ → Option ℕ → LinkMap
 appended link_map q u = linked (with_lone link_map q) u (Some q)
 
--- it is valid, and no other ..
+-- q is the only index that becomes valid
 pub HasLink-appended : (link_map : LinkMap) (q : ℕ) (u : Option ℕ) (i : ℕ) → HasLink (appended link_map q u) i ↔ (HasLink link_map i ⊎ (i ≡ q))
 HasLink-appended link_map q u i =
     let outer = HasLink-linked (with_lone link_map q) u (Some q) i in
     let inner = HasLink-with_lone link_map q i in
     (λ v. inner.0 (outer.0 v), λ v. outer.1 (inner.1 v))
 
--- .. also once it comes before v
+-- the valid indexes once q comes before v
 pub HasLink-inserted : (link_map : LinkMap) (q : ℕ) (u v : Option ℕ) (i : ℕ) → HasLink (inserted link_map q u v) i ↔ (HasLink link_map i ⊎ (i ≡ q))
 HasLink-inserted link_map q u v i =
     let outer = HasLink-linked (appended link_map q u) (Some q) v i in
     let inner = HasLink-appended link_map q u i in
     (λ w. inner.0 (outer.0 w), λ w. outer.1 (inner.1 w))
 
--- there is room for a new link at q between u and v
+-- q may be put between u and v
 pub record IsBetween (link_map : LinkMap) (q : ℕ) (u v : Option ℕ) : Type 0 where
   pub valid_before : (i : ℕ) → u ≡ Some i → HasLink link_map i ⊎ (i ≡ q)
   pub valid_after : (i : ℕ) → v ≡ Some i → HasLink link_map i ⊎ (i ≡ q)
   pub forth : IsOpenPlace (next_of link_map) q u v
   pub back : IsOpenPlace (prev_of link_map) q v u
 
--- what comes after each index has q between u and v
+-- `next` after the insertion puts q between u and v
 pub next_puts : (link_map : LinkMap) (q : ℕ) (u v : Option ℕ) → link_map q ≡ None → IsBetween link_map q u v
     → Puts (next_of link_map) (next_of (inserted link_map q u v)) q u v
 next_puts link_map q u v free between =
@@ -70,7 +70,7 @@ next_puts link_map q u v free between =
     inner : (j : ℕ) → next_of (appended link_map q u) j ≡ put_at (next_of (with_lone link_map q)) u (Some q) j
     inner j = next_of-linked (with_lone link_map q) u (Some q) j (λ i e. (HasLink-with_lone link_map q i).1 (between.valid_before i e))
 
--- .. and so has what comes before each
+-- `prev` after the insertion puts q between v and u
 pub prev_puts : (link_map : LinkMap) (q : ℕ) (u v : Option ℕ) → link_map q ≡ None → IsBetween link_map q u v
     → Puts (prev_of link_map) (prev_of (inserted link_map q u v)) q v u
 prev_puts link_map q u v free between =
@@ -90,7 +90,7 @@ prev_puts link_map q u v free between =
     inner : (j : ℕ) → prev_of (appended link_map q u) j ≡ altered (prev_of (with_lone link_map q)) q u j
     inner j = prev_of-linked (with_lone link_map q) u (Some q) j (IsValidAt-Some (with_lone link_map q) q ((HasLink-with_lone link_map q q).1 (inr refl)))
 
--- there is room between what is not q, if what the one names can only be the other
+-- q may be put between valid u and v that name at most each other
 room_between : (link_map : LinkMap) (q : ℕ) (u v : Option ℕ) → link_map q ≡ None → IsValidAt link_map u → IsValidAt link_map v
     → ((i j : ℕ) → u ≡ Some i → next_of link_map i ≡ Some j → v ≡ Some j)
     → ((i j : ℕ) → v ≡ Some i → prev_of link_map i ≡ Some j → u ≡ Some j) → IsBetween link_map q u v
@@ -102,7 +102,7 @@ room_between link_map q u v free valid_u valid_v after before =
       back = record { free = ap prev_in free; only = before; itself = λ e. absurd (free_invalid link_map q free (valid_v q e)) };
     }
 
--- a gap has room
+-- q may be put in an insertion position
 pub gap_between : (link_map : LinkMap) (q : ℕ) (u v : Option ℕ) → IsWellLinked link_map → link_map q ≡ None → IsInsertPosition link_map q u v → IsBetween link_map q u v
 gap_between link_map q None None agrees free gap =
     room_between link_map q None None free (λ i e. absurd (cc)) (λ i e. absurd (cc)) (λ i j e n. absurd (cc)) (λ i j e p. absurd (cc))
@@ -147,7 +147,7 @@ gap_between link_map q (Some a) (Some b) agrees free (inr (inr ring)) =
       };
     }
 
--- an insertion keeps agreement
+-- an insertion keeps the interlinks consistent
 pub inserted_agrees : InsertionAgrees
 inserted_agrees link_map q u v agrees free gap =
     let between = gap_between link_map q u v agrees free gap in
@@ -165,7 +165,7 @@ inserted_in_pairs link_map q u v agrees free gap =
       links = HasLink-inserted link_map q u v;
     }
 
--- what inserts by pairs, and agrees, is the insertion
+-- a consistent insertion is determined by its pairs
 pub insertion_is_determined_by_pairs : InsertionIsDeterminedByPairs
 insertion_is_determined_by_pairs old new q u v agrees agrees_new free gap inserts =
     let that = inserted_in_pairs old q u v agrees free gap in
@@ -173,7 +173,7 @@ insertion_is_determined_by_pairs old new q u v agrees agrees_new free gap insert
     (λ i. (λ w. (that.links i).1 ((inserts.links i).0 w), λ w. (inserts.links i).1 ((that.links i).0 w)))
     (λ i j. (λ e. (that.pairs i j).1 ((inserts.pairs i j).0 e), λ e. (inserts.pairs i j).1 ((that.pairs i j).0 e)))
 
--- after a link, and before one, there is a gap
+-- positions after a link and before a link
 pub gap_after : (link_map : LinkMap) (a q : ℕ) (v : Option ℕ) → HasLink link_map a → next_of link_map a ≡ v → IsInsertPosition link_map q (Some a) v
 gap_after link_map a q None valid is = (valid, is)
 gap_after link_map a q (Some b) valid is = inl is
@@ -182,7 +182,7 @@ pub gap_before : (link_map : LinkMap) (b q : ℕ) (u : Option ℕ) → IsWellLin
 gap_before link_map b q None agrees valid is = (valid, is)
 gap_before link_map b q (Some a) agrees valid is = inl ((agrees.both a b).1 is)
 
--- what a kind asks for is a gap
+-- the conditions of a kind give an insertion position
 pub kind_gap : KindGivesAPosition
 kind_gap link_map disconnected q agrees can = tt
 kind_gap link_map single_link_cyclic q agrees can = inr (inr (refl, refl))

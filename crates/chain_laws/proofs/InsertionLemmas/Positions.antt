@@ -1,4 +1,4 @@
--- Whether two links have a gap between them can be told, so what is merely a gap is one.
+-- An insertion position can be decided, so a truncated proof of it gives a proof.
 use Rattle.std.proofs.Common.{◌≡◌, ℕ, inl, inr, Option, None, Some, refl, sym, ap, ◌∙◌}
 use Rattle.std.proofs.Math.Decide.{ℕ_discrete}
 use Rattle.std.proofs.Math.Logic.{∥∥₁_elim}
@@ -6,7 +6,7 @@ use Rattle.chain_laws.specs.Chains.{LinkMap, Interlinks, HasLink, prev_of, next_
 use Rattle.chain_laws.specs.Joins.{AreEndAndStart}
 use Rattle.chain_laws.specs.Insertions.{IsInsertPosition}
 
--- where it cannot be that no link stands, one does; and so with the want of an index
+-- double negations of `HasLink` and of `None` can be removed
 stands_had : (link_map : LinkMap) (i : ℕ) (link : Option Interlinks) → link_map i ≡ link → ((HasLink link_map i → ⊥) → ⊥) → HasLink link_map i
 stands_had link_map i None none some = absurd (some (λ v. let no = sym none ∙ v.shows in cc))
 stands_had link_map i (Some l) is some = record { link = l; shows = is }
@@ -16,7 +16,7 @@ none_had o None is none = is
 none_had o (Some n) is none = absurd (none (λ no. let both = sym is ∙ no in cc))
 
 module _ (link_map : LinkMap) (q a b : ℕ) (h : (IsInsertPosition link_map q (Some a) (Some b) → ⊥) → ⊥) where
-  -- neither neighbors nor the new link, so an end and a start
+  -- neither neighbors nor the new link: an end and a start
   only_ends : next_of link_map a ≡ None → ((a ≡ q) × (b ≡ q) → ⊥) → (AreEndAndStart link_map a b → ⊥) → ⊥
   only_ends none other not = h (λ gap. elim gap [
     | inl pair ↦ (let both = sym none ∙ pair in cc)

@@ -1,4 +1,4 @@
--- What an insertion next to a link does to the interlinks is undone where the new link is removed.
+-- The removal of a link inserted next to another undoes the insertion.
 use Rattle.std.specs.Prelude.{◌≡◌, ◌≢◌, ℕ, ◌⊎◌, Option, None, Some}
 use Rattle.std.proofs.Common.{sym, refl, ap, ◌∙◌, subst, inl, inr, ⊎_elim}
 use Rattle.chain_laws.specs.Chains.{LinkMap, HasLink, IsWellLinked, prev_of, next_of}
@@ -13,7 +13,7 @@ use Rattle.chain_laws.proofs.RemovalLemmas.Pairs.{removed_agrees, removed_in_pai
 use Rattle.chain_laws.proofs.ChainLemmas.Determinacy.{pairs_decide}
 use Rattle.chain_laws.proofs.InsertionLemmas.Pairs.{free_invalid, gap_after, gap_before, gap_between, next_puts, prev_puts, inserted_agrees, inserted_in_pairs}
 
--- a new link between two that are neighbours, where both are some index, removed
+-- the removal of a link whose neighbors, if it has two, were neighbors
 removed_of_inserted : (link_map : LinkMap) (q : ℕ) (u v : Option ℕ) → IsWellLinked link_map → link_map q ≡ None → IsInsertPosition link_map q u v
     → ((i j : ℕ) → u ≡ Some i → v ≡ Some j → AreNeighbors link_map i j) → removed (inserted link_map q u v) q ≡ link_map
 removed_of_inserted link_map q u v agrees free gap beside =
@@ -63,7 +63,7 @@ removed_of_inserted link_map q u v agrees free gap beside =
     back i j e (inl at_u) (inr not_v) = inl ((inserts.pairs i j).1 (inl (e, λ p. not_v p.1)), not_first i j e, not_second i j e)
     back i j e (inr not_u) _ = inl ((inserts.pairs i j).1 (inl (e, λ p. not_u p.0)), not_first i j e, not_second i j e)
 
--- a new link next to another one, removed
+-- the removal of a link inserted next to another one
 pub removed_of_inserted_restores : RemovalOfInsertedRestores
 removed_of_inserted_restores link_map a q agrees valid free = (
   removed_of_inserted link_map q (Some a) (next_of link_map a) agrees free (gap_after link_map a q (next_of link_map a) valid refl)

@@ -1,4 +1,4 @@
--- What a join keeps and does: the interlinks still agree, one pair is added, and two chains become one.
+-- A join keeps interlinks consistent, adds one pair, and makes two chains one.
 use Rattle.std.specs.Prelude.{◌≡◌, ◌≢◌, ℕ, ◌⊎◌, List, [], ◌∷◌, ◌++◌, None, Some}
 use Rattle.std.proofs.Common.{sym, ap, ◌∙◌, subst, subst₂, inl, inr, ⊎_elim}
 use Rattle.std.proofs.lemmas.Bool.{cases_eq}
@@ -11,15 +11,15 @@ use Rattle.chain_laws.proofs.JoinLemmas.Lists.{IsOutside, IsOutside-Some, AreLin
 use Rattle.chain_laws.proofs.ChainLemmas.Uniqueness.{chain_closed, reaches_first}
 use Rattle.chain_laws.proofs.ListLemmas.Members.{IsMember-middle, IsMember-filled, AreDistinct-append, last_or-append}
 
--- what comes after each index once b comes after a
+-- each `next` once b comes after a
 pub next_of-joined : (link_map : LinkMap) (a b : ℕ) → HasLink link_map a → (j : ℕ) → next_of (joined link_map a b) j ≡ altered (next_of link_map) a (Some b) j
 next_of-joined link_map a b valid j = next_of-linked link_map (Some a) (Some b) j (IsValidAt-Some link_map a valid)
 
--- what comes before each index once b comes after a
+-- each `prev` once b comes after a
 pub prev_of-joined : (link_map : LinkMap) (a b : ℕ) → HasLink link_map b → (j : ℕ) → prev_of (joined link_map a b) j ≡ altered (prev_of link_map) b (Some a) j
 prev_of-joined link_map a b valid j = prev_of-linked link_map (Some a) (Some b) j (IsValidAt-Some link_map b valid)
 
--- a join of an end and a start keeps agreement
+-- a join of an end and a start keeps the interlinks consistent
 pub joined_agrees : (link_map : LinkMap) (a b : ℕ) → IsWellLinked link_map → AreEndAndStart link_map a b → IsWellLinked (joined link_map a b)
 joined_agrees link_map a b agrees ends =
     record {

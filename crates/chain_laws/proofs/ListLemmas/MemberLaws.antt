@@ -1,19 +1,19 @@
--- Laws of what lists have, both ways.
+-- Laws of the members of lists, as equivalences.
 use Rattle.std.proofs.Common.{ℕ, inl, inr, ⊎_elim, List, [], ◌∷◌, sym, subst}
 use Rattle.chain_laws.specs.Chains.{IsMember}
 use Rattle.chain_laws.specs.Members.{HasInJoin, HasInRotation, HasInMiddle, MembersSplitAList, HasIsFilled, OnceInJoin, OnceInRotation, OnceInMiddle}
 use Rattle.chain_laws.proofs.ListLemmas.Members.{IsMember-left, IsMember-right, IsMember-parts, IsMember-middle, IsMember-turned, IsMember-written, IsMember-filled, filled-IsMember}
 use Rattle.chain_laws.proofs.ListLemmas.Members.{AreDistinct-left, AreDistinct-right, AreDistinct-apart, AreDistinct-append, AreDistinct-turned}
 
--- what stands in one of two lists stands in both as one, and back
+-- the members of two lists written as one
 pub has_in_join : HasInJoin
 has_in_join xs ys i = (IsMember-parts xs ys i, ⊎_elim (IsMember-left xs ys i) (IsMember-right xs ys i))
 
--- whichever of the two comes first
+-- the members of two lists in either order
 pub has_in_turn : HasInRotation
 has_in_turn xs ys i = (IsMember-turned xs ys i, IsMember-turned ys xs i)
 
--- an item between two lists, seen past each item of the left one
+-- an item between two lists
 pub has_in_middle : HasInMiddle
 has_in_middle [] ys x i = (⊎_elim (λ e. inl (sym e)) (λ h. inr h), ⊎_elim (λ e. inl (sym e)) (λ h. inr h))
 has_in_middle (y ∷ xs) ys x i =
@@ -22,26 +22,26 @@ has_in_middle (y ∷ xs) ys x i =
       ⊎_elim (λ e. inr (rest.1 (inl e))) (⊎_elim (λ e. inl e) (λ h. inr (rest.1 (inr h)))),
     )
 
--- a list is written around what it has, and has what it is written around
+-- the members of a list are the items it is written around
 pub has_is_written : MembersSplitAList
 has_is_written xs i = (IsMember-written xs i, λ w. subst (λ (zs : List ℕ). IsMember zs i) (sym w.2) (IsMember-middle w.0 w.1 i))
 
--- a list that is not empty has its first item
+-- non-empty lists are those with a member
 pub has_is_filled : HasIsFilled
 has_is_filled xs = (filled-IsMember xs, λ w. IsMember-filled xs w.0 w.1)
 
--- two lists as one, taken apart and put together
+-- two lists written as one are distinct exactly if each is and they are disjoint
 pub once_in_join : OnceInJoin
 once_in_join xs ys = (
   λ once. (AreDistinct-left xs ys once, AreDistinct-right xs ys once, λ i. AreDistinct-apart xs ys i once),
   λ parts. AreDistinct-append xs ys parts.0 parts.1 parts.2,
 )
 
--- whichever of the two comes first
+-- two lists are distinct in either order
 pub once_in_turn : OnceInRotation
 once_in_turn xs ys = (AreDistinct-turned xs ys, AreDistinct-turned ys xs)
 
--- x comes to the front of the two lists in the other order, and back
+-- a distinct list with x in its middle: the rest is distinct and lacks x
 pub once_in_middle : OnceInMiddle
 once_in_middle xs ys x = (
   λ once. let front = AreDistinct-turned xs (x ∷ ys) once in (λ h. front.0 (IsMember-turned xs ys x h), AreDistinct-turned ys xs front.1),

@@ -1,4 +1,4 @@
--- What a removal does to the chains: the index leaves its list, and every other chain stays.
+-- Chains after a removal: the index leaves its list, and the others are unchanged.
 use Rattle.std.specs.Prelude.{◌≡◌, ◌≢◌, ℕ, List, [], ◌∷◌, ◌++◌, Option, None, Some}
 use Rattle.std.proofs.Common.{sym, refl, ap, subst, subst₂, inl, inr, ⊎_elim}
 use Rattle.chain_laws.specs.Chains.{LinkMap, Chain, linear, cyclic, items, IsChain, IsWellLinked, IsMember, AreDistinct, AreLinked, prev_in, next_in, prev_of, next_of, first_or, last_or}
@@ -11,20 +11,20 @@ use Rattle.chain_laws.proofs.ChainLemmas.Rotations.{turned}
 use Rattle.chain_laws.proofs.JoinLemmas.Lists.{IsOutside, AreLinked-glued, AreLinked-ringed, IsChain-linked}
 use Rattle.chain_laws.proofs.RemovalLemmas.Pairs.{vacated-off, HasLink-removed, removed_unnamed}
 
--- the items of a list without q show what they showed
+-- the items of a list without q are unchanged
 shows_without : (link_map : LinkMap) (q : ℕ) (xs : List ℕ) → (IsMember xs q → ⊥) → (i : ℕ) → IsMember xs i → link_map i ≡ vacated link_map q i
 shows_without link_map q xs none i h = sym (vacated-off link_map q i (λ e. none (subst (IsMember xs) e h)))
 
--- a list without q stands as it stood, once nothing stands at q
+-- a list without q stays linked once q is free
 pub AreLinked-vacated : (link_map : LinkMap) (q : ℕ) (before : Option ℕ) (xs : List ℕ) (after : Option ℕ) → (IsMember xs q → ⊥)
     → AreLinked link_map before xs after → AreLinked (vacated link_map q) before xs after
 AreLinked-vacated link_map q before xs after none stands = AreLinked-frame link_map (vacated link_map q) before xs after (shows_without link_map q xs none) stands
 
--- so does a chain without q
+-- a chain without q stays a chain once q is free
 pub IsChain-vacated : (link_map : LinkMap) (q : ℕ) (c : Chain) → (IsMember (items c) q → ⊥) → IsChain link_map c → IsChain (vacated link_map q) c
 IsChain-vacated link_map q c none = IsChain-frame link_map (vacated link_map q) c (shows_without link_map q (items c) none)
 
--- of a list around i, the parts share nothing
+-- the parts of a distinct list around i are disjoint
 parts_apart : (x y : List ℕ) (i : ℕ) → AreDistinct (x ++ i ∷ y) → (k : ℕ) → IsMember x k → IsMember y k → ⊥
 parts_apart x y i once k h g = AreDistinct-apart x (i ∷ y) k once h (inr g)
 
@@ -60,18 +60,18 @@ removed_first_of_cyclic link_map i (k ∷ y) chain filled =
       subst₂ (λ u v. AreLinked (linked (vacated link_map i) u v) (last_or y (Some k)) (k ∷ y) (Some k)) (sym (ap prev_in chain.2.0)) (sym (ap next_in chain.2.0)) ringed,
     )
 
--- the two parts in the other order are not empty either
+-- the parts in the other order are not empty either
 filled_turned : (x y : List ℕ) → x ++ y ≢ [] → y ++ x ≢ []
 filled_turned x y filled =
     let some = filled-IsMember (x ++ y) filled in
     IsMember-filled (y ++ x) some.0 (IsMember-turned x y some.0 some.1)
 
--- an index leaves a cyclic chain, wherever that is written from
+-- an index leaves a cyclic chain, written from any link
 pub removed_from_cyclic : (link_map : LinkMap) (i : ℕ) (x y : List ℕ) → IsChain link_map (cyclic (x ++ i ∷ y)) → x ++ y ≢ [] → IsChain (removed link_map i) (cyclic (x ++ y))
 removed_from_cyclic link_map i x y chain filled =
     turned (removed link_map i) y x (removed_first_of_cyclic link_map i (y ++ x) (turned link_map x (i ∷ y) chain) (filled_turned x y filled))
 
--- a chain without i stays
+-- a chain without i is unchanged
 pub removed_rest : (link_map : LinkMap) (i : ℕ) → IsWellLinked link_map → (c : Chain) → (IsMember (items c) i → ⊥) → IsChain link_map c → IsChain (removed link_map i) c
 removed_rest link_map i agrees c none chain =
     let closed = chain_closed link_map c chain in

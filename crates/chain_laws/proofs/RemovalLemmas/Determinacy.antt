@@ -1,4 +1,4 @@
--- The chains after a removal are those before it, each without the index: what removes leaves no choice.
+-- The chains after a removal are determined: the old ones, each without the index.
 use Rattle.std.specs.Prelude.{◌≡◌, ◌≢◌, ℕ, ◌⊎◌, List, [], ◌∷◌, ◌++◌}
 use Rattle.std.proofs.Common.{sym, refl, ap, ◌∙◌, subst, inl, inr, ⊎_elim}
 use Rattle.std.proofs.lemmas.Bool.{cases_eq}
@@ -14,21 +14,21 @@ use Rattle.chain_laws.proofs.ChainLemmas.Determinacy.{chain_elsewhere, pairs_dec
 use Rattle.chain_laws.proofs.RemovalLemmas.Pairs.{removed_agrees, removed_in_pairs}
 use Rattle.chain_laws.proofs.RemovalLemmas.Chains.{removed_removes}
 
--- the index is left out ..
+-- the index is left out
 pub list_without-same : (x : ℕ) (xs : List ℕ) (i : ℕ) → x ≡ i → list_without (x ∷ xs) i ≡ list_without xs i
 list_without-same x xs i e = if_same x i (list_without xs i) (x ∷ list_without xs i) e
 
--- .. and any other is not
+-- any other index is kept
 pub list_without-other : (x : ℕ) (xs : List ℕ) (i : ℕ) → x ≢ i → list_without (x ∷ xs) i ≡ x ∷ list_without xs i
 list_without-other x xs i ne = if_other x i (list_without xs i) (x ∷ list_without xs i) ne
 
--- a list that does not have the index is as it is without it
+-- a list that does not have the index is unchanged
 pub list_without-none : (xs : List ℕ) (i : ℕ) → (IsMember xs i → ⊥) → list_without xs i ≡ xs
 list_without-none [] i none = refl
 list_without-none (x ∷ xs) i none =
     list_without-other x xs i (λ e. none (inl e)) ∙ ap (λ (zs : List ℕ). x ∷ zs) (list_without-none xs i (λ h. none (inr h)))
 
--- a list without the index that stands at one place
+-- a distinct list without the index at its one place
 pub list_without-middle : (x y : List ℕ) (i : ℕ) → AreDistinct (x ++ i ∷ y) → list_without (x ++ i ∷ y) i ≡ x ++ y
 list_without-middle [] y i once = list_without-same i y i refl ∙ list_without-none y i once.0
 list_without-middle (a ∷ x) y i once =
@@ -46,17 +46,17 @@ list_without-IsMember (x ∷ xs) i j ne h = by (cases_eq x i) h (list_without-Is
     by (inr d) (inl s) rest = subst (λ (zs : List ℕ). IsMember zs j) (sym (list_without-other x xs i d)) (inl s)
     by (inr d) (inr k) rest = subst (λ (zs : List ℕ). IsMember zs j) (sym (list_without-other x xs i d)) (inr (rest k))
 
--- .. so do those of a chain
+-- the items of a chain other than the index stay
 pub chain_without-IsMember : (c : Chain) (i j : ℕ) → j ≢ i → IsMember (items c) j → IsMember (items (chain_without c i)) j
 chain_without-IsMember (linear xs) i j ne h = list_without-IsMember xs i j ne h
 chain_without-IsMember (cyclic xs) i j ne h = list_without-IsMember xs i j ne h
 
--- a chain that does not have the index is as it is without it
+-- a chain that does not have the index is unchanged
 pub chain_without-none : (c : Chain) (i : ℕ) → (IsMember (items c) i → ⊥) → chain_without c i ≡ c
 chain_without-none (linear xs) i none = ap (λ (zs : List ℕ). linear zs) (list_without-none xs i none)
 chain_without-none (cyclic xs) i none = ap (λ (zs : List ℕ). cyclic zs) (list_without-none xs i none)
 
--- each old chain without the index is a new one, unless it is empty
+-- each old chain without i, unless empty, is a new one
 pub removes_shortens : (old new : LinkMap) (i : ℕ) → Removes old new i → (c : Chain) → IsChain old c → items (chain_without c i) ≢ [] → IsChain new (chain_without c i)
 removes_shortens old new i removes (linear xs) chain filled = by (IsMember-or_not xs i)
   where
@@ -81,7 +81,7 @@ removes_shortens old new i removes (cyclic xs) chain filled = by (IsMember-or_no
     by (inl h) = let w = IsMember-written xs i h in around w.0 w.1 w.2
     by (inr none) = subst (λ (zs : List ℕ). IsChain new (cyclic zs)) (sym (list_without-none xs i none)) (removes.rest (cyclic xs) none chain)
 
--- two arenas from which i is removed have the same chains
+-- two removals of i give the same chains
 removed_alike : (old left right : LinkMap) (slots i : ℕ) → IsWellLinked old → HasLinksWithin old slots → Removes old left i → Removes old right i → (c : Chain) → IsChain left c → IsChain right c
 removed_alike old left right slots i agrees within l r c chain =
     let some = filled-IsMember (items c) (chain_filled left c chain) in
@@ -94,13 +94,13 @@ removed_alike old left right slots i agrees within l r c chain =
         let filled = IsMember-filled (items (chain_without d i)) j has_j in
         chain_elsewhere left right c (chain_without d i) j chain (removes_shortens old left i l d old_chain filled) (removes_shortens old right i r d old_chain filled) h has_j
 
--- what removes an index has the chains of its removal
+-- a removal of an index has the chains of `removed`
 pub removal_is_determined : RemovalIsDetermined
 removal_is_determined old new slots i agrees within removes c =
     let removal = removed_removes old i agrees in
     (removed_alike old new (removed old i) slots i agrees within removes removal c, removed_alike old (removed old i) new slots i agrees within removal removes c)
 
--- a cyclic chain that is another without i, but for where it is written from, is so where that one is turned
+-- a rotation of a cyclic chain without i is that chain, rotated, without i
 turned_without : (old : LinkMap) (i : ℕ) (xs ys : List ℕ) → IsChain old (cyclic xs) → IsMember xs i
     → ((rest : List ℕ) → IsChain old (cyclic (i ∷ rest)) → IsRotation (cyclic rest) (cyclic ys))
     → (zs : List ℕ) × IsChain old (cyclic zs) × (ys ≡ list_without zs i)
@@ -111,7 +111,7 @@ turned_without old i xs ys chain h turns =
     let longer : IsChain old (cyclic (parts.1 ++ i ∷ parts.0)) = turned old (i ∷ parts.0) parts.1 start in
     (parts.1 ++ i ∷ parts.0, longer, parts.3 ∙ sym (list_without-middle parts.1 parts.0 i longer.1))
 
--- the chain of j, and the new one of j that has come from it
+-- the new chain of j is the old one without i
 longer_of : (old new : LinkMap) (i j : ℕ) → Removes old new i → j ≢ i → (d c : Chain) → IsChain old d → IsChain new c → IsMember (items d) j → IsMember (items c) j → IsMember (items d) i
     → (e : Chain) × IsChain old e × (c ≡ chain_without e i)
 longer_of old new i j removes ne (linear xs) c old_chain chain has h has_i =
@@ -164,7 +164,7 @@ removal_leaves_each_without old new slots i agrees within removes c =
     back : (d : Chain) × IsChain old d × (c ≡ chain_without d i) × (items c ≢ []) → IsChain new c
     back p = subst (IsChain new) (sym p.2) (removes_shortens old new i removes p.0 p.1 (λ e. p.3 (ap items p.2 ∙ e)))
 
--- what removes by pairs, and agrees, is the removal
+-- a consistent removal is determined by its pairs
 pub removal_is_determined_by_pairs : RemovalIsDeterminedByPairs
 removal_is_determined_by_pairs old new i agrees agrees_new removes =
     let removal = removed_in_pairs old i agrees in

@@ -1,4 +1,4 @@
--- What a removal does to the interlinks: they pass over the index, so they still agree.
+-- Interlinks after a removal: they skip the index and stay consistent.
 use Rattle.std.specs.Prelude.{◌≡◌, ◌≢◌, ◌↔◌, ℕ, ◌⊎◌, Option, None, Some}
 use Rattle.std.specs.Option.{option_map}
 use Rattle.std.proofs.Common.{sym, refl, ap, ap₂, ◌∙◌, inl, inr, ⊎_elim}
@@ -13,15 +13,15 @@ use Rattle.chain_laws.proofs.InterlinkLemmas.Linked.{IsOff, IsValidAt-Some, next
 use Rattle.chain_laws.proofs.JoinLemmas.LoneLinks.{with_lone-at, with_lone-off}
 use Rattle.chain_laws.proofs.InterlinkLemmas.Skips.{Skips, skips_pairs, skips_undo}
 
--- nothing stands there any more
+-- the vacated index has no link
 pub vacated-at : (link_map : LinkMap) (q j : ℕ) → j ≡ q → vacated link_map q j ≡ None
 vacated-at link_map q j e = if_same j q None (link_map j) e
 
--- another index shows what it showed
+-- another index is unchanged
 pub vacated-off : (link_map : LinkMap) (q j : ℕ) → j ≢ q → vacated link_map q j ≡ link_map j
 vacated-off link_map q j ne = if_other j q None (link_map j) ne
 
--- a write of `next` makes no link ..
+-- a write of `next` makes no link
 pub next_set-none : (link_map : LinkMap) (u v : Option ℕ) (j : ℕ) → link_map j ≡ None → next_set link_map u v j ≡ None
 next_set-none link_map None v j e = e
 next_set-none link_map (Some i) v j e = ⊎_elim
@@ -29,7 +29,7 @@ next_set-none link_map (Some i) v j e = ⊎_elim
     (λ ne. if_other j i _ _ ne ∙ e)
     (cases_eq j i)
 
--- .. nor does one of `prev`
+-- a write of `prev` makes no link
 pub prev_set-none : (link_map : LinkMap) (u v : Option ℕ) (j : ℕ) → link_map j ≡ None → prev_set link_map u v j ≡ None
 prev_set-none link_map None v j e = e
 prev_set-none link_map (Some i) v j e = ⊎_elim
@@ -37,14 +37,14 @@ prev_set-none link_map (Some i) v j e = ⊎_elim
     (λ ne. if_other j i _ _ ne ∙ e)
     (cases_eq j i)
 
--- a removed index shows nothing
+-- a removed index has no link
 pub removed-at : (link_map : LinkMap) (q : ℕ) → removed link_map q q ≡ None
 removed-at link_map q =
     let u = prev_of link_map q in
     let v = next_of link_map q in
     prev_set-none (next_set (vacated link_map q) u v) v u q (next_set-none (vacated link_map q) u v q (vacated-at link_map q q refl))
 
--- the links but that at q are valid
+-- the valid indexes are the old ones without q
 pub HasLink-vacated : (link_map : LinkMap) (q j : ℕ) → HasLink (vacated link_map q) j ↔ (HasLink link_map j × (j ≢ q))
 HasLink-vacated link_map q j = (λ v. by v (cases_eq j q), λ p. (HasLink-same (vacated link_map q) link_map j (vacated-off link_map q j p.1)).1 p.0)
   where
@@ -52,14 +52,14 @@ HasLink-vacated link_map q j = (λ v. by v (cases_eq j q), λ p. (HasLink-same (
     by v (inl e) = let none = sym (vacated-at link_map q j e) ∙ v.shows in absurd (cc)
     by v (inr ne) = ((HasLink-same (vacated link_map q) link_map j (vacated-off link_map q j ne)).0 v, ne)
 
--- .. also once those beside q are linked
+-- the valid indexes once the neighbors of q are linked
 pub HasLink-removed : (link_map : LinkMap) (q j : ℕ) → HasLink (removed link_map q) j ↔ (HasLink link_map j × (j ≢ q))
 HasLink-removed link_map q j =
     let linking = HasLink-linked (vacated link_map q) (prev_of link_map q) (next_of link_map q) j in
     let rest = HasLink-vacated link_map q j in
     (λ v. rest.0 (linking.0 v), λ p. linking.1 (rest.1 p))
 
--- what comes after each index passes over q
+-- `next` after the removal skips q
 pub next_skips : (link_map : LinkMap) (q : ℕ) → IsWellLinked link_map → Skips (next_of link_map) (next_of (removed link_map q)) q
 next_skips link_map q agrees = record { gone = ap next_in (removed-at link_map q); past = past; off = off }
   where
@@ -83,7 +83,7 @@ next_skips link_map q agrees = record { gone = ap next_in (removed-at link_map q
         ∙ ap next_in (next_set-off (vacated link_map q) u v j unnamed)
         ∙ ap next_in (vacated-off link_map q j ne)
 
--- .. and so does what comes before each
+-- `prev` after the removal skips q
 pub prev_skips : (link_map : LinkMap) (q : ℕ) → IsWellLinked link_map → Skips (prev_of link_map) (prev_of (removed link_map q)) q
 prev_skips link_map q agrees = record { gone = ap prev_in (removed-at link_map q); past = past; off = off }
   where
@@ -107,7 +107,7 @@ prev_skips link_map q agrees = record { gone = ap prev_in (removed-at link_map q
         ∙ prev_of-next_set (vacated link_map q) u v j
         ∙ ap prev_in (vacated-off link_map q j ne)
 
--- a removal keeps agreement
+-- a removal keeps the interlinks consistent
 pub removed_agrees : (link_map : LinkMap) (q : ℕ) → IsWellLinked link_map → IsWellLinked (removed link_map q)
 removed_agrees link_map q agrees =
     record {
@@ -130,11 +130,11 @@ removed_unnamed link_map q agrees j =
     let both = (removed_agrees link_map q agrees).both in
     (λ e. valid_q (prev_valid (removed link_map q) q j ((both j q).0 e)), λ e. valid_q (next_valid (removed link_map q) q j ((both q j).1 e)))
 
--- where no index is named on either side, linking does nothing
+-- the removal of a link without neighbors links nothing
 pub removed_lone : (link_map : LinkMap) (q : ℕ) → prev_of link_map q ≡ None → next_of link_map q ≡ None → removed link_map q ≡ vacated link_map q
 removed_lone link_map q start end = ap₂ (linked (vacated link_map q)) start end
 
--- a new link that stands alone, removed
+-- the removal of a new lone link
 pub removed_of_lone : (link_map : LinkMap) (q : ℕ) → link_map q ≡ None → removed (with_lone link_map q) q ≡ link_map
 removed_of_lone link_map q free =
     removed_lone (with_lone link_map q) q (ap prev_in (with_lone-at link_map q q refl)) (ap next_in (with_lone-at link_map q q refl)) ∙ fun_ext (λ j. by j (cases_eq j q))

@@ -1,4 +1,5 @@
--- What a renaming carries: agreement, neighbor pairs, chains; and what has the images of the chains is a renaming.
+-- What a renaming preserves (consistency, neighbor pairs and chains), and that the images of the
+-- chains determine it.
 use Rattle.std.proofs.Common.{◌≡◌, ◌↔◌, ℕ, inl, inr, List, [], ◌∷◌, Option, None, Some, refl, sym, ap, ◌∙◌, subst, ap₂}
 use Rattle.std.specs.Option.{option_and_then}
 use mathlib.Core.Path.{fun_ext}
@@ -11,23 +12,23 @@ use Rattle.chain_laws.proofs.ChainLemmas.ChainLists.{chain_at, all_items_valid}
 use Rattle.chain_laws.proofs.RenamingLemmas.Images.{comes_from, images-first, images-last, images-filled, images-once, images-items, has_image, image_has, image_of, chain_image, image_of_chain}
 
 module _ (to : ℕ → Option ℕ) (old new : LinkMap) (renaming : IsRenaming to old new) where
-  -- what a link shows at its new index
+  -- the interlinks of a link at its new index
   pub shows_renamed : (i k : ℕ) → HasLink old i → to i ≡ Some k → new k ≡ Some (link (option_and_then to (prev_of old i)) (option_and_then to (next_of old i)))
   shows_renamed i k valid e = renaming.carries i k (prev_of old i) (next_of old i) (shows_both old i (prev_of old i) (next_of old i) valid refl refl) e
 
-  -- a link stands at its new index
+  -- there is a link at the new index
   pub valid_renamed : (i k : ℕ) → HasLink old i → to i ≡ Some k → HasLink new k
   valid_renamed i k valid e = shows_valid new k _ (shows_renamed i k valid e)
 
-  -- what it names there as the one after it ..
+  -- each `next` at the new index
   next_renamed : (i k : ℕ) → HasLink old i → to i ≡ Some k → next_of new k ≡ option_and_then to (next_of old i)
   next_renamed i k valid e = ap next_in (shows_renamed i k valid e)
 
-  -- .. and as the one before it
+  -- each `prev` at the new index
   prev_renamed : (i k : ℕ) → HasLink old i → to i ≡ Some k → prev_of new k ≡ option_and_then to (prev_of old i)
   prev_renamed i k valid e = ap prev_in (shows_renamed i k valid e)
 
-  -- neighbors are neighbors at their new indexes, and no others are
+  -- indexes are neighbors exactly if their new indexes are
   pairs_renamed : (i j k m : ℕ) → HasLink old i → to i ≡ Some k → to j ≡ Some m → AreNeighbors old i j ↔ AreNeighbors new k m
   pairs_renamed i j k m valid e f = (there, back)
     where
@@ -39,7 +40,7 @@ module _ (to : ℕ → Option ℕ) (old new : LinkMap) (renaming : IsRenaming to
           let w = comes_from to (next_of old i) m (sym (next_renamed i k valid e) ∙ n) in
           w.1 ∙ ap (λ (x : ℕ). Some x) (renaming.apart w.0 j m w.2 f)
 
-  -- what comes after an index names it back ..
+  -- the link after an index names it in turn
   next_then_prev : IsWellLinked old → (k m : ℕ) → next_of new k ≡ Some m → prev_of new m ≡ Some k
   next_then_prev agrees k m n =
       let i = renaming.onto k (next_valid new k m n) in
@@ -47,7 +48,7 @@ module _ (to : ℕ → Option ℕ) (old new : LinkMap) (renaming : IsRenaming to
       let p : prev_of old j.0 ≡ Some i.0 = (agrees.both i.0 j.0).0 j.1 in
       prev_renamed j.0 m (prev_valid old j.0 i.0 p) j.2 ∙ (ap (option_and_then to) p ∙ i.2)
 
-  -- .. and so does what comes before it
+  -- the link before an index names it in turn
   prev_then_next : IsWellLinked old → (k m : ℕ) → prev_of new m ≡ Some k → next_of new k ≡ Some m
   prev_then_next agrees k m p =
       let j = renaming.onto m (prev_valid new m k p) in
@@ -55,7 +56,7 @@ module _ (to : ℕ → Option ℕ) (old new : LinkMap) (renaming : IsRenaming to
       let n : next_of old i.0 ≡ Some j.0 = (agrees.both i.0 j.0).1 i.1 in
       next_renamed i.0 k (next_valid old i.0 j.0 n) i.2 ∙ (ap (option_and_then to) n ∙ j.2)
 
-  -- a list that stands, stands at its new indexes between the new indexes of its ends
+  -- a linked list is linked at its new indexes
   stands_renamed : (before : Option ℕ) (xs ys : List ℕ) (after : Option ℕ) → AreImages to xs ys → AreLinked old before xs after
       → AreLinked new (option_and_then to before) ys (option_and_then to after)
   stands_renamed before xs [] after images s = tt
@@ -79,19 +80,19 @@ module _ (to : ℕ → Option ℕ) (old new : LinkMap) (renaming : IsRenaming to
   chain_renamed (linear xs) (cyclic ys) h image = absurd image
   chain_renamed (cyclic xs) (linear ys) h image = absurd image
 
--- after a renaming the interlinks still agree
+-- a renaming keeps the interlinks consistent
 pub renaming_agrees : RenamingAgrees
 renaming_agrees to old new renaming agrees = record { both = λ k m. (next_then_prev to old new renaming agrees k m, prev_then_next to old new renaming agrees k m) }
 
--- the neighbor pairs are the old ones
+-- neighbor pairs are preserved
 pub renaming_carries_pairs : RenamingCarriesPairs
 renaming_carries_pairs to old new i j k m renaming valid e f = pairs_renamed to old new renaming i j k m valid e f
 
--- so is each chain
+-- each chain is preserved
 pub renaming_carries_chains : RenamingCarriesChains
 renaming_carries_chains to old new c d renaming h image = chain_renamed to old new renaming c d h image
 
--- .. and the set of chains
+-- the set of chains is preserved
 pub renaming_carries_all : RenamingCarriesAll
 renaming_carries_all to old new chains others renaming are images = record {
   each = λ d m. let c = image_of_chain to chains others d images m in chain_renamed to old new renaming c.0 d (are.each c.0 c.1) c.2;
@@ -99,7 +100,7 @@ renaming_carries_all to old new chains others renaming are images = record {
   all = λ k v. let i = renaming.onto k v in image_has to (all_items chains) (all_items others) i.0 k (images-items to chains others images) (are.all i.0 i.1) i.2;
 }
 
--- two arenas that show the same where a link stands in either show the same
+-- two arenas are equal if equal where either has a link
 pub same_shown : (left right : LinkMap) → ((k : ℕ) → HasLink left k → left k ≡ right k) → ((k : ℕ) → HasLink right k → left k ≡ right k) → left ≡ right
 same_shown left right in_left in_right = fun_ext (λ k. by k (left k) refl (right k) refl)
   where
@@ -108,18 +109,18 @@ same_shown left right in_left in_right = fun_ext (λ k. by k (left k) refl (righ
     by k None e None f = e ∙ sym f
     by k None e (Some l) f = in_right k (shows_valid right k l f)
 
--- a renaming, by a function that sends each index to the same
+-- a renaming by a function with equal values
 pub renaming-same : (to by : ℕ → Option ℕ) (old new : LinkMap) → ((i : ℕ) → to i ≡ by i) → IsRenaming to old new → IsRenaming by old new
 renaming-same to by old new same renaming = subst (λ (f : ℕ → Option ℕ). IsRenaming f old new) (fun_ext same) renaming
 
--- where the links go to leaves no choice
+-- the new indexes determine the renaming
 pub renaming_is_determined : RenamingIsDetermined
 renaming_is_determined to old new other one also = same_shown new other (λ k valid. shown_by k (one.onto k valid)) (λ k valid. shown_by k (also.onto k valid))
   where
     shown_by : (k : ℕ) → (i : ℕ) × HasLink old i × (to i ≡ Some k) → new k ≡ other k
     shown_by k i = shows_renamed to old new one i.0 k i.1 i.2 ∙ sym (shows_renamed to old other also i.0 k i.1 i.2)
 
--- one renaming after another is a renaming
+-- two renamings one after another are a renaming
 pub renamings_compose : RenamingsCompose
 renamings_compose first second old between new one next = record {
   apart = λ i j k e f.
@@ -147,7 +148,7 @@ renamings_compose first second old between new one next = record {
 -- ---- by the chains
 
 module _ (to : ℕ → Option ℕ) (old new : LinkMap) where
-  -- a list that stands in both shows at each new index the new indexes of the neighbors
+  -- a list linked in both arenas gives the interlinks at its new indexes
   stands_tells : (before : Option ℕ) (xs ys : List ℕ) (after : Option ℕ) (i k : ℕ) (u v : Option ℕ) → AreImages to xs ys
       → AreLinked old before xs after → AreLinked new (option_and_then to before) ys (option_and_then to after)
       → IsMember xs i → old i ≡ Some (link u v) → to i ≡ Some k → new k ≡ Some (link (option_and_then to u) (option_and_then to v))
@@ -168,7 +169,7 @@ module _ (to : ℕ → Option ℕ) (old new : LinkMap) where
   stands_tells before (x ∷ xs) (y ∷ ys) after i k u v images s t (inr h) shows e =
       stands_tells (Some x) xs ys after i k u v images.1 s.1 (subst (λ (o : Option ℕ). AreLinked new o ys (option_and_then to after)) (sym images.0) t.1) h shows e
 
-  -- so does a chain with its image
+  -- a chain and its image give the interlinks at the new indexes
   chain_tells : (c d : Chain) (i k : ℕ) (u v : Option ℕ) → IsImage to c d → IsChain old c → IsChain new d
       → IsMember (items c) i → old i ≡ Some (link u v) → to i ≡ Some k → new k ≡ Some (link (option_and_then to u) (option_and_then to v))
   chain_tells (linear xs) (linear ys) i k u v image h n m shows e = stands_tells None xs ys None i k u v image h.2 n.2 m shows e
@@ -180,7 +181,7 @@ module _ (to : ℕ → Option ℕ) (old new : LinkMap) where
   chain_tells (linear xs) (cyclic ys) i k u v image h n m shows e = absurd image
   chain_tells (cyclic xs) (linear ys) i k u v image h n m shows e = absurd image
 
-  -- what has the images of all chains is their renaming
+  -- an arena with the images of all chains is their renaming
   pub renames_by_chains : (chains others : List Chain) → ((i j k : ℕ) → to i ≡ Some k → to j ≡ Some k → i ≡ j) → AreChains old chains → AreImagesOf to chains others
       → AreChains new others → IsRenaming to old new
   renames_by_chains chains others apart are images also = record {

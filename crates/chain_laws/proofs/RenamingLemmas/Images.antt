@@ -1,4 +1,4 @@
--- New indexes, one after another: of the items of a list, of a chain, and of a list of chains.
+-- The images of the items of a list, of a chain, and of a list of chains.
 use Rattle.std.proofs.Common.{◌≡◌, ◌≢◌, ℕ, inl, inr, List, [], ◌∷◌, ◌++◌, Option, None, Some, refl, sym, ap, ◌∙◌, subst}
 use Rattle.std.specs.Option.{option_and_then}
 use Rattle.chain_laws.specs.Chains.{Chain, linear, cyclic, items, HasChain, all_items, IsMember, AreDistinct, first_or, last_or}
@@ -6,7 +6,7 @@ use Rattle.chain_laws.specs.Renamings.{AreImages, IsImage, AreImagesOf}
 use Rattle.chain_laws.proofs.ListLemmas.Members.{IsMember-left, IsMember-right}
 
 module _ (to : ℕ → Option ℕ) where
-  -- what goes to k, if it is some index, goes there from an index
+  -- an image of an optional index is that of an index
   pub comes_from : (o : Option ℕ) (k : ℕ) → option_and_then to o ≡ Some k → (j : ℕ) × (o ≡ Some j) × (to j ≡ Some k)
   comes_from None k e = absurd (cc)
   comes_from (Some j) k e = (j, refl, e)
@@ -27,7 +27,7 @@ module _ (to : ℕ → Option ℕ) where
   images-last (x ∷ xs) [] before images = absurd images
   images-last (x ∷ xs) (y ∷ ys) before images = images-last xs ys (Some x) images.1 ∙ ap (last_or ys) images.0
 
-  -- there are as many images as items, so none only where there is none
+  -- only an empty list has no images
   pub images-filled : (xs ys : List ℕ) → AreImages to xs ys → xs ≢ [] → ys ≢ []
   images-filled [] ys images filled = absurd (filled refl)
   images-filled (x ∷ xs) [] images filled = absurd images
@@ -47,14 +47,14 @@ module _ (to : ℕ → Option ℕ) where
   image_has (x ∷ xs) (y ∷ ys) i k images (inl s) e = let there : to i ≡ Some y = ap to (sym s) ∙ images.0 in inl (cc)
   image_has (x ∷ xs) (y ∷ ys) i k images (inr h) e = inr (image_has xs ys i k images.1 h e)
 
-  -- what is among the images is the image of an item
+  -- each of the images is the image of an item
   pub image_of : (xs ys : List ℕ) (k : ℕ) → AreImages to xs ys → IsMember ys k → (i : ℕ) × IsMember xs i × (to i ≡ Some k)
   image_of xs [] k images h = absurd h
   image_of [] (y ∷ ys) k images h = absurd images
   image_of (x ∷ xs) (y ∷ ys) k images (inl e) = (x, inl refl, images.0 ∙ ap (λ (z : ℕ). Some z) e)
   image_of (x ∷ xs) (y ∷ ys) k images (inr h) = let w = image_of xs ys k images.1 h in (w.0, inr w.1, w.2)
 
-  -- items without repetition have images without repetition, where no two go to one index
+  -- distinct items have distinct images, if `to` is injective
   pub images-once : (xs ys : List ℕ) → ((i j k : ℕ) → to i ≡ Some k → to j ≡ Some k → i ≡ j) → AreImages to xs ys → AreDistinct xs → AreDistinct ys
   images-once xs [] apart images once = tt
   images-once [] (y ∷ ys) apart images once = absurd images
@@ -94,30 +94,30 @@ module _ (to : ℕ → Option ℕ) where
   chain_image (b ∷ chains) (d ∷ others) c images (inl e) = (d, inl refl, subst (λ (x : Chain). IsImage to x d) e images.0)
   chain_image (b ∷ chains) (d ∷ others) c images (inr m) = let w = chain_image chains others c images.1 m in (w.0, inr w.1, w.2)
 
-  -- what is among the images is the image of a chain
+  -- each of the images is the image of a chain
   pub image_of_chain : (chains others : List Chain) (d : Chain) → AreImagesOf to chains others → HasChain others d → (c : Chain) × HasChain chains c × IsImage to c d
   image_of_chain chains [] d images m = absurd m
   image_of_chain [] (o ∷ others) d images m = absurd images
   image_of_chain (c ∷ chains) (o ∷ others) d images (inl e) = (c, inl refl, subst (IsImage to c) e images.0)
   image_of_chain (c ∷ chains) (o ∷ others) d images (inr m) = let w = image_of_chain chains others d images.1 m in (w.0, inr w.1, w.2)
 
--- ---- by another function that sends the items to the same indexes
+-- ---- by another function with equal values at the items
 
--- of a list ..
+-- images of a list by another function
 pub images-same : (to by : ℕ → Option ℕ) (xs ys : List ℕ) → ((i : ℕ) → IsMember xs i → to i ≡ by i) → AreImages to xs ys → AreImages by xs ys
 images-same to by [] [] same images = tt
 images-same to by [] (y ∷ ys) same images = absurd images
 images-same to by (x ∷ xs) [] same images = absurd images
 images-same to by (x ∷ xs) (y ∷ ys) same images = (sym (same x (inl refl)) ∙ images.0, images-same to by xs ys (λ i h. same i (inr h)) images.1)
 
--- .. of a chain ..
+-- images of a chain by another function
 image-same : (to by : ℕ → Option ℕ) (c d : Chain) → ((i : ℕ) → IsMember (items c) i → to i ≡ by i) → IsImage to c d → IsImage by c d
 image-same to by (linear xs) (linear ys) same image = images-same to by xs ys same image
 image-same to by (cyclic xs) (cyclic ys) same image = images-same to by xs ys same image
 image-same to by (linear xs) (cyclic ys) same image = absurd image
 image-same to by (cyclic xs) (linear ys) same image = absurd image
 
--- .. and of chains
+-- images of chains by another function
 pub images_of-same : (to by : ℕ → Option ℕ) (chains others : List Chain) → ((i : ℕ) → IsMember (all_items chains) i → to i ≡ by i) → AreImagesOf to chains others
     → AreImagesOf by chains others
 images_of-same to by [] [] same images = tt

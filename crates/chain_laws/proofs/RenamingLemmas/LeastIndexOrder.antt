@@ -1,4 +1,4 @@
--- The least-index order of an arena: that there is one, and that links that lie canonically lie in it.
+-- The least-index order exists, and links in canonical order are in it.
 use Rattle.std.proofs.Common.{◌≡◌, ◌≢◌, ℕ, zero, suc, ◌+◌, ◌<◌, ◌≤◌, inl, inr, List, [], ◌∷◌, ◌++◌, length, Some, refl, sym, ap, ◌∙◌, subst, arith}
 use Rattle.std.specs.List.{range_with_len}
 use Rattle.chain_laws.specs.Chains.{Chain, linear, cyclic, items, HasChain, all_items, IsMember, StartsAtLeast, IsSortedByLeast, IsInOrder}
@@ -18,14 +18,14 @@ has_least_index_order link_map slots agrees within =
     let all = the_chains link_map slots agrees within in
     (all_items all.0, record { chains = all.0; are = all.1; items = refl })
 
--- it is the order of the one set of chains
+-- the least-index order is that of the one set of chains
 pub least_index_order_is_ordered : LeastIndexOrderIsOrdered
 least_index_order_is_ordered link_map one indexes = (
   (λ order. order.items ∙ ap all_items (one.only order.chains order.are)),
   (λ e. record { chains = one.chains; are = one.are; items = e }),
 )
 
--- it is canonical
+-- the least-index order is canonical
 pub least_index_order_is_canonical : LeastIndexOrderIsCanonical
 least_index_order_is_canonical link_map indexes order = record {
   chains = order.chains;
@@ -33,19 +33,19 @@ least_index_order_is_canonical link_map indexes order = record {
   items = order.items;
 }
 
--- ---- rising lists
+-- ---- ascending lists
 
 -- each item is below all items after it
 abbrev pub IsRising : List ℕ → Type 0
 IsRising [] = Unit {0}
 IsRising (x ∷ xs) = ((y : ℕ) → IsMember xs y → x < y) × IsRising xs
 
--- the left part of a rising list rises
+-- the left part of an ascending list is ascending
 rising-left : (xs ys : List ℕ) → IsRising (xs ++ ys) → IsRising xs
 rising-left [] ys rising = tt
 rising-left (x ∷ xs) ys rising = (λ y h. rising.0 y (IsMember-left xs ys y h), rising-left xs ys rising.1)
 
--- .. and so does the right part
+-- the right part of an ascending list is ascending
 rising-right : (xs ys : List ℕ) → IsRising (xs ++ ys) → IsRising ys
 rising-right [] ys rising = rising
 rising-right (x ∷ xs) ys rising = rising-right xs ys rising.1
@@ -56,29 +56,29 @@ run_low k zero y h = absurd h
 run_low k (suc n) y (inl e) = let same : k ≡ y = e in omega arith
 run_low k (suc n) y (inr h) = let low : k + 1 ≤ y = run_low (k + 1) n y h in omega arith
 
--- a run rises
+-- a run is ascending
 pub run_rises : (k n : ℕ) → IsRising (range_with_len k n)
 run_rises k zero = tt
 run_rises k (suc n) = (λ y h. let low : k + 1 ≤ y = run_low (k + 1) n y h in omega arith, run_rises (k + 1) n)
 
--- chains that rise, one after the other, rise each
+-- of chains that are ascending one after another, each is ascending
 rising_each : (chains : List Chain) (c : Chain) → IsRising (all_items chains) → HasChain chains c → IsRising (items c)
 rising_each [] c rising m = absurd m
 rising_each (d ∷ chains) c rising (inl e) = subst (λ (x : Chain). IsRising (items x)) e (rising-left (items d) (all_items chains) rising)
 rising_each (d ∷ chains) c rising (inr m) = rising_each chains c (rising-right (items d) (all_items chains) rising) m
 
--- a chain that rises is written from its least index
+-- an ascending chain is written from its least index
 rising_written : (c : Chain) → IsRising (items c) → StartsAtLeast c
 rising_written (linear xs) rising = tt
 rising_written (cyclic []) rising = tt
 rising_written (cyclic (x ∷ xs)) rising = IsMember-at_most x xs (λ y h. let above : x < y = rising.0 y h in omega arith)
 
--- of a rising list that is not empty, the first item of the left part is below the right part
+-- a non-empty left part of an ascending list has an item below the right part
 rising_below : (xs ys : List ℕ) → xs ≢ [] → IsRising (xs ++ ys) → (m : ℕ) × IsMember xs m × ((y : ℕ) → IsMember ys y → m < y)
 rising_below [] ys filled rising = absurd (filled refl)
 rising_below (x ∷ xs) ys filled rising = (x, inl refl, λ y h. rising.0 y (IsMember-right xs ys y h))
 
--- chains that rise, one after the other, are in order
+-- chains that are ascending one after another are sorted by least index
 rising_rises : (chains : List Chain) → ((c : Chain) → HasChain chains c → items c ≢ []) → IsRising (all_items chains) → IsSortedByLeast chains
 rising_rises [] filled rising = tt
 rising_rises (c ∷ chains) filled rising = (
@@ -86,11 +86,11 @@ rising_rises (c ∷ chains) filled rising = (
   rising_rises chains (λ d m. filled d (inr m)) (rising-right (items c) (all_items chains) rising),
 )
 
--- chains that rise, one after the other, are written in order
+-- chains that are ascending one after another are in order
 pub rising_in_order : (chains : List Chain) → ((c : Chain) → HasChain chains c → items c ≢ []) → IsRising (all_items chains) → IsInOrder chains
 rising_in_order chains filled rising = record { written = λ c m. rising_written c (rising_each chains c rising m); rises = rising_rises chains filled rising }
 
--- links that lie canonically lie in their least-index order
+-- links in canonical order are in their least-index order
 pub least_index_order_rests : LeastIndexOrderRests
 least_index_order_rests link_map n canonical = record {
   chains = canonical.chains;
@@ -102,7 +102,7 @@ least_index_order_rests link_map n canonical = record {
   items = canonical.items;
 }
 
--- links that are laid out in it lie canonically
+-- links arranged in least-index order are in canonical order
 pub layout_rests : LayoutRests
 layout_rests old new indexes order renaming =
     let runs =

@@ -1,4 +1,4 @@
--- The places in a list: one for each index that it has, no two alike, and in order the numbers from the first place on.
+-- The places in a list: one for each index, no two equal, consecutive in order.
 use Rattle.std.proofs.Common.{◌≡◌, ◌≢◌, ℕ, suc, ◌+◌, ◌<◌, ◌≤◌, ◌⊎◌, inl, inr, List, [], ◌∷◌, ◌++◌, length, None, Some, refl, sym, ap, ◌∙◌, subst, add-one, arith}
 use Rattle.std.specs.List.{range_with_len}
 use Rattle.std.proofs.Math.Decide.{ℕ_discrete}
@@ -13,7 +13,7 @@ use Rattle.chain_laws.proofs.RenamingLemmas.Images.{images-same}
 pub place-same : (n : ℕ) (xs : List ℕ) (i : ℕ) → place_from n (i ∷ xs) i ≡ Some n
 place-same n xs i = if_same i i (Some n) (place_from (suc n) xs i) refl
 
--- the first item, as an index that is equal to it
+-- the place of an index equal to the first item
 pub place-first : (n x : ℕ) (xs : List ℕ) (i : ℕ) → x ≡ i → place_from n (x ∷ xs) i ≡ Some n
 place-first n x xs i e = if_same x i (Some n) (place_from (suc n) xs i) e
 
@@ -21,7 +21,7 @@ place-first n x xs i e = if_same x i (Some n) (place_from (suc n) xs i) e
 pub place-other : (n x : ℕ) (xs : List ℕ) (i : ℕ) → x ≢ i → place_from n (x ∷ xs) i ≡ place_from (suc n) xs i
 place-other n x xs i differs = if_other x i (Some n) (place_from (suc n) xs i) differs
 
--- a place is not before the first, and not after the last
+-- a place is from the first to the last
 pub place-within : (n : ℕ) (xs : List ℕ) (i k : ℕ) → place_from n xs i ≡ Some k → (n ≤ k) × (k < n + length xs)
 place-within n [] i k e = absurd (cc)
 place-within n (x ∷ xs) i k e = by (ℕ_discrete x i) (place-within (suc n) xs i k)
@@ -37,7 +37,7 @@ place-within n (x ∷ xs) i k e = by (ℕ_discrete x i) (place-within (suc n) xs
         let high : k < suc n + length xs = w.1 in
         (omega arith, omega arith)
 
--- no two indexes have one place
+-- no two indexes have the same place
 pub place-apart : (n : ℕ) (xs : List ℕ) (i j k : ℕ) → place_from n xs i ≡ Some k → place_from n xs j ≡ Some k → i ≡ j
 place-apart n [] i j k e f = absurd (cc)
 place-apart n (x ∷ xs) i j k e f = by (ℕ_discrete x i) (ℕ_discrete x j) (place-apart (suc n) xs i j k)
@@ -56,7 +56,7 @@ place-apart n (x ∷ xs) i j k e f = by (ℕ_discrete x i) (ℕ_discrete x j) (p
     by (no d) (yes t) rest = absurd (first j i t d f e)
     by (no c) (no d) rest = rest (sym (place-other n x xs i c) ∙ e) (sym (place-other n x xs j d) ∙ f)
 
--- what has a place is in the list
+-- an index with a place is in the list
 pub place-has : (n : ℕ) (xs : List ℕ) (i k : ℕ) → place_from n xs i ≡ Some k → IsMember xs i
 place-has n [] i k e = absurd (cc)
 place-has n (x ∷ xs) i k e = by (ℕ_discrete x i) (place-has (suc n) xs i k)
@@ -65,7 +65,7 @@ place-has n (x ∷ xs) i k e = by (ℕ_discrete x i) (place-has (suc n) xs i k)
     by (yes s) rest = inl s
     by (no differs) rest = inr (rest (sym (place-other n x xs i differs) ∙ e))
 
--- what is in the list has a place
+-- an index in the list has a place
 pub has-place : (n : ℕ) (xs : List ℕ) (i : ℕ) → IsMember xs i → (k : ℕ) × (place_from n xs i ≡ Some k)
 has-place n [] i h = absurd h
 has-place n (x ∷ xs) i h = by (ℕ_discrete x i) h (has-place (suc n) xs i)
@@ -75,7 +75,7 @@ has-place n (x ∷ xs) i h = by (ℕ_discrete x i) h (has-place (suc n) xs i)
     by (no differs) (inl s) rest = absurd (differs s)
     by (no differs) (inr m) rest = let w = rest m in (w.0, place-other n x xs i differs ∙ w.1)
 
--- what is not in the list has no place
+-- an index that is not in the list has no place
 pub place-none : (n : ℕ) (xs : List ℕ) (i : ℕ) → (IsMember xs i → ⊥) → place_from n xs i ≡ None
 place-none n [] i not = refl
 place-none n (x ∷ xs) i not = place-other n x xs i (λ s. not (inl s)) ∙ place-none (suc n) xs i (λ h. not (inr h))
@@ -92,7 +92,7 @@ place-front n (x ∷ xs) ys i h = by (ℕ_discrete x i) h (place-front (suc n) x
     by (no differs) (inl s) rest = absurd (differs s)
     by (no differs) (inr m) rest = place-other n x (xs ++ ys) i differs ∙ (rest m ∙ sym (place-other n x xs i differs))
 
--- any other index has the place that it has in the second, counted from the end of the first
+-- any other index has its place in the second, shifted
 pub place-append : (n : ℕ) (xs ys : List ℕ) (i : ℕ) → (IsMember xs i → ⊥) → place_from n (xs ++ ys) i ≡ place_from (n + length xs) ys i
 place-append n [] ys i not = ap (λ (m : ℕ). place_from m ys i) (let e : n ≡ n + 0 = omega arith in e)
 place-append n (x ∷ xs) ys i not =
@@ -100,11 +100,11 @@ place-append n (x ∷ xs) ys i not =
     ∙ (place-append (suc n) xs ys i (λ h. not (inr h))
     ∙ ap (λ (m : ℕ). place_from m ys i) (let e : suc n + length xs ≡ n + length (x ∷ xs) = omega arith in e))
 
--- one more at the end: its place is the length ..
+-- the place of an item appended to a list is the last
 pub place-last : (xs : List ℕ) (x : ℕ) → (IsMember xs x → ⊥) → place_in (xs ++ x ∷ []) x ≡ Some (length xs + 1)
 place-last xs x not = place-append 1 xs (x ∷ []) x not ∙ (place-same (1 + length xs) [] x ∙ ap Some (let e : 1 + length xs ≡ length xs + 1 = omega arith in e))
 
--- .. and every other place is what it was
+-- the other places are unchanged
 pub place-before_last : (xs : List ℕ) (x i : ℕ) → x ≢ i → place_in (xs ++ x ∷ []) i ≡ place_in xs i
 place-before_last xs x i differs = by (IsMember-or_not xs i)
   where
@@ -114,7 +114,7 @@ place-before_last xs x i differs = by (IsMember-or_not xs i)
 
 -- ---- the numbers
 
--- the items of a list without repetition have the numbers from the first place on, in order
+-- the places of a distinct list are consecutive
 pub place-numbers : (n : ℕ) (xs : List ℕ) → AreDistinct xs → AreImages (place_from n xs) xs (range_with_len n (length xs))
 place-numbers n [] once = tt
 place-numbers n (x ∷ xs) once = (
@@ -125,10 +125,10 @@ place-numbers n (x ∷ xs) once = (
     later : (i : ℕ) → IsMember xs i → place_from (suc n) xs i ≡ place_from n (x ∷ xs) i
     later i h = sym (place-other n x xs i (λ s. once.0 (subst (IsMember xs) (sym s) h)))
 
--- the k-th item of an arrangement goes to k
+-- the k-th item of an arrangement is moved to k
 pub arrangement_numbers : ArrangementNumbers
 arrangement_numbers link_map indexes arranges = place-numbers 1 indexes arranges.once
 
--- no two go to one index
+-- no two items are moved to the same index
 pub places_are_apart : PlacesAreApart
 places_are_apart indexes i j k e f = place-apart 1 indexes i j k e f

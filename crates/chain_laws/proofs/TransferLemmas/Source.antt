@@ -1,4 +1,4 @@
--- The next chain in order, and what is left of it once its first link is removed.
+-- The next chain in order, and its rest once the first link is removed.
 use Rattle.std.proofs.Common.{◌≡◌, ◌≢◌, ℕ, ◌≤◌, ◌⊎◌, inl, inr, Bool, true, false, List, [], ◌∷◌, ◌++◌, Option, None, Some, refl, sym, ap, ◌∙◌, subst, arith}
 use Rattle.std.specs.Prelude.{is_some}
 use Rattle.chain_laws.specs.Chains.{LinkMap, Chain, linear, cyclic, items, all_items, HasChain, IsMember, AreDistinct, IsChain, HasLink, StartsAtLeast, first_or, prev_in, next_in, prev_of, next_of}
@@ -14,9 +14,9 @@ use Rattle.chain_laws.proofs.WalkLemmas.Walker.{step_forward-other}
 use Rattle.chain_laws.proofs.RemovalLemmas.Pairs.{HasLink-removed}
 use Rattle.chain_laws.proofs.RemovalLemmas.Chains.{removed_from_linear, removed_first_of_cyclic, removed_rest}
 
--- a chain that is written from here, by whether a link comes before this one
+-- a chain written from `here` is cyclic exactly if `here` has a prev
 module _ (link_map : LinkMap) (here : ℕ) where
-  -- where the first link of a linear chain stands, none comes before it
+  -- the first link of a linear chain has none before it
   linear_first : (xs : List ℕ) → IsChain link_map (linear xs) → first_or xs None ≡ Some here
       → (ys : List ℕ) × (linear xs ≡ chain_of (is_some (prev_of link_map here)) (here ∷ ys)) × (xs ≡ here ∷ ys)
   linear_first [] h e = absurd (cc)
@@ -25,7 +25,7 @@ module _ (link_map : LinkMap) (here : ℕ) where
       let none : prev_of link_map here ≡ None = ap (prev_of link_map) (sym same) ∙ ap prev_in h.2.0 in
       (ys, ap (λ (zs : List ℕ). linear zs) (ap (λ (z : ℕ). z ∷ ys) same) ∙ sym (ap (λ (o : Option ℕ). chain_of (is_some o) (here ∷ ys)) none), ap (λ (z : ℕ). z ∷ ys) same)
 
-  -- in a cyclic one, one does
+  -- the first link of a cyclic chain has one before it
   cyclic_first : (x : ℕ) (xs : List ℕ) → IsChain link_map (cyclic (x ∷ xs)) → here ≡ x
       → (ys : List ℕ) × (cyclic (x ∷ xs) ≡ chain_of (is_some (prev_of link_map here)) (here ∷ ys)) × (x ∷ xs ≡ here ∷ ys)
   cyclic_first x xs h e =
@@ -59,12 +59,12 @@ least_is_next link_map (c ∷ rest) i here are order valid least start =
         let high = least order.rises.0.0 (chain_valid link_map c order.rises.0.0 (are.each c (inl refl)) order.rises.0.1) in
         absurd (omega arith)
 
--- the rest of the chain, where there is any ..
+-- the rest of the chain, if it is not empty
 left_chain : (link_map : LinkMap) (ring : Bool) (x : ℕ) (xs : List ℕ) → IsChain link_map (chain_of ring (x ∷ xs)) → xs ≢ [] → IsChain (removed link_map x) (chain_of ring xs)
 left_chain link_map false x xs h filled = removed_from_linear link_map x [] xs h filled
 left_chain link_map true x xs h filled = removed_first_of_cyclic link_map x xs h filled
 
--- .. and the link that comes next
+-- the next link is the first of the rest
 next_left : (link_map : LinkMap) (ring : Bool) (x : ℕ) (xs : List ℕ) → IsChain link_map (chain_of ring (x ∷ xs)) → step_forward x (next_of link_map x) ≡ first_or xs None
 next_left link_map false x [] h = ap (λ (o : Option _). step_forward x (next_in o)) h.2.0
 next_left link_map false x (y ∷ xs) h = ap (λ (o : Option _). step_forward x (next_in o)) h.2.0 ∙ step_forward-other x y (λ e. h.1.0 (inl e))

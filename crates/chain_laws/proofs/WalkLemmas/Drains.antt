@@ -1,4 +1,4 @@
--- The links of a walk removed one after another: what is left is a walk, until none is.
+-- The links of a walk removed one after another: the rest is always a walk.
 use Rattle.std.specs.Prelude.{◌≡◌, ◌≢◌, ℕ, List, [], ◌∷◌, ◌++◌, reverse, Bool, if◌then◌else◌, is_some, Option, None, Some}
 use Rattle.std.specs.Option.{option_or}
 use Rattle.std.proofs.Common.{sym, refl, ap, ap₂, ◌∙◌, subst, inl, inr, ⊎_elim, append-nil}
@@ -16,34 +16,34 @@ use Rattle.chain_laws.proofs.RemovalLemmas.Chains.{removed_from_linear, removed_
 use Rattle.chain_laws.proofs.WalkLemmas.Walker.{step_forward-other, no_other_walk}
 use Rattle.chain_laws.proofs.WalkLemmas.Members.{walk_chain, walk_once, walk_starts, walk_valid, walks_ahead}
 
--- what comes after the first item
+-- the items after the first
 abbrev rest_of : List ℕ → List ℕ
 rest_of [] = []
 rest_of (x ∷ xs) = xs
 
--- the last item comes first the other way round
+-- the last item is the first of the reversed list
 last_reversed : (xs : List ℕ) (k : ℕ) (zs : List ℕ) → reverse_aux (xs ++ k ∷ []) zs ≡ k ∷ reverse_aux xs zs
 last_reversed [] k zs = refl
 last_reversed (x ∷ xs) k zs = last_reversed xs k (x ∷ zs)
 
--- a link's neighbours tell where a walk goes on from it
+-- where a walk goes on, by the neighbors of its link
 goes_on_by : (link_map : LinkMap) (i : ℕ) (before after : Option ℕ) → link_map i ≡ Some (link before after) → rest_start_of link_map i ≡ option_or (step_forward i after) (step_forward i before)
 goes_on_by link_map i before after e = ap (λ (o : Option Interlinks). option_or (step_forward i (next_in o)) (step_forward i (prev_in o))) e
 
--- on to another link after it ..
+-- a walk goes forwards to another link
 goes_forth : (link_map : LinkMap) (i k : ℕ) (before : Option ℕ) → link_map i ≡ Some (link before (Some k)) → k ≢ i → rest_start_of link_map i ≡ Some k
 goes_forth link_map i k before e ne = goes_on_by link_map i before (Some k) e ∙ ap (λ (o : Option ℕ). option_or o (step_forward i before)) (step_forward-other i k ne)
 
--- .. or back from the end
+-- a walk goes back from the end
 goes_back : (link_map : LinkMap) (i k : ℕ) → link_map i ≡ Some (link (Some k) None) → k ≢ i → rest_start_of link_map i ≡ Some k
 goes_back link_map i k e ne = goes_on_by link_map i (Some k) None e ∙ step_forward-other i k ne
 
--- what is left of a walk without its first link
+-- the rest of a walk without its first link
 record LeavesWalk (link_map : LinkMap) (i : ℕ) (rest : List ℕ) : Type 0 where
   first : first_or rest None ≡ rest_start_of link_map i
   walk : (k : ℕ) → first_or rest None ≡ Some k → IsWalk (removed link_map i) k rest
 
--- what comes first is known
+-- the first link of the rest is known
 leaves_from : (link_map : LinkMap) (i k : ℕ) (rest : List ℕ) → rest_start_of link_map i ≡ Some k → first_or rest None ≡ Some k → IsWalk (removed link_map i) k rest → LeavesWalk link_map i rest
 leaves_from link_map i k rest goes first walk = record {
   first = first ∙ sym goes;
@@ -63,7 +63,7 @@ leaves_back link_map i k before chain =
     (ap (λ (zs : List ℕ). first_or zs None) (last_reversed before k []))
     (subst (λ (zs : List ℕ). IsWalk (removed link_map i) k zs) (sym (last_reversed before k [])) (there_and_back before [] shorter))
 
--- without its first link a walk goes on
+-- without its first link, a walk goes on
 leaves : (link_map : LinkMap) (i : ℕ) (walk : List ℕ) → IsWalk link_map i walk → LeavesWalk link_map i (rest_of walk)
 leaves link_map i _ (there_and_back [] [] chain) = record { first = sym (goes_on_by link_map i None None chain.2.0); walk = λ k e. absurd (cc) }
 leaves link_map i _ (there_and_back (x ∷ xs) [] chain) =
@@ -87,7 +87,7 @@ removal_leaves_the_walk link_map i rest walk =
     let l = leaves link_map i (i ∷ rest) walk in
     (l.first, l.walk)
 
--- a link that is neither first in a walk nor among its others shows what it showed once the first is removed
+-- the removal of the first link leaves links outside the walk unchanged
 shows_rest : (link_map : LinkMap) (i : ℕ) (walk : List ℕ) → IsWalk link_map i walk → (j : ℕ) → (IsMember walk j → ⊥) → removed link_map i j ≡ link_map j
 shows_rest link_map i walk is_walk j none =
     let own = walk_chain link_map i walk is_walk in
@@ -98,12 +98,12 @@ shows_rest link_map i walk is_walk j none =
     (λ k named same. none ((own.2 j).1 (closed.forth i j here (named ∙ ap (λ (n : ℕ). Some n) (sym same)))))
     ∙ vacated-off link_map i j (λ same. none (subst (IsMember walk) (sym same) (walk_starts link_map i walk is_walk)))
 
--- a link of a walk goes, and any other stays
+-- the links of the walk are removed, and no others
 record EmptiesWalk (old new : LinkMap) (walk : List ℕ) : Type 0 where
   gone : (j : ℕ) → IsMember walk j → new j ≡ None
   rest : (j : ℕ) → (IsMember walk j → ⊥) → new j ≡ old j
 
--- the links of a walk are removed after its first
+-- the links of a walk after its first are removed
 goes_after : (link_map : LinkMap) (i k : ℕ) (rest : List ℕ) → IsWalk link_map i (i ∷ k ∷ rest) → EmptiesWalk (removed link_map i) (removed_each (removed link_map i) (k ∷ rest)) (k ∷ rest)
     → EmptiesWalk link_map (removed_each link_map (i ∷ k ∷ rest)) (i ∷ k ∷ rest)
 goes_after link_map i k rest walk after = record {
@@ -118,7 +118,7 @@ goes link_map i [] walk = record {
 }
 goes link_map i (k ∷ rest) walk = goes_after link_map i k rest walk (goes (removed link_map i) k rest ((removal_leaves_the_walk link_map i (k ∷ rest) walk).1 k refl))
 
--- what shows the same at each of its items is a chain in both
+-- equal interlinks at its items keep a chain
 same_chain : (old new : LinkMap) (c : Chain) → ((j : ℕ) → IsMember (items c) j → old j ≡ new j) → IsChain old c → IsChain new c
 same_chain old new (linear xs) same c = (c.0, c.1, AreLinked-frame old new None xs None same c.2)
 same_chain old new (cyclic xs) same c = (c.0, c.1, AreLinked-frame old new (last_or xs None) xs (first_or xs None) same c.2)
@@ -145,17 +145,17 @@ walk_is_taken link_map i walk is_walk =
     taken link_map (removed_each link_map walk) walk
     (subst (λ (w : List ℕ). EmptiesWalk link_map (removed_each link_map w) w) (sym e) (goes link_map i (rest_of walk) (subst (IsWalk link_map i) e is_walk)))
 
--- the walk of a valid link ..
+-- the walk of a valid link
 pub walk_from-walk : (slots : ℕ) (link_map : LinkMap) (i : ℕ) → IsWellLinked link_map → HasLinksWithin link_map slots → HasLink link_map i → IsWalk link_map i (walk_from slots link_map (Some i))
 walk_from-walk slots link_map i agrees within valid =
     subst (IsWalk link_map i) (sym (ap (λ (b : Bool). if b then walk_ahead slots link_map i (Some i) (prev_of link_map i) else []) (ap (is_some {T = Interlinks}) valid.shows)))
     (walks_ahead link_map slots i agrees within valid)
 
--- .. and of none
+-- the walk of a free index is empty
 pub walk_from-none : (slots : ℕ) (link_map : LinkMap) (i : ℕ) → link_map i ≡ None → walk_from slots link_map (Some i) ≡ []
 walk_from-none slots link_map i none = ap (λ (b : Bool). if b then walk_ahead slots link_map i (Some i) (prev_of link_map i) else []) (ap (is_some {T = Interlinks}) none)
 
--- a walk is that from its first link
+-- a walk is the walk from its first link
 walk_from-rest : (slots : ℕ) (link_map : LinkMap) (o : Option ℕ) (rest : List ℕ) → IsWellLinked link_map → HasLinksWithin link_map slots → first_or rest None ≡ o → ((k : ℕ) → first_or rest None ≡ Some k → IsWalk link_map k rest)
     → rest ≡ walk_from slots link_map o
 walk_from-rest slots link_map o [] agrees within first walk = ap (walk_from slots link_map) first
@@ -164,7 +164,7 @@ walk_from-rest slots link_map o (k ∷ rest) agrees within first walk =
     no_other_walk link_map k (k ∷ rest) (walk_from slots link_map (Some k)) own (walk_from-walk slots link_map k agrees within (walk_valid link_map k (k ∷ rest) own k (inl refl)))
     ∙ ap (walk_from slots link_map) first
 
--- a walk whose first link is removed goes on
+-- a walk goes on when its first link is removed
 pub walk_from-next : (slots : ℕ) (link_map : LinkMap) (i : ℕ) → IsWellLinked link_map → HasLinksWithin link_map slots → HasLink link_map i
     → walk_from slots link_map (Some i) ≡ i ∷ walk_from slots (removed link_map i) (rest_start_of link_map i)
 walk_from-next slots link_map i agrees within valid =

@@ -1,4 +1,4 @@
--- A walk has each link of its chain once, and from each link there is one.
+-- A walk has each link of its chain once, and each link has one.
 use Rattle.std.specs.Prelude.{◌↔◌, ℕ, ◌≤◌, ◌⊎◌, List, [], ◌∷◌, ◌++◌, reverse, length}
 use Rattle.std.proofs.Common.{sym, refl, subst, inl, inr, ⊎_elim}
 use mathlib.Core.List.{reverse_aux}
@@ -10,7 +10,7 @@ use Rattle.chain_laws.proofs.ChainLemmas.Rotations.{turned_to}
 use Rattle.chain_laws.proofs.ChainLemmas.Existence.{ChainOf, stands_in, has_chain}
 use Rattle.chain_laws.proofs.WalkLemmas.Walker.{walk_passed}
 
--- a list the other way round has the same items
+-- a reversed list has the same members
 pub IsMember-reversed : (xs zs : List ℕ) (y : ℕ) → IsMember (reverse_aux xs zs) y ↔ (IsMember xs y ⊎ IsMember zs y)
 IsMember-reversed [] zs y = (λ h. inr h, λ h. ⊎_elim (λ n. absurd n) (λ k. k) h)
 IsMember-reversed (x ∷ xs) zs y =
@@ -27,7 +27,7 @@ IsMember-reversed (x ∷ xs) zs y =
     back (inl (inr h)) = inl h
     back (inr h) = inr (inr h)
 
--- .. and as few repetitions
+-- a reversed list is distinct if the list is
 pub AreDistinct-reversed : (xs zs : List ℕ) → AreDistinct xs → AreDistinct zs → ((y : ℕ) → IsMember xs y → IsMember zs y → ⊥) → AreDistinct (reverse_aux xs zs)
 AreDistinct-reversed [] zs once others apart = others
 AreDistinct-reversed (x ∷ xs) zs once others apart =
@@ -37,7 +37,7 @@ AreDistinct-reversed (x ∷ xs) zs once others apart =
     still_apart y h (inl e) = once.0 (subst (IsMember xs) (sym e) h)
     still_apart y h (inr k) = apart y (inr h) k
 
--- the items of a list the other way round
+-- a member of a reversed list is a member of the list
 IsMember-back : (xs : List ℕ) (y : ℕ) → IsMember (reverse xs) y → IsMember xs y
 IsMember-back xs y h = ⊎_elim (λ k. k) (λ n. absurd n) ((IsMember-reversed xs [] y).0 h)
 
@@ -54,7 +54,7 @@ walk_once link_map i _ (there_and_back before after chain) =
     (λ y h k. AreDistinct-apart before (i ∷ after) y chain.1 (IsMember-back before y k) h)
 walk_once link_map i _ (round after chain) = chain.1
 
--- a chain with the items of a walk
+-- a chain with the members of a walk
 pub walk_chain : (link_map : LinkMap) (i : ℕ) (walk : List ℕ) → IsWalk link_map i walk → (c : Chain) × IsChain link_map c × ((j : ℕ) → IsMember walk j ↔ IsMember (items c) j)
 walk_chain link_map i _ (there_and_back before after chain) = (linear (before ++ i ∷ after), chain, λ j. (there j, back j))
   where
@@ -80,12 +80,12 @@ walk_valid link_map i walk is_walk j h =
     let own = walk_chain link_map i walk is_walk in
     chain_valid link_map own.0 j own.1 ((own.2 j).0 h)
 
--- a walk is no longer than there are slots
+-- a walk is no longer than the number of slots
 pub walk_bound : (link_map : LinkMap) (slots i : ℕ) (walk : List ℕ) → HasLinksWithin link_map slots → IsWalk link_map i walk → length walk ≤ slots
 walk_bound link_map slots i walk within is_walk =
     length_bound walk slots (walk_once link_map i walk is_walk) (λ j h. within.within j (walk_valid link_map i walk is_walk j h))
 
--- from a link of a chain there is a walk
+-- there is a walk from each link of a chain
 pub walk_of_chain : (link_map : LinkMap) (i : ℕ) (c : Chain) → IsChain link_map c → IsMember (items c) i → (walk : List ℕ) × IsWalk link_map i walk
 walk_of_chain link_map i (linear xs) chain has =
     let w = IsMember-written xs i has in
@@ -94,7 +94,7 @@ walk_of_chain link_map i (cyclic xs) chain has =
     let t = turned_to link_map xs i chain has in
     (i ∷ t.0, round t.0 t.1)
 
--- from each valid index there is a walk
+-- there is a walk from each valid index
 pub has_walk : (link_map : LinkMap) (slots i : ℕ) → IsWellLinked link_map → HasLinksWithin link_map slots → HasLink link_map i → (walk : List ℕ) × IsWalk link_map i walk
 has_walk link_map slots i agrees within valid = by (has_chain link_map slots agrees within i valid)
   where

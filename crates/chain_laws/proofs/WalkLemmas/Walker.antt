@@ -1,4 +1,4 @@
--- A walker passes the walk: on to the end and back to the start, or once round.
+-- A walker passes the walk: to the end and back to the start, or around a ring.
 use Rattle.std.specs.Prelude.{◌≡◌, ◌≢◌, ℕ, zero, suc, ◌+◌, ◌≤◌, List, [], ◌∷◌, ◌++◌, reverse, length, Option, None, Some}
 use Rattle.std.proofs.Common.{sym, refl, ap, ap₂, ◌∙◌, inl, inr, arith}
 use mathlib.Core.List.{reverse_aux}
@@ -8,17 +8,17 @@ use Rattle.chain_laws.proofs.ListLemmas.Members.{AreDistinct-right}
 use Rattle.chain_laws.proofs.ChainLemmas.LinkedLists.{AreLinked-left, AreLinked-right}
 use Rattle.chain_laws.proofs.InterlinkLemmas.Inverses.{if_same, if_other}
 
--- each item names the one after it in the list as the one before it, and the last names none
+-- each item has the next in the list as its prev, and the last has none
 abbrev pub GoesBack : LinkMap → List ℕ → Type 0
 GoesBack link_map [] = Unit {0}
 GoesBack link_map (z ∷ zs) = (prev_of link_map z ≡ first_or zs None) × GoesBack link_map zs
 
--- a list that stands, written the other way round, goes back
+-- a linked list, reversed, goes back
 pub GoesBack-reversed : (link_map : LinkMap) (xs zs : List ℕ) (after : Option ℕ) → AreLinked link_map (first_or zs None) xs after → GoesBack link_map zs → GoesBack link_map (reverse_aux xs zs)
 GoesBack-reversed link_map [] zs after stands back = back
 GoesBack-reversed link_map (x ∷ xs) zs after stands back = GoesBack-reversed link_map xs (x ∷ zs) after stands.1 (ap prev_in stands.0, back)
 
--- the last item comes first then
+-- the last item is the first of the reversed list
 pub first_or-reversed : (xs zs : List ℕ) → first_or (reverse_aux xs zs) None ≡ last_or xs (first_or zs None)
 first_or-reversed [] zs = refl
 first_or-reversed (x ∷ xs) zs = first_or-reversed xs (x ∷ zs)
@@ -31,15 +31,15 @@ passes_back zero link_map start (z ∷ zs) back enough = absurd (omega arith)
 passes_back (suc left) link_map start (z ∷ zs) back enough =
     ap (λ (w : List ℕ). z ∷ w) (ap (λ (o : Option ℕ). walk_ahead left link_map start None o) back.0 ∙ passes_back left link_map start zs back.1 (omega arith))
 
--- a walker that sees another link than its first goes on to it ..
+-- a walker goes on to any link but its first
 pub step_forward-other : (start k : ℕ) → k ≢ start → step_forward start (Some k) ≡ Some k
 step_forward-other start k ne = if_other k start None (Some k) ne
 
--- .. and may still go back from the end
+-- a walker may still go back from the end
 step_back-other : (start k : ℕ) (back : Option ℕ) → k ≢ start → step_back start (Some k) back ≡ back
 step_back-other start k back ne = if_other k start None back ne
 
--- on through a linear chain to its end, and then back
+-- through a linear chain to its end, and then back
 passes_on : (left : ℕ) (link_map : LinkMap) (start : ℕ) (before : Option ℕ) (y : ℕ) (ys zs : List ℕ)
     → AreLinked link_map before (y ∷ ys) None → (IsMember ys start → ⊥) → GoesBack link_map zs → length (y ∷ ys ++ zs) ≤ left
     → walk_ahead left link_map start (Some y) (first_or zs None) ≡ y ∷ ys ++ zs
@@ -55,7 +55,7 @@ passes_on (suc left) link_map start before y (k ∷ ks) zs stands none back enou
     ∙ ap₂ (λ (o p : Option ℕ). walk_ahead left link_map start o p) (step_forward-other start k other) (step_back-other start k (first_or zs None) other)
     ∙ passes_on left link_map start (Some y) k ks zs stands.1 (λ h. none (inr h)) back (omega arith))
 
--- once round a cyclic chain
+-- once around a cyclic chain
 passes_round : (left : ℕ) (link_map : LinkMap) (start : ℕ) (before back : Option ℕ) (y : ℕ) (ys : List ℕ)
     → AreLinked link_map before (y ∷ ys) (Some start) → (IsMember ys start → ⊥) → length (y ∷ ys) ≤ left
     → walk_ahead left link_map start (Some y) back ≡ y ∷ ys

@@ -1,4 +1,4 @@
--- By induction on the list.
+-- Proofs by induction on the list.
 use Rattle.chain_laws.proofs.ListLemmas.Members.{IsMember-or_not}
 use Rattle.chain_laws.proofs.ListLemmas.MemberLaws.{has_in_join, has_in_turn, has_in_middle, has_is_written, has_is_filled}
 use Rattle.chain_laws.proofs.membership.lists_have.Goals as goal

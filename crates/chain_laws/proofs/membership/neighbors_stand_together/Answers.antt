@@ -1,4 +1,4 @@
--- Since the items of a chain are closed under its interlinks.
+-- The items of a chain are closed under its interlinks.
 use Rattle.chain_laws.proofs.ChainLemmas.MemberLaws.{neighbors_stand_together, chains_share_each, turns_have_the_same, has_in_all}
 use Rattle.chain_laws.proofs.membership.neighbors_stand_together.Goals as goal
 

@@ -1,4 +1,4 @@
--- By a cycle taken apart before an index.
+-- A cyclic chain is split before an index.
 use Rattle.chain_laws.proofs.ChainLemmas.Rotations.{turns, one_turned}
 use Rattle.chain_laws.proofs.partition.cycles_turn.Goals as goal
 

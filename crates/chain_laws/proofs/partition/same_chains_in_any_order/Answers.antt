@@ -1,4 +1,4 @@
--- Since chains that share an index are one.
+-- Chains that share an index are one chain.
 use Rattle.chain_laws.proofs.ChainLemmas.Partitions.{same_members, same_turned}
 use Rattle.chain_laws.proofs.partition.same_chains_in_any_order.Goals as goal
 

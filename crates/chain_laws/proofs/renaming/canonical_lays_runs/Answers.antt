@@ -1,4 +1,4 @@
--- Since the places in a list of chains are their runs, and both arenas have the chains.
+-- The places in a list of chains are their runs, and both arenas have the chains.
 use Rattle.chain_laws.proofs.RenamingLemmas.ChainRuns.{canonical_arranges, lays_chains_in_runs, runs_are_renumbered}
 use Rattle.chain_laws.proofs.renaming.canonical_lays_runs.Goals as goal
 

@@ -1,4 +1,4 @@
--- By where each link goes, before and after each step.
+-- Proofs from the index of each link around each step.
 use Rattle.chain_laws.proofs.RenamingLemmas.HoleClosing.{gathering_begins, gathering_skips, gathering_goes_on, gathering_ends}
 use Rattle.chain_laws.proofs.renaming.gathering_renumbers.Goals as goal
 

@@ -1,4 +1,4 @@
--- By the index that each link comes from, and since only its neighbors name the link that moves.
+-- Proofs from the old index of each link; only neighbors name the moved link.
 use Rattle.chain_laws.proofs.RenamingLemmas.Chains.{renamings_compose}
 use Rattle.chain_laws.proofs.RenamingLemmas.Moves.{move_renames, neighbors_tell_a_move}
 use Rattle.chain_laws.proofs.renaming.move_renames.Goals as goal

@@ -1,4 +1,4 @@
--- The pointer is valid, and its link names none there.
+-- The pointer is valid, and its link has no next.
 use Rattle.std.proofs.Common.{sym, ap, ◌∙◌}
 use Rattle.std.specs.Prelude.{is_some}
 use Rattle.std.proofs.lemmas.Bool.{false≢true}

@@ -1,4 +1,4 @@
--- The first link names the second, which then may be named, or that is taken back.
+-- The first link names the second, which is a valid start, or the write is undone.
 use Rattle.std.proofs.Common.{◌≡◌, ℕ, Some, None, ap, ap₂, ◌∙◌, sym, refl, subst}
 use Rattle.std.proofs.lemmas.Bool.{false≢true}
 use Rattle.chain_laws.specs.Chains.{HasLink}

@@ -1,4 +1,4 @@
--- A link stands where an entry does.
+-- There is a link where there is an entry.
 use Rattle.std.proofs.Common.{sym}
 use Rattle.chain_linking.proofs.ConnectionLemmas.{valid_at}
 use Rattle.chain_linking.proofs.connection.standing_at.Goals as goal

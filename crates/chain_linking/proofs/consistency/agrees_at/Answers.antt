@@ -1,4 +1,4 @@
--- Both directions are looked at.
+-- Both directions are checked.
 use Rattle.chain_linking.proofs.consistency.agrees_at.Goals as goal
 
 pub returns-then-agrees_forth : goal.returns-then-agrees_forth

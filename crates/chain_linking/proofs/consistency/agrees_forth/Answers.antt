@@ -1,4 +1,4 @@
--- The one link that comes after is looked at.
+-- The one link after is checked.
 use Rattle.std.proofs.Common.{sym, ap, ◌∙◌}
 use Rattle.std.specs.Option.{option_map}
 use Rattle.chain_laws.specs.Chains.{prev_of, next_of}

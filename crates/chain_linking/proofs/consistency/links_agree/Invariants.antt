@@ -1,4 +1,4 @@
--- The interlinks up to index k are answered.
+-- The interlinks at the indexes up to k are consistent.
 use Rattle.std.proofs.Common.{ℕ, ◌+◌, ◌<◌}
 use Rattle.chain_linking.specs.Consistency.{IsWellLinkedAt}
 use Rattle.chain_links.specs.ChainArena.{link_map}

@@ -1,4 +1,4 @@
--- What the link that stands at an index names, and nothing where none stands.
+-- The neighbors of the link at an index, if there is one.
 use Rattle.std.proofs.Common.{ap, sym, ◌∙◌}
 use Rattle.chain_laws.specs.Chains.{prev_in, next_in}
 use Rattle.chain_linking.proofs.ConnectionLemmas.{prev_of-seen, next_of-seen}

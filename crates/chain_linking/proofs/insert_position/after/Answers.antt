@@ -1,4 +1,4 @@
--- The gap after a link.
+-- The position after a link.
 use Rattle.std.proofs.Common.{Some, refl, sym, ap, ◌∙◌}
 use Rattle.std.proofs.lemmas.Bool.{false≢true}
 use Rattle.chain_laws.specs.Chains.{next_in}

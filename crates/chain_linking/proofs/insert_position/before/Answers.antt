@@ -1,4 +1,4 @@
--- The gap before a link.
+-- The position before a link.
 use Rattle.std.proofs.Common.{Some, refl, sym, ap, ◌∙◌}
 use Rattle.std.proofs.lemmas.Bool.{false≢true}
 use Rattle.chain_laws.specs.Chains.{prev_in}

@@ -1,4 +1,4 @@
--- The gap before a start.
+-- The position before a start.
 use Rattle.std.proofs.Common.{Some, refl, sym, ap, ◌∙◌}
 use Rattle.std.specs.Prelude.{is_some, not}
 use Rattle.std.proofs.lemmas.Bool.{false≢true}

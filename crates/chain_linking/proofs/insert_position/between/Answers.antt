@@ -1,4 +1,4 @@
--- The gap between two neighbours.
+-- The position between two neighbors.
 use Rattle.std.proofs.Common.{Some, refl, sym, ap, ◌∙◌}
 use Rattle.std.proofs.lemmas.Bool.{false≢true}
 use Rattle.chain_links.specs.ChainArena.{link_map, entry, interlinks_in}

@@ -1,4 +1,4 @@
--- The link that a pointer points to, or the one at an index.
+-- The link of a pointer, or the link at an index.
 use Rattle.std.proofs.Common.{◌↔◌, refl, sym, ap, ◌∙◌, subst}
 use Rattle.std.specs.Prelude.{is_some, IsSome}
 use Rattle.std.proofs.lemmas.Bool.{false≢true}

@@ -1,4 +1,4 @@
--- Two links are made, the one after the other.
+-- Two pairs are linked, one after another.
 use Rattle.std.specs.Option.{option_map}
 use Rattle.chain_links.specs.Links.{links_view}
 use Rattle.chain_laws.specs.Joins.{linked}

@@ -1,4 +1,4 @@
--- The link that was lent is written, and one stands there.
+-- The index has a link, and the borrowed link is written.
 use Rattle.std.proofs.Common.{refl, sym, ap, ◌∙◌}
 use Rattle.std.specs.Option.{option_map, option_copied_mut}
 use Rattle.chain_laws.specs.Joins.{with_prev}

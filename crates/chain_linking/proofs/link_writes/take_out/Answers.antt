@@ -1,4 +1,4 @@
--- The link goes, and those that it stood between are linked.
+-- The link is removed, and its former neighbors are linked.
 use Rattle.std.proofs.Common.{of_calls, ◌≡◌, None, Some, sym, ap, ◌∙◌}
 use Rattle.std.specs.Prelude.{is_some}
 use Rattle.std.specs.Option.{option_map}

@@ -1,4 +1,4 @@
--- Two writes name the new link.
+-- The links of the position name the new link.
 use Rattle.std.proofs.Common.{ℕ, Option, Some, ap₂, ◌∙◌, ap, sym, subst}
 use Rattle.std.specs.Prelude.{IfSome}
 use Rattle.std.specs.Option.{option_map}

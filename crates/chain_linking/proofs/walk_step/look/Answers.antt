@@ -1,4 +1,4 @@
--- The pointer to the link that stands at an index is valid.
+-- The pointer to the link at an index is valid.
 use Rattle.std.proofs.Common.{◌≡◌, of_calls, refl, ap, ◌∙◌, sym, subst}
 use Rattle.std.specs.Option.{option_map}
 use Rattle.arena_base.specs.Arena.{IsValid}

@@ -1,4 +1,4 @@
--- Where no link stands before the advancer, nothing is passed.
+-- Without a link at the next index, nothing is passed.
 use Rattle.std.specs.Option.{option_map}
 use Rattle.chain_links.specs.Links.{links_view}
 use Rattle.chain_linking.proofs.AdvancerLemmas.{looked_none, ends_forth, ends_back}
