@@ -1,4 +1,4 @@
--- What a drain of a chain yields, from its first call of `next` to its last.
+-- The items that a drain of a chain yields, from first to last.
 use Rattle.std.specs.Prelude.{◌≡◌, ℕ, Bool, Option, List, [], ◌∷◌, map, All}
 use Rattle.arena_ptr.specs.Invalidation.{value_in}
 use Rattle.arena_ptr.specs.declared.invalidation.InvalidationOption.{InvalidationOption}
@@ -8,14 +8,14 @@ use Rattle.chain_links.specs.declared.links.LinkBody.{LinkBody}
 use Rattle.chain_arena.specs.Drains.{walk_left, IsDrainStep}
 
 module _ {P Gen K T : Type 0} (key : P → ℕ × Gen) (number : K → Option ℕ) (following : Gen → Gen) (wraps : Gen → Bool) where
-  -- the calls of `next` that yield these items, one after another
+  -- Calls of `next` that yield these items, one after another.
   abbrev pub DrainsTo : Arena Gen (LinkView T) → ℕ → List (InvalidationOption (P × LinkBody K T)) → Arena Gen (LinkView T) → ℕ → Type 0
   DrainsTo old at [] new next = (new ≡ old) × (next ≡ at)
   DrainsTo old at (gone ∷ rest) new next =
       (mid : Arena Gen (LinkView T)) × (on : ℕ) × IsDrainStep key number following wraps old at gone mid on × DrainsTo mid on rest new next
 
--- A drain that has nothing left has yielded the walk that was before it: the index of each pointer, in order; and each
--- pointer was valid before the drain.
+-- A complete drain yields the walk before it: the pointers have its indexes, in order, and were
+-- valid before.
 abbrev pub DrainGivesTheWalk : {P Gen K : Type 0} → (T : Type 0) → (P → ℕ × Gen) → (K → Option ℕ) → (Gen → Gen) → (Gen → Bool) → Type 0
 DrainGivesTheWalk {P = P} {Gen = Gen} {K = K} T key number following wraps =
     (old new : Arena Gen (LinkView T)) (at next : ℕ) (gone : List (InvalidationOption (P × LinkBody K T)))

@@ -1,4 +1,4 @@
--- What calls make of an arena of links, and why they are refused.
+-- The effects of calls on an arena of links, and their errors.
 use Rattle.std.specs.Prelude.{◌≡◌, ℕ, ◌<◌, ◌≤◌, min, Bool, true, false, List, length}
 use Rattle.arena_ptr.specs.SlotStack.{IsBeyond}
 use Rattle.arena_ptr.specs.declared.errors.ReallocationError.{ReallocationError}
@@ -17,23 +17,24 @@ use Rattle.chain_links.specs.declared.kinds.InsertKindBody.{InsertKindBody}
 use Rattle.chain_compaction.specs.LinkCompressions.{ClosesHoles}
 use Rattle.chain_arena.specs.Drains.{without_each}
 
--- the links of an arena
+-- An arena of links.
 abbrev pub Links : Type 0 → Type 0 → Type 0
 Links Gen T = Arena Gen (LinkView T)
 
 module _ {Gen T : Type 0} where
-  -- room for n: where there was enough it stays as it is, and else the arena has grown to it, up to the greatest index
-  -- and within the maximum
+  -- The capacity stays if it suffices for n, and else grows to suffice, up to the greatest index
+  -- and within the maximum.
   pub data GrowsToFit (greatest n : ℕ) (old new : Links Gen T) : Type 0 where
     stays : n ≤ old.capacity → new.capacity ≡ old.capacity → new.stack_capacity ≡ old.stack_capacity → GrowsToFit greatest n old new
     grown : old.capacity < n → HasCapacityFor greatest n new → GrowsToFit greatest n old new
 
-  -- why it is not made: it would go beyond the maximum; or memory is refused, or an index above the greatest needed
+  -- The error of such a growth: above the maximum; or memory is refused, or it is above the
+  -- greatest index.
   abbrev pub Refuses : ℕ → Links Gen T → ReallocationError → Type 0
   Refuses n old refused.BeyondMaxCapacity = (old.capacity < n) × IsBeyond old.maximum n
   Refuses n old refused.AllocError = (old.capacity < n) × (IsBeyond old.maximum n → ⊥)
 
-  -- a pointer's chain is drained: its links are gone, in walk order, and so many at most are counted
+  -- A pointer's chain is removed, in walk order; `count` is its length, at most `take`.
   pub record IsDrained (following : Gen → Gen) (old : Links Gen T) (p : ℕ × Gen) (take count : ℕ) (new : Links Gen T) : Type 0 where
     pub valid : IsValid (entry old) p
     pub walk : List ℕ
@@ -42,35 +43,35 @@ module _ {Gen T : Type 0} where
     pub state : new ≡ without_each following old walk
     pub chains : TakesWalk (link_map old) (link_map new) walk
 
-  -- the gaps are closed: the links come to the indexes from 1 on, in the order of their indexes, each with its value, and
-  -- name the new indexes of their neighbors
+  -- The holes are closed: links are moved to the indexes from 1 on, in order, with their values and
+  -- the new indexes of their neighbors.
   pub record IsCompression (first : Gen) (following : Gen → Gen) (reset : Bool) (old new : Links Gen T) : Type 0 where
     pub seen : IsCompressed first following reset (value_view old) (value_view new)
     pub values : values_in (entries (values_of new)) ≡ values_in (entries (values_of old))
     pub links : ClosesHoles old new
 
-  -- the chains are laid one after another
+  -- The chains are compacted, one after another.
   pub record IsCanonicalCompression (first : Gen) (following : Gen → Gen) (reset : Bool) (old new : Links Gen T) : Type 0 where
     pub layout : IsCanonicalLayout first following reset (value_view old) (link_map old) (value_view new) (link_map new)
     pub stack_capacity : new.stack_capacity ≡ old.stack_capacity
 
 module _ {P I Gen : Type 0} (key : P → ℕ × Gen) (number : I → ℕ) where
-  -- a kind by the indexes that it names
+  -- A kind by the indexes that it names.
   abbrev pub indexed_kind : InsertKindBody P I → InsertKind ℕ
   indexed_kind kind = by_index (names_in key number kind)
 
-  -- a link of the kind may be inserted
+  -- A link of the kind may be inserted.
   abbrev pub MayInsertInto : {T : Type 0} → Links Gen T → InsertKindBody P I → Type 0
   MayInsertInto old kind = MayInsert (entry old) (link_map old) (names_in key number kind)
 
--- there is a new link of a kind, at this pointer: it stands between the two that the kind gives
+-- A link of a kind is inserted with this pointer, between the neighbors that the kind gives.
 pub record IsAdded {P Gen T : Type 0} (key : P → ℕ × Gen) (old : Links Gen T) (kind : InsertKind ℕ) (t : T) (p : P) (new : Links Gen T) : Type 0 where
   pub pointer : key p ≡ (next_index old, old.counter)
   pub state : new ≡ with_capacity_of (insert_as old kind t) new
   pub pairs : InsertsPairs (link_map old) (link_map new) (next_index old) (link_before (link_map old) kind (next_index old)) (link_after (link_map old) kind (next_index old))
   pub chains : Inserts (link_map old) (link_map new) (next_index old) (link_before (link_map old) kind (next_index old)) (link_after (link_map old) kind (next_index old))
 
--- an answer where something may be invalid: it is told whether the counter overflowed
+-- An outcome that may be invalid, and reports whether the counter overflowed.
 abbrev pub ReportsOverflow : {X : Type 0} → Type 0 → Bool → (X → Type 0) → InvalidationResult X → Type 0
 ReportsOverflow invalid overflow done InvalidPtr = invalid
 ReportsOverflow invalid overflow done (Success x) = (overflow ≡ false) × done x

@@ -1,4 +1,4 @@
--- What a growth answers that an insertion asked for.
+-- The result of the growth that an insertion needed.
 use Rattle.std.specs.Prelude.{Result, Ok, Err}
 use Rattle.arena_ptr.specs.declared.errors.ChainInsertionError.{ChainInsertionError}
 use Rattle.arena_ptr.specs.declared.errors.ChainInsertionError.TheVariants as failed

@@ -1,4 +1,4 @@
--- The place of a new link of a kind, which is a gap with room for one link more, and what becomes of a link there.
+-- Insertion positions of a kind with capacity for one more link, and insertions there.
 use Rattle.std.specs.Prelude.{◌≡◌, ℕ, ◌+◌, ◌<◌, Option, Result, Ok, Err}
 use Rattle.std.specs.Result.{result_map_both}
 use Rattle.arena_ptr.specs.SlotStack.{IsBeyond}
@@ -17,49 +17,48 @@ use Rattle.chain_linking.specs.declared.insert_position.InsertPosition.{InsertPo
 use Rattle.chain_arena.specs.Effects.{Links, indexed_kind, MayInsertInto}
 
 module _ {Gen T : Type 0} where
-  -- an arena with room for one link more, which a full one has after a growth
+  -- An arena has capacity for one more link, after a growth if it was full.
   pub record HasGrown (may_reach : ℕ → Option ℕ → ℕ → ℕ → Type 0) (greatest : ℕ) (old new : Links Gen T) : Type 0 where
-    -- there is room for the link, and a growth to it went as far as the stack may reach
+    -- The capacity suffices for the link, and a growth is within the stack's reach.
     pub grown : ReachesCapacity may_reach greatest (entry_count old + 1) old new
-    -- nothing else has changed ..
+    -- Nothing but the capacity changes.
     pub state : new ≡ with_capacity_of old new
-    -- .. and where there was room, nothing has
+    -- Nothing changes if the capacity sufficed.
     pub stays : entry_count old < old.capacity → new ≡ old
 
-  -- why a full arena does not grow: one link more is beyond the maximum; or memory is refused, or there is no index for it
+  -- The error of a full arena's growth: it exceeds the maximum; or memory is refused, or no index
+  -- is left.
   abbrev pub RefusesOneMore : Links Gen T → ReallocationError → Type 0
   RefusesOneMore old refused.BeyondMaxCapacity = (entry_count old ≡ old.capacity) × IsBeyond old.maximum (entry_count old + 1)
   RefusesOneMore old refused.AllocError = (entry_count old ≡ old.capacity) × (IsBeyond old.maximum (entry_count old + 1) → ⊥)
 
-  -- a growth to room for one link more, where there is none
+  -- A growth to capacity for one more link, if the arena is full.
   abbrev pub GrowsByOne : (ℕ → Option ℕ → ℕ → ℕ → Type 0) → ℕ → Links Gen T → Result Unit ReallocationError → Links Gen T → Type 0
   GrowsByOne may_reach greatest old (Ok done) new = HasGrown may_reach greatest old new
   GrowsByOne may_reach greatest old (Err why) new = RefusesOneMore old why × (new ≡ old)
 
--- a link came between two, where they are, to the next index
+-- A link is inserted at the next index, between two links where they exist.
 abbrev pub IsInsertedBetween : {Gen T : Type 0} → Option ℕ → Option ℕ → Links Gen T → T → Links Gen T → Type 0
 IsInsertedBetween before after old t new = IsInsertionBetween before after (value_view old) (value_view new) (entry old) (entry new) (link_map old) (link_map new) (next_index old, old.counter) t
 
--- how an insertion is refused where a growth is
+-- The insertion error of a growth error.
 abbrev pub refusal_of : ReallocationError → ChainInsertionError
 refusal_of refused.BeyondMaxCapacity = failed.BeyondMaxCapacity
 refusal_of refused.AllocError = failed.AllocError
 
--- a gap, unless a growth was refused
+-- A position, or the error of a growth.
 abbrev pub position_unless_refused : {I : Type 0} → InsertPosition I → Result Unit ReallocationError → Result (InsertPosition I) ChainInsertionError
 position_unless_refused gap grown = result_map_both (λ done. gap) refusal_of grown
 
 module _ {P I Gen T : Type 0} (key : P → ℕ × Gen) (number : I → ℕ) where
-  -- a gap is that of a kind
+  -- A position is that of a kind.
   pub record IsPositionFor (old : Links Gen T) (kind : InsertKindBody P I) (gap : InsertPosition I) : Type 0 where
-    -- a link of the kind may be inserted
     pub may : MayInsertInto key number old kind
-    -- it comes after the link that the kind gives ..
+    -- The new link is between the links that the kind gives.
     pub before : before_in number gap (next_index old) ≡ link_before (link_map old) (indexed_kind key number kind) (next_index old)
-    -- .. and before the other one
     pub after : after_in number gap (next_index old) ≡ link_after (link_map old) (indexed_kind key number kind) (next_index old)
 
-  -- the answer to who asks for the place of a kind within the capacity
+  -- The result of a search for the position of a kind within the capacity.
   abbrev pub FindsPositionWithin : Links Gen T → InsertKindBody P I → Result (InsertPosition I) ChainInsertionError → Type 0
   FindsPositionWithin old kind (Ok gap) = IsPositionFor old kind gap × (entry_count old < old.capacity)
   FindsPositionWithin old kind (Err failed.FailedLinkRequirement) = MayInsertInto key number old kind → ⊥
@@ -67,7 +66,8 @@ module _ {P I Gen T : Type 0} (key : P → ℕ × Gen) (number : I → ℕ) wher
   FindsPositionWithin old kind (Err failed.BeyondMaxCapacity) = ⊥
   FindsPositionWithin old kind (Err failed.AllocError) = ⊥
 
-  -- .. and to who asks for it where a full arena grows, with the arena after that
+  -- The result of a search for the position of a kind, where a full arena grows, and the arena
+  -- then.
   abbrev pub FindsPositionGrowing : (ℕ → Option ℕ → ℕ → ℕ → Type 0) → ℕ → Links Gen T → InsertKindBody P I → Result (InsertPosition I) ChainInsertionError → Links Gen T → Type 0
   FindsPositionGrowing may_reach greatest old kind (Ok gap) new = IsPositionFor old kind gap × HasGrown may_reach greatest old new
   FindsPositionGrowing may_reach greatest old kind (Err failed.FailedLinkRequirement) new = (MayInsertInto key number old kind → ⊥) × (new ≡ old)
@@ -75,17 +75,15 @@ module _ {P I Gen T : Type 0} (key : P → ℕ × Gen) (number : I → ℕ) wher
   FindsPositionGrowing may_reach greatest old kind (Err failed.AllocError) new = MayInsertInto key number old kind × RefusesOneMore old refused.AllocError × (new ≡ old)
   FindsPositionGrowing may_reach greatest old kind (Err failed.NotWithinCapacity) new = ⊥
 
-  -- a link came into a gap
+  -- A link is inserted at a position.
   pub record IsInsertedIn (old : Links Gen T) (gap : InsertPosition I) (t : T) (p : P) (new : Links Gen T) : Type 0 where
-    -- its pointer is that of the next insertion
     pub pointer : key p ≡ (next_index old, old.counter)
-    -- it stands between the links of the gap
     pub state : new ≡ insert_between old t (before_in number gap (next_index old)) (after_in number gap (next_index old))
-    -- each free slot was listed, and the interlinks agreed, as in every arena
+    -- In every arena each free slot is listed, and the interlinks agree.
     pub listed : IsListed old
     pub agreed : IsWellLinked (link_map old)
 
-  -- a link came into the gap that was answered, or nothing did where none was
+  -- A link is inserted at the position found, or nothing changes if there is none.
   abbrev pub InsertsAt : Links Gen T → Result (InsertPosition I) ChainInsertionError → T → Result P ChainInsertionError → Links Gen T → Type 0
   InsertsAt old (Ok gap) t (Ok p) new = IsInsertedIn old gap t p new
   InsertsAt old (Ok gap) t (Err why) new = ⊥

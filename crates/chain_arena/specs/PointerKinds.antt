@@ -1,20 +1,16 @@
--- A kind of pointers, as contracts look at it.
+-- Types of pointers, as contracts see them.
 use Rattle.std.specs.Prelude.{ℕ, Bool, Option}
 use Rattle.arena_ptr.specs.declared.packed_option.PackedOption.{PackedOption}
 
--- a kind of pointers: what each is, and how its indexes and its generations are counted
+-- A type of pointers: the numbers of its indexes, and the order of its generations.
 pub record PointerKind (P I Gen W : Type 0) : Type 0 where
-  -- a pointer's index and generation
   pub key : P → ℕ × Gen
-  -- an index as a number ..
   pub number : I → ℕ
-  -- .. and one that may be missing
+  -- An optional index as a number.
   pub packed : PackedOption I W → Option ℕ
-  -- the greatest index
   pub greatest : ℕ
-  -- the first generation ..
   pub first : Gen
-  -- .. the one after another ..
+  -- The generation after another.
   pub following : Gen → Gen
-  -- .. and whether it begins again there
+  -- Whether the counter wraps after a generation.
   pub wraps : Gen → Bool

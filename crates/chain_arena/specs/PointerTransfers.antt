@@ -1,4 +1,4 @@
--- A transfer, said by pointer.
+-- Transfers, stated by pointer.
 use Rattle.std.specs.Prelude.{◌≡◌, ℕ, Bool, Option}
 use Rattle.std.specs.Fn.{Mut}
 use Rattle.arena_ptr.specs.Invalidation.{value_in}
@@ -10,11 +10,12 @@ use Rattle.chain_links.specs.ChainArena.{LinkView, entry}
 use Rattle.chain_compaction.specs.PointerMoves.{AreMoved, FindsEntries, HasLinksWhere}
 use Rattle.chain_arena.specs.Transfers.{Carried, IsTransfer}
 
--- the closure was told the value that a link had, and its answer is the one that it has
+-- The closure was passed the old value of a link, and returned its new value.
 abbrev pub IsMapped : {Q P U T : Type 0} → Carried Q P U T → U → T → Type 0
 IsMapped c u t = (value_in c.value ≡ u) × (c.answer ≡ t)
 
--- the links that were carried over, from whatever arena, are moves from the pointers of the source to those of the target
+-- The links transferred from any arena are moves from the pointers of the source to the pointers of
+-- the target.
 abbrev pub TransferMovesPointers : {Q P G Gen U T F : Type 0} → (Q → ℕ × G) → (P → ℕ × Gen) → (G → G) → (G → Bool)
     → Mut F (Q × (InvalidationOption U × (P × Unit {0}))) T → Type 0
 TransferMovesPointers {Q} {P} {G} {Gen} {U} {T} {F} key new_key following wraps call =

@@ -1,24 +1,25 @@
--- What a recast makes of a chain arena: other values, and nothing else.
+-- A recast of a chain arena changes its values and nothing else.
 use Rattle.std.specs.Prelude.{◌≡◌, ℕ, List, [], ◌∷◌, ◌++◌, Some, Result, Ok, Err}
 use Rattle.arena_base.specs.Arena.{Arena}
 use Rattle.arena_base.specs.Entries.{replaced}
 use Rattle.arena_base.specs.Compressions.{values_in}
 use Rattle.chain_links.specs.ChainArena.{LinkView, new_link, with_each, with_value_at, link_map, value_view, entry}
 
--- a link without its value
+-- A link without its value.
 abbrev pub link_without_value : {T : Type 0} → LinkView T → LinkView (Unit {0})
 link_without_value link = new_link tt link.prev link.next
 
--- what recasts a value, from what it was to what it is, with the answer
+-- `recasts` relates an old value to its new value and the result.
 module _ {T I : Type 0} (recasts : T → T → Result (Unit {0}) I → Type 0) where
-  -- each value is recast
+  -- Each value is recast.
   abbrev pub AreAllRecast : List T → List T → Type 0
   AreAllRecast [] [] = Unit {0}
   AreAllRecast (t ∷ ts) (u ∷ us) = recasts t u (Ok tt) × AreAllRecast ts us
   AreAllRecast [] (u ∷ us) = ⊥
   AreAllRecast (t ∷ ts) [] = ⊥
 
-  -- the values are recast up to one that refuses, which is as its own recast left it, and those after it stay
+  -- Values are recast up to one that fails, which is as its own recast left it; those after it
+  -- stay.
   pub record AreRecastUpTo (ts us : List T) (refusal : I) : Type 0 where
     pub before : List T
     pub recast : List T
@@ -30,19 +31,20 @@ module _ {T I : Type 0} (recasts : T → T → Result (Unit {0}) I → Type 0) w
     pub all : AreAllRecast before recast
     pub refuses : recasts was is (Err refusal)
 
-  -- all values are recast, or one refuses, whose answer is the answer
+  -- All values are recast, or one that fails gives the result.
   abbrev pub AreRecast : List T → List T → Result (Unit {0}) I → Type 0
   AreRecast ts us (Ok _) = AreAllRecast ts us
   AreRecast ts us (Err refusal) = AreRecastUpTo ts us refusal
 
   module _ {Gen : Type 0} where
-    -- the values are recast by rising index. Generations and interlinks stay, and all else of the state
+    -- The values are recast in ascending index order. Generations, interlinks and the rest of the
+    -- state stay.
     pub record IsRecast (old new : Arena Gen (LinkView T)) (answer : Result (Unit {0}) I) : Type 0 where
       pub rest : with_each link_without_value new ≡ with_each link_without_value old
       pub shows : link_map new ≡ link_map old
       pub values : AreRecast (values_in (value_view old).entries) (values_in (value_view new).entries) answer
 
-    -- the value at a key is recast, and all else stays
+    -- The value at a key is recast, and all else stays.
     pub record IsRecastAt (old new : Arena Gen (LinkView T)) (p : ℕ × Gen) (answer : Result (Unit {0}) I) : Type 0 where
       pub was : T
       pub is : T

@@ -1,4 +1,4 @@
--- What a state and calls determine: nothing is open but room, and how many slots a compression touches.
+-- What a state and calls determine: all but capacity, and how many slots a compression touches.
 use Rattle.std.specs.Prelude.{◌≡◌, ℕ, ◌+◌, ◌<◌, ◌≤◌, Bool, true, false, List, [], ◌∷◌, ⊤, Option, Err}
 use Rattle.std.specs.List.{AllZip}
 use Rattle.arena_ptr.specs.declared.errors.ChainInsertionError.TheVariants as failed
@@ -17,19 +17,19 @@ use Rattle.chain_arena.specs.declared.calls.Reply.{Reply}
 use Rattle.chain_arena.specs.declared.calls.Reply.TheVariants as reply
 
 module _ {Gen T : Type 0} where
-  -- two arenas that are the same, but for how many slots were touched
+  -- Arenas that are equal except for the number of touched slots.
   abbrev pub AreSameButTouched : Links Gen T → Links Gen T → Type 0
   AreSameButTouched a b = a ≡ record b { touched = a.touched }
 
-  -- .. and for room
+  -- Arenas that are equal except for touches and the capacity.
   abbrev pub AreSameButCapacityAndTouched : Links Gen T → Links Gen T → Type 0
   AreSameButCapacityAndTouched a b = AreSameButTouched a (with_capacity_of b a)
 
-  -- two arenas with the same room
+  -- Arenas of the same capacity.
   abbrev pub HaveSameCapacity : Links Gen T → Links Gen T → Type 0
   HaveSameCapacity a b = (a.capacity ≡ b.capacity) × (a.stack_capacity ≡ b.stack_capacity)
 
--- two answers that tell the same, as it is seen
+-- Equal results, as `see` shows them.
 abbrev pub AreSameResults : {X Y : Type 0} → (X → Y) → InvalidationResult X → InvalidationResult X → Type 0
 AreSameResults see InvalidPtr InvalidPtr = ⊤
 AreSameResults see (Success x) (Success y) = see x ≡ see y
@@ -37,25 +37,25 @@ AreSameResults see (GenerationOverflow x) (GenerationOverflow y) = see x ≡ see
 AreSameResults see answer other = ⊥
 
 module _ {P I Gen W T : Type 0} where
-  -- two replies are the same, where a link is looked at by its neighbors and its value
+  -- Equal replies, where a link is seen as its neighbors and its value.
   abbrev pub AreSameReplies : (PackedOption I W → Option ℕ) → Reply P T I Gen W → Reply P T I Gen W → Type 0
   AreSameReplies packed (reply.Removed answer) (reply.Removed other) = AreSameResults (link_view packed) answer other
   AreSameReplies packed (reply.RemovedInx answer) (reply.RemovedInx other) = AreSameResults (pair_view packed) answer other
   AreSameReplies packed r s = r ≡ s
 
-  -- whether a reply is a refusal of memory, or of an index above the greatest
+  -- Whether a reply is a refusal of memory or of an index above the greatest.
   abbrev pub refused_memory : Reply P T I Gen W → Bool
   refused_memory (reply.Inserted (Err failed.AllocError)) = true
   refused_memory (reply.Reserved (Err refused.AllocError)) = true
   refused_memory r = false
 
-  -- how many links a call asks room for
+  -- The number of links for which a call needs capacity.
   abbrev pub capacity_needed : Links Gen T → Call P T I Gen W → ℕ
   capacity_needed old (call.Insert kind t) = entry_count old + 1
   capacity_needed old (call.Reserve n) = n
   capacity_needed old call = 0
 
-  -- a call that asks for no more room than there is
+  -- A call needs no more capacity than there is.
   abbrev pub HasCapacityAlready : Links Gen T → Call P T I Gen W → Type 0
   HasCapacityAlready old (call.Insert kind t) = entry_count old < old.capacity
   HasCapacityAlready old (call.Reserve n) = n ≤ old.capacity
@@ -63,38 +63,39 @@ module _ {P I Gen W T : Type 0} where
 
 module _ {P I Gen W : Type 0} (pointers : PointerKind P I Gen W) where
   module _ {T : Type 0} where
-    -- a run of calls that ask for no more room than there is
+    -- A run of calls that need no more capacity than there is.
     abbrev pub RunWithinCapacity : Links Gen T → List (Call P T I Gen W) → List (Reply P T I Gen W) → Links Gen T → Type 0
     RunWithinCapacity old [] [] new = new ≡ old
     RunWithinCapacity old (call ∷ calls) (reply ∷ replies) new = (between : Links Gen T) × HasCapacityAlready old call × Step pointers old call reply between × RunWithinCapacity between calls replies new
     RunWithinCapacity old calls replies new = ⊥
 
-    -- two runs of the same calls, from two arenas, that have the same room after each step
+    -- Two runs of the same calls, from two arenas, with the same capacity after each step.
     abbrev pub RunWithSameCapacity : Links Gen T → Links Gen T → List (Call P T I Gen W) → List (Reply P T I Gen W) → List (Reply P T I Gen W) → Links Gen T → Links Gen T → Type 0
     RunWithSameCapacity old before [] [] [] new other = (new ≡ old) × (other ≡ before)
     RunWithSameCapacity old before (c ∷ calls) (r ∷ replies) (s ∷ others) new other = (between : Links Gen T) × (beside : Links Gen T)
         × Step pointers old c r between × Step pointers before c s beside × HaveSameCapacity between beside × RunWithSameCapacity between beside calls replies others new other
     RunWithSameCapacity old before calls replies others new other = ⊥
 
-    -- two runs answered the same, and ended the same but for how many slots were touched
+    -- Equal replies, and equal arenas except for touches.
     abbrev pub EndSame : List (Reply P T I Gen W) → List (Reply P T I Gen W) → Links Gen T → Links Gen T → Type 0
     EndSame replies others new other = AllZip (AreSameReplies pointers.packed) replies others × AreSameButTouched new other
 
-  -- But for growth and memory a state and a list of calls determine the replies, and the state after them but for how many
-  -- slots were touched, which a compression alone leaves open.
+  -- Without growth, a state and a list of calls determine the replies, and the state after them
+  -- except for touches. Only a compression leaves those open.
   abbrev pub RunIsDetermined : Type 0 → Type 0
   RunIsDetermined T = (old : Links Gen T) (calls : List (Call P T I Gen W)) (replies others : List (Reply P T I Gen W)) (new other : Links Gen T)
       → RunWithinCapacity old calls replies new → Run pointers old calls others other → EndSame replies others new other
 
-  -- Where memory is refused to both or to neither, a state and a call determine the reply, and the state after it but for
-  -- room and touches. Where more links are asked for than the greatest index, they do so in any case.
+  -- Unless memory is refused to one run alone, a state and a call determine the reply, and the
+  -- state except for capacity and touches. If more links are needed than the greatest index, they
+  -- always do.
   abbrev pub StepIsDetermined : Type 0 → Type 0
   StepIsDetermined T = (old : Links Gen T) (c : Call P T I Gen W) (r s : Reply P T I Gen W) (new other : Links Gen T)
       → Step pointers old c r new → Step pointers old c s other
       → (capacity_needed old c ≤ pointers.greatest → refused_memory r ≡ refused_memory s) → AreSameReplies pointers.packed r s × AreSameButCapacityAndTouched new other
 
-  -- Two such runs from one state answer the same, and end the same but for how many slots were touched: no more is left open
-  -- than that and the room after each step.
+  -- Two such runs from one state end the same: only touches and the capacity after each step are
+  -- left open.
   abbrev pub RunIsDeterminedByCapacity : Type 0 → Type 0
   RunIsDeterminedByCapacity T = (old : Links Gen T) (calls : List (Call P T I Gen W)) (replies others : List (Reply P T I Gen W)) (new other : Links Gen T)
       → RunWithSameCapacity old old calls replies others new other → EndSame replies others new other

@@ -1,6 +1,6 @@
--- The chain machine: what each call answers, and the arena after it. A refusal leaves the arena as it was, and comes
--- before those below it. Want of memory is the only free choice, and how far a growth goes, and how many slots a
--- compression touches.
+-- The chain machine: the reply to each call, and the arena after it. An error leaves the arena
+-- unchanged, and is tested before the errors below it. Left open are only refusals of memory, how
+-- far a growth goes, and how many slots a compression touches.
 use Rattle.std.specs.Prelude.{◌≡◌, ℕ, ◌+◌, ◌<◌, ◌≤◌, Bool, true, false, List, [], ◌∷◌, Option, None, Some, Result, Ok, Err}
 use Rattle.arena_ptr.specs.Invalidation.{invalidation_option}
 use Rattle.arena_ptr.specs.declared.packed_option.PackedOption.{PackedOption}
@@ -25,7 +25,8 @@ use Rattle.chain_arena.specs.declared.calls.Reply.{Reply}
 use Rattle.chain_arena.specs.declared.calls.Reply.TheVariants as reply
 
 module _ {Gen T : Type 0} where
-  -- two links are joined, cut apart, or what comes after them is exchanged, exactly where that can be
+  -- Links are connected or disconnected, or their next links are exchanged, exactly where that is
+  -- possible.
   abbrev pub ConnectStep : Links Gen T → ℕ × Gen → ℕ × Gen → Bool → Links Gen T → Type 0
   ConnectStep old p q false new = (CanConnect (entry old) (link_map old) p q → ⊥) × (new ≡ old)
   ConnectStep old p q true new = CanConnect (entry old) (link_map old) p q × IsJoin old new p.0 q.0
@@ -43,20 +44,20 @@ module _ {Gen T : Type 0} where
   ExchangeStep old p q true new = CanExchange (entry old) (link_map old) p q × IsExchange old new p.0 q.0
 
 module _ {P I Gen W : Type 0} (pointers : PointerKind P I Gen W) where
-  -- a kind by the indexes that it names
+  -- A kind by the indexes that it names.
   abbrev pub indexed_kind_of : InsertKindBody P I → InsertKind ℕ
   indexed_kind_of kind = indexed_kind pointers.key pointers.number kind
 
-  -- a link as an arena holds it, with a value of this type
+  -- A link as an arena stores it, with a value of this type.
   abbrev pub HeldLink : Type 0 → Type 0
   HeldLink T = LinkBody (PackedOption I W) T
 
   module _ {T : Type 0} where
-    -- a link of the kind may be inserted
+    -- A link of the kind may be inserted.
     abbrev pub MayInsertKind : Links Gen T → InsertKindBody P I → Type 0
     MayInsertKind old kind = MayInsertInto pointers.key pointers.number old kind
 
-    -- an insertion that may grow
+    -- An insertion that may grow.
     abbrev pub InsertStep : Links Gen T → InsertKindBody P I → T → Result P ChainInsertionError → Links Gen T → Type 0
     InsertStep old kind t (Err failed.FailedLinkRequirement) new = (MayInsertKind old kind → ⊥) × (new ≡ old)
     InsertStep old kind t (Err failed.BeyondMaxCapacity) new = MayInsertKind old kind × Refuses (entry_count old + 1) old refused.BeyondMaxCapacity × (new ≡ old)
@@ -64,7 +65,7 @@ module _ {P I Gen W : Type 0} (pointers : PointerKind P I Gen W) where
     InsertStep old kind t (Err failed.NotWithinCapacity) new = ⊥
     InsertStep old kind t (Ok p) new = MayInsertKind old kind × IsAdded pointers.key old (indexed_kind_of kind) t p new × GrowsToFit pointers.greatest (entry_count old + 1) old new
 
-    -- .. and one within the capacity
+    -- An insertion within the capacity.
     abbrev pub InsertWithinStep : Links Gen T → InsertKindBody P I → T → Result P ChainInsertionError → Links Gen T → Type 0
     InsertWithinStep old kind t (Err failed.FailedLinkRequirement) new = (MayInsertKind old kind → ⊥) × (new ≡ old)
     InsertWithinStep old kind t (Err failed.NotWithinCapacity) new = MayInsertKind old kind × (old.capacity ≤ entry_count old) × (new ≡ old)
@@ -72,19 +73,19 @@ module _ {P I Gen W : Type 0} (pointers : PointerKind P I Gen W) where
     InsertWithinStep old kind t (Err failed.AllocError) new = ⊥
     InsertWithinStep old kind t (Ok p) new = MayInsertKind old kind × (entry_count old < old.capacity) × IsAdded pointers.key old (indexed_kind_of kind) t p new × (new ≡ insert_as old (indexed_kind_of kind) t)
 
-    -- the link at an index is gone, and answered as it stood
+    -- The link at an index is removed, and returned as it was.
     pub record IsTaken (old : Links Gen T) (i : ℕ) (g : Gen) (link : HeldLink T) (new : Links Gen T) : Type 0 where
       pub stood : entry_at old i ≡ Some (g, link_view pointers.packed link)
       pub removal : IsRemoval pointers.following old i new
 
-    -- a removal, by pointer or by index
+    -- A removal, by pointer or by index.
     abbrev pub RemoveStep : Links Gen T → ℕ × Gen → InvalidationResult (HeldLink T) → Links Gen T → Type 0
     RemoveStep old p answer new = ReportsOverflow ((IsValid (entry old) p → ⊥) × (new ≡ old)) (pointers.wraps old.counter) (λ link. IsTaken old p.0 p.1 link new) answer
 
     abbrev pub RemoveInxStep : Links Gen T → ℕ → InvalidationResult (Gen × HeldLink T) → Links Gen T → Type 0
     RemoveInxStep old i answer new = ReportsOverflow ((entry old i ≡ None) × (new ≡ old)) (pointers.wraps old.counter) (λ e. IsTaken old i e.0 e.1 new) answer
 
-    -- a link has the next generation, with this pointer, and stays in its chain
+    -- A link has the next generation, with this pointer, and stays in its chain.
     abbrev pub IsRenewed : Links Gen T → ℕ × Gen → P → Links Gen T → Type 0
     IsRenewed old p q new =
         IsValid (entry old) p × (pointers.key q ≡ (p.0, pointers.following old.counter)) × (new ≡ renewed_at pointers.following old p.0) × (link_map new ≡ link_map old)
@@ -92,25 +93,25 @@ module _ {P I Gen W : Type 0} (pointers : PointerKind P I Gen W) where
     abbrev pub InvalidateStep : Links Gen T → ℕ × Gen → InvalidationResult P → Links Gen T → Type 0
     InvalidateStep old p answer new = ReportsOverflow ((IsValid (entry old) p → ⊥) × (new ≡ old)) (pointers.wraps old.counter) (λ q. IsRenewed old p q new) answer
 
-    -- a drain of a chain
+    -- A drain of a chain.
     abbrev pub DrainChainStep : Links Gen T → ℕ × Gen → ℕ → Option ℕ → Links Gen T → Type 0
     DrainChainStep old p take None new = (IsValid (entry old) p → ⊥) × (new ≡ old)
     DrainChainStep old p take (Some count) new = IsDrained pointers.following old p take count new
 
-    -- a growth to room for n
+    -- A growth to capacity for n links.
     abbrev pub ReserveStep : Links Gen T → ℕ → Result Unit ReallocationError → Links Gen T → Type 0
     ReserveStep old n (Err why) new = Refuses n old why × (new ≡ old)
     ReserveStep old n (Ok done) new = (new ≡ with_capacity_of old new) × GrowsToFit pointers.greatest n old new
 
-    -- the reply that tells whether the counter overflowed
+    -- The reply that reports whether the counter overflowed.
     abbrev pub overflow_reply : Bool → Reply P T I Gen W
     overflow_reply overflow = reply.Counted (invalidation_option overflow tt)
 
-    -- .. that of a compression
+    -- The reply to a compression.
     abbrev pub compression_reply : Links Gen T → Bool → Reply P T I Gen W
     compression_reply old reset = overflow_reply (overflows_after_compression pointers.wraps reset (entry_count old) old.counter)
 
-    -- a step of the machine: the reply to a call, and the arena after it
+    -- A step of the machine: the reply to a call, and the arena after it.
     abbrev pub Step : Links Gen T → Call P T I Gen W → Reply P T I Gen W → Links Gen T → Type 0
     Step old (call.Insert kind t) r new = (answer : Result P ChainInsertionError) × (r ≡ reply.Inserted answer) × InsertStep old kind t answer new
     Step old (call.InsertWithin kind t) r new = (answer : Result P ChainInsertionError) × (r ≡ reply.Inserted answer) × InsertWithinStep old kind t answer new
@@ -129,7 +130,7 @@ module _ {P I Gen W : Type 0} (pointers : PointerKind P I Gen W) where
     Step old (call.SetGeneration g) r new = (r ≡ reply.Set) × (new ≡ with_counter old g)
     Step old call.IncGeneration r new = (r ≡ overflow_reply (pointers.wraps old.counter)) × (new ≡ with_counter old (pointers.following old.counter))
 
-    -- steps one after another, one reply a call
+    -- Steps one after another, with one reply per call.
     abbrev pub Run : Links Gen T → List (Call P T I Gen W) → List (Reply P T I Gen W) → Links Gen T → Type 0
     Run old [] [] new = new ≡ old
     Run old (call ∷ calls) (reply ∷ replies) new = (between : Links Gen T) × Step old call reply between × Run between calls replies new

@@ -1,10 +1,12 @@
-//! A kind of pointers under one name, for contracts.
+//! A type of pointers under one name, for contracts.
 ghost use Rattle.chain_arena.specs.PointerKinds.{PointerKind};
 
 use arena_ptr::{GenKey, InxKey, PtrKey};
 
-/// The kind of a type of pointers, as the contracts of the chain machine name it: its `kind` is what they ask of a pointer,
-/// an index and a generation. Each `PtrKey` is one, and there is nothing to call.
+/// A type of pointers, as the contracts of the chain machine name it.
+///
+/// Its `kind` is what they need of a pointer, an index and a generation. Each `PtrKey` implements
+/// it.
 pub trait AnyPointer: PtrKey {
     ghost kind: { PointerKind Self Self.Inx Self.Gen Self.Inx.Word };
 }

@@ -1,4 +1,4 @@
-// The text of an arena of links.
+// The text of a chain arena.
 
 use crate::chain_arena::ChainArena;
 use arena_base::ArenaSlot;
@@ -6,7 +6,7 @@ use arena_ptr::{Ptr, PtrGen, PtrInx, SlotStack};
 use chain_links::LinkNoGen;
 use std::fmt;
 
-// A pointer by the name of its type, its index, and its generation where it has one.
+// A pointer by the name of its type, its index, and its generation if it has one.
 #[derive(Clone, Copy)]
 struct PtrText<P>(P);
 
@@ -21,8 +21,9 @@ impl<P: Ptr> fmt::Debug for PtrText<P> {
     }
 }
 
-/// All links by rising index, each with its pointer, as `{P0[1](2): {(start), (end)} "A"}`. In the alternate form each
-/// link has a line of its own, indented by four spaces.
+/// Formats all links in ascending index order, as `{P0[1](2): {(start), (end)} "A"}`.
+///
+/// In the alternate form each link is on its own line, indented by four spaces.
 impl<P: Ptr, T: fmt::Debug + Drop, S: SlotStack<Item = ArenaSlot<P, LinkNoGen<P, T>>>> fmt::Debug
     for ChainArena<P, T, S> {
     fn fmt<F: fmt::Write>(&self, f: &mut fmt::Formatter<F>) -> fmt::Result {

@@ -1,4 +1,4 @@
-// Calls on an arena of links as values, each with its reply, and lists of them.
+// Calls on a chain arena as values, their replies, and lists of them.
 ghost use Rattle.std.specs.Prelude.{◌≡◌, min, length, IfOk, OnErr, MatchResult};
 ghost use Rattle.chain_laws.specs.Neighbors.{HasOneSetOfChains};
 ghost use Rattle.chain_links.specs.ChainArena.{link_map};
@@ -18,21 +18,23 @@ use chain_links::{LinkInsertKind, LinkNoGen};
 use chain_traits::ChainArenaTrait;
 use std::alloc::Allocator;
 
-/// A call that may change an arena of links, with its arguments. Each is the call of the same name; `Insert` is
-/// `insert_reallocating`, `InsertWithin` is `insert_within_capacity`, and `Remove` and `RemoveInx` answer the link.
+/// A call that may change a chain arena, with its arguments.
+///
+/// Each variant is the call of its name. `Insert` is `insert_reallocating`, `InsertWithin` is
+/// `insert_within_capacity`, and `Remove` and `RemoveInx` return the link.
 #[derive(Drop)]
 pub enum Call<P: PtrKey, T> {
-    /// Adds a link of a kind. A full arena grows first.
+    /// Inserts a link of a kind; a full arena grows first.
     Insert { kind: LinkInsertKind<P>, t: T },
-    /// Adds a link of a kind within the capacity.
+    /// Inserts a link of a kind within the capacity.
     InsertWithin { kind: LinkInsertKind<P>, t: T },
-    /// Makes the second link the one after the first.
+    /// Connects the first link to the second.
     Connect(P, P),
-    /// Cuts a link apart from the one before it.
+    /// Disconnects a link from the link before it.
     BreakPrev(P),
-    /// Cuts a link apart from the one after it.
+    /// Disconnects a link from the link after it.
     BreakNext(P),
-    /// Exchanges what comes after two links.
+    /// Exchanges the next links of two links.
     ExchangeNext(P, P),
     /// Removes a link.
     Remove(P),
@@ -40,15 +42,16 @@ pub enum Call<P: PtrKey, T> {
     RemoveInx(P::Inx),
     /// Gives a link the next generation.
     Invalidate(P),
-    /// Takes so many links at most off a link's chain, in walk order from it, and removes the rest of it.
+    /// Removes a link's chain: up to `take` links one by one, in walk order from `p`, then the
+    /// rest.
     DrainChain { p: P, take: usize },
     /// Removes all links and slots.
     Clear,
-    /// Closes the gaps. With `true` the counter begins anew.
+    /// Closes the holes. With `true` the counter begins anew.
     Compress(bool),
-    /// Lays the chains one after another. With `true` the counter begins anew.
+    /// Compacts the chains, one after another. With `true` the counter begins anew.
     CompressCanonical(bool),
-    /// Grows to room for so many links.
+    /// Grows to capacity for the given number of links.
     Reserve(usize),
     /// Sets the counter.
     SetGeneration(P::Gen),
@@ -56,10 +59,10 @@ pub enum Call<P: PtrKey, T> {
     IncGeneration,
 }
 
-/// What a call answers.
+/// The reply to a call.
 #[derive(Drop)]
 pub enum Reply<P: PtrKey, T> {
-    /// Of an insertion: the pointer of the new link, or why there is none.
+    /// Of an insertion: the pointer of the new link, or the error.
     Inserted(Result<P, ChainInsertionError>),
     /// Of `Connect`, `BreakPrev`, `BreakNext` and `ExchangeNext`: whether it was done.
     Done(bool),
@@ -69,17 +72,19 @@ pub enum Reply<P: PtrKey, T> {
     RemovedInx(InvalidationResult<(P::Gen, LinkNoGen<P, T>)>),
     /// Of `Invalidate`: the link's new pointer.
     Renewed(InvalidationResult<P>),
-    /// Of `DrainChain`: how many links were taken. `None`: the pointer is not valid.
+    /// Of `DrainChain`: the number of links taken one by one, or `None` if the pointer is not
+    /// valid.
     Drained(Option<usize>),
-    /// Of `Clear`, `Compress`, `CompressCanonical` and `IncGeneration`: whether the counter overflowed.
+    /// Of `Clear`, `Compress`, `CompressCanonical` and `IncGeneration`: whether the counter
+    /// overflowed.
     Counted(InvalidationOption<()>),
-    /// Of `Reserve`: why the arena did not grow, if it did not.
+    /// Of `Reserve`: the error, if it failed.
     Reserved(Result<(), ReallocationError>),
     /// Of `SetGeneration`.
     Set,
 }
 
-/// Makes one call, and answers its reply.
+/// Makes one call and returns its reply.
 pub fn apply<P: PtrKey, T: Drop, S: SlotStack<Item = ArenaSlot<P, LinkNoGen<P, T>>>>(
     arena: &mut ChainArena<P, T, S>,
     call: Call<P, T>,
@@ -109,7 +114,6 @@ pub fn apply<P: PtrKey, T: Drop, S: SlotStack<Item = ArenaSlot<P, LinkNoGen<P, T
     }
 }
 
-// Adds a link of a kind. A full arena grows first.
 fn insert<P: PtrKey, T: Drop, S: SlotStack<Item = ArenaSlot<P, LinkNoGen<P, T>>>>(
     arena: &mut ChainArena<P, T, S>,
     kind: LinkInsertKind<P>,
@@ -117,12 +121,11 @@ fn insert<P: PtrKey, T: Drop, S: SlotStack<Item = ArenaSlot<P, LinkNoGen<P, T>>>
 ) -> Result<P, ChainInsertionError>
     ensures { InsertStep ⟦<P as AnyPointer>⟧.kind arena.old kind t result arena.new }
 {
-    // There are no more links than the capacity.
+    // There are at most as many links as the capacity.
     arena.invariants();
     arena.insert_reallocating(kind, t)
 }
 
-// Adds a link of a kind within the capacity.
 fn insert_within<P: PtrKey, T: Drop, S: SlotStack<Item = ArenaSlot<P, LinkNoGen<P, T>>>>(
     arena: &mut ChainArena<P, T, S>,
     kind: LinkInsertKind<P>,
@@ -130,12 +133,11 @@ fn insert_within<P: PtrKey, T: Drop, S: SlotStack<Item = ArenaSlot<P, LinkNoGen<
 ) -> Result<P, ChainInsertionError>
     ensures { InsertWithinStep ⟦<P as AnyPointer>⟧.kind arena.old kind t result arena.new }
 {
-    // There are no more links than the capacity.
+    // There are at most as many links as the capacity.
     arena.invariants();
     arena.insert_within_capacity(kind, t)
 }
 
-// Grows to room for so many links.
 fn reserve<P: PtrKey, T: Drop, S: SlotStack<Item = ArenaSlot<P, LinkNoGen<P, T>>>>(
     arena: &mut ChainArena<P, T, S>,
     n: usize,
@@ -147,7 +149,8 @@ fn reserve<P: PtrKey, T: Drop, S: SlotStack<Item = ArenaSlot<P, LinkNoGen<P, T>>
     grown
 }
 
-// Removes a pointer's chain, and answers how many of its links were taken one by one. `None`: the pointer is not valid.
+// Removes the chain of `p` and returns how many links were taken one by one. `None`: `p` is not
+// valid.
 fn drain<P: PtrKey, T: Drop, S: SlotStack<Item = ArenaSlot<P, LinkNoGen<P, T>>>>(
     arena: &mut ChainArena<P, T, S>,
     p: P,
@@ -165,7 +168,7 @@ fn drain<P: PtrKey, T: Drop, S: SlotStack<Item = ArenaSlot<P, LinkNoGen<P, T>>>>
     }
 }
 
-// Takes so many links of a chain at most, and answers how many it took.
+// Takes at most `take` links and returns how many it took.
 fn take_links<P: PtrKey, T: Drop, S: SlotStack<Item = ArenaSlot<P, LinkNoGen<P, T>>>>(
     links: &mut ChainDrain<'_, P, T, S>,
     take: usize,
@@ -187,10 +190,14 @@ fn take_links<P: PtrKey, T: Drop, S: SlotStack<Item = ArenaSlot<P, LinkNoGen<P, 
     count
 }
 
-/// Makes calls in their order, and answers their replies, one a call. A call that is refused changes nothing, its reply
-/// tells so, and the later calls are made.
+/// Makes calls in order and returns their replies, one per call.
 ///
-/// `AllocError`: memory for the replies was refused, before any call: nothing has changed.
+/// A call that fails changes nothing, its reply reports so, and the later calls are made.
+///
+/// # Errors
+///
+/// - `AllocError`: the allocation for the replies failed; no call was made, and nothing has
+///   changed.
 pub fn run_calls<
     P: PtrKey,
     T: Drop,
@@ -206,12 +213,11 @@ pub fn run_calls<
         (λ refused. arena.new ≡ arena.old) }
 {
     let replies = replies_to(alloc, arena, calls);
-    // Whatever was refused, the arena has one set of chains.
+    // With or without an error, the arena has one set of chains.
     arena.invariants();
     replies
 }
 
-// Makes calls in their order, and answers their replies.
 fn replies_to<P: PtrKey, T: Drop, S: SlotStack<Item = ArenaSlot<P, LinkNoGen<P, T>>>, A: Allocator>(
     alloc: A,
     arena: &mut ChainArena<P, T, S>,
@@ -232,11 +238,14 @@ fn replies_to<P: PtrKey, T: Drop, S: SlotStack<Item = ArenaSlot<P, LinkNoGen<P, 
     Ok(replies)
 }
 
-/// A run of the machine says no less than the calls do. An arena and a list of calls that need no growth determine the
-/// replies, and the arena after them but for how many slots were touched (`in_room`). So they do with growth, where each
-/// call leaves the same room (`by_room`). And where memory is refused to both or to neither, an arena and a call determine
-/// the reply, and the arena but for room and touches (`step`); where more links are asked for than the greatest index, they
-/// do so in any case.
+/// States that the chain machine leaves no more open than the calls do.
+///
+/// - `in_room`: an arena and calls that need no growth determine the replies, and the arena except
+///   for its count of touched slots.
+/// - `by_room`: so they do with growth, if each call leaves the same capacity.
+/// - `step`: an arena and a call determine the reply, and the arena except for its capacity and
+///   touches. This holds if memory is refused to both runs or to neither, or if more links are
+///   needed than the greatest index.
 pub fn runs_are_determined<P: PtrKey, T: Drop>()
     ensures in_room { RunIsDetermined ⟦<P as AnyPointer>⟧.kind T }
     ensures step { StepIsDetermined ⟦<P as AnyPointer>⟧.kind T }

@@ -1,4 +1,4 @@
-// An advancer along one chain, which borrows no arena.
+// An advancer along one chain that borrows no arena.
 ghost use Rattle.std.specs.Prelude.{◌≡◌, Some};
 
 use crate::chain_arena::ChainArena;
@@ -7,14 +7,17 @@ use arena_ptr::{PtrKey, SlotStack};
 use chain_linking::walk_step::step;
 use chain_links::LinkNoGen;
 
-/// Goes along one chain in walk order: from a link on to the end, and then from the link before it back to the start; a
-/// cyclic chain once round. Each call is handed the arena anew, which may have changed: an answer is always valid in it,
-/// there are no more answers than there were links when the advancer was made, and after `None` there is only `None`.
+/// An advancer along one chain, in walk order.
 ///
-/// Made by `ChainArenaTrait::advancer_chain`. Carries `ChainPtrAdvancer` of `triple_arena`.
+/// It goes from a link to the end, then from the link before it back to the start; a cyclic chain
+/// once around. The arena may change between calls: each returned pointer is valid in the arena of
+/// its call. There are at most as many as there were links when the advancer was made, and only
+/// `None` after `None`.
+///
+/// Made by `ChainArenaTrait::advancer_chain`. Port of `ChainPtrAdvancer`.
 #[derive(Drop)]
 pub struct ChainPtrAdvancer<P: PtrKey> {
-    // No more answers than this.
+    // The most pointers still returned.
     left: usize,
     start: P::Inx,
     forth: Option<P::Inx>,
@@ -22,7 +25,7 @@ pub struct ChainPtrAdvancer<P: PtrKey> {
 }
 
 impl<P: PtrKey> ChainPtrAdvancer<P> {
-    // An advancer that stands before the link at `start`, behind which `back` stands.
+    // Returns an advancer whose next link is at `start`, with the link at `back` before it.
     pub(crate) fn new(left: usize, start: P::Inx, back: Option<P::Inx>) -> Self
         ensures left { result.left ≡ left }
         ensures start { result.start ≡ start }

@@ -33,10 +33,13 @@ use chain_links::{LinkInsertKind, LinkNoGen};
 use std::alloc::Allocator;
 use std::marker::Model;
 
-/// Links under typed pointers with generations, tied into many separate doubly linked chains, linear or cyclic.
+/// A generational arena whose entries are linked into any number of doubly linked chains, linear or
+/// cyclic.
 ///
-/// Carries `ChainArena` of `triple_arena`. Its invariant is local: the interlinks agree. That every link then stands
-/// in exactly one chain is a law of the crate `chain_laws`.
+/// Pointers are typed and carry a generation. The invariant is local: the interlinks agree. That
+/// each link is then in exactly one chain is a law of the crate `chain_laws`.
+///
+/// Port of `triple_arena::ChainArena`.
 #[derive(Drop)]
 pub struct ChainArena<
     P: PtrKey,
@@ -62,7 +65,10 @@ impl<P: PtrKey, T: Drop, S: SlotStack<Item = ArenaSlot<P, LinkNoGen<P, T>>>> Mod
 }
 
 impl<P: PtrKey, T: Drop, S: SlotStack<Item = ArenaSlot<P, LinkNoGen<P, T>>>> ChainArena<P, T, S> {
-    /// The links of a pointer's chain in walk order, each once. `None`: the pointer is not valid.
+    /// Returns an iterator over the links of the chain of `p` in walk order, each once, or `None`
+    /// if `p` is not valid.
+    ///
+    /// Port of `ChainArenaTrait::iter_chain`.
     pub fn iter_chain(&self, p: P) -> Option<ChainIter<'_, P, T, S>>
         ensures some { IsSome result ↔ IsValid (entry self.now) (P.key p) }
         ensures walk { IfSome result (IsWalkOf self.now (P.key p).0) }
@@ -74,8 +80,9 @@ impl<P: PtrKey, T: Drop, S: SlotStack<Item = ArenaSlot<P, LinkNoGen<P, T>>>> Cha
         }
     }
 
-    /// Shows what holds of every chain arena. It has no effect: a function calls it where its proof needs one of these
-    /// facts.
+    /// States what holds in every chain arena.
+    ///
+    /// Has no effect; a function calls it where its proof needs one of these facts.
     pub fn invariants(&self)
         ensures agree { IsWellLinked (link_map self.now) }
         ensures one { HasOneSetOfChains (link_map self.now) }
@@ -94,7 +101,8 @@ impl<P: PtrKey, T: Drop, S: SlotStack<Item = ArenaSlot<P, LinkNoGen<P, T>>>> Cha
         self.len();
     }
 
-    // The gap of a kind. `None`: what the kind asks is not met.
+    // Returns the insertion position of a kind, or `None` if the requirement of the kind is not
+    // met.
     #[inline(always)]
     pub(crate) fn gap_for(&self, kind: LinkInsertKind<P>) -> Option<InsertPosition<P::Inx>>
         ensures gap { IsPositionOf P.Inx.number (entry self.now) (link_map self.now)
@@ -104,7 +112,6 @@ impl<P: PtrKey, T: Drop, S: SlotStack<Item = ArenaSlot<P, LinkNoGen<P, T>>>> Cha
         gap_of(&self.arena, by_names(kind))
     }
 
-    // Takes the link at an index out, as each removal does.
     pub(crate) fn unlink(&mut self, i: P::Inx) -> InvalidationResult<(P::Gen, LinkNoGen<P, T>)>
         ensures answer { option_map (pair_view P.Inx.packed_number) (value_within result)
             ≡ entry_at self.old (P.Inx.number i) }
@@ -118,7 +125,9 @@ impl<P: PtrKey, T: Drop, S: SlotStack<Item = ArenaSlot<P, LinkNoGen<P, T>>>> Cha
         take_out(&mut self.arena, i)
     }
 
-    /// The counter: the generation of the next link.
+    /// Returns the counter: the generation of the next link.
+    ///
+    /// Port of `ChainArena::generation`.
     pub fn generation(&self) -> P::Gen
         ensures { result ≡ self.now.counter }
     {
@@ -126,13 +135,17 @@ impl<P: PtrKey, T: Drop, S: SlotStack<Item = ArenaSlot<P, LinkNoGen<P, T>>>> Cha
     }
 
     /// Sets the counter.
+    ///
+    /// Port of `ChainArena::set_generation`.
     pub fn set_generation(&mut self, generation: P::Gen)
         ensures { self.new ≡ with_counter self.old generation }
     {
         self.arena.set_generation(generation);
     }
 
-    /// Increments the counter. `GenerationOverflow`: it was at its greatest, and is two now.
+    /// Increments the counter, and returns `GenerationOverflow` if it wrapped to two.
+    ///
+    /// Port of `ChainArena::inc_generation`.
     pub fn inc_generation(&mut self) -> InvalidationOption<()>
         ensures overflow { result ≡ invalidation_option (P.Gen.wraps self.old.counter) tt }
         ensures after { self.new ≡ with_counter self.old (P.Gen.following self.old.counter) }
@@ -140,12 +153,11 @@ impl<P: PtrKey, T: Drop, S: SlotStack<Item = ArenaSlot<P, LinkNoGen<P, T>>>> Cha
         self.arena.inc_generation()
     }
 
-    /// Lays the chains one after another from index 1 on, as `compress_canonical` does, and shows each link to the
-    /// visitor, once, by rising new index: by the pointer that it had, and the one that it has then. Answers whether the
-    /// counter overflowed, the visitor, which has seen the links and nothing else and is ready for more, and the work. It takes no
-    /// memory.
+    /// Compacts the chains as `compress_canonical` does, and reports each link to a visitor.
     ///
-    /// `GenerationOverflow`: the counter was at its greatest, and is two now.
+    /// The visitor sees the old and the new pointer of each link once, by ascending new index, and
+    /// nothing else. It is returned, ready for more, with the work. Does not allocate. Returns
+    /// `GenerationOverflow` if the counter wrapped to two.
     pub fn compress_canonical_by<V: Visitor<P>>(
         &mut self,
         reset: bool,
@@ -172,10 +184,10 @@ impl<P: PtrKey, T: Drop, S: SlotStack<Item = ArenaSlot<P, LinkNoGen<P, T>>>> Cha
         (overflow, visitor, work)
     }
 
-    /// Lays the chains one after another from index 1 on, as by `compress_canonical_by`, and shows each link to the closure,
-    /// by rising new index: by the pointer that it had, and the one that it has then. It takes no memory.
+    /// Compacts the chains as `compress_canonical_by` does, and reports each link to a closure.
     ///
-    /// `GenerationOverflow`: the counter was at its greatest, and is two now.
+    /// The closure sees the old and the new pointer of each link, by ascending new index. Does not
+    /// allocate.
     pub fn compress_canonical_with<F: FnMut(P, P) + Drop>(
         &mut self,
         reset: bool,
@@ -198,12 +210,15 @@ impl<P: PtrKey, T: Drop, S: SlotStack<Item = ArenaSlot<P, LinkNoGen<P, T>>>> Cha
         overflow
     }
 
-    /// `compress_canonical`, which answers the pointers that each link had and has, by rising new index: its value has moved
-    /// from the one, which was valid, to the other, which is, and no others were or are valid. The room for them is taken
-    /// first.
+    /// Compacts the chains as `compress_canonical` does, and returns the old and the new pointer of
+    /// each link, by ascending new index.
     ///
-    /// `AllocError`: memory for the pointers was refused, and nothing has changed. `GenerationOverflow`: the counter was at
-    /// its greatest, and is two now.
+    /// Each value has moved from its old pointer, which was valid, to its new pointer, which is. No
+    /// other pointer was or is valid. The list is allocated first.
+    ///
+    /// # Errors
+    ///
+    /// - `AllocError`: the allocation of the list failed; nothing has changed.
     pub fn compress_canonical_moves<A: Allocator>(
         &mut self,
         alloc: A,
@@ -227,10 +242,10 @@ impl<P: PtrKey, T: Drop, S: SlotStack<Item = ArenaSlot<P, LinkNoGen<P, T>>>> Cha
         Ok((overflow, listing.moves))
     }
 
-    /// `compress_canonical` with its work: how many links were placed, which is how many there are, and how many slots were
-    /// looked at, at most four times as many as there were slots and twelve times as many as there are links.
+    /// Compacts the chains as `compress_canonical` does, and returns the work.
     ///
-    /// `GenerationOverflow`: the counter was at its greatest, and is two now.
+    /// Each link is placed once. The slots are touched at most four times per old slot plus twelve
+    /// times per link.
     pub fn compress_canonical_counted(&mut self, reset: bool) -> (InvalidationOption<()>, Work)
         ensures canonical { IsCanonicalLayout P.Gen.first P.Gen.following reset
             (value_view self.old)
@@ -252,7 +267,9 @@ impl<P: PtrKey, T: Drop, S: SlotStack<Item = ArenaSlot<P, LinkNoGen<P, T>>>> Cha
         (overflow, work)
     }
 
-    /// The slots.
+    /// Returns the stack of slots.
+    ///
+    /// Port of `ChainArena::backing`.
     pub fn backing(&self) -> &S
         ensures slots { map (option_map (pair_view P.Inx.packed_number))
             (map entry_of (S.items result.now)) ≡ self.now.slots }
@@ -271,7 +288,12 @@ impl<P: PtrKey, T: Drop, S: LimitStack<Item = ArenaSlot<P, LinkNoGen<P, T>>>> Se
 
     ghost limits = { λ a n b. b ≡ with_maximum a n };
 
-    /// Sets the maximum to `n`. Refused exactly if `n` is below the capacity of the stack, and then nothing changes.
+    /// Sets the maximum to `n`.
+    ///
+    /// # Errors
+    ///
+    /// - `MaxCapacityReductionError`: exactly if `n` is below the capacity of the stack; nothing
+    ///   changes.
     fn set_max_capacity(&mut self, n: usize) -> Result<(), MaxCapacityReductionError> {
         self.arena.set_max_capacity(n)
     }

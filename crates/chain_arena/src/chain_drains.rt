@@ -1,4 +1,4 @@
-// The removal of a whole chain, link by link.
+// The removal of one chain, link by link.
 ghost use Rattle.std.specs.Prelude.{◌≡◌, ◌↔◌, [], length, IsSome, IfSome, IfNone};
 ghost use Rattle.std.specs.Borrow.{RestsIfNone, sem};
 ghost use Rattle.std.specs.Option.{option_map};
@@ -20,13 +20,13 @@ use chain_links::LinkNoGen;
 use chain_links::walk_direction::going_on;
 use chain_traits::ChainArenaTrait;
 
-/// The removal of a chain: an iterator that removes each link as it yields it, in walk order. A link comes with its
-/// pointer and with the interlinks that it has at its own removal. `GenerationOverflow`: the counter was at its
-/// greatest then, and is two now.
+/// A draining iterator over one chain, which removes each link as it yields it, in walk order.
 ///
-/// Dropped, it removes the links that are left. Every other chain stays, item for item.
+/// It yields a link's pointer, and the link with the interlinks that it has at its own removal; as
+/// `GenerationOverflow` if the counter wrapped to two. Dropping it removes the links that are left.
+/// Every other chain stays, item for item.
 ///
-/// Carries `ChainDrain` of `triple_arena`.
+/// Port of `ChainDrain`.
 pub struct ChainDrain<
     'a,
     P: PtrKey,
@@ -34,17 +34,17 @@ pub struct ChainDrain<
     S: SlotStack<Item = ArenaSlot<P, LinkNoGen<P, T>>> = HeapStack<ArenaSlot<P, LinkNoGen<P, T>>>,
 > {
     arena: &'a mut ChainArena<P, T, S>,
-    // The index of the next link to go, 0 for none.
+    // The index of the next link to remove, 0 for none.
     at: usize,
 }
 
 impl<P: PtrKey, T: Drop, S: SlotStack<Item = ArenaSlot<P, LinkNoGen<P, T>>>> ChainArena<P, T, S> {
     ghost use Rattle.chain_arena.specs.contracts.chain_arena.ChainArena.{the_row as arena_row};
 
-    /// The removal of a pointer's chain, in walk order from its link. `None`: the pointer is not valid, and nothing has
-    /// changed.
+    /// Returns a draining iterator over the chain of `p`, in walk order from `p`, or `None` if `p`
+    /// is not valid; nothing has changed then.
     ///
-    /// Carries `drain_chain` of `triple_arena`.
+    /// Port of `ChainArenaTrait::drain_chain`.
     pub fn drain_chain(&mut self, p: P) -> Option<ChainDrain<'_, P, T, S>>
         ensures* unchanged_at_none { sem 𝓛 (RestsIfNone
             (arena_row P.row T.row S.row P.Inx.row P.Gen.row P.Inx.Word.row
@@ -65,17 +65,17 @@ impl<P: PtrKey, T: Drop, S: SlotStack<Item = ArenaSlot<P, LinkNoGen<P, T>>>> Cha
         Some(ChainDrain { arena: self, at })
     }
 
-    // The index of a number. `None`: no link stands there.
+    // Returns the index of a number. If it is `None`, no link is there.
     fn index_at(&self, at: usize) -> Option<P::Inx>
         ensures some { IfSome result (λ i. P.Inx.number i ≡ at) }
         ensures none { IfNone result (walk_left self.now at ≡ []) }
     {
-        // There are no more slots than indexes.
+        // There are at most as many slots as indexes.
         self.invariants();
         P::Inx::try_from_usize(at)
     }
 
-    // Removes the link at a number, and answers it with the number of the one that its walk goes on to.
+    // Removes the link at a number, and returns it after the number of its walk's next link.
     fn drain_at(&mut self, at: usize) -> Option<(usize, InvalidationOption<(P, LinkNoGen<P, T>)>)>
         ensures none { IfNone result ((walk_left self.old at ≡ []) × (self.new ≡ self.old)) }
         ensures some { IfSome result
@@ -96,7 +96,6 @@ impl<P: PtrKey, T: Drop, S: SlotStack<Item = ArenaSlot<P, LinkNoGen<P, T>>>> Cha
         }
     }
 
-    // Removes the links of the walk from a number.
     fn drain_from(&mut self, from: usize)
         ensures state { self.new ≡ without_each P.Gen.following self.old (walk_left self.old from) }
         ensures taken { TakesWalk (link_map self.old) (link_map self.new)
@@ -112,7 +111,8 @@ impl<P: PtrKey, T: Drop, S: SlotStack<Item = ArenaSlot<P, LinkNoGen<P, T>>>> Cha
     }
 }
 
-// What a drain yields of an entry that was taken out of an index, behind the number of the link that the walk goes on to.
+// Returns the item that a drain yields for a removed entry, after the number of the walk's next
+// link.
 fn yielded<P: PtrKey, T>(
     i: P::Inx,
     entry: (P::Gen, LinkNoGen<P, T>),
@@ -131,7 +131,8 @@ fn yielded<P: PtrKey, T>(
     (number_or_zero(next), invalidated(overflow, (p, link)))
 }
 
-// Where a walk goes on whose first link is removed: to the link after it, or else to the one before it.
+// Returns the next link of a walk whose first link is removed: the link after it, or else the link
+// before it.
 fn goes_on_to<I: InxKey>(i: I, prev: Option<I>, next: Option<I>) -> Option<I>
     ensures { option_map I.number result ≡ rest_start (I.number i) (option_map I.number prev)
         (option_map I.number next) }
@@ -183,8 +184,8 @@ impl<'a, P: PtrKey, T: Drop, S: SlotStack<Item = ArenaSlot<P, LinkNoGen<P, T>>>>
     }
 }
 
-/// States that a drain of a chain gives the walk before it: once nothing is left, the items it has yielded have the indexes
-/// of that walk, in order, and pointers that were valid before the drain.
+/// States that a complete drain yields the walk before it: the items have its indexes, in order,
+/// and pointers that were valid before.
 pub fn drain_gives_the_walk<P: PtrKey, T: Drop>()
     ensures { DrainGivesTheWalk T P.key P.Inx.packed_number P.Gen.following P.Gen.wraps }
 {}

@@ -1,3 +1,4 @@
+// An iterator over the links of one chain.
 ghost use Rattle.std.specs.Prelude.{◌≡◌, Some};
 ghost use Rattle.std.specs.Option.{option_map};
 ghost use Rattle.std.specs.Iterator.{YieldsFirstBy, item_count};
@@ -13,10 +14,12 @@ use chain_linking::walk_step::look;
 use chain_links::LinkNoGen;
 use std::marker::Model;
 
-/// The links of one chain in walk order, each with its pointer: from a link on to the end, and then from the link
-/// before it back to the start; a cyclic chain once round.
+/// An iterator over the links of one chain in walk order, each with its pointer.
 ///
-/// Made by `ChainArena::iter_chain`. Stands for the `impl Iterator` of `triple_arena`'s `iter_chain`.
+/// It goes from a link to the end, then from the link before it back to the start; a cyclic chain
+/// once around.
+///
+/// Made by `ChainArena::iter_chain`. Port of the iterator of `ChainArenaTrait::iter_chain`.
 #[derive(Drop)]
 pub struct ChainIter<
     'a,
@@ -29,7 +32,7 @@ pub struct ChainIter<
     forth: Option<P::Inx>,
     back: Option<P::Inx>,
 
-    // No more steps than this.
+    // The most steps still made.
     left: usize,
 }
 
@@ -59,7 +62,7 @@ impl<'a, P: PtrKey, T: Drop, S: SlotStack<Item = ArenaSlot<P, LinkNoGen<P, T>>>>
     T,
     S,
 > {
-    // A walker that stands before the link at `start`, behind which `back` stands.
+    // Returns an iterator whose next link is at `start`, with the link at `back` before it.
     pub(crate) fn new(
         arena: &'a Arena<P, LinkNoGen<P, T>, S>,
         start: P::Inx,
@@ -99,7 +102,7 @@ impl<'a, P: PtrKey, T: Drop, S: SlotStack<Item = ArenaSlot<P, LinkNoGen<P, T>>>>
                 Some(item) => {
                     self.left -= 1;
                     self.forth = item.1.next();
-                    // It has come round.
+                    // The iterator is once around.
                     if is_index(self.forth, self.start) {
                         self.left = 0;
                     }

@@ -14,7 +14,7 @@ use arena_ptr::{AllocError, InxKey, PackedOption, PtrKey, ReallocationError, Slo
 use chain_links::{LinkBody, LinkNoGen};
 use std::alloc::Global;
 
-// Makes the links of a copy: each names the same neighbors, and has a value that the map makes.
+// Makes the links of a copy, with the same neighbors and a value that the map makes.
 #[derive(Drop)]
 struct LinkMapper<M> {
     values: M,
@@ -51,12 +51,19 @@ impl<
 }
 
 impl<P: PtrKey, T: Drop, S: SlotStack<Item = ArenaSlot<P, LinkNoGen<P, T>>>> ChainArena<P, T, S> {
-    /// Becomes a copy of the source: its indexes, generations, counter, number of slots, freed list and interlinks, with
-    /// values that the map makes. It is shown each link of the source once, by rising index, and handed back, ready for
-    /// more. The links that stood here are dropped. It grows only where the source has more slots than the capacity.
+    /// Makes this arena a copy of `source`, with values that the map makes.
     ///
-    /// `BeyondMaxCapacity`: the source has more slots than the maximum, which is tested first. `AllocError`: memory was
-    /// refused. After either nothing has changed, and the map was shown nothing; but where the memory was refused for a
+    /// Copies the indexes, generations, counter, number of slots, freed list and interlinks; the
+    /// old links are dropped. The map sees each link of `source` once, in ascending index order,
+    /// and is returned, ready for more. The arena grows only if `source` has more slots than the
+    /// capacity.
+    ///
+    /// # Errors
+    ///
+    /// - `BeyondMaxCapacity`: `source` has more slots than the maximum.
+    /// - `AllocError`: an allocation failed.
+    ///
+    /// On error nothing has changed and the map has seen nothing; but if the allocation was for a
     /// value, the arena is left without links and slots.
     pub fn clone_from_by<
         U: Drop,
@@ -90,13 +97,19 @@ impl<P: PtrKey, T: Drop, S: SlotStack<Item = ArenaSlot<P, LinkNoGen<P, T>>>> Cha
         (done, links.values)
     }
 
-    /// Becomes a copy of the source, as by `clone_from_by`, with the closure's answers as values. The closure sees each link
-    /// of the source by rising index.
+    /// Makes this arena a copy of `source`, as `clone_from_by` does, with the values that a closure
+    /// returns.
     ///
-    /// `BeyondMaxCapacity`: the source has more slots than the maximum, which is tested first. `AllocError`: memory was
-    /// refused. After either nothing has changed.
+    /// The closure sees the links in ascending index order.
     ///
-    /// Carries `clone_from_with` of `triple_arena`.
+    /// # Errors
+    ///
+    /// - `BeyondMaxCapacity`: `source` has more slots than the maximum.
+    /// - `AllocError`: an allocation failed.
+    ///
+    /// On error nothing has changed.
+    ///
+    /// Port of `ChainArena::clone_from_with`.
     pub fn clone_from_with<
         U: Drop,
         S1: SlotStack<Item = ArenaSlot<P, LinkNoGen<P, U>>>,
@@ -120,13 +133,19 @@ impl<P: PtrKey, T: Drop, S: SlotStack<Item = ArenaSlot<P, LinkNoGen<P, T>>>> Cha
         done
     }
 
-    /// Makes any arena a copy: with the indexes, generations, counter, number of slots and freed list of this one, and
-    /// values that the map makes. It is shown each link once, by rising index, and handed back, ready for more. What the
-    /// arena held is dropped. It grows only where there are more slots than its capacity.
+    /// Makes any arena a copy of this one, with values that the map makes.
     ///
-    /// `BeyondMaxCapacity`: there are more slots than its maximum, which is tested first. `AllocError`: memory was
-    /// refused. After either nothing has changed, and the map was shown nothing; but where the memory was refused for a
-    /// value, that arena is left without entries and slots.
+    /// Copies the indexes, generations, counter, number of slots and freed list; the old entries
+    /// are dropped. The map sees each link once, in ascending index order, and is returned, ready
+    /// for more. `arena` grows only if there are more slots than its capacity.
+    ///
+    /// # Errors
+    ///
+    /// - `BeyondMaxCapacity`: there are more slots than the maximum of `arena`.
+    /// - `AllocError`: an allocation failed.
+    ///
+    /// On error nothing has changed and the map has seen nothing; but if the allocation was for a
+    /// value, `arena` is left without entries and slots.
     pub fn clone_to_arena_by<
         U: Drop,
         A: ArenaCloneFromWith<P, U>,
@@ -156,13 +175,19 @@ impl<P: PtrKey, T: Drop, S: SlotStack<Item = ArenaSlot<P, LinkNoGen<P, T>>>> Cha
         arena.clone_from_by(&self.arena, values)
     }
 
-    /// Makes any arena a copy, as by `clone_to_arena_by`, with the closure's answers as values. The closure sees each link
-    /// by rising index.
+    /// Makes any arena a copy of this one, as `clone_to_arena_by` does, with the values that a
+    /// closure returns.
     ///
-    /// `BeyondMaxCapacity`: there are more slots than its maximum, which is tested first. `AllocError`: memory was
-    /// refused. After either nothing has changed.
+    /// The closure sees the links in ascending index order.
     ///
-    /// Carries `clone_to_arena` of `triple_arena`.
+    /// # Errors
+    ///
+    /// - `BeyondMaxCapacity`: there are more slots than the maximum of `arena`.
+    /// - `AllocError`: an allocation failed.
+    ///
+    /// On error nothing has changed.
+    ///
+    /// Port of `ChainArena::clone_to_arena`.
     pub fn clone_to_arena<
         U: Drop,
         A: ArenaCloneFromWith<P, U>,
@@ -188,7 +213,7 @@ impl<P: PtrKey, T: Drop, S: SlotStack<Item = ArenaSlot<P, LinkNoGen<P, T>>>> Cha
     }
 }
 
-// Makes the links of a copy: each names the same neighbors, and has a clone as its value.
+// Makes the links of a copy, with the same neighbors and a cloned value.
 #[derive(Drop)]
 struct LinkClones;
 
@@ -209,13 +234,19 @@ impl<P: PtrKey, T: Clone> ValueMap<P, LinkNoGen<P, T>, LinkNoGen<P, T>> for Link
 }
 
 impl<P: PtrKey, T: Clone, S: SlotStack<Item = ArenaSlot<P, LinkNoGen<P, T>>>> ChainArena<P, T, S> {
-    /// A copy over a new stack that is made with the allocator: its indexes, generations, counter, freed list and
-    /// interlinks, and clones of its values, which are to equal them. A maximum is not carried over.
+    /// Returns a copy over a new stack that is made with `alloc`.
     ///
-    /// `BeyondMaxCapacity`: there are more slots than the maximum that a new stack has, which is tested first.
-    /// `AllocError`: memory was refused, for the slots or by the clone of a value. After either nothing is left of the copy.
+    /// It has the same indexes, generations, counter, freed list and interlinks, and clones of the
+    /// values, which have to equal them. A maximum is not copied.
     ///
-    /// Carries `clone` of `triple_arena`.
+    /// # Errors
+    ///
+    /// - `BeyondMaxCapacity`: there are more slots than the maximum of a new stack.
+    /// - `AllocError`: an allocation failed, for the slots or in the clone of a value.
+    ///
+    /// On error nothing is left of the copy.
+    ///
+    /// Port of `ChainArena::clone`.
     pub fn clone(&self, alloc: Global) -> Result<Self, ReallocationError>
         requires clones_equal { (x y : T) → T.is_clone x y → y ≡ x }
         ensures beyond { (result ≡ Err ReallocationError.BeyondMaxCapacity)

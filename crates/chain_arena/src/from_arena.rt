@@ -1,4 +1,4 @@
-// A chain arena made of an arena of links.
+// A chain arena from an arena of links.
 ghost use Rattle.std.specs.Prelude.{◌≡◌, ◌↔◌, IsOk, IfOk, IfErr, codes};
 ghost use Rattle.chain_laws.specs.Chains.{IsWellLinked};
 ghost use Rattle.chain_links.specs.ChainArena.{link_map};
@@ -11,13 +11,17 @@ use chain_linking::links_agree;
 use chain_links::LinkNoGen;
 
 impl<P: PtrKey, T: Drop, S: SlotStack<Item = ArenaSlot<P, LinkNoGen<P, T>>>> ChainArena<P, T, S> {
-    /// A chain arena of an arena of links, with the same indexes, generations, counter, slots, freed list and interlinks.
-    /// It takes no memory. No clause tells its time: as it is written, that is in proportion to the slots.
+    /// Converts an arena of links to a chain arena.
     ///
-    /// `interlink transitivity does not hold`: the interlinks do not agree, as `links_agree` says, and the arena is
-    /// dropped.
+    /// Indexes, generations, counter, slots, freed list and interlinks stay. Does not allocate.
+    /// Takes time proportional to the slots, which is not proved.
     ///
-    /// Carries `from_arena` of `triple_arena`.
+    /// # Errors
+    ///
+    /// - `interlink transitivity does not hold`: the interlinks do not agree (`links_agree`); the
+    ///   arena is dropped.
+    ///
+    /// Port of `ChainArena::from_arena`.
     pub fn from_arena(arena: Arena<P, LinkNoGen<P, T>, S>) -> Result<Self, &'static str>
         ensures decides { IsOk result
             ↔ IsWellLinked (link_map (links_view P.Inx.packed_number arena)) }

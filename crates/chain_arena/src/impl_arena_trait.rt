@@ -1,4 +1,4 @@
-// A chain arena as an arena of values.
+// The implementation of `ArenaTrait`: a chain arena as an arena of values.
 ghost use Rattle.std.specs.Prelude.{◌≡◌, ◌≤◌, ◌<◌, ◌+◌, ◌^◌, length, All, IfSome};
 ghost use Rattle.std.specs.Option.{option_map};
 ghost use Rattle.arena_ptr.specs.Invalidation.{value_within, is_overflow_result};
@@ -81,8 +81,10 @@ impl<P: PtrKey, T: Drop, S: SlotStack<Item = ArenaSlot<P, LinkNoGen<P, T>>>> Are
         self.arena.max_capacity()
     }
 
-    /// How many links there are. Each of them stands in exactly one chain, at one place, and no two sets of chains
-    /// say what the arena shows.
+    /// Returns the number of links.
+    ///
+    /// Each is in exactly one chain, at one position, and no two sets of chains have these
+    /// interlinks.
     fn len(&self) -> usize
         ensures count { result ≡ length (value_view self.now).entries }
         ensures fits { result ≤ (value_view self.now).capacity }
@@ -94,7 +96,7 @@ impl<P: PtrKey, T: Drop, S: SlotStack<Item = ArenaSlot<P, LinkNoGen<P, T>>>> Are
         ensures links { result ≡ entry_count self.now }
         ensures chains { HasOneSetOfChains (link_map self.now) }
 
-        // The slots, the freed list and the room, in every arena.
+        // The slots, the freed list and the capacity, in every arena.
         ensures listed { IsListed self.now }
         ensures room { HasCapacityFor P.Inx.greatest (length self.now.slots) self.now }
     {
@@ -183,7 +185,7 @@ impl<P: PtrKey, T: Drop, S: SlotStack<Item = ArenaSlot<P, LinkNoGen<P, T>>>> Are
         self.arena.clear()
     }
 
-    /// Closes the gaps, as in every arena; each link names the new indexes of its neighbors, so that each chain stays.
+    /// Closes the holes; each link gets the new indexes of its neighbors, so that each chain stays.
     fn compress_with<F: FnMut(P, &mut T, P) + Drop>(
         &mut self,
         reset: bool,
@@ -228,7 +230,7 @@ impl<P: PtrKey, T: Drop, S: SlotStack<Item = ArenaSlot<P, LinkNoGen<P, T>>>> Adv
     }
 }
 
-// The answer of a removal without the generation and the interlinks.
+// Returns a removed value without the generation and the interlinks.
 pub(crate) fn value_alone<G: Drop, I: Vacant, T>(
     removed: InvalidationResult<(G, LinkBody<I, T>)>,
 ) -> InvalidationResult<T>
@@ -244,7 +246,7 @@ pub(crate) fn value_alone<G: Drop, I: Vacant, T>(
     }
 }
 
-// The answer of a removal without the interlinks.
+// Returns a removed value without the interlinks.
 pub(crate) fn value_with_generation<G, I: Vacant, T>(
     removed: InvalidationResult<(G, LinkBody<I, T>)>,
 ) -> InvalidationResult<(G, T)>

@@ -1,4 +1,4 @@
-// A chain arena as an arena of links.
+// The implementation of `ChainArenaTrait`: a chain arena as an arena of links.
 ghost use Rattle.std.specs.Prelude.{◌≡◌, ◌≢◌, ◌↔◌, ◌<◌, ◌+◌, ◌⊎◌, length, IsTrue, IsSome, IfSome, OnSome, IfNone, IfOk, IsErr, IfErr, OnOk, OnErr, Err, None, Some};
 ghost use Rattle.std.specs.Option.{option_map};
 ghost use Rattle.arena_ptr.specs.Invalidation.{value_within, is_overflow_result, invalidation_option, invalidation_result};
@@ -69,7 +69,7 @@ impl<P: PtrKey, T: Drop, S: SlotStack<Item = ArenaSlot<P, LinkNoGen<P, T>>>> Cha
         self.gap_for(kind).is_some()
     }
 
-    // Inlined, an insertion whose kind is known where it is called has the arm of that kind alone; so the next two, too.
+    // Inlined, as the next two, so that an insertion of a known kind has only that kind's branch.
     #[inline(always)]
     fn insert_within_capacity(
         &mut self,
@@ -382,7 +382,7 @@ impl<P: PtrKey, T: Drop, S: SlotStack<Item = ArenaSlot<P, LinkNoGen<P, T>>>> Cha
     }
 }
 
-// What the growth answers that an insertion asked for, whose links were as its kind asks.
+// Returns the result of the growth for an insertion whose kind had its requirement met.
 fn growth_of<P: Drop>(inserted: Result<P, ChainInsertionError>) -> Result<P, ReallocationError>
     ensures { result ≡ growth_of inserted }
 {
@@ -393,7 +393,7 @@ fn growth_of<P: Drop>(inserted: Result<P, ChainInsertionError>) -> Result<P, Rea
     }
 }
 
-// The answer of a removal without the generation.
+// Returns a removed link without the generation.
 pub(crate) fn link_alone<G: Drop, L>(removed: InvalidationResult<(G, L)>) -> InvalidationResult<L>
     ensures value { value_within result ≡ option_map (λ e. e.1) (value_within removed) }
     ensures overflow { is_overflow_result result ≡ is_overflow_result removed }

@@ -1,4 +1,4 @@
-// The links of pointers and indexes that are known to be valid.
+// Access to links by pointers and indexes that are known to be valid.
 ghost use Rattle.std.specs.Prelude.{◌≡◌, IsSome, Some};
 ghost use Rattle.std.specs.Option.{option_map};
 ghost use Rattle.std.specs.Borrow.{Lends, sem};
@@ -14,9 +14,9 @@ use std::ops::{Index, IndexMut};
 impl<P: PtrKey, T: Drop, S: SlotStack<Item = ArenaSlot<P, LinkNoGen<P, T>>>> ChainArena<P, T, S> {
     ghost use Rattle.chain_arena.specs.contracts.chain_arena.ChainArena.{the_row as arena_row};
 
-    /// The value of the link at an index that is valid.
+    /// Returns the value of the link at a valid index.
     ///
-    /// Carries `get_inx_unwrap` of `triple_arena`'s chain arena.
+    /// Port of `ChainArena::get_inx_unwrap`.
     pub fn get_inx_unwrap(&self, i: P::Inx) -> &T
         requires { IsSome (entry self.now (P.Inx.number i)) }
         ensures { option_map (λ e. e.1) (entry self.now (P.Inx.number i)) ≡ Some result.now }
@@ -27,9 +27,9 @@ impl<P: PtrKey, T: Drop, S: SlotStack<Item = ArenaSlot<P, LinkNoGen<P, T>>>> Cha
         }
     }
 
-    /// The value of the link at an index that is valid, for writing.
+    /// Returns the value of the link at a valid index, for writing.
     ///
-    /// Carries `get_inx_mut_unwrap` of `triple_arena`'s chain arena.
+    /// Port of `ChainArena::get_inx_mut_unwrap`.
     pub fn get_inx_mut_unwrap(&mut self, i: P::Inx) -> &mut T
         requires { IsSome (entry self.old (P.Inx.number i)) }
         ensures* writes_back { sem 𝓛 (Lends
@@ -45,7 +45,7 @@ impl<P: PtrKey, T: Drop, S: SlotStack<Item = ArenaSlot<P, LinkNoGen<P, T>>>> Cha
     }
 }
 
-/// The value of a link by its pointer, which has to be valid.
+/// Access to a value by its link's pointer, which has to be valid.
 impl<P: PtrKey, T: Drop, S: SlotStack<Item = ArenaSlot<P, LinkNoGen<P, T>>>> Index<P>
     for ChainArena<P, T, S> {
     ghost use Rattle.arena_base.specs.Arena.{IsValid};
@@ -62,7 +62,8 @@ impl<P: PtrKey, T: Drop, S: SlotStack<Item = ArenaSlot<P, LinkNoGen<P, T>>>> Ind
     }
 }
 
-/// .. for writing: a write changes that value alone.
+/// Mutable access to a value by its link's pointer, which has to be valid. A write changes that
+/// value alone.
 impl<P: PtrKey, T: Drop, S: SlotStack<Item = ArenaSlot<P, LinkNoGen<P, T>>>> IndexMut<P>
     for ChainArena<P, T, S> {
     ghost use Rattle.chain_arena.specs.contracts.chain_arena.ChainArena.{the_row as arena_row};

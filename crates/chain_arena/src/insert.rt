@@ -1,4 +1,4 @@
-// The place of a new link, which is a gap with room for one link more, and how a link comes there.
+// Insertion positions with capacity for one more link, and insertions there.
 ghost use Rattle.std.specs.Prelude.{◌≡◌, ◌<◌};
 ghost use Rattle.std.specs.Result.{ForOk};
 ghost use Rattle.chain_laws.specs.Chains.{IsWellLinked};
@@ -17,7 +17,7 @@ use chain_linking::new_link::link_in;
 use chain_links::{LinkInsertKind, LinkNoGen};
 
 impl<P: PtrKey, T: Drop, S: SlotStack<Item = ArenaSlot<P, LinkNoGen<P, T>>>> ChainArena<P, T, S> {
-    // Grows a full arena to room for one link more.
+    // Grows a full arena to capacity for one more link.
     pub(crate) fn make_room(&mut self) -> Result<(), ReallocationError>
         ensures { GrowsByOne S.may_reach P.Inx.greatest self.old result self.new }
     {
@@ -27,7 +27,8 @@ impl<P: PtrKey, T: Drop, S: SlotStack<Item = ArenaSlot<P, LinkNoGen<P, T>>>> Cha
         grown
     }
 
-    // The gap of a kind, within the capacity. Inlined, as the insertions are.
+    // Returns the insertion position of a kind, within the capacity. Inlined, as the insertions
+    // are.
     #[inline(always)]
     pub(crate) fn gap_within(
         &self,
@@ -47,7 +48,8 @@ impl<P: PtrKey, T: Drop, S: SlotStack<Item = ArenaSlot<P, LinkNoGen<P, T>>>> Cha
         }
     }
 
-    // The gap of a kind. A full arena grows first. Inlined, as the insertions are.
+    // Returns the insertion position of a kind; a full arena grows first. Inlined, as the
+    // insertions are.
     #[inline(always)]
     pub(crate) fn gap_growing(
         &mut self,
@@ -64,7 +66,8 @@ impl<P: PtrKey, T: Drop, S: SlotStack<Item = ArenaSlot<P, LinkNoGen<P, T>>>> Cha
         }
     }
 
-    // Adds a link in a gap, where there is room. Inlined, the gap need not go through memory.
+    // Inserts a link at a position, within the capacity. Inlined, so the position need not go
+    // through memory.
     #[inline(always)]
     pub(crate) fn insert_in_gap(&mut self, gap: InsertPosition<P::Inx>, t: T) -> P
         requires gap { IsInsertPosition (link_map self.old) (next_index self.old)
@@ -83,7 +86,7 @@ impl<P: PtrKey, T: Drop, S: SlotStack<Item = ArenaSlot<P, LinkNoGen<P, T>>>> Cha
         }
     }
 
-    // Adds a link in the gap that was answered, where there is room, if one was.
+    // Inserts a link at the position that was found, within the capacity, or returns the error.
     #[inline(always)]
     pub(crate) fn insert_at(
         &mut self,
@@ -104,7 +107,7 @@ impl<P: PtrKey, T: Drop, S: SlotStack<Item = ArenaSlot<P, LinkNoGen<P, T>>>> Cha
     }
 }
 
-// The gap, unless a growth was refused that was asked for it.
+// Returns the position, or the error of the growth that it needed.
 fn gap_unless_refused<I: Drop>(
     gap: InsertPosition<I>,
     grown: Result<(), ReallocationError>,
@@ -117,7 +120,7 @@ fn gap_unless_refused<I: Drop>(
     }
 }
 
-// How an insertion is refused where a growth is.
+// Returns the insertion error of a growth error.
 fn refusal_of(why: ReallocationError) -> ChainInsertionError
     ensures { result ≡ refusal_of why }
 {

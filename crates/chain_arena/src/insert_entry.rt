@@ -1,4 +1,4 @@
-// An insertion of a link that is made ready before its value.
+// An insertion of a link whose pointer is known before its value.
 ghost use Rattle.std.specs.Prelude.{◌≡◌, ◌≢◌, ◌↔◌, ◌<◌, ◌≤◌, ◌+◌, ◌⊎◌, IsErr, IfOk, IfErr, IsOkAnd, Err};
 ghost use Rattle.std.specs.Borrow.{RestsIfErr, sem};
 ghost use Rattle.std.specs.Option.{option_map};
@@ -18,10 +18,12 @@ use chain_linking::insert_position::InsertPosition;
 use chain_linking::new_link::around;
 use chain_links::{LinkInsertKind, LinkNoGen};
 
-/// A place for a link among the others, whose pointer is known before its value. Dropping it changes nothing: no link
-/// comes, and the pointer is that of the next insertion. A growth that was made for it stays.
+/// An insertion position of a link whose pointer is known before its value.
 ///
-/// Carries `ChainArenaInsertEntry` of `triple_arena`.
+/// Dropping it changes nothing: no link is inserted, and the next insertion has the pointer. A
+/// growth made for it stays.
+///
+/// Port of `ChainArenaInsertEntry`.
 pub struct ChainArenaInsertEntry<
     'a,
     P: PtrKey,
@@ -29,7 +31,7 @@ pub struct ChainArenaInsertEntry<
     S: SlotStack<Item = ArenaSlot<P, LinkNoGen<P, T>>> = HeapStack<ArenaSlot<P, LinkNoGen<P, T>>>,
 > {
     arena: &'a mut ChainArena<P, T, S>,
-    // The index of the new link, and those of the links beside it, 0 for none.
+    // The indexes of the new link and of its neighbors, 0 for none.
     inx: usize,
     prev: usize,
     next: usize,
@@ -42,7 +44,7 @@ pub struct ChainArenaInsertEntry<
         (nonzero_index next) ∥₁ },
 }
 
-// An optional index as a number, 0 for none.
+// Returns an optional index as a number, 0 for none.
 pub(crate) fn number_or_zero<I: InxKey>(i: Option<I>) -> usize
     ensures index { nonzero_index result ≡ option_map I.number i }
     ensures within { result ≤ I.greatest }
@@ -56,7 +58,7 @@ pub(crate) fn number_or_zero<I: InxKey>(i: Option<I>) -> usize
     }
 }
 
-// .. and back.
+// Returns the index of a number, `None` for 0.
 fn index_or_none<I: InxKey>(n: usize) -> Option<I>
     requires { n ≤ I.greatest }
     ensures { option_map I.number result ≡ nonzero_index n }
@@ -67,10 +69,18 @@ fn index_or_none<I: InxKey>(n: usize) -> Option<I>
 impl<P: PtrKey, T: Drop, S: SlotStack<Item = ArenaSlot<P, LinkNoGen<P, T>>>> ChainArena<P, T, S> {
     ghost use Rattle.chain_arena.specs.contracts.chain_arena.ChainArena.{the_row as arena_row};
 
-    /// A place for a link of a kind within the capacity. It takes no memory.
+    /// Returns an entry for a link of the given kind, within the capacity.
     ///
-    /// `FailedLinkRequirement`: what the kind asks does not hold, which is tested first. `NotWithinCapacity`: there are
-    /// as many links as the capacity. After either nothing has changed.
+    /// Does not allocate.
+    ///
+    /// # Errors
+    ///
+    /// - `FailedLinkRequirement`: the requirement of `kind` is not met.
+    /// - `NotWithinCapacity`: there are as many links as the capacity.
+    ///
+    /// On error nothing has changed.
+    ///
+    /// Port of `ChainArenaTrait::entry_insert_within_capacity`.
     pub fn entry_insert_within_capacity(
         &mut self,
         kind: LinkInsertKind<P>,
@@ -99,11 +109,19 @@ impl<P: PtrKey, T: Drop, S: SlotStack<Item = ArenaSlot<P, LinkNoGen<P, T>>>> Cha
         }
     }
 
-    /// A place for a link of a kind. A full arena grows first, and the growth stays, whether the place is used or not.
+    /// Returns an entry for a link of the given kind; a full arena grows first.
     ///
-    /// `FailedLinkRequirement`: what the kind asks does not hold, which is tested first. `BeyondMaxCapacity`: the growth
-    /// needed goes beyond the maximum, which is tested next. `AllocError`: it goes beyond the greatest index, or memory
-    /// was refused. After each nothing has changed.
+    /// The growth stays, whether the entry is used or not.
+    ///
+    /// # Errors
+    ///
+    /// - `FailedLinkRequirement`: the requirement of `kind` is not met.
+    /// - `BeyondMaxCapacity`: the required growth exceeds the maximum.
+    /// - `AllocError`: the growth exceeds the greatest index, or an allocation failed.
+    ///
+    /// On error nothing has changed.
+    ///
+    /// Port of `ChainArenaTrait::entry_insert_reallocating`.
     pub fn entry_insert_reallocating(
         &mut self,
         kind: LinkInsertKind<P>,
@@ -137,10 +155,17 @@ impl<P: PtrKey, T: Drop, S: SlotStack<Item = ArenaSlot<P, LinkNoGen<P, T>>>> Cha
         }
     }
 
-    /// A place for a link of a kind that may be inserted (`can_insert`), as `entry_insert_reallocating` gives it.
+    /// Returns an entry for a link of a kind that may be inserted (`can_insert`), as
+    /// `entry_insert_reallocating` does.
     ///
-    /// `BeyondMaxCapacity`: the growth needed goes beyond the maximum, which is tested first. `AllocError`: it goes
-    /// beyond the greatest index, or memory was refused. After either nothing has changed.
+    /// # Errors
+    ///
+    /// - `BeyondMaxCapacity`: the required growth exceeds the maximum.
+    /// - `AllocError`: the growth exceeds the greatest index, or an allocation failed.
+    ///
+    /// On error nothing has changed.
+    ///
+    /// Port of `ChainArenaTrait::entry_insert`.
     pub fn entry_insert(
         &mut self,
         kind: LinkInsertKind<P>,
@@ -173,7 +198,6 @@ impl<P: PtrKey, T: Drop, S: SlotStack<Item = ArenaSlot<P, LinkNoGen<P, T>>>> Cha
         }
     }
 
-    // The pointer of the next link.
     fn next_ptr(&mut self) -> P
         requires { entry_count self.old < self.old.capacity }
         ensures key { P.key result ≡ (next_index self.old, self.old.counter) }
@@ -185,7 +209,6 @@ impl<P: PtrKey, T: Drop, S: SlotStack<Item = ArenaSlot<P, LinkNoGen<P, T>>>> Cha
         }
     }
 
-    // The entry of a gap, where there is room.
     fn entry_in(&mut self, gap: InsertPosition<P::Inx>) -> ChainArenaInsertEntry<'_, P, T, S>
         requires room { entry_count self.old < self.old.capacity }
         requires gap { IsInsertPosition (link_map self.old) (next_index self.old)
@@ -214,7 +237,7 @@ impl<
     T: Drop,
     S: SlotStack<Item = ArenaSlot<P, LinkNoGen<P, T>>>,
 > ChainArenaInsertEntry<'a, P, T, S> {
-    /// The pointer that the link gets.
+    /// Returns the pointer that the link will have.
     pub fn ptr(&self) -> P
         ensures { P.key result ≡ (next_index self.now.arena.now, self.now.arena.now.counter) }
     {
@@ -224,7 +247,7 @@ impl<
         }
     }
 
-    /// Adds the link. It takes no memory.
+    /// Inserts the link. Does not allocate.
     pub fn insert(self, t: T)
         ensures state { self.exit.0.now ≡ insert_between self.entry.arena.now t
             (nonzero_index self.entry.prev) (nonzero_index self.entry.next) }

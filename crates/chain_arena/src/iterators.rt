@@ -1,4 +1,4 @@
-// The iterators over all links of a chain arena. Each goes by rising index, and yields each link once.
+// Iterators over all links of a chain arena, each once, in ascending index order.
 ghost use Rattle.std.specs.Prelude.{◌≡◌, ◌<◌, ◌^◌, length};
 ghost use Rattle.std.specs.Iterator.{YieldsFirstBy, item_count};
 ghost use Rattle.arena_base.specs.Entries.{entries};
@@ -12,9 +12,9 @@ use chain_links::LinkNoGen;
 use chain_links::link_access::value_of;
 use std::marker::Model;
 
-/// The pointers and values of the links of a chain arena, seen as the list of those that are left.
+/// An iterator over the pointers and values of a chain arena, seen as the list of those left.
 ///
-/// Carries `ValIter` of `triple_arena`.
+/// Port of `ValIter`.
 #[derive(Drop)]
 pub struct ValIter<
     'a,
@@ -53,9 +53,9 @@ impl<'a, P: PtrKey, T: Drop, S: SlotStack<Item = ArenaSlot<P, LinkNoGen<P, T>>>>
 }
 
 impl<P: PtrKey, T: Drop, S: SlotStack<Item = ArenaSlot<P, LinkNoGen<P, T>>>> ChainArena<P, T, S> {
-    /// The values of all links by rising index, each with its pointer.
+    /// Returns an iterator over the pointers and values of all links, in ascending index order.
     ///
-    /// Carries `iter` of `triple_arena`'s chain arena.
+    /// Port of `ChainArena::iter`.
     pub fn iter(&self) -> ValIter<'_, P, T, S>
         ensures values { result ≡ entries (values_of self.now) }
         ensures fits { length result < 2 ^ 64 }
@@ -65,9 +65,9 @@ impl<P: PtrKey, T: Drop, S: SlotStack<Item = ArenaSlot<P, LinkNoGen<P, T>>>> Cha
         }
     }
 
-    /// All links by rising index, each with its pointer.
+    /// Returns an iterator over all links and their pointers, in ascending index order.
     ///
-    /// Carries `iter_link_no_gen` of `triple_arena`'s chain arena.
+    /// Port of `ChainArenaTrait::iter_link_no_gen`.
     pub fn iter_link_no_gen(&self) -> Iter<'_, P, LinkNoGen<P, T>, S>
         ensures links { entry_views P.Inx.packed_number result ≡ entries self.now }
         ensures fits { length result < 2 ^ 64 }
@@ -76,7 +76,7 @@ impl<P: PtrKey, T: Drop, S: SlotStack<Item = ArenaSlot<P, LinkNoGen<P, T>>>> Cha
     }
 }
 
-// All links of an arena. No more of them stand there than can be counted.
+// Returns an iterator over all links of an arena, whose number fits in 64 bits.
 fn links_of<P: PtrKey, T: Drop, S: SlotStack<Item = ArenaSlot<P, LinkNoGen<P, T>>>>(
     arena: &Arena<P, LinkNoGen<P, T>, S>,
 ) -> Iter<'_, P, LinkNoGen<P, T>, S>
@@ -100,8 +100,8 @@ impl<P: PtrKey, T: Drop, S: SlotStack<Item = ArenaSlot<P, LinkNoGen<P, T>>>> Int
     ghost into_iter_gives = { λ a it. (entry_views P.Inx.packed_number it ≡ entries a)
         × (length it < 2 ^ 64) };
 
-    /// All links of an arena that is used up, by rising index, each with its pointer, and with its interlinks as they
-    /// stood.
+    /// Returns an iterator over the links of a consumed arena, with their pointers and interlinks,
+    /// in ascending index order.
     fn into_iter(self) -> CapacityDrain<P, LinkNoGen<P, T>, S> {
         let ChainArena { arena } = self;
         arena.invariants();
@@ -109,7 +109,8 @@ impl<P: PtrKey, T: Drop, S: SlotStack<Item = ArenaSlot<P, LinkNoGen<P, T>>>> Int
     }
 }
 
-// That an index and its word live as long follows from `&'a ChainArena<P, T, S>`, but the check does not see it.
+// `&'a ChainArena<P, T, S>` implies that an index and its word live as long, but the check does not
+// see it.
 impl<'a, P: PtrKey, T: Drop, S: SlotStack<Item = ArenaSlot<P, LinkNoGen<P, T>>>> IntoIterator
     for &'a ChainArena<P, T, S>
 where
@@ -127,7 +128,7 @@ where
     ghost into_iter_gives = { λ a it. (entry_views P.Inx.packed_number it ≡ entries a.now)
         × (length it < 2 ^ 64) };
 
-    /// All links by rising index, each with its pointer.
+    /// Returns an iterator over all links and their pointers, in ascending index order.
     fn into_iter(self) -> Iter<'a, P, LinkNoGen<P, T>, S> {
         self.iter_link_no_gen()
     }

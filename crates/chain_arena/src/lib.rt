@@ -1,5 +1,5 @@
-//! Chains in an arena: values under typed pointers with generations, tied into many separate doubly linked chains,
-//! linear or cyclic, by two optional indexes beside each value.
+//! A generational arena whose values are linked into any number of doubly linked chains, linear or
+//! cyclic, by two optional indexes beside each value. Pointers are typed and carry a generation.
 //!
 //! ```text
 //! index       1    2    3    4    5    6          one arena of six links, in three chains
@@ -10,8 +10,8 @@
 //!             start - 4 - end                     a link alone is a chain, too
 //! ```
 //!
-//! What links do is in `ChainArenaTrait`, what any values under pointers do in `arena_base::ArenaTrait`; the rest is
-//! `ChainArena`'s own. It reaches the plain arena below by the contracts of its calls alone.
+//! `ChainArenaTrait` has the calls on links, and `arena_base::ArenaTrait` the calls on values. The
+//! rest is `ChainArena`'s own. It uses the plain arena below only by the contracts of its calls.
 //!
 //! ```rust
 //! #![tactic(auto)]

@@ -12,12 +12,14 @@ use arena_base::{Advancer, ArenaSlot, ArenaTrait, excluded, invalidated};
 use arena_ptr::{HeapStack, InvalidationOption, InxKey, PtrKey, SlotStack};
 use chain_links::LinkNoGen;
 
-/// The removal of all links: an iterator that removes each link as it yields it, by rising index. A link comes as its
-/// pointer and its value. `GenerationOverflow`: the counter was at its greatest then, and is two now.
+/// A draining iterator over all links, which removes each link as it yields it, in ascending index
+/// order.
 ///
-/// Dropped, it removes the links that are left. Unlike a clear it leaves the slots, and the counter goes up once a link.
+/// It yields a link's pointer and value, as `GenerationOverflow` if the counter wrapped to two.
+/// Dropping it removes the links that are left. Unlike `clear` it keeps the slots, and increments
+/// the counter once per link.
 ///
-/// Carries the iterator of `drain` of `triple_arena`'s chain arena.
+/// Port of the iterator of `ChainArena::drain`.
 pub struct LinkDrain<
     'a,
     P: PtrKey,
@@ -25,14 +27,14 @@ pub struct LinkDrain<
     S: SlotStack<Item = ArenaSlot<P, LinkNoGen<P, T>>> = HeapStack<ArenaSlot<P, LinkNoGen<P, T>>>,
 > {
     arena: &'a mut ChainArena<P, T, S>,
-    // The index from which on the links go, 0 for none.
+    // The least index that may still be removed, 0 for none.
     at: usize,
 }
 
 impl<P: PtrKey, T: Drop, S: SlotStack<Item = ArenaSlot<P, LinkNoGen<P, T>>>> ChainArena<P, T, S> {
-    /// The removal of all links, by rising index.
+    /// Returns a draining iterator over all links, in ascending index order.
     ///
-    /// Carries `drain` of `triple_arena`'s chain arena.
+    /// Port of `ChainArena::drain`.
     pub fn drain(&mut self) -> LinkDrain<'_, P, T, S>
         ensures same_reference { result.arena.ghost_name ≡ self.entry.ghost_name }
         ensures arena { result.arena.now ≡ self.old }
@@ -41,7 +43,6 @@ impl<P: PtrKey, T: Drop, S: SlotStack<Item = ArenaSlot<P, LinkNoGen<P, T>>>> Cha
         LinkDrain { arena: self, at: 1 }
     }
 
-    // The first link from an index on.
     fn first_from(&self, at: usize) -> Option<P>
         ensures { option_map P.key result ≡ first_key (entries_left self.now at) }
     {
@@ -53,8 +54,8 @@ impl<P: PtrKey, T: Drop, S: SlotStack<Item = ArenaSlot<P, LinkNoGen<P, T>>>> Cha
         }
     }
 
-    // Removes the first link from an index on, and answers it with the index behind its own. Inlined, what it answers need not
-    // go through memory.
+    // Removes the first link from an index on, and returns it after the index that follows its own.
+    // Inlined, so the result need not go through memory.
     #[inline(always)]
     fn drain_first(&mut self, at: usize) -> Option<(usize, InvalidationOption<(P, T)>)>
         ensures none { IfNone result ((entries_left self.old at ≡ []) × (self.new ≡ self.old)) }
@@ -76,7 +77,6 @@ impl<P: PtrKey, T: Drop, S: SlotStack<Item = ArenaSlot<P, LinkNoGen<P, T>>>> Cha
         }
     }
 
-    // Removes the links from an index on.
     fn drain_rest(&mut self, from: usize)
         ensures state { self.new ≡ without_each P.Gen.following self.old
             (map index_of (entries_left self.old from)) }

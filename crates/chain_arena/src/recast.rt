@@ -1,4 +1,4 @@
-// The values of a chain arena brought to new ones, by rising index.
+// The recast of the values of a chain arena.
 ghost use Rattle.arena_base.specs.Arena.{IsValid};
 ghost use Rattle.chain_links.specs.ChainArena.{entry};
 ghost use Rattle.chain_arena.specs.Recasts.{IsRecastAt};
@@ -8,7 +8,6 @@ use arena_base::{Advancer, ArenaSlot, ArenaTrait};
 use arena_ptr::{PtrKey, Recast, Recaster, SlotStack};
 use chain_links::LinkNoGen;
 
-// Recasts the value of a pointer, where it is valid.
 fn recast_at<
     P: PtrKey,
     I,
@@ -32,10 +31,12 @@ impl<P: PtrKey, I, T: Recast<I> + Drop, S: SlotStack<Item = ArenaSlot<P, LinkNoG
 
     ghost recast_by = { λ recasts old new answer. IsRecast (T.recast_by recasts) old new answer };
 
-    /// Gives each value its new one, by rising index. Pointers, interlinks and all else stay.
+    /// Recasts each value, in ascending index order; pointers, interlinks and all else stay.
     ///
-    /// Refused where the recast of a value is, with what that answers: the values before it have their new ones, it is as
-    /// its own recast left it, and those after it stay.
+    /// # Errors
+    ///
+    /// - The error of the first value whose recast fails. It is as its recast left it, the values
+    ///   before it are recast, and those after it stay.
     fn recast<R: Recaster<Item = I>>(&mut self, recaster: &R) -> Result<(), I> {
         let mut all = self.advancer();
         while let Some(p) = all.advance(&*self) {

@@ -18,20 +18,27 @@ use chain_traits::ChainArenaTrait;
 use chain_traits::drain_in_order::take_next;
 
 impl<P: PtrKey, T: Drop, S: SlotStack<Item = ArenaSlot<P, LinkNoGen<P, T>>>> ChainArena<P, T, S> {
-    /// Takes all links out of a source, lays its chains one after another from index 1 on, and leaves nothing else here.
+    /// Moves all links of `source` to this arena, chain by chain from index 1 on, and leaves
+    /// nothing else here.
     ///
-    /// The chains are taken in the order of their least indexes, a linear one from its start, a cyclic one from its least
-    /// index; the k-th link comes to index k, with the generation `new_generation`, which is the counter then. The
-    /// closure sees each link once, in that order: the pointer that it had, its value, where it is told whether its
-    /// removal overflowed the counter of the source, and the pointer that it has; its answer is the value. Where the
-    /// source has as many links as the capacity or fewer, no memory is taken. No clause tells its
-    /// time: as it is written, that is in proportion to the slots of the source.
+    /// The chains are taken in the order of their least indexes, a linear chain from its start, a
+    /// cyclic chain from its least index. The k-th link is moved to index k, with the generation
+    /// `new_generation`, which becomes the counter. In that order, the closure is passed each
+    /// link's old pointer, value and new pointer, once, and returns the new value. A value comes as
+    /// `GenerationOverflow` if its removal overflowed the counter of `source`.
     ///
-    /// `AllocError`: the source has more links than the greatest index, which is tested first, or memory was refused,
-    /// which comes last. `BeyondMaxCapacity`: it has more links than the maximum. After either nothing has changed in
-    /// either arena, and the closure was not called.
+    /// Does not allocate if `source` has at most as many links as the capacity. Takes time
+    /// proportional to the slots of `source`, which is not proved.
     ///
-    /// Carries `transfer_canonical_reallocating` of `triple_arena`.
+    /// # Errors
+    ///
+    /// - `AllocError`: `source` has more links than the greatest index.
+    /// - `BeyondMaxCapacity`: `source` has more links than the maximum.
+    /// - `AllocError`: an allocation failed.
+    ///
+    /// On error nothing has changed in either arena, and the closure was not called.
+    ///
+    /// Port of `ChainArena::transfer_canonical_reallocating`.
     pub fn transfer_canonical_reallocating<
         Q: PtrKey,
         U: Drop,
@@ -67,7 +74,7 @@ impl<P: PtrKey, T: Drop, S: SlotStack<Item = ArenaSlot<P, LinkNoGen<P, T>>>> Cha
         }
     }
 
-    // Grows to room for so many links, where there is less. The greatest index is tested before the maximum.
+    // Grows to capacity for `n` links if it is less. Tests the greatest index before the maximum.
     fn make_room_for(&mut self, n: usize) -> Result<(), ReallocationError>
         ensures within { n ≤ self.old.capacity → IsOk result × (self.new ≡ self.old) }
         ensures greatest { P.Inx.greatest < n → result ≡ Err ReallocationError.AllocError }
@@ -91,7 +98,7 @@ impl<P: PtrKey, T: Drop, S: SlotStack<Item = ArenaSlot<P, LinkNoGen<P, T>>>> Cha
     }
 }
 
-// Takes all links out of a source, which has no more than there is room for, and lays its chains one after another.
+// Moves all links of a source, for which the capacity suffices, to the target, chain by chain.
 fn carry_all<
     P: PtrKey,
     T: Drop,
@@ -134,7 +141,6 @@ fn carry_all<
     }
 }
 
-// The pointer of an index that is given by its number.
 fn pointer_at<P: PtrKey>(index: usize, generation: P::Gen) -> P
     requires positive { 1 ≤ index }
     requires greatest { index ≤ P.Inx.greatest }
@@ -146,7 +152,8 @@ fn pointer_at<P: PtrKey>(index: usize, generation: P::Gen) -> P
     }
 }
 
-// Where a new link comes at the end of a chain: behind its last, and in a ring before its first.
+// Returns the insertion position at the end of a chain: after its last link, and in a ring before
+// its first.
 fn gap_behind<I: InxKey>(ring: bool, ends: Option<(I, I)>) -> InsertPosition<I>
     ensures before { (m q : ℕ) → AreEnds I.number ends m q
         → before_in I.number result q ≡ end_before ring m q }
@@ -168,7 +175,7 @@ fn gap_behind<I: InxKey>(ring: bool, ends: Option<(I, I)>) -> InsertPosition<I>
     }
 }
 
-// The ends of a chain with one more at its end.
+// Returns the ends of a chain after an insertion at its end.
 fn with_end<I: InxKey>(ends: Option<(I, I)>, i: I) -> Option<(I, I)>
     ensures { (m : ℕ) → AreEnds I.number ends m (I.number i)
         → AreEnds I.number result (m + 1) (I.number i + 1) }
@@ -179,8 +186,8 @@ fn with_end<I: InxKey>(ends: Option<(I, I)>, i: I) -> Option<(I, I)>
     }
 }
 
-// Adds a link behind the last of a chain of which these are the ends, where there is room, at the index of a pointer.
-// Answers the ends with it.
+// Inserts a link at the end of a chain with these ends, at the index of `to`, and returns the new
+// ends.
 fn lay_behind<P: PtrKey, T: Drop, S: SlotStack<Item = ArenaSlot<P, LinkNoGen<P, T>>>>(
     target: &mut ChainArena<P, T, S>,
     ring: bool,
@@ -201,8 +208,8 @@ fn lay_behind<P: PtrKey, T: Drop, S: SlotStack<Item = ArenaSlot<P, LinkNoGen<P, 
     with_end(ends, to.inx())
 }
 
-/// A compression and a transfer of the same links lay them out alike: each comes to the same index, and names the same
-/// neighbours.
+/// States that a compression and a transfer arrange the same links alike: at the same indexes, with
+/// the same neighbors.
 pub fn compression_and_transfer_agree<
     P: PtrKey,
     T: Drop,
@@ -213,16 +220,21 @@ pub fn compression_and_transfer_agree<
     ensures { ArrangesAlike Q.key P.key Q.Gen.first Q.Gen.following Q.Gen.wraps F.FnMut }
 {}
 
-/// A canonical compression moves each value from a pointer that was valid to one that is, and no other pointer was or is
-/// valid. It says so of any arena of links, and of the pointers that all links had and have, whether a call tells them
-/// or not.
+/// States that a canonical compression moves each value from a pointer that was valid to one that
+/// is.
+///
+/// No other pointer was or is valid. This holds in any arena of links, whether or not a call
+/// reports the pointers.
 pub fn compression_moves_pointers<P: PtrKey, T: Drop>()
     ensures moves { CompressionMovesPointers T P.key P.Gen.first P.Gen.following }
     ensures untold { CompressionHasMoves T P.Gen.first P.Gen.following }
 {}
 
-/// A transfer moves each link from a pointer that was valid in the source, with the value that the closure was told, to
-/// one that is valid in the target, with its answer; no other pointer was valid there, or is valid here.
+/// States that a transfer moves each link from a pointer that was valid in the source to one that
+/// is valid in the target.
+///
+/// The closure is passed the value in the source, and returns the value in the target. No other
+/// pointer was valid in the source or is valid in the target.
 pub fn transfer_moves_pointers<
     P: PtrKey,
     T: Drop,

@@ -1,10 +1,10 @@
-// What is shown links that get other pointers: a closure, or a list.
+// Visitors of links that get other pointers: a closure, and a list.
 
 use arena_ptr::PtrKey;
 use chain_compaction::visitor::Visitor;
 use std::alloc::Allocator;
 
-/// Shows each link to a closure.
+/// A visitor that reports each link to a closure.
 #[derive(Drop)]
 pub struct Showing<F> {
     /// The closure.
@@ -23,7 +23,7 @@ impl<P: PtrKey, F: FnMut(P, P) + Drop> Visitor<P> for Showing<F> {
     }
 }
 
-// Lists the links, as far as there is room.
+// A visitor that lists the links, up to its capacity.
 #[derive(Drop)]
 pub(crate) struct Listing<P, A: Allocator> {
     pub(crate) moves: Vec<(P, P), A>,
@@ -38,7 +38,7 @@ impl<P: PtrKey, A: Allocator> Visitor<P> for Listing<P, A> {
     ghost sees = { λ v p q w. IsPairListed v.moves p q w.moves };
 
     fn visit(&mut self, from: P, to: P) {
-        // There is room.
+        // The capacity suffices.
         let _ = self.moves.push((from, to));
     }
 }

@@ -1,4 +1,4 @@
--- An arena of links that code knows by its traits alone: a link stands where an entry stands, and the entries are all.
+-- Generic code on arenas of links: links exist exactly at the entries.
 use Rattle.std.proofs.Common.{◌≡◌, ℕ, suc, ◌+◌, ◌≤◌, ◌<◌, List, [], ◌∷◌, length, map, Bool, true, false, Option, None, Some, refl, sym, ap, ◌∙◌, subst, inl, inr, arith, le_refl}
 use Rattle.std.specs.Prelude.{is_some, cond, All, ◌==◌}
 use Rattle.std.specs.List.{AllByRecursion}
@@ -17,12 +17,12 @@ use Rattle.arena_base.specs.declared.cursor.Cursor.{Cursor}
 use Rattle.arena_base.specs.declared.cursor.Cursor.TheVariants.{Up}
 
 module _ {Gen T : Type 0} where
-  -- entries that rise from an index on stand there
+  -- Entries that rise from an index are at or above it.
   pub entries_at_or_above-rises : (i j : ℕ) (es : List ((ℕ × Gen) × T)) → i ≤ j → RisesFrom j es → entries_at_or_above i es ≡ es
   entries_at_or_above-rises i j [] below rises = refl
   entries_at_or_above-rises i j (e ∷ es) below rises = ap (λ b. cond b (e ∷ es) (entries_at_or_above i es)) (le-leb i e.0.0 (omega (arith, below, rises.0)))
 
-  -- what is found among entries is one of them
+  -- A found index is that of an entry.
   pub found_has : (i : ℕ) (es : List ((ℕ × Gen) × T)) → is_some (found i es) ≡ true → IsMember (map index_of es) i
   found_has i [] some = absurd (let h = some in cc)
   found_has i (e ∷ es) some = by (e.0.0 == i) refl some (found_has i es) where
@@ -35,7 +35,7 @@ module _ {Gen T : Type 0} where
   has_within greatest i (e ∷ es) within (inl same) = subst (IsWithin greatest) same within.0
   has_within greatest i (e ∷ es) within (inr has) = has_within greatest i es within.1 has
 
-  -- nothing is found below where the entries begin
+  -- No entry is found below where the entries begin.
   pub found_from : (from j : ℕ) (es : List ((ℕ × Gen) × T)) → RisesFrom from es → is_some (found j es) ≡ true → from ≤ j
   found_from from j [] rises some = absurd (let h = some in cc)
   found_from from j (e ∷ es) rises some = by (e.0.0 == j) refl some (found_from (suc e.0.0) j es rises.1) where
@@ -43,7 +43,7 @@ module _ {Gen T : Type 0} where
     by true same some rest = omega (arith, rises.0, eqb-true e.0.0 j same)
     by false other some rest = omega (arith, rises.0, rest some)
 
-  -- an entry of the least index
+  -- An entry of the least index.
   pub record IsLeast (es : List ((ℕ × Gen) × T)) (i : ℕ) : Type 0 where
     pub stands : is_some (found i es) ≡ true
     pub low : (j : ℕ) → is_some (found j es) ≡ true → i ≤ j
@@ -57,7 +57,7 @@ module _ {Gen T : Type 0} where
         low = λ j some. found_from e.0.0 j (e ∷ es) (le_refl e.0.0, rises.1) some;
       })
 
-  -- an advancer that looks from where the entries begin answers the first of them
+  -- An advancer from where the entries begin returns the first.
   pub next_is : (es : List ((ℕ × Gen) × T)) (look after : Cursor) (from : ℕ) (p : ℕ × Gen) → look ≡ Up from → RisesFrom from es → IsAdvanceUntilNone es look (Some p) after
       → IsLeast es p.0 × (after ≡ Up (p.0 + 1))
   next_is es look after from p up rises given =
@@ -76,7 +76,7 @@ module _ {Gen T : Type 0} (interlinks : LinkMap) (entry : ℕ → Option (Gen ×
   pub valid_has : (i : ℕ) → chains.HasLink interlinks i → IsMember (map index_of es) i
   valid_has i valid = found_has i es (ap is_some (looked i) ∙ valid_some i valid)
 
-  -- a link stands where an entry does
+  -- A link exists where an entry does.
   pub some_valid : (i : ℕ) → is_some (entry i) ≡ true → chains.HasLink interlinks i
   some_valid i there = by (interlinks i) refl (stands i ∙ there) where
     by : (o : Option Interlinks) → interlinks i ≡ o → is_some (interlinks i) ≡ true → chains.HasLink interlinks i
@@ -86,7 +86,7 @@ module _ {Gen T : Type 0} (interlinks : LinkMap) (entry : ℕ → Option (Gen ×
   pub entry_valid : (i : ℕ) (e : Gen × T) → entry i ≡ Some e → chains.HasLink interlinks i
   entry_valid i e there = some_valid i (ap is_some there)
 
-  -- what a valid pointer is of is a link
+  -- The link of a valid pointer exists.
   pub valid_link : (p : ℕ × Gen) → IsValid entry p → chains.HasLink interlinks p.0
   valid_link p valid = entry_valid p.0 (p.1, valid.value) valid.stands
 
@@ -94,7 +94,7 @@ module _ {Gen T : Type 0} (interlinks : LinkMap) (entry : ℕ → Option (Gen ×
     pub links_within : chains.HasLinksWithin interlinks greatest
     links_within = record { within = λ j v. has_within greatest j es (recursion_from_All _ es within) (valid_has j v) }
 
-    -- a walk back makes fewer steps than there are entries
+    -- A walk back makes fewer steps than there are entries.
     pub few_back : (i steps here : ℕ) → IsWellLinked interlinks → is_some (entry i) ≡ true → IsBack interlinks i steps here → steps < length es
     few_back i steps here agrees there back =
         subst (λ n. steps < n) (length-map es index_of) (back_is_short interlinks greatest i steps here (map index_of es) agrees links_within (some_valid i there) valid_has back)

@@ -1,4 +1,4 @@
--- An entry that was removed from any arena of links, or none: what is gone, what stays, and what becomes of the links.
+-- The effects of a removal from any arena of links, if it removes anything.
 use Rattle.std.proofs.Common.{◌≡◌, ◌≢◌, ℕ, suc, ◌+◌, List, [], ◌∷◌, length, Bool, true, false, Option, None, Some, refl, sym, ap, ◌∙◌, subst, arith}
 use Rattle.std.specs.Prelude.{◌↔◌, is_some, cond, ◌==◌, IsSome, IfSome, OnSome, IfNone}
 use Rattle.std.specs.Option.{option_map}
@@ -10,7 +10,7 @@ use Rattle.arena_base.specs.Entries.{ArenaView, count, found, without, RisesFrom
 use Rattle.arena_base.proofs.EntrySearchLemmas.{found-gone, found-kept}
 
 module _ {Gen T : Type 0} where
-  -- what stands after a removal: nothing at its index, and all else as it was
+  -- A removal empties its index and changes no other entry.
   module _ (entry after : ℕ → Option (Gen × T)) (es fs : List ((ℕ × Gen) × T)) (n : ℕ) (rises : RisesFrom 1 es) (was : (i : ℕ) → found i es ≡ entry i) (finds : (i : ℕ) → found i fs ≡ after i) (gone : fs ≡ without n es) where
     pub entry_gone : after n ≡ None
     entry_gone = sym (finds n) ∙ (ap (found n) gone ∙ found-gone n 1 es rises)
@@ -18,7 +18,7 @@ module _ {Gen T : Type 0} where
     pub entry_kept : (i : ℕ) → i ≢ n → after i ≡ entry i
     entry_kept i other = sym (finds i) ∙ (ap (found i) gone ∙ (found-kept i n es other ∙ was i))
 
-  -- a removal leaves one entry less
+  -- A removal leaves one entry less.
   pub one_less : (i : ℕ) (es : List ((ℕ × Gen) × T)) → is_some (found i es) ≡ true → suc (length (without i es)) ≡ length es
   one_less i [] some = absurd (let h = some in cc)
   one_less i (e ∷ es) some = by (e.0.0 == i) refl some (one_less i es)
@@ -28,12 +28,12 @@ module _ {Gen T : Type 0} where
       by true same some rest = refl
       by false other some rest = ap suc (rest some)
 
--- the same entries show the same at each index
+-- Equal entries are found alike at each index.
 pub same_entry : {A Gen T : Type 0} (entries : A → List ((ℕ × Gen) × T)) (entry : A → ℕ → Option (Gen × T)) → ((a : A) (i : ℕ) → found i (entries a) ≡ entry a i) → (a b : A) → entries b ≡ entries a → entry b ≡ entry a
 same_entry entries entry looked a b same = λ k i. (sym (looked b i) ∙ (ap (found i) same ∙ looked a i)) k
 
 module _ {A Gen T : Type 0} (seen : A → ArenaView Gen T) (entry : A → ℕ → Option (Gen × T)) (links : A → LinkMap) where
-  -- the entry of a pointer has gone
+  -- The entry of a pointer existed and is gone.
   pub record HasGone (old new : A) (p : ℕ × Gen) : Type 0 where
     pub stood : IsValid (entry old) p
     pub gone : entry new p.0 ≡ None
@@ -42,7 +42,7 @@ module _ {A Gen T : Type 0} (seen : A → ArenaView Gen T) (entry : A → ℕ �
     pub chains : Removes (links old) (links new) p.0
     pub less : count (seen old) ≡ count (seen new) + 1
 
-  -- a removal answers the value of its pointer, whose entry has gone then, or none, and nothing has changed
+  -- A removal returns a pointer's value and removes its entry, or changes nothing.
   pub record TakesEntry (old new : A) (p : ℕ × Gen) (o : Option T) : Type 0 where
     pub valid : IsValid (entry old) p → is_some o ≡ true
     pub value : (v : IsValid (entry old) p) → o ≡ Some v.value
@@ -71,7 +71,7 @@ module _ {A Gen T : Type 0} (seen : A → ArenaView Gen T) (entry : A → ℕ �
             less = let one = one_less p.0 (seen old).entries (ap is_some (looked old p.0) ∙ ap is_some v.stands) in let many = ap length entries in omega arith;
           }
 
-  -- what follows of a removal, whichever it answers
+  -- Consequences of a removal, whichever it returns.
   module _ (old new : A) (p : ℕ × Gen) where
     pub value_told : (o : Option T) → TakesEntry old new p o → IfSome o (λ t. entry old p.0 ≡ Some (p.1, t))
     value_told None r = tt

@@ -1,4 +1,4 @@
--- The pointer to a neighbour, as a look at a link tells it.
+-- Pointers to neighbors, as a read of a link returns them.
 use Rattle.std.proofs.Common.{◌≡◌, ℕ, true, Option, None, Some, refl, sym, ap, subst}
 use Rattle.std.specs.Prelude.{IfSome, is_some}
 use Rattle.std.specs.Option.{option_map, option_and_then}
@@ -7,7 +7,7 @@ use Rattle.arena_base.specs.Arena.{IsValid}
 use Rattle.chain_links.specs.ChainArena.{ptr_at}
 
 module _ {P Gen T : Type 0} (key : P → ℕ × Gen) (entry : ℕ → Option (Gen × T)) where
-  -- the pointer to an index is that of the entry there
+  -- A pointer to an index is that of the entry there.
   points : (q : ℕ × Gen) (j : ℕ) (e : Option (Gen × T)) → entry j ≡ e → Some q ≡ option_map (λ x. (j, x.0)) e → IsValid entry q × (j ≡ q.0)
   points q j None stands is = absurd (let some = is in cc)
   points q j (Some e) stands is =
@@ -15,13 +15,13 @@ module _ {P Gen T : Type 0} (key : P → ℕ × Gen) (entry : ℕ → Option (Ge
       let same : q ≡ (j, e.0) = cc in
       (record { value = e.1; stands = subst (λ p. entry p.0 ≡ Some (p.1, e.1)) (sym same) stands }, sym (ap (λ p. p.0) same))
 
-  -- a pointer to a neighbour is valid, and names its index
+  -- A pointer to a neighbor is valid, and has its index.
   pub looked : (o : Option P) (n : Option ℕ) → option_map key o ≡ option_and_then (ptr_at entry) n → IfSome o (λ q. IsValid entry (key q) × (n ≡ Some (key q).0))
   looked None n is = tt
   looked (Some q) None is = absurd (let some = is in cc)
   looked (Some q) (Some j) is = let found = points (key q) j (entry j) refl is in (found.0, ap (λ i. Some i) found.1)
 
-  -- where there is no pointer, there is no neighbour, if an entry stands at each
+  -- Without a pointer there is no neighbor, if each neighbor has an entry.
   pub none_looked : (o : Option P) (n : Option ℕ) → option_map key o ≡ option_and_then (ptr_at entry) n → ((j : ℕ) → n ≡ Some j → is_some (entry j) ≡ true) → o ≡ None → n ≡ None
   none_looked o None is stands none = refl
   none_looked (Some q) (Some j) is stands none = absurd (let some = none in cc)

@@ -1,4 +1,4 @@
--- An arena of links whose chains are taken out one after another.
+-- The order in which the chains of an arena are drained.
 use Rattle.std.specs.Prelude.{◌≡◌, ℕ, ◌+◌, ◌≤◌, Bool, is_some, IsSome}
 use Rattle.chain_laws.specs.Chains.{LinkMap, prev_of}
 use Rattle.chain_laws.specs.ChainStart.{IsStart}
@@ -6,8 +6,9 @@ use Rattle.arena_base.specs.Entries.{ArenaView, found}
 use Rattle.arena_base.specs.declared.cursor.Cursor.{Cursor}
 use Rattle.arena_base.specs.declared.cursor.Cursor.TheVariants.{Up}
 
--- the chain of the link of least index is found, where the links are seen and show these interlinks: the link that it is
--- written from, and whether it is cyclic; an advancer that looked from an index on looks behind that link
+-- The next chain is that of the link of least index. `here` is its start if it is linear, and that
+-- link if it is cyclic; `ring` is whether it is cyclic. The advancer goes on behind the link of
+-- least index.
 pub record IsNextChain {Gen T : Type 0} (source : ArenaView Gen T) (interlinks : LinkMap) (here : ℕ) (ring : Bool) (after : Cursor) : Type 0 where
   pub least : ℕ
   pub stands : IsSome (found least source.entries)

@@ -30,10 +30,11 @@ use chain_links::{Link, LinkInsertKind, LinkNoGen};
 
 /// An arena whose entries are links, each in one linear or cyclic chain.
 ///
-/// The calls of `ArenaTrait` see the values alone. A removal by them links the neighbours of what it removed, a
-/// compression renames the links of all chains, and no other of them changes a chain but `clear`, which leaves none.
+/// The calls of `ArenaTrait` see only the values. Of these calls, only removals, compressions and
+/// `clear` change chains: a removal links the neighbors, a compression renumbers all links, and
+/// `clear` leaves no chain.
 ///
-/// Carries `ChainArenaTrait` of `triple_arena`.
+/// Port of `triple_arena::ChainArenaTrait`.
 pub trait ChainArenaTrait<P: PtrKey, T: Drop>: ArenaTrait<P, T> {
     /// An advancer along one chain.
     type ChainPtrAdvancer: Advancer<Self, Item = P>;
@@ -41,19 +42,23 @@ pub trait ChainArenaTrait<P: PtrKey, T: Drop>: ArenaTrait<P, T> {
     // The interlinks of the link at each index.
     ghost interlinks: { Self → LinkMap };
 
-    // Where an advancer along a chain stands, and how many steps it still makes at most.
+    // The position of an advancer along a chain, and the most steps that it still makes.
     ghost walker: { Self.ChainPtrAdvancer → Walker };
 
-    /// Shows that the interlinks agree: j comes after i exactly if i comes before j. It has no effect: a function calls it
-    /// where its proof needs this and no other call has shown it.
+    /// States that the interlinks agree: j follows i exactly if i precedes j.
+    ///
+    /// Has no effect; a function calls it where its proof needs this and no other call has stated
+    /// it.
     final fn agrees(&self)
         ensures { IsWellLinked (interlinks self.now) }
     {
         self.get_inx_link_no_gen(P::invalid().inx());
     }
 
-    /// Shows what holds of every arena of links: the interlinks agree, and there is exactly one set of chains that has
-    /// each link once. It has no effect.
+    /// States what holds in every arena of links: the interlinks agree, and exactly one set of
+    /// chains has each link once.
+    ///
+    /// Has no effect.
     final fn invariants(&self)
         ensures agree { IsWellLinked (interlinks self.now) }
         ensures one { HasOneSetOfChains (interlinks self.now) }
@@ -66,16 +71,24 @@ pub trait ChainArenaTrait<P: PtrKey, T: Drop>: ArenaTrait<P, T> {
         self.len();
     }
 
-    /// Whether a link of a kind may be inserted: what the kind asks of the links beside the new one holds.
+    /// Returns whether a link of the given kind may be inserted: the requirement of the kind on the
+    /// links beside it is met.
     fn can_insert(&self, kind: LinkInsertKind<P>) -> bool
         ensures { IsTrue result ↔ MayInsert (Self.entry self.now) (interlinks self.now)
             (names_in P.key P.Inx.number kind) };
 
-    /// Adds a link of a kind within the capacity, and answers its pointer, which has the counter as its generation. It
-    /// takes no memory.
+    /// Inserts a link of the given kind within the capacity and returns its pointer.
     ///
-    /// `FailedLinkRequirement`: what the kind asks does not hold, which is tested first. `NotWithinCapacity`: there are
-    /// as many links as the capacity. After either nothing has changed, and the value is dropped.
+    /// The pointer has the counter as its generation. Does not allocate.
+    ///
+    /// # Errors
+    ///
+    /// - `FailedLinkRequirement`: the requirement of `kind` is not met.
+    /// - `NotWithinCapacity`: there are as many links as the capacity.
+    ///
+    /// On error the arena is unchanged, and `t` is dropped.
+    ///
+    /// Port of `ChainArenaTrait::insert_within_capacity`.
     fn insert_within_capacity(
         &mut self,
         kind: LinkInsertKind<P>,
@@ -97,11 +110,19 @@ pub trait ChainArenaTrait<P: PtrKey, T: Drop>: ArenaTrait<P, T> {
         ensures error { IfErr result (λ e. (e ≡ ChainInsertionError.FailedLinkRequirement)
             ⊎ (e ≡ ChainInsertionError.NotWithinCapacity)) };
 
-    /// Adds a link of a kind and answers its pointer, which has the counter as its generation. A full arena grows first.
+    /// Inserts a link of the given kind and returns its pointer; a full arena grows first.
     ///
-    /// `FailedLinkRequirement`: what the kind asks does not hold, which is tested first. `BeyondMaxCapacity`: the growth
-    /// needed goes beyond the maximum, which is tested next. `AllocError`: it goes beyond the greatest index, or memory
-    /// was refused. After each nothing has changed, and the value is dropped.
+    /// The pointer has the counter as its generation.
+    ///
+    /// # Errors
+    ///
+    /// - `FailedLinkRequirement`: the requirement of `kind` is not met.
+    /// - `BeyondMaxCapacity`: the required growth exceeds the maximum.
+    /// - `AllocError`: the growth exceeds the greatest index, or an allocation failed.
+    ///
+    /// On error the arena is unchanged, and `t` is dropped.
+    ///
+    /// Port of `ChainArenaTrait::insert_reallocating`.
     fn insert_reallocating(
         &mut self,
         kind: LinkInsertKind<P>,
@@ -127,10 +148,16 @@ pub trait ChainArenaTrait<P: PtrKey, T: Drop>: ArenaTrait<P, T> {
             (names_in P.key P.Inx.number kind) × NeedsBeyondMaximum (Self.view self.old)) }
         ensures greatest { count (Self.view self.old) ≡ P.Inx.greatest → IsErr result };
 
-    /// Adds a link of a kind that may be inserted (`can_insert`), and answers its pointer, as `insert_reallocating` does.
+    /// Inserts a link of a kind that may be inserted (`can_insert`), as `insert_reallocating` does.
     ///
-    /// `BeyondMaxCapacity`: the growth needed goes beyond the maximum, which is tested first. `AllocError`: it goes
-    /// beyond the greatest index, or memory was refused. After either nothing has changed, and the value is dropped.
+    /// # Errors
+    ///
+    /// - `BeyondMaxCapacity`: the required growth exceeds the maximum.
+    /// - `AllocError`: the growth exceeds the greatest index, or an allocation failed.
+    ///
+    /// On error the arena is unchanged, and `t` is dropped.
+    ///
+    /// Port of `ChainArenaTrait::insert`.
     fn insert(&mut self, kind: LinkInsertKind<P>, t: T) -> Result<P, ReallocationError>
         requires { MayInsert (Self.entry self.old) (interlinks self.old)
             (names_in P.key P.Inx.number kind) }
@@ -145,18 +172,26 @@ pub trait ChainArenaTrait<P: PtrKey, T: Drop>: ArenaTrait<P, T> {
             ↔ NeedsBeyondMaximum (Self.view self.old) }
         ensures greatest { count (Self.view self.old) ≡ P.Inx.greatest → IsErr result };
 
-    /// Whether q is the link after p: both pointers are valid, and the next link of p stands at q's index.
+    /// Returns whether q follows p: both pointers are valid, and the next link of p is at the index
+    /// of q.
+    ///
+    /// Port of `ChainArenaTrait::are_neighbors`.
     fn are_neighbors(&self, p: P, q: P) -> bool
         ensures { IsTrue result
             ↔ (IsValid (Self.entry self.now) (P.key p) × IsValid (Self.entry self.now) (P.key q)
             × AreNeighbors (interlinks self.now) (P.key p).0 (P.key q).0) };
 
-    /// Whether the link after the one at i stands at j.
+    /// Returns whether the link after the link at index i is at index j.
+    ///
+    /// Port of `ChainArenaTrait::are_neighbors_inx`.
     fn are_neighbors_inx(&self, i: P::Inx, j: P::Inx) -> bool
         ensures { IsTrue result ↔ AreNeighbors (interlinks self.now) (P.Inx.number i)
             (P.Inx.number j) };
 
-    /// The link of a pointer, with the pointers to its neighbours as they are now. `None`: the pointer is not valid.
+    /// Returns the link of `p` with the current pointers to its neighbors, or `None` if `p` is not
+    /// valid.
+    ///
+    /// Port of `ChainArenaTrait::get_link`.
     fn get_link(&self, p: P) -> Option<Link<P, &T>>
         ensures some { IsSome result ↔ IsValid (Self.entry self.now) (P.key p) }
         ensures link { IfSome result (λ link. IsLinkAt (Self.entry self.now) (interlinks self.now)
@@ -164,30 +199,42 @@ pub trait ChainArenaTrait<P: PtrKey, T: Drop>: ArenaTrait<P, T> {
             (option_map P.key link.prev) (option_map P.key link.next) link.t.now) }
         ensures agree { IsWellLinked (interlinks self.now) };
 
-    /// The link of a pointer. `None`: the pointer is not valid.
+    /// Returns the link of `p`, or `None` if `p` is not valid.
+    ///
+    /// Port of `ChainArenaTrait::get_link_no_gen`.
     fn get_link_no_gen(&self, p: P) -> Option<&LinkNoGen<P, T>>
         ensures some { IsSome result ↔ IsValid (Self.entry self.now) (P.key p) }
         ensures link { IfSome result (λ link. link_at (Self.entry self.now) (interlinks self.now)
             (P.key p).0 ≡ Some ((P.key p).1, link_view P.Inx.packed_number link.now)) }
         ensures agree { IsWellLinked (interlinks self.now) };
 
-    /// The generation and the link at an index. `None`: no link stands there.
+    /// Returns the generation and the link at an index, or `None` if no link is there.
+    ///
+    /// Port of `ChainArenaTrait::get_inx_link_no_gen`.
     fn get_inx_link_no_gen(&self, i: P::Inx) -> Option<(P::Gen, &LinkNoGen<P, T>)>
         ensures link { option_map (borrowed_link P.Inx.packed_number) result ≡ link_at
             (Self.entry self.now) (interlinks self.now) (P.Inx.number i) }
         ensures agree { IsWellLinked (interlinks self.now) };
 
-    /// Returns an advancer along the chain of `p`, in walk order: from `p` on to the end, and then from the link before
-    /// `p` back to the start; a cyclic chain once around. It makes no more steps than there are links now, whatever
-    /// arenas it is passed. Returns `None` if `p` is not valid.
+    /// Returns an advancer along the chain of `p`, or `None` if `p` is not valid.
+    ///
+    /// It goes in walk order: from `p` to the end, then from the link before `p` back to the start;
+    /// a cyclic chain once around. It makes at most as many steps as there are links now, whatever
+    /// arenas it is passed.
+    ///
+    /// Port of `ChainArenaTrait::advancer_chain`.
     fn advancer_chain(&self, p: P) -> Option<Self::ChainPtrAdvancer>
         ensures some { IsSome result ↔ IsValid (Self.entry self.now) (P.key p) }
         ensures walker { IfSome result (λ v. walker v
             ≡ walker_at (interlinks self.now) (count (Self.view self.now)) (P.key p).0) }
         ensures agree { IsWellLinked (interlinks self.now) };
 
-    /// Makes q the link after p: two chains become one, or one chain becomes cyclic. `Some` exactly if both pointers
-    /// are valid, p has no next link and q no previous one; otherwise nothing changes.
+    /// Connects p to q, so that q follows p: two chains become one, or one chain becomes cyclic.
+    ///
+    /// Returns `Some` exactly if both pointers are valid, p has no next link and q no previous
+    /// link. Otherwise nothing changes.
+    ///
+    /// Port of `ChainArenaTrait::connect`.
     fn connect(&mut self, p: P, q: P) -> Option<()>
         ensures some { IsSome result ↔ CanConnect (Self.entry self.old) (interlinks self.old)
             (P.key p) (P.key q) }
@@ -199,8 +246,13 @@ pub trait ChainArenaTrait<P: PtrKey, T: Drop>: ArenaTrait<P, T> {
         ensures none { IfNone result (self.new ≡ self.old) }
         ensures agreed { IsWellLinked (interlinks self.old) };
 
-    /// Cuts a link apart from the one before it: a linear chain becomes two, a cyclic one linear. `Some` exactly if the
-    /// pointer is valid and its link has a previous one; otherwise nothing changes.
+    /// Disconnects a link from its previous link: a linear chain becomes two, a cyclic chain
+    /// linear.
+    ///
+    /// Returns `Some` exactly if `p` is valid and its link has a previous link. Otherwise nothing
+    /// changes.
+    ///
+    /// Port of `ChainArenaTrait::break_prev`.
     fn break_prev(&mut self, p: P) -> Option<()>
         ensures some { IsSome result
             ↔ (IsValid (Self.entry self.old) (P.key p)
@@ -213,8 +265,12 @@ pub trait ChainArenaTrait<P: PtrKey, T: Drop>: ArenaTrait<P, T> {
         ensures none { IfNone result (self.new ≡ self.old) }
         ensures agreed { IsWellLinked (interlinks self.old) };
 
-    /// Cuts a link apart from the one after it: a linear chain becomes two, a cyclic one linear. `Some` exactly if the
-    /// pointer is valid and its link has a next one; otherwise nothing changes.
+    /// Disconnects a link from its next link: a linear chain becomes two, a cyclic chain linear.
+    ///
+    /// Returns `Some` exactly if `p` is valid and its link has a next link. Otherwise nothing
+    /// changes.
+    ///
+    /// Port of `ChainArenaTrait::break_next`.
     fn break_next(&mut self, p: P) -> Option<()>
         ensures some { IsSome result
             ↔ (IsValid (Self.entry self.old) (P.key p)
@@ -227,9 +283,13 @@ pub trait ChainArenaTrait<P: PtrKey, T: Drop>: ArenaTrait<P, T> {
         ensures none { IfNone result (self.new ≡ self.old) }
         ensures agreed { IsWellLinked (interlinks self.old) };
 
-    /// Exchanges what comes after p with what comes after q: one chain becomes two, or two become one, or two linear ones
-    /// exchange their ends; of p with itself nothing changes. `Some` exactly if both pointers are valid and their links
-    /// have next ones; otherwise nothing changes.
+    /// Exchanges the next links of p and q.
+    ///
+    /// One chain becomes two, two become one, or two linear chains exchange their ends; if p is q,
+    /// nothing changes. Returns `Some` exactly if both pointers are valid and both links have a
+    /// next link. Otherwise nothing changes.
+    ///
+    /// Port of `ChainArenaTrait::exchange_next`.
     fn exchange_next(&mut self, p: P, q: P) -> Option<()>
         ensures some { IsSome result ↔ CanExchange (Self.entry self.old) (interlinks self.old)
             (P.key p) (P.key q) }
@@ -241,11 +301,13 @@ pub trait ChainArenaTrait<P: PtrKey, T: Drop>: ArenaTrait<P, T> {
         ensures none { IfNone result (self.new ≡ self.old) }
         ensures agreed { IsWellLinked (interlinks self.old) };
 
-    /// Removes a link, answers it with the interlinks that it had, increments the counter, and links its neighbours:
-    /// the rest of its chain stays linear or cyclic.
+    /// Removes a link and returns it with the interlinks that it had.
     ///
-    /// `InvalidPtr`: the pointer is not valid, and nothing has changed. `GenerationOverflow`: the counter was at its
-    /// greatest, and is two now.
+    /// Links its neighbors, so that the rest of its chain stays linear or cyclic, and increments
+    /// the counter. Returns `InvalidPtr` if `p` is not valid, and nothing has changed;
+    /// `GenerationOverflow` if the counter wrapped to two.
+    ///
+    /// Port of `ChainArenaTrait::remove_link_no_gen`.
     fn remove_link_no_gen(&mut self, p: P) -> InvalidationResult<LinkNoGen<P, T>>
         ensures some { IsSome (value_within result) ↔ IsValid (Self.entry self.old) (P.key p) }
         ensures valid { IsValid (Self.entry self.old) (P.key p)
@@ -259,11 +321,14 @@ pub trait ChainArenaTrait<P: PtrKey, T: Drop>: ArenaTrait<P, T> {
             × (self.new ≡ self.old) }
         ensures agreed { IsWellLinked (interlinks self.old) };
 
-    /// Removes the link at an index, answers its generation and the link with the interlinks that it had, increments
-    /// the counter, and links its neighbours: the rest of its chain stays linear or cyclic.
+    /// Removes the link at an index and returns its generation and the link with the interlinks
+    /// that it had.
     ///
-    /// `InvalidPtr`: no link stands there, and nothing has changed. `GenerationOverflow`: the counter was at its
-    /// greatest, and is two now.
+    /// Links its neighbors, so that the rest of its chain stays linear or cyclic, and increments
+    /// the counter. Returns `InvalidPtr` if no link is there, and nothing has changed;
+    /// `GenerationOverflow` if the counter wrapped to two.
+    ///
+    /// Port of `ChainArenaTrait::remove_inx_link_no_gen`.
     fn remove_inx_link_no_gen(&mut self, i: P::Inx) -> InvalidationResult<(P::Gen, LinkNoGen<P, T>)>
         ensures answer { option_map (on_value (link_view P.Inx.packed_number)) (value_within result)
             ≡ link_at (Self.entry self.old) (interlinks self.old) (P.Inx.number i) }
@@ -276,12 +341,16 @@ pub trait ChainArenaTrait<P: PtrKey, T: Drop>: ArenaTrait<P, T> {
         ensures invalid { Self.entry self.old (P.Inx.number i) ≡ None → self.new ≡ self.old }
         ensures agreed { IsWellLinked (interlinks self.old) };
 
-    /// Lays the chains one after another from index 1 on, in the order of their least indexes: each comes to one run of
-    /// indexes in `next` order, a linear one from its start, a cyclic one from its least index. Each link keeps its value
-    /// and its neighbors, and has the counter as its generation. The slots are exactly the links then. It takes no memory.
+    /// Compacts the chains to the indexes from 1 on, each in one run of indexes in `next` order.
     ///
-    /// The counter begins anew with `reset`, and else is incremented where there are links. `GenerationOverflow`: it was at
-    /// its greatest, and is two now.
+    /// The chains are in the order of their least indexes, a linear chain from its start, a cyclic
+    /// chain from its least index. Each link keeps its value and neighbors, and has the counter as
+    /// its generation. The slots are exactly the links then. Does not allocate.
+    ///
+    /// With `reset` the counter begins anew. Otherwise it is incremented if there are links;
+    /// `GenerationOverflow` is returned if it wrapped to two.
+    ///
+    /// Port of `ChainArenaTrait::compress_canonical`.
     fn compress_canonical(&mut self, reset: bool) -> InvalidationOption<()>
         ensures canonical { IsCanonicalLayout P.Gen.first P.Gen.following reset (Self.view self.old)
             (interlinks self.old) (Self.view self.new) (interlinks self.new) }
@@ -290,15 +359,16 @@ pub trait ChainArenaTrait<P: PtrKey, T: Drop>: ArenaTrait<P, T> {
             (length (Self.view self.old).entries) g) tt) }
         ensures agreed { IsWellLinked (interlinks self.old) };
 
-    // A call of an advancer along a chain passes the link before it, in the arena of that call, or nothing any more.
+    // A call of an advancer along a chain takes the next step of its walk, in the arena of that
+    // call, or ends the walk.
     ghost passes: { (a b : Self.ChainPtrAdvancer) (c : Self) (r : Option P)
         → Self.ChainPtrAdvancer.gives a c r b → IsPassing (Self.entry c) (interlinks c) (walker a)
         (option_map P.key r) (walker b) };
 
-    // A link stands where an entry stands.
+    // A link exists exactly where an entry does.
     ghost stand: { (a : Self) (i : ℕ) → is_some (interlinks a i) ≡ is_some (Self.entry a i) };
 
-    // What the calls of `ArenaTrait` do to chains.
+    // The effects of the calls of `ArenaTrait` on the chains.
     ghost grown: { (n : ℕ) (a b : Self) → Self.grows n a b → interlinks b ≡ interlinks a };
 
     ghost written: { (a b : Self) (i : ℕ) (t : T) → Self.writes a i t b

@@ -1,4 +1,4 @@
-// An arena of links that is known by its traits alone, whose chains are taken out one after another.
+// Removes the links of any arena of links, chain by chain.
 ghost use Rattle.std.specs.Prelude.{◌≡◌, ◌≢◌, ℕ, [], IsSome, IfSome, IfNone, None, Some};
 ghost use Rattle.std.specs.Option.{option_map};
 ghost use Rattle.arena_ptr.specs.Invalidation.{value_in, is_overflow};
@@ -15,7 +15,7 @@ use arena_base::{Advancer, excluded, invalidated};
 use arena_ptr::{InvalidationOption, InxKey, PtrKey};
 use chain_links::walk_direction::going_on;
 
-// The index of the link before the one at an index.
+// Returns the index of the link before the link at `i`.
 fn before<Q: PtrKey, U: Drop, A: ChainArenaTrait<Q, U>>(source: &A, i: Q::Inx) -> Option<Q::Inx>
     ensures { option_map Q.Inx.number result ≡ prev_of (A.interlinks source.now) (Q.Inx.number i) }
 {
@@ -25,7 +25,7 @@ fn before<Q: PtrKey, U: Drop, A: ChainArenaTrait<Q, U>>(source: &A, i: Q::Inx) -
     }
 }
 
-// The link that the chain of one is written from: the start of a linear one, and itself in a cyclic one.
+// Returns the first link of the chain of `i`: its start if it is linear, and `i` if it is cyclic.
 fn start_of<Q: PtrKey, U: Drop, A: ChainArenaTrait<Q, U>>(source: &A, i: Q::Inx) -> Q::Inx
     requires agree { IsWellLinked (A.interlinks source.now) }
     requires some { IsSome (A.entry source.now (Q.Inx.number i)) }
@@ -47,7 +47,7 @@ fn start_of<Q: PtrKey, U: Drop, A: ChainArenaTrait<Q, U>>(source: &A, i: Q::Inx)
     excluded!()
 }
 
-// The next chain of a source: the link that it is written from, and whether it is cyclic.
+// Returns the first link of the next chain of a source, and whether the chain is cyclic.
 fn next_chain<Q: PtrKey, U: Drop, A: ChainArenaTrait<Q, U>>(
     source: &A,
     advancer: &mut A::PtrAdvancer,
@@ -69,8 +69,10 @@ fn next_chain<Q: PtrKey, U: Drop, A: ChainArenaTrait<Q, U>>(
     }
 }
 
-// The next link to take: the one that a chain goes on to, or else that which the next chain is written from; with whether
-// its chain is cyclic, and the ends of what is laid of it.
+// Returns the next link to remove, whether its chain is cyclic, and the ends of the chain's placed
+// part.
+//
+// The link is `on`, or the first link of the next chain if there is none.
 fn next_link<Q: PtrKey, U: Drop, A: ChainArenaTrait<Q, U>, I: Copy + Drop>(
     source: &A,
     advancer: &mut A::PtrAdvancer,
@@ -98,9 +100,11 @@ fn next_link<Q: PtrKey, U: Drop, A: ChainArenaTrait<Q, U>, I: Copy + Drop>(
     }
 }
 
-/// Takes the next link out: the one that a chain goes on to, or else that which the next chain is written from. Answers its
-/// pointer, its value, where it is told whether the counter overflowed, the index of the link after it, unless that is
-/// itself, whether its chain is cyclic, and the ends of what is laid of it.
+/// Removes the next link: `on`, or the first link of the next chain if there is none.
+///
+/// Returns its pointer, its value with whether the counter overflowed, and the index of the link
+/// after it, unless that is itself. Also returns whether its chain is cyclic, and the ends of the
+/// chain's placed part.
 pub fn take_next<Q: PtrKey, U: Drop, A: ChainArenaTrait<Q, U>, I: Copy + Drop>(
     source: &mut A,
     advancer: &mut A::PtrAdvancer,
@@ -138,8 +142,8 @@ pub fn take_next<Q: PtrKey, U: Drop, A: ChainArenaTrait<Q, U>, I: Copy + Drop>(
     (q, value, next, cyclic, laid)
 }
 
-// Takes the link at an index out, and answers its pointer, its value, where it is told whether the counter overflowed, and
-// the index of the link after it, unless that is itself.
+// Removes the link at an index. Returns its pointer, its value with whether the counter overflowed,
+// and the index of the link after it, unless that is itself.
 fn take_link<Q: PtrKey, U: Drop, A: ChainArenaTrait<Q, U>>(
     source: &mut A,
     i: Q::Inx,

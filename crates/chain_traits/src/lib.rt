@@ -1,4 +1,4 @@
-//! What is asked of any arena of links, and how its chains are taken out, whatever it is.
+//! The trait of arenas of links, and generic walks, drains and laws for any such arena.
 #![tactic(auto)]
 
 mod chain_traits;

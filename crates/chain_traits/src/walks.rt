@@ -9,11 +9,12 @@ use arena_base::Advancer;
 use arena_ptr::{InxKey, PtrKey};
 use std::alloc::{AllocError, Global};
 
-/// Shows that an advancer along the chain of `p` passes the walk from `p`, while the arena stays the same. It has no
-/// effect.
+/// States that an advancer along the chain of `p` passes the walk from `p`, while the arena stays
+/// the same.
 ///
-/// Each `advance` takes one step of the advancer's walker, so the pointers that a loop has collected and `passes_ahead` of
-/// the walker are together the walk: that is the invariant of such a loop, as in `walk`.
+/// Has no effect. Each `advance` takes one step of the advancer's walker. So the pointers that a
+/// loop has collected and `passes_ahead` of the walker are together the walk: the loop's invariant,
+/// as in `walk`.
 pub fn advancer_passes_the_walk<P: PtrKey, T: Drop, A: ChainArenaTrait<P, T>>(arena: &A, p: P)
     ensures { IsValid (A.entry arena.now) (P.key p) → IsWalk (A.interlinks arena.now) (P.key p).0
         (passes_ahead (A.interlinks arena.now)
@@ -22,12 +23,14 @@ pub fn advancer_passes_the_walk<P: PtrKey, T: Drop, A: ChainArenaTrait<P, T>>(ar
     arena.invariants();
 }
 
-/// Returns the pointers of the links of one chain, each once, in walk order: from `p` on to the end, and then from the link
-/// before `p` back to the start; a cyclic chain once around. Returns `None` if `p` is not valid.
+/// Returns the pointers of the links of one chain, each once, or `None` if `p` is not valid.
+///
+/// They are in walk order: from `p` to the end, then from the link before `p` back to the start; a
+/// cyclic chain once around.
 ///
 /// # Errors
 ///
-/// `AllocError` if memory for the pointers was refused.
+/// - `AllocError`: an allocation failed.
 pub fn walk<P: PtrKey, T: Drop, A: ChainArenaTrait<P, T>>(
     arena: &A,
     alloc: Global,

@@ -1,4 +1,4 @@
-// The layout of chains, one after another.
+// The canonical compaction of chains.
 ghost use Rattle.chain_laws.specs.Chains.{IsWellLinked};
 ghost use Rattle.chain_links.specs.ChainArena.{link_map};
 ghost use Rattle.chain_links.specs.Links.{links_view};
@@ -10,7 +10,7 @@ use chain_compaction::canonical;
 use chain_compaction::visitor::Visitor;
 use chain_links::LinkNoGen;
 
-/// `chain_compaction::canonical::lay_out`, under the clause that says what becomes of the links.
+/// Forwards to `chain_compaction::canonical::lay_out`, with its clause on the links.
 pub fn lay_out<
     P: PtrKey,
     T: Drop,

@@ -1,5 +1,6 @@
-//! Calls of the rooms below `chain_arena`, each handed on under the contract that it has there. What such a contract refuses is
-//! shown here, where little is proved: each edit of `must-fail/` puts a wrong body in the place of a call.
+//! Forwarding wrappers for functions of the crates below `chain_arena`, under clauses of their
+//! contracts. Each edit of `must-fail/` replaces a body with a mutant that these clauses reject,
+//! with little to prove.
 #![tactic(auto)]
 
 mod layouts;

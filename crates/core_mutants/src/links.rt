@@ -1,4 +1,4 @@
-// Calls that read and write interlinks.
+// Functions that read and write interlinks.
 ghost use Rattle.std.specs.Prelude.{◌≡◌, ◌↔◌, IsSome, IfSome, OnSome, IfNone, Some, None};
 ghost use Rattle.std.specs.Option.{option_map};
 ghost use Rattle.arena_ptr.specs.Invalidation.{value_within, invalidation_result};
@@ -30,7 +30,7 @@ pub fn link_up<P: PtrKey, T: Drop, S: SlotStack<Item = ArenaSlot<P, LinkNoGen<P,
     link_writes::link_up(arena, prev, next);
 }
 
-/// Forwards to `chain_linking::connection::join`, which is what a connection does.
+/// Forwards to `chain_linking::connection::join`, which is what `connect` does.
 pub fn join<P: PtrKey, T: Drop, S: SlotStack<Item = ArenaSlot<P, LinkNoGen<P, T>>>>(
     arena: &mut Arena<P, LinkNoGen<P, T>, S>,
     p: P,

@@ -1,17 +1,17 @@
-// Calls of a stack of slots, whichever it is.
+// Functions of any stack of slots.
 ghost use Rattle.std.specs.Prelude.{◌≡◌, OnErr, slice_get};
 ghost use Rattle.std.specs.Option.{option_copied};
 
 use arena_ptr::{ReallocationError, SlotStack};
 
-/// `SlotStack::get`.
+/// Forwards to `SlotStack::get`.
 pub fn slot_at<S: SlotStack>(stack: &S, i: usize) -> Option<&S::Item>
     ensures { option_copied result ≡ slice_get (S.items stack.now) i }
 {
     stack.get(i)
 }
 
-/// `SlotStack::reserve_to`, as far as a refusal leaves the stack.
+/// Forwards to `SlotStack::reserve_to`, with the clauses on the stack after a refusal.
 pub fn reserve_to<S: SlotStack>(stack: &mut S, n: usize) -> Result<(), ReallocationError>
     ensures items { S.items stack.new ≡ S.items stack.old }
     ensures refused { OnErr result (S.capacity stack.new ≡ S.capacity stack.old) }

@@ -1,4 +1,4 @@
-// Calls of the trait of arenas of links.
+// Functions of `ChainArenaTrait`.
 ghost use Rattle.std.specs.Prelude.{◌≡◌, ◌↔◌, IsSome, IfSome, OnSome, IfNone};
 ghost use Rattle.chain_laws.specs.Chains.{IsWellLinked, next_of};
 ghost use Rattle.chain_laws.specs.Cuts.{cut, Cuts};

@@ -1,4 +1,4 @@
--- What is asked of a call of an advancer does not speak of what it becomes with the answer none.
+-- The contract of an advancer states nothing of the advancer after `None`.
 use Rattle.std.specs.Prelude.{◌≡◌, ℕ, List, Option, None, Some, OnSome}
 use Rattle.std.specs.Option.{option_map}
 use Rattle.std.proofs.Common.{subst, sym}

@@ -1,5 +1,6 @@
-//! A second arena of links for generic code: it hands each call on to another arena, of which it knows the contract
-//! alone, so that it is an arena of links by the clauses of the traits and nothing else.
+//! A second implementation of the traits, for generic code, that forwards to another arena.
+//!
+//! It knows only the contract of that arena, so it is an arena of links by the trait clauses alone.
 
 use arena_base::{Advancer, ArenaTrait, CompactArenaTrait};
 use arena_ptr::{
@@ -10,14 +11,16 @@ use chain_links::{Link, LinkInsertKind, LinkNoGen};
 use chain_traits::ChainArenaTrait;
 use std::alloc::Global;
 
-/// An arena around an arena.
+/// An arena that forwards to another arena.
 #[derive(Drop)]
 pub struct ForwardingArena<A> {
     inner: A,
 }
 
-/// An advancer around an advancer. It may have a second one, with which it goes on after its first `None`: no trait asks
-/// what an advancer of an arena does then.
+/// An advancer that forwards to another advancer.
+///
+/// It may have a second one, with which it goes on after its first `None`: no trait restricts an
+/// advancer of an arena then.
 #[derive(Drop)]
 pub struct ForwardingAdvancer<V> {
     inner: V,
@@ -58,7 +61,7 @@ impl<A, V: Advancer<A>> Advancer<ForwardingArena<A>> for ForwardingAdvancer<V> {
     }
 }
 
-/// An advancer along a chain around another.
+/// An advancer along a chain that forwards to another.
 #[derive(Drop)]
 pub struct ForwardingWalk<V> {
     inner: V,

@@ -1,4 +1,4 @@
--- A second canonical layout has the same order, which is that of the indexes.
+-- A second canonical compression orders the links by index.
 use Rattle.chain_traits.proofs.SecondCompressionLemmas.{moves_nothing}
 use Rattle.chain_traits.proofs.compression_laws.second_compression_moves_nothing.Goals as goal
 

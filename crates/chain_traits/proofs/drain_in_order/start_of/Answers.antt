@@ -1,4 +1,4 @@
--- One step back more, the start of a linear chain, and once round a cyclic one.
+-- One more step back, a linear chain's start, and a cyclic chain once around.
 use Rattle.std.proofs.Common.{◌≡◌, Bool, true, false, Some, sym, ap, ◌∙◌, arith, of_calls}
 use Rattle.chain_laws.proofs.WalkLemmas.WalkBack.{back_begins, back_goes_on, back_ends, back_comes_round}
 use Rattle.chain_laws.proofs.ChainLemmas.LinkedLists.{next_valid}

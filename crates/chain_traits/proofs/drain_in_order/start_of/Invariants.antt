@@ -1,4 +1,4 @@
--- So many steps back.
+-- The walk back has made `step` steps.
 use Rattle.std.specs.Prelude.{IsSome}
 use Rattle.chain_laws.specs.ChainStart.{IsBack}
 use Rattle.chain_traits.proofs.drain_in_order.start_of.Given as goal

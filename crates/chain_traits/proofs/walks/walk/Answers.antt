@@ -1,4 +1,4 @@
--- The pointers passed are the walk, of which nothing is left.
+-- The passed pointers are the walk, of which nothing is left.
 use Rattle.std.proofs.Common.{◌≡◌, None, refl, sym, ap, ◌∙◌, subst, arith}
 use Rattle.arena_base.specs.Arena.{IsValid}
 use Rattle.chain_laws.specs.Walks.{IsWalk, passes_ahead}

@@ -1,4 +1,4 @@
--- The pointers passed so far and what is ahead are together what was ahead at first.
+-- The passed pointers and those ahead are together the walk.
 use Rattle.std.proofs.Common.{◌≡◌, ◌++◌, map}
 use Rattle.std.specs.Prelude.{All}
 use Rattle.arena_base.specs.Arena.{IsValid}

@@ -1,4 +1,4 @@
--- The facts of the call are all that is needed, so the search is a small one, and a wrong body soon fails it.
+-- Uses only the facts of the call, so the search is small and a mutant fails early.
 use Rattle.std.proofs.Common.{rules}
 use Rattle.core_mutants.proofs.trait_calls.break_next.Goals as goal
 

@@ -1,4 +1,4 @@
--- The interlinks agree, and each link's index is one of the index type.
+-- The interlinks agree, and indexes are within the index type.
 use Rattle.chain_laws.proofs.ChainLemmas.Partitions.{one_set}
 use Rattle.chain_traits.proofs.GenericArenaLemmas.{links_within}
 use Rattle.chain_traits.proofs.chain_traits.ChainArenaTrait.invariants.Goals as goal
