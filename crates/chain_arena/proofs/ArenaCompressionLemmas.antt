@@ -1,4 +1,4 @@
--- A compression of a chain arena: its counter is set, and its links are brought together.
+-- A compression of a chain arena: its counter is set, and its links are moved to the front.
 use Rattle.std.proofs.Common.{◌≡◌, ℕ, ◌+◌, ◌*◌, ◌≤◌, length, map, Bool, refl, ap, sym, ◌∙◌, subst}
 use Rattle.std.specs.Option.{option_map}
 use Rattle.std.specs.Fn.{Mut}
@@ -18,7 +18,7 @@ use Rattle.chain_compaction.specs.LinkCompressions.{ClosesHoles, AreGathered}
 
 module _ {F P T Gen : Type 0} (g : Mut F (P × (MutBor T × (P × Unit {0}))) (Unit {0} × (MutBor T × Unit {0}))) (key : P → ℕ × Gen) (f : F)
     (counter : Gen) (old mid new : Arena Gen (LinkView T)) (is_mid : mid ≡ with_counter old counter) (gathering : AreGathered g key f mid new) where
-  -- the values alone, as if each slot had been touched as those of an arena without interlinks are
+  -- the values alone, as if touched as in an arena without interlinks
   like_gathered : IsGathered g key f (values_of mid) (gathered (values_of mid) gathering.values)
   like_gathered = record {
     values = gathering.values;
@@ -51,7 +51,7 @@ module _ {F P T Gen : Type 0} (g : Mut F (P × (MutBor T × (P × Unit {0}))) (U
         maximum = like.maximum;
       })
 
-  -- the closure saw the values, and left them as they are
+  -- the closure saw the values, and they are as it left them
   pub links_visited : VisitsAll g key f (entries (values_of old)) (entries (values_of new))
   links_visited = subst (λ es. VisitsAll g key f es (entries (values_of new))) (ap (λ (a : Arena Gen (LinkView T)). entries (values_of a)) is_mid) gathering.visits
 
@@ -65,6 +65,6 @@ module _ {F P T Gen : Type 0} (g : Mut F (P × (MutBor T × (P × Unit {0}))) (U
     stack_capacity = ap (λ (a : Arena Gen T). a.stack_capacity) gathering.arena ∙ ap (λ (a : Arena Gen (LinkView T)). a.stack_capacity) is_mid;
   }
 
-  -- and agree as before
+  -- the links stay well linked
   pub links_agree : IsWellLinked (link_map old) → IsWellLinked (link_map new)
   links_agree agrees = renaming_agrees (place_in (map index_of (entries (values_of old)))) (link_map old) (link_map new) links_renamed agrees

@@ -1,4 +1,4 @@
--- What a cut and an exchange tell of a chain arena, from its state.
+-- Effects of cuts and exchanges on a chain arena, from its state.
 use Rattle.std.proofs.Common.{◌≡◌, ℕ, Option, None, Some, ap, sym, ◌∙◌, subst, IfSome}
 use Rattle.chain_laws.specs.Chains.{LinkMap, IsWellLinked, HasLink, next_of}
 use Rattle.chain_laws.specs.Neighbors.{AreNeighbors}
@@ -13,7 +13,7 @@ use Rattle.arena_base.specs.Arena.{Arena}
 use Rattle.chain_links.specs.ChainArena.{LinkView, link_map, values_of, relinked, IsCut, IsExchange}
 use Rattle.chain_linking.proofs.LinkWriteLemmas.{FitsLinks-twice, link_map-relinked, values_of-relinked}
 
--- what holds of the index that is told
+-- what holds of a known index
 pub at_told : (F : ℕ → Type 0) (o : Option ℕ) (n : ℕ) → o ≡ Some n → F n → IfSome o F
 at_told F o n is holds = subst (λ x. IfSome x F) (sym is) holds
 

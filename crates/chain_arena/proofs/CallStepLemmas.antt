@@ -37,7 +37,7 @@ use Rattle.chain_arena.proofs.NewLinkLemmas.{AnswersInsertion}
 use Rattle.chain_arena.proofs.ChainDrainLemmas.{link_map-without_each, link_at-entry}
 use Rattle.chain_links.proofs.MappedArenaLemmas.{entry_at-with_each}
 
--- whether a call was done that is done where it can be
+-- a call that is done exactly if it can be
 done_is : (P : Bool → Type 0) {Can Done Same : Type 0} → (Can → Done → P true) → ((Can → ⊥) → Same → P false) → (r : Option Unit) → IsSome r ↔ Can → OnSome r Done → IfNone r Same → P (is_some r)
 done_is P made not_made (Some u) some done none = made (some.0 refl) done
 done_is P made not_made None some done none = not_made (λ can. false≢true (some.1 can)) none
@@ -58,7 +58,7 @@ module _ {Gen T : Type 0} (old new : Links Gen T) where
       all None state shows pair chains = tt
       all (Some u) state shows pair chains = record { state = state; shows = shows; pair = pair; chains = chains }
 
-  -- a cut from the link before ..
+  -- a cut from the previous link
   pub breaks_prev : (p : ℕ × Gen) (r : Option Unit) (b : Bool) → IsSome r ↔ (IsValid (entry old) p × IsSome (prev_of (link_map old) p.0)) → OnSome r (IfSome (prev_of (link_map old) p.0) (λ a. IsCut old new a p.0))
       → IfNone r (new ≡ old) → b ≡ is_some r → BreakPrevStep old p b new
   breaks_prev p r b some state none is = done_step (λ b. BreakPrevStep old p b new) (made (prev_of (link_map old) p.0) refl) (not_made (prev_of (link_map old) p.0) refl) r b some state none is
@@ -71,7 +71,7 @@ module _ {Gen T : Type 0} (old new : Links Gen T) where
       not_made None at cannot same = (λ valid. at, same)
       not_made (Some a) at cannot same = (λ valid. absurd (cannot (valid, ap (λ (o : Option ℕ). is_some o) at)), same)
 
-  -- .. and from the one after
+  -- a cut from the next link
   pub breaks_next : (p : ℕ × Gen) (r : Option Unit) (b : Bool) → IsSome r ↔ (IsValid (entry old) p × IsSome (next_of (link_map old) p.0)) → OnSome r (IfSome (next_of (link_map old) p.0) (λ c. IsCut old new p.0 c))
       → IfNone r (new ≡ old) → b ≡ is_some r → BreakNextStep old p b new
   breaks_next p r b some state none is = done_step (λ b. BreakNextStep old p b new) (made (next_of (link_map old) p.0) refl) (not_made (next_of (link_map old) p.0) refl) r b some state none is
@@ -96,7 +96,7 @@ overflowed : {A : Type 0} (b : Bool) (x : A) → GenerationOverflow x ≡ invali
 overflowed true x told = refl
 overflowed false x told = absurd (let h = told in cc)
 
--- an answer tells what was done where it was done, and else that nothing was
+-- a result reports what was done, or else that nothing was
 pub tells : {X : Type 0} {Can Invalid : Type 0} (Done : X → Type 0) (overflow : Bool) (r : InvalidationResult X) → Can ⊎ (Can → ⊥) → r ≡ invalidation_result overflow (value_within r)
     → (Can → IsSome (value_within r)) → (Can → (x : X) → value_within r ≡ Some x → Done x) → ((Can → ⊥) → (value_within r ≡ None) × Invalid) → ReportsOverflow Invalid overflow Done r
 tells Done overflow (Success x) can told some done invalid = ⊎_elim (λ is. (not_overflowed overflow x told, done is x refl)) (λ no. absurd (let h = (invalid no).0 in cc)) can
@@ -104,7 +104,7 @@ tells Done overflow (GenerationOverflow x) can told some done invalid = ⊎_elim
 tells Done overflow InvalidPtr can told some done invalid = ⊎_elim (λ is. absurd (false≢true (some is))) (λ no. (invalid no).1) can
 
 module _ {Gen T : Type 0} where
-  -- a drain that stood at a pointer's link, of which some links were taken and then the rest
+  -- a drain that took some links from a pointer's link on, and then the rest
   pub drained_is : (following : Gen → Gen) (old held new : Links Gen T) (p : ℕ × Gen) (at take count : ℕ) → held ≡ old → at ≡ p.0 → IsValid (entry old) p → IsWalk (link_map old) p.0 (walk_left old p.0)
       → count ≡ min take (length (walk_left held at)) → new ≡ without_each following held (walk_left held at) → IsDrained following old p take count new
   drained_is following old held new p at take count same stood valid is_walk counted gone =
@@ -121,7 +121,7 @@ module _ {Gen T : Type 0} where
       }
 
 module _ {P I Gen W T : Type 0} (pointers : PointerKind P I Gen W) where
-  -- room that was asked for
+  -- a growth to a given capacity
   pub reserves : (n : ℕ) (old new : Links Gen T) (r : Result Unit ReallocationError) → (n ≤ old.capacity → IsOk r × (new ≡ old)) → (r ≡ Err refused.BeyondMaxCapacity) ↔ IsBeyond old.maximum n
       → OnOk r (IsCapacityFor pointers.greatest new.maximum n new.capacity) → OnErr r (new ≡ old) → new ≡ with_capacity_of old new → HasCapacityFor pointers.greatest (length new.slots) new → ReserveStep pointers old n r new
   reserves n old new (Ok done) within beyond ok err state room =
@@ -155,7 +155,7 @@ module _ {P I Gen W T : Type 0} (pointers : PointerKind P I Gen W) (old new : Li
     chains = subst (λ q. Inserts (link_map old) (link_map new) q (link_before (link_map old) by q) (link_after (link_map old) by q)) place inserted.chains;
   }
 
-  -- in an arena that is not left room, one more is above the capacity
+  -- in an arena without free capacity, one more link exceeds the capacity
   is_full : (more : Type 0) → (HasFreeCapacity (value_view old) → IsTrue false × more) → old.capacity < entry_count old + 1
   is_full more room = let none : HasFreeCapacity (value_view old) → ⊥ = (λ left. false≢true (room left).0) in omega (arith, none, values-count old)
 
@@ -187,7 +187,7 @@ module _ {P I Gen W T : Type 0} (pointers : PointerKind P I Gen W) (old new : Li
       let past = beyond.0 refl in
       (past.0, (is_full more (room past.0), subst (λ n. IsBeyond old.maximum (n + 1)) (values-count old) past.1.1), same)
 
-  -- .. and one within the capacity
+  -- an insertion within the capacity
   pub inserts_within : (r : Result P ChainInsertionError) → IsAnswer r → OnErr r (new ≡ old) → (r ≡ Err failed.FailedLinkRequirement) ↔ (MayInsertKind pointers old kind → ⊥)
       → (r ≡ Err failed.NotWithinCapacity) ↔ (MayInsertKind pointers old kind × (count (value_view old) ≡ old.capacity)) → IfErr r (λ e. (e ≡ failed.FailedLinkRequirement) ⊎ (e ≡ failed.NotWithinCapacity))
       → IfOk r (λ p. (pointers.key p).0 ≡ next_index old) → OnOk r (new ≡ insert_as old by t) → InsertWithinStep pointers old kind t r new
@@ -206,7 +206,7 @@ module _ {P I Gen W T : Type 0} (pointers : PointerKind P I Gen W) (old new : Li
   inserts_within (Err failed.BeyondMaxCapacity) inserted same link full error place state = ⊎_elim (λ is. let h = is in absurd (cc)) (λ is. let h = is in absurd (cc)) error
 
 module _ {P I Gen W T : Type 0} (pointers : PointerKind P I Gen W) (old new : Links Gen T) where
-  -- where a value stands a link does
+  -- there is a link where there is a value
   some_link : (i : ℕ) (e : Gen × T) → entry old i ≡ Some e → is_some (entry_at old i) ≡ true
   some_link i e stands = by (entry_at old i) (sym (entry_at-with_each link_value old i) ∙ stands)
     where
@@ -232,7 +232,7 @@ module _ {P I Gen W T : Type 0} (pointers : PointerKind P I Gen W) (old new : Li
       answers None same stands = sym same ∙ stands
       answers (Some l) same stands = refl
 
-  -- .. and by index
+  -- a removal by index
   pub removes_inx : (i : ℕ) (r : InvalidationResult (Gen × LinkBody (PackedOption I W) T)) → option_map (on_value (link_view pointers.packed)) (value_within r) ≡ link_at (entry old) (link_map old) i
       → (IsSome (entry old i) → IsRemoval pointers.following old i new) → r ≡ invalidation_result (pointers.wraps old.counter) (value_within r) → (entry old i ≡ None → new ≡ old)
       → RemoveInxStep pointers old i r new
@@ -249,7 +249,7 @@ module _ {P I Gen W T : Type 0} (pointers : PointerKind P I Gen W) (old new : Li
       by (Some e) is = tells {Can = Unit {0}} (λ e. IsTaken pointers old i e.0 e.1 new) (pointers.wraps old.counter) r (inl tt) overflow (λ _. ap is_some is)
           (λ _ f now. record { stood = stood (Some f) now; removal = removal (ap is_some (held (Some e) is)) }) (λ no. absurd (no tt))
 
-  -- the next generation for a link
+  -- a new generation for a link
   pub renews_link : (p : ℕ × Gen) (r : InvalidationResult P) → IsValid (entry old) p ⊎ (IsValid (entry old) p → ⊥)
       → (IsValid (entry old) p → IfSome (value_within r) (λ q. ((pointers.key q).0 ≡ p.0) × (value_view new ≡ renewed (value_view old) (pointers.key q))) × IsSome (value_within r))
       → (r ≡ invalidation_result (pointers.wraps old.counter) (value_within r)) × IfSome (value_within r) (λ q. (pointers.key q).1 ≡ pointers.following old.counter)
@@ -259,12 +259,12 @@ module _ {P I Gen W T : Type 0} (pointers : PointerKind P I Gen W) (old new : Li
       (λ is q at. (is, ap₂ (λ (i : ℕ) (g : Gen). (i, g)) (subst (λ o. IfSome o (λ q. ((pointers.key q).0 ≡ p.0) × (value_view new ≡ renewed (value_view old) (pointers.key q)))) at (valid is).0).0 (subst (λ o. IfSome o (λ q. (pointers.key q).1 ≡ pointers.following old.counter)) at counter.1), (state is).0, (state is).1))
       (λ no. ((invalid no).0, (no, (invalid no).1)))
 
--- the links counted and seen are as many, where a clear ..
+-- a clear's overflow, by the number of links in place of entries
 pub clears_all : {Gen T : Type 0} (wraps : Gen → Bool) (old : Links Gen T) (r : InvalidationOption Unit) → r ≡ invalidation_option (overflows_after_clear wraps (length (value_view old).entries) old.counter) tt
     → r ≡ invalidation_option (overflows_after_clear wraps (entry_count old) old.counter) tt
 clears_all wraps old r told = told ∙ ap (λ n. invalidation_option (overflows_after_clear wraps n old.counter) tt) (values-count old)
 
--- .. or a compression tells of the counter
+-- a compression's overflow, by the number of links in place of entries
 pub compresses : {Gen T : Type 0} (wraps : Gen → Bool) (old : Links Gen T) (reset : Bool) (r : InvalidationOption Unit) → r ≡ invalidation_option (overflows_after_compression wraps reset (length (value_view old).entries) old.counter) tt
     → r ≡ invalidation_option (overflows_after_compression wraps reset (entry_count old) old.counter) tt
 compresses wraps old reset r told = told ∙ ap (λ n. invalidation_option (overflows_after_compression wraps reset n old.counter) tt) (values-count old)

@@ -1,4 +1,4 @@
--- A canonical compression of a chain arena: its counter is set, and its links are laid out.
+-- A canonical compression of a chain arena: its counter is set, and its links are arranged.
 use Rattle.std.proofs.Common.{◌≡◌, ℕ, suc, ◌+◌, Bool, List, [], ◌∷◌, length, map, Option, Some, refl, ap, sym, ◌∙◌, subst, arith}
 use Rattle.std.specs.Option.{option_map}
 use Rattle.std.specs.List.{range_with_len}
@@ -23,7 +23,7 @@ use Rattle.chain_links.specs.CanonicalLayouts.{IsCanonicalLayout}
 use Rattle.chain_links.proofs.ArenaInsertionLemmas.{some_entry, values-count}
 use Rattle.chain_compaction.proofs.ArrangementLemmas.{count-standing}
 
--- the values of entries that stand at the front
+-- the values of entries at the front
 values-fronted : {Gen T : Type 0} (g : Gen) (values : List T) (i : ℕ) → values_in (entries_from i (fronted g values [])) ≡ values
 values-fronted g [] i = refl
 values-fronted {Gen} {T} g (t ∷ values) i = ap (λ (ts : List T). t ∷ ts) (values-fronted g values (suc i))
@@ -39,11 +39,11 @@ module _ {F P T Gen : Type 0} (g : F → P → P → F → Type 0) (key : P → 
   links_renamed : IsRenaming (place_in laid.indexes) (link_map old) (link_map new)
   links_renamed = subst (λ (s : LinkMap). IsRenaming (place_in laid.indexes) s (link_map new)) same_shown laid.renamed
 
-  -- they agree as before
+  -- the links stay well linked
   pub laid_agree : IsWellLinked (link_map old) → IsWellLinked (link_map new)
   laid_agree agrees = renaming_agrees (place_in laid.indexes) (link_map old) (link_map new) links_renamed agrees
 
-  -- their chains lie in runs
+  -- the chains are at consecutive indexes
   links_run : AreChains (link_map new) (in_runs 1 links_ordered.chains)
   links_run =
       (lays_chains_in_runs (link_map old) (link_map new) links_ordered.chains (chains_from_pairs (link_map old) links_ordered.chains links_ordered.are.partition links_ordered.are.interlinks)
@@ -52,7 +52,7 @@ module _ {F P T Gen : Type 0} (g : F → P → P → F → Type 0) (key : P → 
   links_arranged : IsArrangement (link_map old) laid.indexes
   links_arranged = canonical_arranges (link_map old) laid.indexes (least_index_order_is_canonical (link_map old) laid.indexes links_ordered)
 
-  -- there is one index for each link, and one value
+  -- there is one index and one value for each link
   indexes_counted : length (entries (values_of old)) ≡ length laid.indexes
   indexes_counted =
       values-count old
@@ -70,11 +70,11 @@ module _ {F P T Gen : Type 0} (g : F → P → P → F → Type 0) (key : P → 
   is_after : values_of new ≡ after
   is_after = laid.arena ∙ (λ i. record (gathered (values_of (is_mid i)) laid.values) { touched = (is_mid i).touched + laid.touches })
 
-  -- what stands at each index is what is found there
+  -- the entry at each index is the one found there
   entry_found : entry mid ≡ (λ i. found i (entries (values_of old)))
   entry_found = ap (λ (a : Arena Gen (LinkView T)). entry a) is_mid ∙ sym (fun_ext (λ i. found-entries (values_of old) i))
 
-  -- the arena is canonical
+  -- the arena is arranged canonically
   pub laid_canonical : (first : Gen) (following : Gen → Gen) (reset : Bool) (count : ℕ) → counter ≡ counter_after_compression first following reset count old.counter → count ≡ length (entries (values_of old))
       → IsCanonicalLayout first following reset (value_view old) (link_map old) (value_view new) (link_map new)
   laid_canonical first following reset count is_counter is_count =

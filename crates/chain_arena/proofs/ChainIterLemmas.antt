@@ -34,7 +34,7 @@ IsMember-taken k x (suc j) (None ∷ slots) e at stands = IsMember-taken (suc k)
 IsMember-taken k x (suc j) (Some f ∷ slots) e at stands = inr (IsMember-taken (suc k) x j slots e (omega (arith, at)) stands)
 
 module _ {Gen T : Type 0} where
-  -- different valid indexes are no more than the entries
+  -- there are no more distinct valid indexes than entries
   pub length-le_entries : (a : Arena Gen (LinkView T)) (xs : List ℕ) → AreDistinct xs → ((x : ℕ) → IsMember xs x → HasLink (link_map a) x) → length xs ≤ entry_count a
   length-le_entries a xs once valid = subst (λ n. length xs ≤ n) (length-taken 1 a.slots) (length_among xs (taken 1 a.slots) once (λ x has. place x (valid x has))) where
     place : (x : ℕ) → HasLink (link_map a) x → IsMember (taken 1 a.slots) x
@@ -44,7 +44,7 @@ module _ {Gen T : Type 0} where
   links_at-entry : (a : Arena Gen (LinkView T)) (i : ℕ) (indexes : List ℕ) (e : Gen × LinkView T) → entry_at a i ≡ Some e → links_at a (i ∷ indexes) ≡ (i, e) ∷ links_at a indexes
   links_at-entry a i indexes e stands = ap (λ (o : Option (Gen × LinkView T)). let links : List (ℕ × (Gen × LinkView T)) = elim o [ None ↦ [] | Some f ↦ (i, f) ∷ links_at a indexes ] in links) stands
 
-  -- the links at valid indexes stand at them
+  -- the links at valid indexes have these indexes
   index-links_at : (a : Arena Gen (LinkView T)) (indexes : List ℕ) → ((j : ℕ) → IsMember indexes j → HasLink (link_map a) j) → map (λ (e : ℕ × (Gen × LinkView T)). e.0) (links_at a indexes) ≡ indexes
   index-links_at a [] valid = refl
   index-links_at a (i ∷ indexes) valid =
@@ -63,7 +63,7 @@ module _ {Gen T : Type 0} where
     by rest None stands = tt
     by rest (Some e) stands = (stands, rest)
 
-  -- a walker that stands before a valid link passes its walk
+  -- a walker before a valid link passes its walk
   pub links_ahead-walk : (a : Arena Gen (LinkView T)) (i : ℕ) → IsWellLinked (link_map a) → HasLink (link_map a) i → IsWalkOf a i (links_ahead a (entry_count a) i (Some i) (prev_of (link_map a) i))
   links_ahead-walk a i agrees valid =
       let walk = has_walk (link_map a) (length a.slots) i agrees (link_map-within a) valid in
@@ -74,12 +74,12 @@ module _ {Gen T : Type 0} where
         stands = All-from_recursion (StandsAs a) (links_at a walk.0) (links_at-stand a walk.0);
       })
 
-  -- a walk has no more links than the arena
+  -- a walk has at most as many links as the arena
   pub length-walk : (a : Arena Gen (LinkView T)) (i : ℕ) (links : List (ℕ × (Gen × LinkView T))) → IsWalkOf a i links → length links ≤ entry_count a
   length-walk a i links is = subst (λ n. n ≤ entry_count a) (length-map links (λ (e : ℕ × (Gen × LinkView T)). e.0))
       (length-le_entries a (map (λ (e : ℕ × (Gen × LinkView T)). e.0) links) (walk_once (link_map a) i _ is.walk) (walk_valid (link_map a) i _ is.walk))
 
-  -- the same of a walker whose parts are known by equations
+  -- the same for a walker whose parts are known by equations
   pub walker-walk : (a : Arena Gen (LinkView T)) (i left start : ℕ) (back : Option ℕ) (links : List (ℕ × (Gen × LinkView T))) → links ≡ links_ahead a left start (Some start) back
       → left ≡ entry_count a → start ≡ i → back ≡ prev_of (link_map a) i → IsWellLinked (link_map a) → HasLink (link_map a) i → IsWalkOf a i links
   walker-walk a i left start back links are same_left same_start same_back agrees valid =

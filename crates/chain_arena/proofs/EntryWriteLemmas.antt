@@ -1,4 +1,4 @@
--- What a write of a value, a new generation and a clear make of a chain arena.
+-- Effects of writes, new generations and clears on a chain arena.
 use Rattle.std.proofs.Common.{◌≡◌, ℕ, Option, None, Some, refl, ap, ap₂, sym, ◌∙◌, subst}
 use Rattle.std.specs.Prelude.{IfSome, IsSome}
 use Rattle.std.specs.Option.{option_map}
@@ -59,14 +59,14 @@ module _ {Gen K T : Type 0} (number : K → Option ℕ) (following : Gen → Gen
   renewed-seen = ap (λ (x : Arena Gen (LinkView T)). view_of (values_of x)) renewed-state
       ∙ (ap (λ (x : Arena Gen T). view_of x) (with_each-renewed_at link_value following (links_view number a) n) ∙ seen_renewed following (values_of (links_view number a)) n)
 
-  -- the new pointer tells the new generation
+  -- the new pointer has the new generation
   pub renewed-told : {Q : Type 0} (X : Q → Type 0) (key : Q → ℕ × Gen) (o : Option Q) → IfSome o (λ q. ((key q).0 ≡ n) × X q) × IsSome o → IfSome o (λ q. (key q).1 ≡ following a.counter)
       → IfSome o (λ q. ((key q).0 ≡ n) × (view_of (values_of (links_view number b)) ≡ renewed (view_of (values_of (links_view number a))) (key q))) × IsSome o
   renewed-told X key None told generation = absurd (let h = told.1 in cc)
   renewed-told X key (Some q) told generation =
       ((told.0.0, renewed-seen ∙ ap₂ (λ (i : ℕ) (g : Gen). renewed (view_of (values_of (links_view number a))) (i, g)) (sym told.0.0) (sym generation)), told.1)
 
--- after a clear
+-- the arena after a clear
 module _ {Gen K T : Type 0} (number : K → Option ℕ) (following : Gen → Gen) (a b : Arena Gen (LinkBody K T)) (is : b ≡ cleared following a) where
   pub cleared-seen : view_of (values_of (links_view number b)) ≡ emptied following (view_of (values_of (links_view number a)))
   cleared-seen = ap (λ (x : Arena Gen (LinkBody K T)). view_of (values_of (links_view number x))) is

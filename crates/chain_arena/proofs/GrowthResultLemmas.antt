@@ -1,4 +1,4 @@
--- Lemmas on what a call answered.
+-- Results of insertions and of their growths.
 use Rattle.std.proofs.Common.{◌≡◌, ◌↔◌, refl, Result, Ok, Err, OnOk, OnErr, IsErr}
 use Rattle.std.specs.Prelude.{IsOk, IfOk}
 use Rattle.arena_ptr.specs.declared.errors.ReallocationError.TheVariants as refused
@@ -6,7 +6,7 @@ use Rattle.arena_ptr.specs.declared.errors.ChainInsertionError.{ChainInsertionEr
 use Rattle.arena_ptr.specs.declared.errors.ChainInsertionError.TheVariants as failed
 use Rattle.chain_arena.specs.Growths.{growth_of}
 
--- what is known of the answer of an insertion is known of that of its growth
+-- what holds of an insertion's result holds of its growth's result
 pub growth-if_ok : {P : Type 0} (F : P → Type 0) (r : Result P ChainInsertionError) → IfOk r F → IfOk (growth_of r) F
 growth-if_ok F (Ok p) told = told
 growth-if_ok F (Err failed.BeyondMaxCapacity) told = tt
@@ -39,7 +39,7 @@ growth-is_err (Err failed.FailedLinkRequirement) told = refl
 growth-is_err (Err failed.NotWithinCapacity) told = refl
 growth-is_err (Err failed.AllocError) told = refl
 
--- where the links are as the kind asks it is beyond the maximum exactly where the insertion is
+-- if the kind may be inserted, growth and insertion are beyond the maximum alike
 pub growth-beyond : {P : Type 0} {May Needs : Type 0} (r : Result P ChainInsertionError) → May → (r ≡ Err failed.BeyondMaxCapacity) ↔ (May × Needs) → (growth_of r ≡ Err refused.BeyondMaxCapacity) ↔ Needs
 growth-beyond (Ok p) may told = ((λ is. absurd (let h = is in cc)), λ needs. absurd (let h = told.1 (may, needs) in cc))
 growth-beyond (Err failed.BeyondMaxCapacity) may told = ((λ is. (told.0 refl).1), λ needs. refl)

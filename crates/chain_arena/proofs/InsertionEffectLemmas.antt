@@ -1,4 +1,4 @@
--- What an insertion of a kind tells of a chain arena, from its state.
+-- Effects of an insertion on a chain arena, from its state.
 use Rattle.std.proofs.Common.{◌≡◌, ℕ, ◌+◌, length, Option, None, Some, refl, ap, sym, ◌∙◌, subst, subst₂}
 use Rattle.chain_laws.specs.Chains.{LinkMap, IsWellLinked}
 use Rattle.chain_laws.specs.Joins.{with_lone, linked}
@@ -14,7 +14,7 @@ use Rattle.chain_links.proofs.MappedArenaLemmas.{with_each-insert_next, length-w
 use Rattle.chain_links.proofs.ArenaInsertionLemmas.{link_map-insert_lone, link_map-next, inserted_at, length-filled}
 use Rattle.chain_linking.proofs.LinkWriteLemmas.{FitsLinks, FitsLinks-link_map, FitsLinks-next_set, FitsLinks-prev_set, link_map-relinked, values_of-relinked}
 
--- the gap of a kind that may be inserted
+-- the insertion position of a kind that may be inserted
 pub gap_told : (interlinks : LinkMap) (kind : InsertKind ℕ) (q : ℕ) {u v : Option ℕ} → u ≡ link_before interlinks kind q → v ≡ link_after interlinks kind q
     → IsWellLinked interlinks → CanInsert interlinks kind → IsInsertPosition interlinks q u v
 gap_told interlinks kind q before after agrees can = subst₂ (IsInsertPosition interlinks q) (sym before) (sym after) (kind_gap interlinks kind q agrees can)
@@ -28,11 +28,11 @@ module _ {Gen T : Type 0} (a : Arena Gen (LinkView T)) (t : T) (listed : IsListe
       let links = (λ (m : LinkMap) (x y : Option ℕ) (fits : FitsLinks m base). FitsLinks-prev_set base _ y x (FitsLinks-next_set base m x y fits)) in
       links (linked (with_lone (link_map a) q) u (Some q)) (Some q) v (links (with_lone (link_map a) q) u (Some q) lone_fits)
 
-  -- what the arena with a link between two others shows
+  -- the link map of the arena with a link between two others
   pub link_map-insert_between : (u v : Option ℕ) → link_map (insert_between a t u v) ≡ inserted (link_map a) (next_index a) u v
   link_map-insert_between u v = link_map-relinked (insert_lone a t) (inserted (link_map a) (next_index a) u v) (fits_between u v)
 
-  -- .. and its values
+  -- the values of the arena with a link between two others
   pub values_of-insert_between : (u v : Option ℕ) → values_of (insert_between a t u v) ≡ insert_next (values_of a) t
   values_of-insert_between u v =
       values_of-relinked (insert_lone a t) (inserted (link_map a) (next_index a) u v) (fits_between u v) ∙ with_each-insert_next link_value a (lone t)
@@ -52,7 +52,7 @@ module _ {Gen T : Type 0} (a : Arena Gen (LinkView T)) (t : T) (listed : IsListe
     told_values = ap (λ (x : Arena Gen (LinkView T)). values_of x) is
         ∙ ap (λ (x : Arena Gen T). with_capacity_of x (values_of b)) (values_of-insert_between u v)
 
-    -- there is one link more
+    -- there is one more link
     told_more : count (value_view b) ≡ count (value_view a) + 1
     told_more =
         ap (λ (x : Arena Gen T). length (entries x)) told_values
@@ -60,7 +60,7 @@ module _ {Gen T : Type 0} (a : Arena Gen (LinkView T)) (t : T) (listed : IsListe
         ∙ (count-filled a.freed (values_of a).slots (a.counter, t) (listed-with_each link_value a listed).free
         ∙ ap (λ (n : ℕ). n + 1) (sym (length-entries (values_of a)))))
 
-    -- what an insertion between two links is, by the state alone
+    -- an insertion between two links, from the state alone
     pub told_between : (p : ℕ × Gen) → p ≡ (next_index a, a.counter) → IsWellLinked (link_map a) → IsInsertPosition (link_map a) (next_index a) u v
         → IsInsertionBetween u v (value_view a) (value_view b) (entry a) (entry b) (link_map a) (link_map b) p t
     told_between p at agrees gap =
@@ -81,7 +81,7 @@ module _ {Gen T : Type 0} (a : Arena Gen (LinkView T)) (t : T) (listed : IsListe
           maximum = ap (λ (x : Arena Gen (LinkView T)). x.maximum) is;
         })
 
-  -- .. and so what one of a kind is
+  -- an insertion of a kind, from the state alone
   pub insertion_told : (b : Arena Gen (LinkView T)) (kind : InsertKind ℕ) → b ≡ with_capacity_of (insert_as a kind t) b → (p : ℕ × Gen) → p ≡ (next_index a, a.counter)
       → IsWellLinked (link_map a) → CanInsert (link_map a) kind → IsInsertion kind (value_view a) (value_view b) (entry a) (entry b) (link_map a) (link_map b) p t
   insertion_told b kind is p at agrees can =

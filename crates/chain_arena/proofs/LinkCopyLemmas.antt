@@ -1,4 +1,4 @@
--- Copies of an arena of links: the interlinks, the values, and what is seen of them.
+-- Copies of an arena of links: their interlinks, values and views.
 use Rattle.std.proofs.Common.{◌≡◌, ℕ, zero, suc, ◌≤◌, List, [], ◌∷◌, ◌++◌, length, map, Option, None, Some, Result, Ok, Err, OnOk, OnErr, IsOk, ◌⊎◌, inl, inr, arith, refl, ap, sym, ◌∙◌, subst}
 use Rattle.std.specs.Prelude.{is_ok}
 use Rattle.std.specs.Option.{option_map}
@@ -21,11 +21,11 @@ use Rattle.arena_base.proofs.FoldLemmas.{folds_seen, folds_mapped}
 use Rattle.chain_links.proofs.MappedArenaLemmas.{slot_at-map, length-with_each}
 use Rattle.chain_compaction.proofs.ValueViewLemmas.{entry_views-all, held_entries-all}
 
--- a value that was made, where the value shown and the answer are looked at in some way
+-- a value made, with views of the source value and of the result
 abbrev made_as : {P U T W X : Type 0} → (U → W) → (T → X) → Copied P U T → Copied P W X
 made_as before after c = record { pointer = c.pointer; shown = before c.shown; answer = after c.answer }
 
--- What makes the values is looked at in part, and so are the values before and after.
+-- A part of what makes the values, with views of the values before and after.
 module _ {V F P U W T X : Type 0} (makes : V → P → U → T → V → Type 0) (others : F → P → W → X → F → Type 0) (see : V → F) (before : U → W) (after : T → X)
     (step : (v : V) (p : P) (u : U) (t : T) (next : V) → makes v p u t next → others (see v) p (before u) (after t) (see next)) where
   module _ {Gen : Type 0} (key : P → ℕ × Gen) where
@@ -47,7 +47,7 @@ module _ {V F P U W T X : Type 0} (makes : V → P → U → T → V → Type 0)
       after = seen_after c.made ∙ ap (map (on_value after)) c.after;
     }
 
--- Each value that is made looks like the one that it is made of.
+-- Each value made has the view of its source.
 module _ {V P U T Z Gen : Type 0} (makes : V → P → U → T → V → Type 0) (f : U → Z) (g : T → Z)
     (same : (v : V) (p : P) (u : U) (t : T) (next : V) → makes v p u t next → g t ≡ f u) (key : P → ℕ × Gen) where
   made_alike : (made : List (Copied P U T)) (v last : V) → FoldsTo (Makes makes) v made last
@@ -64,7 +64,7 @@ first_value z [] = z
 first_value z (e ∷ es) = e.1
 
 module _ {Gen U T Z : Type 0} (f : U → Z) (g : T → Z) where
-  -- slots with entries at the same places, and entries that look alike, look alike
+  -- slots whose entries have the same places and views have the same view
   pub slots_alike : (i : ℕ) (a : List (Option (Gen × U))) (b : List (Option (Gen × T))) → generations b ≡ generations a → map (on_value g) (entries_from i b) ≡ map (on_value f) (entries_from i a)
       → map (option_map (on_value g)) b ≡ map (option_map (on_value f)) a
   slots_alike i [] [] places same = refl
@@ -86,7 +86,7 @@ module _ {Gen X Y : Type 0} (f : X → Y) where
   generations-map (Some e ∷ slots) = ap (λ gs. Some e.0 ∷ gs) (generations-map slots)
 
 module _ {P K U Gen : Type 0} (number : K → Option ℕ) (may_refuse : P → LinkBody K U → Type 0) (key : P → ℕ × Gen) (source : Arena Gen (LinkBody K U)) where
-  -- a link that may be refused, as it is seen
+  -- a link that may be refused, as contracts see it
   pub refusable_seen : HasRefusable may_refuse key (entries source) → HasRefusable (RefusesOf (link_view number) may_refuse) key (entries (links_view number source))
   refusable_seen has = record {
     pointer = has.pointer;
@@ -98,7 +98,7 @@ module _ {P K U Gen : Type 0} (number : K → Option ℕ) (may_refuse : P → Li
     refusable = (has.value, refl, has.refusable);
   }
 
--- no links agree
+-- an arena without links is well linked
 module _ (Gen T : Type 0) where
   nothing_at : (i : ℕ) → option_map (interlinks_of {Gen = Gen} {T = T}) (slot_at [] i) ≡ None
   nothing_at zero = refl
@@ -110,7 +110,7 @@ given_up_agrees {Gen} {T} old new is =
     (subst IsWellLinked (λ j i. sym (nothing_at Gen T i) j) (record { both = λ i j. (λ never. cc, λ never. cc) }))
 
 module _ {Gen K U T : Type 0} (number : K → Option ℕ) where
-  -- an arena of links that has become a copy, as it is seen
+  -- a copy of an arena of links, as contracts see it
   pub has_slots_seen : (source : Arena Gen (LinkBody K U)) (old new : Arena Gen (LinkBody K T)) → HasSlotsOf source old new → HasSlotsOf (links_view number source) (links_view number old) (links_view number new)
   has_slots_seen source old new has = record {
     state = ap (links_view number) has.state;
@@ -131,7 +131,7 @@ module _ {Gen K T : Type 0} (number : K → Option ℕ) where
       both None = refl
       both (Some e) = refl
 
--- The links of a copy were made of those of the source.
+-- The links of a copy are made from the source's links.
 module _ {V F P K U T Gen : Type 0} (number : K → Option ℕ) (makes : F → P → LinkView U → T → F → Type 0) (see : V → F) (key : P → ℕ × Gen) (f last : V) (source : Arena Gen (LinkBody K U)) (old new : Arena Gen (LinkBody K T))
     (made : CopiesBy (λ v p u t w. MakesLink number makes (see v) p u t (see w)) key f (entries source) (entries new) last) (has : HasSlotsOf source old new) where
   pub interlinks_copied : link_map (links_view number new) ≡ link_map (links_view number source)
@@ -157,7 +157,7 @@ module _ {V F P K U T Gen : Type 0} (number : K → Option ℕ) (makes : F → P
   pub agrees_copied : IsWellLinked (link_map (links_view number source)) → IsWellLinked (link_map (links_view number new))
   agrees_copied agrees = subst IsWellLinked (sym interlinks_copied) agrees
 
--- What is shown each link is shown it as contracts see it.
+-- A copy made from links is one made from the links as contracts see them.
 module _ {F P K U T Gen : Type 0} (number : K → Option ℕ) (makes : F → P → LinkBody K U → T → F → Type 0) (key : P → ℕ × Gen) (f last : F) (source : Arena Gen (LinkBody K U)) (old new : ArenaView Gen T) where
   as_it_is : (es : List ((ℕ × Gen) × T)) → map (on_value (λ t. t)) es ≡ es
   as_it_is [] = refl
@@ -174,12 +174,12 @@ module _ {F P K U T Gen : Type 0} (number : K → Option ℕ) (makes : F → P �
     maximum = copy.maximum;
   }
 
--- What a closure makes of what it sees, where the closure is a part of what makes the values.
+-- What a closure makes, if it is a part of what makes the values.
 pub called_of : {V F P K U T : Type 0} (g : Mut F (P × (Bor (LinkBody K U) × Unit {0})) T) (see : V → F) (look : LinkBody K U → LinkView U) (v : V) (p : P) (u : LinkView U) (t : T) (w : V)
     → MakesOf look (λ x p u t y. IsCopyCall g (see x) p u t (see y)) v p u t w → MakesOf look (IsCopyCall g) (see v) p u t (see w)
 called_of g see look v p u t w makes = record { shown = makes.shown; looks = makes.looks; made = makes.made }
 
--- .. in the copy of an arena of links
+-- what a closure makes in a copy of an arena of links
 pub called_copies : {V F P K U T Gen : Type 0} (g : Mut F (P × (Bor (LinkBody K U) × Unit {0})) T) (see : V → F) (look : LinkBody K U → LinkView U) (key : P → ℕ × Gen) (f last : V) (source : Arena Gen (LinkView U)) (old new : Arena Gen (LinkView T))
     → IsLinkCopyBy (MakesOf look (λ x p u t y. IsCopyCall g (see x) p u t (see y))) key f source old new last → IsLinkCopyBy (MakesOf look (IsCopyCall g)) key (see f) source old new (see last)
 called_copies g see look key f last source old new copy = record {
@@ -188,13 +188,13 @@ called_copies g see look key f last source old new copy = record {
   values = made_by (MakesOf look (λ x p u t y. IsCopyCall g (see x) p u t (see y))) (MakesOf look (IsCopyCall g)) see (called_of g see look) key f last (entries source) (entries (values_of new)) copy.values;
 }
 
--- .. and of any
+-- what a closure makes in a copy of any arena
 pub called_copy : {V F P K U T Gen : Type 0} (g : Mut F (P × (Bor (LinkBody K U) × Unit {0})) T) (see : V → F) (look : LinkBody K U → LinkView U) (key : P → ℕ × Gen) (f last : V) (source : Arena Gen (LinkView U)) (old new : ArenaView Gen T)
     → IsCopyBy (MakesOf look (λ x p u t y. IsCopyCall g (see x) p u t (see y))) key f source old new last → IsCopyBy (MakesOf look (IsCopyCall g)) key (see f) source old new (see last)
 called_copy g see look key f last source old new copy =
     copy_by (MakesOf look (λ x p u t y. IsCopyCall g (see x) p u t (see y))) (MakesOf look (IsCopyCall g)) see (called_of g see look) key f last source old new copy
 
--- The links of a clone look like those of the source.
+-- The links of a clone have the view of the source's links.
 module _ {F P K T Gen : Type 0} (number : K → Option ℕ) (is_clone : T → T → Type 0) (equal : (x y : T) → is_clone x y → y ≡ x) (key : P → ℕ × Gen) (f last : F) (source : Arena Gen (LinkBody K T)) (old new : Arena Gen (LinkBody K T))
     (made : CopiesBy (MakesLink number (λ (_ : F) (_ : P) u t (_ : F). is_clone u.value t)) key f (entries source) (entries new) last) (has : HasSlotsOf source old new) where
   pub links_cloned : (links_view number new).slots ≡ (links_view number source).slots
@@ -222,7 +222,7 @@ none_before : {X Y : Type 0} (f : X → Y) (xs : List X) → map f xs ≡ [] →
 none_before f [] none = refl
 none_before f (x ∷ xs) none = absurd (let h = none in cc)
 
--- where there are no slots, there is room for them, and no value is refused
+-- without slots the capacity suffices, and no value is refused
 module _ {P K U Gen : Type 0} (number : K → Option ℕ) (may_refuse : P → LinkBody K U → Type 0) (key : P → ℕ × Gen) (source : Arena Gen (LinkBody K U)) where
   none_among : {X : Type 0} (before after : List X) (x : X) → [] ≡ before ++ x ∷ after → ⊥
   none_among [] after x same = cc
@@ -238,7 +238,7 @@ module _ {P K U Gen : Type 0} (number : K → Option ℕ) (may_refuse : P → Li
     by (inl ok) = false≢true (sym (ap is_ok is) ∙ ok)
     by (inr refused) = none_among refused.before refused.after (key refused.pointer, refused.value) (sym (ap (entries_from 1) (no_slots none)) ∙ refused.stands)
 
--- what holds after an answer and after a refusal of two sorts
+-- what follows from a success and from either sort of refusal
 pub either_way : {X E A B C D N : Type 0} (r : Result X E) → (A → B → C) → (D → C) → (N → C) → OnOk r A → OnOk r B → OnErr r (D ⊎ N) → C
 either_way (Ok x) done refused gave_up a b d = done a b
 either_way (Err e) done refused gave_up a b (inl d) = refused d

@@ -1,4 +1,4 @@
--- A drain of all links, step by step, removes each of them by rising index.
+-- A drain of all links removes them step by step, in ascending order of index.
 use Rattle.std.proofs.Common.{◌≡◌, ℕ, zero, suc, ◌≤◌, ◌<◌, arith, Bool, true, false, List, [], ◌∷◌, map, length, ◌+◌, ◌⊎◌, inl, inr, ⊎_elim, Option, None, Some, refl, ap, sym, ◌∙◌}
 use Rattle.std.specs.Prelude.{cond, leb, min, ◌==◌, All}
 use Rattle.std.specs.Option.{option_map}
@@ -19,7 +19,7 @@ use Rattle.chain_arena.specs.Drains.{entries_left, without_each, IsLinkDrainStep
 use Rattle.chain_arena.proofs.ChainDrainLemmas.{is_overflow_result-made}
 use Rattle.chain_linking.proofs.UnlinkLemmas.{seen-removed}
 
--- what an answer that tells of an overflow holds
+-- the value in a result with an overflow flag
 value_in-made : {X : Type 0} (overflow : Bool) (x : X) → value_in (invalidation_option overflow x) ≡ x
 value_in-made true x = refl
 value_in-made false x = refl
@@ -29,14 +29,14 @@ is_overflow-made true x = refl
 is_overflow-made false x = refl
 
 module _ {Gen T : Type 0} where
-  -- no entry stands behind the greatest index
+  -- there is no entry above the greatest index
   entries_at_or_above-beyond : (greatest i : ℕ) (es : List ((ℕ × Gen) × T)) → greatest < i → All (λ e. IsWithin greatest (index_of e)) es → entries_at_or_above i es ≡ []
   entries_at_or_above-beyond greatest i [] beyond within = refl
   entries_at_or_above-beyond greatest i (e ∷ es) beyond within =
       let here : IsWithin greatest (index_of e) = All-head (λ (x : (ℕ × Gen) × T). IsWithin greatest (index_of x)) e es within in
       ap (λ b. cond b (e ∷ es) (entries_at_or_above i es)) (lt-leb i e.0.0 (omega (arith, beyond, here.1))) ∙ entries_at_or_above-beyond greatest i es beyond (All-tail (λ (x : (ℕ × Gen) × T). IsWithin greatest (index_of x)) e es within)
 
-  -- the first entry from an index on, and those that come after it, which are what is left there once it is gone
+  -- the first entry from an index on, and those left once it is removed
   record IsFirst (i : ℕ) (p : ℕ × Gen) (es : List ((ℕ × Gen) × T)) : Type 0 where
     value : T
     stands : found p.0 es ≡ Some (p.1, value)
@@ -92,7 +92,7 @@ module _ {Gen T : Type 0} where
       by true here rest = first_here i p e es (omega arith, rises.1) here first
       by false later rest = first_later i p e es later (rest (first ∙ ap (λ b. first_key (cond b (e ∷ es) (entries_at_or_above i es))) later))
 
-  -- the same for an arena
+  -- the first remaining link of an arena
   pub first_left : (a : Arena Gen (LinkView T)) (at : ℕ) (p : ℕ × Gen) → Some p ≡ first_key (entries_left a at)
       → (t : T) × (entry_at (values_of a) p.0 ≡ Some (p.1, t)) × (entries_left a at ≡ (p, t) ∷ entries_at_or_above p.0 (without p.0 (entries (values_of a)))) × (1 ≤ p.0)
       × (entries_at_or_above p.0 (without p.0 (entries (values_of a))) ≡ entries_at_or_above (suc p.0) (without p.0 (entries (values_of a))))
@@ -113,22 +113,22 @@ module _ {Gen T : Type 0} where
   entries_left-at a zero some = absurd (omega (arith, some))
   entries_left-at a (suc k) some = refl
 
-  -- all are left from the first index on
+  -- all links are left from the first index on
   pub all_left : (a : Arena Gen (LinkView T)) → entries_left a 1 ≡ entries (values_of a)
   all_left a = entries_at_or_above-rises 1 1 (entries (values_of a)) (omega arith) (entries_rise (values_of a))
 
-  -- where all links are removed, none is left
+  -- after the removal of all links, none is left
   pub without_each-all : (following : Gen → Gen) (a : Arena Gen (LinkView T)) (es : List ((ℕ × Gen) × T)) → entries (values_of a) ≡ es → entries (values_of (without_each following a (map index_of es))) ≡ []
   without_each-all following a [] all = all
   without_each-all following a (e ∷ es) all = without_each-all following (remove_link following a e.0.0) es
       (ap (λ (s : ArenaView Gen T). s.entries) (seen-removed following a (remove_link following a e.0.0) e.0.0 refl)
       ∙ (ap (without e.0.0) all ∙ ap (λ b. cond b es (e ∷ without e.0.0 es)) (eq-eqb e.0.0 e.0.0 refl)))
 
--- an answer by the counter tells whether it overflowed
+-- a result made from an overflow flag reports that flag
 pub overflow_told : {X : Type 0} (w : Bool) (r : InvalidationResult X) (x : X) → r ≡ invalidation_result w (value_within r) → value_within r ≡ Some x → is_overflow_result r ≡ w
 overflow_told w r x made has = ap is_overflow_result made ∙ (ap (λ (o : Option _). is_overflow_result (invalidation_result w o)) has ∙ is_overflow_result-made w x)
 
--- the index behind another, unless no number is greater
+-- the index after another, unless there is no greater number
 abbrev pub IsBehind : ℕ → ℕ → Type 0
 IsBehind i next = (next ≡ i) ⊎ (next ≡ suc i)
 
@@ -140,7 +140,7 @@ is_behind most i next is within = by (leb (i + 1) most) refl
     by false beyond = inl (is ∙ omega (arith, leb-false (i + 1) most beyond, within))
 
 module _ {P Gen T : Type 0} (key : P → ℕ × Gen) (following : Gen → Gen) (wraps : Gen → Bool) where
-  -- the removal of the first link that is left is a step
+  -- the removal of the first remaining link is a step
   module _ (old new : Arena Gen (LinkView T)) (at next : ℕ) (p : P) (first : Some (key p) ≡ first_key (entries_left old at)) (taken : Option T)
       (value : taken ≡ option_map (λ (e : Gen × T). e.1) (entry_at (values_of old) (key p).0)) where
     value_is : taken ≡ Some (first_left old at (key p) first).0
@@ -149,7 +149,7 @@ module _ {P Gen T : Type 0} (key : P → ℕ × Gen) (following : Gen → Gen) (
     pub drained_has : taken ≡ None → ⊥
     drained_has none = let both = sym none ∙ value_is in cc
 
-    -- what was left behind the first link is left
+    -- the links left after the first one are left by the step
     left_behind : IsBehind (key p).0 next → entries (values_of new) ≡ without (key p).0 (entries (values_of old)) → entries_at_or_above (key p).0 (without (key p).0 (entries (values_of old))) ≡ entries_left new next
     left_behind index es =
         let met = first_left old at (key p) first in
@@ -181,14 +181,14 @@ module _ {P Gen T : Type 0} (key : P → ℕ × Gen) (following : Gen → Gen) (
           state = removal ∙ ap (λ (x : P × T). remove_link following old (key x.0).0) (sym item);
         }
 
-  -- what a step leaves is what all removals leave ..
+  -- a step keeps the arena that removing the remaining links gives
   pub without_each-first : (old new : Arena Gen (LinkView T)) (at next : ℕ) (gone : InvalidationOption (P × T)) → IsLinkDrainStep key following wraps old at gone new next
       → without_each following new (map index_of (entries_left new next)) ≡ without_each following old (map index_of (entries_left old at))
   without_each-first old new at next gone step =
       ap (λ (a : Arena Gen (LinkView T)). without_each following a (map index_of (entries_left new next))) step.state
       ∙ sym (ap (λ (es : List ((ℕ × Gen) × T)). without_each following old (map index_of es)) step.left)
 
-  -- .. and one link less
+  -- a step leaves fewer links
   pub entries_left-step : (old new : Arena Gen (LinkView T)) (at next : ℕ) (gone : InvalidationOption (P × T)) → IsLinkDrainStep key following wraps old at gone new next
       → length (entries_left new next) < length (entries_left old at)
   entries_left-step old new at next gone step = let longer = ap (length {A = (ℕ × Gen) × T}) step.left in omega (arith, longer)

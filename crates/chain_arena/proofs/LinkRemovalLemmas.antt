@@ -1,4 +1,4 @@
--- A link was taken out at an index: what the removals tell of it.
+-- Effects of a removal of the link at an index.
 use Rattle.std.proofs.Common.{◌≡◌, ℕ, Bool, true, false, Option, None, Some, refl, ap, sym, ◌∙◌, subst}
 use Rattle.std.specs.Prelude.{is_some}
 use Rattle.std.specs.Option.{option_map}
@@ -17,7 +17,7 @@ use Rattle.chain_linking.proofs.UnlinkLemmas.{passes_over, removed-agrees, remov
 use Rattle.chain_arena.specs.Effects.{Links}
 use Rattle.chain_arena.proofs.ChainDrainLemmas.{link_at-entry}
 
--- an answer that holds a part of another one tells the same of the counter
+-- a result with a part of another's value has the same overflow flag
 pub same_overflow : {X Y : Type 0} (f : X → Y) (b : Bool) (r : InvalidationResult X) (s : InvalidationResult Y) → value_within s ≡ option_map f (value_within r) → is_overflow_result s ≡ is_overflow_result r
     → r ≡ invalidation_result b (value_within r) → s ≡ invalidation_result b (value_within s)
 same_overflow f b r InvalidPtr value overflow told = refl
@@ -30,12 +30,12 @@ same_overflow f true (Success x) (Success y) value overflow told = absurd (let h
 same_overflow f false (GenerationOverflow x) (GenerationOverflow y) value overflow told = absurd (let h = told in cc)
 same_overflow f true (GenerationOverflow x) (GenerationOverflow y) value overflow told = refl
 
--- a removal leaves the interlinks in agreement, whether a link stood there or not
+-- a removal keeps the links well linked, if there is one or not
 pub agreed_after : {Gen T K : Type 0} (following : Gen → Gen) (a b : Links Gen T) (n : ℕ) (taken : Option K) → (is_some taken ≡ true → b ≡ remove_link following a n) → (taken ≡ None → b ≡ a) → IsWellLinked (link_map a) → IsWellLinked (link_map b)
 agreed_after following a b n None valid invalid agrees = subst (λ x. IsWellLinked (link_map x)) (sym (invalid refl)) agrees
 agreed_after following a b n (Some e) valid invalid agrees = removed-agrees following a b n (valid refl) agrees
 
--- what is shown after a removal, by the state
+-- the effects of a removal, from the state
 pub removal_of : {Gen T : Type 0} (following : Gen → Gen) (a b : Links Gen T) (n : ℕ) → IsWellLinked (link_map a) → b ≡ remove_link following a n → IsRemoval following a n b
 removal_of following a b n agrees state = record {
   state = state;
@@ -52,11 +52,11 @@ module _ {Gen K T : Type 0} (packed : K → Option ℕ) (following : Gen → Gen
     twice None = refl
     twice (Some e) = refl
 
-  -- the link
+  -- the link removed, with its generation
   pub link_told : option_map (on_value (link_view packed)) taken ≡ link_at (entry a) (link_map a) n
   link_told = answer ∙ sym (link_at-entry a n)
 
-  -- .. with a generation that is known
+  -- the link removed, with a known generation
   pub link_alone_told : (g : Gen) (t : T) → entry a n ≡ Some (g, t) → option_map (λ (l : LinkBody K T). (g, link_view packed l)) (option_map (λ (e : Gen × LinkBody K T). e.1) taken) ≡ link_at (entry a) (link_map a) n
   link_alone_told g t stands = alone taken (value ∙ stands) ∙ link_told where
     alone : (o : Option (Gen × LinkBody K T)) → option_map (on_value held_in) o ≡ Some (g, t)
@@ -64,18 +64,18 @@ module _ {Gen K T : Type 0} (packed : K → Option ℕ) (following : Gen → Gen
     alone None is = absurd (let h = is in cc)
     alone (Some e) is = ap (λ (h : Gen). let o : Option (Gen × LinkView T) = Some (h, link_view packed e.1) in o) (sym (generation_is e.0 g _ _ is))
 
-  -- its value with its generation
+  -- the value removed, with its generation
   pub value_told : option_map (λ (e : Gen × LinkBody K T). (e.0, e.1.t)) taken ≡ entry a n
   value_told = value
 
-  -- .. and alone
+  -- the value removed, alone
   pub value_alone_told : option_map (λ (e : Gen × LinkBody K T). e.1.t) taken ≡ option_map (λ (e : Gen × T). e.1) (entry a n)
   value_alone_told = alone taken ∙ ap (option_map (λ (e : Gen × T). e.1)) value where
     alone : (o : Option (Gen × LinkBody K T)) → option_map (λ (e : Gen × LinkBody K T). e.1.t) o ≡ option_map (λ (e : Gen × T). e.1) (option_map (on_value held_in) o)
     alone None = refl
     alone (Some e) = refl
 
-  -- where nothing stands, nothing was taken
+  -- if there is no entry, nothing was taken
   pub none_taken : entry a n ≡ None → taken ≡ None
   none_taken none = by taken (value ∙ none) where
     by : (o : Option (Gen × LinkBody K T)) → option_map (on_value held_in) o ≡ None → o ≡ None
@@ -85,19 +85,19 @@ module _ {Gen K T : Type 0} (packed : K → Option ℕ) (following : Gen → Gen
   some_taken : is_some (entry a n) ≡ true → is_some taken ≡ true
   some_taken stands = sym (is_some-map (on_value held_in) taken) ∙ (ap is_some value ∙ stands)
 
-  -- where a valid pointer names it, something was taken
+  -- if a valid pointer names the index, something was taken
   pub taken_at : (p : ℕ × Gen) → n ≡ p.0 → IsValid (entry a) p → is_some taken ≡ true
   taken_at p at valid = some_taken (ap (λ i. is_some (entry a i)) at ∙ ap is_some valid.stands)
 
   module _ (removal : is_some taken ≡ true → IsRemoval following a n b) where
-    -- where a link stands, it is removed
+    -- an existing link is removed
     pub removal_there : is_some (entry a n) ≡ true → IsRemoval following a n b
     removal_there stands = removal (some_taken stands)
 
     pub seen_there : is_some (entry a n) ≡ true → value_view b ≡ entry_removed following (value_view a) n
     seen_there stands = seen-removed following a b n (removal_there stands).state
 
-    -- .. as that of a valid pointer
+    -- the link of a valid pointer is removed
     pub removal_at : (p : ℕ × Gen) → n ≡ p.0 → IsValid (entry a) p → IsRemoval following a n b
     removal_at p at valid = removal_there (ap (λ i. is_some (entry a i)) at ∙ ap is_some valid.stands)
 

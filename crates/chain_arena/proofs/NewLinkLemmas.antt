@@ -1,4 +1,4 @@
--- What follows of the place of a new link, and of what came there.
+-- The insertion position of a new link, and the insertion there.
 use Rattle.std.proofs.Common.{◌≡◌, length, ◌≢◌, ◌↔◌, ◌⊎◌, inl, inr, ℕ, ◌+◌, ◌<◌, ◌≤◌, Option, None, Some, Result, Ok, Err, OnOk, OnErr, IsErr, refl, sym, ap, ap₂, ◌∙◌, subst, arith}
 use Rattle.std.specs.Prelude.{IsOk, IfOk, IfErr}
 use Rattle.std.specs.Result.{ForOk}
@@ -25,13 +25,13 @@ use Rattle.chain_arena.specs.NewLinks.{HasGrown, GrowsByOne, position_unless_ref
 use Rattle.chain_arena.specs.Effects.{Links, indexed_kind, MayInsertInto}
 use Rattle.chain_arena.proofs.InsertionEffectLemmas.{gap_told, insertion_told}
 
--- what is not above a number that is within a maximum is not beyond it
+-- a number is not beyond a maximum if one at least as great is within it
 pub not_beyond : (maximum : Option ℕ) (n m : ℕ) → n ≤ m → IsWithinMaximum maximum m → IsBeyond maximum n → ⊥
 not_beyond None n m less within beyond = beyond
 not_beyond (Some most) n m less within beyond = omega (arith, less, within, beyond)
 
 module _ {Gen T : Type 0} where
-  -- a growth to room for as many links as there are, and one more
+  -- a growth to a capacity for the links and one more
   pub grows_by_one : (may_reach : ℕ → Option ℕ → ℕ → ℕ → Type 0) (greatest m : ℕ) (old new : Links Gen T) (r : Result Unit ReallocationError) → m ≡ entry_count old → m ≤ old.capacity
       → (m + 1 ≤ old.capacity → IsOk r × (new ≡ old)) → (r ≡ Err refused.BeyondMaxCapacity) ↔ IsBeyond old.maximum (m + 1)
       → OnOk r (IsCapacityFor greatest new.maximum (m + 1) new.capacity) → OnErr r (new ≡ old) → new ≡ with_capacity_of old new → IsWithinReach may_reach (m + 1) old new → HasCapacityFor greatest (length new.slots) new
@@ -48,12 +48,12 @@ module _ {Gen T : Type 0} where
       let no_room : m + 1 ≤ old.capacity → ⊥ = (λ room. false≢true (within room).0) in
       ((omega (arith, same, fits, no_room), λ past. let h = beyond.1 (subst (λ (k : ℕ). IsBeyond old.maximum (k + 1)) (sym same) past) in absurd (cc)), err)
 
--- the next index, where the links are looked at
+-- the next index, in the links as contracts see them
 pub next_seen : {K Gen T : Type 0} (packed : K → Option ℕ) (a : Arena Gen (LinkBody K T)) (p : ℕ × Gen) → p ≡ (next_index a, a.counter) → p ≡ (next_index (links_view packed a), a.counter)
 next_seen packed a p at = subst (λ (q : ℕ). p ≡ (q, a.counter)) (sym (next_index-links_view packed a)) at
 
 module _ {P I Gen T : Type 0} (key : P → ℕ × Gen) (number : I → ℕ) where
-  -- the gap of a kind is its place
+  -- a returned insertion position of a kind is one for it
   pub is_place : (old : Links Gen T) (kind : InsertKindBody P I) (gap : InsertPosition I) → IsPositionOf number (entry old) (link_map old) (names_in key number kind) (Some gap) → IsPositionFor key number old kind gap
   is_place old kind gap is = record {
     may = is.some.0 refl;
@@ -61,7 +61,7 @@ module _ {P I Gen T : Type 0} (key : P → ℕ × Gen) (number : I → ℕ) wher
     after = is.after (next_index old);
   }
 
-  -- .. and where there is none, none may be inserted
+  -- without an insertion position no link of the kind may be inserted
   pub no_place : (old : Links Gen T) (kind : InsertKindBody P I) → IsPositionOf number (entry old) (link_map old) (names_in key number kind) None → MayInsertInto key number old kind → ⊥
   no_place old kind is may = false≢true (is.some.1 may)
 
@@ -76,7 +76,7 @@ module _ {P I Gen T : Type 0} (key : P → ℕ × Gen) (number : I → ℕ) wher
   places_growing may_reach greatest old new kind gap grown answer is given grows =
       subst (λ (r : Result (InsertPosition I) ChainInsertionError). FindsPositionGrowing key number may_reach greatest old kind r new) (sym is) (place_grows may_reach greatest old new kind gap grown (is_place old kind gap given) grows)
 
-  -- the place of a kind within the capacity, by how many links there are
+  -- the insertion position of a kind within the capacity, by the number of links
   pub places_full : (old : Links Gen T) (kind : InsertKindBody P I) (gap : InsertPosition I) (links room : ℕ) → IsPositionOf number (entry old) (link_map old) (names_in key number kind) (Some gap) → links ≡ entry_count old → room ≡ old.capacity
       → links ≡ room → FindsPositionWithin key number old kind (Err failed.NotWithinCapacity)
   places_full old kind gap links room given counted capacity full = (given.some.0 refl, omega (arith, counted, capacity, full))
@@ -85,7 +85,7 @@ module _ {P I Gen T : Type 0} (key : P → ℕ × Gen) (number : I → ℕ) wher
       → links ≤ old.capacity → (links ≡ room → ⊥) → FindsPositionWithin key number old kind (Ok gap)
   places_in_room old kind gap links room given counted capacity fits apart = (is_place old kind gap given, omega (arith, counted, capacity, fits, apart))
 
-  -- a link of the gap may come there
+  -- a link may be inserted at the position
   abbrev FitsIn : Links Gen T → InsertPosition I → Type 0
   FitsIn a gap = IsInsertPosition (link_map a) (next_index a) (before_in number gap (next_index a)) (after_in number gap (next_index a))
 
@@ -98,7 +98,7 @@ module _ {P I Gen T : Type 0} (key : P → ℕ × Gen) (number : I → ℕ) wher
   pub within_room : (old : Links Gen T) (kind : InsertKindBody P I) (asked : Result (InsertPosition I) ChainInsertionError) → FindsPositionWithin key number old kind asked → ForOk asked (λ gap. entry_count old < old.capacity)
   within_room old kind asked told gap is = (subst (FindsPositionWithin key number old kind) is told).1
 
-  -- a link in a gap stands between the links that the gap names
+  -- an inserted link is between the links of its position
   pub inserted_between : (old new : Links Gen T) (gap : InsertPosition I) (t : T) (p : P) (u v : Option ℕ) → IsInsertedIn key number old gap t p new → before_in number gap (next_index old) ≡ u → after_in number gap (next_index old) ≡ v → new ≡ insert_between old t u v
   inserted_between old new gap t p u v insertion before after = insertion.state ∙ ap₂ (insert_between old t) before after
 
@@ -118,11 +118,11 @@ module _ {P I Gen T : Type 0} (key : P → ℕ × Gen) (number : I → ℕ) (old
   abbrev by : InsertKind ℕ
   by = indexed_kind key number kind
 
-  -- an answer `Ok` is that of an insertion
+  -- the result `Ok` is from an insertion
   abbrev pub AnswersInsertion : Result P ChainInsertionError → Type 0
   AnswersInsertion r = IfOk r (λ p. IsInsertion by (value_view old) (value_view new) (entry old) (entry new) (link_map old) (link_map new) (key p) t)
 
-  -- what an insertion within the capacity tells
+  -- what an insertion within the capacity guarantees
   pub record TellsWithin (r : Result P ChainInsertionError) : Type 0 where
     pub may : OnOk r (MayInsertInto key number old kind)
     pub inserted : AnswersInsertion r
@@ -134,7 +134,7 @@ module _ {P I Gen T : Type 0} (key : P → ℕ × Gen) (number : I → ℕ) (old
     pub place : IfOk r (λ p. (key p).0 ≡ next_index old)
     pub state : OnOk r (new ≡ insert_as old by t)
 
-  -- .. and where a full arena grows
+  -- what an insertion that may grow guarantees
   pub record TellsGrowing (may_reach : ℕ → Option ℕ → ℕ → ℕ → Type 0) (greatest : ℕ) (r : Result P ChainInsertionError) : Type 0 where
     pub may : OnOk r (MayInsertInto key number old kind)
     pub inserted : AnswersInsertion r
@@ -150,7 +150,7 @@ module _ {P I Gen T : Type 0} (key : P → ℕ × Gen) (number : I → ℕ) (old
     pub state_in_room : MayInsertInto key number old kind → entry_count old < old.capacity → new ≡ insert_as old by t
     pub state_grown : OnOk r (ReachesCapacity may_reach greatest (entry_count old + 1) old new)
 
-  -- the state after a link came to the place of its kind
+  -- the state after an insertion at the position of the kind
   inserted_at : (gap : InsertPosition I) (p : P) → IsPositionFor key number old kind gap → IsInsertedIn key number old gap t p new → new ≡ insert_as old by t
   inserted_at gap p place insertion = inserted_between key number old new gap t p _ _ insertion place.before place.after
 
@@ -197,7 +197,7 @@ module _ {P I Gen T : Type 0} (key : P → ℕ × Gen) (number : I → ℕ) (old
   tells_within agrees (Err why) (Ok p) placed insertion = absurd insertion
   tells_within agrees (Err why) (Err e) placed insertion = subst (λ (x : ChainInsertionError). TellsWithin (Err x)) (sym insertion.0) (not_within why placed insertion.1)
 
-  -- the same after a growth
+  -- the state after a growth and an insertion
   module _ (mid : Links Gen T) where
     inserted_grown : (may_reach : ℕ → Option ℕ → ℕ → ℕ → Type 0) (greatest : ℕ) (gap : InsertPosition I) (p : P) → IsPositionFor key number old kind gap → HasGrown may_reach greatest old mid → IsInsertedIn key number mid gap t p new → new ≡ with_capacity_of (insert_as old by t) mid
     inserted_grown may_reach greatest gap p place grown insertion =

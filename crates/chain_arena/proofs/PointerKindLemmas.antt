@@ -1,4 +1,4 @@
--- The kind of pointers, by what the bounds of a type of pointers give.
+-- The kind of pointers that a pointer type's bounds give.
 use Rattle.arena_ptr.specs.declared.keys.GenKey as generations
 use Rattle.arena_ptr.specs.declared.keys.InxKey as indexes
 use Rattle.arena_ptr.specs.declared.keys.PtrKey as pointers

@@ -1,4 +1,4 @@
--- A canonical compression and a transfer, said by pointer.
+-- A canonical compression and a transfer, stated by pointer.
 use Rattle.std.proofs.Common.{◌≡◌, ℕ, Bool, List, [], ◌∷◌, map, Option, Some, refl, sym, ap, ◌∙◌, subst}
 use Rattle.std.specs.Prelude.{is_some}
 use Rattle.std.specs.Fn.{Mut}
@@ -19,18 +19,18 @@ use Rattle.chain_arena.specs.Transfers.{Carried, old_index}
 use Rattle.chain_arena.specs.PointerTransfers.{IsMapped, TransferMovesPointers}
 
 module _ {P Gen T : Type 0} (key : P → ℕ × Gen) (first : Gen) (following : Gen → Gen) (reset : Bool) (old new : Arena Gen (LinkView T)) (moves : List (P × P)) where
-  -- a link stands where an entry stands
+  -- there is a link exactly where there is an entry
   links_stand : HasLinksWhere (link_map old) (entry old)
   links_stand i = is_some-map interlinks_of (slot_at old.slots i) ∙ sym (ap is_some (entry_at-with_each link_value old i) ∙ is_some-map (on_value link_value) (slot_at old.slots i))
 
-  -- the pointers that all links had and have are moves
+  -- the old and new pointers of all links are moves
   pub arena_moves_pointers : IsCanonicalLayout first following reset (value_view old) (link_map old) (value_view new) (link_map new) → AreAllMoves key (value_view old) (link_map old) new.counter moves → ArePointerMoves key (entry old) (entry new) moves
   arena_moves_pointers layout all =
       compression_moves_pointers key first following reset (value_view old) (value_view new) (link_map old) (link_map new) (entry old) (entry new) moves (found-entries (values_of old)) (found-entries (values_of new)) links_stand layout
       (subst (λ (g : Gen). AreAllMoves key (value_view old) (link_map old) g moves) layout.is_counter all)
 
 module _ {Q P G Gen U T : Type 0} (key : Q → ℕ × G) (new_key : P → ℕ × Gen) (before : ℕ → Option (G × U)) (after : ℕ → Option (Gen × T)) where
-  -- the entries that the links have become, by their pointers
+  -- the entries that the links have become, with their pointers
   abbrev arrived : List (Carried Q P U T) → List ((ℕ × Gen) × T)
   arrived carried = map (λ (c : Carried Q P U T). (new_key c.to, c.answer)) carried
 
@@ -38,7 +38,7 @@ module _ {Q P G Gen U T : Type 0} (key : Q → ℕ × G) (new_key : P → ℕ ×
   keys_arrived [] = refl
   keys_arrived (c ∷ carried) = ap (λ (ps : List (ℕ × Gen)). new_key c.to ∷ ps) (keys_arrived carried)
 
-  -- each link that was carried over has gone from a pointer to a pointer
+  -- each link carried over is a move
   each_goes : (es : List ((ℕ × G) × U)) (carried : List (Carried Q P U T)) → ((i : ℕ) → found i es ≡ before i)
       → AllByRecursion (λ (c : Carried Q P U T). found (old_index key c) es ≡ Some ((key c.from).1, value_in c.value)) carried
       → AllByRecursion (λ (e : (ℕ × Gen) × T). after e.0.0 ≡ Some (e.0.1, e.1)) (arrived carried) → AllByRecursion (IsMove (λ (c : Carried Q P U T). key c.from) (λ (c : Carried Q P U T). new_key c.to) IsMapped before after) carried

@@ -1,4 +1,4 @@
--- Values rewritten one after another, by rising index.
+-- Values rewritten one after another, in ascending order of index.
 use Rattle.std.proofs.Common.{◌≡◌, ℕ, zero, suc, ◌+◌, ◌≤◌, ◌<◌, cond, List, [], ◌∷◌, ◌++◌, map, length, Option, None, Some, refl, sym, ap, ap₂, ◌∙◌, subst, append_assoc, le_refl, arith}
 use Rattle.std.specs.Prelude.{slice_index_or, slice_set, Result, Ok, Err}
 use Rattle.std.specs.Option.{option_map}
@@ -16,7 +16,7 @@ use Rattle.chain_arena.specs.Recasts.{link_without_value, AreAllRecast, IsRecast
 use Rattle.chain_traits.proofs.GenericArenaLemmas.{entries_at_or_above-rises}
 use Rattle.chain_links.proofs.MappedArenaLemmas.{map-with_slot, slot_at-map}
 
--- slots with what stands at an index put there again
+-- writing back what a slot holds changes nothing
 with_slot-own : {X : Type 0} (slots : List (Option X)) (n : ℕ) → with_slot slots n (slot_at slots n) ≡ slots
 with_slot-own slots zero = refl
 with_slot-own {X} slots (suc k) = by slots k where
@@ -30,7 +30,7 @@ module _ {Gen T : Type 0} where
   abbrev bare : Option (Gen × LinkView T) → Option (Gen × LinkView (Unit {0}))
   bare o = option_map (on_value link_without_value) o
 
-  -- of a link whose value is written all but the value stays
+  -- a write of a value keeps everything else
   pub value-written : (a : Arena Gen (LinkView T)) (i : ℕ) (t : T) → with_each link_without_value (with_value_at a i t) ≡ with_each link_without_value a
   value-written a i t = ap (λ (slots : List (Option (Gen × LinkView (Unit {0})))). let b : Arena Gen (LinkView (Unit {0})) = record (with_each link_without_value a) { slots = slots } in b)
       (map-with_slot bare a.slots i (option_map (on_value (with_link_value t)) (entry_at a i))
@@ -44,7 +44,7 @@ module _ {Gen T : Type 0} where
   value_or other None = other
   value_or other (Some e) = e.1
 
-  -- an entry behind others
+  -- an entry after others
   rises_to : (front : List ((ℕ × Gen) × T)) (e : (ℕ × Gen) × T) (rest : List ((ℕ × Gen) × T)) (m : ℕ) → RisesFrom m (front ++ e ∷ rest) → m ≤ e.0.0
   rises_to [] e rest m rises = rises.0
   rises_to (f ∷ front) e rest m rises = let later = rises_to front e rest (suc f.0.0) rises.1 in omega (arith, rises.0, later)
@@ -85,7 +85,7 @@ module _ {T I : Type 0} (recasts : T → T → Result (Unit {0}) I → Type 0) w
   all_pushed (x ∷ ts) [] t u all recast = absurd all
 
   module _ {Gen : Type 0} where
-    -- so far: the values in front are recast, and the advancer looks at what is left
+    -- the values so far are recast, and the rest are ahead
     pub record IsRecasting (old now : Arena Gen (LinkView T)) (look : Cursor) : Type 0 where
       pub were : List T
       pub front : List ((ℕ × Gen) × T)
@@ -118,7 +118,7 @@ module _ {T I : Type 0} (recasts : T → T → Result (Unit {0}) I → Type 0) w
       left_ahead : ahead look (value_view now).entries ≡ at.left
       left_ahead = ap (λ (l : Cursor). ahead l (value_view now).entries) at.looks ∙ at.ahead
 
-      -- where nothing is ahead all values are recast
+      -- if nothing is ahead, all values are recast
       pub recast_all : (after : Cursor) → IsAdvance (value_view now).entries look None after → IsRecast recasts old now (Ok tt)
       recast_all after none = by at.left refl where
         by : (left : List ((ℕ × Gen) × T)) → at.left ≡ left → IsRecast recasts old now (Ok tt)
@@ -132,7 +132,7 @@ module _ {T I : Type 0} (recasts : T → T → Result (Unit {0}) I → Type 0) w
         }
         by (e ∷ left) some = absurd (let met = none.first ∙ ap first_key (left_ahead ∙ some) in cc)
 
-      -- the next entry: the first of those that are left
+      -- the next entry, the first of those that are left
       record IsNext (p : ℕ × Gen) : Type 0 where
         value : T
         later : List ((ℕ × Gen) × T)
@@ -186,11 +186,11 @@ module _ {T I : Type 0} (recasts : T → T → Result (Unit {0}) I → Type 0) w
               ap₂ (λ (l : Cursor) (xs : List ((ℕ × Gen) × T)). ahead l xs) up entries_then
               ∙ entries_at_or_above-behind at.front (p, is.is) next.later 1 (subst (RisesFrom 1) entries_then (entries_rise (values_of new)))
 
-          -- fewer are left then
+          -- fewer entries are left
           pub fewer_left : length (ahead after (value_view new).entries) < length (ahead look (value_view now).entries)
           fewer_left = let few = ap (λ (l : List ((ℕ × Gen) × T)). length l) left_then in let many = ap (λ (l : List ((ℕ × Gen) × T)). length l) (left_ahead ∙ next.is) in omega (arith, few, many)
 
-          -- one value more is recast
+          -- one more value is recast
           pub recast_next : answer ≡ Ok tt → IsRecasting old new after
           recast_next ok = record {
             were = at.were ++ is.was ∷ [];
@@ -207,7 +207,7 @@ module _ {T I : Type 0} (recasts : T → T → Result (Unit {0}) I → Type 0) w
             shows = shows_then;
           }
 
-          -- one refuses
+          -- one value refuses
           pub recast_refused : (refusal : I) → answer ≡ Err refusal → IsRecast recasts old new (Err refusal)
           recast_refused refusal err = record {
             rest = rest_then;

@@ -1,4 +1,4 @@
--- A compression is determined but for how many slots it touched, and no step looks at how many were touched before it.
+-- A compression is determined but for touches, and no step reads their number.
 use Rattle.std.proofs.Common.{◌≡◌, ℕ, suc, Bool, true, false, List, [], ◌∷◌, length, map, Option, None, Some, Result, Ok, Err, refl, sym, ap, ap₂, ◌∙◌, subst, arith}
 use Rattle.std.specs.Prelude.{All}
 use Rattle.std.specs.Option.{option_map}
@@ -31,7 +31,7 @@ use Rattle.chain_links.specs.declared.kinds.InsertKindBody.{InsertKindBody}
 use Rattle.chain_arena.proofs.ChainDrainLemmas.{link_at-entry}
 use Rattle.chain_links.proofs.MappedArenaLemmas.{length-with_each}
 
--- values that are there are the same where they are the same as maybe missing ones
+-- two lists are the same if they are with each value wrapped in `Some`
 same_values : {T : Type 0} (xs ys : List T) → map (λ t. let o : Option T = Some t in o) xs ≡ map (λ t. let o : Option T = Some t in o) ys → xs ≡ ys
 same_values {T} [] [] is = refl
 same_values {T} [] (y ∷ ys) is = absurd (let h = is in cc)
@@ -59,11 +59,12 @@ module _ {Gen T : Type 0} where
       let one : e ≡ f = ap₂ (λ (k : ℕ × Gen) (t : T). (k, t)) key value in
       ap₂ (λ (x : (ℕ × Gen) × T) (xs : List ((ℕ × Gen) × T)). x ∷ xs) one (same_entries g es fs (cc) (cc) (All-tail (HasGeneration g) e es left) (All-tail (HasGeneration g) f fs right))
 
-  -- what is told of the slots of an arena
+  -- what is known of the slots of an arena
   abbrev slots_told : Links Gen T → Slots
   slots_told a = record { count = length (values_of a).slots; freed = a.freed; placed = a.placed; touched = a.touched }
 
-  -- two arenas are the same but for touches, whose entries, interlinks and room are, and whose slots are told alike
+  -- arenas are the same but for touches if entries, interlinks and capacities are, and slots are
+  -- filled alike
   same_told_alike : (a b : Links Gen T) (count most : ℕ) (old : Slots) → entries (values_of a) ≡ entries (values_of b) → link_map a ≡ link_map b
       → AreFilledAnew count most old (slots_told a) → AreFilledAnew count most old (slots_told b)
       → a.counter ≡ b.counter → a.capacity ≡ b.capacity → a.stack_capacity ≡ b.stack_capacity → a.maximum ≡ b.maximum → AreSameButTouched a b
@@ -103,7 +104,7 @@ module _ {Gen T : Type 0} where
         (renaming_is_determined _ (link_map old) (link_map a) (link_map b) one.links.renamed two.links.renamed) one.seen.slots two.seen.slots counter
         (one.seen.capacity ∙ sym two.seen.capacity) (one.links.stack_capacity ∙ sym two.links.stack_capacity) (one.seen.maximum ∙ sym two.seen.maximum)
 
-    -- .. and so is a canonical one
+    -- a canonical compression is determined but for touches
     pub layout_same : IsCanonicalCompression first following reset old a → IsCanonicalCompression first following reset old b → AreSameButTouched a b
     layout_same one two =
         let x = one.layout in
@@ -119,13 +120,13 @@ module _ {Gen T : Type 0} where
         (renaming_is_determined _ (link_map old) (link_map a) (link_map b) (subst (λ (is : List ℕ). IsRenaming (place_in is) (link_map old) (link_map a)) order x.renamed) y.renamed) x.slots y.slots counter
         (x.capacity ∙ sym y.capacity) (one.stack_capacity ∙ sym two.stack_capacity) (x.maximum ∙ sym y.maximum)
 
--- what is told of an answer tells what follows from it
+-- what a result reports implies what follows from it
 tells_so : {X : Type 0} {No Not : Type 0} (Done Made : X → Type 0) (overflow : Bool) (r : InvalidationResult X) → (No → Not) → ((x : X) → Done x → Made x) → ReportsOverflow No overflow Done r → ReportsOverflow Not overflow Made r
 tells_so Done Made overflow (Success x) not_made made told = (told.0, made x told.1)
 tells_so Done Made overflow (GenerationOverflow x) not_made made told = (told.0, made x told.1)
 tells_so Done Made overflow InvalidPtr not_made made told = not_made told
 
--- each step is one too where so many slots were touched before it and after it
+-- each step stays one with the touches set to n before and after
 module _ (n : ℕ) where
   abbrev pub touch : {Gen T : Type 0} → Links Gen T → Links Gen T
   touch a = record a { touched = n }

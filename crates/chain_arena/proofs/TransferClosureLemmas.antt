@@ -1,4 +1,4 @@
--- The calls of the closure of a transfer, one for each link that is carried over.
+-- The calls of a transfer's closure, one for each link carried over.
 use Rattle.std.proofs.Common.{◌≡◌, ℕ, zero, suc, ◌+◌, Bool, List, [], ◌∷◌, ◌++◌, length, map, Option, None, Some, refl, sym, ap, ap₂, ◌∙◌, arith}
 use Rattle.std.specs.Prelude.{All, IfSome}
 use Rattle.std.specs.Option.{option_map}
@@ -15,7 +15,7 @@ use Rattle.chain_arena.specs.Drains.{after_times}
 use Rattle.chain_arena.specs.Transfers.{Carried, old_index, overflows}
 
 module _ {Gen : Type 0} (following : Gen → Gen) (wraps : Gen → Bool) where
-  -- the overflow of one removal more
+  -- the overflow of one more removal
   overflows-append : (n : ℕ) (g : Gen) → overflows following wraps (n + 1) g ≡ overflows following wraps n g ++ wraps (after_times following n g) ∷ []
   overflows-append n g = ap (λ m. overflows following wraps m g) (let e : n + 1 ≡ suc n = omega arith in e) ∙ longer n g
     where
@@ -24,7 +24,7 @@ module _ {Gen : Type 0} (following : Gen → Gen) (wraps : Gen → Bool) where
       longer (suc n) g = ap (λ bs. wraps g ∷ bs) (longer n (following g))
 
 module _ {Q P G Gen U T F : Type 0} (key : Q → ℕ × G) (new_key : P → ℕ × Gen) (following : G → G) (wraps : G → Bool) (call : Mut F (Q × (InvalidationOption U × (P × Unit {0}))) T) where
-  -- the closure was called for the links at these indexes, in this order
+  -- the closure was called for the links at these indexes, in order
   pub record AreCalled (generation : Gen) (first : F) (source : ArenaView G U) (order : List ℕ) (f : F) (carried : List (Carried Q P U T)) : Type 0 where
     pub ordered : map (old_index key) carried ≡ order
     pub keys : map (λ c. new_key c.to) carried ≡ map (λ k. (k, generation)) (range_with_len 1 (length carried))
@@ -39,7 +39,7 @@ module _ {Q P G Gen U T F : Type 0} (key : Q → ℕ × G) (new_key : P → ℕ 
       none None = tt
       none (Some g) = refl
 
-  -- one call more
+  -- one more call
   pub calls_go_on : (generation : Gen) (first : F) (source : ArenaView G U) (order : List ℕ) (f : F) (carried : List (Carried Q P U T)) → AreCalled generation first source order f carried
       → (c : Carried Q P U T) (next : F) → found (old_index key c) source.entries ≡ Some ((key c.from).1, value_in c.value) → new_key c.to ≡ (length carried + 1, generation)
       → Called call f (c.from, (c.value, (c.to, tt))) c.answer next

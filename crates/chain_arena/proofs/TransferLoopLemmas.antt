@@ -40,7 +40,7 @@ left_some : (left : List ℕ) (i : ℕ) → Some i ≡ first_or left None → (x
 left_some [] i e = absurd (cc)
 left_some (x ∷ xs) i e = (xs, cc)
 
--- where no chain is left, no part of one is
+-- if no chain is left, no part of one is
 none_left : (ring : Bool) (left : List ℕ) (rest : List Chain) → with_rest ring left rest ≡ [] → (left ≡ []) × (rest ≡ [])
 none_left ring [] rest e = (refl, e)
 none_left ring (x ∷ xs) rest e = absurd (cc)
@@ -50,7 +50,7 @@ module _ {Q P G Gen I U T F : Type 0} (key : Q → ℕ × G) (new_key : P → �
   abbrev entered : List (Carried Q P U T) → List ((ℕ × Gen) × T)
   entered carried = map (λ (c : Carried Q P U T). (new_key c.to, c.answer)) carried
 
-  -- k links are carried over: some whole chains, and of the next a part
+  -- k links are carried over: some whole chains, and a part of the next
   pub record IsCarrying (k : ℕ) (seen : ArenaView G U) (links : LinkMap) (looks : Cursor) (on : Option ℕ) (ring : Bool) (ends : Option (I × I)) (f : F) (now : Arena Gen (LinkView T)) : Type 0 where
     pub chains : List Chain
     pub are : AreTheChains interlinks chains
@@ -67,7 +67,7 @@ module _ {Q P G Gen I U T F : Type 0} (key : Q → ℕ × G) (new_key : P → �
     pub count : k ≡ length carried
     pub bounds : AreEnds number ends (length taken) (k + 1)
 
-  -- nothing is carried yet
+  -- no link is carried over yet
   pub carrying_begins : (greatest : ℕ) (looks : Cursor) (ring : Bool) → IsWellLinked interlinks → HasLinksWithin interlinks greatest → start.slots ≡ [] → looks ≡ Up 1
       → IsCarrying 0 source interlinks looks None ring None first start
   carrying_begins greatest looks ring agrees within none up =
@@ -125,23 +125,23 @@ module _ {Q P G Gen I U T F : Type 0} (key : Q → ℕ × G) (new_key : P → �
           bounds = refl;
         }
 
-    -- the interlinks of what is left agree
+    -- the remaining links are well linked
     pub agrees_left : (on : Option ℕ) → IsCarrying k seen links looks on ring ends f now → IsWellLinked links
     agrees_left on c = agrees_from_chains links (with_rest ring c.left c.rest) c.departing.chains
 
-    -- between two chains the advancer looks from where the entries begin ..
+    -- between two chains, no remaining entry is below the advancer's index
     pub looks_up : (on : Option ℕ) → on ≡ None → IsCarrying k seen links looks on ring ends f now → RisesFrom 1 seen.entries → (from : ℕ) × (looks ≡ Up from) × RisesFrom from seen.entries
     looks_up on none c rises =
         let departing = subst (λ (l : List ℕ). IsDeparting following source seen links looks ring l c.rest (all_items (with_appended c.done ring c.taken))) (left_none c.left (sym none ∙ c.next)) c.departing in
         (departing.from, departing.up, rises_up following source seen links looks ring c.rest (all_items (with_appended c.done ring c.taken)) stands departing rises)
 
-    -- .. and some are left where not all links are carried
+    -- some entries are left unless all links are carried over
     pub some_left : (on : Option ℕ) → IsCarrying k seen links looks on ring ends f now → k < length source.entries → seen.entries ≢ []
     some_left on c few =
         entries_left following source seen links looks ring c.rest (all_items (with_appended c.done ring c.taken)) stands c.left c.departing
         (subst (λ n. n < length source.entries) (c.count ∙ (sym (length-map c.carried (old_index key)) ∙ ap length c.called.ordered)) few)
 
-    -- the next link to take, in the chain that is taken or in the next
+    -- the next link to take, in the current chain or in the next
     pub carries_next_link : {J : Type 0} (index : J → ℕ) (on : Option J) (i : ℕ) (cyclic : Bool) (laid : Option (I × I)) (after : Cursor) → IsCarrying k seen links looks (option_map index on) ring ends f now
         → IfSome on (λ j. (i ≡ index j) × (cyclic ≡ ring) × (laid ≡ ends) × (after ≡ looks)) → IfNone on (IsNextChain seen links i cyclic after × (laid ≡ None))
         → IsCarrying k seen links after (Some i) cyclic laid f now
@@ -154,7 +154,7 @@ module _ {Q P G Gen I U T F : Type 0} (key : Q → ℕ × G) (new_key : P → �
         subst (λ (e : Option (I × I)). IsCarrying k seen links after (Some i) cyclic e f now) (sym begins.1) (carries_next c i cyclic after begins.0)
 
     module _ (i : ℕ) (c : IsCarrying k seen links looks (Some i) ring ends f now) where
-      -- the link to take stands
+      -- the link to take exists
       abbrev xs : List ℕ
       xs = (left_some c.left i c.next).0
 
@@ -167,7 +167,7 @@ module _ {Q P G Gen I U T F : Type 0} (key : Q → ℕ × G) (new_key : P → �
       pub link_stands : is_some (found i seen.entries) ≡ true
       link_stands = first_found following source seen links looks ring c.rest (all_items (with_appended c.done ring c.taken)) stands i xs departing
 
-      -- no link that was carried had its index
+      -- no link carried over had its index
       apart : IsMember (all_items (with_appended c.done ring c.taken)) i → ⊥
       apart h =
           let all : all_items c.chains ≡ all_items c.done ++ ((c.taken ++ i ∷ xs) ++ all_items c.rest) =
@@ -193,7 +193,7 @@ module _ {Q P G Gen I U T F : Type 0} (key : Q → ℕ × G) (new_key : P → �
       values_long : length (entered c.carried) ≡ length (all_items c.done) + length c.taken
       values_long = length-map c.carried (λ (d : Carried Q P U T). (new_key d.to, d.answer)) ∙ (sym long ∙ laid-length c.done ring c.taken)
 
-      -- how many have come, and the index of the next
+      -- the number of links carried over
       come : length (entered c.carried) ≡ k
       come = length-map c.carried (λ (d : Carried Q P U T). (new_key d.to, d.answer)) ∙ sym c.count
 
@@ -205,7 +205,7 @@ module _ {Q P G Gen I U T F : Type 0} (key : Q → ℕ × G) (new_key : P → �
       parts_more : c.chains ≡ c.done ++ with_rest ring ((c.taken ++ i ∷ []) ++ xs) c.rest
       parts_more = c.parts ∙ ap (λ (l : List ℕ). c.done ++ with_rest ring l c.rest) (ap (λ (l : List ℕ). c.taken ++ l) is_left ∙ sym (append_assoc c.taken (i ∷ []) xs))
 
-      -- where the next link comes
+      -- the index of the next link
       pub comes_at : start.freed ≡ [] → next_index now ≡ k + 1
       comes_at unfreed = next_behind start now c.done ring c.taken (entered c.carried) c.landed unfreed ∙ ap (λ n. n + 1) come
 
@@ -216,7 +216,7 @@ module _ {Q P G Gen I U T F : Type 0} (key : Q → ℕ × G) (new_key : P → �
       gap_at unfreed u v before after =
           subst₂ (IsInsertPosition (link_map now) (next_index now)) (sym before) (sym after) (gap_at_end start now c.done ring c.taken (entered c.carried) c.landed unfreed values_long)
 
-      -- there is room for it
+      -- the target has capacity for it
       pub room_at : start.freed ≡ [] → (room : ℕ) → k < room → room ≤ start.capacity → entry_count now < now.capacity
       room_at unfreed room few fits =
           let have : entry_count now ≡ length (entered c.carried) = count_landed start now c.done ring c.taken (entered c.carried) c.landed unfreed in
@@ -278,7 +278,7 @@ module _ {Q P G Gen I U T F : Type 0} (key : Q → ℕ × G) (new_key : P → �
               bounds = subst (λ m. AreEnds number bounds m (k + 1 + 1)) (sym (length-append c.taken (i ∷ []))) ends_are;
             }
 
-    -- a chain goes on to a link that stands
+    -- the next link of the current chain exists
     pub stands_on : {J : Type 0} (index : J → ℕ) (on : Option J) → IsCarrying k seen links looks (option_map index on) ring ends f now → IfSome on (λ j. is_some (found (index j) seen.entries) ≡ true)
     stands_on index None c = tt
     stands_on index (Some j) c = link_stands (index j) c

@@ -1,4 +1,4 @@
--- The arena of links out of which links are carried: the chains that are left of it, by the traits alone.
+-- The arena that links are carried from: the chains left in it, by the traits alone.
 use Rattle.std.proofs.Common.{◌≡◌, ◌≢◌, ℕ, suc, ◌+◌, ◌≤◌, ◌<◌, ◌⊎◌, inl, inr, Bool, true, false, List, [], ◌∷◌, ◌++◌, length, Option, None, Some, refl, sym, ap, ◌∙◌, subst, length-append, arith}
 use Rattle.std.specs.Prelude.{is_some, cond, ◌==◌}
 use Rattle.std.specs.Option.{option_map}
@@ -21,12 +21,12 @@ use Rattle.chain_arena.specs.Drains.{after_times}
 use Rattle.chain_arena.specs.Transfers.{entries_removed}
 use Rattle.chain_traits.specs.DrainOrder.{IsNextChain}
 
--- the chains behind the first are in order too
+-- the chains after the first are in order too
 tail_in_order : (c : Chain) (rest : List Chain) → IsInOrder (c ∷ rest) → IsInOrder rest
 tail_in_order c rest order = record { written = λ d h. order.written d (inr h); rises = order.rises.1 }
 
 module _ {Gen T : Type 0} where
-  -- another entry is found as before, once one is removed
+  -- a removal keeps all other entries
   found-without : (i j : ℕ) (es : List ((ℕ × Gen) × T)) → i ≢ j → found i (without j es) ≡ found i es
   found-without i j [] ne = refl
   found-without i j (e ∷ es) ne = by (e.0.0 == j) refl (found-without i j es ne) where
@@ -43,12 +43,12 @@ module _ {Gen T : Type 0} where
     by true same there rest = omega arith
     by false other there rest = omega (arith, rest there)
 
-  -- entries that are found from an index on rise from there
+  -- entries that are found only from an index on ascend from there
   rises_from : (from low : ℕ) (es : List ((ℕ × Gen) × T)) → RisesFrom low es → ((j : ℕ) → is_some (found j es) ≡ true → from ≤ j) → RisesFrom from es
   rises_from from low [] rises found_low = tt
   rises_from from low (e ∷ es) rises found_low = (found_low e.0.0 (ap is_some (if_same e.0.0 e.0.0 (Some (e.0.1, e.1)) (found e.0.0 es) refl)), rises.1)
 
-  -- a link stands where an entry is found
+  -- there is a link exactly where an entry is found
   abbrev pub StandsFound : LinkMap → ArenaView Gen T → Type 0
   StandsFound links seen = (i : ℕ) → is_some (links i) ≡ is_some (found i seen.entries)
 
@@ -66,7 +66,7 @@ module _ {Gen T : Type 0} (following : Gen → Gen) where
   entries_removed-append s [] i = refl
   entries_removed-append s (x ∷ xs) i = entries_removed-append (entry_removed following s x) xs i
 
-  -- the counter goes up once for each
+  -- each removal increments the counter
   pub counter-entries_removed : (s : ArenaView Gen T) (xs : List ℕ) → (entries_removed following s xs).counter ≡ option_map (after_times following (length xs)) s.counter
   counter-entries_removed s [] = own s.counter
     where
@@ -79,14 +79,14 @@ module _ {Gen T : Type 0} (following : Gen → Gen) where
       once None = refl
       once (Some g) = refl
 
-  -- what was not removed is found as before
+  -- entries that were not removed are found as before
   pub found-entries_removed : (s : ArenaView Gen T) (xs : List ℕ) (i : ℕ) → (IsMember xs i → ⊥) → found i (entries_removed following s xs).entries ≡ found i s.entries
   found-entries_removed s [] i none = refl
   found-entries_removed s (x ∷ xs) i none =
       found-entries_removed (entry_removed following s x) xs i (λ h. none (inr h)) ∙ found-without i x s.entries (λ same. none (inl (sym same)))
 
-  -- links were taken out of a source, and these chains are left, of the first of them a part. An advancer has met what
-  -- is not left and stands below it.
+  -- links were taken out of a source: these chains are left, the first of them in part. Links
+  -- outside that part are at or above the advancer's index.
   pub record IsDeparting (source seen : ArenaView Gen T) (links : LinkMap) (looks : Cursor) (ring : Bool) (left : List ℕ) (rest : List Chain) (taken : List ℕ) : Type 0 where
     pub chains : AreChains links (with_rest ring left rest)
     pub order : IsInOrder rest
@@ -97,7 +97,7 @@ module _ {Gen T : Type 0} (following : Gen → Gen) where
     pub low : (j : ℕ) → HasLink links j → (from ≤ j) ⊎ IsMember left j
 
   module _ (source seen : ArenaView Gen T) (links : LinkMap) (looks : Cursor) (ring : Bool) (rest : List Chain) (taken : List ℕ) (stands : StandsFound links seen) where
-    -- where no chain is left in part, the entries rise from where the advancer looks
+    -- if no chain is left in part, the entries ascend from the advancer's index
     pub rises_up : (d : IsDeparting source seen links looks ring [] rest taken) → RisesFrom 1 seen.entries → RisesFrom d.from seen.entries
     rises_up d rises = rises_from d.from 1 seen.entries rises (λ j there. above (d.low j (found_valid links seen stands j there)))
       where
@@ -105,11 +105,11 @@ module _ {Gen T : Type 0} (following : Gen → Gen) where
         above (inl le) = le
         above (inr h) = absurd h
 
-    -- some entries are left where not all were taken
+    -- some entries are left unless all were taken
     pub entries_left : (left : List ℕ) → IsDeparting source seen links looks ring left rest taken → length taken < length source.entries → seen.entries ≢ []
     entries_left left d few none = let long : length seen.entries ≡ 0 = ap length none in omega (arith, d.size, long)
 
-    -- the next chain is the first of those that are left
+    -- the next chain is the first of those left
     pub departs_next : IsDeparting source seen links looks ring [] rest taken → (here : ℕ) (cyclic : Bool) (after : Cursor) → IsNextChain seen links here cyclic after
         → (xs : List ℕ) × (others : List Chain) × (rest ≡ chain_of cyclic (here ∷ xs) ∷ others) × IsDeparting source seen links after cyclic (here ∷ xs) others taken
     departs_next d here cyclic after next =
@@ -135,11 +135,11 @@ module _ {Gen T : Type 0} (following : Gen → Gen) where
         above j le left has (no ne) = inl (omega arith)
 
     module _ (i : ℕ) (xs : List ℕ) (d : IsDeparting source seen links looks ring (i ∷ xs) rest taken) where
-      -- the first link of the chain stands
+      -- the first link of the chain exists
       pub first_found : is_some (found i seen.entries) ≡ true
       first_found = valid_found links seen stands i (chain_valid links (chain_of ring (i ∷ xs)) i (d.chains.each (chain_of ring (i ∷ xs)) (inl refl)) (subst (λ (zs : List ℕ). IsMember zs i) (sym (items_of ring (i ∷ xs))) (inl refl)))
 
-      -- once it is taken out, the rest of the chain is left
+      -- after it is taken, the rest of the chain is left
       pub departs_on : IsWellLinked links → (after : ArenaView Gen T) (shows : LinkMap) → after ≡ entry_removed following seen i → shows ≡ removed links i
           → IsDeparting source after shows looks ring xs rest (taken ++ i ∷ []) × (step_forward i (next_of links i) ≡ first_or xs None)
       departs_on agrees after shows is passed =
@@ -161,7 +161,7 @@ module _ {Gen T : Type 0} (following : Gen → Gen) where
           stays j ne (inr (inl same)) = absurd (ne (sym same))
           stays j ne (inr (inr h)) = inr h
 
-    -- once as many were taken as there were, none is left
+    -- after all were taken, none is left
     pub all_departed : (left : List ℕ) → IsDeparting source seen links looks ring left rest taken → length taken ≡ length source.entries
         → (seen.entries ≡ []) × (with_rest ring left rest ≡ [])
     all_departed left d all = (gone, nothing (with_rest ring left rest) d.chains)

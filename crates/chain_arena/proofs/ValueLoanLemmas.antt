@@ -1,4 +1,4 @@
--- What a look at a link, and a link that was lent, tell of the values.
+-- Values of links that are read or borrowed.
 use Rattle.std.proofs.Common.{◌≡◌, ◌↔◌, ◌⊎◌, inl, inr, ℕ, Bool, true, false, Option, None, Some, refl, ap, sym, ◌∙◌}
 use Rattle.std.specs.Prelude.{IfSome, IsSome}
 use Rattle.std.specs.Option.{option_map, option_copied_mut}
@@ -11,7 +11,7 @@ use Rattle.chain_linking.proofs.ConnectionLemmas.{value_at}
 use Rattle.chain_links.proofs.MappedArenaLemmas.{IsValidPtr}
 
 module _ {Gen K T : Type 0} (number : K → Option ℕ) where
-  -- the value at an index is that of the link there
+  -- the value at an index is the value of the link there
   pub value_there : (a : Arena Gen (LinkBody K T)) (n : ℕ) → option_map (λ (e : Gen × T). e.1) (entry_at (values_of (links_view number a)) n) ≡ option_map held_in (option_map (λ (e : Gen × LinkBody K T). e.1) (entry_at a n))
   value_there a n = ap (option_map (λ (e : Gen × T). e.1)) (value_at number a n) ∙ by (entry_at a n) where
     by : (o : Option (Gen × LinkBody K T)) → option_map (λ (e : Gen × T). e.1) (option_map (on_value held_in) o) ≡ option_map held_in (option_map (λ (e : Gen × LinkBody K T). e.1) o)
@@ -34,7 +34,7 @@ module _ {Gen X : Type 0} where
     by None at = inr (λ valid. let h = sym at ∙ valid.stands in absurd (cc))
     by (Some e) at = same e (eq e.0 p.1) at refl
 
-  -- a loan at the index of a valid pointer is of its value
+  -- a borrow at the index of a valid pointer is of its value
   pub lent_some : (entry : ℕ → Option (Gen × X)) (n : ℕ) (p : ℕ × Gen) (r : Option (MutBor X)) → n ≡ p.0 → IsValid entry p → option_copied_mut r ≡ option_map (λ (e : Gen × X). e.1) (entry n) → IsSome r
   lent_some entry n p None at valid told = let h = told ∙ ap (option_map (λ (e : Gen × X). e.1)) (ap entry at ∙ valid.stands) in absurd (cc)
   lent_some entry n p (Some t) at valid told = refl

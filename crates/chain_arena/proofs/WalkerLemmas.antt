@@ -1,4 +1,4 @@
--- A walker whose links stand passes them, one after another.
+-- A walker passes existing links, one after another.
 use Rattle.std.proofs.Common.{◌≡◌, ℕ, zero, suc, List, [], ◌∷◌, Option, None, Some, refl, ap, ap₂, sym, ◌∙◌, subst, IfSome, arith}
 use Rattle.std.specs.Prelude.{◌-◌}
 use Rattle.std.specs.Option.{option_map}
@@ -12,13 +12,13 @@ use Rattle.chain_linking.proofs.NeighborLemmas.{next_named, prev_named}
 use Rattle.chain_arena.specs.Iterators.{IsOnLinks}
 
 module _ {Gen T : Type 0} (i : ℕ) where
-  -- a look at an index that tells a link tells what stands there
+  -- a lookup that reports a link reports the entry at the index
   pub looked_some : (k : ℕ) (e : Gen × LinkView T) (o : Option (Gen × LinkView T)) → Some (k, e) ≡ option_map (index_and_entry i) o → o ≡ Some e
   looked_some k e None tells = absurd (let h = tells in cc)
   looked_some k e (Some f) tells = ap (λ (p : ℕ × (Gen × LinkView T)). let o : Option (Gen × LinkView T) = Some p.1 in o) (sym (one_some tells))
 
 module _ {Gen T : Type 0} (a : Arena Gen (LinkView T)) where
-  -- from a link that stands a walker comes to links that stand, forth ..
+  -- from an existing link, going forwards, a walker reaches existing links
   pub onward_stands : (i : ℕ) (back : Option ℕ) (e : Gen × LinkView T) → entry_at a i ≡ Some e → IsWellLinked (link_map a) → IfSome back (HasLink (link_map a)) → IsOnLinks (link_map a) e.1.next back
   onward_stands i back e stands agrees behind = record {
     agrees = agrees;
@@ -26,7 +26,7 @@ module _ {Gen T : Type 0} (a : Arena Gen (LinkView T)) where
     behind = behind;
   }
 
-  -- .. and back
+  -- from an existing link, going back, a walker reaches existing links
   pub behind_stands : (i : ℕ) (e : Gen × LinkView T) → entry_at a i ≡ Some e → IsWellLinked (link_map a) → IsOnLinks (link_map a) None e.1.prev
   behind_stands i e stands agrees = record {
     agrees = agrees;
@@ -34,13 +34,13 @@ module _ {Gen T : Type 0} (a : Arena Gen (LinkView T)) where
     behind = subst (λ (o : Option ℕ). IfSome o (HasLink (link_map a))) (ap (λ (o : Option (Gen × LinkView T)). prev_in (option_map interlinks_of o)) stands) (prev_named (link_map a) i agrees);
   }
 
-  -- one that goes nowhere passes nothing
+  -- a walker with no next link passes nothing
   nowhere : (left start : ℕ) → links_ahead a left start None None ≡ []
   nowhere zero start = refl
   nowhere (suc left) start = refl
 
   module _ (start i : ℕ) (back : Option ℕ) (e : Gen × LinkView T) (stands : entry_at a i ≡ Some e) where
-    -- one with steps left passes the link that it is at
+    -- a walker with steps left passes the current link
     passes_first : (left : ℕ) → (left ≡ 0 → ⊥) → links_ahead a left start (Some i) back ≡ (i, e) ∷ links_ahead a (left - 1) start (step_forward start e.1.next) (step_back start e.1.next back)
     passes_first zero some = absurd (some refl)
     passes_first (suc n) some =
@@ -49,7 +49,7 @@ module _ {Gen T : Type 0} (a : Arena Gen (LinkView T)) where
         ap (λ (o : Option (Gen × LinkView T)). elim o [ None ↦ [] | Some f ↦ (i, f) ∷ ahead (next_of (link_map a) i) n ]) stands
         ∙ ap₂ (λ (next : Option ℕ) (left : ℕ). (i, e) ∷ ahead next left) (ap (λ (o : Option (Gen × LinkView T)). next_in (option_map interlinks_of o)) stands) less
 
-    -- .. and that is its last, where it has come round
+    -- the current link is the last, before the start of a cyclic chain
     pub passes_last : (left : ℕ) (next : Option ℕ) → (left ≡ 0 → ⊥) → next ≡ e.1.next → next ≡ Some start → links_ahead a left start (Some i) back ≡ (i, e) ∷ links_ahead a 0 start next back
     passes_last left next some named round =
         let closed : e.1.next ≡ Some start = sym named ∙ round in
@@ -59,7 +59,7 @@ module _ {Gen T : Type 0} (a : Arena Gen (LinkView T)) where
         (ap (step_forward start) closed ∙ if_same start start None (Some start) refl) (ap (λ (n : Option ℕ). step_back start n back) closed ∙ if_same start start None back refl)
         ∙ nowhere (left - 1) start)
 
-    -- .. or else it goes on
+    -- the walker goes on, since its next link is not the start
     pub passes_on : (left : ℕ) (next : Option ℕ) → (left ≡ 0 → ⊥) → next ≡ e.1.next → (next ≡ Some start → ⊥) → links_ahead a left start (Some i) back ≡ (i, e) ∷ links_ahead a (left - 1) start next back
     passes_on left next some named apart =
         passes_first left some

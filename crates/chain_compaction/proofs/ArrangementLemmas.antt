@@ -1,4 +1,4 @@
--- Entries in slots and a list of their indexes: how many there are, and what the slots are once each has come to its place.
+-- Lists of the indexes of entries, and slots whose entries are at their places.
 use Rattle.std.proofs.Common.{◌≡◌, ℕ, zero, suc, ◌+◌, ◌≤◌, inl, inr, List, [], ◌∷◌, length, map, Option, None, Some, refl, ap, ap₂, sym, ◌∙◌, subst, arith}
 use Rattle.std.specs.Prelude.{slice_index_or}
 use Rattle.std.specs.Option.{option_map}
@@ -12,7 +12,7 @@ use Rattle.arena_base.specs.Entries.{entries_from, index_of}
 use Rattle.arena_base.proofs.ArenaViewLemmas.{length-entries}
 
 module _ {Gen X : Type 0} where
-  -- the indexes of the entries in slots rise
+  -- the indexes of the entries in slots ascend
   indexes-low : (slots : List (Option (Gen × X))) (i j : ℕ) → IsMember (map index_of (entries_from i slots)) j → i ≤ j
   indexes-low [] i j h = absurd h
   indexes-low (None ∷ slots) i j h = let low = indexes-low slots (suc i) j h in omega (arith, low)
@@ -24,7 +24,7 @@ module _ {Gen X : Type 0} where
   indexes-once (None ∷ slots) i = indexes-once slots (suc i)
   indexes-once (Some e ∷ slots) i = (λ h. let low = indexes-low slots (suc i) i h in omega (arith, low), indexes-once slots (suc i))
 
-  -- and are exactly those where an entry stands
+  -- the indexes of the entries are exactly the occupied ones
   indexes-stand : (slots : List (Option (Gen × X))) (i j : ℕ) → IsMember (map index_of (entries_from i slots)) j → (k : ℕ) × (e : Gen × X) × (i + k ≡ j) × (slice_index_or slots k None ≡ Some e)
   indexes-stand [] i j h = absurd h
   indexes-stand (None ∷ slots) i j h = let w = indexes-stand slots (suc i) j h in (suc w.0, w.1, omega (arith, w.2), w.3)
@@ -38,7 +38,7 @@ module _ {Gen X : Type 0} where
   stand-indexes (Some d ∷ slots) i j zero e at is = inl (omega (arith, at))
   stand-indexes (Some d ∷ slots) i j (suc k) e at is = inr (stand-indexes slots (suc i) j k e (omega (arith, at)) is)
 
-  -- a list that has the index of each entry, once, and no other, is as long as there are entries
+  -- a list of the occupied indexes, each once, is as long as there are entries
   pub count-standing : (a : Arena Gen X) (indexes : List ℕ) → AreDistinct indexes → ((i : ℕ) (e : Gen × X) → slot_at a.slots i ≡ Some e → IsMember indexes i)
       → ((i : ℕ) → IsMember indexes i → (e : Gen × X) × (slot_at a.slots i ≡ Some e)) → entry_count a ≡ length indexes
   count-standing a indexes once each all = omega (arith, length-entries a, length-map (entries_from 1 a.slots) index_of, most, least)
@@ -54,7 +54,7 @@ module _ {Gen X : Type 0} where
           by zero e is = absurd (let h = is in cc)
           by (suc k) e is = stand-indexes a.slots 1 (suc k) k e (omega arith) is
 
--- slots in which at the place of each item stands what is given at it
+-- slots that hold what is given for each item at its place
 pub slots-filled : {X : Type 0} (given : ℕ → Option X) (xs : List ℕ) (n : ℕ) (slots : List (Option X)) → AreDistinct xs → length slots ≡ length xs
     → ((i k : ℕ) → place_from (suc n) xs i ≡ Some (suc n + k) → slice_index_or slots k None ≡ given i) → slots ≡ map given xs
 slots-filled given [] n [] once same each = refl
@@ -71,7 +71,7 @@ slots-filled {X} given (x ∷ xs) n (s ∷ slots) once same each =
         each i (suc k) (place-other (suc n) x xs i (λ same. once.0 (subst (IsMember xs) (sym same) (place-has (suc (suc n)) xs i (suc (suc n) + k) e)))
         ∙ (e ∙ ap (λ (m : ℕ). Some m) (let e : suc (suc n) + k ≡ suc n + suc k = omega arith in e)))
 
--- the values at some indexes, where something stands at each
+-- the values at some indexes, each of them occupied
 pub values-given : {Gen T : Type 0} (g : Gen) (given : ℕ → Option (Gen × T)) (xs : List ℕ) → ((i : ℕ) → IsMember xs i → (e : Gen × T) × (given i ≡ Some e))
     → (values : List T) × (map (λ t. Some t) values ≡ map (λ i. option_map (λ (e : Gen × T). e.1) (given i)) xs)
     × (map {B = Option (Gen × T)} (λ t. Some (g, t)) values ≡ map {B = Option (Gen × T)} (λ i. option_map (λ (e : Gen × T). (g, e.1)) (given i)) xs) × (length values ≡ length xs)

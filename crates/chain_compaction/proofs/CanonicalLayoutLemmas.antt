@@ -1,4 +1,4 @@
--- Links that are laid out: what the arena is once each has its destination, names those of its neighbors, and has moved there.
+-- The arena after each link is at its destination and names those of its neighbors.
 use Rattle.std.proofs.Common.{◌≡◌, ℕ, suc, ◌+◌, ◌*◌, ◌^◌, ◌<◌, ◌≤◌, List, [], length, map, Option, None, Some, refl, ap, sym, ◌∙◌, subst, subst₂, arith}
 use Rattle.std.specs.Prelude.{count_by, is_some, slice_index_or, min}
 use Rattle.std.specs.Option.{option_map, option_and_then}
@@ -34,15 +34,15 @@ use Rattle.chain_compaction.proofs.ChainDestinationLemmas.{length-seen}
 use Rattle.chain_compaction.proofs.WorkCountLemmas.{counted_none}
 use Rattle.chain_compaction.proofs.ArrangementLemmas.{count-standing, slots-filled, values-given}
 
--- ---- links that have come to their places
+-- ---- links at their places
 
--- what links in slots show
+-- the link map of slots
 abbrev pub shown_slots : {Gen T : Type 0} → List (Option (Gen × LinkView T)) → LinkMap
 shown_slots slots i = option_map interlinks_of (slot_at slots i)
 
 module _ {Gen T : Type 0} (g : Gen) (old new : List (Option (Gen × LinkView T))) (indexes : List ℕ) (arranges : IsArrangement (shown_slots old) indexes) (long : length new ≡ length indexes)
     (sent : (i d : ℕ) (x : Gen × LinkView T) → place_in indexes i ≡ Some d → slot_at old i ≡ Some x → slot_at new d ≡ Some (g, renamed_link (place_in indexes) x.1)) where
-  -- the entries of the values alone
+  -- the entries with their values alone
   abbrev value_at : ℕ → Option (Gen × T)
   value_at i = slot_at (map (option_map (on_value link_value)) old) i
 
@@ -85,7 +85,7 @@ module _ {Gen T : Type 0} (g : Gen) (old new : List (Option (Gen × LinkView T))
 
 -- ---- the count
 
--- three passes after one another, from the beginning of the count on
+-- three passes after one another, counted from the beginning
 pub three_counted : {Gen T : Type 0} (a0 a1 a2 a3 : Arena Gen T) (p0 p1 p2 p3 t0 t1 t2 t3 : ℕ) → p0 ≡ 0 → t0 ≡ 0 → CountsOn a0 a1 p0 t0 p1 t1 → CountsOn a1 a2 p1 t1 p2 t2 → CountsOn a2 a3 p2 t2 p3 t3 → HasCounted a0 a3 p3 t3
 three_counted a0 a1 a2 a3 p0 p1 p2 p3 t0 t1 t2 t3 no_placement no_touch one two three =
     three.on a0 (two.on a0 (one.on a0 (subst₂ (λ (p t : ℕ). HasCounted a0 a0 p t) (sym no_placement) (sym no_touch) (counted_none a0))))
@@ -134,7 +134,7 @@ module _ {Gen K T : Type 0} (number : K → Option ℕ) (slots : List (Option (G
 -- ---- the passes
 
 module _ {Gen K T : Type 0} (number : K → Option ℕ) where
-  -- what slots show is told by the links as contracts see them
+  -- the link map follows from the links as contracts see them
   pub link_map-seen : (held : Held Gen (LinkBody K T)) → link_map_in number held.slots ≡ shown_slots (held_view number held).slots
   link_map-seen held = fun_ext (λ i. twice (slot_at held.slots i) ∙ sym (ap (option_map interlinks_of) (slot_at-map (pair_view number) held.slots i)))
     where
@@ -142,14 +142,14 @@ module _ {Gen K T : Type 0} (number : K → Option ℕ) where
       twice None = refl
       twice (Some e) = refl
 
-  -- .. and there are as many slots where the links are renamed
+  -- renaming links keeps the number of slots
   pub length-renamed : (to : ℕ → Option ℕ) (one other : Held Gen (LinkBody K T)) → held_view number one ≡ renamed_held to (held_view number other) → length one.slots ≡ length other.slots
   length-renamed to one other renamed =
       sym (length-map one.slots (option_map (pair_view number)))
       ∙ (ap (λ (h : Held Gen (LinkView T)). length h.slots) renamed
       ∙ (length-map (held_view number other).slots (option_map (on_value (renamed_link to))) ∙ length-map other.slots (option_map (pair_view number))))
 
-  -- the pointers are told by what is seen
+  -- the pointers follow from the view
   ptr-seen : (held : Held Gen (LinkBody K T)) (i : ℕ) → ptr_at (slot_at held.slots) i ≡ ptr_at (slot_at (map (option_map (on_value link_value)) (held_view number held).slots)) i
   ptr-seen held i =
       twice (slot_at held.slots i)
@@ -159,7 +159,7 @@ module _ {Gen K T : Type 0} (number : K → Option ℕ) where
       twice None = refl
       twice (Some e) = refl
 
-  -- links that are seen alike agree alike
+  -- links with the same view are well linked alike
   pub agree-seen : (a : Arena Gen (LinkBody K T)) (before after : Held Gen (LinkBody K T)) → before ≡ held_of a → held_view number after ≡ held_view number before
       → IsWellLinked (link_map (links_view number a)) → IsWellLinked (link_map_in number after.slots)
   agree-seen a before after is same agrees =
@@ -203,14 +203,14 @@ module _ {F P Gen K T : Type 0} (g : F → P → P → F → Type 0) (key : P �
   links_counted : count_by is_some h2.slots ≡ length numbered.indexes
   links_counted = count-standing (record old { slots = h2.slots }) numbered.indexes first_arranges.once each_placed (has_entry number h2.slots numbered.indexes first_arranges.once numbered.places each_placed)
 
-  -- there are as many slots as at first
+  -- the number of slots is unchanged
   first-length : length h1.slots ≡ length old.slots
   first-length = length-seen number h1 (held_of old) emptied
 
   second-length : length h2.slots ≡ length old.slots
   second-length = length-renamed number (place_in numbered.indexes) h2 (held_of old) all_renamed
 
-  -- once they have moved
+  -- after the links have moved
   module _ (h3 : Held Gen (LinkBody K T)) (moved : HaveMoved (destination_of number) (Settles number generation) (slot_at h2.slots) (slot_at h3.slots)) where
     abbrev last_slots : List (Option (Gen × LinkView T))
     last_slots = map (option_map (pair_view number)) (trimmed h3.slots)
@@ -218,7 +218,7 @@ module _ {F P Gen K T : Type 0} (g : F → P → P → F → Type 0) (key : P �
     pub last-length : length last_slots ≡ length numbered.indexes
     last-length = length-map (trimmed h3.slots) (option_map (pair_view number)) ∙ front-length (destination_of number) (Settles number generation) (length numbered.indexes) h2.slots h3.slots links_to_front moved
 
-    -- the links stand in the first slots
+    -- the links are in the first slots
     pub last_packed : IsPacked h3.slots total
     last_packed = subst (IsPacked h3.slots) (sym numbered.counted) (front-packed (destination_of number) (Settles number generation) (length numbered.indexes) h2.slots h3.slots links_to_front moved)
 
@@ -241,7 +241,7 @@ module _ {F P Gen K T : Type 0} (g : F → P → P → F → Type 0) (key : P �
         link_is : {e h : Gen × LinkView T} → ◌≡◌ {A = Option (Gen × LinkView T)} (Some e) (Some h) → e.1 ≡ h.1
         link_is {e} {h} both = ap (link_or e.1) both
 
-    -- .. and the slots are given back
+    -- after the slots are given back
     module _ (greatest : ℕ) (maximum : Option ℕ) (a3 : Arena Gen (LinkBody K T)) (capacity : h3.stack_capacity ≡ h2.stack_capacity) (is_maximum : h3.maximum ≡ h2.maximum)
         (emptying : a1 ≡ with_totals (lent_out maximum old) 0 (length old.slots))
         (moving : a3 ≡ with_totals a2 (count_by is_some h2.slots) (count_by is_some h2.slots + length h2.slots)) where

@@ -1,4 +1,5 @@
--- A chain whose links get their destinations: the walk along it, its beginning, its step and its end.
+-- The walk that gives the links of a chain their destinations: its beginning, its steps and its
+-- end.
 use Rattle.std.proofs.Common.{◌≡◌, ◌≢◌, ℕ, suc, ◌+◌, ◌*◌, ◌<◌, ◌≤◌, ◌⊎◌, inl, inr, List, [], ◌∷◌, ◌++◌, length, map, Option, None, Some, refl, sym, ap, ap₂, ◌∙◌, subst, append_assoc, arith}
 use Rattle.std.specs.Prelude.{◌==◌, if◌then◌else◌}
 use Rattle.std.specs.Option.{option_map, option_and_then}
@@ -29,7 +30,7 @@ use Rattle.chain_compaction.proofs.LinkRewriteLemmas.{seen_as, written_given, wr
 
 -- ---- a walk along a chain
 
--- what comes after the first of a list is not the first
+-- a later item of a list is not its first item
 not_first : (ys : List ℕ) (i z : ℕ) (ws : List ℕ) (start : ℕ) → AreDistinct (ys ++ i ∷ z ∷ ws) → first_or (ys ++ i ∷ z ∷ ws) None ≡ Some start → z ≢ start
 not_first [] i z ws start once first s = let same : i ≡ start = cc in once.0 (inl (s ∙ sym same))
 not_first (y ∷ ys) i z ws start once first s =
@@ -42,7 +43,7 @@ goes_to start ys i [] after once first (inl e) = ap (step_forward start) e
 goes_to start ys i [] after once first (inr e) = ap (step_forward start) e ∙ if_same start start None (Some start) refl
 goes_to start ys i (z ∷ ws) after once first e = if_other z start None (Some z) (not_first ys i z ws start once first)
 
--- from the item i of a chain a walker goes on to what stands behind it in the list
+-- from the item i of a chain a walker goes on to the next item
 pub chain_goes_on : (shown : LinkMap) (c : Chain) (start : ℕ) (ys : List ℕ) (i : ℕ) (zs : List ℕ) → IsChain shown c → first_or (items c) None ≡ Some start → items c ≡ ys ++ i ∷ zs
     → step_forward start (next_of shown i) ≡ first_or zs None
 chain_goes_on shown (linear xs) start ys i zs h first parts =
@@ -54,18 +55,18 @@ chain_goes_on shown (cyclic xs) start ys i zs h first parts =
     ap (λ (o : Option Interlinks). step_forward start (next_in o)) (AreLinked-at shown (last_or xs None) ys zs (first_or xs None) i stands)
     ∙ goes_to start ys i zs (first_or xs None) (subst AreDistinct parts h.1) (ap (λ (l : List ℕ). first_or l None) (sym parts) ∙ first) (inr first)
 
--- ---- a closure that sees links
+-- ---- a visitor that sees links
 
 folds_append : {P A : Type 0} (R : P → A → P → Type 0) (p q r : P) (xs ys : List A) → FoldsTo R p xs q → FoldsTo R q ys r → FoldsTo R p (xs ++ ys) r
 folds_append R p q r [] ys first second = subst (λ k. FoldsTo R k ys r) (sym first) second
 folds_append R p q r (x ∷ xs) ys first second = (first.0, first.1, folds_append R first.0 q r xs ys first.2 second)
 
 module _ {F P Gen : Type 0} (g : F → P → P → F → Type 0) (key : P → ℕ × Gen) (pointer : ℕ → Option (ℕ × Gen)) (generation : Gen) where
-  -- it has seen none
+  -- the visitor has seen no link
   pub shows_none : (n : ℕ) (f : F) → ReportsMoves g key pointer generation n f [] f
   shows_none n f = record { moves = []; in_turn = refl; from = refl; to = refl }
 
-  -- it sees one
+  -- the visitor sees one link
   pub shows_one : (n : ℕ) (f next : F) (i : ℕ) (p q : P) → Some (key p) ≡ pointer i → key q ≡ (n, generation) → g f p q next
       → ReportsMoves g key pointer generation n f (i ∷ []) next
   shows_one n f next i p q from to called = record {
@@ -75,7 +76,7 @@ module _ {F P Gen : Type 0} (g : F → P → P → F → Type 0) (key : P → �
     to = ap (λ k. k ∷ []) to;
   }
 
-  -- it sees some, and then others
+  -- the visitor sees some links, and then others
   pub shows_then : (n : ℕ) (f mid last : F) (xs ys : List ℕ) → ReportsMoves g key pointer generation n f xs mid → ReportsMoves g key pointer generation (n + length xs) mid ys last
       → ReportsMoves g key pointer generation n f (xs ++ ys) last
   shows_then n f mid last xs ys one two = record {
@@ -92,11 +93,11 @@ module _ {F P Gen : Type 0} (g : F → P → P → F → Type 0) (key : P → �
 -- ---- slots in which links get destinations
 
 module _ {Gen K T : Type 0} (number : K → Option ℕ) where
-  -- where what is seen is alike, there are as many slots
+  -- two views that are the same have as many slots
   pub length-seen : (a b : Held Gen (LinkBody K T)) → held_view number a ≡ held_view number b → length a.slots ≡ length b.slots
   length-seen a b same = sym (length-map a.slots (option_map (pair_view number))) ∙ (ap (λ (h : Held Gen (LinkView T)). length h.slots) same ∙ length-map b.slots (option_map (pair_view number)))
 
-  -- where a link stands
+  -- the entry of a link
   pub stands_at : (slots : List (Option (Gen × LinkBody K T))) (i : ℕ) → HasLink (link_map_in number slots) i → (e : Gen × LinkBody K T) × (slot_at slots i ≡ Some e)
   stands_at slots i v = by (slot_at slots i) refl v.shows
     where
@@ -104,7 +105,7 @@ module _ {Gen K T : Type 0} (number : K → Option ℕ) where
       by None is e = absurd (cc)
       by (Some x) is e = (x, is)
 
-  -- one more has a destination
+  -- one more link has a destination
   pub one_numbered : (now new : Held Gen (LinkBody K T)) (i : ℕ) (e : Gen × LinkBody K T) (w : LinkBody K T) → slot_at now.slots i ≡ Some e → new ≡ held_with_value now i w → (count : ℕ) (done : List ℕ) → AreNumbered number now.slots count done
       → (IsMember done i → ⊥) → number w.destination ≡ Some (count + 1) → AreNumbered number new.slots (count + 1) (done ++ i ∷ [])
   one_numbered now new i e w stands wrote count done n fresh value = record {
@@ -118,7 +119,7 @@ module _ {Gen K T : Type 0} (number : K → Option ℕ) where
           ∙ (value ∙ (ap (λ (m : ℕ). Some (m + 1)) n.counts ∙ (sym (place-last done i fresh) ∙ ap (place_in (done ++ i ∷ [])) (sym s)))))
       after j (no ne) = written_given now new i e w stands wrote number j ne ∙ (n.places j ∙ sym (place-before_last done i j (λ s. ne (sym s))))
 
-  -- .. and none where a link was written over with the destination that it had
+  -- a link was overwritten, with its destination unchanged
   pub still_numbered : (now new : Held Gen (LinkBody K T)) (i : ℕ) (e : Gen × LinkBody K T) (w : LinkBody K T) → slot_at now.slots i ≡ Some e → new ≡ held_with_value now i w → (count : ℕ) (done : List ℕ) → AreNumbered number now.slots count done
       → number w.destination ≡ number e.1.destination → AreNumbered number new.slots count done
   still_numbered now new i e w stands wrote count done n same = record { places = λ j. after j (ℕ_discrete j i); counts = n.counts }
@@ -129,9 +130,9 @@ module _ {Gen K T : Type 0} (number : K → Option ℕ) where
           ∙ (written_own now new i e w stands wrote number ∙ (same ∙ (sym (ap (option_and_then (destination_of number)) stands) ∙ (n.places i ∙ ap (place_in done) (sym s)))))
       after j (no ne) = written_given now new i e w stands wrote number j ne ∙ n.places j
 
--- ---- what the links of a chain name, and what they are to name
+-- ---- what the links of a chain name, before and after
 
--- what a chain names before its first link, and behind its last
+-- what the first link of a chain names as `prev`, and the last one as `next`
 abbrev pub behind_of : Chain → Option ℕ
 behind_of (linear xs) = None
 behind_of (cyclic xs) = last_or xs None
@@ -144,7 +145,7 @@ chain_stands : (shown : LinkMap) (c : Chain) → IsChain shown c → AreLinked s
 chain_stands shown (linear xs) h = h.2
 chain_stands shown (cyclic xs) h = h.2
 
--- the item i of a chain names the items beside it
+-- the item i of a chain names the items next to it
 chain_names : (shown : LinkMap) (c : Chain) (ys : List ℕ) (i : ℕ) (zs : List ℕ) → IsChain shown c → items c ≡ ys ++ i ∷ zs
     → shown i ≡ Some (record { prev = last_or ys (behind_of c); next = first_or zs (ahead_of c) })
 chain_names shown c ys i zs h parts = AreLinked-at shown (behind_of c) ys zs (ahead_of c) i (subst (λ (l : List ℕ). AreLinked shown (behind_of c) l (ahead_of c)) parts (chain_stands shown c h))
@@ -153,25 +154,25 @@ chain_names shown c ys i zs h parts = AreLinked-at shown (behind_of c) ys zs (ah
 place-middle : (n : ℕ) (ys : List ℕ) (z : ℕ) (ws : List ℕ) → AreDistinct (ys ++ z ∷ ws) → place_from n (ys ++ z ∷ ws) z ≡ Some (n + length ys)
 place-middle n ys z ws once = place-append n ys (z ∷ ws) z (λ h. AreDistinct-apart ys (z ∷ ws) z once h (inl refl)) ∙ place-same (n + length ys) ws z
 
--- a link of a chain that is being numbered: the start names none before it yet
+-- a link while its chain is numbered: the start names no previous link yet
 abbrev pub begun_link : {T : Type 0} → (ℕ → Option ℕ) → ℕ → ℕ → LinkView T → LinkView T
 begun_link to start j link = record { prev = if j == start then None else option_and_then to link.prev; next = option_and_then to link.next; value = link.value }
 
--- any other than the start is renamed
+-- any link but the start is renamed
 begun_other : {T : Type 0} (to : ℕ → Option ℕ) (start j : ℕ) → j ≢ start → begun_link {T = T} to start j ≡ renamed_link to
 begun_other {T} to start j differs = fun_ext (λ l k. record { prev = if_other j start None (option_and_then to l.prev) differs k; next = option_and_then to l.next; value = l.value })
 
 begun_first : {T : Type 0} (to : ℕ → Option ℕ) (start j : ℕ) (l : LinkView T) → j ≡ start → option_and_then to l.prev ≡ None → begun_link to start j l ≡ renamed_link to l
 begun_first to start j l same none = λ k. record { prev = (if_same j start None (option_and_then to l.prev) same ∙ sym none) k; next = option_and_then to l.next; value = l.value }
 
--- what a link of a chain names once it is numbered: in front of it ..
+-- the new `prev` of a link of the chain
 named_before : (to : ℕ → Option ℕ) (start : ℕ) (ys : List ℕ) (i : ℕ) (zs : List ℕ) (behind : Option ℕ) → AreDistinct (ys ++ i ∷ zs) → first_or (ys ++ i ∷ zs) None ≡ Some start
     → option_and_then to (last_or ys None) ≡ (if i == start then None else option_and_then to (last_or ys behind))
 named_before to start [] i zs behind once first = sym (if_same i start None _ (one_some first))
 named_before to start (y ∷ ys) i zs behind once first =
     sym (if_other i start None _ (λ s. once.0 (subst (IsMember (ys ++ i ∷ zs)) (s ∙ sym (one_some first)) (IsMember-middle ys zs i))))
 
--- .. and behind it
+-- the new `next` of a link of the chain
 named_after : (c : Chain) (n : ℕ) (start : ℕ) (ys : List ℕ) (i : ℕ) (zs : List ℕ) → items c ≡ ys ++ i ∷ zs → AreDistinct (items c) → first_or (items c) None ≡ Some start → (count : ℕ) → count ≡ n + length ys
     → number_after (first_or zs None) (first_or zs (ahead_of c)) n (count + 1) ≡ option_and_then (place_from (n + 1) (items c)) (first_or zs (ahead_of c))
 named_after c n start ys i (z ∷ ws) parts once first count at =
@@ -185,8 +186,8 @@ named_after (cyclic (x ∷ xs)) n start ys i [] parts once first count at = sym 
 
 -- ---- the walk that numbers a chain
 
--- it has numbered the links up to here, and the closure has seen them; it goes on to the next, which the last one named, and
--- which names that
+-- the walk has numbered the links so far, and the visitor has seen them. The next link was named by
+-- the last, and is to name it.
 pub record IsWalking {Gen K T F P : Type 0} (number : K → Option ℕ) (g : F → P → P → F → Type 0) (key : P → ℕ × Gen) (generation : Gen) (f last : F) (old now : Held Gen (LinkBody K T))
     (before after : Arena Gen (LinkBody K T)) (count : ℕ) (start : ℕ) (on named prev : Option ℕ) (done : List ℕ) (c : Chain) : Type 0 where
   pub passed : List ℕ
@@ -202,7 +203,7 @@ pub record IsWalking {Gen K T F P : Type 0} (number : K → Option ℕ) (g : F �
 
 module _ {Gen K T F P : Type 0} (number : K → Option ℕ) (g : F → P → P → F → Type 0) (key : P → ℕ × Gen) (generation : Gen) (f : F) (old : Held Gen (LinkBody K T)) (first : Arena Gen (LinkBody K T))
     (start before : ℕ) (done : List ℕ) (c : Chain) (can : CanNumber number old.slots start before done c) where
-  -- where the links are to stand
+  -- the destinations of the links
   abbrev to : ℕ → Option ℕ
   to = place_from (length done + 1) (items c)
 
@@ -228,7 +229,7 @@ module _ {Gen K T F P : Type 0} (number : K → Option ℕ) (g : F → P → P �
       whatever [] e = absurd (cc)
       whatever (x ∷ xs) e = e
 
-  -- there is room for the first link
+  -- before the first link there is a free number
   pub walk_first : before < length old.slots
   walk_first = by (items c) can.starts can.room
     where
@@ -237,7 +238,7 @@ module _ {Gen K T F P : Type 0} (number : K → Option ℕ) (g : F → P → P �
       by (x ∷ xs) e room = omega (arith, can.numbered.counts, room)
 
   module _ (last : F) (now : Held Gen (LinkBody K T)) (later : Arena Gen (LinkBody K T)) (count : ℕ) (named prev : Option ℕ) where
-    -- the walk ends, and where it has come round, the start names the last link
+    -- the walk ends, and in a cyclic chain the start names the last link
     module _ (w : IsWalking number g key generation f last old now first later count start None named prev done c) (new : Held Gen (LinkBody K T)) (closed : IsRingClosed number start named prev now new) where
       none_ahead : w.ahead ≡ []
       none_ahead = empty w.ahead (sym w.next)
@@ -258,7 +259,7 @@ module _ {Gen K T F P : Type 0} (number : K → Option ℕ) (g : F → P → P �
       begun_all : AreRelinked number (begun_link to start) old now (items c)
       begun_all = subst (AreRelinked number (begun_link to start) old now) all_passed w.retied
 
-      -- the start is the first item, and stands
+      -- the start is the first item, and there is a link at it
       begins : (xs : List ℕ) × (items c ≡ start ∷ xs)
       begins = by (items c) can.starts
         where
@@ -278,7 +279,7 @@ module _ {Gen K T F P : Type 0} (number : K → Option ℕ) (g : F → P → P �
       has_start : IsMember (items c) start
       has_start = subst (λ (xs : List ℕ). IsMember xs start) (sym begins.1) (inl refl)
 
-      -- nothing was written over where the chain is linear
+      -- in a linear chain nothing was overwritten
       stays_linear : behind_of c ≡ None → new ≡ now → AreNumbered number new.slots count (done ++ items c) × AreRelinked number (λ _. renamed_link to) old new (items c)
       stays_linear none same = (
         subst (λ (h : Held Gen (LinkBody K T)). AreNumbered number h.slots count (done ++ items c)) (sym same) numbered_all,
@@ -300,7 +301,7 @@ module _ {Gen K T F P : Type 0} (number : K → Option ℕ) (g : F → P → P �
           by j (yes s) = own j s (slot_at old.slots j) refl
           by j (no differs) = ap (λ (f : LinkView T → LinkView T). option_map (on_value f) (seen_at number old j)) (begun_other to start j differs)
 
-      -- the start was written over where it is cyclic
+      -- in a cyclic chain the start was overwritten
       closes_ring : (k : ℕ) → named ≡ Some k → prev ≡ option_and_then to (behind_of c) → AreNumbered number new.slots count (done ++ items c) × AreRelinked number (λ _. renamed_link to) old new (items c)
       closes_ring k some is_last = by (slot_at now.slots start) refl
         where
@@ -323,7 +324,7 @@ module _ {Gen K T F P : Type 0} (number : K → Option ℕ) (g : F → P → P �
                     (here ∙ sym (ap (λ (o : Option (Gen × LinkBody K T)). option_map (on_value (renamed_link to)) (option_map (pair_view number) o)) start_stood.1)),
               )
 
-      -- so in each case
+      -- the two cases together
       ended : AreNumbered number new.slots count (done ++ items c) × AreRelinked number (λ _. renamed_link to) old new (items c)
       ended = by c refl
         where
@@ -345,7 +346,7 @@ module _ {Gen K T F P : Type 0} (number : K → Option ℕ) (g : F → P → P �
       }
 
     module _ (i : ℕ) (w : IsWalking number g key generation f last old now first later count start (Some i) named prev done c) where
-      -- the rest begins with the next link
+      -- the remaining items begin with the next link
       here : (zs : List ℕ) × (items c ≡ w.passed ++ i ∷ zs)
       here = by w.ahead w.next w.parts
         where
@@ -353,11 +354,11 @@ module _ {Gen K T F P : Type 0} (number : K → Option ℕ) (g : F → P → P �
           by [] e parts = absurd (cc)
           by (z ∷ zs) e parts = (zs, parts ∙ ap (λ (k : ℕ). w.passed ++ k ∷ zs) (sym (one_some e)))
 
-      -- so many are counted
+      -- the number of links counted
       counted : count ≡ length done + length w.passed
       counted = w.numbered.counts ∙ length-append done w.passed
 
-      -- there is room for it
+      -- there is a free number for the next link
       pub walk_room : count < length old.slots
       walk_room =
           let l : length (items c) ≡ length w.passed + suc (length here.0) = ap length here.1 ∙ length-append w.passed (i ∷ here.0) in
@@ -377,7 +378,7 @@ module _ {Gen K T F P : Type 0} (number : K → Option ℕ) (g : F → P → P �
           by (inl m) = can.apart i has m
           by (inr m) = not_passed m
 
-      -- it stands there, as at first
+      -- the next link is as it was at first
       as_first : slot_at now.slots i ≡ slot_at old.slots i
       as_first = w.retied.stay i not_passed
 
@@ -387,7 +388,7 @@ module _ {Gen K T F P : Type 0} (number : K → Option ℕ) (g : F → P → P �
       pub walk_stands : (e : Gen × LinkBody K T) × (slot_at now.slots i ≡ Some e)
       walk_stands = stands_at number now.slots i (record { link = _; shows = shows_here })
 
-      -- some link is answered
+      -- a read finds the next link
       pub walk_answers : None ≡ option_map (λ (e : Gen × LinkBody K T). e.0) (slot_at now.slots i) → ⊥
       walk_answers none = let both = none ∙ ap (option_map (λ (e : Gen × LinkBody K T). e.0)) walk_stands.1 in cc
 
@@ -401,7 +402,7 @@ module _ {Gen K T F P : Type 0} (number : K → Option ℕ) (g : F → P → P �
             ∙ (ap (step_forward start) (is_next ∙ ap (λ (o : Option (Gen × LinkBody K T)). next_in (option_map (body_interlinks number) o)) as_first)
             ∙ chain_goes_on (link_map_in number old.slots) c start w.passed i here.0 can.chain can.starts here.1)
 
-        -- where it goes on there is room for the next link too
+        -- if the walk goes on, there is a free number for the link after it too
         pub walk_more : (k : ℕ) → on ≡ Some k → count + 1 < length old.slots
         walk_more k some =
             let filled : 1 ≤ length here.0 = by here.0 (sym goes_next ∙ some) in

@@ -1,4 +1,4 @@
--- Chains that are numbered in order, by their least index: the beginning, one slot more, and the end.
+-- Numbering of chains by their least index: the beginning, one more slot, and the end.
 use Rattle.std.proofs.Common.{◌≡◌, ℕ, ◌+◌, ◌*◌, ◌<◌, ◌≤◌, ◌⊎◌, inl, inr, List, [], ◌∷◌, ◌++◌, length, Option, None, Some, true, false, refl, sym, ap, ◌∙◌, subst, arith}
 use Rattle.std.specs.Prelude.{is_none}
 use Rattle.std.specs.Option.{option_map, option_and_then}
@@ -47,7 +47,7 @@ no_items : (xs : List ℕ) → ((y : ℕ) → IsMember xs y → ⊥) → xs ≡ 
 no_items [] none = refl
 no_items (x ∷ xs) none = absurd (none x (inl refl))
 
--- the chain at the front of the rest, where i stands and all indexes of the rest are at least i
+-- the first remaining chain, which has the least remaining index, i
 record IsNext (rest : List Chain) (i : ℕ) : Type 0 where
   first : Chain
   others : List Chain
@@ -100,7 +100,7 @@ module _ {Gen K T : Type 0} (number : K → Option ℕ) where
       by None e none = cc
       by (Some i) e none = cc
 
-  -- the links of a chain name its links, so they are renamed alike by what names those alike
+  -- renamings that agree on the links of a chain rename them alike
   renamed_alike : (to also : ℕ → Option ℕ) (slots : List (Option (Gen × LinkBody K T))) (c : Chain) → IsChain (link_map_in number slots) c → ((j : ℕ) → IsMember (items c) j → to j ≡ also j) → (i : ℕ) → IsMember (items c) i
       → option_map (on_value (renamed_link to)) (option_map (pair_view number) (slot_at slots i)) ≡ option_map (on_value (renamed_link also)) (option_map (pair_view number) (slot_at slots i))
   renamed_alike to also slots c h same i m = by (slot_at slots i) refl
@@ -121,7 +121,7 @@ module _ {Gen K T : Type 0} (number : K → Option ℕ) where
 
 -- ---- the loop over all slots
 
--- the chains with an index up to k are numbered, and the closure has seen their links in that order
+-- the chains with an index up to k are numbered, and the visitor has seen them in order
 pub record IsOrdering {Gen K T F P : Type 0} (number : K → Option ℕ) (g : F → P → P → F → Type 0) (key : P → ℕ × Gen) (generation : Gen) (f last : F) (old now : Held Gen (LinkBody K T))
     (before after : Arena Gen (LinkBody K T)) (count k : ℕ) : Type 0 where
   pub chains : List Chain
@@ -155,7 +155,7 @@ module _ {Gen K T F P : Type 0} (number : K → Option ℕ) (g : F → P → P �
       }
 
   module _ (last : F) (now : Held Gen (LinkBody K T)) (after : Arena Gen (LinkBody K T)) (count k : ℕ) (o : IsOrdering number g key generation f last old now before after count k) where
-    -- a link that is not numbered yet is as it was
+    -- a link that is not numbered yet is unchanged
     as_old : (j : ℕ) → (IsMember (all_items o.done) j → ⊥) → link_map_in number now.slots j ≡ link_map_in number old.slots j
     as_old j out = ap (option_map (body_interlinks number)) (o.retied.stay j out)
 
@@ -198,7 +198,7 @@ module _ {Gen K T F P : Type 0} (number : K → Option ℕ) (g : F → P → P �
             subst (λ (xs : List ℕ). IsMember xs j) whole ((o.are.partition.valid j).0 (record { link = body_interlinks number e; shows = ap (option_map (body_interlinks number)) is }))
 
     module _ (i : ℕ) (is : i ≡ k + 1) where
-      -- no link without a destination stands in the next slot
+      -- the next slot holds no link without a destination
       pub order_skips : (mid : Held Gen (LinkBody K T)) (looked : Arena Gen (LinkBody K T)) → mid ≡ now → is_fresh number (slot_at now.slots i) ≡ false → IsWork after looked 0 1
           → IsOrdering number g key generation f last old mid before looked count (k + 1)
       order_skips mid looked same stale look = record {
@@ -224,7 +224,7 @@ module _ {Gen K T F P : Type 0} (number : K → Option ℕ) (g : F → P → P �
           lower y h (yes s) = absurd (not_here (subst (IsMember (all_items o.rest)) s h))
           lower y h (no ne) = let low : k < y = o.low y h in omega arith
 
-      -- the first link of the next chain stands there
+      -- the next slot holds the first link of the next chain
       module _ (fresh : is_fresh number (slot_at now.slots i) ≡ true) where
         not_done : IsMember (all_items o.done) i → ⊥
         not_done h =
@@ -259,7 +259,7 @@ module _ {Gen K T F P : Type 0} (number : K → Option ℕ) (g : F → P → P �
         first_written : StartsAtLeast the_next.first
         first_written = o.are.order.written the_next.first first_here
 
-        -- it is written from where the walk back ended
+        -- the chain is written from where the walk back ended
         starts : (start : ℕ) → IsStart (link_map_in number now.slots) i start → first_or (items the_next.first) None ≡ Some start
         starts start from = by the_next.first first_chain first_written the_next.has the_next.least
           where
@@ -273,7 +273,7 @@ module _ {Gen K T F P : Type 0} (number : K → Option ℕ) (g : F → P → P �
                 let at : start ≡ i = from.in_cyclic xs (subst (λ (z : ℕ). IsChain (link_map_in number now.slots) (cyclic (z ∷ xs))) same h) in
                 ap (λ (z : ℕ). Some z) (same ∙ sym at)
 
-        -- it is found from i
+        -- the chain is found from i
         found_from : HasChainFrom (link_map_in number now.slots) i
         found_from = by the_next.first first_chain first_written the_next.has the_next.least
           where
@@ -286,7 +286,7 @@ module _ {Gen K T F P : Type 0} (number : K → Option ℕ) (g : F → P → P �
                 let same : x ≡ i = omega arith in
                 (xs, inr (subst (λ (z : ℕ). IsChain (link_map_in number now.slots) (cyclic (z ∷ xs))) same h))
 
-        -- the walk back looked at no more links than it has
+        -- the walk back reads no more links than the chain has
         start_work : (a b : Arena Gen (LinkBody K T)) → ((xs : List ℕ) → IsChain (link_map_in number now.slots) (linear xs) → IsMember xs i → IsWork a b 0 (length xs))
             → ((xs : List ℕ) → IsChain (link_map_in number now.slots) (cyclic (i ∷ xs)) → IsWork a b 0 (length xs + 1)) → IsWork a b 0 (length (items the_next.first))
         start_work a b in_linear in_cyclic = by the_next.first first_chain first_written the_next.has the_next.least
@@ -315,12 +315,12 @@ module _ {Gen K T F P : Type 0} (number : K → Option ℕ) (g : F → P → P �
             let d : length (items the_next.first ++ all_items the_next.others) ≡ length (items the_next.first) + length (all_items the_next.others) = length-append (items the_next.first) (all_items the_next.others) in
             omega arith
 
-        -- the same over what the look left as it was
+        -- the state after a read, which changed nothing
         module _ (mid : Held Gen (LinkBody K T)) (look : mid ≡ now) where
           pub order_found : HasChainFrom (link_map_in number mid.slots) i
           order_found = subst (λ (h : Held Gen (LinkBody K T)). HasChainFrom (link_map_in number h.slots) i) (sym look) found_from
 
-          -- .. and the walk back
+          -- the state after the walk back
           module _ (stood : Held Gen (LinkBody K T)) (walked : stood ≡ mid) (start : ℕ) (from : IsStart (link_map_in number mid.slots) i start) where
             can_here : CanNumber number stood.slots start count (all_items o.done) the_next.first
             can_here = subst (λ (h : Held Gen (LinkBody K T)). CanNumber number h.slots start count (all_items o.done) the_next.first) (sym (walked ∙ look)) (record {
@@ -370,7 +370,7 @@ module _ {Gen K T F P : Type 0} (number : K → Option ℕ) (g : F → P → P �
                 place : length (all_items o.done) + 1 ≡ 1 + length (all_items o.done)
                 place = omega arith
 
-                -- a neighbor's place in its chain is its place among all
+                -- the place of a link in its chain is its place among all links
                 in_all : (j : ℕ) → IsMember (items the_next.first) j → place_from (length (all_items o.done) + 1) (items the_next.first) j ≡ place_in (all_items o.chains) j
                 in_all j h =
                     ap (λ (n : ℕ). place_from n (items the_next.first) j) place

@@ -1,5 +1,4 @@
--- Entries that have moved: what they show, and, where they moved to the front, that the slots behind them are free and are
--- cut off.
+-- Entries that have moved to the front, and the free slots that trimming removes.
 use Rattle.std.proofs.Common.{◌≡◌, ℕ, zero, suc, ◌<◌, ◌≤◌, List, [], ◌∷◌, length, map, Option, None, Some, refl, ap, ap₂, ◌∙◌, arith}
 use Rattle.std.specs.Prelude.{slice_index_or, IsSome, is_some}
 use Rattle.std.specs.Option.{option_map}
@@ -13,7 +12,7 @@ use Rattle.arena_base.proofs.PackedSlotLemmas.{all_cut}
 use Rattle.chain_links.proofs.MappedArenaLemmas.{slot_at-map}
 
 module _ {X : Type 0} where
-  -- n entries at the front, and nothing behind them
+  -- slots with n entries at the front and none after them
   trimmed-front : (n : ℕ) (xs : List (Option X)) → ((k : ℕ) → k < n → (x : X) × (slice_index_or xs k None ≡ Some x)) → ((k : ℕ) → n ≤ k → slice_index_or xs k None ≡ None)
       → (length (trimmed xs) ≡ n) × ((i : ℕ) → free_from i (trimmed xs) ≡ [])
   trimmed-front zero xs front behind =
@@ -29,7 +28,7 @@ module _ {X : Type 0} where
 
 module _ {E : Type 0} (goal : E → Option ℕ) (Settles : E → E → Type 0) (n : ℕ) (old new : List (Option E))
     (front : GoToFront goal old n) (moved : HaveMoved goal Settles (slot_at old) (slot_at new)) where
-  -- at each index up to n stands an entry, and at none above it
+  -- there is an entry at each index up to n, and at none above
   stands_in_front : (k : ℕ) → k < n → (e : E) × (slice_index_or new k None ≡ Some e)
   stands_in_front k below =
       let from = front.each (suc k) (omega arith) (omega arith) in
@@ -46,7 +45,7 @@ module _ {E : Type 0} (goal : E → Option ℕ) (Settles : E → E → Type 0) (
           let few : suc k ≤ n = front.few come.from (suc k) come.entry come.waited in
           absurd (omega arith)
 
-  -- so the entries are packed
+  -- the entries are packed
   pub front-packed : IsPacked new n
   front-packed = record { taken = taken; free = free }
     where
@@ -58,7 +57,7 @@ module _ {E : Type 0} (goal : E → Option ℕ) (Settles : E → E → Type 0) (
       free zero above = refl
       free (suc k) above = free_behind k (omega (arith, above))
 
-  -- the slots that are left are exactly n, and none of them is free
+  -- trimming leaves exactly n slots, none of them free
   pub front-length : length (trimmed new) ≡ n
   front-length = (trimmed-front n new stands_in_front free_behind).0
 
@@ -66,11 +65,11 @@ module _ {E : Type 0} (goal : E → Option ℕ) (Settles : E → E → Type 0) (
   front-none_free = (trimmed-front n new stands_in_front free_behind).1 1
 
 module _ {Gen K T : Type 0} (number : K → Option ℕ) (g : Gen) where
-  -- what an entry shows once it has come
+  -- what is seen of an entry that is settled
   pub settled_seen : (e f : Gen × LinkBody K T) → Settles number g e f → pair_view number f ≡ (g, link_view number e.1)
   settled_seen e f s = ap₂ (λ (h : Gen) (l : LinkView T). (h, l)) s.generation (ap (link_view number) s.rest)
 
-  -- so at its destination an entry shows what it showed, with the generation
+  -- an entry at its destination is seen as before, but for the generation
   pub moved_seen : (old new : List (Option (Gen × LinkBody K T))) → HaveMoved (destination_of number) (Settles number g) (slot_at old) (slot_at new) → (i d : ℕ) (e : Gen × LinkBody K T)
       → Waits (destination_of number) (slot_at old) i e d → slot_at (map (option_map (pair_view number)) new) d ≡ Some (g, link_view number e.1)
   moved_seen old new moved i d e w =

@@ -1,4 +1,4 @@
--- What an arena of links is once they are brought together and the slots are given back.
+-- An arena of links after they are moved to the front and the slots given back.
 use Rattle.std.proofs.Common.{◌≡◌, ℕ, zero, suc, ◌+◌, ◌*◌, ◌≤◌, List, [], ◌∷◌, length, map, Option, None, Some, refl, ap, sym, ◌∙◌, subst, arith}
 use Rattle.std.specs.Prelude.{slice_index_or, min}
 use Rattle.std.specs.Option.{option_map}
@@ -23,7 +23,7 @@ use Rattle.chain_compaction.specs.LinkCompressions.{AreGathered}
 use Rattle.chain_links.proofs.LinkStateLemmas.{entry_at-links_view}
 use Rattle.chain_compaction.proofs.ValueViewLemmas.{values_of-links_view}
 
--- slots without the free ones at the end, mapped
+-- trimming free slots commutes with mapping
 module _ {X Y : Type 0} (f : X → Y) where
   cut-map : (o : Option X) (slots : List (Option X)) → map (option_map f) (before_cut o slots) ≡ before_cut (option_map f o) (map (option_map f) slots)
   cut-map None [] = refl
@@ -39,7 +39,7 @@ module _ {X Y : Type 0} (f : X → Y) where
   free_from-map (None ∷ slots) i = ap (λ ns. i ∷ ns) (free_from-map slots (suc i))
   free_from-map (Some x ∷ slots) i = free_from-map slots (suc i)
 
--- what stands at an index stays
+-- trimming keeps what is at each index
 module _ {X : Type 0} where
   cut-at : (o : Option X) (slots : List (Option X)) (k : ℕ) → slice_index_or (before_cut o slots) k None ≡ slice_index_or (o ∷ slots) k None
   cut-at None [] zero = refl
@@ -57,7 +57,7 @@ module _ {X : Type 0} where
   slot_at-trimmed slots (suc k) = trimmed-at slots k
 
 module _ {Gen K T : Type 0} (number : K → Option ℕ) where
-  -- an arena of links shows what its slots show
+  -- the link map of an arena is the link map of its slots
   pub link_map-slots : (a : Arena Gen (LinkBody K T)) → link_map (links_view number a) ≡ link_map_in number a.slots
   link_map-slots a = fun_ext (λ i. ap (option_map interlinks_of) (entry_at-links_view number a i) ∙ twice (slot_at a.slots i))
     where
@@ -68,7 +68,7 @@ module _ {Gen K T : Type 0} (number : K → Option ℕ) where
   link_map-trimmed : (slots : List (Option (Gen × LinkBody K T))) → link_map_in number (trimmed slots) ≡ link_map_in number slots
   link_map-trimmed slots = fun_ext (λ i. ap (option_map (body_interlinks number)) (slot_at-trimmed slots i))
 
--- the values of an arena that gets slots back
+-- the values of an arena whose slots are given back
 values-returned : {Gen K T : Type 0} (greatest : ℕ) (a : Arena Gen (LinkBody K T)) (held : Held Gen (LinkBody K T)) → with_each held_in (returned greatest a held) ≡ returned greatest (with_each held_in a) (held_values held)
 values-returned greatest a held =
     let slots = trimmed-map (on_value held_in) held.slots in
@@ -76,12 +76,12 @@ values-returned greatest a held =
     λ i. record (returned greatest (with_each held_in a) (held_values held)) { slots = slots i; freed = freed i }
 
 module _ {F P T Gen K : Type 0} (g : Mut F (P × (MutBor T × (P × Unit {0}))) (Unit {0} × (MutBor T × Unit {0}))) (key : P → ℕ × Gen) (f : F) (number : K → Option ℕ) where
-  -- an arena whose links went out, were brought together, and came back
+  -- the links were taken out, moved to the front, and given back
   module _ (greatest : ℕ) (maximum : Option ℕ) (generation : Gen) (old start finish new : Arena Gen (LinkBody K T)) (before after : Held Gen (LinkBody K T))
       (is_start : start ≡ lent_out maximum old) (is_before : before ≡ held_of old) (is_new : new ≡ returned greatest finish after)
       (closed : AreClosed generation (held_values before) (held_values after)) (visits : VisitsAll g key f (entries_from 1 (held_values before).slots) (entries_from 1 (held_values after).slots))
       (work : IsWork start finish (length (entries_from 1 (held_values before).slots)) (length before.slots + 3 * length (entries_from 1 (held_values before).slots))) where
-    -- the values alone, as if each slot had been touched as those of an arena without interlinks are
+    -- the old values alone
     abbrev old_values : Arena Gen T
     old_values = with_each held_in old
 
@@ -96,7 +96,7 @@ module _ {F P T Gen K : Type 0} (g : Mut F (P × (MutBor T × (P × Unit {0}))) 
         gathers g key f greatest maximum generation old_values (with_each held_in start) (with_totals (with_each held_in start) moved_count (length (held_values before).slots + moved_count)) like
         (held_values before) (held_values after) (ap (λ (a : Arena Gen (LinkBody K T)). with_each held_in a) is_start) (ap (λ (h : Held Gen (LinkBody K T)). held_values h) is_before) room counter closed visits refl refl
 
-    -- they differ in the touches alone
+    -- the new values are as without interlinks, but for the touches
     values_now : with_each held_in new ≡ record like { touched = old.touched + work.touches }
     values_now =
         ap (λ (a : Arena Gen (LinkBody K T)). with_each held_in a) (is_new ∙ ap (λ (a : Arena Gen (LinkBody K T)). returned greatest a after) work.arena)

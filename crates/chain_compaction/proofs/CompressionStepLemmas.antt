@@ -1,4 +1,4 @@
--- The pass that closes gaps, one slot more, over the values and the links at once.
+-- One step of closing holes, over values and links at once.
 use Rattle.std.proofs.Common.{◌≡◌, ◌≢◌, ℕ, ◌+◌, ◌*◌, ◌<◌, ◌≤◌, length, Option, None, Some, refl, sym, ap, ◌∙◌, subst, subst₂, arith}
 use Rattle.std.specs.Prelude.{IsSome}
 use Rattle.std.specs.Option.{option_map}
@@ -34,7 +34,7 @@ module _ {F P Gen K T : Type 0} (g : Mut F (P × (MutBor T × (P × Unit {0}))) 
     within : k < length (slot_values old.slots)
     within = let long : length (slot_values old.slots) ≡ length old.slots = length-map old.slots (option_map (on_value held_in)) in omega (arith, inside, long)
 
-    -- the slot that its link goes to is free, or its own
+    -- the slot that the link is moved to is free, or its own
     pub free_to : (to : ℕ) → to ≡ count + 1 → to ≢ from → slot_at now.slots to ≡ None
     free_to to at_to differs =
         by (slot_at now.slots to)
@@ -44,7 +44,7 @@ module _ {F P Gen K T : Type 0} (g : Mut F (P × (MutBor T × (P × Unit {0}))) 
         by None none = refl
         by (Some e) none = absurd (let both = none in cc)
 
-    -- no link stands in the next slot
+    -- the next slot is free
     module _ (answer : Option Gen) (none : answer ≡ None) (told : answer ≡ option_map (λ (e : Gen × LinkBody K T). e.0) (slot_at now.slots from)) (mid : Held Gen (LinkBody K T)) (same : mid ≡ now) where
       free : slot_at (slot_values now.slots) from ≡ None
       free = none_there (slot_at (slot_values now.slots) from) (sym none ∙ (told ∙ generation-there now.slots from))
@@ -75,13 +75,13 @@ module _ {F P Gen K T : Type 0} (g : Mut F (P × (MutBor T × (P × Unit {0}))) 
       is_placed : slot_values mid.slots ≡ (with_placed_entry (held_values now) from to generation).slots
       is_placed = ap (λ (h : Held Gen T). h.slots) values
 
-      -- it stands there
+      -- the link is at `to`
       pub stands_there : None ≡ option_map (λ (e : Gen × LinkBody K T). e.1) (slot_at mid.slots to) → ⊥
       stands_there none =
           brought_stands g key generation first (slot_values old.slots) k count f (slot_values now.slots) closing within from to was (slot_values mid.slots) at_from at_to seen is_placed
           (ap (option_map held_in) none ∙ value-there mid.slots to)
 
-      -- and its value was seen
+      -- the closure was called with its value
       module _ (after : Held Gen (LinkBody K T)) (l : LinkBody K T) (left : T) (stands : Some l ≡ option_map (λ (e : Gen × LinkBody K T). e.1) (slot_at mid.slots to))
           (wrote : after ≡ held_with_value mid to (record l { t = left })) where
         pub brings : (before_ptr after_ptr : P) (next : F) → key before_ptr ≡ (from, was) → key after_ptr ≡ (to, generation)
@@ -105,7 +105,7 @@ module _ {F P Gen K T : Type 0} (g : Mut F (P × (MutBor T × (P × Unit {0}))) 
         pub maximum_on : now.maximum ≡ old.maximum → after.maximum ≡ old.maximum
         maximum_on had = ap (λ (h : Held Gen (LinkBody K T)). h.maximum) wrote ∙ (ap (λ (h : Held Gen T). h.maximum) values ∙ had)
 
-  -- all slots are passed
+  -- all slots are processed
   module _ (end : ℕ) (is_end : end ≡ length old.slots) (high : k ≤ end) (low : end ≤ k) where
     all : k ≡ length old.slots
     all = omega (arith, is_end, high, low)
@@ -145,7 +145,7 @@ module _ {F P Gen K T : Type 0} (g : Mut F (P × (MutBor T × (P × Unit {0}))) 
         let counts = closing_counts g key generation first (slot_values old.slots) k count f (slot_values now.slots) closing ended in
         subst₂ (IsWork a b) counts (λ i. all i + 3 * counts i) work
 
--- the work
+-- the work of a step
 module _ {Gen T : Type 0} (a b c : Arena Gen T) (k count : ℕ) (work : IsWork a b count (k + 3 * count)) where
   pub work_skips : c ≡ with_touch b → IsWork a c count ((k + 1) + 3 * count)
   work_skips touched = work-more work (work-touched b c touched) count ((k + 1) + 3 * count) (omega arith) (omega arith)

@@ -12,7 +12,7 @@ module _ {Gen T : Type 0} (first : Gen) (following : Gen → Gen) (wraps : Gen �
   abbrev overflows : Bool
   overflows = overflows_after_compression wraps reset count old.counter
 
-  -- it begins anew
+  -- the counter restarts
   pub anew : (g : Gen) → reset ≡ true → g ≡ first → new ≡ with_counter old g → new ≡ with_counter old after
   anew g on is set = set ∙ ap (λ (h : Gen). with_counter old h) (is ∙ sym (ap (λ (r : Bool). counter_after_compression first following r count old.counter) on))
 
@@ -27,7 +27,7 @@ module _ {Gen T : Type 0} (first : Gen) (following : Gen → Gen) (wraps : Gen �
     pub stays_tells : {U : Type 0} (u : U) → invalidation_option false u ≡ invalidation_option overflows u
     stays_tells u = sym (ap (λ (p : Bool × ℕ). invalidation_option (overflows_after_compression wraps p.0 p.1 old.counter) u) (λ i. (off i, (sym counts ∙ none) i)))
 
-  -- it goes on
+  -- the counter is incremented
   module _ (off : reset ≡ false) (counts : n ≡ count) (some : n ≡ 0 → ⊥) where
     next : (r : Bool) (m : ℕ) → r ≡ false → (m ≡ 0 → ⊥) → counter_after_compression first following r m old.counter ≡ following old.counter
     next true m is some = absurd (let h : true ≡ false = is in cc)

@@ -1,4 +1,4 @@
--- Destinations that are taken away: one, and those of all links.
+-- Removal of destinations: of one link, and of all links.
 use Rattle.std.proofs.Common.{◌≡◌, ℕ, zero, suc, ◌+◌, ◌≤◌, List, length, Option, None, Some, refl, sym, ap, ◌∙◌, arith}
 use Rattle.std.specs.Prelude.{◌==◌, if◌then◌else◌}
 use Rattle.std.specs.Option.{option_map, option_and_then}
@@ -16,7 +16,7 @@ use Rattle.chain_compaction.proofs.SlotCountLemmas.{stands-within}
 use Rattle.chain_compaction.proofs.DetachedLinkLemmas.{kept_map}
 use Rattle.chain_links.proofs.LinkStateLemmas.{slot_at-changed}
 
--- the link that was lent lost its destination
+-- the destination of a link was removed
 module _ {Gen K T : Type 0} (number : K → Option ℕ) (held new : Held Gen (LinkBody K T)) (i : ℕ) (l w : LinkBody K T)
     (stands : Some l ≡ option_map (λ (e : Gen × LinkBody K T). e.1) (slot_at held.slots i)) (wrote : new ≡ held_with_value held i w)
     (empty : number w.destination ≡ None) (rest : w ≡ record l { destination = w.destination }) where
@@ -49,9 +49,9 @@ module _ {Gen K T : Type 0} (number : K → Option ℕ) (held new : Held Gen (Li
       by (yes e) = here j e
       by (no differs) = at j ∙ (ap (option_and_then (destination_of number)) (if_other j i _ _ differs) ∙ none)
 
--- the link at an index has no destination any more, if one stands there
+-- the link at an index, if any, has no destination now
 module _ {Gen K T : Type 0} (number : K → Option ℕ) (i : ℕ) (held new : Held Gen (LinkBody K T)) (directed : IsDirectedAt number i None held new) where
-  -- a link stands there, or none
+  -- whether there is a link or not
   told : (l : LinkBody K T) → Some l ≡ option_map (λ (e : Gen × LinkBody K T). e.1) (slot_at held.slots i)
       → (held_view number new ≡ held_view number held) × (destination_at number new.slots i ≡ None) × ((j : ℕ) → destination_at number held.slots j ≡ None → destination_at number new.slots j ≡ None)
   told l stands =
@@ -79,9 +79,9 @@ module _ {Gen K T : Type 0} (number : K → Option ℕ) (i : ℕ) (held new : He
             λ j was. ap (λ (h : Held Gen (LinkBody K T)). destination_at number h.slots j) same ∙ was,
           )
 
--- the round over all
+-- the loop over all slots
 module _ {Gen K T : Type 0} (number : K → Option ℕ) where
-  -- no link stands at index 0
+  -- there is no link at index 0
   pub emptying_begins : (slots : List (Option (Gen × LinkBody K T))) (j : ℕ) → j ≤ 0 → destination_at number slots j ≡ None
   emptying_begins slots zero low = refl
   emptying_begins slots (suc k) low = absurd (omega arith)
@@ -94,7 +94,7 @@ module _ {Gen K T : Type 0} (number : K → Option ℕ) where
       by (yes e) = ap (destination_at number next) e ∙ one
       by (no differs) = others j (was j (omega arith))
 
-  -- behind the slots no link stands
+  -- there is no link after the last slot
   pub emptying_ends : (old now : Held Gen (LinkBody K T)) → held_view number now ≡ held_view number old → ((j : ℕ) → j ≤ length old.slots → destination_at number now.slots j ≡ None)
       → (j : ℕ) → destination_at number now.slots j ≡ None
   emptying_ends old now seen empty j = by (slot_at now.slots j) refl
@@ -106,7 +106,7 @@ module _ {Gen K T : Type 0} (number : K → Option ℕ) where
       by None is = ap (option_and_then (destination_of number)) is
       by (Some e) is = empty j (let inside = stands-within now.slots j e is in omega (arith, inside.1, long))
 
--- one touch more
+-- one more touch
 pub touches_more : {Gen T : Type 0} (old now next : Arena Gen T) (k : ℕ) → now ≡ with_totals old 0 k → next ≡ with_touch now → next ≡ with_totals old 0 (k + 1)
 touches_more old now next k was is =
     let more : (old.touched + k) + 1 ≡ old.touched + (k + 1) = omega arith in

@@ -1,4 +1,4 @@
--- A link that gets a destination or other interlinks: what the slots are then.
+-- The slots after a link gets a destination or other interlinks.
 use Rattle.std.proofs.Common.{◌≡◌, ℕ, length, Option, None, Some, refl, sym, ap, ◌∙◌, subst}
 use Rattle.std.specs.Option.{option_map}
 use Rattle.arena_base.specs.Arena.{slot_at}
@@ -16,7 +16,7 @@ module _ {Gen K T : Type 0} where
   link_at held i = option_map (λ (e : Gen × LinkBody K T). e.1) (slot_at held.slots i)
 
   module _ (number : K → Option ℕ) (i : ℕ) (goes : Option ℕ) (old new : Held Gen (LinkBody K T)) where
-    -- a link that was lent got another destination
+    -- a link got another destination
     pub directs : (l w : LinkBody K T) → Some l ≡ option_map (λ (e : Gen × LinkBody K T). e.1) (slot_at old.slots i) → new ≡ held_with_value old i w
         → number w.destination ≡ goes → w ≡ record l { destination = w.destination } → IsDirectedAt number i goes old new
     directs l w stands wrote is rest = record {
@@ -26,12 +26,12 @@ module _ {Gen K T : Type 0} where
       none = λ empty. absurd (let both = stands ∙ sym empty in cc);
     }
 
-    -- none stands there
+    -- there is no link to direct
     pub directs_none : new ≡ old → None ≡ option_map (λ (e : Gen × LinkBody K T). e.1) (slot_at old.slots i) → IsDirectedAt number i goes old new
     directs_none same empty = record { there = λ m there. absurd (let both = there ∙ sym empty in cc); none = λ e. same }
 
   module _ (number : K → Option ℕ) (i : ℕ) (prev next goes : Option ℕ) (old new : Held Gen (LinkBody K T)) where
-    -- a link that was lent names others, and got a destination
+    -- a link got other interlinks and a destination
     pub ties : (l m n w : LinkBody K T) → Some l ≡ link_at old i → new ≡ held_with_value old i w → number m.prev ≡ prev → m ≡ record l { prev = m.prev } → number n.next ≡ next → n ≡ record m { next = n.next }
         → number w.destination ≡ goes → w ≡ record n { destination = w.destination } → IsRelinkedAt number i prev next goes old new
     ties l m n w stands wrote is_prev set_prev is_next set_next sent rest = record {
@@ -44,11 +44,11 @@ module _ {Gen K T : Type 0} where
             ap (link_view number) rest ∙ (ap (link_view number) (λ j. record (set_next j) { destination = w.destination })
             ∙ ((λ j. record { prev = number (set_prev j).prev; next = number n.next; value = (set_prev j).t }) ∙ (λ j. record { prev = is_prev j; next = is_next j; value = (same j).t })))
 
-    -- none stands there
+    -- there is no link to write
     pub ties_none : new ≡ old → None ≡ link_at old i → IsRelinkedAt number i prev next goes old new
     ties_none same empty = record { there = λ k there. absurd (let both = there ∙ sym empty in cc); none = λ e. same }
 
-    -- the slots are as many
+    -- the number of slots is unchanged
     pub tied_long : IsRelinkedAt number i prev next goes old new → length new.slots ≡ length old.slots
     tied_long tied = by (link_at old i) refl
       where
@@ -58,12 +58,12 @@ module _ {Gen K T : Type 0} where
             let w = tied.there l (sym is) in
             ap (λ (h : Held Gen (LinkBody K T)). length h.slots) w.3 ∙ length-with_slot old.slots i _
 
-  -- a link that was looked at before
+  -- a link that was read before
   pub tied_looked : (number : K → Option ℕ) (i : ℕ) (prev named next goes : Option ℕ) (old looked new : Held Gen (LinkBody K T)) → looked ≡ old → named ≡ next → IsRelinkedAt number i prev named goes looked new → IsRelinkedAt number i prev next goes old new
   tied_looked number i prev named next goes old looked new same is tied = subst (λ (p : Held Gen (LinkBody K T) × Option ℕ). IsRelinkedAt number i prev p.1 goes p.0 new) (λ j. (same j, is j)) tied
 
   module _ (number : K → Option ℕ) (i : ℕ) (first last : Option ℕ) (old new : Held Gen (LinkBody K T)) where
-    -- where the last link of a ring names the first, that was lent, and names the last
+    -- in a cyclic chain, the first link was written to name the last
     pub closes : (f : ℕ) → first ≡ Some f → (l w : LinkBody K T) → Some l ≡ link_at old i → new ≡ held_with_value old i w → number w.prev ≡ last → w ≡ record l { prev = w.prev } → IsRingClosed number i first last old new
     closes f some l w stands wrote is rest = record {
       ring = λ k m named there. (w, is, rest ∙ ap (λ (x : LinkBody K T). let r : LinkBody K T = record x { prev = w.prev } in r) (one_link (stands ∙ sym there)), wrote);

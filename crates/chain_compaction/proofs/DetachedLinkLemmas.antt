@@ -1,4 +1,4 @@
--- What a write, a placement and a look make of the links that a compactor holds.
+-- Effects of writes, placements and reads on the links that a compactor holds.
 use Rattle.std.proofs.Common.{◌≡◌, ◌≢◌, ℕ, zero, suc, ◌+◌, ◌≤◌, ◌⊎◌, inl, inr, List, length, map, true, Option, None, Some, refl, ap, ap₂, sym, ◌∙◌, arith}
 use Rattle.std.specs.Prelude.{is_some, ◌==◌, if◌then◌else◌}
 use Rattle.std.specs.Option.{option_map}
@@ -22,7 +22,7 @@ use Rattle.chain_links.proofs.MappedArenaLemmas.{map-with_slot, slot_at-map}
 use Rattle.chain_links.proofs.LinkStateLemmas.{slot_at-changed}
 use Rattle.chain_links.proofs.ArenaInsertionLemmas.{slot_at-written}
 
--- slots in which one entry was written, as something that the write leaves
+-- a write of one entry that leaves what `f` sees of it
 module _ {Gen X Y : Type 0} (f : Gen × X → Y) (slots : List (Option (Gen × X))) (n : ℕ) (l w : X)
     (stands : Some l ≡ option_map (λ (e : Gen × X). e.1) (slot_at slots n)) (same : (g : Gen) → f (g, w) ≡ f (g, l)) where
   kept_there : (o : Option (Gen × X)) → Some l ≡ option_map (λ (e : Gen × X). e.1) o → option_map f (option_map (λ (e : Gen × X). (e.0, w)) o) ≡ option_map f o
@@ -37,23 +37,23 @@ module _ {Gen X Y : Type 0} (f : Gen × X → Y) (slots : List (Option (Gen × X
       by zero is = refl
       by (suc k) is = map-set_same (option_map f) slots k (option_map (λ (e : Gen × X). (e.0, w)) (slot_at slots (suc k))) None (kept_there (slot_at slots (suc k)) is)
 
--- a link that stands was written
+-- an occupied slot was written
 module _ {Gen K T : Type 0} (held new : Held Gen (LinkBody K T)) (n : ℕ) (l w : LinkBody K T)
     (stands : Some l ≡ option_map (λ (e : Gen × LinkBody K T). e.1) (slot_at held.slots n)) (wrote : new ≡ held_with_value held n w) where
-  -- a write that leaves the value leaves all values
+  -- a write that keeps the value keeps all values
   pub values-kept : w.t ≡ l.t → held_values new ≡ held_values held
   values-kept same =
       let slots = kept_map (on_value held_in) held.slots n l w stands (λ g i. (g, same i)) in
       ap (λ (h : Held Gen (LinkBody K T)). held_values h) wrote ∙ (λ i. record (held_values held) { slots = slots i })
 
-  -- a write that leaves the interlinks leaves all that is shown
+  -- a write that keeps the interlinks keeps the link map
   pub shown-kept : (number : K → Option ℕ) → interlinks_in (link_view number w) ≡ interlinks_in (link_view number l)
       → link_map_in number new.slots ≡ link_map_in number held.slots
   shown-kept number same = ap (λ (h : Held Gen (LinkBody K T)). link_map_in number h.slots) wrote ∙ fun_ext (λ i.
       sym (slot_at-map (body_interlinks number) (held_with_value held n w).slots i)
       ∙ (ap (λ slots. slot_at slots i) (kept_map (body_interlinks number) held.slots n l w stands (λ g. same)) ∙ slot_at-map (body_interlinks number) held.slots i))
 
-  -- a write of the value writes it among the values
+  -- a write of a value is a write among the values
   pub values-written : held_values new ≡ held_with_value (held_values held) n w.t
   values-written =
       let slots =
@@ -66,7 +66,7 @@ module _ {Gen K T : Type 0} (held new : Held Gen (LinkBody K T)) (n : ℕ) (l w 
       at None = refl
       at (Some e) = refl
 
-  -- what is shown after a write of interlinks
+  -- the link map after a write of interlinks
   shown-changed : (number : K → Option ℕ) (change : Interlinks → Interlinks) → interlinks_in (link_view number w) ≡ change (interlinks_in (link_view number l))
       → (i : ℕ) → link_map_in number (held_with_value held n w).slots i ≡ (if i == n then option_map change (link_map_in number held.slots i) else link_map_in number held.slots i)
   shown-changed number change is i = by (ℕ_discrete i n)
@@ -83,19 +83,19 @@ module _ {Gen K T : Type 0} (held new : Held Gen (LinkBody K T)) (n : ℕ) (l w 
       by (no differs) =
           ap (option_map (body_interlinks number)) (slot_at-changed held.slots n i (option_map (λ (e : Gen × LinkBody K T). (e.0, w))) refl ∙ if_other i n _ _ differs) ∙ sym (if_other i n _ _ differs)
 
-  -- the link names another as the one after it ..
+  -- `next` of the link was set
   pub shown-next_set : (number : K → Option ℕ) (next : Option ℕ) → w ≡ record l { next = w.next } → number w.next ≡ next
       → link_map_in number new.slots ≡ next_set (link_map_in number held.slots) (Some n) next
   shown-next_set number next rest named =
       ap (λ (h : Held Gen (LinkBody K T)). link_map_in number h.slots) wrote ∙ fun_ext (shown-changed number (with_next next) (λ i. record { prev = number (rest i).prev; next = named i }))
 
-  -- .. and as the one before it
+  -- `prev` of the link was set
   pub shown-prev_set : (number : K → Option ℕ) (prev : Option ℕ) → w ≡ record l { prev = w.prev } → number w.prev ≡ prev
       → link_map_in number new.slots ≡ prev_set (link_map_in number held.slots) (Some n) prev
   shown-prev_set number prev rest named =
       ap (λ (h : Held Gen (LinkBody K T)). link_map_in number h.slots) wrote ∙ fun_ext (shown-changed number (with_prev prev) (λ i. record { prev = named i; next = number (rest i).next }))
 
--- where no link stands, none is told
+-- setting the interlinks of a free slot changes nothing
 module _ {Gen K T : Type 0} (number : K → Option ℕ) (slots : List (Option (Gen × LinkBody K T))) (n : ℕ)
     (none : None ≡ option_map (λ (e : Gen × LinkBody K T). e.1) (slot_at slots n)) where
   nothing_shown : link_map_in number slots n ≡ None
@@ -139,7 +139,7 @@ module _ {Gen K T : Type 0} (held : Held Gen (LinkBody K T)) (from to : ℕ) (ge
       at None = refl
       at (Some e) = refl
 
-  -- and puts the interlinks, untold, where no other link stands
+  -- a placement in a free slot, or its own, moves a link without updating its neighbors
   pub shown-with_placed_entry : (number : K → Option ℕ) → 1 ≤ from → from ≤ length held.slots → 1 ≤ to → to ≤ length held.slots
       → (to ≡ from) ⊎ (link_map_in number held.slots to ≡ None) → link_map_in number (with_placed_entry held from to generation).slots ≡ put (link_map_in number held.slots) from to
   shown-with_placed_entry number first within first_to within_to free = fun_ext (λ j. by j (ℕ_discrete j to) (ℕ_discrete j from))
@@ -176,7 +176,7 @@ module _ {Gen K T : Type 0} (held : Held Gen (LinkBody K T)) (from to : ℕ) (ge
           ap (option_map (body_interlinks number)) (at_to j ∙ (if_other j to _ _ c ∙ (at_from j ∙ if_other j from _ _ d)))
           ∙ sym (if_other j to _ _ c ∙ if_other j from _ _ d)
 
--- a link is looked at, placed, and its neighbors are told
+-- a link is read, placed, and its neighbors are updated
 module _ {Gen K T : Type 0} (number : K → Option ℕ) (old looked brought told new : Held Gen (LinkBody K T)) (from to : ℕ) (generation : Gen)
     (is_looked : looked ≡ old) (is_brought : brought ≡ with_placed_entry looked from to generation) where
   pub move-values : held_values told ≡ held_values brought → held_values new ≡ held_values told → held_values new ≡ with_placed_entry (held_values old) from to generation
@@ -199,7 +199,7 @@ module _ {Gen K T : Type 0} (number : K → Option ℕ) (old looked brought told
       ∙ (ap₂ (λ (m : LinkMap) (o : Option ℕ). prev_set m o (Some to)) (first_told ∙ ap₂ (λ (m : LinkMap) (o : Option ℕ). next_set m o (Some to)) is_put names_before) names_after
       ∙ neighbors_tell_a_move link_map from to agrees can)
 
--- what a look has seen is there
+-- a read that reports a generation found an entry
 pub entry-seen : {Gen X : Type 0} (old looked : Held Gen X) (n : ℕ) (r : Option Gen) (was : Gen) → looked ≡ old → r ≡ Some was → r ≡ option_map (λ (e : Gen × X). e.0) (slot_at old.slots n)
     → is_some (slot_at looked.slots n) ≡ true
 entry-seen {Gen} {X} old looked n r was same some told = ap (λ (h : Held Gen X). is_some (slot_at h.slots n)) same ∙ by (slot_at old.slots n) (sym some ∙ told)
@@ -211,7 +211,7 @@ entry-seen {Gen} {X} old looked n r was same some told = ap (λ (h : Held Gen X)
 -- ---- the work
 
 module _ {Gen T : Type 0} where
-  -- nothing was done
+  -- no work
   pub work-none : (a : Arena Gen T) (most : ℕ) → IsWork a a 0 most
   work-none a most = record {
     touches = 0;
@@ -223,7 +223,7 @@ module _ {Gen T : Type 0} where
         );
   }
 
-  -- one look
+  -- the work of one touch
   pub work-touched : (a b : Arena Gen T) → b ≡ with_touch a → IsWork a b 0 1
   work-touched a b is = record {
     touches = 1;
@@ -231,7 +231,7 @@ module _ {Gen T : Type 0} where
     arena = (let placements : a.placed ≡ a.placed + 0 = omega arith in is ∙ (λ i. record a { placed = placements i; touched = a.touched + 1 }));
   }
 
-  -- one placement
+  -- the work of one placement
   pub work-with_placed_entry : (a b : Arena Gen T) → b ≡ with_placement a → IsWork a b 1 0
   work-with_placed_entry a b is = record {
     touches = 0;
@@ -239,7 +239,7 @@ module _ {Gen T : Type 0} where
     arena = (let touches : a.touched ≡ a.touched + 0 = omega arith in is ∙ (λ i. record a { placed = a.placed + 1; touched = touches i }));
   }
 
-  -- work upon work
+  -- the work of two parts together
   pub work-more : {a b c : Arena Gen T} {p q m n : ℕ} → IsWork a b p m → IsWork b c q n → (o r : ℕ) → p + q ≡ o → m + n ≤ r → IsWork a c o r
   work-more {a} {b} {c} {p} {q} {m} {n} first second o r placements most = record {
     touches = first.touches + second.touches;
@@ -251,11 +251,11 @@ module _ {Gen T : Type 0} where
         );
   }
 
-  -- a look, a placement, and two neighbors told
+  -- the work of a read, a placement, and two neighbors updated
   pub work-moved : {a b c d e : Arena Gen T} → b ≡ with_touch a → c ≡ with_placement b → IsWork c d 0 1 → IsWork d e 0 1 → IsWork a e 1 3
   work-moved {a} {b} {c} looked with_placed_entry first second =
       work-more (work-more (work-more (work-touched a b looked) (work-with_placed_entry b c with_placed_entry) 1 1 refl (omega arith)) first 1 2 refl (omega arith)) second 1 3 refl (omega arith)
 
-  -- two touches
+  -- the work of two touches
   pub work-twice : (a b c : Arena Gen T) → b ≡ with_touch a → c ≡ with_touch b → IsWork a c 0 2
   work-twice a b c one two = work-more (work-touched a b one) (work-touched b c two) 0 2 refl (omega arith)

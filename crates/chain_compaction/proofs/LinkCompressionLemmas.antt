@@ -1,4 +1,4 @@
--- Links that are brought together one by one: what is shown beside the values, and what the arena is at the end.
+-- Links moved to the front one by one, and the arena at the end.
 use Rattle.std.proofs.Common.{◌≡◌, ℕ, suc, ◌+◌, ◌<◌, List, [], ◌∷◌, ◌++◌, length, map, take, Option, None, Some, refl, ap, sym, ◌∙◌, subst, arith}
 use Rattle.std.specs.Prelude.{slice_index_or}
 use Rattle.std.specs.Option.{option_map}
@@ -17,7 +17,7 @@ use Rattle.chain_links.specs.Links.{held_in}
 use Rattle.chain_compaction.specs.DetachedLinks.{slot_values, body_interlinks, link_map_in, indexes_in}
 use Rattle.chain_links.proofs.MappedArenaLemmas.{slot_at-map}
 
--- the indexes of the entries in the first slots
+-- the indexes of the entries in the first k slots
 abbrev pub indexes_to : {Gen T : Type 0} → ℕ → List (Option (Gen × T)) → List ℕ
 indexes_to k slots = indexes_in (take k slots)
 
@@ -32,11 +32,11 @@ module _ {Gen T : Type 0} (slots : List (Option (Gen × T))) (k : ℕ) (below : 
   indexes-passed : slice_index_or slots k None ≡ None → indexes_to (k + 1) slots ≡ indexes_to k slots
   indexes-passed none = indexes-next None none ∙ ap (λ es. map index_of es) (append-nil (entries_from 1 (take k slots)))
 
-  -- an entry is met
+  -- an entry is reached
   indexes-met : (e : Gen × T) → slice_index_or slots k None ≡ Some e → indexes_to (k + 1) slots ≡ indexes_to k slots ++ (k + 1) ∷ []
   indexes-met e some = indexes-next (Some e) some ∙ map-append index_of (entries_from 1 (take k slots)) (((k + 1, e.0), e.1) ∷ [])
 
--- what stands at an index of slots, and of their values
+-- the entry at an index, and its value
 module _ {Gen K T : Type 0} (slots : List (Option (Gen × LinkBody K T))) (i : ℕ) where
   pub generation-there : option_map (λ (e : Gen × LinkBody K T). e.0) (slot_at slots i) ≡ option_map (λ (e : Gen × T). e.0) (slot_at (slot_values slots) i)
   generation-there = by (slot_at slots i) ∙ ap (option_map (λ (e : Gen × T). e.0)) (sym (slot_at-map (on_value held_in) slots i))
@@ -59,7 +59,7 @@ module _ {Gen K T : Type 0} (number : K → Option ℕ) (slots : List (Option (G
   next_index : suc k ≡ k + 1
   next_index = omega arith
 
-  -- where no value stands nothing is shown ..
+  -- there is no link where there is no value
   none-shown : slice_index_or (slot_values slots) k None ≡ None → link_map_in number slots (k + 1) ≡ None
   none-shown none = sym (ap (link_map_in number slots) next_index) ∙ by (slice_index_or slots k None) (sym at_slot ∙ none)
     where
@@ -67,7 +67,7 @@ module _ {Gen K T : Type 0} (number : K → Option ℕ) (slots : List (Option (G
       by None is = refl
       by (Some e) is = cc
 
-  -- .. and where one stands, a link does
+  -- there is a link where there is a value
   some-valid : (e : Gen × T) → slice_index_or (slot_values slots) k None ≡ Some e → HasLink (link_map_in number slots) (k + 1)
   some-valid e some = subst (λ (i : ℕ). HasLink (link_map_in number slots) i) next_index (by (slice_index_or slots k None) refl)
     where
@@ -75,13 +75,13 @@ module _ {Gen K T : Type 0} (number : K → Option ℕ) (slots : List (Option (G
       by None is = absurd (let both = sym some ∙ (at_slot ∙ ap (option_map (on_value held_in)) is) in cc)
       by (Some d) is = record { link = body_interlinks number d; shows = ap (option_map (body_interlinks number)) is }
 
--- how far the links have come: those up to k, so many, stand at the indexes from 1 on
+-- the `count` links up to k are at the indexes from 1 on
 pub record AreComing {Gen K T : Type 0} (number : K → Option ℕ) (old now : List (Option (Gen × LinkBody K T))) (k count : ℕ) : Type 0 where
   pub gathering : IsGathering (link_map_in number old) (link_map_in number now) (indexes_to k (slot_values old)) k
   pub counted : length (indexes_to k (slot_values old)) ≡ count
 
 module _ {Gen K T : Type 0} (number : K → Option ℕ) (old : List (Option (Gen × LinkBody K T))) (agrees : IsWellLinked (link_map_in number old)) where
-  -- at the beginning
+  -- no slot is passed yet
   pub coming_begins : HasLinksWithin (link_map_in number old) (length old) → AreComing number old old 0 0
   coming_begins within = record { gathering = gathering_begins (link_map_in number old) (length old) agrees within; counted = refl }
 
@@ -99,7 +99,7 @@ module _ {Gen K T : Type 0} (number : K → Option ℕ) (old : List (Option (Gen
           counted = ap (λ done. length done) same ∙ c.counted;
         }
 
-    -- the next link goes to the first index that is free
+    -- the next link is moved to the first free index
     module _ (was : Gen) (some : Some was ≡ option_map (λ (e : Gen × T). e.0) (slice_index_or (slot_values old) k None)) where
       comes : (e : Gen × T) × (slice_index_or (slot_values old) k None ≡ Some e)
       comes = by (slice_index_or (slot_values old) k None) some
@@ -127,7 +127,7 @@ module _ {Gen K T : Type 0} (number : K → Option ℕ) (old : List (Option (Gen
             counted = ap (λ done. length done) met ∙ (length-append (indexes_to k (slot_values old)) ((k + 1) ∷ []) ∙ ap (λ (n : ℕ). n + 1) c.counted);
           }
 
-  -- once all slots are passed, the links are renamed by the order of their indexes
+  -- in the end the links are renamed by the order of their indexes
   pub coming_ends : (now : List (Option (Gen × LinkBody K T))) (k count : ℕ) → AreComing number old now k count → k ≡ length old → HasLinksWithin (link_map_in number old) (length old)
       → IsRenaming (place_in (indexes_in (slot_values old))) (link_map_in number old) (link_map_in number now)
   coming_ends now k count c all within =

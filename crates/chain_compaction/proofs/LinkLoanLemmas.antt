@@ -1,4 +1,4 @@
--- A link that a compactor lent for writing.
+-- Links that a compactor lends for writing.
 use Rattle.std.proofs.Common.{◌≡◌, ℕ, Option, None, Some, sym, ap, ◌∙◌}
 use Rattle.std.specs.Prelude.{OnSome}
 use Rattle.std.specs.Option.{option_map, option_copied_mut}
@@ -10,7 +10,7 @@ use Rattle.chain_compaction.specs.WorkCounts.{CountsOn}
 use Rattle.chain_compaction.proofs.WorkCountLemmas.{counts_touch, counts_then}
 
 module _ {P T S Inx Gen Word : Type 0} (old new : Compactor P T S Inx Gen Word) (i : ℕ) where
-  -- the value l that stood at i was written over by w
+  -- the value l at i was overwritten by w
   pub record IsOverwritten (l w : T) : Type 0 where
     pub same_reference : new.arena.ghost_name ≡ old.arena.ghost_name
     pub stands : Some l ≡ option_map (λ e. e.1) (slot_at old.held.slots i)
@@ -18,7 +18,7 @@ module _ {P T S Inx Gen Word : Type 0} (old new : Compactor P T S Inx Gen Word) 
     pub arena : new.arena.now ≡ with_touch old.arena.now
     pub counts : CountsOn old.arena.now new.arena.now old.placed old.touched new.placed new.touched
 
-  -- no value stood at i
+  -- there was no value at i
   pub record IsUntouched : Type 0 where
     pub same_reference : new.arena.ghost_name ≡ old.arena.ghost_name
     pub none : None ≡ option_map (λ e. e.1) (slot_at old.held.slots i)
@@ -55,7 +55,7 @@ module _ {P T S Inx Gen Word : Type 0} (old new : Compactor P T S Inx Gen Word) 
     counts = counts_touch old.arena.now new.arena.now old.placed new.placed old.touched new.touched kept.1.1 kept.1.2 kept.1.3;
   }
 
--- one call upon another
+-- two calls after one another
 module _ {P T S Inx Gen Word : Type 0} (a b c : Compactor P T S Inx Gen Word) where
   pub same_then : b.arena.ghost_name ≡ a.arena.ghost_name → c.arena.ghost_name ≡ b.arena.ghost_name → c.arena.ghost_name ≡ a.arena.ghost_name
   same_then one two = two ∙ one

@@ -1,4 +1,4 @@
--- Links that are written over, one after another: what is seen of them then.
+-- Links that are overwritten one after another, and their views.
 use Rattle.std.proofs.Common.{◌≡◌, ◌≢◌, ℕ, suc, ◌⊎◌, inl, inr, List, [], ◌∷◌, ◌++◌, length, Option, None, Some, refl, sym, ap, ◌∙◌, subst}
 use Rattle.std.specs.Prelude.{◌==◌, if◌then◌else◌}
 use Rattle.std.specs.Option.{option_map, option_and_then}
@@ -19,11 +19,11 @@ use Rattle.chain_compaction.specs.Destinations.{renamed_link, renamed_held, held
 use Rattle.chain_links.proofs.MappedArenaLemmas.{slot_at-map}
 use Rattle.chain_links.proofs.LinkStateLemmas.{slot_at-changed}
 
--- what is seen of an entry, with another link
+-- an entry as seen, with another link
 abbrev pub seen_as : {Gen T : Type 0} → Gen → LinkView T → Option (Gen × LinkView T)
 seen_as g l = Some (g, l)
 
--- a link that stands was written over
+-- a link was overwritten
 module _ {Gen K T : Type 0} (now new : Held Gen (LinkBody K T)) (i : ℕ) (e : Gen × LinkBody K T) (w : LinkBody K T) (stands : slot_at now.slots i ≡ Some e) (wrote : new ≡ held_with_value now i w) where
   abbrev written : Option (Gen × LinkBody K T) → Option (Gen × LinkBody K T)
   written o = option_map (λ (e : Gen × LinkBody K T). (e.0, w)) o
@@ -31,11 +31,11 @@ module _ {Gen K T : Type 0} (now new : Held Gen (LinkBody K T)) (i : ℕ) (e : G
   written_at : (j : ℕ) → slot_at new.slots j ≡ (if j == i then written (slot_at now.slots j) else slot_at now.slots j)
   written_at j = ap (λ (h : Held Gen (LinkBody K T)). slot_at h.slots j) wrote ∙ slot_at-changed now.slots i j written refl
 
-  -- it stands there
+  -- the new link is at i
   pub written_there : slot_at new.slots i ≡ Some (e.0, w)
   written_there = written_at i ∙ (if_same i i _ _ refl ∙ ap written stands)
 
-  -- and all else is as it was
+  -- all other slots are unchanged
   pub written_other : (j : ℕ) → j ≢ i → slot_at new.slots j ≡ slot_at now.slots j
   written_other j differs = written_at j ∙ if_other j i _ _ differs
 
@@ -48,7 +48,7 @@ module _ {Gen K T : Type 0} (now new : Held Gen (LinkBody K T)) (i : ℕ) (e : G
   pub written_maximum : new.maximum ≡ now.maximum
   written_maximum = ap (λ (h : Held Gen (LinkBody K T)). h.maximum) wrote
 
-  -- the destinations too, but for its own
+  -- the destinations of all other links are unchanged
   pub written_given : (number : K → Option ℕ) (j : ℕ) → j ≢ i → destination_at number new.slots j ≡ destination_at number now.slots j
   written_given number j differs = ap (option_and_then (destination_of number)) (written_other j differs)
 
@@ -56,20 +56,20 @@ module _ {Gen K T : Type 0} (now new : Held Gen (LinkBody K T)) (i : ℕ) (e : G
   written_own number = ap (option_and_then (destination_of number)) written_there
 
 module _ {Gen K T : Type 0} (number : K → Option ℕ) where
-  -- what is seen at an index
+  -- the view of the entry at an index
   abbrev pub seen_at : Held Gen (LinkBody K T) → ℕ → Option (Gen × LinkView T)
   seen_at h j = option_map (pair_view number) (slot_at h.slots j)
 
-  -- none is written over yet
+  -- no link is overwritten yet
   pub retied_none : (becomes : ℕ → LinkView T → LinkView T) (h : Held Gen (LinkBody K T)) → AreRelinked number becomes h h []
   retied_none becomes h = record { there = λ j has. absurd has; stay = λ j out. refl; long = refl; capacity = refl; maximum = refl }
 
   module _ (becomes : ℕ → LinkView T → LinkView T) (old now : Held Gen (LinkBody K T)) (xs : List ℕ) (was : AreRelinked number becomes old now xs) where
-    -- so many are as they were, or changed alike
+    -- the links are unchanged, or changed alike
     pub retied_as : (instead : ℕ → LinkView T → LinkView T) → ((j : ℕ) → IsMember xs j → option_map (on_value (becomes j)) (seen_at old j) ≡ option_map (on_value (instead j)) (seen_at old j)) → AreRelinked number instead old now xs
     retied_as instead same = record { there = λ j h. was.there j h ∙ same j h; stay = was.stay; long = was.long; capacity = was.capacity; maximum = was.maximum }
 
-    -- each pointer is what it was
+    -- all pointers are unchanged
     pub retied_ptr : ptr_at (slot_at now.slots) ≡ ptr_at (slot_at old.slots)
     retied_ptr = fun_ext (λ i. by i (IsMember-or_not xs i))
       where
@@ -87,7 +87,7 @@ module _ {Gen K T : Type 0} (number : K → Option ℕ) where
         by i (inr out) = ap (option_map {U = ℕ × Gen} (λ (e : Gen × LinkBody K T). (i, e.0))) (was.stay i out)
 
     module _ (new : Held Gen (LinkBody K T)) (i : ℕ) (e : Gen × LinkBody K T) (w : LinkBody K T) (stands : slot_at now.slots i ≡ Some e) (wrote : new ≡ held_with_value now i w) where
-      -- one more is written over
+      -- one more link is overwritten
       pub retied_more : (IsMember xs i → ⊥) → link_view number w ≡ becomes i (link_view number e.1) → AreRelinked number becomes old new (xs ++ i ∷ [])
       retied_more fresh same = record {
         there = λ j h. there j h (ℕ_discrete j i);
@@ -111,7 +111,7 @@ module _ {Gen K T : Type 0} (number : K → Option ℕ) where
           there j h (yes s) = subst (λ (n : ℕ). seen_at new n ≡ option_map (on_value (becomes n)) (seen_at old n)) (sym s) here
           there j h (no differs) = ap (option_map (pair_view number)) (written_other now new i e w stands wrote j differs) ∙ was.there j (before j differs (IsMember-parts xs (i ∷ []) j h))
 
-      -- one of them is written over again
+      -- one of the links is overwritten again
       pub retied_over : IsMember xs i → (instead : ℕ → LinkView T → LinkView T) → ((j : ℕ) → j ≢ i → becomes j ≡ instead j) → seen_as e.0 (link_view number w) ≡ option_map (on_value (instead i)) (seen_at old i) → AreRelinked number instead old new xs
       retied_over has instead others here = record {
         there = λ j h. there j h (ℕ_discrete j i);
@@ -127,7 +127,7 @@ module _ {Gen K T : Type 0} (number : K → Option ℕ) where
               ap (option_map (pair_view number)) (written_other now new i e w stands wrote j differs)
               ∙ (was.there j h ∙ ap (λ (f : LinkView T → LinkView T). option_map (on_value f) (seen_at old j)) (others j differs))
 
-    -- others are written over then
+    -- other links are overwritten after these
     pub retied_then : (new : Held Gen (LinkBody K T)) (ys : List ℕ) → AreRelinked number becomes now new ys → ((j : ℕ) → IsMember ys j → IsMember xs j → ⊥) → AreRelinked number becomes old new (xs ++ ys)
     retied_then new ys more apart = record {
       there = λ j h. there j (IsMember-parts xs ys j h);
@@ -141,7 +141,7 @@ module _ {Gen K T : Type 0} (number : K → Option ℕ) where
         there j (inl h) = ap (option_map (pair_view number)) (more.stay j (λ m. apart j m h)) ∙ was.there j h
         there j (inr h) = more.there j h ∙ ap (λ (o : Option (Gen × LinkBody K T)). option_map (on_value (becomes j)) (option_map (pair_view number) o)) (was.stay j (λ m. apart j h m))
 
-  -- once all are renamed, so is all that is held
+  -- if all links are renamed, so is the whole view
   pub all_retied : (to : ℕ → Option ℕ) (old now : Held Gen (LinkBody K T)) (xs : List ℕ) → AreRelinked number (λ _. renamed_link to) old now xs → ((j : ℕ) (e : Gen × LinkBody K T) → slot_at old.slots j ≡ Some e → IsMember xs j)
       → held_view number now ≡ renamed_held to (held_view number old)
   all_retied to old now xs was each = λ j. record { slots = slots j; stack_capacity = was.capacity j; maximum = was.maximum j }

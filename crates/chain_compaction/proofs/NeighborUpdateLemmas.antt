@@ -1,4 +1,4 @@
--- A link that names another as its neighbor, where a link is told.
+-- A link, if there is one, that names another as its neighbor.
 use Rattle.std.proofs.Common.{◌≡◌, ℕ, Bool, true, false, Option, None, Some, refl, sym, ◌∙◌}
 use Rattle.std.specs.Option.{option_map}
 use Rattle.chain_laws.specs.Chains.{LinkMap}
@@ -8,7 +8,7 @@ use Rattle.chain_links.specs.declared.links.LinkBody.{LinkBody}
 use Rattle.chain_compaction.specs.DetachedLinks.{held_values, link_map_in, with_neighbor}
 use Rattle.chain_compaction.proofs.DetachedLinkLemmas.{values-kept, shown-next_set, shown-prev_set, next_set-untold, prev_set-untold}
 
--- no link is named
+-- no index is given
 pub tells_none : {I : Type 0} (index : I → ℕ) (link_map : LinkMap) (before : Bool) (named : Option I) (goes : Option ℕ) → named ≡ None → link_map ≡ with_neighbor before link_map (option_map index named) goes
 tells_none {I} index link_map before named goes is = by before ∙ (λ j. with_neighbor before link_map (option_map index (sym is j)) goes)
   where
@@ -17,7 +17,7 @@ tells_none {I} index link_map before named goes is = by before ∙ (λ j. with_n
     by false = refl
 
 module _ {I Gen K T : Type 0} (index : I → ℕ) (number : K → Option ℕ) (old new : Held Gen (LinkBody K T)) (before : Bool) (named : Option I) (goes : Option ℕ) (i : I) (is : named ≡ Some i) where
-  -- none stands there
+  -- there is no link at the index
   module _ (same : new ≡ old) where
     pub kept_values : held_values new ≡ held_values old
     kept_values = λ j. held_values (same j)
@@ -29,7 +29,7 @@ module _ {I Gen K T : Type 0} (index : I → ℕ) (number : K → Option ℕ) (o
         by true = prev_set-untold number old.slots (index i) none goes
         by false = next_set-untold number old.slots (index i) none goes
 
-  -- a link that was lent was written
+  -- a link was written
   module _ (l w : LinkBody K T) (stands : Some l ≡ option_map (λ (e : Gen × LinkBody K T). e.1) (slot_at old.slots (index i))) (wrote : new ≡ held_with_value old (index i) w) where
     module _ (on : before ≡ true) (rest : w ≡ record l { prev = w.prev }) where
       pub prev_values : held_values new ≡ held_values old

@@ -1,4 +1,4 @@
--- The loop over all slots, in which entries move: its beginning, its step, its end, and its work.
+-- The loop that moves entries: its beginning, its step, its end, and its work.
 use Rattle.std.proofs.Common.{◌≡◌, ℕ, zero, suc, ◌+◌, ◌≤◌, List, length, Option, None, Some, refl, ap, ◌∙◌, subst, arith}
 use Rattle.std.proofs.Math.Decide.{ℕ_discrete}
 use Rattle.arena_base.specs.Arena.{Arena, slot_at}
@@ -53,7 +53,7 @@ module _ {Gen T : Type 0} where
     count = omega arith;
   }
 
-  -- one touch and one placement, and one entry less waits
+  -- one touch and one placement, after which one entry less waits
   pub work_on-more : (old now looked next : Arena Gen T) (waited wait less looks : ℕ) → IsWorkOn old now waited wait looks → looked ≡ with_touch now → next ≡ with_placement looked → less + 1 ≡ wait
       → IsWorkOn old next waited less looks
   work_on-more old now looked next waited wait less looks work touched is fewer = record {
@@ -63,7 +63,7 @@ module _ {Gen T : Type 0} where
     count = (let c : wait + work.moved ≡ waited = work.count in omega arith);
   }
 
-  -- one touch that found none
+  -- one touch that found no destination
   pub work_on-looked : (old now next : Arena Gen T) (waited wait looks : ℕ) → IsWorkOn old now waited wait looks → next ≡ with_touch now → IsWorkOn old next waited wait (looks + 1)
   work_on-looked old now next waited wait looks work is = record {
     moved = work.moved;
@@ -72,7 +72,7 @@ module _ {Gen T : Type 0} where
     count = work.count;
   }
 
-  -- work after work
+  -- the work of two parts together
   pub work_on-after : (old now next : Arena Gen T) (waited wait less looks more : ℕ) → IsWorkOn old now waited wait looks → IsWorkOn now next wait less more → IsWorkOn old next waited less (looks + more)
   work_on-after old now next waited wait less looks more work further = record {
     moved = work.moved + further.moved;
@@ -82,7 +82,7 @@ module _ {Gen T : Type 0} where
     count = (let a : wait + work.moved ≡ waited = work.count in let b : less + further.moved ≡ wait = further.count in omega arith);
   }
 
-  -- the work of all, when none waits any more
+  -- the total work, when no entry waits
   pub work_on-ends : (old now : Arena Gen T) (waited wait all looks : ℕ) → IsWorkOn old now waited wait looks → wait ≡ 0 → waited ≡ all → now ≡ with_totals old all (all + looks)
   work_on-ends old now waited wait all looks work none each =
       let m : work.moved ≡ all = (let a : wait + work.moved ≡ waited = work.count in omega arith) in

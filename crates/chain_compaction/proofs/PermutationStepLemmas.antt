@@ -1,5 +1,5 @@
--- One step of the loop that settles a slot: the entry at i loses its destination d, is exchanged with what stands there,
--- and one entry less waits.
+-- One step of settling: the entry at i loses its destination d and is exchanged with slot d, and
+-- one entry less waits.
 use Rattle.std.proofs.Common.{◌≡◌, ◌≢◌, ℕ, ◌+◌, ◌≤◌, List, length, true, Option, None, Some, refl, sym, ap, ◌∙◌, subst, arith}
 use Rattle.std.specs.Prelude.{is_some, OnSome, IfNone}
 use Rattle.std.specs.Option.{option_map, option_and_then}
@@ -12,11 +12,11 @@ use Rattle.chain_compaction.specs.Permutations.{Waits, IsSettledAt, WaitsWithin,
 use Rattle.chain_compaction.proofs.SlotCountLemmas.{slot_at-same, slot_at-other, stands-within, with_slot-own, count-with_slot, mark, one_if}
 use Rattle.chain_compaction.proofs.SlotSwapLemmas.{moving_goes_on, came_from, waited_there}
 
--- an entry that has come has no destination
+-- a settled entry has no destination
 pub settled_rests : {Gen K T : Type 0} (number : K → Option ℕ) (g : Gen) (e f : Gen × LinkBody K T) → Settles number g e f → destination_of number f ≡ None
 settled_rests number g e f s = s.empty
 
--- the destination of the link that was lent was taken out
+-- the destination of a link was taken out
 module _ {Gen K T : Type 0} (number : K → Option ℕ) (held new : Held Gen (LinkBody K T)) (i : ℕ) (l w : LinkBody K T)
     (stands : Some l ≡ option_map (λ (e : Gen × LinkBody K T). e.1) (slot_at held.slots i)) (wrote : new ≡ held_with_value held i w)
     (empty : number w.destination ≡ None) (rest : w ≡ record l { destination = w.destination }) where
@@ -33,12 +33,12 @@ module _ {Gen K T : Type 0} (number : K → Option ℕ) (held new : Held Gen (Li
     held = wrote ∙ ap (λ (o : Option (Gen × LinkBody K T)). record held { slots = with_slot held.slots i o }) (slot_taken (slot_at held.slots i) stands);
   }
 
-  -- whatever was answered
+  -- the destination was taken out, whatever was returned
   pub takes : {X : Type 0} (answer : Option X) → OnSome answer (IsTakenOut number i held new)
   takes (Some x) = taken_out
   takes None = tt
 
-  -- where there was none, nothing has changed
+  -- if there was no destination, nothing has changed
   slot_kept : w ≡ l → (o : Option (Gen × LinkBody K T)) → Some l ≡ option_map (λ (e : Gen × LinkBody K T). e.1) o → option_map (λ (e : Gen × LinkBody K T). (e.0, w)) o ≡ o
   slot_kept same None is = refl
   slot_kept same (Some e) is =
@@ -53,7 +53,7 @@ module _ {Gen K T : Type 0} (number : K → Option ℕ) (held new : Held Gen (Li
       wrote ∙ ap (λ (s : List (Option (Gen × LinkBody K T))). record held { slots = s })
       (ap (with_slot held.slots i) (slot_kept same (slot_at held.slots i) stands) ∙ with_slot-own held.slots i)
 
--- what is answered is the destination of the entry that stands there
+-- the destination of the entry at the index is returned
 module _ {Gen K T : Type 0} (number : K → Option ℕ) where
   pub tells_goal : (slot : Option (Gen × LinkBody K T)) (l : LinkBody K T) (answer : Option ℕ) → Some l ≡ option_map (λ (e : Gen × LinkBody K T). e.1) slot
       → answer ≡ number l.destination → answer ≡ option_and_then (destination_of number) slot
@@ -73,7 +73,7 @@ module _ {Gen K T : Type 0} (number : K → Option ℕ) (g : Gen) (k : K) (empty
   abbrev renewed : Entry → Entry
   renewed x = (g, x.1)
 
-  -- the slots once the destination is taken out, once the first of the two slots is written, and once both are
+  -- the slots without the destination, after one write of the exchange, and after both
   abbrev one : List (Option Entry)
   one = with_destination_at k slots i
 
@@ -136,7 +136,7 @@ module _ {Gen K T : Type 0} (number : K → Option ℕ) (g : Gen) (k : K) (empty
       slot_at-other mid d j (option_map renewed (slot_at one i)) low within_mid m
       ∙ (mid_other j n ∙ one_other j n)
 
-  -- an entry that has lost its destination does not wait
+  -- an entry without a destination does not wait
   marks_none : (x : Option Entry) → x ≡ Some (with_destination k e) → mark (destination_of number) x ≡ 0
   marks_none x is = ap (mark (destination_of number)) is ∙ ap (λ (o : Option ℕ). one_if (is_some o)) empty
 
@@ -172,18 +172,18 @@ module _ {Gen K T : Type 0} (number : K → Option ℕ) (g : Gen) (k : K) (empty
           let same : length two ≡ length slots = length-two in
           (first, omega arith)
 
--- at the beginning
+-- no step yet
 pub settling_begins : {E : Type 0} (goal : E → Option ℕ) (Settled : E → E → Type 0) (i : ℕ) (old : List (Option E)) → IsSettling goal Settled i old old
 settling_begins goal Settled i old = record { moves = λ first m. m; within = λ b. b; length = refl; stays = λ j k f ne v. v }
 
--- none waits where there is no destination
+-- no entry waits if there is no destination
 pub none_waits : {E : Type 0} (goal : E → Option ℕ) (slots : List (Option E)) (i : ℕ) → None ≡ option_and_then goal (slot_at slots i) → (d : ℕ) (e : E) → Waits goal (slot_at slots) i e d → ⊥
 none_waits goal slots i is d e w =
     let none : None ≡ goal e = is ∙ ap (option_and_then goal) w.stands in
     let some : goal e ≡ Some d = w.to in
     cc
 
--- the step, over what the compactor holds before it, once the destination is taken out, and after it
+-- one step, over the slots before it, without the destination, and after it
 module _ {Gen K T : Type 0} (number : K → Option ℕ) (g : Gen) (i d : ℕ) (before taken after : Held Gen (LinkBody K T))
     (is : Some d ≡ option_and_then (destination_of number) (slot_at before.slots i)) (out : IsTakenOut number i before taken) (all : WaitsWithin (destination_of number) before.slots) where
   abbrev Entries : Type 0
@@ -202,7 +202,7 @@ module _ {Gen K T : Type 0} (number : K → Option ℕ) (g : Gen) (i d : ℕ) (b
   length-taken : length taken.slots ≡ length before.slots
   length-taken = ap (λ (h : Held Gen (LinkBody K T)). length h.slots) out.held ∙ length-with_slot before.slots i (option_map (with_destination out.destination) (slot_at before.slots i))
 
-  -- both slots are there, and an entry stands in the first
+  -- both slots exist, and the first is occupied
   pub from_within : i ≤ length taken.slots
   from_within = let l : length taken.slots ≡ length before.slots = length-taken in let h : i ≤ length before.slots = (stands-within before.slots i who.0 who.1.stands).1 in omega arith
 

@@ -21,7 +21,7 @@ use Rattle.chain_compaction.specs.Layouts.{AreAllMoves}
 use Rattle.chain_compaction.specs.PointerMoves.{AreMoved, IsPointerMove, HasLinksWhere, CompressionMovesPointers, CompressionHasMoves}
 
 module _ {Gen T : Type 0} where
-  -- entries at the indexes of a run rise
+  -- entries at consecutive indexes ascend
   run-rises : (n count : ℕ) (es : List ((ℕ × Gen) × T)) → map index_of es ≡ range_with_len n count → RisesFrom n es
   run-rises n count [] is = tt
   run-rises n zero (e ∷ es) is = absurd (cc)
@@ -39,7 +39,7 @@ module _ {Gen T : Type 0} where
     each_found (suc e.0.0) es entry rises.1 (λ j below. looked j (omega (arith, below, rises.0)) ∙ ap (λ b. cond b (Some (e.0.1, e.1)) (found j es)) (ne_eqb e.0.0 j (λ is. omega (arith, below, is)))),
   )
 
-  -- what is found has its pointer among the entries
+  -- a found entry has its pointer among those of all entries
   found_key : (q : ℕ × Gen) (t : T) (es : List ((ℕ × Gen) × T)) → found q.0 es ≡ Some (q.1, t) → Contains (map (λ (e : (ℕ × Gen) × T). e.0) es) q
   found_key q t [] is = absurd (cc)
   found_key q t (e ∷ es) is = by (e.0.0 == q.0) refl is (found_key q t es) where
@@ -50,7 +50,7 @@ module _ {Gen T : Type 0} where
         (0, omega arith, λ i. (index i, generation_is e.0.1 q.1 e.1 t is i))
     by false other is rest = Contains-append_right (e.0 ∷ []) (map (λ (f : (ℕ × Gen) × T). f.0) es) q (rest is)
 
-  -- entries that rise have indexes apart
+  -- ascending entries have distinct indexes
   rises-low : (i j : ℕ) (es : List ((ℕ × Gen) × T)) → RisesFrom j es → IsMember (map index_of es) i → j ≤ i
   rises-low i j [] rises has = absurd has
   rises-low i j (e ∷ es) rises (inl same) = omega (arith, rises.0, same)
@@ -60,7 +60,7 @@ module _ {Gen T : Type 0} where
   rises-apart j [] rises = tt
   rises-apart j (e ∷ es) rises = ((λ has. omega (arith, rises-low e.0.0 (suc e.0.0) es rises.1 has)), rises-apart (suc e.0.0) es rises.1)
 
-  -- entries with these indexes and one generation
+  -- the pointers of entries with given indexes and one generation
   keys-run : (g : Gen) (indexes : List ℕ) (es : List ((ℕ × Gen) × T)) → map index_of es ≡ indexes → AllByRecursion (λ (e : (ℕ × Gen) × T). e.0.1 ≡ g) es → map (λ (e : (ℕ × Gen) × T). e.0) es ≡ map (λ k. (k, g)) indexes
   keys-run g indexes [] is all = ap (map (λ k. (k, g))) is
   keys-run g [] (e ∷ es) is all = absurd (cc)
@@ -73,7 +73,7 @@ module _ {X G Gen U T : Type 0} (from : X → ℕ × G) (to : X → ℕ × Gen) 
   abbrev Moves : X → Type 0
   Moves m = (was : IsValid before (from m)) × (is : IsValid after (to m)) × Becomes m was.value is.value
 
-  -- a pointer that was valid is the old one of the move from its index
+  -- a valid pointer is the old one of the move from its index
   old_has : (p : ℕ × G) (u : U) (moves : List X) → before p.0 ≡ Some (p.1, u) → AllByRecursion Moves moves → IsMember (map (λ (m : X). (from m).0) moves) p.0 → Contains (map from moves) p
   old_has p u [] stands all has = absurd has
   old_has p u (m ∷ moves) stands all (inl same) =
@@ -89,7 +89,7 @@ module _ {X G Gen U T : Type 0} (from : X → ℕ × G) (to : X → ℕ × Gen) 
       let rest : map to moves ≡ map (λ (f : (ℕ × Gen) × T). f.0) es = cc in
       ap₂ (λ (n : ℕ) (ns : List ℕ). n ∷ ns) (ap (λ (q : ℕ × Gen). q.0) first) (indexes-mapped moves es rest)
 
-  -- moves from the links in their least-index order, to entries that rise
+  -- moves from the links in their least-index order to ascending entries
   pub all_moved : (links : LinkMap) (indexes : List ℕ) (es : List ((ℕ × Gen) × T)) (moves : List X) → IsLeastIndexOrder links indexes → HasLinksWhere links before → RisesFrom 1 es → ((i : ℕ) → found i es ≡ after i)
       → map (λ (m : X). (from m).0) moves ≡ indexes → map to moves ≡ map (λ (e : (ℕ × Gen) × T). e.0) es → AllByRecursion Moves moves → AreMoved from to Becomes before after moves
   all_moved links indexes es moves order stand rises looked comes goes values = record {
@@ -107,7 +107,7 @@ module _ {X G Gen U T : Type 0} (from : X → ℕ × G) (to : X → ℕ × Gen) 
         by (Some link) is some = record { link = link; shows = is }
 
 module _ {P Gen T : Type 0} (key : P → ℕ × Gen) (before after : ℕ → Option (Gen × T)) where
-  -- a pointer of what stands at an index has that index
+  -- a pointer to the entry at an index has that index
   index_there : (p : ℕ × Gen) (i : ℕ) (o : Option (Gen × T)) → Some p ≡ option_map (λ (e : Gen × T). (i, e.0)) o → p.0 ≡ i
   index_there p i None is = absurd (cc)
   index_there p i (Some e) is = let same : p ≡ (i, e.0) = cc in ap (λ (q : ℕ × Gen). q.0) same
@@ -134,7 +134,7 @@ module _ {P Gen T : Type 0} (key : P → ℕ × Gen) (before after : ℕ → Opt
           refl,
         )
 
-  -- all moves, one after another
+  -- all moves
   each_keeps : (moves : List (P × P)) (indexes : List ℕ) (es : List ((ℕ × Gen) × T)) → map (λ (m : P × P). Some (key m.0)) moves ≡ map (ptr_at before) indexes → map (λ (m : P × P). key m.1) moves ≡ map (λ (e : (ℕ × Gen) × T). e.0) es
       → map (λ t. Some t) (map (λ (e : (ℕ × Gen) × T). e.1) es) ≡ map (λ i. option_map (λ (e : Gen × T). e.1) (before i)) indexes → AllByRecursion (λ (e : (ℕ × Gen) × T). after e.0.0 ≡ Some (e.0.1, e.1)) es → AllByRecursion (IsPointerMove key before after) moves
   each_keeps [] indexes es comes goes values stand = tt
@@ -185,7 +185,7 @@ module _ {Gen T : Type 0} (entry : ℕ → Option (Gen × T)) where
   what_stands None some = absurd (let h = some in cc)
   what_stands (Some e) some = (e, refl)
 
-  -- the pointers at some indexes, where something stands at each, and those of a run
+  -- the pointers at occupied indexes, paired with those at consecutive ones
   pairs_of : (g : Gen) (n : ℕ) (indexes : List ℕ) → ((i : ℕ) → IsMember indexes i → is_some (entry i) ≡ true)
       → (moves : List ((ℕ × Gen) × (ℕ × Gen))) × (map (λ (m : (ℕ × Gen) × (ℕ × Gen)). Some m.0) moves ≡ map (ptr_at entry) indexes)
       × (map (λ (m : (ℕ × Gen) × (ℕ × Gen)). m.1) moves ≡ map (λ k. (k, g)) (range_with_len n (length indexes)))

@@ -1,4 +1,4 @@
--- Slots that are written: what stands where, and how many entries wait.
+-- Writes of slots: which entry is where, and how many entries wait.
 use Rattle.std.proofs.Common.{◌≡◌, ◌≢◌, ℕ, zero, suc, ◌+◌, ◌≤◌, List, [], ◌∷◌, length, Bool, cond, Option, None, Some, refl, sym, ap, ap₂, ◌∙◌, arith}
 use Rattle.std.specs.Prelude.{count_by, is_some}
 use Rattle.std.specs.Option.{option_map}
@@ -17,13 +17,13 @@ module _ {X : Type 0} where
   pub slot_at-other : (xs : List (Option X)) (i j : ℕ) (x : Option X) → 1 ≤ i → i ≤ length xs → j ≢ i → slot_at (with_slot xs i x) j ≡ slot_at xs j
   slot_at-other xs i j x low high differs = slot_at-written xs i j x low high ∙ if_other j i _ _ differs
 
-  -- what stands at an index is within the slots
+  -- the index of an entry is within the slots
   pub stands-within : (xs : List (Option X)) (i : ℕ) (x : X) → slot_at xs i ≡ Some x → (1 ≤ i) × (i ≤ length xs)
   stands-within xs i x is =
       let lone : X → Interlinks = λ _. record { prev = None; next = None } in
       (slots-within lone xs).within i (record { link = lone x; shows = ap (option_map lone) is })
 
-  -- a slot written over by itself
+  -- writing back what a slot holds changes nothing
   pub with_slot-own : (xs : List (Option X)) (i : ℕ) → with_slot xs i (slot_at xs i) ≡ xs
   with_slot-own xs zero = refl
   with_slot-own xs (suc k) = set-get_or xs k None
@@ -37,12 +37,12 @@ module _ {X : Type 0} where
 abbrev pub one_if : Bool → ℕ
 one_if b = cond b 1 0
 
--- 1 for a slot in which one waits
+-- 1 for a slot whose entry waits
 abbrev pub mark : {E : Type 0} → (E → Option ℕ) → Option E → ℕ
 mark goal slot = one_if (waits goal slot)
 
 module _ {E : Type 0} (goal : E → Option ℕ) where
-  -- one slot further on in a longer list
+  -- with a slot added in front, each entry waits at the next index
   waits-behind : (x : Option E) (xs : List (Option E)) (i : ℕ) (e : E) (d : ℕ) → Waits goal (slot_at xs) i e d → Waits goal (slot_at (x ∷ xs)) (suc i) e d
   waits-behind x xs zero e d w = let none : None ≡ Some e = w.stands in absurd (cc)
   waits-behind x xs (suc k) e d w = record { stands = w.stands; to = w.to }
@@ -63,7 +63,7 @@ module _ {E : Type 0} (goal : E → Option ℕ) where
   mark-all None all = refl
   mark-all (Some e) all = let a = all e refl in ap (λ (o : Option ℕ). one_if (is_some o)) a.1
 
-  -- where none waits, the count is 0
+  -- if no entry waits, the count is 0
   pub waiting-none : (xs : List (Option E)) → ((i d : ℕ) (e : E) → Waits goal (slot_at xs) i e d → ⊥) → waiting goal xs ≡ 0
   waiting-none [] not = refl
   waiting-none (x ∷ xs) not =
@@ -71,7 +71,7 @@ module _ {E : Type 0} (goal : E → Option ℕ) where
       let first : mark goal x ≡ 0 = mark-none x (λ e d is to. not 1 d e (record { stands = is; to = to })) in
       sum_by-cons (mark goal) x xs ∙ ap₂ (λ (a b : ℕ). a + b) first rest
 
-  -- where each waits, the count is that of the entries
+  -- if each entry waits, the count is the number of entries
   pub waiting-all : (xs : List (Option E)) → ((i : ℕ) (e : E) → slot_at xs i ≡ Some e → (d : ℕ) × (goal e ≡ Some d)) → waiting goal xs ≡ count_by is_some xs
   waiting-all [] all = refl
   waiting-all (x ∷ xs) all =
@@ -79,6 +79,6 @@ module _ {E : Type 0} (goal : E → Option ℕ) where
       let first : mark goal x ≡ one_if (is_some x) = mark-all x (λ e s. all 1 e s) in
       sum_by-cons (mark goal) x xs ∙ (ap₂ (λ (a b : ℕ). a + b) first rest ∙ sym (sum_by-cons (λ (y : Option E). one_if (is_some y)) x xs))
 
--- a count that has come to the end
+-- a loop index that has reached its end
 pub at_end : (k end all : ℕ) → end ≡ all → k ≤ end → end ≤ k → k ≡ all
 at_end k end all is high low = omega (arith, is, high, low)

@@ -1,10 +1,10 @@
--- One exchange keeps what moves, over what the slots show.
+-- One exchange of slots keeps the invariant of moving entries.
 use Rattle.std.proofs.Common.{◌≡◌, ◌≢◌, ℕ, ◌⊎◌, inl, inr, Option, None, Some, refl, sym, ap, ◌∙◌, subst}
 use Rattle.std.proofs.Math.Decide.{ℕ_discrete}
 use Rattle.chain_compaction.specs.Permutations.{Waits, IsSettledAt, StillWaits, HasArrived, IsMoving, HaveMoved}
 
 module _ {E : Type 0} (goal : E → Option ℕ) (Settles : E → E → Type 0) (done : (e f : E) → Settles e f → goal f ≡ None) where
-  -- before the first exchange
+  -- the invariant before the first exchange
   pub moving_begins : (old : ℕ → Option E)
       → ((i j d : ℕ) (e f : E) → Waits goal old i e d → Waits goal old j f d → i ≡ j)
       → ((i : ℕ) (e : E) → old i ≡ Some e → (d : ℕ) × (goal e ≡ Some d)) → IsMoving goal Settles old old
@@ -21,15 +21,15 @@ module _ {E : Type 0} (goal : E → Option ℕ) (Settles : E → E → Type 0) (
       waits_as_ever : (j : ℕ) (e : E) (d : ℕ) → old j ≡ Some e → goal e ≡ Some d → StillWaits goal old old j e
       waits_as_ever j e d s to = record { from = j; to = d; waited = record { stands = s; to = to }; waits = record { stands = s; to = to } }
 
-  -- an entry e at i, exchanged with what stands at its destination d, and settled there
+  -- the entry e at i is exchanged with the slot at d, and settled there
   module _ (now next : ℕ → Option E) (i d : ℕ) (e : E)
       (at_d : IsSettledAt Settles next d e) (at_i : (i ≢ d) → next i ≡ now d) (elsewhere : (j : ℕ) → (j ≢ i) → (j ≢ d) → next j ≡ now j) where
-    -- an entry that waits afterwards waited at its place before, or came from d to i
+    -- an entry that waits afterwards waited there, or moved from d to i
     data Before (j : ℕ) (f : E) (k : ℕ) : Type 0 where
       stayed : (j ≢ i) → (j ≢ d) → Waits goal now j f k → Before j f k
       came : j ≡ i → (i ≢ d) → Waits goal now d f k → Before j f k
 
-    -- at d none waits
+    -- no entry waits at d
     none_at_d : (f : E) (k : ℕ) → next d ≡ Some f → goal f ≡ Some k → ⊥
     none_at_d f k s to =
         let there : next d ≡ Some at_d.entry = at_d.stands in
@@ -47,7 +47,7 @@ module _ {E : Type 0} (goal : E → Option ℕ) (Settles : E → E → Type 0) (
             came s differs (record { stands = sym (at_i differs) ∙ (ap next (sym s) ∙ v.stands); to = v.to })
         by (no n) (no m) = stayed m n (record { stands = sym (elsewhere j m n) ∙ v.stands; to = v.to })
 
-    -- what waits afterwards waited before
+    -- an entry that waits afterwards waited before
     pub came_from : (j : ℕ) (f : E) (k : ℕ) → Waits goal next j f k → (l : ℕ) × Waits goal now l f k
     came_from j f k v = by (before j f k v)
       where
@@ -55,7 +55,7 @@ module _ {E : Type 0} (goal : E → Option ℕ) (Settles : E → E → Type 0) (
         by (stayed a b u) = (j, u)
         by (came s n u) = (d, u)
 
-    -- .. and at another index than i it waited there
+    -- an entry that waits at an index other than i waited there
     pub waited_there : (j : ℕ) (f : E) (k : ℕ) → (j ≢ i) → Waits goal next j f k → Waits goal now j f k
     waited_there j f k ne v = by (before j f k v)
       where
@@ -84,7 +84,7 @@ module _ {E : Type 0} (goal : E → Option ℕ) (Settles : E → E → Type 0) (
           other : k ≢ d
           other = for_other j f k (before j f k v)
 
-          -- the place k, where it is i, holds what stood at d: for that e waited, so none was settled there
+          -- slot i holds what was at d, which was not settled, since e waited for d
           at_first : k ≡ i → (m : ℕ) → Waits goal now m f k → ⊥
           at_first t m u =
               let differs : i ≢ d = λ r. other (t ∙ r) in
@@ -147,7 +147,7 @@ module _ {E : Type 0} (goal : E → Option ℕ) (Settles : E → E → Type 0) (
           moved m carry same (inl o) = inl (record { from = o.from; to = o.to; waited = o.waited; waits = carry o.to o.waits })
           moved m carry same (inr o) = inr (record { from = o.from; entry = o.entry; waited = subst (Waits goal old o.from o.entry) (same o.entry o.settled) o.waited; settled = o.settled })
 
-          -- what was settled now is e, which waited
+          -- the entry that was settled now is e, which waited
           own : StillWaits goal old now i e ⊎ HasArrived goal Settles old i e → j ≡ d → Settles e f → Origin j f
           own (inl o) here settled =
               let to : goal e ≡ Some d = w.to in
@@ -174,7 +174,7 @@ module _ {E : Type 0} (goal : E → Option ℕ) (Settles : E → E → Type 0) (
       pub moving_goes_on : IsMoving goal Settles old next
       moving_goes_on = record { apart = apart_after; unsettled = unsettled_after; there = there_after; back = back_after }
 
-  -- at the end, when none waits
+  -- if no entry waits, all have moved
   pub moving_ends : (old new : ℕ → Option E) → IsMoving goal Settles old new → ((i d : ℕ) (e : E) → Waits goal new i e d → ⊥) → HaveMoved goal Settles old new
   moving_ends old new moving none = record { there = λ i d e w. by_there i d e (moving.there i d e w); back = λ j e s. by_back j e (moving.back j e s) }
     where

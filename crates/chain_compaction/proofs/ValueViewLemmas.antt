@@ -1,4 +1,4 @@
--- A chain arena as an arena of values: the entries by rising index are those of the arena of links.
+-- A chain arena as an arena of values, with the same entries.
 use Rattle.std.proofs.Common.{◌≡◌, ◌↔◌, ℕ, suc, List, [], ◌∷◌, ◌++◌, map, Bool, true, false, Option, None, Some, refl, ap, sym, ◌∙◌}
 use Rattle.std.specs.Prelude.{reverse, cond, leb}
 use Rattle.std.specs.Option.{option_map}
@@ -13,7 +13,7 @@ use Rattle.chain_links.specs.declared.links.LinkBody.{LinkBody}
 use Rattle.chain_links.specs.Links.{link_view, held_in, held_entries, links_view, pair_view, entry_views}
 
 module _ {Gen X Y : Type 0} (f : X → Y) where
-  -- an entry with something else for its value
+  -- an entry with `f` applied to its value
   abbrev on_entry : (ℕ × Gen) × X → (ℕ × Gen) × Y
   on_entry e = on_value f e
 
@@ -80,7 +80,7 @@ module _ {Gen K T : Type 0} (number : K → Option ℕ) where
     twice (None ∷ slots) = ap (λ rest. None ∷ rest) (twice slots)
     twice (Some e ∷ slots) = ap (λ rest. Some (e.0, e.1.t) ∷ rest) (twice slots)
 
-  -- the entries of an arena of links, seen, and their values
+  -- the entries of an arena of links, as views and as values
   pub entry_views-all : (a : Arena Gen (LinkBody K T)) → entry_views number (entries a) ≡ entries (links_view number a)
   entry_views-all a = sym (entries-with_each (link_view number) a)
 

@@ -1,4 +1,4 @@
--- What was seen of links that got other pointers: calls of a closure, and a list.
+-- What a visitor saw, as calls of a closure and as a list.
 use Rattle.std.proofs.Common.{◌≡◌, ℕ, ◌+◌, ◌<◌, ◌≤◌, Bool, true, false, List, [], ◌∷◌, ◌++◌, if◌then◌else◌, Vec, vec_len, vec_capacity, length, Some, sym, ap, ◌∙◌, subst, arith, append-nil, append_assoc}
 use Rattle.std.specs.List.{FoldsTo}
 use Rattle.std.specs.Fn.{Mut, Called}
@@ -15,13 +15,13 @@ use Rattle.chain_compaction.specs.Layouts.{IsPairListed, ReportsAll, ReportsLayo
 use Rattle.chain_links.specs.CanonicalLayouts.{IsCanonicalLayout}
 
 module _ {P A : Type 0} where
-  -- a push where there is room
+  -- a push within the capacity
   pub listed_by_push : (old new : Vec (P × P) A) (p q : P) (ok : Bool) → (vec_len old < vec_capacity old → ok ≡ true)
       → new.items ≡ (if ok then old.items ++ (p, q) ∷ [] else old.items) → vec_len new ≡ (if ok then vec_len old + 1 else vec_len old) → vec_capacity old ≤ vec_capacity new → IsPairListed old p q new
   listed_by_push old new p q true done items long room = record { listed = λ less. (items, long, room) }
   listed_by_push old new p q false done items long room = record { listed = λ less. absurd (let no = done less in cc) }
 
-  -- pairs that are listed one after another, where there is room for all
+  -- pairs appended one after another, within the capacity
   pub all_listed : {V : Type 0} (list : V → Vec (P × P) A) (moves : List (P × P)) (old new : V) → vec_len (list old) + length moves ≤ vec_capacity (list old)
       → FoldsTo (λ s (m : P × P) t. IsPairListed (list s) m.0 m.1 (list t)) old moves new → (list new).items ≡ (list old).items ++ moves
   all_listed list [] old new room folds = ap (λ v. (list v).items) (sym folds) ∙ sym (append-nil (list old).items)
@@ -31,7 +31,7 @@ module _ {P A : Type 0} where
       let more : vec_capacity (list old) ≤ vec_capacity (list folds.0) = one.2 in
       all_listed list moves folds.0 new (omega arith) folds.2 ∙ (ap (λ (xs : List (P × P)). xs ++ moves) one.0 ∙ append_assoc (list old).items (m ∷ []) moves)
 
--- as many moves are told as there are links
+-- there are as many moves as links
 module _ {P Gen T : Type 0} (key : P → ℕ × Gen) (first : Gen) (following : Gen → Gen) where
   pub moves_count : (reset : Bool) (old new : ArenaView Gen T) (links new_links : LinkMap) (generation : Gen) (moves : List (P × P)) → IsCanonicalLayout first following reset old links new new_links
       → AreAllMoves key old links generation moves → length moves ≡ length old.entries
@@ -45,11 +45,11 @@ module _ {P Gen T : Type 0} (key : P → ℕ × Gen) (first : Gen) (following : 
       same_order = all.order.items ∙ (ap all_items (no_others links all.order.chains layout.order.chains all.order.are layout.order.are) ∙ sym layout.order.items)
 
 module _ {V P Gen T : Type 0} (key : P → ℕ × Gen) (old : ArenaView Gen T) (links : LinkMap) (generation : Gen) (f last : V) where
-  -- what was seen are the moves of all links
+  -- the visits were the moves of all links
   moves_seen : {g : V → P → P → V → Type 0} (all : ReportsAll g key old links generation f last) → AreAllMoves key old links generation all.shows.moves
   moves_seen all = record { indexes = all.indexes; order = all.order; from = all.shows.from; to = all.shows.to }
 
-  -- a closure has seen them
+  -- a closure has seen the moves of all links
   pub shown_to : {F : Type 0} (g : Mut F (P × (P × Unit {0})) (Unit {0})) (see : V → F) → ReportsAll (λ s p q t. Called g (see s) (p, (q, tt)) tt (see t)) key old links generation f last
       → ReportsLayout g key old links generation (see f)
   shown_to g see all = record {
@@ -59,7 +59,7 @@ module _ {V P Gen T : Type 0} (key : P → ℕ × Gen) (old : ArenaView Gen T) (
     all = moves_seen all;
   }
 
-  -- they are listed
+  -- the moves of all links are listed
   pub listed_all : {A : Type 0} (list : V → Vec (P × P) A) (first : Gen) (following : Gen → Gen) (reset : Bool) (new : ArenaView Gen T) (new_links : LinkMap) → IsCanonicalLayout first following reset old links new new_links
       → ReportsAll (λ s p q t. IsPairListed (list s) p q (list t)) key old links generation f last → (list f).items ≡ [] → vec_len (list f) ≡ 0 → length old.entries ≤ vec_capacity (list f)
       → AreAllMoves key old links generation (list last).items

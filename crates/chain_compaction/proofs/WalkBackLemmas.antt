@@ -1,4 +1,4 @@
--- The walk back from a link, among the slots that a compactor holds: how many looks it takes.
+-- The number of reads of a walk back from a link.
 use Rattle.std.proofs.Common.{◌≡◌, ℕ, suc, ◌+◌, ◌∙◌, ◌<◌, ◌≤◌, ◌⊎◌, inl, inr, List, ◌∷◌, length, Option, ap, length-append, arith}
 use Rattle.chain_laws.specs.Chains.{LinkMap, Chain, linear, cyclic, items, IsMember, IsChain}
 use Rattle.chain_laws.specs.ChainStart.{IsBack}
@@ -10,7 +10,7 @@ use Rattle.chain_compaction.specs.Destinations.{HasChainFrom}
 use Rattle.chain_links.proofs.ArenaInsertionLemmas.{slots-within}
 
 module _ (link_map : LinkMap) (i steps here : ℕ) (back : IsBack link_map i steps here) where
-  -- one look more, and there are no more than links in a linear chain ..
+  -- the steps back and one more are at most the links of a linear chain
   pub looks_linear : (xs : List ℕ) → IsChain link_map (linear xs) → IsMember xs i → steps + 1 ≤ length xs
   looks_linear xs h m =
       let b = back.in_linear xs h m in
@@ -18,7 +18,7 @@ module _ (link_map : LinkMap) (i steps here : ℕ) (back : IsBack link_map i ste
       let few : steps ≤ length b.1 = b.4 in
       omega arith
 
-  -- .. or a cyclic one
+  -- the steps back and one more are at most the links of a cyclic chain
   pub looks_cyclic : (xs : List ℕ) → IsChain link_map (cyclic (i ∷ xs)) → steps + 1 ≤ length xs + 1
   looks_cyclic xs h =
       let b = back.in_cyclic xs h in

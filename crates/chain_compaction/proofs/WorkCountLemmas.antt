@@ -1,4 +1,4 @@
--- What a compactor counts goes along with the totals of its arena.
+-- A compactor's counts agree with the totals of its arena.
 use Rattle.std.proofs.Common.{◌≡◌, ℕ, ◌+◌, refl, ap, ◌∙◌, arith}
 use Rattle.arena_base.specs.Arena.{Arena}
 use Rattle.arena_base.specs.DetachedSlots.{one_more, with_touch, with_placement}
@@ -9,19 +9,19 @@ counted_more : (n : ℕ) → one_more (counted n) ≡ counted (n + 1)
 counted_more n = omega arith
 
 module _ {Gen T : Type 0} where
-  -- totals that are the same numbers
+  -- arenas with the same totals are the same
   pub same_totals : (a : Arena Gen T) (p q t u : ℕ) → p ≡ q → t ≡ u → ◌≡◌ {A = Arena Gen T} (record a { placed = p; touched = t }) (record a { placed = q; touched = u })
   same_totals a p q t u e f = λ j. record a { placed = e j; touched = f j }
 
-  -- nothing was done
+  -- counts after no work
   pub counts_none : (a : Arena Gen T) (p t : ℕ) → CountsOn a a p t p t
   counts_none a p t = record { on = λ first had. had }
 
-  -- one thing after another
+  -- counts after two parts of the work
   pub counts_then : (a b c : Arena Gen T) (p q r t u v : ℕ) → CountsOn a b p t q u → CountsOn b c q u r v → CountsOn a c p t r v
   counts_then a b c p q r t u v one two = record { on = λ first had. two.on first (one.on first had) }
 
-  -- a touch
+  -- counts after a touch
   pub counts_touch : (a b : Arena Gen T) (p q t u : ℕ) → b ≡ with_touch a → q ≡ p → u ≡ one_more t → CountsOn a b p t q u
   counts_touch a b p q t u is same more = record {
     on = λ first had. record {
@@ -33,7 +33,7 @@ module _ {Gen T : Type 0} where
     };
   }
 
-  -- a placement
+  -- counts after a placement
   pub counts_place : (a b : Arena Gen T) (p q t u : ℕ) → b ≡ with_placement a → q ≡ one_more p → u ≡ t → CountsOn a b p t q u
   counts_place a b p q t u is more same = record {
     on = λ first had. record {
@@ -45,7 +45,7 @@ module _ {Gen T : Type 0} where
     };
   }
 
-  -- a compactor that begins has counted nothing
+  -- a new compactor has counted nothing
   pub counted_none : (a : Arena Gen T) → HasCounted a a 0 0
   counted_none a = record {
     placements = 0;

@@ -1,4 +1,4 @@
--- Links brought to the first free index, one after another.
+-- Moves of links to the first free index, one after another.
 use Rattle.std.specs.Prelude.{◌≡◌, ℕ, ◌+◌, ◌*◌, length}
 use Rattle.chain_laws.specs.Chains.{LinkMap, IsWellLinked}
 use Rattle.chain_laws.specs.Moves.{moved, CanMove}
@@ -8,15 +8,15 @@ use Rattle.arena_base.specs.DetachedSlots.{Held}
 use Rattle.chain_links.specs.declared.links.LinkBody.{LinkBody}
 use Rattle.chain_compaction.specs.DetachedLinks.{held_values, IsWork}
 
--- where interlinks agree and the link at an index may move to another, it has moved
+-- if `old` is well linked, and the link may move, it has moved
 abbrev pub IsLinkMove : LinkMap → LinkMap → ℕ → ℕ → Type 0
 IsLinkMove old new from to = IsWellLinked old → CanMove old from to → new ≡ moved old from to
 
 module _ {Gen K T : Type 0} where
-  -- how many links there are
+  -- the number of links
   abbrev pub link_count : Held Gen (LinkBody K T) → ℕ
   link_count held = length (entries_from 1 (held_values held).slots)
 
-  -- each link was placed once, and there was at most one touch for each slot and three for each link
+  -- one placement per link, and at most one touch per slot and three per link
   abbrev pub IsClosingWork : Held Gen (LinkBody K T) → Arena Gen (LinkBody K T) → Arena Gen (LinkBody K T) → Type 0
   IsClosingWork held old new = IsWork old new (link_count held) (length held.slots + 3 * link_count held)

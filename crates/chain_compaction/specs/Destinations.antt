@@ -1,4 +1,4 @@
--- Links that get their destinations: the places of a list.
+-- Links whose destinations are their places in a list.
 use Rattle.std.specs.Prelude.{◌≡◌, ℕ, ◌+◌, ◌*◌, ◌≤◌, ◌⊎◌, Bool, false, List, ◌∷◌, ◌++◌, map, length, Option, None, Some, is_none}
 use Rattle.std.specs.Option.{option_map, option_and_then}
 use Rattle.chain_laws.specs.Chains.{LinkMap, Chain, linear, cyclic, items, IsMember, IsChain, first_or}
@@ -13,20 +13,21 @@ use Rattle.chain_compaction.specs.Layouts.{ReportsMoves}
 use Rattle.chain_compaction.specs.Permutations.{destination_of}
 use Rattle.chain_links.specs.declared.links.LinkBody.{LinkBody}
 
--- a chain that is found from i: a linear one that has it, or a cyclic one that is written from it
+-- i is in a linear chain, or a cyclic one is written from it
 abbrev pub HasChainFrom : LinkMap → ℕ → Type 0
 HasChainFrom shown i = (xs : List ℕ) × ((IsChain shown (linear xs) × IsMember xs i) ⊎ IsChain shown (cyclic (i ∷ xs)))
 
--- a link that names other indexes for those that it named
+-- the link with its interlinks renumbered by `to`
 abbrev pub renamed_link : {T : Type 0} → (ℕ → Option ℕ) → LinkView T → LinkView T
 renamed_link to link = record link { prev = option_and_then to link.prev; next = option_and_then to link.next }
 
--- .. and so each link
+-- the slots with the interlinks of each link renumbered by `to`
 abbrev pub renamed_held : {Gen T : Type 0} → (ℕ → Option ℕ) → Held Gen (LinkView T) → Held Gen (LinkView T)
 renamed_held to held = record held { slots = map (option_map (on_value (renamed_link to))) held.slots }
 
--- the index of the link after one that was numbered, with so many before its chain and so many up to it: where the walk goes
--- on the next one, and in a ring, whose last link names its first, that of the first
+-- the destination of the link after the one just numbered, where `before` links precede the chain
+-- and `count` are numbered. After the last link of a cyclic chain it is the destination of the
+-- first.
 abbrev pub number_after : Option ℕ → Option ℕ → ℕ → ℕ → Option ℕ
 number_after (Some on) next before count = Some (count + 1)
 number_after None (Some first) before count = Some (before + 1)
@@ -41,35 +42,35 @@ module _ {Gen K T : Type 0} (number : K → Option ℕ) where
   abbrev pub destination_at : List (Option (Gen × LinkBody K T)) → ℕ → Option ℕ
   destination_at slots i = option_and_then (destination_of number) (slot_at slots i)
 
-  -- a link without a destination stands in the slot
+  -- whether a slot holds a link without a destination
   abbrev pub is_fresh : Option (Gen × LinkBody K T) → Bool
   is_fresh None = false
   is_fresh (Some e) = is_none (destination_of number e)
 
-  -- so many links have destinations, their places in a list
+  -- `count` links have destinations: their places in `done`
   pub record AreNumbered (slots : List (Option (Gen × LinkBody K T))) (count : ℕ) (done : List ℕ) : Type 0 where
     pub places : (j : ℕ) → destination_at slots j ≡ place_in done j
     pub counts : count ≡ length done
 
-  -- the link at i, if one stands there, got another destination or none, and nothing else has changed
+  -- the destination of the link at i, if any, was set or removed, and nothing else changed
   pub record IsDirectedAt (i : ℕ) (goes : Option ℕ) (old new : Held Gen (LinkBody K T)) : Type 0 where
     pub there : (l : LinkBody K T) → Some l ≡ option_map (λ e. e.1) (slot_at old.slots i)
         → (w : LinkBody K T) × (number w.destination ≡ goes) × (w ≡ record l { destination = w.destination }) × (new ≡ held_with_value old i w)
     pub none : None ≡ option_map (λ e. e.1) (slot_at old.slots i) → new ≡ old
 
-  -- the link at i, if one stands there, names other indexes and got a destination, and nothing else has changed
+  -- the interlinks and the destination of the link at i, if any, were set, and nothing else changed
   pub record IsRelinkedAt (i : ℕ) (prev next goes : Option ℕ) (old new : Held Gen (LinkBody K T)) : Type 0 where
     pub there : (l : LinkBody K T) → Some l ≡ option_map (λ e. e.1) (slot_at old.slots i)
         → (w : LinkBody K T) × (link_view number w ≡ record { prev = prev; next = next; value = l.t }) × (number w.destination ≡ goes) × (new ≡ held_with_value old i w)
     pub none : None ≡ option_map (λ e. e.1) (slot_at old.slots i) → new ≡ old
 
-  -- where a last link names a first, at i, that names the last, and nothing else has changed
+  -- if a last link names a first one, the link at i now names the last, and nothing else changed
   pub record IsRingClosed (i : ℕ) (first last : Option ℕ) (old new : Held Gen (LinkBody K T)) : Type 0 where
     pub ring : (k : ℕ) (l : LinkBody K T) → first ≡ Some k → Some l ≡ option_map (λ e. e.1) (slot_at old.slots i)
         → (w : LinkBody K T) × (number w.prev ≡ last) × (w ≡ record l { prev = w.prev }) × (new ≡ held_with_value old i w)
     pub linear : first ≡ None → new ≡ old
 
-  -- the links of a list are seen as others, and all else is as it was
+  -- each link in the list is seen as what it `becomes`, and nothing else changed
   pub record AreRelinked (becomes : ℕ → LinkView T → LinkView T) (old now : Held Gen (LinkBody K T)) (xs : List ℕ) : Type 0 where
     pub there : (j : ℕ) → IsMember xs j → option_map (pair_view number) (slot_at now.slots j) ≡ option_map (on_value (becomes j)) (option_map (pair_view number) (slot_at old.slots j))
     pub stay : (j : ℕ) → (IsMember xs j → ⊥) → slot_at now.slots j ≡ slot_at old.slots j
@@ -77,7 +78,7 @@ module _ {Gen K T : Type 0} (number : K → Option ℕ) where
     pub capacity : now.stack_capacity ≡ old.stack_capacity
     pub maximum : now.maximum ≡ old.maximum
 
-  -- a chain whose links have no destinations yet may be numbered from its start
+  -- the chain may be numbered from `start`: its links have no destinations yet
   pub record CanNumber (slots : List (Option (Gen × LinkBody K T))) (start count : ℕ) (done : List ℕ) (c : Chain) : Type 0 where
     pub numbered : AreNumbered slots count done
     pub chain : IsChain (link_map_in number slots) c
@@ -86,20 +87,22 @@ module _ {Gen K T : Type 0} (number : K → Option ℕ) where
     pub room : length done + length (items c) ≤ length slots
 
   module _ {F P : Type 0} (g : F → P → P → F → Type 0) (key : P → ℕ × Gen) where
-    -- a chain is numbered behind others, its links name the places of their neighbors, and the closure has seen them
+    -- the chain is numbered after `done`, its interlinks name destinations, and the visitor has
+    -- seen its links
     pub record IsChainNumbered (generation : Gen) (f last : F) (old new : Held Gen (LinkBody K T)) (before after : Arena Gen (LinkBody K T)) (count : ℕ) (done : List ℕ) (c : Chain) : Type 0 where
       pub numbered : AreNumbered new.slots count (done ++ items c)
       pub retied : AreRelinked (λ _. renamed_link (place_from (length done + 1) (items c))) old new (items c)
       pub shows : ReportsMoves g key (ptr_at (slot_at old.slots)) generation (length done + 1) f (items c) last
       pub work : IsWork before after 0 (3 * length (items c))
 
-    -- from a start on, behind so many links, a chain that may be numbered is, and so many are numbered then
+    -- a chain that may be numbered from `start`, after `before` links, is numbered, and `count`
+    -- links are then
     abbrev pub NumbersFrom : {V S I W : Type 0} → Gen → ℕ → F → F → (old new : Compactor V (LinkBody K T) S I Gen W) → ℕ → ℕ → Type 0
     NumbersFrom generation start f last old new before count = (done : List ℕ) (c : Chain) → CanNumber old.held.slots start before done c
         → IsChainNumbered generation f last old.held new.held old.arena.now new.arena.now count done c
 
-    -- so many links are numbered, all that there are, in the least-index order of their chains; they name the places of their
-    -- neighbors, and the closure has seen them in that order
+    -- all `count` links are numbered, in the least-index order of their chains. Their interlinks
+    -- name destinations, and the visitor has seen them in that order.
     pub record AreAllNumbered (generation : Gen) (f last : F) (old new : Held Gen (LinkBody K T)) (before after : Arena Gen (LinkBody K T)) (count : ℕ) : Type 0 where
       pub indexes : List ℕ
       pub order : IsLeastIndexOrder (link_map_in number old.slots) indexes

@@ -1,4 +1,4 @@
--- Links in the slots that a compactor holds: their values, their interlinks, and the work that is counted.
+-- Links in the slots that a compactor holds: their values, their interlinks, and the work counted.
 use Rattle.std.specs.Prelude.{◌≡◌, ℕ, ◌≤◌, Bool, true, false, List, map, Option}
 use Rattle.std.specs.Option.{option_map}
 use Rattle.chain_laws.specs.Chains.{LinkMap, Interlinks}
@@ -12,11 +12,11 @@ use Rattle.chain_links.specs.ChainArena.{on_value, interlinks_in}
 use Rattle.chain_links.specs.Links.{link_view, held_in}
 
 module _ {Gen K T : Type 0} where
-  -- the values of the links in slots
+  -- the slots with the value of each link alone
   abbrev pub slot_values : List (Option (Gen × LinkBody K T)) → List (Option (Gen × T))
   slot_values slots = map (option_map (on_value held_in)) slots
 
-  -- the slots with the value of each link alone
+  -- the same for the slots that a compactor holds
   abbrev pub held_values : Held Gen (LinkBody K T) → Held Gen T
   held_values held = record { slots = slot_values held.slots; stack_capacity = held.stack_capacity; maximum = held.maximum }
 
@@ -24,20 +24,20 @@ module _ {Gen K T : Type 0} where
   abbrev pub body_interlinks : (K → Option ℕ) → Gen × LinkBody K T → Interlinks
   body_interlinks number e = interlinks_in (link_view number e.1)
 
-  -- what the slots show at each index
+  -- the interlinks at each index of the slots
   abbrev pub link_map_in : (K → Option ℕ) → List (Option (Gen × LinkBody K T)) → LinkMap
   link_map_in number slots i = option_map (body_interlinks number) (slot_at slots i)
 
--- what is shown once the link at an index, if there is one, names another as the one before it, or as the one after it
+-- the link map after `prev` (`true`) or `next` (`false`) of the link at an index, if any, is set
 abbrev pub with_neighbor : Bool → LinkMap → Option ℕ → Option ℕ → LinkMap
 with_neighbor true shown i named = prev_set shown i named
 with_neighbor false shown i named = next_set shown i named
 
--- the indexes of the entries in slots, by rising index
+-- the indexes of the entries in slots, in ascending order
 abbrev pub indexes_in : {Gen T : Type 0} → List (Option (Gen × T)) → List ℕ
 indexes_in slots = map index_of (entries_from 1 slots)
 
--- so many placements, and at most so many touches
+-- exactly `placements` placements and at most `most` touches were counted
 pub record IsWork {Gen T : Type 0} (old new : Arena Gen T) (placements most : ℕ) : Type 0 where
   pub touches : ℕ
   pub few : touches ≤ most

@@ -1,4 +1,4 @@
--- What a compression makes of the links of an arena.
+-- What a compression does to the links of an arena.
 use Rattle.std.specs.Prelude.{◌≡◌, ℕ, ◌+◌, ◌*◌, ◌≤◌, List, map, length}
 use Rattle.std.specs.Fn.{Mut}
 use denote.Ref.{MutBor}
@@ -10,14 +10,14 @@ use Rattle.arena_base.specs.Compressions.{VisitsAll}
 use Rattle.arena_base.specs.GatheredSlots.{gathered}
 use Rattle.chain_links.specs.ChainArena.{LinkView, link_map, values_of}
 
--- beside what is seen: the link of the k-th least index comes to index k, where it names the new indexes of its neighbors,
--- and the stack keeps its room
+-- besides what is seen: the link of the k-th least index is moved to index k and names the new
+-- indexes of its neighbors. The stack's capacity stays.
 pub record ClosesHoles {Gen T : Type 0} (old new : Arena Gen (LinkView T)) : Type 0 where
   pub renamed : IsRenaming (place_in (map index_of (entries (values_of old)))) (link_map old) (link_map new)
   pub stack_capacity : new.stack_capacity ≡ old.stack_capacity
 
--- the links of an arena are brought together, each value is as the closure left it, and there were at most four times as many
--- touches as slots
+-- the links are moved to the front, with values as the closure left them, and at most four touches
+-- per slot
 pub record AreGathered {F P T Gen : Type 0} (g : Mut F (P × (MutBor T × (P × Unit {0}))) (Unit {0} × (MutBor T × Unit {0}))) (key : P → ℕ × Gen) (f : F) (old new : Arena Gen (LinkView T)) : Type 0 where
   pub values : List T
   pub touches : ℕ

@@ -1,4 +1,4 @@
--- Values that have other pointers than before, said by pointer.
+-- Values whose pointers change, stated by pointer.
 use Rattle.std.specs.Prelude.{◌≡◌, ℕ, Bool, List, map, All, Contains, Option, is_some}
 use Rattle.chain_laws.specs.Chains.{LinkMap, AreDistinct}
 use Rattle.arena_base.specs.Arena.{IsValid}
@@ -6,38 +6,39 @@ use Rattle.arena_base.specs.Entries.{ArenaView, found}
 use Rattle.chain_links.specs.CanonicalLayouts.{IsCanonicalLayout}
 use Rattle.chain_compaction.specs.Layouts.{AreAllMoves}
 
--- Each move takes a value from the pointer that it had to the one that it has, where it is what it has become.
+-- Moves of values, each from an old pointer to a new one. `Becomes` states what the value becomes.
 module _ {X G Gen U T : Type 0} (from : X → ℕ × G) (to : X → ℕ × Gen) (Becomes : X → U → T → Type 0) where
-  -- the old pointer of a move was valid, and its new one is, with what the value has become
+  -- the old pointer was valid, and the new one is, with what the value has become
   abbrev pub IsMove : (ℕ → Option (G × U)) → (ℕ → Option (Gen × T)) → X → Type 0
   IsMove before after m = (was : IsValid before (from m)) × (is : IsValid after (to m)) × Becomes m was.value is.value
 
-  -- all that was valid moved, and all that is valid came by a move, where what stands at each index is given before and after
+  -- all that was valid was moved, and all that is valid was moved there. `before` and `after` give
+  -- the entry at each index.
   pub record AreMoved (before : ℕ → Option (G × U)) (after : ℕ → Option (Gen × T)) (moves : List X) : Type 0 where
     pub values : All (IsMove before after) moves
-    -- each pointer that was valid is the old one of a move, and no index is that of two ..
+    -- each pointer that was valid is the old one of a move, and no two share an index
     pub old : (p : ℕ × G) → IsValid before p → Contains (map from moves) p
     pub old_apart : AreDistinct (map (λ m. (from m).0) moves)
-    -- .. and each that is valid is the new one of a move, and no index is that of two
+    -- each pointer that is valid is the new one of a move, and no two share an index
     pub new : (q : ℕ × Gen) → IsValid after q → Contains (map to moves) q
     pub new_apart : AreDistinct (map (λ m. (to m).0) moves)
 
--- pairs of pointers are moves, and each value is as it was
+-- a pair of pointers is a move that leaves the value unchanged
 abbrev pub IsPointerMove : {P Gen T : Type 0} → (P → ℕ × Gen) → (before after : ℕ → Option (Gen × T)) → P × P → Type 0
 IsPointerMove key = IsMove (λ m. key m.0) (λ m. key m.1) (λ m t u. t ≡ u)
 
 abbrev pub ArePointerMoves : {P Gen T : Type 0} → (P → ℕ × Gen) → (before after : ℕ → Option (Gen × T)) → List (P × P) → Type 0
 ArePointerMoves key = AreMoved (λ m. key m.0) (λ m. key m.1) (λ m t u. t ≡ u)
 
--- what stands at each index is what is found there
+-- the entries of the view are the given ones
 abbrev pub FindsEntries : {Gen T : Type 0} → ArenaView Gen T → (ℕ → Option (Gen × T)) → Type 0
 FindsEntries seen entry = (i : ℕ) → found i seen.entries ≡ entry i
 
--- a link stands where an entry stands
+-- links are exactly where entries are
 abbrev pub HasLinksWhere : {Gen T : Type 0} → LinkMap → (ℕ → Option (Gen × T)) → Type 0
 HasLinksWhere links entry = (i : ℕ) → is_some (links i) ≡ is_some (entry i)
 
--- the pointers that all links had and have in a canonical compression of any arena are moves
+-- the old and new pointers of all links in a canonical compression are moves
 abbrev pub CompressionMovesPointers : {P Gen : Type 0} → Type 0 → (P → ℕ × Gen) → Gen → (Gen → Gen) → Type 0
 CompressionMovesPointers {P} {Gen} T key first following =
     (reset : Bool) (old new : ArenaView Gen T) (links new_links : LinkMap) (before after : ℕ → Option (Gen × T)) (moves : List (P × P))
@@ -45,7 +46,7 @@ CompressionMovesPointers {P} {Gen} T key first following =
     → (layout : IsCanonicalLayout first following reset old links new new_links) → AreAllMoves key old links layout.generation moves
     → ArePointerMoves key before after moves
 
--- .. and there are such pointers, also where they are not told
+-- a canonical compression has such moves, even if they are not reported
 abbrev pub CompressionHasMoves : {Gen : Type 0} → Type 0 → Gen → (Gen → Gen) → Type 0
 CompressionHasMoves {Gen} T first following =
     (reset : Bool) (old new : ArenaView Gen T) (links new_links : LinkMap) (before after : ℕ → Option (Gen × T))

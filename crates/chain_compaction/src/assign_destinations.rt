@@ -1,4 +1,5 @@
-// Links numbered: the chains by their least index, each linear one from its start, each cyclic one from its least index.
+// Numbering of chains by their least index, linear ones from their start, cyclic ones from their
+// least index.
 ghost use Rattle.std.specs.Prelude.{◌≡◌, ◌≤◌, ◌<◌, ℕ, ◌+◌, length, List, ◌∷◌, None, IsSome};
 ghost use Rattle.std.specs.Option.{option_map};
 ghost use Rattle.chain_laws.specs.Chains.{Chain, linear, cyclic, IsMember, IsChain, IsWellLinked};
@@ -14,8 +15,8 @@ use arena_ptr::{InxKey, PtrKey, SlotStack};
 use chain_links::walk_direction::going_on;
 use chain_links::{LinkNoGen, link_access};
 
-// The link that the chain of one is written from: the start of a linear one, and itself in a cyclic one. There are no
-// more looks than links in the chain.
+// Returns where the chain of `i` is numbered from: its start if linear, `i` if cyclic. Reads at
+// most as many slots as the chain has links.
 fn start_at<P: PtrKey, T: Drop, S: SlotStack<Item = ArenaSlot<P, LinkNoGen<P, T>>>>(
     compactor: &mut Compactor<'_, P, LinkNoGen<P, T>, S>,
     i: P::Inx,
@@ -54,8 +55,9 @@ fn start_at<P: PtrKey, T: Drop, S: SlotStack<Item = ArenaSlot<P, LinkNoGen<P, T>
     excluded!()
 }
 
-// The index of the link after one, with so many numbered before its chain and so many up to it: where the walk goes on the
-// next one, and at the last of a ring that of the first.
+// Returns the destination of the link after the one just numbered, where `before` links precede the
+// chain and `count` are numbered. After the last link of a cyclic chain it is the destination of
+// the first.
 fn after_it<P: PtrKey>(
     on: Option<P::Inx>,
     named: Option<P::Inx>,
@@ -76,7 +78,8 @@ fn after_it<P: PtrKey>(
     }
 }
 
-// Where the last link of a chain named the first, which stands at an index, that names the last.
+// Sets `prev` of the link at `start` to `last` if the last link names a next one, as `named`: the
+// chain is cyclic then.
 fn close_ring<P: PtrKey, T: Drop, S: SlotStack<Item = ArenaSlot<P, LinkNoGen<P, T>>>>(
     compactor: &mut Compactor<'_, P, LinkNoGen<P, T>, S>,
     start: P::Inx,
@@ -101,9 +104,9 @@ fn close_ring<P: PtrKey, T: Drop, S: SlotStack<Item = ArenaSlot<P, LinkNoGen<P, 
     }
 }
 
-// Numbers a chain from its start, where so many links were numbered before. Each link names the numbers of its neighbors
-// then, and the visitor sees it, by the pointer that it has and the one that it gets. Answers the visitor, and how many
-// are numbered then.
+// Numbers the chain from `start`, after `before` links, renumbers its interlinks, and shows each
+// link's old and new pointer to the visitor. Returns the visitor and the number of links numbered
+// so far.
 fn number_chain<
     P: PtrKey,
     T: Drop,
@@ -150,9 +153,11 @@ fn number_chain<
     (visitor, count)
 }
 
-/// Numbers all links: the chains by their least index, each linear one from its start, each cyclic one from its least
-/// index. Each names the numbers of its neighbors then. Shows each link to the visitor, by the pointer that it has and the
-/// one that it gets, by rising destination. Answers the visitor, and how many links there are.
+/// Assigns each link its destination, and returns the visitor and the number of links.
+///
+/// Chains are numbered by their least index, linear ones from their start, cyclic ones from their
+/// least index. Interlinks then name destinations. The visitor sees each link's old and new
+/// pointer, in ascending order of destination.
 pub fn number_all<
     P: PtrKey,
     T: Drop,

@@ -1,4 +1,5 @@
-// Links laid out canonically in place: each chain one run, the chains one after another from index 1 on.
+// Canonical compression in place: each chain at consecutive indexes, one chain after another from
+// index 1 on.
 ghost use Rattle.std.specs.Prelude.{◌≡◌, ◌≤◌, ◌+◌, ℕ, None, length};
 ghost use Rattle.chain_laws.specs.Chains.{IsWellLinked};
 ghost use Rattle.arena_base.specs.GatheredSlots.{with_totals};
@@ -16,7 +17,7 @@ use arena_base::{Arena, ArenaSlot, Compactor, Work, inx_at};
 use arena_ptr::{PtrKey, SlotStack};
 use chain_links::LinkNoGen;
 
-/// Takes all destinations away.
+/// Removes the destinations of all links.
 pub fn empty_all<P: PtrKey, T: Drop, S: SlotStack<Item = ArenaSlot<P, LinkNoGen<P, T>>>>(
     compactor: &mut Compactor<'_, P, LinkNoGen<P, T>, S>,
 )
@@ -35,9 +36,11 @@ pub fn empty_all<P: PtrKey, T: Drop, S: SlotStack<Item = ArenaSlot<P, LinkNoGen<
     }
 }
 
-/// Lays the links out: each gets its destination, names those of its neighbors, and moves there, with the counter as its
-/// generation. The visitor sees each, by the pointer that it had and the one that it has, and is ready for others then. The
-/// slots are exactly the links.
+/// Arranges the links canonically, and returns the visitor and the work done.
+///
+/// Each link is moved to its destination, names the destinations of its neighbors, and gets the
+/// counter as its generation. The visitor sees each link's old and new pointer, and is then ready
+/// for others. Afterwards every slot is occupied.
 pub fn lay_out<
     P: PtrKey,
     T: Drop,

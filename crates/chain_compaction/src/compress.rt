@@ -1,4 +1,4 @@
-// Links brought together at the indexes from 1 on, in the order of their indexes.
+// Compression of links to the indexes from 1 on, in the order of their indexes.
 ghost use Rattle.std.specs.Prelude.{◌≡◌, ◌≢◌, ◌≤◌, length, None, Some, OnSome, IfNone};
 ghost use Rattle.std.specs.Option.{option_map};
 ghost use Rattle.arena_ptr.specs.Invalidation.{invalidation_option};
@@ -22,7 +22,7 @@ use arena_base::{Arena, ArenaSlot, ArenaTrait, Compactor, SlotAccess, excluded, 
 use arena_ptr::{GenKey, InvalidationOption, InxKey, PtrKey, SlotStack};
 use chain_links::{LinkNoGen, link_access};
 
-/// Where the link that an interlink names stands, once the one at `from` has come to `to`.
+/// Returns the index of the link at `named` after the link at `from` is moved to `to`.
 fn index_now<I: InxKey>(named: Option<I>, from: I, to: I) -> Option<I>
     ensures { option_map I.number result ≡ option_map (moved_index (I.number from) (I.number to))
         (option_map I.number named) }
@@ -33,7 +33,7 @@ fn index_now<I: InxKey>(named: Option<I>, from: I, to: I) -> Option<I>
     }
 }
 
-// The link at i, if i is an index and a link stands there, names another as the one before it, or as the one after it.
+// Sets `prev` (if `before`) or else `next` of the link at `i`, if any, to `named`.
 fn tell<P: PtrKey, T: Drop, S: SlotStack<Item = ArenaSlot<P, LinkNoGen<P, T>>>>(
     compactor: &mut Compactor<'_, P, LinkNoGen<P, T>, S>,
     i: Option<P::Inx>,
@@ -60,8 +60,8 @@ fn tell<P: PtrKey, T: Drop, S: SlotStack<Item = ArenaSlot<P, LinkNoGen<P, T>>>>(
     }
 }
 
-// Brings the link at an index to a free one, where one stands there, gives it a generation, and tells its neighbors.
-// Answers the generation that it had.
+// Moves the link at `from`, if any, to `to`, which is free or `from` itself. Sets its generation,
+// updates its neighbors, and returns its old generation.
 fn move_link<P: PtrKey, T: Drop, S: SlotStack<Item = ArenaSlot<P, LinkNoGen<P, T>>>>(
     compactor: &mut Compactor<'_, P, LinkNoGen<P, T>, S>,
     from: P::Inx,
@@ -96,9 +96,9 @@ fn move_link<P: PtrKey, T: Drop, S: SlotStack<Item = ArenaSlot<P, LinkNoGen<P, T
     Some(was)
 }
 
-// Brings each link to the first index that is free, by rising index, gives it the generation, tells its neighbors, and
-// shows it to the closure: with the pointer that it had, its value, for writing, and the pointer that it has. Answers the
-// number of links, which stand in the first slots then.
+// Moves each link, by ascending index, to the first free index, sets its generation, and updates
+// its neighbors. Calls the closure with the old pointer, the value by mutable reference, and the
+// new pointer. Returns the number of links, which then occupy the first slots.
 fn close_gaps<
     P: PtrKey,
     T: Drop,
@@ -142,7 +142,9 @@ fn close_gaps<
     count
 }
 
-/// Sets the counter for a compression: anew with a reset, and else incremented where there are links.
+/// Sets the counter for a compression, and reports whether it overflowed.
+///
+/// With `reset` the counter restarts; otherwise it is incremented if there are links.
 pub fn begin_generation<P: PtrKey, T: Drop, S: SlotStack<Item = ArenaSlot<P, T>>>(
     arena: &mut Arena<P, T, S>,
     reset: bool,
@@ -163,8 +165,11 @@ pub fn begin_generation<P: PtrKey, T: Drop, S: SlotStack<Item = ArenaSlot<P, T>>
     arena.inc_generation()
 }
 
-/// Brings the links together, gives each the counter as its generation, tells the neighbors, and shows each value to the
-/// closure. The slots are exactly the links then.
+/// Moves the links to the front, gives each the counter as its generation, and updates its
+/// neighbors.
+///
+/// The closure is called with each link's old pointer, value and new pointer. Afterwards every slot
+/// is occupied.
 pub fn gather<
     P: PtrKey,
     T: Drop,

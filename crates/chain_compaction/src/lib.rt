@@ -1,4 +1,5 @@
-//! Passes over a plain arena of links that give links other indexes: gaps closed, and chains laid out one after another.
+//! Compaction of a plain arena of links: closing holes, and arranging each chain at consecutive
+//! indexes.
 #![tactic(auto)]
 
 mod assign_destinations;

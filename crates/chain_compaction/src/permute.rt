@@ -1,4 +1,4 @@
-// Links moved to their destinations along the cycles of the permutation, each placed once.
+// Moves of links to their destinations along the cycles of the permutation, each link placed once.
 ghost use Rattle.std.specs.Prelude.{◌≡◌, ◌≤◌, ◌+◌, ℕ, length, count_by, is_some, OnSome, IfNone};
 ghost use Rattle.std.specs.Option.{option_map, option_and_then};
 ghost use Rattle.arena_base.specs.Arena.{slot_at};
@@ -11,7 +11,7 @@ use arena_base::{ArenaSlot, Compactor, SlotAccess, inx_at};
 use arena_ptr::{InxKey, PtrKey, SlotStack};
 use chain_links::{LinkNoGen, link_access};
 
-// Takes the destination of the link at an index out, where a link stands there that has one.
+// Takes the destination of the link at `i`, if any, leaving `None`.
 fn take_at<P: PtrKey, T: Drop, S: SlotStack<Item = ArenaSlot<P, LinkNoGen<P, T>>>>(
     compactor: &mut Compactor<'_, P, LinkNoGen<P, T>, S>,
     i: P::Inx,
@@ -33,8 +33,8 @@ fn take_at<P: PtrKey, T: Drop, S: SlotStack<Item = ArenaSlot<P, LinkNoGen<P, T>>
     }
 }
 
-// Brings the link at an index to its destination, and then the one that stood there to its own, until none that has
-// one stands at the index.
+// Exchanges the link at `i` with the slot at its destination, until no link with a destination is
+// at `i`.
 fn settle<P: PtrKey, T: Drop, S: SlotStack<Item = ArenaSlot<P, LinkNoGen<P, T>>>>(
     compactor: &mut Compactor<'_, P, LinkNoGen<P, T>, S>,
     i: P::Inx,
@@ -62,7 +62,9 @@ fn settle<P: PtrKey, T: Drop, S: SlotStack<Item = ArenaSlot<P, LinkNoGen<P, T>>>
     }
 }
 
-/// Moves each link to its destination, and gives it the generation. Each is placed once.
+/// Moves each link to its destination and sets its generation.
+///
+/// Each link is placed once.
 pub fn move_all<P: PtrKey, T: Drop, S: SlotStack<Item = ArenaSlot<P, LinkNoGen<P, T>>>>(
     compactor: &mut Compactor<'_, P, LinkNoGen<P, T>, S>,
     generation: P::Gen,

@@ -1,4 +1,4 @@
-// Looks and writes at one slot, which leave no borrow of it.
+// Reads and writes of one slot that leave no borrow of it.
 ghost use Rattle.std.specs.Prelude.{◌≡◌, Some};
 ghost use Rattle.std.specs.Option.{option_map};
 ghost use Rattle.chain_laws.specs.Chains.{prev_of, next_of};
@@ -13,8 +13,7 @@ use arena_base::{ArenaSlot, Compactor, SlotAccess};
 use arena_ptr::{InxKey, PtrKey, SlotStack};
 use chain_links::{LinkNoGen, link_access};
 
-// Of the link at an index, if one stands there: its generation, the indexes of the links before and after it, and its
-// destination.
+// Returns the generation, `prev`, `next` and destination of the link at `i`, if any.
 pub(crate) fn look_at<P: PtrKey, T: Drop, S: SlotStack<Item = ArenaSlot<P, LinkNoGen<P, T>>>>(
     compactor: &mut Compactor<'_, P, LinkNoGen<P, T>, S>,
     i: P::Inx,
@@ -45,7 +44,7 @@ pub(crate) fn look_at<P: PtrKey, T: Drop, S: SlotStack<Item = ArenaSlot<P, LinkN
     }
 }
 
-// The link at an index, if one stands there, gets another destination, or none.
+// Sets or removes the destination of the link at `i`, if any.
 pub(crate) fn direct_at<P: PtrKey, T: Drop, S: SlotStack<Item = ArenaSlot<P, LinkNoGen<P, T>>>>(
     compactor: &mut Compactor<'_, P, LinkNoGen<P, T>, S>,
     i: P::Inx,
@@ -64,7 +63,7 @@ pub(crate) fn direct_at<P: PtrKey, T: Drop, S: SlotStack<Item = ArenaSlot<P, Lin
     }
 }
 
-// The link at an index, if one stands there, names others, and gets a destination.
+// Sets `prev`, `next` and the destination of the link at `i`, if any.
 pub(crate) fn tie_at<P: PtrKey, T: Drop, S: SlotStack<Item = ArenaSlot<P, LinkNoGen<P, T>>>>(
     compactor: &mut Compactor<'_, P, LinkNoGen<P, T>, S>,
     i: P::Inx,

@@ -1,17 +1,18 @@
-// What sees the links of an arena that get other pointers.
+// The trait of visitors of links whose pointers change.
 
 use arena_ptr::PtrKey;
 
-/// Sees links in turn, each by the pointer that it had and the one that it gets. What it comes to by each is told by its
-/// `sees`.
+/// A visitor that sees links in turn, each by its old and its new pointer.
+///
+/// Its `sees` states how a visit changes it.
 pub trait Visitor<P: PtrKey>: Drop {
-    // It may see a link now, and then another.
+    // The visitor may see a link now, and another afterwards.
     ghost is_ready: { Self → Type 0 };
 
-    // It has seen a link.
+    // Seeing a link takes the visitor from the first state to the second.
     ghost sees: { Self → P → P → Self → Type 0 };
 
-    /// Sees a link, by the pointer that it had and the one that it gets.
+    /// Visits a link, given its old and its new pointer.
     fn visit(&mut self, from: P, to: P)
         requires { is_ready self.old }
         ensures seen { sees self.old from to self.new }

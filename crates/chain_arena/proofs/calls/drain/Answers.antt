@@ -1,4 +1,4 @@
--- What was taken and what was left are the walk.
+-- The links taken and the links left are the walk.
 use Rattle.std.proofs.Common.{rules, refl, ◌∙◌}
 use Rattle.chain_arena.proofs.CallStepLemmas.{drained_is}
 use Rattle.chain_arena.proofs.calls.drain.Goals as goal

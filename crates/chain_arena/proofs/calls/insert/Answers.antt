@@ -1,4 +1,4 @@
--- What an insertion that may grow answers is a step.
+-- The result of an insertion that may grow is a step.
 use Rattle.arena_base.proofs.SlotCopyLemmas.{on_ok}
 use Rattle.std.proofs.Common.{refl}
 use Rattle.chain_links.specs.Kinds.{names_in}

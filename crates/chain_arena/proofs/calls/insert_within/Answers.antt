@@ -1,4 +1,4 @@
--- What an insertion within the capacity answers is a step.
+-- The result of an insertion within the capacity is a step.
 use Rattle.std.proofs.Common.{refl}
 use Rattle.chain_links.specs.Kinds.{names_in}
 use Rattle.chain_arena.proofs.PointerKindLemmas.{kind_by}

@@ -1,4 +1,4 @@
--- The calls made and their replies are a run, and there is room for the replies to those that are left.
+-- The calls so far are a run, and the replies to the rest fit within the capacity.
 use Rattle.std.proofs.Common.{◌≤◌, ◌+◌, vec_len, vec_capacity}
 use Rattle.std.specs.Vec.Iter.{into_iter_items, into_iter_len}
 use Rattle.chain_arena.proofs.PointerKindLemmas.{kind_by}

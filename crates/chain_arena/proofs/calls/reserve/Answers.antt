@@ -1,4 +1,4 @@
--- What a growth answers is a step.
+-- The result of a growth is a step.
 use Rattle.chain_arena.proofs.PointerKindLemmas.{kind_by}
 use Rattle.chain_arena.proofs.CallStepLemmas.{reserves}
 use Rattle.chain_arena.proofs.calls.reserve.Goals as goal

@@ -1,4 +1,5 @@
--- The links that are counted and those that are left are the walk, and what is left leaves what the whole walk leaves.
+-- The links counted and left are the walk, and removing those left gives what removing the walk
+-- gives.
 use Rattle.std.proofs.Common.{◌≡◌, ◌+◌, ◌≤◌, length}
 use Rattle.chain_arena.specs.Drains.{walk_left, without_each}
 use Rattle.chain_arena.proofs.calls.take_links.Given as goal

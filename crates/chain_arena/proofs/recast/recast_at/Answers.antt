@@ -1,4 +1,4 @@
--- The value that is lent is recast.
+-- `recast_at` recasts the borrowed value.
 use Rattle.std.proofs.Common.{ap}
 use Rattle.arena_base.specs.Entries.{ArenaView}
 use Rattle.chain_arena.proofs.recast.recast_at.Goals as goal

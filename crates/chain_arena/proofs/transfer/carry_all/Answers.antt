@@ -1,4 +1,4 @@
--- The beginning of the loop, one link more, and the end.
+-- The loop of `carry_all`: its beginning, one more link, and its end.
 use Rattle.std.proofs.Common.{◌≡◌, ◌+◌, ℕ, true, Option, None, Some, refl, sym, ap, ◌∙◌, subst, length, arith, of_calls}
 use Rattle.std.specs.Prelude.{is_some, IfSome}
 use Rattle.std.specs.Option.{option_map}
@@ -11,11 +11,11 @@ use Rattle.chain_arena.proofs.transfer.carry_all.Given.{Over}
 use Rattle.chain_arena.proofs.transfer.carry_all.Goals.{After-take_next-q}
 use Rattle.chain_arena.proofs.transfer.carry_all.Goals as goal
 
--- a link stands where an entry is found
+-- there is a link where an entry is found
 stands : (g : Over) (a : g.row.A.Denot) (i : ℕ) → is_some (g.A.ChainArenaTrait.interlinks a i) ≡ is_some (found i (g.A.ArenaTrait.view a).entries)
 stands g a i = g.met.A.ChainArenaTrait.stand a i ∙ ap is_some (sym (g.met.A.ArenaTrait.looked_up a i))
 
--- the same of an entry at an index
+-- an entry found at an index, if one is given, is there
 stands_entry : (g : Over) (a : g.row.A.Denot) (on : Option g.row.Q-Inx.Denot) → IfSome on (λ j. is_some (found (g.Q.Inx.InxKey.number j) (g.A.ArenaTrait.view a).entries) ≡ true)
     → IfSome on (λ j. is_some (g.A.ArenaTrait.entry a (g.Q.Inx.InxKey.number j)) ≡ true)
 stands_entry g a None there = tt
@@ -46,7 +46,7 @@ take_next-q-requires-clause-some g c none =
 pub take_next-q-requires-clause-stands : goal.take_next-q-requires-clause-stands
 take_next-q-requires-clause-stands g c = stands_entry g c.loop-k.source c.loop-k.on (stands_on _ _ _ _ _ _ _ _ _ _ _ _ _ _ _ _ _ _ (stands g c.loop-k.source) g.Q.Inx.InxKey.number c.loop-k.on c.loop-k.invariant.carrying)
 
--- the link that was taken
+-- the state after the link was taken
 carrying_it : (g : Over) (c : After-take_next-q g) → IsCarrying g.Q.PtrKey.key g.P.PtrKey.key g.Q.Gen.GenKey.following g.Q.Gen.GenKey.wraps g.F.FnMut g.P.Inx.InxKey.number
     (g.A.ArenaTrait.view c.args.source.now) (g.A.ChainArenaTrait.interlinks c.args.source.now) c.args.map c.args.target.now
     c.loop-k.k (g.A.ArenaTrait.view c.loop-k.source) (g.A.ChainArenaTrait.interlinks c.loop-k.source) (g.A.ArenaTrait.cursor c.take_next-q.new.advancer)
@@ -57,7 +57,7 @@ carrying_it g c =
 pub map-t-requires : goal.map-t-requires
 map-t-requires g c = search of_calls
 
--- .. has a place behind the last one
+-- the next index is the one after the last link
 the_place : (g : Over) (c : After-take_next-q g) → next_index c.loop-k.target ≡ c.loop-k.k + 1
 the_place g c = comes_at _ _ _ _ _ _ _ _ _ _ _ _ _ _ _ _ _ _ (stands g c.loop-k.source) _ (carrying_it g c) c.requires.freed
 

@@ -1,4 +1,4 @@
--- So many links are carried over.
+-- The first k links are carried over.
 use Rattle.std.specs.Option.{option_map}
 use denote.Param.Always.{always_mut}
 use Rattle.chain_arena.proofs.TransferLoopLemmas.{IsCarrying}

@@ -1,4 +1,4 @@
--- The next chain is numbered, or none begins here.
+-- `number_all` numbers the next chain, or passes a slot where none begins.
 use Rattle.std.proofs.Common.{length, refl, ap, arith}
 use Rattle.arena_base.specs.Arena.{slot_at}
 use Rattle.chain_compaction.proofs.SlotCountLemmas.{at_end}

@@ -1,4 +1,4 @@
--- The chains with an index up to k have their destinations, and the closure has seen their links.
+-- The chains with an index up to k have destinations, and the visitor has seen their links.
 use Rattle.std.proofs.Common.{◌≡◌}
 use Rattle.chain_compaction.specs.WorkCounts.{CountsOn}
 use Rattle.chain_compaction.proofs.ChainOrderLemmas.{IsOrdering}

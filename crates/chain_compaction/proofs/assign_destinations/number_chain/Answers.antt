@@ -1,4 +1,4 @@
--- The walk has room for one link more, and goes on.
+-- `number_chain` has a free number for one more link, and goes on.
 use Rattle.std.proofs.Common.{◌≡◌, ◌+◌, ◌<◌, ℕ, List, length, Option, None, Some, refl, sym, ap, ◌∙◌, subst, arith}
 use Rattle.std.specs.Prelude.{true, false, IsSome}
 use Rattle.std.specs.Option.{option_map}
@@ -13,7 +13,7 @@ use Rattle.chain_compaction.proofs.assign_destinations.number_chain.Goals.{In-So
 use Rattle.chain_compaction.proofs.assign_destinations.number_chain.Given.{Over}
 use Rattle.chain_compaction.proofs.assign_destinations.number_chain.Goals as goal
 
--- the walk at its next link
+-- the walk is at its next link
 walk_at : (g : Over) (c : In-Some g) (done : List ℕ) (l : Chain) → CanNumber g.P.Inx.InxKey.packed_number c.args.compactor.now.held.slots (g.P.Inx.InxKey.number c.args.start) c.args.before done l
     → IsWalking g.P.Inx.InxKey.packed_number g.V.Visitor.sees g.P.PtrKey.key c.args.generation c.args.visitor c.loop-on.visitor c.args.compactor.now.held c.loop-on.compactor.held
     c.args.compactor.now.arena.now c.loop-on.compactor.arena.now c.loop-on.count (g.P.Inx.InxKey.number c.args.start) (Some (g.P.Inx.InxKey.number c.in-Some.i)) (option_map g.P.Inx.InxKey.number c.loop-on.named) (option_map g.P.Inx.InxKey.number c.loop-on.prev) done l
@@ -22,7 +22,7 @@ walk_at g c done l can =
     c.args.compactor.now.arena.now c.loop-on.compactor.arena.now c.loop-on.count (g.P.Inx.InxKey.number c.args.start) (option_map g.P.Inx.InxKey.number o) (option_map g.P.Inx.InxKey.number c.loop-on.named) (option_map g.P.Inx.InxKey.number c.loop-on.prev) done l)
     c.in-Some.is (c.loop-on.invariant.walks done l can)
 
--- there is room for it
+-- fewer links are numbered than there are slots
 room_at : (g : Over) (c : In-Some g) → c.loop-on.count < length c.args.compactor.now.held.slots
 room_at g c =
     let can = c.requires.can in
@@ -53,7 +53,7 @@ some_there : {X : Type 0} (o : Option X) → IsSome o → (x : X) × (o ≡ Some
 some_there None some = let both : false ≡ true = some in absurd (cc)
 some_there (Some x) some = (x, refl)
 
--- where the walk goes on there is room for the next
+-- if the walk goes on, the next link has a free number too
 pub after_it-after-requires-clause-next : goal.after_it-after-requires-clause-next
 after_it-after-requires-clause-next g c some =
     let next = (goal.at.after_it-after-requires-clause-next g c).In-Some in
@@ -72,7 +72,7 @@ excluded-assert_unchecked-requires g c = absurd (
     (option_map g.P.Inx.InxKey.number c.loop-on.named) (option_map g.P.Inx.InxKey.number c.loop-on.prev) (g.P.Inx.InxKey.number c.in-Some.i) (walk_at g next can.0 can.1 can.2)
     (sym c.in-None.is ∙ c.look_at.ensures.generation))
 
--- the slots that the write left
+-- the slots after the write
 tied_now : (g : Over) (c : After-tie_at g) → IsRelinkedAt g.P.Inx.InxKey.packed_number (g.P.Inx.InxKey.number c.in-Some.i) (option_map g.P.Inx.InxKey.number c.loop-on.prev)
     (number_after (option_map g.P.Inx.InxKey.number c.going_on-on.result) (option_map g.P.Inx.InxKey.number c.look_at.result.2) c.args.before (c.loop-on.count + 1)) (Some (g.P.Inx.InxKey.number c.inx_at-destination.result))
     c.loop-on.compactor.held c.tie_at.new.compactor.held

@@ -1,4 +1,5 @@
--- The links of the chain that were passed have their destinations and name those of their neighbors, and the closure has seen them.
+-- The links passed have destinations, their interlinks name destinations, and the visitor has seen
+-- them.
 use Rattle.std.proofs.Common.{◌≡◌, ◌-◌, ℕ, List, length}
 use Rattle.std.specs.Option.{option_map}
 use Rattle.chain_laws.specs.Chains.{Chain}

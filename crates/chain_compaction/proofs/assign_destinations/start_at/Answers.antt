@@ -1,4 +1,4 @@
--- One step back more, the start of a linear chain, and once round a cyclic one.
+-- `start_at` walks back to the start of a linear chain, or once around a cyclic one.
 use Rattle.std.proofs.Common.{◌≡◌, Bool, true, false, Some, refl, sym, ap, ◌∙◌, arith}
 use Rattle.std.specs.Option.{option_map}
 use Rattle.chain_laws.specs.Chains.{prev_of}

@@ -1,4 +1,4 @@
--- So many steps back, and as many looks.
+-- The number of steps back, which bounds the reads.
 use Rattle.std.proofs.Common.{◌≡◌}
 use Rattle.chain_laws.specs.ChainStart.{IsBack}
 use Rattle.chain_compaction.specs.WorkCounts.{CountsOn}

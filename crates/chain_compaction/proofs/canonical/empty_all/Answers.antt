@@ -1,4 +1,4 @@
--- One more has no destination, and at the end none has.
+-- `empty_all` removes one more destination, and all in the end.
 use Rattle.std.proofs.Common.{◌≡◌, length, refl, ap, ◌∙◌, arith}
 use Rattle.arena_base.specs.GatheredSlots.{with_totals}
 use Rattle.chain_compaction.specs.Destinations.{held_view}

@@ -1,5 +1,4 @@
--- Each link gets its destination, names those of its neighbors, and moves there; what is left of the slots is exactly the
--- links, and the work is what the arena has counted.
+-- `lay_out` moves each link to its destination, leaves no free slot, and returns the arena's work.
 use Rattle.std.proofs.Common.{rules, ◌≡◌, ◌+◌, length, sym, ap, ◌∙◌, arith}
 use Rattle.arena_base.specs.GatheredSlots.{with_totals}
 use Rattle.chain_compaction.specs.Destinations.{held_view}

@@ -1,4 +1,4 @@
--- The counter begins anew, stays where there is no link, or goes on.
+-- The counter restarts, stays if there is no link, or is incremented.
 use Rattle.std.proofs.Common.{length}
 use Rattle.arena_base.specs.Entries.{entries}
 use Rattle.chain_compaction.proofs.CounterLemmas.{anew, anew_tells, stays, stays_tells, goes_on, goes_on_tells}

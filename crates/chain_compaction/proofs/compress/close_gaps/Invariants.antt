@@ -1,4 +1,4 @@
--- The slots up to k are closed: the values stand at the front, and their links are renamed so far.
+-- The holes up to slot k are closed, and the links are renamed so far.
 use Rattle.std.proofs.Common.{◌≡◌, ◌+◌, ◌*◌}
 use denote.Param.Always.{always_mut}
 use Rattle.arena_base.proofs.HoleClosingLemmas.{IsClosing}

@@ -1,4 +1,4 @@
--- What is left of the slots is exactly the links.
+-- `gather` leaves an arena in which every slot is occupied.
 use Rattle.std.proofs.Common.{rules, ap, sym, ◌∙◌, subst}
 use Rattle.chain_laws.specs.Chains.{IsWellLinked}
 use Rattle.chain_compaction.specs.DetachedLinks.{link_map_in}

@@ -1,4 +1,4 @@
--- The link that moved is named where it stands, and any other where it stood.
+-- `index_now` maps the index of the moved link, and no other.
 use Rattle.chain_compaction.proofs.MovedNeighborLemmas.{differ, found_same, named_moved, named_stays, none_moved}
 use Rattle.chain_compaction.proofs.compress.index_now.Goals as goal
 

@@ -1,4 +1,4 @@
--- The link is placed, and its neighbors are told.
+-- `move_link` places the link and updates its neighbors.
 use Rattle.std.proofs.Common.{sym, ◌∙◌}
 use Rattle.std.specs.Option.{option_map}
 use Rattle.chain_compaction.proofs.DetachedLinkLemmas.{entry-seen, move-values, move-shown, work-moved}

@@ -1,4 +1,4 @@
--- The link that was lent is written, and where none stands nothing is.
+-- `tell` writes the link, if there is one.
 use Rattle.std.proofs.Common.{Some, refl}
 use Rattle.chain_compaction.specs.DetachedLinks.{link_map_in}
 use Rattle.chain_compaction.proofs.DetachedLinkLemmas.{work-none, work-touched}

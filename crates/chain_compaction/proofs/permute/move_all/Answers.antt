@@ -1,4 +1,4 @@
--- One more slot is passed, and at the end all are.
+-- `move_all` settles one more slot, and all in the end.
 use Rattle.std.proofs.Common.{◌≡◌, length, refl, subst, arith}
 use Rattle.chain_compaction.specs.Permutations.{ArePassed, waiting, destination_of, Settles, IsWorkOn}
 use Rattle.chain_compaction.proofs.SlotCountLemmas.{waiting-all}

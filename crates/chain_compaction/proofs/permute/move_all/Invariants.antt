@@ -1,4 +1,4 @@
--- The slots up to k are passed.
+-- The slots up to k are settled.
 use Rattle.std.proofs.Common.{◌≡◌}
 use Rattle.chain_compaction.specs.WorkCounts.{CountsOn}
 use Rattle.chain_compaction.specs.Permutations.{ArePassed, waiting, destination_of, Settles, IsWorkOn}

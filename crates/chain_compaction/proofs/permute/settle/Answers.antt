@@ -1,4 +1,4 @@
--- The link at the slot has come to its destination, and one less waits.
+-- `settle` moves the link to its destination, and one link less waits.
 use Rattle.std.proofs.Common.{◌≡◌, refl, sym, ap, ◌∙◌, subst, arith}
 use Rattle.std.specs.Prelude.{IfNone}
 use Rattle.std.specs.Option.{option_map, option_and_then}

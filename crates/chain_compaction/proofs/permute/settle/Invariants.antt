@@ -1,4 +1,4 @@
--- What moved so far, and the work of it.
+-- The moves so far, and their work.
 use Rattle.std.proofs.Common.{◌≡◌}
 use Rattle.chain_compaction.specs.WorkCounts.{CountsOn}
 use Rattle.chain_compaction.specs.Permutations.{IsSettling, waiting, destination_of, Settles, IsWorkOn}

@@ -1,4 +1,4 @@
--- The link that was lent lost its destination, and where none stands nothing has changed.
+-- `take_at` removes the destination of the link, if there is one.
 use Rattle.std.specs.Option.{option_map}
 use Rattle.arena_base.specs.Arena.{slot_at}
 use Rattle.chain_compaction.proofs.LinkLoanLemmas.{lent, lent_none}

@@ -1,4 +1,4 @@
--- The link that was lent has another destination, and where none stands nothing has changed.
+-- `direct_at` writes the destination of the link, if there is one.
 use Rattle.std.specs.Option.{option_map}
 use Rattle.chain_compaction.proofs.DestinationWriteLemmas.{directs, directs_none}
 use Rattle.chain_compaction.proofs.LinkLoanLemmas.{lent, lent_none}

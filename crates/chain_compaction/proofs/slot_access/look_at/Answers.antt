@@ -1,4 +1,4 @@
--- One look: what is answered is read off the entry.
+-- `look_at` touches one slot, and returns what the entry contains.
 use Rattle.std.proofs.Common.{◌∙◌}
 use Rattle.arena_base.specs.Arena.{slot_at}
 use Rattle.chain_compaction.proofs.SlotReadLemmas.{has_looked, entry_shown, nothing_shown}

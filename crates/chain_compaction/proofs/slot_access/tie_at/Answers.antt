@@ -1,4 +1,4 @@
--- The link that was lent names others and has a destination, and where none stands nothing has changed.
+-- `tie_at` writes the interlinks and the destination, if there is a link.
 use Rattle.std.proofs.Common.{Some}
 use Rattle.std.specs.Option.{option_map}
 use Rattle.chain_compaction.proofs.DestinationWriteLemmas.{ties, ties_none}

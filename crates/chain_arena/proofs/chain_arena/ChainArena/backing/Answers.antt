@@ -1,4 +1,4 @@
--- The freed list is that of the arena below.
+-- The arena of links has the same freed list.
 use Rattle.chain_arena.proofs.chain_arena.ChainArena.backing.Goals as goal
 
 pub returns-clause-freed : goal.returns-clause-freed

@@ -1,4 +1,4 @@
--- The links that are made look like those of the source.
+-- The cloned links have the same view as the source's links.
 use Rattle.std.proofs.Common.{length, refl, ap, sym, ◌∙◌, subst}
 use Rattle.arena_base.specs.Arena.{Arena, new_arena, IsWithinReach}
 use Rattle.arena_base.proofs.SlotCopyLemmas.{on_ok_is}

@@ -1,4 +1,4 @@
--- The links that are made of those of the source name the same neighbors.
+-- The links made from the source's links name the same neighbors.
 use Rattle.std.proofs.Common.{◌≤◌, ap, subst, sym}
 use Rattle.chain_laws.specs.Chains.{IsWellLinked}
 use Rattle.arena_base.specs.Arena.{IsWithinReach}

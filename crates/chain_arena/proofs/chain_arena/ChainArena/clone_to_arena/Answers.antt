@@ -1,4 +1,4 @@
--- What the map of the closure has made, the closure has answered.
+-- What the map of the closure made, the closure returned.
 use Rattle.std.proofs.lemmas.Result.{on_ok_weaker}
 use Rattle.arena_base.proofs.SlotCopyLemmas.{on_err_by, surely}
 use Rattle.chain_links.specs.Links.{link_view}

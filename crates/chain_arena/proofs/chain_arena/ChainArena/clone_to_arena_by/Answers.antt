@@ -1,4 +1,4 @@
--- The arena of links is copied, and its links are as contracts see them.
+-- The arena of links is copied, as contracts see it.
 use Rattle.std.proofs.Common.{◌≤◌, subst}
 use Rattle.std.proofs.lemmas.Result.{on_ok_weaker}
 use Rattle.arena_base.proofs.SlotCopyLemmas.{either_as, on_err_either}

@@ -1,4 +1,4 @@
--- The links are laid out, each with the counter, which was set before.
+-- The links are arranged, each with the counter, which was set before.
 use Rattle.std.proofs.Common.{◌+◌, length, refl, ap, sym, ◌∙◌}
 use Rattle.arena_ptr.specs.Invalidation.{invalidation_option}
 use Rattle.arena_base.specs.Entries.{entries}

@@ -1,4 +1,4 @@
--- There is room for all pairs, so each is listed.
+-- The capacity suffices for all pairs, so each is listed.
 use Rattle.std.proofs.Common.{arith}
 use Rattle.chain_laws.proofs.ChainLemmas.NeighborPairs.{agrees_from_pairs}
 use Rattle.chain_compaction.proofs.VisitorLemmas.{listed_all}

@@ -1,4 +1,4 @@
--- The link goes, and the walk goes on.
+-- `drain_at` removes the link, and the walk goes on.
 use Rattle.std.proofs.Common.{ap, sym, ◌∙◌}
 use Rattle.chain_arena.proofs.ChainDrainLemmas.{drained_step, drained_none}
 use Rattle.chain_arena.proofs.chain_arena.ChainArena.drain_at.Goals as goal

@@ -1,4 +1,4 @@
--- The first link that is left goes.
+-- `drain_first` removes the first remaining link.
 use Rattle.std.proofs.Common.{◌≡◌, ℕ, ap, sym, ◌∙◌, subst, arith}
 use Rattle.std.specs.Option.{option_map}
 use Rattle.arena_ptr.specs.Invalidation.{value_within}

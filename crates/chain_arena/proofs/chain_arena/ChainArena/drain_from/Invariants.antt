@@ -1,4 +1,4 @@
--- What is left to remove leaves the arena that the whole walk leaves.
+-- Removing the remaining walk gives the arena that removing the whole walk gives.
 use Rattle.std.proofs.Common.{◌≡◌, length}
 use Rattle.chain_arena.specs.Drains.{walk_left, without_each}
 use Rattle.chain_arena.proofs.chain_arena.ChainArena.drain_from.Given as goal

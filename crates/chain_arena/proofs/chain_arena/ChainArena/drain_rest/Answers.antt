@@ -1,4 +1,4 @@
--- Each step leaves what all removals leave, until no link is left.
+-- Each step keeps the arena that removing the remaining links gives.
 use Rattle.std.proofs.Common.{◌≡◌, rules, refl, ap, map, ◌∙◌, subst}
 use Rattle.std.proofs.lemmas.List.{length-map}
 use Rattle.arena_base.specs.Entries.{entries, index_of}

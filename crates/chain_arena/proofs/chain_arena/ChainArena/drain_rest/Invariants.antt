@@ -1,4 +1,4 @@
--- What is left to remove leaves the arena that all removals leave.
+-- Removing the remaining links gives the arena that removing all links gives.
 use Rattle.std.proofs.Common.{◌≡◌, length, map}
 use Rattle.arena_base.specs.Entries.{index_of}
 use Rattle.chain_arena.specs.Drains.{entries_left, without_each}

@@ -1,4 +1,4 @@
--- No link stands from a number on that is no index.
+-- From a number that is no index, no link is left.
 use Rattle.std.proofs.Common.{ap, sym}
 use Rattle.arena_base.specs.Entries.{first_key}
 use Rattle.chain_arena.proofs.LinkDrainLemmas.{none_left}

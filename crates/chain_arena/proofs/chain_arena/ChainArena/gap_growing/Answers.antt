@@ -1,4 +1,4 @@
--- The gap that a kind gives is its place, after a growth where there was no room.
+-- The insertion position of a kind, after a growth if the arena was full.
 use Rattle.std.proofs.Common.{refl}
 use Rattle.chain_arena.proofs.NewLinkLemmas.{no_place, places_growing}
 use Rattle.chain_arena.proofs.chain_arena.ChainArena.gap_growing.Goals as goal

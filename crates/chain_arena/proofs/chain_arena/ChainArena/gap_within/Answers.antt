@@ -1,4 +1,4 @@
--- The gap that a kind gives is its place, where there is room.
+-- The insertion position of a kind, within the capacity.
 use Rattle.chain_arena.proofs.NewLinkLemmas.{no_place, places_full, places_in_room}
 use Rattle.chain_arena.proofs.chain_arena.ChainArena.gap_within.Goals as goal
 

@@ -1,4 +1,4 @@
--- A link comes into the gap that was answered.
+-- A link is inserted at the position that was returned.
 use Rattle.chain_arena.proofs.chain_arena.ChainArena.insert_at.Goals as goal
 
 pub insert_in_gap-requires-clause-gap : goal.insert_in_gap-requires-clause-gap

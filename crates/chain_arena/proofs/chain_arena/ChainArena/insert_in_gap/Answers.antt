@@ -1,4 +1,4 @@
--- The link comes into the gap, and the interlinks still agree.
+-- The link is inserted at the position, and the links stay well linked.
 use Rattle.std.proofs.Common.{◌≡◌, ◌<◌, refl, sym, ap, subst, arith}
 use Rattle.chain_laws.specs.Chains.{IsWellLinked}
 use Rattle.chain_laws.specs.Insertions.{IsInsertPosition}
@@ -15,12 +15,12 @@ use Rattle.chain_arena.proofs.chain_arena.ChainArena.insert_in_gap.Given.{Over}
 use Rattle.chain_arena.proofs.chain_arena.ChainArena.insert_in_gap.Goals.{After-tie}
 use Rattle.chain_arena.proofs.chain_arena.ChainArena.insert_in_gap.Goals as goal
 
--- the gap, in the links that the arena holds
+-- the insertion position, in the links of the arena
 gap : (g : Over) (c : After-tie g) → let s = links_view g.P.Inx.InxKey.packed_number c.self.inside.arena in
     IsInsertPosition (link_map s) (next_index s) (before_in g.P.Inx.InxKey.number c.args.gap (next_index s)) (after_in g.P.Inx.InxKey.number c.args.gap (next_index s))
 gap g c = rw (← c.self.view_is) at c.requires.gap
 
--- what stands then
+-- the arena after the insertion
 inserted : (g : Over) (c : After-tie g) → let s = links_view g.P.Inx.InxKey.packed_number c.self.inside.arena in let d = links_view g.P.Inx.InxKey.packed_number c.tie.new.arena in
     d ≡ insert_between s c.args.t (before_in g.P.Inx.InxKey.number c.args.gap (next_index s)) (after_in g.P.Inx.InxKey.number c.args.gap (next_index s))
 inserted g c =

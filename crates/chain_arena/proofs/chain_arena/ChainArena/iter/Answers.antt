@@ -1,4 +1,4 @@
--- The values of all links.
+-- The iterator yields the values of all links.
 use Rattle.std.proofs.Common.{ap, ◌∙◌}
 use Rattle.chain_links.specs.Links.{held_entries}
 use Rattle.chain_compaction.proofs.ValueViewLemmas.{held_entries-all}

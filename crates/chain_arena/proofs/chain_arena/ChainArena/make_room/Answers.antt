@@ -1,4 +1,4 @@
--- The growth is one to room for one link more.
+-- The arena grows to a capacity for one more link.
 use Rattle.chain_arena.proofs.NewLinkLemmas.{grows_by_one}
 use Rattle.chain_arena.proofs.chain_arena.ChainArena.make_room.Goals as goal
 

@@ -1,4 +1,4 @@
--- The link goes, and its neighbours are linked.
+-- `unlink` removes the link and links its neighbors.
 use Rattle.std.proofs.Common.{ap}
 use Rattle.chain_links.specs.Links.{links_view}
 use Rattle.chain_arena.proofs.LinkRemovalLemmas.{agreed_after, removal_of}

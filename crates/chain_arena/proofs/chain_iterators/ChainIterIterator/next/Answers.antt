@@ -1,4 +1,4 @@
--- The walker passes the link that it is at, and comes to one that stands, or has come round.
+-- The iterator passes the current link, and goes on to an existing link or ends.
 use Rattle.std.proofs.Common.{of_calls, ◌≡◌, ℕ, ◌∷◌, Some, ap, sym, ◌∙◌}
 use Rattle.std.specs.Prelude.{◌-◌}
 use Rattle.std.specs.Option.{option_map}

@@ -1,4 +1,4 @@
--- Nothing is left.
+-- `clear` leaves no link.
 use Rattle.std.proofs.Common.{ap, sym, ◌∙◌}
 use Rattle.arena_ptr.specs.Invalidation.{invalidation_option}
 use Rattle.arena_base.specs.Arena.{overflows_after_clear}

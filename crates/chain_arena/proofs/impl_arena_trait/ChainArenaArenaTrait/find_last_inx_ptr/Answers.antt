@@ -1,4 +1,4 @@
--- The same pointers are valid.
+-- The same pointers are valid as in the arena of links.
 use Rattle.std.proofs.Common.{ap, sym, ◌∙◌}
 use Rattle.arena_base.specs.Entries.{entries, last_key}
 use Rattle.chain_links.specs.Links.{held_in}

@@ -1,4 +1,4 @@
--- The value of the link that was lent is written.
+-- A write to the borrowed link writes its value.
 use Rattle.std.proofs.Common.{refl, ap, sym, ◌∙◌}
 use Rattle.std.specs.Option.{option_map}
 use Rattle.chain_links.specs.Links.{held_in, links_view}

@@ -1,4 +1,4 @@
--- The value at the index of a valid pointer is lent.
+-- `get_mut` lends the value at the index of a valid pointer.
 use Rattle.std.proofs.Common.{refl}
 use Rattle.arena_base.specs.Arena.{entry_at}
 use Rattle.chain_links.specs.ChainArena.{values_of}

@@ -1,4 +1,4 @@
--- The interlinks agree, so there is one set of chains.
+-- The links are well linked, so there is one set of chains.
 use Rattle.std.proofs.Common.{◌≤◌, sym, ◌∙◌, subst, arith}
 use Rattle.arena_base.specs.Arena.{HasCapacityFor}
 use Rattle.chain_links.specs.Links.{links_view}

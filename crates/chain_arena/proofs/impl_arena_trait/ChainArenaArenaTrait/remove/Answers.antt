@@ -1,4 +1,4 @@
--- The link goes, and its neighbours are linked.
+-- `remove` removes the link and links its neighbors.
 use Rattle.std.proofs.Common.{ap, ◌∙◌}
 use Rattle.std.specs.Prelude.{is_some}
 use Rattle.arena_ptr.specs.Invalidation.{value_within}

@@ -1,4 +1,4 @@
--- The link goes, and its neighbours are linked.
+-- `remove_inx` removes the link and links its neighbors.
 use Rattle.std.proofs.Common.{◌∙◌}
 use Rattle.arena_ptr.specs.Invalidation.{value_within}
 use Rattle.chain_arena.proofs.LinkRemovalLemmas.{none_taken, removal_there, same_overflow, seen_there, value_told}

@@ -1,4 +1,4 @@
--- The advancer stands before the pointer's link.
+-- The advancer begins before the pointer's link.
 use Rattle.std.proofs.Common.{ap, sym, ◌∙◌, refl}
 use Rattle.std.specs.Prelude.{Some}
 use Rattle.std.specs.Option.{option_map}

@@ -1,4 +1,4 @@
--- Two writes cut the links apart, and the laws of cuts say the rest.
+-- Two writes cut the pair, and the laws of cuts state the rest.
 use Rattle.std.proofs.Common.{◌≡◌, ℕ, Some, refl, ap, sym, ◌∙◌, subst}
 use Rattle.std.specs.Prelude.{is_some}
 use Rattle.std.proofs.lemmas.Bool.{false≢true}
@@ -22,14 +22,14 @@ links g c = links_view g.P.Inx.InxKey.packed_number c.self.inside.arena
 abbrev cut_links : (g : Over) → After-link_twice g → Arena g.row.P-Gen.Denot (LinkView g.row.T.Denot)
 cut_links g c = links_view g.P.Inx.InxKey.packed_number c.link_twice.new.arena
 
--- the link beside
+-- the neighbor
 told : (g : Over) (c : After-link_twice g) → prev_of (link_map (links g c)) (g.P.PtrKey.key c.args.p).0 ≡ Some (g.P.Inx.InxKey.number c.in-Some.before)
 told g c = sym (c.in-Some.ensures.named (c.in-Some.ensures.some refl))
 
 pair : (g : Over) (c : After-link_twice g) → AreNeighbors (link_map (links g c)) (g.P.Inx.InxKey.number c.in-Some.before) (g.P.PtrKey.key c.args.p).0
 pair g c = (c.self.invariant.both (g.P.Inx.InxKey.number c.in-Some.before) (g.P.PtrKey.key c.args.p).0).1 (told g c)
 
--- what is written is the cut
+-- the links written are the cut
 is_cut : (g : Over) (c : After-link_twice g) → cut_links g c ≡ relinked (links g c) (cut (link_map (links g c)) (g.P.Inx.InxKey.number c.in-Some.before) (g.P.PtrKey.key c.args.p).0)
 is_cut g c = c.link_twice.ensures ∙ ap (λ (i : ℕ). relinked (links g c) (cut (link_map (links g c)) (g.P.Inx.InxKey.number c.in-Some.before) i)) c.inx.ensures
 

@@ -1,4 +1,4 @@
--- The counter overflows as the number of links tells, which is that of the values.
+-- Whether the counter overflows depends on the number of links, as many as values.
 use Rattle.std.proofs.Common.{sym, ap, ◌∙◌}
 use Rattle.arena_ptr.specs.Invalidation.{invalidation_option}
 use Rattle.arena_base.specs.Compressions.{overflows_after_compression}

@@ -1,4 +1,4 @@
--- The links are joined if they may be, and the laws of joins say the rest.
+-- The links are joined if possible, and the laws of joins state the rest.
 use Rattle.std.proofs.Common.{◌≡◌, ◌↔◌, ℕ, Option, None, Some, refl, ap, sym, subst}
 use Rattle.std.specs.Prelude.{IsSome, OnSome, IfNone}
 use Rattle.chain_laws.specs.Chains.{IsWellLinked}
@@ -16,7 +16,7 @@ module _ {X Gen T : Type 0} (a b : Links Gen T) (p q : ℕ × Gen) where
   agrees_after None may is none agrees = subst (λ (x : Links Gen T). IsWellLinked (link_map x)) (sym none) agrees
   agrees_after (Some x) may is none agrees = joined-agrees a b p q (may.0 refl) is agrees
 
-  -- where they may be joined, the join tells more
+  -- if they may be joined, the consequences of the join hold
   told : {Y : Type 0} (o : Option X) → IsSome o ↔ CanConnect (entry_at (values_of a)) (link_map a) p q → OnSome o (b ≡ relinked a (joined (link_map a) p.0 q.0))
       → (CanConnect (entry_at (values_of a)) (link_map a) p q → b ≡ relinked a (joined (link_map a) p.0 q.0) → Y) → OnSome o Y
   told None may is tells = tt

@@ -1,4 +1,4 @@
--- Two links are made anew, and the laws of exchanges say the rest.
+-- Two pairs are linked, and the laws of exchanges state the rest.
 use Rattle.std.proofs.Common.{◌≡◌, ℕ, Option, Some, refl, ap, ap₂, sym, ◌∙◌, subst}
 use Rattle.std.specs.Prelude.{is_some}
 use Rattle.std.proofs.lemmas.Bool.{false≢true}
@@ -22,7 +22,7 @@ links g c = links_view g.P.Inx.InxKey.packed_number c.self.inside.arena
 abbrev exchanged_links : (g : Over) → After-link_twice g → Arena g.row.P-Gen.Denot (LinkView g.row.T.Denot)
 exchanged_links g c = links_view g.P.Inx.InxKey.packed_number c.link_twice.new.arena
 
--- the links after the two
+-- the next links of the two
 after_p : (g : Over) (c : After-link_twice g) → Some (g.P.Inx.InxKey.number c.in-Some.after_p) ≡ next_of (link_map (links g c)) (g.P.PtrKey.key c.args.p).0
 after_p g c = c.in-Some.ensures.named (c.in-Some.ensures.some refl)
 
@@ -35,7 +35,7 @@ valid_p g c = next_valid (link_map (links g c)) _ _ (sym (after_p g c))
 valid_q : (g : Over) (c : After-link_twice g) → HasLink (link_map (links g c)) (g.P.PtrKey.key c.args.q).0
 valid_q g c = next_valid (link_map (links g c)) _ _ (sym (after_q g c))
 
--- what is written is the exchange
+-- the links written are the exchange
 is_exchanged : (g : Over) (c : After-link_twice g) → exchanged_links g c ≡ relinked (links g c) (exchanged (link_map (links g c)) (g.P.PtrKey.key c.args.p).0 (g.P.PtrKey.key c.args.q).0)
 is_exchanged g c =
     let s = links g c in

@@ -1,4 +1,4 @@
--- The link, with the pointers of now to the links that it names.
+-- The link, with the current pointers to its neighbors.
 use Rattle.std.proofs.Common.{Option, ℕ, refl, ap, sym, ◌∙◌, subst}
 use Rattle.std.specs.Prelude.{IfSome}
 use Rattle.std.specs.Option.{option_and_then}

@@ -1,4 +1,4 @@
--- An insertion of a kind whose links are as it asks answers as its growth does.
+-- An insertion of a kind that may be inserted returns what its growth returns.
 use Rattle.chain_arena.proofs.GrowthResultLemmas.{growth-if_ok, growth-on_ok, growth-on_err, growth-is_ok, growth-is_err, growth-beyond}
 use Rattle.chain_arena.proofs.impl_chain_arena_trait.ChainArenaChainArenaTrait.insert.Goals as goal
 

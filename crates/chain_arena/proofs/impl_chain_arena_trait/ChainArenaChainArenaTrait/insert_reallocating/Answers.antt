@@ -1,4 +1,4 @@
--- A link of the kind comes into its gap, after a growth where there was no room.
+-- A link of the kind is inserted at its position, after a growth if full.
 use Rattle.chain_arena.proofs.NewLinkLemmas.{TellsGrowing, tells_growing, growing_fits, growing_room}
 use Rattle.chain_arena.proofs.impl_chain_arena_trait.ChainArenaChainArenaTrait.insert_reallocating.Given.{Over}
 use Rattle.chain_arena.proofs.impl_chain_arena_trait.ChainArenaChainArenaTrait.insert_reallocating.Goals.{After-insert_at}

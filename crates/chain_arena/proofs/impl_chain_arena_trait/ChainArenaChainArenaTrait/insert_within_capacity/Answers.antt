@@ -1,4 +1,4 @@
--- A link of the kind comes into its gap.
+-- A link of the kind is inserted at its position.
 use Rattle.chain_arena.proofs.NewLinkLemmas.{TellsWithin, tells_within, within_fits, within_room}
 use Rattle.chain_arena.proofs.impl_chain_arena_trait.ChainArenaChainArenaTrait.insert_within_capacity.Given.{Over}
 use Rattle.chain_arena.proofs.impl_chain_arena_trait.ChainArenaChainArenaTrait.insert_within_capacity.Goals.{After-insert_at}

@@ -1,4 +1,4 @@
--- The link goes, and its neighbours are linked.
+-- `remove_inx_link_no_gen` removes the link and links its neighbors.
 use Rattle.arena_ptr.specs.Invalidation.{value_within}
 use Rattle.chain_arena.proofs.LinkRemovalLemmas.{link_told, none_taken, removal_there, seen_there}
 use Rattle.chain_arena.proofs.impl_chain_arena_trait.ChainArenaChainArenaTrait.remove_inx_link_no_gen.Goals as goal

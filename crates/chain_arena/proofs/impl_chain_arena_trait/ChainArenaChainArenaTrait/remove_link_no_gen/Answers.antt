@@ -1,4 +1,4 @@
--- The link goes, and its neighbours are linked.
+-- `remove_link_no_gen` removes the link and links its neighbors.
 use Rattle.std.proofs.Common.{refl, sym, ap, ◌∙◌}
 use Rattle.std.proofs.lemmas.Bool.{false≢true}
 use Rattle.std.specs.Option.{option_map}

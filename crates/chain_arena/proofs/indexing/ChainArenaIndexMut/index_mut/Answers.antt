@@ -1,4 +1,4 @@
--- The arena ends as `get_mut` says of a value that is there.
+-- The arena ends as `get_mut` states for a valid pointer.
 use Rattle.std.proofs.Common.{refl}
 use Rattle.chain_arena.proofs.indexing.ChainArenaIndexMut.index_mut.Goals as goal
 

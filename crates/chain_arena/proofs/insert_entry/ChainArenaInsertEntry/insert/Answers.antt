@@ -1,4 +1,4 @@
--- The link comes into the gap that was kept for it.
+-- The link is inserted at the position that was kept for it.
 use Rattle.std.proofs.Common.{refl, ap, ◌∙◌, sym, subst₂}
 use Rattle.chain_laws.specs.Insertions.{IsInsertPosition}
 use Rattle.chain_laws.proofs.InsertionLemmas.Positions.{gap_had}

@@ -1,4 +1,4 @@
--- The values up to where the advancer looks are recast.
+-- The values up to the position of the advancer are recast.
 use Rattle.std.proofs.Common.{length}
 use Rattle.arena_base.specs.Advancers.{ahead}
 use Rattle.chain_links.specs.ChainArena.{value_view}
