@@ -1,4 +1,4 @@
--- Lemmas on kinds by pointers and by indexes.
+-- Kinds by pointers or by indexes.
 use Rattle.std.proofs.Common.{◌≡◌, Option, None, Some, ap, ◌∙◌}
 use Rattle.std.specs.Prelude.{IsSomeAnd}
 use Rattle.std.specs.Option.{MatchOption, option_map, option_or}
@@ -9,7 +9,7 @@ mapped f None r is = is
 mapped f (Some x) None is = absurd is
 mapped f (Some x) (Some k) is = ap Some is
 
--- a kind by pointers or else by indexes
+-- A kind by pointers, or else by indexes.
 pub by_either-mapped : {P I : Type 0} (by_pointers : P → Kind) (by_indexes : I → Kind) (k l : Option Kind) {pointers pointers_got : Option P} {indexes indexes_got : Option I}
     → pointers_got ≡ pointers → indexes_got ≡ indexes
     → MatchOption pointers_got (k ≡ None) (λ p. IsSomeAnd k (λ m. m ≡ by_pointers p)) → MatchOption indexes_got (l ≡ None) (λ i. IsSomeAnd l (λ m. m ≡ by_indexes i))

@@ -1,4 +1,4 @@
--- Lemmas on lines that come in pieces.
+-- Lines that are read in pieces.
 use Rattle.std.proofs.Common.{◌≡◌, ℕ, ◌+◌, ◌<◌, ◌≤◌, ◌==◌, Bool, true, false, nat_lt, cond, not, List, [], ◌∷◌, ◌++◌, length, take, drop, take_while, refl, sym, ap, ◌∙◌, subst, append_assoc, append-nil, one-add, arith, rules}
 use Rattle.std.specs.Prelude.{◌-◌, leb, min, All}
 use Rattle.std.proofs.lemmas.Bool.{lt-ltb, leb-true, leb-false}
@@ -12,7 +12,7 @@ use Rattle.chain_commands.specs.Commands.{line_of, line_of_words}
 use Rattle.chain_commands.specs.Progress.{EndsFirst, IsNoEnd}
 use Rattle.chain_commands.specs.declared.command.Line.TheVariants as lines
 
--- what is kept of a line, with as much of more as there is room for
+-- Keeping at most `n` bytes of a line, piece by piece, keeps its first `n` bytes.
 pub kept_more : (n m : ℕ) (kept rest more : List ℕ) → kept ≡ take n rest → m ≡ min (length more) (n - length kept) → kept ++ take m more ≡ take n (rest ++ more)
 kept_more n m kept rest more is room = by_length (leb n (length rest)) refl
   where
@@ -37,7 +37,7 @@ kept_more n m kept rest more is room = by_length (leb n (length rest)) refl
             take_all m more (omega (arith, within, is_min)) ∙ sym (take_all (n - length rest) more within)
         by_room false beyond is_min = ap (λ k. take k more) (omega (arith, leb-false (length more) (n - length rest) beyond, is_min))
 
--- what a line says, its first 201 bytes say
+-- The first 201 bytes of a line determine how it is parsed.
 pub line_of-take : (rest : List ℕ) → line_of (take 201 rest) ≡ line_of rest
 line_of-take rest = by_length (nat_lt 201 (length rest)) refl
   where
@@ -73,7 +73,7 @@ onto_first-append : (c : ℕ) (pieces others : List (List ℕ)) → some_line pi
 onto_first-append c [] others some = absurd some
 onto_first-append c (piece ∷ pieces) others some = refl
 
--- a line feed ends a line
+-- A line feed ends a line.
 pub lines_of-end : (text more : List ℕ) → lines_of (text ++ 10 ∷ more) ≡ lines_of text ++ lines_of more
 lines_of-end [] more = refl
 lines_of-end (c ∷ text) more = by_test (c == 10) (lines_of-end text more)
@@ -97,7 +97,7 @@ onto_first-last c d [] some = absurd some
 onto_first-last c d (piece ∷ []) some = refl
 onto_first-last c d (piece ∷ next ∷ pieces) some = refl
 
--- another byte goes on with the last line
+-- A byte other than a line feed continues the last line.
 lines_of-on : (text : List ℕ) (c : ℕ) → (c == 10) ≡ false → lines_of (text ++ c ∷ []) ≡ onto_last c (lines_of text)
 lines_of-on [] c other = ap (λ b. cond b ([] ∷ [] ∷ []) ((c ∷ []) ∷ [])) other
 lines_of-on (d ∷ text) c other = by_test (d == 10) (lines_of-on text c other)
@@ -115,7 +115,7 @@ onto_last-append c (line ∷ next ∷ lines) rest = ap (λ l. line ∷ l) (onto_
 pub cut-on : (text : List ℕ) (c : ℕ) (lines : List (List ℕ)) (rest : List ℕ) → (c == 10) ≡ false → lines_of text ≡ lines ++ rest ∷ [] → lines_of (text ++ c ∷ []) ≡ lines ++ (rest ++ c ∷ []) ∷ []
 cut-on text c lines rest other cut = lines_of-on text c other ∙ ap (onto_last c) cut ∙ onto_last-append c lines rest
 
--- .. and so do others, where none of them is a line feed
+-- Bytes without a line feed continue the last line.
 pub cut-more : (more text : List ℕ) (lines : List (List ℕ)) (rest : List ℕ) → All IsNoEnd more → lines_of text ≡ lines ++ rest ∷ [] → lines_of (text ++ more) ≡ lines ++ (rest ++ more) ∷ []
 cut-more [] text lines rest all cut = ap lines_of (append-nil text) ∙ cut ∙ ap (λ r. lines ++ r ∷ []) (sym (append-nil rest))
 cut-more (c ∷ more) text lines rest all cut =
@@ -125,11 +125,11 @@ cut-more (c ∷ more) text lines rest all cut =
 
 -- ---- the first line feed
 
--- where the first line feed stands
+-- The position of the first line feed.
 abbrev end_of : List ℕ → ℕ
 end_of text = position_or_len (λ c. c == 10) text
 
--- a text in two parts, of which the second begins with the first line feed, if there is one
+-- A text split before its first line feed, if there is one.
 abbrev AreParts : List ℕ → List ℕ → List ℕ → Type 0
 AreParts front [] text = All IsNoEnd text
 AreParts front (c ∷ back) text = EndsFirst front text back
@@ -165,27 +165,27 @@ module _ (text front rest : List ℕ) (n : ℕ) (at : n ≡ length (take_while (
   pub parts-none : rest ≡ [] → All IsNoEnd text
   parts-none is = subst (λ r. AreParts front r text) is parts_are
 
--- the whole lines are those before the rest
+-- The whole lines are those before the rest.
 pub all_but_last-append : (lines : List (List ℕ)) (rest : List ℕ) → all_but_last (lines ++ rest ∷ []) ≡ lines
 all_but_last-append [] rest = refl
 all_but_last-append (line ∷ []) rest = refl
 all_but_last-append (line ∷ next ∷ lines) rest = ap (λ l. line ∷ l) (all_but_last-append (next ∷ lines) rest)
 
--- lines that others follow are whole
+-- Lines followed by others are whole.
 all_but_last-before : (lines others : List (List ℕ)) → some_line others → all_but_last (lines ++ others) ≡ lines ++ all_but_last others
 all_but_last-before [] others some = refl
 all_but_last-before (line ∷ []) [] some = absurd some
 all_but_last-before (line ∷ []) (other ∷ others) some = refl
 all_but_last-before (line ∷ next ∷ lines) others some = ap (λ l. line ∷ l) (all_but_last-before (next ∷ lines) others some)
 
--- a line that a line feed ended is whole, as those before it are
+-- A line ended by a line feed is whole, like those before it.
 pub whole_lines-end : (text more : List ℕ) (lines : List (List ℕ)) (rest : List ℕ) → lines_of text ≡ lines ++ rest ∷ []
     → whole_lines (text ++ 10 ∷ more) ≡ lines ++ rest ∷ whole_lines more
 whole_lines-end text more lines rest cut =
     ap all_but_last (lines_of-end text more ∙ ap (λ l. l ++ lines_of more) cut)
     ∙ all_but_last-before (lines ++ rest ∷ []) (lines_of more) (lines_of-some more) ∙ append_assoc lines (rest ∷ []) (whole_lines more)
 
--- lines that were ended stay, whatever more is read
+-- More input keeps the ended lines.
 lines_of-more : (more text : List ℕ) (lines : List (List ℕ)) (rest : List ℕ) → lines_of text ≡ lines ++ rest ∷ []
     → (next : List ℕ) × (others : List (List ℕ)) × (lines_of (text ++ more) ≡ lines ++ next ∷ others)
 lines_of-more [] text lines rest cut = (rest, [], ap lines_of (append-nil text) ∙ cut)
@@ -206,7 +206,7 @@ lines_of-more (c ∷ more) text lines rest cut = by_test (c == 10) refl (λ line
         let found = on lines (rest ++ c ∷ []) (cut-on text c lines rest e cut) in
         (found.0, found.1, ap lines_of (sym (append_assoc text (c ∷ []) more)) ∙ found.2)
 
--- .. and so do whole lines
+-- More input keeps the whole lines.
 pub whole_lines-more : (more text : List ℕ) (lines : List (List ℕ)) (rest : List ℕ) → lines_of text ≡ lines ++ rest ∷ [] → (others : List (List ℕ)) × (whole_lines (text ++ more) ≡ lines ++ others)
 whole_lines-more more text lines rest cut =
     let found = lines_of-more more text lines rest cut in

@@ -1,4 +1,4 @@
--- How long the answer to `moves F` may be.
+-- The greatest length of the response to `moves F`.
 use Rattle.std.proofs.Common.{◌≡◌, ℕ, ◌+◌, ◌*◌, ◌<◌, ◌≤◌, List, [], ◌∷◌, ◌++◌, map, length, codes, decimal, refl, arith, length-append}
 use Rattle.std.specs.List.{concat}
 use Rattle.std.proofs.lemmas.Fmt.{length-decimal-le}
@@ -33,7 +33,7 @@ overflow_room : (told : InvalidationOption Unit) → length (overflow_text told)
 overflow_room (option.Success done) = omega arith
 overflow_room (option.GenerationOverflow done) = omega arith
 
--- so many moves fit into so much room, with a line feed
+-- The capacity reserved suffices for so many moves and a line feed.
 pub moves_room : (links : ℕ) (moves : List (ToolPtr × ToolPtr)) (told : InvalidationOption Unit) → links ≤ greatest_index → length moves ≡ links
     → length (moves_text moves told) < links * 44 + 26
 moves_room links moves told most as_many =

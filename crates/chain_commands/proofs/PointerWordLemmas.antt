@@ -1,4 +1,4 @@
--- Lemmas on the numbers and pointers of words.
+-- Numbers and pointers stated by words.
 use Rattle.std.proofs.Common.{◌≡◌, ℕ, ◌^◌, ◌<◌, ◌≤◌, ◌↔◌, Bool, true, false, leb, Option, Some, None, IsSome, IfSome, option_and_then, refl, sym, ap, ◌∙◌, arith}
 use Rattle.std.proofs.lemmas.Bool.{le-leb, leb-true, false≢true}
 use Rattle.arena_ptr.specs.Numbers.{IsWithin}
@@ -22,7 +22,7 @@ module _ {A : Type 0} (make : (n : ℕ) → IsWithin 0xffff_ffff n → A) where
   made_if-none n absent true false at_least at_most = refl
   made_if-none n absent false high at_least at_most = refl
 
--- what a test of the number answers is the index of the number
+-- The result of checking a number is the index with this number.
 pub index_named-new : (n : ℕ) (r : Option Inx32) → n < 2 ^ 32 → IsSome r ↔ (1 ≤ n) → IfSome r (λ i. number_of_inx32 i ≡ n) → r ≡ index_named n
 unfolding index_named
 index_named-new n (Some i) fits variant value =
@@ -41,13 +41,13 @@ index_named-chain o n r e fits variant value = index_named-new n r fits variant 
 pub generation_of-chain : (o : Option ℕ) (n : ℕ) (r : Option Gen32) → o ≡ Some n → n < 2 ^ 32 → IsSome r ↔ (1 ≤ n) → IfSome r (λ g. number_of_gen32 g ≡ n) → r ≡ option_and_then generation_of o
 generation_of-chain o n r e fits variant value = generation_of-new n r fits variant value ∙ ap (option_and_then generation_of) (sym e)
 
--- a pointer of both parts
+-- A pointer with both parts.
 pub pointer_with-some : (p : ToolPtr) (i : Inx32) (g : Gen32) (index : Option Inx32) (generation : Option Gen32) → key_of p ≡ (number_of_inx32 i, g) → Some i ≡ index → Some g ≡ generation
     → Some p ≡ pointer_with index generation
 pointer_with-some p i g index generation key is_index is_generation =
     ap Some (same_tool_ptr p (record { inx = i; generation = g }) key) ∙ (λ k. pointer_with (is_index k) (is_generation k))
 
--- and none without the second
+-- There is no pointer without the second part.
 pub pointer_with-none : (index : Option Inx32) (generation : Option Gen32) → None ≡ generation → None ≡ pointer_with index generation
 pointer_with-none None generation e = refl
 pointer_with-none (Some index) generation e = ap (pointer_with (Some index)) e

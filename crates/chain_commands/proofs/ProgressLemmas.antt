@@ -1,4 +1,4 @@
--- Lemmas on how far a run comes: by a line, by a line at which it stops, and by a part of one.
+-- The progress of a run by lines and parts of lines.
 use Rattle.std.proofs.Common.{◌≡◌, ℕ, ◌⊎◌, List, [], ◌∷◌, ◌++◌, take, Option, Result, Ok, Err, OnOk, IfErr, refl, sym, ap, ◌∙◌, subst, append_assoc, append-nil, inl, inr}
 use Rattle.std.specs.Prelude.{All}
 use Rattle.std.proofs.KnownBytes.{Appends-trans, Appends-kept}
@@ -11,7 +11,7 @@ use Rattle.chain_commands.specs.Transcripts.{Transcribes, IsCutShort, within, Tr
 use Rattle.chain_commands.specs.Progress.{TranscribesOne, Progress, HasProgressed, EndsFirst, IsNoEnd}
 use Rattle.chain_commands.proofs.LineSplitLemmas.{line_of-take, lines_of-end, whole_lines-end, whole_lines-more, cut-more}
 
--- one line more is answered
+-- One more line is executed.
 pub Transcribes-more : (old mid new : ToolLinks) (lines : List (List ℕ)) (line text more : List ℕ) → Transcribes old lines text mid → RespondsToLine mid (line_of line) more new
     → Transcribes old (lines ++ line ∷ []) (text ++ more) new
 Transcribes-more old mid new [] line text more answers next =
@@ -26,11 +26,11 @@ Transcribes-more old mid new (first ∷ lines) line text more answers next = (
   ap (λ t. t ++ more) answers.5 ∙ append_assoc answers.1 answers.2 more,
 )
 
--- what an answer to what is kept is, is an answer to the line
+-- A response to the kept part of a line is a response to the line.
 pub of_kept : (old new : ToolLinks) (kept rest text : List ℕ) → kept ≡ take 201 rest → RespondsToLine old (line_of kept) text new → RespondsToLine old (line_of rest) text new
 of_kept old new kept rest text keeps answers = subst (λ l. RespondsToLine old l text new) (ap line_of keeps ∙ line_of-take rest) answers
 
--- .. and the step that it leaves is that of the line
+-- The kept part of a line has the effect of the line.
 pub step_of_kept : (old new : ToolLinks) (kept rest : List ℕ) → kept ≡ take 201 rest → LeavesStep old (line_of kept) new → LeavesStep old (line_of rest) new
 step_of_kept old new kept rest keeps step = subst (λ l. LeavesStep old l new) (ap line_of keeps ∙ line_of-take rest) step
 
@@ -68,14 +68,14 @@ module _ (old mid new : ToolLinks) (read kept : List ℕ) (held held_mid held_af
   HasProgressed-stopped A B errors.Memory more kept_after stopped =
       (come.text, subst (λ l. TranscribesSome old new l come.text) (sym (whole more)) (given_up more stopped.1), Appends-kept held held_mid held_after _ come.writes stopped.0)
 
--- a run that stops between two lines
+-- A run stops between two lines.
 pub Progress-stopped : (old new : ToolLinks) (read kept more : List ℕ) (held held_after : Option (List ℕ)) (come : Progress old read new kept held held_after)
     → TranscribesSome old new (whole_lines (read ++ more)) come.text
 Progress-stopped old new read kept more held held_after come =
     let found = whole_lines-more more read come.lines come.rest come.cut in
     subst (λ l. TranscribesSome old new l come.text) (sym found.1) (before come.lines found.0 come.text come.answers)
 
--- more of a line, of which enough is kept
+-- More of a line is read, and enough of it is kept.
 pub Progress-front : (old new : ToolLinks) (read kept kept_after front : List ℕ) (held held_after : Option (List ℕ)) (come : Progress old read new kept held held_after) → All IsNoEnd front
     → kept_after ≡ take 201 (come.rest ++ front) → Progress old (read ++ front) new kept_after held held_after
 Progress-front old new read kept kept_after front held held_after come all keep = record {
@@ -90,7 +90,7 @@ Progress-front old new read kept kept_after front held held_after come all keep 
 
 -- ---- a piece, line by line
 
--- what is an answer to a line is one to what is kept of it
+-- A response to a line is a response to its kept part.
 answers_kept : {A : Type 0} (r : Result A ToolError) (old new : ToolLinks) (line : List ℕ) (held held_after : Option (List ℕ)) → TranscribesOne r old new line held held_after
     → TranscribesOne r old new (take 201 line) held held_after
 answers_kept (Ok x) old new line held held_after answered = (answered.0, subst (λ l. RespondsToLine old l answered.0 new) (sym (line_of-take line)) answered.1, answered.2)
@@ -103,7 +103,7 @@ answers_kept (Err errors.Memory) old new line held held_after answered = (answer
     step (inl same) = inl same
     step (inr leaves) = inr (subst (λ l. LeavesStep old l new) (sym (line_of-take line)) leaves)
 
--- A line is answered of which something was kept ..
+-- A line is executed of which a part was kept.
 pub answers-line : {A : Type 0} (r : Result A ToolError) (old new : ToolLinks) (kept line : List ℕ) (held held_after : Option (List ℕ)) → kept ≡ take 201 line → TranscribesOne r old new kept held held_after
     → TranscribesOne r old new line held held_after
 answers-line (Ok x) old new kept line held held_after is answered = (answered.0, of_kept old new kept line answered.0 is answered.1, answered.2)
@@ -116,12 +116,12 @@ answers-line (Err errors.Memory) old new kept line held held_after is answered =
     step (inr leaves) = inr (step_of_kept old new kept line is leaves)
 
 module _ (old now : ToolLinks) (read done left kept : List ℕ) (held held_now : Option (List ℕ)) (come : Progress old (read ++ done) now kept held held_now) where
-  -- of a front without a line feed enough is kept
+  -- Enough is kept of a part without a line feed.
   come_front : (front : List ℕ) → All IsNoEnd front → Progress old ((read ++ done) ++ front) now (take 201 (come.rest ++ front)) held held_now
   come_front front all = Progress-front old now (read ++ done) kept (take 201 (come.rest ++ front)) front held held_now come all refl
 
   module _ (front back : List ℕ) (ends : EndsFirst front left back) where
-    -- the line is answered
+    -- The line is executed.
     pub feed-line : {A : Type 0} (new : ToolLinks) (kept_after : List ℕ) (held_new : Option (List ℕ)) (x : A)
         → ((rest : List ℕ) → kept ≡ take 201 rest → TranscribesOne (Ok x) now new (rest ++ front) held_now held_new) → kept_after ≡ []
         → Progress old (read ++ (done ++ (front ++ 10 ∷ []))) new kept_after held held_new
@@ -131,7 +131,7 @@ module _ (old now : ToolLinks) (read done left kept : List ℕ) (held held_now :
         subst (λ k. Progress old (read ++ (done ++ (front ++ 10 ∷ []))) new k held held_new) (sym is_empty)
         (subst (λ l. Progress old l new [] held held_new) (append_assoc (read ++ done) front (10 ∷ []) ∙ append_assoc read done (front ++ 10 ∷ [])) here)
 
-    -- the answer to the line stops the run
+    -- The run stops at the line.
     pub feed-stopped : (A B : Type 0) (error : ToolError) (r : Result B ToolError) (piece : List ℕ) (new : ToolLinks) (kept_after : List ℕ) (held_new : Option (List ℕ)) → piece ≡ done ++ left
         → ((rest : List ℕ) → kept ≡ take 201 rest → TranscribesOne {A = A} (Err error) now new (rest ++ front) held_now held_new) → r ≡ Err error
         → HasProgressed r old (read ++ piece) new kept_after held held_new
@@ -143,7 +143,7 @@ module _ (old now : ToolLinks) (read done left kept : List ℕ) (held held_now :
         subst (λ q. HasProgressed q old (read ++ piece) new kept_after held held_new) (sym is)
         (subst (λ l. HasProgressed {A = B} (Err error) old l new kept_after held held_new) whole here)
 
-  -- what is left is kept, or memory for it stops the run
+  -- The rest is kept, or an allocation failure stops the run.
   pub feed-kept : {A : Type 0} (r : Result A ToolError) (piece kept_after : List ℕ) → piece ≡ done ++ left → All IsNoEnd left
       → OnOk r ((rest : List ℕ) → kept ≡ take 201 rest → kept_after ≡ take 201 (rest ++ left)) → IfErr r (λ e. e ≡ errors.Memory) → HasProgressed r old (read ++ piece) now kept_after held held_now
   feed-kept (Ok x) piece kept_after parts all keeps error =

@@ -1,4 +1,4 @@
--- A step that was made is some answer's step, also where memory for the answer was refused.
+-- A completed step belongs to some response, even if the allocation of the response failed.
 use Rattle.std.proofs.Common.{OnOk, ◌≡◌, ℕ, ◌⊎◌, List, [], ◌∷◌, ◌++◌, Result, Ok, Err, OnErr, IsOk, refl, sym, ap, ◌∙◌, inl, inr, subst, Bool, cond, append_assoc, append-nil, true, false}
 use Rattle.std.proofs.lemmas.Bool.{false≢true}
 use Rattle.arena_ptr.specs.declared.generation.gen32.Gen32.{Gen32}
@@ -9,28 +9,28 @@ use Rattle.chain_commands.specs.declared.command.Line.{Line}
 use Rattle.chain_commands.specs.declared.command.Line.TheVariants.{Good}
 use Rattle.chain_commands.specs.Responses.{ToolLinks, RespondsToCommand, LeavesStep, walked_text, walk_text}
 
--- a text that was cleared and pushed to
+-- A text that was cleared and appended to.
 pushed_is : (old v_text new : List ℕ) → old ≡ [] → new ≡ old ++ v_text → new ≡ v_text
 pushed_is old text new none is = is ∙ ap (λ b. b ++ text) none
 
 module _ {T E : Type 0} where
-  -- what is said of a text is said of the same text pushed to one that was cleared
+  -- A property of a text holds of a cleared text to which it is appended.
   pub answers_ok : (P : List ℕ → ToolLinks → Type 0) (new : ToolLinks) (before after text : List ℕ) (r : Result T E) → before ≡ [] → OnOk r (after ≡ before ++ text) → P text new → OnOk r (P after new)
   answers_ok P new before after text (Ok x) none is answer = subst (λ t. P t new) (sym (pushed_is before text after none is)) answer
   answers_ok P new before after text (Err e) none is answer = tt
 
-  -- .. and where it was not pushed, some text is answered
+  -- If appending failed, there is still some response.
   pub answers_err : (P : List ℕ → ToolLinks → Type 0) (new : ToolLinks) (text : List ℕ) (r : Result T E) → P text new → OnErr r ((words : List ℕ) × P words new)
   answers_err P new text (Ok x) answer = tt
   answers_err P new text (Err e) answer = (text, answer)
 
-  -- where a call of a line leaves its step, the line does
+  -- If the call of a line takes effect, so does the line.
   pub line_err : (old new : ToolLinks) (line : Line) (command : Command) (r : Result T E) → Good command ≡ line → (new ≡ old) ⊎ LeavesStep old (Good command) new
       → OnErr r ((new ≡ old) ⊎ LeavesStep old line new)
   line_err old new line command (Ok x) is steps = tt
   line_err old new line command (Err e) is steps = subst (λ l. (new ≡ old) ⊎ LeavesStep old l new) is steps
 
-  -- where an answer gets no line feed, its line is a call, or has changed nothing
+  -- If a response gets no line feed, its line is a call, or nothing has changed.
   pub unended_err : (old new : ToolLinks) (line : Line) (command : Command) (words : List ℕ) (r : Result T E) → Good command ≡ line → RespondsToCommand old command words new
       → ((reset : Bool) → command ≡ Moves reset → IsOk r) → OnErr r ((new ≡ old) ⊎ LeavesStep old line new)
   unended_err old new line command words (Ok x) is gives ends = tt
@@ -49,7 +49,7 @@ abbrev pub none_passed : List Passed → Bool
 none_passed [] = true
 none_passed (e ∷ links) = false
 
--- the links passed are in the text, and the others are left
+-- The links passed are in the text, and the others are left.
 pub record IsWalked (before text : List ℕ) (first : Bool) (all left : List Passed) : Type 0 where
   pub passed : List Passed
   pub walk : all ≡ passed ++ left
@@ -74,7 +74,7 @@ module _ (before text joined more : List ℕ) (first : Bool) (all left after : L
       by_list [] = refl
       by_list (d ∷ passed) = refl
 
-  -- the first link stands in the text as it is
+  -- The first link is appended without a space.
   pub IsWalked-first : first ≡ true → joined ≡ text → IsWalked before more false all after
   IsWalked-first none_yet same = record {
     passed = walked.passed ++ e ∷ [];
@@ -87,7 +87,7 @@ module _ (before text joined more : List ℕ) (first : Bool) (all left after : L
       by_list [] none written = link ∙ ap (λ l. l ++ walked_text e) (same ∙ written ∙ append-nil before)
       by_list (d ∷ passed) none written = absurd (false≢true (sym none))
 
-  -- .. each other one after a space
+  -- Every other link is appended after a space.
   pub IsWalked-next : first ≡ false → joined ≡ text ++ 32 ∷ [] → IsWalked before more false all after
   IsWalked-next later spaced = record {
     passed = walked.passed ++ e ∷ [];

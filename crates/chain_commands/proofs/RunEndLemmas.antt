@@ -1,4 +1,4 @@
--- Lemmas on how a run ends.
+-- How a run ends.
 use Rattle.std.proofs.Common.{◌≡◌, ℕ, ◌⊎◌, List, [], ◌∷◌, ◌++◌, Option, Result, Ok, Err, refl, sym, ap, ◌∙◌, subst, append-nil, inl, inr}
 use Rattle.std.specs.Io.KnownBytes.{Consumes, Keeps, IsAtEnd}
 use Rattle.std.proofs.KnownBytes.{Appends-trans, Appends-kept, Appends-nil, Consumes-trans, Consumes-kept, Consumes-nil}
@@ -12,13 +12,13 @@ use Rattle.chain_commands.specs.Progress.{TranscribesOne, Progress, HasProgresse
 use Rattle.chain_commands.proofs.LineSplitLemmas.{all_but_last-append}
 use Rattle.chain_commands.proofs.ProgressLemmas.{Transcribes-more, of_kept, step_of_kept}
 
--- the run has come on by what was read so far
+-- The run has executed what was read so far.
 pub record HasRead (old new : ToolLinks) (kept : List ℕ) (left left_after held held_after : Option (List ℕ)) : Type 0 where
   pub read : List ℕ
   pub reads : Consumes left left_after read
   pub come : Progress old read new kept held held_after
 
--- nothing is read yet
+-- Nothing has been read.
 pub HasRead-nothing : (links : ToolLinks) (kept : List ℕ) (left held : Option (List ℕ)) → kept ≡ [] → HasRead links links kept left left held held
 HasRead-nothing links kept left held none = record {
   read = [];
@@ -27,7 +27,7 @@ HasRead-nothing links kept left held none = record {
 }
 
 module _ (old now : ToolLinks) (kept : List ℕ) (left left_now held held_now : Option (List ℕ)) (has : HasRead old now kept left left_now held held_now) where
-  -- a flush changes nothing that the run has come to
+  -- A flush keeps the progress of the run.
   pub HasRead-flushed : (held_after : Option (List ℕ)) → Keeps held_now held_after → HasRead old now kept left left_now held held_after
   HasRead-flushed held_after keeps = record {
     read = has.read;
@@ -43,7 +43,7 @@ module _ (old now : ToolLinks) (kept : List ℕ) (left left_now held held_now : 
     };
   }
 
-  -- one piece more
+  -- One more piece is read.
   pub HasRead-fed : {A : Type 0} (x : A) (new : ToolLinks) (kept_after piece : List ℕ) (left_after held_after : Option (List ℕ)) → Consumes left_now left_after piece
       → HasProgressed (Ok x) old (has.read ++ piece) new kept_after held held_after → HasRead old new kept_after left left_after held held_after
   HasRead-fed x new kept_after piece left_after held_after reads come = record {
@@ -52,7 +52,7 @@ module _ (old now : ToolLinks) (kept : List ℕ) (left left_now held held_now : 
     come = come;
   }
 
-  -- .. at which the run stops
+  -- The run stops at a piece.
   pub Ends-fed : (A B : Type 0) (error : ToolError) (r : Result B ToolError) (new : ToolLinks) (kept_after piece : List ℕ) (left_after held_after : Option (List ℕ)) → Consumes left_now left_after piece
       → HasProgressed {A = A} (Err error) old (has.read ++ piece) new kept_after held held_after → r ≡ Err error → Ends r old new left left_after held held_after
   Ends-fed A B error r new kept_after piece left_after held_after reads comes is = subst (λ q. Ends q old new left left_after held held_after) (sym is) (by_error error comes)
@@ -67,11 +67,11 @@ module _ (old now : ToolLinks) (kept : List ℕ) (left left_now held held_now : 
       by_error errors.Memory comes =
           record { read = has.read ++ piece; lines = whole_lines (has.read ++ piece); text = comes.0; reads = all; complete = by_line_feed; writes = comes.2; answers = comes.1 }
 
-  -- the whole lines are those answered
+  -- The whole lines are those executed.
   whole : whole_lines has.read ≡ has.come.lines
   whole = ap all_but_last has.come.cut ∙ all_but_last-append has.come.lines has.come.rest
 
-  -- the reader fails
+  -- The reader fails.
   pub Ends-unread : (B : Type 0) (r : Result B ToolError) (left_after : Option (List ℕ)) → Keeps left_now left_after → r ≡ Err errors.Read → Ends r old now left left_after held held_now
   Ends-unread B r left_after keeps is = subst (λ q. Ends q old now left left_after held held_now) (sym is) (record {
     read = has.read;
@@ -81,7 +81,7 @@ module _ (old now : ToolLinks) (kept : List ℕ) (left left_now held held_now : 
     answers = subst (λ l. Transcribes old l has.come.text now) (sym whole) has.come.answers;
   })
 
-  -- the writer cannot be flushed
+  -- Flushing the writer fails.
   pub Ends-unflushed : (B : Type 0) (r : Result B ToolError) (held_after : Option (List ℕ)) → Keeps held_now held_after → r ≡ Err errors.Write → Ends r old now left left_now held held_after
   Ends-unflushed B r held_after keeps is = subst (λ q. Ends q old now left left_now held held_after) (sym is) (record {
     read = has.read;
@@ -93,7 +93,7 @@ module _ (old now : ToolLinks) (kept : List ℕ) (left left_now held held_now : 
     answers = subst (λ l. IsCutShort old now l has.come.text) (append-nil has.come.lines ∙ sym whole) (between has.come.lines [] has.come.text has.come.answers);
   })
 
-  -- the last line is answered
+  -- The last line is executed.
   pub Ends-finished : (B : Type 0) (r : Result B ToolError) (new : ToolLinks) (line : List ℕ) (left_after held_after : Option (List ℕ)) → line ≡ kept → Consumes left_now left_after [] → IsAtEnd left_after
       → TranscribesOne r now new line held_now held_after → Ends r old new left left_after held held_after
   Ends-finished B r new line left_after held_after same reads end answered = by_result r answered
@@ -140,7 +140,7 @@ module _ (old now : ToolLinks) (kept : List ℕ) (left left_now held held_now : 
         answers = subst (λ l. TranscribesSome old new l has.come.text) (sym has.come.cut) (given_up answered.1);
       }
 
--- there is no room for a piece: nothing is read and nothing written
+-- If the buffer cannot be allocated, nothing is read and nothing is written.
 pub Ends-no_room : (B : Type 0) (r : Result B ToolError) (error : ToolError) (links : ToolLinks) (left held : Option (List ℕ)) → error ≡ errors.Memory → r ≡ Err error → Ends r links links left left held held
 Ends-no_room B r error links left held memory is = subst (λ q. Ends q links links left left held held) (sym (is ∙ ap Err memory)) (record {
   read = [];

@@ -1,4 +1,4 @@
--- Lemmas on numbers, words and pointers of a text.
+-- Numbers, words and pointers in a text.
 use Rattle.std.proofs.Common.{◌≡◌, ℕ, ◌+◌, ◌<◌, ◌≤◌, ◌&&◌, ◌==◌, Bool, true, false, nat_lt, nat_le, List, [], ◌∷◌, length, take, Some, None, refl, sym, ap, ◌∙◌, subst, arith, rules, cond, not, filter, take_while, drop, one-add}
 use Rattle.std.proofs.lemmas.Bool.{and_from, lt-ltb}
 use Rattle.std.specs.Str.{all_ascii_digits}
@@ -16,7 +16,7 @@ digit_words = numerals_by_value _ tells_all_ascii_digits
 both_true : (a b : Bool) → (a && b) ≡ true → (a ≡ true) × (b ≡ true)
 both_true a b h = search rules
 
--- what a number is
+-- The word is a number.
 pub record IsNumber (word : List ℕ) : Type 0 where
   pub some : 0 < length word
   pub short : length word ≤ 10
@@ -71,7 +71,7 @@ spaces text = prefix_len is_space text
 abbrev filled : List (List ℕ) → List (List ℕ)
 filled parts = filter is_filled parts
 
--- a space before a text changes none of its words
+-- A leading space does not change the words of a text.
 words_of-space : (c : ℕ) (text : List ℕ) → (c == 32) ≡ true → words_of (c ∷ text) ≡ words_of text
 words_of-space c text e = ap filled (slice_split-cons_yes is_space c text e)
 
@@ -84,7 +84,7 @@ words_of-after_spaces (c ∷ text) = by_test (c == 32) refl (words_of-after_spac
     by_test true e rest = ap (λ n. words_of (drop n (c ∷ text))) (one-add (spaces text)) ∙ rest ∙ sym (words_of-space c text e)
     by_test false e rest = refl
 
--- what is left after the spaces does not begin with one
+-- The text after leading spaces does not begin with a space.
 abbrev BeginsNoSpace : List ℕ → Type 0
 BeginsNoSpace [] = Unit {0}
 BeginsNoSpace (c ∷ text) = (c == 32) ≡ false
@@ -97,11 +97,11 @@ after_spaces_begins (c ∷ text) = by_test (c == 32) refl (after_spaces_begins t
     by_test true e rest = subst (λ n. BeginsNoSpace (drop n (c ∷ text))) (sym (one-add (spaces text))) rest
     by_test false e rest = e
 
--- where the first space stands
+-- The position of the first space.
 abbrev pub word_end : List ℕ → ℕ
 word_end text = position_or_len is_space text
 
--- the pieces after the first, where the text is cut before its first space
+-- The pieces after the first, if the text is cut before its first space.
 abbrev later_pieces : List ℕ → List (List ℕ)
 later_pieces [] = []
 later_pieces (c ∷ text) = slice_split is_space text
@@ -116,7 +116,7 @@ pieces-first (c ∷ text) = by_test (c == 32) refl (pieces-first text)
     by_test true e rest = refl
     by_test false e rest = ap (onto_first c) rest ∙ ap (λ n. take n (c ∷ text) ∷ later_pieces (drop n (c ∷ text))) (sym (one-add (word_end text)))
 
--- the rest begins with a space, if there is one
+-- The rest begins with a space, if it is not empty.
 abbrev BeginsSpace : List ℕ → Type 0
 BeginsSpace [] = Unit {0}
 BeginsSpace (c ∷ text) = (c == 32) ≡ true
@@ -137,7 +137,7 @@ filled_first : (text : List ℕ) → 0 < length text → BeginsNoSpace text → 
 filled_first [] h e = absurd (omega arith)
 filled_first (c ∷ text) h e = ap (λ b. is_filled (take (cond (not b) (1 + word_end text) 0) (c ∷ text))) e ∙ ap (λ n. is_filled (take n (c ∷ text))) (one-add (word_end text))
 
--- the first word of what begins with none
+-- The first word of a text without a leading space.
 words_of-first : (text : List ℕ) → 0 < length text → BeginsNoSpace text → words_of text ≡ take (word_end text) text ∷ words_of (drop (word_end text) text)
 words_of-first text h e =
     let n = word_end text in
@@ -146,11 +146,11 @@ words_of-first text h e =
     ∙ ap (λ b. cond b (take n text ∷ filled rest) (filled rest)) (filled_first text h e)
     ∙ ap (λ l. take n text ∷ l) (later_words (drop n text) (word_end_begins text))
 
--- no word is left
+-- No word is left.
 pub words_of-none : (text rest : List ℕ) → rest ≡ drop (length (take_while is_space text)) text → length rest ≡ 0 → words_of text ≡ []
 words_of-none text rest e none = sym (words_of-after_spaces text) ∙ ap words_of (ap (λ n. drop n text) (sym (length-prefix_len is_space text)) ∙ sym e ∙ nil_from_length rest none)
 
--- the first word, and what is after it
+-- The first word, and the text after it.
 pub words_of-some : (text rest word after : List ℕ) → rest ≡ drop (length (take_while is_space text)) text → 0 < length rest
     → word ≡ take (length (take_while (λ c. not (is_space c)) rest)) rest → after ≡ drop (length (take_while (λ c. not (is_space c)) rest)) rest
     → words_of text ≡ word ∷ words_of after

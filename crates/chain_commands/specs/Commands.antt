@@ -1,4 +1,4 @@
--- The commands of the program, as lines write them.
+-- The commands of the program, as parsed from lines.
 use Rattle.std.specs.Prelude.{ℕ, nat_lt, Bool, true, false, if◌then◌else◌, List, [], ◌∷◌, length, codes, bytes_eq, Option, Some, None, option_and_then}
 use Rattle.std.specs.Option.{option_map, option_or, option_zip}
 use Rattle.arena_ptr.specs.declared.index.inx32.Inx32.{Inx32}
@@ -14,62 +14,62 @@ use Rattle.chain_commands.specs.declared.command.Line.{Line}
 use Rattle.chain_commands.specs.declared.command.Line.TheVariants as lines
 use Rattle.chain_commands.specs.Words.{words_of, number_of, index_word, generation_word, pointer_of, without_return}
 
--- kinds of a new link, beside links that pointers or indexes name
+-- Kinds of a new link, whose neighbors are named by pointer or index.
 abbrev pub Kind : Type 0
 Kind = InsertKindBody ToolPtr Inx32
 
--- calls that may change the links
+-- Calls that may change the links.
 abbrev pub LinkCall : Type 0
 LinkCall = Call ToolPtr ℕ Inx32 Gen32 ℕ
 
--- arguments that are one word
+-- Arguments that are one word.
 abbrev pub one_word : List (List ℕ) → Option (List ℕ)
 one_word [] = None
 one_word (word ∷ []) = Some word
 one_word (word ∷ next ∷ words) = None
 
--- arguments that are one pointer
+-- Arguments that are one pointer.
 abbrev pub one_pointer : List (List ℕ) → Option ToolPtr
 one_pointer words = option_and_then pointer_of (one_word words)
 
--- arguments that are two pointers
+-- Arguments that are two pointers.
 abbrev pub two_pointers : List (List ℕ) → Option (ToolPtr × ToolPtr)
 two_pointers [] = None
 two_pointers (word ∷ words) = option_zip (pointer_of word) (one_pointer words)
 
--- arguments that are one pointer and one number
+-- Arguments that are a pointer and a number.
 abbrev pub pointer_and_number : List (List ℕ) → Option (ToolPtr × ℕ)
 pointer_and_number [] = None
 pointer_and_number (word ∷ words) = option_zip (pointer_of word) (option_and_then number_of (one_word words))
 
--- no arguments
+-- No arguments.
 abbrev pub no_arguments : List (List ℕ) → Option Unit
 no_arguments [] = Some tt
 no_arguments (word ∷ words) = None
 
--- whether a compression begins the counter anew, or keeps on counting
+-- Whether a compression resets the counter.
 abbrev pub reset_word : List ℕ → Option Bool
 reset_word word =
     if bytes_eq word (codes "reset") then Some true
     else (if bytes_eq word (codes "keep") then Some false
     else None)
 
--- what is made of pointers, where these are some, or else of indexes
+-- The result by pointers if there are any, or else by indexes.
 abbrev pub by_either : {P I A : Type 0} → (P → A) → (I → A) → Option P → Option I → Option A
 by_either by_pointers by_indexes pointers indexes = option_or (option_map by_pointers pointers) (option_map by_indexes indexes)
 
--- the removal of one link, by its pointer or by its index
+-- The removal of a link, by pointer or index.
 abbrev pub removal : List (List ℕ) → Option LinkCall
 removal words = option_and_then (λ word. by_either Remove RemoveInx (pointer_of word) (index_word word)) (one_word words)
 
--- the kinds beside no link, by their names
+-- The kinds that name no neighbor.
 abbrev pub kind_alone : List ℕ → Option Kind
 kind_alone name =
     if bytes_eq name (codes "alone") then Some kinds.Disconnected
     else (if bytes_eq name (codes "ring") then Some kinds.SingleLinkCyclic
     else None)
 
--- the kinds beside one link
+-- The kinds that name one neighbor.
 abbrev pub kind_beside : List ℕ → List ℕ → Option Kind
 kind_beside name word =
     let p = pointer_of word in
@@ -80,7 +80,8 @@ kind_beside name word =
     else (if bytes_eq name (codes "before") then by_either kinds.PrevTo kinds.PrevToInx p i
     else None)))
 
--- the kinds between two links, both named by pointers or both by indexes: after the first and before the second
+-- The kinds that name two neighbors, both by pointer or both by index: the link before and the link
+-- after.
 abbrev pub kind_between : List ℕ → List ℕ → List ℕ → Option Kind
 kind_between name first second =
     let p = option_zip (pointer_of first) (pointer_of second) in
@@ -89,14 +90,14 @@ kind_between name first second =
     else (if bytes_eq name (codes "bridge") then by_either (λ x. kinds.Bridge x.0 x.1) (λ x. kinds.BridgeInx x.0 x.1) p i
     else None)
 
--- the kind of a new link, with the links that it comes beside, and its value at the end
+-- The kind of a new link, its neighbors, and its value at the end.
 abbrev pub kind_and_value : List (List ℕ) → Option (Kind × ℕ)
 kind_and_value (name ∷ value ∷ []) = option_zip (kind_alone name) (number_of value)
 kind_and_value (name ∷ x ∷ value ∷ []) = option_zip (kind_beside name x) (number_of value)
 kind_and_value (name ∷ x ∷ y ∷ value ∷ []) = option_zip (kind_between name x y) (number_of value)
 kind_and_value words = None
 
--- the call on the room or the counter of a name and its arguments
+-- The call on the capacity or the counter with this name and these arguments.
 abbrev pub room_or_counter : List ℕ → List (List ℕ) → Option LinkCall
 room_or_counter name arguments =
     if bytes_eq name (codes "reserve") then option_map Reserve (option_and_then number_of (one_word arguments))
@@ -104,14 +105,15 @@ room_or_counter name arguments =
     else (if bytes_eq name (codes "incgen") then option_map (λ none. IncGeneration) (no_arguments arguments)
     else None))
 
--- the renumbering of a name and its arguments, or else the call on the room or the counter
+-- The renumbering with this name and these arguments, or else the call on the capacity or the
+-- counter.
 abbrev pub renumbering : List ℕ → List (List ℕ) → Option LinkCall
 renumbering name arguments =
     if bytes_eq name (codes "compress") then option_map Compress (option_and_then reset_word (one_word arguments))
     else (if bytes_eq name (codes "canonical") then option_map CompressCanonical (option_and_then reset_word (one_word arguments))
     else room_or_counter name arguments)
 
--- the call of a name that takes links or their pointers away, and its arguments, or else the renumbering
+-- The call that removes links or invalidates pointers, or else the renumbering.
 abbrev pub removing : List ℕ → List (List ℕ) → Option LinkCall
 removing name arguments =
     if bytes_eq name (codes "remove") then removal arguments
@@ -120,7 +122,7 @@ removing name arguments =
     else (if bytes_eq name (codes "clear") then option_map (λ none. Clear) (no_arguments arguments)
     else renumbering name arguments)))
 
--- the call of a name and its arguments
+-- The call with this name and these arguments.
 abbrev pub call_of : List ℕ → List (List ℕ) → Option LinkCall
 call_of name arguments =
     if bytes_eq name (codes "add") then option_map (λ a. Insert a.0 a.1) (kind_and_value arguments)
@@ -131,7 +133,7 @@ call_of name arguments =
     else (if bytes_eq name (codes "exchange") then option_map (λ p. ExchangeNext p.0 p.1) (two_pointers arguments)
     else removing name arguments)))))
 
--- the command of a name and its arguments
+-- The command with this name and these arguments.
 abbrev pub command_of : List ℕ → List (List ℕ) → Option Command
 command_of name arguments =
     if bytes_eq name (codes "show") then option_map Show (one_pointer arguments)
@@ -144,11 +146,11 @@ abbrev pub line_with : Option Command → Line
 line_with None = lines.Bad
 line_with (Some command) = lines.Good command
 
--- a line of these words
+-- A line with these words.
 abbrev pub line_of_words : List (List ℕ) → Line
 line_of_words [] = lines.Blank
 line_of_words (name ∷ arguments) = line_with (command_of name arguments)
 
--- what a line says: no line of more than 200 bytes is a command
+-- A parsed line; one of more than 200 bytes is bad.
 abbrev pub line_of : List ℕ → Line
 line_of line = if nat_lt 200 (length line) then lines.Bad else line_of_words (words_of (without_return line))

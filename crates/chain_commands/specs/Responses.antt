@@ -1,4 +1,4 @@
--- What the program answers to a line, and the arena after it.
+-- The response of the program to a line, and the arena after it.
 use Rattle.std.specs.Prelude.{◌≡◌, ℕ, ◌+◌, ◌≤◌, List, ◌∷◌, [], ◌++◌, map, length, codes, decimal, String, string_bytes, Bool, true, false, Option, None, Some, Ok, Err}
 use Rattle.std.specs.List.{join_with_byte, concat}
 use Rattle.std.specs.String.{string_capacity}
@@ -33,73 +33,73 @@ use Rattle.chain_commands.specs.declared.command.Command.TheVariants.{Change, Sh
 use Rattle.chain_commands.specs.declared.command.Line.{Line}
 use Rattle.chain_commands.specs.declared.command.Line.TheVariants.{Blank, Bad, Good}
 
--- the arenas of the program: links of numbers, with indexes and generations of 32 bits
+-- The arenas of the program: links of numbers, with 32-bit indexes and generations.
 abbrev pub ToolLinks : Type 0
 ToolLinks = Arena Gen32 (LinkView ℕ)
 
--- a pointer: its index, a dot and its generation
+-- The text of a pointer: its index, a dot and its generation.
 abbrev pub pointer_text : ℕ × Gen32 → List ℕ
 pointer_text p = decimal p.0 ++ codes "." ++ decimal (number_of_gen32 p.1)
 
--- a neighbour: its pointer, or a dash
+-- The text of a neighbor: its pointer, or a dash.
 abbrev pub neighbor_text : Option (ℕ × Gen32) → List ℕ
 neighbor_text None = codes "-"
 neighbor_text (Some p) = pointer_text p
 
--- a link: its neighbours and its value
+-- The text of a link: its neighbors and its value.
 abbrev pub show_text : Option (ℕ × Gen32) → Option (ℕ × Gen32) → ℕ → List ℕ
 show_text prev next value = codes "prev " ++ neighbor_text prev ++ codes " next " ++ neighbor_text next ++ codes " value " ++ decimal value
 
--- a link of a walk: its pointer and its value
+-- The text of a link in a walk: its pointer and its value.
 abbrev pub passed_text : ℕ × Gen32 → ℕ → List ℕ
 passed_text p value = pointer_text p ++ codes ":" ++ decimal value
 
 abbrev pub walked_text : ℕ × (Gen32 × LinkView ℕ) → List ℕ
 walked_text e = passed_text (e.0, e.1.0) e.1.1.value
 
--- a walk: its links, with a space between
+-- The text of a walk: its links, separated by spaces.
 abbrev pub walk_text : List (ℕ × (Gen32 × LinkView ℕ)) → List ℕ
 walk_text links = join_with_byte 32 (map walked_text links)
 
--- a pointer is valid: a link stands at its index with its generation
+-- The pointer is valid in the arena.
 abbrev pub IsValidIn : ToolLinks → ℕ × Gen32 → Type 0
 IsValidIn a p = IsValid (entry a) p
 
--- the link of a pointer, with the pointers of now to its neighbours, and its value
+-- The link at a pointer, with the current pointers of its neighbors and its value.
 abbrev pub IsLinkIn : ToolLinks → ℕ × Gen32 → Option (ℕ × Gen32) → Option (ℕ × Gen32) → ℕ → Type 0
 IsLinkIn a p prev next value = chain.IsLinkAt (entry a) (link_map a) p prev next value
 
--- the pointer of a link, and a value
+-- The texts of a link's pointer and of a value.
 abbrev pub at_text : ToolPtr → List ℕ
 at_text p = codes "at " ++ pointer_text (key_of p)
 
 abbrev pub value_text : ℕ → List ℕ
 value_text value = codes "value " ++ decimal value
 
--- an answer where the pointer or index may be invalid, and the counter may have overflowed
+-- The text of a result where the pointer may be invalid and the counter may overflow.
 abbrev pub invalidation_text : {A : Type 0} → (A → List ℕ) → InvalidationResult A → List ℕ
 invalidation_text text (result.Success x) = text x
 invalidation_text text (result.GenerationOverflow x) = text x ++ codes " overflow"
 invalidation_text text result.InvalidPtr = codes "none"
 
--- whether the counter has overflowed, and nothing else
+-- The text of a call that reports only whether the counter overflowed.
 abbrev pub counted_text : InvalidationOption Unit → List ℕ
 counted_text (option.Success done) = codes "ok"
 counted_text (option.GenerationOverflow done) = codes "ok overflow"
 
--- why there is no new link
+-- The reason that an insertion failed.
 abbrev pub refusal_text : ChainInsertionError → List ℕ
 refusal_text failed.FailedLinkRequirement = codes "refused link"
 refusal_text failed.NotWithinCapacity = codes "refused capacity"
 refusal_text failed.AllocError = codes "refused memory"
 refusal_text failed.BeyondMaxCapacity = codes "refused limit"
 
--- why there is no more room
+-- The reason that a growth failed.
 abbrev pub growth_refusal_text : ReallocationError → List ℕ
 growth_refusal_text refused.AllocError = codes "refused memory"
 growth_refusal_text refused.BeyondMaxCapacity = codes "refused limit"
 
--- the reply to a call
+-- The text of the reply to a call.
 abbrev pub reply_text : Reply ToolPtr ℕ Inx32 Gen32 ℕ → List ℕ
 reply_text (Inserted (Ok p)) = at_text p
 reply_text (Inserted (Err error)) = refusal_text error
@@ -115,11 +115,11 @@ reply_text (Reserved (Ok done)) = codes "ok"
 reply_text (Reserved (Err error)) = growth_refusal_text error
 reply_text Set = codes "ok"
 
--- the greatest index of 32 bits
+-- The greatest 32-bit index.
 abbrev pub greatest_index : ℕ
 greatest_index = 0xffff_ffff
 
--- the pointers of the program: indexes and generations of 32 bits
+-- The pointers of the program, with 32-bit indexes and generations.
 abbrev pub tool_pointers : PointerKind ToolPtr Inx32 Gen32 ℕ
 tool_pointers = record {
   key = key_of;
@@ -131,7 +131,7 @@ tool_pointers = record {
   wraps = is_greatest32;
 }
 
--- a call is a step of the chain machine, and its answer is the text of the reply
+-- A call is a step of the chain machine, and its response is the text of the reply.
 abbrev pub RespondsToCall : ToolLinks → LinkCall → List ℕ → ToolLinks → Type 0
 RespondsToCall old call text new = (reply : Reply ToolPtr ℕ Inx32 Gen32 ℕ) × Step tool_pointers old call reply new × (text ≡ reply_text reply)
 
@@ -143,25 +143,25 @@ pub data RespondsToChain (old : ToolLinks) (p : ℕ × Gen32) (text : List ℕ) 
   walk : (links : List (ℕ × (Gen32 × LinkView ℕ))) → IsValidIn old p → IsWalkOf old p.0 links → text ≡ walk_text links → RespondsToChain old p text
   no_walk : (IsValidIn old p → ⊥) → text ≡ codes "none" → RespondsToChain old p text
 
--- a link that got another pointer: the one that it had and the one that it has
+-- The text of the old and the new pointer of a link.
 abbrev pub move_text : ToolPtr × ToolPtr → List ℕ
 move_text m = codes " " ++ pointer_text (key_of m.0) ++ codes ">" ++ pointer_text (key_of m.1)
 
--- at the end of an answer, whether the counter has overflowed
+-- The end of a response, which reports an overflow of the counter.
 abbrev pub overflow_text : InvalidationOption Unit → List ℕ
 overflow_text (option.Success done) = []
 overflow_text (option.GenerationOverflow done) = codes " overflow"
 
--- how many links got other pointers, which, and whether the counter has overflowed
+-- The text of the number of links, their old and new pointers, and any overflow of the counter.
 abbrev pub moves_text : List (ToolPtr × ToolPtr) → InvalidationOption Unit → List ℕ
 moves_text moves told = codes "moved " ++ decimal (length moves) ++ concat (map move_text moves) ++ overflow_text told
 
--- a text takes more bytes within the room that it has
+-- The text has capacity for more bytes.
 abbrev pub HasCapacityForText : String Global → List ℕ → Type 0
 HasCapacityForText text more = length (string_bytes text) + length more ≤ string_capacity text
 
--- the chains are laid one after another by a step of the chain machine, and each link's old and new pointer is told, by
--- rising new index
+-- A canonical compression by a step of the chain machine, with the old and the new pointer of each
+-- link, by increasing new index.
 pub record RespondsToMoves (old : ToolLinks) (reset : Bool) (text : List ℕ) (new : ToolLinks) : Type 0 where
   pub told : InvalidationOption Unit
   pub moves : List (ToolPtr × ToolPtr)
@@ -169,7 +169,7 @@ pub record RespondsToMoves (old : ToolLinks) (reset : Bool) (text : List ℕ) (n
   pub all : AreAllMoves key_of (value_view old) (link_map old) new.counter moves
   pub words : text ≡ moves_text moves told
 
--- what a command answers, and the arena after it
+-- The response to a command, and the arena after it.
 abbrev pub RespondsToCommand : ToolLinks → Command → List ℕ → ToolLinks → Type 0
 RespondsToCommand old (Change call) text new = RespondsToCall old call text new
 RespondsToCommand old (Show p) text new = RespondsToShow old (key_of p) text × (new ≡ old)
@@ -177,12 +177,12 @@ RespondsToCommand old (Chain p) text new = RespondsToChain old (key_of p) text �
 RespondsToCommand old (Moves reset) text new = RespondsToMoves old reset text new
 RespondsToCommand old Len text new = (text ≡ codes "count " ++ decimal (entry_count old)) × (new ≡ old)
 
--- what a line is answered, and the arena after it; an answer ends with a line feed
+-- The response to a line, which ends with a line feed, and the arena after it.
 abbrev pub RespondsToLine : ToolLinks → Line → List ℕ → ToolLinks → Type 0
 RespondsToLine old Blank text new = (text ≡ []) × (new ≡ old)
 RespondsToLine old Bad text new = (text ≡ codes "bad line" ++ 10 ∷ []) × (new ≡ old)
 RespondsToLine old (Good command) text new = (words : List ℕ) × (text ≡ words ++ 10 ∷ []) × RespondsToCommand old command words new
 
--- a line is a call, and leaves its step
+-- The line is a call that has taken effect.
 abbrev pub LeavesStep : ToolLinks → Line → ToolLinks → Type 0
 LeavesStep old line new = (call : LinkCall) × (text : List ℕ) × (line ≡ Good (Change call)) × RespondsToCall old call text new

@@ -1,4 +1,4 @@
--- What the program answers to all that it reads, and how far it comes where reading, writing or memory fails.
+-- The responses of the program to its whole input, and how it stops at a fault.
 use Rattle.std.specs.Prelude.{◌≡◌, ℕ, List, [], ◌∷◌, ◌++◌, Option, Result, Ok, Err}
 use Rattle.std.specs.Io.KnownBytes.{Consumes, Appends, IsAtEnd}
 use Rattle.chain_commands.specs.declared.session.ToolError.{ToolError}
@@ -7,13 +7,13 @@ use Rattle.chain_commands.specs.Words.{lines_of, whole_lines}
 use Rattle.chain_commands.specs.Commands.{line_of}
 use Rattle.chain_commands.specs.Responses.{ToolLinks, RespondsToLine, LeavesStep}
 
--- the answers to lines, one after another, and the arena after them
+-- The responses to lines, one after another, and the arena after them.
 abbrev pub Transcribes : ToolLinks → List (List ℕ) → List ℕ → ToolLinks → Type 0
 Transcribes old [] text new = (text ≡ []) × (new ≡ old)
 Transcribes old (line ∷ lines) text new = (mid : ToolLinks) × (first : List ℕ) × (rest : List ℕ) × RespondsToLine old (line_of line) first mid × Transcribes mid lines rest new × (text ≡ first ++ rest)
 
--- A run, from what the reader had left and the writer held to what they have left and hold, as far as they tell it.
--- Nothing is left unread, and what is written is the answers to all the lines that were read, and nothing else.
+-- A complete run: nothing is left unread, and the responses to all lines are written, nothing else.
+-- Readers and writers are described by their remaining and held bytes, as far as these are known.
 pub record TranscribesAll (old new : ToolLinks) (left left_after held held_after : Option (List ℕ)) : Type 0 where
   pub read : List ℕ
   pub text : List ℕ
@@ -22,7 +22,7 @@ pub record TranscribesAll (old new : ToolLinks) (left left_after held held_after
   pub writes : Appends held held_after text
   pub answers : Transcribes old (lines_of read) text new
 
--- A run that cannot read on: what is written is the answers to all the whole lines that were read.
+-- A run whose reader fails: the responses to all whole lines that were read are written.
 pub record StopsReading (old new : ToolLinks) (left left_after held held_after : Option (List ℕ)) : Type 0 where
   pub read : List ℕ
   pub text : List ℕ
@@ -30,19 +30,20 @@ pub record StopsReading (old new : ToolLinks) (left left_after held held_after :
   pub writes : Appends held held_after text
   pub answers : Transcribes old (whole_lines read) text new
 
--- The complete lines of what was read: the whole ones, and where the reader is at its end the last one too. A line of
--- which more may come is not carried out.
+-- The complete lines of what was read: those with a line feed, and the last one too if the reader
+-- is at its end. An incomplete line is not executed.
 pub data AreComplete (read : List ℕ) (left_after : Option (List ℕ)) : List (List ℕ) → Type 0 where
   by_line_feed : AreComplete read left_after (whole_lines read)
   by_the_end : IsAtEnd left_after → AreComplete read left_after (lines_of read)
 
--- the answers to some first lines, the last of them perhaps in part alone
+-- The responses to some first lines, the last one possibly in part.
 pub data IsCutShort (old new : ToolLinks) : List (List ℕ) → List ℕ → Type 0 where
   between : (answered others : List (List ℕ)) (text : List ℕ) → Transcribes old answered text new → IsCutShort old new (answered ++ others) text
   within : (answered others : List (List ℕ)) (line : List ℕ) (mid : ToolLinks) (text front rest : List ℕ)
       → Transcribes old answered text mid → RespondsToLine mid (line_of line) (front ++ rest) new → IsCutShort old new (answered ++ line ∷ others) (text ++ front)
 
--- A run that cannot write on: the arena is as the steps of the complete lines answered leave it, the last one included.
+-- A run whose writer fails: the arena is as the complete lines executed so far leave it, the last
+-- one included.
 pub record StopsWriting (old new : ToolLinks) (left left_after held held_after : Option (List ℕ)) : Type 0 where
   pub read : List ℕ
   pub lines : List (List ℕ)
@@ -52,13 +53,13 @@ pub record StopsWriting (old new : ToolLinks) (left left_after held held_after :
   pub writes : Appends held held_after text
   pub answers : IsCutShort old new lines text
 
--- the answers to some first lines; the next line, if it is a call, has left its step, or not
+-- The responses to some first lines; the next line, if a call, may have taken effect.
 pub data TranscribesSome (old new : ToolLinks) : List (List ℕ) → List ℕ → Type 0 where
   before : (answered others : List (List ℕ)) (text : List ℕ) → Transcribes old answered text new → TranscribesSome old new (answered ++ others) text
   after : (answered others : List (List ℕ)) (line : List ℕ) (mid : ToolLinks) (text : List ℕ)
       → Transcribes old answered text mid → LeavesStep mid (line_of line) new → TranscribesSome old new (answered ++ line ∷ others) text
 
--- A run without memory for a line or an answer: of the complete lines some first ones are answered.
+-- A run in which an allocation fails: the responses to some first complete lines are written.
 pub record StopsForMemory (old new : ToolLinks) (left left_after held held_after : Option (List ℕ)) : Type 0 where
   pub read : List ℕ
   pub lines : List (List ℕ)
@@ -68,7 +69,7 @@ pub record StopsForMemory (old new : ToolLinks) (left left_after held held_after
   pub writes : Appends held held_after text
   pub answers : TranscribesSome old new lines text
 
--- how a run ends, by its result
+-- The end of a run, by its result.
 abbrev pub Ends : {A : Type 0} → Result A ToolError → ToolLinks → ToolLinks → Option (List ℕ) → Option (List ℕ) → Option (List ℕ) → Option (List ℕ) → Type 0
 Ends (Ok x) old new left left_after held held_after = TranscribesAll old new left left_after held held_after
 Ends (Err errors.Read) old new left left_after held held_after = StopsReading old new left left_after held held_after

@@ -1,4 +1,5 @@
--- Lines, words, numbers and pointers of a text. A text is its bytes: 10 ends a line, 32 parts words, 46 parts a pointer.
+-- Lines, words, numbers and pointers in a text of bytes: 10 ends a line, 32 separates words, 46 is
+-- the dot of a pointer.
 use Rattle.std.specs.Prelude.{◌≡◌, refl, ℕ, leb, ◌-◌, ◌==◌, ◌&&◌, nat_lt, nat_le, Bool, true, false}
 use Rattle.std.specs.Prelude.{if◌then◌else◌, List, [], ◌∷◌, length, take, slice_index, filter, Option, Some, None, option_and_then}
 use Rattle.std.specs.List.{slice_split, before_first, after_first}
@@ -10,25 +11,25 @@ use Rattle.arena_ptr.specs.declared.index.inx32.Inx32.{Inx32}
 use Rattle.arena_ptr.specs.declared.generation.gen32.Gen32.{Gen32}
 use Rattle.arena_ptr.specs.declared.tool_ptr.ToolPtr.{ToolPtr}
 
--- the pieces of a text between the bytes b: one at least, and some may be empty
+-- The pieces of a text between bytes `b`: at least one, and possibly empty ones.
 abbrev pub pieces : ℕ → List ℕ → List (List ℕ)
 pieces b text = slice_split (λ c. c == b) text
 
--- each piece but the last
+-- All pieces but the last.
 abbrev pub all_but_last : List (List ℕ) → List (List ℕ)
 all_but_last [] = []
 all_but_last (piece ∷ []) = []
 all_but_last (piece ∷ next ∷ others) = piece ∷ all_but_last (next ∷ others)
 
--- the lines of a text: what is after the last line feed is a line too, and may be empty
+-- The lines of a text, including the possibly empty one after the last line feed.
 abbrev pub lines_of : List ℕ → List (List ℕ)
 lines_of text = pieces 10 text
 
--- the lines that end with their line feed
+-- The lines that end with a line feed.
 abbrev pub whole_lines : List ℕ → List (List ℕ)
 whole_lines text = all_but_last (lines_of text)
 
--- a line without its last byte, where that is a carriage return
+-- A line without a carriage return at its end.
 abbrev pub without_return : List ℕ → List ℕ
 without_return line = if slice_index line (length line - 1) == 13 then take (length line - 1) line else line
 
@@ -36,18 +37,18 @@ abbrev pub is_filled : List ℕ → Bool
 is_filled [] = false
 is_filled (c ∷ bytes) = true
 
--- the words: the pieces between spaces that are not empty
+-- The words of a text: its nonempty pieces between spaces.
 abbrev pub words_of : List ℕ → List (List ℕ)
 words_of text = filter is_filled (pieces 32 text)
 
--- 1 to 10 decimal digits, up to 4294967295
+-- 1 to 10 decimal digits, up to 4294967295.
 abbrev pub is_number : List ℕ → Bool
 is_number word = nat_lt 0 (length word) && nat_le (length word) 10 && all_ascii_digits word && nat_le (digits_value 10 word) 4294967295
 
 abbrev pub number_of : List ℕ → Option ℕ
 number_of word = if is_number word then Some (digits_value 10 word) else None
 
--- what is made of a number from 1 to 4294967295, and nothing of any other
+-- Applies `make` to a number from 1 to 4294967295, and gives `None` for any other.
 module _ {A : Type 0} (make : (n : ℕ) → IsWithin 0xffff_ffff n → A) where
   abbrev pub made_if : (n : ℕ) (low high : Bool) → leb 1 n ≡ low → leb n 0xffff_ffff ≡ high → Option A
   made_if n true true at_least at_most = Some (make n (leb-true 1 n at_least, leb-true n 0xffff_ffff at_most))
@@ -63,19 +64,19 @@ index_at n within = record { number = n; in_range = within }
 abbrev pub generation_at : (n : ℕ) → IsWithin 0xffff_ffff n → Gen32
 generation_at n within = record { number = n; in_range = within }
 
--- the index of a number, from 1 on
+-- The index with number `n`, if `n` is from 1 to 4294967295.
 unfoldable pub index_named : ℕ → Option Inx32
 index_named n = made_of index_at n
 
--- the generation of a number, from 1 on
+-- The generation with number `n`, if `n` is from 1 to 4294967295.
 unfoldable pub generation_of : ℕ → Option Gen32
 generation_of n = made_of generation_at n
 
--- a word that is an index
+-- The index that a word states.
 abbrev pub index_word : List ℕ → Option Inx32
 index_word word = option_and_then index_named (number_of word)
 
--- a word that is a generation
+-- The generation that a word states.
 abbrev pub generation_word : List ℕ → Option Gen32
 generation_word word = option_and_then generation_of (number_of word)
 
@@ -87,6 +88,6 @@ pointer_with (Some index) (Some generation) = Some (record { inx = index; genera
 abbrev pub is_dot : ℕ → Bool
 is_dot c = c == 46
 
--- a pointer is an index, a dot and a generation
+-- The pointer that a word states: an index, a dot and a generation.
 abbrev pub pointer_of : List ℕ → Option ToolPtr
 pointer_of word = pointer_with (index_word (before_first is_dot word)) (generation_word (after_first is_dot word))

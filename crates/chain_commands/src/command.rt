@@ -1,4 +1,4 @@
-//! Commands, and the lines that write them.
+//! Commands, and the parser of lines.
 ghost use Rattle.std.specs.Prelude.{◌≡◌, bytes_eq, option_map};
 ghost use Rattle.chain_links.specs.declared.kinds.InsertKindBody.TheVariants.{AtInterlink, AtInterlinkInx, Bridge, BridgeInx};
 ghost use Rattle.chain_commands.specs.Words.{words_of};
@@ -8,33 +8,35 @@ use crate::lexer::{generation, index, next_word, number, pointer, without_return
 use arena_ptr::{Inx32, ToolPtr};
 use chain_arena::{Call, LinkInsertKind};
 
-/// A command, with its arguments.
+/// A command with its arguments.
 #[derive(Drop)]
 pub enum Command {
     /// A call that may change the links.
     Change(Call<ToolPtr, u32>),
-    /// `show P`: the link and its neighbours.
+    /// `show P`: the value and the neighbors of a link.
     Show(ToolPtr),
-    /// `chain P`: the walk from the link.
+    /// `chain P`: the walk of a chain from a link.
     Chain(ToolPtr),
     /// `len`: the number of links.
     Len,
-    /// `moves F`: the chains are laid one after another, and each link's old and new pointer is told.
+    /// `moves F`: compresses canonically and lists the old and the new pointer of each link.
     Moves(bool),
 }
 
-/// What a line says.
+/// A parsed line.
 #[derive(Drop)]
 pub enum Line {
-    /// Nothing: it has no words.
+    /// A line without words.
     Blank,
-    /// No command.
+    /// A line that is no command.
     Bad,
-    /// A command to carry out.
+    /// A command to execute.
     Good(Command),
 }
 
-/// What a line says.
+/// Parses a line.
+///
+/// A line of more than 200 bytes is `Bad`.
 pub fn parse(line: &[u8]) -> Line
     ensures { result ≡ line_of line.now }
 {
@@ -50,7 +52,7 @@ pub fn parse(line: &[u8]) -> Line
     }
 }
 
-/// The command of a name and the arguments after it.
+/// Parses the command with this name and these arguments.
 fn named(name: &[u8], arguments: &[u8]) -> Option<Command>
     ensures { result ≡ command_of name.now (words_of arguments.now) }
 {
@@ -68,7 +70,7 @@ fn named(name: &[u8], arguments: &[u8]) -> Option<Command>
     }
 }
 
-/// The call of a name and the arguments after it.
+/// Parses the call with this name and these arguments.
 fn call(name: &[u8], arguments: &[u8]) -> Option<Call<ToolPtr, u32>>
     ensures { result ≡ call_of name.now (words_of arguments.now) }
 {
@@ -93,7 +95,7 @@ fn call(name: &[u8], arguments: &[u8]) -> Option<Call<ToolPtr, u32>>
     }
 }
 
-/// The call of a name that takes links or their pointers away, and the arguments after it, or else the renumbering.
+/// Parses a call that removes links or invalidates pointers, or else a renumbering.
 fn removing(name: &[u8], arguments: &[u8]) -> Option<Call<ToolPtr, u32>>
     ensures { result ≡ removing name.now (words_of arguments.now) }
 {
@@ -112,7 +114,7 @@ fn removing(name: &[u8], arguments: &[u8]) -> Option<Call<ToolPtr, u32>>
     }
 }
 
-/// The renumbering of a name and the arguments after it, or else the call on the room or the counter.
+/// Parses a renumbering, or else a call on the capacity or the counter.
 fn renumbering(name: &[u8], arguments: &[u8]) -> Option<Call<ToolPtr, u32>>
     ensures { result ≡ renumbering name.now (words_of arguments.now) }
 {
@@ -125,7 +127,7 @@ fn renumbering(name: &[u8], arguments: &[u8]) -> Option<Call<ToolPtr, u32>>
     }
 }
 
-/// The call on the room or the counter of a name and the arguments after it.
+/// Parses a call on the capacity or the counter.
 fn room_or_counter(name: &[u8], arguments: &[u8]) -> Option<Call<ToolPtr, u32>>
     ensures { result ≡ room_or_counter name.now (words_of arguments.now) }
 {
@@ -141,14 +143,14 @@ fn room_or_counter(name: &[u8], arguments: &[u8]) -> Option<Call<ToolPtr, u32>>
     }
 }
 
-/// Whether a word is this text.
+/// Returns whether a word equals `text`.
 fn is(word: &[u8], text: &str) -> bool
     ensures { result ≡ bytes_eq word.now text.now }
 {
     word == text.as_bytes()
 }
 
-/// The kind of a new link, with the links that it comes beside, and its value at the end.
+/// Parses the kind of a new link, its neighbors, and its value at the end.
 fn kind_and_value(arguments: &[u8]) -> Option<(LinkInsertKind<ToolPtr>, u32)>
     ensures { result ≡ kind_and_value (words_of arguments.now) }
 {
@@ -166,7 +168,7 @@ fn kind_and_value(arguments: &[u8]) -> Option<(LinkInsertKind<ToolPtr>, u32)>
     }
 }
 
-/// The kind of this name beside no link.
+/// Parses a kind that names no neighbor.
 fn kind_alone(name: &[u8]) -> Option<LinkInsertKind<ToolPtr>>
     ensures { result ≡ kind_alone name.now }
 {
@@ -179,7 +181,7 @@ fn kind_alone(name: &[u8]) -> Option<LinkInsertKind<ToolPtr>>
     }
 }
 
-/// The kind of this name beside one link: a pointer, or an index.
+/// Parses a kind that names one neighbor, by pointer or index.
 fn kind_beside(name: &[u8], word: &[u8]) -> Option<LinkInsertKind<ToolPtr>>
     ensures { result ≡ kind_beside name.now word.now }
 {
@@ -202,7 +204,7 @@ fn kind_beside(name: &[u8], word: &[u8]) -> Option<LinkInsertKind<ToolPtr>>
     }
 }
 
-/// The kind of this name between two links: two pointers, or two indexes.
+/// Parses a kind that names two neighbors, both by pointer or both by index.
 fn kind_between(name: &[u8], first: &[u8], second: &[u8]) -> Option<LinkInsertKind<ToolPtr>>
     ensures { result ≡ kind_between name.now first.now second.now }
 {
@@ -217,7 +219,7 @@ fn kind_between(name: &[u8], first: &[u8], second: &[u8]) -> Option<LinkInsertKi
     }
 }
 
-/// The kind between two neighbours.
+/// Returns the kind between two neighbors.
 fn between(
     pointers: Option<(ToolPtr, ToolPtr)>,
     indexes: Option<(Inx32, Inx32)>,
@@ -234,7 +236,7 @@ fn between(
     }
 }
 
-/// The kind after an end and before a start.
+/// Returns the kind after the end of a chain and before a start.
 fn bridge(
     pointers: Option<(ToolPtr, ToolPtr)>,
     indexes: Option<(Inx32, Inx32)>,
@@ -250,7 +252,7 @@ fn bridge(
     }
 }
 
-/// Where there are no arguments.
+/// Returns `Some` if there are no arguments.
 fn no_arguments(arguments: &[u8]) -> Option<()>
     ensures { result ≡ no_arguments (words_of arguments.now) }
 {
@@ -260,7 +262,7 @@ fn no_arguments(arguments: &[u8]) -> Option<()>
     }
 }
 
-/// Whether a compression begins the counter anew.
+/// Parses whether a compression resets the counter.
 fn reset(word: &[u8]) -> Option<bool>
     ensures { result ≡ reset_word word.now }
 {
@@ -273,7 +275,7 @@ fn reset(word: &[u8]) -> Option<bool>
     }
 }
 
-/// The removal of the link of a pointer, or of the link at an index.
+/// Parses the removal of a link, by pointer or index.
 fn removal(arguments: &[u8]) -> Option<Call<ToolPtr, u32>>
     ensures { result ≡ removal (words_of arguments.now) }
 {
@@ -284,7 +286,7 @@ fn removal(arguments: &[u8]) -> Option<Call<ToolPtr, u32>>
     }
 }
 
-/// The arguments, where they are one word.
+/// Returns the argument if it is a single word.
 fn one_word(arguments: &[u8]) -> Option<&[u8]>
     ensures { option_map (λ word. word.now) result ≡ one_word (words_of arguments.now) }
 {
@@ -295,14 +297,14 @@ fn one_word(arguments: &[u8]) -> Option<&[u8]>
     }
 }
 
-/// The arguments, where they are one pointer.
+/// Parses the arguments as one pointer.
 fn one_pointer(arguments: &[u8]) -> Option<ToolPtr>
     ensures { result ≡ one_pointer (words_of arguments.now) }
 {
     pointer(one_word(arguments)?)
 }
 
-/// The arguments, where they are two pointers.
+/// Parses the arguments as two pointers.
 fn two_pointers(arguments: &[u8]) -> Option<(ToolPtr, ToolPtr)>
     ensures { result ≡ two_pointers (words_of arguments.now) }
 {
@@ -310,7 +312,7 @@ fn two_pointers(arguments: &[u8]) -> Option<(ToolPtr, ToolPtr)>
     Some((pointer(word)?, one_pointer(rest)?))
 }
 
-/// The arguments, where they are one pointer and one number.
+/// Parses the arguments as a pointer and a number.
 fn pointer_and_number(arguments: &[u8]) -> Option<(ToolPtr, usize)>
     ensures { result ≡ pointer_and_number (words_of arguments.now) }
 {

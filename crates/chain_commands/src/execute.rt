@@ -1,4 +1,4 @@
-//! The answers to lines: each command is one step of the arena or one lookup.
+//! Execution of lines: each command is one step of the arena or one lookup.
 ghost use Rattle.std.specs.Prelude.{◌≡◌, ℕ, List, ◌⊎◌, Bool, OnOk, OnErr, codes, string_bytes};
 ghost use Rattle.arena_ptr.specs.ToolPtr.{key_of};
 ghost use Rattle.chain_commands.specs.Commands.{line_of};
@@ -12,8 +12,12 @@ use arena_ptr::{SlotStack, ToolPtr};
 use chain_arena::{Call, ChainArena, ChainArenaTrait, LinkNoGen, apply};
 use std::alloc::AllocError;
 
-/// Carries out a line, and makes its answer in `text`. An `Err` is memory for the answer: the step of a call may be made
-/// then, and that of no other line.
+/// Executes a line and writes its response to `text`.
+///
+/// # Errors
+///
+/// - `AllocError`: an allocation for the response failed. A call may have taken effect; any other
+///   line has not.
 pub fn answer<S: SlotStack<Item = ArenaSlot<ToolPtr, LinkNoGen<ToolPtr, u32>>>>(
     arena: &mut ChainArena<ToolPtr, u32, S>,
     line: &[u8],
@@ -35,7 +39,8 @@ pub fn answer<S: SlotStack<Item = ArenaSlot<ToolPtr, LinkNoGen<ToolPtr, u32>>>>(
     }
 }
 
-/// Carries out a command, and makes its answer in `text`. After `moves F` there is room for a line feed.
+/// Executes a command and writes its response to `text`. After `moves F`, `text` has capacity for a
+/// line feed.
 fn carry_out<S: SlotStack<Item = ArenaSlot<ToolPtr, LinkNoGen<ToolPtr, u32>>>>(
     arena: &mut ChainArena<ToolPtr, u32, S>,
     command: Command,
@@ -60,7 +65,7 @@ fn carry_out<S: SlotStack<Item = ArenaSlot<ToolPtr, LinkNoGen<ToolPtr, u32>>>>(
     }
 }
 
-/// The answer to a call: the text of its reply.
+/// Executes a call and writes its reply to `text`.
 fn change<S: SlotStack<Item = ArenaSlot<ToolPtr, LinkNoGen<ToolPtr, u32>>>>(
     arena: &mut ChainArena<ToolPtr, u32, S>,
     call: Call<ToolPtr, u32>,
@@ -74,7 +79,7 @@ fn change<S: SlotStack<Item = ArenaSlot<ToolPtr, LinkNoGen<ToolPtr, u32>>>>(
     push_reply(text, reply)
 }
 
-/// The answer to `show P`.
+/// Writes the response to `show P`.
 fn show<S: SlotStack<Item = ArenaSlot<ToolPtr, LinkNoGen<ToolPtr, u32>>>>(
     arena: &ChainArena<ToolPtr, u32, S>,
     p: ToolPtr,
@@ -89,7 +94,7 @@ fn show<S: SlotStack<Item = ArenaSlot<ToolPtr, LinkNoGen<ToolPtr, u32>>>>(
     }
 }
 
-/// The answer to `chain P`.
+/// Writes the response to `chain P`.
 fn chain<S: SlotStack<Item = ArenaSlot<ToolPtr, LinkNoGen<ToolPtr, u32>>>>(
     arena: &ChainArena<ToolPtr, u32, S>,
     p: ToolPtr,
@@ -104,7 +109,8 @@ fn chain<S: SlotStack<Item = ArenaSlot<ToolPtr, LinkNoGen<ToolPtr, u32>>>>(
     }
 }
 
-/// The answer to `moves F`. The room for it and its line feed is taken first, and nothing later asks for memory.
+/// Executes `moves F` and writes its response. All memory, also for the line feed, is allocated
+/// before the arena changes.
 fn moves<S: SlotStack<Item = ArenaSlot<ToolPtr, LinkNoGen<ToolPtr, u32>>>>(
     arena: &mut ChainArena<ToolPtr, u32, S>,
     reset: bool,

@@ -1,4 +1,4 @@
-//! The answer to `moves F`, which is written into room that was taken before.
+//! The response to `moves F`, written into reserved capacity without allocating.
 ghost use Rattle.std.specs.Prelude.{◌≡◌, ◌+◌, ◌<◌, ◌≤◌, ◌∷◌, [], ◌++◌, List, length, map, decimal, string_bytes};
 ghost use Rattle.std.specs.List.{concat};
 ghost use Rattle.std.specs.String.{string_capacity};
@@ -7,7 +7,8 @@ ghost use Rattle.chain_commands.specs.Responses.{greatest_index, pointer_text, m
 
 use arena_ptr::{InvalidationOption, PtrKey, ToolPtr};
 
-/// Room for the answer to `moves F` and its line feed: up to 26 bytes around, and up to 44 for each link.
+/// Returns the capacity in bytes for the response to `moves F` and its line feed: 26, and 44 for
+/// each link.
 pub fn room_for_moves(links: usize) -> usize
     requires { links ≤ greatest_index }
     ensures { (moves : List (ToolPtr × ToolPtr)) (told : InvalidationOption Unit) →
@@ -16,7 +17,7 @@ pub fn room_for_moves(links: usize) -> usize
     links * 44 + 26
 }
 
-/// Adds words to a text that has room for them.
+/// Appends words, within the capacity.
 fn write_words(text: &mut String, words: &str)
     requires { HasCapacityForText text.old words.now }
     ensures bytes { string_bytes text.new ≡ string_bytes text.old ++ words.now }
@@ -25,7 +26,7 @@ fn write_words(text: &mut String, words: &str)
     text.push_str(words).unwrap();
 }
 
-/// Adds a digit to a text that has room for it.
+/// Appends a digit, within the capacity.
 fn write_digit(text: &mut String, digit: usize)
     requires below { digit < 10 }
     requires room { HasCapacityForText text.old ((48 + digit) ∷ []) }
@@ -36,7 +37,7 @@ fn write_digit(text: &mut String, digit: usize)
     text.push(letter).unwrap();
 }
 
-/// Adds a number, in decimal digits, to a text that has room for them.
+/// Appends a number in decimal, within the capacity.
 fn write_decimal(text: &mut String, n: usize)
     requires { HasCapacityForText text.old (decimal n) }
     ensures bytes { string_bytes text.new ≡ string_bytes text.old ++ decimal n }
@@ -50,7 +51,7 @@ fn write_decimal(text: &mut String, n: usize)
     }
 }
 
-/// Adds a pointer to a text that has room for it.
+/// Appends a pointer, within the capacity.
 fn write_pointer(text: &mut String, p: ToolPtr)
     requires { HasCapacityForText text.old (pointer_text (key_of p)) }
     ensures bytes { string_bytes text.new ≡ string_bytes text.old ++ pointer_text (key_of p) }
@@ -61,7 +62,7 @@ fn write_pointer(text: &mut String, p: ToolPtr)
     write_decimal(text, p.generation().get() as usize);
 }
 
-/// Adds the old and the new pointer of a link to a text that has room for them.
+/// Appends the old and the new pointer of a link, within the capacity.
 fn write_move(text: &mut String, from: ToolPtr, to: ToolPtr)
     requires { HasCapacityForText text.old (move_text (from, to)) }
     ensures bytes { string_bytes text.new ≡ string_bytes text.old ++ move_text (from, to) }
@@ -73,7 +74,7 @@ fn write_move(text: &mut String, from: ToolPtr, to: ToolPtr)
     write_pointer(text, to);
 }
 
-/// Adds the old and the new pointers of links to a text that has room for them.
+/// Appends the old and the new pointers of links, within the capacity.
 fn write_each(text: &mut String, moves: &[(ToolPtr, ToolPtr)])
     requires { HasCapacityForText text.old (concat (map move_text moves.now)) }
     ensures bytes { string_bytes text.new ≡ string_bytes text.old ++ concat
@@ -87,7 +88,7 @@ fn write_each(text: &mut String, moves: &[(ToolPtr, ToolPtr)])
     }
 }
 
-/// At the end of an answer, whether the counter has overflowed.
+/// Returns the end of a response, which reports an overflow of the counter.
 fn overflow(told: InvalidationOption<()>) -> &'static str
     ensures { result.now ≡ overflow_text told }
 {
@@ -97,7 +98,8 @@ fn overflow(told: InvalidationOption<()>) -> &'static str
     }
 }
 
-/// Adds to a text that has room for it how many links got other pointers, which, and whether the counter has overflowed.
+/// Appends the number of links, their old and new pointers, and any overflow of the counter, within
+/// the capacity.
 pub fn write_moves(text: &mut String, moves: &[(ToolPtr, ToolPtr)], told: InvalidationOption<()>)
     requires { HasCapacityForText text.old (moves_text moves.now told) }
     ensures bytes { string_bytes text.new ≡ string_bytes text.old ++ moves_text moves.now told }

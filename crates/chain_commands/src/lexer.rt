@@ -1,11 +1,11 @@
-//! The words of a line, and the numbers and pointers that words are.
+//! The words of a line, and their values as numbers and pointers.
 ghost use Rattle.std.specs.Prelude.{◌≡◌, ◌==◌, ◌∷◌, [], IfSome, IfNone, length, take_while, not};
 ghost use Rattle.std.specs.List.{before_first, after_first};
 ghost use Rattle.chain_commands.specs.Words.{without_return, words_of, number_of, index_word, generation_word, pointer_of};
 
 use arena_ptr::{Gen32, Inx32, PtrKey, ToolPtr};
 
-/// The line without one carriage return at its end.
+/// Returns the line without a carriage return at its end.
 pub fn without_return(line: &[u8]) -> &[u8]
     ensures { result.now ≡ without_return line.now }
 {
@@ -15,7 +15,7 @@ pub fn without_return(line: &[u8]) -> &[u8]
     }
 }
 
-/// The first word of a text, and what is after it. `None` where there is no word.
+/// Returns the first word of a text and the rest, or `None` if there is no word.
 pub fn next_word(text: &[u8]) -> Option<(&[u8], &[u8])>
     ensures word { IfSome result (λ found. words_of text.now ≡ found.0.now ∷ words_of found.1.now) }
     ensures end { IfNone result (words_of text.now ≡ []) }
@@ -27,21 +27,22 @@ pub fn next_word(text: &[u8]) -> Option<(&[u8], &[u8])>
     Some(text.split_at(position(b' ', text)))
 }
 
-/// How many spaces a text begins with.
+/// Returns the number of spaces that a text begins with.
 fn spaces(text: &[u8]) -> usize
     ensures { result ≡ length (take_while (λ c. c == 32) text.now) }
 {
     text.iter().take_while(|c| **c == b' ').count()
 }
 
-/// Where a byte first stands in a text, or else the text's length.
+/// Returns the position of the first such byte in a text, or the text's length if there is none.
 pub fn position(byte: u8, text: &[u8]) -> usize
     ensures { result ≡ length (take_while (λ c. not (c == byte)) text.now) }
 {
     text.iter().take_while(|c| **c != byte).count()
 }
 
-/// What is before the first such byte of a text, and what is after it: all and nothing, where there is none.
+/// Returns the parts of a text before and after the first such byte, or all and nothing if there is
+/// none.
 fn around(byte: u8, text: &[u8]) -> (&[u8], &[u8])
     ensures front { result.0.now ≡ before_first (λ c. c == byte) text.now }
     ensures back { result.1.now ≡ after_first (λ c. c == byte) text.now }
@@ -53,7 +54,7 @@ fn around(byte: u8, text: &[u8]) -> (&[u8], &[u8])
     }
 }
 
-/// The number of a word: 1 to 10 digits, up to 4294967295.
+/// Parses a number of 1 to 10 digits, up to 4294967295.
 pub fn number(word: &[u8]) -> Option<u32>
     ensures { result ≡ number_of word.now }
 {
@@ -70,21 +71,21 @@ pub fn number(word: &[u8]) -> Option<u32>
     u32::try_from(value).ok()
 }
 
-/// The index that a word is: a number from 1 on.
+/// Parses an index: a number of at least 1.
 pub fn index(word: &[u8]) -> Option<Inx32>
     ensures { result ≡ index_word word.now }
 {
     Inx32::new(number(word)?)
 }
 
-/// The generation that a word is: a number from 1 on.
+/// Parses a generation: a number of at least 1.
 pub fn generation(word: &[u8]) -> Option<Gen32>
     ensures { result ≡ generation_word word.now }
 {
     Gen32::new(number(word)?)
 }
 
-/// The pointer that a word is: an index, a dot and a generation.
+/// Parses a pointer: an index, a dot and a generation.
 pub fn pointer(word: &[u8]) -> Option<ToolPtr>
     ensures { result ≡ pointer_of word.now }
 {

@@ -1,5 +1,4 @@
-//! Lines of commands over an arena of links, and their answers: what the program `chain_tool` does between its input and its
-//! output.
+//! Commands on an arena of links, one a line: the library behind the program `chain_tool`.
 #![tactic(auto)]
 
 pub mod command;

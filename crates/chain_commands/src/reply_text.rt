@@ -1,4 +1,4 @@
-//! The texts of answers.
+//! The texts of responses.
 ghost use Rattle.std.specs.Prelude.{◌≡◌, ◌++◌, OnOk, string_bytes, option_map};
 ghost use Rattle.arena_ptr.specs.ToolPtr.{key_of};
 ghost use Rattle.chain_arena.specs.declared.calls.Reply.TheVariants.{Inserted, Drained, Reserved};
@@ -12,7 +12,7 @@ use arena_ptr::{
 use chain_arena::{ChainIter, LinkNoGen, Reply};
 use std::alloc::AllocError;
 
-/// Adds a pointer to a text.
+/// Appends a pointer to a text.
 fn push_pointer(text: &mut String, p: ToolPtr) -> Result<(), AllocError>
     ensures { OnOk result (string_bytes text.new ≡ string_bytes text.old ++ pointer_text
         (key_of p)) }
@@ -20,7 +20,7 @@ fn push_pointer(text: &mut String, p: ToolPtr) -> Result<(), AllocError>
     write!(text, "{}.{}", p.inx().get(), p.generation().get())
 }
 
-/// Adds the pointer of a neighbour to a text, or a dash.
+/// Appends the pointer of a neighbor to a text, or a dash if there is none.
 fn push_neighbor(text: &mut String, neighbor: Option<ToolPtr>) -> Result<(), AllocError>
     ensures { OnOk result (string_bytes text.new ≡ string_bytes text.old ++ neighbor_text
         (option_map key_of neighbor)) }
@@ -31,7 +31,7 @@ fn push_neighbor(text: &mut String, neighbor: Option<ToolPtr>) -> Result<(), All
     }
 }
 
-/// Adds a link to a text: its neighbours and its value.
+/// Appends the neighbors and the value of a link to a text.
 pub fn push_link(
     text: &mut String,
     prev: Option<ToolPtr>,
@@ -49,7 +49,7 @@ pub fn push_link(
     write!(text, " value {value}")
 }
 
-/// Adds the reply to a call to a text.
+/// Appends the reply to a call to a text.
 pub fn push_reply(text: &mut String, reply: Reply<ToolPtr, u32>) -> Result<(), AllocError>
     ensures { OnOk result (string_bytes text.new ≡ string_bytes text.old ++ reply_text reply) }
 {
@@ -66,7 +66,7 @@ pub fn push_reply(text: &mut String, reply: Reply<ToolPtr, u32>) -> Result<(), A
     }
 }
 
-/// Adds the answer to an insertion to a text.
+/// Appends the result of an insertion to a text.
 fn push_inserted(
     text: &mut String,
     answer: Result<ToolPtr, ChainInsertionError>,
@@ -80,7 +80,7 @@ fn push_inserted(
     }
 }
 
-/// Adds the answer to a drain to a text.
+/// Appends the result of a drain to a text.
 fn push_drained(text: &mut String, answer: Option<usize>) -> Result<(), AllocError>
     ensures { OnOk result (string_bytes text.new ≡ string_bytes text.old ++ reply_text
         (Drained answer)) }
@@ -91,7 +91,7 @@ fn push_drained(text: &mut String, answer: Option<usize>) -> Result<(), AllocErr
     }
 }
 
-/// What a growth is answered.
+/// Returns the text for the result of a growth.
 fn reserved(answer: Result<(), ReallocationError>) -> &'static str
     ensures { result.now ≡ reply_text (Reserved answer) }
 {
@@ -101,7 +101,7 @@ fn reserved(answer: Result<(), ReallocationError>) -> &'static str
     }
 }
 
-/// Adds the pointer of a new link to a text.
+/// Appends the pointer of a new link to a text.
 fn push_at(text: &mut String, p: ToolPtr) -> Result<(), AllocError>
     ensures { OnOk result (string_bytes text.new ≡ string_bytes text.old ++ at_text p) }
 {
@@ -109,7 +109,7 @@ fn push_at(text: &mut String, p: ToolPtr) -> Result<(), AllocError>
     push_pointer(text, p)
 }
 
-/// Why there is no new link.
+/// Returns the reason that an insertion failed.
 fn refusal(error: ChainInsertionError) -> &'static str
     ensures { result.now ≡ refusal_text error }
 {
@@ -121,7 +121,7 @@ fn refusal(error: ChainInsertionError) -> &'static str
     }
 }
 
-/// Why there is no more room.
+/// Returns the reason that a growth failed.
 fn growth_refusal(error: ReallocationError) -> &'static str
     ensures { result.now ≡ growth_refusal_text error }
 {
@@ -131,7 +131,7 @@ fn growth_refusal(error: ReallocationError) -> &'static str
     }
 }
 
-/// Adds the value of a link that is gone to a text, and whether the counter has overflowed.
+/// Appends the value of a removed link to a text, and any overflow of the counter.
 fn push_removed(
     text: &mut String,
     answer: InvalidationResult<LinkNoGen<ToolPtr, u32>>,
@@ -146,7 +146,7 @@ fn push_removed(
     }
 }
 
-/// .. of one that was named by its index.
+/// Appends the value of a link removed by index to a text, and any overflow of the counter.
 fn push_removed_inx(
     text: &mut String,
     answer: InvalidationResult<(Gen32, LinkNoGen<ToolPtr, u32>)>,
@@ -163,7 +163,7 @@ fn push_removed_inx(
     }
 }
 
-/// Adds the new pointer of a link to a text, and whether the counter has overflowed.
+/// Appends the new pointer of a link to a text, and any overflow of the counter.
 fn push_renewed(text: &mut String, answer: InvalidationResult<ToolPtr>) -> Result<(), AllocError>
     ensures { OnOk result (string_bytes text.new ≡ string_bytes text.old ++ invalidation_text
         at_text
@@ -179,7 +179,7 @@ fn push_renewed(text: &mut String, answer: InvalidationResult<ToolPtr>) -> Resul
     }
 }
 
-/// Whether the counter has overflowed in a call that has nothing else to tell.
+/// Returns the text for a call that reports only whether the counter overflowed.
 fn counted(answer: InvalidationOption<()>) -> &'static str
     ensures { result.now ≡ counted_text answer }
 {
@@ -189,7 +189,7 @@ fn counted(answer: InvalidationOption<()>) -> &'static str
     }
 }
 
-/// Adds a link of a walk to a text: its pointer and its value.
+/// Appends the pointer and the value of a link to a text.
 fn push_passed(text: &mut String, p: ToolPtr, value: u32) -> Result<(), AllocError>
     ensures { OnOk result (string_bytes text.new ≡ string_bytes text.old ++ passed_text
         (key_of p) value) }
@@ -198,7 +198,7 @@ fn push_passed(text: &mut String, p: ToolPtr, value: u32) -> Result<(), AllocErr
     write!(text, ":{value}")
 }
 
-/// Adds the links of a walk to a text, with a space between.
+/// Appends the links of a walk to a text, separated by spaces.
 pub fn push_walk<S: SlotStack<Item = ArenaSlot<ToolPtr, LinkNoGen<ToolPtr, u32>>>>(
     text: &mut String,
     links: ChainIter<'_, ToolPtr, u32, S>,

@@ -1,4 +1,4 @@
-//! A run: lines come in from a reader, and their answers go out to a writer.
+//! Runs, which read lines from a reader and write the responses to a writer.
 ghost use Rattle.std.specs.Prelude.{◌≡◌, ℕ, List, [], ◌++◌, OnOk, OnErr, IfErr, IfSome, IfNone, All, take, length, Option, None, IfOk, ◌<◌, ◌≤◌, vec_len};
 ghost use Rattle.std.specs.Io.KnownBytes.{Appends, Consumes, Keeps, IsAtEnd};
 ghost use Rattle.arena_ptr.specs.Generations.{two32};
@@ -15,18 +15,18 @@ use chain_arena::{ChainArena, LinkNoGen};
 use std::alloc::Global;
 use std::io::{ErrorKind, Read, Write};
 
-/// Why a run stopped before the end of its input.
+/// The reason that a run stopped before the end of its input.
 #[derive(Clone, Copy, Debug, PartialEq, Eq)]
 pub enum ToolError {
     /// The reader failed.
     Read,
     /// The writer failed.
     Write,
-    /// There is no memory for a line or an answer.
+    /// An allocation failed.
     Memory,
 }
 
-/// Gives a text to a writer. A write that was interrupted is tried again.
+/// Writes a text to a writer, and retries interrupted writes.
 fn put<W: Write>(writer: &mut W, text: &[u8]) -> Result<(), ToolError>
     ensures ok { OnOk result (Appends (W.contents writer.old) (W.contents writer.new) text.now) }
     ensures err { OnErr result ((n : ℕ) × Appends (W.contents writer.old) (W.contents writer.new)
@@ -52,7 +52,7 @@ fn put<W: Write>(writer: &mut W, text: &[u8]) -> Result<(), ToolError>
     Err(ToolError::Write)
 }
 
-/// Carries out a line, and gives its answer to the writer.
+/// Executes a line and writes its response to the writer.
 fn reply<W: Write, S: SlotStack<Item = ArenaSlot<ToolPtr, LinkNoGen<ToolPtr, u32>>>>(
     arena: &mut ChainArena<ToolPtr, u32, S>,
     line: &[u8],
@@ -68,7 +68,7 @@ fn reply<W: Write, S: SlotStack<Item = ArenaSlot<ToolPtr, LinkNoGen<ToolPtr, u32
     }
 }
 
-/// Keeps more of an unfinished line, up to 201 bytes in all.
+/// Appends to an unfinished line, of which at most 201 bytes are kept.
 fn keep(line: &mut Vec<u8>, more: &[u8]) -> Result<(), ToolError>
     ensures ok { OnOk result ((rest : List ℕ) → line.old.items ≡ take 201 rest
         → line.new.items ≡ take 201 (rest ++ more.now)) }
@@ -81,8 +81,9 @@ fn keep(line: &mut Vec<u8>, more: &[u8]) -> Result<(), ToolError>
     }
 }
 
-/// Answers a line of which something may have been kept, and the rest is the front of a piece. Where nothing was kept, it is
-/// read where it stands.
+/// Executes a line whose beginning may have been kept and whose end is `front`.
+///
+/// If nothing was kept, the line is read in place.
 fn end_line<W: Write, S: SlotStack<Item = ArenaSlot<ToolPtr, LinkNoGen<ToolPtr, u32>>>>(
     arena: &mut ChainArena<ToolPtr, u32, S>,
     line: &mut Vec<u8>,
@@ -104,7 +105,7 @@ fn end_line<W: Write, S: SlotStack<Item = ArenaSlot<ToolPtr, LinkNoGen<ToolPtr, 
     Ok(())
 }
 
-/// What stands before the first line feed of a text, and what stands after it. `None` where there is none.
+/// Returns the parts of a text before and after its first line feed, or `None` if there is none.
 fn first_line(text: &[u8]) -> Option<(&[u8], &[u8])>
     ensures some { IfSome result (λ parts. EndsFirst parts.0.now text.now parts.1.now) }
     ensures none { IfNone result (All IsNoEnd text.now) }
@@ -116,7 +117,8 @@ fn first_line(text: &[u8]) -> Option<(&[u8], &[u8])>
     }
 }
 
-/// Answers the lines that a piece of the input ends, and keeps what it has of the next.
+/// Executes the lines that a piece of the input completes, and keeps the beginning of the next
+/// line.
 fn feed<W: Write, S: SlotStack<Item = ArenaSlot<ToolPtr, LinkNoGen<ToolPtr, u32>>>>(
     arena: &mut ChainArena<ToolPtr, u32, S>,
     piece: &[u8],
@@ -147,7 +149,7 @@ fn flush<W: Write>(writer: &mut W) -> Result<(), ToolError>
     }
 }
 
-/// Reads a piece of the input: how many bytes came, none only at the end.
+/// Reads a piece of the input and returns its length in bytes, which is 0 only at the end.
 fn read_piece<R: Read>(reader: &mut R, piece: &mut [u8]) -> Result<usize, ToolError>
     ensures bound { IfOk result (λ n. n ≤ length piece.new) }
     ensures bytes { IfOk result (λ n. Consumes (R.remaining reader.old) (R.remaining reader.new)
@@ -163,7 +165,7 @@ fn read_piece<R: Read>(reader: &mut R, piece: &mut [u8]) -> Result<usize, ToolEr
     }
 }
 
-/// Answers the last line, which no line feed ended.
+/// Executes the last line, which has no line feed, and flushes the writer.
 fn finish<W: Write, S: SlotStack<Item = ArenaSlot<ToolPtr, LinkNoGen<ToolPtr, u32>>>>(
     arena: &mut ChainArena<ToolPtr, u32, S>,
     line: &[u8],
@@ -177,7 +179,7 @@ fn finish<W: Write, S: SlotStack<Item = ArenaSlot<ToolPtr, LinkNoGen<ToolPtr, u3
     flush(writer)
 }
 
-/// Room for a piece of the input.
+/// Allocates the buffer for a piece of the input.
 fn room(alloc: Global) -> Result<Vec<u8>, ToolError>
     ensures some { IfOk result (λ piece. 0 < vec_len piece) }
     ensures error { IfErr result (λ e. e ≡ ToolError.Memory) }
@@ -188,7 +190,7 @@ fn room(alloc: Global) -> Result<Vec<u8>, ToolError>
     }
 }
 
-/// Carries out the lines of a reader, piece by piece.
+/// Runs the lines of a reader piece by piece.
 fn run_pieces<R: Read, W: Write, S: SlotStack<Item = ArenaSlot<ToolPtr, LinkNoGen<ToolPtr, u32>>>>(
     alloc: Global,
     arena: &mut ChainArena<ToolPtr, u32, S>,
@@ -213,8 +215,17 @@ fn run_pieces<R: Read, W: Write, S: SlotStack<Item = ArenaSlot<ToolPtr, LinkNoGe
     Err(ToolError::Read)
 }
 
-/// Carries out the lines of a reader on an arena, and gives their answers to a writer, which is flushed before each
-/// read.
+/// Runs the lines of a reader on an arena and writes their responses to a writer.
+///
+/// The writer is flushed before each read.
+///
+/// # Errors
+///
+/// - `Memory`: an allocation failed.
+/// - `Write`: the writer failed.
+/// - `Read`: the reader failed.
+///
+/// Lines executed before the error keep their effect.
 pub fn run_on<R: Read, W: Write, S: SlotStack<Item = ArenaSlot<ToolPtr, LinkNoGen<ToolPtr, u32>>>>(
     alloc: Global,
     arena: &mut ChainArena<ToolPtr, u32, S>,
@@ -228,7 +239,13 @@ pub fn run_on<R: Read, W: Write, S: SlotStack<Item = ArenaSlot<ToolPtr, LinkNoGe
     run_pieces(alloc, arena, reader, writer, &mut piece)
 }
 
-/// Carries out the lines of a reader on a new arena: empty, with the counter two, no room and no maximum.
+/// Runs the lines of a reader on a new arena, as `run_on` does.
+///
+/// The arena has no links, counter 2, capacity 0 and no maximum.
+///
+/// # Errors
+///
+/// The errors are those of `run_on`.
 pub fn run<R: Read, W: Write>(
     alloc: Global,
     reader: &mut R,

@@ -1,4 +1,4 @@
--- Bookmarks that are looked up in a table of moves are followed.
+-- Bookmarks replaced through a table of moves follow their items.
 use Rattle.std.proofs.Common.{◌≡◌, ◌↔◌, ℕ, Bool, true, false, if◌then◌else◌, List, [], ◌∷◌, map, Contains, Option, None, Some, option_map, option_and_then, refl, sym, ◌∙◌, subst}
 use Rattle.arena_base.specs.Arena.{slot_at, IsValid}
 use Rattle.chain_compaction.specs.PointerMoves.{ArePointerMoves}
@@ -10,13 +10,13 @@ use Rattle.chain_examples.proofs.MoveTableLemmas.{IsTable}
 
 module _ {P Gen T : Type 0} (key : P → ℕ × Gen) (eq : P → P → Bool) (same_key : (p q : P) → key p ≡ key q → p ≡ q) (eq_is_same : (p q : P) → (eq p q ≡ true) ↔ (p ≡ q))
     (before after : ℕ → Option (Gen × T)) (moves : List (P × P)) (moved : ArePointerMoves key before after moves) (table : List (Option (P × P))) (noted : IsTable key moves table) where
-  -- the table has a move from each pointer that was valid
+  -- The table has a move from each pointer that was valid.
   stands : (p : P) → IsValid before (key p) → (q : P) × (slot_at table (key p).0 ≡ Some (p, q))
   stands p valid =
       let m = map_has_of (λ (m : P × P). key m.0) moves (key p) (moved.old (key p) valid) in
       (m.0.1, subst (λ (x : P). slot_at table (key x).0 ≡ Some (x, m.0.1)) (same_key m.0.0 p m.2) (noted.has m.0 m.1))
 
-  -- a pointer is followed by what the table has at its index
+  -- A pointer follows the move at its index, if there is one.
   follows : (p : P) (o : Option (P × P)) → slot_at table (key p).0 ≡ o → IsFollowed before (map (keys_of key) moves) (Some (key p)) (option_map key (target_from eq p o))
   follows p None is = ((λ valid. absurd (let some = sym is ∙ (stands p valid).1 in cc)), (λ invalid. refl))
   follows p (Some m) is = by (eq m.0 p) refl where
@@ -39,7 +39,7 @@ module _ {P Gen T : Type 0} (key : P → ℕ × Gen) (eq : P → P → Bool) (sa
       (λ invalid. refl),
     )
 
-  -- .. and so are all bookmarks
+  -- All bookmarks are followed.
   pub all_followed : (bookmarks : List (Option P)) → AreFollowed before (map (keys_of key) moves) (map (option_map key) bookmarks) (map (option_map key) (map (option_and_then (looked_up key eq table)) bookmarks))
   all_followed [] = tt
   all_followed (None ∷ bookmarks) = (refl, all_followed bookmarks)

@@ -1,4 +1,4 @@
--- Texts: what a break, a join, and a move that is made of these make of them.
+-- The effect on texts of breaks, joins and moves.
 use Rattle.std.proofs.Common.{◌≡◌, ◌≢◌, ℕ, inl, inr, List, [], ◌∷◌, ◌++◌, Option, None, Some, refl, sym, ap, ◌∙◌, subst, append_assoc}
 use Rattle.std.specs.Prelude.{◌↔◌, ◌⊎◌, is_some, true, OnSome, IfNone, IfSome}
 use Rattle.std.specs.Option.{option_map, option_and_then}
@@ -20,7 +20,7 @@ use Rattle.chain_examples.proofs.ItemListLemmas.{stand-append, stand-left, stand
 use Rattle.chain_examples.proofs.ListChangeLemmas.{parts, whole, stays}
 
 module _ {Gen T : Type 0} where
-  -- a list with an item has a last one
+  -- A nonempty list has a last item.
   pub last_apart : (e : Item Gen T) (es : List (Item Gen T)) → (before : List (Item Gen T)) × (last : Item Gen T) × (e ∷ es ≡ before ++ last ∷ [])
   last_apart e [] = ([], e, refl)
   last_apart e (f ∷ fs) =
@@ -34,7 +34,7 @@ module _ {Gen T : Type 0} where
   filled [] e after none = cc
   filled (b ∷ before) e after none = cc
 
-  -- no other item of a list without repetition has an item's index
+  -- The index of `e` differs from those of all other items.
   pub apart : (before : List (Item Gen T)) (e : Item Gen T) (after : List (Item Gen T)) → AreDistinct (indexes (before ++ e ∷ after))
       → (IsMember (indexes (before ++ after)) e.0.0 → ⊥) × AreDistinct (indexes (before ++ after))
   apart before e after once =
@@ -51,11 +51,11 @@ module _ {Gen T : Type 0} where
   has_parts before after i has = IsMember-parts (indexes before) (indexes after) i (subst (λ (l : List ℕ). IsMember l i) (map-append index_of before after) has)
 
 module _ {A Gen T : Type 0} (entry : A → ℕ → Option (Gen × T)) (links : A → LinkMap) where
-  -- a pointer, if there is one, is that of an item beside p: it stands in no text that p does not stand in
+  -- The pointer `o`, if any, occurs only in texts that contain `p`.
   abbrev pub StandsWith : A → ℕ × Gen → Option (ℕ × Gen) → Type 0
   StandsWith a p o = IfSome o (λ k. (xs : List (Item Gen T)) → IsText entry links a xs → IsMember (indexes xs) k.0 → IsMember (indexes xs) p.0)
 
-  -- the last index of a list with an item at its end
+  -- The last index of a list that ends with `u`.
   last_index : (xs : List (Item Gen T)) (u : Item Gen T) → last_or (indexes (xs ++ u ∷ [])) None ≡ Some u.0.0
   last_index xs u = ap (λ (l : List ℕ). last_or l None) (map-append index_of xs (u ∷ [])) ∙ last_or-append (indexes xs) (u.0.0 ∷ []) None
 
@@ -63,7 +63,7 @@ module _ {A Gen T : Type 0} (entry : A → ℕ → Option (Gen × T)) (links : A
     pub in_a_text : IsValid (entry a) p
     in_a_text = record { value = t; stands = (stand-right (entry a) before ((p, t) ∷ after) is.stand).0 }
 
-    -- what its link names are the items beside it
+    -- The interlinks of `p` name the items beside it.
     place : links a p.0 ≡ Some (record { prev = last_or (indexes before) None; next = first_or (indexes after) None })
     place = places_in_a_line (links a) (indexes before) (indexes after) p.0 (parts entry links linear (λ xs. refl) a before ((p, t) ∷ after) is.chain)
 
@@ -88,7 +88,7 @@ module _ {A Gen T : Type 0} (entry : A → ℕ → Option (Gen × T)) (links : A
             let l = last_apart e es in
             subst (λ (xs : List (Item Gen T)). option_and_then (ptr_at (entry a)) (last_or (indexes xs) None) ≡ last_key xs) (sym l.2) (at_end l.0 l.1 (subst (AreEntries (entry a)) l.2 s))
 
-  -- a pointer of now to the link after p, or before it, is that of an item which stands with p
+  -- A neighbor of `p` occurs only in texts that contain `p`.
   beside : (a : A) (p : ℕ × Gen) (o : Option ℕ) → ((j : ℕ) → o ≡ Some j → (xs : List (Item Gen T)) → IsText entry links a xs → IsMember (indexes xs) j → IsMember (indexes xs) p.0)
       → StandsWith a p (option_and_then (ptr_at (entry a)) o)
   beside a p None together = tt
@@ -106,13 +106,13 @@ module _ {A Gen T : Type 0} (entry : A → ℕ → Option (Gen × T)) (links : A
   with_prev a p o agrees is = subst (StandsWith a p) (sym is)
       (beside a p (prev_of (links a) p.0) (λ j prev xs text. (neighbors_stand_together (links a) (linear (indexes xs)) j p.0 agrees ((agrees.both j p.0).1 prev) text.chain).0))
 
-  -- something comes before an item that is not the first
+  -- Any item but the first has a previous one.
   comes_before : (a : A) (p : ℕ × Gen) (t : T) (e : Item Gen T) (es after : List (Item Gen T)) → IsText entry links a ((e ∷ es) ++ (p, t) ∷ after) → (k : ℕ) × (prev_of (links a) p.0 ≡ Some k)
   comes_before a p t e es after is =
       let l = last_apart e es in
       (l.1.0.0, ap prev_in (place a p t (e ∷ es) after is) ∙ (ap (λ (xs : List (Item Gen T)). last_or (indexes xs) None) l.2 ∙ last_index l.0 l.1))
 
-  -- a break between the link of p and the one beside it: it cut them apart, or there was none, and nothing has changed
+  -- A break between `p` and its neighbor, or no change if there is none.
   pub data Breaks (old new : A) (p : ℕ × Gen) (beside : Option ℕ) (Cut : ℕ → Type 0) : Type 0 where
     broken : (b : ℕ) → beside ≡ Some b → Cut b → entry new ≡ entry old → Breaks old new p beside Cut
     unbroken : (IsValid (entry old) p → beside ≡ None) → new ≡ old → Breaks old new p beside Cut
@@ -125,7 +125,7 @@ module _ {A Gen T : Type 0} (entry : A → ℕ → Option (Gen × T)) (links : A
   breaks old new p (Some b) Cut (Some r) some cuts same none = broken b refl cuts same
 
   module _ (old new : A) (p : ℕ × Gen) where
-    -- after a break after p its text ends in p ..
+    -- A break after `p` ends its text in `p`.
     pub ends_in : Breaks old new p (next_of (links old) p.0) (λ b. Cuts (links old) (links new) p.0 b) → EndsIn entry links old new p
     ends_in (unbroken none stay) t before [] is = (subst (λ (a : A). IsText entry links a (before ++ (p, t) ∷ [])) (sym stay) is, λ something. absurd (something refl))
     ends_in (unbroken none stay) t before (f ∷ fs) is = absurd (let one = ap next_in (place old p t before (f ∷ fs) is) in let no = none (in_a_text old p t before (f ∷ fs) is) in cc)
@@ -139,13 +139,13 @@ module _ {A Gen T : Type 0} (entry : A → ℕ → Option (Gen × T)) (links : A
           λ something. stays entry links linear (λ xs. refl) old new same (f ∷ fs) right.1 two.1,
         )
 
-    -- .. and every text without p stays: it has not what came after p, either
+    -- A break after `p` keeps every text without `p`.
     pub keeps_ended : IsWellLinked (links old) → Breaks old new p (next_of (links old) p.0) (λ b. Cuts (links old) (links new) p.0 b) → KeepsWithout entry links linear old new (p ∷ [])
     keeps_ended agrees (unbroken none stay) xs lacks is = subst (λ (a : A). IsText entry links a xs) (sym stay) is
     keeps_ended agrees (broken b next cuts same) xs lacks is =
         stays entry links linear (λ xs. refl) old new same xs is.stand (cut_keeps_others (links old) (links new) p.0 b agrees next cuts (linear (indexes xs)) (inl lacks.0) is.chain)
 
-    -- after a break before p its text begins with p ..
+    -- A break before `p` makes its text begin with `p`.
     pub begins_with : Breaks old new p (prev_of (links old) p.0) (λ a. Cuts (links old) (links new) a p.0) → BeginsWith entry links old new p
     begins_with (unbroken none stay) t [] after is = (subst (λ (a : A). IsText entry links a ((p, t) ∷ after)) (sym stay) is, λ something. absurd (something refl))
     begins_with (unbroken none stay) t (e ∷ es) after is = absurd (let one = comes_before old p t e es after is in let no = none (in_a_text old p t (e ∷ es) after is) in let both = sym one.1 ∙ no in cc)
@@ -166,14 +166,14 @@ module _ {A Gen T : Type 0} (entry : A → ℕ → Option (Gen × T)) (links : A
                   (whole entry links linear (λ xs. refl) new xs (u ∷ []) two.0),
             )
 
-    -- .. and every text without p stays
+    -- A break before `p` keeps every text without `p`.
     pub keeps_begun : IsWellLinked (links old) → Breaks old new p (prev_of (links old) p.0) (λ a. Cuts (links old) (links new) a p.0) → KeepsWithout entry links linear old new (p ∷ [])
     keeps_begun agrees (unbroken none stay) xs lacks is = subst (λ (a : A). IsText entry links a xs) (sym stay) is
     keeps_begun agrees (broken a prev cuts same) xs lacks is = stays entry links linear (λ xs. refl) old new same xs is.stand
         (cut_keeps_others (links old) (links new) a p.0 agrees ((agrees.both a p.0).1 prev) cuts (linear (indexes xs)) (inr lacks.0) is.chain)
 
   module _ (old new : A) (p q : ℕ × Gen) where
-    -- a text that ends in p and one that begins with q can be joined ..
+    -- A text that ends in `p` and one that begins with `q` can be joined.
     can_join : (s t : T) (before after : List (Item Gen T)) → IsText entry links old (before ++ (p, s) ∷ []) → IsText entry links old ((q, t) ∷ after) → CanConnect (entry old) (links old) p q
     can_join s t before after first second = record {
       first_valid = in_a_text old p s before [] first;
@@ -184,7 +184,7 @@ module _ {A Gen T : Type 0} (entry : A → ℕ → Option (Gen × T)) (links : A
 
     module _ {R : Type 0} (r : Option R) (some : (is_some r ≡ true) ↔ CanConnect (entry old) (links old) p q) (connects : OnSome r (Connects (links old) (links new) p.0 q.0))
         (same : OnSome r (entry new ≡ entry old)) (none : IfNone r (new ≡ old)) where
-      -- .. and are one text then ..
+      -- A join makes one text of two.
       pub joins : AreJoined entry links old new p q
       joins s t before after first second two_texts = by r (some.1 (can_join s t before after first second)) connects same
         where
@@ -197,7 +197,7 @@ module _ {A Gen T : Type 0} (entry : A → ℕ → Option (Gen × T)) (links : A
               (subst (AreEntries (entry old)) (append_assoc before ((p, s) ∷ []) ((q, t) ∷ after)) (stand-append (entry old) (before ++ (p, s) ∷ []) ((q, t) ∷ after) first.stand second.stand))
               (whole entry links linear (λ xs. refl) new before ((p, s) ∷ (q, t) ∷ after) (subst (λ (l : List ℕ). IsChain (links new) (linear l)) (append_assoc (indexes before) (p.0 ∷ []) (q.0 ∷ indexes after)) chain))
 
-      -- .. and every text without the two stays
+      -- A join keeps every text without `p` and `q`.
       pub keeps_joined : KeepsWithout entry links linear old new (p ∷ q ∷ [])
       keeps_joined xs lacks is = by r connects same none
         where

@@ -1,4 +1,4 @@
--- Texts whose items move, where their links are renamed alike.
+-- Texts whose items are moved along with a renaming of their links.
 use Rattle.std.proofs.Common.{◌≡◌, ℕ, List, [], ◌∷◌, map, All, Contains, Option, None, Some, sym, ap, ◌∙◌, subst}
 use Rattle.std.specs.List.{AllByRecursion}
 use Rattle.std.specs.Option.{option_map}
@@ -14,12 +14,12 @@ use Rattle.chain_examples.proofs.MappedListLemmas.{map_has_of}
 use Rattle.chain_examples.proofs.PointerPairLemmas.{move_keeps}
 
 module _ {Gen T : Type 0} (entry : ℕ → Option (Gen × T)) (to : ℕ → Option ℕ) (g : Gen) where
-  -- the pointer of what stands at an index has that index
+  -- The pointer of the entry at an index has that index.
   index_there : (p : ℕ × Gen) (i : ℕ) (o : Option (Gen × T)) → Some p ≡ option_map (λ (e : Gen × T). (i, e.0)) o → p.0 ≡ i
   index_there p i None is = absurd (cc)
   index_there p i (Some e) is = let same : p ≡ (i, e.0) = cc in ap (λ (q : ℕ × Gen). q.0) same
 
-  -- moves from some indexes to their images go where those go
+  -- Moves from indexes to their images agree with the renaming.
   pub moves_go : (moves : List (Move Gen)) (is ks : List ℕ) → map (λ (m : Move Gen). Some m.0) moves ≡ map (ptr_at entry) is → map (λ (m : Move Gen). m.1) moves ≡ map (λ k. (k, g)) ks → AreImages to is ks
       → AllByRecursion (λ (m : Move Gen). to m.0.0 ≡ Some m.1.0) moves
   moves_go [] is ks from goes images = tt
@@ -32,7 +32,7 @@ module _ {Gen T : Type 0} (entry : ℕ → Option (Gen × T)) (to : ℕ → Opti
       let goals : map (λ (n : Move Gen). n.1) moves ≡ map (λ k. (k, g)) ks = cc in
       (ap to (index_there m.0 i (entry i) first) ∙ (images.0 ∙ ap (λ (q : ℕ × Gen). Some q.0) (sym goal)), moves_go moves is ks rest goals images.1)
 
-  -- .. to the generation that all of them have
+  -- All moves end at generation `g`.
   pub moves_end_at : (moves : List (Move Gen)) (ks : List ℕ) → map (λ (m : Move Gen). m.1) moves ≡ map (λ k. (k, g)) ks → AllByRecursion (λ (m : Move Gen). m.1.1 ≡ g) moves
   moves_end_at [] ks goes = tt
   moves_end_at (m ∷ moves) [] goes = absurd (cc)
@@ -42,7 +42,7 @@ module _ {Gen T : Type 0} (entry : ℕ → Option (Gen × T)) (to : ℕ → Opti
       (ap (λ (q : ℕ × Gen). q.1) goal, moves_end_at moves ks goals)
 
 module _ {Gen T : Type 0} (before after : ℕ → Option (Gen × T)) (moves : List (Move Gen)) (moved : ArePointerMoves (λ (p : ℕ × Gen). p) before after moves) (to : ℕ → Option ℕ) (go : All (λ (m : Move Gen). to m.0.0 ≡ Some m.1.0) moves) where
-  -- items that stand move to items that stand, at the images of their indexes
+  -- Stored items are moved to stored items at the images of their indexes.
   items_move : (text : List (Item Gen T)) → AreEntries before text → (items : List (Item Gen T)) × AreMovedTo moves text items × AreImages to (indexes text) (indexes items) × AreEntries after items
   items_move [] stand = ([], tt, tt, tt)
   items_move (e ∷ text) stand =
@@ -57,7 +57,7 @@ module _ {Gen T : Type 0} (before after : ℕ → Option (Gen × T)) (moves : Li
         (values.1.stands, rest.3),
       )
 
--- where links are renamed, and the entries move with them, each text is the text of the same items
+-- If links are renamed and entries move with them, each text keeps its items.
 pub texts_move : {A Gen T : Type 0} (entry : A → ℕ → Option (Gen × T)) (links : A → LinkMap) (old new : A) (moves : List (Move Gen)) (to : ℕ → Option ℕ) → ArePointerMoves (λ (p : ℕ × Gen). p) (entry old) (entry new) moves
     → All (λ (m : Move Gen). to m.0.0 ≡ Some m.1.0) moves → IsRenaming to (links old) (links new) → (text : List (Item Gen T)) → IsText entry links old text
     → (after : List (Item Gen T)) × AreMovedTo moves text after × IsText entry links new after

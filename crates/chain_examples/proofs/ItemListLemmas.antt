@@ -1,4 +1,4 @@
--- Lists of items: what stands, and what comes of it where an item comes or goes.
+-- Lists of items stored in an arena, and what an insertion keeps of them.
 use Rattle.std.proofs.Common.{◌≡◌, ◌≢◌, ℕ, suc, ◌≤◌, inl, inr, List, [], ◌∷◌, ◌++◌, map, Option, None, Some, refl, sym, ap, ◌∙◌, subst, arith, eq-eqb}
 use Rattle.std.specs.Prelude.{is_some, Bool, true, false, cond, ◌==◌}
 use Rattle.std.proofs.lemmas.List.{map-append}
@@ -20,12 +20,12 @@ module _ {Gen T : Type 0} where
   stand-right entry [] ys a = a
   stand-right entry (x ∷ xs) ys a = stand-right entry xs ys a.1
 
-  -- items stand where nothing at their indexes has changed
+  -- Items stay stored if nothing at their indexes has changed.
   pub stand-frame : (old new : ℕ → Option (Gen × T)) (xs : List (Item Gen T)) → ((i : ℕ) → IsMember (indexes xs) i → new i ≡ old i) → AreEntries old xs → AreEntries new xs
   stand-frame old new [] same s = tt
   stand-frame old new (x ∷ xs) same s = (same x.0.0 (inl refl) ∙ s.0, stand-frame old new xs (λ i has. same i (inr has)) s.1)
 
-  -- what has the index of an item stands
+  -- The index of a stored item is occupied.
   pub stand-some : (entry : ℕ → Option (Gen × T)) (xs : List (Item Gen T)) (i : ℕ) → AreEntries entry xs → IsMember (indexes xs) i → is_some (entry i) ≡ true
   stand-some entry [] i s has = absurd has
   stand-some entry (x ∷ xs) i s (inl is) = ap (λ k. is_some (entry k)) (sym is) ∙ ap is_some s.0
@@ -37,14 +37,14 @@ module _ {Gen T : Type 0} where
   pub among-right : (xs ys : List (Item Gen T)) (i : ℕ) → IsMember (indexes ys) i → IsMember (indexes (xs ++ ys)) i
   among-right xs ys i has = subst (λ (l : List ℕ). IsMember l i) (sym (map-append index_of xs ys)) (IsMember-right (map index_of xs) (map index_of ys) i has)
 
-  -- an item has come to a free index: what stood stands
+  -- An insertion at a free index keeps the stored items.
   pub stand_kept : (entry after : ℕ → Option (Gen × T)) (p : ℕ × Gen) → entry p.0 ≡ None → ((i : ℕ) → i ≢ p.0 → after i ≡ entry i) → (xs : List (Item Gen T)) → AreEntries entry xs → AreEntries after xs
   stand_kept entry after p free rest xs s = stand-frame entry after xs (λ i has. rest i (λ is. not_among (subst (λ (k : ℕ). IsMember (indexes xs) k) is has))) s
     where
       not_among : IsMember (indexes xs) p.0 → ⊥
       not_among has = let some = stand-some entry xs p.0 s has in let none = ap is_some free in let both = sym some ∙ none in cc
 
-  -- entries by rising index have each index once
+  -- Entries sorted by index have distinct indexes.
   rises_low : (from i : ℕ) (es : List (Item Gen T)) → RisesFrom from es → IsMember (indexes es) i → from ≤ i
   rises_low from i [] rises has = absurd has
   rises_low from i (e ∷ es) rises (inl is) = omega (arith, rises.0, is)

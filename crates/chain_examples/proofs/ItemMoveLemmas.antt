@@ -1,4 +1,4 @@
--- Items of texts that are moved, by breaks and joins: said of what each step makes of lists.
+-- Moves of items between texts, composed from breaks and joins.
 use Rattle.std.proofs.Common.{◌≡◌, ◌≢◌, ℕ, inl, inr, ⊎_elim, List, [], ◌∷◌, ◌++◌, Option, None, Some, refl, sym, ap, ◌∙◌, subst, subst₂, append_assoc, append-nil}
 use Rattle.std.specs.Prelude.{◌⊎◌, IfSome}
 use Rattle.std.proofs.lemmas.List.{map-append, reverse-append}
@@ -12,7 +12,7 @@ use Rattle.chain_examples.specs.Texts.{EndsIn, BeginsWith, AreJoined, IsClosed, 
 use Rattle.chain_examples.proofs.DocumentLemmas.{StandsWith, last_apart, last_is, filled, apart, has_left, has_right, has_parts}
 
 module _ {Gen T : Type 0} where
-  -- the first and the last of a list stand in it
+  -- The first and the last item of a list are members.
   first_has : (k : ℕ × Gen) (xs : List (Item Gen T)) → Some k ≡ first_key xs → IsMember (indexes xs) k.0
   first_has k [] first = absurd (cc)
   first_has k (x ∷ xs) first = inl (ap (λ (p : ℕ × Gen). p.0) (sym (one_some first)))
@@ -24,7 +24,7 @@ module _ {Gen T : Type 0} where
       let same = one_some (last ∙ (ap last_key l.2 ∙ last_is l.0 l.1)) in
       subst (λ (ys : List (Item Gen T)). IsMember (indexes ys) k.0) (sym l.2) (has_right l.0 (l.1 ∷ []) k.0 (inl (ap (λ (p : ℕ × Gen). p.0) (sym same))))
 
-  -- an item more behind another: its index alone is new, and nothing is repeated
+  -- Inserting `f` after `e` adds only its index, and keeps indexes distinct.
   has_without : (before : List (Item Gen T)) (e f : Item Gen T) (after : List (Item Gen T)) (i : ℕ) → IsMember (indexes (before ++ e ∷ f ∷ after)) i → (f.0.0 ≡ i) ⊎ IsMember (indexes (before ++ e ∷ after)) i
   has_without [] e f after i (inl is) = inr (inl is)
   has_without [] e f after i (inr (inl is)) = inl is
@@ -40,7 +40,7 @@ module _ {Gen T : Type 0} where
 
 module _ {A Gen T : Type 0} (entry : A → ℕ → Option (Gen × T)) (links : A → LinkMap) where
   module _ (old new : A) where
-    -- the texts of two pointers are joined ..
+    -- A join of both pointers closes the texts.
     pub closes_both : (p q : ℕ × Gen) → AreJoined entry links old new p q → KeepsWithout entry links linear old new (p ∷ q ∷ []) → IsClosed entry links old new (Some p) (Some q)
     closes_both p q joined kept = record { texts = texts; others = λ xs lacks_p lacks_q is. kept xs (lacks_p, (lacks_q, tt)) is }
       where
@@ -57,7 +57,7 @@ module _ {A Gen T : Type 0} (entry : A → ℕ → Option (Gen × T)) (links : A
             (here l.1.1 f.1 l.0 fs (subst (IsText entry links old) l.2 (left (λ h. cc))) (right (λ h. cc))
             (λ has. AreDistinct-apart (indexes (b ∷ bs)) (indexes (f ∷ fs)) f.0.0 two (subst (λ (xs : List (Item Gen T)). IsMember (indexes xs) f.0.0) (sym l.2) has) (inl refl)))
 
-    -- .. and where either is missing nothing has to change
+    -- If either pointer is missing, an unchanged arena is closed.
     pub closes_left : (u : Option (ℕ × Gen)) → new ≡ old → IsClosed entry links old new u None
     closes_left u stay = record { texts = texts; others = λ xs lacks_u lacks_v is. subst (λ (a : A). IsText entry links a xs) (sym stay) is }
       where
@@ -76,13 +76,13 @@ module _ {A Gen T : Type 0} (entry : A → ℕ → Option (Gen × T)) (links : A
         texts [] after last first left right once something = subst (λ (a : A). IsText entry links a after) (sym stay) (right something)
         texts (b ∷ bs) after last first left right once something = absurd (let l = last_apart b bs in let some = ap last_key l.2 ∙ last_is l.0 l.1 in let both = last ∙ some in cc)
 
-  -- such an item stands in no text without p
+  -- A neighbor of `p` is in no text without `p`.
   apart_from : (a : A) (p : ℕ × Gen) (o : Option (ℕ × Gen)) (xs : List (Item Gen T)) → StandsWith entry links a p o → IsText entry links a xs → (IsMember (indexes xs) p.0 → ⊥) → IfSome o (λ k. ¬ IsMember (indexes xs) k.0)
   apart_from a p None xs with is lacks = tt
   apart_from a p (Some k) xs with is lacks = λ has. lacks (with xs is has)
 
   module _ (old begun ended new : A) (p : ℕ × Gen) (u v : Option (ℕ × Gen)) where
-    -- breaks before and after p, and a join of what it stood between: p stands alone ..
+    -- Breaks on both sides of `p` and a join of its neighbors make `p` a text of its own.
     pub stands_alone : BeginsWith entry links old begun p → EndsIn entry links begun ended p → KeepsWithout entry links linear begun ended (p ∷ []) → IsClosed entry links ended new u v
         → ((t : T) (before after : List (Item Gen T)) → IsText entry links old (before ++ (p, t) ∷ after) → u ≡ last_key before)
         → ((t : T) (before after : List (Item Gen T)) → IsText entry links old (before ++ (p, t) ∷ after) → v ≡ first_key after) → IsSeparated entry links old new p
@@ -102,14 +102,14 @@ module _ {A Gen T : Type 0} (entry : A → ℕ → Option (Gen × T)) (links : A
         off None never = tt
         off (Some k) never = λ has. ⊎_elim (λ same. never k (same, refl)) (λ none. none) has
 
-    -- .. and every other text stays
+    -- Separating `p` keeps every text without `p`.
     pub keeps_alone : KeepsWithout entry links linear old begun (p ∷ []) → KeepsWithout entry links linear begun ended (p ∷ []) → IsClosed entry links ended new u v
         → StandsWith entry links old p u → StandsWith entry links old p v → KeepsWithout entry links linear old new (p ∷ [])
     keeps_alone begin end closed with_u with_v xs lacks is =
         closed.others xs (apart_from old p u xs with_u is lacks.0) (apart_from old p v xs with_v is lacks.0) (end xs lacks (begin xs lacks is))
 
   module _ (old ended joined new : A) (p q : ℕ × Gen) (v : Option (ℕ × Gen)) where
-    -- a break after q, a join of q with p, which stands alone, and one of p with what came after q: p comes after q ..
+    -- A break after `q` and joins on both sides of `p`, which is alone, put `p` after `q`.
     pub put_after : EndsIn entry links old ended q → KeepsWithout entry links linear old ended (q ∷ []) → AreJoined entry links ended joined q p → KeepsWithout entry links linear ended joined (q ∷ p ∷ [])
         → IsClosed entry links joined new (Some p) v → ((s : T) (before after : List (Item Gen T)) → IsText entry links old (before ++ (q, s) ∷ after) → v ≡ first_key after) → IsPutAfter entry links old new p q
     put_after ends kept joins stay closed v_is s t before after alone is other =
@@ -129,14 +129,14 @@ module _ {A Gen T : Type 0} (entry : A → ℕ → Option (Gen × T)) (links : A
         in_both : IsMember (indexes (before ++ (q, s) ∷ [])) p.0 → IsMember (indexes (before ++ (q, s) ∷ after)) p.0
         in_both has = ⊎_elim (λ l. has_left before ((q, s) ∷ after) p.0 l) (λ r. ⊎_elim (λ same. has_right before ((q, s) ∷ after) p.0 (inl same)) (λ none. absurd none) r) (has_parts before ((q, s) ∷ []) p.0 has)
 
-    -- .. and every text without the two stays
+    -- Putting `p` after `q` keeps every text without `p` and `q`.
     pub keeps_put : KeepsWithout entry links linear old ended (q ∷ []) → KeepsWithout entry links linear ended joined (q ∷ p ∷ []) → IsClosed entry links joined new (Some p) v
         → StandsWith entry links old q v → KeepsWithout entry links linear old new (p ∷ q ∷ [])
     keeps_put end join closed with_v xs lacks is = closed.others xs lacks.0 (apart_from old q v xs with_v is lacks.1.0) (join xs (lacks.1.0, (lacks.0, tt)) (end xs (lacks.1.0, tt) is))
 
   module _ (old alone new : A) (p q : ℕ × Gen) (stands : IsSeparated entry links old alone p) (others : KeepsWithout entry links linear old alone (p ∷ [])) (put : IsPutAfter entry links alone new p q)
       (rest : KeepsWithout entry links linear alone new (p ∷ q ∷ [])) where
-    -- the item of p stands alone, and then comes after q: it is moved
+    -- Separating `p` and putting it after `q` moves it.
     pub moved_after : IsMovedAfter entry links old new p q
     moved_after = record {
       within = λ s t before after left right is same.

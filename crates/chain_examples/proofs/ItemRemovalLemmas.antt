@@ -1,4 +1,4 @@
--- An entry that was removed from an arena of links, or none: what becomes of lists.
+-- The effect on lists of removing an entry, or none.
 use Rattle.std.proofs.Common.{◌≡◌, ◌≢◌, ℕ, List, [], ◌∷◌, ◌++◌, Option, None, Some, refl, sym, subst}
 use Rattle.std.specs.Prelude.{is_some, true, IfSome, OnSome}
 use Rattle.chain_laws.specs.Chains.{LinkMap, Chain, items, IsChain, IsWellLinked}
@@ -10,7 +10,7 @@ use Rattle.chain_examples.specs.Rings.{AllCyclic}
 use Rattle.chain_examples.proofs.ListChangeLemmas.{leaves, keeps_left}
 use Rattle.chain_examples.proofs.MeshInvariantLemmas.{round_removed}
 
--- what holds where an answer is `Some` holds on it
+-- What follows from `is_some` holds by `OnSome`.
 pub where_some : {R Z : Type 0} (o : Option R) → (is_some o ≡ true → Z) → OnSome o Z
 where_some None so = tt
 where_some (Some r) so = so refl

@@ -1,4 +1,4 @@
--- What a change of an arena makes of the lists in it, whatever their shape.
+-- The effect of insertions and removals on lists, linear or cyclic.
 use Rattle.std.proofs.Common.{◌≡◌, ◌≢◌, ℕ, List, [], ◌∷◌, ◌++◌, Option, None, Some, refl, sym, ap, ◌∙◌, subst}
 use Rattle.std.specs.Prelude.{is_some, false}
 use Rattle.std.proofs.lemmas.List.{map-append}
@@ -12,7 +12,7 @@ use Rattle.chain_links.specs.ChainArena.{IsInserted}
 use Rattle.chain_examples.specs.Lists.{Item, AreEntries, indexes, IsListOf, KeepsWithout, InsertsAfter, InsertsBefore, Leaves}
 use Rattle.chain_examples.proofs.ItemListLemmas.{stand-append, stand-left, stand-right, stand-frame, stand_kept}
 
--- where no entry stands no link does
+-- There is no link where there is no entry.
 pub unlinked : {Gen T : Type 0} (entry : ℕ → Option (Gen × T)) (links : LinkMap) (i : ℕ) → is_some (links i) ≡ is_some (entry i) → entry i ≡ None → links i ≡ None
 unlinked entry links i alike free = by (links i) (alike ∙ ap is_some free)
   where
@@ -20,7 +20,7 @@ unlinked entry links i alike free = by (links i) (alike ∙ ap is_some free)
     by None none = refl
     by (Some link) none = absurd (cc)
 
--- a list without indexes has no items
+-- A list without indexes is empty.
 pub no_items : {Gen T : Type 0} (xs : List (Item Gen T)) → indexes xs ≡ [] → xs ≡ []
 no_items [] none = refl
 no_items (x ∷ xs) none = absurd (cc)
@@ -30,14 +30,14 @@ members_once links (linear xs) is = is.1
 members_once links (cyclic xs) is = is.1
 
 module _ {A Gen T : Type 0} (entry : A → ℕ → Option (Gen × T)) (links : A → LinkMap) (shape : List ℕ → Chain) (written : (xs : List ℕ) → items (shape xs) ≡ xs) where
-  -- an index of a list is one of its chain, once
+  -- The indexes of a list are those of its chain.
   of_chain : (xs : List ℕ) (i : ℕ) → IsMember xs i → IsMember (items (shape xs)) i
   of_chain xs i = subst (λ (l : List ℕ). IsMember l i) (sym (written xs))
 
   once : (a : A) (xs : List ℕ) → IsChain (links a) (shape xs) → AreDistinct xs
   once a xs is = subst AreDistinct (written xs) (members_once (links a) (shape xs) is)
 
-  -- a list in two parts has the indexes of both
+  -- The indexes of a concatenation are those of both parts.
   pub parts : (a : A) (xs ys : List (Item Gen T)) → IsChain (links a) (shape (indexes (xs ++ ys))) → IsChain (links a) (shape (indexes xs ++ indexes ys))
   parts a xs ys = subst (λ (l : List ℕ). IsChain (links a) (shape l)) (map-append index_of xs ys)
 
@@ -45,12 +45,12 @@ module _ {A Gen T : Type 0} (entry : A → ℕ → Option (Gen × T)) (links : A
   whole a xs ys = subst (λ (l : List ℕ). IsChain (links a) (shape l)) (sym (map-append index_of xs ys))
 
   module _ (old new : A) where
-    -- an item has come ..
+    -- An item was inserted.
     module _ (q : ℕ × Gen) (t : T) (came : IsInserted (entry old) (entry new) q t) where
       kept : (xs : List (Item Gen T)) → AreEntries (entry old) xs → AreEntries (entry new) xs
       kept = stand_kept (entry old) (entry new) q came.free came.rest
 
-      -- .. directly after another ..
+      -- An item inserted after `p` comes directly after it in its list.
       pub comes_after : (p : ℕ × Gen) → ((x y : List ℕ) → IsChain (links old) (shape (x ++ p.0 ∷ y)) → IsChain (links new) (shape (x ++ p.0 ∷ q.0 ∷ y)))
           → InsertsAfter entry links shape old new p (q, t)
       comes_after p grows s before after is =
@@ -61,7 +61,7 @@ module _ {A Gen T : Type 0} (entry : A → ℕ → Option (Gen × T)) (links : A
                 ((kept ((p, s) ∷ []) (right.0, tt)).0, (came.stands, kept after right.1));
           }
 
-      -- .. or directly before it ..
+      -- An item inserted before `p` comes directly before it in its list.
       pub comes_before : (p : ℕ × Gen) → ((x y : List ℕ) → IsChain (links old) (shape (x ++ p.0 ∷ y)) → IsChain (links new) (shape (x ++ q.0 ∷ p.0 ∷ y)))
           → InsertsBefore entry links shape old new p (q, t)
       comes_before p grows s before after is = record {
@@ -70,7 +70,7 @@ module _ {A Gen T : Type 0} (entry : A → ℕ → Option (Gen × T)) (links : A
             (came.stands, kept ((p, s) ∷ after) (stand-right (entry old) before ((p, s) ∷ after) is.stand));
       }
 
-      -- .. and every list without those that it came beside stays
+      -- An insertion keeps every list without the named neighbors.
       pub keeps_others : (kind : InsertKind ℕ) → IsWellLinked (links old) → is_some (links old q.0) ≡ is_some (entry old q.0)
           → Inserts (links old) (links new) q.0 (link_before (links old) kind q.0) (link_after (links old) kind q.0)
           → (xs : List (Item Gen T)) → IsDisjointFrom (shape (indexes xs)) (indexes_of_kind kind) → IsListOf entry links shape old xs → IsListOf entry links shape new xs
@@ -79,7 +79,7 @@ module _ {A Gen T : Type 0} (entry : A → ℕ → Option (Gen × T)) (links : A
         stand = kept xs is.stand;
       }
 
-    -- an item has gone: it leaves its list ..
+    -- A removed item leaves its list.
     pub leaves : (e : Item Gen T) → ((i : ℕ) → i ≢ e.0.0 → entry new i ≡ entry old i)
         → ((x y : List ℕ) → IsChain (links old) (shape (x ++ e.0.0 ∷ y)) → x ++ y ≢ [] → IsChain (links new) (shape (x ++ y))) → Leaves entry links shape old new e
     leaves e same shrinks before after is filled =
@@ -92,7 +92,7 @@ module _ {A Gen T : Type 0} (entry : A → ℕ → Option (Gen × T)) (links : A
               (stand-append (entry old) before after (stand-left (entry old) before (e ∷ after) is.stand) (stand-right (entry old) before (e ∷ after) is.stand).1);
         }
 
-    -- .. and every list without it stays
+    -- A removal keeps every list without the removed item.
     pub keeps_left : (p : ℕ × Gen) → ((i : ℕ) → i ≢ p.0 → entry new i ≡ entry old i)
         → ((c : Chain) → (IsMember (items c) p.0 → ⊥) → IsChain (links old) c → IsChain (links new) c) → KeepsWithout entry links shape old new (p ∷ [])
     keeps_left p same rest xs lacks is = record {
@@ -100,6 +100,6 @@ module _ {A Gen T : Type 0} (entry : A → ℕ → Option (Gen × T)) (links : A
       stand = stand-frame (entry old) (entry new) xs (λ i has. same i (λ is_p. lacks.0 (of_chain (indexes xs) p.0 (subst (IsMember (indexes xs)) is_p has)))) is.stand;
     }
 
-    -- where all that stood stands, a list lies there if its chain does
+    -- If all entries are kept, items form a list if their indexes form a chain.
     pub stays : entry new ≡ entry old → (xs : List (Item Gen T)) → AreEntries (entry old) xs → IsChain (links new) (shape (indexes xs)) → IsListOf entry links shape new xs
     stays same xs stand chain = record { chain = chain; stand = subst (λ (f : ℕ → Option (Gen × T)). AreEntries f xs) (sym same) stand }

@@ -1,4 +1,4 @@
--- Links of which one comes after each: they stand in rings, and do so after each call.
+-- Calls of a mesh keep all chains cyclic.
 use Rattle.std.proofs.Common.{◌≡◌, ◌≢◌, ℕ, inl, inr, ⊎_elim, List, [], ◌∷◌, Option, None, Some, refl, sym, ap, ◌∙◌, subst}
 use Rattle.std.specs.Prelude.{◌⊎◌, is_some, true}
 use Rattle.std.proofs.lemmas.Bool.{cases_eq}
@@ -12,12 +12,12 @@ use Rattle.chain_laws.proofs.InterlinkLemmas.Inverses.{one_some}
 use Rattle.chain_laws.proofs.RemovalLemmas.Pairs.{removed_in_pairs}
 use Rattle.chain_examples.specs.Rings.{AllCyclic}
 
--- what is some, is some item
+-- An option that `is_some` holds an item.
 pub some_item : {X : Type 0} (o : Option X) → is_some o ≡ true → (x : X) × (o ≡ Some x)
 some_item None some = absurd (cc)
 some_item (Some x) some = (x, refl)
 
--- where a link comes between two, one comes after each still
+-- Inserting a link between two keeps all chains cyclic.
 pub round_inserted : (old new : LinkMap) (q a b : ℕ) → InsertsPairs old new q (Some a) (Some b) → ((i : ℕ) → i ≢ q → HasLink old i → is_some (next_of old i) ≡ true) → AllCyclic new
 round_inserted old new q a b inserts round i has = ⊎_elim
     (λ is_a. ap is_some ((inserts.pairs i q).1 (inr (inl (ap Some (sym is_a), refl)))))
@@ -28,13 +28,13 @@ round_inserted old new q a b inserts round i has = ⊎_elim
     stays not_a not_q (inl was) = let next = some_item (next_of old i) (round i not_q was) in ap is_some ((inserts.pairs i next.0).1 (inl (next.1, λ both. not_a (sym (one_some both.0)))))
     stays not_a not_q (inr is_q) = absurd (not_q is_q)
 
--- .. and so where one comes after another
+-- Inserting a link after another keeps all chains cyclic.
 pub round_after : (old new : LinkMap) (q a : ℕ) → InsertsPairs old new q (Some a) (next_of old a) → HasLink old a → AllCyclic old → AllCyclic new
 round_after old new q a inserts has round =
     let next = some_item (next_of old a) (round a has) in
     round_inserted old new q a next.0 (subst (InsertsPairs old new q (Some a)) next.1 inserts) (λ i other at. round i at)
 
--- .. where one goes
+-- Removing a link keeps all chains cyclic.
 pub round_removed : (link_map : LinkMap) (q : ℕ) → IsWellLinked link_map → AllCyclic link_map → AllCyclic (removed link_map q)
 round_removed link_map q agrees round i has = goes_on (some_item (next_of link_map i) (round i was.0))
   where
@@ -57,12 +57,12 @@ round_removed link_map q agrees round i has = goes_on (some_item (next_of link_m
     goes_on : (j : ℕ) × (next_of link_map i ≡ Some j) → is_some (next_of (removed link_map q) i) ≡ true
     goes_on (j, next) = ⊎_elim (over j next) (λ other. ap is_some ((removes.pairs i j).1 (inl (next, was.1, other)))) (cases_eq j q)
 
--- the last of a list stands in it
+-- The last item of a list is a member.
 last_in : (xs : List ℕ) (b : ℕ) → (k : ℕ) × (last_or xs (Some b) ≡ Some k) × ((b ≡ k) ⊎ IsMember xs k)
 last_in [] b = (b, refl, inl refl)
 last_in (x ∷ xs) b = let last = last_in xs x in (last.0, last.1, inr last.2)
 
--- where one comes after each there are no linear chains ..
+-- If all links have a next one, no chain is linear.
 no_line : (links : LinkMap) (xs : List ℕ) → AllCyclic links → IsChain links (linear xs) → ⊥
 no_line links [] round is = is.0 refl
 no_line links (x ∷ xs) round is =
@@ -71,7 +71,7 @@ no_line links (x ∷ xs) round is =
     let some = round last.0 (members_are_links links (linear (x ∷ xs)) last.0 is last.2) in
     absurd (let both = sym some ∙ ap is_some none in cc)
 
--- .. so each link stands in a cyclic one
+-- If all chains are cyclic, each link is in a ring.
 pub ring_from : (links : LinkMap) (greatest i : ℕ) → IsWellLinked links → HasLinksWithin links greatest → AllCyclic links → HasLink links i → (rest : List ℕ) × IsChain links (cyclic (i ∷ rest))
 ring_from links greatest i agrees within round has = by (has_chain links greatest agrees within i has)
   where
@@ -79,7 +79,7 @@ ring_from links greatest i agrees within round has = by (has_chain links greates
     by (stands_in (linear xs) is at) = absurd (no_line links xs round is)
     by (stands_in (cyclic xs) is at) = let ring = turned_to links xs i is at in (ring.0, ring.1)
 
--- .. and one comes before each, so one may come between still
+-- Inserting a link before another keeps all chains cyclic.
 pub round_before : (old new : LinkMap) (greatest q b : ℕ) → InsertsPairs old new q (prev_of old b) (Some b) → IsWellLinked old → HasLinksWithin old greatest → HasLink old b → AllCyclic old → AllCyclic new
 round_before old new greatest q b inserts agrees within has round =
     let ring = ring_from old greatest b agrees within round has in

@@ -1,4 +1,4 @@
--- What a table has, once moves are written into it.
+-- The contents of a table into which moves were written.
 use Rattle.std.proofs.Common.{◌≡◌, ◌≢◌, ℕ, zero, suc, ◌+◌, ◌<◌, ◌≤◌, ◌⊎◌, inl, inr, ⊎_elim, List, [], ◌∷◌, length, map, take, get_or, replicate, slice_index_or, Contains, Option, None, Some, refl, sym, ap, ◌∙◌, subst, arith}
 use Rattle.std.specs.List.{AllByRecursion}
 use Rattle.std.proofs.Math.Decide.{ℕ_discrete}
@@ -13,7 +13,7 @@ use Rattle.arena_base.proofs.SlotLemmas.{length-with_slot}
 use Rattle.chain_links.proofs.ArenaInsertionLemmas.{slot_at-written}
 use Rattle.chain_examples.specs.MoveTables.{with_move, noted}
 
--- nothing stands in empty places
+-- An empty table has no moves.
 none_stands : {X : Type 0} (n i : ℕ) → ◌≡◌ {A = Option X} (slot_at (replicate n None) i) None
 none_stands {X} n zero = refl
 none_stands {X} n (suc k) = by n k where
@@ -23,11 +23,11 @@ none_stands {X} n (suc k) = by n k where
   by (suc m) (suc j) = by m j
 
 module _ {P Gen : Type 0} (key : P → ℕ × Gen) where
-  -- the index that a move is from
+  -- The old index of a move.
   abbrev pub from_index : P × P → ℕ
   from_index m = (key m.0).0
 
-  -- one move more is written at its index
+  -- Writing move `i` gives the table of the first `i + 1` moves.
   pub note_more : (table : List (Option (P × P))) (moves : List (P × P)) (i k : ℕ) (m : P × P) → i < length moves → m ≡ get_or moves i m → k + 1 ≡ (key m.0).0
       → slice_set (noted key table (take i moves)) k (Some m) ≡ noted key table (take (i + 1) moves)
   note_more table moves i k m below is at =
@@ -35,35 +35,35 @@ module _ {P Gen : Type 0} (key : P → ℕ × Gen) where
       subst (λ (j : ℕ). slice_set (noted key table (take i moves)) k (Some m) ≡ with_slot (noted key table (take i moves)) j (Some m)) index refl
       ∙ (ap (with_move key (noted key table (take i moves))) is ∙ sym (fold_more (with_move key) table moves i m below))
 
-  -- a table of n places has one for each move
+  -- A table of `n` entries has one for each move.
   abbrev pub HasPlaces : ℕ → List (P × P) → Type 0
   HasPlaces n = AllByRecursion (λ m. (1 ≤ from_index m) × (from_index m ≤ n))
 
-  -- the table has each move at its index, and nothing else
+  -- The table has each move at its old index, and nothing else.
   pub record IsTable (moves : List (P × P)) (table : List (Option (P × P))) : Type 0 where
     pub has : (m : P × P) → Contains moves m → slot_at table (from_index m) ≡ Some m
     pub only : (i : ℕ) (m : P × P) → slot_at table i ≡ Some m → Contains moves m
 
   module _ (n : ℕ) where
-    -- the table with one move written stays as long ..
+    -- Writing a move keeps the table's length.
     stays : (table : List (Option (P × P))) (m : P × P) → length table ≡ n → length (with_move key table m) ≡ n
     stays table m long = length-with_slot table (from_index m) (Some m) ∙ long
 
-    -- .. has it at its index ..
+    -- The written move is found at its index.
     there : (table : List (Option (P × P))) (m : P × P) → length table ≡ n → (1 ≤ from_index m) × (from_index m ≤ n) → slot_at (with_move key table m) (from_index m) ≡ Some m
     there table m long within = slot_at-written table (from_index m) (from_index m) (Some m) within.0 (omega (arith, long, within.1)) ∙ if_same (from_index m) (from_index m) _ _ refl
 
-    -- .. and what it had elsewhere
+    -- The rest of the table is unchanged.
     elsewhere : (table : List (Option (P × P))) (m : P × P) (i : ℕ) → length table ≡ n → (1 ≤ from_index m) × (from_index m ≤ n) → i ≢ from_index m → slot_at (with_move key table m) i ≡ slot_at table i
     elsewhere table m i long within other = slot_at-written table (from_index m) i (Some m) within.0 (omega (arith, long, within.1)) ∙ if_other i (from_index m) _ _ other
 
-    -- at an index that no move is from it stays as it was
+    -- An index that no move is from keeps its content.
     keeps : (table : List (Option (P × P))) (moves : List (P × P)) (i : ℕ) → length table ≡ n → HasPlaces n moves → (IsMember (map from_index moves) i → ⊥) → slot_at (noted key table moves) i ≡ slot_at table i
     keeps table [] i long within lacks = refl
     keeps table (m ∷ moves) i long within lacks =
         keeps (with_move key table m) moves i (stays table m long) within.1 (λ has. lacks (inr has)) ∙ elsewhere table m i long within.0 (λ is. lacks (inl (sym is)))
 
-    -- each move stands at its index ..
+    -- Each written move is found at its index.
     noted_has : (table : List (Option (P × P))) (moves : List (P × P)) (m : P × P) (k : ℕ) → length table ≡ n → HasPlaces n moves → AreDistinct (map from_index moves)
         → k < length moves → slice_index_or moves k m ≡ m → slot_at (noted key table moves) (from_index m) ≡ Some m
     noted_has table [] m k long within apart below is = absurd (omega (arith, below))
@@ -74,7 +74,7 @@ module _ {P Gen : Type 0} (key : P → ℕ × Gen) where
     noted_has table (x ∷ moves) m (suc k) long within apart below is =
         noted_has (with_move key table x) moves m k (stays table x long) within.1 apart.1 (omega (arith, below)) is
 
-    -- .. and what stands is a move, or stood before
+    -- Any move found was written, or was there before.
     noted_only : (table : List (Option (P × P))) (moves : List (P × P)) (i : ℕ) (m : P × P) → length table ≡ n → HasPlaces n moves → slot_at (noted key table moves) i ≡ Some m → (slot_at table i ≡ Some m) ⊎ Contains moves m
     noted_only table [] i m long within is = inl is
     noted_only table (x ∷ moves) i m long within is =
@@ -87,7 +87,7 @@ module _ {P Gen : Type 0} (key : P → ℕ × Gen) where
             inr (0, omega arith, first)
         by (no other) stands = inl (sym (elsewhere table x i long within.0 other) ∙ stands)
 
-    -- an empty table into which moves were written has them
+    -- Writing moves into an empty table gives the table of these moves.
     pub noted_table : (moves : List (P × P)) → HasPlaces n moves → AreDistinct (map from_index moves) → IsTable moves (noted key (replicate n None) moves)
     noted_table moves within apart = record {
       has = λ m has. noted_has (replicate n None) moves m has.0 (length-replicate n None) within apart has.1 has.2;

@@ -1,10 +1,10 @@
--- Moves of pointers.
+-- Moves of pointers, by index and generation.
 use Rattle.std.proofs.Common.{ℕ, List, Contains, Option}
 use Rattle.std.proofs.lemmas.List.Elements.{All-contains}
 use Rattle.chain_compaction.specs.PointerMoves.{ArePointerMoves, IsPointerMove}
 use Rattle.chain_examples.specs.Renumbering.{Move}
 
--- a move by its keys
+-- A move by its keys.
 abbrev pub keys_of : {P Gen : Type 0} → (P → ℕ × Gen) → P × P → Move Gen
 keys_of key m = (key m.0, key m.1)
 

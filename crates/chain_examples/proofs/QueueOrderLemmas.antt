@@ -1,4 +1,4 @@
--- The turn of a run queue: what a task that comes, goes or runs makes of it.
+-- The effect of adding, cancelling and running tasks on the order of a run queue.
 use Rattle.std.proofs.Common.{◌≡◌, ◌≢◌, ◌<◌, ℕ, inl, inr, ⊎_elim, List, [], ◌∷◌, ◌++◌, Option, None, Some, refl, sym, ap, ◌∙◌, subst, length, arith}
 use Rattle.std.specs.Prelude.{is_some, true, IfSome, IfOk, OnErr, Result, Ok, Err}
 use Rattle.std.specs.Option.{option_map, option_and_then, option_or}
@@ -22,7 +22,7 @@ use Rattle.chain_traits.proofs.GenericRemovalLemmas.{HasGone}
 use Rattle.chain_examples.proofs.ItemListLemmas.{stand-append, stand-left, stand-right, stand-frame, among-left, among-right, stand_kept, stand-some, rises_once, has_found}
 
 module _ {Gen T : Type 0} where
-  -- a task came behind the last in turn
+  -- A task was appended.
   module _ (entry after : ℕ → Option (Gen × T)) (links changed : LinkMap) (p : ℕ × Gen) (t : T) (free : entry p.0 ≡ None) (stands : after p.0 ≡ Some (p.1, t)) (rest : (i : ℕ) → i ≢ p.0 → after i ≡ entry i) where
     all_with : (turn : List (Item Gen T)) → ((i : ℕ) → is_some (entry i) ≡ true → IsMember (indexes turn) i) → (i : ℕ) → is_some (after i) ≡ true → IsMember (indexes (turn ++ (p, t) ∷ [])) i
     all_with turn all i some = ⊎_elim
@@ -54,7 +54,7 @@ module _ {Gen T : Type 0} where
           all = all_with (e ∷ es) is.all;
         }
 
-  -- the turn goes on to the next task
+  -- The next task becomes current.
   module _ (entry : ℕ → Option (Gen × T)) (links : LinkMap) where
     pub turn_on : (current : Option (ℕ × Gen)) (e : Item Gen T) (es : List (Item Gen T)) → IsQueueOrder entry links current (e ∷ es) → IsQueueOrder entry links (first_key (es ++ e ∷ [])) (es ++ e ∷ [])
     turn_on current e es is = record {
@@ -64,7 +64,7 @@ module _ {Gen T : Type 0} where
       all = λ i some. subst (λ (l : List ℕ). IsMember l i) (sym (map-append index_of es (e ∷ []))) (IsMember-turned (e.0.0 ∷ []) (indexes es) i (is.all i some));
     }
 
-    -- the pointer to the link after the current one is that of the second in turn
+    -- The link after the current one is the second in turn.
     pub next_is : (current : Option (ℕ × Gen)) (e : Item Gen T) (es : List (Item Gen T)) → IsQueueOrder entry links current (e ∷ es)
         → option_and_then (λ i. option_map (λ (x : Gen × T). (i, x.0)) (entry i)) (next_of links e.0.0) ≡ first_key (es ++ e ∷ [])
     next_is current e es is =
@@ -75,7 +75,7 @@ module _ {Gen T : Type 0} where
         key_of [] s = ap (option_map (λ (x : Gen × T). (e.0.0, x.0))) is.stand.0
         key_of (f ∷ fs) s = ap (option_map (λ (x : Gen × T). (f.0.0, x.0))) s.0
 
-    -- an index stands in a turn once
+    -- An index occurs once in a turn.
     pub stands_once : (current : Option (ℕ × Gen)) (xs ys : List (Item Gen T)) (e : Item Gen T) → IsQueueOrder entry links current (xs ++ e ∷ ys) → IsMember (indexes (xs ++ ys)) e.0.0 → ⊥
     stands_once current xs ys e is has =
         let filled : xs ++ e ∷ ys ≢ [] = not_empty xs e ys in
@@ -86,7 +86,7 @@ module _ {Gen T : Type 0} where
         not_empty [] b right h = cc
         not_empty (a ∷ left) b right h = cc
 
-    -- a task is cancelled: it leaves the turn, and the others keep their order
+    -- A cancelled task leaves the turn, and the others keep their order.
     pub cancelled : (after : ℕ → Option (Gen × T)) (changed : LinkMap) (current next : Option (ℕ × Gen)) (xs ys : List (Item Gen T)) (e : Item Gen T)
         → IsQueueOrder entry links current (xs ++ e ∷ ys) → next ≡ first_key (xs ++ ys) → after e.0.0 ≡ None → ((i : ℕ) → i ≢ e.0.0 → after i ≡ entry i) → Removes links changed e.0.0
         → IsQueueOrder after changed next (xs ++ ys)
@@ -118,26 +118,26 @@ module _ {Gen T : Type 0} where
             (λ r. ⊎_elim (λ is_e. absurd (other (sym is_e))) (λ r. among-right xs ys i r) r)
             (IsMember-parts (indexes xs) (e.0.0 ∷ indexes ys) i (subst (λ (l : List ℕ). IsMember l i) (map-append index_of xs (e ∷ ys)) has))
 
-    -- the second in turn, where it is the current one again: there is no other
+    -- If the second in turn is the current task, there is no other task.
     pub after_alone : (k : ℕ × Gen) (e : Item Gen T) (es : List (Item Gen T)) → IsQueueOrder entry links (Some k) (e ∷ es) → Some k ≡ first_key (es ++ e ∷ []) → None ≡ first_key es
     after_alone k e [] is second = refl
     after_alone k e (f ∷ fs) is second =
         let same : e.0 ≡ f.0 = let first = is.first in cc in
         absurd (stands_once (Some k) [] (f ∷ fs) e is (inl (ap (λ (p : ℕ × Gen). p.0) (sym same))))
 
-    -- .. and where it is another
+    -- If the second in turn is another task, it is the first of the rest.
     pub after_other : (k q : ℕ × Gen) (e : Item Gen T) (es : List (Item Gen T)) → IsQueueOrder entry links (Some k) (e ∷ es) → Some q ≡ first_key (es ++ e ∷ []) → q ≢ k → Some q ≡ first_key es
     after_other k q e [] is second other = absurd (other (let first = is.first in cc))
     after_other k q e (f ∷ fs) is second other = second
 
-    -- the current task stands first
+    -- The current task is the first in turn.
     pub is_first : (k : ℕ × Gen) (t : T) (xs ys : List (Item Gen T)) → IsQueueOrder entry links (Some k) (xs ++ (k, t) ∷ ys) → xs ≡ []
     is_first k t [] ys is = refl
     is_first k t (x ∷ xs) ys is =
         let same : x.0 ≡ k = let first = is.first in cc in
         absurd (stands_once (Some k) (x ∷ xs) ys (k, t) is (inl (ap (λ (p : ℕ × Gen). p.0) same)))
 
-    -- .. and stays first where another goes
+    -- The current task stays first when another task is removed.
     pub stays_first : (k q : ℕ × Gen) (t : T) (xs ys : List (Item Gen T)) → IsQueueOrder entry links (Some k) (xs ++ (q, t) ∷ ys) → k ≢ q → Some k ≡ first_key (xs ++ ys)
     stays_first k q t [] ys is other = absurd (other (let first = is.first in cc))
     stays_first k q t (x ∷ xs) ys is other = is.first
@@ -146,7 +146,7 @@ module _ {Gen T : Type 0} where
     some_second e [] none = cc
     some_second e (f ∷ fs) none = cc
 
-    -- there are as many tasks as entries
+    -- There are as many tasks as entries.
     pub turn_length : (current : Option (ℕ × Gen)) (turn es : List (Item Gen T)) → IsQueueOrder entry links current turn → RisesFrom 1 es → ((i : ℕ) → found i es ≡ entry i) → length es ≡ length turn
     turn_length current turn es is rises looked =
         let fewer = length_among (indexes es) (indexes turn) (rises_once 1 es rises) (λ i has. is.all i (ap is_some (sym (looked i)) ∙ has_found i es has)) in
@@ -157,7 +157,7 @@ module _ {Gen T : Type 0} where
         once [] ring = tt
         once (x ∷ xs) ring = (ring (λ h. cc)).1
 
-    -- items that stand one after another are found from the first of them on
+    -- Following the links from the first of some linked items finds them all.
     from_items : (before after : Option ℕ) (xs : List (Item Gen T)) → AreLinked links before (indexes xs) after → AreEntries entry xs
         → items_from entry links (length xs) (first_or (indexes xs) after) ≡ xs
     unfolding items_from
@@ -172,7 +172,7 @@ module _ {Gen T : Type 0} where
     turn_found current (e ∷ es) is =
         ap (λ (c : Option (ℕ × Gen)). queue_order entry links (length (e ∷ es)) c) is.first ∙ from_items _ _ (e ∷ es) (is.ring (λ h. cc)).2 is.stand
 
-    -- so a turn is what is found from the current task on, as many tasks as there are entries
+    -- A turn is what is found from the current task on.
     pub settles : (current : Option (ℕ × Gen)) (turn es : List (Item Gen T)) → IsQueueOrder entry links current turn → RisesFrom 1 es → ((i : ℕ) → found i es ≡ entry i)
         → queue_order entry links (length es) current ≡ turn
     settles current turn es is rises looked = ap (λ (n : ℕ). queue_order entry links n current) (turn_length current turn es is rises looked) ∙ turn_found current turn is
@@ -181,7 +181,7 @@ module _ {Gen T : Type 0} where
         → IsQueueOrder entry links current (queue_order entry links (length es) current)
     settled current turn es is rises looked = subst (IsQueueOrder entry links current) (sym (settles current turn es is rises looked)) is
 
-    -- an arena without entries is a queue without tasks
+    -- An arena without entries is an empty queue.
     pub begins : (es : List (Item Gen T)) → es ≡ [] → ((i : ℕ) → found i es ≡ entry i) → IsQueueOrder entry links None []
     begins es none looked = record {
       first = refl;
@@ -190,7 +190,7 @@ module _ {Gen T : Type 0} where
       all = λ i some. absurd (let nothing : entry i ≡ None = sym (looked i) ∙ ap (found i) none in let both = sym some ∙ ap is_some nothing in cc);
     }
 
-    -- an item of the turn stands: its pointer is valid
+    -- The pointer of an item of the turn is valid.
     pub among_stands : (turn : List (Item Gen T)) (p : ℕ × Gen) → AreEntries entry turn → IsAmong p turn → IsValid entry p
     among_stands [] p stand among = absurd among
     among_stands (e ∷ es) p stand (inl same) = subst (IsValid entry) same (record { value = e.1; stands = stand.0 })
@@ -199,7 +199,7 @@ module _ {Gen T : Type 0} where
     pub no_task : (current : Option (ℕ × Gen)) (turn : List (Item Gen T)) (p : ℕ × Gen) → IsQueueOrder entry links current turn → (IsValid entry p → ⊥) → IsAmong p turn → ⊥
     no_task current turn p is invalid among = invalid (among_stands turn p is.stand among)
 
-    -- a valid pointer is of a task of the turn
+    -- A valid pointer belongs to a task of the turn.
     pub valid_task : (current : Option (ℕ × Gen)) (turn : List (Item Gen T)) (p : ℕ × Gen) → IsQueueOrder entry links current turn → (valid : IsValid entry p)
         → (before : List (Item Gen T)) × (after : List (Item Gen T)) × (turn ≡ before ++ (p, valid.value) ∷ after)
     valid_task current turn p is valid = found_at turn is.stand (is.all p.0 (ap is_some valid.stands))
@@ -216,13 +216,13 @@ module _ {Gen T : Type 0} where
             let there = found_at xs stand.1 has in
             (x ∷ there.0, there.1, ap (λ (l : List (Item Gen T)). x ∷ l) there.2)
 
-    -- the turn goes on, whoever is current
+    -- The turn advances from any current task.
     pub goes_on : (k : ℕ × Gen) (next : Option (ℕ × Gen)) (turn : List (Item Gen T)) → IsQueueOrder entry links (Some k) turn
         → ((task : Item Gen T) (rest : List (Item Gen T)) → IsQueueOrder entry links (Some k) (task ∷ rest) → next ≡ first_key (rest ++ task ∷ [])) → IsQueueOrder entry links next (rotation turn)
     goes_on k next [] is second = let first = is.first in absurd (cc)
     goes_on k next (e ∷ es) is second = subst (λ (o : Option (ℕ × Gen)). IsQueueOrder entry links o (es ++ e ∷ [])) (sym (second e es is)) (turn_on (Some k) e es is)
 
-    -- a task that is gone is not among the others
+    -- A cancelled task is not among the others.
     pub not_among : (current : Option (ℕ × Gen)) (xs ys : List (Item Gen T)) (e : Item Gen T) → IsQueueOrder entry links current (xs ++ e ∷ ys) → IsAmong e.0 (xs ++ ys) → ⊥
     not_among current xs ys e is among = stands_once current xs ys e is (has_index (xs ++ ys) among)
       where
@@ -231,7 +231,7 @@ module _ {Gen T : Type 0} where
         has_index (z ∷ zs) (inl same) = inl (ap (λ (k : ℕ × Gen). k.0) same)
         has_index (z ∷ zs) (inr h) = inr (has_index zs h)
 
-    -- the current task stands
+    -- The pointer of the current task is valid.
     pub valid_current : {P : Type 0} (key : P → ℕ × Gen) (current : Option P) (turn : List (Item Gen T)) → IsQueueOrder entry links (option_map key current) turn → IfSome current (λ p. IsValid entry (key p))
     valid_current key None turn is = tt
     valid_current key (Some p) [] is = let first = is.first in absurd (cc)
@@ -239,7 +239,7 @@ module _ {Gen T : Type 0} where
         let same : e.0 ≡ key p = let first = is.first in cc in
         subst (IsValid entry) same (record { value = e.1; stands = is.stand.0 })
 
--- what is cancelled was first where it was current
+-- A cancelled current task was the first in turn.
 pub first_cancelled : {Gen T : Type 0} (p : ℕ × Gen) (task : T) (old new : List (Item Gen T)) → Some p ≡ first_key old → IsCancelled p task old new → old ≡ (p, task) ∷ new
 first_cancelled p task old new first is = by is.before is.stood is.left
   where
@@ -250,12 +250,12 @@ first_cancelled p task old new first is = by is.before is.stood is.left
         let key : x.0 ≡ p = cc in
         absurd (is.gone (subst (IsAmong p) (sym left) (inl key)))
 
--- The turn of a queue as it is found in an arena, where these look at one.
+-- The turn of a queue, as found in an arena.
 module _ {A Gen T : Type 0} (seen : A → ArenaView Gen T) (entry : A → ℕ → Option (Gen × T)) (links : A → LinkMap) (rises : (a : A) → RisesFrom 1 (seen a).entries) (looked : (a : A) (i : ℕ) → found i (seen a).entries ≡ entry a i) where
   abbrev pub turn_in : A → Option (ℕ × Gen) → List (Item Gen T)
   turn_in a current = queue_order (entry a) (links a) (count (seen a)) current
 
-  -- these are the tasks in turn: they are what is found, and that is a turn
+  -- The turn found in the arena, which is in queue order.
   pub record IsSettled (a : A) (current : Option (ℕ × Gen)) (turn : List (Item Gen T)) : Type 0 where
     pub is_found : turn_in a current ≡ turn
     pub holds : IsQueueOrder (entry a) (links a) current (turn_in a current)
@@ -266,11 +266,11 @@ module _ {A Gen T : Type 0} (seen : A → ArenaView Gen T) (entry : A → ℕ �
     holds = settled (entry a) (links a) current turn (seen a).entries is (rises a) (looked a);
   }
 
-  -- a queue as it is found in an arena
+  -- The queue found in an arena.
   abbrev pub queue_in : A → Option (ℕ × Gen) → Queue Gen T
   queue_in a current = record { turn = turn_in a current; room = (seen a).capacity; maximum = (seen a).maximum }
 
-  -- where a queue has room for one task more, its arena has
+  -- If the queue has free capacity, so has its arena.
   pub has_room : (a : A) (current : Option (ℕ × Gen)) (q : Queue Gen T) → IsQueueOrder (entry a) (links a) current (turn_in a current) → queue_in a current ≡ q → length q.turn < q.room → HasFreeCapacity (seen a)
   has_room a current q is same less =
       let many = turn_length (entry a) (links a) current (turn_in a current) (seen a).entries is (rises a) (looked a) in
@@ -278,7 +278,7 @@ module _ {A Gen T : Type 0} (seen : A → ArenaView Gen T) (entry : A → ℕ �
       let room = ap (λ (s : Queue Gen T). s.room) same in
       omega arith
 
-  -- a task comes to a queue without tasks, or before the current one: it is the last in turn
+  -- Inserting a task before the current one, or into an empty queue, appends it.
   module _ (a b : A) (p : ℕ × Gen) (t : T) where
     pub first_comes : GainsLink seen entry links single_link_cyclic t a p b → (turn : List (Item Gen T)) → IsQueueOrder (entry a) (links a) None turn → IsQueueOrder (entry b) (links b) (Some p) (turn ++ (p, t) ∷ [])
     first_comes came = spawned_first (entry a) (entry b) (links a) (links b) p t came.entries.free came.entries.stands came.entries.rest (came.chains.ring refl refl)
@@ -286,7 +286,7 @@ module _ {A Gen T : Type 0} (seen : A → ArenaView Gen T) (entry : A → ℕ �
     pub last_comes : (k : ℕ × Gen) → GainsLink seen entry links (prev_to (k.0, Some k.1)) t a p b → (turn : List (Item Gen T)) → IsQueueOrder (entry a) (links a) (Some k) turn → IsQueueOrder (entry b) (links b) (Some k) (turn ++ (p, t) ∷ [])
     last_comes k came = spawned_last (entry a) (entry b) (links a) (links b) p t came.entries.free came.entries.stands came.entries.rest k (λ y. (came.chains.before k.0 refl refl [] y).1)
 
-  -- so it is where the call that adds it answers, and else the queue is as it was
+  -- A call that adds a task appends it, or fails and keeps the queue.
   module _ {P E : Type 0} (key : P → ℕ × Gen) (a b : A) (current : Option P) (t : T) where
     pub record IsTaskAdded (result : Result P E) (next : Option P) : Type 0 where
       pub holds : IsQueueOrder (entry b) (links b) (option_map key next) (turn_in b (option_map key next))
@@ -307,13 +307,13 @@ module _ {A Gen T : Type 0} (seen : A → ArenaView Gen T) (entry : A → ℕ �
         as_it_was None = refl
         as_it_was (Some p) = refl
 
-  -- the next task is current
+  -- The next task becomes current.
   pub goes_on_in : (a : A) (current next : Option (ℕ × Gen)) (k : ℕ × Gen) → current ≡ Some k → IsQueueOrder (entry a) (links a) current (turn_in a current)
       → ((task : Item Gen T) (rest : List (Item Gen T)) → IsQueueOrder (entry a) (links a) (Some k) (task ∷ rest) → next ≡ first_key (rest ++ task ∷ [])) → IsSettled a next (rotation (turn_in a current))
   goes_on_in a current next k known is second =
       settle a next (rotation (turn_in a current)) (goes_on (entry a) (links a) k next (turn_in a current) (subst (λ (o : Option (ℕ × Gen)). IsQueueOrder (entry a) (links a) o (turn_in a current)) known is) second)
 
-  -- a task is cancelled, and the turn is what is left of it
+  -- A task is cancelled, and the turn is what remains.
   pub record IsLeft (a b : A) (current next : Option (ℕ × Gen)) (p : ℕ × Gen) (t : T) : Type 0 where
     pub cancelled : IsCancelled p t (turn_in a current) (turn_in b next)
     pub holds : IsQueueOrder (entry b) (links b) next (turn_in b next)

@@ -1,4 +1,4 @@
--- Rings: what an exchange, and a corner that comes or goes, make of them.
+-- The effect on rings of exchanges, insertions and removals.
 use Rattle.std.proofs.Common.{◌≡◌, ◌≢◌, ℕ, inl, inr, ⊎_elim, List, [], ◌∷◌, ◌++◌, Option, None, Some, refl, sym, ap, ◌∙◌, subst}
 use Rattle.std.specs.Prelude.{◌↔◌, All, is_some, true, OnSome, IfNone}
 use Rattle.std.specs.Option.{option_map, option_and_then}
@@ -22,7 +22,7 @@ use Rattle.chain_examples.proofs.ItemListLemmas.{stand-append, stand-left, stand
 use Rattle.chain_examples.proofs.ListChangeLemmas.{parts, whole, stays}
 use Rattle.chain_examples.proofs.MeshInvariantLemmas.{some_item, ring_from}
 
--- the items at indexes where entries stand
+-- The items at indexes that are occupied.
 items_at : {Gen T : Type 0} (entry : ℕ → Option (Gen × T)) (ks : List ℕ) → ((k : ℕ) → IsMember ks k → is_some (entry k) ≡ true) → (es : List (Item Gen T)) × (indexes es ≡ ks) × AreEntries entry es
 items_at entry [] some = ([], refl, tt)
 items_at entry (k ∷ ks) some =
@@ -30,7 +30,7 @@ items_at entry (k ∷ ks) some =
     let more = items_at entry ks (λ j has. some j (inr has)) in
     (((k, e.0.0), e.0.1) ∷ more.0, ap (λ (l : List ℕ). k ∷ l) more.1, (e.1, more.2))
 
--- an item came to c, and then one to d: both indexes were free, and each has the item that came to it
+-- Two insertions, at `c` and then at `d`, use two free indexes.
 module _ {Gen T : Type 0} (entry mid after : ℕ → Option (Gen × T)) (c d : ℕ × Gen) (a b : T) (came : IsInserted entry mid c a) (also : IsInserted mid after d b) where
   pub come_apart : c.0 ≢ d.0
   come_apart same = let some = ap is_some came.stands in let none = ap is_some (ap mid same ∙ also.free) in let both = sym some ∙ none in cc
@@ -46,7 +46,7 @@ module _ {Gen T : Type 0} (entry mid after : ℕ → Option (Gen × T)) (c d : �
   }
 
 module _ {A Gen T : Type 0} (entry : A → ℕ → Option (Gen × T)) (links : A → LinkMap) where
-  -- the corner after another is the next one in their ring
+  -- The next corner is the next in the ring.
   module _ (a : A) (p : ℕ × Gen) (t : T) (others : List (Item Gen T)) (is : IsRing entry links a ((p, t) ∷ others)) where
     pub in_a_ring : IsValid (entry a) p
     in_a_ring = record { value = t; stands = is.stand.0 }
@@ -58,14 +58,14 @@ module _ {A Gen T : Type 0} (entry : A → ℕ → Option (Gen × T)) (links : A
         key_of [] s = ap (option_map (λ (x : Gen × T). (p.0, x.0))) is.stand.0
         key_of (e ∷ es) s = ap (option_map (λ (x : Gen × T). (e.0.0, x.0))) s.0
 
-  -- a ring may be written from any of its corners
+  -- A ring can be listed from any of its corners.
   ring_turned : (a : A) (xs ys : List (Item Gen T)) → IsRing entry links a (xs ++ ys) → IsRing entry links a (ys ++ xs)
   ring_turned a xs ys is = record {
     chain = whole entry links cyclic (λ l. refl) a ys xs (turned (links a) (indexes xs) (indexes ys) (parts entry links cyclic (λ l. refl) a xs ys is.chain));
     stand = stand-append (entry a) ys xs (stand-right (entry a) xs ys is.stand) (stand-left (entry a) xs ys is.stand);
   }
 
-  -- where one comes after each, what comes after any two can be exchanged
+  -- If all chains are cyclic, the successors of any two links can be exchanged.
   pub can_exchange : (a : A) → ((i : ℕ) → is_some (entry a i) ≡ true → HasLink (links a) i) → AllCyclic (links a) → (p q : ℕ × Gen)
       → CanExchange (entry a) (links a) p q ↔ (IsValid (entry a) p × IsValid (entry a) q)
   can_exchange a linked round p q = (
@@ -78,14 +78,14 @@ module _ {A Gen T : Type 0} (entry : A → ℕ → Option (Gen × T)) (links : A
     },
   )
 
-  -- an exchange of two, or nothing, where one of them does not stand
+  -- An exchange, or nothing if a pointer is not valid.
   module _ (old new : A) (p q : ℕ × Gen) {R : Type 0} (r : Option R) (some : (IsValid (entry old) p × IsValid (entry old) q) → is_some r ≡ true)
       (exchanges : OnSome r (Exchanges (links old) (links new) p.0 q.0)) (same : entry new ≡ entry old) where
     held : (o : Option R) → is_some o ≡ true → OnSome o (Exchanges (links old) (links new) p.0 q.0) → Exchanges (links old) (links new) p.0 q.0
     held None one exchanges = absurd (let h = one in cc)
     held (Some x) one exchanges = exchanges
 
-    -- it makes two rings of one ..
+    -- An exchange cuts one ring in two.
     pub cuts_in_two : IsCutInTwo entry links old new p q
     cuts_in_two s t x y is =
         let right = stand-right (entry old) x ((q, t) ∷ y) is.stand.1 in
@@ -95,14 +95,14 @@ module _ {A Gen T : Type 0} (entry : A → ℕ → Option (Gen × T)) (links : A
           stays entry links cyclic (λ l. refl) old new same ((q, t) ∷ x) (right.0, stand-left (entry old) x ((q, t) ∷ y) is.stand.1) both.1,
         )
 
-    -- .. or one of two ..
+    -- An exchange merges two rings.
     pub merges : AreMerged entry links old new p q
     merges s t x y first second apart =
         let chains = held r (some (record { value = s; stands = first.stand.0 }, record { value = t; stands = second.stand.0 })) exchanges in
         stays entry links cyclic (λ l. refl) old new same ((p, s) ∷ y ++ (q, t) ∷ x) (first.stand.0, stand-append (entry old) y ((q, t) ∷ x) second.stand.1 (second.stand.0, first.stand.1))
         (whole entry links cyclic (λ l. refl) new ((p, s) ∷ y) ((q, t) ∷ x) (chains.two_cyclic (indexes x) (indexes y) first.chain second.chain apart))
 
-    -- .. and the other rings stay
+    -- An exchange keeps the other rings.
     pub keeps_exchanged : IfNone r (new ≡ old) → KeepsWithout entry links cyclic old new (p ∷ q ∷ [])
     keeps_exchanged none xs lacks is = by r exchanges none
       where
@@ -110,18 +110,18 @@ module _ {A Gen T : Type 0} (entry : A → ℕ → Option (Gen × T)) (links : A
         by None exchanges none = subst (λ (a : A). IsRing entry links a xs) (sym none) is
         by (Some x) exchanges none = stays entry links cyclic (λ l. refl) old new same xs is.stand ((exchanges.rest (cyclic (indexes xs)) lacks.0 lacks.1.0).0 is.chain)
 
-  -- an exchange of a corner with itself changes nothing
+  -- Exchanging a corner with itself changes nothing.
   pub exchanged_itself : (old new : A) → ((i : ℕ) → is_some (entry old i) ≡ true → HasLink (links old) i) → (p q : ℕ × Gen) → IsValid (entry old) p → IsWellLinked (links old) → p ≡ q
       → links new ≡ exchanged (links old) p.0 q.0 → links new ≡ links old
   exchanged_itself old new linked p q valid agrees same changed =
       changed ∙ subst (λ (k : ℕ × Gen). exchanged (links old) p.0 k.0 ≡ links old) same (exchanged_with_itself (links old) p.0 agrees (linked p.0 (ap is_some valid.stands)))
 
-  -- a ring stands where the same is seen
+  -- A ring depends only on entries and links.
   pub ring_seen : (old new : A) → entry new ≡ entry old → links new ≡ links old → (xs : List (Item Gen T)) → IsRing entry links old xs → IsRing entry links new xs
   ring_seen old new same linked xs is = stays entry links cyclic (λ l. refl) old new same xs is.stand (subst (λ (l : LinkMap). IsChain l (cyclic (indexes xs))) (sym linked) is.chain)
 
   module _ (old first second new : A) (u v c d : ℕ × Gen) (a b : T) where
-    -- copies of the ends of a line come beside them, and one ring becomes two ..
+    -- Inserting the copies and an exchange split one ring.
     pub splits : entry old u.0 ≡ Some (u.1, a) → entry old v.0 ≡ Some (v.1, b) → InsertsBefore entry links cyclic old first u (c, a) → InsertsAfter entry links cyclic first second v (d, b)
         → IsCutInTwo entry links second new v c → IsSplit entry links old new u v c d
     splits at_u at_v before after cut s t x y is =
@@ -132,7 +132,7 @@ module _ {A Gen T : Type 0} (entry : A → ℕ → Option (Gen × T)) (links : A
         let same_v : b ≡ t = ap (λ (e : Gen × T). e.1) (one_some (sym at_v ∙ (stand-right (entry old) x ((v, t) ∷ y) is.stand.1).0)) in
         (parts.0, subst (λ (w : T). IsRing entry links new ((c, s) ∷ (d, w) ∷ y)) same_v (subst (λ (w : T). IsRing entry links new ((c, w) ∷ (d, b) ∷ y)) same_u parts.1))
 
-    -- .. or two become one: the first corner's copy is in no ring of the second ..
+    -- Inserting the copies and an exchange bridge two rings.
     pub bridges : entry old u.0 ≡ Some (u.1, a) → entry old v.0 ≡ Some (v.1, b) → IsInserted (entry old) (entry first) c a → IsInserted (entry first) (entry second) d b
         → InsertsBefore entry links cyclic old first u (c, a) → KeepsWithout entry links cyclic old first (u ∷ [])
         → InsertsAfter entry links cyclic first second v (d, b) → KeepsWithout entry links cyclic first second (v ∷ [])
@@ -161,13 +161,13 @@ module _ {A Gen T : Type 0} (entry : A → ℕ → Option (Gen × T)) (links : A
         new_among (inr (inl is)) = come_apart (entry old) (entry first) (entry second) c d a b came also (sym is)
         new_among (inr (inr has)) = free ((v, t) ∷ y) two.stand (inr has)
 
-    -- .. and the other rings stay: no old one has a new corner
+    -- A split keeps the other rings, which contain no copy.
     pub keeps_split : entry old c.0 ≡ None → KeepsWithout entry links cyclic old first (u ∷ []) → KeepsWithout entry links cyclic first second (v ∷ []) → KeepsWithout entry links cyclic second new (v ∷ c ∷ [])
         → KeepsWithout entry links cyclic old new (u ∷ v ∷ [])
     keeps_split free came also cut xs lacks is =
         cut xs (lacks.1.0, ((λ has. let some = stand-some (entry old) xs c.0 is.stand has in let none = ap is_some free in let both = sym some ∙ none in cc), tt)) (also xs (lacks.1.0, tt) (came xs (lacks.0, tt) is))
 
-  -- each entry stands in a ring
+  -- Each entry is in a ring.
   pub all_in_rings : (a : A) (es : List (Item Gen T)) → ((i : ℕ) → found i es ≡ entry a i) → ((i : ℕ) → is_some (links a i) ≡ is_some (entry a i)) → (greatest : ℕ)
       → All (λ e. IsWithin greatest (index_of e)) es → IsWellLinked (links a) → AllCyclic (links a) → AllInRings entry links a
   all_in_rings a es looked stand greatest within agrees round e at =
@@ -175,7 +175,7 @@ module _ {A Gen T : Type 0} (entry : A → ℕ → Option (Gen × T)) (links : A
       let items = items_at (entry a) ring.0 (λ k has. valid_some (links a) (entry a) es stand looked k (members_are_links (links a) (cyclic (e.0.0 ∷ ring.0)) k ring.1 (inr has))) in
       (items.0, record { chain = subst (λ (l : List ℕ). IsChain (links a) (cyclic (e.0.0 ∷ l))) (sym items.1) ring.1; stand = (at, items.2) })
 
-  -- a merge undoes a cut, and a cut a merge
+  -- A merge undoes a cut, and a cut a merge.
   pub cut_and_merge : CutAndMergeRestore entry links
   cut_and_merge = record {
     merge = λ old mid new p q cut merged s t x y is.

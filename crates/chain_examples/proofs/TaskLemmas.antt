@@ -1,4 +1,4 @@
--- The tasks of a run queue where one is read or written, and where the queue grows.
+-- Reading and writing tasks of a run queue, and growing the queue.
 use Rattle.std.proofs.Common.{◌≡◌, ◌≢◌, ℕ, inl, inr, List, [], ◌∷◌, ◌++◌, length, Option, None, Some, refl, sym, ap, ◌∙◌, subst}
 use Rattle.std.specs.Prelude.{is_some, IfSome}
 use Rattle.std.specs.Option.{option_map}
@@ -17,7 +17,7 @@ module _ {Gen T : Type 0} where
   among_parts (x ∷ before) after e = inr (among_parts before after e)
 
   module _ (entry : ℕ → Option (Gen × T)) (links : LinkMap) (current : Option (ℕ × Gen)) (turn : List (Item Gen T)) (is : IsQueueOrder entry links current turn) where
-    -- a pointer is valid exactly if it is that of a task
+    -- A pointer is valid exactly if it belongs to a task.
     pub among_if_valid : (p : ℕ × Gen) → IsValid entry p → IsAmong p turn
     among_if_valid p valid =
         let split = valid_task entry links current turn p is valid in
@@ -26,7 +26,7 @@ module _ {Gen T : Type 0} where
     pub valid_if_among : (p : ℕ × Gen) → IsAmong p turn → IsValid entry p
     valid_if_among p among = among_stands entry links turn p is.stand among
 
-    -- what stands at the index of a task is that task
+    -- The entry at the index of a task is that task.
     pub task_found : (p : ℕ × Gen) (t : T) → entry p.0 ≡ Some (p.1, t) → found p.0 turn ≡ Some (p.1, t)
     task_found p t stands = found-standing entry p.0 turn is.stand (is.all p.0 (ap is_some stands)) ∙ stands
 
@@ -34,11 +34,11 @@ module _ {Gen T : Type 0} where
     task_shown p value None stands = tt
     task_shown p value (Some r) stands = task_found p (value r) stands
 
-    -- a free index is that of no task
+    -- A free index belongs to no task.
     pub free_index : (i : ℕ) → entry i ≡ None → IsMember (indexes turn) i → ⊥
     free_index i free has = let some = stand-some entry turn i is.stand has in let none = ap is_some free in let both = sym some ∙ none in cc
 
-    -- a value is written at an index
+    -- A value is written at an index.
     pub turn-written : (new : ℕ → Option (Gen × T)) (changed : LinkMap) (i : ℕ) (t : T) → new i ≡ option_map (valued t) (entry i) → ((k : ℕ) → k ≢ i → new k ≡ entry k) → changed ≡ links
         → IsQueueOrder new changed current (replaced i (valued t) turn)
     turn-written new changed i t there rest same = record {
@@ -52,7 +52,7 @@ module _ {Gen T : Type 0} where
         once [] ring = tt
         once (x ∷ xs) ring = (ring (λ h. cc)).1
 
--- a queue as its arena shows it: how many tasks it has, its capacity and the maximum of that
+-- A queue has the size, the capacity and the maximum of its arena.
 pub record HasSize {Gen T : Type 0} (s : ArenaView Gen T) (q : Queue Gen T) : Type 0 where
   pub tasks : count s ≡ length q.turn
   pub room : s.capacity ≡ q.room
@@ -66,10 +66,10 @@ has_size {Gen = Gen} {T = T} seen entry links rises looked a current q is shows 
   maximum = ap (λ (r : Queue Gen T). r.maximum) shows;
 }
 
--- The queue as it is found in an arena, where these look at one.
+-- The queue found in an arena.
 module _ {A Gen T : Type 0} (seen : A → ArenaView Gen T) (entry : A → ℕ → Option (Gen × T)) (links : A → LinkMap) (rises : (a : A) → RisesFrom 1 (seen a).entries) (looked : (a : A) (i : ℕ) → found i (seen a).entries ≡ entry a i)
     (a b : A) (current : Option (ℕ × Gen)) (is : IsQueueOrder (entry a) (links a) current (turn_in seen entry links rises looked a current)) where
-  -- the queue is that of the first arena with something else for its parts
+  -- The queue found in the second arena is `q`.
   pub record IsQueue (q : Queue Gen T) : Type 0 where
     pub holds : IsQueueOrder (entry b) (links b) current (turn_in seen entry links rises looked b current)
     pub shows : queue_in seen entry links rises looked b current ≡ q

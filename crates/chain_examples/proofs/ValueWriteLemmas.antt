@@ -1,4 +1,4 @@
--- The value at an index is written: what is found among items, and what becomes of lists and of texts.
+-- Writing the value at an index: its effect on entries, lists and texts.
 use Rattle.std.proofs.Common.{◌≡◌, ◌≢◌, ℕ, inl, inr, ⊎_elim, List, [], ◌∷◌, ◌++◌, Option, None, Some, refl, sym, ap, ◌∙◌, subst}
 use Rattle.std.specs.Prelude.{◌==◌, cond, is_some}
 use Rattle.std.specs.Option.{option_map}
@@ -12,25 +12,25 @@ use Rattle.chain_examples.proofs.ItemListLemmas.{stand-append, stand-left, stand
 use Rattle.chain_examples.proofs.DocumentLemmas.{apart, has_left, has_right}
 
 module _ {Gen T : Type 0} where
-  -- an entry with another value
+  -- An entry with another value.
   abbrev pub valued : T → Gen × T → Gen × T
   valued t e = (e.0, t)
 
-  -- the first item is found by its index, and another one past it
+  -- Lookup returns the first item at its index, or else searches the rest.
   at_first : (e : Item Gen T) (i : ℕ) (es : List (Item Gen T)) → e.0.0 ≡ i → found i (e ∷ es) ≡ Some (e.0.1, e.1)
   at_first e i es is = ap (λ b. cond b (Some (e.0.1, e.1)) (found i es)) (eq-eqb e.0.0 i is)
 
   past_first : (e : Item Gen T) (i : ℕ) (es : List (Item Gen T)) → e.0.0 ≢ i → found i (e ∷ es) ≡ found i es
   past_first e i es other = ap (λ b. cond b (Some (e.0.1, e.1)) (found i es)) (ne_eqb e.0.0 i other)
 
-  -- the value is written to the first item, or past it
+  -- A write changes the first item at its index, or else the rest.
   writes_first : (i : ℕ) (t : T) (e : Item Gen T) (es : List (Item Gen T)) → e.0.0 ≡ i → replaced i (valued t) (e ∷ es) ≡ ((i, e.0.1), t) ∷ es
   writes_first i t e es is = ap (λ b. cond b (((i, e.0.1), t) ∷ es) (e ∷ replaced i (valued t) es)) (eq-eqb e.0.0 i is)
 
   writes_later : (i : ℕ) (t : T) (e : Item Gen T) (es : List (Item Gen T)) → e.0.0 ≢ i → replaced i (valued t) (e ∷ es) ≡ e ∷ replaced i (valued t) es
   writes_later i t e es other = ap (λ b. cond b (((i, e.0.1), t) ∷ es) (e ∷ replaced i (valued t) es)) (ne_eqb e.0.0 i other)
 
-  -- the index finds the new value, and every other one what it did
+  -- Lookup finds the new value at the index, and the old ones elsewhere.
   pub found-written : (i : ℕ) (t : T) (es : List (Item Gen T)) → found i (replaced i (valued t) es) ≡ option_map (valued t) (found i es)
   found-written i t [] = refl
   found-written i t (e ∷ es) = ⊎_elim
@@ -45,7 +45,7 @@ module _ {Gen T : Type 0} where
       (λ differs. ap (found k) (writes_later i t e es differs) ∙ ap (cond (e.0.0 == k) (Some (e.0.1, e.1))) (found-unwritten k i t es other))
       (cases_eq e.0.0 i)
 
-  -- indexes stay, and so does the first pointer
+  -- Indexes and the first pointer are unchanged.
   pub indexes-written : (i : ℕ) (t : T) (es : List (Item Gen T)) → indexes (replaced i (valued t) es) ≡ indexes es
   indexes-written i t [] = refl
   indexes-written i t (e ∷ es) = ⊎_elim
@@ -60,7 +60,7 @@ module _ {Gen T : Type 0} where
       (λ other. ap first_key (writes_later i t e es other))
       (cases_eq e.0.0 i)
 
-  -- what is found among items that stand is what stands there
+  -- Lookup among stored items finds the entries.
   pub found-standing : (entry : ℕ → Option (Gen × T)) (i : ℕ) (es : List (Item Gen T)) → AreEntries entry es → IsMember (indexes es) i → found i es ≡ entry i
   found-standing entry i [] stand has = absurd has
   found-standing entry i (e ∷ es) stand has = ⊎_elim
@@ -72,7 +72,7 @@ module _ {Gen T : Type 0} where
       later other (inl is) = absurd (other is)
       later other (inr h) = h
 
-  -- items that stood stand, where the value at an index was written
+  -- Items stay stored after writing the value at an index.
   module _ (old new : ℕ → Option (Gen × T)) (i : ℕ) (t : T) (there : new i ≡ option_map (valued t) (old i)) (rest : (k : ℕ) → k ≢ i → new k ≡ old k) where
     pub stand-written : (es : List (Item Gen T)) → AreDistinct (indexes es) → AreEntries old es → AreEntries new (replaced i (valued t) es)
     stand-written [] once stand = tt
@@ -88,14 +88,14 @@ module _ {Gen T : Type 0} where
     some_mapped None = refl
     some_mapped (Some e) = refl
 
-    -- something stands where something stood
+    -- The same indexes are occupied.
     pub some-written : (k : ℕ) → is_some (new k) ≡ is_some (old k)
     some-written k = ⊎_elim
         (λ is. ap (λ (n : ℕ). is_some (new n)) is ∙ (ap is_some there ∙ (some_mapped (old i) ∙ ap (λ (n : ℕ). is_some (old n)) (sym is))))
         (λ other. ap is_some (rest k other))
         (cases_eq k i)
 
--- A value that is written in an arena, where these look at one.
+-- A value written in an arena.
 module _ {A Gen T : Type 0} (seen : A → ArenaView Gen T) (entry : A → ℕ → Option (Gen × T)) (links : A → LinkMap) (looked : (a : A) (i : ℕ) → found i (seen a).entries ≡ entry a i)
     (a b : A) (i : ℕ) (t : T) (was : seen b ≡ written (seen a) i t) where
   pub value_there : entry b i ≡ option_map (valued t) (entry a i)
@@ -104,7 +104,7 @@ module _ {A Gen T : Type 0} (seen : A → ArenaView Gen T) (entry : A → ℕ �
   pub values_elsewhere : (k : ℕ) → k ≢ i → entry b k ≡ entry a k
   values_elsewhere k other = sym (looked b k) ∙ (ap (λ (s : ArenaView Gen T). found k s.entries) was ∙ (found-unwritten k i t (seen a).entries other ∙ looked a k))
 
-  -- an item of a text has the value, and every other one the value that it had
+  -- The item of a text has the new value, and the others keep theirs.
   pub has_new_value : (g : Gen) → links b ≡ links a → HasNewValue seen entry links a b (i, g) t
   has_new_value g same = record {
     text = λ s before after is.

@@ -1,31 +1,32 @@
--- The tasks of a run queue in turn, its capacity and the maximum of that.
+-- The view of a run queue in contracts, and what its calls do to the order of tasks.
 use Rattle.std.specs.Prelude.{◌≡◌, ◌⊎◌, ℕ, zero, suc, List, [], ◌∷◌, ◌++◌, Option, None, Some}
 use Rattle.std.specs.Option.{option_map}
 use Rattle.chain_laws.specs.Chains.{LinkMap, next_of}
 use Rattle.arena_base.specs.Entries.{first_key, replaced}
 use Rattle.chain_examples.specs.Lists.{Item, IsQueueOrder}
 
--- a run queue: its tasks in turn, the current one first, its capacity, and the maximum of that, if there is one
+-- A run queue: its tasks in turn, the current one first, its capacity, and the limit of that, if
+-- any.
 pub record Queue (Gen T : Type 0) : Type 0 where
   pub turn : List (Item Gen T)
   pub room : ℕ
   pub maximum : Option ℕ
 
--- the queue with another task at an index; pointers, order and capacity stay
+-- The queue with the task at an index replaced.
 abbrev pub with_task : {Gen T : Type 0} → Queue Gen T → ℕ → T → Queue Gen T
 with_task q i t = record q { turn = replaced i (λ e. (e.0, t)) q.turn }
 
--- the first item goes behind the others
+-- The list with its first item moved to the end.
 abbrev pub rotation : {X : Type 0} → List X → List X
 rotation [] = []
 rotation (x ∷ xs) = xs ++ x ∷ []
 
--- the pointer is that of one of the items
+-- The pointer belongs to one of the items.
 abbrev pub IsAmong : {Gen T : Type 0} → ℕ × Gen → List (Item Gen T) → Type 0
 IsAmong p [] = ⊥
 IsAmong p (e ∷ items) = (e.0 ≡ p) ⊎ IsAmong p items
 
--- a task is cancelled: it leaves the turn, in which the others keep their order, and its pointer is of none of them
+-- `task` is removed from the turn, the others keep their order, and `p` belongs to none of them.
 pub record IsCancelled {Gen T : Type 0} (p : ℕ × Gen) (task : T) (old new : List (Item Gen T)) : Type 0 where
   pub before : List (Item Gen T)
   pub after : List (Item Gen T)
@@ -33,13 +34,13 @@ pub record IsCancelled {Gen T : Type 0} (p : ℕ × Gen) (task : T) (old new : L
   pub left : new ≡ before ++ after
   pub gone : ¬ IsAmong p new
 
--- what stands at an index, before others
+-- The entry at an index, followed by other items; the empty list if there is no entry.
 abbrev pub with_entry_first : {Gen T : Type 0} → ℕ → Option (Gen × T) → List (Item Gen T) → List (Item Gen T)
 with_entry_first i None others = []
 with_entry_first i (Some e) others = ((i, e.0), e.1) ∷ others
 
 module _ {Gen T : Type 0} (entry : ℕ → Option (Gen × T)) (links : LinkMap) where
-  -- so many items from an index on, each that of the link after the one before
+  -- Up to `n` items in `next` order, starting at an index.
   unfoldable pub items_from : ℕ → Option ℕ → List (Item Gen T)
   items_from zero at = []
   items_from (suc n) None = []
@@ -49,11 +50,11 @@ module _ {Gen T : Type 0} (entry : ℕ → Option (Gen × T)) (links : LinkMap) 
   queue_order n current = items_from n (option_map (λ (p : ℕ × Gen). p.0) current)
 
 module _ {A Gen T : Type 0} (entry : A → ℕ → Option (Gen × T)) (links : A → LinkMap) where
-  -- a task comes last, whatever the turn was; these were current before and after
+  -- Task `e` is appended to the turn; `was` and `is` are the current pointers before and after.
   abbrev pub AppendsTask : (old new : A) → (was is : Option (ℕ × Gen)) → Item Gen T → Type 0
   AppendsTask old new was is e = (turn : List (Item Gen T)) → IsQueueOrder (entry old) (links old) was turn → IsQueueOrder (entry new) (links new) is (turn ++ e ∷ [])
 
-  -- the first in turn once p is gone, where another pointer, or p itself, is current still
+  -- `first` is the pointer of the first task in turn once `p` is removed.
   abbrev pub IsFirstWithout : (arena : A) → (p current : ℕ × Gen) → Option (ℕ × Gen) → Type 0
   IsFirstWithout arena p current first = (before after : List (Item Gen T)) (task : T)
       → IsQueueOrder (entry arena) (links arena) (Some current) (before ++ (p, task) ∷ after) → first ≡ first_key (before ++ after)

@@ -1,4 +1,4 @@
-//! A renumbering that mends the bookmarks of its caller.
+//! Renumbering of an arena that also updates the caller's bookmarks.
 
 ghost use Rattle.std.specs.Prelude.{◌≡◌, ◌≤◌, ◌+◌, length, replicate, OnOk, OnErr, IfOk, All, map, false, None};
 ghost use Rattle.std.specs.Option.{option_map, option_and_then};
@@ -12,15 +12,16 @@ use arena_ptr::{InxKey, PtrKey, SlotStack};
 use chain_arena::{ChainArena, LinkNoGen};
 use std::alloc::{AllocError, Global};
 
-/// Arranges the chains one after another from index 1 on, as `compress_canonical` does, and
-/// updates bookmarks. Each bookmark is of the same link as before, by the pointer that the
-/// arrangement gave it. A bookmark whose link is gone becomes `None`.
+/// Renumbers all links as `compress_canonical` does, and updates `bookmarks`.
 ///
-/// The time is in proportion to the slots and the bookmarks. No clause states it.
+/// The chains are arranged one after another from index 1. Each bookmark becomes the new pointer of
+/// its link, or `None` if its pointer was not valid.
+///
+/// Takes time linear in the slots and bookmarks; no clause states this.
 ///
 /// # Errors
 ///
-/// - `AllocError`: memory was refused, and nothing has changed.
+/// - `AllocError`: an allocation failed. The arena and the bookmarks are unchanged.
 pub fn renumber<P: PtrKey, T: Drop, S: SlotStack<Item = ArenaSlot<P, LinkNoGen<P, T>>>>(
     arena: &mut ChainArena<P, T, S>,
     alloc: Global,
@@ -46,9 +47,11 @@ pub fn renumber<P: PtrKey, T: Drop, S: SlotStack<Item = ArenaSlot<P, LinkNoGen<P
     }
 }
 
-/// A table of so many places, all empty, for moves: a pointer that a link had and the one that it has.
+/// Returns a table with `n` empty entries for moves, each a link's old pointer and its new one.
 ///
-/// `AllocError`: memory was refused.
+/// # Errors
+///
+/// - `AllocError`: an allocation failed.
 fn room<P: PtrKey>(alloc: Global, n: usize) -> Result<Vec<Option<(P, P)>>, AllocError>
     ensures { IfOk result (λ table. table.items ≡ replicate n None) }
 {
@@ -57,7 +60,7 @@ fn room<P: PtrKey>(alloc: Global, n: usize) -> Result<Vec<Option<(P, P)>>, Alloc
     Ok(table)
 }
 
-/// The place of a pointer in a table: that of index k + 1 is k.
+/// Returns the position of a pointer in a table: its index less 1.
 fn place_of<P: PtrKey>(p: P) -> usize
     ensures { result + 1 ≡ (P.key p).0 }
 {
@@ -67,7 +70,7 @@ fn place_of<P: PtrKey>(p: P) -> usize
     }
 }
 
-/// Writes each move into the table, at the index of the pointer that the link had.
+/// Writes each move into the table, at the position of its old pointer.
 fn note<P: PtrKey>(table: &mut [Option<(P, P)>], moves: &[(P, P)])
     requires { All (λ m. (P.key m.0).0 ≤ length table.old) moves.now }
     ensures { table.new ≡ noted P.key table.old moves.now }
@@ -77,7 +80,8 @@ fn note<P: PtrKey>(table: &mut [Option<(P, P)>], moves: &[(P, P)])
     }
 }
 
-/// The pointer to which the table has a move from the bookmark. `None`: it names none, or the table has no such move.
+/// Returns the new pointer of a bookmark, or `None` if it is `None` or the table has no move from
+/// it.
 fn find<P: PtrKey>(table: &[Option<(P, P)>], bookmark: Option<P>) -> Option<P>
     ensures { result ≡ option_and_then (looked_up P.key P.same table.now) bookmark }
 {
@@ -88,7 +92,7 @@ fn find<P: PtrKey>(table: &[Option<(P, P)>], bookmark: Option<P>) -> Option<P>
     }
 }
 
-/// Makes each bookmark the pointer to which the table has a move from it, or none.
+/// Replaces each bookmark with its new pointer, or with `None` if the table has no move from it.
 fn follow<P: PtrKey>(table: &[Option<(P, P)>], bookmarks: &mut [Option<P>])
     ensures { bookmarks.new ≡ map (option_and_then (looked_up P.key P.same table.now))
         bookmarks.old }

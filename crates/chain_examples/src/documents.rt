@@ -1,4 +1,4 @@
-//! Ordered documents: each is a text of paragraphs, and one arena has them all.
+//! Ordered documents, whose paragraphs are all stored in one arena.
 
 ghost use Rattle.std.specs.Prelude.{◌≡◌, ◌≢◌, ◌↔◌, ℕ, ◌+◌, ◌<◌, ◌≤◌, List, [], ◌∷◌, ◌++◌, IsTrue, IsSome, IfSome, OnSome, IfNone, IsOk, IfOk, OnOk, IsErr, IfErr, OnErr, Some, None, Err, map, false};
 ghost use Rattle.std.specs.Option.{option_map};
@@ -24,10 +24,13 @@ use chain_traits::ChainArenaTrait;
 use std::alloc::{AllocError, Global};
 use std::marker::{Model, PhantomData};
 
-/// Texts of paragraphs. A paragraph is named by the pointer that it came with, wherever it stands, until it is removed.
+/// A set of documents, each a linear chain of paragraphs in one arena.
 ///
-/// A contract sees the arena that they are kept in, and names a text as the list of its paragraphs, from the first to the
-/// last: pairs of a pointer's index and generation, and of the paragraph.
+/// Inserting a paragraph returns its pointer. The pointer identifies the paragraph wherever it is
+/// moved, until the paragraph is removed or `renumber` is called.
+///
+/// Contracts see the arena, and call a document a text (`IsText`). A text is the list of the
+/// paragraphs from the first to the last, each with its pointer's index and generation.
 #[derive(Drop)]
 pub struct Documents<P: PtrKey, T: Drop, A: ChainArenaTrait<P, T> + Drop> {
     paragraphs: A,
@@ -43,7 +46,7 @@ impl<P: PtrKey, T: Drop, A: ChainArenaTrait<P, T> + Drop> Model for Documents<P,
 impl<P: PtrKey, T: Drop, A: ChainArenaTrait<P, T> + Drop> Documents<P, T, A> {
     ghost use Rattle.chain_examples.specs.contracts.documents.Documents.{the_row};
 
-    /// Returns documents without a text. It takes no memory.
+    /// Creates an empty set of documents. It does not allocate.
     pub fn new(alloc: Global) -> Self
         ensures paragraphs { (A.view result).entries ≡ [] }
         ensures capacity { (A.view result).capacity ≡ 0 }
@@ -62,15 +65,14 @@ impl<P: PtrKey, T: Drop, A: ChainArenaTrait<P, T> + Drop> Documents<P, T, A> {
         self.paragraphs.len()
     }
 
-    /// Returns whether there are no paragraphs, and so no texts.
+    /// Returns `true` if there are no paragraphs, and so no documents.
     pub fn is_empty(&self) -> bool
         ensures { IsTrue result ↔ ((A.view self.now).entries ≡ []) }
     {
         self.paragraphs.is_empty()
     }
 
-    /// Returns how many paragraphs fit before the arena has to grow. This is at most the
-    /// greatest index and the maximum.
+    /// Returns the number of paragraphs that the arena can hold without growing.
     pub fn capacity(&self) -> usize
         ensures value { result ≡ (A.view self.now).capacity }
         ensures greatest { result ≤ P.Inx.greatest }
@@ -79,21 +81,23 @@ impl<P: PtrKey, T: Drop, A: ChainArenaTrait<P, T> + Drop> Documents<P, T, A> {
         self.paragraphs.capacity()
     }
 
-    /// Returns the greatest capacity that the arena may have, if there is a limit.
+    /// Returns the maximum capacity, or `None` if there is no limit.
     pub fn max_capacity(&self) -> Option<usize>
         ensures { result ≡ (A.view self.now).maximum }
     {
         self.paragraphs.max_capacity()
     }
 
-    /// Grows to capacity for `additional` more paragraphs. Within the capacity nothing changes.
+    /// Reserves capacity for at least `additional` more paragraphs.
+    ///
+    /// Does nothing if the capacity suffices.
     ///
     /// # Errors
     ///
-    /// - `BeyondMaxCapacity`: so many paragraphs would be above the maximum.
-    /// - `AllocError`: they would be above the greatest index, or memory was refused.
+    /// - `BeyondMaxCapacity`: growth would exceed the maximum.
+    /// - `AllocError`: growth would exceed the greatest index, or an allocation failed.
     ///
-    /// After an error nothing has changed.
+    /// On error, nothing changes.
     pub fn reserve(&mut self, additional: usize) -> Result<(), ReallocationError>
         ensures within { count (A.view self.old) + additional ≤ (A.view self.old).capacity
             → IsOk result × (self.new ≡ self.old) }
@@ -112,14 +116,16 @@ impl<P: PtrKey, T: Drop, A: ChainArenaTrait<P, T> + Drop> Documents<P, T, A> {
         reserve(&mut self.paragraphs, additional)
     }
 
-    /// Begins a text, which has one paragraph, and returns its pointer. A full arena grows first.
+    /// Creates a document of one paragraph and returns the paragraph's pointer.
+    ///
+    /// A full arena grows first.
     ///
     /// # Errors
     ///
-    /// - `BeyondMaxCapacity`: one paragraph more would be above the maximum.
-    /// - `AllocError`: it would be above the greatest index, or memory was refused.
+    /// - `BeyondMaxCapacity`: growth would exceed the maximum.
+    /// - `AllocError`: growth would exceed the greatest index, or an allocation failed.
     ///
-    /// After an error nothing has changed, and the paragraph is dropped.
+    /// On error, nothing changes and the paragraph is dropped.
     pub fn begin(&mut self, paragraph: T) -> Result<P, ReallocationError>
         ensures text { IfOk result (λ q. IsText A.entry A.interlinks self.new
             ((P.key q, paragraph) ∷ [])) }
@@ -141,7 +147,7 @@ impl<P: PtrKey, T: Drop, A: ChainArenaTrait<P, T> + Drop> Documents<P, T, A> {
             .insert(LinkInsertKind::Disconnected, paragraph)
     }
 
-    /// A paragraph. `None`: the pointer is of none.
+    /// Returns a reference to the paragraph at `p`, or `None` if `p` is not valid.
     pub fn get(&self, p: P) -> Option<&T>
         ensures some { IsSome result ↔ IsValid (A.entry self.now) (P.key p) }
         ensures paragraph { IfSome result (λ t. A.entry self.now (P.key p).0 ≡ Some
@@ -150,8 +156,9 @@ impl<P: PtrKey, T: Drop, A: ChainArenaTrait<P, T> + Drop> Documents<P, T, A> {
         self.paragraphs.get(p)
     }
 
-    /// Returns a paragraph for writing. Its pointer and the order of its text stay. `None`: the
-    /// pointer is of no paragraph.
+    /// Returns a mutable reference to the paragraph at `p`, or `None` if `p` is not valid.
+    ///
+    /// Writing through the reference keeps all pointers and the order of each document.
     pub fn get_mut(&mut self, p: P) -> Option<&mut T>
         ensures* writes_back { sem 𝓛 (LendsSo
             (the_row P.row T.row A.row P.Inx.row P.Gen.row P.Inx.Word.row
@@ -172,7 +179,9 @@ impl<P: PtrKey, T: Drop, A: ChainArenaTrait<P, T> + Drop> Documents<P, T, A> {
         }
     }
 
-    /// The pointer of the paragraph after another in its text. `None`: the pointer is of no paragraph, or of the last of a text.
+    /// Returns the pointer of the paragraph after `p` in its document.
+    ///
+    /// Returns `None` if `p` is not valid or is the last paragraph.
     pub fn next(&self, p: P) -> Option<P>
         ensures none { ¬ IsValid (A.entry self.now) (P.key p) → result ≡ None }
         ensures next { (t : T) (before after : List (Item P.Gen T))
@@ -188,7 +197,9 @@ impl<P: PtrKey, T: Drop, A: ChainArenaTrait<P, T> + Drop> Documents<P, T, A> {
         }
     }
 
-    /// The pointer of the paragraph before another in its text. `None`: the pointer is of no paragraph, or of the first of a text.
+    /// Returns the pointer of the paragraph before `p` in its document.
+    ///
+    /// Returns `None` if `p` is not valid or is the first paragraph.
     pub fn prev(&self, p: P) -> Option<P>
         ensures none { ¬ IsValid (A.entry self.now) (P.key p) → result ≡ None }
         ensures prev { (t : T) (before after : List (Item P.Gen T))
@@ -204,15 +215,17 @@ impl<P: PtrKey, T: Drop, A: ChainArenaTrait<P, T> + Drop> Documents<P, T, A> {
         }
     }
 
-    /// Adds a paragraph directly after another, and returns its pointer. A full arena grows first.
+    /// Inserts a paragraph directly after `p` and returns its pointer.
+    ///
+    /// A full arena grows first.
     ///
     /// # Errors
     ///
-    /// - `FailedLinkRequirement`: the pointer is of no paragraph.
-    /// - `BeyondMaxCapacity`: one paragraph more would be above the maximum.
-    /// - `AllocError`: it would be above the greatest index, or memory was refused.
+    /// - `FailedLinkRequirement`: `p` is not valid.
+    /// - `BeyondMaxCapacity`: growth would exceed the maximum.
+    /// - `AllocError`: growth would exceed the greatest index, or an allocation failed.
     ///
-    /// After an error nothing has changed, and the paragraph is dropped.
+    /// On error, nothing changes and the paragraph is dropped.
     pub fn insert_after(&mut self, p: P, paragraph: T) -> Result<P, ChainInsertionError>
         ensures text { IfOk result (λ q. InsertsAfter A.entry A.interlinks linear self.old self.new
             (P.key p) (P.key q, paragraph)) }
@@ -238,15 +251,17 @@ impl<P: PtrKey, T: Drop, A: ChainArenaTrait<P, T> + Drop> Documents<P, T, A> {
             .insert_reallocating(LinkInsertKind::NextTo(p), paragraph)
     }
 
-    /// Adds a paragraph directly before another, and returns its pointer. A full arena grows first.
+    /// Inserts a paragraph directly before `p` and returns its pointer.
+    ///
+    /// A full arena grows first.
     ///
     /// # Errors
     ///
-    /// - `FailedLinkRequirement`: the pointer is of no paragraph.
-    /// - `BeyondMaxCapacity`: one paragraph more would be above the maximum.
-    /// - `AllocError`: it would be above the greatest index, or memory was refused.
+    /// - `FailedLinkRequirement`: `p` is not valid.
+    /// - `BeyondMaxCapacity`: growth would exceed the maximum.
+    /// - `AllocError`: growth would exceed the greatest index, or an allocation failed.
     ///
-    /// After an error nothing has changed, and the paragraph is dropped.
+    /// On error, nothing changes and the paragraph is dropped.
     pub fn insert_before(&mut self, p: P, paragraph: T) -> Result<P, ChainInsertionError>
         ensures text { IfOk result (λ q. InsertsBefore A.entry A.interlinks linear self.old self.new
             (P.key p) (P.key q, paragraph)) }
@@ -272,8 +287,10 @@ impl<P: PtrKey, T: Drop, A: ChainArenaTrait<P, T> + Drop> Documents<P, T, A> {
             .insert_reallocating(LinkInsertKind::PrevTo(p), paragraph)
     }
 
-    /// Removes a paragraph and returns it. Those that it was between follow each other. The
-    /// capacity stays. `None`: the pointer is of no paragraph, and nothing has changed.
+    /// Removes a paragraph and returns it.
+    ///
+    /// The paragraphs before and after it become neighbors. The capacity stays the same. Returns
+    /// `None` and changes nothing if `p` is not valid.
     pub fn remove(&mut self, p: P) -> Option<T>
         ensures some { IsSome result ↔ IsValid (A.entry self.old) (P.key p) }
         ensures paragraph { IfSome result (λ t. A.entry self.old (P.key p).0 ≡ Some
@@ -292,8 +309,9 @@ impl<P: PtrKey, T: Drop, A: ChainArenaTrait<P, T> + Drop> Documents<P, T, A> {
         self.paragraphs.remove(p).allow()
     }
 
-    /// Makes two texts of one: what comes after p is a text of its own. `None`: the pointer is of no paragraph, or nothing comes
-    /// after it. Nothing has changed then.
+    /// Splits a document directly after `p`, so that what follows `p` is a document of its own.
+    ///
+    /// Returns `None` and changes nothing if `p` is not valid or is the last paragraph.
     pub fn part_after(&mut self, p: P) -> Option<()>
         ensures some { IsSome result
             ↔ (IsValid (A.entry self.old) (P.key p)
@@ -307,7 +325,9 @@ impl<P: PtrKey, T: Drop, A: ChainArenaTrait<P, T> + Drop> Documents<P, T, A> {
         self.paragraphs.break_next(p)
     }
 
-    /// .. what comes before p.
+    /// Splits a document directly before `p`, so that what precedes `p` is a document of its own.
+    ///
+    /// Returns `None` and changes nothing if `p` is not valid or is the first paragraph.
     pub fn part_before(&mut self, p: P) -> Option<()>
         ensures some { IsSome result
             ↔ (IsValid (A.entry self.old) (P.key p)
@@ -321,11 +341,13 @@ impl<P: PtrKey, T: Drop, A: ChainArenaTrait<P, T> + Drop> Documents<P, T, A> {
         self.paragraphs.break_prev(p)
     }
 
-    /// Makes one text of two: q, the first paragraph of the one, comes after p, the last of the other. `None`: a pointer is of no
-    /// paragraph, or something comes after p or before q. Nothing has changed then.
+    /// Joins the document that ends with `p` and the one that starts with `q`.
     ///
-    /// p and q are of two texts. The end and the start of one text would be tied to a ring, which is no text: to find that out takes
-    /// a walk, which is not made here.
+    /// Returns `None` and changes nothing if `p` or `q` is not valid, a paragraph follows `p`, or
+    /// one precedes `q`.
+    ///
+    /// `p` and `q` are expected in different documents. `join` does not detect the end and the
+    /// start of one document, since this takes a walk. They become a ring, which is not a document.
     pub fn join(&mut self, p: P, q: P) -> Option<()>
         ensures some { IsSome result ↔ CanConnect (A.entry self.old) (A.interlinks self.old)
             (P.key p) (P.key q) }
@@ -339,7 +361,7 @@ impl<P: PtrKey, T: Drop, A: ChainArenaTrait<P, T> + Drop> Documents<P, T, A> {
         self.paragraphs.connect(p, q)
     }
 
-    // Joins two texts at these ends, if both are there.
+    // Joins two documents at `end` and `start` if both are given.
     fn close(&mut self, end: Option<P>, start: Option<P>) -> Option<()>
         ensures texts { IsClosed A.entry A.interlinks self.old self.new (option_map P.key end)
             (option_map P.key start) }
@@ -350,7 +372,8 @@ impl<P: PtrKey, T: Drop, A: ChainArenaTrait<P, T> + Drop> Documents<P, T, A> {
         self.join(p, q)
     }
 
-    // The pointers of the paragraphs before and after another, by one look. `None`: the pointer is of no paragraph.
+    // Returns the pointers of the paragraphs before and after `p` with one lookup, or `None` if `p`
+    // is not valid.
     fn beside(&self, p: P) -> Option<(Option<P>, Option<P>)>
         ensures some { IsSome result ↔ IsValid (A.entry self.now) (P.key p) }
         ensures between { IfSome result (λ r. HasTextNeighbors A.entry A.interlinks self.now
@@ -363,7 +386,8 @@ impl<P: PtrKey, T: Drop, A: ChainArenaTrait<P, T> + Drop> Documents<P, T, A> {
         }
     }
 
-    // Takes a paragraph out of its text: it is a text of its own. `None`: the pointer is of no paragraph, and nothing has changed.
+    // Moves a paragraph out of its document into a document of its own. Returns `None` and changes
+    // nothing if `p` is not valid.
     fn set_apart(&mut self, p: P) -> Option<()>
         ensures some { IsSome result ↔ IsValid (A.entry self.old) (P.key p) }
         ensures texts { IsSeparated A.entry A.interlinks self.old self.new (P.key p) }
@@ -378,7 +402,7 @@ impl<P: PtrKey, T: Drop, A: ChainArenaTrait<P, T> + Drop> Documents<P, T, A> {
         Some(())
     }
 
-    // Puts a paragraph that is a text of its own directly after another.
+    // Moves `p`, which is a document of its own, to directly after `q`.
     fn put_after(&mut self, p: P, q: P)
         ensures texts { IsPutAfter A.entry A.interlinks self.old self.new (P.key p) (P.key q) }
         ensures others { KeepsWithout A.entry A.interlinks linear self.old self.new
@@ -391,8 +415,10 @@ impl<P: PtrKey, T: Drop, A: ChainArenaTrait<P, T> + Drop> Documents<P, T, A> {
         self.close(Some(p), after);
     }
 
-    /// Moves a paragraph, that of p, to directly after another, that of q, in the same text or from another one. Its pointer stays
-    /// as it is. `None`: one of the pointers is of no paragraph, or both are of one, and nothing has changed.
+    /// Moves paragraph `p` to directly after paragraph `q`, in the same document or another.
+    ///
+    /// Its pointer stays the same. Returns `None` and changes nothing if `p` or `q` is not valid,
+    /// or if both are the same paragraph.
     pub fn move_after(&mut self, p: P, q: P) -> Option<()>
         ensures some { IsSome result
             ↔ (IsValid (A.entry self.old) (P.key p) × IsValid (A.entry self.old) (P.key q)
@@ -419,16 +445,17 @@ impl<P: PtrKey, T: Drop, S: SlotStack<Item = ArenaSlot<P, LinkNoGen<P, T>>>> Doc
     T,
     ChainArena<P, T, S>,
 > {
-    /// Arranges the texts one after another from index 1 on, each in one run, and updates the
-    /// bookmarks. Each bookmark is of the same paragraph as before, by the pointer that the
-    /// arrangement gave it, also where two paragraphs are equal. A bookmark whose paragraph is
-    /// gone becomes `None`. Every other pointer of before is invalid.
+    /// Renumbers all paragraphs and updates `bookmarks`.
     ///
-    /// The time is in proportion to the slots and the bookmarks. No clause states it.
+    /// The documents are arranged one after another from index 1, each in one run of indexes. Each
+    /// bookmark becomes the new pointer of its paragraph, even if paragraphs have equal values. A
+    /// bookmark whose paragraph was removed becomes `None`. All other old pointers become invalid.
+    ///
+    /// Takes time linear in the slots and bookmarks; no clause states this.
     ///
     /// # Errors
     ///
-    /// - `AllocError`: memory was refused, and nothing has changed.
+    /// - `AllocError`: an allocation failed. The documents and the bookmarks are unchanged.
     pub fn renumber(&mut self, alloc: Global, bookmarks: &mut [Option<P>]) -> Result<(), AllocError>
         ensures canonical { OnOk result (IsCanonicalLayout P.Gen.first P.Gen.following false
             (value_view self.old) (link_map self.old) (value_view self.new) (link_map self.new)) }

@@ -1,4 +1,4 @@
-//! Growth of any arena of links for more entries.
+//! `reserve` for any arena of links.
 
 ghost use Rattle.std.specs.Prelude.{◌≡◌, ◌↔◌, ◌≤◌, ◌<◌, ◌+◌, IsOk, OnOk, IsErr, OnErr, Err};
 ghost use Rattle.arena_ptr.specs.SlotStack.{IsBeyond};
@@ -8,14 +8,16 @@ ghost use Rattle.arena_base.specs.Entries.{count, with_capacity};
 use arena_ptr::{InxKey, PtrKey, ReallocationError};
 use chain_traits::ChainArenaTrait;
 
-/// Grows an arena to capacity for `additional` more entries. Within the capacity nothing changes.
+/// Reserves capacity for at least `additional` more entries.
+///
+/// Does nothing if the capacity suffices.
 ///
 /// # Errors
 ///
-/// - `BeyondMaxCapacity`: so many entries would be above the maximum.
-/// - `AllocError`: they would be above the greatest index, or memory was refused.
+/// - `BeyondMaxCapacity`: growth would exceed the maximum.
+/// - `AllocError`: growth would exceed the greatest index, or an allocation failed.
 ///
-/// After an error nothing has changed.
+/// On error, nothing changes.
 pub(crate) fn reserve<P: PtrKey, T: Drop, A: ChainArenaTrait<P, T>>(
     arena: &mut A,
     additional: usize,

@@ -1,5 +1,9 @@
-//! Users of arenas of links: each module is one small data structure, over any arena of links, and is proved by the contracts of
-//! `ChainArenaTrait` alone. Its own contracts speak of lists, and not of links.
+//! Examples of code on arenas of links: a run queue, a polygon mesh, ordered documents, and short
+//! functions.
+//!
+//! The data structures work over any arena of links, and are proved from the contracts of
+//! `ChainArenaTrait` alone. Only `Documents::renumber` needs a `ChainArena`. Their own contracts
+//! are about lists rather than links.
 #![tactic(auto)]
 
 mod bookmarks;

@@ -1,4 +1,4 @@
-//! A mesh of polygons: each is a ring of corners, and one arena has them all.
+//! A mesh of polygons, whose corners are all stored in one arena.
 
 ghost use Rattle.std.specs.Prelude.{◌≡◌, ◌≢◌, ◌↔◌, ℕ, ◌+◌, ◌^◌, ◌<◌, ◌≤◌, List, [], ◌∷◌, ◌++◌, IsTrue, IsSome, IfSome, OnSome, IfNone, IsOk, IfOk, OnOk, IsErr, IfErr, OnErr, Err, None, Some};
 ghost use Rattle.std.specs.Option.{option_map};
@@ -18,10 +18,12 @@ use chain_traits::ChainArenaTrait;
 use std::alloc::Global;
 use std::marker::{Model, PhantomData};
 
-/// Polygons of corners, each corner with a point. A corner is named by the pointer that it came with, until it is removed.
+/// A mesh of polygons, each a ring of corners in one arena. Each corner has a point.
 ///
-/// A contract sees the arena that they are kept in, and names a polygon as the ring of its corners, from any one of them once
-/// round: a list of pairs, of a pointer's index and generation, and of the point.
+/// Inserting a corner returns its pointer, which identifies the corner until it is removed.
+///
+/// Contracts see the arena, and call a polygon a ring (`IsRing`). A ring is the list of the
+/// corners, starting at any of them, each with its pointer's index and generation.
 #[derive(Drop)]
 pub struct Mesh<P: PtrKey, T: Drop, A: ChainArenaTrait<P, T> + Drop> {
     corners: A,
@@ -39,7 +41,7 @@ impl<P: PtrKey, T: Drop, A: ChainArenaTrait<P, T> + Drop> Model for Mesh<P, T, A
 }
 
 impl<P: PtrKey, T: Drop, A: ChainArenaTrait<P, T> + Drop> Mesh<P, T, A> {
-    /// Returns a mesh without polygons. It takes no memory.
+    /// Creates an empty mesh. It does not allocate.
     pub fn new(alloc: Global) -> Self
         ensures corners { (A.view result).entries ≡ [] }
         ensures capacity { (A.view result).capacity ≡ 0 }
@@ -65,7 +67,7 @@ impl<P: PtrKey, T: Drop, A: ChainArenaTrait<P, T> + Drop> Mesh<P, T, A> {
         self.corners.is_empty()
     }
 
-    /// Returns the number of corners that the mesh can hold before it has to grow.
+    /// Returns the number of corners that the mesh can hold without growing.
     pub fn capacity(&self) -> usize
         ensures value { result ≡ (A.view self.now).capacity }
         ensures greatest { result ≤ P.Inx.greatest }
@@ -74,21 +76,23 @@ impl<P: PtrKey, T: Drop, A: ChainArenaTrait<P, T> + Drop> Mesh<P, T, A> {
         self.corners.capacity()
     }
 
-    /// Returns the greatest capacity that the mesh can have, or `None` if it has no limit.
+    /// Returns the maximum capacity, or `None` if there is no limit.
     pub fn max_capacity(&self) -> Option<usize>
         ensures { result ≡ (A.view self.now).maximum }
     {
         self.corners.max_capacity()
     }
 
-    /// Grows the capacity to at least `len() + additional` corners. Does nothing within the capacity.
+    /// Reserves capacity for at least `additional` more corners.
+    ///
+    /// Does nothing if the capacity suffices.
     ///
     /// # Errors
     ///
-    /// - `BeyondMaxCapacity`: the capacity asked for is beyond the maximum.
-    /// - `AllocError`: it is beyond the greatest index, or memory was refused.
+    /// - `BeyondMaxCapacity`: growth would exceed the maximum.
+    /// - `AllocError`: growth would exceed the greatest index, or an allocation failed.
     ///
-    /// After an error the mesh is unchanged.
+    /// On error, nothing changes.
     pub fn reserve(&mut self, additional: usize) -> Result<(), ReallocationError>
         ensures within { count (A.view self.old) + additional ≤ (A.view self.old).capacity
             → IsOk result × (self.new ≡ self.old) }
@@ -106,14 +110,16 @@ impl<P: PtrKey, T: Drop, A: ChainArenaTrait<P, T> + Drop> Mesh<P, T, A> {
         reserve(&mut self.corners, additional)
     }
 
-    /// Tells that each corner stands in a polygon, which can be written from it. It does nothing.
+    /// Establishes that each corner is in a polygon, which can be listed starting at that corner.
+    ///
+    /// It has no effect.
     pub fn all_in_polygons(&self)
         ensures { AllInRings A.entry A.interlinks self.now }
     {
         self.corners.invariants();
     }
 
-    /// The point of a corner. `None`: the pointer is of no corner.
+    /// Returns a reference to the point of a corner, or `None` if `corner` is not valid.
     pub fn get(&self, corner: P) -> Option<&T>
         ensures some { IsSome result ↔ IsValid (A.entry self.now) (P.key corner) }
         ensures point { IfSome result (λ t. A.entry self.now (P.key corner).0 ≡ Some
@@ -122,7 +128,9 @@ impl<P: PtrKey, T: Drop, A: ChainArenaTrait<P, T> + Drop> Mesh<P, T, A> {
         self.corners.get(corner)
     }
 
-    /// The pointer of the corner after another in its polygon: of the only one it is its own. `None`: the pointer is of no corner.
+    /// Returns the pointer of the next corner in the polygon, or `None` if `corner` is not valid.
+    ///
+    /// The only corner of a polygon is its own next corner.
     pub fn next(&self, corner: P) -> Option<P>
         ensures none { ¬ IsValid (A.entry self.now) (P.key corner) → result ≡ None }
         ensures next { (t : T) (others : List (Item P.Gen T))
@@ -135,14 +143,14 @@ impl<P: PtrKey, T: Drop, A: ChainArenaTrait<P, T> + Drop> Mesh<P, T, A> {
         }
     }
 
-    /// Starts a polygon of one corner and returns the pointer of that corner.
+    /// Creates a polygon of one corner and returns the corner's pointer.
     ///
     /// # Errors
     ///
-    /// - `BeyondMaxCapacity`: the mesh is full, and one more corner is beyond the maximum.
-    /// - `AllocError`: the growth is beyond the greatest index, or memory was refused.
+    /// - `BeyondMaxCapacity`: growth would exceed the maximum.
+    /// - `AllocError`: growth would exceed the greatest index, or an allocation failed.
     ///
-    /// After an error the mesh is unchanged, and the point is dropped.
+    /// On error, nothing changes and the point is dropped.
     pub fn start(&mut self, point: T) -> Result<P, ReallocationError>
         ensures ring { IfOk result (λ p. IsRing A.entry A.interlinks self.new
             ((P.key p, point) ∷ [])) }
@@ -163,15 +171,15 @@ impl<P: PtrKey, T: Drop, A: ChainArenaTrait<P, T> + Drop> Mesh<P, T, A> {
         self.corners.insert(LinkInsertKind::SingleLinkCyclic, point)
     }
 
-    /// Inserts a corner directly after another in its polygon and returns its pointer.
+    /// Inserts a corner directly after `corner` in its polygon and returns the new pointer.
     ///
     /// # Errors
     ///
     /// - `FailedLinkRequirement`: `corner` is not valid.
-    /// - `BeyondMaxCapacity`: the mesh is full, and one more corner is beyond the maximum.
-    /// - `AllocError`: the growth is beyond the greatest index, or memory was refused.
+    /// - `BeyondMaxCapacity`: growth would exceed the maximum.
+    /// - `AllocError`: growth would exceed the greatest index, or an allocation failed.
     ///
-    /// After an error the mesh is unchanged, and the point is dropped.
+    /// On error, nothing changes and the point is dropped.
     pub fn insert_after(&mut self, corner: P, point: T) -> Result<P, ChainInsertionError>
         ensures ring { IfOk result (λ p. InsertsAfter A.entry A.interlinks cyclic self.old self.new
             (P.key corner) (P.key p, point)) }
@@ -199,8 +207,8 @@ impl<P: PtrKey, T: Drop, A: ChainArenaTrait<P, T> + Drop> Mesh<P, T, A> {
 
     /// Removes a corner from its polygon and returns its point.
     ///
-    /// The other corners keep their order, and the capacity stays.
-    /// Returns `None` if `corner` is not valid. The mesh is unchanged then.
+    /// The other corners keep their order, and the capacity stays the same. Returns `None` and
+    /// changes nothing if `corner` is not valid.
     pub fn remove(&mut self, corner: P) -> Option<T>
         ensures some { IsSome result ↔ IsValid (A.entry self.old) (P.key corner) }
         ensures point { IfSome result (λ t. A.entry self.old (P.key corner).0 ≡ Some
@@ -222,9 +230,8 @@ impl<P: PtrKey, T: Drop, A: ChainArenaTrait<P, T> + Drop> Mesh<P, T, A> {
 
     /// Cuts the polygon of `u` and `v` in two by exchanging the corners after them.
     ///
-    /// Merges two polygons if `u` and `v` are in two, as `merge` does.
-    /// Changes nothing if both are one corner.
-    /// Returns `None` if `u` or `v` is not valid. The mesh is unchanged then.
+    /// If `u` and `v` are in different polygons, merges these, as `merge` does. If they are the
+    /// same corner, changes nothing. Returns `None` and changes nothing if `u` or `v` is not valid.
     pub fn cut(&mut self, u: P, v: P) -> Option<()>
         ensures some { IsSome result
             ↔ (IsValid (A.entry self.old) (P.key u) × IsValid (A.entry self.old) (P.key v)) }
@@ -240,11 +247,10 @@ impl<P: PtrKey, T: Drop, A: ChainArenaTrait<P, T> + Drop> Mesh<P, T, A> {
         self.exchange(u, v)
     }
 
-    /// Merges the polygon of `u` and that of `v` into one by exchanging the corners after them.
+    /// Merges the polygons of `u` and `v` into one by exchanging the corners after them.
     ///
-    /// Cuts a polygon in two if `u` and `v` are in one, as `cut` does.
-    /// Changes nothing if both are one corner.
-    /// Returns `None` if `u` or `v` is not valid. The mesh is unchanged then.
+    /// If `u` and `v` are in the same polygon, cuts it in two, as `cut` does. If they are the same
+    /// corner, changes nothing. Returns `None` and changes nothing if `u` or `v` is not valid.
     pub fn merge(&mut self, u: P, v: P) -> Option<()>
         ensures some { IsSome result
             ↔ (IsValid (A.entry self.old) (P.key u) × IsValid (A.entry self.old) (P.key v)) }
@@ -260,7 +266,7 @@ impl<P: PtrKey, T: Drop, A: ChainArenaTrait<P, T> + Drop> Mesh<P, T, A> {
         self.exchange(u, v)
     }
 
-    // Exchanges what comes after u with what comes after v: two polygons become one, or one two.
+    // Exchanges the corners after `u` and `v`: two polygons become one, or one becomes two.
     fn exchange(&mut self, u: P, v: P) -> Option<()>
         ensures some { IsSome result
             ↔ (IsValid (A.entry self.old) (P.key u) × IsValid (A.entry self.old) (P.key v)) }
@@ -280,19 +286,21 @@ impl<P: PtrKey, T: Drop, A: ChainArenaTrait<P, T> + Drop> Mesh<P, T, A> {
 impl<P: PtrKey, T: Copy + Drop, A: ChainArenaTrait<P, T> + Drop> Mesh<P, T, A> {
     /// Splits a polygon along the diagonal from `u` to `v`.
     ///
-    /// Returns the pointers of new copies of `u` and `v`, in this order. `u` and `v` stay in one part,
-    /// and the copies are in the other. If `u` and `v` are in two polygons, these become one: the
-    /// diagonal is a bridge, with `u` and `v` on one side of it and the copies on the other.
+    /// Returns the pointers of new copies of `u` and `v`, in this order. `u` and `v` stay in one
+    /// part, and the copies are in the other.
     ///
-    /// Returns `Ok(None)` if `u` or `v` is not valid, or both are one corner.
-    /// The mesh is unchanged then.
+    /// If `u` and `v` are in different polygons, these become one. The diagonal is a bridge then,
+    /// with `u` and `v` on one side and the copies on the other.
+    ///
+    /// Returns `Ok(None)` and changes nothing if `u` or `v` is not valid, or if both are the same
+    /// corner.
     ///
     /// # Errors
     ///
-    /// - `BeyondMaxCapacity`: growth for two more corners is beyond the maximum.
-    /// - `AllocError`: the growth is beyond the greatest index, or memory was refused.
+    /// - `BeyondMaxCapacity`: growth would exceed the maximum.
+    /// - `AllocError`: growth would exceed the greatest index, or an allocation failed.
     ///
-    /// After an error the mesh is unchanged.
+    /// On error, nothing changes.
     pub fn split(&mut self, u: P, v: P) -> Result<Option<(P, P)>, ReallocationError>
         ensures some { IfOk result (λ r. IsSome r
             ↔ (IsValid (A.entry self.old) (P.key u) × IsValid (A.entry self.old) (P.key v)
@@ -334,7 +342,7 @@ impl<P: PtrKey, T: Copy + Drop, A: ChainArenaTrait<P, T> + Drop> Mesh<P, T, A> {
         }
     }
 
-    // Splits as `split` does, where there is room for the copies. These are the points of u and v.
+    // Splits as `split` does, within the capacity. `both` holds the points of `u` and `v`.
     fn split_in_room(&mut self, u: P, v: P, both: (T, T)) -> (P, P)
         requires room { count (A.view self.old) + 2 ≤ (A.view self.old).capacity }
         requires first { A.entry self.old (P.key u).0 ≡ Some ((P.key u).1, both.0) }
@@ -357,7 +365,7 @@ impl<P: PtrKey, T: Copy + Drop, A: ChainArenaTrait<P, T> + Drop> Mesh<P, T, A> {
         (first, second)
     }
 
-    // Returns the points of two different corners.
+    // Returns the points of two corners, or `None` if either is not valid or both are the same.
     fn points(&self, u: P, v: P) -> Option<(T, T)>
         ensures some { IsSome result
             ↔ (IsValid (A.entry self.now) (P.key u) × IsValid (A.entry self.now) (P.key v)
@@ -376,7 +384,7 @@ impl<P: PtrKey, T: Copy + Drop, A: ChainArenaTrait<P, T> + Drop> Mesh<P, T, A> {
     }
 }
 
-// Adds a corner directly before another, where there is room.
+// Inserts a corner directly before another, within the capacity.
 fn add_before<P: PtrKey, T: Drop, A: ChainArenaTrait<P, T>>(corners: &mut A, u: P, t: T) -> P
     requires valid { IsValid (A.entry corners.old) (P.key u) }
     requires room { HasFreeCapacity (A.view corners.old) }
@@ -397,7 +405,7 @@ fn add_before<P: PtrKey, T: Drop, A: ChainArenaTrait<P, T>>(corners: &mut A, u: 
     }
 }
 
-// Adds a corner directly after another, where there is room.
+// Inserts a corner directly after another, within the capacity.
 fn add_after<P: PtrKey, T: Drop, A: ChainArenaTrait<P, T>>(corners: &mut A, v: P, t: T) -> P
     requires valid { IsValid (A.entry corners.old) (P.key v) }
     requires room { HasFreeCapacity (A.view corners.old) }
@@ -417,8 +425,9 @@ fn add_after<P: PtrKey, T: Drop, A: ChainArenaTrait<P, T>>(corners: &mut A, v: P
     }
 }
 
-/// A cut and then a merge of the same two corners leave their polygon as it was, and a merge and then a cut the two polygons, by
-/// what the two calls tell.
+/// Establishes that `merge` undoes a `cut` of the same two corners, and `cut` undoes a `merge`.
+///
+/// This follows from the contracts of the two calls. The function has no effect.
 pub fn cut_and_merge_restore<P: PtrKey, T: Drop, A: ChainArenaTrait<P, T>>()
     ensures { CutAndMergeRestore A.entry A.interlinks }
 {}

@@ -1,4 +1,5 @@
-//! Calls at a named type: a `ChainArena` of `ToolPtr` and `u32`. docs/CALLING.md shows what a proof has to write there.
+//! Functions on a concrete arena type, `ChainArena<ToolPtr, u32>`, as explained in
+//! `docs/CALLING.md`.
 
 ghost use Rattle.std.specs.Prelude.{◌≡◌, ◌↔◌, None, Some, Err, IsSome, IfSome, IsOk, IfOk, OnErr};
 ghost use Rattle.arena_base.specs.Arena.{IsValid};
@@ -13,7 +14,9 @@ use arena_base::ArenaTrait;
 use arena_ptr::{ChainInsertionError, ToolPtr};
 use chain_arena::{ChainArena, ChainArenaTrait, LinkInsertKind};
 
-/// Removes a link and returns its value. Returns `None` if `p` is not valid; then nothing has changed.
+/// Removes a link and returns its value.
+///
+/// Returns `None` and changes nothing if `p` is not valid.
 pub fn remove_value(arena: &mut ChainArena<ToolPtr, u32>, p: ToolPtr) -> Option<u32>
     ensures some { IsSome result ↔ IsValid (entry arena.old) (key_of p) }
     ensures value { IfSome result (λ t. entry arena.old (key_of p).0 ≡ Some ((key_of p).1, t)) }
@@ -25,14 +28,16 @@ pub fn remove_value(arena: &mut ChainArena<ToolPtr, u32>, p: ToolPtr) -> Option<
     arena.remove(p).allow()
 }
 
-/// Inserts a link directly after `p` and returns its pointer. A full arena grows first.
+/// Inserts a link directly after `p` and returns its pointer.
+///
+/// A full arena grows first.
 ///
 /// # Errors
 ///
 /// - `FailedLinkRequirement`: `p` is not valid.
 /// - `BeyondMaxCapacity`, `AllocError`: the arena is full and cannot grow.
 ///
-/// After an error nothing has changed.
+/// On error, nothing changes.
 pub fn insert_behind(
     arena: &mut ChainArena<ToolPtr, u32>,
     p: ToolPtr,
@@ -49,7 +54,9 @@ pub fn insert_behind(
     arena.insert_reallocating(LinkInsertKind::NextTo(p), t)
 }
 
-/// Returns the pointer of the link after `p`, if there is one.
+/// Returns the pointer of the link after `p`.
+///
+/// Returns `None` if `p` is not valid or has no next link.
 pub fn pointer_after(arena: &ChainArena<ToolPtr, u32>, p: ToolPtr) -> Option<ToolPtr>
     ensures some { IfSome result (λ q. IsValid (entry arena.now) (key_of q)
         × (next_of (link_map arena.now) (key_of p).0 ≡ Some (key_of q).0)) }

@@ -1,4 +1,4 @@
-//! The run queue of a scheduler: its tasks stand in one ring, and each has its turn.
+//! A scheduler's run queue, whose tasks form one ring.
 
 ghost use Rattle.std.specs.Prelude.{◌≡◌, ◌↔◌, ◌<◌, ◌≤◌, ◌+◌, ℕ, List, [], ◌∷◌, ◌++◌, length, map, IsTrue, IsSome, IfSome, OnSome, IfNone, IsOk, IfOk, OnOk, IsErr, OnErr, Some, None, Err};
 ghost use Rattle.std.specs.Option.{option_map, option_or};
@@ -18,10 +18,13 @@ use chain_traits::ChainArenaTrait;
 use std::alloc::{AllocError, Allocator, Global};
 use std::marker::{Model, PhantomData};
 
-/// Tasks that run in turn. A task is named by the pointer that `spawn` answers, until it is cancelled.
+/// A run queue: tasks that take turns, stored as one ring in an arena.
 ///
-/// A contract sees the tasks in turn, the current one first: a list of pairs, of a pointer's index and generation, and of the
-/// task. Beside it are the capacity and the maximum that it may have.
+/// `spawn` returns the pointer of a task, which identifies the task until it is cancelled.
+///
+/// Contracts see the queue as a record `Queue`. Its `turn` lists the tasks in order, the current
+/// one first, each with its pointer's index and generation. `room` is the capacity, and `maximum`
+/// the limit of the capacity, if there is one.
 #[derive(Drop)]
 pub struct RunQueue<P: PtrKey, T: Drop, A: ChainArenaTrait<P, T> + Drop> {
     tasks: A,
@@ -53,7 +56,7 @@ impl<P: PtrKey, T: Drop, A: ChainArenaTrait<P, T> + Drop> Model for RunQueue<P, 
 impl<P: PtrKey, T: Drop, A: ChainArenaTrait<P, T> + Drop> RunQueue<P, T, A> {
     ghost use Rattle.chain_examples.specs.contracts.queue.RunQueue.{the_row};
 
-    /// Returns a queue without tasks. It takes no memory.
+    /// Creates an empty queue. It does not allocate.
     pub fn new(alloc: Global) -> Self
         ensures turn { result.turn ≡ [] }
         ensures room { result.room ≡ 0 }
@@ -73,15 +76,14 @@ impl<P: PtrKey, T: Drop, A: ChainArenaTrait<P, T> + Drop> RunQueue<P, T, A> {
         self.tasks.len()
     }
 
-    /// Returns whether there are no tasks.
+    /// Returns `true` if the queue has no tasks.
     pub fn is_empty(&self) -> bool
         ensures { IsTrue result ↔ (self.now.turn ≡ []) }
     {
         self.current.is_none()
     }
 
-    /// Returns how many tasks fit before the queue has to grow. This is at most the greatest
-    /// index and the maximum.
+    /// Returns the number of tasks that the queue can hold without growing.
     pub fn capacity(&self) -> usize
         ensures value { result ≡ self.now.room }
         ensures greatest { result ≤ P.Inx.greatest }
@@ -90,21 +92,23 @@ impl<P: PtrKey, T: Drop, A: ChainArenaTrait<P, T> + Drop> RunQueue<P, T, A> {
         self.tasks.capacity()
     }
 
-    /// Returns the greatest capacity that the queue may have, if there is a limit.
+    /// Returns the maximum capacity, or `None` if there is no limit.
     pub fn max_capacity(&self) -> Option<usize>
         ensures { result ≡ self.now.maximum }
     {
         self.tasks.max_capacity()
     }
 
-    /// Grows to capacity for `additional` more tasks. Within the capacity nothing changes.
+    /// Reserves capacity for at least `additional` more tasks.
+    ///
+    /// Does nothing if the capacity suffices.
     ///
     /// # Errors
     ///
-    /// - `BeyondMaxCapacity`: so many tasks would be above the maximum.
-    /// - `AllocError`: they would be above the greatest index, or memory was refused.
+    /// - `BeyondMaxCapacity`: growth would exceed the maximum.
+    /// - `AllocError`: growth would exceed the greatest index, or an allocation failed.
     ///
-    /// After an error nothing has changed.
+    /// On error, nothing changes.
     pub fn reserve(&mut self, additional: usize) -> Result<(), ReallocationError>
         ensures within { length self.old.turn + additional ≤ self.old.room
             → IsOk result × (self.new ≡ self.old) }
@@ -121,14 +125,14 @@ impl<P: PtrKey, T: Drop, A: ChainArenaTrait<P, T> + Drop> RunQueue<P, T, A> {
         reserve(&mut self.tasks, additional)
     }
 
-    /// The pointer of the current task. `None`: there are no tasks.
+    /// Returns the pointer of the current task, or `None` if the queue is empty.
     pub fn current(&self) -> Option<P>
         ensures { option_map P.key result ≡ first_key self.now.turn }
     {
         self.current
     }
 
-    /// Returns a task, which stays in the queue. `None`: the pointer is of no task.
+    /// Returns a reference to the task at `p`, or `None` if `p` points to no task.
     pub fn get(&self, p: P) -> Option<&T>
         ensures some { IsSome result ↔ IsAmong (P.key p) self.now.turn }
         ensures task { IfSome result (λ t. found (P.key p).0 self.now.turn
@@ -137,8 +141,9 @@ impl<P: PtrKey, T: Drop, A: ChainArenaTrait<P, T> + Drop> RunQueue<P, T, A> {
         self.tasks.get(p)
     }
 
-    /// Returns a task for writing. The order of the tasks and their pointers stay. `None`: the
-    /// pointer is of no task.
+    /// Returns a mutable reference to the task at `p`, or `None` if `p` points to no task.
+    ///
+    /// Writing through the reference keeps the order of the tasks and their pointers.
     pub fn get_mut(&mut self, p: P) -> Option<&mut T>
         ensures* writes_back { sem 𝓛 (LendsSo
             (the_row P.row T.row A.row P.Inx.row P.Gen.row P.Inx.Word.row
@@ -158,15 +163,17 @@ impl<P: PtrKey, T: Drop, A: ChainArenaTrait<P, T> + Drop> RunQueue<P, T, A> {
         }
     }
 
-    /// Adds a task, which is the last in turn, and returns its pointer. No other task has its
-    /// index. Below the capacity this cannot fail; a full queue grows first.
+    /// Adds a task as the last in turn and returns its pointer.
+    ///
+    /// No other task has its index. A full queue grows first; below the capacity `spawn` cannot
+    /// fail.
     ///
     /// # Errors
     ///
-    /// - `BeyondMaxCapacity`: one task more would be above the maximum.
-    /// - `AllocError`: it would be above the greatest index, or memory was refused.
+    /// - `BeyondMaxCapacity`: growth would exceed the maximum.
+    /// - `AllocError`: growth would exceed the greatest index, or an allocation failed.
     ///
-    /// After an error nothing has changed, and the task is dropped.
+    /// On error, nothing changes and the task is dropped.
     pub fn spawn(&mut self, task: T) -> Result<P, ReallocationError>
         ensures last { IfOk result (λ p. self.new.turn ≡ self.old.turn ++ (P.key p, task) ∷ []) }
         ensures fresh { IfOk result (λ p. ¬ IsMember (indexes self.old.turn) (P.key p).0) }
@@ -186,8 +193,9 @@ impl<P: PtrKey, T: Drop, A: ChainArenaTrait<P, T> + Drop> RunQueue<P, T, A> {
         added
     }
 
-    /// Goes on to the next task in turn, and answers its pointer: the one that was current is the last then. `None`: there are
-    /// no tasks.
+    /// Makes the next task current and returns its pointer.
+    ///
+    /// The previously current task becomes the last in turn. Returns `None` if the queue is empty.
     pub fn next(&mut self) -> Option<P>
         ensures turned { self.new.turn ≡ rotation self.old.turn }
         ensures current { option_map P.key result ≡ first_key self.new.turn }
@@ -200,9 +208,11 @@ impl<P: PtrKey, T: Drop, A: ChainArenaTrait<P, T> + Drop> RunQueue<P, T, A> {
         next
     }
 
-    /// Takes a task out of the queue and answers it: the others keep their order, and its pointer is of no task any more. If it
-    /// was current, the next one is.
-    /// `None`: the pointer is of no task in the queue, and nothing has changed.
+    /// Removes a task from the queue and returns it.
+    ///
+    /// The other tasks keep their order, and `p` points to no task afterwards. If the task was
+    /// current, the next one becomes current. Returns `None` and changes nothing if `p` points to
+    /// no task in the queue.
     pub fn cancel(&mut self, p: P) -> Option<T>
         ensures some { IfSome result
             (λ task. IsCancelled (P.key p) task self.old.turn self.new.turn) }
@@ -218,7 +228,7 @@ impl<P: PtrKey, T: Drop, A: ChainArenaTrait<P, T> + Drop> RunQueue<P, T, A> {
         Some(task)
     }
 
-    // Takes the current task out. The next one is current then.
+    // Removes the current task and returns it. The next task becomes current.
     fn take_current(&mut self) -> Option<T>
         ensures some { IfSome result (λ task. (p : ℕ × P.Gen)
             × (self.old.turn ≡ (p, task) ∷ self.new.turn)) }
@@ -230,9 +240,11 @@ impl<P: PtrKey, T: Drop, A: ChainArenaTrait<P, T> + Drop> RunQueue<P, T, A> {
         self.cancel(p)
     }
 
-    /// Takes all tasks out, and answers them in turn.
+    /// Removes all tasks and returns them in turn, the current one first.
     ///
-    /// `AllocError`: memory for the answer was refused, and nothing has changed.
+    /// # Errors
+    ///
+    /// - `AllocError`: the allocation of the result failed. The queue is unchanged.
     pub fn drain_all<B: Allocator>(&mut self, alloc: B) -> Result<Vec<T, B>, AllocError>
         ensures drained { IfOk result (λ tasks. (tasks.items ≡ map (λ e. e.1) self.old.turn)
             × (self.new.turn ≡ [])) }
@@ -255,7 +267,7 @@ impl<P: PtrKey, T: Drop, A: ChainArenaTrait<P, T> + Drop> RunQueue<P, T, A> {
     }
 }
 
-// Adds a task, which is the last in turn, and current where there was no other.
+// Inserts a task as the last in turn: before the current one, or as a new ring if there is none.
 fn come_last<P: PtrKey, T: Drop, A: ChainArenaTrait<P, T>>(
     tasks: &mut A,
     current: Option<P>,
@@ -281,7 +293,7 @@ fn come_last<P: PtrKey, T: Drop, A: ChainArenaTrait<P, T>>(
     }
 }
 
-// The pointer of the task after the current one, p.
+// Returns the pointer of the task after the current one, `p`.
 fn after<P: PtrKey, T: Drop, A: ChainArenaTrait<P, T>>(tasks: &A, p: P) -> Option<P>
     ensures { (task : Item P.Gen T) (rest : List (Item P.Gen T))
         → IsQueueOrder (A.entry tasks.now) (A.interlinks tasks.now) (Some (P.key p)) (task ∷ rest)
@@ -293,7 +305,7 @@ fn after<P: PtrKey, T: Drop, A: ChainArenaTrait<P, T>>(tasks: &A, p: P) -> Optio
     }
 }
 
-// The pointer of the task after the current one, p, if that is another.
+// Returns the pointer of the task after the current one, `p`, or `None` if `p` is the only task.
 fn other_after<P: PtrKey, T: Drop, A: ChainArenaTrait<P, T>>(tasks: &A, p: P) -> Option<P>
     ensures { (task : Item P.Gen T) (rest : List (Item P.Gen T))
         → IsQueueOrder (A.entry tasks.now) (A.interlinks tasks.now) (Some (P.key p)) (task ∷ rest)
@@ -306,7 +318,7 @@ fn other_after<P: PtrKey, T: Drop, A: ChainArenaTrait<P, T>>(tasks: &A, p: P) ->
     Some(q)
 }
 
-// The pointer of the task that is current once that of p is cancelled.
+// Returns the pointer of the task that will be current once the task of `p` is cancelled.
 fn current_without<P: PtrKey, T: Drop, A: ChainArenaTrait<P, T>>(
     tasks: &A,
     current: P,

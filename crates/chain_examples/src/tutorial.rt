@@ -1,5 +1,6 @@
-//! Small calls on any arena of links, each proved by the clauses of `ChainArenaTrait` alone, and all but the last with no answer
-//! written by hand. docs/CALLING.md goes through them.
+//! Short functions on any arena of links, proved from the contract of `ChainArenaTrait` alone.
+//!
+//! `docs/CALLING.md` explains them. Only the last, `after`, needs a proof written by hand.
 
 ghost use Rattle.std.specs.Prelude.{◌≡◌, ◌≢◌, ◌↔◌, ℕ, List, None, Some, Err, IsSome, IfSome, IsTrue, IsFalse, IsOk, IfOk, IfErr, OnErr};
 ghost use Rattle.std.specs.Option.{option_map};
@@ -18,8 +19,9 @@ use arena_ptr::{ChainInsertionError, GenKey, InxKey, PtrKey};
 use chain_links::LinkInsertKind;
 use chain_traits::ChainArenaTrait;
 
-/// Makes q the link after p, and returns whether it could. Every other chain stays, link for
-/// link, and so do all values. Where it could not, nothing has changed.
+/// Connects `p` to `q`, so that `q` is the link after `p`, and returns whether it succeeded.
+///
+/// All other chains and all values stay the same. On failure, the arena is unchanged.
 pub fn tie<P: PtrKey, T: Drop, A: ChainArenaTrait<P, T>>(arena: &mut A, p: P, q: P) -> bool
     ensures tied { IsTrue result ↔ CanConnect (A.entry arena.old) (A.interlinks arena.old) (P.key p)
         (P.key q) }
@@ -36,8 +38,10 @@ pub fn tie<P: PtrKey, T: Drop, A: ChainArenaTrait<P, T>>(arena: &mut A, p: P, q:
     }
 }
 
-/// Removes the link at an index, and returns the index of the one after it. `None`: there was
-/// none after it, or there is no link at the index, and nothing has changed.
+/// Removes the link at index `i` and returns the index of the link after it.
+///
+/// Returns `None` if no link came after it, or if there is no link at `i`. In the second case the
+/// arena is unchanged.
 pub fn take_next<P: PtrKey, T: Drop, A: ChainArenaTrait<P, T>>(
     arena: &mut A,
     i: P::Inx,
@@ -57,8 +61,9 @@ pub fn take_next<P: PtrKey, T: Drop, A: ChainArenaTrait<P, T>>(
     }
 }
 
-/// Makes q, the start of a list, the link after p, its end, so that the list is cyclic. Returns
-/// whether it could. Where it could not, nothing has changed.
+/// Connects the end `p` of a linear chain to its start `q`, so that the chain becomes cyclic.
+///
+/// Returns whether it succeeded. On failure, the arena is unchanged.
 pub fn close<P: PtrKey, T: Drop, A: ChainArenaTrait<P, T>>(arena: &mut A, p: P, q: P) -> bool
     ensures closed { IsTrue result
         ↔ CanConnect (A.entry arena.old) (A.interlinks arena.old) (P.key p) (P.key q) }
@@ -77,15 +82,17 @@ pub fn close<P: PtrKey, T: Drop, A: ChainArenaTrait<P, T>>(arena: &mut A, p: P, 
     }
 }
 
-/// Inserts a new link directly after another, and returns its pointer. A full arena grows first.
+/// Inserts a link directly after `p` and returns its pointer.
+///
+/// A full arena grows first.
 ///
 /// # Errors
 ///
-/// - `FailedLinkRequirement`: p is not valid.
-/// - `BeyondMaxCapacity`: one link more would be above the maximum.
-/// - `AllocError`: it would be above the greatest index, or memory was refused.
+/// - `FailedLinkRequirement`: `p` is not valid.
+/// - `BeyondMaxCapacity`: growth would exceed the maximum.
+/// - `AllocError`: growth would exceed the greatest index, or an allocation failed.
 ///
-/// After an error nothing has changed.
+/// On error, nothing changes.
 pub fn put_behind<P: PtrKey, T: Drop, A: ChainArenaTrait<P, T>>(
     arena: &mut A,
     p: P,
@@ -109,8 +116,9 @@ pub fn put_behind<P: PtrKey, T: Drop, A: ChainArenaTrait<P, T>>(
     arena.insert_reallocating(LinkInsertKind::NextTo(p), t)
 }
 
-/// Returns the pointer of the link after p, as it is now. `None`: p is not valid, or no link
-/// comes after it.
+/// Returns the current pointer of the link after `p`.
+///
+/// Returns `None` if `p` is not valid or has no next link.
 pub fn after<P: PtrKey, T: Drop, A: ChainArenaTrait<P, T>>(arena: &A, p: P) -> Option<P>
     ensures next { IfSome result (λ q. IsValid (A.entry arena.now) (P.key q)
         × (next_of (A.interlinks arena.now) (P.key p).0 ≡ Some (P.key q).0)) }

@@ -1,4 +1,4 @@
-// Calls of ordered documents.
+// Forwarding wrappers of calls of `Documents`.
 ghost use Rattle.std.specs.Prelude.{OnOk, OnSome, map};
 ghost use Rattle.std.specs.Option.{option_map};
 ghost use Rattle.chain_links.specs.ChainArena.{entry, value_view, link_map};
@@ -12,7 +12,7 @@ use chain_examples::Documents;
 use chain_traits::ChainArenaTrait;
 use std::alloc::{AllocError, Global};
 
-/// `Documents::move_after`, under the clause that says what becomes of the texts.
+/// Forwards to `Documents::move_after`, under the clause on the texts.
 pub fn move_after<P: PtrKey, T: Drop, A: ChainArenaTrait<P, T> + Drop>(
     documents: &mut Documents<P, T, A>,
     p: P,
@@ -24,7 +24,7 @@ pub fn move_after<P: PtrKey, T: Drop, A: ChainArenaTrait<P, T> + Drop>(
     documents.move_after(p, q)
 }
 
-/// `Documents::renumber`, under the clause that says what the bookmarks name.
+/// Forwards to `Documents::renumber`, under the clause on the texts and bookmarks.
 pub fn renumber<P: PtrKey, T: Drop, S: SlotStack<Item = ArenaSlot<P, LinkNoGen<P, T>>>>(
     documents: &mut Documents<P, T, ChainArena<P, T, S>>,
     alloc: Global,

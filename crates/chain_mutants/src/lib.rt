@@ -1,6 +1,7 @@
-//! Calls of arenas of links, of the data structures of `chain_examples`, and the run of lines of commands, each handed on under the
-//! contract that it has there, or under clauses of it. What such a contract refuses is shown here, where little is proved: each
-//! edit of `must-fail/` puts a wrong body in the place of a call.
+//! Forwarding wrappers of calls of arenas, of `chain_examples` and of the run of `chain_commands`.
+//!
+//! Each has the original contract, or clauses of it. Each edit of `must-fail/` replaces a body with
+//! a mutant and checks that the contract rejects it; little has to be proved here for that.
 #![tactic(auto)]
 
 mod documents;

@@ -1,4 +1,4 @@
-// Calls of the mesh of polygons.
+// Forwarding wrappers of calls of `Mesh`.
 ghost use Rattle.std.specs.Prelude.{IfSome, IfOk};
 ghost use Rattle.chain_examples.specs.Rings.{AreMerged, AreCopied, IsBridged, IsCutInTwo, IsSplit};
 
@@ -6,7 +6,7 @@ use arena_ptr::{PtrKey, ReallocationError};
 use chain_examples::Mesh;
 use chain_traits::ChainArenaTrait;
 
-/// `Mesh::merge`, under the clauses that say what becomes of the polygons.
+/// Forwards to `Mesh::merge`, under the clauses on the polygons.
 pub fn merge<P: PtrKey, T: Drop, A: ChainArenaTrait<P, T> + Drop>(
     mesh: &mut Mesh<P, T, A>,
     u: P,
@@ -18,7 +18,7 @@ pub fn merge<P: PtrKey, T: Drop, A: ChainArenaTrait<P, T> + Drop>(
     mesh.merge(u, v)
 }
 
-/// `Mesh::split`, under the clauses that say what becomes of polygons, and where the points are.
+/// Forwards to `Mesh::split`, under the clauses on the polygons and the points.
 pub fn split<P: PtrKey, T: Copy + Drop, A: ChainArenaTrait<P, T> + Drop>(
     mesh: &mut Mesh<P, T, A>,
     u: P,

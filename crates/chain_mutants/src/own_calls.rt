@@ -1,4 +1,4 @@
-// Calls of the chain arena that no trait has, or whose contract there says more than the trait's.
+// Forwarding wrappers of calls that no trait has, or whose contract states more than the trait's.
 ghost use Rattle.std.specs.Prelude.{◌≡◌, ◌≤◌, ◌+◌, ◌↔◌, IsOk, IsSome, IfNone, OnSome, OnOk, OnErr};
 ghost use Rattle.arena_ptr.specs.Invalidation.{invalidation_option};
 ghost use Rattle.arena_base.specs.Arena.{IsValid, entry_count};
@@ -13,8 +13,9 @@ use arena_base::{ArenaSlot, ArenaTrait, CompactArenaTrait, Work};
 use arena_ptr::{InvalidationOption, InxKey, PtrKey, ReallocationError, SlotStack};
 use chain_arena::{ChainArena, ChainArenaTrait, LinkNoGen};
 
-/// `ChainArena::drain_chain`, dropped at once: removes all links of a pointer's chain. `None`: the pointer is not valid, and
-/// nothing has changed.
+/// Removes all links of the chain of `p`, by dropping `ChainArena::drain_chain` at once.
+///
+/// Returns `None` and changes nothing if `p` is not valid.
 pub fn remove_chain<P: PtrKey, T: Drop, S: SlotStack<Item = ArenaSlot<P, LinkNoGen<P, T>>>>(
     arena: &mut ChainArena<P, T, S>,
     p: P,
@@ -33,7 +34,8 @@ pub fn remove_chain<P: PtrKey, T: Drop, S: SlotStack<Item = ArenaSlot<P, LinkNoG
     }
 }
 
-/// `ChainArena::compress_canonical_counted`.
+/// Forwards to `ChainArena::compress_canonical_counted`, under the clauses on its result and its
+/// work.
 pub fn compress_canonical_counted<
     P: PtrKey,
     T: Drop,
@@ -49,7 +51,8 @@ pub fn compress_canonical_counted<
     arena.compress_canonical_counted(reset)
 }
 
-/// `ChainArena::transfer_canonical_reallocating`, under the clauses that say what becomes of both arenas, and when it is not refused.
+/// Forwards to `ChainArena::transfer_canonical_reallocating`, under the clauses on both arenas,
+/// success within the capacity, and errors.
 pub fn transfer_canonical_reallocating<
     P: PtrKey,
     T: Drop,

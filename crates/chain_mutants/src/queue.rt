@@ -1,4 +1,4 @@
-// Calls of the run queue.
+// Forwarding wrappers of calls of `RunQueue`.
 ghost use Rattle.std.specs.Prelude.{◌≡◌, ◌↔◌, ◌<◌, ◌+◌, ◌∷◌, [], ◌++◌, length, IfSome, IsOk, IfOk, OnOk, IsErr, OnErr, Err};
 ghost use Rattle.arena_ptr.specs.SlotStack.{IsBeyond};
 ghost use Rattle.arena_base.specs.Arena.{IsCapacityFor};
@@ -31,7 +31,7 @@ pub fn spawn<P: PtrKey, T: Drop, A: ChainArenaTrait<P, T> + Drop>(
     queue.spawn(task)
 }
 
-/// `RunQueue::cancel`, under the clause that says who is left.
+/// Forwards to `RunQueue::cancel`, under the clause on the remaining tasks.
 pub fn cancel<P: PtrKey, T: Drop, A: ChainArenaTrait<P, T> + Drop>(
     queue: &mut RunQueue<P, T, A>,
     p: P,

@@ -1,4 +1,4 @@
-// Runs.
+// A forwarding wrapper of the run of `chain_commands`.
 ghost use Rattle.chain_commands.specs.Transcripts.{Ends};
 
 use arena_base::ArenaSlot;
@@ -8,7 +8,7 @@ use chain_commands::ToolError;
 use std::alloc::Global;
 use std::io::{Read, Write};
 
-/// `chain_commands::run_on`.
+/// Forwards to `chain_commands::run_on`, under its clause.
 pub fn run_on<R: Read, W: Write, S: SlotStack<Item = ArenaSlot<ToolPtr, LinkNoGen<ToolPtr, u32>>>>(
     alloc: Global,
     arena: &mut ChainArena<ToolPtr, u32, S>,

@@ -1,4 +1,4 @@
-// Calls of the trait of arenas of links.
+// A forwarding wrapper of a call of `ChainArenaTrait`.
 ghost use Rattle.std.specs.Prelude.{◌≡◌, length, IfSome};
 ghost use Rattle.arena_ptr.specs.Invalidation.{invalidation_option};
 ghost use Rattle.arena_base.specs.Compressions.{overflows_after_compression};
@@ -8,7 +8,7 @@ ghost use Rattle.chain_links.specs.CanonicalLayouts.{IsCanonicalLayout};
 use arena_ptr::{GenKey, InvalidationOption, PtrKey};
 use chain_arena::ChainArenaTrait;
 
-/// `ChainArenaTrait::compress_canonical`.
+/// Forwards to `ChainArenaTrait::compress_canonical`, under its clauses.
 pub fn compress_canonical<P: PtrKey, T: Drop, A: ChainArenaTrait<P, T>>(
     arena: &mut A,
     reset: bool,

@@ -1,4 +1,4 @@
-//! A program over a chain arena: lines of commands come in, and their answers go out.
+//! A program that executes lines of commands on a chain arena and writes their responses.
 #![tactic(auto)]
 
 #[cfg(test)]
@@ -13,7 +13,7 @@ fn main(rt: HostRuntime) -> ExitCode {
     answer(rt.alloc(), &mut rt.reader(), writer(&rt), &mut rt.stderr())
 }
 
-/// Writes the answers to the lines of a reader, and returns the exit status. Writes a fault to `errors`.
+/// Runs the lines of a reader and returns the exit status. Writes a fault to `errors`.
 fn answer<R: Read, W: Write + Drop, E: Write>(
     alloc: Global,
     reader: &mut R,
@@ -33,7 +33,7 @@ fn answer<R: Read, W: Write + Drop, E: Write>(
     }
 }
 
-/// Returns the line that standard error is written at a fault.
+/// Returns the line that is written to standard error at a fault.
 fn reason(error: ToolError) -> &'static str {
     match error {
         ToolError::Read => "chain_tool: cannot read\n",

@@ -1,4 +1,4 @@
-//! The exit status and the words on standard error at each fault.
+//! Tests of the exit status and of the text on standard error at each fault.
 
 use super::{answer, reason};
 use chain_commands::ToolError;
@@ -7,7 +7,7 @@ use std::io;
 use std::io::{ErrorKind, Read, Write, sink};
 use std::process::{Abort, ExitCode};
 
-/// Fails at each read and at each write.
+/// A reader and writer whose every operation fails.
 #[derive(Drop)]
 struct Failing;
 
@@ -27,7 +27,7 @@ impl Write for Failing {
     }
 }
 
-/// Whether a run ends with this status, and writes this to standard error.
+/// Returns whether a run ends with this status and writes this text to standard error.
 fn ends<R: Read + Drop, W: Write + Drop>(
     alloc: Global,
     mut reader: R,

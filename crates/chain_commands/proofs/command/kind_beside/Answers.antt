@@ -1,4 +1,4 @@
--- Each name's kind is the one of its row.
+-- Proof by cases on the name of the kind.
 use Rattle.std.proofs.Common.{◌∙◌, sym}
 use Rattle.chain_links.specs.declared.kinds.InsertKindBody.TheVariants as kinds
 use Rattle.chain_commands.proofs.KindLemmas.{by_either-mapped}

@@ -1,4 +1,4 @@
--- The answer is the text of the reply.
+-- The response is the text of the reply.
 use Rattle.std.proofs.Common.{refl}
 use Rattle.chain_commands.specs.Responses.{RespondsToCall, reply_text}
 use Rattle.chain_commands.proofs.ResponseLemmas.{answers_ok, answers_err}

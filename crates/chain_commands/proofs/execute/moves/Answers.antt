@@ -1,4 +1,4 @@
--- The pairs that the compression answers are told after its step, in the room that was taken before it.
+-- The moves are written after the step, into capacity reserved before it.
 use Rattle.std.proofs.Common.{◌≡◌, ◌∙◌, ◌++◌, ◌+◌, ◌<◌, ◌≤◌, List, ℕ, [], sym, ap, length, arith, string_bytes, length-append}
 use Rattle.arena_ptr.specs.Generations.{two32, after32}
 use Rattle.arena_ptr.specs.ToolPtr.{key_of}
@@ -7,11 +7,11 @@ use Rattle.chain_commands.specs.Responses.{moves_text}
 use Rattle.chain_compaction.proofs.VisitorLemmas.{moves_count}
 use Rattle.chain_commands.proofs.execute.moves.Goals as goal
 
--- what was empty takes what fits ..
+-- A cleared text has capacity for what was reserved.
 fits_into : (before added : List ℕ) (n len room : ℕ) → before ≡ [] → length added < n → len + n ≤ room → length before + length added ≤ room
 fits_into before added n len room none less fits = omega (arith, ap length none, less, fits)
 
--- .. and for one byte more
+-- After the response there is capacity for one more byte.
 room_after : (before text added : List ℕ) (n len room room_now : ℕ) → before ≡ [] → text ≡ before ++ added → length added < n → len + n ≤ room → room ≤ room_now → length text + 1 ≤ room_now
 room_after before text added n len room room_now none is less fits more =
     omega (arith, ap length none, ap length is, length-append before added, less, fits, more)

@@ -1,4 +1,4 @@
--- What is written, and then those that are left, make the whole, for which there is room.
+-- The moves written and those left make the whole, for which the capacity suffices.
 use Rattle.std.proofs.Common.{◌≡◌, ◌≤◌, ◌++◌, string_bytes, map, length}
 use Rattle.std.specs.List.{concat}
 use Rattle.std.specs.String.{string_capacity}

@@ -2,7 +2,7 @@ use Rattle.std.proofs.Common.{◌≡◌, ◌^◌, ◌<◌, take}
 use Rattle.std.specs.Str.Parse.{digits_value, AllDigits}
 use Rattle.chain_commands.proofs.lexer.number.Given as goal
 
--- the digits so far are digits, and value is their number
+-- The bytes so far are digits, and `value` is their number.
 abbrev pub invariant-loop-digit : goal.invariant-loop-digit
 invariant-loop-digit l = record {
   digits : AllDigits 10 (take l.digit-index l.word);

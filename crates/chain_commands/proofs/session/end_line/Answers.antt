@@ -1,4 +1,4 @@
--- The line that is answered is what was kept and the front of the piece.
+-- The executed line is what was kept, followed by the front of the piece.
 use Rattle.std.proofs.Common.{◌++◌, ap, ◌∙◌, sym, subst, Err, Ok}
 use Rattle.std.proofs.lemmas.Result.{err_from_is_err_and}
 use Rattle.chain_commands.specs.Progress.{TranscribesOne}

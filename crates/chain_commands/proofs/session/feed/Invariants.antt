@@ -3,7 +3,7 @@ use Rattle.chain_commands.specs.Responses.{ToolLinks}
 use Rattle.chain_commands.specs.Progress.{Progress}
 use Rattle.chain_commands.proofs.session.feed.Given as goal
 
--- wherever the run had come before this piece, it has come on by what is no longer left of it
+-- The run has progressed by the part of the piece that is no longer left.
 abbrev pub invariant-loop-front : goal.invariant-loop-front
 invariant-loop-front g l =
     (done : List ℕ) × (l.piece ≡ done ++ l.left) ×

@@ -1,4 +1,4 @@
--- The text is parted where the first line feed stands, if there is one.
+-- The text is split at its first line feed, if there is one.
 use Rattle.std.proofs.lemmas.List.{nil_from_length}
 use Rattle.chain_commands.proofs.LineSplitLemmas.{parts-some, parts-none}
 use Rattle.chain_commands.proofs.session.first_line.Goals as goal

@@ -1,4 +1,4 @@
--- As much more is kept as there is room for.
+-- As many bytes are kept as the limit allows.
 use Rattle.std.proofs.Common.{◌++◌, ap, ◌∙◌, arith}
 use Rattle.chain_commands.proofs.LineSplitLemmas.{kept_more}
 use Rattle.chain_commands.proofs.session.keep.Goals as goal

@@ -2,7 +2,7 @@ use Rattle.std.proofs.Common.{◌≤◌, length, take}
 use Rattle.std.specs.Io.KnownBytes.{Appends}
 use Rattle.chain_commands.proofs.session.put.Given as goal
 
--- the writer has taken the text as far as `written`
+-- The writer has taken the text up to `written`.
 abbrev pub invariant-loop : goal.invariant-loop
 invariant-loop g l = record {
   within : l.written ≤ length l.text;

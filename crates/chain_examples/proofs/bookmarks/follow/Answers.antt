@@ -1,4 +1,4 @@
--- One bookmark more is followed.
+-- One more bookmark is replaced.
 use Rattle.std.proofs.Common.{option_and_then, rules}
 use Rattle.std.proofs.lemmas.List.Edits.{map_over_more}
 use Rattle.chain_examples.specs.MoveTables.{looked_up}

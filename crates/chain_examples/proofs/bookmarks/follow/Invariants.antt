@@ -1,4 +1,4 @@
--- The bookmarks so far are followed.
+-- The bookmarks before the current position are replaced.
 use Rattle.std.proofs.Common.{◌≡◌, ◌++◌, map, take, drop, option_and_then}
 use Rattle.chain_examples.specs.MoveTables.{looked_up}
 use Rattle.chain_examples.proofs.bookmarks.follow.Given as goal

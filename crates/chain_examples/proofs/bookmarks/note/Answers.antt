@@ -1,4 +1,4 @@
--- One move more is written.
+-- One more move is written.
 use Rattle.std.proofs.Common.{◌∙◌, ap, Some}
 use Rattle.std.specs.Prelude.{slice_set}
 use Rattle.chain_examples.proofs.MoveTableLemmas.{note_more}

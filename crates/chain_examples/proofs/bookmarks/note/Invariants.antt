@@ -1,4 +1,4 @@
--- The moves so far are written.
+-- The moves before the current position are written.
 use Rattle.std.proofs.Common.{◌≡◌, take}
 use Rattle.chain_examples.specs.MoveTables.{noted}
 use Rattle.chain_examples.proofs.bookmarks.note.Given as goal

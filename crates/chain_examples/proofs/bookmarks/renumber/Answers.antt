@@ -1,4 +1,4 @@
--- The table has as many places as there are slots, and the moves that are written into it are those of the compression.
+-- The table has an entry for each slot, and holds the moves of the compression.
 use Rattle.std.proofs.Common.{◌≡◌, length, None, ap, ◌∙◌}
 use Rattle.std.proofs.lemmas.List.{length-replicate}
 use Rattle.chain_examples.proofs.MappedListLemmas.{length_twice}

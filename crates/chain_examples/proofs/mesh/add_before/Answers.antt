@@ -1,4 +1,4 @@
--- There is room, so a corner comes.
+-- The arena has free capacity, so the insertion succeeds.
 use Rattle.std.proofs.Common.{refl}
 use Rattle.chain_laws.specs.Chains.{cyclic}
 use Rattle.chain_laws.specs.Insertions.{prev_to}

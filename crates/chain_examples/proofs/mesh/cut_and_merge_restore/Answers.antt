@@ -1,4 +1,4 @@
--- By what the two make of rings.
+-- The law follows from the effects of both calls on rings.
 use Rattle.chain_examples.proofs.RingLemmas.{cut_and_merge}
 use Rattle.chain_examples.proofs.mesh.cut_and_merge_restore.Goals as goal
 

@@ -1,4 +1,4 @@
--- The new link is right after the link that the kind names.
+-- The new link is directly after the link that the kind names.
 use Rattle.std.proofs.Common.{inl, inr, refl}
 use Rattle.chain_traits.proofs.OutcomeLemmas.{if_ok}
 use Rattle.chain_examples.proofs.named_type.insert_behind.Goals as goal

@@ -1,4 +1,4 @@
--- The removal links what the link was between.
+-- The removal links the neighbors of the removed link.
 use Rattle.chain_examples.proofs.named_type.remove_value.Goals as goal
 
 pub returns-clause-links : goal.returns-clause-links

@@ -1,4 +1,4 @@
--- A new link before the current one is the last in turn; where there is none, it is a ring of its own.
+-- A link before the current one is the last in turn; the first task is its own ring.
 use Rattle.chain_traits.proofs.OutcomeLemmas.{if_ok}
 use Rattle.chain_examples.proofs.QueueOrderLemmas.{first_comes, last_comes}
 use Rattle.chain_examples.proofs.queue.come_last.Goals as goal

@@ -1,4 +1,4 @@
--- By where the task that goes stands in turn.
+-- Proof by cases on the position of the cancelled task in the turn.
 use Rattle.std.proofs.Common.{◌≡◌, ◌∙◌, ap, sym, subst, List, ◌∷◌, ◌++◌, Some}
 use Rattle.arena_base.specs.Entries.{first_key}
 use Rattle.chain_examples.specs.Lists.{Item, IsQueueOrder}

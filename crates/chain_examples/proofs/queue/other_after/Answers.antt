@@ -1,4 +1,4 @@
--- By what stands second in turn.
+-- Proof by cases on the second task in turn.
 use Rattle.std.proofs.Common.{◌≡◌, ◌∙◌, ap, sym, ◌∷◌, ◌++◌, [], Some}
 use Rattle.std.specs.Option.{option_map}
 use Rattle.arena_base.specs.Entries.{first_key}

@@ -1,4 +1,4 @@
--- The facts of the call are all that is needed, so the search is a small one, and a wrong body soon fails it.
+-- The forwarded call's contract suffices, so the search is small, and a mutant fails it soon.
 use Rattle.std.proofs.Common.{rules}
 use Rattle.chain_mutants.proofs.documents.move_after.Goals as goal
 

@@ -1,4 +1,4 @@
--- The facts of the calls are all that is needed, so the searches are small ones, and a wrong body soon fails them.
+-- The contracts of the calls suffice, so the searches are small, and a mutant fails them soon.
 use Rattle.std.proofs.Common.{rules}
 use Rattle.chain_mutants.proofs.own_calls.remove_chain.Goals as goal
 

@@ -1,4 +1,4 @@
--- A link alone names no other, so every text stays.
+-- A lone link names no other, so every text is unchanged.
 use Rattle.std.proofs.Common.{refl}
 use Rattle.chain_laws.specs.Chains.{linear}
 use Rattle.chain_laws.specs.Insertions.{disconnected}

@@ -1,4 +1,4 @@
--- What the link of a paragraph names are those beside it in its text.
+-- The link of a paragraph names its neighbors in the text.
 use Rattle.std.proofs.Common.{◌∙◌, ap}
 use Rattle.std.specs.Option.{option_map}
 use Rattle.chain_examples.proofs.DocumentLemmas.{comes_from, goes_on, with_prev, with_next}

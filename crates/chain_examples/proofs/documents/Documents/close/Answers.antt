@@ -1,4 +1,4 @@
--- Where one of the ends is missing, nothing has to be joined.
+-- If either end is missing, nothing has to be joined.
 use Rattle.std.proofs.Common.{refl, subst, sym}
 use Rattle.std.specs.Option.{option_map}
 use Rattle.chain_examples.specs.Texts.{IsClosed}

@@ -1,4 +1,4 @@
--- The value of the paragraph is written, and it stays in its place.
+-- The value is written, and the paragraph keeps its position.
 use Rattle.std.proofs.Common.{refl, ◌∙◌}
 use Rattle.chain_examples.proofs.ValueWriteLemmas.{has_new_value}
 use Rattle.chain_examples.proofs.documents.Documents.get_mut.Goals as goal

@@ -1,4 +1,4 @@
--- The new paragraph comes after the other in its text, and stands in no other text.
+-- The new paragraph follows `p` in its text, and is in no other text.
 use Rattle.std.proofs.Common.{refl, ap}
 use Rattle.chain_laws.specs.Chains.{linear}
 use Rattle.chain_laws.specs.Insertions.{next_to}

@@ -1,4 +1,4 @@
--- The end of one text and the start of another are tied.
+-- The end of one text is connected to the start of another.
 use Rattle.std.proofs.Common.{ap, ◌∙◌}
 use Rattle.chain_traits.proofs.GenericRemovalLemmas.{same_entry}
 use Rattle.chain_traits.proofs.OutcomeLemmas.{on_some, either_some}

@@ -1,4 +1,4 @@
--- The paragraph is set apart, and put after the other.
+-- The paragraph is separated and put after `q`.
 use Rattle.std.proofs.Common.{ap, ◌∙◌}
 use Rattle.chain_traits.proofs.GenericRemovalLemmas.{same_entry}
 use Rattle.chain_examples.proofs.ItemMoveLemmas.{moved_after, keeps_moved}

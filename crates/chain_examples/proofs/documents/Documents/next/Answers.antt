@@ -1,4 +1,4 @@
--- The link after a paragraph is that of the next one in its text.
+-- The link after a paragraph is the next one in its text.
 use Rattle.std.proofs.Common.{◌∙◌, ap}
 use Rattle.std.specs.Option.{option_map}
 use Rattle.chain_traits.proofs.OutcomeLemmas.{if_mapped}

@@ -1,4 +1,4 @@
--- The break is between the paragraph and the one after it, if there is one.
+-- The break is after the paragraph, if another follows.
 use Rattle.std.proofs.Common.{ap, ◌∙◌}
 use Rattle.chain_laws.specs.Chains.{next_of}
 use Rattle.chain_laws.specs.Cuts.{Cuts}

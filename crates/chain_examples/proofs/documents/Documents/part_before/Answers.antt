@@ -1,4 +1,4 @@
--- The break is between the paragraph and the one before it, if there is one.
+-- The break is before the paragraph, if another precedes.
 use Rattle.std.proofs.Common.{ap, ◌∙◌}
 use Rattle.chain_laws.specs.Chains.{prev_of}
 use Rattle.chain_laws.specs.Cuts.{Cuts}

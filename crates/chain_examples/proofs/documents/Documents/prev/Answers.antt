@@ -1,4 +1,4 @@
--- The link before a paragraph is that of the previous one in its text.
+-- The link before a paragraph is the previous one in its text.
 use Rattle.std.proofs.Common.{◌∙◌, ap}
 use Rattle.std.specs.Option.{option_map}
 use Rattle.chain_traits.proofs.OutcomeLemmas.{if_mapped}

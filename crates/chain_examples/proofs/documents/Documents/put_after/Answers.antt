@@ -1,4 +1,4 @@
--- What came after the other paragraph is cut off, and both ends are joined to this one.
+-- The text of `q` is split after `q`, and both sides are joined with `p`.
 use Rattle.chain_traits.proofs.OutcomeLemmas.{from_mapped}
 use Rattle.chain_examples.proofs.ItemMoveLemmas.{put_after, keeps_put}
 use Rattle.chain_examples.proofs.documents.Documents.put_after.Goals as goal

@@ -1,4 +1,4 @@
--- What came before the paragraph and what came after it are cut off, and joined.
+-- The text is split around the paragraph, and its neighbors are joined.
 use Rattle.chain_examples.proofs.ItemMoveLemmas.{stands_alone, keeps_alone}
 use Rattle.chain_examples.proofs.DocumentLemmas.{in_a_text}
 use Rattle.chain_examples.proofs.documents.Documents.set_apart.Goals as goal
@@ -11,7 +11,7 @@ pub returns-clause-others : goal.returns-clause-others
 returns-clause-others g c = keeps_alone g.A.ArenaTrait.entry g.A.ChainArenaTrait.interlinks c.args.self.now c.part_before.new.self c.part_after.new.self c.close.new.self (g.P.PtrKey.key c.args.p) _ _
     c.part_before.ensures.others c.part_after.ensures.others c.close.ensures.texts c.in_ok-before.ensures.between.with_before c.in_ok-before.ensures.between.with_after
 
--- a pointer that is of no paragraph stands in no text
+-- A pointer that is not valid is in no text.
 pub returns-in_err-before-clause-texts : goal.returns-in_err-before-clause-texts
 returns-in_err-before-clause-texts g c = λ t before after is.
     absurd (let some = c.in_err-before.ensures.some.1 (in_a_text g.A.ArenaTrait.entry g.A.ChainArenaTrait.interlinks c.args.self.now (g.P.PtrKey.key c.args.p) t before after is) in cc)

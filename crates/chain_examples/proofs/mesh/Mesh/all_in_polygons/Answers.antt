@@ -1,4 +1,4 @@
--- Each link of the arena has one after it, so it stands in a ring.
+-- Each link has a next one, so it is in a ring.
 use Rattle.chain_examples.proofs.RingLemmas.{all_in_rings}
 use Rattle.chain_examples.proofs.mesh.Mesh.all_in_polygons.Goals as goal
 

@@ -1,4 +1,4 @@
--- What comes after the two corners is exchanged: one comes after each, so it can be.
+-- Both corners have a next one, so the exchange is possible.
 use Rattle.std.proofs.Common.{◌≡◌, ap, ◌∙◌}
 use Rattle.std.specs.Prelude.{◌↔◌, IsSome}
 use Rattle.arena_base.specs.Arena.{IsValid}
@@ -11,7 +11,7 @@ use Rattle.chain_examples.proofs.mesh.Mesh.exchange.Goals.{After-exchange_next}
 use Rattle.chain_examples.proofs.mesh.Mesh.exchange.Goals as goal
 
 module _ (g : Over) (c : After-exchange_next g) where
-  -- it is done exactly where both stand
+  -- The exchange succeeds exactly if both pointers are valid.
   done : IsSome c.exchange_next.result ↔ (IsValid (g.A.ArenaTrait.entry c.self.inside.corners) (g.P.PtrKey.key c.args.u) × IsValid (g.A.ArenaTrait.entry c.self.inside.corners) (g.P.PtrKey.key c.args.v))
   done =
       let a = c.self.inside.corners in

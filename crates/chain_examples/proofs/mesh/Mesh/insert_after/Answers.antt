@@ -1,4 +1,4 @@
--- The new corner comes after the other in its ring, and stands in no other ring.
+-- The new corner follows `corner` in its ring, and is in no other ring.
 use Rattle.std.proofs.Common.{ap, refl}
 use Rattle.chain_laws.specs.Chains.{cyclic}
 use Rattle.chain_laws.specs.Insertions.{next_to}

@@ -1,4 +1,4 @@
--- The link after a corner is that of the next one in its ring.
+-- The link after a corner is the next one in its ring.
 use Rattle.std.proofs.Common.{◌∙◌, ap}
 use Rattle.std.specs.Option.{option_map}
 use Rattle.chain_examples.proofs.RingLemmas.{ring_goes_on, in_a_ring}

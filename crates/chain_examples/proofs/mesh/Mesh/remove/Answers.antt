@@ -8,7 +8,7 @@ use Rattle.chain_examples.proofs.mesh.Mesh.remove.Given.{Over}
 use Rattle.chain_examples.proofs.mesh.Mesh.remove.Goals.{After-allow}
 use Rattle.chain_examples.proofs.mesh.Mesh.remove.Goals as goal
 
--- what holds of a valid pointer holds where something was removed
+-- What a valid pointer implies holds if something was removed.
 if_valid : {R V Z : Type 0} (o : Option R) → (is_some o ≡ true → V) → (V → Z) → OnSome o Z
 if_valid None valid so = tt
 if_valid (Some r) valid so = so (valid refl)

@@ -1,4 +1,4 @@
--- Where there is room for two more the same stands, and is linked.
+-- After reserving for two, both corners are still stored and linked.
 use Rattle.std.proofs.Common.{◌≡◌, List, ap}
 use Rattle.chain_traits.proofs.GenericRemovalLemmas.{same_entry}
 use Rattle.chain_examples.specs.Lists.{Item, IsRing}

@@ -1,4 +1,4 @@
--- Copies come beside the ends of the diagonal, and what comes after the one end and after the copy of the other is exchanged.
+-- Copies are inserted beside `u` and `v`, then the successors of `v` and of `u`'s copy exchanged.
 use Rattle.std.proofs.Common.{◌+◌, ◌∙◌, ap, sym, subst, ◌∷◌, [], arith}
 use Rattle.arena_base.specs.Entries.{count}
 use Rattle.chain_examples.specs.Rings.{AreCopied}

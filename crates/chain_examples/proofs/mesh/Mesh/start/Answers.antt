@@ -1,4 +1,4 @@
--- A ring of one names no other corner, so every ring stays.
+-- The new ring names no other corner, so all rings are unchanged.
 use Rattle.std.proofs.Common.{refl, sym, ap, subst}
 use Rattle.chain_laws.specs.Chains.{cyclic}
 use Rattle.chain_laws.specs.Insertions.{single_link_cyclic}

@@ -1,4 +1,4 @@
--- A removed link leaves its ring, and the turn goes on without it.
+-- The removed link leaves its ring, and the turn continues without it.
 use Rattle.std.proofs.Common.{◌≡◌, ◌∙◌, ap, subst, sym, List, Option}
 use Rattle.std.specs.Option.{option_map}
 use Rattle.std.specs.Prelude.{is_some, true}
@@ -11,7 +11,7 @@ use Rattle.chain_examples.proofs.queue.RunQueue.cancel.Goals.{After-allow, After
 use Rattle.chain_examples.proofs.queue.RunQueue.cancel.Given.{Over}
 use Rattle.chain_examples.proofs.queue.RunQueue.cancel.Goals as goal
 
--- the turn of the tasks in an arena
+-- The turn of the tasks in an arena.
 abbrev turn : (g : Over) → g.row.A.Denot → Option g.row.P.Denot → List (Item g.row.P-Gen.Denot g.row.T.Denot)
 turn g a current = turn_in g.A.ArenaTrait.view g.A.ArenaTrait.entry g.A.ChainArenaTrait.interlinks g.met.A.ArenaTrait.rises g.met.A.ArenaTrait.looked_up a (option_map g.P.PtrKey.key current)
 
@@ -31,7 +31,7 @@ left g c some = task_goes g.A.ArenaTrait.view g.A.ArenaTrait.entry g.A.ChainAren
     (option_map g.P.PtrKey.key c.self.inside.current) (option_map g.P.PtrKey.key c.current_without-next.result) (g.P.PtrKey.key c.in_ok-current.current) (g.P.PtrKey.key c.args.p)
     (ap (option_map g.P.PtrKey.key) c.in_ok-current.was) c.self.invariant ((it g c).some some) c.current_without-next.ensures
 
--- a removal that answers: what is known of it
+-- What a successful removal guarantees.
 abbrev done : (g : Over) → After-self-1 g → After-allow g
 done g c = c.before.before.before
 
@@ -45,7 +45,7 @@ returns-clause-some g c =
     let same : stood.value ≡ c.in_ok-task.task = let h = sym ((it g (done g c)).value stood) ∙ c.in_ok-task.was in cc in
     rw (← c.self.view_is) (subst (λ t. IsCancelled (g.P.PtrKey.key c.args.p) t (turn g c.self.inside.tasks c.self.inside.current) (turn g c.remove.new.self c.current_without-next.result)) same now.cancelled)
 
--- .. one that does not
+-- What a failed removal guarantees.
 abbrev missed : (g : Over) → After-from_residual-in_err-task g → After-allow g
 missed g c = c.before.before.before
 

@@ -1,4 +1,4 @@
--- Those that were drained and those that are left are the tasks in turn, and there is room for the latter.
+-- The drained tasks followed by the turn are the old turn, and all fit in the result.
 use Rattle.std.proofs.Common.{◌≡◌, ◌++◌, ◌+◌, ◌≤◌, length, map, vec_len, vec_capacity}
 use Rattle.chain_examples.specs.Lists.{Item}
 use Rattle.chain_examples.proofs.queue.RunQueue.drain_all.Given as goal

@@ -1,4 +1,4 @@
--- A valid pointer is that of a task, which stands at its index.
+-- A valid pointer belongs to a task, which is stored at its index.
 use Rattle.std.specs.Option.{option_map}
 use Rattle.chain_examples.proofs.TaskLemmas.{valid_if_among, among_if_valid, task_shown}
 use Rattle.chain_examples.proofs.queue.RunQueue.get.Goals as goal

@@ -1,4 +1,4 @@
--- The value of the task is written, and the turn has it in the place of the old one.
+-- Writing the value of a task replaces it in the turn.
 use Rattle.std.proofs.Common.{refl, ◌∙◌, ap}
 use Rattle.std.specs.Option.{option_map}
 use Rattle.chain_examples.specs.QueueOrder.{with_task}

@@ -1,4 +1,4 @@
--- All that the arena holds stands in turn, once.
+-- The turn lists each entry of the arena once.
 use Rattle.std.proofs.Common.{◌≤◌, ◌∙◌, ap, length, subst}
 use Rattle.std.specs.Option.{option_map}
 use Rattle.chain_examples.specs.QueueOrder.{Queue}

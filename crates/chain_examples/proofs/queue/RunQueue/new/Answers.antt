@@ -1,4 +1,4 @@
--- An arena without entries is a queue without tasks.
+-- An arena without entries is an empty queue.
 use Rattle.std.proofs.Common.{[], None}
 use Rattle.chain_examples.proofs.QueueOrderLemmas.{IsSettled, settle, begins}
 use Rattle.chain_examples.proofs.queue.RunQueue.new.Given.{Over}

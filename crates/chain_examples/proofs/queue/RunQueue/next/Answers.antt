@@ -1,4 +1,4 @@
--- The second in turn is current.
+-- The second task in turn becomes current.
 use Rattle.std.proofs.Common.{◌∙◌, ap}
 use Rattle.std.specs.Option.{option_map}
 use Rattle.chain_examples.specs.QueueOrder.{Queue, rotation}

@@ -1,4 +1,4 @@
--- There are as many tasks as entries, so the arena grows for as many as the queue does.
+-- There are as many tasks as entries, so the arena's growth is the queue's.
 use Rattle.std.proofs.Common.{◌∙◌, ap}
 use Rattle.std.specs.Option.{option_map}
 use Rattle.chain_examples.proofs.TaskLemmas.{HasSize, has_size}

@@ -1,4 +1,4 @@
--- The task comes last, and what is found in the arena is that turn.
+-- The task is appended, and the turn is what is found in the arena.
 use Rattle.std.proofs.Common.{◌∙◌, ap}
 use Rattle.std.specs.Option.{option_map}
 use Rattle.chain_examples.specs.QueueOrder.{Queue}
@@ -22,11 +22,11 @@ invariant_of-self g c = (it g c.before).holds
 pub returns-clause-last : goal.returns-clause-last
 returns-clause-last g c = rw (← c.self.view_is) (it g c.before).last
 
--- there are as many tasks as entries
+-- There are as many tasks as entries.
 size : (g : Over) (c : After-or-self-inside g) → HasSize (g.A.ArenaTrait.view c.self.inside.tasks) c.args.self.now
 size g c = has_size g.A.ArenaTrait.view g.A.ArenaTrait.entry g.A.ChainArenaTrait.interlinks g.met.A.ArenaTrait.rises g.met.A.ArenaTrait.looked_up c.self.inside.tasks (option_map g.P.PtrKey.key c.self.inside.current) c.args.self.now c.self.invariant c.self.view_is
 
--- a free index is that of no task
+-- A free index belongs to no task.
 pub returns-clause-fresh : goal.returns-clause-fresh
 returns-clause-fresh g c = rw (← c.self.view_is) (if_ok c.come_last-added.result c.come_last-added.ensures.fresh (λ p.
     free_index (g.A.ArenaTrait.entry c.self.inside.tasks) (g.A.ChainArenaTrait.interlinks c.self.inside.tasks) (option_map g.P.PtrKey.key c.self.inside.current) _ c.self.invariant (g.P.PtrKey.key p).0))
@@ -40,7 +40,7 @@ returns-clause-beyond g c = rw (← (size g c.before).tasks, ← (size g c.befor
 pub returns-clause-greatest : goal.returns-clause-greatest
 returns-clause-greatest g c = rw (← (size g c.before).tasks) c.come_last-added.ensures.greatest
 
--- where there is room in the queue, the arena has room, so that the call succeeds
+-- If the queue has free capacity, so has the arena, and the call succeeds.
 pub returns-clause-room : goal.returns-clause-room
 returns-clause-room g c = λ less.
     let kept = c.come_last-added.ensures.room (has_room g.A.ArenaTrait.view g.A.ArenaTrait.entry g.A.ChainArenaTrait.interlinks g.met.A.ArenaTrait.rises g.met.A.ArenaTrait.looked_up c.self.inside.tasks (option_map g.P.PtrKey.key c.self.inside.current) c.args.self.now c.self.invariant c.self.view_is less) in

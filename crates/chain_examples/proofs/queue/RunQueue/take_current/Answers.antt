@@ -1,4 +1,4 @@
--- The current task was first.
+-- The current task was the first in turn.
 use Rattle.std.proofs.Common.{◌≡◌, ℕ, List, ◌∷◌, Option, None, Some}
 use Rattle.std.specs.Prelude.{IfSome}
 use Rattle.chain_examples.specs.Lists.{Item}
