@@ -1,4 +1,4 @@
-//! The tests of the lower crates: numbers, pointers, answers and stacks of slots, and the arena over them.
+//! Tests of the lower crates: numbers, pointers, results, slot stacks, and the arena over them.
 #![tactic(auto)]
 
 #[cfg(test)]

@@ -1,9 +1,9 @@
--- A link that came to a place that was made for it.
+-- A lemma of insertion by a vacant entry.
 use Rattle.std.proofs.Common.{◌≡◌, ℕ, Option, ap, ap₂, sym, ◌∙◌}
 use Rattle.arena_base.specs.Arena.{Arena, with_capacity_of}
 use Rattle.chain_links.specs.ChainArena.{LinkView, insert_between}
 
--- after a growth, and then the insertion, the arena is what the insertion makes of the one before, but for room
+-- A growth and then the insertion give the arena of the insertion alone, up to capacity.
 pub place_used : {Gen T : Type 0} (old mid new : Arena Gen (LinkView T)) (t : T) (u v before after : Option ℕ) → mid ≡ with_capacity_of old mid → before ≡ u → after ≡ v
     → new ≡ insert_between mid t before after → new ≡ with_capacity_of (insert_between old t u v) new
 place_used old mid new t u v before after grown first second is =

@@ -1,4 +1,4 @@
-//! The tests of what a chain arena has of its own, and of lists of calls.
+//! Tests of the inherent calls of a chain arena, and of lists of calls.
 #![tactic(auto)]
 
 #[cfg(test)]

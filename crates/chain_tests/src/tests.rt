@@ -34,19 +34,19 @@ use std::process::Abort;
 // A slot of a link of a number.
 type Slot = ArenaSlot<ToolPtr, LinkNoGen<ToolPtr, u32>>;
 
-// Links over a stack. What is written for any stack costs its proof half of what the same costs at one.
+// A chain arena over a stack. Generic over stacks, code costs its proof half as much.
 type ChainsOver<S> = ChainArena<ToolPtr, u32, S>;
 
-// A pointer as two numbers, its index and its generation.
+// A pointer as its index and its generation.
 type At = (u32, u32);
 
-// Looks whether a test got what it wants.
 fn same<T: PartialEq + Debug + Drop>(rt: &impl Abort, what: &str, got: T, want: T) {
     assert_eq!(rt; got, want, "{what}");
 }
 
-// An answer as `Debug` writes it, which is asked for twice, if it has to be. Where memory is refused to both it is empty, which no
-// test wants: what makes texts needs no way to end the test, which each of its steps would name.
+// Returns a result as `Debug` writes it, on a second attempt if the first allocation fails. After
+// both it is empty, which no test expects. So it needs no `Abort`, which each of its steps would
+// name.
 fn text<T: Debug + Drop>(alloc: Global, answer: T) -> String {
     for _ in 0..2 {
         if let Ok(text) = format!(in alloc; "{answer:?}") {
@@ -56,7 +56,6 @@ fn text<T: Debug + Drop>(alloc: Global, answer: T) -> String {
     String::new(alloc)
 }
 
-// All items of an iterator, as `Debug` writes them.
 fn text_of_all<T: Debug + Drop, I: Iterator<Item = T> + Drop>(alloc: Global, items: I) -> String
     requires { I.can_next items × IsFinite (I.remaining items) }
 {
@@ -67,7 +66,7 @@ fn text_of_all<T: Debug + Drop, I: Iterator<Item = T> + Drop>(alloc: Global, ite
     }
 }
 
-// The index of a number. Of zero it is that of the invalid pointer.
+// Returns the index of a number; zero gives the invalid pointer's index.
 fn index(i: u32) -> Inx32 {
     match Inx32::new(i) {
         Some(index) => index,
@@ -75,7 +74,7 @@ fn index(i: u32) -> Inx32 {
     }
 }
 
-// The generation of a number. Of zero it is that of the invalid pointer.
+// Returns the generation of a number; zero gives the invalid pointer's generation.
 fn generation(n: u32) -> Gen32 {
     match Gen32::new(n) {
         Some(generation) => generation,
@@ -83,19 +82,16 @@ fn generation(n: u32) -> Gen32 {
     }
 }
 
-// The pointer of an index and a generation.
 fn at(p: At) -> ToolPtr {
     ToolPtr::_from_raw(index(p.0), generation(p.1))
 }
 
-// An arena without links.
 fn fresh<T: Drop, S: SlotStack<Item = ArenaSlot<ToolPtr, LinkNoGen<ToolPtr, T>>>>(
     alloc: Global,
 ) -> ChainArena<ToolPtr, T, S> {
     ChainArena::new(alloc)
 }
 
-// Removes a link.
 fn remove<T: Drop, S: SlotStack<Item = ArenaSlot<ToolPtr, LinkNoGen<ToolPtr, T>>>>(
     arena: &mut ChainArena<ToolPtr, T, S>,
     p: At,
@@ -103,7 +99,7 @@ fn remove<T: Drop, S: SlotStack<Item = ArenaSlot<ToolPtr, LinkNoGen<ToolPtr, T>>
     arena.remove(at(p))
 }
 
-// Adds a link, and tells its pointer. Without room for it that is the invalid one.
+// Inserts a link and returns its pointer, or the invalid one if there is no capacity.
 fn put<T: Drop, S: SlotStack<Item = ArenaSlot<ToolPtr, LinkNoGen<ToolPtr, T>>>>(
     arena: &mut ChainArena<ToolPtr, T, S>,
     kind: LinkInsertKind<ToolPtr>,
@@ -115,14 +111,13 @@ fn put<T: Drop, S: SlotStack<Item = ArenaSlot<ToolPtr, LinkNoGen<ToolPtr, T>>>>(
     }
 }
 
-// A plain arena without entries.
 fn fresh_plain<T: Drop, S: SlotStack<Item = ArenaSlot<ToolPtr, T>>>(
     alloc: Global,
 ) -> Arena<ToolPtr, T, S> {
     Arena::new(alloc)
 }
 
-// Adds a link to a plain arena, where there is room, by the indexes before and after it, 0 for none.
+// Inserts a link into a plain arena, if there is capacity, between two indexes, 0 for none.
 fn add_plain<T: Drop, S: SlotStack<Item = ArenaSlot<ToolPtr, LinkNoGen<ToolPtr, T>>>>(
     arena: &mut Arena<ToolPtr, LinkNoGen<ToolPtr, T>, S>,
     beside: At,
@@ -132,14 +127,14 @@ fn add_plain<T: Drop, S: SlotStack<Item = ArenaSlot<ToolPtr, LinkNoGen<ToolPtr, 
     let _ = arena.insert_reallocating(LinkBody::new(beside, t));
 }
 
-// The chain arena that a plain one becomes, if its interlinks agree.
+// Converts a plain arena to a chain arena, if its interlinks are consistent.
 fn chained<T: Drop, S: SlotStack<Item = ArenaSlot<ToolPtr, LinkNoGen<ToolPtr, T>>>>(
     arena: Arena<ToolPtr, LinkNoGen<ToolPtr, T>, S>,
 ) -> Result<ChainArena<ToolPtr, T, S>, &'static str> {
     ChainArena::from_arena(arena)
 }
 
-// So many lone links, each with its index as its value.
+// Returns lone links, each with its index as its value.
 fn lone_links<S: SlotStack<Item = Slot>>(alloc: Global, count: u32) -> ChainsOver<S> {
     let mut arena: ChainsOver<S> = fresh(alloc);
     for k in 1..=count {
@@ -148,7 +143,6 @@ fn lone_links<S: SlotStack<Item = Slot>>(alloc: Global, count: u32) -> ChainsOve
     arena
 }
 
-// An arena with a maximum.
 fn limited<S: LimitStack<Item = Slot>>(
     rt: &impl Abort,
     alloc: Global,

@@ -1,4 +1,4 @@
-//! The tests of `chain_commands`.
+//! Tests of `chain_commands`.
 #![tactic(auto)]
 
 #[cfg(test)]

@@ -1,4 +1,4 @@
-//! Runs of the program over readers and writers in memory, and in `users` the data structures on arenas of links.
+//! Tests of the program over readers and writers in memory, and of the examples.
 mod examples;
 mod io_faults;
 mod no_memory;
@@ -25,18 +25,16 @@ use std::alloc::Global;
 use std::fmt::Debug;
 use std::process::Abort;
 
-/// A slot of a link of a number.
 type Slot = ArenaSlot<ToolPtr, LinkNoGen<ToolPtr, u32>>;
 
-/// The arena of a run, over any stack: what is written for one stack costs its proof twice as much.
+/// The arena of a run. Code for one stack costs its proof twice as much as code for any.
 type LinksOver<S> = ChainArena<ToolPtr, u32, S>;
 
-/// Looks whether a test got what it wants.
 fn same<T: PartialEq + Debug + Drop>(rt: &impl Abort, what: &str, got: T, want: T) {
     assert_eq!(rt; got, want, "{what}");
 }
 
-/// Runs the program on bytes, and looks whether it reads them to their end and writes these.
+/// Runs the program on bytes, and checks that it reads all and writes `output`.
 fn check(rt: &impl Abort, alloc: Global, what: &str, input: &[u8], output: &[u8]) {
     let mut reader = input;
     let mut written = Vec::new(alloc);
@@ -46,14 +44,13 @@ fn check(rt: &impl Abort, alloc: Global, what: &str, input: &[u8], output: &[u8]
     same(rt, what, reader.len(), 0);
 }
 
-/// Runs the program on texts, and looks whether it writes these.
 fn check_texts(rt: &impl Abort, alloc: Global, rows: &[(&str, &str)]) {
     for (input, output) in rows {
         check(rt, alloc, input, input.as_bytes(), output.as_bytes());
     }
 }
 
-/// Carries out a text on an arena: how that ends, and what is written.
+/// Runs a text on an arena. Returns the result and the output.
 fn carried_out<S: SlotStack<Item = Slot>>(
     alloc: Global,
     arena: &mut LinksOver<S>,
@@ -65,7 +62,7 @@ fn carried_out<S: SlotStack<Item = Slot>>(
     (result, written)
 }
 
-/// Carries out a text on an arena, and looks whether the program writes these lines.
+/// Runs a text on an arena, and checks the output.
 fn check_on<S: SlotStack<Item = Slot>>(
     rt: &impl Abort,
     alloc: Global,
@@ -259,16 +256,14 @@ const NUMBERS_AND_POINTERS: [(&str, &str); 21] = [
     ),
 ];
 
-/// A command, enough spaces to fill a line of this length, and what ends the line.
+/// Returns a line of a command, spaces up to `len` bytes, and an end.
 fn filled(rt: &impl Abort, alloc: Global, command: &str, len: usize, end: &str) -> String {
     format!(in alloc; "{command:len$}{end}").expect(rt, "memory")
 }
 
-/// What a row is about, a command, the length that spaces fill its line to, what ends the line, and what the program
-/// writes.
+/// A name, a command, the length of its line, the end of the line, and the output.
 type FilledLine<'a> = (&'a str, &'a str, usize, &'a str, &'a str);
 
-/// Runs the program on a filled line, and looks whether it writes this.
 fn check_filled(rt: &impl Abort, alloc: Global, line: &FilledLine<'_>) {
     let (what, command, len, end, output) = line;
     let input = filled(rt, alloc, command, *len, end);
@@ -276,7 +271,7 @@ fn check_filled(rt: &impl Abort, alloc: Global, line: &FilledLine<'_>) {
     check(rt, alloc, what, input.as_bytes(), output.as_bytes());
 }
 
-/// Filled lines of up to 200 bytes, and longer ones.
+/// Lines of up to 200 bytes, and longer ones.
 const FILLED_LINES: [FilledLine<'static>; 8] = [
     ("200 bytes", "len", 200, "", "count 0\n"),
     ("201 bytes", "len", 201, "", "bad line\n"),
@@ -404,8 +399,8 @@ const OVERFLOWS: [(&str, &str); 6] = [
     ),
 ];
 
-/// Texts that are carried out one after another on one arena with a maximum of two: a given arena that holds a link; a full one; and
-/// one with room for two links.
+/// Texts that run one after another on an arena with a maximum of two. The arenas are one that has
+/// a link already, a full one, and one of capacity two.
 const LIMITED: [&[(&str, &str)]; 3] = [
     &[
         ("add alone 5\n", "at 1.2\n"),
@@ -423,7 +418,6 @@ const LIMITED: [&[(&str, &str)]; 3] = [
     )],
 ];
 
-/// Carries out texts on an arena with a maximum of two.
 fn check_limited<S: LimitStack<Item = Slot>>(
     rt: &impl Abort,
     alloc: Global,
@@ -443,14 +437,14 @@ fn limited_arenas(rt: HostRuntime) {
     }
 }
 
-/// Lines of every sort: among them one without words, one of 201 spaces, and a last one that no line feed ends.
+/// Lines of every sort, also without words, of 201 spaces, and without a line feed at the end.
 const LINES_OF_EVERY_SORT: (&str, &str) = (
     "add end 0.2 5\nadd  alone   007\r\n\nadd between 1.2 1 5\n                                                                                                                                                                                                         \n\
     remove 4294967296.2\nremove 1\nchain 1.2\nlen",
     "bad line\nat 1.2\nbad line\nbad line\nbad line\nvalue 7\nnone\ncount 0\n",
 );
 
-/// The sample that the program is shown by.
+/// The sample of the README.
 const SAMPLE: (&str, &str) = (
     "add alone 10\nadd alone 20\nconnect 1.2 2.2\nadd end 1.2 40\nadd end 2.2 40\nchain 1.2\nshow 2.2\nremove 2.2\n\
     chain 3.2\nshow 2.2\nhello\n",
@@ -458,7 +452,7 @@ const SAMPLE: (&str, &str) = (
     3.2:40 1.2:10\nnone\nbad line\n",
 );
 
-/// Whole runs, each a text and what the program writes.
+/// Whole runs: a text, and the output.
 static RUNS: [(&str, &str); 15] = [
     SAMPLE,
     LINES_OF_EVERY_SORT,
@@ -477,7 +471,7 @@ static RUNS: [(&str, &str); 15] = [
     EACH_KIND_BY_INDEX,
 ];
 
-/// .. in a body of its own, since what names a table costs by its rows.
+/// Returns the runs. Only this body names the table, since naming it costs by its rows.
 fn runs() -> &'static [(&'static str, &'static str)] {
     &RUNS
 }
@@ -499,14 +493,14 @@ fn texts_and_what_is_written(rt: HostRuntime) {
     }
 }
 
-/// Carries out whole runs, each on a new arena.
 fn check_runs<S: SlotStack<Item = Slot>>(rt: &impl Abort, alloc: Global) {
     for (input, output) in runs() {
         check_on(rt, alloc, &mut LinksOver::<S>::new(alloc), input, output);
     }
 }
 
-/// Makes a chain of 130 links, over three blocks, each with its index as its value, and tells how many there are.
+/// Makes a chain of 130 links over three blocks, each with its index as its value, and returns
+/// their number.
 fn add_chain<S: SlotStack<Item = Slot>>(arena: &mut LinksOver<S>) -> usize {
     let mut kind = LinkInsertKind::Disconnected;
     for t in 1..=130 {
@@ -517,7 +511,7 @@ fn add_chain<S: SlotStack<Item = Slot>>(arena: &mut LinksOver<S>) -> usize {
     arena.len()
 }
 
-/// Removes the first 64 of them again, and tells how many are left.
+/// Removes the first 64 of them, and returns the number left.
 fn empty_the_first_block<S: SlotStack<Item = Slot>>(arena: &mut LinksOver<S>) -> usize {
     for i in 1..=64 {
         if let Some(i) = Inx32::new(i) {
@@ -527,7 +521,7 @@ fn empty_the_first_block<S: SlotStack<Item = Slot>>(arena: &mut LinksOver<S>) ->
     arena.len()
 }
 
-/// The walk along the 66 links that are left, in one run from index 1 on.
+/// The walk along the 66 links left, at indexes from 1 on.
 const WALK_OF_THE_REST: (&str, &str) = (
     "chain 1.67\n",
     "1.67:65 2.67:66 3.67:67 4.67:68 5.67:69 6.67:70 7.67:71 8.67:72 9.67:73 10.67:74 11.67:75 12.67:76 13.67:77 \
@@ -538,15 +532,15 @@ const WALK_OF_THE_REST: (&str, &str) = (
     57.67:121 58.67:122 59.67:123 60.67:124 61.67:125 62.67:126 63.67:127 64.67:128 65.67:129 66.67:130\n",
 );
 
-/// How many links there are, and how many of them are placed as they are laid out.
+/// Returns the number of links, and how many a canonical compression places.
 fn placed<S: SlotStack<Item = Slot>>(arena: &mut LinksOver<S>) -> (usize, u128) {
     let links = arena.len();
     let (_, work) = arena.compress_canonical_counted(false);
     (links, work.placed)
 }
 
-/// The first block of a chain over three is emptied, and the chain compressed to the first two: it comes there in its order, and
-/// each link is placed once.
+/// Checks that a chain whose first of three blocks is emptied is compressed to two, in order. Each
+/// link is placed once.
 fn check_chain<S: SlotStack<Item = Slot>>(rt: &impl Abort, alloc: Global) {
     let mut arena = LinksOver::<S>::new(alloc);
     assert!(rt; add_chain(&mut arena) == 130);
@@ -556,7 +550,8 @@ fn check_chain<S: SlotStack<Item = Slot>>(rt: &impl Abort, alloc: Global) {
     check_on(rt, alloc, &mut arena, input, output);
 }
 
-/// All that is tried over any stack: a stack is named where it is called, once, since that is what costs.
+/// Runs all tests over a stack. Each stack is named once, where this is called, since that is the
+/// cost.
 fn check_over<S: SlotStack<Item = Slot>>(rt: &impl Abort, alloc: Global) {
     check_runs::<S>(rt, alloc);
     check_chain::<S>(rt, alloc);

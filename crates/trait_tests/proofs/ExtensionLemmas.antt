@@ -1,4 +1,4 @@
--- A link that is added behind another, in any arena of links, or taken out again.
+-- Lemmas of a link inserted behind another, or removed again, in any arena of links.
 use Rattle.std.proofs.Common.{◌≡◌, ◌≢◌, ℕ, List, [], ◌∷◌, ◌++◌, Option, None, Some, refl, ap, sym, ◌∙◌, subst, ⊎_elim}
 use Rattle.std.specs.Prelude.{is_some, true, false, OnSome}
 use Rattle.std.proofs.lemmas.Bool.{cases_eq}
@@ -18,7 +18,7 @@ none_of None is = refl
 none_of (Some x) is = absurd (let h = is in cc)
 
 module _ {Gen T : Type 0} (old mid : ℕ → Option (Gen × T)) (q : ℕ × Gen) (t : T) (inserted : IsInserted old mid q t) where
-  -- what was inserted and taken out again leaves what was there
+  -- An insertion followed by the removal of that link leaves every entry as it was.
   pub taken_back : (new : ℕ → Option (Gen × T)) (es fs : List ((ℕ × Gen) × T)) → RisesFrom 1 es → ((i : ℕ) → found i es ≡ mid i) → ((i : ℕ) → found i fs ≡ new i) → fs ≡ without q.0 es
       → (i : ℕ) → new i ≡ old i
   taken_back new es fs rises was finds gone i =
@@ -28,11 +28,11 @@ module _ {Gen T : Type 0} (old mid : ℕ → Option (Gen × T)) (q : ℕ × Gen)
       (λ other. found-kept i q.0 es other ∙ (was i ∙ inserted.rest i other))
       (cases_eq i q.0)
 
-  -- nothing was shown where it went
+  -- The insertion's index had no interlinks before.
   pub not_shown : (interlinks : LinkMap) → is_some (interlinks q.0) ≡ is_some (old q.0) → interlinks q.0 ≡ None
   not_shown interlinks stands = none_of (interlinks q.0) (stands ∙ ap is_some inserted.free)
 
-  -- it can be joined behind a link that names none after it
+  -- The new link can be connected behind a link without a next one.
   pub joinable : (interlinks changed : LinkMap) → interlinks q.0 ≡ None → changed ≡ with_lone interlinks q.0 → (p : ℕ × Gen) → IsValid old p → next_of interlinks p.0 ≡ None
       → CanConnect mid changed p q
   joinable interlinks changed none alone p valid end =
@@ -44,7 +44,7 @@ module _ {Gen T : Type 0} (old mid : ℕ → Option (Gen × T)) (q : ℕ × Gen)
         no_prev = ap (λ (s : LinkMap). prev_of s q.0) alone ∙ (prev_of-with_lone interlinks q.0 none q.0 ∙ ap prev_in none);
       }
 
--- a link that was added alone and joined makes the chain longer
+-- A link inserted alone and then joined extends the chain.
 pub extends : (old mid new : LinkMap) (p q : ℕ) → old q ≡ None → mid ≡ with_lone old q → new ≡ joined mid p q → Extends old new p q
 extends old mid new p q none alone joins =
     let lone = with_lone_adds old q none in
@@ -62,6 +62,6 @@ pub some_holds : {X Q : Type 0} (o : Option X) → is_some o ≡ true → OnSome
 some_holds None some q = absurd (let h = some in cc)
 some_holds (Some x) some q = q
 
--- a link that ends a chain where another was added alone ended it before
+-- A link without a next one had none before another link was inserted alone.
 pub ended : (old mid : LinkMap) (q : ℕ) → old q ≡ None → mid ≡ with_lone old q → (p : ℕ) → next_of mid p ≡ None → next_of old p ≡ None
 ended old mid q none alone p end = sym (next_of-with_lone old q none p) ∙ (sym (ap (λ (s : LinkMap). next_of s p) alone) ∙ end)

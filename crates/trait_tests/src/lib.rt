@@ -1,4 +1,4 @@
-//! The tests of what is known of any arena of links by its traits, at several pointers and stacks, and of links.
+//! Tests of generic code over arenas of links, at several pointers and stacks, and of links.
 #![tactic(auto)]
 
 #[cfg(test)]

@@ -25,19 +25,17 @@ use std::process::Abort;
 // A slot of a link of a number.
 type Slot<P> = ArenaSlot<P, LinkNoGen<P, u32>>;
 
-// Links over std's memory without a limit.
 type Chains = ChainArena<ToolPtr, u32>;
 
-// A pointer as two numbers, its index and its generation; (0, 0) stands for none.
+// A pointer as its index and its generation; (0, 0) is none.
 type At = (u32, u32);
 
-// What an arena shows of a link: its pointer, its value, and the pointers to the links before and after it.
+// A link: its pointer, its value, and the pointers to the links before and after it.
 type Row = (At, u32, At, At);
 
-// No neighbor.
 const NONE: At = (0, 0);
 
-// What no arena shows.
+// A row that no arena has.
 const NOTHING: Row = (NONE, 0, NONE, NONE);
 
 // A pointer whose generations are numbers, so that a table can name it.
@@ -47,7 +45,6 @@ trait Numbered: PtrKey + Debug {
     fn number_of(generation: Self::Gen) -> u32;
 }
 
-// A type of generations that are numbers.
 trait Counted: PtrGen {
     fn of(n: u32) -> Self;
 
@@ -102,17 +99,15 @@ impl<I: PtrInx, G: Counted> Numbered for Pair<I, G> {
     }
 }
 
-// Looks whether a test got what it wants.
 fn same<T: PartialEq + Debug + Drop>(rt: &impl Abort, what: &str, got: T, want: T) {
     assert_eq!(rt; got, want, "{what}");
 }
 
-// An answer as `Debug` writes it.
 fn text<T: Debug + Drop>(alloc: Global, answer: T) -> Option<String> {
     format!(in alloc; "{answer:?}").ok()
 }
 
-// The index of a number that the pointer type has; any other stands for that of its invalid pointer.
+// Returns the index of a number, or the invalid pointer's if there is none.
 fn index<P: PtrKey>(inx: u32) -> P::Inx {
     match P::Inx::try_from_usize(inx as usize) {
         Some(inx) => inx,
@@ -120,12 +115,10 @@ fn index<P: PtrKey>(inx: u32) -> P::Inx {
     }
 }
 
-// The pointer of an index and a generation.
 fn at<P: Numbered>(p: At) -> P {
     P::_from_raw(index::<P>(p.0), P::generation_of(p.1))
 }
 
-// The number of an index, which here is a small one.
 fn number<I: InxKey>(i: I) -> u32 {
     match i.try_into_usize() {
         Some(number) => u32::try_from(number).unwrap_or(u32::MAX),
@@ -133,7 +126,6 @@ fn number<I: InxKey>(i: I) -> u32 {
     }
 }
 
-// The two numbers of a pointer.
 fn numbers<P: Numbered>(p: Option<P>) -> At {
     match p {
         Some(p) => (number(p.inx()), P::number_of(p.generation())),
@@ -141,7 +133,6 @@ fn numbers<P: Numbered>(p: Option<P>) -> At {
     }
 }
 
-// A chain arena with a maximum.
 fn limited<P: PtrKey, T: Drop, S: LimitStack<Item = ArenaSlot<P, LinkNoGen<P, T>>>>(
     alloc: Global,
     most: usize,
@@ -151,7 +142,7 @@ fn limited<P: PtrKey, T: Drop, S: LimitStack<Item = ArenaSlot<P, LinkNoGen<P, T>
     arena
 }
 
-// Adds lone links, each with its index as its value, and counts those that are added.
+// Inserts lone links, each with its index as its value, and counts them.
 fn add_lone<P: PtrKey, A: ChainArenaTrait<P, u32>>(arena: &mut A, count: u32) -> u32 {
     let mut added = 0u32;
     for k in 1..=count {
@@ -165,7 +156,7 @@ fn add_lone<P: PtrKey, A: ChainArenaTrait<P, u32>>(arena: &mut A, count: u32) ->
     added
 }
 
-// Any arena of lone links, of which each pair is tied, the second after the first; of no links, where one is not to be tied.
+// Inserts lone links and connects each pair. Returns an empty arena if a pair is refused.
 fn tied_links<P: Numbered, A: ChainArenaTrait<P, u32> + Drop>(
     alloc: Global,
     count: u32,
@@ -181,7 +172,7 @@ fn tied_links<P: Numbered, A: ChainArenaTrait<P, u32> + Drop>(
     arena
 }
 
-// The number of the index that an interlink names; 0 for none.
+// Returns an interlink's index as a number, 0 for none.
 fn named<I: InxKey>(i: Option<I>) -> u32 {
     match i {
         Some(i) => number(i),
@@ -189,7 +180,7 @@ fn named<I: InxKey>(i: Option<I>) -> u32 {
     }
 }
 
-// What the arena shows of the link of a valid pointer, by both calls that show it. `None`: it shows none, or they tell two things.
+// Returns the link of a valid pointer, or `None` if a lookup fails or the two disagree.
 fn row_of<P: Numbered, A: ChainArenaTrait<P, u32>>(arena: &A, p: P) -> Option<Row> {
     let link = arena.get_link(p)?;
     let row = (
@@ -205,7 +196,7 @@ fn row_of<P: Numbered, A: ChainArenaTrait<P, u32>>(arena: &A, p: P) -> Option<Ro
     Some(row)
 }
 
-// All links of an arena, by rising index, and a row of nothing for each answer of an advancer that is not as it has to be.
+// Returns all links by rising index. `NOTHING` is a wrong result of the advancer.
 fn rows_of<P: Numbered, A: ChainArenaTrait<P, u32>>(alloc: Global, arena: &A) -> Vec<Row> {
     let mut rows = Vec::new(alloc);
     let mut all = arena.advancer();

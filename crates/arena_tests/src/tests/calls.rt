@@ -1,4 +1,4 @@
-// Each call once: those of the trait through the trait, and the arena's own.
+// Tables of each call: those of the trait through the trait, and the arena's own.
 use crate::tests::compressions::{compactors, compressions};
 use crate::tests::copies::copy;
 use crate::tests::next_pointers::nexts;
@@ -6,7 +6,8 @@ use crate::tests::scripts::{Answers, Call, Row, runs};
 use std::alloc::Global;
 use std::process::Abort;
 
-// A body of its own names each table, since each step of a body lists all that the tables hold which it names.
+// Returns the table. Each table has such a body of its own, since every step of a body lists what
+// its tables contain.
 fn each() -> &'static [Row] {
     &EACH
 }
@@ -38,7 +39,7 @@ static EACH: [Row; 58] = [
     (Call::Generation, "3"),
     (Call::SetGeneration(2), "()"),
     (Call::Generation, "2"),
-    // Those of the trait, over the entries 10, 20 and 30 at 1, 2 and 3, which are removed.
+    // Calls of the trait, over the entries 10, 20 and 30 at 1, 2 and 3, which are removed.
     (Call::HasRoom(3), "true"),
     (Call::Ends, "(Some(1.2), Some(3.2))"),
     (Call::Len, "3"),
@@ -77,7 +78,6 @@ static EACH: [Row; 58] = [
     (Call::Drain, "[(1.6, 5)]"),
 ];
 
-// Each call answers its text.
 pub(super) fn check_scripts<A: Answers + Drop>(rt: &impl Abort, alloc: Global) {
     let mut arena = A::fresh(alloc);
     runs(rt, alloc, &mut arena, each());

@@ -1,7 +1,7 @@
-// What a compactor and a compression move, show, count and leave.
+// Tests of what compactors and compressions move, report, count and leave.
 use crate::tests::scripts::{Call, Row};
 
-// What compactors do, a table which a body of its own names.
+// Returns the table of compactors, which no other body names.
 pub(super) fn compactors() -> &'static [Row] {
     &COMPACTORS
 }
@@ -19,7 +19,7 @@ static COMPACTORS: [Row; 35] = [
     (Call::Held, "[(1.3, 30), (2.2, 20)]"),
     (Call::Get(1, 3), "Some(30)"),
     (Call::Get(2, 2), "Some(20)"),
-    // Nothing stands at 3 any more, and a look at it counts.
+    // Index 3 is free now, and reading it counts.
     (
         Call::Compact(3, 1, 3, None),
         "((2, None), Work { placed: 0, touched: 1 })",
@@ -44,7 +44,7 @@ static COMPACTORS: [Row; 35] = [
     (Call::Len, "0"),
     (Call::Generation, "4"),
     (Call::Insert(60), "Ok(1.4)"),
-    // A compactor shows each entry and lends its value, and counts each such look.
+    // A compactor reads each entry and lends its value, and counts each such access.
     (Call::New, "a value written through a compactor"),
     (Call::Insert(10), "Ok(1.2)"),
     (
@@ -55,13 +55,13 @@ static COMPACTORS: [Row; 35] = [
     (Call::AdvanceEmpty, "(None, None, None)"),
 ];
 
-// .. and what compressions do.
+// Returns the table of compressions, which no other body names.
 pub(super) fn compressions() -> &'static [Row] {
     &COMPRESSIONS
 }
 
 static COMPRESSIONS: [Row; 58] = [
-    // Each entry gets the counter, the next index is behind them, and the old pointers are not valid.
+    // Each entry gets the counter, the next index is behind them, and the old pointers are invalid.
     (Call::New, "a hole is closed"),
     (Call::Insert(10), "Ok(1.2)"),
     (Call::Insert(20), "Ok(2.2)"),
@@ -112,7 +112,7 @@ static COMPRESSIONS: [Row; 58] = [
     (Call::Compress(false), "GenerationOverflow(())"),
     (Call::Generation, "2"),
     (Call::Held, "[(1.2, 20)]"),
-    // Values are seen by rising index, each once, and are as the closure left them.
+    // The closure gets each value once, by rising index, and its writes are kept.
     (Call::New, "each value is seen and written once"),
     (Call::InsertMany(6), "6"),
     (Call::Remove(4, 2), "Success(3)"),

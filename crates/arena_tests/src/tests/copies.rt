@@ -1,4 +1,4 @@
-// What a copy of an arena has, and when an arena refuses to become one.
+// Tests of what a copy of an arena contains, and of copies that are refused.
 use crate::tests::inherent_calls::insert_many;
 use crate::tests::pointers::Numbered;
 use crate::tests::scripts::{Call, Row};
@@ -7,7 +7,7 @@ use arena_base::{Arena, ArenaCloneFromWith, ArenaTrait};
 use arena_ptr::{ReallocationError, SlotStack};
 use std::alloc::Global;
 
-// The entries 1, 2 and 3, of which the second is removed.
+// Inserts 1, 2 and 3, and removes the second entry.
 fn with_a_hole<P: Numbered, S: SlotStack<Item = Slot<P>>>(alloc: Global) -> Arena<P, u32, S> {
     let mut arena: Arena<P, u32, S> = Arena::new(alloc);
     insert_many(&mut arena, 1, 3);
@@ -15,8 +15,8 @@ fn with_a_hole<P: Numbered, S: SlotStack<Item = Slot<P>>>(alloc: Global) -> Aren
     arena
 }
 
-// Makes an arena a copy of these, with ten times each value and which call of the closure it was: its answer, how many entries
-// there are, and how many calls there were.
+// Copies that arena into another: ten times each value, plus the number of the closure's call.
+// Returns the result, the number of entries and the number of calls.
 pub(super) fn copied_hole<P: Numbered, R: SlotStack<Item = Slot<P>>, A: ArenaCloneFromWith<P, u32>>(
     alloc: Global,
     arena: &mut A,
@@ -30,12 +30,12 @@ pub(super) fn copied_hole<P: Numbered, R: SlotStack<Item = Slot<P>>, A: ArenaClo
     (answer, arena.len(), calls)
 }
 
-// The table, which a body of its own names.
+// Returns the table, which no other body names.
 pub(super) fn copy() -> &'static [Row] {
     &COPY
 }
 
-// The copy has the indexes, generations and freed list, and what it held is gone.
+// The copy has the indexes, generations and freed list of its source, and its old entries are gone.
 static COPY: [Row; 7] = [
     (Call::New, "a copy keeps the freed list"),
     (Call::InsertMany(9), "9"),

@@ -1,9 +1,9 @@
-// A place for an entry, which is filled, or gets none.
+// Insertion by a vacant entry that is filled or dropped.
 use crate::tests::support::Slot;
 use arena_base::Arena;
 use arena_ptr::{NotWithinCapacityError, PtrKey, SlotStack};
 
-// The pointer of a place that gets a value, or is dropped where its scope ends.
+// Returns the pointer of a vacant entry that gets a value, or is dropped at the end of its scope.
 pub(super) fn enter<P: PtrKey, S: SlotStack<Item = Slot<P>>>(
     arena: &mut Arena<P, u32, S>,
     value: Option<u32>,

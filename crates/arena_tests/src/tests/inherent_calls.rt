@@ -1,4 +1,4 @@
-// The calls that an arena has of its own, as rows of tables. What they need knows no type of pointers and of slots.
+// Inherent calls of arenas as rows of tables, generic over the types of pointers and slots.
 ghost use Rattle.std.specs.Prelude.{◌≤◌, ◌↔◌, IsTrue, IsSome};
 ghost use Rattle.arena_base.specs.Arena.{slot_at};
 
@@ -12,7 +12,7 @@ use std::alloc::Global;
 use std::fmt::Debug;
 use std::mem;
 
-// Adds as many entries, the values from `first` on, and counts those that were added.
+// Inserts `n` values from `first` on, and counts those inserted.
 pub(super) fn insert_many<P: PtrKey, S: SlotStack<Item = Slot<P>>>(
     arena: &mut Arena<P, u32, S>,
     first: u32,
@@ -27,7 +27,6 @@ pub(super) fn insert_many<P: PtrKey, S: SlotStack<Item = Slot<P>>>(
     added
 }
 
-// What an arena holds, as its iterator goes over it.
 fn iterated<P: PtrKey + Debug, S: SlotStack<Item = Slot<P>>>(
     alloc: Global,
     arena: &Arena<P, u32, S>,
@@ -35,7 +34,7 @@ fn iterated<P: PtrKey + Debug, S: SlotStack<Item = Slot<P>>>(
     text_of_all(alloc, arena.into_iter())
 }
 
-// What is taken out of an arena that is used up. A new one is left.
+// Returns the text of the drained entries, and leaves a new arena.
 fn drained<P: PtrKey + Debug, S: SlotStack<Item = Slot<P>>>(
     alloc: Global,
     arena: &mut Arena<P, u32, S>,
@@ -44,7 +43,6 @@ fn drained<P: PtrKey + Debug, S: SlotStack<Item = Slot<P>>>(
     text_of_all(alloc, old.into_iter())
 }
 
-// Whether an index is one of so many slots.
 fn is_within<I: InxKey>(i: I, slots: usize) -> bool
     ensures { IsTrue result ↔ (I.number i ≤ slots) }
 {
@@ -54,7 +52,7 @@ fn is_within<I: InxKey>(i: I, slots: usize) -> bool
     }
 }
 
-// The value at an index of slots that are looked into, over which another may be written before.
+// Returns the value at an index, overwritten first if another is given.
 fn looked<P: PtrKey, C: SlotAccess<P, u32>>(
     slots: &mut C,
     i: P::Inx,
@@ -71,7 +69,8 @@ fn looked<P: PtrKey, C: SlotAccess<P, u32>>(
     }
 }
 
-// .. and the number of slots. An entry there is moved where another index is one of the slots.
+// Returns the number of slots and the value at `from`, and moves the entry to `to` if both are
+// slots.
 fn moved<P: PtrKey, S: SlotStack<Item = Slot<P>>>(
     compactor: &mut Compactor<'_, P, u32, S>,
     from: P::Inx,
@@ -87,7 +86,6 @@ fn moved<P: PtrKey, S: SlotStack<Item = Slot<P>>>(
     (slots, value)
 }
 
-// What a compactor of an arena shows, and what it counted.
 fn compacted<P: Numbered, S: SlotStack<Item = Slot<P>>>(
     arena: &mut Arena<P, u32, S>,
     (from, to, g): (u8, u8, u8),
@@ -99,7 +97,6 @@ fn compacted<P: Numbered, S: SlotStack<Item = Slot<P>>>(
     (seen, compactor.finish())
 }
 
-// A compactor does nothing, and is dropped or forgotten.
 fn compactor_idle<P: PtrKey, S: SlotStack<Item = Slot<P>>>(
     arena: &mut Arena<P, u32, S>,
     is_forgotten: bool,
@@ -110,7 +107,6 @@ fn compactor_idle<P: PtrKey, S: SlotStack<Item = Slot<P>>>(
     }
 }
 
-// The answer to a call of the arena's own, ...
 fn own_answer<P: Numbered, S: SlotStack<Item = Slot<P>>>(
     alloc: Global,
     arena: &mut Arena<P, u32, S>,
@@ -128,7 +124,7 @@ fn own_answer<P: Numbered, S: SlotStack<Item = Slot<P>>>(
     }
 }
 
-// .. on its counter, or on all of its entries, ...
+// Runs a call on the counter or on all entries.
 fn whole_answer<P: Numbered, S: SlotStack<Item = Slot<P>>>(
     alloc: Global,
     arena: &mut Arena<P, u32, S>,
@@ -145,7 +141,7 @@ fn whole_answer<P: Numbered, S: SlotStack<Item = Slot<P>>>(
     }
 }
 
-// .. or of the traits, in the one place that hands such a body an arena.
+// Runs a call of the traits. Only here generic code gets an arena.
 fn given_answer<P: Numbered, S: SlotStack<Item = Slot<P>>>(
     alloc: Global,
     arena: &mut Arena<P, u32, S>,

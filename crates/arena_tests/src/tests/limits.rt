@@ -1,4 +1,4 @@
-// Arenas with a maximum, and what becomes of values and growths that are refused.
+// Tests of arenas with a maximum, and of values and growths that are refused.
 use crate::tests::calls::check_scripts;
 use crate::tests::pointers::{Numbered, SmallPtr};
 use crate::tests::scripts::{Answers, Call, Row, runs};
@@ -13,10 +13,10 @@ use std::alloc::Global;
 use std::process::Abort;
 use std::rc::Rc;
 
-// A slot for one of several equal values, each of which tells how many of them there are.
+// A slot for a shared value, whose strong count is the number of its copies.
 type Shared<P> = ArenaSlot<P, Rc<u8>>;
 
-// Arenas that may have two slots, which they use up.
+// Two slots at most, which are used up.
 static WITHIN: [Row; 4] = [
     (Call::Insert(1), "Ok(1.2)"),
     (Call::Insert(2), "Ok(2.2)"),
@@ -24,7 +24,7 @@ static WITHIN: [Row; 4] = [
     (Call::InsertWithin(3), "Err(NotWithinCapacityError)"),
 ];
 
-// .. what is copied has three slots, one of them free, ...
+// A copy of three slots, one of them free, is refused.
 static COPIED: [Row; 4] = [
     (Call::Insert(5), "Ok(1.2)"),
     (Call::CopyHole, "(Err(BeyondMaxCapacity), 1, 0)"),
@@ -32,14 +32,14 @@ static COPIED: [Row; 4] = [
     (Call::Insert(6), "Ok(2.2)"),
 ];
 
-// .. and what both leave.
+// What both tables leave.
 static USED_UP: [Row; 3] = [
     (Call::Len, "2"),
     (Call::Capacity, "2"),
     (Call::Maximum, "Some(2)"),
 ];
 
-// Each call answers its text under a maximum of two, below which none is set then.
+// Checks each call under a maximum of two, which cannot be lowered then.
 fn check_within<A: Answers + SetMaxCapacity + Drop>(rt: &impl Abort, alloc: Global, rows: &[Row]) {
     let mut arena = A::fresh(alloc);
     equal(rt, "a maximum", arena.set_max_capacity(2), Ok(()));
@@ -49,19 +49,17 @@ fn check_within<A: Answers + SetMaxCapacity + Drop>(rt: &impl Abort, alloc: Glob
     runs(rt, alloc, &mut arena, &USED_UP);
 }
 
-// All that is tried of an arena that may have a maximum.
 fn check_limited<A: Answers + SetMaxCapacity + Drop>(rt: &impl Abort, alloc: Global) {
     check_scripts::<A>(rt, alloc);
     check_within::<A>(rt, alloc, &WITHIN);
     check_within::<A>(rt, alloc, &COPIED);
 }
 
-// .. and of one whose memory is refused.
 fn check_refused<A: Answers + Drop>(rt: &impl Abort, alloc: Global) {
     runs(rt, alloc, &mut A::fresh(alloc), &EVERY_OTHER);
 }
 
-// Hands 600 values to an arena, which drops those that it refuses.
+// Offers 600 values to an arena, which drops those that it refuses.
 fn hand_many<P: PtrKey, S: SlotStack<Item = Shared<P>>>(
     rt: &impl Abort,
     arena: &mut Arena<P, Rc<u8>, S>,
@@ -73,7 +71,7 @@ fn hand_many<P: PtrKey, S: SlotStack<Item = Shared<P>>>(
     }
 }
 
-// .. to one with a maximum, and tells how many it holds and how many there are.
+// Offers them to a new arena, and returns its length and the number of copies.
 fn handed<P: PtrKey, S: LimitStack<Item = Shared<P>>>(
     rt: &impl Abort,
     alloc: Global,
@@ -86,7 +84,7 @@ fn handed<P: PtrKey, S: LimitStack<Item = Shared<P>>>(
     (arena.len(), Rc::strong_count(&value))
 }
 
-// A value that an insertion refuses is dropped: there are those in the arena, and the one that they are shared from.
+// A refused value is dropped: only the values in the arena and the original are left.
 fn check_values<P: PtrKey, S: LimitStack<Item = Shared<P>>>(rt: &impl Abort, alloc: Global) {
     equal(rt, "two values", handed::<P, S>(rt, alloc, 2), (2, 3));
     equal(
@@ -97,7 +95,8 @@ fn check_values<P: PtrKey, S: LimitStack<Item = Shared<P>>>(rt: &impl Abort, all
     );
 }
 
-// The first request for memory is refused, and so is every other one after it: a call that is refused has asked once.
+// The first request for memory is refused, then every other one. A refused call has made one
+// request.
 static EVERY_OTHER: [Row; 25] = [
     (Call::New, "every other request is refused"),
     (Call::Insert(1), "Err(AllocError)"),
@@ -106,7 +105,7 @@ static EVERY_OTHER: [Row; 25] = [
     (Call::Insert(2), "Ok(2.2)"),
     (Call::Reserve(3), "Err(AllocError)"),
     (Call::Reserve(3), "Ok(())"),
-    // .. of two more of the three insertions into what is copied too.
+    // Two of the three insertions into the source of the copy are refused too.
     (Call::CopyHole, "(Ok(()), 1, 1)"),
     (Call::Reserve(9), "Err(AllocError)"),
     (Call::Capacity, "4"),
@@ -130,8 +129,8 @@ static EVERY_OTHER: [Row; 25] = [
     (Call::Counter, "Some(4)"),
 ];
 
-// Each script over a stack, and over one that may have a maximum, and what becomes of what is refused. The types are named once,
-// by one test, since that is what costs.
+// Runs each script over a plain stack and one with an optional maximum, and tests refusals. One
+// test names all types, since naming them is the cost.
 fn check_arenas<
     P: Numbered,
     H: SlotStack<Item = Slot<P>>,

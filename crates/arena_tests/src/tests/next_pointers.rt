@@ -1,11 +1,11 @@
-// Which index and generation comes next, up to the greatest index and the greatest generation.
+// Tests of which index and generation comes next, up to the greatest of each.
 use crate::tests::pointers::BarePtr;
 use crate::tests::scripts::{Answers, Call, Row, runs};
 use arena_base::Arena;
 use std::alloc::Global;
 use std::process::Abort;
 
-// The table, which a body of its own names.
+// Returns the table, which no other body names.
 pub(super) fn nexts() -> &'static [Row] {
     &NEXTS
 }
@@ -46,7 +46,8 @@ static NEXTS: [Row; 61] = [
     (Call::Enter(Some(255)), "Err(NotWithinCapacityError)"),
     (Call::Reserve(256), "Err(AllocError)"),
     (Call::Len, "255"),
-    // Room up to the greatest index is to be had, though in proportion it would be more. A new arena follows each drain.
+    // Capacity up to the greatest index can be reserved, though proportional growth would exceed
+    // it. A new arena follows each drain.
     (Call::New, "room up to the greatest index"),
     (Call::Reserve(255), "Ok(())"),
     (Call::Capacity, "255"),
@@ -75,7 +76,8 @@ static NEXTS: [Row; 61] = [
     (Call::InsertWithin(7), "Ok(1.2)"),
 ];
 
-// An index is used again under the same pointer, no removal overflows, and five entries are taken out.
+// An index is used again under the same pointer, no removal overflows, and five entries are
+// drained.
 static REUSED: [Row; 12] = [
     (Call::New, "pointers without generations"),
     (Call::Insert(6), "Ok(1.0)"),
@@ -94,7 +96,7 @@ static REUSED: [Row; 12] = [
     (Call::IsEmpty, "true"),
 ];
 
-// Pointers to indexes alone.
+// Checks pointers that are indexes alone.
 fn check_reused<A: Answers + Drop>(rt: &impl Abort, alloc: Global) {
     runs(rt, alloc, &mut A::fresh(alloc), &REUSED);
 }

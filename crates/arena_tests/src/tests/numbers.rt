@@ -1,9 +1,9 @@
-// Indexes, generations and pointers: what they answer to code that knows them by the traits alone, and the numbers of each type.
+// Tests of indexes, generations and pointers through their traits, and of the numbers of each type.
 use crate::tests::support::{equal, gen8, gen32, gen64, inx8, inx32, inx64};
 use arena_ptr::{Gen8, Gen32, Gen64, Inx8, Inx32, Inx64, Ptr, PtrGen, PtrInx, ToolPtr};
 use std::process::Abort;
 
-// Whether a number makes an index, the number of which it is.
+// Returns whether a number makes an index of that number.
 fn is_a_number<I: PtrInx>(n: usize) -> bool {
     match I::try_from_usize(n) {
         Some(i) => i.try_into_usize() == Some(n),
@@ -11,7 +11,7 @@ fn is_a_number<I: PtrInx>(n: usize) -> bool {
     }
 }
 
-// Whether an index is the one that its number makes, and no other one, and is as before once packed, as is none.
+// Returns whether the index's number makes it and not `other`, and packing keeps it and `None`.
 fn is_well<I: PtrInx>(i: I, other: I) -> bool {
     match i.try_into_usize() {
         Some(n) => {
@@ -24,7 +24,8 @@ fn is_well<I: PtrInx>(i: I, other: I) -> bool {
     }
 }
 
-// Whether a generation is followed by the last one, that by the first, and the first by the one after it.
+// Returns whether `last` follows `near`, the first follows `last` with an overflow, and `second`
+// follows the first.
 fn counts<G: PtrGen>(near: G, last: G, second: G) -> bool {
     near.generational_inc() == (last, false)
         && last.generational_inc() == (G::two(), true)
@@ -32,12 +33,11 @@ fn counts<G: PtrGen>(near: G, last: G, second: G) -> bool {
         && near != last
 }
 
-// Whether a pointer is made of these parts.
 fn is_made_of<P: Ptr>(p: P, inx: P::Inx, generation: P::Gen) -> bool {
     p.inx() == inx && p.generation() == generation && P::_from_raw(inx, generation) == p
 }
 
-// A number of 8, of 32 and of 64 bits.
+// Numbers of 8, 32 and 64 bits.
 type Widths = (u8, u32, u64);
 
 const ONES: Widths = (1, 1, 1);
@@ -55,7 +55,6 @@ static NUMBERS: [(usize, [bool; 3]); 7] = [
     (usize::MAX, [false, false, true]),
 ];
 
-// .. as the types tell.
 fn are_indexes(n: usize) -> [bool; 3] {
     [
         is_a_number::<Inx8>(n),
@@ -64,7 +63,6 @@ fn are_indexes(n: usize) -> [bool; 3] {
     ]
 }
 
-// Whether zero makes no index and no generation.
 fn are_none() -> [bool; 6] {
     [
         Inx8::new(0).is_none(),
@@ -76,7 +74,6 @@ fn are_none() -> [bool; 6] {
     ]
 }
 
-// Whether numbers make the indexes and the generations that have them.
 fn are_numbers(rt: &impl Abort, (a, b, c): Widths) -> [bool; 6] {
     [
         inx8(rt, a).get() == a,
@@ -88,7 +85,6 @@ fn are_numbers(rt: &impl Abort, (a, b, c): Widths) -> [bool; 6] {
     ]
 }
 
-// Whether indexes of each width are.
 fn are_well(rt: &impl Abort, (a, b, c): Widths, (d, e, f): Widths) -> [bool; 3] {
     [
         is_well(inx8(rt, a), inx8(rt, d)),
@@ -97,7 +93,6 @@ fn are_well(rt: &impl Abort, (a, b, c): Widths, (d, e, f): Widths) -> [bool; 3] 
     ]
 }
 
-// A pointer of the tool by its two numbers.
 fn tool_ptr(rt: &impl Abort, inx: u32, generation: u32) -> ToolPtr {
     ToolPtr::_from_raw(inx32(rt, inx), gen32(rt, generation))
 }

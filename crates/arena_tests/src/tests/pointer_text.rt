@@ -1,11 +1,11 @@
-// The texts of indexes, generations and pointers.
+// Tests of the texts of indexes, generations and pointers.
 use crate::tests::support::{gen8, gen32, gen64, inx8, inx32, inx64, same, text};
 use arena_ptr::{Gen32, Inx8, Ptr, PtrGen, PtrInx, ToolPtr};
 use std::alloc::Global;
 use std::fmt;
 use std::process::Abort;
 
-// An index and a generation by their own texts.
+// An index and a generation, displayed by their own texts.
 #[derive(Drop)]
 struct Shown<I, G>(I, G);
 
@@ -16,7 +16,7 @@ impl<I: PtrInx, G: PtrGen> fmt::Display for Shown<I, G> {
     }
 }
 
-// The text is this one plain, with a sharp and in a width.
+// Checks the text written plain, with `#` and with a width.
 fn reads<I: PtrInx, G: PtrGen>(rt: &impl Abort, alloc: Global, inx: I, generation: G, want: &str) {
     let shown = Shown(inx, generation);
     let texts = format!(in alloc; "{shown} {shown:#} {shown:>12}").expect(rt, "memory");
@@ -45,7 +45,7 @@ fn the_text_of_a_pointer_has_its_name(rt: HostRuntime) {
     same(&rt, "the texts", texts.as_str(), "P0 P0[1a](b) P0[1a](b)");
 }
 
-// An optional index in a word is written as the optional index that it means.
+// A packed optional index is written as the optional index that it means.
 #[test]
 fn the_text_of_a_packed_index_is_that_of_the_index(rt: HostRuntime) {
     let packed = (Inx8::pack(None), Inx8::pack(Some(inx8(&rt, 3))));

@@ -1,11 +1,10 @@
-// Pointer types of the tests: 8 bits of index, with a generation of any type.
+// Pointer types of the tests: an 8-bit index with a generation of any type.
 use arena_ptr::{Gen8, Inx8, Ptr, PtrGen, PtrKey};
 use std::fmt;
 use std::fmt::Debug;
 
-// A type of generations that are numbers.
 pub(super) trait Counted: PtrGen {
-    // The generation of a number. Of zero it is the first.
+    // Returns the generation of a number; zero gives the first generation.
     fn of(n: u8) -> Self;
 
     fn number(self) -> u8;
@@ -45,9 +44,10 @@ pub(super) struct Small<G> {
     generation: G,
 }
 
-// 8 bits of generation, and an index alone.
+// A pointer with an 8-bit generation.
 pub(super) type SmallPtr = Small<Gen8>;
 
+// A pointer that is an index alone.
 pub(super) type BarePtr = Small<()>;
 
 impl<G: Counted> Ptr for Small<G> {
@@ -119,7 +119,7 @@ impl<G: Counted> Numbered for Small<G> {
 }
 
 impl<G: Counted> fmt::Debug for Small<G> {
-    // The index and the generation, as `1.2`.
+    // Writes the index and the generation, as `1.2`.
     fn fmt<W: fmt::Write>(&self, f: &mut fmt::Formatter<W>) -> fmt::Result {
         write!(f, "{}.{}", self.inx.get(), self.generation.number())
     }

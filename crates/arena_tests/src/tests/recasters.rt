@@ -1,10 +1,10 @@
-// A recaster that refuses, and a value of two values.
+// Tests of a recaster that refuses, on a value made of two values.
 ghost use Rattle.std.specs.Prelude.{◌≡◌, ◌⊎◌, OnErr, IsErr, Ok, Err};
 
 use crate::tests::support::equal;
 use arena_ptr::{Recast, Recaster};
 
-// Adds ten to each number but two, which it refuses.
+// Adds 10 to each number but 2, which it refuses.
 struct AddTen;
 
 impl Recaster for AddTen {
@@ -39,7 +39,7 @@ struct Two<T> {
 }
 
 impl<I, T: Recast<I>> Recast<I> for Two<T> {
-    // Both are recast, or else the first is refused and the second stays.
+    // The first is recast and then the second, or the first is refused and the second is unchanged.
     ghost recast_by = { λ recasts old new answer. (T.recast_by recasts old.first new.first (Ok tt)
         × T.recast_by recasts old.second new.second answer)
         ⊎ (IsErr answer × T.recast_by recasts old.first new.first answer

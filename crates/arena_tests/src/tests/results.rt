@@ -1,4 +1,4 @@
-// The answers of calls that invalidate, and the errors.
+// Tests of the results of calls that invalidate, and of the errors.
 use crate::tests::support::equal;
 use arena_ptr::{AllocError, InvalidationOption, InvalidationResult};
 use std::alloc;
@@ -7,7 +7,7 @@ fn is_above_three(n: i32) -> bool {
     n > 3
 }
 
-// The value, the value with the overflow, and the answer to whether the value is above three.
+// Returns the value, the value with the overflow flag, and whether it is above three, as a result.
 fn each_of_option(answer: InvalidationOption<i32>) -> (i32, (i32, bool), InvalidationOption<bool>) {
     (
         answer.allow(),

@@ -1,4 +1,4 @@
-// Calls of arenas as rows of tables, each with the text of its answer.
+// Calls of arenas as rows of tables, each with the text of its result.
 use crate::tests::copies::copied_hole;
 use crate::tests::pointers::Numbered;
 use crate::tests::support::{Slot, at, index, same, text};
@@ -11,11 +11,11 @@ use std::process::Abort;
 // A call on an arena. A pointer is its index and its generation.
 #[derive(Clone, Copy)]
 pub(super) enum Call {
-    // A new arena. The text is the name of what follows.
+    // Makes a new arena. The text names the rows that follow.
     New,
-    // Whether an arena that is born with room for so many entries is empty, and has the room.
+    // Whether an arena made with this minimum capacity is empty and has it.
     Born(usize),
-    // Looks of the trait.
+    // Reads through the trait.
     Len,
     IsEmpty,
     Capacity,
@@ -25,23 +25,25 @@ pub(super) enum Call {
     Contains(u8, u8),
     Get(u8, u8),
     GetInx(u8),
-    // The first entry's pointer and the last one's.
+    // The first and the last pointer.
     Ends,
-    // The first three answers of an advancer, of one from an index on, and of an empty one.
+    // The first three results of an advancer, of one from an index on, and of an empty one.
     Advance,
     AdvanceFrom(u8, bool),
     AdvanceEmpty,
-    // The pointers and the values that the indexes show.
+    // The pointers and values found by index.
     Held,
-    // Changes of the trait.
+    // Changes through the trait.
     Write(u8, u8, u32),
     WriteInx(u8, u32),
     Invalidate(u8, u8),
     Remove(u8, u8),
     RemoveInx(u8),
-    // A clear, after which there is asked for as much room as there was: both answers, and whether the capacity stays.
+    // A clear, then a reservation of the old capacity: both results, and whether the capacity is
+    // kept.
     ClearInRoom,
-    // A compression, and one by a closure that adds the number of its call to each value: its answer, and what it saw.
+    // A compression, and one whose closure adds the number of its call to each value: the result,
+    // and the closure's arguments.
     Compress(bool),
     CompressWith(bool),
     Reserve(usize),
@@ -49,29 +51,29 @@ pub(super) enum Call {
     Insert(u32),
     InsertMany(u32),
     InsertWithin(u32),
-    // A place for an entry that gets a value, or is dropped: its pointer.
+    // The pointer of a vacant entry that gets a value or is dropped.
     Enter(Option<u32>),
     Generation,
     SetGeneration(u8),
     IncGeneration,
     Slots,
     Entries,
-    // Takes the entries out with the arena.
+    // Drains the entries and consumes the arena.
     Drain,
-    // A compactor: a look at an index, over whose value another may be written before, and a move of its entry to another index
-    // with a generation where that is one of the slots.
+    // A compactor reads the value at an index, overwritten first if another is given. It moves the
+    // entry to another index with a generation, if that is a slot.
     Compact(u8, u8, u8, Option<u32>),
     DropCompactor,
     ForgetCompactor,
-    // A copy of the entries 1, 2 and 3, of which the second is removed, by a closure that adds the number of its call to
-    // ten times each value: its answer, how many entries there are, and how many calls there were.
+    // A copy of the entries 1, 2 and 3 without the second: ten times each value, plus the number of
+    // the closure's call. Yields the result, the number of entries and the number of calls.
     CopyHole,
 }
 
-// A call with the text of its answer.
+// A call with the text of its result.
 pub(super) type Row = (Call, &'static str);
 
-// What an arena holds, as its indexes show it.
+// Returns the entries of an arena, read by index.
 fn listed<P: PtrKey, A: ArenaTrait<P, u32>>(alloc: Global, arena: &A) -> Vec<(P, u32)> {
     let mut entries = Vec::new(alloc);
     for n in 1..=u8::MAX {
@@ -83,7 +85,6 @@ fn listed<P: PtrKey, A: ArenaTrait<P, u32>>(alloc: Global, arena: &A) -> Vec<(P,
     entries
 }
 
-// The generation of an entry as a number, and its value.
 fn numbered<P: Numbered, T: Drop>(entry: Option<(P::Gen, T)>) -> Option<(u8, T)> {
     match entry {
         Some((generation, t)) => Some((P::number_of(generation), t)),
@@ -91,7 +92,6 @@ fn numbered<P: Numbered, T: Drop>(entry: Option<(P::Gen, T)>) -> Option<(u8, T)>
     }
 }
 
-// A generation as a number, where there is one.
 fn number_of<P: Numbered>(generation: Option<P::Gen>) -> Option<u8> {
     match generation {
         Some(generation) => Some(P::number_of(generation)),
@@ -99,7 +99,6 @@ fn number_of<P: Numbered>(generation: Option<P::Gen>) -> Option<u8> {
     }
 }
 
-// Writes a value over another, which it answers.
 pub(super) fn overwritten(slot: Option<&mut u32>, value: u32) -> Option<u32> {
     match slot {
         Some(t) => Some(mem::replace(t, value)),
@@ -107,10 +106,8 @@ pub(super) fn overwritten(slot: Option<&mut u32>, value: u32) -> Option<u32> {
     }
 }
 
-// Three answers of an advancer.
 type Three<P> = (Option<P>, Option<P>, Option<P>);
 
-// The first three answers of an advancer.
 fn thrice<P: PtrKey, C, A: Advancer<C, Item = P>>(mut advancer: A, collection: &C) -> Three<P> {
     (
         advancer.advance(collection),
@@ -119,7 +116,7 @@ fn thrice<P: PtrKey, C, A: Advancer<C, Item = P>>(mut advancer: A, collection: &
     )
 }
 
-// .. of one that looks by rising index, of one from an index on, or of an empty one.
+// Runs an advancer by rising index, one from an index on, or an empty one.
 fn advanced<P: PtrKey, A: ArenaTrait<P, u32>>(arena: &A, call: Call, i: P::Inx) -> Three<P> {
     match call {
         Call::AdvanceFrom(_, rev) => thrice(arena.advancer_inx(i, rev), arena),
@@ -128,7 +125,8 @@ fn advanced<P: PtrKey, A: ArenaTrait<P, u32>>(arena: &A, call: Call, i: P::Inx) 
     }
 }
 
-// Compresses an arena, adds to each value which call of the closure it was, and lists what the closure saw.
+// Compresses with a closure that adds the number of its call to each value, and lists its
+// arguments.
 fn compressed<P: PtrKey, A: ArenaTrait<P, u32>>(
     alloc: Global,
     arena: &mut A,
@@ -144,7 +142,7 @@ fn compressed<P: PtrKey, A: ArenaTrait<P, u32>>(
     (answer, seen)
 }
 
-// The pointer that a call names, as two numbers. Of an index alone, and where it names none, the generation is two.
+// Returns the pointer that a call names, as two numbers. An index alone, or none, has generation 2.
 fn named(call: Call) -> (u8, u8) {
     match call {
         Call::Contains(i, g) | Call::Get(i, g) | Call::Write(i, g, _) => (i, g),
@@ -155,7 +153,6 @@ fn named(call: Call) -> (u8, u8) {
     }
 }
 
-// The answer to a look of the trait, ...
 fn look_answer<P: Numbered, A: ArenaTrait<P, u32>>(
     alloc: Global,
     arena: &A,
@@ -176,7 +173,6 @@ fn look_answer<P: Numbered, A: ArenaTrait<P, u32>>(
     }
 }
 
-// .. along its entries, ...
 fn walk_answer<P: Numbered, A: ArenaTrait<P, u32>>(
     alloc: Global,
     arena: &A,
@@ -193,7 +189,6 @@ fn walk_answer<P: Numbered, A: ArenaTrait<P, u32>>(
     }
 }
 
-// Whether an arena that is born with room for so many entries is empty, and has the room.
 fn born<P: PtrKey, A: ArenaTrait<P, u32> + Drop>(alloc: Global, n: usize) -> Option<(bool, bool)> {
     match A::with_min_capacity(alloc, n) {
         Ok(arena) => Some((arena.is_empty(), arena.capacity() >= n)),
@@ -201,7 +196,7 @@ fn born<P: PtrKey, A: ArenaTrait<P, u32> + Drop>(alloc: Global, n: usize) -> Opt
     }
 }
 
-// Clears an arena, and asks for as much room as there was. Tells both answers, and whether the capacity stays.
+// Clears an arena and reserves its old capacity: both results, and whether the capacity is kept.
 fn cleared<P: PtrKey, A: ArenaTrait<P, u32>>(
     arena: &mut A,
 ) -> (InvalidationOption<()>, Result<(), ReallocationError>, bool) {
@@ -211,7 +206,6 @@ fn cleared<P: PtrKey, A: ArenaTrait<P, u32>>(
     (answer, again, arena.capacity() == capacity)
 }
 
-// .. or to a change, ...
 fn change_answer<P: Numbered, A: ArenaTrait<P, u32> + Drop>(
     alloc: Global,
     arena: &mut A,
@@ -232,7 +226,6 @@ fn change_answer<P: Numbered, A: ArenaTrait<P, u32> + Drop>(
     }
 }
 
-// .. to a change of all entries, ...
 fn whole_change_answer<P: Numbered, A: ArenaTrait<P, u32> + Drop>(
     alloc: Global,
     arena: &mut A,
@@ -248,7 +241,7 @@ fn whole_change_answer<P: Numbered, A: ArenaTrait<P, u32> + Drop>(
     }
 }
 
-// .. the pointer of which is named, or to a copy of an arena over such a stack.
+// Runs a call of the traits on the pointer that it names, or a copy of an arena over stack `R`.
 pub(super) fn trait_answer<
     P: Numbered,
     R: SlotStack<Item = Slot<P>>,
@@ -263,14 +256,13 @@ pub(super) fn trait_answer<
     }
 }
 
-// An arena that answers calls.
+// An arena that runs calls.
 pub(super) trait Answers {
     fn fresh(alloc: Global) -> Self;
 
     fn answer(&mut self, alloc: Global, call: Call) -> String;
 }
 
-// Each call answers its text.
 pub(super) fn runs<A: Answers + Drop>(rt: &impl Abort, alloc: Global, arena: &mut A, rows: &[Row]) {
     let mut name = "";
     for (call, want) in rows {

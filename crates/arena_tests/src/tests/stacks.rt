@@ -1,4 +1,4 @@
-// Slot stacks through their bounds: filled, refused, edited, limited.
+// Tests of slot stacks through their trait bounds: growth, refusals, edits and maxima.
 use crate::tests::support::{equal, same, text};
 use arena_ptr::{
     ChunkStack, HeapStack, LimitStack, LimitedStack, ReallocationError, SetMaxCapacity, SlotStack,
@@ -7,7 +7,7 @@ use std::alloc::Global;
 use std::mem;
 use std::process::Abort;
 
-// Appends an item, after a growth where the stack is full, and tells whether it grew.
+// Appends an item, growing the stack first if it is full, and returns whether it grew.
 fn push<S: SlotStack>(stack: &mut S, item: S::Item) -> Result<bool, ReallocationError> {
     let full = stack.len() == stack.capacity();
     if full {
@@ -17,7 +17,6 @@ fn push<S: SlotStack>(stack: &mut S, item: S::Item) -> Result<bool, Reallocation
     Ok(full)
 }
 
-// Writes an item over another, which it answers.
 fn replace<E: Drop, S: SlotStack<Item = E>>(stack: &mut S, i: usize, item: E) -> Option<E> {
     match stack.get_mut(i) {
         Some(slot) => Some(mem::replace(slot, item)),
@@ -25,7 +24,7 @@ fn replace<E: Drop, S: SlotStack<Item = E>>(stack: &mut S, i: usize, item: E) ->
     }
 }
 
-// A stack over another that grows as often as its ration, then refuses once, and has a ration of one after that.
+// A wrapper of a stack that grows `ration` times, then refuses one growth and sets `ration` to 1.
 #[derive(Drop)]
 pub(super) struct Rationed<S> {
     inner: S,
@@ -118,21 +117,20 @@ impl<S: SlotStack> SlotStack for Rationed<S> {
     }
 }
 
-// A call on a stack of numbers.
 #[derive(Clone, Copy)]
 enum Call {
-    // Pushes the numbers from 0 on, at most as many, until one is refused.
+    // Pushes 0, 1, .., at most this many numbers, until one is refused.
     Fill(u32),
     Push(u32),
     Reserve(usize),
 }
 
-// The length, the capacity and the maximum.
+// Returns the length, capacity and maximum.
 fn shape<S: SlotStack<Item = u32>>(stack: &S) -> (usize, usize, Option<usize>) {
     (stack.len(), stack.capacity(), stack.max_capacity())
 }
 
-// What the stack holds, in order.
+// Returns the items in order.
 fn held<S: SlotStack<Item = u32>>(alloc: Global, stack: &S) -> Vec<u32> {
     let mut items = Vec::new(alloc);
     for i in 0..stack.len() {
@@ -143,7 +141,7 @@ fn held<S: SlotStack<Item = u32>>(alloc: Global, stack: &S) -> Vec<u32> {
     items
 }
 
-// Appends the numbers from 0 on, at most `n` of them, until one is refused, and counts the growths.
+// Fills as `Call::Fill` does, and counts the growths.
 fn fill<S: SlotStack<Item = u32>>(stack: &mut S, n: u32) -> u64 {
     let mut growths = 0u64;
     for k in 0..n {
@@ -156,7 +154,7 @@ fn fill<S: SlotStack<Item = u32>>(stack: &mut S, n: u32) -> u64 {
     growths
 }
 
-// Whether the stack grew, or why it did not.
+// Returns whether the stack grew, or why it did not.
 fn answer_to<S: SlotStack<Item = u32>>(
     stack: &mut S,
     call: Call,
@@ -174,13 +172,13 @@ fn answer_to<S: SlotStack<Item = u32>>(
     }
 }
 
-// The answer to a call, and what it leaves: the length, the capacity, the maximum and the items.
+// Returns the text of a call's result, and the length, capacity, maximum and items then.
 fn told<S: SlotStack<Item = u32>>(alloc: Global, stack: &mut S, call: Call) -> String {
     let answer = answer_to(stack, call);
     text(alloc, (answer, shape(stack), held(alloc, stack)))
 }
 
-// Each call is told as its text.
+// Checks the text of each call.
 fn runs<S: SlotStack<Item = u32>>(
     rt: &impl Abort,
     alloc: Global,
@@ -193,11 +191,11 @@ fn runs<S: SlotStack<Item = u32>>(
     }
 }
 
-// A maximum, whether it is set, and calls on the stack after that.
+// A maximum, the result of setting it, and calls on the stack after that.
 type Maximum = (usize, &'static str, &'static [(Call, &'static str)]);
 
-// A maximum of five is tested before memory is asked for, is not set below the capacity, and raised to seven gives room for two
-// more.
+// A maximum is tested before memory is requested, and is not set below the capacity. Raised from 5
+// to 7, it allows two more items.
 static RAISED: [Maximum; 5] = [
     (
         5,
@@ -280,7 +278,7 @@ static RAISED: [Maximum; 5] = [
     ),
 ];
 
-// The greatest maximum, under which memory refuses, and none at all.
+// The greatest maximum, under which an allocation fails.
 static WIDE: [Maximum; 1] = [(
     usize::MAX,
     "Ok(())",
@@ -296,6 +294,7 @@ static WIDE: [Maximum; 1] = [(
     ],
 )];
 
+// A maximum of zero, under which nothing is pushed.
 static NEVER: [Maximum; 1] = [(
     0,
     "Ok(())",
@@ -308,7 +307,7 @@ static NEVER: [Maximum; 1] = [(
     ],
 )];
 
-// A new stack under one maximum after the other.
+// Sets each maximum in turn on one stack, and runs its calls.
 fn limits<S: LimitStack<Item = u32>>(rt: &impl Abort, alloc: Global, maxima: &[Maximum]) {
     let mut stack = S::new(alloc);
     for (most, want, rows) in maxima {
@@ -318,25 +317,23 @@ fn limits<S: LimitStack<Item = u32>>(rt: &impl Abort, alloc: Global, maxima: &[M
     }
 }
 
-// A maximum that is raised, the greatest one, and none at all.
 fn check_limits<S: LimitStack<Item = u32>>(rt: &impl Abort, alloc: Global) {
     limits::<S>(rt, alloc, &RAISED);
     limits::<S>(rt, alloc, &WIDE);
     limits::<S>(rt, alloc, &NEVER);
 }
 
-// A look at a stack of numbers, or an edit of it.
+// A read or an edit of a stack of numbers.
 #[derive(Clone, Copy)]
 enum Edit {
     Read(usize),
     Replace(usize, u32),
-    // An exchange of two items where they stand, and what is the first then.
+    // Swaps two items and yields the item then at the first position.
     Swap(usize, usize),
-    // What stands behind those that are left.
+    // Truncates to a length and yields the item behind the rest.
     Truncate(usize),
 }
 
-// The item at a position.
 fn read<S: SlotStack<Item = u32>>(stack: &S, i: usize) -> Option<u32> {
     match stack.get(i) {
         Some(item) => Some(*item),
@@ -344,7 +341,6 @@ fn read<S: SlotStack<Item = u32>>(stack: &S, i: usize) -> Option<u32> {
     }
 }
 
-// The item that a look or an edit answers.
 fn edited<S: SlotStack<Item = u32>>(stack: &mut S, edit: Edit) -> Option<u32> {
     match edit {
         Edit::Read(i) => read(stack, i),
@@ -364,7 +360,7 @@ fn edited<S: SlotStack<Item = u32>>(stack: &mut S, edit: Edit) -> Option<u32> {
     }
 }
 
-// A stack of a thousand numbers, read at its end and beyond, and edited, of which four are left.
+// Reads at the end of 1000 numbers and beyond, and edits that leave four.
 static EDITS: [(Edit, Option<u32>); 9] = [
     (Edit::Read(999), Some(999)),
     (Edit::Read(1000), None),
@@ -377,14 +373,13 @@ static EDITS: [(Edit, Option<u32>); 9] = [
     (Edit::Truncate(4), None),
 ];
 
-// .. of which each edit answers its item.
 fn edits<S: SlotStack<Item = u32>>(rt: &impl Abort, stack: &mut S) {
     for (edit, want) in &EDITS {
         equal(rt, "an edit", edited(stack, *edit), *want);
     }
 }
 
-// A stack that is filled in so few growths, and edited, which leaves as much room.
+// Fills a stack in at most `few` growths and edits it, which keeps the capacity.
 fn check_edits<S: SlotStack<Item = u32>>(rt: &impl Abort, alloc: Global, few: u64) {
     let mut stack = S::new(alloc);
     equal(
@@ -403,12 +398,13 @@ fn check_edits<S: SlotStack<Item = u32>>(rt: &impl Abort, alloc: Global, few: u6
     equal(rt, "as much still", shape(&stack), (0, capacity, None));
 }
 
-// Whether there is room for so many, once it is asked for.
+// Reserves capacity for `n` items, and returns whether it suffices.
 fn has_grown<S: SlotStack<Item = u32>>(stack: &mut S, n: usize) -> bool {
     stack.reserve_to(n).is_ok() && stack.capacity() >= n
 }
 
-// A growth to this room for one, one that goes far beyond, and one that no block can hold, which changes nothing.
+// Checks a growth to capacity `one` for one item, a growth far beyond, and one too large for any
+// allocation, which changes nothing.
 fn check_growth<S: SlotStack<Item = u32>>(rt: &impl Abort, alloc: Global, one: usize) {
     let mut stack = S::new(alloc);
     fill(&mut stack, 1);
@@ -424,7 +420,7 @@ fn check_growth<S: SlotStack<Item = u32>>(rt: &impl Abort, alloc: Global, one: u
     same(rt, "what is held", left.as_str(), "[0, 0, 1]");
 }
 
-// Capacities 0, 1, 2 and 4, each of them used up before the refusal.
+// Capacities 0, 1, 2 and 4, each used up before the refusal.
 static GROWTHS: [(u32, &str); 4] = [
     (0, "(Ok(false), (0, 0, None), [])"),
     (1, "(Ok(true), (1, 1, None), [0])"),
@@ -443,7 +439,8 @@ fn check_growths<S: SlotStack<Item = u32>>(rt: &impl Abort, alloc: Global) {
     }
 }
 
-// Items that own memory, four of which two are dropped and one is replaced: the replaced one, and those that are left.
+// Pushes four items that own memory, drops two, and replaces one. Returns the text of the replaced
+// item and of those left.
 fn owners<S: SlotStack<Item = Vec<i32>>>(alloc: Global) -> String {
     let mut stack = S::new(alloc);
     for k in 1..5 {
@@ -459,13 +456,13 @@ fn owners<S: SlotStack<Item = Vec<i32>>>(alloc: Global) -> String {
     text(alloc, (was, stack.get(0), stack.get(1)))
 }
 
-// A stack that holds a list: it is to take a thousand items in so few growths, and to have this room for one.
+// Checks that a thousand items take at most `few` growths, and one item a capacity of `one`.
 fn check_list<S: SlotStack<Item = u32>>(rt: &impl Abort, alloc: Global, few: u64, one: usize) {
     check_edits::<S>(rt, alloc, few);
     check_growth::<S>(rt, alloc, one);
 }
 
-// Room comes in blocks of 64.
+// Capacity grows in blocks of 64.
 static IN_BLOCKS: [(Call, &str); 5] = [
     (Call::Reserve(1), "(Ok(true), (0, 64, None), [])"),
     (Call::Reserve(64), "(Ok(false), (0, 64, None), [])"),
@@ -477,8 +474,8 @@ static IN_BLOCKS: [(Call, &str); 5] = [
     ),
 ];
 
-// Grows by several blocks at once, of which one may be refused (`tools/test_alloc_failures` refuses each request in turn): all are
-// there, or nothing has changed, and what was refused is to be had then.
+// Grows by several blocks at once: all or none are added, and a second call succeeds.
+// `tools/test_alloc_failures` refuses each request in turn.
 fn check_blocks<S: SlotStack<Item = u32>>(rt: &impl Abort, stack: &mut S) {
     let grown = stack.reserve_to(300);
     let want = if grown.is_ok() { 320 } else { 0 };
@@ -492,8 +489,8 @@ fn blocks_or_none(rt: HostRuntime) {
     check_blocks(&rt, &mut ChunkStack::<u32>::new(rt.alloc()));
 }
 
-// A stack, one that may have a maximum, and one in blocks: each growth at least doubles the capacity, 1, 2, 4, .. 1024, or adds
-// a block, 64, 128, .. 1024.
+// Checks a plain stack, one with an optional maximum, and one in blocks.
+// Each growth at least doubles the capacity (1, 2, 4, .. 1024), or adds a block (64, 128, .. 1024).
 fn check_each<H: SlotStack<Item = u32>, L: LimitStack<Item = u32>, C: SlotStack<Item = u32>>(
     rt: &impl Abort,
     alloc: Global,

@@ -1,4 +1,4 @@
-// What the tests share: comparisons, texts of answers, and what has to be there.
+// Helpers of the tests: comparisons, texts of results, and values that must exist.
 ghost use Rattle.std.specs.Iterator.{IsFinite};
 
 use crate::tests::pointers::Numbered;
@@ -10,18 +10,17 @@ use std::process::Abort;
 
 pub(super) type Slot<P> = ArenaSlot<P, u32>;
 
-// What was told is this text.
 pub(super) fn same(rt: &impl Abort, what: &str, got: &str, want: &str) {
     assert!(rt; got == want, "{what}: {got}, not {want}");
 }
 
-// .. or is this value, which a failure does not show: texts of values would be types more at each place.
+// Checks a value without showing it: texts of values would need more types at each call.
 pub(super) fn equal<T: PartialEq + Drop>(rt: &impl Abort, what: &str, got: T, want: T) {
     assert!(rt; got == want, "{what}");
 }
 
-// An answer as `Debug` writes it. Where memory is refused it is empty, which no test wants: what makes texts needs no way to
-// end the test, which each of its steps would name.
+// Returns a result as `Debug` writes it. After an allocation failure it is empty, which no test
+// expects. So it needs no `Abort`, which each of its steps would name.
 pub(super) fn text<T: Debug + Drop>(alloc: Global, answer: T) -> String {
     match format!(in alloc; "{answer:?}") {
         Ok(text) => text,
@@ -29,7 +28,6 @@ pub(super) fn text<T: Debug + Drop>(alloc: Global, answer: T) -> String {
     }
 }
 
-// All items of an iterator, as `Debug` writes them.
 pub(super) fn text_of_all<T: Debug + Drop, I: Iterator<Item = T> + Drop>(
     alloc: Global,
     items: I,
@@ -67,7 +65,7 @@ pub(super) fn gen64(rt: &impl Abort, n: u64) -> Gen64 {
     Gen64::new(n).expect(rt, "a generation")
 }
 
-// The index of a number. Of zero it is that of the invalid pointer.
+// Returns the index of a number; zero gives the invalid pointer's index.
 pub(super) fn index<P: PtrKey>(n: u8) -> P::Inx {
     match P::Inx::try_from_usize(n as usize) {
         Some(i) => i,
@@ -75,7 +73,6 @@ pub(super) fn index<P: PtrKey>(n: u8) -> P::Inx {
     }
 }
 
-// The pointer of two numbers.
 pub(super) fn at<P: Numbered>(inx: u8, generation: u8) -> P {
     P::_from_raw(index::<P>(inx), P::generation_of(generation))
 }

@@ -1,4 +1,4 @@
-//! The texts of chain arenas.
+//! Tests of the texts of chain arenas.
 
 use super::scripts::{Do, Kind};
 use super::setup::{Numbered, SlotOf, after};
@@ -9,7 +9,6 @@ use std::alloc::Global;
 use std::fmt::Debug;
 use std::process::Abort;
 
-// An answer as `Debug` writes it in the alternate form.
 fn sharp_text<T: Debug + Drop>(alloc: Global, answer: T) -> String {
     match format!(in alloc; "{answer:#?}") {
         Ok(text) => text,
@@ -17,7 +16,6 @@ fn sharp_text<T: Debug + Drop>(alloc: Global, answer: T) -> String {
     }
 }
 
-// The word of a number.
 fn word(n: u32) -> &'static str {
     match n {
         1 => "A",
@@ -37,7 +35,7 @@ impl Numbered for String {
     }
 }
 
-// Arenas of words, and their texts: no link, two, scattered chains with a line for each link, and a generation in hexadecimal.
+// Arenas of words, and their plain and alternate texts. A generation is hexadecimal.
 static WORDS: [(&[Do], &str, &str); 4] = [
     (&[], "{}", "{}"),
     (
@@ -73,12 +71,10 @@ static WORDS: [(&[Do], &str, &str); 4] = [
     ),
 ];
 
-// All of them.
 fn words() -> &'static [(&'static [Do], &'static str, &'static str)] {
     &WORDS
 }
 
-// Each arena, and its texts by `Debug`, plain and in the alternate form.
 fn check_words<S: SlotStack<Item = SlotOf<String>>>(rt: &impl Abort, alloc: Global) {
     for row in words() {
         let (calls, plain, sharp) = *row;

@@ -1,4 +1,4 @@
-//! Lists of calls, and the replies to them.
+//! Tests of lists of calls and their replies.
 
 use super::scripts::{Do, Kind, Line, look};
 use super::{ChainsOver, Slot, at, fresh, generation, index, limited, same, text};
@@ -8,7 +8,6 @@ use chain_arena::{Call, LinkInsertKind, Reply, run_calls};
 use std::alloc::Global;
 use std::process::Abort;
 
-// A kind of the arena.
 pub(super) fn kind(kind: Kind) -> LinkInsertKind<ToolPtr> {
     match kind {
         Kind::Disconnected => LinkInsertKind::Disconnected,
@@ -19,7 +18,7 @@ pub(super) fn kind(kind: Kind) -> LinkInsertKind<ToolPtr> {
     }
 }
 
-// The call of a row. `None`: lists of calls have no such call.
+// Returns the call of a row, or `None` if lists of calls have no such call.
 pub(super) fn call(row: Do) -> Option<Call<ToolPtr, u32>> {
     Some(match row {
         Do::Insert(k, t) => Call::Insert { kind: kind(k), t },
@@ -35,7 +34,6 @@ pub(super) fn call(row: Do) -> Option<Call<ToolPtr, u32>> {
     })
 }
 
-// .. of one on more than two links.
 fn whole_call(row: Do) -> Option<Call<ToolPtr, u32>> {
     match row {
         Do::DrainTaking(p, take) => Some(Call::DrainChain { p: at(p), take }),
@@ -49,7 +47,6 @@ fn whole_call(row: Do) -> Option<Call<ToolPtr, u32>> {
     }
 }
 
-// The calls of lines.
 fn calls_of(alloc: Global, lines: &[Line]) -> Vec<Call<ToolPtr, u32>> {
     let mut calls = Vec::new(alloc);
     for line in lines {
@@ -60,7 +57,6 @@ fn calls_of(alloc: Global, lines: &[Line]) -> Vec<Call<ToolPtr, u32>> {
     calls
 }
 
-// What a reply answers.
 pub(super) fn told(alloc: Global, reply: Reply<ToolPtr, u32>) -> String {
     match reply {
         Reply::Inserted(answer) => text(alloc, answer),
@@ -75,8 +71,8 @@ pub(super) fn told(alloc: Global, reply: Reply<ToolPtr, u32>) -> String {
     }
 }
 
-// Makes the calls of lines as one list, and looks whether these are their replies. The lines that are no calls of lists tell
-// what the arena shows then.
+// Runs the calls of lines as one list, and checks their replies. The other lines read the arena
+// afterwards.
 fn replies<S: SlotStack<Item = Slot>>(
     rt: &impl Abort,
     alloc: Global,
@@ -97,7 +93,6 @@ fn replies<S: SlotStack<Item = Slot>>(
     same(rt, what, replies.next().is_none(), true);
 }
 
-// How many replies tell of a new link.
 fn inserted(replies: &[Reply<ToolPtr, u32>]) -> usize {
     let mut count = 0usize;
     for reply in replies {
@@ -108,8 +103,8 @@ fn inserted(replies: &[Reply<ToolPtr, u32>]) -> usize {
     count
 }
 
-// Two insertions as one list: whether there is one link more for each reply that tells of one. Where memory for the list or the
-// replies is refused none is made.
+// Makes two insertions as one list, or none if memory for the list or the replies is refused.
+// Returns whether there is one more link for each reply that reports one.
 pub(super) fn two_calls<S: SlotStack<Item = Slot>>(
     alloc: Global,
     arena: &mut ChainsOver<S>,
@@ -124,7 +119,7 @@ pub(super) fn two_calls<S: SlotStack<Item = Slot>>(
     Ok(arena.len() == before.saturating_add(inserted(&replies)))
 }
 
-// What the calls are about, the calls with their replies, and the links that are shown after all of them.
+// A name, the calls with their replies, and the reads after them.
 type List = (&'static str, &'static [Line]);
 
 // Six links in a cycle.
@@ -140,7 +135,8 @@ const CYCLE: List = (
     ],
 );
 
-// Lists of calls, each row on a new arena. The last one is the cycle, of which an exchange makes two, and another one again.
+// Lists of calls; each static runs on a new arena. The last begins with the cycle, which one
+// exchange splits and another merges.
 static RUN: [List; 1] = [(
     "a run of calls",
     &[
@@ -231,7 +227,6 @@ static OVERFLOWS: [List; 1] = [(
 
 static EXCHANGES: [List; 3] = [CYCLE, SPLIT, MERGED];
 
-// Further lists on the cycle.
 const SPLIT: List = (
     "two cycles",
     &[
@@ -254,8 +249,8 @@ const MERGED: List = (
     ],
 );
 
-// The calls that change links, each with every reply that it gives where there is memory, in an arena with a maximum of
-// three.
+// Each call that changes links, with each reply but allocation failures and overflows, under a
+// maximum of three.
 static EVERY_REPLY: List = (
     "a maximum of three",
     &[
@@ -302,7 +297,7 @@ static EVERY_REPLY: List = (
     ],
 );
 
-// Over a stack that refuses every other growth.
+// Runs over a stack that refuses every other growth.
 static REFUSED: [List; 1] = [(
     "the first of two calls is refused, and the second is not",
     &[
@@ -312,7 +307,6 @@ static REFUSED: [List; 1] = [(
     ],
 )];
 
-// The lists.
 fn lists() -> [&'static [List]; 5] {
     [&RUN, &RENUMBERED, &BEHIND_HOLES, &OVERFLOWS, &EXCHANGES]
 }
@@ -321,7 +315,7 @@ fn every_reply() -> &'static List {
     &EVERY_REPLY
 }
 
-// Lists one after another, on a new arena.
+// Runs lists one after another on a new arena.
 fn check_together<S: SlotStack<Item = Slot>>(rt: &impl Abort, alloc: Global, together: &[List]) {
     let mut arena: ChainsOver<S> = fresh(alloc);
     for list in together {
@@ -329,19 +323,16 @@ fn check_together<S: SlotStack<Item = Slot>>(rt: &impl Abort, alloc: Global, tog
     }
 }
 
-// All lists.
 pub(super) fn check_lists<S: SlotStack<Item = Slot>>(rt: &impl Abort, alloc: Global) {
     for together in &lists() {
         check_together::<S>(rt, alloc, together);
     }
 }
 
-// .. and the list of which the first call is refused.
 pub(super) fn check_refused_list<S: SlotStack<Item = Slot>>(rt: &impl Abort, alloc: Global) {
     check_together::<S>(rt, alloc, &REFUSED);
 }
 
-// All calls on an arena with a maximum of three.
 pub(super) fn check_every_reply<S: LimitStack<Item = Slot>>(rt: &impl Abort, alloc: Global) {
     let mut arena: ChainsOver<S> = limited(rt, alloc, 3);
     replies(rt, alloc, &mut arena, every_reply());

@@ -1,4 +1,4 @@
-//! Chains laid out in place, one after another.
+//! Tests of canonical compressions, which arrange chains in place one after another.
 
 use super::scripts::{Do, Kind, Line, Script};
 use super::{ChainsOver, Slot, fresh, generation, lone_links, remove, same, text};
@@ -8,7 +8,6 @@ use chain_arena::{ChainArena, ChainArenaTrait, LinkNoGen};
 use std::alloc::Global;
 use std::process::Abort;
 
-// Compresses, and tells the work.
 pub(super) fn counted<S: SlotStack<Item = Slot>>(
     arena: &mut ChainsOver<S>,
     reset: bool,
@@ -16,7 +15,7 @@ pub(super) fn counted<S: SlotStack<Item = Slot>>(
     arena.compress_canonical_counted(reset)
 }
 
-// .. how many links were placed.
+// Compresses, and returns the number of links placed.
 pub(super) fn placed<S: SlotStack<Item = Slot>>(
     arena: &mut ChainsOver<S>,
     reset: bool,
@@ -25,10 +24,10 @@ pub(super) fn placed<S: SlotStack<Item = Slot>>(
     (told, work.placed)
 }
 
-// The pointers that each link had and has.
+// The old and the new pointer of each link.
 type Moves = Vec<(ToolPtr, ToolPtr)>;
 
-// The moves that the closure of a compression sees.
+// Returns the moves that a compression reports to its closure.
 pub(super) fn moves_seen<S: SlotStack<Item = Slot>>(
     alloc: Global,
     arena: &mut ChainsOver<S>,
@@ -41,7 +40,7 @@ pub(super) fn moves_seen<S: SlotStack<Item = Slot>>(
     (told, moves)
 }
 
-// The moves that the call answers that lists them.
+// Returns the moves that a compression lists.
 pub(super) fn moves_listed<S: SlotStack<Item = Slot>>(
     alloc: Global,
     arena: &mut ChainsOver<S>,
@@ -50,7 +49,8 @@ pub(super) fn moves_listed<S: SlotStack<Item = Slot>>(
     arena.compress_canonical_moves(alloc, reset)
 }
 
-// Carries all links of an arena over to another. Named at any pointer and value, the types cost its proof less.
+// Transfers all links of an arena to another. Generic over pointers and values, the types cost its
+// proof less.
 pub(super) fn carry_over<P: PtrKey, T: Drop, S: SlotStack<Item = ArenaSlot<P, LinkNoGen<P, T>>>>(
     source: &mut ChainArena<P, T, S>,
     target: &mut ChainArena<P, T, S>,
@@ -59,8 +59,8 @@ pub(super) fn carry_over<P: PtrKey, T: Drop, S: SlotStack<Item = ArenaSlot<P, Li
     target.transfer_canonical_reallocating(now, source, |_, value, _| value.allow())
 }
 
-// Compresses one clone and carries another over to a new arena, with the generation that the compression gives. Returns whether
-// both show the same, and what they show.
+// Compresses one clone, and transfers another with the generation of the compression. Returns
+// whether both have the same text, and the text.
 pub(super) fn both_arranged<S: SlotStack<Item = Slot>>(
     alloc: Global,
     arena: &ChainsOver<S>,
@@ -77,7 +77,7 @@ pub(super) fn both_arranged<S: SlotStack<Item = Slot>>(
     (answer.is_ok() && is_same, shown)
 }
 
-// .. of so many lone links, with generation 7: the answer, and the arena that they come from then.
+// Transfers lone links to an arena with generation 7. Returns the result and the source then.
 pub(super) fn carried_in<S: SlotStack<Item = Slot>>(
     alloc: Global,
     target: &mut ChainsOver<S>,
@@ -88,7 +88,7 @@ pub(super) fn carried_in<S: SlotStack<Item = Slot>>(
     text(alloc, (answer, &source))
 }
 
-// A chain of 2, 4 and 1, of which 1 came last, and 3 alone.
+// A chain of 2, 4 and 1, of which 1 was inserted last, and a lone link 3.
 const SCATTERED: Script = (
     "scattered chains",
     4,
@@ -137,7 +137,7 @@ const BEHIND_A_HOLE: Script = (
     ],
 );
 
-// Scripts, and what follows on them.
+// Scripts, and lines that follow them.
 static LAYOUTS: [(Script, &[&[Line]]); 6] = [
     (
         BEHIND_A_HOLE,
@@ -235,13 +235,12 @@ static LAYOUTS: [(Script, &[&[Line]]); 6] = [
     ),
 ];
 
-// All of them.
 pub(super) fn layouts() -> &'static [(Script, &'static [&'static [Line]])] {
     &LAYOUTS
 }
 
-// Compresses so many lone links behind as many holes, and tells whether the work stays within its bound, and places each
-// link once.
+// Compresses lone links behind as many holes. Returns whether the work is within its bound and
+// places each link once.
 fn within_bound<S: SlotStack<Item = Slot>>(alloc: Global, count: u32, reset: bool) -> bool {
     let mut arena: ChainsOver<S> = lone_links(alloc, count.saturating_mul(2));
     for k in 1..=count {
@@ -256,7 +255,6 @@ fn within_bound<S: SlotStack<Item = Slot>>(alloc: Global, count: u32, reset: boo
     work.placed == links && work.touched <= bound
 }
 
-// .. few and many.
 pub(super) fn check_bounds<S: SlotStack<Item = Slot>>(rt: &impl Abort, alloc: Global) {
     let few = within_bound::<S>(alloc, 100, false);
     let many = within_bound::<S>(alloc, 100_000, true);

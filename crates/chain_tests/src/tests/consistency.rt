@@ -1,4 +1,4 @@
-//! Plain arenas of links, of which those whose interlinks agree become chain arenas.
+//! Tests of plain arenas of links, which become chain arenas if their interlinks are consistent.
 
 use super::scripts::{Do, Kind, Line, plays};
 use super::{At, ChainsOver, Slot, add_plain, at, chained, fresh_plain, same};
@@ -10,8 +10,8 @@ use std::process::Abort;
 
 type Plain<S> = Arena<ToolPtr, LinkNoGen<ToolPtr, u32>, S>;
 
-// A plain arena of links that name these indexes, 0 for none, as the one before and the one after; the value is 7. Some are
-// gone again.
+// Returns a plain arena of links of the value 7 with these previous and next indexes, 0 for none.
+// The links in `gone` are removed.
 fn plain<S: SlotStack<Item = Slot>>(alloc: Global, links: &[At], gone: &[u32]) -> Plain<S> {
     let mut arena: Plain<S> = fresh_plain(alloc);
     for link in links {
@@ -23,7 +23,8 @@ fn plain<S: SlotStack<Item = Slot>>(alloc: Global, links: &[At], gone: &[u32]) -
     arena
 }
 
-// Interlinks, which of the links are gone again, and whether the interlinks agree: a link that is gone is named by none.
+// Interlinks, removed links, and whether the interlinks are consistent: no link may name a removed
+// one.
 static ROWS: [(&str, &[At], &[u32], bool); 16] = [
     ("no link", &[], &[], true),
     ("two in a row", &[(0, 2), (1, 0)], &[], true),
@@ -50,19 +51,18 @@ static ROWS: [(&str, &[At], &[u32], bool); 16] = [
 
 const REFUSAL: &str = "interlink transitivity does not hold";
 
-// How many links there are, whether their interlinks agree, and how their arena is refused.
+// Returns the number of links, whether they are consistent, and the error of the conversion.
 fn agreement<S: SlotStack<Item = Slot>>(arena: Plain<S>) -> (usize, bool, Option<&'static str>) {
     let count = arena.len();
     let agree = links_agree(&arena);
     (count, agree, chained(arena).err())
 }
 
-// All rows. A body of its own names them, since each step of a body lists what the body names.
+// Returns the rows. Only this body names them, since each step of a body lists what the body names.
 fn rows() -> &'static [(&'static str, &'static [At], &'static [u32], bool)] {
     &ROWS
 }
 
-// Each row.
 pub(super) fn check_rows<S: SlotStack<Item = Slot>>(rt: &impl Abort, alloc: Global) {
     for row in rows() {
         let (what, links, gone, agree) = *row;
@@ -73,8 +73,8 @@ pub(super) fn check_rows<S: SlotStack<Item = Slot>>(rt: &impl Abort, alloc: Glob
     }
 }
 
-// A row of two and a ring of one, between which two links are gone, of which the last freed index is used first, and the other
-// one next.
+// A chain of two and a ring of one beside two free slots. The last freed index is used first, then
+// the other.
 static ACCEPTED: [Line; 5] = [
     (
         Do::Debug,
@@ -92,14 +92,13 @@ static ACCEPTED: [Line; 5] = [
     ),
 ];
 
-// A plain arena of those links that is accepted.
 fn accepted<S: SlotStack<Item = Slot>>(rt: &impl Abort, alloc: Global) -> ChainsOver<S> {
     let links = [(0, 3), (0, 0), (1, 0), (0, 0), (5, 5)];
     let arena = plain::<S>(alloc, &links, &[4, 2]);
     chained(arena).expect(rt, "interlinks that agree")
 }
 
-// Indexes, generations and interlinks stay, and so do the counter and the freed list.
+// The conversion keeps indexes, generations, interlinks, counter and freed list.
 pub(super) fn check_accepted<S: SlotStack<Item = Slot>>(rt: &impl Abort, alloc: Global) {
     let mut arena: ChainsOver<S> = accepted(rt, alloc);
     plays(rt, alloc, "accepted", &mut arena, &ACCEPTED);

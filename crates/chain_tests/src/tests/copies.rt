@@ -1,4 +1,5 @@
-//! Copies of chain arenas: what they have, what their closures saw, and when one is refused.
+//! Tests of copies of chain arenas: what they contain, what their closures are given, and when one
+//! is refused.
 
 use super::failing_stack::Rationed;
 use super::fallible_insertion::add;
@@ -10,7 +11,7 @@ use chain_arena::{ChainArenaTrait, LinkInsertKind, LinkNoGen};
 use std::alloc::Global;
 use std::process::Abort;
 
-// The pointer of the next link in a clone, all links there then, and the maximum.
+// Returns the next pointer in a clone, the clone then, and its maximum.
 pub(super) fn cloned<S: SlotStack<Item = Slot>>(alloc: Global, arena: &ChainsOver<S>) -> String {
     match arena.clone(alloc) {
         Ok(mut copy) => {
@@ -21,7 +22,7 @@ pub(super) fn cloned<S: SlotStack<Item = Slot>>(alloc: Global, arena: &ChainsOve
     }
 }
 
-// A chain of so many links, of which the second is removed.
+// Returns a chain of `count` links without the second.
 pub(super) fn with_a_hole<S: SlotStack<Item = Slot>>(alloc: Global, count: u32) -> ChainsOver<S> {
     let mut arena: ChainsOver<S> = fresh(alloc);
     let mut kind = LinkInsertKind::Disconnected;
@@ -32,11 +33,11 @@ pub(super) fn with_a_hole<S: SlotStack<Item = Slot>>(alloc: Global, count: u32) 
     arena
 }
 
-// What a closure saw of a copied link.
+// What a closure of a copy is given.
 type Seen = Vec<(ToolPtr, LinkNoGen<ToolPtr, u32>)>;
 
-// Copies so many links with a hole between them, and tells what the closure saw. It answers ten times the number of its call
-// with the value added.
+// Copies a chain of `count` links without the second, and returns what the closure is given. It
+// adds ten times the number of its call to each value.
 pub(super) fn copied_over<S: SlotStack<Item = Slot>>(
     alloc: Global,
     target: &mut ChainsOver<S>,
@@ -53,7 +54,7 @@ pub(super) fn copied_over<S: SlotStack<Item = Slot>>(
     text(alloc, (answer, seen))
 }
 
-// .. an arena to a plain one.
+// Copies an arena to a plain one by the same closure.
 fn copied_plain<R: SlotStack<Item = Slot>, S: SlotStack<Item = ArenaSlot<ToolPtr, u32>>>(
     alloc: Global,
     source: &ChainsOver<R>,
@@ -69,7 +70,6 @@ fn copied_plain<R: SlotStack<Item = Slot>, S: SlotStack<Item = ArenaSlot<ToolPtr
     (answer, seen)
 }
 
-// The value of an entry.
 fn value_of<S: SlotStack<Item = ArenaSlot<ToolPtr, u32>>>(
     arena: &Arena<ToolPtr, u32, S>,
     p: At,
@@ -77,8 +77,9 @@ fn value_of<S: SlotStack<Item = ArenaSlot<ToolPtr, u32>>>(
     arena.get(at(p)).copied()
 }
 
-// .. the links 1 and 3 to a plain one, and once more: what is told each time, and between these how many entries there are, the
-// room for them and the counter; the pointer of the next entry there, and the values at both indexes then.
+// Copies the links 1 and 3 to a plain arena twice.
+// Returns both results, between them the number of entries, the capacity and the counter, and then
+// the next pointer and the values at both indexes.
 pub(super) fn copied_twice<S: SlotStack<Item = Slot>, R: SlotStack<Item = ArenaSlot<ToolPtr, u32>>>(
     alloc: Global,
     target: &mut Arena<ToolPtr, u32, R>,
@@ -92,7 +93,7 @@ pub(super) fn copied_twice<S: SlotStack<Item = Slot>, R: SlotStack<Item = ArenaS
     text(alloc, ((first, left, second), (next, values)))
 }
 
-// A row of three whose second is gone.
+// A chain of three without the second.
 const HOLE: Script = (
     "a row of three without the second",
     3,
@@ -131,12 +132,11 @@ static COPIES: [(Script, &[&[Line]]); 2] = [
     ),
 ];
 
-// Both.
 pub(super) fn copies() -> &'static [(Script, &'static [&'static [Line]])] {
     &COPIES
 }
 
-// A copy to a plain arena that refuses its first growth: nothing has changed then, and the second one is made.
+// Checks that a refused copy to a plain arena changes nothing, and that a second one succeeds.
 pub(super) fn check_refused_copy<
     S: SlotStack<Item = Slot>,
     R: SlotStack<Item = ArenaSlot<ToolPtr, u32>>,
@@ -149,7 +149,7 @@ pub(super) fn check_refused_copy<
     same(rt, "refused, and copied", told.as_str(), want);
 }
 
-// What a plain arena shows: how many entries it has, its room and its counter, and its slots.
+// Returns the length, capacity, counter and slots of a plain arena.
 fn plain_shown<R: SlotStack<Item = ArenaSlot<ToolPtr, u32>>>(
     alloc: Global,
     arena: &Arena<ToolPtr, u32, R>,
@@ -158,7 +158,7 @@ fn plain_shown<R: SlotStack<Item = ArenaSlot<ToolPtr, u32>>>(
     (text(alloc, size), slots_of(alloc, arena.backing()))
 }
 
-// A plain arena of the values 1 to 8, of which three are removed: the freed list goes from 3 to 5 and 2.
+// Returns a plain arena of the values 1 to 8 without three. The freed list is 3, 5, 2.
 fn plain_with_holes<R: SlotStack<Item = ArenaSlot<ToolPtr, u32>>>(
     alloc: Global,
 ) -> Arena<ToolPtr, u32, R> {
@@ -177,8 +177,8 @@ fn plain_with_holes<R: SlotStack<Item = ArenaSlot<ToolPtr, u32>>>(
     arena
 }
 
-// A copy of many links to a plain arena with holes, which refuses the growth: nothing has changed, and the next entry comes to the
-// first freed index.
+// Checks that a refused copy to a plain arena with holes changes nothing. The next entry is stored
+// at the first freed index.
 pub(super) fn check_refused_beside_holes<
     S: SlotStack<Item = Slot>,
     R: SlotStack<Item = ArenaSlot<ToolPtr, u32>>,
@@ -204,7 +204,7 @@ pub(super) fn check_refused_beside_holes<
     same(rt, "the first freed index", next, Ok(at((3, 5))));
 }
 
-// .. to one with a maximum of two.
+// Checks that both copies to a plain arena with a maximum of two are refused.
 pub(super) fn check_plain<S: SlotStack<Item = Slot>, R: LimitStack<Item = ArenaSlot<ToolPtr, u32>>>(
     rt: &impl Abort,
     alloc: Global,

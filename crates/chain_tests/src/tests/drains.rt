@@ -1,4 +1,4 @@
-//! Chains, and all links, that are removed one after another.
+//! Drains of chains and of all links.
 
 ghost use Rattle.std.specs.Prelude.{◌≡◌, [], length};
 ghost use Rattle.std.specs.Iterator.{IsFinite};
@@ -13,7 +13,7 @@ use std::alloc::Global;
 use std::fmt::Debug;
 use std::mem::forget;
 
-// Removes all links: none is left, and the counter goes up once for each.
+// Removes all links. None is left, and the counter increases once for each.
 pub(super) fn remove_all<S: SlotStack<Item = Slot>>(arena: &mut ChainsOver<S>)
     ensures none { entries (values_of arena.new) ≡ [] }
     ensures counts { CountsUp after32 (length (entries (values_of arena.old))) arena.old arena.new }
@@ -21,7 +21,7 @@ pub(super) fn remove_all<S: SlotStack<Item = Slot>>(arena: &mut ChainsOver<S>)
     drop(arena.drain());
 }
 
-// When a drain ends: where nothing is left, or behind the first link, whereupon it is dropped or forgotten.
+// When a drain ends: when it is empty, or after the first link, dropped or forgotten.
 #[derive(Clone, Copy)]
 pub(super) enum Ends {
     Empty,
@@ -29,8 +29,8 @@ pub(super) enum Ends {
     Forgotten,
 }
 
-// What a drain yields. All drains do it here, since each place that hands a drain to a body that knows it as an iterator alone
-// is dear.
+// Returns what a drain yields. All drains use it, since each place that passes one to code generic
+// over iterators is costly.
 fn yielded<T: Debug + Drop, I: Iterator<Item = T> + Drop>(
     alloc: Global,
     links: I,
@@ -45,7 +45,7 @@ fn yielded<T: Debug + Drop, I: Iterator<Item = T> + Drop>(
     }
 }
 
-// The first link that it yields, whereupon it is dropped or forgotten.
+// Returns the first link, and drops or forgets the drain.
 fn first_of<T: Drop, I: Iterator<Item = T> + Drop>(links: I, is_forgotten: bool) -> Option<T>
     requires { I.can_next links }
 {
@@ -57,7 +57,6 @@ fn first_of<T: Drop, I: Iterator<Item = T> + Drop>(links: I, is_forgotten: bool)
     first
 }
 
-// What a drain of a chain yields.
 pub(super) fn drained_chain<S: SlotStack<Item = Slot>>(
     alloc: Global,
     arena: &mut ChainsOver<S>,
@@ -70,7 +69,6 @@ pub(super) fn drained_chain<S: SlotStack<Item = Slot>>(
     }
 }
 
-// What a drain of all links yields.
 pub(super) fn drained<S: SlotStack<Item = Slot>>(
     alloc: Global,
     arena: &mut ChainsOver<S>,

@@ -1,4 +1,4 @@
-//! Places for links: used, given up and forgotten.
+//! Vacant entries for new links: filled, dropped and forgotten.
 
 ghost use Rattle.std.specs.Prelude.{◌≡◌, ◌↔◌, IfOk, OnOk, OnErr, Err};
 ghost use Rattle.arena_ptr.specs.Indexes.{number_of_inx32};
@@ -19,7 +19,7 @@ use std::alloc::Global;
 use std::mem;
 use std::process::Abort;
 
-// A link in a place that was made for it, which is what an insertion in one call is.
+// Inserts a link by a vacant entry, with the effect of an insertion in one call.
 pub(super) fn insert_by_entry<S: SlotStack<Item = Slot>>(
     arena: &mut ChainsOver<S>,
     kind: LinkInsertKind<ToolPtr>,
@@ -40,7 +40,7 @@ pub(super) fn insert_by_entry<S: SlotStack<Item = Slot>>(
     Ok(p)
 }
 
-// The pointer of a place that is given up.
+// Drops a vacant entry, and returns its pointer.
 pub(super) fn give_up<S: SlotStack<Item = Slot>>(
     arena: &mut ChainsOver<S>,
     kind: LinkInsertKind<ToolPtr>,
@@ -54,7 +54,7 @@ pub(super) fn give_up<S: SlotStack<Item = Slot>>(
     }
 }
 
-// A place that is forgotten, or how it is refused.
+// Forgets a vacant entry, or returns its error.
 pub(super) fn forget<S: SlotStack<Item = Slot>>(
     arena: &mut ChainsOver<S>,
     kind: LinkInsertKind<ToolPtr>,
@@ -68,7 +68,7 @@ pub(super) fn forget<S: SlotStack<Item = Slot>>(
     }
 }
 
-// The insertion of a link of a kind that may be inserted. `None`: it may not be.
+// Inserts a link, if `can_insert` allows its kind.
 pub(super) fn insert_asked<S: SlotStack<Item = Slot>>(
     arena: &mut ChainsOver<S>,
     kind: LinkInsertKind<ToolPtr>,
@@ -81,7 +81,7 @@ pub(super) fn insert_asked<S: SlotStack<Item = Slot>>(
     }
 }
 
-// .. by a place for it.
+// Inserts a link by a vacant entry, if `can_insert` allows its kind.
 pub(super) fn insert_by_any_entry<S: SlotStack<Item = Slot>>(
     arena: &mut ChainsOver<S>,
     kind: LinkInsertKind<ToolPtr>,
@@ -100,7 +100,7 @@ pub(super) fn insert_by_any_entry<S: SlotStack<Item = Slot>>(
     }
 }
 
-// How a place for a link of a kind is refused, by growth and within the capacity.
+// Returns the errors of a vacant entry by growth and within the capacity.
 pub(super) fn place_refusals<S: SlotStack<Item = Slot>>(
     arena: &mut ChainsOver<S>,
     kind: LinkInsertKind<ToolPtr>,
@@ -113,7 +113,8 @@ pub(super) fn place_refusals<S: SlotStack<Item = Slot>>(
     [growing, within]
 }
 
-// A maximum of two is not carried over, and a copy of three slots is refused. Two links fill an arena with such a maximum, ...
+// A clone does not take over a maximum of two, a copy of three slots is refused, and two links fill
+// the arena.
 static FULL: [Line; 14] = [
     (Do::Insert(Kind::Disconnected, 1), "Ok(P0[1](2))"),
     (Do::Maximum, "Some(2)"),
@@ -149,19 +150,19 @@ static FULL: [Line; 14] = [
     ),
 ];
 
-// .. and do still when calls were refused.
+// It is still full after refused calls.
 static FULL_STILL: [Line; 3] = [
     (Do::Len, "2"),
     (Do::HasRoom(3), "false"),
     (Do::Maximum, "Some(2)"),
 ];
 
-// Both.
 fn in_two_slots() -> [&'static [Line]; 2] {
     [&FULL, &FULL_STILL]
 }
 
-// What a kind asks is tested before the room, and nothing changes.
+// Checks that a kind's requirement is tested before the capacity, and that refused calls change
+// nothing.
 pub(super) fn check_full<S: LimitStack<Item = Slot>>(rt: &impl Abort, alloc: Global) {
     let [full, still] = in_two_slots();
     let mut arena: ChainsOver<S> = limited(rt, alloc, 2);

@@ -1,12 +1,12 @@
-//! Links added where memory may be refused once.
+//! Insertions where one allocation may be refused.
 
 use super::{ChainsOver, Slot, remove};
 use arena_base::{ArenaSlot, ArenaTrait};
 use arena_ptr::{PtrKey, SlotStack};
 use chain_arena::{ChainArena, ChainArenaTrait, LinkInsertKind, LinkNoGen};
 
-// Adds a number, twice, if it has to be: where memory is refused once, there is room then. Tells its pointer, or else the
-// invalid one.
+// Inserts a number, on a second attempt if the first allocation is refused, and returns its pointer
+// or the invalid one.
 pub(super) fn add<P: PtrKey, S: SlotStack<Item = ArenaSlot<P, LinkNoGen<P, u32>>>>(
     arena: &mut ChainArena<P, u32, S>,
     kind: LinkInsertKind<P>,
@@ -20,7 +20,7 @@ pub(super) fn add<P: PtrKey, S: SlotStack<Item = ArenaSlot<P, LinkNoGen<P, u32>>
     P::invalid()
 }
 
-// A chain of links up to the capacity, each with its index as its value; of 64, or of two.
+// Makes a chain up to the capacity, of 2 to 64 links, each with its index as its value.
 pub(super) fn fill<P: PtrKey, S: SlotStack<Item = ArenaSlot<P, LinkNoGen<P, u32>>>>(
     arena: &mut ChainArena<P, u32, S>,
 ) {
@@ -32,7 +32,8 @@ pub(super) fn fill<P: PtrKey, S: SlotStack<Item = ArenaSlot<P, LinkNoGen<P, u32>
     }
 }
 
-// A chain of eight links, each with its index as its value, of which three are removed: the freed list goes from 3 to 5 and 2.
+// Makes a chain of eight links, each with its index as its value, without three. The freed list is
+// 3, 5, 2.
 pub(super) fn dig<S: SlotStack<Item = Slot>>(arena: &mut ChainsOver<S>) {
     let mut kind = LinkInsertKind::Disconnected;
     for t in 1..=8 {

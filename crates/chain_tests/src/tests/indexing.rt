@@ -1,4 +1,4 @@
-//! Values by pointers and indexes that are valid.
+//! Values by valid pointers and indexes.
 
 ghost use Rattle.std.specs.Prelude.{◌≡◌};
 ghost use Rattle.arena_ptr.specs.ToolPtr.{key_of};
@@ -9,7 +9,7 @@ use super::{ChainsOver, Slot};
 use arena_base::ArenaTrait;
 use arena_ptr::{Inx32, Ptr, SlotStack, ToolPtr};
 
-// The value of a pointer, and of its index, where it is valid.
+// Returns the value by a pointer and by its index, if the pointer is valid.
 pub(super) fn value_at<S: SlotStack<Item = Slot>>(
     arena: &ChainsOver<S>,
     p: ToolPtr,
@@ -21,7 +21,7 @@ pub(super) fn value_at<S: SlotStack<Item = Slot>>(
     }
 }
 
-// Writes one, and tells whether it is valid. Nothing else changes.
+// Writes a value, and returns whether the pointer is valid. Nothing else changes.
 pub(super) fn write_at<S: SlotStack<Item = Slot>>(
     arena: &mut ChainsOver<S>,
     p: ToolPtr,

@@ -1,4 +1,4 @@
-//! What a chain arena's own calls answer, and what they leave.
+//! Tables of the inherent calls of a chain arena.
 
 use super::At;
 use super::scripts::{Do, Kind, Script};
@@ -8,16 +8,15 @@ const THREE: [At; 2] = [(1, 2), (2, 3)];
 
 const FOUR: [At; 3] = [(1, 2), (2, 3), (3, 4)];
 
-// Links tied crosswise: 3, 1, 4 and 2 in a row.
+// The chain 3, 1, 4, 2.
 const CROSSED: [At; 3] = [(4, 2), (3, 1), (1, 4)];
 
-// A ring of three.
 const ROUND: [At; 3] = [(1, 2), (2, 3), (3, 1)];
 
 // The two links that are left of three in a row without the second.
 const TWO_LEFT: &str = "[(P0[1](2), {(start), 3} 1), (P0[3](2), {1, (end)} 3)]";
 
-// Walks: from a link on to the end, and then from the link before it back to the start; once round a ring.
+// Walks to the end and then from the link before back to the start, or once around a ring.
 static WALKS: [Script; 4] = [
     (
         "a row of three, of which the middle one is taken out again",
@@ -77,7 +76,6 @@ static WALKS: [Script; 4] = [
     ),
 ];
 
-// Further walks.
 static FURTHER_WALKS: [Script; 3] = [
     (
         "no walk from another generation or an index beyond the last",
@@ -117,7 +115,7 @@ static FURTHER_WALKS: [Script; 3] = [
     ),
 ];
 
-// Loops over all links, and values by what is known to be valid.
+// Loops over all links, and values by valid pointers and indexes.
 static LOOPS: [Script; 2] = [
     (
         "values, of a chain of two whose second is gone and a lone link",
@@ -146,7 +144,6 @@ static LOOPS: [Script; 2] = [
     ),
 ];
 
-// Further loops.
 static FURTHER_LOOPS: [Script; 2] = [
     (
         "no links",
@@ -176,7 +173,7 @@ static FURTHER_LOOPS: [Script; 2] = [
     ),
 ];
 
-// Chains drained: wholly, and up to a first link.
+// Drains of a chain, whole or up to a first link.
 static CHAIN_DRAINS: [Script; 4] = [
     (
         "a linear chain drained from its start",
@@ -237,7 +234,6 @@ static CHAIN_DRAINS: [Script; 4] = [
     ),
 ];
 
-// Further chains drained.
 static FURTHER_CHAIN_DRAINS: [Script; 3] = [
     (
         "no walk and no drain of a stale pointer",
@@ -282,7 +278,7 @@ static FURTHER_CHAIN_DRAINS: [Script; 3] = [
     ),
 ];
 
-// All links drained.
+// Drains of all links.
 static DRAINS: [Script; 3] = [
     (
         "all links drained by rising index",
@@ -325,7 +321,6 @@ static DRAINS: [Script; 3] = [
     ),
 ];
 
-// Further drains of all.
 static FURTHER_DRAINS: [Script; 3] = [
     (
         "three in a row, of which a drain yields one: dropped, it takes the others",
@@ -364,7 +359,7 @@ static FURTHER_DRAINS: [Script; 3] = [
     ),
 ];
 
-// Places for links, and the first link of a new arena by each call that takes any kind.
+// Vacant entries, and the first link of a new arena by each call that takes any kind.
 static PLACES: [Script; 6] = [
     (
         "a place that is given up is there again, and a link comes to it",
@@ -422,8 +417,8 @@ static PLACES: [Script; 6] = [
     ),
 ];
 
-// All tables. A body of its own names them, since each step of a body lists what the body names, and each is small, since what a
-// body lists of a static costs by the square of its size.
+// Returns all tables. Only this body names them, since each step of a body lists what the body
+// names. Each is small, since listing a static costs the square of its size.
 pub(super) fn tables() -> [&'static [Script]; 9] {
     [
         &WALKS,

@@ -1,4 +1,4 @@
-//! The calls that a chain arena has of its own, as rows of tables.
+//! The inherent calls of a chain arena, as rows of tables.
 
 use super::call_lists::{kind, two_calls};
 use super::canonical::{both_arranged, carried_in, counted, moves_listed, moves_seen, placed};
@@ -15,7 +15,7 @@ use arena_base::ArenaTrait;
 use arena_ptr::SlotStack;
 use std::alloc::Global;
 
-// The answer to a call of the arena's own: to one on a value, a walk, or a loop over all links, ...
+// Runs a call on a value, a walk, or a loop over all links.
 fn own_answer<S: SlotStack<Item = Slot>>(
     alloc: Global,
     arena: &mut ChainsOver<S>,
@@ -35,7 +35,7 @@ fn own_answer<S: SlotStack<Item = Slot>>(
     }
 }
 
-// .. to a canonical compression, ...
+// Runs a canonical compression.
 fn layout_answer<S: SlotStack<Item = Slot>>(
     alloc: Global,
     arena: &mut ChainsOver<S>,
@@ -51,7 +51,6 @@ fn layout_answer<S: SlotStack<Item = Slot>>(
     }
 }
 
-// Whether an arena that is born with room is empty, and has the room.
 fn born<S: SlotStack<Item = Slot>>(alloc: Global, n: usize) -> String {
     match ChainsOver::<S>::with_min_capacity(alloc, n) {
         Ok(arena) => text(alloc, arena.is_empty() && arena.capacity() >= n),
@@ -59,7 +58,7 @@ fn born<S: SlotStack<Item = Slot>>(alloc: Global, n: usize) -> String {
     }
 }
 
-// .. to what is tried where memory is refused, ...
+// Runs a call that is tested with refused allocations.
 fn growth_answer<S: SlotStack<Item = Slot>>(
     alloc: Global,
     arena: &mut ChainsOver<S>,
@@ -75,7 +74,6 @@ fn growth_answer<S: SlotStack<Item = Slot>>(
     }
 }
 
-// .. to a drain, ...
 fn drain_answer<S: SlotStack<Item = Slot>>(
     alloc: Global,
     arena: &mut ChainsOver<S>,
@@ -93,7 +91,7 @@ fn drain_answer<S: SlotStack<Item = Slot>>(
     }
 }
 
-// .. or a place for a link.
+// Runs an insertion by a vacant entry.
 fn place_answer<S: SlotStack<Item = Slot>>(
     alloc: Global,
     arena: &mut ChainsOver<S>,

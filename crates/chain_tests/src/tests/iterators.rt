@@ -1,4 +1,4 @@
-//! The iterators over all links and along chains, and what a loop shows of them.
+//! The iterators over all links and along chains, and what is proved of a loop over them.
 
 ghost use Rattle.std.specs.Prelude.{◌≡◌, IfOk, map};
 ghost use Rattle.arena_ptr.specs.Indexes.{number_of_inx32};
@@ -11,7 +11,7 @@ use chain_arena::LinkNoGen;
 use std::alloc::{AllocError, Global};
 use std::mem;
 
-// The indexes of all links.
+// Returns the indexes of all links.
 pub(super) fn indexes<S: SlotStack<Item = Slot>>(
     alloc: Global,
     arena: &ChainsOver<S>,
@@ -26,12 +26,10 @@ pub(super) fn indexes<S: SlotStack<Item = Slot>>(
     Ok(all)
 }
 
-// Each value with its pointer.
 pub(super) fn values<S: SlotStack<Item = Slot>>(alloc: Global, arena: &ChainsOver<S>) -> String {
     text_of_all(alloc, arena.iter())
 }
 
-// All links of an iterator.
 fn text_of_links<S: SlotStack<Item = Slot>>(
     alloc: Global,
     links: Iter<'_, ToolPtr, LinkNoGen<ToolPtr, u32>, S>,
@@ -39,11 +37,12 @@ fn text_of_links<S: SlotStack<Item = Slot>>(
     text_of_all(alloc, links)
 }
 
-// Each link with its interlinks, by the call, over the arena itself, and of one that is used up, which leaves a new one.
+// Returns the links by the iterator call.
 pub(super) fn links<S: SlotStack<Item = Slot>>(alloc: Global, arena: &ChainsOver<S>) -> String {
     text_of_links(alloc, arena.iter_link_no_gen())
 }
 
+// Returns the links by iterating over a reference to the arena.
 pub(super) fn links_by_reference<S: SlotStack<Item = Slot>>(
     alloc: Global,
     arena: &ChainsOver<S>,
@@ -51,6 +50,7 @@ pub(super) fn links_by_reference<S: SlotStack<Item = Slot>>(
     text_of_links(alloc, arena.into_iter())
 }
 
+// Returns the links of an arena that is consumed, and leaves a new one.
 pub(super) fn links_used_up<S: SlotStack<Item = Slot>>(
     alloc: Global,
     arena: &mut ChainsOver<S>,
@@ -59,7 +59,7 @@ pub(super) fn links_used_up<S: SlotStack<Item = Slot>>(
     text_of_all(alloc, links.into_iter())
 }
 
-// The links that a walk from a pointer yields, each with its pointer, which is that of now.
+// Returns the links of a walk, each with its current pointer.
 pub(super) fn walk<S: SlotStack<Item = Slot>>(
     alloc: Global,
     arena: &ChainsOver<S>,

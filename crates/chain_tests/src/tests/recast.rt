@@ -1,4 +1,4 @@
-//! Values recast in their places, by rising index, up to one that refuses.
+//! Tests of values recast in place, by rising index, up to one that refuses.
 ghost use Rattle.std.specs.Prelude.{◌≡◌, OnErr, Err};
 
 use super::scripts::{Do, Kind};
@@ -9,7 +9,7 @@ use chain_arena::ChainArena;
 use std::alloc::Global;
 use std::process::Abort;
 
-// Adds ten to each number but two, which it refuses with itself.
+// Adds 10 to each number but 2, which it refuses with itself.
 struct AddTen;
 
 impl Recaster for AddTen {
@@ -26,7 +26,7 @@ impl Recaster for AddTen {
     }
 }
 
-// A number, and how often it was to be recast. No value can be cloned.
+// A number, and how often it was recast. No value can be cloned.
 #[derive(Debug, Drop)]
 struct Number(u32, u32);
 
@@ -39,19 +39,18 @@ impl Recast<u32> for Number {
     }
 }
 
-// One that was not to be recast yet.
 impl Numbered for Number {
     fn of(_: Global, n: u32) -> Number {
         Number(n, 0)
     }
 }
 
-// A lone link.
 const LONE: Kind = Kind::Disconnected;
 
-// Links with numbers, and what is told: the answer, the arena then and its counter. A refused recast leaves pointers, interlinks
-// and the counter, and by rising index the values before the refused one alone are new ones. The last are a row of 4 and 1 and a
-// ring of 3, between which a link is gone: the refused value comes last in its chain.
+// Calls, and the text of the result, the arena and its counter. A refused recast keeps pointers,
+// interlinks and the counter. Only values at lower indexes than the refused one are new.
+// The last row is a chain of 4 and 1 and a ring of 3, with a hole between. The refusal at 3 comes
+// before 4, the start of the chain.
 static ROWS: [(&[Do], &str); 7] = [
     (&[], "(Ok(()), {}, Gen32 { number: 2 })"),
     (
@@ -112,19 +111,16 @@ static ROWS: [(&[Do], &str); 7] = [
     ),
 ];
 
-// All of them.
 fn rows() -> &'static [(&'static [Do], &'static str)] {
     &ROWS
 }
 
-// Recasts an arena, and tells the answer, the arena then and its counter.
 fn recast<S: SlotStack<Item = SlotOf<Number>>>(alloc: Global, calls: &[Do]) -> String {
     let mut arena: ChainArena<ToolPtr, Number, S> = after(alloc, calls);
     let answer = arena.recast(&AddTen);
     text(alloc, (answer, &arena, arena.generation()))
 }
 
-// Each row.
 fn check_recasts<S: SlotStack<Item = SlotOf<Number>>>(rt: &impl Abort, alloc: Global) {
     for row in rows() {
         let told = recast::<S>(alloc, row.0);

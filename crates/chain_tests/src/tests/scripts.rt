@@ -1,4 +1,4 @@
-//! Calls on chain arenas as rows of tables, each with the text of its answer.
+//! Calls on chain arenas as rows of tables, each with the text of its result.
 
 use super::call_lists::{call, told};
 use super::copies::{cloned, copied_over};
@@ -10,7 +10,7 @@ use std::alloc::Global;
 use std::fmt::Debug;
 use std::process::Abort;
 
-// Where a new link comes, by pointers that are an index and a generation.
+// The kind of an insertion, by pointers that are an index and a generation.
 #[derive(Clone, Copy)]
 pub(super) enum Kind {
     Disconnected,
@@ -23,7 +23,7 @@ pub(super) enum Kind {
 // A call on a chain arena. A pointer is its index and its generation.
 #[derive(Clone, Copy)]
 pub(super) enum Do {
-    // Calls of lists of calls.
+    // Calls that lists of calls have.
     Insert(Kind, u32),
     InsertWithin(Kind, u32),
     Connect(At, At),
@@ -40,7 +40,7 @@ pub(super) enum Do {
     Reserve(usize),
     SetGeneration(u32),
     IncGeneration,
-    // The text of the arena, and other looks.
+    // The text of the arena, and other reads.
     Debug,
     Len,
     IsEmpty,
@@ -53,10 +53,10 @@ pub(super) enum Do {
     SlotsListed,
     Get(At),
     Remove(At),
-    // Copies: a clone, and what comes next in it; a copy over the arena of so many links in a row without the second.
+    // A clone, with its next link, and a copy of a chain of so many links without the second.
     Clone,
     CopyOver(u32),
-    // Values by what is valid, walks, and loops over all links.
+    // Values by valid pointers and indexes, walks, and loops over all links.
     Value(At),
     WriteValue(At, u32),
     WriteValueInx(u32, u32),
@@ -66,7 +66,7 @@ pub(super) enum Do {
     LinksByReference,
     LinksUsedUp,
     Indexes,
-    // A chain, or all links, drained: wholly, or up to a first one, whereupon the drain is dropped, or forgotten.
+    // Drains of a chain or of all links, whole or up to a first link and then dropped or forgotten.
     DrainChain(At),
     DrainChainOne(At),
     ForgetChainDrain(At),
@@ -74,23 +74,23 @@ pub(super) enum Do {
     DrainOne,
     ForgetDrain,
     RemoveAll,
-    // Places for links: given up, forgotten, refused by growth and within the capacity, and used by each call that gives one.
-    // An insertion that asks first.
+    // Vacant entries: dropped, forgotten, refused by growth and within the capacity, and filled. An
+    // insertion after `can_insert`.
     GiveUp(Kind),
     Forget(Kind),
     PlaceRefusals(Kind),
     InsertByEntry(Kind, u32),
     InsertByAnyEntry(Kind, u32),
     InsertAsked(Kind, u32),
-    // Canonical compressions: how many links were placed, all work, and the moves by a closure and by a list. A compression beside a
-    // transfer.
+    // Canonical compressions: placed links, all work, moves by a closure and as a list, and beside
+    // a transfer.
     Placed(bool),
     Counted(bool),
     MovesSeen(bool),
     MovesListed(bool),
     BothArranged,
-    // What is tried where memory is refused: links up to the capacity, links with holes among them, room at birth, so many lone links
-    // carried over to the arena, and two calls as one list.
+    // Calls that are tested with refused allocations: a full chain, holes, a minimum capacity, a
+    // transfer of lone links, and two calls as one list.
     Fill,
     Dig,
     Birth(usize),
@@ -98,13 +98,12 @@ pub(super) enum Do {
     TwoCalls,
 }
 
-// A call and the text of its answer.
 pub(super) type Line = (Do, &'static str);
 
-// What the lines are about, how many lone links there are at first, which of them are tied, and what follows.
+// A name, the number of lone links at first, the pairs that are connected, and lines.
 pub(super) type Script = (&'static str, u32, &'static [At], &'static [Line]);
 
-// The answer to a call on an arena over any stack: its reply, where it is one of lists of calls, ...
+// Runs a call: one of lists of calls, or another.
 pub(super) fn answer<S: SlotStack<Item = Slot>>(
     alloc: Global,
     arena: &mut ChainsOver<S>,
@@ -116,8 +115,8 @@ pub(super) fn answer<S: SlotStack<Item = Slot>>(
     }
 }
 
-// All slots as a text: of each its entry with the generation, or the freed index that it names. Memory is asked for twice, if it
-// has to be.
+// Returns the slots as a text: an entry with its generation, or the next freed index. Makes a
+// second attempt if the first allocation is refused.
 pub(super) fn slots_of<T: Copy + Debug, S: SlotStack<Item = ArenaSlot<ToolPtr, T>>>(
     alloc: Global,
     slots: &S,
@@ -137,7 +136,7 @@ pub(super) fn slots_of<T: Copy + Debug, S: SlotStack<Item = ArenaSlot<ToolPtr, T
     String::new(alloc)
 }
 
-// .. what the arena shows as a chain arena, or a copy of it, ...
+// Runs a read of the chain arena, or a copy.
 pub(super) fn look<S: SlotStack<Item = Slot>>(
     alloc: Global,
     arena: &mut ChainsOver<S>,
@@ -158,7 +157,7 @@ pub(super) fn look<S: SlotStack<Item = Slot>>(
     }
 }
 
-// .. and what it shows as an arena. What is called by a bound costs its proof a third of what the same costs at a type.
+// Runs a read by the trait. By a bound, calls cost their proof a third of what they cost at a type.
 fn trait_look<A: ArenaTrait<ToolPtr, u32>>(alloc: Global, arena: &mut A, row: Do) -> String {
     match row {
         Do::Len => text(alloc, arena.len()),
@@ -172,14 +171,14 @@ fn trait_look<A: ArenaTrait<ToolPtr, u32>>(alloc: Global, arena: &mut A, row: Do
     }
 }
 
-// A chain arena that answers calls.
+// A chain arena that runs calls.
 pub(super) trait Answers {
     fn fresh(alloc: Global) -> Self;
 
     fn answer(&mut self, alloc: Global, row: Do) -> String;
 }
 
-// Adds lone links, each with its index as its value, and ties each pair, the second after the first.
+// Inserts lone links, each with its index as its value, and connects each pair.
 fn begins<A: Answers>(rt: &impl Abort, alloc: Global, arena: &mut A, count: u32, pairs: &[At]) {
     for k in 1..=count {
         arena.answer(alloc, Do::Insert(Kind::Disconnected, k));
@@ -190,7 +189,6 @@ fn begins<A: Answers>(rt: &impl Abort, alloc: Global, arena: &mut A, count: u32,
     }
 }
 
-// Each line says its text.
 pub(super) fn plays<A: Answers>(
     rt: &impl Abort,
     alloc: Global,
@@ -204,7 +202,7 @@ pub(super) fn plays<A: Answers>(
     }
 }
 
-// The arena of a script after its lines.
+// Runs a script, and returns its arena.
 pub(super) fn played<A: Answers>(rt: &impl Abort, alloc: Global, script: Script) -> A {
     let (what, count, pairs, lines) = script;
     let mut arena = A::fresh(alloc);
@@ -213,14 +211,13 @@ pub(super) fn played<A: Answers>(rt: &impl Abort, alloc: Global, script: Script)
     arena
 }
 
-// Each script on a new arena.
 pub(super) fn plays_all<A: Answers + Drop>(rt: &impl Abort, alloc: Global, table: &[Script]) {
     for script in table {
         let _: A = played(rt, alloc, *script);
     }
 }
 
-// Each script on a new arena, and lines that follow on it; for each such list of lines anew.
+// Runs each list of lines on a new arena after its script.
 pub(super) fn plays_on<A: Answers + Drop>(
     rt: &impl Abort,
     alloc: Global,

@@ -8,15 +8,14 @@ use arena_ptr::{SlotStack, ToolPtr};
 use chain_arena::{ChainArena, LinkNoGen};
 use std::alloc::Global;
 
-// A value that a number of a table stands for.
+// A value that a table gives as a number.
 pub(super) trait Numbered {
     fn of(alloc: Global, n: u32) -> Self;
 }
 
-// A slot of a link of any value.
 pub(super) type SlotOf<T> = ArenaSlot<ToolPtr, LinkNoGen<ToolPtr, T>>;
 
-// The arena after some calls: insertions, removals, and a counter that is set.
+// Returns the arena after insertions, removals and settings of the counter.
 pub(super) fn after<T: Numbered + Drop, S: SlotStack<Item = SlotOf<T>>>(
     alloc: Global,
     calls: &[Do],

@@ -1,4 +1,4 @@
-//! What is tried of links of numbers, over each stack.
+//! Runs the tests of links of numbers over each stack.
 
 use super::call_lists::{check_every_reply, check_lists};
 use super::canonical::{check_bounds, layouts};
@@ -15,7 +15,7 @@ use arena_ptr::{ChunkStack, HeapStack, LimitStack, LimitedStack, SlotStack, Tool
 use std::alloc::Global;
 use std::process::Abort;
 
-// Walks, loops, places and drains, and layouts and their moves.
+// Runs the tables of inherent calls and of layouts.
 fn check_scripts<A: Answers + Drop>(rt: &impl Abort, alloc: Global) {
     for table in &tables() {
         plays_all::<A>(rt, alloc, table);
@@ -23,7 +23,6 @@ fn check_scripts<A: Answers + Drop>(rt: &impl Abort, alloc: Global) {
     plays_on::<A>(rt, alloc, layouts());
 }
 
-// What is tried over any stack.
 fn check_links<S: SlotStack<Item = Slot>>(rt: &impl Abort, alloc: Global) {
     check_rows::<S>(rt, alloc);
     check_accepted::<S>(rt, alloc);
@@ -34,7 +33,6 @@ fn check_links<S: SlotStack<Item = Slot>>(rt: &impl Abort, alloc: Global) {
     plays_on::<ChainsOver<S>>(rt, alloc, copies());
 }
 
-// .. over one that may have a maximum.
 fn check_limited_links<S: LimitStack<Item = Slot>>(rt: &impl Abort, alloc: Global) {
     check_full::<S>(rt, alloc);
     check_every_reply::<S>(rt, alloc);
@@ -43,7 +41,7 @@ fn check_limited_links<S: LimitStack<Item = Slot>>(rt: &impl Abort, alloc: Globa
     plays_on::<ChainsOver<S>>(rt, alloc, copies());
 }
 
-// .. of copies to plain arenas, over another one.
+// Runs the tests of copies to plain arenas, over another stack.
 fn check_plain_arenas<S: SlotStack<Item = Slot>, R: LimitStack<Item = ArenaSlot<ToolPtr, u32>>>(
     rt: &impl Abort,
     alloc: Global,
@@ -52,7 +50,6 @@ fn check_plain_arenas<S: SlotStack<Item = Slot>, R: LimitStack<Item = ArenaSlot<
     check_plain::<S, R>(rt, alloc);
 }
 
-// What is tried over any stack, and where memory is refused.
 fn check_all<S: SlotStack<Item = Slot>>(rt: &impl Abort, alloc: Global) {
     check_links::<S>(rt, alloc);
     check_hostile::<S>(rt, alloc, 40);
@@ -73,7 +70,6 @@ fn links_over_a_limited_stack(rt: HostRuntime) {
     check_limited_links::<LimitedStack<Slot>>(&rt, rt.alloc());
 }
 
-// A slot of a number alone.
 type Bare = ArenaSlot<ToolPtr, u32>;
 
 #[test]

@@ -1,4 +1,4 @@
-//! Refused memory, and long runs of random calls.
+//! Tests with refused allocations, and long runs of random calls.
 
 mod alloc_failures;
 mod model;
@@ -10,8 +10,8 @@ use arena_ptr::{LimitStack, SlotStack};
 use std::alloc::Global;
 use std::process::Abort;
 
-// Each growth is refused once, and long runs of calls, over a stack and over one that refuses every other growth, where so many
-// calls are refused at least.
+// Checks refused growths and long runs, also over a stack that refuses every other growth and at
+// least `refused` calls.
 pub(super) fn check_hostile<S: SlotStack<Item = Slot>>(
     rt: &impl Abort,
     alloc: Global,
@@ -22,7 +22,7 @@ pub(super) fn check_hostile<S: SlotStack<Item = Slot>>(
     random::check_runs::<Rationed<S>>(rt, alloc, refused);
 }
 
-// .. over one that may have a maximum.
+// Checks refused growths and long runs over a stack with an optional maximum.
 pub(super) fn check_limited<S: LimitStack<Item = Slot>>(rt: &impl Abort, alloc: Global) {
     alloc_failures::check_all::<S>(rt, alloc);
     random::check_limited_runs::<S>(rt, alloc, 50);

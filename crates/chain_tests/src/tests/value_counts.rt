@@ -1,4 +1,4 @@
-//! Values that tell how many of them there are, and how often they were cloned: none is lost, and none is cloned twice.
+//! Tests that no value is lost or cloned twice, by values that count themselves and their clones.
 
 use super::setup::SlotOf;
 use super::{add_plain, at, chained, fresh, fresh_plain, put, remove, same};
@@ -11,8 +11,8 @@ use std::marker::Model;
 use std::process::Abort;
 use std::rc::Rc;
 
-// A value with a number that counts how often it was cloned, with its clones. Of the number 2 a clone is refused. Contracts see
-// neither, so all such values are equal.
+// A value with a number, which shares a count of clones with its clones. Cloning the number 2 is
+// refused. Contracts see neither field, so all such values are equal.
 #[derive(Drop)]
 struct Counted {
     number: u32,
@@ -47,19 +47,17 @@ impl Clone for Counted {
 
 type ValuesOver<S> = ChainArena<ToolPtr, Counted, S>;
 
-// No clone yet. What is counted here is one more than there are values.
+// Returns a count of no clones. Its strong count is one more than there are values.
 fn no_clones(rt: &impl Abort, alloc: Global) -> Rc<Cell<u32>> {
     let clones = Rc::new(alloc, Cell::new(0)).ok();
     clones.expect(rt, "memory")
 }
 
-// A value with a number.
 fn value(rt: &impl Abort, clones: &Rc<Cell<u32>>, number: u32) -> Counted {
     let clones = clones.clone().expect(rt, "one more");
     Counted { number, clones }
 }
 
-// Lone links of values with these numbers.
 fn lone_values<S: SlotStack<Item = SlotOf<Counted>>>(
     rt: &impl Abort,
     alloc: Global,
@@ -74,8 +72,8 @@ fn lone_values<S: SlotStack<Item = SlotOf<Counted>>>(
     arena
 }
 
-// Ties three links, and drains them by a call as a value, which takes so many one by one. Named at any pointer and value, the
-// types cost its proof less.
+// Connects three links, and drains them by a `Call` that takes `take` of them. Generic over
+// pointers and values, the types cost its proof less.
 fn tie_and_drain<P: PtrKey, T: Drop, S: SlotStack<Item = ArenaSlot<P, LinkNoGen<P, T>>>>(
     arena: &mut ChainArena<P, T, S>,
     p: P,
@@ -89,7 +87,8 @@ fn tie_and_drain<P: PtrKey, T: Drop, S: SlotStack<Item = ArenaSlot<P, LinkNoGen<
     arena.len()
 }
 
-// Three links in a row and a lone one, of which the row is drained: how many links are left, and what is counted.
+// Drains a chain of three beside a lone link. Returns the number of links left and the strong
+// count.
 fn left_by_a_drain<S: SlotStack<Item = SlotOf<Counted>>>(
     rt: &impl Abort,
     alloc: Global,
@@ -101,8 +100,8 @@ fn left_by_a_drain<S: SlotStack<Item = SlotOf<Counted>>>(
     (left, Rc::strong_count(&clones))
 }
 
-// Whether a plain arena of two links is refused, of which the first names this index as the one after it, and what is counted
-// then.
+// Converts a plain arena of two links, the first of which has the next index `next`. Returns
+// whether that is refused, and the strong count then.
 fn left_by_a_refusal<S: SlotStack<Item = SlotOf<Counted>>>(
     rt: &impl Abort,
     alloc: Global,
@@ -117,7 +116,7 @@ fn left_by_a_refusal<S: SlotStack<Item = SlotOf<Counted>>>(
     (made.is_err(), Rc::strong_count(&clones))
 }
 
-// A clone of an arena, if no value refuses, and how many links it has.
+// Returns a clone of an arena, if no value refuses, and its number of links.
 fn cloned<S: SlotStack<Item = SlotOf<Counted>>>(
     alloc: Global,
     arena: &ValuesOver<S>,
@@ -128,8 +127,8 @@ fn cloned<S: SlotStack<Item = SlotOf<Counted>>>(
     }
 }
 
-// Of the values 1, 2 and 3 a clone is refused at the second; once it is removed there is one. Tells each time how many links
-// the clone has, how often values were cloned by then, and what is counted while the clone is there.
+// Clones an arena of the values 1, 2 and 3, where 2 refuses, and again without 2. Returns each time
+// the links of the clone, the clones of values so far, and the strong count while the clone exists.
 fn cloned_once_more<S: SlotStack<Item = SlotOf<Counted>>>(
     rt: &impl Abort,
     alloc: Global,
@@ -148,8 +147,8 @@ fn cloned_once_more<S: SlotStack<Item = SlotOf<Counted>>>(
     [refused, made]
 }
 
-// After a drain there is the value of the lone link. Of an arena that is refused, no value is left. A clone clones each value
-// once, and what was cloned before a refusal is dropped.
+// After a drain only the lone link's value is left, and after a refused conversion none. A clone
+// clones each value once, and drops what was cloned before a refusal.
 fn check_counts<S: SlotStack<Item = SlotOf<Counted>>>(rt: &impl Abort, alloc: Global) {
     for take in [0, 1, 5] {
         let left = left_by_a_drain::<S>(rt, alloc, take);

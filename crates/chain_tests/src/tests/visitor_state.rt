@@ -1,4 +1,4 @@
-//! What sees links or makes values, handed back as it came to be.
+//! Tests that visitors and value maps are returned in the state they reached.
 
 use super::{ChainsOver, Slot, fresh_plain, limited, lone_links, remove, same, text};
 use arena_base::{Arena, ArenaSlot, ArenaTrait, ValueMap};
@@ -7,7 +7,7 @@ use chain_arena::{LinkNoGen, Visitor};
 use std::alloc::Global;
 use std::process::Abort;
 
-// Counts the links that it sees, and keeps the last of them by its two pointers.
+// A visitor that counts links, and keeps both pointers of the last.
 #[derive(Debug, Drop)]
 struct Kept {
     count: u32,
@@ -27,7 +27,7 @@ impl Visitor<ToolPtr> for Kept {
     }
 }
 
-// Makes each value one more, and counts them. It refuses the value 3.
+// A value map that adds one to each value, counts its calls, and refuses the value 3.
 #[derive(Debug, Drop)]
 struct Counting {
     calls: u32,
@@ -51,7 +51,8 @@ impl ValueMap<ToolPtr, LinkNoGen<ToolPtr, u32>, u32> for Counting {
     }
 }
 
-// What a canonical compression of the links 2 and 3 tells, what has seen them, and how many links were placed.
+// Returns the result, the visitor and the placed links of a canonical compression of the links 2
+// and 3.
 fn last_kept<S: SlotStack<Item = Slot>>(alloc: Global) -> String {
     let mut arena: ChainsOver<S> = lone_links(alloc, 3);
     remove(&mut arena, (1, 2));
@@ -63,7 +64,7 @@ fn last_kept<S: SlotStack<Item = Slot>>(alloc: Global) -> String {
     text(alloc, (told, visitor, work.placed))
 }
 
-// Makes an arena a copy of so many lone links: the answer, what made the values, and the arena then.
+// Copies lone links into an arena. Returns the result, the value map, and the arena.
 fn counted_over<S: SlotStack<Item = Slot>>(
     alloc: Global,
     count: u32,
@@ -74,10 +75,10 @@ fn counted_over<S: SlotStack<Item = Slot>>(
     text(alloc, (answer, map, &*target))
 }
 
-// How a copy is refused, how often what makes the values was called, and how many entries there are then.
+// The error of a copy, the calls of the value map, and the number of entries then.
 type Told = (Option<ReallocationError>, u32, usize);
 
-// .. a plain one.
+// Copies lone links into a plain arena.
 fn counted_to_plain<S: SlotStack<Item = Slot>, R: SlotStack<Item = ArenaSlot<ToolPtr, u32>>>(
     alloc: Global,
     count: u32,
@@ -88,14 +89,13 @@ fn counted_to_plain<S: SlotStack<Item = Slot>, R: SlotStack<Item = ArenaSlot<Too
     (answer.err(), map.calls, target.len())
 }
 
-// A visitor is handed back.
 pub(super) fn check_kept<S: SlotStack<Item = Slot>>(rt: &impl Abort, alloc: Global) {
     let told = last_kept::<S>(alloc);
     let want = "(Success(()), Kept { count: 2, last: Some((P0[3](2), P0[2](4))) }, 2)";
     same(rt, "two links", told.as_str(), want);
 }
 
-// So many links, copied over one link and to a plain arena.
+// Numbers of links, and the results of copies over one link and to a plain arena.
 static COUNTED: [(u32, &str, Told); 2] = [
     (
         2,
@@ -109,7 +109,7 @@ static COUNTED: [(u32, &str, Told); 2] = [
     ),
 ];
 
-// Both, over one link and to a plain arena without any. What made the values is handed back.
+// Checks each row. The value map is returned.
 pub(super) fn check_counted<
     S: SlotStack<Item = Slot>,
     R: SlotStack<Item = ArenaSlot<ToolPtr, u32>>,
@@ -124,7 +124,7 @@ pub(super) fn check_counted<
     }
 }
 
-// A copy of two links over an arena that may have one slot: nothing is shown to what makes the values.
+// A copy of two links over an arena of at most one slot calls no value map.
 pub(super) fn check_beyond_one<S: LimitStack<Item = Slot>>(rt: &impl Abort, alloc: Global) {
     let mut target: ChainsOver<S> = limited(rt, alloc, 1);
     let told = counted_over(alloc, 2, &mut target);

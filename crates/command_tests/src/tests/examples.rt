@@ -1,6 +1,4 @@
-//! Each user of arenas of links at chain arenas over two stacks, and at the arena that hands each call on: rows of tables, each
-//! with what it answers. A list of values below 10 is told as the number that has them as its digits. No body but one has a
-//! way to end a test: each table answers the place of the first row that is not as it says.
+//! Tests of the examples over chain arenas on two stacks, and over the forwarding arena.
 
 mod bookmarks;
 mod documents;
@@ -19,13 +17,14 @@ use forwarding_arena::ForwardingArena;
 use std::alloc::Global;
 use std::process::Abort;
 
-// A slot of a link of a number.
 type Slot<P> = ArenaSlot<P, LinkNoGen<P, u32>>;
 
-// The first row of a table that is not as it says, from 0 on.
+// The position of a table's first row that differs. Tables return it, so only one body needs a way
+// to end a test.
 type Differing = Option<usize>;
 
-// The pointer that came as the n-th, from 1 on; of 0, and of what did not come, one that no arena gives.
+// Returns the n-th pointer, from 1 on, or the invalid one, which no arena returns, for 0 or an
+// absent one.
 fn name<P: PtrKey>(names: &[P], n: usize) -> P {
     match n.checked_sub(1) {
         Some(k) => names.get(k).copied().unwrap_or(P::invalid()),
@@ -33,7 +32,7 @@ fn name<P: PtrKey>(names: &[P], n: usize) -> P {
     }
 }
 
-// As the how manieth a pointer came; 0 for none.
+// Returns the 1-based position of a pointer in `names`, or 0 if it is absent.
 fn number<P: PtrKey>(names: &[P], p: Option<P>) -> u32 {
     let Some(p) = p else {
         return 0;
@@ -48,7 +47,7 @@ fn number<P: PtrKey>(names: &[P], p: Option<P>) -> u32 {
     0
 }
 
-// Notes the pointer of what came, and tells whether something did.
+// Notes a pointer, if there is one, and returns whether it is noted.
 fn noted<P: PtrKey>(names: &mut Vec<P>, came: Option<P>) -> bool {
     match came {
         Some(p) => names.push(p).is_ok(),
@@ -56,7 +55,7 @@ fn noted<P: PtrKey>(names: &mut Vec<P>, came: Option<P>) -> bool {
     }
 }
 
-// Returns room for the pointers that come in a table. It is asked for twice, if it has to be.
+// Returns a vector for pointers, on a second attempt if the first allocation is refused.
 fn names_of<P: PtrKey>(alloc: Global) -> Vec<P> {
     for _ in 0..2 {
         if let Ok(names) = Vec::with_capacity(alloc, 16) {
@@ -66,18 +65,18 @@ fn names_of<P: PtrKey>(alloc: Global) -> Vec<P> {
     Vec::new(alloc)
 }
 
-// Returns a number with two more numbers behind it. Sixteen such pairs have room in it, each of numbers below 16.
+// Appends two numbers below 16 to a number, which holds sixteen such pairs.
 fn with_pair(all: u128, first: u32, second: u32) -> u128 {
     let pair = first.wrapping_mul(16).wrapping_add(second);
     all.wrapping_mul(256).wrapping_add(u128::from(pair))
 }
 
-// A number with one digit more.
+// Appends a digit to a number, which is how lists of values below 10 are written.
 fn with_digit(number: u32, digit: u32) -> u32 {
     number.saturating_mul(10).saturating_add(digit)
 }
 
-// The rows of turns, of polygons and of texts, at one arena, ...
+// Runs the rows of queues, meshes and documents at one arena.
 fn played<P: PtrKey, A: ChainArenaTrait<P, u32> + Drop>(alloc: Global) -> [Differing; 3] {
     [
         run_queue::differing::<P, A>(alloc),
@@ -86,18 +85,17 @@ fn played<P: PtrKey, A: ChainArenaTrait<P, u32> + Drop>(alloc: Global) -> [Diffe
     ]
 }
 
-// .. at one that hands each call on to any other, ...
 fn played_handed_on<P: PtrKey, A: ChainArenaTrait<P, u32> + Drop>(alloc: Global) -> [Differing; 3] {
     played::<P, ForwardingArena<A>>(alloc)
 }
 
-// .. and at both, with those of bookmarks, at an arena whose texts can be renumbered, ...
+// Runs them at an arena and at its forwarding arena, and the bookmarks at the arena.
 fn all_played<P: PtrKey, A: Renumbers<P>>(alloc: Global) -> ([[Differing; 3]; 2], Differing) {
     let both = [played::<P, A>(alloc), played_handed_on::<P, A>(alloc)];
     (both, bookmarks::differing::<P, A>(alloc))
 }
 
-// .. as a chain arena is. It is named here, over any stack, since that costs less than at one.
+// Runs all at a chain arena. Naming it here, over any stack, costs less than at one.
 fn are_all_played<P: PtrKey, S: SlotStack<Item = Slot<P>>>(rt: &impl Abort, alloc: Global) {
     let differing = all_played::<P, ChainArena<P, u32, S>>(alloc);
     same(rt, "rows", differing, ([[None; 3]; 2], None));
@@ -109,7 +107,7 @@ fn over_one_piece_of_memory_and_in_blocks(rt: HostRuntime) {
     are_all_played::<ToolPtr, ChunkStack<Slot<ToolPtr>>>(&rt, rt.alloc());
 }
 
-// Whether the first insertion into each of the three is refused, and the first reservation.
+// Returns whether the first insertion and the first reservation of each are refused.
 fn are_refused<P: PtrKey, A: ChainArenaTrait<P, u32> + Drop>(alloc: Global) -> [bool; 6] {
     [
         RunQueue::<P, u32, A>::new(alloc).spawn(1).is_err(),
@@ -121,7 +119,8 @@ fn are_refused<P: PtrKey, A: ChainArenaTrait<P, u32> + Drop>(alloc: Global) -> [
     ]
 }
 
-// The rows where each growth is refused once. A refused call changes nothing and is done the second time.
+// Runs all rows where each growth is refused once. A refused call changes nothing, and then
+// succeeds.
 fn are_all_refused<P: PtrKey, S: SlotStack<Item = Slot<P>>>(rt: &impl Abort, alloc: Global) {
     let refused = are_refused::<P, ChainArena<P, u32, Rationed<S>>>(alloc);
     same(rt, "refused", refused, [true; 6]);

@@ -1,4 +1,4 @@
-//! Readers, writers and memory that fail.
+//! Tests with readers, writers and memory that fail.
 
 ghost use Rattle.std.specs.Prelude.{◌≤◌};
 
@@ -12,7 +12,7 @@ use std::io;
 use std::io::{ErrorKind, Read, Write};
 use std::process::Abort;
 
-/// Gives its bytes, a few at a time, then fails once, and has later ones for who reads on.
+/// A reader that gives its bytes a few at a time, fails once, and then gives later bytes.
 #[derive(Drop)]
 struct FailingReader<'a> {
     left: &'a [u8],
@@ -37,7 +37,7 @@ impl Read for FailingReader<'_> {
     }
 }
 
-/// A text, and what the program writes by the end of each line.
+/// A text, and the output by the end of each line.
 const READ: &str = "add alone 1\nlen\nadd alone 25\nlen\n";
 
 const WRITTEN: [&str; 5] = [
@@ -48,8 +48,9 @@ const WRITTEN: [&str; 5] = [
     "at 1.2\ncount 1\nat 2.2\ncount 2\n",
 ];
 
-/// Runs the program on a reader that fails once, after so many bytes: whether it ends for that, whether the whole lines before it
-/// are answered and no other line is carried out, and whether nothing more is read.
+/// Runs the program on a reader that fails once after `bytes` bytes.
+/// Returns whether the run ends for that, whether exactly the whole lines before it are carried out
+/// and have output, and whether it stops reading.
 fn ends_at_the_fault<S: SlotStack<Item = Slot>>(
     alloc: Global,
     kind: ErrorKind,
@@ -73,14 +74,14 @@ fn ends_at_the_fault<S: SlotStack<Item = Slot>>(
     )
 }
 
-/// Whether what was written and the number of links are those of the whole lines that were read.
+/// Returns whether the output and the number of links are those of the lines that were read.
 fn are_answered(read: &[u8], written: &[u8], links: usize) -> bool {
     let lines = read.iter().filter(|b| **b == b'\n').count();
     let want = WRITTEN.get(lines).copied().unwrap_or("no such line");
     written == want.as_bytes() && links == lines.saturating_add(1) / 2
 }
 
-/// Readers of each kind of fault, after each number of bytes.
+/// Checks each kind of fault after each number of bytes.
 pub(super) fn check_readers<S: SlotStack<Item = Slot>>(rt: &impl Abort, alloc: Global) {
     for kind in [
         ErrorKind::Other,
@@ -96,7 +97,6 @@ pub(super) fn check_readers<S: SlotStack<Item = Slot>>(rt: &impl Abort, alloc: G
     }
 }
 
-/// Runs the program on a reader that gives its bytes one by one.
 #[test]
 fn a_reader_of_single_bytes(rt: HostRuntime) {
     let (input, output) = SAMPLE;
@@ -117,8 +117,8 @@ fn a_reader_of_single_bytes(rt: HostRuntime) {
     same(&rt, "the sample", written.as_slice(), output.as_bytes());
 }
 
-/// Takes a few bytes at a time, up to a limit, then fails once, and has room again for who writes on. So do its flushes.
-/// Each second write is interrupted.
+/// A writer that takes a few bytes at a time up to a limit, fails once, and then takes more. Its
+/// flushes fail likewise. Every other write is interrupted.
 #[derive(Drop)]
 struct FailingWriter {
     held: Vec<u8>,
@@ -175,7 +175,7 @@ fn failing_writer(
     }
 }
 
-/// Runs the program on a writer: how that ends, and how many links there are then.
+/// Runs the program on a writer. Returns the result and the number of links then.
 fn run_to<S: SlotStack<Item = Slot>>(
     alloc: Global,
     writer: &mut FailingWriter,
@@ -186,14 +186,15 @@ fn run_to<S: SlotStack<Item = Slot>>(
     (result, arena.len())
 }
 
-/// Whether the writer has what it took of the lines, where it has so much room, and no more.
+/// Returns whether the writer has what it could take of the lines, and no more.
 fn is_taken(held: &[u8], room: usize) -> bool {
     let output = "at 1.2\nat 2.2\nat 3.2\n".as_bytes();
     held == &output[..room.min(output.len())]
 }
 
-/// Runs the program on a writer that fails once, when it has no room: whether it ends for that, whether the writer has what it took
-/// before and no more, and whether the line of the last answer is carried out, and none behind it.
+/// Runs the program on a writer that fails once at its limit. Returns whether the run ends for
+/// that, and whether the writer has what it took before and no more. Returns also whether the line
+/// whose output fails is the last carried out.
 fn ends_at_the_limit<S: SlotStack<Item = Slot>>(
     alloc: Global,
     fails_with: Option<ErrorKind>,
@@ -210,7 +211,7 @@ fn ends_at_the_limit<S: SlotStack<Item = Slot>>(
     )
 }
 
-/// Writers of each kind of fault, with each room.
+/// Checks each kind of fault at each limit.
 pub(super) fn check_writers<S: SlotStack<Item = Slot>>(rt: &impl Abort, alloc: Global) {
     for fails_with in [None, Some(ErrorKind::Other), Some(ErrorKind::WriteZero)] {
         for step in [1, 3, 100] {
@@ -222,8 +223,9 @@ pub(super) fn check_writers<S: SlotStack<Item = Slot>>(rt: &impl Abort, alloc: G
     }
 }
 
-/// Runs the program on a writer that takes single bytes and of which one flush fails, if so many are made: whether it ends for that,
-/// or else well, and whether the writer has these lines.
+/// Runs the program on a writer of single bytes that fails at one flush, if there are that many.
+/// Returns whether the run ends for that, or else with `Ok`, and whether the writer has these
+/// lines.
 fn ends_at_the_flush(alloc: Global, flushes: usize, fails: bool, output: &str) -> (bool, bool) {
     let mut reader = "add alone 1\n".as_bytes();
     let mut writer = failing_writer(alloc, 1, 1000, None);
@@ -246,8 +248,9 @@ fn a_flush_that_fails(rt: HostRuntime) {
     }
 }
 
-/// Carries out `moves` on an arena of one link, where memory may be refused (`tools/test_alloc_failures` refuses each request in turn):
-/// whether it is answered, or the link keeps its pointer and nothing is written.
+/// Runs `moves` on an arena of one link, where memory may be refused: `tools/test_alloc_failures`
+/// refuses each request in turn. Returns whether the moves are written, or else the pointer is kept
+/// and nothing is written.
 fn moves_or_keeps<S: SlotStack<Item = Slot>>(alloc: Global) -> bool {
     let mut arena = LinksOver::<S>::new(alloc);
     let Ok(p) = arena.insert_reallocating(LinkInsertKind::Disconnected, 5) else {
@@ -275,8 +278,8 @@ fn moves_or_nothing(rt: HostRuntime) {
     assert!(rt; moves_or_keeps::<HeapStack<Slot>>(rt.alloc()));
 }
 
-/// Whether what was written answers the first lines, each as is wanted up to the first that was refused memory, from which on the
-/// others may differ.
+/// Returns whether the output is whole lines as wanted, up to the first that was refused memory.
+/// From there on it may differ.
 fn is_beginning(written: &str, want: &str) -> bool {
     let before = match written.split_once("refused memory\n") {
         Some((before, _)) => before,
@@ -285,8 +288,9 @@ fn is_beginning(written: &str, want: &str) -> bool {
     want.starts_with(before) && (before.is_empty() || before.ends_with('\n'))
 }
 
-/// Whether a run on the sample, where memory may be refused (`tools/test_alloc_failures` refuses each request in turn), has read to the end and
-/// answered each line, or ended for want of memory, having answered the first of them.
+/// Returns whether a run on the sample has read all, with output for each line. A run that ends
+/// with an allocation failure needs output only for the first lines.
+/// `tools/test_alloc_failures` refuses each request in turn.
 fn is_sample(ended: Result<(), ToolError>, unread: usize, answered: &[u8]) -> bool {
     let (_, output) = SAMPLE;
     let Ok(answered) = str::from_utf8(answered) else {
@@ -299,14 +303,12 @@ fn is_sample(ended: Result<(), ToolError>, unread: usize, answered: &[u8]) -> bo
     is_so && is_beginning(answered, output)
 }
 
-/// How many bytes were written, of so many for which there was room.
 fn written_of(room: usize, left: usize) -> usize
     ensures { result ≤ room }
 {
     room.saturating_sub(left)
 }
 
-/// .. on an arena over any stack, ...
 fn sample_on<S: SlotStack<Item = Slot>>(alloc: Global) -> bool {
     let (input, _) = SAMPLE;
     let mut reader = input.as_bytes();
@@ -318,7 +320,6 @@ fn sample_on<S: SlotStack<Item = Slot>>(alloc: Global) -> bool {
     is_sample(result, reader.len(), &written[..count])
 }
 
-/// .. and on the program's own.
 fn sample(alloc: Global) -> bool {
     let (input, _) = SAMPLE;
     let mut reader = input.as_bytes();

@@ -1,4 +1,4 @@
-//! Calls that take their memory from an allocator that is passed in, where it refuses every request.
+//! Tests of calls that allocate from a given allocator, which refuses every request.
 
 ghost use Rattle.std.specs.Borrow.{ffalse};
 
@@ -25,11 +25,11 @@ unsafe impl Allocator for NoMemory {
 
 type Links = LinksOver<HeapStack<Slot>>;
 
-/// A list of three links beside a free slot, and a link alone.
+/// A list of three links beside a free slot, and a lone link.
 const LINKS: &str =
     "add alone 1\nadd end 1.2 2\nadd end 2.2 3\nadd end 3.2 4\nadd alone 5\nremove 2.2\n";
 
-/// Returns the text of an arena, with its counter, its capacity and its next free slots.
+/// Returns the text of an arena with its counter, and its capacity.
 fn state(alloc: Global, arena: &Links) -> Option<(String, usize)> {
     match format!(in alloc; "{arena:?} {:?}", arena.generation()) {
         Ok(text) => Some((text, arena.capacity())),

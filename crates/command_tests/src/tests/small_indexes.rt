@@ -1,4 +1,4 @@
-//! The arena of the program in blocks, at a pointer whose index has 8 bits.
+//! Tests of the program's arena in blocks, at a pointer with an 8-bit index.
 
 use super::same;
 use arena_base::{ArenaSlot, ArenaTrait};
@@ -9,7 +9,7 @@ use chain_arena::{ChainArena, ChainArenaTrait, LinkInsertKind, LinkNoGen};
 use std::alloc::Global;
 use std::process::Abort;
 
-/// A pointer like that of the program, with an index and a generation of any types.
+/// A pointer like the program's, with an index and a generation of any types.
 #[derive(Clone, Copy, Debug, PartialEq, Eq, PartialOrd, Ord, Hash)]
 struct Pair<I, G> {
     inx: I,
@@ -75,13 +75,14 @@ impl<I: PtrInx, G: PtrGen> Ptr for Pair<I, G> {
     }
 }
 
-/// The pointer of the program with an index of 8 bits.
+/// The program's pointer with an 8-bit index.
 type SmallPtr = Pair<Inx8, Gen32>;
 
-/// What is read of an arena: how many links it has, and its capacity.
+/// The length and the capacity of an arena.
 type Size = (usize, usize);
 
-/// Adds links to the end of a chain until one is refused. Returns the size before the refusal, the refusal, and the size after it.
+/// Inserts links at the end of a chain until one is refused. Returns the size before, the refusal,
+/// and the size after.
 fn filled<P: PtrKey, S: SlotStack<Item = ArenaSlot<P, LinkNoGen<P, u32>>>>(
     alloc: Global,
 ) -> (Size, Option<ChainInsertionError>, Size) {
@@ -97,7 +98,7 @@ fn filled<P: PtrKey, S: SlotStack<Item = ArenaSlot<P, LinkNoGen<P, u32>>>>(
     ((arena.len(), arena.capacity()), None, (0, 0))
 }
 
-/// 255 links take the whole capacity, though the blocks have 256 slots.
+/// Checks that 255 links take the whole capacity, though the blocks have 256 slots.
 fn check_filled<P: PtrKey, S: SlotStack<Item = ArenaSlot<P, LinkNoGen<P, u32>>>>(
     rt: &impl Abort,
     alloc: Global,

@@ -5,7 +5,7 @@ use arena_base::Advancer;
 use chain_arena::ChainArenaTrait;
 use std::alloc::Global;
 
-// So many answers of an advancer over one arena, five at most; none stands for the others.
+// Returns the first `count` results of an advancer, five at most, and `NONE` for the others.
 pub(super) fn met<P: Numbered, C, V: Advancer<C, Item = P>>(
     mut advancer: V,
     arena: &C,
@@ -22,7 +22,8 @@ pub(super) fn met<P: Numbered, C, V: Advancer<C, Item = P>>(
     met
 }
 
-// What an advancer along the chain of a pointer returns, at most five pointers. `None`: the pointer is not valid.
+// Returns at most five pointers of an advancer along a pointer's chain, or `None` if the pointer is
+// invalid.
 pub(super) fn met_along<P: Numbered, A: ChainArenaTrait<P, u32>>(
     arena: &A,
     p: P,
@@ -31,8 +32,8 @@ pub(super) fn met_along<P: Numbered, A: ChainArenaTrait<P, u32>>(
     Some(met(along, arena, 5))
 }
 
-// What an advancer along a chain answers over an arena that changes: the first of two links, and nothing once the second is
-// gone. The arena with the first of them is left.
+// Advances in a chain of two links, of which the second is then removed: the first link, and then
+// nothing. Returns also the arena.
 fn met_while_removed<P: Numbered, A: ChainArenaTrait<P, u32> + Drop>(
     alloc: Global,
 ) -> (At, [At; 5], A) {
@@ -47,7 +48,7 @@ fn met_while_removed<P: Numbered, A: ChainArenaTrait<P, u32> + Drop>(
     (first, gone, arena)
 }
 
-// What an advancer along a chain answers over its own arena, once it has answered nothing over an empty one: nothing.
+// Advances over an empty arena, then over its own: nothing.
 fn met_after_none<P: Numbered, A: ChainArenaTrait<P, u32> + Drop>(
     alloc: Global,
     arena: &A,
@@ -62,7 +63,7 @@ fn met_after_none<P: Numbered, A: ChainArenaTrait<P, u32> + Drop>(
     }
 }
 
-// What an advancer along a chain of one arena returns over another arena.
+// Advances along a chain of one arena over another.
 fn met_elsewhere<P: Numbered, A: ChainArenaTrait<P, u32>>(arena: &A, p: P, other: &A) -> [At; 5] {
     match arena.advancer_chain(p) {
         Some(along) => met(along, other, 5),
@@ -70,7 +71,8 @@ fn met_elsewhere<P: Numbered, A: ChainArenaTrait<P, u32>>(arena: &A, p: P, other
     }
 }
 
-// .. what advancers answer over other arenas: as many as they have steps, of a link that is untied there, and after nothing.
+// Returns what advancers yield over arenas that change: after a removal, in another arena, at a
+// link disconnected there, and after `None`. They yield no more than they have steps.
 pub(super) fn changes_met<P: Numbered, A: ChainArenaTrait<P, u32> + Drop>(
     alloc: Global,
 ) -> (At, [[At; 5]; 4]) {

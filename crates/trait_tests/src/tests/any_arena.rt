@@ -1,4 +1,4 @@
-//! The rows that any arena of links meets, at the chain arena and at an arena that hands each call on.
+//! Runs the rows that any arena of links satisfies, at the chain arena and at a forwarding arena.
 
 use super::parser::asked;
 use super::scripts::{Answers, answer, plays};
@@ -13,7 +13,7 @@ use std::alloc::Global;
 use std::marker::PhantomData;
 use std::process::Abort;
 
-// An arena that hands each call on to another, and the type of its pointers.
+// A forwarding arena, and the type of its pointers.
 #[derive(Drop)]
 struct HandsOn<P, A> {
     arena: ForwardingArena<A>,
@@ -34,20 +34,18 @@ impl<P: Numbered, A: ChainArenaTrait<P, u32> + CompactArenaTrait<P, u32> + Drop>
     }
 }
 
-// All lines, and what an advancer answers after its first `None`, ...
+// Runs all rows, and those of an advancer after its first `None`.
 fn check_all<A: Answers>(rt: &impl Abort, alloc: Global, arena: &mut A, after_none: &str) {
     plays(rt, alloc, arena, ROWS);
     plays(rt, alloc, arena, TRANSFERS);
     plays(rt, alloc, arena, after_none);
 }
 
-// .. of a chain arena over any stack, ...
 fn check_chains<P: Numbered, S: SlotStack<Item = Slot<P>>>(rt: &impl Abort, alloc: Global) {
     let mut arena: ChainArena<P, u32, S> = ChainArena::new(alloc);
     check_all(rt, alloc, &mut arena, NONE_THEN_NONE);
 }
 
-// .. of the arena that hands each call on to any other one, ...
 fn check_handed_on<P: Numbered, A: ChainArenaTrait<P, u32> + CompactArenaTrait<P, u32> + Drop>(
     rt: &impl Abort,
     alloc: Global,
@@ -59,7 +57,6 @@ fn check_handed_on<P: Numbered, A: ChainArenaTrait<P, u32> + CompactArenaTrait<P
     check_all(rt, alloc, &mut arena, NONE_THEN_AGAIN);
 }
 
-// .. to a chain arena over any stack.
 fn check_handed_on_to_chains<P: Numbered, S: SlotStack<Item = Slot<P>>>(
     rt: &impl Abort,
     alloc: Global,

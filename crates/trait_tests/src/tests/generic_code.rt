@@ -1,4 +1,4 @@
-//! What code that knows an arena of links by its traits alone can do.
+//! Generic code that knows an arena of links by its traits alone.
 
 ghost use Rattle.std.specs.Prelude.{◌≡◌, ◌↔◌, ℕ, IsSome, IfSome, IfNone, IfOk, OnErr, None, length};
 ghost use Rattle.chain_laws.specs.Chains.{next_of};
@@ -11,7 +11,8 @@ ghost use Rattle.chain_links.specs.ChainArena.{IsInserted};
 use arena_ptr::{ChainInsertionError, InxKey, PtrKey};
 use chain_arena::{ChainArenaTrait, LinkInsertKind};
 
-// The number of links of any arena: each stands in one chain, and no two sets of chains say what the arena shows.
+// Returns the number of links, each of which is in one chain. Only one set of chains has these
+// interlinks.
 pub(super) fn count_of_links<P: PtrKey, T: Drop, A: ChainArenaTrait<P, T>>(arena: &A) -> usize
     ensures count { result ≡ length (A.view arena.now).entries }
     ensures chains { HasOneSetOfChains (A.interlinks arena.now) }
@@ -20,8 +21,8 @@ pub(super) fn count_of_links<P: PtrKey, T: Drop, A: ChainArenaTrait<P, T>>(arena
     arena.len()
 }
 
-// Adds a link behind the end of a chain and answers its pointer. `None`: the pointer is not valid or its link has a next
-// one, and what stood before stands as it did.
+// Inserts a link behind the end of a chain and returns its pointer. Returns `None`, and changes no
+// entry and no interlink, if the pointer is invalid or its link has a next one.
 pub(super) fn add_behind<P: PtrKey, T: Drop, A: ChainArenaTrait<P, T>>(
     arena: &mut A,
     p: P,
@@ -54,7 +55,7 @@ pub(super) fn add_behind<P: PtrKey, T: Drop, A: ChainArenaTrait<P, T>>(
     Ok(None)
 }
 
-// Takes a link out of any arena of links, and answers the index of the one after it.
+// Removes a link of any arena, and returns the index of the next link.
 pub(super) fn take_next<P: PtrKey, T: Drop, A: ChainArenaTrait<P, T>>(
     arena: &mut A,
     i: P::Inx,

@@ -1,4 +1,4 @@
-//! The few calls that a chain arena has of its own and that rows at any pointer make.
+//! The inherent calls of a chain arena that rows at any pointer make.
 
 use super::parser::{Asked, Do, asked};
 use super::scripts::{Answers, answer};
@@ -8,7 +8,7 @@ use arena_ptr::{InvalidationOption, PtrKey, SlotStack};
 use chain_arena::ChainArena;
 use std::alloc::Global;
 
-// Whether the counter overflows at a link that a drain yields.
+// Returns whether the counter overflows at a link that a drain yields.
 fn overflows<T: Drop>(gone: Option<InvalidationOption<T>>) -> Option<bool> {
     match gone {
         Some(gone) => Some(gone.overflowing().1),
@@ -16,7 +16,7 @@ fn overflows<T: Drop>(gone: Option<InvalidationOption<T>>) -> Option<bool> {
     }
 }
 
-// .. at each of the first two of a chain. The others go too.
+// Drains a whole chain, and returns `overflows` for each of its first two links.
 fn drained_two<P: PtrKey, S: SlotStack<Item = Slot<P>>>(
     arena: &mut ChainArena<P, u32, S>,
     p: P,
@@ -27,7 +27,6 @@ fn drained_two<P: PtrKey, S: SlotStack<Item = Slot<P>>>(
     }
 }
 
-// The answer to a call of the arena's own, ...
 fn own_answer<P: Numbered, S: SlotStack<Item = Slot<P>>>(
     alloc: Global,
     arena: &mut ChainArena<P, u32, S>,
@@ -40,7 +39,7 @@ fn own_answer<P: Numbered, S: SlotStack<Item = Slot<P>>>(
     }
 }
 
-// .. to a call of the traits, in the one place that hands such a body an arena.
+// Runs a call of the traits. Only here generic code gets an arena.
 fn trait_answer<P: Numbered, S: SlotStack<Item = Slot<P>>>(
     alloc: Global,
     arena: &mut ChainArena<P, u32, S>,

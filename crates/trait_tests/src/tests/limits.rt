@@ -1,4 +1,5 @@
-//! Other pointers: the greatest index, the greatest generation, wide indexes, no generations; and a maximum.
+//! Tests of other pointers (greatest index, greatest generation, wide indexes, no generations) and
+//! of a maximum.
 
 use super::pointers::{BarePtr, SmallPtr, TinyPtr, WidePtr};
 use super::scripts::plays;
@@ -10,7 +11,6 @@ use std::alloc::Global;
 use std::process::Abort;
 use std::rc::Rc;
 
-// An index of 8 bits.
 const INDEXES: &str = "\
 # 255 links fill it
 InsertMany 255 = 255
@@ -49,7 +49,6 @@ Len = 0
 Counter = Some(0)
 ";
 
-// A generation of 8 bits.
 const GENERATIONS: &str = "\
 # the counter overflows by a removal, and once more by a clear; a clear of no links leaves it
 Insert Disconnected 1 = Ok(Pair { inx: Inx8 { number: 1 }, generation: Gen8 { number: 2 } })
@@ -84,13 +83,13 @@ Len = 0
 Counter = Some(2)
 ";
 
-// What an index of 8 bits answers under a maximum of 255.
+// An 8-bit index under a maximum of 255.
 const UNDER_255: &str = "\
 InsertMany 255 = 255
 Insert Disconnected 256 = Err(BeyondMaxCapacity)
 ";
 
-// .. of two: the maximum is tested first, but at birth, where there is none.
+// An 8-bit index under a maximum of two. The maximum is tested first, but a new arena has none.
 const UNDER_TWO: &str = "\
 Reserve 256 = Err(BeyondMaxCapacity)
 Birth 256 = Err(AllocError)
@@ -106,7 +105,6 @@ Len = 0
 Counter = Some(5)
 ";
 
-// An index of one bit.
 const TWO_INDEXES: &str = "\
 # two links stand, are tied to a ring, and a third one is refused for want of an index
 Room = (0, 0)
@@ -120,7 +118,6 @@ Link 1 0 = Some(((2, 0), (2, 0), 1))
 Link 2 0 = Some(((1, 0), (1, 0), 2))
 ";
 
-// The lines at a pointer and a stack.
 fn plays_at<P: Numbered, S: SlotStack<Item = Slot<P>>>(
     rt: &impl Abort,
     alloc: Global,
@@ -130,7 +127,6 @@ fn plays_at<P: Numbered, S: SlotStack<Item = Slot<P>>>(
     plays(rt, alloc, &mut arena, table);
 }
 
-// .. on an arena with a maximum.
 fn plays_under<P: Numbered, S: LimitStack<Item = Slot<P>>>(
     rt: &impl Abort,
     alloc: Global,
@@ -148,7 +144,7 @@ fn an_index_of_8_bits_under_a_maximum(rt: HostRuntime) {
     }
 }
 
-// Each arena is handed to the body of the lines once, since that is what costs.
+// Each arena is passed to the body of the rows once, since that is the cost.
 #[test]
 fn other_pointers(rt: HostRuntime) {
     let alloc = rt.alloc();
@@ -159,10 +155,10 @@ fn other_pointers(rt: HostRuntime) {
     plays_at::<WidePtr, LimitedStack<Slot<WidePtr>>>(&rt, alloc, WIDE);
 }
 
-// A slot for a link with one of several equal values, each of which tells how many of them there are.
+// A slot for a shared value, whose strong count is the number of its copies.
 type Shared = ArenaSlot<BarePtr, LinkNoGen<BarePtr, Rc<u8>>>;
 
-// Hands 300 values to an arena with a maximum, and tells how many it holds and how many there are.
+// Offers 300 values to an arena with a maximum. Returns its length and the number of copies.
 fn handed<S: LimitStack<Item = Shared>>(alloc: Global, most: usize) -> (usize, usize) {
     let Ok(value) = Rc::new(alloc, 5) else {
         return (0, 0);
@@ -176,8 +172,8 @@ fn handed<S: LimitStack<Item = Shared>>(alloc: Global, most: usize) -> (usize, u
     (arena.len(), Rc::strong_count(&value))
 }
 
-// A value that an insertion refuses is dropped, under a maximum of two, and where the index type is what refuses: there are those
-// in the arena, and the one that they are shared from.
+// A refused value is dropped, by a maximum of two or by the index type. Only the values in the
+// arena and the original are left.
 #[test]
 fn refused_values_are_dropped(rt: HostRuntime) {
     for (most, left) in [(2, (2, 3)), (1000, (255, 256))] {

@@ -1,4 +1,4 @@
-//! Which links are equal, and which comes first.
+//! Tests of which links are equal, and which comes first.
 
 use super::{at, same};
 use arena_ptr::{Inx32, ToolPtr};
@@ -6,7 +6,7 @@ use chain_arena::{Link, LinkNoGen};
 use std::cmp::Ordering;
 use std::hash::{DefaultHasher, Hash, Hasher};
 
-// A link by the indexes of its neighbors, 0 for none, and its value.
+// The indexes of a link's neighbors, 0 for none, and its value.
 type Parts = (u32, u32, u32);
 
 // Links in rising order.
@@ -21,7 +21,6 @@ const RISING: [Parts; 8] = [
     (256, 0, 0),
 ];
 
-// The index of a number, none for 0.
 fn inx(n: u32) -> Option<Inx32> {
     Inx32::new(n)
 }
@@ -31,7 +30,7 @@ fn bare(parts: Parts) -> LinkNoGen<ToolPtr, u32> {
     LinkNoGen::<ToolPtr, u32>::new((inx(prev), inx(next)), t)
 }
 
-// .. with pointers, as those of an arena, of which the first links have generation two.
+// Returns a link with pointers of generation 2, as the first links of an arena have.
 fn with_pointers(parts: Parts) -> Link<ToolPtr, u32> {
     let (prev, next, t) = parts;
     let prev = if prev == 0 { None } else { Some(at((prev, 2))) };
@@ -39,12 +38,12 @@ fn with_pointers(parts: Parts) -> Link<ToolPtr, u32> {
     Link::new((prev, next), t)
 }
 
-// The first is below the second, by each way to compare.
+// Returns whether `l` is below `m` by each comparison.
 fn is_below<L: Ord>(l: &L, m: &L) -> bool {
     l < m && m > l && l != m && l.cmp(m).is_lt() && m.cmp(l).is_gt()
 }
 
-// They are equal, by each way to compare.
+// Returns whether `l` equals `m` by each comparison.
 fn is_same<L: Ord + Hash>(l: &L, m: &L) -> bool {
     l == m && l.cmp(m).is_eq() && hash_of(l) == hash_of(m)
 }
@@ -55,12 +54,12 @@ fn hash_of<T: Hash>(t: &T) -> u64 {
     state.finish()
 }
 
-// A link is below another, both without and with generations.
+// Returns whether a link is below another, with and without generations.
 fn rises(low: Parts, high: Parts) -> bool {
     is_below(&bare(low), &bare(high)) && is_below(&with_pointers(low), &with_pointers(high))
 }
 
-// .. and equal to one of the same parts, and to a clone.
+// Returns whether a link equals one of the same parts, and its clone.
 fn equals(parts: Parts) -> bool {
     match bare(parts).clone() {
         Ok(copy) => is_same(&bare(parts), &copy)
@@ -69,7 +68,6 @@ fn equals(parts: Parts) -> bool {
     }
 }
 
-// Each is below the next, and equal to one of the same parts.
 #[test]
 fn links_go_by_their_neighbors_then_by_their_values(rt: HostRuntime) {
     let mut last: Option<Parts> = None;

@@ -1,4 +1,4 @@
-//! The texts of links and of arenas of links.
+//! Tests of the texts of links and of arenas of links.
 
 use super::pointers::BarePtr;
 use super::{At, NONE, Numbered, at, same};
@@ -10,11 +10,11 @@ use std::fmt;
 use std::fmt::{Debug, Display};
 use std::process::Abort;
 
-// A value that tells what of a format reaches it: an alternate mark by `#`, and anything else by `!`.
+// A value that writes what of a format reaches it: `#` for the alternate flag, `!` for anything
+// else.
 #[derive(Clone, Copy)]
 struct Teller;
 
-// Writes a word, and what of the format reaches it.
 fn tell<W: fmt::Write>(f: &mut fmt::Formatter<W>, word: &str) -> fmt::Result {
     let is_wide = f.width().is_some() || f.precision().is_some() || f.sign_plus();
     let marks = match (f.alternate(), is_wide) {
@@ -39,28 +39,28 @@ impl fmt::Display for Teller {
     }
 }
 
-// The texts by `Debug` and by `Display`: plain, in the alternate form, and in a width, with a sign and a precision.
+// Returns the texts by `Debug` and `Display`: plain, alternate, and with a width, a sign and a
+// precision.
 fn texts_of<T: Debug + Display>(alloc: Global, item: &T) -> Option<String> {
     format!(in alloc; "{item:?} {item:#?} {item:>+40.3?} {item} {item:#} {item:>+40.3}").ok()
 }
 
-// The pointer of two numbers, none for `NONE`.
 fn neighbor<P: Numbered>(p: At) -> Option<P> {
     if p.0 == 0 { None } else { Some(at(p)) }
 }
 
-// .. of a link, with and without the generations of its neighbors.
+// Returns them for a link, with and without the generations of its neighbors.
 fn texts_of_link<P: Ptr>(alloc: Global, link: Link<P, Teller>) -> [Option<String>; 2] {
     [texts_of(alloc, &link), texts_of(alloc, &link.no_gen())]
 }
 
-// Looks at a text.
 fn reads(rt: &impl Abort, what: &str, text: Option<String>, want: &str) {
     let text = text.expect(rt, "memory");
     same(rt, what, text.as_str(), want);
 }
 
-// Links by their neighbors, and their texts: indexes are hexadecimal, and the alternate mark alone reaches the value.
+// Links by their neighbors, and their texts. Indexes are hexadecimal, and only the alternate flag
+// reaches the value.
 const LINKS: [(At, At, &str); 4] = [
     (
         NONE,
@@ -105,10 +105,9 @@ fn links_show_their_values_behind_their_neighbors(rt: HostRuntime) {
     reads(&rt, "a text", texts, "{1a, abcdef} B {1a, abcdef} \"B\"");
 }
 
-// A slot of a link of a value that tells.
 type Telling<P> = ArenaSlot<P, LinkNoGen<P, Teller>>;
 
-// The text of an arena of a ring of one and a lone link in the alternate form; the plain one is told of transfers.
+// Returns the alternate text of a ring of one and a lone link. The transfers test plain texts.
 fn text_of_two<P: Ptr, S: SlotStack<Item = Telling<P>>>(alloc: Global) -> Option<String> {
     let mut arena: ChainArena<P, Teller, S> = ChainArena::new(alloc);
     let _ = arena.insert_reallocating(LinkInsertKind::SingleLinkCyclic, Teller);

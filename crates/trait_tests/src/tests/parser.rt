@@ -1,16 +1,15 @@
-//! What a line asks of an arena of links: a name of a call, numbers, and for an insertion a kind, before its numbers, and the value
-//! of the new link behind them. A pointer is two numbers, its index and its generation.
+//! The parser of the lines that are calls on an arena of links.
 
 use super::{Numbered, at, index};
 use arena_ptr::PtrKey;
 use chain_arena::InsertKindBody;
 use std::alloc::AllocError;
 
-// A call on an arena of links.
 #[derive(Clone, Copy)]
 pub(super) enum Do {
-    // Looks of the trait of arenas. An advancer answers so many times, and one from an index on twice. Whether an arena
-    // that is born with room is empty, and has the room. The length and the capacity.
+    // Reads of the trait of arenas. `Advance` steps as often as its number, `AdvanceFrom` twice.
+    // `Birth` makes an arena with a minimum capacity: whether it is empty and has that. `Room` is
+    // length and capacity.
     Len,
     IsEmpty,
     HasRoom,
@@ -25,7 +24,7 @@ pub(super) enum Do {
     Room,
     AdvanceFrom,
     AdvanceEmpty,
-    // Looks of the trait of arenas of links: an advancer along a chain answers five times, or to its end.
+    // Reads of the trait of arenas of links. `Along` steps five times, `AlongAll` to the end.
     CanInsert,
     Neighbors,
     NeighborsInx,
@@ -35,7 +34,7 @@ pub(super) enum Do {
     Along,
     AlongAll,
     CountOfLinks,
-    // All links, and what advancers answer over arenas that change.
+    // All links, and advancers over arenas that change.
     All,
     Changes,
     // Changes of links.
@@ -50,7 +49,8 @@ pub(super) enum Do {
     Canonical,
     AddBehind,
     TakeNext,
-    // Changes of any arena: a clear tells whether the capacity stays, a compression what its closure saw.
+    // Changes of any arena. `ClearInRoom` reports whether the capacity is kept, `CompressWith` the
+    // closure's arguments.
     Write,
     WriteInx,
     Remove,
@@ -60,18 +60,20 @@ pub(super) enum Do {
     ClearInRoom,
     Reserve,
     CompressWith,
-    // All links carried over to an arena of two links of other pointers, with a generation; to one of none, where each value is five;
-    // and to arenas that refuse them, one of them with a maximum.
+    // Transfers of all links, with a generation, to other pointers. The targets are one with two
+    // links, an empty one where each value is 5, and two that refuse.
     CarryOut,
     CarryAsFive,
     CarryToFull,
     CarryToBare,
-    // Calls of the chain arena alone: whether the counter overflows at each of the first two links of a drained chain; the counter.
+    // Inherent calls. `DrainTwo` reports whether the counter overflows at the first two links of a
+    // drain.
     DrainTwo,
     SetGeneration,
 }
 
-// The words of a line: its name, its kind, its first numbers, and the last of them.
+// The words of a line: name, kind, the first four numbers, and the last number, which is a new
+// link's value. A pointer is its index and its generation.
 #[derive(Clone, Copy)]
 struct Words<'a> {
     name: &'a str,
@@ -80,7 +82,7 @@ struct Words<'a> {
     last: u32,
 }
 
-// What may be asked: an insertion of a kind, something of two pointers, of two indexes, or of the first number, and the last one.
+// A call and its arguments: a kind, two pointers, two indexes, the first number and the last one.
 pub(super) struct Body<P, I> {
     pub(super) call: Do,
     pub(super) kind: InsertKindBody<P, I>,
@@ -92,7 +94,8 @@ pub(super) struct Body<P, I> {
     pub(super) t: u32,
 }
 
-// By hand, since a derived clone copies field by field, which costs more to prove than all else here.
+// By hand, since a derived clone copies field by field, which costs more to prove than all else
+// here.
 impl<P: Copy, I: Copy> Clone for Body<P, I> {
     fn clone(&self) -> Result<Self, AllocError> {
         Ok(*self)
@@ -101,10 +104,9 @@ impl<P: Copy, I: Copy> Clone for Body<P, I> {
 
 impl<P: Copy, I: Copy> Copy for Body<P, I> {}
 
-// .. of an arena of these pointers.
+// A call on an arena of these pointers.
 pub(super) type Asked<P> = Body<P, <P as PtrKey>::Inx>;
 
-// The words of a line.
 fn read(line: &str) -> Words<'_> {
     let mut words = Words {
         name: "",
@@ -129,7 +131,6 @@ fn read(line: &str) -> Words<'_> {
     words
 }
 
-// Looks of the trait of arenas, ...
 const LOOKS: [(&str, Do); 14] = [
     ("Len", Do::Len),
     ("IsEmpty", Do::IsEmpty),
@@ -147,7 +148,6 @@ const LOOKS: [(&str, Do); 14] = [
     ("AdvanceEmpty", Do::AdvanceEmpty),
 ];
 
-// .. and of that of arenas of links.
 const LINK_LOOKS: [(&str, Do); 11] = [
     ("CanInsert", Do::CanInsert),
     ("Neighbors", Do::Neighbors),
@@ -162,7 +162,6 @@ const LINK_LOOKS: [(&str, Do); 11] = [
     ("Changes", Do::Changes),
 ];
 
-// Changes of links, ...
 const LINK_CHANGES: [(&str, Do); 11] = [
     ("Insert", Do::Insert),
     ("InsertMany", Do::InsertMany),
@@ -177,7 +176,6 @@ const LINK_CHANGES: [(&str, Do); 11] = [
     ("TakeNext", Do::TakeNext),
 ];
 
-// .. of any arena, and what is left.
 const CHANGES: [(&str, Do); 15] = [
     ("Write", Do::Write),
     ("WriteInx", Do::WriteInx),
@@ -196,7 +194,6 @@ const CHANGES: [(&str, Do); 15] = [
     ("SetGeneration", Do::SetGeneration),
 ];
 
-// The call of a name in a table, ...
 fn found(table: &[(&str, Do)], name: &str) -> Option<Do> {
     for (word, call) in table {
         if *word == name {
@@ -206,7 +203,6 @@ fn found(table: &[(&str, Do)], name: &str) -> Option<Do> {
     None
 }
 
-// .. among the looks, ...
 fn look_of(name: &str) -> Option<Do> {
     match found(&LOOKS, name) {
         None => found(&LINK_LOOKS, name),
@@ -214,7 +210,6 @@ fn look_of(name: &str) -> Option<Do> {
     }
 }
 
-// .. the changes, ...
 fn change_of(name: &str) -> Option<Do> {
     match found(&LINK_CHANGES, name) {
         None => found(&CHANGES, name),
@@ -222,7 +217,6 @@ fn change_of(name: &str) -> Option<Do> {
     }
 }
 
-// .. and all calls.
 fn call_of(name: &str) -> Option<Do> {
     match look_of(name) {
         None => change_of(name),
@@ -230,7 +224,7 @@ fn call_of(name: &str) -> Option<Do> {
     }
 }
 
-// The kind of an insertion by pointers, where there is such a word, or none, ...
+// Returns the kind of an insertion by pointers. An empty word is a lone link.
 fn kind_of<P: Copy, I: Copy>(kind: &str, p: P, q: P, i: I, j: I) -> Option<InsertKindBody<P, I>> {
     match kind {
         "" | "Disconnected" => Some(InsertKindBody::Disconnected),
@@ -248,7 +242,6 @@ fn kind_of<P: Copy, I: Copy>(kind: &str, p: P, q: P, i: I, j: I) -> Option<Inser
     }
 }
 
-// .. or by indexes.
 fn kind_by_index_of<P: Copy, I: Copy>(kind: &str, i: I, j: I) -> Option<InsertKindBody<P, I>> {
     match kind {
         "ChainEndInx" => Some(InsertKindBody::ChainEndInx(i)),
@@ -264,7 +257,7 @@ fn kind_by_index_of<P: Copy, I: Copy>(kind: &str, i: I, j: I) -> Option<InsertKi
     }
 }
 
-// What a call of a kind asks with these numbers, if there is such a kind.
+// Returns a call with these numbers, if there is such a kind.
 fn with_numbers<P: Numbered>(call: Do, kind: &str, numbers: [u32; 4], t: u32) -> Option<Asked<P>> {
     let [n, g, l, h] = numbers;
     let (p, q) = (at::<P>((n, g)), at::<P>((l, h)));
@@ -284,7 +277,7 @@ fn with_numbers<P: Numbered>(call: Do, kind: &str, numbers: [u32; 4], t: u32) ->
     }
 }
 
-// What a line asks, if there is such a call, and such a kind.
+// Returns the call of a line, if there is such a call and such a kind.
 pub(super) fn asked<P: Numbered>(line: &str) -> Option<Asked<P>> {
     let words = read(line);
     match call_of(words.name) {

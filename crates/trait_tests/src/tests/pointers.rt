@@ -3,7 +3,7 @@
 use arena_ptr::{Gen8, Gen32, Inx8, Inx64, PackedOption, Ptr, PtrGen, PtrInx};
 use std::fmt;
 
-// A pointer of an index and a generation, of whatever types.
+// A pointer of an index and a generation of any types.
 #[derive(Clone, Copy, Debug, PartialEq, Eq, PartialOrd, Ord, Hash)]
 pub(super) struct Pair<I, G> {
     inx: I,
@@ -69,13 +69,16 @@ impl<I: PtrInx, G: PtrGen> Ptr for Pair<I, G> {
     }
 }
 
-// 8 bits of index and 8 bits of generation; an index of 8 bits alone; 64 bits of index; one bit of index alone.
+// An 8-bit index with an 8-bit generation.
 pub(super) type SmallPtr = Pair<Inx8, Gen8>;
 
+// An 8-bit index alone.
 pub(super) type BarePtr = Pair<Inx8, ()>;
 
+// A 64-bit index with a 32-bit generation.
 pub(super) type WidePtr = Pair<Inx64, Gen32>;
 
+// A one-bit index alone.
 pub(super) type TinyPtr = Pair<TinyInx, ()>;
 
 // An index of one bit: 1 or 2.

@@ -1,4 +1,4 @@
-//! Calls on arenas of links as lines of texts, each with the text of its answer.
+//! Calls on arenas of links as lines of texts, each with the text of its result.
 
 use super::advancers::{changes_met, met, met_along};
 use super::generic_code::{add_behind, count_of_links, take_next};
@@ -13,7 +13,6 @@ use std::alloc::Global;
 use std::mem;
 use std::process::Abort;
 
-// The value that another takes the place of.
 pub(super) fn overwritten(slot: Option<&mut u32>, value: u32) -> Option<u32> {
     match slot {
         Some(t) => Some(mem::replace(t, value)),
@@ -21,7 +20,6 @@ pub(super) fn overwritten(slot: Option<&mut u32>, value: u32) -> Option<u32> {
     }
 }
 
-// Whether an arena that is born with room for so many links is empty, and has the room.
 fn born<P: PtrKey, A: ChainArenaTrait<P, u32> + Drop>(
     alloc: Global,
     n: usize,
@@ -30,14 +28,15 @@ fn born<P: PtrKey, A: ChainArenaTrait<P, u32> + Drop>(
     Ok((born.is_empty(), born.capacity() >= n))
 }
 
-// Clears an arena, and tells whether its capacity stays.
+// Clears an arena, and returns whether its capacity is kept.
 fn cleared<P: PtrKey, A: ArenaTrait<P, u32>>(arena: &mut A) -> (InvalidationOption<()>, bool) {
     let capacity = arena.capacity();
     let answer = arena.clear();
     (answer, arena.capacity() == capacity)
 }
 
-// Closes the gaps, adds ten times the number of its call to each value, and lists what the closure saw.
+// Compresses, adds ten times the number of the closure's call to each value, and lists what the
+// closure was given.
 fn compressed<P: PtrKey, A: ArenaTrait<P, u32>>(
     alloc: Global,
     arena: &mut A,
@@ -53,7 +52,6 @@ fn compressed<P: PtrKey, A: ArenaTrait<P, u32>>(
     (answer, seen)
 }
 
-// A generation as a number, where there is one.
 fn counted<P: Numbered>(generation: Option<P::Gen>) -> Option<u32> {
     match generation {
         Some(generation) => Some(P::number_of(generation)),
@@ -61,7 +59,6 @@ fn counted<P: Numbered>(generation: Option<P::Gen>) -> Option<u32> {
     }
 }
 
-// The generation of an entry as a number, and its value.
 fn standing<P: Numbered, T: Drop>(entry: Option<(P::Gen, T)>) -> Option<(u32, T)> {
     match entry {
         Some((generation, t)) => Some((P::number_of(generation), t)),
@@ -69,7 +66,6 @@ fn standing<P: Numbered, T: Drop>(entry: Option<(P::Gen, T)>) -> Option<(u32, T)
     }
 }
 
-// An index as a number, 0 for none.
 fn index_told<I: InxKey>(i: Option<I>) -> u32 {
     match i {
         Some(i) => number(i),
@@ -77,13 +73,13 @@ fn index_told<I: InxKey>(i: Option<I>) -> u32 {
     }
 }
 
-// A link by the indexes of the links before it and after it, and its value.
+// Returns a link's neighbors as indexes, and its value.
 fn bare<P: PtrKey>(link: &LinkNoGen<P, u32>) -> (u32, u32, u32) {
     let (prev, next) = link.prev_next();
     (index_told(prev), index_told(next), link.t)
 }
 
-// .. by pointers to these.
+// Returns a link's neighbors as pointers, and its value.
 fn with_pointers<P: Numbered>(link: Option<Link<P, &u32>>) -> Option<(At, At, u32)> {
     match link {
         Some(link) => {
@@ -94,7 +90,6 @@ fn with_pointers<P: Numbered>(link: Option<Link<P, &u32>>) -> Option<(At, At, u3
     }
 }
 
-// .. at an index, behind its generation.
 fn bare_at<P: Numbered, A: ChainArenaTrait<P, u32>>(
     arena: &A,
     i: P::Inx,
@@ -105,7 +100,6 @@ fn bare_at<P: Numbered, A: ChainArenaTrait<P, u32>>(
     }
 }
 
-// .. of a removal.
 fn removed<P: PtrKey>(
     answer: InvalidationResult<LinkNoGen<P, u32>>,
 ) -> InvalidationResult<(u32, u32, u32)> {
@@ -118,7 +112,6 @@ fn removed<P: PtrKey>(
     }
 }
 
-// .. to a look at values, ...
 fn look<P: Numbered, A: ChainArenaTrait<P, u32> + Drop>(
     alloc: Global,
     arena: &A,
@@ -137,7 +130,6 @@ fn look<P: Numbered, A: ChainArenaTrait<P, u32> + Drop>(
     }
 }
 
-// .. along all values, ...
 fn look_along<P: Numbered, A: ChainArenaTrait<P, u32> + Drop>(
     alloc: Global,
     arena: &A,
@@ -161,7 +153,6 @@ fn look_along<P: Numbered, A: ChainArenaTrait<P, u32> + Drop>(
     }
 }
 
-// .. to a look at links, ...
 fn look_at_links<P: Numbered, A: ChainArenaTrait<P, u32>>(
     alloc: Global,
     arena: &A,
@@ -178,7 +169,6 @@ fn look_at_links<P: Numbered, A: ChainArenaTrait<P, u32>>(
     }
 }
 
-// .. along them.
 fn look_along_links<P: Numbered, A: ChainArenaTrait<P, u32>>(
     alloc: Global,
     arena: &A,
@@ -193,7 +183,7 @@ fn look_along_links<P: Numbered, A: ChainArenaTrait<P, u32>>(
     }
 }
 
-// The answer to a call of the traits: to a change of links, ...
+// Runs a call of the traits.
 pub(super) fn answer<P: Numbered, A: ChainArenaTrait<P, u32> + CompactArenaTrait<P, u32> + Drop>(
     alloc: Global,
     arena: &mut A,
@@ -211,7 +201,6 @@ pub(super) fn answer<P: Numbered, A: ChainArenaTrait<P, u32> + CompactArenaTrait
     }
 }
 
-// .. to another change of links, ...
 fn change_links<P: Numbered, A: ChainArenaTrait<P, u32> + CompactArenaTrait<P, u32> + Drop>(
     alloc: Global,
     arena: &mut A,
@@ -229,7 +218,6 @@ fn change_links<P: Numbered, A: ChainArenaTrait<P, u32> + CompactArenaTrait<P, u
     }
 }
 
-// .. to a change of any arena, ...
 fn change<P: Numbered, A: ChainArenaTrait<P, u32> + Drop>(
     alloc: Global,
     arena: &mut A,
@@ -248,7 +236,6 @@ fn change<P: Numbered, A: ChainArenaTrait<P, u32> + Drop>(
     }
 }
 
-// .. to a change of all of it, ...
 fn change_whole<P: Numbered, A: ChainArenaTrait<P, u32> + Drop>(
     alloc: Global,
     arena: &mut A,
@@ -263,16 +250,16 @@ fn change_whole<P: Numbered, A: ChainArenaTrait<P, u32> + Drop>(
     }
 }
 
-// An arena of links that answers calls.
+// An arena of links that runs calls.
 pub(super) trait Answers {
-    // Begins anew.
+    // Replaces the arena with a new one.
     fn renew(&mut self, alloc: Global);
 
-    // The text of the answer to a call, if there is such a call, and memory for it.
+    // Returns the text of a call's result, if there is such a call and memory for the text.
     fn answer(&mut self, alloc: Global, call: &str) -> Option<String>;
 }
 
-// A line begins a new arena, or its call has the answer after the sign.
+// Replaces the arena, or checks the result of a call.
 fn plays_line<A: Answers>(rt: &impl Abort, alloc: Global, arena: &mut A, line: &str) {
     match line.split_once(" = ") {
         Some((call, want)) => {
@@ -286,7 +273,6 @@ fn plays_line<A: Answers>(rt: &impl Abort, alloc: Global, arena: &mut A, line: &
     }
 }
 
-// All lines of a table.
 pub(super) fn plays<A: Answers>(rt: &impl Abort, alloc: Global, arena: &mut A, table: &str) {
     let mut rest = table;
     for _ in 0..table.len() {

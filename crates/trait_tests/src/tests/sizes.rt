@@ -1,18 +1,18 @@
-//! How many bytes a slot takes, and that links may be copied where their values may.
+//! Tests of how many bytes a slot takes, and that links are `Copy` if their values are.
 ghost use Rattle.std.specs.Prelude.{◌≡◌};
 
 use arena_base::ArenaSlot;
 use arena_ptr::{Ptr, ToolPtr};
 use chain_arena::LinkNoGen;
 
-// A slot of links: the tag, the generation, the two interlinks, the destination and the value, four bytes each.
+// A slot of links has the tag, the generation, the two interlinks, the destination and the value,
+// four bytes each.
 fn slot_size() -> usize
     ensures { result ≡ 24 }
 {
     size_of::<ArenaSlot<ToolPtr, LinkNoGen<ToolPtr, u32>>>()
 }
 
-// A link twice.
 fn twice<P: Ptr, T: Copy>(link: LinkNoGen<P, T>) -> (LinkNoGen<P, T>, LinkNoGen<P, T>)
     ensures { result ≡ (link, link) }
 {

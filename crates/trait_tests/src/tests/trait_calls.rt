@@ -1,7 +1,8 @@
-//! What is known of any arena of links by its traits alone, as lines of a text. A line `# ..` begins a new arena, and any other is
-//! a call and the text of its answer. `All` lists each link: its pointer, its value, and the pointers before and after it.
+//! Rows that any arena of links satisfies by its traits alone.
+//!
+//! A line `# ..` makes a new arena, any other is a call and the text of its result. `All` lists
+//! each link: pointer, value, and the pointers before and after it.
 
-// What any arena of links meets.
 pub(super) const ROWS: &str = "\
 # What connects and what is refused.
 # two lone links, each of which then names the other
@@ -358,7 +359,7 @@ All = [((1, 4), 12, (1, 4), (1, 4)), ((2, 4), 23, (0, 0), (3, 4)), ((3, 4), 34, 
 Insert Disconnected 9 = Ok(P0[4](4))
 ";
 
-// What an advancer answers after its first `None`: no more, or all once again.
+// After its first `None`, an advancer returns `None` again.
 pub(super) const NONE_THEN_NONE: &str = "\
 # nothing after the last
 InsertMany 2 = 2
@@ -366,6 +367,7 @@ Connect 1 2 2 2 = Some(())
 Advance 4 = [(1, 2), (2, 2), (0, 0), (0, 0), (0, 0)]
 ";
 
+// After its first `None`, an advancer begins anew.
 pub(super) const NONE_THEN_AGAIN: &str = "\
 # the first one again after the last
 InsertMany 2 = 2

@@ -1,4 +1,4 @@
-//! Chains carried over to another arena.
+//! Tests of transfers of chains to another arena.
 
 use super::parser::Do;
 use super::pointers::BarePtr;
@@ -9,8 +9,8 @@ use chain_arena::{ChainArena, ChainArenaTrait, LinkInsertKind};
 use std::alloc::Global;
 use std::fmt::Debug;
 
-// Where links are carried to, or refused: an arena with a maximum and links of these values, rings of one or lone ones. Each value
-// there is answered by the closure, if it is told one.
+// The target of a transfer: its maximum, and links of these values, rings of one or lone ones. The
+// closure returns `answered` for each value, if there is one.
 #[derive(Drop)]
 struct Place {
     most: usize,
@@ -19,8 +19,9 @@ struct Place {
     answered: Option<u32>,
 }
 
-// The place of a call: one of 8 bits of index, with two rings in it and a maximum of as many links; a full one with a maximum of
-// two links; one of none, where each value is five; and one of two links.
+// Returns the target of a call. `CarryToBare` has 8-bit indexes, two rings and a maximum of `n`.
+// `CarryToFull` has two links and a maximum of two. `CarryAsFive` is empty, and makes each value 5.
+// Any other has two links.
 fn place_of(call: Do, n: u32) -> Place {
     let (most, is_ring, values, answered): (usize, bool, &'static [u32], Option<u32>) = match call {
         Do::CarryToBare => (n as usize, true, &[5, 6], None),
@@ -36,7 +37,6 @@ fn place_of(call: Do, n: u32) -> Place {
     }
 }
 
-// An arena with a maximum and links.
 fn arena_at<P: PtrKey, S: LimitStack<Item = Slot<P>>>(
     alloc: Global,
     place: &Place,
@@ -53,9 +53,10 @@ fn arena_at<P: PtrKey, S: LimitStack<Item = Slot<P>>>(
     arena
 }
 
-// Carries all links of a source over, and adds ten times the number of the closure's call to each value, or answers one value
-// for all. Tells the answer and what the closure saw in each call: the pointer before, the value, whether its removal overflowed,
-// and the pointer now.
+// Transfers all links of a source. The closure adds ten times the number of its call to each value,
+// or returns `answered`.
+// Returns the result, and for each call of the closure the old pointer, the value, whether its
+// removal overflowed, and the new pointer.
 fn carry<
     P: PtrKey + Debug,
     Q: PtrKey + Debug,
@@ -79,7 +80,7 @@ fn carry<
     text(alloc, (answer, seen))
 }
 
-// What a chain arena shows: its links, its counter, its maximum, and whether its room is little, as for so few links.
+// Returns the links, counter and maximum, and whether the capacity is at most 64.
 fn shown<Q: Ptr, S: SlotStack<Item = Slot<Q>>>(
     alloc: Global,
     arena: &ChainArena<Q, u32, S>,
@@ -89,7 +90,6 @@ fn shown<Q: Ptr, S: SlotStack<Item = Slot<Q>>>(
     text(alloc, (arena, counter, arena.max_capacity(), is_little))
 }
 
-// Two texts as one.
 fn joined(alloc: Global, told: Option<String>, shown: Option<String>) -> Option<String> {
     match (told, shown) {
         (Some(told), Some(shown)) => format!(in alloc; "{told} {shown}").ok(),
@@ -97,7 +97,8 @@ fn joined(alloc: Global, told: Option<String>, shown: Option<String>) -> Option<
     }
 }
 
-// Carries all links of a source over to such an arena. Tells the answer, what the closure saw, and what the arena shows then.
+// Transfers all links to a new target. Returns the result and the closure's arguments, and the
+// target then.
 fn carried_to<
     P: PtrKey + Debug,
     Q: Ptr,
@@ -109,7 +110,6 @@ fn carried_to<
     joined(alloc, told, shown(alloc, &target))
 }
 
-// The answer to a transfer.
 pub(super) fn carried<P: PtrKey + Debug, A: ChainArenaTrait<P, u32> + CompactArenaTrait<P, u32>>(
     alloc: Global,
     source: &mut A,
@@ -123,8 +123,8 @@ pub(super) fn carried<P: PtrKey + Debug, A: ChainArenaTrait<P, u32> + CompactAre
     carried_to::<P, ToolPtr, A, LimitedStack<Slot<ToolPtr>>>(alloc, source, Gen32::of(n), &place)
 }
 
-// A chain of 3 and 1, and a lone link between them; and others. Some have the generation that a compression of the same links gives
-// them, which lays them out alike.
+// Transfers of a chain of 3 and 1 with a lone link between, and of others. Some have the generation
+// of a compression, which arranges the same links alike.
 pub(super) const TRANSFERS: &str = "\
 # a ring and a chain behind a hole
 Insert Disconnected 1 = Ok(P0[1](2))

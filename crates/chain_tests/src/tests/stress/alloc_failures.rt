@@ -1,6 +1,8 @@
-//! Requests for memory that are refused: nothing has changed then, and a second try answers what the first would have. Here
-//! each growth is refused, over a stack that refuses every other one; `tools/test_alloc_failures` refuses each request for memory in turn,
-//! in the tests that bear it.
+//! Tests that a refused allocation changes nothing, and that a second attempt has the result that
+//! the first would have had.
+//!
+//! Here a stack refuses every other growth. `tools/test_alloc_failures` refuses each request for
+//! memory in turn, in the tests that allow it.
 
 use super::{ChainsOver, Rationed, Slot, same};
 use crate::tests::call_lists::check_refused_list;
@@ -13,7 +15,7 @@ use arena_ptr::{ChunkStack, HeapStack, LimitedStack, SlotStack, ToolPtr};
 use std::alloc::Global;
 use std::process::Abort;
 
-// Calls that need more room than there is, on an arena whose capacity is used up.
+// Calls that need more capacity than a full arena has.
 const GROWTHS: [Do; 7] = [
     Do::Reserve(100),
     Do::InsertAsked(Kind::NextTo((1, 2)), 7),
@@ -24,17 +26,16 @@ const GROWTHS: [Do; 7] = [
     Do::CarryIn(70),
 ];
 
-// Calls that need more room than an arena with holes has.
+// Calls that need more capacity than an arena with holes has.
 const GROWTHS_BESIDE_HOLES: [Do; 3] = [Do::Reserve(100), Do::CopyOver(70), Do::CarryIn(70)];
 
-// .. that make an arena anew, ...
+// Calls that make a new arena.
 const BIRTHS: [Do; 2] = [Do::Clone, Do::Birth(100)];
 
-// .. and that ask for memory, but not for more room.
+// Calls that request memory, but no capacity.
 const LISTS: [Do; 2] = [Do::TwoCalls, Do::MovesListed(false)];
 
-// What asks for no memory, on an arena whose capacity is used up: gaps closed, chains laid, links removed and inserted within the
-// capacity, and links carried over to an arena with room for them.
+// Calls on a full arena that request no memory.
 const NO_GROWTHS: [Do; 9] = [
     Do::RemoveLink((1, 2)),
     Do::Compress(false),
@@ -47,10 +48,9 @@ const NO_GROWTHS: [Do; 9] = [
     Do::CarryIn(2),
 ];
 
-// A slot of a number alone.
 type Bare = ArenaSlot<ToolPtr, u32>;
 
-// On a new arena that refuses every other growth.
+// A new arena that refuses every other growth.
 static REFUSED: [Script; 1] = [(
     "links that are carried over: neither arena has changed, and then both have",
     0,
@@ -75,20 +75,20 @@ fn refused() -> &'static [Script] {
     &REFUSED
 }
 
-// Whether an answer tells of a refusal, or of what is not so.
+// Returns whether a result reports an error or `false`.
 fn is_refused<A: Answers>(alloc: Global, arena: &mut A, call: Do) -> bool {
     let answer = arena.answer(alloc, call);
     answer.contains("Err") || answer.contains("false")
 }
 
-// An arena whose capacity is used up, or one with holes.
+// Returns a full arena, or one with holes.
 fn begun<A: Answers>(alloc: Global, begin: Do) -> A {
     let mut arena = A::fresh(alloc);
     arena.answer(alloc, begin);
     arena
 }
 
-// All that an arena shows: its links, its counter and room, and its slots, free ones too.
+// All that an arena reports: links, counter, capacity, and all slots.
 type Shown = (String, String, String);
 
 fn shown<A: Answers>(alloc: Global, arena: &mut A) -> Shown {
@@ -97,8 +97,8 @@ fn shown<A: Answers>(alloc: Global, arena: &mut A) -> Shown {
     (links, room, arena.answer(alloc, Do::SlotsListed))
 }
 
-// Whether a call was refused at first, what the arena shows after it, and where the next link comes to. A refusal changes nothing,
-// and a second try is not refused.
+// Returns whether a call is refused at first, and the arena and the next pointer after it. Checks
+// that a refusal changes nothing, and that a second attempt succeeds.
 fn grown<A: Answers + Drop>(
     rt: &impl Abort,
     alloc: Global,
@@ -122,7 +122,8 @@ fn grown<A: Answers + Drop>(
     )
 }
 
-// What asks for no memory is not refused, and the next growth is.
+// Checks that calls without requests for memory succeed. Returns whether the next growth is
+// refused.
 fn next_is_refused<A: Answers + Drop>(rt: &impl Abort, alloc: Global) -> bool {
     let mut arena: A = begun(alloc, Do::Fill);
     for call in NO_GROWTHS {
@@ -132,7 +133,7 @@ fn next_is_refused<A: Answers + Drop>(rt: &impl Abort, alloc: Global) -> bool {
     is_refused(alloc, &mut arena, Do::Reserve(100))
 }
 
-// Calls on an arena that refuses each growth at first, and on one that does not.
+// Compares an arena that refuses each growth at first with one that does not.
 fn check_grown<A: Answers + Drop, B: Answers + Drop>(
     rt: &impl Abort,
     alloc: Global,
@@ -146,7 +147,7 @@ fn check_grown<A: Answers + Drop, B: Answers + Drop>(
     }
 }
 
-// Each growth. What makes an arena anew is refused each time.
+// Checks each growth. A call that makes a new arena is refused each time.
 fn check_growths<A: Answers + Drop, B: Answers + Drop>(rt: &impl Abort, alloc: Global) {
     check_grown::<A, B>(rt, alloc, Do::Fill, &GROWTHS);
     check_grown::<A, B>(rt, alloc, Do::Dig, &GROWTHS_BESIDE_HOLES);
@@ -161,7 +162,6 @@ fn check_growths<A: Answers + Drop, B: Answers + Drop>(rt: &impl Abort, alloc: G
     same(rt, "the next growth is refused", next, true);
 }
 
-// What two arenas show.
 type BothShown = (Shown, Shown);
 
 fn both_shown<A: Answers>(alloc: Global, source: &mut A, target: &mut A) -> BothShown {
@@ -169,8 +169,8 @@ fn both_shown<A: Answers>(alloc: Global, source: &mut A, target: &mut A) -> Both
     (first, shown(alloc, target))
 }
 
-// Whether a transfer of many links was refused at first, and what both arenas show after it. Both have holes. A refusal changes
-// neither, and a second try is not refused.
+// Returns whether a transfer of many links between arenas with holes is refused at first, and both
+// arenas after it. Checks that a refusal changes neither, and that a second attempt succeeds.
 fn carried<S: SlotStack<Item = Slot>>(rt: &impl Abort, alloc: Global) -> (bool, BothShown) {
     let mut source: ChainsOver<S> = with_a_hole(alloc, 70);
     let mut target: ChainsOver<S> = begun(alloc, Do::Dig);
@@ -185,21 +185,22 @@ fn carried<S: SlotStack<Item = Slot>>(rt: &impl Abort, alloc: Global) -> (bool, 
     (refused, both_shown(alloc, &mut source, &mut target))
 }
 
-// .. over a stack that refuses it at first, and over one that does not.
+// Compares a stack that refuses the transfer at first with one that does not.
 fn check_carried<S: SlotStack<Item = Slot>>(rt: &impl Abort, alloc: Global) {
     let (_, want) = carried::<S>(rt, alloc);
     let got = carried::<Rationed<S>>(rt, alloc);
     same(rt, "refused at first", got, (true, want));
 }
 
-// What is refused over any stack. Of a list of calls the first one is refused, and the second one is not.
+// Checks refusals over any stack. The first call of a list is refused, and the second is not.
 pub(super) fn check_all<S: SlotStack<Item = Slot>>(rt: &impl Abort, alloc: Global) {
     check_growths::<ChainsOver<Rationed<S>>, ChainsOver<S>>(rt, alloc);
     check_carried::<S>(rt, alloc);
     check_refused_list::<Rationed<S>>(rt, alloc);
 }
 
-// Each call that may ask for memory. Wherever one request of all is refused, nothing has changed then, and a second try is not.
+// Checks each call that may request memory: if any one request is refused, nothing changes, and a
+// second attempt succeeds.
 fn check_bearing<A: Answers + Drop>(rt: &impl Abort, alloc: Global, begin: Do) {
     for calls in [&GROWTHS[..], &BIRTHS[..], &LISTS[..]] {
         for call in calls {
@@ -208,7 +209,6 @@ fn check_bearing<A: Answers + Drop>(rt: &impl Abort, alloc: Global, begin: Do) {
     }
 }
 
-// .. at a stack.
 fn check_bearing_links<S: SlotStack<Item = Slot>>(rt: &impl Abort, alloc: Global) {
     for begin in [Do::Fill, Do::Dig] {
         check_bearing::<ChainsOver<S>>(rt, alloc, begin);
@@ -216,7 +216,7 @@ fn check_bearing_links<S: SlotStack<Item = Slot>>(rt: &impl Abort, alloc: Global
     let _ = carried::<S>(rt, alloc);
 }
 
-// .. and of a copy to a plain arena, which is not refused twice.
+// Checks also a copy to a plain arena, which is not refused twice.
 fn check_bearing_copies<S: SlotStack<Item = Slot>, R: SlotStack<Item = Bare>>(
     rt: &impl Abort,
     alloc: Global,

@@ -1,4 +1,4 @@
-//! A plain model of chains: lists of the values of their links, which differ from one another. 0 is the value of no link.
+//! A plain model of chains: lists of the distinct values of their links. 0 is the value of no link.
 
 use chain_arena::InsertKindBody;
 use std::alloc::Global;
@@ -14,7 +14,6 @@ pub(super) struct Chain {
     pub(super) is_cyclic: bool,
 }
 
-// All chains.
 #[derive(Drop)]
 pub(super) struct Lists {
     alloc: Global,
@@ -27,7 +26,6 @@ impl Lists {
         Lists { alloc, chains }
     }
 
-    // The number of links.
     pub(super) fn count(&self) -> usize {
         let mut count = 0usize;
         for chain in &self.chains {
@@ -36,7 +34,7 @@ impl Lists {
         count
     }
 
-    // The chain of a link, and the link's place in it.
+    // Returns the chain of a link, and the link's position.
     fn find(&self, t: u32) -> Option<(usize, usize)> {
         for (c, chain) in self.chains.iter().enumerate() {
             if let Some(k) = chain.values.iter().position(|x| *x == t) {
@@ -50,7 +48,6 @@ impl Lists {
         self.find(t).is_some()
     }
 
-    // The link after a link.
     fn next(&self, t: u32) -> Option<u32> {
         let (c, k) = self.find(t)?;
         let chain = self.chains.get(c)?;
@@ -60,7 +57,6 @@ impl Lists {
         }
     }
 
-    // The link before a link.
     fn prev(&self, t: u32) -> Option<u32> {
         let (c, k) = self.find(t)?;
         let chain = self.chains.get(c)?;
@@ -73,7 +69,7 @@ impl Lists {
         }
     }
 
-    // Takes the chain of a link out of the lists, with the link's place in it.
+    // Removes the chain of a link, and returns it with the link's position.
     fn take(&mut self, t: u32) -> Option<(Chain, usize)> {
         let (c, k) = self.find(t)?;
         if c < self.chains.len() {
@@ -91,7 +87,7 @@ impl Lists {
         }
     }
 
-    // Cuts a chain after a link, and tells whether there was a link after it.
+    // Cuts a chain after a link, and returns whether a link followed.
     pub(super) fn cut(&mut self, rt: &impl Abort, t: u32) -> bool {
         if self.next(t).is_none() {
             return false;
@@ -111,7 +107,7 @@ impl Lists {
         true
     }
 
-    // .. before a link.
+    // Cuts a chain before a link, and returns whether a link preceded.
     pub(super) fn cut_before(&mut self, rt: &impl Abort, t: u32) -> bool {
         match self.prev(t) {
             Some(prev) => self.cut(rt, prev),
@@ -119,7 +115,7 @@ impl Lists {
         }
     }
 
-    // Ties the end of a chain to the start of one, which is the same one or another.
+    // Joins the end of a chain to the start of the same chain or of another.
     fn tie(&mut self, rt: &impl Abort, t: u32, u: u32) {
         if let Some((chain, _)) = self.take(t) {
             let mut values = chain.values;
@@ -135,16 +131,17 @@ impl Lists {
         }
     }
 
-    // Whether a link is the end of a linear chain; .. the start of one.
+    // Returns whether a link ends a linear chain.
     fn is_end(&self, t: u32) -> bool {
         self.has(t) && self.next(t).is_none()
     }
 
+    // Returns whether a link starts a linear chain.
     fn is_start(&self, t: u32) -> bool {
         self.has(t) && self.prev(t).is_none()
     }
 
-    // The links before and after a new one of a kind. `None`: the kind asks for what does not hold.
+    // Returns the neighbors of a new link, or `None` if its kind's requirement fails.
     pub(super) fn gap(&self, kind: Kind) -> Option<(Option<u32>, Option<u32>)> {
         let (holds, before, after) = match kind {
             Kind::ChainEnd(t) | Kind::ChainEndInx(t) => (self.is_end(t), Some(t), None),
@@ -164,7 +161,7 @@ impl Lists {
         if holds { Some((before, after)) } else { None }
     }
 
-    // Adds a link of a kind, and tells whether what the kind asks for holds.
+    // Inserts a link, and returns whether its kind's requirement holds.
     pub(super) fn insert(&mut self, rt: &impl Abort, kind: Kind, t: u32) -> bool {
         let Some((before, after)) = self.gap(kind) else {
             return false;
@@ -183,7 +180,7 @@ impl Lists {
         true
     }
 
-    // Ties the end of a chain to the start of one, and tells whether they are that.
+    // Joins an end to a start, and returns whether they are that.
     pub(super) fn connect(&mut self, rt: &impl Abort, t: u32, u: u32) -> bool {
         let holds = self.is_end(t) && self.is_start(u);
         if holds {
@@ -192,7 +189,7 @@ impl Lists {
         holds
     }
 
-    // Exchanges what comes after two links, and tells whether something does.
+    // Exchanges two next links, and returns whether both exist.
     pub(super) fn exchange(&mut self, rt: &impl Abort, t: u32, u: u32) -> bool {
         let (Some(after_t), Some(after_u)) = (self.next(t), self.next(u)) else {
             return false;
@@ -206,7 +203,7 @@ impl Lists {
         true
     }
 
-    // Takes a link out, ties the links beside it, and tells whether there was one.
+    // Removes a link, joins its neighbors, and returns whether it existed.
     pub(super) fn remove(&mut self, rt: &impl Abort, t: u32) -> bool {
         let (prev, next) = (self.prev(t), self.next(t));
         self.cut_before(rt, t);
@@ -219,7 +216,7 @@ impl Lists {
         self.take(t).is_some()
     }
 
-    // Takes a chain out, and tells whether there was one.
+    // Removes a chain, and returns whether it existed.
     pub(super) fn drain(&mut self, t: u32) -> bool {
         self.take(t).is_some()
     }

@@ -1,4 +1,4 @@
-//! A long run of random calls, held against plain lists after each.
+//! Long runs of random calls, compared with plain lists after each call.
 
 use super::model::{Chain, Lists};
 use super::{ChainsOver, Slot, same};
@@ -11,14 +11,14 @@ use chain_arena::{Call, ChainArenaTrait, InsertKindBody, Reply, run_calls};
 use std::alloc::Global;
 use std::process::Abort;
 
-// Numbers that look random, each from the one before.
+// A generator of pseudorandom numbers.
 #[derive(Drop)]
 struct Numbers {
     state: u64,
 }
 
 impl Numbers {
-    // The next one, below n.
+    // Returns the next number, below n.
     fn below(&mut self, n: u32) -> u32 {
         let state = self.state.wrapping_mul(6364136223846793005);
         self.state = state.wrapping_add(1442695040888963407);
@@ -29,7 +29,7 @@ impl Numbers {
     }
 }
 
-// Which call is made, with so many chances each.
+// A call, drawn by its weight in `CHANCES`.
 #[derive(Clone, Copy)]
 enum Which {
     Insert,
@@ -69,8 +69,7 @@ const CHANCES: [(Which, u32); 16] = [
     (Which::IncGeneration, 3),
 ];
 
-// A step: its call, and what that may name: two links by their pointers and two by their indexes, a kind of insertion by
-// its place among the kinds, and a number.
+// A call and its arguments: two pointers, two indexes, the number of a kind, and a number.
 #[derive(Clone, Copy)]
 struct Step {
     which: Which,
@@ -82,7 +81,7 @@ struct Step {
     n: u32,
 }
 
-// The values of the links that a step names, 0 where there is none.
+// The values of the links that a step names, 0 for none.
 #[derive(Clone, Copy)]
 struct Named {
     p: u32,
@@ -91,7 +90,7 @@ struct Named {
     j: u32,
 }
 
-// A kind by its place among the kinds.
+// Returns the kind of a number.
 fn kind_of<P: Copy, I: Copy>(place: u32, p: P, q: P, i: I, j: I) -> InsertKindBody<P, I> {
     match place {
         0 => InsertKindBody::SingleLinkCyclic,
@@ -123,10 +122,9 @@ fn kind_by_index<P: Copy, I: Copy>(place: u32, i: I, j: I) -> InsertKindBody<P, 
     }
 }
 
-// How many places there are; from the last one on a new link is alone.
+// The number of kinds; from 13 on a new link is lone.
 const KINDS: u32 = 17;
 
-// The call of a step: on one or two links, ...
 fn call_of(step: Step, t: u32) -> Call<ToolPtr, u32> {
     let Step {
         which,
@@ -154,7 +152,6 @@ fn call_of(step: Step, t: u32) -> Call<ToolPtr, u32> {
     }
 }
 
-// .. or on more.
 fn whole_call_of(step: Step) -> Call<ToolPtr, u32> {
     let n = step.n;
     match step.which {
@@ -173,7 +170,7 @@ fn whole_call_of(step: Step) -> Call<ToolPtr, u32> {
     }
 }
 
-// Makes a step on the lists, and tells whether it is done.
+// Makes a step on the lists, and returns whether it is done.
 fn follow(rt: &impl Abort, lists: &mut Lists, step: Step, named: Named, t: u32) -> bool {
     let Named { p, q, i, j } = named;
     match step.which {
@@ -194,12 +191,11 @@ fn follow(rt: &impl Abort, lists: &mut Lists, step: Step, named: Named, t: u32) 
     }
 }
 
-// Whether an answer tells of a valid pointer or index.
 fn is_valid<T>(answer: &InvalidationResult<T>) -> bool {
     !matches!(answer, InvalidationResult::InvalidPtr)
 }
 
-// Whether a reply tells that the call was done. `None`: it was refused for room or memory.
+// Returns whether a reply reports the call as done, or `None` if capacity or memory was refused.
 fn is_done(reply: &Reply<ToolPtr, u32>) -> Option<bool> {
     match reply {
         Reply::Inserted(Ok(_)) => Some(true),
@@ -214,7 +210,7 @@ fn is_done(reply: &Reply<ToolPtr, u32>) -> Option<bool> {
     }
 }
 
-// The value of a link, 0 for none.
+// Returns the value of a link, 0 for none.
 fn value<S: SlotStack<Item = Slot>>(arena: &ChainsOver<S>, p: ToolPtr) -> u32 {
     arena.get(p).copied().unwrap_or(0)
 }
@@ -226,7 +222,7 @@ fn value_at<S: SlotStack<Item = Slot>>(arena: &ChainsOver<S>, i: Inx32) -> u32 {
     }
 }
 
-// The pointer of a small index: mostly that of the link there, and else of a small generation.
+// Returns a pointer of an index: mostly of the link there, otherwise with a small generation.
 fn pointer<S: SlotStack<Item = Slot>>(
     numbers: &mut Numbers,
     arena: &ChainsOver<S>,
@@ -238,7 +234,6 @@ fn pointer<S: SlotStack<Item = Slot>>(
     }
 }
 
-// Which call is next, by the chances.
 fn draw(numbers: &mut Numbers) -> Which {
     let mut left = numbers.below(129);
     for (which, chances) in CHANCES {
@@ -250,7 +245,6 @@ fn draw(numbers: &mut Numbers) -> Which {
     Which::Insert
 }
 
-// The next step.
 fn next_step<S: SlotStack<Item = Slot>>(numbers: &mut Numbers, arena: &ChainsOver<S>) -> Step {
     let i = index(numbers.below(8).saturating_add(1));
     let j = index(numbers.below(8).saturating_add(1));
@@ -265,7 +259,6 @@ fn next_step<S: SlotStack<Item = Slot>>(numbers: &mut Numbers, arena: &ChainsOve
     }
 }
 
-// What the links are that a step names.
 fn names_of<S: SlotStack<Item = Slot>>(arena: &ChainsOver<S>, step: Step) -> Named {
     Named {
         p: value(arena, step.p),
@@ -275,7 +268,7 @@ fn names_of<S: SlotStack<Item = Slot>>(arena: &ChainsOver<S>, step: Step) -> Nam
     }
 }
 
-// The pointer of a value.
+// Returns the pointer of a value.
 fn pointer_of<S: SlotStack<Item = Slot>>(
     rt: &impl Abort,
     arena: &ChainsOver<S>,
@@ -291,7 +284,7 @@ fn pointer_of<S: SlotStack<Item = Slot>>(
     None
 }
 
-// Looks whether the chain of a link is this one.
+// Checks that the chain of a link is this one.
 fn check_chain<S: SlotStack<Item = Slot>>(rt: &impl Abort, arena: &ChainsOver<S>, chain: &Chain) {
     let first = chain.values.first().copied().unwrap_or(0);
     let p = pointer_of(rt, arena, first).expect(rt, "a link of this value");
@@ -307,7 +300,6 @@ fn check_chain<S: SlotStack<Item = Slot>>(rt: &impl Abort, arena: &ChainsOver<S>
     same(rt, "the end of a walk", walk.next().is_none(), true);
 }
 
-// Looks whether the chains of an arena are the lists.
 fn check<S: SlotStack<Item = Slot>>(rt: &impl Abort, arena: &ChainsOver<S>, lists: &Lists) {
     same(rt, "links", arena.len(), lists.count());
     for chain in &lists.chains {
@@ -315,7 +307,6 @@ fn check<S: SlotStack<Item = Slot>>(rt: &impl Abort, arena: &ChainsOver<S>, list
     }
 }
 
-// The reply to one call.
 fn reply<S: SlotStack<Item = Slot>>(
     rt: &impl Abort,
     alloc: Global,
@@ -327,8 +318,9 @@ fn reply<S: SlotStack<Item = Slot>>(
     replies.pop().expect(rt, "a reply")
 }
 
-// Makes a step on an arena and on the lists, and looks whether both tell the same and have the same chains then. A call
-// that is refused for room is one that the lists could make. Tells whether the call was done.
+// Makes a step on an arena and on the lists, and checks that both report the same and then have the
+// same chains. A refused call must be one that the lists could make. Returns whether the call was
+// done.
 fn check_step<S: SlotStack<Item = Slot>>(
     rt: &impl Abort,
     alloc: Global,
@@ -347,7 +339,7 @@ fn check_step<S: SlotStack<Item = Slot>>(
     done
 }
 
-// Whether the lists could make a step, if there were room.
+// Returns whether the lists could make a step, given capacity.
 fn could_be(lists: &Lists, step: Step, named: Named) -> bool {
     let Named { p, q, i, j } = named;
     match step.which {
@@ -357,7 +349,7 @@ fn could_be(lists: &Lists, step: Step, named: Named) -> bool {
     }
 }
 
-// What happened how often in some runs.
+// How often each outcome occurred.
 #[derive(Clone, Copy)]
 struct Counts {
     done: u32,
@@ -367,7 +359,7 @@ struct Counts {
 }
 
 impl Counts {
-    // One step more.
+    // Counts one step.
     fn count(&mut self, done: Option<bool>, counter_fell: bool) {
         match done {
             Some(true) => self.done = self.done.saturating_add(1),
@@ -380,7 +372,7 @@ impl Counts {
     }
 }
 
-// A run of 100 calls on an arena, each of whose values is the number of its call.
+// Makes 100 calls on an arena. Each value is the number of its call.
 fn check_run<S: SlotStack<Item = Slot>>(
     rt: &impl Abort,
     alloc: Global,
@@ -397,7 +389,6 @@ fn check_run<S: SlotStack<Item = Slot>>(
     }
 }
 
-// Nothing has happened.
 fn no_counts() -> Counts {
     Counts {
         done: 0,
@@ -407,7 +398,7 @@ fn no_counts() -> Counts {
     }
 }
 
-// Looks whether each thing happened often in ten runs, refusals at least so often.
+// Checks that each outcome occurred often in ten runs, refusals at least `refused` times.
 fn check_counts(rt: &impl Abort, counts: Counts, refused: u32) {
     same(rt, "calls that were done", counts.done > 250, true);
     same(rt, "calls that were not", counts.undone > 250, true);
@@ -415,7 +406,7 @@ fn check_counts(rt: &impl Abort, counts: Counts, refused: u32) {
     same(rt, "the counter began anew", counts.counter_fell > 10, true);
 }
 
-// Ten runs, each on a new arena.
+// Makes ten runs, each on a new arena.
 pub(super) fn check_runs<S: SlotStack<Item = Slot>>(rt: &impl Abort, alloc: Global, refused: u32) {
     let mut numbers = Numbers { state: 1 };
     let mut counts = no_counts();
@@ -426,7 +417,7 @@ pub(super) fn check_runs<S: SlotStack<Item = Slot>>(rt: &impl Abort, alloc: Glob
     check_counts(rt, counts, refused);
 }
 
-// .. with a maximum of six.
+// Makes ten runs with a maximum of six.
 pub(super) fn check_limited_runs<S: LimitStack<Item = Slot>>(
     rt: &impl Abort,
     alloc: Global,

@@ -1,4 +1,4 @@
-//! A text edited, renumbered, and its bookmarks followed.
+//! Tests of bookmarks in texts that are edited and renumbered.
 
 use super::documents::{Edit, made, read, shown};
 use super::{Differing, Slot, name, names_of};
@@ -7,7 +7,7 @@ use chain_arena::{ChainArena, ChainArenaTrait};
 use chain_examples::Documents;
 use std::alloc::Global;
 
-// An arena whose texts can be renumbered: what bookmarks ask of one, so that a body need not name it.
+// An arena whose texts can be renumbered, so that no other body names it.
 pub(super) trait Renumbers<P: PtrKey>: ChainArenaTrait<P, u32> + Drop {
     fn renumber(
         texts: &mut Documents<P, u32, Self>,
@@ -26,7 +26,7 @@ impl<P: PtrKey, S: SlotStack<Item = Slot<P>>> Renumbers<P> for ChainArena<P, u32
     }
 }
 
-// Two texts, written in turn, of which a paragraph moves and one goes. Two paragraphs are equal, one in each text.
+// Two texts, written in turn, with a move and a removal. A paragraph of each has the same value.
 const EDITS: [Edit; 8] = [
     Edit::Begin(1),
     Edit::Begin(5),
@@ -38,11 +38,12 @@ const EDITS: [Edit; 8] = [
     Edit::Before(4, 2),
 ];
 
-// The paragraphs that bookmarks name, and what each reads on from its own after the renumbering: of one that is gone, and of
-// none, nothing.
+// The paragraphs of bookmarks, and what each reads from there on after the renumbering: nothing, if
+// it is removed or none.
 const MARKS: [(usize, u32); 7] = [(5, 32), (1, 0), (4, 6), (0, 0), (2, 526), (6, 26), (3, 2)];
 
-// The bookmarks that name these paragraphs; 0 is none. Memory is asked for twice, if it has to be.
+// Returns the bookmarks of these paragraphs, 0 for none, on a second attempt if the first
+// allocation is refused.
 fn marks<P: PtrKey>(alloc: Global, names: &[P]) -> Vec<Option<P>> {
     for _ in 0..2 {
         if let Ok(mut marks) = Vec::with_capacity(alloc, MARKS.len()) {
@@ -56,7 +57,7 @@ fn marks<P: PtrKey>(alloc: Global, names: &[P]) -> Vec<Option<P>> {
     Vec::new(alloc)
 }
 
-// The first edit that is not done.
+// Returns the first edit that is not done.
 fn not_done<P: PtrKey, A: ChainArenaTrait<P, u32> + Drop>(
     texts: &mut Documents<P, u32, A>,
     names: &mut Vec<P>,
@@ -69,7 +70,8 @@ fn not_done<P: PtrKey, A: ChainArenaTrait<P, u32> + Drop>(
     None
 }
 
-// The first bookmark that reads something else, and how many there are; and that a pointer of before is of none.
+// Returns the first bookmark that is missing or reads something else, or `MARKS.len()` if an old
+// pointer is still valid.
 fn followed<P: PtrKey, A: ChainArenaTrait<P, u32> + Drop>(
     texts: &Documents<P, u32, A>,
     before: P,
@@ -87,7 +89,6 @@ fn followed<P: PtrKey, A: ChainArenaTrait<P, u32> + Drop>(
     None
 }
 
-// Whether bookmarks name the same paragraphs as others.
 fn are_same<P: PtrKey>(marks: &[Option<P>], others: &[Option<P>]) -> bool {
     for (mark, other) in marks.iter().zip(others) {
         let is_same = match (mark, other) {
@@ -102,7 +103,8 @@ fn are_same<P: PtrKey>(marks: &[Option<P>], others: &[Option<P>]) -> bool {
     true
 }
 
-// Renumbers again if memory is refused, and returns whether it is done. A refusal changes neither the texts nor the bookmarks.
+// Renumbers, again if memory is refused, and returns whether it is done. A refusal changes neither
+// texts nor bookmarks.
 fn renumbered<P: PtrKey, A: Renumbers<P>>(
     alloc: Global,
     texts: &mut Documents<P, u32, A>,
@@ -118,7 +120,7 @@ fn renumbered<P: PtrKey, A: Renumbers<P>>(
         && A::renumber(texts, alloc, bookmarks)
 }
 
-// The edits, the renumbering, and what each bookmark reads then.
+// Edits, renumbers, and checks what each bookmark reads.
 pub(super) fn differing<P: PtrKey, A: Renumbers<P>>(alloc: Global) -> Differing {
     let mut texts = Documents::<P, u32, A>::new(alloc);
     let mut names = names_of(alloc);

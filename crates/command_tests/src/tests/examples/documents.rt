@@ -1,4 +1,4 @@
-//! A text edited: paragraphs come, move and go, and its parts change places.
+//! Tests of texts: their paragraphs are inserted, moved and removed, and their parts rearranged.
 
 use super::{Differing, name, names_of, noted, number, with_digit, with_pair};
 use arena_ptr::PtrKey;
@@ -6,7 +6,7 @@ use chain_arena::ChainArenaTrait;
 use chain_examples::Documents;
 use std::alloc::Global;
 
-// What is done with texts, whose paragraphs are named by the order in which they came.
+// A change of texts. Paragraphs are numbered in the order of their insertion.
 #[derive(Clone, Copy)]
 pub(super) enum Edit {
     Begin(u32),
@@ -17,13 +17,13 @@ pub(super) enum Edit {
     Join(usize, usize),
     Move(usize, usize),
     Remove(usize),
-    // A paragraph gets another value; the arena grows to capacity for so many more; there are so many.
+    // Sets a paragraph, reserves capacity for this many more, and checks their number.
     Write(usize, u32),
     Reserve(usize),
     Count(usize),
 }
 
-// An edit, whether it is done, a paragraph, and the text from that one on, and then back from it.
+// An edit, whether it is done, a paragraph, and the text from it on, and back from it.
 type Row = (Edit, bool, usize, u32, u32);
 
 const ROWS: [Row; 25] = [
@@ -54,7 +54,6 @@ const ROWS: [Row; 25] = [
     (Edit::After(1, 5), false, 3, 2, 2),
 ];
 
-// The paragraphs that an edit names, and its value; 0 for none.
 fn named(edit: Edit) -> (usize, usize, u32) {
     match edit {
         Edit::Begin(t) => (0, 0, t),
@@ -65,7 +64,7 @@ fn named(edit: Edit) -> (usize, usize, u32) {
     }
 }
 
-// Does an edit, and tells whether it is done: a paragraph comes, ...
+// Makes an edit, and returns whether it is done.
 fn edited<P: PtrKey, A: ChainArenaTrait<P, u32> + Drop>(
     texts: &mut Documents<P, u32, A>,
     names: &mut Vec<P>,
@@ -84,7 +83,6 @@ fn edited<P: PtrKey, A: ChainArenaTrait<P, u32> + Drop>(
     }
 }
 
-// A paragraph gets another value.
 fn written<P: PtrKey, A: ChainArenaTrait<P, u32> + Drop>(
     texts: &mut Documents<P, u32, A>,
     p: P,
@@ -99,7 +97,6 @@ fn written<P: PtrKey, A: ChainArenaTrait<P, u32> + Drop>(
     }
 }
 
-// .. or none.
 fn moved<P: PtrKey, A: ChainArenaTrait<P, u32> + Drop>(
     texts: &mut Documents<P, u32, A>,
     edit: Edit,
@@ -115,7 +112,7 @@ fn moved<P: PtrKey, A: ChainArenaTrait<P, u32> + Drop>(
     }
 }
 
-// The paragraphs from one on, or back from it.
+// Returns the paragraphs from one on, or back from it.
 pub(super) fn read<P: PtrKey, A: ChainArenaTrait<P, u32> + Drop>(
     texts: &Documents<P, u32, A>,
     from: Option<P>,
@@ -133,7 +130,7 @@ pub(super) fn read<P: PtrKey, A: ChainArenaTrait<P, u32> + Drop>(
     all
 }
 
-// Returns what the texts show of each paragraph that came: the paragraph and the one after it.
+// Returns each paragraph with the number of the next one.
 pub(super) fn shown<P: PtrKey, A: ChainArenaTrait<P, u32> + Drop>(
     texts: &Documents<P, u32, A>,
     names: &[P],
@@ -146,7 +143,8 @@ pub(super) fn shown<P: PtrKey, A: ChainArenaTrait<P, u32> + Drop>(
     all
 }
 
-// Does an edit again if memory is refused to it, and returns whether it is done. What is not done changes nothing.
+// Makes an edit, again if it is not done, and returns whether it is done then. Returns `None` if an
+// edit that is not done changes something.
 pub(super) fn made<P: PtrKey, A: ChainArenaTrait<P, u32> + Drop>(
     texts: &mut Documents<P, u32, A>,
     names: &mut Vec<P>,
@@ -163,7 +161,6 @@ pub(super) fn made<P: PtrKey, A: ChainArenaTrait<P, u32> + Drop>(
     }
 }
 
-// Whether a row is as it says.
 fn holds<P: PtrKey, A: ChainArenaTrait<P, u32> + Drop>(
     texts: &mut Documents<P, u32, A>,
     names: &mut Vec<P>,
@@ -175,7 +172,6 @@ fn holds<P: PtrKey, A: ChainArenaTrait<P, u32> + Drop>(
     is_done == Some(done) && read(texts, from, false) == ahead && read(texts, from, true) == behind
 }
 
-// The rows, at new texts.
 pub(super) fn differing<P: PtrKey, A: ChainArenaTrait<P, u32> + Drop>(alloc: Global) -> Differing {
     let mut texts = Documents::<P, u32, A>::new(alloc);
     let mut names = names_of(alloc);

@@ -3,7 +3,7 @@
 use arena_ptr::{ReallocationError, SlotStack};
 use std::alloc::Global;
 
-// A stack over another that refuses every other growth, the first one too.
+// A wrapper of a stack that refuses every other growth, beginning with the first.
 #[derive(Drop)]
 pub(super) struct Rationed<S> {
     inner: S,

@@ -1,4 +1,4 @@
-//! A square triangulated and put together again.
+//! Tests of a mesh: a square is triangulated and merged again.
 
 use super::{Differing, Slot, name, names_of, noted, number, with_digit, with_pair};
 use arena_ptr::{HeapStack, InxKey, PtrKey, ToolPtr};
@@ -6,7 +6,7 @@ use chain_arena::{ChainArena, ChainArenaTrait};
 use chain_examples::Mesh;
 use std::alloc::Global;
 
-// What is done with polygons, whose corners are named by the order in which they came.
+// A change of polygons. Corners are numbered in the order of their insertion.
 #[derive(Clone, Copy)]
 enum Change {
     Start(u32),
@@ -17,13 +17,12 @@ enum Change {
     Remove(usize),
 }
 
-// A change, whether it is done, a corner, and the points from that one on, once round.
+// A change, whether it is done, a corner, and the points from it on, once around.
 type Row = (Change, bool, usize, u32);
 
-// The square of the points 1 to 4 is split
-// along a diagonal, and one triangle looked at after the other; both are merged, and the copies of the ends of the diagonal are
-// removed. Then it is cut, and merged again. A corner is not split from itself, and a split from the square to a second polygon
-// makes one of both.
+// The square of the points 1 to 4 is split along a diagonal. Both triangles are read and merged,
+// and the copies of the diagonal's ends removed. Then the square is cut and merged again. A corner
+// is not split from itself, and a split to a second polygon makes one of both.
 const ROWS: [Row; 20] = [
     (Change::Start(1), true, 1, 1),
     (Change::After(1, 2), true, 1, 12),
@@ -47,7 +46,8 @@ const ROWS: [Row; 20] = [
     (Change::Split(1, 7), true, 1, 12341565),
 ];
 
-// A square that loses a corner is split, and the copies come to the freed index and to a new one. An arena of four has to grow.
+// A square without a corner is split. The copies are stored at the freed index and at a new one, so
+// an arena of four grows.
 const BESIDE_A_HOLE: [Row; 6] = [
     (Change::Start(1), true, 1, 1),
     (Change::After(1, 2), true, 1, 12),
@@ -57,7 +57,6 @@ const BESIDE_A_HOLE: [Row; 6] = [
     (Change::Split(1, 3), true, 4, 413),
 ];
 
-// The corners that a change names, and its point; 0 for none.
 fn named(change: Change) -> (usize, usize, u32) {
     match change {
         Change::Start(t) => (0, 0, t),
@@ -80,7 +79,7 @@ fn split<P: PtrKey, A: ChainArenaTrait<P, u32> + Drop>(
     }
 }
 
-// Does a change, and tells whether it is done: a corner comes, ...
+// Makes a change, and returns whether it is done.
 fn changed<P: PtrKey, A: ChainArenaTrait<P, u32> + Drop>(
     mesh: &mut Mesh<P, u32, A>,
     names: &mut Vec<P>,
@@ -96,7 +95,6 @@ fn changed<P: PtrKey, A: ChainArenaTrait<P, u32> + Drop>(
     }
 }
 
-// .. or none.
 fn relinked<P: PtrKey, A: ChainArenaTrait<P, u32> + Drop>(
     mesh: &mut Mesh<P, u32, A>,
     change: Change,
@@ -110,7 +108,7 @@ fn relinked<P: PtrKey, A: ChainArenaTrait<P, u32> + Drop>(
     }
 }
 
-// The points from a corner on, once round.
+// Returns the points from a corner on, once around.
 fn round<P: PtrKey, A: ChainArenaTrait<P, u32> + Drop>(mesh: &Mesh<P, u32, A>, from: P) -> u32 {
     let mut all = 0;
     let mut at = from;
@@ -124,7 +122,7 @@ fn round<P: PtrKey, A: ChainArenaTrait<P, u32> + Drop>(mesh: &Mesh<P, u32, A>, f
     all
 }
 
-// Returns what the mesh shows of each corner that came: its point and the corner after it.
+// Returns the point of each corner with the number of the next one.
 fn shown<P: PtrKey, A: ChainArenaTrait<P, u32> + Drop>(
     mesh: &Mesh<P, u32, A>,
     names: &[P],
@@ -137,7 +135,8 @@ fn shown<P: PtrKey, A: ChainArenaTrait<P, u32> + Drop>(
     all
 }
 
-// Makes a change again if memory is refused to it, and returns whether it is done. What is not done changes nothing.
+// Makes a change, again if it is not done, and returns whether it is done then. Returns `None` if a
+// change that is not done changes something.
 fn made<P: PtrKey, A: ChainArenaTrait<P, u32> + Drop>(
     mesh: &mut Mesh<P, u32, A>,
     names: &mut Vec<P>,
@@ -154,7 +153,6 @@ fn made<P: PtrKey, A: ChainArenaTrait<P, u32> + Drop>(
     }
 }
 
-// Whether a row is as it says.
 fn holds<P: PtrKey, A: ChainArenaTrait<P, u32> + Drop>(
     mesh: &mut Mesh<P, u32, A>,
     names: &mut Vec<P>,
@@ -166,7 +164,7 @@ fn holds<P: PtrKey, A: ChainArenaTrait<P, u32> + Drop>(
     is_done == Some(done) && round(mesh, name(names, n)) == points
 }
 
-// Splits beside a hole, and returns whether each row is as it says, and the indexes of the copies.
+// Splits beside a hole. Returns whether each row holds, and the indexes of the copies.
 pub(super) fn split_beside_a_hole<P: PtrKey, A: ChainArenaTrait<P, u32> + Drop>(
     alloc: Global,
 ) -> (bool, [Option<usize>; 2]) {
@@ -183,7 +181,6 @@ pub(super) fn split_beside_a_hole<P: PtrKey, A: ChainArenaTrait<P, u32> + Drop>(
     )
 }
 
-// The rows, at a new mesh.
 pub(super) fn differing<P: PtrKey, A: ChainArenaTrait<P, u32> + Drop>(alloc: Global) -> Differing {
     let mut mesh = Mesh::<P, u32, A>::new(alloc);
     let mut names = names_of(alloc);
@@ -195,10 +192,9 @@ pub(super) fn differing<P: PtrKey, A: ChainArenaTrait<P, u32> + Drop>(alloc: Glo
     None
 }
 
-// A mesh at one type, of numbers over one piece of memory.
 type ToolMesh = Mesh<ToolPtr, u32, ChainArena<ToolPtr, u32, HeapStack<Slot<ToolPtr>>>>;
 
-// Whether a split at one corner returns `Ok(None)`, and changes nothing.
+// Returns whether a split at one corner returns `Ok(None)` and changes nothing.
 pub(super) fn one_corner_is_not_split(alloc: Global) -> bool {
     let mut mesh = ToolMesh::new(alloc);
     let Ok(p) = mesh.start(1) else {
@@ -208,7 +204,7 @@ pub(super) fn one_corner_is_not_split(alloc: Global) -> bool {
     is_refused && mesh.len() == 1 && round(&mesh, p) == 1
 }
 
-// Whether a mesh has the room that was reserved, and keeps it where a corner is added.
+// Returns whether a mesh has the reserved capacity, and keeps it when a corner is added.
 pub(super) fn room_is_reserved(alloc: Global) -> bool {
     let mut mesh = ToolMesh::new(alloc);
     let was_empty = mesh.is_empty() && mesh.capacity() == 0;

@@ -1,4 +1,4 @@
-//! A round robin of five tasks with cancellations.
+//! Tests of a run queue: five tasks in turn, with cancellations.
 
 use super::{Differing, name, names_of, noted, number, with_digit, with_pair};
 use arena_ptr::PtrKey;
@@ -7,30 +7,32 @@ use chain_examples::RunQueue;
 use std::alloc::Global;
 use std::mem;
 
-// What is done with a queue, whose tasks are named by the order in which they came. It answers a number.
+// A call on a queue, which yields a number. Tasks are numbered in the order of their insertion.
 #[derive(Clone, Copy)]
 enum Turn {
-    // A task comes: which one it is. 0: there was no room.
+    // The new task's number, or 0 if it is refused.
     Spawn(u32),
-    // Which one is current after it, or is current.
+    // The number of the current task, after a step or now.
     Next,
     Current,
-    // The task of a number is cancelled. 0: it is none.
+    // The canceled task, or 0 if there is none.
     Cancel(usize),
-    // The task of a number, and the same before another one is written in its place. 0: there is none.
+    // The task, which `Write` replaces, or 0 if there is none.
     Read(usize),
     Write(usize, u32),
-    // Whether the queue grows to capacity for so many more, or has it: 1.
+    // 1 if the queue has, or gets, capacity for this many more tasks.
     Reserve(usize),
-    // How many there are, whether there are none, and whether there is room for these: 1.
+    // The number of tasks; 1 if there are none; 1 if the capacity suffices for them, without a
+    // maximum.
     Count,
     IsEmpty,
     HasRoom,
-    // All that are left, in turn.
+    // All tasks left, in turn.
     Drain,
 }
 
-// The first is current; the third is cancelled while another is current, and the fifth while it is.
+// The first task is current. The third is canceled while another is current, and the fifth while it
+// is itself.
 const ROWS: [(Turn, u32); 35] = [
     (Turn::Next, 0),
     (Turn::IsEmpty, 1),
@@ -69,7 +71,6 @@ const ROWS: [(Turn, u32); 35] = [
     (Turn::IsEmpty, 1),
 ];
 
-// A task comes: as the how manieth.
 fn spawned<P: PtrKey, A: ChainArenaTrait<P, u32> + Drop>(
     queue: &mut RunQueue<P, u32, A>,
     names: &mut Vec<P>,
@@ -80,7 +81,7 @@ fn spawned<P: PtrKey, A: ChainArenaTrait<P, u32> + Drop>(
     number(names, came)
 }
 
-// The tasks that are left, in turn. 0: there are none, or there was no memory for them.
+// Returns the tasks left, in turn, or 0 if there are none or no memory for them.
 fn drained<P: PtrKey, A: ChainArenaTrait<P, u32> + Drop>(
     alloc: Global,
     queue: &mut RunQueue<P, u32, A>,
@@ -94,7 +95,7 @@ fn drained<P: PtrKey, A: ChainArenaTrait<P, u32> + Drop>(
     all
 }
 
-// Another task is written in the place of one. Its value before; 0: there was none.
+// Replaces a task and returns the old one, or 0 if there is none.
 fn written<P: PtrKey, A: ChainArenaTrait<P, u32> + Drop>(
     queue: &mut RunQueue<P, u32, A>,
     p: P,
@@ -106,7 +107,6 @@ fn written<P: PtrKey, A: ChainArenaTrait<P, u32> + Drop>(
     }
 }
 
-// The queue grows to capacity for so many more tasks, or has it. Whether it does: 1.
 fn reserved<P: PtrKey, A: ChainArenaTrait<P, u32> + Drop>(
     queue: &mut RunQueue<P, u32, A>,
     n: usize,
@@ -115,7 +115,6 @@ fn reserved<P: PtrKey, A: ChainArenaTrait<P, u32> + Drop>(
     u32::from(is_done && queue.capacity() - queue.len() >= n)
 }
 
-// What is done, and its number, ...
 fn done<P: PtrKey, A: ChainArenaTrait<P, u32> + Drop>(
     alloc: Global,
     queue: &mut RunQueue<P, u32, A>,
@@ -133,7 +132,6 @@ fn done<P: PtrKey, A: ChainArenaTrait<P, u32> + Drop>(
     }
 }
 
-// .. where it changes nothing.
 fn looked<P: PtrKey, A: ChainArenaTrait<P, u32> + Drop>(
     queue: &RunQueue<P, u32, A>,
     names: &[P],
@@ -150,8 +148,8 @@ fn looked<P: PtrKey, A: ChainArenaTrait<P, u32> + Drop>(
     }
 }
 
-// Returns what the queue shows: the tasks in turn, how many there are, and the capacity. Each task has its turn once, so the
-// current one is current again.
+// Returns the tasks in turn, their number, and the capacity. After one round the current task is
+// current again.
 fn shown<P: PtrKey, A: ChainArenaTrait<P, u32> + Drop>(
     queue: &mut RunQueue<P, u32, A>,
     names: &[P],
@@ -164,7 +162,8 @@ fn shown<P: PtrKey, A: ChainArenaTrait<P, u32> + Drop>(
     (all, count, queue.capacity())
 }
 
-// Whether what is done has the number that it is to have: where memory is refused, the second time. A refusal changes nothing.
+// Returns whether a call yields its number, at least on a second attempt. A refusal changes
+// nothing.
 fn holds<P: PtrKey, A: ChainArenaTrait<P, u32> + Drop>(
     alloc: Global,
     queue: &mut RunQueue<P, u32, A>,
@@ -179,7 +178,6 @@ fn holds<P: PtrKey, A: ChainArenaTrait<P, u32> + Drop>(
     shown(queue, names) == before && done(alloc, queue, names, turn) == want
 }
 
-// The rows, at a new queue.
 pub(super) fn differing<P: PtrKey, A: ChainArenaTrait<P, u32> + Drop>(alloc: Global) -> Differing {
     let mut queue = RunQueue::<P, u32, A>::new(alloc);
     let mut names = names_of(alloc);

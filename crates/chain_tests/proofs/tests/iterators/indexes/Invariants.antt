@@ -1,4 +1,4 @@
--- The indexes that were pushed and those of what is left are all.
+-- The indexes pushed so far and those of the remaining links are all indexes.
 use Rattle.std.proofs.Common.{◌≡◌, ◌++◌, map}
 use Rattle.arena_ptr.specs.Indexes.{number_of_inx32}
 use Rattle.arena_base.specs.Entries.{entries, index_of}

@@ -1,4 +1,4 @@
--- The new link is joined, or else taken out again.
+-- The new link is joined, or removed again.
 use Rattle.std.proofs.Common.{◌≡◌, false, Option, None, Some, refl, ap, sym, ◌∙◌, subst, rules}
 use Rattle.std.specs.Prelude.{is_some, IfNone}
 use Rattle.std.proofs.lemmas.Bool.{false≢true}

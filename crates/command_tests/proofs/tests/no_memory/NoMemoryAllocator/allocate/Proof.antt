@@ -1,4 +1,4 @@
--- It returns `Err`.
+-- `allocate` returns `Err`.
 use Rattle.std.proofs.Common.{Err, refl, w64}
 use Rattle.std.specs.Prelude.{ℕ, ◌^◌, ◌<◌, false, [], ◌∷◌}
 use seplogic.Ra.Ura.{Ura}

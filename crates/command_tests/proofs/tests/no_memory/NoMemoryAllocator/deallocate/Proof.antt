@@ -1,4 +1,4 @@
--- It does nothing.
+-- `deallocate` does nothing.
 use Rattle.std.proofs.Common.{refl, lit<, w64}
 use Rattle.std.specs.Prelude.{ℕ, ◌^◌, ◌<◌, T, List, [], ◌∷◌}
 use seplogic.Ra.Ura.{Ura}
