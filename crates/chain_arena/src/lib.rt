@@ -21,7 +21,7 @@
 //! use chain_arena::{ChainArena, ChainArenaTrait, LinkInsertKind};
 //! use std::alloc::Global;
 //!
-//! /// A row of three values, of which the middle one is taken out again: whether the others are neighbours then.
+//! /// Builds the list 10, 20, 30, removes 20, and returns whether 10 and 30 are now neighbors.
 //! pub fn row_of_three(alloc: Global) -> Result<bool, ChainInsertionError> {
 //!     let mut arena: ChainArena<ToolPtr, u32> = ChainArena::new(alloc);
 //!     let a = arena.insert_reallocating(LinkInsertKind::Disconnected, 10)?;

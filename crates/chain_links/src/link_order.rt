@@ -114,6 +114,8 @@ impl<W: Copy, I: InxKey<Word = W>, T: Hash> Hash for LinkBody<PackedOption<I, W>
 /// Links are equal if their neighbors are the same and their values are equal. `None` is below each
 /// index or pointer. Indexes compare by number, pointers by their own order.
 pub fn links_compare_by_neighbors<P: Ptr, T: Ord>()
-    ensures no_gen { CompareByParts (body_parts P.Inx.packed_number) ◌<◌ T.eq T.cmp ⟦<LinkNoGen<P, T> as PartialEq>⟧.eq ⟦<LinkNoGen<P, T> as Ord>⟧.cmp }
-    ensures pointers { CompareByParts parts_of (λ p q. P.cmp p q ≡ Less) T.eq T.cmp ⟦<Link<P, T> as PartialEq>⟧.eq ⟦<Link<P, T> as Ord>⟧.cmp }
+    ensures no_gen { CompareByParts (body_parts P.Inx.packed_number) ◌<◌ T.eq T.cmp
+        ⟦<LinkNoGen<P, T> as PartialEq>⟧.eq ⟦<LinkNoGen<P, T> as Ord>⟧.cmp }
+    ensures pointers { CompareByParts parts_of (λ p q. P.cmp p q ≡ Less) T.eq T.cmp
+        ⟦<Link<P, T> as PartialEq>⟧.eq ⟦<Link<P, T> as Ord>⟧.cmp }
 {}
