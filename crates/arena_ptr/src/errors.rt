@@ -21,7 +21,7 @@ impl From<alloc::AllocError> for AllocError {
 pub enum ReallocationError {
     /// Memory was refused, or the size needed is above the greatest index.
     AllocError,
-    /// The size needed is above the stack's maximum. Tested first.
+    /// The size needed is above the stack's maximum.
     BeyondMaxCapacity,
 }
 

@@ -1,5 +1,5 @@
 //! Functions on a concrete arena type, `ChainArena<ToolPtr, u32>`, as explained in
-//! `docs/CALLING.md`.
+//! `docs/PROOF_GUIDE.md`.
 
 ghost use Rattle.std.specs.Prelude.{◌≡◌, ◌↔◌, None, Some, Err, IsSome, IfSome, IsOk, IfOk, OnErr};
 ghost use Rattle.arena_base.specs.Arena.{IsValid};

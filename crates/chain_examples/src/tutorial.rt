@@ -1,6 +1,6 @@
 //! Short functions on any arena of links, proved from the contract of `ChainArenaTrait` alone.
 //!
-//! `docs/CALLING.md` explains them. Only the last, `after`, needs a proof written by hand.
+//! `docs/PROOF_GUIDE.md` explains them. Only the last, `after`, needs a proof written by hand.
 
 ghost use Rattle.std.specs.Prelude.{◌≡◌, ◌≢◌, ◌↔◌, ℕ, List, None, Some, Err, IsSome, IfSome, IsTrue, IsFalse, IsOk, IfOk, IfErr, OnErr};
 ghost use Rattle.std.specs.Option.{option_map};
