@@ -1,7 +1,7 @@
 -- The loop of a transfer: its beginning, its two steps and its end.
 use Rattle.std.proofs.Common.{◌≡◌, ◌≢◌, ℕ, ◌+◌, ◌≤◌, ◌<◌, inl, Bool, true, List, [], ◌∷◌, ◌++◌, length, map, Option, None, Some, refl, sym, ap, ap₂, ◌∙◌, subst, subst₂, append_assoc, append-nil, length-append, arith}
 use Rattle.std.specs.Prelude.{is_some, IfSome, IfNone}
-use Rattle.std.specs.Option.{option_map}
+use Rattle.std.specs.Option.{option_map, option_and}
 use Rattle.std.specs.Fn.{Mut, Called}
 use Rattle.std.proofs.lemmas.List.{length-map, map-append}
 use Rattle.arena_ptr.specs.Invalidation.{value_in, is_overflow}
@@ -143,15 +143,15 @@ module _ {Q P G Gen I U T F : Type 0} (key : Q → ℕ × G) (new_key : P → �
 
     -- the next link to take, in the current chain or in the next
     pub carries_next_link : {J : Type 0} (index : J → ℕ) (on : Option J) (i : ℕ) (cyclic : Bool) (laid : Option (I × I)) (after : Cursor) → IsCarrying k seen links looks (option_map index on) ring ends f now
-        → IfSome on (λ j. (i ≡ index j) × (cyclic ≡ ring) × (laid ≡ ends) × (after ≡ looks)) → IfNone on (IsNextChain seen links i cyclic after × (laid ≡ None))
+        → IfSome on (λ j. (i ≡ index j) × (cyclic ≡ ring) × (after ≡ looks)) → IfNone on (IsNextChain seen links i cyclic after) → laid ≡ option_and on ends
         → IsCarrying k seen links after (Some i) cyclic laid f now
-    carries_next_link index (Some j) i cyclic laid after c goes begins =
-        subst (λ (l : Cursor). IsCarrying k seen links l (Some i) cyclic laid f now) (sym goes.3)
-        (subst (λ (e : Option (I × I)). IsCarrying k seen links looks (Some i) cyclic e f now) (sym goes.2)
+    carries_next_link index (Some j) i cyclic laid after c goes begins is =
+        subst (λ (l : Cursor). IsCarrying k seen links l (Some i) cyclic laid f now) (sym goes.2)
+        (subst (λ (e : Option (I × I)). IsCarrying k seen links looks (Some i) cyclic e f now) (sym is)
         (subst (λ (r : Bool). IsCarrying k seen links looks (Some i) r ends f now) (sym goes.1)
         (subst (λ (n : ℕ). IsCarrying k seen links looks (Some n) ring ends f now) (sym goes.0) c)))
-    carries_next_link index None i cyclic laid after c goes begins =
-        subst (λ (e : Option (I × I)). IsCarrying k seen links after (Some i) cyclic e f now) (sym begins.1) (carries_next c i cyclic after begins.0)
+    carries_next_link index None i cyclic laid after c goes begins is =
+        subst (λ (e : Option (I × I)). IsCarrying k seen links after (Some i) cyclic e f now) (sym is) (carries_next c i cyclic after begins)
 
     module _ (i : ℕ) (c : IsCarrying k seen links looks (Some i) ring ends f now) where
       -- the link to take exists

@@ -15,7 +15,7 @@ use arena_ptr::{InvalidationOption, InxKey, PtrKey, ReallocationError, SlotStack
 use chain_linking::insert_position::InsertPosition;
 use chain_links::LinkNoGen;
 use chain_traits::ChainArenaTrait;
-use chain_traits::drain_in_order::take_next;
+use chain_traits::drain_in_order::{Taken, take_next};
 
 impl<P: PtrKey, T: Drop, S: SlotStack<Item = ArenaSlot<P, LinkNoGen<P, T>>>> ChainArena<P, T, S> {
     /// Moves all links of `source` to this arena, chain by chain from index 1 on, and leaves
@@ -126,17 +126,18 @@ fn carry_all<
     let mut ring = false;
     let mut ends = None;
     for k in 0..source.len() {
-        let (q, value, next, cyclic, laid) = take_next::<Q, U, A, P::Inx>(
-            source,
-            &mut advancer,
-            on,
-            ring,
-            ends,
-        );
+        // A chain that begins has no link in the target yet.
+        let laid = on.and(ends);
+        let Taken {
+            ptr,
+            value,
+            next,
+            is_cyclic,
+        } = take_next::<Q, U, A>(source, &mut advancer, on, ring);
         let to = pointer_at::<P>(k + 1, generation);
-        let t = map(q, value, to);
-        ends = lay_behind(target, cyclic, laid, to, t);
-        ring = cyclic;
+        let t = map(ptr, value, to);
+        ends = lay_behind(target, is_cyclic, laid, to, t);
+        ring = is_cyclic;
         on = next;
     }
 }

@@ -69,77 +69,83 @@ fn next_chain<Q: PtrKey, U: Drop, A: ChainArenaTrait<Q, U>>(
     }
 }
 
-// Returns the next link to remove, whether its chain is cyclic, and the ends of the chain's placed
-// part.
+/// A link that `take_next` removed from a source.
+#[derive(Drop)]
+pub struct Taken<Q: PtrKey, U: Drop> {
+    /// The pointer that the link had.
+    pub ptr: Q,
+    /// Its value. `GenerationOverflow`: the removal overflowed the counter of the source.
+    pub value: InvalidationOption<U>,
+    /// The index of the next link in its chain, or `None` if there is none or it is the link itself.
+    pub next: Option<Q::Inx>,
+    /// Whether its chain is cyclic.
+    pub is_cyclic: bool,
+}
+
+// Returns the index of the link to remove next, and whether its chain is cyclic.
 //
-// The link is `on`, or the first link of the next chain if there is none.
-fn next_link<Q: PtrKey, U: Drop, A: ChainArenaTrait<Q, U>, I: Copy + Drop>(
+// This is the link at `on`, or the first link of the next chain if that is `None`.
+fn next_link<Q: PtrKey, U: Drop, A: ChainArenaTrait<Q, U>>(
     source: &A,
     advancer: &mut A::PtrAdvancer,
     on: Option<Q::Inx>,
     ring: bool,
-    ends: Option<(I, I)>,
-) -> (Q::Inx, bool, Option<(I, I)>)
+) -> (Q::Inx, bool)
     requires agree { IsWellLinked (A.interlinks source.now) }
     requires low { on ≡ None → (from : ℕ) × (A.cursor advancer.old ≡ Cursor.Up from)
         × RisesFrom from (A.view source.now).entries }
     requires some { on ≡ None → (A.view source.now).entries ≢ [] }
     requires stands { IfSome on (λ i. IsSome (A.entry source.now (Q.Inx.number i))) }
-    ensures goes_on { IfSome on (λ i. (result ≡ (i, ring, ends))
+    ensures goes_on { IfSome on (λ i. (result ≡ (i, ring))
         × (A.cursor advancer.new ≡ A.cursor advancer.old)) }
     ensures begins { IfNone on (IsNextChain (A.view source.now) (A.interlinks source.now)
-        (Q.Inx.number result.0) result.1 (A.cursor advancer.new) × (result.2 ≡ None)) }
+        (Q.Inx.number result.0) result.1 (A.cursor advancer.new)) }
     ensures some { IsSome (A.entry source.now (Q.Inx.number result.0)) }
 {
     match on {
-        Some(i) => (i, ring, ends),
-        None => {
-            let (start, ring) = next_chain(source, advancer);
-            (start, ring, None)
-        }
+        Some(i) => (i, ring),
+        None => next_chain(source, advancer),
     }
 }
 
-/// Removes the next link: `on`, or the first link of the next chain if there is none.
+/// Removes the next link from a source.
 ///
-/// Returns its pointer, its value with whether the counter overflowed, and the index of the link
-/// after it, unless that is itself. Also returns whether its chain is cyclic, and the ends of the
-/// chain's placed part.
-pub fn take_next<Q: PtrKey, U: Drop, A: ChainArenaTrait<Q, U>, I: Copy + Drop>(
+/// This is the link at `on`, whose chain is cyclic if `ring`. If `on` is `None`, it is the first link
+/// of the next chain.
+pub fn take_next<Q: PtrKey, U: Drop, A: ChainArenaTrait<Q, U>>(
     source: &mut A,
     advancer: &mut A::PtrAdvancer,
     on: Option<Q::Inx>,
     ring: bool,
-    ends: Option<(I, I)>,
-) -> (
-    Q,
-    InvalidationOption<U>,
-    Option<Q::Inx>,
-    bool,
-    Option<(I, I)>,
-)
+) -> Taken<Q, U>
     requires agree { IsWellLinked (A.interlinks source.old) }
     requires low { on ≡ None → (from : ℕ) × (A.cursor advancer.old ≡ Cursor.Up from)
         × RisesFrom from (A.view source.old).entries }
     requires some { on ≡ None → (A.view source.old).entries ≢ [] }
     requires stands { IfSome on (λ i. IsSome (A.entry source.old (Q.Inx.number i))) }
-    ensures goes_on { IfSome on (λ i. ((Q.key result.0).0 ≡ Q.Inx.number i) × (result.3 ≡ ring)
-        × (result.4 ≡ ends) × (A.cursor advancer.new ≡ A.cursor advancer.old)) }
+    ensures goes_on { IfSome on (λ i. ((Q.key result.ptr).0 ≡ Q.Inx.number i)
+        × (result.is_cyclic ≡ ring) × (A.cursor advancer.new ≡ A.cursor advancer.old)) }
     ensures begins { IfNone on (IsNextChain (A.view source.old) (A.interlinks source.old)
-        (Q.key result.0).0 result.3 (A.cursor advancer.new) × (result.4 ≡ None)) }
-    ensures stood { A.entry source.old (Q.key result.0).0 ≡ Some
-        ((Q.key result.0).1, value_in result.1) }
+        (Q.key result.ptr).0 result.is_cyclic (A.cursor advancer.new)) }
+    ensures stood { A.entry source.old (Q.key result.ptr).0 ≡ Some
+        ((Q.key result.ptr).1, value_in result.value) }
     ensures overflow { IfSome (A.view source.old).counter
-        (λ g. is_overflow result.1 ≡ Q.Gen.wraps g) }
-    ensures next { option_map Q.Inx.number result.2 ≡ step_forward (Q.key result.0).0
-        (next_of (A.interlinks source.old) (Q.key result.0).0) }
+        (λ g. is_overflow result.value ≡ Q.Gen.wraps g) }
+    ensures next { option_map Q.Inx.number result.next ≡ step_forward (Q.key result.ptr).0
+        (next_of (A.interlinks source.old) (Q.key result.ptr).0) }
     ensures seen { A.view source.new ≡ entry_removed Q.Gen.following (A.view source.old)
-        (Q.key result.0).0 }
-    ensures links { A.interlinks source.new ≡ removed (A.interlinks source.old) (Q.key result.0).0 }
+        (Q.key result.ptr).0 }
+    ensures links { A.interlinks source.new ≡ removed (A.interlinks source.old)
+        (Q.key result.ptr).0 }
 {
-    let (i, cyclic, laid) = next_link::<Q, U, A, I>(source, advancer, on, ring, ends);
-    let (q, value, next) = take_link(source, i);
-    (q, value, next, cyclic, laid)
+    let (i, is_cyclic) = next_link(source, advancer, on, ring);
+    let (ptr, value, next) = take_link(source, i);
+    Taken {
+        ptr,
+        value,
+        next,
+        is_cyclic,
+    }
 }
 
 // Removes the link at an index. Returns its pointer, its value with whether the counter overflowed,

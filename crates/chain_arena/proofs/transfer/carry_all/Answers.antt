@@ -8,7 +8,7 @@ use Rattle.chain_arena.specs.Transfers.{AreEnds}
 use Rattle.chain_traits.proofs.GenericArenaLemmas.{links_within}
 use Rattle.chain_arena.proofs.TransferLoopLemmas.{IsCarrying, carrying_begins, agrees_left, looks_up, some_left, stands_on, carries_next_link, comes_at, bounds_at, gap_at, room_at, carries_link, carries_all}
 use Rattle.chain_arena.proofs.transfer.carry_all.Given.{Over}
-use Rattle.chain_arena.proofs.transfer.carry_all.Goals.{After-take_next-q}
+use Rattle.chain_arena.proofs.transfer.carry_all.Goals.{After-take_next-value}
 use Rattle.chain_arena.proofs.transfer.carry_all.Goals as goal
 
 -- there is a link where an entry is found
@@ -32,38 +32,38 @@ loop-k-init g c =
           c.requires.slots c.advancer-advancer.ensures;
     }
 
-pub take_next-q-requires-clause-agree : goal.take_next-q-requires-clause-agree
-take_next-q-requires-clause-agree g c = agrees_left _ _ _ _ _ _ _ _ _ _ _ _ _ _ _ _ _ _ (stands g c.loop-k.source) _ c.loop-k.invariant.carrying
+pub take_next-value-requires-clause-agree : goal.take_next-value-requires-clause-agree
+take_next-value-requires-clause-agree g c = agrees_left _ _ _ _ _ _ _ _ _ _ _ _ _ _ _ _ _ _ (stands g c.loop-k.source) _ c.loop-k.invariant.carrying
 
-pub take_next-q-requires-clause-low : goal.take_next-q-requires-clause-low
-take_next-q-requires-clause-low g c none =
+pub take_next-value-requires-clause-low : goal.take_next-value-requires-clause-low
+take_next-value-requires-clause-low g c none =
     looks_up _ _ _ _ _ _ _ _ _ _ _ _ _ _ _ _ _ _ (stands g c.loop-k.source) _ (ap (option_map g.Q.Inx.InxKey.number) none) c.loop-k.invariant.carrying (g.met.A.ArenaTrait.rises c.loop-k.source)
 
-pub take_next-q-requires-clause-some : goal.take_next-q-requires-clause-some
-take_next-q-requires-clause-some g c none =
+pub take_next-value-requires-clause-some : goal.take_next-value-requires-clause-some
+take_next-value-requires-clause-some g c none =
     some_left _ _ _ _ _ _ _ _ _ _ _ _ _ _ _ _ _ _ (stands g c.loop-k.source) _ c.loop-k.invariant.carrying (omega (arith, c.loop-k-test.true, c.len-k-end.ensures.count))
 
-pub take_next-q-requires-clause-stands : goal.take_next-q-requires-clause-stands
-take_next-q-requires-clause-stands g c = stands_entry g c.loop-k.source c.loop-k.on (stands_on _ _ _ _ _ _ _ _ _ _ _ _ _ _ _ _ _ _ (stands g c.loop-k.source) g.Q.Inx.InxKey.number c.loop-k.on c.loop-k.invariant.carrying)
+pub take_next-value-requires-clause-stands : goal.take_next-value-requires-clause-stands
+take_next-value-requires-clause-stands g c = stands_entry g c.loop-k.source c.loop-k.on (stands_on _ _ _ _ _ _ _ _ _ _ _ _ _ _ _ _ _ _ (stands g c.loop-k.source) g.Q.Inx.InxKey.number c.loop-k.on c.loop-k.invariant.carrying)
 
 -- the state after the link was taken
-carrying_it : (g : Over) (c : After-take_next-q g) → IsCarrying g.Q.PtrKey.key g.P.PtrKey.key g.Q.Gen.GenKey.following g.Q.Gen.GenKey.wraps g.F.FnMut g.P.Inx.InxKey.number
+carrying_it : (g : Over) (c : After-take_next-value g) → IsCarrying g.Q.PtrKey.key g.P.PtrKey.key g.Q.Gen.GenKey.following g.Q.Gen.GenKey.wraps g.F.FnMut g.P.Inx.InxKey.number
     (g.A.ArenaTrait.view c.args.source.now) (g.A.ChainArenaTrait.interlinks c.args.source.now) c.args.map c.args.target.now
-    c.loop-k.k (g.A.ArenaTrait.view c.loop-k.source) (g.A.ChainArenaTrait.interlinks c.loop-k.source) (g.A.ArenaTrait.cursor c.take_next-q.new.advancer)
-    (Some (g.Q.PtrKey.key c.take_next-q.result.0).0) c.take_next-q.result.3 c.take_next-q.result.4 c.loop-k.map c.loop-k.target
+    c.loop-k.k (g.A.ArenaTrait.view c.loop-k.source) (g.A.ChainArenaTrait.interlinks c.loop-k.source) (g.A.ArenaTrait.cursor c.take_next-value.new.advancer)
+    (Some (g.Q.PtrKey.key c.take_next-value.result.ptr).0) c.take_next-value.result.is_cyclic c.and-laid.result c.loop-k.map c.loop-k.target
 carrying_it g c =
-    carries_next_link _ _ _ _ _ _ _ _ _ _ _ _ _ _ _ _ _ _ (stands g c.loop-k.source) g.Q.Inx.InxKey.number c.loop-k.on _ _ _ _ c.loop-k.invariant.carrying c.take_next-q.ensures.goes_on c.take_next-q.ensures.begins
+    carries_next_link _ _ _ _ _ _ _ _ _ _ _ _ _ _ _ _ _ _ (stands g c.loop-k.source) g.Q.Inx.InxKey.number c.loop-k.on _ _ _ _ c.loop-k.invariant.carrying c.take_next-value.ensures.goes_on c.take_next-value.ensures.begins c.and-laid.ensures
 
 pub map-t-requires : goal.map-t-requires
 map-t-requires g c = search of_calls
 
 -- the next index is the one after the last link
-the_place : (g : Over) (c : After-take_next-q g) → next_index c.loop-k.target ≡ c.loop-k.k + 1
+the_place : (g : Over) (c : After-take_next-value g) → next_index c.loop-k.target ≡ c.loop-k.k + 1
 the_place g c = comes_at _ _ _ _ _ _ _ _ _ _ _ _ _ _ _ _ _ _ (stands g c.loop-k.source) _ (carrying_it g c) c.requires.freed
 
 pub lay_behind-ends-requires-clause-ends : goal.lay_behind-ends-requires-clause-ends
 lay_behind-ends-requires-clause-ends g c =
-    let at = (goal.at.lay_behind-ends-requires-clause-ends g c).After-take_next-q in
+    let at = (goal.at.lay_behind-ends-requires-clause-ends g c).After-take_next-value in
     let it = carrying_it g at in (
       length it.taken,
       bounds_at _ _ _ _ _ _ _ _ _ _ _ _ _ _ _ _ _ _ (stands g at.loop-k.source) _ it at.requires.freed,
@@ -72,28 +72,28 @@ lay_behind-ends-requires-clause-ends g c =
 
 pub lay_behind-ends-requires-clause-room : goal.lay_behind-ends-requires-clause-room
 lay_behind-ends-requires-clause-room g c =
-    let at = (goal.at.lay_behind-ends-requires-clause-room g c).After-take_next-q in
+    let at = (goal.at.lay_behind-ends-requires-clause-room g c).After-take_next-value in
     room_at _ _ _ _ _ _ _ _ _ _ _ _ _ _ _ _ _ _ (stands g at.loop-k.source) _ (carrying_it g at) at.requires.freed c.len-k-end.result c.loop-k-test.true
     (omega (arith, c.len-k-end.ensures.count, at.requires.room))
 
 pub lay_behind-ends-requires-clause-index : goal.lay_behind-ends-requires-clause-index
 lay_behind-ends-requires-clause-index g c =
-    let at = (goal.at.lay_behind-ends-requires-clause-index g c).After-take_next-q in
+    let at = (goal.at.lay_behind-ends-requires-clause-index g c).After-take_next-value in
     ap (λ (p : ℕ × _). p.0) c.pointer_at-to.ensures ∙ sym (the_place g at)
 
 pub loop-k-preserved : goal.loop-k-preserved
 loop-k-preserved g c =
-    let at = (goal.at.loop-k-preserved g c).After-take_next-q in
+    let at = (goal.at.loop-k-preserved g c).After-take_next-value in
     let it = carrying_it g at in
     let bounds = bounds_at _ _ _ _ _ _ _ _ _ _ _ _ _ _ _ _ _ _ (stands g at.loop-k.source) _ it at.requires.freed in
     let laid = c.lay_behind-ends.ensures.laid (length it.taken) bounds in
-    let stood = g.met.A.ArenaTrait.looked_up c.loop-k.source (g.Q.PtrKey.key c.take_next-q.result.0).0 ∙ c.take_next-q.ensures.stood in
+    let stood = g.met.A.ArenaTrait.looked_up c.loop-k.source (g.Q.PtrKey.key c.take_next-value.result.ptr).0 ∙ c.take_next-value.ensures.stood in
     record {
       callable = search of_calls;
       carrying = carries_link _ _ _ _ _ _ _ _ _ _ _ _ _ _ _ _ _ _ (stands g at.loop-k.source) _ it at.requires.freed c.lay_behind-ends.ensures.listed
-          c.take_next-q.result.0 c.take_next-q.result.1 c.pointer_at-to.result c.map-t.result _ stood refl
+          c.take_next-value.result.ptr c.take_next-value.result.value c.pointer_at-to.result c.map-t.result _ stood refl
           (c.pointer_at-to.ensures ∙ ap (λ n. (c.loop-k.k + 1, n)) c.generation-generation.ensures) c.map-t.ensures
-          (agrees_left _ _ _ _ _ _ _ _ _ _ _ _ _ _ _ _ _ _ (stands g at.loop-k.source) _ it) _ _ _ _ _ c.take_next-q.ensures.overflow c.take_next-q.ensures.next c.take_next-q.ensures.seen c.take_next-q.ensures.links laid.0
+          (agrees_left _ _ _ _ _ _ _ _ _ _ _ _ _ _ _ _ _ _ (stands g at.loop-k.source) _ it) _ _ _ _ _ c.take_next-value.ensures.overflow c.take_next-value.ensures.next c.take_next-value.ensures.seen c.take_next-value.ensures.links laid.0
           (subst (λ n. AreEnds g.P.Inx.InxKey.number c.lay_behind-ends.result (length it.taken + 1) (n + 1)) (the_place g at) laid.1);
     }
 
