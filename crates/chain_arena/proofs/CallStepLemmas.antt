@@ -15,15 +15,13 @@ use Rattle.arena_ptr.specs.declared.invalidation.InvalidationOption.{Invalidatio
 use Rattle.arena_ptr.specs.declared.invalidation.InvalidationResult.{InvalidationResult}
 use Rattle.arena_ptr.specs.declared.invalidation.InvalidationResult.TheVariants.{Success, GenerationOverflow, InvalidPtr}
 use Rattle.chain_laws.specs.Chains.{LinkMap, prev_of, next_of}
-use Rattle.chain_laws.specs.Joins.{joined, AddsPair}
-use Rattle.chain_laws.specs.Joins.{Connects as ConnectsChains}
 use Rattle.chain_laws.specs.Insertions.{InsertKind, link_before, link_after, InsertsPairs, Inserts}
 use Rattle.chain_laws.specs.Walks.{IsWalk, TakesWalk}
 use Rattle.chain_laws.proofs.WalkLemmas.Drains.{walk_is_taken}
 use Rattle.arena_base.specs.Arena.{IsValid, IsCapacityFor, HasCapacityFor, entry_at, entry_count, next_index, with_capacity_of, renewed_at, overflows_after_clear}
 use Rattle.arena_base.specs.Compressions.{overflows_after_compression}
 use Rattle.arena_base.specs.Entries.{count, renewed, HasFreeCapacity, NeedsBeyondMaximum}
-use Rattle.chain_links.specs.ChainArena.{LinkView, on_value, link_map, value_view, entry, link_value, insert_as, link_at, relinked, CanConnect, CanExchange, IsJoin, IsCut, IsExchange, IsRemoval}
+use Rattle.chain_links.specs.ChainArena.{LinkView, on_value, link_map, value_view, entry, link_value, insert_as, link_at, CanConnect, CanExchange, IsJoin, IsCut, IsExchange, IsRemoval}
 use Rattle.chain_links.proofs.ArenaInsertionLemmas.{values-count}
 use Rattle.chain_arena.specs.Drains.{walk_left, without_each}
 use Rattle.chain_links.specs.Links.{link_view}
@@ -48,15 +46,8 @@ done_step P made not_made r b some done none is = subst P (sym is) (done_is P ma
 
 module _ {Gen T : Type 0} (old new : Links Gen T) where
   -- a join
-  pub joins : (p q : ℕ × Gen) (r : Option Unit) (b : Bool) → IsSome r ↔ CanConnect (entry old) (link_map old) p q → OnSome r (new ≡ relinked old (joined (link_map old) p.0 q.0))
-      → OnSome r (link_map new ≡ joined (link_map old) p.0 q.0) → OnSome r (AddsPair (link_map old) (link_map new) p.0 q.0) → OnSome r (ConnectsChains (link_map old) (link_map new) p.0 q.0) → IfNone r (new ≡ old) → b ≡ is_some r
-      → ConnectStep old p q b new
-  joins p q r b some state shows pair chains none is = done_step (λ b. ConnectStep old p q b new) (λ can made. (can, made)) (λ no same. (no, same)) r b some (all r state shows pair chains) none is
-    where
-      all : (r : Option Unit) → OnSome r (new ≡ relinked old (joined (link_map old) p.0 q.0)) → OnSome r (link_map new ≡ joined (link_map old) p.0 q.0) → OnSome r (AddsPair (link_map old) (link_map new) p.0 q.0)
-          → OnSome r (ConnectsChains (link_map old) (link_map new) p.0 q.0) → OnSome r (IsJoin old new p.0 q.0)
-      all None state shows pair chains = tt
-      all (Some u) state shows pair chains = record { state = state; shows = shows; pair = pair; chains = chains }
+  pub joins : (p q : ℕ × Gen) (r : Option Unit) (b : Bool) → IsSome r ↔ CanConnect (entry old) (link_map old) p q → OnSome r (IsJoin old new p.0 q.0) → IfNone r (new ≡ old) → b ≡ is_some r → ConnectStep old p q b new
+  joins p q r b some state none is = done_step (λ b. ConnectStep old p q b new) (λ can made. (can, made)) (λ no same. (no, same)) r b some state none is
 
   -- a cut from the previous link
   pub breaks_prev : (p : ℕ × Gen) (r : Option Unit) (b : Bool) → IsSome r ↔ (IsValid (entry old) p × IsSome (prev_of (link_map old) p.0)) → OnSome r (IfSome (prev_of (link_map old) p.0) (λ a. IsCut old new a p.0))

@@ -1,5 +1,5 @@
 -- Insertion positions of a kind with capacity for one more link, and insertions there.
-use Rattle.std.specs.Prelude.{◌≡◌, ℕ, ◌+◌, ◌<◌, Option, Result, Ok, Err}
+use Rattle.std.specs.Prelude.{◌≡◌, ◌≢◌, ◌↔◌, ◌⊎◌, ℕ, ◌+◌, ◌<◌, Option, Result, Ok, Err, OnOk, IfOk, OnErr, IfErr, IsErr}
 use Rattle.std.specs.Result.{result_map_both}
 use Rattle.arena_ptr.specs.SlotStack.{IsBeyond}
 use Rattle.arena_ptr.specs.declared.errors.ChainInsertionError.{ChainInsertionError}
@@ -8,9 +8,12 @@ use Rattle.arena_ptr.specs.declared.errors.ReallocationError.{ReallocationError}
 use Rattle.arena_ptr.specs.declared.errors.ReallocationError.TheVariants as refused
 use Rattle.chain_laws.specs.Chains.{IsWellLinked}
 use Rattle.chain_laws.specs.Insertions.{link_before, link_after}
-use Rattle.arena_base.specs.Arena.{ReachesCapacity, IsListed, entry_count, next_index, with_capacity_of}
-use Rattle.chain_links.specs.ChainArena.{link_map, value_view, entry, insert_between}
+use Rattle.arena_base.specs.Arena.{IsCapacityFor, ReachesCapacity, IsListed, entry_count, next_index, with_capacity_of}
+use Rattle.arena_base.specs.Entries.{count, NeedsBeyondMaximum}
+use Rattle.chain_links.specs.CallEffects.{GainsLink, IsFull, SucceedsWithinCapacity}
+use Rattle.chain_links.specs.ChainArena.{link_map, value_view, entry, insert_as, insert_between}
 use Rattle.chain_links.specs.Insertions.{IsInsertionBetween}
+use Rattle.chain_links.specs.Kinds.{names_in}
 use Rattle.chain_links.specs.declared.kinds.InsertKindBody.{InsertKindBody}
 use Rattle.chain_linking.specs.InsertPositions.{before_in, after_in}
 use Rattle.chain_linking.specs.declared.insert_position.InsertPosition.{InsertPosition}
@@ -89,3 +92,51 @@ module _ {P I Gen T : Type 0} (key : P → ℕ × Gen) (number : I → ℕ) wher
   InsertsAt old (Ok gap) t (Err why) new = ⊥
   InsertsAt old (Err why) t (Ok p) new = ⊥
   InsertsAt old (Err why) t (Err answered) new = (answered ≡ why) × (new ≡ old)
+
+-- The effects of the insertions on a chain arena: the result, and the arena after it.
+module _ {P I Gen T : Type 0} (key : P → ℕ × Gen) (number : I → ℕ) (old : Links Gen T) (kind : InsertKindBody P I) (t : T) (new : Links Gen T) where
+  -- The effects of `insert_within_capacity`.
+  pub record InsertsWithinCapacity (result : Result P ChainInsertionError) : Type 0 where
+    pub may : OnOk result (MayInsertInto key number old kind)
+    pub inserted : IfOk result (λ p. GainsLink value_view entry link_map (names_in key number kind) t old (key p) new)
+    pub agreed : IsWellLinked (link_map old)
+    pub capacity : (value_view new).capacity ≡ (value_view old).capacity
+    pub err : OnErr result (new ≡ old)
+    pub link : (result ≡ Err failed.FailedLinkRequirement) ↔ (MayInsertInto key number old kind → ⊥)
+    pub full : (result ≡ Err failed.NotWithinCapacity) ↔ (MayInsertInto key number old kind × IsFull (value_view old))
+    pub error : IfErr result (λ e. (e ≡ failed.FailedLinkRequirement) ⊎ (e ≡ failed.NotWithinCapacity))
+    pub place : IfOk result (λ p. (key p).0 ≡ next_index old)
+    pub state : OnOk result (new ≡ insert_as old (indexed_kind key number kind) t)
+
+  -- The reach of a growth, and the greatest index.
+  module _ (may_reach : ℕ → Option ℕ → ℕ → ℕ → Type 0) (most : ℕ) where
+    -- The effects of `insert_reallocating`.
+    pub record InsertsReallocating (result : Result P ChainInsertionError) : Type 0 where
+      pub may : OnOk result (MayInsertInto key number old kind)
+      pub inserted : IfOk result (λ p. GainsLink value_view entry link_map (names_in key number kind) t old (key p) new)
+      pub agreed : IsWellLinked (link_map old)
+      pub err : OnErr result (new ≡ old)
+      pub link : (result ≡ Err failed.FailedLinkRequirement) ↔ (MayInsertInto key number old kind → ⊥)
+      pub error : IfErr result (λ e. e ≢ failed.NotWithinCapacity)
+      pub room : MayInsertInto key number old kind → SucceedsWithinCapacity (value_view old) result (value_view new)
+      pub grown : OnOk result (IsCapacityFor most (value_view new).maximum (count (value_view old) + 1) (value_view new).capacity)
+      pub beyond : (result ≡ Err failed.BeyondMaxCapacity) ↔ (MayInsertInto key number old kind × NeedsBeyondMaximum (value_view old))
+      pub greatest : count (value_view old) ≡ most → IsErr result
+      pub place : IfOk result (λ p. (key p).0 ≡ next_index old)
+      pub state : OnOk result (new ≡ with_capacity_of (insert_as old (indexed_kind key number kind) t) new)
+      pub state_in_room : MayInsertInto key number old kind → entry_count old < old.capacity → new ≡ insert_as old (indexed_kind key number kind) t
+      pub state_grown : OnOk result (ReachesCapacity may_reach most (entry_count old + 1) old new)
+
+    -- The effects of `insert`, given a kind that may be inserted.
+    pub record InsertsAllowed (result : Result P ReallocationError) : Type 0 where
+      pub inserted : IfOk result (λ p. GainsLink value_view entry link_map (names_in key number kind) t old (key p) new)
+      pub agreed : IsWellLinked (link_map old)
+      pub err : OnErr result (new ≡ old)
+      pub room : SucceedsWithinCapacity (value_view old) result (value_view new)
+      pub grown : OnOk result (IsCapacityFor most (value_view new).maximum (count (value_view old) + 1) (value_view new).capacity)
+      pub beyond : (result ≡ Err refused.BeyondMaxCapacity) ↔ NeedsBeyondMaximum (value_view old)
+      pub greatest : count (value_view old) ≡ most → IsErr result
+      pub place : IfOk result (λ p. (key p).0 ≡ next_index old)
+      pub state : OnOk result (new ≡ with_capacity_of (insert_as old (indexed_kind key number kind) t) new)
+      pub state_in_room : entry_count old < old.capacity → new ≡ insert_as old (indexed_kind key number kind) t
+      pub state_grown : OnOk result (ReachesCapacity may_reach most (entry_count old + 1) old new)

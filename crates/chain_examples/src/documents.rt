@@ -163,7 +163,9 @@ impl<P: PtrKey, T: Drop, A: ChainArenaTrait<P, T> + Drop> Documents<P, T, A> {
         ensures* writes_back { sem 𝓛 (LendsSo
             (the_row P.row T.row A.row P.Inx.row P.Gen.row P.Inx.Word.row
             A.ChainPtrAdvancer.row A.PtrAdvancer.row P.PtrKey P.Inx.InxKey P.Gen.GenKey
-            (record { interlinks = A.interlinks; walker = A.walker }) A.ArenaTrait
+            (record { interlinks = A.interlinks; walker = A.walker; connects = A.connects;
+            breaks = A.breaks; exchanges = A.exchanges;
+            compresses_canonically = A.compresses_canonically }) A.ArenaTrait
             A.PtrAdvancer.Advancer A.ChainPtrAdvancer.Advancer)
             T.row self.entry result
             (λ new t. OnSome result

@@ -1,4 +1,4 @@
-ghost use Rattle.std.specs.Prelude.{◌≡◌, ◌≢◌, ◌↔◌, ◌<◌, ◌≤◌, ◌+◌, ◌⊎◌, ℕ, is_some, Option, map, length, All, IsTrue, IsSome, IfSome, OnSome, IfNone, IfOk, IsErr, IfErr, OnOk, OnErr, Err, None};
+ghost use Rattle.std.specs.Prelude.{◌≡◌, ◌≢◌, ◌↔◌, ◌<◌, ◌≤◌, ◌+◌, ◌⊎◌, ⊤, ℕ, is_some, Option, map, length, All, IsTrue, IsSome, IfSome, OnSome, IfNone, IfOk, IsErr, IfErr, OnOk, OnErr, Err, None};
 ghost use Rattle.std.specs.Option.{option_map};
 ghost use Rattle.arena_ptr.specs.Numbers.{IsWithin};
 ghost use Rattle.arena_ptr.specs.Invalidation.{value_within, invalidation_option, invalidation_result};
@@ -44,6 +44,17 @@ pub trait ChainArenaTrait<P: PtrKey, T: Drop>: ArenaTrait<P, T> {
 
     // The position of an advancer along a chain, and the most steps that it still makes.
     ghost walker: { Self.ChainPtrAdvancer → Walker };
+
+    // What an implementation knows besides, after a call on the first arena. In turn: `connect`, given
+    // the two indexes; `break_prev` or `break_next`, given the index of the link that loses its next
+    // link and of that next link; `exchange_next`, given the two indexes; `compress_canonical`.
+    ghost connects: { Self → ℕ → ℕ → Self → Type 0 } = { λ _ _ _ _. ⊤ };
+
+    ghost breaks: { Self → ℕ → ℕ → Self → Type 0 } = { λ _ _ _ _. ⊤ };
+
+    ghost exchanges: { Self → ℕ → ℕ → Self → Type 0 } = { λ _ _ _ _. ⊤ };
+
+    ghost compresses_canonically: { Self → Self → Type 0 } = { λ _ _. ⊤ };
 
     /// States that the interlinks agree: j follows i exactly if i precedes j.
     ///
@@ -244,7 +255,8 @@ pub trait ChainArenaTrait<P: PtrKey, T: Drop>: ArenaTrait<P, T> {
             (P.key p).0 (P.key q).0) }
         ensures seen { OnSome result (Self.view self.new ≡ Self.view self.old) }
         ensures none { IfNone result (self.new ≡ self.old) }
-        ensures agreed { IsWellLinked (interlinks self.old) };
+        ensures agreed { IsWellLinked (interlinks self.old) }
+        ensures more { OnSome result (connects self.old (P.key p).0 (P.key q).0 self.new) };
 
     /// Disconnects a link from its previous link: a linear chain becomes two, a cyclic chain
     /// linear.
@@ -263,7 +275,9 @@ pub trait ChainArenaTrait<P: PtrKey, T: Drop>: ArenaTrait<P, T> {
             (λ a. Cuts (interlinks self.old) (interlinks self.new) a (P.key p).0)) }
         ensures seen { OnSome result (Self.view self.new ≡ Self.view self.old) }
         ensures none { IfNone result (self.new ≡ self.old) }
-        ensures agreed { IsWellLinked (interlinks self.old) };
+        ensures agreed { IsWellLinked (interlinks self.old) }
+        ensures more { OnSome result (IfSome (prev_of (interlinks self.old) (P.key p).0)
+            (λ a. breaks self.old a (P.key p).0 self.new)) };
 
     /// Disconnects a link from its next link: a linear chain becomes two, a cyclic chain linear.
     ///
@@ -281,7 +295,9 @@ pub trait ChainArenaTrait<P: PtrKey, T: Drop>: ArenaTrait<P, T> {
             (λ b. Cuts (interlinks self.old) (interlinks self.new) (P.key p).0 b)) }
         ensures seen { OnSome result (Self.view self.new ≡ Self.view self.old) }
         ensures none { IfNone result (self.new ≡ self.old) }
-        ensures agreed { IsWellLinked (interlinks self.old) };
+        ensures agreed { IsWellLinked (interlinks self.old) }
+        ensures more { OnSome result (IfSome (next_of (interlinks self.old) (P.key p).0)
+            (λ b. breaks self.old (P.key p).0 b self.new)) };
 
     /// Exchanges the next links of p and q.
     ///
@@ -299,7 +315,8 @@ pub trait ChainArenaTrait<P: PtrKey, T: Drop>: ArenaTrait<P, T> {
             (P.key p).0 (P.key q).0) }
         ensures seen { OnSome result (Self.view self.new ≡ Self.view self.old) }
         ensures none { IfNone result (self.new ≡ self.old) }
-        ensures agreed { IsWellLinked (interlinks self.old) };
+        ensures agreed { IsWellLinked (interlinks self.old) }
+        ensures more { OnSome result (exchanges self.old (P.key p).0 (P.key q).0 self.new) };
 
     /// Removes a link and returns it with the interlinks that it had.
     ///
@@ -319,7 +336,9 @@ pub trait ChainArenaTrait<P: PtrKey, T: Drop>: ArenaTrait<P, T> {
             (λ g. result ≡ invalidation_result (P.Gen.wraps g) (value_within result)) }
         ensures invalid { ¬ IsValid (Self.entry self.old) (P.key p) → (value_within result ≡ None)
             × (self.new ≡ self.old) }
-        ensures agreed { IsWellLinked (interlinks self.old) };
+        ensures agreed { IsWellLinked (interlinks self.old) }
+        ensures more { IsValid (Self.entry self.old) (P.key p)
+            → Self.removes self.old (P.key p).0 self.new };
 
     /// Removes the link at an index and returns its generation and the link with the interlinks
     /// that it had.
@@ -339,7 +358,9 @@ pub trait ChainArenaTrait<P: PtrKey, T: Drop>: ArenaTrait<P, T> {
         ensures chains { IsSome (Self.entry self.old (P.Inx.number i))
             → Removes (interlinks self.old) (interlinks self.new) (P.Inx.number i) }
         ensures invalid { Self.entry self.old (P.Inx.number i) ≡ None → self.new ≡ self.old }
-        ensures agreed { IsWellLinked (interlinks self.old) };
+        ensures agreed { IsWellLinked (interlinks self.old) }
+        ensures more { IsSome (Self.entry self.old (P.Inx.number i))
+            → Self.removes self.old (P.Inx.number i) self.new };
 
     /// Compacts the chains to the indexes from 1 on, each in one run of indexes in `next` order.
     ///
@@ -357,7 +378,8 @@ pub trait ChainArenaTrait<P: PtrKey, T: Drop>: ArenaTrait<P, T> {
         ensures overflow { IfSome (Self.view self.old).counter
             (λ g. result ≡ invalidation_option (overflows_after_compression P.Gen.wraps reset
             (length (Self.view self.old).entries) g) tt) }
-        ensures agreed { IsWellLinked (interlinks self.old) };
+        ensures agreed { IsWellLinked (interlinks self.old) }
+        ensures more { compresses_canonically self.old self.new };
 
     // A call of an advancer along a chain takes the next step of its walk, in the arena of that
     // call, or ends the walk.

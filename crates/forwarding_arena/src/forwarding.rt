@@ -241,6 +241,14 @@ impl<P: PtrKey, T: Drop, A: ChainArenaTrait<P, T>> ChainArenaTrait<P, T> for For
 
     ghost walker = { λ v. A.walker v.inner };
 
+    ghost connects = { λ v i j w. A.connects v.inner i j w.inner };
+
+    ghost breaks = { λ v i j w. A.breaks v.inner i j w.inner };
+
+    ghost exchanges = { λ v i j w. A.exchanges v.inner i j w.inner };
+
+    ghost compresses_canonically = { λ v w. A.compresses_canonically v.inner w.inner };
+
     ghost passes = { λ v w arena answer given. A.passes v.inner w.inner arena.inner answer given };
 
     ghost stand = { λ w i. A.stand w.inner i };

@@ -13,7 +13,7 @@ returns-in-Some-entry g c =
       some =
           drained_step g.P.PtrKey.key packed g.P.Gen.GenKey.following g.P.Gen.GenKey.wraps c.args.self.now c.remove_inx_link_no_gen.new.self c.args.at (number c.in-Some.i) c.yielded.result.0
           c.remove_inx_link_no_gen.result c.in-Some.ensures.some removal.agreed removal.answer c.in-Some-entry.entry c.overflowing-entry.result.1 c.yielded.result.1
-          removal.overflow removal.state (sym (ap (λ x. x.0) c.overflowing-entry.ensures) ∙ c.in-Some-entry.is) (ap (λ x. x.1) c.overflowing-entry.ensures)
+          removal.overflow (λ stands. (removal.more stands).state) (sym (ap (λ x. x.0) c.overflowing-entry.ensures) ∙ c.in-Some-entry.is) (ap (λ x. x.1) c.overflowing-entry.ensures)
           yields.ptr yields.link yields.overflow yields.next;
       agreed = removal.agreed;
     }

@@ -64,7 +64,7 @@ returns-in-Some g c =
       seen = ap (λ x. view_of x) (cut_values a b i j is);
       none = tt;
       agreed = c.self.invariant;
-      state = at_told _ _ _ at (cut_told a b i j is (pair g c));
+      more = at_told _ _ _ at (cut_told a b i j is (pair g c));
     })
 
 pub returns-in-None : goal.returns-in-None
@@ -75,5 +75,5 @@ returns-in-None g c = rw (← c.self.view_is) (record {
   seen = tt;
   none = refl;
   agreed = c.self.invariant;
-  state = tt;
+  more = tt;
 })

@@ -40,7 +40,6 @@ returns g c =
       seen = told a b p q o may is (λ may is. ap (λ x. view_of x) (joined-values a b p q may is));
       none = c.join.ensures.none;
       agreed = c.self.invariant;
-      state = is;
-      pair = told a b p q o may is (λ may is. joined-pair a b p q may is);
       chains = told a b p q o may is (λ may is. joined-chains a b p q may is);
+      more = told a b p q o may is (λ may is. record { state = is; shows = shows a b p q may is; pair = joined-pair a b p q may is; chains = joined-chains a b p q may is });
     })

@@ -78,7 +78,7 @@ returns-in-Some-next_of_link g c =
       seen = ap (λ x. view_of x) (exchange_values a b i j is);
       none = tt;
       agreed = c.self.invariant;
-      state = exchange_told a b i j is c.self.invariant (valid_p g c) (valid_q g c);
+      more = exchange_told a b i j is c.self.invariant (valid_p g c) (valid_q g c);
     })
 
 pub returns-in-None-next_of_link : goal.returns-in-None-next_of_link
@@ -89,7 +89,7 @@ returns-in-None-next_of_link g c = rw (← c.self.view_is) (record {
   seen = tt;
   none = refl;
   agreed = c.self.invariant;
-  state = tt;
+  more = tt;
 })
 
 pub returns-in-None : goal.returns-in-None
@@ -100,5 +100,5 @@ returns-in-None g c = rw (← c.self.view_is) (record {
   seen = tt;
   none = refl;
   agreed = c.self.invariant;
-  state = tt;
+  more = tt;
 })

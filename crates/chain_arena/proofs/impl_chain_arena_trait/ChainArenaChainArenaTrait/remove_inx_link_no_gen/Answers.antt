@@ -17,9 +17,7 @@ returns g c =
       overflow = made.overflow;
       valid = λ stands. (seen_there packed following a b i taken made.answer made.removal stands, (removal stands).shows);
       invalid = λ none. made.invalid (none_taken packed following a b i taken made.answer none);
-      shows = λ stands. (removal stands).shows;
       agreed = made.agreed;
-      state = λ stands. (removal stands).state;
       chains = λ stands. (removal stands).chains;
-      pairs = λ stands. (removal stands).pairs;
+      more = removal;
     }

@@ -34,9 +34,8 @@ returns-then-contains g c =
       overflow = same_overflow (λ e. e.1) (g.P.Gen.GenKey.wraps a.counter) c.unlink.result c.link_alone.result alone.value alone.overflow made.overflow;
       invalid = λ invalid. absurd (invalid stood);
       agreed = made.agreed;
-      state = λ _. removal.state;
       chains = λ _. removal.chains;
-      pairs = λ _. removal.pairs;
+      more = λ _. removal;
     })
 
 pub returns-else-contains : goal.returns-else-contains
@@ -47,7 +46,6 @@ returns-else-contains g c =
       overflow = refl;
       invalid = λ _. (refl, refl);
       agreed = c.invariants.ensures.agree;
-      state = λ valid. absurd (no valid);
       chains = λ valid. absurd (no valid);
-      pairs = λ valid. absurd (no valid);
+      more = λ valid. absurd (no valid);
     }
