@@ -1,0 +1,33 @@
+"""The picture of docs/BENCHMARKS.md: a link's time in a canonical compression, by the number of links."""
+import os
+import shutil
+import subprocess
+
+from measures import Times
+
+HERE = os.path.dirname(os.path.abspath(__file__))
+LINKS = [1_000, 2_000, 5_000, 10_000, 20_000, 50_000, 100_000, 200_000, 500_000, 1_000_000]
+CASES = ["canonical_behind", "canonical_tangled"]
+SIDES = ["ours", "Rust"]
+
+
+def draw(given, sides):
+    """Measures both cases on both sides, and writes the data and the picture."""
+    sides = [side for side in sides if side.name in SIDES]
+    rows = [[str(links), *(cell for case in CASES for cell in cells(given, sides, case, links))] for links in LINKS]
+    data, picture = (f"{given.picture}/compression.{ending}" for ending in ("dat", "svg"))
+    with open(data, "w", encoding="utf-8") as it:
+        heads = ["links", *(f"{case} {name}" for case in CASES for name in SIDES)]
+        it.write(f"# Nanoseconds of a link: {', '.join(heads)}\n")
+        it.writelines(" ".join(row) + "\n" for row in rows)
+    if not shutil.which("gnuplot"):
+        print(f"There is no gnuplot on this machine: {data} is written, and no picture.")
+        return
+    subprocess.run(["gnuplot", "-e", f"data='{data}'; picture='{picture}'", f"{HERE}/compression.gp"], check=True)
+    print(f"{data} and {picture} are written.")
+
+
+def cells(given, sides, case, links):
+    """The best time of each side, or a dash where there is none."""
+    times = Times(case, links, given.chain).measure(sides, given.runs, given.seconds)
+    return ["-" if times.best(name) is None else f"{times.best(name):.2f}" for name in SIDES]
