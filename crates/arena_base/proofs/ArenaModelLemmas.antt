@@ -19,102 +19,102 @@ module _ {P T Inx Gen Word : Type 0} (slots : List (ArenaSlot P T Inx Gen Word))
   now = arena_of slots ns counter greatest capacity maximum placed touched
 
   -- The model's slots after a slot is written.
-  pub seen_slots : (k n : ℕ) (slot : ArenaSlot P T Inx Gen Word) → k + 1 ≡ n → map entry_of (slice_set slots k slot) ≡ with_slot (map entry_of slots) n (entry_of slot)
-  seen_slots k n slot at = map-set entry_of slots k slot ∙ sym (with_slot-position (map entry_of slots) k n (entry_of slot) at)
+  pub viewed_slots : (k n : ℕ) (slot : ArenaSlot P T Inx Gen Word) → k + 1 ≡ n → map entry_of (slice_set slots k slot) ≡ with_slot (map entry_of slots) n (entry_of slot)
+  viewed_slots k n slot at = map-set entry_of slots k slot ∙ sym (with_slot-position (map entry_of slots) k n (entry_of slot) at)
 
-  pub seen_filled_next : (t : T) → ns ≡ []
+  pub viewed_filled_next : (t : T) → ns ≡ []
       → arena_of (slots ++ allocated_slot counter t ∷ []) [] counter greatest capacity maximum (placed + 1) touched ≡ insert_next now t
-  seen_filled_next t none =
+  viewed_filled_next t none =
       ap (λ (es : List (Option (Gen × T))). let a : Arena Gen T = record now { slots = es; freed = []; placed = placed + 1 } in a) (map-push slots (allocated_slot counter t))
       ∙ ap (λ ms. insert_next (record now { freed = ms }) t) (sym none)
 
-  pub seen_filled_freed : (k n : ℕ) (rest : List ℕ) (t : T) → k + 1 ≡ n → ns ≡ n ∷ rest
+  pub viewed_filled_freed : (k n : ℕ) (rest : List ℕ) (t : T) → k + 1 ≡ n → ns ≡ n ∷ rest
       → arena_of (slice_set slots k (allocated_slot counter t)) rest counter greatest capacity maximum (placed + 1) touched ≡ insert_next now t
-  seen_filled_freed k n rest t at first =
-      ap (λ (es : List (Option (Gen × T))). let a : Arena Gen T = record now { slots = es; freed = rest; placed = placed + 1 } in a) (seen_slots k n (allocated_slot counter t) at)
+  viewed_filled_freed k n rest t at first =
+      ap (λ (es : List (Option (Gen × T))). let a : Arena Gen T = record now { slots = es; freed = rest; placed = placed + 1 } in a) (viewed_slots k n (allocated_slot counter t) at)
       ∙ ap (λ ms. insert_next (record now { freed = ms }) t) (sym first)
 
-  pub seen_vacated : (following : Gen → Gen) (k n : ℕ) (next : Option Inx) → k + 1 ≡ n
+  pub viewed_vacated : (following : Gen → Gen) (k n : ℕ) (next : Option Inx) → k + 1 ≡ n
       → arena_of (slice_set slots k (free_slot next)) (n ∷ ns) (following counter) greatest capacity maximum (placed + 1) touched ≡ remove_at following now n
-  seen_vacated following k n next at =
-      ap (λ (es : List (Option (Gen × T))). let a : Arena Gen T = record now { slots = es; counter = following counter; freed = n ∷ ns; placed = placed + 1 } in a) (seen_slots k n (free_slot next) at)
+  viewed_vacated following k n next at =
+      ap (λ (es : List (Option (Gen × T))). let a : Arena Gen T = record now { slots = es; counter = following counter; freed = n ∷ ns; placed = placed + 1 } in a) (viewed_slots k n (free_slot next) at)
 
   -- The model's entry at an index.
-  entry_seen : (k n : ℕ) (g : Gen) (t : T) → k + 1 ≡ n → slice_get slots k ≡ Some (allocated_slot g t) → slot_at (map entry_of slots) n ≡ Some (g, t)
-  entry_seen k n g t at is = entry_at-position slots k n at ∙ ap entry_in is
+  entry_viewed : (k n : ℕ) (g : Gen) (t : T) → k + 1 ≡ n → slice_get slots k ≡ Some (allocated_slot g t) → slot_at (map entry_of slots) n ≡ Some (g, t)
+  entry_viewed k n g t at is = entry_at-position slots k n at ∙ ap entry_in is
 
-  pub seen_with_value : (k n : ℕ) (slot : ArenaSlot P T Inx Gen Word) (w : T) → k + 1 ≡ n → slice_get slots k ≡ Some slot
+  pub viewed_with_value : (k n : ℕ) (slot : ArenaSlot P T Inx Gen Word) (w : T) → k + 1 ≡ n → slice_get slots k ≡ Some slot
       → arena_of (slice_set slots k (with_value_in slot w)) ns counter greatest capacity maximum placed touched ≡ with_value now n w
-  seen_with_value k n slot w at is =
+  viewed_with_value k n slot w at is =
       let rewrite : Option (Gen × T) → Option (Gen × T) = option_map (λ (e : Gen × T). (e.0, w)) in
       ap (λ (es : List (Option (Gen × T))). let a : Arena Gen T = record now { slots = es } in a)
-      (seen_slots k n (with_value_in slot w) at
+      (viewed_slots k n (with_value_in slot w) at
       ∙ ap (λ (o : Option (Gen × T)). with_slot (map entry_of slots) n o) (entry_of-written slot w ∙ ap rewrite (sym (entry_at-position slots k n at ∙ ap entry_in is))))
 
-  pub seen_renewed_slot : (following : Gen → Gen) (k n : ℕ) (g : Gen) (t : T) → k + 1 ≡ n → slice_get slots k ≡ Some (allocated_slot g t)
+  pub viewed_renewed_slot : (following : Gen → Gen) (k n : ℕ) (g : Gen) (t : T) → k + 1 ≡ n → slice_get slots k ≡ Some (allocated_slot g t)
       → arena_of (slice_set slots k (allocated_slot (following counter) t)) ns (following counter) greatest capacity maximum placed touched ≡ renewed_at following now n
-  seen_renewed_slot following k n g t at is =
+  viewed_renewed_slot following k n g t at is =
       ap (λ (es : List (Option (Gen × T))). let a : Arena Gen T = record now { slots = es; counter = following counter } in a)
-      (seen_slots k n (allocated_slot (following counter) t) at
-      ∙ ap (λ (o : Option (Gen × T)). with_slot (map entry_of slots) n (option_map (λ (e : Gen × T). (following counter, e.1)) o)) (sym (entry_seen k n g t at is)))
+      (viewed_slots k n (allocated_slot (following counter) t) at
+      ∙ ap (λ (o : Option (Gen × T)). with_slot (map entry_of slots) n (option_map (λ (e : Gen × T). (following counter, e.1)) o)) (sym (entry_viewed k n g t at is)))
 
 module _ {P T Inx Gen Word : Type 0} (number : Inx → ℕ) where
   -- The arena after a value is written.
   pub lent_view : {slots : List (ArenaSlot P T Inx Gen Word)} {greatest len : ℕ} {head : Option Inx} → IsSound number slots greatest len head (freed_of number slots head)
       → (counter : Gen) (capacity : ℕ) (maximum : Option ℕ) (placed touched : ℕ) (k n : ℕ) (slot : ArenaSlot P T Inx Gen Word) (w : T)
-      → (items : List (ArenaSlot P T Inx Gen Word)) (room : ℕ) (most : Option ℕ) → k + 1 ≡ n → slice_get slots k ≡ Some slot → items ≡ slice_set slots k (with_value_in slot w) → room ≡ capacity → most ≡ maximum
-      → arena_of items (freed_of number items head) counter greatest room most placed touched ≡ with_value (arena_of slots (freed_of number slots head) counter greatest capacity maximum placed touched) n w
-  lent_view {slots = slots} {greatest = greatest} {head = head} s counter capacity maximum placed touched k n slot w items room most at is written same_room same_most =
-      rw (written, same_room, same_most, walked_all number (lent number k slot w s is))
-      (seen_with_value slots (freed_of number slots head) counter greatest capacity maximum placed touched k n slot w at is)
+      → (items : List (ArenaSlot P T Inx Gen Word)) (within_capacity : ℕ) (most : Option ℕ) → k + 1 ≡ n → slice_get slots k ≡ Some slot → items ≡ slice_set slots k (with_value_in slot w) → within_capacity ≡ capacity → most ≡ maximum
+      → arena_of items (freed_of number items head) counter greatest within_capacity most placed touched ≡ with_value (arena_of slots (freed_of number slots head) counter greatest capacity maximum placed touched) n w
+  lent_view {slots = slots} {greatest = greatest} {head = head} s counter capacity maximum placed touched k n slot w items within_capacity most at is written equal_capacity same_most =
+      rw (written, equal_capacity, same_most, walked_all number (lent number k slot w s is))
+      (viewed_with_value slots (freed_of number slots head) counter greatest capacity maximum placed touched k n slot w at is)
 
   -- The arena after an entry is removed.
   pub vacated_view : {slots : List (ArenaSlot P T Inx Gen Word)} {greatest len : ℕ} {head : Option Inx} → IsSound number slots greatest len head (freed_of number slots head)
-      → (counter after : Gen) (capacity room : ℕ) (maximum most : Option ℕ) (placed total touched : ℕ) (following : Gen → Gen) (k : ℕ) (i : Inx) (g : Gen) (t : T) (items : List (ArenaSlot P T Inx Gen Word))
-      → k + 1 ≡ number i → slice_get slots k ≡ Some (allocated_slot g t) → items ≡ slice_set slots k (free_slot head) → room ≡ capacity → most ≡ maximum → after ≡ following counter → total ≡ placed + 1
-      → arena_of items (freed_of number items (Some i)) after greatest room most total touched ≡ remove_at following (arena_of slots (freed_of number slots head) counter greatest capacity maximum placed touched) (number i)
-  vacated_view {slots = slots} {greatest = greatest} {len = len} {head = head} s counter after capacity room maximum most placed total touched following k i g t items at is written same_room same_most same_after same_total =
+      → (counter after : Gen) (capacity within_capacity : ℕ) (maximum most : Option ℕ) (placed total touched : ℕ) (following : Gen → Gen) (k : ℕ) (i : Inx) (g : Gen) (t : T) (items : List (ArenaSlot P T Inx Gen Word))
+      → k + 1 ≡ number i → slice_get slots k ≡ Some (allocated_slot g t) → items ≡ slice_set slots k (free_slot head) → within_capacity ≡ capacity → most ≡ maximum → after ≡ following counter → total ≡ placed + 1
+      → arena_of items (freed_of number items (Some i)) after greatest within_capacity most total touched ≡ remove_at following (arena_of slots (freed_of number slots head) counter greatest capacity maximum placed touched) (number i)
+  vacated_view {slots = slots} {greatest = greatest} {len = len} {head = head} s counter after capacity within_capacity maximum most placed total touched following k i g t items at is written equal_capacity same_most same_after same_total =
       let some = some_taken number s k g t is in
-      rw (written, same_room, same_most, same_after, same_total, walked_all number (slot_vacated number s k i g t (len - 1) at is (omega (arith, some))))
-      (seen_vacated slots (freed_of number slots head) counter greatest capacity maximum placed touched following k (number i) head at)
+      rw (written, equal_capacity, same_most, same_after, same_total, walked_all number (slot_vacated number s k i g t (len - 1) at is (omega (arith, some))))
+      (viewed_vacated slots (freed_of number slots head) counter greatest capacity maximum placed touched following k (number i) head at)
 
   -- The arena after its slots are dropped.
-  pub cleared_view : (slots items : List (ArenaSlot P T Inx Gen Word)) (ns : List ℕ) (counter after : Gen) (greatest capacity room : ℕ) (maximum most : Option ℕ) (placed touched len : ℕ) (following : Gen → Gen)
-      → items ≡ [] → room ≡ capacity → most ≡ maximum → len ≡ count_by is_some (map entry_of slots) → after ≡ counter_after_clear following len counter
-      → arena_of items (freed_of number items None) after greatest room most placed touched ≡ cleared following (arena_of slots ns counter greatest capacity maximum placed touched)
-  cleared_view slots items ns counter after greatest capacity room maximum most placed touched len following none same_room same_most counted same_after = rw (none, same_room, same_most, same_after, counted)
+  pub cleared_view : (slots items : List (ArenaSlot P T Inx Gen Word)) (ns : List ℕ) (counter after : Gen) (greatest capacity within_capacity : ℕ) (maximum most : Option ℕ) (placed touched len : ℕ) (following : Gen → Gen)
+      → items ≡ [] → within_capacity ≡ capacity → most ≡ maximum → len ≡ count_by is_some (map entry_of slots) → after ≡ counter_after_clear following len counter
+      → arena_of items (freed_of number items None) after greatest within_capacity most placed touched ≡ cleared following (arena_of slots ns counter greatest capacity maximum placed touched)
+  cleared_view slots items ns counter after greatest capacity within_capacity maximum most placed touched len following none equal_capacity same_most counted same_after = rw (none, equal_capacity, same_most, same_after, counted)
 
   -- The arena after a slot is written back unchanged.
-  pub kept_view : (slots items : List (ArenaSlot P T Inx Gen Word)) (head : Option Inx) (counter : Gen) (greatest capacity room : ℕ) (maximum most : Option ℕ) (placed touched : ℕ) (k : ℕ) (slot : ArenaSlot P T Inx Gen Word)
-      → slice_get slots k ≡ Some slot → items ≡ slice_set slots k slot → room ≡ capacity → most ≡ maximum
-      → arena_of items (freed_of number items head) counter greatest room most placed touched ≡ arena_of slots (freed_of number slots head) counter greatest capacity maximum placed touched
-  kept_view slots items head counter greatest capacity room maximum most placed touched k slot is written same_room same_most =
+  pub kept_view : (slots items : List (ArenaSlot P T Inx Gen Word)) (head : Option Inx) (counter : Gen) (greatest capacity within_capacity : ℕ) (maximum most : Option ℕ) (placed touched : ℕ) (k : ℕ) (slot : ArenaSlot P T Inx Gen Word)
+      → slice_get slots k ≡ Some slot → items ≡ slice_set slots k slot → within_capacity ≡ capacity → most ≡ maximum
+      → arena_of items (freed_of number items head) counter greatest within_capacity most placed touched ≡ arena_of slots (freed_of number slots head) counter greatest capacity maximum placed touched
+  kept_view slots items head counter greatest capacity within_capacity maximum most placed touched k slot is written equal_capacity same_most =
       let same : items ≡ slots = written ∙ slice_set-itself slots k slot is in
-      rw (same, same_room, same_most)
+      rw (same, equal_capacity, same_most)
 
   -- The arena after an insertion into the first freed slot.
   pub filled_freed_view : {slots : List (ArenaSlot P T Inx Gen Word)} {greatest len : ℕ} {head : Option Inx} → IsSound number slots greatest len head (freed_of number slots head)
-      → (counter : Gen) (capacity room : ℕ) (maximum most : Option ℕ) (placed total touched : ℕ) (k : ℕ) (i : Inx) (next : Option Inx) (t : T) (items : List (ArenaSlot P T Inx Gen Word))
-      → head ≡ Some i → k + 1 ≡ number i → slice_get slots k ≡ Some (free_slot next) → items ≡ slice_set slots k (allocated_slot counter t) → room ≡ capacity → most ≡ maximum → total ≡ placed + 1
+      → (counter : Gen) (capacity within_capacity : ℕ) (maximum most : Option ℕ) (placed total touched : ℕ) (k : ℕ) (i : Inx) (next : Option Inx) (t : T) (items : List (ArenaSlot P T Inx Gen Word))
+      → head ≡ Some i → k + 1 ≡ number i → slice_get slots k ≡ Some (free_slot next) → items ≡ slice_set slots k (allocated_slot counter t) → within_capacity ≡ capacity → most ≡ maximum → total ≡ placed + 1
       → IsSound number items greatest (len + 1) next (freed_of number items next)
-      × (arena_of items (freed_of number items next) counter greatest room most total touched ≡ insert_next (arena_of slots (freed_of number slots head) counter greatest capacity maximum placed touched) t)
-  filled_freed_view {slots = slots} {greatest = greatest} s counter capacity room maximum most placed total touched k i next t items first at was written same_room same_most same_total =
+      × (arena_of items (freed_of number items next) counter greatest within_capacity most total touched ≡ insert_next (arena_of slots (freed_of number slots head) counter greatest capacity maximum placed touched) t)
+  filled_freed_view {slots = slots} {greatest = greatest} s counter capacity within_capacity maximum most placed total touched k i next t items first at was written equal_capacity same_most same_total =
       let filled = filled_freed number i next k counter t (rw first at s) at was in (
         rw written (closed number filled.0),
-        rw (written, same_room, same_most, same_total, walked_all number filled.0, first) (seen_filled_freed slots (freed_of number slots (Some i)) counter greatest capacity maximum placed touched k (number i) _ t at filled.1),
+        rw (written, equal_capacity, same_most, same_total, walked_all number filled.0, first) (viewed_filled_freed slots (freed_of number slots (Some i)) counter greatest capacity maximum placed touched k (number i) _ t at filled.1),
       )
 
   -- The arena after an insertion into a new slot.
   pub filled_next_view : {slots : List (ArenaSlot P T Inx Gen Word)} {greatest len : ℕ} {head : Option Inx} → IsSound number slots greatest len head (freed_of number slots head)
-      → (counter : Gen) (capacity room : ℕ) (maximum most : Option ℕ) (placed total touched : ℕ) (t : T) (items : List (ArenaSlot P T Inx Gen Word))
-      → head ≡ None → len < greatest → items ≡ slots ++ allocated_slot counter t ∷ [] → room ≡ capacity → most ≡ maximum → total ≡ placed + 1
+      → (counter : Gen) (capacity within_capacity : ℕ) (maximum most : Option ℕ) (placed total touched : ℕ) (t : T) (items : List (ArenaSlot P T Inx Gen Word))
+      → head ≡ None → len < greatest → items ≡ slots ++ allocated_slot counter t ∷ [] → within_capacity ≡ capacity → most ≡ maximum → total ≡ placed + 1
       → IsSound number items greatest (len + 1) None (freed_of number items None)
-      × (arena_of items (freed_of number items None) counter greatest room most total touched ≡ insert_next (arena_of slots (freed_of number slots head) counter greatest capacity maximum placed touched) t)
-  filled_next_view {slots = slots} {greatest = greatest} s counter capacity room maximum most placed total touched t items none less written same_room same_most same_total =
+      × (arena_of items (freed_of number items None) counter greatest within_capacity most total touched ≡ insert_next (arena_of slots (freed_of number slots head) counter greatest capacity maximum placed touched) t)
+  filled_next_view {slots = slots} {greatest = greatest} s counter capacity within_capacity maximum most placed total touched t items none less written equal_capacity same_most same_total =
       let sound = rw none at s in
       let filled = filled_next number counter t sound (omega (arith, less, none_freed number sound)) in (
         rw written (closed number filled.0),
-        rw (written, same_room, same_most, same_total, walked_all number filled.0, none) (seen_filled_next slots (freed_of number slots None) counter greatest capacity maximum placed touched t filled.1),
+        rw (written, equal_capacity, same_most, same_total, walked_all number filled.0, none) (viewed_filled_next slots (freed_of number slots None) counter greatest capacity maximum placed touched t filled.1),
       )
 
 module _ {Gen T : Type 0} (old mid new : Arena Gen T) (t : T) (grown : mid ≡ with_capacity_of old mid) (inserted : new ≡ insert_next mid t) where
@@ -122,5 +122,5 @@ module _ {Gen T : Type 0} (old mid new : Arena Gen T) (t : T) (grown : mid ≡ w
   pub inserted_grown : new ≡ with_capacity_of (insert_next old t) new
   inserted_grown = inserted ∙ (ap (λ (a : Arena Gen T). insert_next a t) grown ∙ ap (λ (a : Arena Gen T). with_capacity_of (insert_next old t) a) (sym inserted))
 
-  pub room_grown : (may_reach : ℕ → Option ℕ → ℕ → ℕ → Type 0) (greatest n : ℕ) → ReachesCapacity may_reach greatest n old mid → ReachesCapacity may_reach greatest n old new
-  room_grown may_reach greatest n has = subst (ReachesCapacity may_reach greatest n old) (sym inserted) (record { room = has.room; reached = has.reached })
+  pub capacity_grown : (may_reach : ℕ → Option ℕ → ℕ → ℕ → Type 0) (greatest n : ℕ) → ReachesCapacity may_reach greatest n old mid → ReachesCapacity may_reach greatest n old new
+  capacity_grown may_reach greatest n has = subst (ReachesCapacity may_reach greatest n old) (sym inserted) (record { within_capacity = has.within_capacity; reached = has.reached })

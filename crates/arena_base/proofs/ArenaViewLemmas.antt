@@ -98,21 +98,21 @@ module _ {Gen T : Type 0} where
     slots = Some (record { count = count; freed = freed; placed = placed; touched = a.touched });
   }
 
-  pub seen_removed : (following : Gen → Gen) (a : Arena Gen T) (n : ℕ) → view_of (remove_at following a n) ≡ entry_removed following (view_of a) n
-  seen_removed following a n = λ i. shape a (entries-freed a.slots n i) (length-with_slot a.slots n None i) (n ∷ a.freed) (following a.counter) (a.placed + 1)
+  pub viewed_removed : (following : Gen → Gen) (a : Arena Gen T) (n : ℕ) → view_of (remove_at following a n) ≡ entry_removed following (view_of a) n
+  viewed_removed following a n = λ i. shape a (entries-freed a.slots n i) (length-with_slot a.slots n None i) (n ∷ a.freed) (following a.counter) (a.placed + 1)
 
-  pub seen_written : (a : Arena Gen T) (n : ℕ) (t : T) → view_of (with_value a n t) ≡ written (view_of a) n t
-  seen_written a n t =
+  pub viewed_written : (a : Arena Gen T) (n : ℕ) (t : T) → view_of (with_value a n t) ≡ written (view_of a) n t
+  viewed_written a n t =
       let f : Gen × T → Gen × T = λ e. (e.0, t) in
       λ i. shape a (entries-replaced f a.slots n i) (length-with_slot a.slots n (option_map f (slot_at a.slots n)) i) a.freed a.counter a.placed
 
-  pub seen_renewed : (following : Gen → Gen) (a : Arena Gen T) (n : ℕ) → view_of (renewed_at following a n) ≡ renewed (view_of a) (n, following a.counter)
-  seen_renewed following a n =
+  pub viewed_renewed : (following : Gen → Gen) (a : Arena Gen T) (n : ℕ) → view_of (renewed_at following a n) ≡ renewed (view_of a) (n, following a.counter)
+  viewed_renewed following a n =
       let f : Gen × T → Gen × T = λ e. (following a.counter, e.1) in
       λ i. shape a (entries-replaced f a.slots n i) (length-with_slot a.slots n (option_map f (slot_at a.slots n)) i) a.freed (following a.counter) a.placed
 
-  pub seen_cleared : (following : Gen → Gen) (a : Arena Gen T) → view_of (cleared following a) ≡ emptied following (view_of a)
-  seen_cleared following a = ap (λ count. shape a [] 0 [] (counter_after_clear following count a.counter) a.placed) (sym (length-entries a))
+  pub viewed_cleared : (following : Gen → Gen) (a : Arena Gen T) → view_of (cleared following a) ≡ emptied following (view_of a)
+  viewed_cleared following a = ap (λ count. shape a [] 0 [] (counter_after_clear following count a.counter) a.placed) (sym (length-entries a))
 
 -- A result contains the value it is made from.
 pub value_within-made : {X : Type 0} (overflow : Bool) (o : Option X) → value_within (invalidation_result overflow o) ≡ o
@@ -126,4 +126,4 @@ module _ {Gen T : Type 0} where
       → key ≡ (made, g) → made ≡ n → m ≡ n → g ≡ following a.counter → b ≡ renewed_at following a m → (key.0 ≡ n) × (view_of b ≡ renewed (view_of a) key)
   renewed_key following a b key m made n g is at index next after =
       let same : key ≡ (m, following a.counter) = is ∙ (ap (λ i. let k : ℕ × Gen = (i, g) in k) (at ∙ sym index) ∙ ap (λ (h : Gen). let k : ℕ × Gen = (m, h) in k) next) in
-      (ap (λ (k : ℕ × Gen). k.0) is ∙ at, ap view_of after ∙ (seen_renewed following a m ∙ ap (renewed (view_of a)) (sym same)))
+      (ap (λ (k : ℕ × Gen). k.0) is ∙ at, ap view_of after ∙ (viewed_renewed following a m ∙ ap (renewed (view_of a)) (sym same)))

@@ -48,8 +48,8 @@ module _ {F P T Gen : Type 0} (g : Mut F (P × (MutBor T × (P × Unit {0}))) (U
       → generation ≡ old.counter → AreClosed generation before after → VisitsAll g key f (entries_from 1 before.slots) (entries_from 1 after.slots)
       → finish ≡ with_totals start (length (entries_from 1 before.slots)) (length before.slots + length (entries_from 1 before.slots)) → new ≡ returned greatest finish after
       → IsGathered g key f old new
-  gathers greatest maximum generation old start finish new before after is_start is_before room counter closed visits totals is_new =
-      record { values = values; arena = whole; visits = seen }
+  gathers greatest maximum generation old start finish new before after is_start is_before within_capacity counter closed visits totals is_new =
+      record { values = values; arena = whole; visits = view_after }
     where
       values : List T
       values = closed.values
@@ -72,13 +72,13 @@ module _ {F P T Gen : Type 0} (g : Mut F (P × (MutBor T × (P × Unit {0}))) (U
           ∙ (λ i. record old {
             slots = trimmed-closed old.counter values closed.free i;
             freed = (ap (free_from 1) (trimmed-closed old.counter values closed.free) ∙ none_free old.counter values 1) i;
-            capacity = sym room i;
+            capacity = sym within_capacity i;
             placed = old.placed + counted i;
             touched = old.touched + (length (is_before i).slots + counted i);
           })))
 
-      seen : VisitsAll g key f (entries old) (entries new)
-      seen = subst (λ (p : List ((ℕ × Gen) × T) × List ((ℕ × Gen) × T)). VisitsAll g key f p.0 p.1) (λ i. (ap (λ (h : Held Gen T). entries_from 1 h.slots) is_before i, same i)) visits
+      view_after : VisitsAll g key f (entries old) (entries new)
+      view_after = subst (λ (p : List ((ℕ × Gen) × T) × List ((ℕ × Gen) × T)). VisitsAll g key f p.0 p.1) (λ i. (ap (λ (h : Held Gen T). entries_from 1 h.slots) is_before i, same i)) visits
         where
           same : entries_from 1 after.slots ≡ entries new
           same = ap (λ (h : Held Gen T). entries_from 1 h.slots) is_after ∙ (entries-closed old.counter values closed.free 1 ∙ sym (ap entries whole))

@@ -103,8 +103,8 @@ module _ {P T Inx Gen Word : Type 0} where
   pub held_brought : (slots : List (ArenaSlot P T Inx Gen Word)) (capacity : ℕ) (maximum : Option ℕ) (i j from to : ℕ) (g h : Gen) (t : T) (next : Option Inx) → i + 1 ≡ from → j + 1 ≡ to
       → Some (h, t) ≡ slice_index_or (map entry_of slots) i None → (j ≢ i → slice_index_or (map entry_of slots) j None ≡ None)
       → held_slots (slice_set (slice_set slots i (free_slot next)) j (allocated_slot g t)) capacity maximum ≡ with_placed_entry (held_slots slots capacity maximum) from to g
-  held_brought slots capacity maximum i j from to g h t next at_from at_to stands free =
-      held_moved slots (slice_set (slice_set slots i (free_slot next)) j (allocated_slot g t)) capacity maximum i j from to g at_from at_to (all ∙ (by (ℕ_discrete j i) ∙ ap (λ o. slice_set (slice_set (map entry_of slots) i (slice_index_or (map entry_of slots) j None)) j (regenerated g o)) stands))
+  held_brought slots capacity maximum i j from to g h t next at_from at_to stored free =
+      held_moved slots (slice_set (slice_set slots i (free_slot next)) j (allocated_slot g t)) capacity maximum i j from to g at_from at_to (all ∙ (by (ℕ_discrete j i) ∙ ap (λ o. slice_set (slice_set (map entry_of slots) i (slice_index_or (map entry_of slots) j None)) j (regenerated g o)) stored))
     where
       all : map entry_of (slice_set (slice_set slots i (free_slot next)) j (allocated_slot g t)) ≡ slice_set (slice_set (map entry_of slots) i None) j (Some (g, t))
       all = map-set entry_of (slice_set slots i (free_slot next)) j (allocated_slot g t) ∙ ap (λ (fs : List (Option (Gen × T))). slice_set fs j (Some (g, t))) (map-set entry_of slots i (free_slot next))
@@ -127,11 +127,11 @@ module _ {P T Inx Gen Word : Type 0} where
         slot_at-position (map entry_of slots) j to at_to ∙ (ap (λ fs. slot_at fs to) same ∙ free (λ s. differs (omega (arith, s, at_to, at_from))))
 
   -- A value is written.
-  pub held_lent : (slots items : List (ArenaSlot P T Inx Gen Word)) (capacity room : ℕ) (maximum most : Option ℕ) (k n : ℕ) (slot : ArenaSlot P T Inx Gen Word) (w : T) → k + 1 ≡ n → slice_get slots k ≡ Some slot
-      → items ≡ slice_set slots k (with_value_in slot w) → room ≡ capacity → most ≡ maximum
-      → held_slots items room most ≡ held_with_value (held_slots slots capacity maximum) n w
-  held_lent slots items capacity room maximum most k n slot w at is written same_room same_most =
+  pub held_lent : (slots items : List (ArenaSlot P T Inx Gen Word)) (capacity within_capacity : ℕ) (maximum most : Option ℕ) (k n : ℕ) (slot : ArenaSlot P T Inx Gen Word) (w : T) → k + 1 ≡ n → slice_get slots k ≡ Some slot
+      → items ≡ slice_set slots k (with_value_in slot w) → within_capacity ≡ capacity → most ≡ maximum
+      → held_slots items within_capacity most ≡ held_with_value (held_slots slots capacity maximum) n w
+  held_lent slots items capacity within_capacity maximum most k n slot w at is written equal_capacity same_most =
       let rewrite : Option (Gen × T) → Option (Gen × T) = option_map (λ (e : Gen × T). (e.0, w)) in
       let all = ap (map entry_of) written ∙ (map-set entry_of slots k (with_value_in slot w) ∙ (sym (with_slot-position (map entry_of slots) k n (entry_of (with_value_in slot w)) at)
       ∙ ap (λ (o : Option (Gen × T)). with_slot (map entry_of slots) n o) (entry_of-written slot w ∙ ap rewrite (sym (entry_at-position slots k n at ∙ ap entry_in is))))) in
-      λ i. record { slots = all i; stack_capacity = same_room i; maximum = same_most i }
+      λ i. record { slots = all i; stack_capacity = equal_capacity i; maximum = same_most i }

@@ -142,7 +142,7 @@ value_there (Some d) t e is there = cc
 
 -- A visit as an entry, before and after.
 abbrev pub before_visit : {P T Gen : Type 0} → (P → ℕ × Gen) → Visit P T → (ℕ × Gen) × T
-before_visit key v = (key v.from, v.shown)
+before_visit key v = (key v.from, v.reported)
 
 abbrev pub after_visit : {P T Gen : Type 0} → (P → ℕ × Gen) → Visit P T → (ℕ × Gen) × T
 after_visit key v = (key v.to, v.left)
@@ -156,7 +156,7 @@ pub record IsClosing {F P T Gen : Type 0} (g : Mut F (P × (MutBor T × (P × Un
   pub before : map (before_visit key) visits ++ entries_from (suc k) (drop k old) ≡ entries_from 1 old
   pub after : map (after_visit key) visits ≡ entries_from 1 (fronted generation values [])
   pub now : slots ≡ fronted generation values (replicate free None ++ drop k old)
-  pub seen : length values ≡ count
+  pub view_after : length values ≡ count
   pub passed : count + free ≡ k
 
 module _ {F P T Gen : Type 0} (g : Mut F (P × (MutBor T × (P × Unit {0}))) (Unit {0} × (MutBor T × Unit {0}))) (key : P → ℕ × Gen) (generation : Gen) (first : F) (old : List (Option (Gen × T))) where
@@ -165,16 +165,16 @@ module _ {F P T Gen : Type 0} (g : Mut F (P × (MutBor T × (P × Unit {0}))) (U
   closing_length k count f slots c below =
       let front = length-append (map (λ (t : T). let o : Option (Gen × T) = Some (generation, t) in o) c.values) (replicate c.free None ++ drop k old) in
       let rest = length-append (replicate {A = Option (Gen × T)} c.free None) (drop k old) in
-      ap length c.now ∙ omega (arith, front, rest, length-map c.values (λ (t : T). let o : Option (Gen × T) = Some (generation, t) in o), length-replicate {A = Option (Gen × T)} c.free None, length-drop k old, c.seen, c.passed, below)
+      ap length c.now ∙ omega (arith, front, rest, length-map c.values (λ (t : T). let o : Option (Gen × T) = Some (generation, t) in o), length-replicate {A = Option (Gen × T)} c.free None, length-drop k old, c.view_after, c.passed, below)
 
   -- The initial state.
   pub closing_begins : IsClosing g key generation first old 0 0 first old
-  closing_begins = record { visits = []; values = []; free = 0; in_turn = refl; before = refl; after = refl; now = refl; seen = refl; passed = refl }
+  closing_begins = record { visits = []; values = []; free = 0; in_turn = refl; before = refl; after = refl; now = refl; view_after = refl; passed = refl }
 
   -- The slot after the front is the next one, or free.
   pub closing_free : (k count : ℕ) (f : F) (slots : List (Option (Gen × T))) → IsClosing g key generation first old k count f slots → (from to : ℕ) → from ≡ k + 1 → to ≡ count + 1 → to ≢ from → slot_at slots to ≡ None
   closing_free k count f slots c from to at_from at_to differs =
-      let next : suc (length c.values) ≡ to = omega (arith, at_to, c.seen) in
+      let next : suc (length c.values) ≡ to = omega (arith, at_to, c.view_after) in
       sym (ap (slot_at slots) next) ∙ (ap (λ es. slice_index_or es (length c.values) None) c.now ∙ free_behind generation c.values c.free (drop k old) (by c.free refl))
     where
       by : (n : ℕ) → c.free ≡ n → 1 ≤ c.free
@@ -190,7 +190,7 @@ module _ {F P T Gen : Type 0} (g : Mut F (P × (MutBor T × (P × Unit {0}))) (U
     next_slot n at =
         let next : suc k ≡ n = omega (arith, at) in
         sym (ap (slot_at slots) next) ∙ (ap (λ es. slice_index_or es k None) (come (slice_index_or old k None) (drop-at old k below))
-        ∙ slot_to_come generation c.values c.free k (slice_index_or old k None) (drop (suc k) old) (omega (arith, c.seen, c.passed)))
+        ∙ slot_to_come generation c.values c.free k (slice_index_or old k None) (drop (suc k) old) (omega (arith, c.view_after, c.passed)))
 
     -- A free slot is passed.
     pub closing_frees : (from : ℕ) → from ≡ k + 1 → slot_at slots from ≡ None → IsClosing g key generation first old (k + 1) count f slots
@@ -206,15 +206,15 @@ module _ {F P T Gen : Type 0} (g : Mut F (P × (MutBor T × (P × Unit {0}))) (U
           before = ap (λ es. map (before_visit key) c.visits ++ entries_from (suc k) es) (sym is) ∙ c.before;
           after = c.after;
           now = come None is ∙ ap (fronted generation c.values) (free_passed c.free (drop (suc k) old));
-          seen = c.seen;
+          view_after = c.view_after;
           passed = omega (arith, c.passed);
         })
 
     -- The entry of the next slot is moved to the end of the front.
-    module _ (from to : ℕ) (was : Gen) (mid : List (Option (Gen × T))) (at_from : from ≡ k + 1) (at_to : to ≡ count + 1) (answer : Some was ≡ option_map (λ (e : Gen × T). e.0) (slot_at slots from))
+    module _ (from to : ℕ) (was : Gen) (mid : List (Option (Gen × T))) (at_from : from ≡ k + 1) (at_to : to ≡ count + 1) (returned : Some was ≡ option_map (λ (e : Gen × T). e.0) (slot_at slots from))
         (placed : mid ≡ with_slot (with_slot slots from (slot_at slots to)) to (option_map (λ (e : Gen × T). (generation, e.1)) (slot_at slots from))) where
       come_entry : (e : Gen × T) × (slot_at slots from ≡ Some e) × (e.0 ≡ was)
-      come_entry = entry_there (slot_at slots from) was answer
+      come_entry = entry_there (slot_at slots from) was returned
 
       abbrev later : List (Option (Gen × T))
       later = drop (suc k) old
@@ -223,30 +223,30 @@ module _ {F P T Gen : Type 0} (g : Mut F (P × (MutBor T × (P × Unit {0}))) (U
       from_number = omega (arith, at_from)
 
       to_number : suc (length c.values) ≡ to
-      to_number = omega (arith, at_to, c.seen)
+      to_number = omega (arith, at_to, c.view_after)
 
       split : drop k old ≡ Some come_entry.0 ∷ later
       split = drop-at old k below ∙ ap (λ o. o ∷ later) (sym (next_slot from at_from) ∙ come_entry.1)
 
       is_mid : mid ≡ fronted generation c.values (Some (generation, come_entry.0.1) ∷ (replicate c.free None ++ later))
-      is_mid = placed ∙ placed_fronted generation c.values c.free k from to slots later come_entry.0 (come (Some come_entry.0) split) (omega (arith, c.seen, c.passed)) from_number to_number
+      is_mid = placed ∙ placed_fronted generation c.values c.free k from to slots later come_entry.0 (come (Some come_entry.0) split) (omega (arith, c.view_after, c.passed)) from_number to_number
 
-      stands : slot_at mid to ≡ Some (generation, come_entry.0.1)
-      stands =
+      stored : slot_at mid to ≡ Some (generation, come_entry.0.1)
+      stored =
           let now = fronted generation c.values (Some (generation, come_entry.0.1) ∷ (replicate c.free None ++ later)) in
           ap (λ es. slot_at es to) is_mid ∙ (sym (ap (slot_at now) to_number) ∙ slot_behind generation c.values (Some (generation, come_entry.0.1)) (replicate c.free None ++ later))
 
       -- The entry is in its new slot.
-      pub brought_stands : None ≡ option_map (λ (e : Gen × T). e.1) (slot_at mid to) → ⊥
-      brought_stands none = let both = none ∙ ap (option_map (λ (e : Gen × T). e.1)) stands in cc
+      pub brought_stored : None ≡ option_map (λ (e : Gen × T). e.1) (slot_at mid to) → ⊥
+      brought_stored none = let both = none ∙ ap (option_map (λ (e : Gen × T). e.1)) stored in cc
 
       -- The closure visits the entry there.
-      pub closing_brings : (v : Visit P T) (next : F) (after : List (Option (Gen × T))) → Some v.shown ≡ option_map (λ (e : Gen × T). e.1) (slot_at mid to)
+      pub closing_brings : (v : Visit P T) (next : F) (after : List (Option (Gen × T))) → Some v.reported ≡ option_map (λ (e : Gen × T). e.1) (slot_at mid to)
           → after ≡ with_slot mid to (option_map (λ (e : Gen × T). (e.0, v.left)) (slot_at mid to)) → key v.from ≡ (from, was) → key v.to ≡ (to, generation) → IsVisit g f v next
           → IsClosing g key generation first old (k + 1) (count + 1) next after
-      closing_brings v next after shown written from_key to_key visit =
-          let value = value_there (slot_at mid to) v.shown (generation, come_entry.0.1) shown stands in
-          let seen : before_visit key v ≡ ((suc k, come_entry.0.0), come_entry.0.1) = λ i. ((from_key ∙ (λ j. (sym from_number j, sym come_entry.2 j))) i, value i) in
+      closing_brings v next after reported written from_key to_key visit =
+          let value = value_there (slot_at mid to) v.reported (generation, come_entry.0.1) reported stored in
+          let view_after : before_visit key v ≡ ((suc k, come_entry.0.0), come_entry.0.1) = λ i. ((from_key ∙ (λ j. (sym from_number j, sym come_entry.2 j))) i, value i) in
           let left : after_visit key v ≡ ((to, generation), v.left) = λ i. (to_key i, v.left) in
           let number : suc k ≡ k + 1 = omega arith in
           subst (λ n. IsClosing g key generation first old n (count + 1) next after) number (record {
@@ -256,12 +256,12 @@ module _ {F P T Gen : Type 0} (g : Mut F (P × (MutBor T × (P × Unit {0}))) (U
             in_turn = FoldsTo-push (IsVisit g) first c.visits f v next c.in_turn visit;
             before = ap (λ es. es ++ entries_from (suc (suc k)) later) (map-append (before_visit key) c.visits (v ∷ []))
                 ∙ (append_assoc (map (before_visit key) c.visits) (before_visit key v ∷ []) (entries_from (suc (suc k)) later)
-                ∙ (ap (λ b. map (before_visit key) c.visits ++ b ∷ entries_from (suc (suc k)) later) seen
+                ∙ (ap (λ b. map (before_visit key) c.visits ++ b ∷ entries_from (suc (suc k)) later) view_after
                 ∙ (ap (λ es. map (before_visit key) c.visits ++ entries_from (suc k) es) (sym split) ∙ c.before)));
             after = map-append (after_visit key) c.visits (v ∷ [])
-                ∙ (ap (λ es. es ++ after_visit key v ∷ []) c.after ∙ (ap (λ b. entries_from 1 (fronted generation c.values []) ++ b ∷ []) left ∙ sym (entries-joined generation c.values 1 to v.left (omega (arith, at_to, c.seen)))));
+                ∙ (ap (λ es. es ++ after_visit key v ∷ []) c.after ∙ (ap (λ b. entries_from 1 (fronted generation c.values []) ++ b ∷ []) left ∙ sym (entries-joined generation c.values 1 to v.left (omega (arith, at_to, c.view_after)))));
             now = written ∙ written_fronted generation c.values to mid (replicate c.free None ++ later) come_entry.0.1 v.left is_mid to_number;
-            seen = length-append c.values (v.left ∷ []) ∙ omega (arith, c.seen);
+            view_after = length-append c.values (v.left ∷ []) ∙ omega (arith, c.view_after);
             passed = omega (arith, c.passed);
           })
 
@@ -281,14 +281,14 @@ module _ {F P T Gen : Type 0} (g : Mut F (P × (MutBor T × (P × Unit {0}))) (U
 
     -- When all slots are passed, the entries are packed.
     pub closing_packs : IsPacked slots count
-    closing_packs = subst (λ (p : List (Option (Gen × T)) × ℕ). IsPacked p.0 p.1) (λ i. (sym closed_now i, c.seen i)) (packed-fronted generation c.values c.free)
+    closing_packs = subst (λ (p : List (Option (Gen × T)) × ℕ). IsPacked p.0 p.1) (λ i. (sym closed_now i, c.view_after i)) (packed-fronted generation c.values c.free)
 
     pub closing_visits : VisitsAll g key first (entries_from 1 old) (entries_from 1 slots)
     closing_visits = record { visits = c.visits; last = f; in_turn = c.in_turn; before = before_all; after = after_all }
 
     pub closing_counts : count ≡ length (entries_from 1 old)
     closing_counts =
-        sym c.seen ∙ (sym (length-fronted generation c.values 1) ∙ (ap length (sym c.after)
+        sym c.view_after ∙ (sym (length-fronted generation c.values 1) ∙ (ap length (sym c.after)
         ∙ (length-map c.visits (after_visit key) ∙ (sym (length-map c.visits (before_visit key)) ∙ ap length before_all))))
 
     pub closing_closes : (before after : Held Gen T) → before.slots ≡ old → after.slots ≡ slots → after.stack_capacity ≡ before.stack_capacity → after.maximum ≡ before.maximum → AreClosed generation before after
@@ -296,22 +296,22 @@ module _ {F P T Gen : Type 0} (g : Mut F (P × (MutBor T × (P × Unit {0}))) (U
       values = c.values;
       free = c.free;
       held = λ i. record { slots = (is_new ∙ closed_now) i; stack_capacity = capacity i; maximum = maximum i };
-      same_length = omega (arith, c.seen, c.passed, all, ap length is_old);
+      same_length = omega (arith, c.view_after, c.passed, all, ap length is_old);
     }
 
 module _ {Gen T : Type 0} (old now next : Arena Gen T) (k count : ℕ) where
   -- One more touch.
-  pub totals_looked : now ≡ with_totals old count (k + count) → next ≡ with_touch now → next ≡ with_totals old count ((k + 1) + count)
-  totals_looked is looked =
+  pub totals_read : now ≡ with_totals old count (k + count) → next ≡ with_touch now → next ≡ with_totals old count ((k + 1) + count)
+  totals_read is was_read =
       let touches : (old.touched + (k + count)) + 1 ≡ old.touched + ((k + 1) + count) = omega arith in
-      looked ∙ (ap with_touch is ∙ (λ i. record old { placed = old.placed + count; touched = touches i }))
+      was_read ∙ (ap with_touch is ∙ (λ i. record old { placed = old.placed + count; touched = touches i }))
 
   -- One more placement, between two more touches.
   pub totals_brought : (mid : Arena Gen T) → now ≡ with_totals old count (k + count) → mid ≡ with_placement (with_touch now) → next ≡ with_touch mid → next ≡ with_totals old (count + 1) ((k + 1) + (count + 1))
-  totals_brought mid is placed looked =
+  totals_brought mid is placed was_read =
       let placements : (old.placed + count) + 1 ≡ old.placed + (count + 1) = omega arith in
       let touches : ((old.touched + (k + count)) + 1) + 1 ≡ old.touched + ((k + 1) + (count + 1)) = omega arith in
-      looked ∙ (ap with_touch (placed ∙ ap (λ (a : Arena Gen T). with_placement (with_touch a)) is) ∙ (λ i. record old { placed = placements i; touched = touches i }))
+      was_read ∙ (ap with_touch (placed ∙ ap (λ (a : Arena Gen T). with_placement (with_touch a)) is) ∙ (λ i. record old { placed = placements i; touched = touches i }))
 
 -- No work yet.
 pub totals_begin : {Gen T : Type 0} (old : Arena Gen T) → old ≡ with_totals old 0 (0 + 0)

@@ -16,4 +16,4 @@ mod SoundnessLemmas
 mod TrimLemmas
 mod ArenaModelLemmas
 mod ClosureLemmas
-mod TallyWalks
+mod TallyLemmas

@@ -9,7 +9,7 @@ use Rattle.arena_base.specs.Entries.{ArenaView, entries_from, entries, view_of}
 use Rattle.arena_base.specs.Slots.{entry_of, allocated_slot, free_slot, without_value, without_values, freed_of, arena_of, IsSound}
 use Rattle.arena_base.specs.Copies.{Copied, Makes, CopiesBy, HasRefusable, IsCopyBy, HasSlotsOf, IsAbandonedCopy, IsAbandonedView, generations}
 use Rattle.arena_base.specs.declared.slot.ArenaSlot.{ArenaSlot}
-use Rattle.arena_base.proofs.FoldLemmas.{folds_seen}
+use Rattle.arena_base.proofs.FoldLemmas.{folds_viewed}
 use Rattle.arena_base.proofs.SlotLemmas.{map-push}
 use Rattle.arena_base.proofs.SoundnessLemmas.{walked_all}
 use Rattle.arena_base.proofs.SlotShapeLemmas.{same_generations, sound_too}
@@ -27,10 +27,10 @@ entries_from-push (Some e ∷ slots) i j slot at = ap (λ es. ((i, e.0), e.1) �
 
 -- A value that was made, as an entry.
 abbrev pub before_call : {P U T Gen : Type 0} → (P → ℕ × Gen) → Copied P U T → (ℕ × Gen) × U
-before_call key c = (key c.pointer, c.shown)
+before_call key c = (key c.pointer, c.reported)
 
 abbrev pub after_call : {P U T Gen : Type 0} → (P → ℕ × Gen) → Copied P U T → (ℕ × Gen) × T
-after_call key c = (key c.pointer, c.answer)
+after_call key c = (key c.pointer, c.returned)
 
 -- The state of the copying: the slots up to `k` are copied.
 pub record IsCopying {F P U T Inx Gen Word : Type 0} (makes : F → P → U → T → F → Type 0) (key : P → ℕ × Gen) (first : F) (old : List (ArenaSlot P U Inx Gen Word)) (k : ℕ) (f : F) (slots : List (ArenaSlot P T Inx Gen Word)) : Type 0 where
@@ -84,25 +84,25 @@ module _ {F P U T Inx Gen Word : Type 0} (makes : F → P → U → T → F → 
         }))
 
     -- An entry is copied.
-    pub copying_answers : (generation : Gen) (u : U) (call : Copied P U T) (next : F) (after : List (ArenaSlot P T Inx Gen Word)) → slice_get old k ≡ Some (allocated_slot generation u)
-        → call.shown ≡ u → key call.pointer ≡ (k + 1, generation) → Makes makes f call next → after ≡ slots ++ allocated_slot generation call.answer ∷ []
+    pub copying_returns : (generation : Gen) (u : U) (call : Copied P U T) (next : F) (after : List (ArenaSlot P T Inx Gen Word)) → slice_get old k ≡ Some (allocated_slot generation u)
+        → call.reported ≡ u → key call.pointer ≡ (k + 1, generation) → Makes makes f call next → after ≡ slots ++ allocated_slot generation call.returned ∷ []
         → IsCopying makes key first old (k + 1) next after
-    copying_answers generation u call next after is shown pointer called pushed =
+    copying_returns generation u call next after is reported pointer called pushed =
         let number : suc k ≡ k + 1 = omega arith in
-        let copy : ArenaSlot P T Inx Gen Word = allocated_slot generation call.answer in
-        let seen : before_call key call ≡ ((suc k, generation), u) = λ i. ((pointer ∙ ap (λ n. (n, generation)) (sym number)) i, shown i) in
-        let answered : after_call key call ≡ ((suc k, generation), call.answer) = λ i. ((pointer ∙ ap (λ n. (n, generation)) (sym number)) i, call.answer) in
+        let copy : ArenaSlot P T Inx Gen Word = allocated_slot generation call.returned in
+        let view_after : before_call key call ≡ ((suc k, generation), u) = λ i. ((pointer ∙ ap (λ n. (n, generation)) (sym number)) i, reported i) in
+        let responded : after_call key call ≡ ((suc k, generation), call.returned) = λ i. ((pointer ∙ ap (λ n. (n, generation)) (sym number)) i, call.returned) in
         subst (λ s. IsCopying makes key first old (k + 1) next s) (sym pushed)
         (subst (λ n. IsCopying makes key first old n next (slots ++ copy ∷ [])) number (record {
           calls = c.calls ++ call ∷ [];
           in_turn = FoldsTo-push (Makes makes) first c.calls f call next c.in_turn called;
           before = ap (λ es. es ++ entries_from (suc (suc k)) (map entry_of later)) (map-append (before_call key) c.calls (call ∷ []))
               ∙ (append_assoc (map (before_call key) c.calls) (before_call key call ∷ []) (entries_from (suc (suc k)) (map entry_of later))
-              ∙ (ap (λ e. map (before_call key) c.calls ++ e ∷ entries_from (suc (suc k)) (map entry_of later)) seen
+              ∙ (ap (λ e. map (before_call key) c.calls ++ e ∷ entries_from (suc (suc k)) (map entry_of later)) view_after
               ∙ (ap (λ s. map (before_call key) c.calls ++ entries_from (suc k) (map entry_of s)) (sym (drop-slot old k (allocated_slot generation u) is)) ∙ c.before)));
           after = map-append (after_call key) c.calls (call ∷ [])
               ∙ (ap (λ es. es ++ after_call key call ∷ []) c.after
-              ∙ (ap (λ e. entries_from 1 (map entry_of slots) ++ e ∷ []) answered ∙ sym (entries_pushed copy)));
+              ∙ (ap (λ e. entries_from 1 (map entry_of slots) ++ e ∷ []) responded ∙ sym (entries_pushed copy)));
           alike = alike_pushed (allocated_slot generation u) copy is refl;
           copied = length_pushed copy;
         }))
@@ -115,7 +115,7 @@ module _ {F P U T Inx Gen Word : Type 0} (makes : F → P → U → T → F → 
       value = u;
       before = map (before_call key) c.calls;
       after = entries_from (suc (suc k)) (map entry_of later);
-      stands = sym c.before
+      stored = sym c.before
           ∙ (ap (λ s. map (before_call key) c.calls ++ entries_from (suc k) (map entry_of s)) (drop-slot old k (allocated_slot generation u) is)
           ∙ ap (λ e. map (before_call key) c.calls ++ (e, u) ∷ entries_from (suc (suc k)) (map entry_of later)) (let number : suc k ≡ k + 1 = omega arith in ap (λ n. (n, generation)) number ∙ sym pointer));
       refusable = refused;
@@ -140,11 +140,11 @@ module _ {F P U T Inx Gen Word : Type 0} (makes : F → P → U → T → F → 
 module _ {P T U Inx Gen Word : Type 0} (number : Inx → ℕ) (a : List (ArenaSlot P U Inx Gen Word)) (b : List (ArenaSlot P T Inx Gen Word)) (alike : without_values b ≡ without_values a) (greatest len : ℕ) (head : Option Inx) where
   -- An arena with slots like the source's, its freed list and its counter.
   pub has_slots_of : IsSound number a greatest len head (freed_of number a head)
-      → (source : Arena Gen U) (old mid : Arena Gen T) (counter before : Gen) (ns : List ℕ) (slots : List (ArenaSlot P T Inx Gen Word)) (room capacity has : ℕ) (limit maximum most : Option ℕ) (p t placed touched n : ℕ) → has ≡ capacity → most ≡ maximum
-      → arena_of a (freed_of number a head) counter greatest room limit p t ≡ source → arena_of slots ns before greatest capacity maximum placed touched ≡ mid
+      → (source : Arena Gen U) (old mid : Arena Gen T) (counter before : Gen) (ns : List ℕ) (slots : List (ArenaSlot P T Inx Gen Word)) (within_capacity capacity has : ℕ) (limit maximum most : Option ℕ) (p t placed touched n : ℕ) → has ≡ capacity → most ≡ maximum
+      → arena_of a (freed_of number a head) counter greatest within_capacity limit p t ≡ source → arena_of slots ns before greatest capacity maximum placed touched ≡ mid
       → mid ≡ with_capacity_of old mid → n ≡ length a → (n ≤ old.capacity → mid ≡ old)
       → HasSlotsOf source old (arena_of b (freed_of number b head) counter greatest has most placed touched)
-  has_slots_of sound source old mid counter before ns slots room capacity has limit maximum most p t placed touched n same_capacity same_maximum is_source is_mid after count within =
+  has_slots_of sound source old mid counter before ns slots within_capacity capacity has limit maximum most p t placed touched n same_capacity same_maximum is_source is_mid after count within =
       let same = is_mid ∙ after in
       record {
         state = λ i. record {
@@ -158,34 +158,34 @@ module _ {P T U Inx Gen Word : Type 0} (number : Inx → ℕ) (a : List (ArenaSl
           touched = (ap (λ (s : Arena Gen T). s.touched) same) i;
         };
         generations = same_generations a b alike ∙ ap (λ (s : Arena Gen U). generations s.slots) is_source;
-        room = λ few. same_capacity ∙ (ap (λ (s : Arena Gen T). s.stack_capacity) is_mid ∙ ap (λ (s : Arena Gen T). s.stack_capacity) (within (omega (arith, few, count, length-map a entry_of, ap (λ (s : Arena Gen U). length s.slots) is_source))));
+        within_capacity = λ few. same_capacity ∙ (ap (λ (s : Arena Gen T). s.stack_capacity) is_mid ∙ ap (λ (s : Arena Gen T). s.stack_capacity) (within (omega (arith, few, count, length-map a entry_of, ap (λ (s : Arena Gen U). length s.slots) is_source))));
       }
 
 -- An arena that lost its slots when the copy failed.
-pub given_up : {P T Inx Gen Word : Type 0} (number : Inx → ℕ) (items slots : List (ArenaSlot P T Inx Gen Word)) (ns : List ℕ) (counter : Gen) (greatest room capacity : ℕ) (most maximum : Option ℕ) (placed touched : ℕ) (old mid : Arena Gen T)
-    → items ≡ [] → room ≡ capacity → most ≡ maximum → arena_of slots ns counter greatest capacity maximum placed touched ≡ mid → mid ≡ with_capacity_of old mid
-    → IsAbandonedCopy old (arena_of items (freed_of number items None) counter greatest room most placed touched)
-given_up {T = T} {Gen = Gen} number items slots ns counter greatest room capacity most maximum placed touched old mid empty same_room same_most is_mid after =
+pub given_up : {P T Inx Gen Word : Type 0} (number : Inx → ℕ) (items slots : List (ArenaSlot P T Inx Gen Word)) (ns : List ℕ) (counter : Gen) (greatest within_capacity capacity : ℕ) (most maximum : Option ℕ) (placed touched : ℕ) (old mid : Arena Gen T)
+    → items ≡ [] → within_capacity ≡ capacity → most ≡ maximum → arena_of slots ns counter greatest capacity maximum placed touched ≡ mid → mid ≡ with_capacity_of old mid
+    → IsAbandonedCopy old (arena_of items (freed_of number items None) counter greatest within_capacity most placed touched)
+given_up {T = T} {Gen = Gen} number items slots ns counter greatest within_capacity capacity most maximum placed touched old mid empty equal_capacity same_most is_mid after =
     let same = is_mid ∙ after in
     rw empty (λ i. record {
       slots = [];
       counter = (ap (λ (s : Arena Gen T). s.counter) same) i;
       freed = [];
-      capacity = min room greatest;
-      stack_capacity = room;
+      capacity = min within_capacity greatest;
+      stack_capacity = within_capacity;
       maximum = (same_most ∙ ap (λ (s : Arena Gen T). s.maximum) same) i;
       placed = (ap (λ (s : Arena Gen T). s.placed) same) i;
       touched = (ap (λ (s : Arena Gen T). s.touched) same) i;
     })
 
 -- The same capacity under equal numbers.
-pub same_room : {greatest n m capacity room : ℕ} {maximum most : Option ℕ} → n ≡ m → room ≡ capacity → most ≡ maximum → IsCapacityFor greatest maximum n capacity → IsCapacityFor greatest most m room
-same_room count same_capacity same_maximum r = rw (← count, same_capacity, same_maximum) r
+pub equal_capacity : {greatest n m capacity within_capacity : ℕ} {maximum most : Option ℕ} → n ≡ m → within_capacity ≡ capacity → most ≡ maximum → IsCapacityFor greatest maximum n capacity → IsCapacityFor greatest most m within_capacity
+equal_capacity count same_capacity same_maximum r = rw (← count, same_capacity, same_maximum) r
 
 -- The view of a copy.
-pub copy_seen : {F P T U Gen : Type 0} (makes : F → P → U → T → F → Type 0) (key : P → ℕ × Gen) (f last : F) (source : Arena Gen U) (old new : Arena Gen T)
+pub copy_viewed : {F P T U Gen : Type 0} (makes : F → P → U → T → F → Type 0) (key : P → ℕ × Gen) (f last : F) (source : Arena Gen U) (old new : Arena Gen T)
     → HasSlotsOf source old new → CopiesBy makes key f (entries source) (entries new) last → IsCopyBy makes key f source (view_of old) (view_of new) last
-copy_seen {T = T} {Gen = Gen} makes key f last source old new has made =
+copy_viewed {T = T} {Gen = Gen} makes key f last source old new has made =
     let counted : length new.slots ≡ length source.slots = sym (length-map new.slots _) ∙ (ap length has.generations ∙ length-map source.slots _) in
     record {
       entries = made;
@@ -206,7 +206,7 @@ module _ {V F P U T : Type 0} (makes : V → P → U → T → V → Type 0) (ot
       → CopiesBy makes key f source copy last → CopiesBy others key (see f) source copy (see last)
   made_by key f last source copy c = record {
     made = c.made;
-    in_turn = folds_seen see (Makes makes) (Makes others) (λ s m t. step s m.pointer m.shown m.answer t) c.made f last c.in_turn;
+    in_turn = folds_viewed see (Makes makes) (Makes others) (λ s m t. step s m.pointer m.reported m.returned t) c.made f last c.in_turn;
     before = c.before;
     after = c.after;
   }
@@ -256,8 +256,8 @@ surely never (inl a, n) = (a, n)
 surely never (inr b, n) = absurd (never b)
 
 -- The view of an arena that lost its slots.
-pub given_up_seen : {Gen T : Type 0} (old new : Arena Gen T) → IsAbandonedCopy old new → IsAbandonedView (view_of old) (view_of new)
-given_up_seen old new is = ap view_of is
+pub given_up_viewed : {Gen T : Type 0} (old new : Arena Gen T) → IsAbandonedCopy old new → IsAbandonedView (view_of old) (view_of new)
+given_up_viewed old new is = ap view_of is
 
 -- A fact on a known `Ok` result.
 pub on_ok_is : {X E A : Type 0} (r : Result X E) (x : X) → r ≡ Ok x → OnOk r A → A

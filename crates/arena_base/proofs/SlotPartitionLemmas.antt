@@ -29,8 +29,8 @@ AreDistinct-append (x ∷ xs) ys first second none = (
 )
 
 -- The capacity suffices for the slots, which are at most the greatest index.
-pub room_for : (greatest n capacity : ℕ) (maximum : Option ℕ) → n ≤ capacity → n ≤ greatest → IsWithinMaximum maximum capacity → IsCapacityFor greatest maximum n (min capacity greatest)
-room_for greatest n capacity maximum fits most within = record {
+pub capacity_for : (greatest n capacity : ℕ) (maximum : Option ℕ) → n ≤ capacity → n ≤ greatest → IsWithinMaximum maximum capacity → IsCapacityFor greatest maximum n (min capacity greatest)
+capacity_for greatest n capacity maximum fits most within = record {
   fits = search rules;
   at_most_greatest = search rules;
   within_maximum = below maximum within;

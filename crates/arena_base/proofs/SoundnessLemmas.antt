@@ -54,8 +54,8 @@ module _ {P T Inx Gen Word : Type 0} (number : Inx → ℕ) where
         → IsSound number (slice_set slots k (free_slot head)) greatest left (Some i) (number i ∷ ns)
     slot_vacated k i g t left at is one =
         let index : suc k ≡ number i = omega (arith, at) in
-        let stood : item_at slots (number i) ≡ Some (allocated_slot g t) = at_position slots k (number i) at ∙ is in
-        let out = taken_is_not_listed slots ns head (number i) g t s.linked stood in
+        let was_stored : item_at slots (number i) ≡ Some (allocated_slot g t) = at_position slots k (number i) at ∙ is in
+        let out = taken_is_not_listed slots ns head (number i) g t s.linked was_stored in
         record {
           linked = (
             i,
@@ -104,8 +104,8 @@ module _ {P T Inx Gen Word : Type 0} (number : Inx → ℕ) where
       let first : Some i ≡ Some s.linked.0 = s.linked.2 in
       let same : i ≡ s.linked.0 = cc in
       let named : number i ≡ n = ap number same ∙ s.linked.3 in
-      let stood : item_at slots n ≡ Some (free_slot next) = sym (ap (item_at slots) named) ∙ (at_position slots k (number i) at ∙ is) in
-      let both : Some (free_slot s.linked.1) ≡ Some (free_slot next) = sym s.linked.4 ∙ stood in
+      let was_stored : item_at slots n ≡ Some (free_slot next) = sym (ap (item_at slots) named) ∙ (at_position slots k (number i) at ∙ is) in
+      let both : Some (free_slot s.linked.1) ≡ Some (free_slot next) = sym s.linked.4 ∙ was_stored in
       let rest : s.linked.1 ≡ next = cc in
       let out : IsMember ns (suc k) → ⊥ = λ h. s.apart.0 (subst (λ m. IsMember ns m) (index ∙ named) h) in (
         record {
@@ -130,7 +130,7 @@ module _ {P T Inx Gen Word : Type 0} (number : Inx → ℕ) where
   pub filled_next : {slots : List (ArenaSlot P T Inx Gen Word)} {greatest len : ℕ} {ns : List ℕ} (g : Gen) (t : T)
       → IsSound number slots greatest len None ns → length slots < greatest
       → IsSound number (slots ++ allocated_slot g t ∷ []) greatest (len + 1) None [] × (ns ≡ [])
-  filled_next {slots = slots} {ns = []} g t s room =
+  filled_next {slots = slots} {ns = []} g t s within_capacity =
       let slot = allocated_slot g t in (
         record {
           linked = refl;
@@ -141,11 +141,11 @@ module _ {P T Inx Gen Word : Type 0} (number : Inx → ℕ) where
           ];
           counted = omega (arith, s.counted, taken_count-push slots slot);
           total = omega (arith, s.total, length-append slots (slot ∷ []));
-          fits = omega (arith, room, length-append slots (slot ∷ []));
+          fits = omega (arith, within_capacity, length-append slots (slot ∷ []));
         },
         refl,
       )
-  filled_next {slots = slots} {ns = n ∷ ns} g t s room = let some : None ≡ Some s.linked.0 = s.linked.2 in cc
+  filled_next {slots = slots} {ns = n ∷ ns} g t s within_capacity = let some : None ≡ Some s.linked.0 = s.linked.2 in cc
 
   none_listed : (slots : List (ArenaSlot P T Inx Gen Word)) (n : ℕ) (next : Option Inx) → slots ≡ [] → item_at slots n ≡ Some (free_slot next) → ⊥
   none_listed slots zero next empty is = cc

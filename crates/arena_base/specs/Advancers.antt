@@ -12,8 +12,8 @@ cursor_past Nowhere i = Nowhere
 
 -- The cursor after a result: past it, or at the end if it was none.
 abbrev pub cursor_after : {Gen : Type 0} → Cursor → Option (ℕ × Gen) → Cursor
-cursor_after look None = Nowhere
-cursor_after look (Some p) = cursor_past look p.0
+cursor_after lookup None = Nowhere
+cursor_after lookup (Some p) = cursor_past lookup p.0
 
 module _ {Gen T : Type 0} where
   -- The entries at index `i` or above.
@@ -33,9 +33,9 @@ module _ {Gen T : Type 0} where
   ahead Nowhere es = []
 
   -- A call over entries: it returns the key of the first entry ahead, and the cursor moves past it.
-  pub record IsAdvance (es : List ((ℕ × Gen) × T)) (look : Cursor) (answer : Option (ℕ × Gen)) (after : Cursor) : Type 0 where
-    pub first : answer ≡ first_key (ahead look es)
-    pub moves : after ≡ cursor_after look answer
+  pub record IsAdvance (es : List ((ℕ × Gen) × T)) (lookup : Cursor) (returned : Option (ℕ × Gen)) (after : Cursor) : Type 0 where
+    pub first : returned ≡ first_key (ahead lookup es)
+    pub moves : after ≡ cursor_after lookup returned
 
   -- The law of a call of any advancer. It does not state the cursor after the result none, or any
   -- call at the end.
@@ -44,4 +44,4 @@ module _ {Gen T : Type 0} where
   IsAdvanceUntilNone es (Down i) (Some p) after = IsAdvance es (Down i) (Some p) after
   IsAdvanceUntilNone es (Up i) None after = ahead (Up i) es ≡ []
   IsAdvanceUntilNone es (Down i) None after = ahead (Down i) es ≡ []
-  IsAdvanceUntilNone es Nowhere answer after = ⊤
+  IsAdvanceUntilNone es Nowhere returned after = ⊤

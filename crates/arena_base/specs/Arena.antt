@@ -88,7 +88,7 @@ module _ {Gen T : Type 0} where
   -- its generation.
   pub record IsValid (entry : ℕ → Option (Gen × T)) (p : ℕ × Gen) : Type 0 where
     pub value : T
-    pub stands : entry p.0 ≡ Some (p.1, value)
+    pub stored : entry p.0 ≡ Some (p.1, value)
 
   -- An entry read through a borrow.
   abbrev pub borrowed_entry : Gen × Bor T → Gen × T
@@ -156,7 +156,7 @@ module _ {Gen T : Type 0} where
 
   -- The new arena has capacity for `n` entries, within reach of the old one.
   pub record ReachesCapacity (may_reach : ℕ → Option ℕ → ℕ → ℕ → Type 0) (greatest n : ℕ) (old new : Arena Gen T) : Type 0 where
-    pub room : HasCapacityFor greatest n new
+    pub within_capacity : HasCapacityFor greatest n new
     pub reached : IsWithinReach may_reach n old new
 
   -- The freed list holds exactly the free slots, each once.

@@ -10,21 +10,21 @@ use Rattle.arena_base.specs.Entries.{ArenaView, Slots, entries, without_slots}
 -- A value that was made: the entry's pointer, the value passed, and the value returned.
 pub record Copied (P U T : Type 0) : Type 0 where
   pub pointer : P
-  pub shown : U
-  pub answer : T
+  pub reported : U
+  pub returned : T
 
 -- A maker of values from pointers and values, where `makes` relates its states.
 module _ {F P U T : Type 0} (makes : F → P → U → T → F → Type 0) where
   abbrev pub Makes : F → Copied P U T → F → Type 0
-  Makes f made next = makes f made.pointer made.shown made.answer next
+  Makes f made next = makes f made.pointer made.reported made.returned next
 
   -- The maker is called once for each entry of the source, in order, returns the values of the
   -- copy, and ends as `last`.
   pub record CopiesBy {Gen : Type 0} (key : P → ℕ × Gen) (f : F) (source : List ((ℕ × Gen) × U)) (copy : List ((ℕ × Gen) × T)) (last : F) : Type 0 where
     pub made : List (Copied P U T)
     pub in_turn : FoldsTo Makes f made last
-    pub before : map (λ c. (key c.pointer, c.shown)) made ≡ source
-    pub after : map (λ c. (key c.pointer, c.answer)) made ≡ copy
+    pub before : map (λ c. (key c.pointer, c.reported)) made ≡ source
+    pub after : map (λ c. (key c.pointer, c.returned)) made ≡ copy
 
 -- A value may be refused for one of the entries.
 pub record HasRefusable {P U Gen : Type 0} (may_refuse : P → U → Type 0) (key : P → ℕ × Gen) (source : List ((ℕ × Gen) × U)) : Type 0 where
@@ -32,13 +32,13 @@ pub record HasRefusable {P U Gen : Type 0} (may_refuse : P → U → Type 0) (ke
   pub value : U
   pub before : List ((ℕ × Gen) × U)
   pub after : List ((ℕ × Gen) × U)
-  pub stands : source ≡ before ++ (key pointer, value) ∷ after
+  pub stored : source ≡ before ++ (key pointer, value) ∷ after
   pub refusable : may_refuse pointer value
 
 -- A call of a closure that gets a value by reference.
 pub record IsCopyCall {F P U T : Type 0} (g : Mut F (P × (Bor U × Unit {0})) T) (f : F) (p : P) (u : U) (t : T) (next : F) : Type 0 where
   pub lent : Bor U
-  pub shows : lent.now ≡ u
+  pub reports : lent.now ≡ u
   pub called : Called g f (p, (lent, tt)) t next
 
 -- The slots of a view with the number and the freed list of an arena's slots.
@@ -65,7 +65,7 @@ generations slots = map (option_map (λ e. e.0)) slots
 pub record HasSlotsOf {Gen U T : Type 0} (source : Arena Gen U) (old new : Arena Gen T) : Type 0 where
   pub state : new ≡ record (with_capacity_of old new) { slots = new.slots; counter = source.counter; freed = source.freed }
   pub generations : generations new.slots ≡ generations source.slots
-  pub room : length source.slots ≤ old.capacity → new.stack_capacity ≡ old.stack_capacity
+  pub within_capacity : length source.slots ≤ old.capacity → new.stack_capacity ≡ old.stack_capacity
 
 -- The arena after a copy failed for a value: only its counter, totals, maximum and capacity are
 -- left.

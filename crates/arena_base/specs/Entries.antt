@@ -59,7 +59,7 @@ module _ {Gen T : Type 0} where
   -- position `next`.
   pub record IsNextEntry (slots : List (Option (Gen × T))) (from next : ℕ) (key : ℕ × Gen) (t : T) : Type 0 where
     pub index : key.0 ≡ next
-    pub stands : slot_at slots next ≡ Some (key.1, t)
+    pub stored : slot_at slots next ≡ Some (key.1, t)
     pub first : entries_from (from + 1) (drop from slots) ≡ (key, t) ∷ entries_from (next + 1) (drop next slots)
 
   abbrev pub entries : Arena Gen T → List ((ℕ × Gen) × T)

@@ -15,27 +15,27 @@ use std::marker::PhantomData;
 /// Port of `PtrAdvancer`. One type serves the plain arena and the chain arena.
 #[derive(Drop)]
 pub struct PtrAdvancer<P> {
-    look: Cursor,
+    lookup: Cursor,
     of: PhantomData<P>,
 }
 
 impl<P> PtrAdvancer<P> {
     /// Returns an advancer by rising index that starts at index `from`.
     pub(crate) fn up(from: usize) -> Self
-        ensures { result.look ≡ Cursor.Up from }
+        ensures { result.lookup ≡ Cursor.Up from }
     {
         PtrAdvancer {
-            look: Cursor::Up(from),
+            lookup: Cursor::Up(from),
             of: PhantomData,
         }
     }
 
     /// Returns an advancer that starts at index `from`, by rising or, with `rev`, by falling index.
     pub(crate) fn begin(from: usize, rev: bool) -> Self
-        ensures { result.look ≡ (if rev then Cursor.Down from else Cursor.Up from) }
+        ensures { result.lookup ≡ (if rev then Cursor.Down from else Cursor.Up from) }
     {
         PtrAdvancer {
-            look: if rev {
+            lookup: if rev {
                 Cursor::Down(from)
             } else {
                 Cursor::Up(from)
@@ -56,22 +56,23 @@ impl<P: PtrKey, T: Drop, S: SlotStack<Item = ArenaSlot<P, T>>> Advancer<Arena<P,
 
     type Item = P;
 
-    ghost gives = { λ a arena answer b. IsAdvance (entries arena) a.look (option_map P.key answer)
-        b.look };
+    ghost gives = { λ a arena returned b. IsAdvance (entries arena) a.lookup
+        (option_map P.key returned)
+        b.lookup };
 
-    ghost is_spent = { λ a. a.look ≡ Nowhere };
+    ghost is_spent = { λ a. a.lookup ≡ Nowhere };
 
-    ghost stays_spent = { λ a b arena answer spent given. nowhere_stays P.key
-        (entries arena) a.look answer b.look spent given };
+    ghost stays_spent = { λ a b arena returned spent given. nowhere_stays P.key
+        (entries arena) a.lookup returned b.lookup spent given };
 
     fn advance(&mut self, collection: &Arena<P, T, S>) -> Option<P> {
-        match collection.find(self.look) {
+        match collection.find(self.lookup) {
             Some(p) => {
-                self.look = self.look.after(number_of::<P>(p.inx()));
+                self.lookup = self.lookup.after(number_of::<P>(p.inx()));
                 Some(p)
             }
             None => {
-                self.look = Cursor::Nowhere;
+                self.lookup = Cursor::Nowhere;
                 None
             }
         }
@@ -79,7 +80,7 @@ impl<P: PtrKey, T: Drop, S: SlotStack<Item = ArenaSlot<P, T>>> Advancer<Arena<P,
 
     fn empty() -> Self {
         PtrAdvancer {
-            look: Cursor::Nowhere,
+            lookup: Cursor::Nowhere,
             of: PhantomData,
         }
     }

@@ -110,7 +110,7 @@ impl<P: PtrKey, T: Drop, S: SlotStack<Item = ArenaSlot<P, T>>> Arena<P, T, S> {
         ensures slots { map entry_of (S.items result.now) ≡ self.now.slots }
         ensures freed { ThreadsFreeList P.Inx.number (S.items result.now) self.now.freed }
         ensures capacity { S.capacity result.now ≡ self.now.stack_capacity }
-        ensures room { self.now.capacity ≡ min (S.capacity result.now) P.Inx.greatest }
+        ensures within_capacity { self.now.capacity ≡ min (S.capacity result.now) P.Inx.greatest }
         ensures maximum { S.maximum result.now ≡ self.now.maximum }
     {
         &self.slots
@@ -154,22 +154,22 @@ impl<P: PtrKey, T: Drop, S: SlotStack<Item = ArenaSlot<P, T>>> Arena<P, T, S> {
         ensures grown { OnOk result (ReachesCapacity S.may_reach P.Inx.greatest
             (entry_count self.old + 1) self.old self.new) }
         ensures err { OnErr result (self.new ≡ self.old) }
-        ensures room { entry_count self.old < self.old.capacity
+        ensures within_capacity { entry_count self.old < self.old.capacity
             → IsOk result × (self.new ≡ insert_next self.old t) }
         ensures beyond { (result ≡ Err ReallocationError.BeyondMaxCapacity) ↔
             ((entry_count self.old ≡ self.old.capacity) × IsBeyond self.old.maximum
             (entry_count self.old + 1)) }
         ensures greatest { entry_count self.old ≡ P.Inx.greatest → IsErr result }
     {
-        match self.make_room() {
+        match self.grow_if_full() {
             Ok(()) => Ok(self.insert_here(t)),
             Err(e) => Err(e),
         }
     }
 
     // Grows a full arena to a capacity for one more entry.
-    fn make_room(&mut self) -> Result<(), ReallocationError>
-        ensures room { entry_count self.old < self.old.capacity
+    fn grow_if_full(&mut self) -> Result<(), ReallocationError>
+        ensures within_capacity { entry_count self.old < self.old.capacity
             → IsOk result × (self.new ≡ self.old) }
         ensures beyond { (result ≡ Err ReallocationError.BeyondMaxCapacity) ↔
             ((entry_count self.old ≡ self.old.capacity) × IsBeyond self.old.maximum
@@ -191,7 +191,7 @@ impl<P: PtrKey, T: Drop, S: SlotStack<Item = ArenaSlot<P, T>>> Arena<P, T, S> {
     // Returns whether there are as many entries as the capacity.
     pub(crate) fn is_full(&self) -> bool
         ensures full { IsTrue result ↔ (entry_count self.now ≡ self.now.capacity) }
-        ensures room { HasCapacityFor P.Inx.greatest (entry_count self.now) self.now }
+        ensures within_capacity { HasCapacityFor P.Inx.greatest (entry_count self.now) self.now }
     {
         self.len == self.slots.capacity().min(P::Inx::greatest())
     }
@@ -293,11 +293,11 @@ impl<P: PtrKey, T: Drop, S: SlotStack<Item = ArenaSlot<P, T>>> Arena<P, T, S> {
     }
 
     // Returns the pointer of the first entry ahead of a cursor.
-    pub(crate) fn find(&self, look: Cursor) -> Option<P>
-        ensures key { option_map P.key result ≡ first_key (ahead look (entries self.now)) }
+    pub(crate) fn find(&self, lookup: Cursor) -> Option<P>
+        ensures key { option_map P.key result ≡ first_key (ahead lookup (entries self.now)) }
         ensures fits { IfSome result (λ p. (P.key p).0 + 1 < 2 ^ 64) }
     {
-        match look {
+        match lookup {
             Cursor::Up(from) => self.first_from(from.saturating_sub(1)),
             Cursor::Down(to) => self.last_to(to),
             Cursor::Nowhere => None,
@@ -319,7 +319,7 @@ impl<P: PtrKey, T: Drop, S: SlotStack<Item = ArenaSlot<P, T>>> Arena<P, T, S> {
 
     // Removes the entry at an index, if there is one, and increments the counter.
     pub(crate) fn take_at(&mut self, i: P::Inx) -> InvalidationResult<(P::Gen, T)>
-        ensures answer { result ≡ invalidation_result (P.Gen.wraps self.old.counter)
+        ensures returned { result ≡ invalidation_result (P.Gen.wraps self.old.counter)
             (entry_at self.old (P.Inx.number i)) }
         ensures some { IsSome (entry_at self.old (P.Inx.number i))
             → self.new ≡ remove_at P.Gen.following self.old (P.Inx.number i) }

@@ -31,7 +31,7 @@ impl<P: PtrKey, T: Drop, S: SlotStack<Item = ArenaSlot<P, T>>> ArenaTrait<P, T> 
 
     ghost entry = { entry_at };
 
-    ghost cursor = { λ a. a.look };
+    ghost cursor = { λ a. a.lookup };
 
     ghost starts = { IsNewWithCapacity S.may_reach P.Gen.first S.initial_maximum };
 
@@ -49,10 +49,10 @@ impl<P: PtrKey, T: Drop, S: SlotStack<Item = ArenaSlot<P, T>>> ArenaTrait<P, T> 
 
     ghost rises = { entries_rise };
 
-    ghost looked_up = { found-entries };
+    ghost finds = { found-entries };
 
-    ghost advances = { λ a b arena answer given. until_none (entries arena) a.look
-        (option_map P.key answer) b.look given };
+    ghost advances = { λ a b arena returned given. until_none (entries arena) a.lookup
+        (option_map P.key returned) b.lookup given };
 
     fn new(alloc: Global) -> Self {
         Arena::over(S::new(alloc))
@@ -88,7 +88,7 @@ impl<P: PtrKey, T: Drop, S: SlotStack<Item = ArenaSlot<P, T>>> ArenaTrait<P, T> 
 
         // The slots, the freed list and the capacity of every arena.
         ensures listed { IsListed self.now }
-        ensures room { HasCapacityFor P.Inx.greatest (length self.now.slots) self.now }
+        ensures within_capacity { HasCapacityFor P.Inx.greatest (length self.now.slots) self.now }
     {
         self.len
     }
@@ -256,7 +256,7 @@ impl<P: PtrKey, T: Drop, S: SlotStack<Item = ArenaSlot<P, T>>> Arena<P, T, S> {
         ensures listed { IsListed self.now }
 
         // The capacity is the lesser of the stack's capacity and the greatest index.
-        ensures room { HasCapacityFor P.Inx.greatest (length self.now.slots) self.now }
+        ensures within_capacity { HasCapacityFor P.Inx.greatest (length self.now.slots) self.now }
     {
         self.len();
     }

@@ -194,7 +194,7 @@ impl<'a, P: PtrKey, T: Drop, S: SlotStack<Item = ArenaSlot<P, T>>> SlotAccess<P,
     fn peek(&mut self, i: P::Inx) -> Option<(&P::Gen, &T)> {
         self.arena.count_touch();
         self.touched = self.touched.saturating_add(1);
-        self.held.look(i)
+        self.held.lookup(i)
     }
 
     fn value_mut(&mut self, i: P::Inx) -> Option<&mut T> {

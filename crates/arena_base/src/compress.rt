@@ -9,13 +9,13 @@ ghost use Rattle.arena_base.specs.GatheredSlots.{AreClosed, IsGathered, with_tot
 
 use crate::arena::Arena;
 use crate::compactor::{Compactor, SlotAccess};
-use crate::excluded;
+use crate::proved_unreachable;
 use crate::slot::{ArenaSlot, inx_at};
 use arena_ptr::{PtrKey, SlotStack};
 
 // Moves the entry at index `from`, if there is one, to index `to`, free or its own. Sets its
 // generation and returns the old one.
-fn close_gap<P: PtrKey, T: Drop, S: SlotStack<Item = ArenaSlot<P, T>>>(
+fn move_entry<P: PtrKey, T: Drop, S: SlotStack<Item = ArenaSlot<P, T>>>(
     compactor: &mut Compactor<'_, P, T, S>,
     from: P::Inx,
     to: P::Inx,
@@ -25,7 +25,7 @@ fn close_gap<P: PtrKey, T: Drop, S: SlotStack<Item = ArenaSlot<P, T>>>(
     requires free { P.Inx.number to ≢ P.Inx.number from
         → slot_at compactor.old.held.slots (P.Inx.number to) ≡ None }
     ensures same_reference { compactor.new.arena.ghost_name ≡ compactor.old.arena.ghost_name }
-    ensures answer { result ≡ option_map (λ e. e.0)
+    ensures returned { result ≡ option_map (λ e. e.0)
         (slot_at compactor.old.held.slots (P.Inx.number from)) }
     ensures some { OnSome result
         ((compactor.new.held ≡ with_placed_entry compactor.old.held (P.Inx.number from)
@@ -45,7 +45,7 @@ fn close_gap<P: PtrKey, T: Drop, S: SlotStack<Item = ArenaSlot<P, T>>>(
 // Moves each entry, by rising index, to the first free index, and sets its generation. Calls `map`
 // with the entry's old pointer, its value, for writing, and its new pointer. Each slot is read
 // once, and each value lent once. Returns the number of entries, which then are in the first slots.
-fn close_gaps<
+fn compact_entries<
     P: PtrKey,
     T: Drop,
     S: SlotStack<Item = ArenaSlot<P, T>>,
@@ -66,11 +66,11 @@ fn close_gaps<
     for k in 0..compactor.slots() {
         let from = inx_at::<P>(k);
         let to = inx_at::<P>(count);
-        if let Some(was) = close_gap(compactor, from, to, generation) {
+        if let Some(was) = move_entry(compactor, from, to, generation) {
             count += 1;
             match compactor.value_mut(to) {
                 Some(t) => map(P::_from_raw(from, was), t, P::_from_raw(to, generation)),
-                None => excluded!(),
+                None => proved_unreachable!(),
             }
         }
     }
@@ -86,7 +86,7 @@ impl<P: PtrKey, T: Drop, S: SlotStack<Item = ArenaSlot<P, T>>> Arena<P, T, S> {
     {
         let generation = self.counter;
         let mut compactor = self.compactor();
-        let count = close_gaps(&mut compactor, generation, map);
+        let count = compact_entries(&mut compactor, generation, map);
         compactor.finish_packed(count);
     }
 }

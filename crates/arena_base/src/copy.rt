@@ -7,19 +7,19 @@ ghost use Rattle.arena_base.specs.Entries.{entries, entries_from};
 ghost use Rattle.arena_base.specs.Copies.{CopiesBy, HasRefusable, HasSlotsOf, IsAbandonedCopy};
 
 use crate::arena::Arena;
-use crate::excluded;
+use crate::proved_unreachable;
 use crate::slot::{ArenaSlot, inx_at};
 use crate::traits::{ArenaCloneFromWith, ArenaTrait, ValueMap};
 use arena_ptr::{AllocError, PtrKey, ReallocationError, SlotStack};
 
 /// A `ValueMap` by a closure, which is called with the pointer and the value of each entry.
 #[derive(Drop)]
-pub struct Answering<F> {
+pub struct ClosureMap<F> {
     /// The closure.
     pub map: F,
 }
 
-impl<P, U, T, F: FnMut(P, &U) -> T + Drop> ValueMap<P, U, T> for Answering<F> {
+impl<P, U, T, F: FnMut(P, &U) -> T + Drop> ValueMap<P, U, T> for ClosureMap<F> {
     ghost use Rattle.arena_base.specs.Copies.{IsCopyCall};
 
     ghost is_ready = { λ m. F.IsAlwaysCallable m.map };
@@ -46,7 +46,7 @@ fn copy_slots<
 >(slots: &mut S, source: &S1, mut values: M) -> (Result<(), AllocError>, M)
     requires ready { M.is_ready values }
     requires empty { S.items slots.old ≡ [] }
-    requires room { length (S1.items source.now) ≤ S.capacity slots.old }
+    requires within_capacity { length (S1.items source.now) ≤ S.capacity slots.old }
     requires fits { length (S1.items source.now) ≤ P.Inx.greatest }
     ensures alike { OnOk result.0 (without_values (S.items slots.new) ≡ without_values
         (S1.items source.now)) }
@@ -62,7 +62,7 @@ fn copy_slots<
     for k in 0..source.len() {
         let slot = match source.get(k) {
             Some(slot) => slot,
-            None => excluded!(),
+            None => proved_unreachable!(),
         };
         match slot {
             ArenaSlot::Allocated(generation, u) => {

@@ -5,7 +5,7 @@ ghost use Rattle.std.specs.Borrow.{LendsSo, sem};
 ghost use Rattle.arena_base.specs.Arena.{slot_at};
 ghost use Rattle.arena_base.specs.DetachedSlots.{Held, borrowed_parts, with_placed_entry, held_with_value};
 
-use crate::excluded;
+use crate::proved_unreachable;
 use crate::slot::{ArenaSlot, position_of, put_at, regenerate_at, vacate_at};
 use arena_ptr::{PtrKey, SlotStack};
 use std::marker::Model;
@@ -37,7 +37,7 @@ impl<P: PtrKey, T: Drop, S: SlotStack<Item = ArenaSlot<P, T>>> HeldSlots<P, T, S
     }
 
     // Returns the entry at an index.
-    pub(crate) fn look(&self, i: P::Inx) -> Option<(&P::Gen, &T)>
+    pub(crate) fn lookup(&self, i: P::Inx) -> Option<(&P::Gen, &T)>
         ensures { option_map borrowed_parts result ≡ slot_at self.now.slots (P.Inx.number i) }
     {
         match self.slots.get(position_of::<P>(i)) {
@@ -70,7 +70,7 @@ impl<P: PtrKey, T: Drop, S: SlotStack<Item = ArenaSlot<P, T>>> HeldSlots<P, T, S
     {
         match vacate_at(&mut self.slots, position_of::<P>(from), None) {
             Some((_, t)) => put_at(&mut self.slots, position_of::<P>(to), generation, t),
-            None => excluded!(),
+            None => proved_unreachable!(),
         }
     }
 }

@@ -9,7 +9,7 @@ use arena_ptr::PtrKey;
 ///
 /// So after a removal from the list, the removed index has no entry (`gone`), and every other index
 /// is unchanged (`kept`).
-pub fn entries_tell_what_stands<P: PtrKey, T: Drop, A: ArenaTrait<P, T>>()
+pub fn entries_determine_occupancy<P: PtrKey, T: Drop, A: ArenaTrait<P, T>>()
     ensures same { (a b : A) (i : ℕ) → (A.view b).entries ≡ (A.view a).entries
         → A.entry b i ≡ A.entry a i }
     ensures gone { (a b : A) (i : ℕ) → (A.view b).entries ≡ without i (A.view a).entries

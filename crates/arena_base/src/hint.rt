@@ -6,7 +6,7 @@ ghost use Rattle.std.specs.Prelude.{IsTrue};
 /// false fact writes to the first item of an empty array, so LLVM concludes that it does not occur.
 /// A branch that begins with a false fact is thus removed, with its jump and its condition.
 #[inline(always)]
-pub fn assert_unchecked(fact: bool)
+pub fn assume_proved(fact: bool)
     requires { IsTrue fact }
     ensures { IsTrue fact }
 {
@@ -20,9 +20,9 @@ pub fn assert_unchecked(fact: bool)
 ///
 /// It replaces `unreachable!()`, which compiles to a jump to a trap, so that the jump remains.
 #[macro_export]
-macro_rules! excluded {
+macro_rules! proved_unreachable {
     () => {{
-        $crate::assert_unchecked(false);
+        $crate::assume_proved(false);
         unreachable!()
     }};
 }

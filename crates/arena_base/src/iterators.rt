@@ -5,7 +5,7 @@ ghost use Rattle.arena_base.specs.Entries.{entries_from};
 ghost use Rattle.std.specs.Iterator.{YieldsFirstBy, item_count};
 
 use crate::arena::Arena;
-use crate::excluded;
+use crate::proved_unreachable;
 use crate::slot::ArenaSlot;
 use arena_ptr::{HeapStack, InvalidationResult, PtrKey, SlotStack};
 use std::marker::Model;
@@ -24,7 +24,7 @@ impl<P: PtrKey, T: Drop, S: SlotStack<Item = ArenaSlot<P, T>>> Arena<P, T, S> {
                 let (behind, p) = (next.0, next.1);
                 match value_of(self.take_at(p.inx())) {
                     Some(entry) => Some((behind, p, entry.1)),
-                    None => excluded!(),
+                    None => proved_unreachable!(),
                 }
             }
             None => None,

@@ -4,7 +4,7 @@ ghost use Rattle.std.specs.Option.{option_map, option_copied_mut};
 ghost use Rattle.std.specs.Borrow.{LendsIf, sem};
 ghost use Rattle.arena_base.specs.Slots.{entry_of, entry_in, with_value_in, with_generation_in, with_generation_at, IsFree, free_slot, allocated_slot, freed_slot};
 
-use crate::excluded;
+use crate::proved_unreachable;
 use arena_ptr::{InxKey, PtrKey, SlotStack};
 use std::mem;
 
@@ -56,7 +56,7 @@ impl<P: PtrKey, T> ArenaSlot<P, T> {
             ArenaSlot::Free(_) => None,
             ArenaSlot::Allocated(_, _) => match mem::replace(self, ArenaSlot::Free(next)) {
                 ArenaSlot::Allocated(generation, t) => Some((generation, t)),
-                ArenaSlot::Free(_) => excluded!(),
+                ArenaSlot::Free(_) => proved_unreachable!(),
             },
         }
     }
@@ -75,7 +75,7 @@ pub(crate) fn number_of<P: PtrKey>(i: P::Inx) -> usize
 {
     match i.try_into_usize() {
         Some(n) => n,
-        None => excluded!(),
+        None => proved_unreachable!(),
     }
 }
 
@@ -86,7 +86,7 @@ pub fn inx_at<P: PtrKey>(k: usize) -> P::Inx
 {
     match P::Inx::try_from_usize(k + 1) {
         Some(i) => i,
-        None => excluded!(),
+        None => proved_unreachable!(),
     }
 }
 
@@ -108,12 +108,12 @@ pub(crate) fn fill<P: PtrKey, T: Drop, S: SlotStack<Item = ArenaSlot<P, T>>>(
         Some(slot) => {
             let next = match slot {
                 ArenaSlot::Free(next) => *next,
-                ArenaSlot::Allocated(_, _) => excluded!(),
+                ArenaSlot::Allocated(_, _) => proved_unreachable!(),
             };
             *slot = ArenaSlot::Allocated(generation, t);
             next
         }
-        None => excluded!(),
+        None => proved_unreachable!(),
     }
 }
 
@@ -154,7 +154,7 @@ pub(crate) fn put_at<P: PtrKey, T: Drop, S: SlotStack<Item = ArenaSlot<P, T>>>(
         Some(slot) => {
             *slot = ArenaSlot::Allocated(generation, t);
         }
-        None => excluded!(),
+        None => proved_unreachable!(),
     }
 }
 
@@ -206,7 +206,7 @@ pub(crate) fn list_at<P: PtrKey, T: Drop, S: SlotStack<Item = ArenaSlot<P, T>>>(
         Some(slot) => {
             *slot = ArenaSlot::Free(next);
         }
-        None => excluded!(),
+        None => proved_unreachable!(),
     }
     P::Inx::try_from_usize(k + 1)
 }

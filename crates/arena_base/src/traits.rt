@@ -14,7 +14,7 @@ ghost use Rattle.arena_base.specs.Compressions.{IsCompressed, VisitsAll, overflo
 ghost use Rattle.arena_base.specs.declared.cursor.Cursor.{Cursor};
 
 use crate::arena::Arena;
-use crate::copy::Answering;
+use crate::copy::ClosureMap;
 use crate::slot::ArenaSlot;
 use arena_ptr::{
     AllocError, GenKey, InvalidationOption, InvalidationResult, InxKey, PtrKey, ReallocationError,
@@ -95,10 +95,10 @@ pub trait ArenaTrait<P: PtrKey, T: Drop> {
     /// refused.
     fn with_min_capacity(alloc: Global, n: usize) -> Result<Self, AllocError>
         ensures new { IfOk result (λ a. IsNew P.Gen.first (view a)) }
-        ensures room { IfOk result (λ a. n ≤ (view a).capacity) }
+        ensures within_capacity { IfOk result (λ a. n ≤ (view a).capacity) }
         ensures beyond { IfOk result (λ a. IsWithinMaximum (view a).maximum n) }
         ensures greatest { P.Inx.greatest < n → IsErr result }
-        ensures no_room { n ≡ 0 → IsOk result }
+        ensures no_capacity { n ≡ 0 → IsOk result }
         ensures more { IfOk result (starts n) };
 
     /// Returns the number of entries that fit without growth, at most the greatest index and the
@@ -240,7 +240,7 @@ pub trait ArenaTrait<P: PtrKey, T: Drop> {
     /// Returns `InvalidPtr`, without a change, if no entry is there, and `GenerationOverflow` if
     /// the counter wrapped to two.
     fn remove_inx(&mut self, i: P::Inx) -> InvalidationResult<(P::Gen, T)>
-        ensures answer { value_within result ≡ entry self.old (P.Inx.number i) }
+        ensures returned { value_within result ≡ entry self.old (P.Inx.number i) }
         ensures overflow { IfSome (view self.old).counter
             (λ g. result ≡ invalidation_result (P.Gen.wraps g) (value_within result)) }
         ensures valid { IsSome (entry self.old (P.Inx.number i))
@@ -301,7 +301,7 @@ pub trait ArenaTrait<P: PtrKey, T: Drop> {
 
     ghost rises: { (a : Self) → RisesFrom 1 (view a).entries };
 
-    ghost looked_up: { (a : Self) (i : ℕ) → found i (view a).entries ≡ entry a i };
+    ghost finds: { (a : Self) (i : ℕ) → found i (view a).entries ≡ entry a i };
 
     ghost advances: { (a b : Self.PtrAdvancer) (c : Self) (r : Option P)
         → Self.PtrAdvancer.gives a c r b → IsAdvanceUntilNone (view c).entries (cursor a)
@@ -416,7 +416,7 @@ pub trait ArenaCloneFromWith<P: PtrKey, T: Drop>: ArenaTrait<P, T> {
         ensures err { OnErr result (self.new ≡ self.old) }
         ensures more { OnOk result (copies U source.now self.old self.new) }
     {
-        let (done, _) = self.clone_from_by(source, Answering { map });
+        let (done, _) = self.clone_from_by(source, ClosureMap { map });
         done
     }
 }

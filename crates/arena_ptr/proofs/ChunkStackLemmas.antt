@@ -32,7 +32,7 @@ module _ {E : Type 0} (s : ChunkStack E) (i : ℕ) (e : E) where
 module _ {E : Type 0} (s : ChunkStack E) where
   -- The block of an item exists.
   pub within : (i : ℕ) → i < s.len → i / 64 < vec_len s.blocks
-  within i inside = let room = filled_capacity s.blocks.items s.len s.filled in omega (arith, inside, room, s.blocks.ok.0)
+  within i inside = let within_capacity = filled_capacity s.blocks.items s.len s.filled in omega (arith, inside, within_capacity, s.blocks.ok.0)
 
   -- No item is beyond the length.
   pub past : (i : ℕ) → s.len ≤ i → slice_get (items_in s.blocks.items) i ≡ None
@@ -41,26 +41,26 @@ module _ {E : Type 0} (s : ChunkStack E) where
   -- The invariant holds after an empty block is appended, or none.
   pub more_blocks : (block : Vec E Global) (done : Bool) (blocks : List (Vec E Global)) → blocks ≡ (if done then s.blocks.items ++ block ∷ [] else s.blocks.items) → block.items ≡ [] → 64 ≤ vec_capacity block
       → 64 * length s.blocks.items + 65 < 2 ^ 64 → AreFilled blocks s.len × (64 * length blocks + 1 < 2 ^ 64)
-  more_blocks block true blocks is none room few = (
-    subst (λ (bs : List (Vec E Global)). AreFilled bs s.len) (sym is) (more_in block s.blocks.items s.len none room s.filled).1,
+  more_blocks block true blocks is none within_capacity few = (
+    subst (λ (bs : List (Vec E Global)). AreFilled bs s.len) (sym is) (more_in block s.blocks.items s.len none within_capacity s.filled).1,
     (let long = ap length is ∙ length-append s.blocks.items (block ∷ []) in omega (arith, long, few)),
   )
-  more_blocks block false blocks is none room few = (
+  more_blocks block false blocks is none within_capacity few = (
     subst (λ (bs : List (Vec E Global)). AreFilled bs s.len) (sym is) s.filled,
     subst (λ (bs : List (Vec E Global)). 64 * length bs + 1 < 2 ^ 64) (sym is) s.fits,
   )
 
-  module _ (i : ℕ) (block : Vec E Global) (lies : i / 64 < vec_len s.blocks) (is : block ≡ slice_index_or s.blocks.items (i / 64) block) where
+  module _ (i : ℕ) (block : Vec E Global) (located : i / 64 < vec_len s.blocks) (is : block ≡ slice_index_or s.blocks.items (i / 64) block) where
     pub found : slice_get s.blocks.items (i / 64) ≡ Some block
-    found = slice_get_read s.blocks.items s.blocks.len (i / 64) block s.blocks.ok.0 lies is
+    found = slice_get_read s.blocks.items s.blocks.len (i / 64) block s.blocks.ok.0 located is
 
     -- The block has item `i`.
     pub inside_block : i < s.len → i % 64 < vec_len block
     inside_block inside = let has = block_in s.blocks.items s.len (i / 64) block s.filled found in omega (arith, inside, has.0, block.ok.0)
 
     -- The block has capacity for the next item.
-    pub has_room : i ≡ s.len → vec_len block < vec_capacity block
-    has_room at = let has = block_in s.blocks.items s.len (i / 64) block s.filled found in omega (arith, at, has.0, has.1, block.ok.0)
+    pub has_capacity : i ≡ s.len → vec_len block < vec_capacity block
+    has_capacity at = let has = block_in s.blocks.items s.len (i / 64) block s.filled found in omega (arith, at, has.0, has.1, block.ok.0)
 
     -- An item found in its block is item `i`.
     pub item_at : (e : E) → i % 64 < vec_len block → e ≡ slice_index_or block.items (i % 64) e → Some e ≡ slice_get (items_in s.blocks.items) i
@@ -75,16 +75,16 @@ module _ {E : Type 0} (s : ChunkStack E) where
       still_fits = subst (λ (k : ℕ). 64 * k + 1 < 2 ^ 64) (sym (length-set s.blocks.items (i / 64) other)) s.fits
 
       pub written_filled : (e : E) → other.items ≡ slice_set block.items (i % 64) e → vec_capacity other ≡ vec_capacity block → AreFilled (slice_set s.blocks.items (i / 64) other) s.len
-      written_filled e made room = (set_in other e s.blocks.items s.len (i / 64) (i % 64) block (omega arith) s.filled found made room).1
+      written_filled e made within_capacity = (set_in other e s.blocks.items s.len (i / 64) (i % 64) block (omega arith) s.filled found made within_capacity).1
 
       -- Appending an item to its block, or removing the last one.
       pub pushed : (e : E) → i ≡ s.len → other.items ≡ block.items ++ e ∷ [] → vec_capacity other ≡ vec_capacity block
           → (items_in (slice_set s.blocks.items (i / 64) other) ≡ items_in s.blocks.items ++ e ∷ []) × AreFilled (slice_set s.blocks.items (i / 64) other) (s.len + 1)
-      pushed e at made room = push_in other e s.blocks.items s.len (i / 64) (i % 64) block (omega arith) (omega (arith, at)) s.filled found made room
+      pushed e at made within_capacity = push_in other e s.blocks.items s.len (i / 64) (i % 64) block (omega arith) (omega (arith, at)) s.filled found made within_capacity
 
       pub popped : i + 1 ≡ s.len → other.items ≡ take (i % 64) block.items → vec_capacity other ≡ vec_capacity block
           → (items_in (slice_set s.blocks.items (i / 64) other) ≡ take i (items_in s.blocks.items)) × AreFilled (slice_set s.blocks.items (i / 64) other) i
-      popped at made room = pop_in other s.blocks.items i (i / 64) (i % 64) block (omega arith) (omega arith) (subst (AreFilled s.blocks.items) (sym at) s.filled) found made room
+      popped at made within_capacity = pop_in other s.blocks.items i (i / 64) (i % 64) block (omega arith) (omega arith) (subst (AreFilled s.blocks.items) (sym at) s.filled) found made within_capacity
 
     -- Writing a lent item gives `with_item_at`.
     pub same_written : (e : E) (filled : AreFilled (blocks_with s i e block).items s.len) (fits : 64 * length (blocks_with s i e block).items + 1 < 2 ^ 64) → made s i e block filled fits ≡ with_item_at s i e

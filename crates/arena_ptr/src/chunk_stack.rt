@@ -30,7 +30,7 @@ pub struct ChunkStack<E> {
 // Allocates an empty block.
 fn new_block<E: Drop>(alloc: Global) -> Result<Vec<E>, AllocError>
     ensures items { IfOk result (λ block. block.items ≡ []) }
-    ensures room { IfOk result (λ block. 64 ≤ vec_capacity block) }
+    ensures within_capacity { IfOk result (λ block. 64 ≤ vec_capacity block) }
 {
     let mut block = Vec::new(alloc);
     block.reserve_exact(SLOTS)?;
@@ -45,8 +45,8 @@ fn exchange_items<E>(one: &mut Vec<E>, i: usize, other: &mut Vec<E>, j: usize)
         (slice_index_or other.old.items j d) }
     ensures other { (d : E) → other.new.items ≡ slice_set other.old.items j
         (slice_index_or one.old.items i d) }
-    ensures one_room { vec_capacity one.new ≡ vec_capacity one.old }
-    ensures other_room { vec_capacity other.new ≡ vec_capacity other.old }
+    ensures one_capacity { vec_capacity one.new ≡ vec_capacity one.old }
+    ensures other_capacity { vec_capacity other.new ≡ vec_capacity other.old }
 {
     mem::swap(&mut one[i], &mut other[j]);
 }
@@ -119,7 +119,7 @@ impl<E: Drop> ChunkStack<E> {
     // Frees empty blocks until `count` blocks are left.
     fn drop_blocks(&mut self, count: usize)
         requires few { count ≤ length self.old.blocks.items }
-        requires room { self.old.len ≤ 64 * count }
+        requires within_capacity { self.old.len ≤ 64 * count }
         ensures items { items_in self.new.blocks.items ≡ items_in self.old.blocks.items }
         ensures blocks { length self.new.blocks.items ≡ count }
     {
@@ -202,9 +202,9 @@ impl<E: Drop> SlotStack for ChunkStack<E> {
 
     ghost with_item = { with_item_at };
 
-    ghost has_room = { has_capacity_in };
+    ghost has_capacity = { has_capacity_in };
 
-    ghost room_fits = { λ s. s.fits };
+    ghost capacity_fits = { λ s. s.fits };
 
     ghost within_maximum = { λ _. tt };
 

@@ -31,9 +31,9 @@ impl<E: Drop> SlotStack for HeapStack<E> {
 
     ghost with_item = { λ s i e. record { slots = vec_with_item s.slots i e } };
 
-    ghost has_room = { λ s. slots_have_capacity s.slots };
+    ghost has_capacity = { λ s. slots_have_capacity s.slots };
 
-    ghost room_fits = { λ s. slots_fit s.slots };
+    ghost capacity_fits = { λ s. slots_fit s.slots };
 
     ghost within_maximum = { λ _. tt };
 

@@ -54,9 +54,9 @@ impl<E: Drop> SlotStack for LimitedStack<E> {
 
     ghost with_item = { with_item_at };
 
-    ghost has_room = { λ s. slots_have_capacity s.slots };
+    ghost has_capacity = { λ s. slots_have_capacity s.slots };
 
-    ghost room_fits = { λ s. slots_fit s.slots };
+    ghost capacity_fits = { λ s. slots_fit s.slots };
 
     ghost within_maximum = { λ s. s.within };
 

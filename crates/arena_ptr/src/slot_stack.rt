@@ -107,9 +107,9 @@ pub trait SlotStack: Drop {
         ensures capacity { capacity self.new ≡ capacity self.old }
         ensures maximum { maximum self.new ≡ maximum self.old };
 
-    ghost has_room: { (s : Self) → length (items s) ≤ capacity s };
+    ghost has_capacity: { (s : Self) → length (items s) ≤ capacity s };
 
-    ghost room_fits: { (s : Self) → capacity s + 1 < 2 ^ 64 };
+    ghost capacity_fits: { (s : Self) → capacity s + 1 < 2 ^ 64 };
 
     ghost within_maximum: { (s : Self) → IsWithinMaximum (maximum s) (capacity s) };
 

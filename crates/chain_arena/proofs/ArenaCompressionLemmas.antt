@@ -59,8 +59,8 @@ module _ {F P T Gen : Type 0} (g : Mut F (P × (MutBor T × (P × Unit {0}))) (U
   links_renamed : IsRenaming (place_in (map index_of (entries (values_of old)))) (link_map old) (link_map new)
   links_renamed = subst (λ (a : Arena Gen (LinkView T)). IsRenaming (place_in (map index_of (entries (values_of a)))) (link_map a) (link_map new)) is_mid gathering.renamed
 
-  pub gaps_closed : ClosesHoles old new
-  gaps_closed = record {
+  pub positions_closed : ClosesHoles old new
+  positions_closed = record {
     renamed = links_renamed;
     stack_capacity = ap (λ (a : Arena Gen T). a.stack_capacity) gathering.arena ∙ ap (λ (a : Arena Gen (LinkView T)). a.stack_capacity) is_mid;
   }

@@ -6,7 +6,7 @@ use Rattle.arena_ptr.specs.Invalidation.{value_in, is_overflow, value_within, is
 use Rattle.arena_ptr.specs.declared.invalidation.InvalidationOption.{InvalidationOption}
 use Rattle.arena_ptr.specs.declared.invalidation.InvalidationResult.{InvalidationResult}
 use Rattle.chain_laws.specs.Chains.{LinkMap, IsWellLinked, HasLink, prev_in, next_in}
-use Rattle.chain_laws.specs.Removals.{removed}
+use Rattle.chain_laws.specs.Removals.{with_removal}
 use Rattle.chain_laws.specs.Walks.{IsWalk, rest_start, rest_start_of, walk_from, removed_each, TakesWalk}
 use Rattle.chain_laws.proofs.WalkLemmas.Drains.{walk_from-walk, walk_from-none, walk_from-next, walk_is_taken}
 use Rattle.arena_base.specs.Arena.{Arena, entry_at, remove_at}
@@ -45,24 +45,24 @@ module _ {Gen T : Type 0} where
     whole (Some e) = refl
 
   -- an existing link has a nonzero index
-  nonzero_index-stands : (a : Arena Gen (LinkView T)) (i : ℕ) (e : Gen × LinkView T) → entry_at a i ≡ Some e → nonzero_index i ≡ Some i
-  nonzero_index-stands a zero e stands = absurd (cc)
-  nonzero_index-stands a (suc k) e stands = refl
+  nonzero_index-stored : (a : Arena Gen (LinkView T)) (i : ℕ) (e : Gen × LinkView T) → entry_at a i ≡ Some e → nonzero_index i ≡ Some i
+  nonzero_index-stored a zero e stored = absurd (cc)
+  nonzero_index-stored a (suc k) e stored = refl
 
-  stands-valid : (a : Arena Gen (LinkView T)) (i : ℕ) (e : Gen × LinkView T) → entry_at a i ≡ Some e → HasLink (link_map a) i
-  stands-valid a i e stands = record { link = interlinks_of e; shows = ap (option_map interlinks_of) stands }
+  stored-valid : (a : Arena Gen (LinkView T)) (i : ℕ) (e : Gen × LinkView T) → entry_at a i ≡ Some e → HasLink (link_map a) i
+  stored-valid a i e stored = record { link = interlinks_of e; reports = ap (option_map interlinks_of) stored }
 
   -- what is left at an existing link is the walk from it
   walk_left-walk : (a : Arena Gen (LinkView T)) (i : ℕ) (e : Gen × LinkView T) → IsWellLinked (link_map a) → entry_at a i ≡ Some e → IsWalk (link_map a) i (walk_left a i)
-  walk_left-walk a i e agrees stands =
-      subst (λ (o : Option ℕ). IsWalk (link_map a) i (walk_from (length a.slots) (link_map a) o)) (sym (nonzero_index-stands a i e stands))
-      (walk_from-walk (length a.slots) (link_map a) i agrees (link_map-within a) (stands-valid a i e stands))
+  walk_left-walk a i e agrees stored =
+      subst (λ (o : Option ℕ). IsWalk (link_map a) i (walk_from (length a.slots) (link_map a) o)) (sym (nonzero_index-stored a i e stored))
+      (walk_from-walk (length a.slots) (link_map a) i agrees (link_map-within a) (stored-valid a i e stored))
 
   pub walk_left-valid : (a : Arena Gen (LinkView T)) (p : ℕ × Gen) → IsWellLinked (link_map a) → IsValid (entry_at (values_of a)) p → IsWalk (link_map a) p.0 (walk_left a p.0)
-  walk_left-valid a p agrees valid = by (entry_at a p.0) refl (sym (entry_at-with_each held_value a p.0) ∙ valid.stands) where
+  walk_left-valid a p agrees valid = by (entry_at a p.0) refl (sym (entry_at-with_each held_value a p.0) ∙ valid.stored) where
     by : (o : Option (Gen × LinkView T)) → entry_at a p.0 ≡ o → option_map (on_value held_value) (entry_at a p.0) ≡ Some (p.1, valid.value) → IsWalk (link_map a) p.0 (walk_left a p.0)
     by None none is = absurd (let h = sym (ap (option_map (on_value held_value)) none) ∙ is in cc)
-    by (Some e) stands is = walk_left-walk a p.0 e agrees stands
+    by (Some e) stored is = walk_left-walk a p.0 e agrees stored
 
   -- nothing is left at a free slot
   walk_left-none : (a : Arena Gen (LinkView T)) (i : ℕ) → entry_at a i ≡ None → walk_left a i ≡ []
@@ -71,7 +71,7 @@ module _ {Gen T : Type 0} where
 
   -- a removal keeps the number of slots
   length-remove_link : (following : Gen → Gen) (a : Arena Gen (LinkView T)) (i : ℕ) → length (remove_link following a i).slots ≡ length a.slots
-  length-remove_link following a i = length-relinked (remove_at following a i) (removed (link_map a) i) ∙ length-with_slot a.slots i None
+  length-remove_link following a i = length-relinked (remove_at following a i) (with_removal (link_map a) i) ∙ length-with_slot a.slots i None
 
   -- each removal increments the counter
   pub without_each-counts : (following : Gen → Gen) (a b : Arena Gen (LinkView T)) (indexes : List ℕ) → b ≡ without_each following a indexes → CountsUp following (length indexes) a b
@@ -92,14 +92,14 @@ module _ {Gen T : Type 0} where
   -- after the removal of its first link the walk goes on
   walk_left-next : (following : Gen → Gen) (a b : Arena Gen (LinkView T)) (i next : ℕ) (e : Gen × LinkView T) → IsWellLinked (link_map a) → entry_at a i ≡ Some e → b ≡ remove_link following a i
       → nonzero_index next ≡ rest_start i e.1.prev e.1.next → walk_left a i ≡ i ∷ walk_left b next
-  walk_left-next following a b i next e agrees stands gone on =
+  walk_left-next following a b i next e agrees stored gone on =
       let slots : length b.slots ≡ length a.slots = ap (λ (x : Arena Gen (LinkView T)). length x.slots) gone ∙ length-remove_link following a i in
-      let same : rest_start_of (link_map a) i ≡ rest_start i e.1.prev e.1.next = ap (λ (o : Option (Gen × LinkView T)). rest_start i (prev_in (option_map interlinks_of o)) (next_in (option_map interlinks_of o))) stands in
-      ap (walk_from (length a.slots) (link_map a)) (nonzero_index-stands a i e stands)
-      ∙ (walk_from-next (length a.slots) (link_map a) i agrees (link_map-within a) (stands-valid a i e stands)
+      let same : rest_start_of (link_map a) i ≡ rest_start i e.1.prev e.1.next = ap (λ (o : Option (Gen × LinkView T)). rest_start i (prev_in (option_map interlinks_of o)) (next_in (option_map interlinks_of o))) stored in
+      ap (walk_from (length a.slots) (link_map a)) (nonzero_index-stored a i e stored)
+      ∙ (walk_from-next (length a.slots) (link_map a) i agrees (link_map-within a) (stored-valid a i e stored)
       ∙ ap (λ (w : List ℕ). i ∷ w) (sym (ap (λ (n : ℕ). walk_from n (link_map b) (nonzero_index next)) slots
       ∙ (ap (λ (s : LinkMap). walk_from (length a.slots) s (nonzero_index next)) (passes_over following a b i gone)
-      ∙ ap (walk_from (length a.slots) (removed (link_map a) i)) (on ∙ sym same)))))
+      ∙ ap (walk_from (length a.slots) (with_removal (link_map a) i)) (on ∙ sym same)))))
 
   -- the link map after the removals
   pub link_map-without_each : (following : Gen → Gen) (a : Arena Gen (LinkView T)) (walk : List ℕ) → link_map (without_each following a walk) ≡ removed_each (link_map a) walk
@@ -113,14 +113,14 @@ module _ {Gen T : Type 0} where
     where
       by : (o : Option (Gen × LinkView T)) → entry_at a i ≡ o → TakesWalk (link_map a) (removed_each (link_map a) (walk_left a i)) (walk_left a i)
       by None none = subst (λ (w : List ℕ). TakesWalk (link_map a) (removed_each (link_map a) w) w) (sym (walk_left-none a i none)) (no_walk_is_taken (link_map a))
-      by (Some e) stands = walk_is_taken (link_map a) i (walk_left a i) (walk_left-walk a i e agrees stands)
+      by (Some e) stored = walk_is_taken (link_map a) i (walk_left a i) (walk_left-walk a i e agrees stored)
 
 module _ {P Gen K T : Type 0} (key : P → ℕ × Gen) (number : K → Option ℕ) (following : Gen → Gen) (wraps : Gen → Bool) where
   -- a removal by index is a step of a drain
   module _ (old new : Arena Gen (LinkView T)) (at i next : ℕ) (taken : InvalidationResult (Gen × LinkBody K T)) (same : i ≡ at) (agrees : IsWellLinked (link_map old))
-      (answered : option_map (on_value (link_view number)) (value_within taken) ≡ link_at (entry_at (values_of old)) (link_map old) i) where
+      (responded : option_map (on_value (link_view number)) (value_within taken) ≡ link_at (entry_at (values_of old)) (link_map old) i) where
     found : (o : Option (Gen × LinkBody K T)) → value_within taken ≡ o → entry_at old at ≡ option_map (on_value (link_view number)) o
-    found o is = ap (entry_at old) (sym same) ∙ (sym (link_at-entry old i) ∙ (sym answered ∙ ap (option_map (on_value (link_view number))) is))
+    found o is = ap (entry_at old) (sym same) ∙ (sym (link_at-entry old i) ∙ (sym responded ∙ ap (option_map (on_value (link_view number))) is))
 
     entry-is : (o : Option (Gen × LinkBody K T)) → value_within taken ≡ o → entry_at (values_of old) i ≡ option_map (on_value held_value) (option_map (on_value (link_view number)) o)
     entry-is o is = entry_at-with_each held_value old i ∙ ap (option_map (on_value held_value)) (ap (entry_at old) same ∙ found o is)
@@ -129,29 +129,29 @@ module _ {P Gen K T : Type 0} (key : P → ℕ × Gen) (number : K → Option �
     pub drained_none : value_within taken ≡ None → (entry_at (values_of old) i ≡ None → new ≡ old) → (walk_left old at ≡ []) × (new ≡ old)
     drained_none none kept = (walk_left-none old at (found None none), kept (entry-is None none))
 
-    pub drained_step : (e : Gen × LinkBody K T) (overflow : Bool) (answer : InvalidationOption (P × LinkBody K T))
+    pub drained_step : (e : Gen × LinkBody K T) (overflow : Bool) (returned : InvalidationOption (P × LinkBody K T))
         → taken ≡ invalidation_result (wraps old.counter) (value_within taken) → (is_some (entry_at (values_of old) i) ≡ true → new ≡ remove_link following old i)
-        → value_within taken ≡ Some e → overflow ≡ is_overflow_result taken → key (value_in answer).0 ≡ (i, e.0) → (value_in answer).1 ≡ e.1 → is_overflow answer ≡ overflow
-        → nonzero_index next ≡ rest_start i (number e.1.prev) (number e.1.next) → IsDrainStep key number following wraps old at answer new next
-    drained_step e overflow answer made gone has told keyed linked over on =
+        → value_within taken ≡ Some e → overflow ≡ is_overflow_result taken → key (value_in returned).0 ≡ (i, e.0) → (value_in returned).1 ≡ e.1 → is_overflow returned ≡ overflow
+        → nonzero_index next ≡ rest_start i (number e.1.prev) (number e.1.next) → IsDrainStep key number following wraps old at returned new next
+    drained_step e overflow returned made gone has known keyed linked over on =
         let state : new ≡ remove_link following old at = gone (ap is_some (entry-is (Some e) has)) ∙ ap (remove_link following old) same in
-        let stands : entry_at old at ≡ Some (e.0, link_view number e.1) = found (Some e) has in
+        let stored : entry_at old at ≡ Some (e.0, link_view number e.1) = found (Some e) has in
         record {
           index = ap (λ (k : ℕ × Gen). k.0) keyed ∙ same;
-          stands = stands ∙ sym (ap₂ (λ (k : ℕ × Gen) (l : LinkBody K T). let o : Option (Gen × LinkView T) = Some (k.1, link_view number l) in o) keyed linked);
-          overflow = over ∙ (told ∙ (ap is_overflow_result made ∙ (ap (λ (o : Option (Gen × LinkBody K T)). is_overflow_result (invalidation_result (wraps old.counter) o)) has
+          stored = stored ∙ sym (ap₂ (λ (k : ℕ × Gen) (l : LinkBody K T). let o : Option (Gen × LinkView T) = Some (k.1, link_view number l) in o) keyed linked);
+          overflow = over ∙ (known ∙ (ap is_overflow_result made ∙ (ap (λ (o : Option (Gen × LinkBody K T)). is_overflow_result (invalidation_result (wraps old.counter) o)) has
               ∙ is_overflow_result-made (wraps old.counter) e)));
           state = state;
-          walk = walk_left-next following old new at next (e.0, link_view number e.1) agrees stands state (on ∙ ap (λ (n : ℕ). rest_start n (number e.1.prev) (number e.1.next)) same);
+          walk = walk_left-next following old new at next (e.0, link_view number e.1) agrees stored state (on ∙ ap (λ (n : ℕ). rest_start n (number e.1.prev) (number e.1.next)) same);
         }
 
   -- a step keeps the arena that removing the remaining walk gives
-  pub without_each-step : (old new : Arena Gen (LinkView T)) (at next : ℕ) (answer : InvalidationOption (P × LinkBody K T)) → IsDrainStep key number following wraps old at answer new next
+  pub without_each-step : (old new : Arena Gen (LinkView T)) (at next : ℕ) (returned : InvalidationOption (P × LinkBody K T)) → IsDrainStep key number following wraps old at returned new next
       → without_each following new (walk_left new next) ≡ without_each following old (walk_left old at)
-  without_each-step old new at next answer step =
+  without_each-step old new at next returned step =
       ap (λ (a : Arena Gen (LinkView T)). without_each following a (walk_left new next)) step.state ∙ sym (ap (without_each following old) step.walk)
 
   -- a step leaves fewer links
-  pub walk_left-step : (old new : Arena Gen (LinkView T)) (at next : ℕ) (answer : InvalidationOption (P × LinkBody K T)) → IsDrainStep key number following wraps old at answer new next
+  pub walk_left-step : (old new : Arena Gen (LinkView T)) (at next : ℕ) (returned : InvalidationOption (P × LinkBody K T)) → IsDrainStep key number following wraps old at returned new next
       → length (walk_left new next) < length (walk_left old at)
-  walk_left-step old new at next answer step = let longer : length (walk_left old at) ≡ length (at ∷ walk_left new next) = ap (length {A = ℕ}) step.walk in omega (arith, longer)
+  walk_left-step old new at next returned step = let longer : length (walk_left old at) ≡ length (at ∷ walk_left new next) = ap (length {A = ℕ}) step.walk in omega (arith, longer)

@@ -27,41 +27,41 @@ length-taken {X} k (None ∷ slots) = let rest = length-taken (suc k) slots in l
 length-taken {X} k (Some e ∷ slots) = let rest = length-taken (suc k) slots in let step = sum_by-cons (λ (o : Option X). cond (is_some o) 1 0) (Some e) slots in omega (arith, rest, step)
 
 IsMember-taken : {X : Type 0} (k x j : ℕ) (slots : List (Option X)) (e : X) → x ≡ k + j → slice_index_or slots j None ≡ Some e → IsMember (taken k slots) x
-IsMember-taken k x j [] e at stands = absurd (let h = stands in cc)
-IsMember-taken k x zero (None ∷ slots) e at stands = absurd (let h = stands in cc)
-IsMember-taken k x zero (Some f ∷ slots) e at stands = inl (omega (arith, at))
-IsMember-taken k x (suc j) (None ∷ slots) e at stands = IsMember-taken (suc k) x j slots e (omega (arith, at)) stands
-IsMember-taken k x (suc j) (Some f ∷ slots) e at stands = inr (IsMember-taken (suc k) x j slots e (omega (arith, at)) stands)
+IsMember-taken k x j [] e at stored = absurd (let h = stored in cc)
+IsMember-taken k x zero (None ∷ slots) e at stored = absurd (let h = stored in cc)
+IsMember-taken k x zero (Some f ∷ slots) e at stored = inl (omega (arith, at))
+IsMember-taken k x (suc j) (None ∷ slots) e at stored = IsMember-taken (suc k) x j slots e (omega (arith, at)) stored
+IsMember-taken k x (suc j) (Some f ∷ slots) e at stored = inr (IsMember-taken (suc k) x j slots e (omega (arith, at)) stored)
 
 module _ {Gen T : Type 0} where
   -- there are no more distinct valid indexes than entries
   pub length-le_entries : (a : Arena Gen (LinkView T)) (xs : List ℕ) → AreDistinct xs → ((x : ℕ) → IsMember xs x → HasLink (link_map a) x) → length xs ≤ entry_count a
   length-le_entries a xs once valid = subst (λ n. length xs ≤ n) (length-taken 1 a.slots) (length_among xs (taken 1 a.slots) once (λ x has. place x (valid x has))) where
     place : (x : ℕ) → HasLink (link_map a) x → IsMember (taken 1 a.slots) x
-    place zero valid_at = absurd (let h = valid_at.shows in cc)
-    place (suc j) valid_at = let entry = some_entry interlinks_of (slice_index_or a.slots j None) valid_at.link valid_at.shows in IsMember-taken 1 (suc j) j a.slots entry.0 (omega arith) entry.1
+    place zero valid_at = absurd (let h = valid_at.reports in cc)
+    place (suc j) valid_at = let entry = some_entry interlinks_of (slice_index_or a.slots j None) valid_at.link valid_at.reports in IsMember-taken 1 (suc j) j a.slots entry.0 (omega arith) entry.1
 
   links_at-entry : (a : Arena Gen (LinkView T)) (i : ℕ) (indexes : List ℕ) (e : Gen × LinkView T) → entry_at a i ≡ Some e → links_at a (i ∷ indexes) ≡ (i, e) ∷ links_at a indexes
-  links_at-entry a i indexes e stands = ap (λ (o : Option (Gen × LinkView T)). let links : List (ℕ × (Gen × LinkView T)) = elim o [ None ↦ [] | Some f ↦ (i, f) ∷ links_at a indexes ] in links) stands
+  links_at-entry a i indexes e stored = ap (λ (o : Option (Gen × LinkView T)). let links : List (ℕ × (Gen × LinkView T)) = elim o [ None ↦ [] | Some f ↦ (i, f) ∷ links_at a indexes ] in links) stored
 
   -- the links at valid indexes have these indexes
   index-links_at : (a : Arena Gen (LinkView T)) (indexes : List ℕ) → ((j : ℕ) → IsMember indexes j → HasLink (link_map a) j) → map (λ (e : ℕ × (Gen × LinkView T)). e.0) (links_at a indexes) ≡ indexes
   index-links_at a [] valid = refl
   index-links_at a (i ∷ indexes) valid =
       let here = valid i (inl refl) in
-      let entry = some_entry interlinks_of (entry_at a i) here.link here.shows in
+      let entry = some_entry interlinks_of (entry_at a i) here.link here.reports in
       ap (map (λ (e : ℕ × (Gen × LinkView T)). e.0)) (links_at-entry a i indexes entry.0 entry.1) ∙ ap (λ l. i ∷ l) (index-links_at a indexes (λ j has. valid j (inr has)))
 
-  abbrev StandsAs : Arena Gen (LinkView T) → ℕ × (Gen × LinkView T) → Type 0
-  StandsAs a e = entry_at a e.0 ≡ Some e.1
+  abbrev StoredAs : Arena Gen (LinkView T) → ℕ × (Gen × LinkView T) → Type 0
+  StoredAs a e = entry_at a e.0 ≡ Some e.1
 
-  links_at-stand : (a : Arena Gen (LinkView T)) (indexes : List ℕ) → AllByRecursion (StandsAs a) (links_at a indexes)
-  links_at-stand a [] = tt
-  links_at-stand a (i ∷ indexes) = by (links_at-stand a indexes) (entry_at a i) refl where
-    by : AllByRecursion (StandsAs a) (links_at a indexes) → (o : Option (Gen × LinkView T)) → entry_at a i ≡ o
-        → AllByRecursion (StandsAs a) (let links : List (ℕ × (Gen × LinkView T)) = elim o [ None ↦ [] | Some e ↦ (i, e) ∷ links_at a indexes ] in links)
-    by rest None stands = tt
-    by rest (Some e) stands = (stands, rest)
+  links_at-are_stored : (a : Arena Gen (LinkView T)) (indexes : List ℕ) → AllByRecursion (StoredAs a) (links_at a indexes)
+  links_at-are_stored a [] = tt
+  links_at-are_stored a (i ∷ indexes) = by (links_at-are_stored a indexes) (entry_at a i) refl where
+    by : AllByRecursion (StoredAs a) (links_at a indexes) → (o : Option (Gen × LinkView T)) → entry_at a i ≡ o
+        → AllByRecursion (StoredAs a) (let links : List (ℕ × (Gen × LinkView T)) = elim o [ None ↦ [] | Some e ↦ (i, e) ∷ links_at a indexes ] in links)
+    by rest None stored = tt
+    by rest (Some e) stored = (stored, rest)
 
   -- a walker before a valid link passes its walk
   pub links_ahead-walk : (a : Arena Gen (LinkView T)) (i : ℕ) → IsWellLinked (link_map a) → HasLink (link_map a) i → IsWalkOf a i (links_ahead a (entry_count a) i (Some i) (prev_of (link_map a) i))
@@ -71,7 +71,7 @@ module _ {Gen T : Type 0} where
       let passed = walk_passed (entry_count a) (link_map a) i walk.0 walk.1 (length-le_entries a walk.0 (walk_once (link_map a) i walk.0 walk.1) each) in
       subst (λ (w : List ℕ). IsWalkOf a i (links_at a w)) (sym passed) (record {
         walk = subst (IsWalk (link_map a) i) (sym (index-links_at a walk.0 each)) walk.1;
-        stands = All-from_recursion (StandsAs a) (links_at a walk.0) (links_at-stand a walk.0);
+        stored = All-from_recursion (StoredAs a) (links_at a walk.0) (links_at-are_stored a walk.0);
       })
 
   -- a walk has at most as many links as the arena

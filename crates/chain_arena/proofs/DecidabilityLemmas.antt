@@ -32,8 +32,8 @@ stable-some None j given = absurd (given (λ is. none-some j is))
 stable-some (Some i) j given = ⊎_elim (λ same. ap Some same) (λ other. absurd (given (λ is. other (ap (index_or i) is)))) (cases_eq i j)
 
 stable-valid : (interlinks : LinkMap) (i : ℕ) (o : Option Interlinks) → interlinks i ≡ o → Stable (HasLink interlinks i)
-stable-valid interlinks i None is given = absurd (given (λ valid. none-some _ (sym is ∙ valid.shows)))
-stable-valid interlinks i (Some l) is given = record { link = l; shows = is }
+stable-valid interlinks i None is given = absurd (given (λ valid. none-some _ (sym is ∙ valid.reports)))
+stable-valid interlinks i (Some l) is given = record { link = l; reports = is }
 
 module _ {Gen T : Type 0} (eq : Gen → Gen → Bool) (law : (g h : Gen) → (eq g h ≡ true) ↔ (g ≡ h)) (a : Arena Gen (LinkView T)) where
   -- a link has a name or not

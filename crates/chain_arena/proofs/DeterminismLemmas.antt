@@ -12,7 +12,7 @@ use Rattle.arena_ptr.specs.declared.errors.ReallocationError.TheVariants as refu
 use Rattle.arena_ptr.specs.declared.invalidation.InvalidationResult.{InvalidationResult}
 use Rattle.arena_ptr.specs.declared.invalidation.InvalidationResult.TheVariants.{Success, GenerationOverflow, InvalidPtr}
 use Rattle.arena_ptr.specs.declared.packed_option.PackedOption.{PackedOption}
-use Rattle.chain_laws.specs.Cuts.{cut}
+use Rattle.chain_laws.specs.Cuts.{without_pair}
 use Rattle.chain_laws.specs.Insertions.{InsertKind}
 use Rattle.chain_laws.proofs.WalkLemmas.Walker.{no_other_walk}
 use Rattle.arena_base.specs.Arena.{IsValid, entry_at, entry_count, with_capacity_of}
@@ -46,12 +46,12 @@ same_but_touched {Gen} {T} a b is = is ∙ ap (λ (n : ℕ). touch n b) (sym (ap
 
 module _ {Gen T : Type 0} where
   -- a sufficient capacity stays
-  room_stays : (greatest n : ℕ) (old new : Links Gen T) → n ≤ old.capacity → GrowsToFit greatest n old new → HaveSameCapacity new old
-  room_stays greatest n old new enough (stays within capacity stack_capacity) = (capacity, stack_capacity)
-  room_stays greatest n old new enough (grown less room) = absurd (omega (arith, enough, less))
+  capacity_stays : (greatest n : ℕ) (old new : Links Gen T) → n ≤ old.capacity → GrowsToFit greatest n old new → HaveSameCapacity new old
+  capacity_stays greatest n old new enough (stays within capacity stack_capacity) = (capacity, stack_capacity)
+  capacity_stays greatest n old new enough (grown less within_capacity) = absurd (omega (arith, enough, less))
 
-  room_kept : (old new : Links Gen T) → new ≡ old → HaveSameCapacity new old
-  room_kept old new is = (ap (λ (a : Links Gen T). a.capacity) is, ap (λ (a : Links Gen T). a.stack_capacity) is)
+  capacity_kept : (old new : Links Gen T) → new ≡ old → HaveSameCapacity new old
+  capacity_kept old new is = (ap (λ (a : Links Gen T). a.capacity) is, ap (λ (a : Links Gen T). a.stack_capacity) is)
 
   connects_same : (old a b : Links Gen T) (p q : ℕ × Gen) (r s : Bool) → ConnectStep old p q r a → ConnectStep old p q s b → Same r s a b
   connects_same old a b p q false false one two = (refl, same one.1 two.1)
@@ -72,7 +72,7 @@ module _ {Gen T : Type 0} where
   breaks_prev_same old a b p true true one two =
       let met : Some one.1 ≡ Some two.1 = sym one.2 ∙ two.2 in
       let beside : one.1 ≡ two.1 = cc in
-      (refl, one.3.state ∙ (ap (λ (i : ℕ). relinked old (cut (link_map old) i p.0)) beside ∙ sym two.3.state))
+      (refl, one.3.state ∙ (ap (λ (i : ℕ). relinked old (without_pair (link_map old) i p.0)) beside ∙ sym two.3.state))
 
   breaks_next_same : (old a b : Links Gen T) (p : ℕ × Gen) (r s : Bool) → BreakNextStep old p r a → BreakNextStep old p s b → Same r s a b
   breaks_next_same old a b p false false one two = (refl, same one.1 two.1)
@@ -81,35 +81,35 @@ module _ {Gen T : Type 0} where
   breaks_next_same old a b p true true one two =
       let met : Some one.1 ≡ Some two.1 = sym one.2 ∙ two.2 in
       let beside : one.1 ≡ two.1 = cc in
-      (refl, one.3.state ∙ (ap (λ (i : ℕ). relinked old (cut (link_map old) p.0 i)) beside ∙ sym two.3.state))
+      (refl, one.3.state ∙ (ap (λ (i : ℕ). relinked old (without_pair (link_map old) p.0 i)) beside ∙ sym two.3.state))
 
   -- arenas that are the same but for touches are so but for capacity and touches
-  same_but_room : (a b : Links Gen T) → AreSameButTouched a b → AreSameButCapacityAndTouched a b
-  same_but_room a b is =
+  same_but_capacity : (a b : Links Gen T) → AreSameButTouched a b → AreSameButCapacityAndTouched a b
+  same_but_capacity a b is =
       let capacity = sym (ap (λ (x : Links Gen T). x.capacity) is) in
       let stack_capacity = sym (ap (λ (x : Links Gen T). x.stack_capacity) is) in
       is ∙ ap₂ (λ (c d : ℕ). touch a.touched (record b { capacity = c; stack_capacity = d })) capacity stack_capacity
 
   -- arenas that are the same but for capacity and touches, with the same capacity, are so but for
   -- touches
-  same_with_room : (a b : Links Gen T) → HaveSameCapacity a b → AreSameButCapacityAndTouched a b → AreSameButTouched a b
-  same_with_room a b room is = is ∙ ap₂ (λ (c d : ℕ). touch a.touched (record b { capacity = c; stack_capacity = d })) room.0 room.1
+  same_with_capacity : (a b : Links Gen T) → HaveSameCapacity a b → AreSameButCapacityAndTouched a b → AreSameButTouched a b
+  same_with_capacity a b within_capacity is = is ∙ ap₂ (λ (c d : ℕ). touch a.touched (record b { capacity = c; stack_capacity = d })) within_capacity.0 within_capacity.1
 
   -- arenas that differ from one in capacity alone are the same but for capacity and touches
-  both_but_room : (base a b : Links Gen T) → a ≡ with_capacity_of base a → b ≡ with_capacity_of base b → AreSameButCapacityAndTouched a b
-  both_but_room base a b is_a is_b = same_but_touched a (with_capacity_of b a) (is_a ∙ sym (ap (λ (x : Links Gen T). with_capacity_of x a) is_b))
+  both_but_capacity : (base a b : Links Gen T) → a ≡ with_capacity_of base a → b ≡ with_capacity_of base b → AreSameButCapacityAndTouched a b
+  both_but_capacity base a b is_a is_b = same_but_touched a (with_capacity_of b a) (is_a ∙ sym (ap (λ (x : Links Gen T). with_capacity_of x a) is_b))
 
   -- arenas equal to one are the same but for capacity and touches
   kept_both : (old a b : Links Gen T) → a ≡ old → b ≡ old → AreSameButCapacityAndTouched a b
-  kept_both old a b is_a is_b = same_but_room a b (same_but_touched a b (same is_a is_b))
+  kept_both old a b is_a is_b = same_but_capacity a b (same_but_touched a b (same is_a is_b))
 
   -- an arena that has grown is within the maximum
   made_within : (greatest n : ℕ) (old base new : Links Gen T) → base.maximum ≡ old.maximum → new ≡ with_capacity_of base new → GrowsToFit greatest n old new
       → Refuses n old refused.BeyondMaxCapacity → ⊥
   made_within greatest n old base new maximum is (stays within capacity stack_capacity) past = omega (arith, within, past.0)
-  made_within greatest n old base new maximum is (grown less room) past =
+  made_within greatest n old base new maximum is (grown less within_capacity) past =
       let most : new.maximum ≡ old.maximum = ap (λ (x : Links Gen T). x.maximum) is ∙ maximum in
-      not_beyond old.maximum n new.capacity room.0.fits (subst (λ (o : Option ℕ). IsWithinMaximum o new.capacity) most room.0.within_maximum) past.1
+      not_beyond old.maximum n new.capacity within_capacity.0.fits (subst (λ (o : Option ℕ). IsWithinMaximum o new.capacity) most within_capacity.0.within_maximum) past.1
 
   -- an arena that has grown is within the greatest index
   made_up_to : (greatest n : ℕ) (old new : Links Gen T) → GrowsToFit greatest n old new → Refuses n old refused.AllocError → n ≤ greatest
@@ -118,60 +118,60 @@ module _ {Gen T : Type 0} where
 
   -- an arena that has grown has more capacity than before
   made_more : (greatest n : ℕ) (old new other : Links Gen T) → GrowsToFit greatest n old new → Refuses n old refused.AllocError → other ≡ old → HaveSameCapacity new other → ⊥
-  made_more greatest n old new other (stays within capacity stack_capacity) lacks is room = omega (arith, within, lacks.0)
-  made_more greatest n old new other (grown less roomy) lacks is room =
+  made_more greatest n old new other (stays within capacity stack_capacity) lacks is within_capacity = omega (arith, within, lacks.0)
+  made_more greatest n old new other (grown less roomy) lacks is within_capacity =
       let kept = ap (λ (x : Links Gen T). x.capacity) is in
-      omega (arith, kept, roomy.0.fits, room.0, less)
+      omega (arith, kept, roomy.0.fits, within_capacity.0, less)
 
 -- a result is determined
-tells_same : {X Y S : Type 0} {No : Type 0} (see : X → Y) (Done : X → S → Type 0) (overflow : Bool) (old a b : S) (r s : InvalidationResult X) → ((x : X) (c : S) → Done x c → No → ⊥)
+states_same : {X Y S : Type 0} {No : Type 0} (see : X → Y) (Done : X → S → Type 0) (overflow : Bool) (old a b : S) (r s : InvalidationResult X) → ((x : X) (c : S) → Done x c → No → ⊥)
     → ((x y : X) → Done x a → Done y b → Same (see x) (see y) a b) → ReportsOverflow (No × (a ≡ old)) overflow (λ x. Done x a) r → ReportsOverflow (No × (b ≡ old)) overflow (λ x. Done x b) s → AreSameResults see r s × (a ≡ b)
-tells_same see Done overflow old a b (Success x) (Success y) apart once one two = once x y one.1 two.1
-tells_same see Done overflow old a b (GenerationOverflow x) (GenerationOverflow y) apart once one two = once x y one.1 two.1
-tells_same see Done overflow old a b InvalidPtr InvalidPtr apart once one two = (tt, same one.1 two.1)
-tells_same see Done overflow old a b (Success x) (GenerationOverflow y) apart once one two = absurd (false≢true (sym one.0 ∙ two.0))
-tells_same see Done overflow old a b (GenerationOverflow x) (Success y) apart once one two = absurd (false≢true (sym two.0 ∙ one.0))
-tells_same see Done overflow old a b (Success x) InvalidPtr apart once one two = absurd (apart x a one.1 two.0)
-tells_same see Done overflow old a b (GenerationOverflow x) InvalidPtr apart once one two = absurd (apart x a one.1 two.0)
-tells_same see Done overflow old a b InvalidPtr (Success y) apart once one two = absurd (apart y b two.1 one.0)
-tells_same see Done overflow old a b InvalidPtr (GenerationOverflow y) apart once one two = absurd (apart y b two.1 one.0)
+states_same see Done overflow old a b (Success x) (Success y) apart once one two = once x y one.1 two.1
+states_same see Done overflow old a b (GenerationOverflow x) (GenerationOverflow y) apart once one two = once x y one.1 two.1
+states_same see Done overflow old a b InvalidPtr InvalidPtr apart once one two = (tt, same one.1 two.1)
+states_same see Done overflow old a b (Success x) (GenerationOverflow y) apart once one two = absurd (false≢true (sym one.0 ∙ two.0))
+states_same see Done overflow old a b (GenerationOverflow x) (Success y) apart once one two = absurd (false≢true (sym two.0 ∙ one.0))
+states_same see Done overflow old a b (Success x) InvalidPtr apart once one two = absurd (apart x a one.1 two.0)
+states_same see Done overflow old a b (GenerationOverflow x) InvalidPtr apart once one two = absurd (apart x a one.1 two.0)
+states_same see Done overflow old a b InvalidPtr (Success y) apart once one two = absurd (apart y b two.1 one.0)
+states_same see Done overflow old a b InvalidPtr (GenerationOverflow y) apart once one two = absurd (apart y b two.1 one.0)
 
 -- two results are the same if their whole values are
-same_told : {X : Type 0} (r s : InvalidationResult X) → AreSameResults (λ x. x) r s → r ≡ s
-same_told (Success x) (Success y) is = ap Success is
-same_told (GenerationOverflow x) (GenerationOverflow y) is = ap GenerationOverflow is
-same_told InvalidPtr InvalidPtr is = refl
-same_told (Success x) (GenerationOverflow y) is = absurd is
-same_told (Success x) InvalidPtr is = absurd is
-same_told (GenerationOverflow x) (Success y) is = absurd is
-same_told (GenerationOverflow x) InvalidPtr is = absurd is
-same_told InvalidPtr (Success y) is = absurd is
-same_told InvalidPtr (GenerationOverflow y) is = absurd is
+same_known : {X : Type 0} (r s : InvalidationResult X) → AreSameResults (λ x. x) r s → r ≡ s
+same_known (Success x) (Success y) is = ap Success is
+same_known (GenerationOverflow x) (GenerationOverflow y) is = ap GenerationOverflow is
+same_known InvalidPtr InvalidPtr is = refl
+same_known (Success x) (GenerationOverflow y) is = absurd is
+same_known (Success x) InvalidPtr is = absurd is
+same_known (GenerationOverflow x) (Success y) is = absurd is
+same_known (GenerationOverflow x) InvalidPtr is = absurd is
+same_known InvalidPtr (Success y) is = absurd is
+same_known InvalidPtr (GenerationOverflow y) is = absurd is
 
-tells_itself : {X Y : Type 0} (see : X → Y) (r : InvalidationResult X) → AreSameResults see r r
-tells_itself see (Success x) = refl
-tells_itself see (GenerationOverflow x) = refl
-tells_itself see InvalidPtr = tt
+states_itself : {X Y : Type 0} (see : X → Y) (r : InvalidationResult X) → AreSameResults see r r
+states_itself see (Success x) = refl
+states_itself see (GenerationOverflow x) = refl
+states_itself see InvalidPtr = tt
 
 -- a reply is the same as itself
-shows_itself : {P T I Gen W : Type 0} (packed : PackedOption I W → Option ℕ) (r : Reply P T I Gen W) → AreSameReplies packed r r
-shows_itself packed (reply.Inserted answer) = refl
-shows_itself packed (reply.Done answer) = refl
-shows_itself packed (reply.Removed answer) = tells_itself (link_view packed) answer
-shows_itself packed (reply.RemovedInx answer) = tells_itself (pair_view packed) answer
-shows_itself packed (reply.Renewed answer) = refl
-shows_itself packed (reply.Drained answer) = refl
-shows_itself packed (reply.Counted answer) = refl
-shows_itself packed (reply.Reserved answer) = refl
-shows_itself packed reply.Set = refl
+reports_itself : {P T I Gen W : Type 0} (packed : PackedOption I W → Option ℕ) (r : Reply P T I Gen W) → AreSameReplies packed r r
+reports_itself packed (reply.Inserted returned) = refl
+reports_itself packed (reply.Done returned) = refl
+reports_itself packed (reply.Removed returned) = states_itself (link_view packed) returned
+reports_itself packed (reply.RemovedInx returned) = states_itself (pair_view packed) returned
+reports_itself packed (reply.Renewed returned) = refl
+reports_itself packed (reply.Drained returned) = refl
+reports_itself packed (reply.Counted returned) = refl
+reports_itself packed (reply.Reserved returned) = refl
+reports_itself packed reply.Set = refl
 
 module _ {P T I Gen W : Type 0} (pointers : PointerKind P I Gen W) (same_key : (p q : P) → pointers.key p ≡ pointers.key q → p ≡ q) where
   -- replies are the same, and so are arenas but for touches
   abbrev SameButTouched : Reply P T I Gen W → Reply P T I Gen W → Links Gen T → Links Gen T → Type 0
   SameButTouched r s a b = AreSameReplies pointers.packed r s × AreSameButTouched a b
 
-  shows_same : (r s : Reply P T I Gen W) → r ≡ s → AreSameReplies pointers.packed r s
-  shows_same r s is = subst (AreSameReplies pointers.packed r) is (shows_itself pointers.packed r)
+  reports_same : (r s : Reply P T I Gen W) → r ≡ s → AreSameReplies pointers.packed r s
+  reports_same r s is = subst (AreSameReplies pointers.packed r) is (reports_itself pointers.packed r)
 
   -- an entry determines its generation and its link
   same_entry : (old : Links Gen T) (n : ℕ) (g h : Gen) (k l : LinkBody (PackedOption I W) T) → entry_at old n ≡ Some (g, link_view pointers.packed k) → entry_at old n ≡ Some (h, link_view pointers.packed l) → pair_view pointers.packed (g, k) ≡ pair_view pointers.packed (h, l)
@@ -180,8 +180,8 @@ module _ {P T I Gen W : Type 0} (pointers : PointerKind P I Gen W) (same_key : (
       let pair : (g, link_view pointers.packed k) ≡ (h, link_view pointers.packed l) = cc in
       pair
 
-  stands : (old : Links Gen T) (n : ℕ) (g : Gen) (k : LinkBody (PackedOption I W) T) → entry_at old n ≡ Some (g, link_view pointers.packed k) → entry old n ≡ Some (g, k.t)
-  stands old n g k is = entry_at-with_each link_value old n ∙ ap (option_map (on_value link_value)) is
+  stored : (old : Links Gen T) (n : ℕ) (g : Gen) (k : LinkBody (PackedOption I W) T) → entry_at old n ≡ Some (g, link_view pointers.packed k) → entry old n ≡ Some (g, k.t)
+  stored old n g k is = entry_at-with_each link_value old n ∙ ap (option_map (on_value link_value)) is
 
   same_pointer : (old a b : Links Gen T) (kind : InsertKind ℕ) (t : T) (p q : P) → IsAdded pointers.key old kind t p a → IsAdded pointers.key old kind t q b → p ≡ q
   same_pointer old a b kind t p q one two = same_key p q (same one.pointer two.pointer)
@@ -212,8 +212,8 @@ module _ {P T I Gen W : Type 0} (pointers : PointerKind P I Gen W) (same_key : (
       (ap Some (one.counted ∙ (ap (λ (w : List ℕ). min take (length w)) walks ∙ sym two.counted)), one.state ∙ (ap (without_each pointers.following old) walks ∙ sym two.state))
 
   -- two replies with the same result are the same
-  answered_same : {A : Type 0} (told : A → Reply P T I Gen W) (r s : Reply P T I Gen W) (x y : A) (a b : Links Gen T) → r ≡ told x → s ≡ told y → Same x y a b → SameButTouched r s a b
-  answered_same told r s x y a b is_r is_s both = (shows_same r s (is_r ∙ (ap told both.0 ∙ sym is_s)), same_but_touched a b both.1)
+  responded_same : {A : Type 0} (known : A → Reply P T I Gen W) (r s : Reply P T I Gen W) (x y : A) (a b : Links Gen T) → r ≡ known x → s ≡ known y → Same x y a b → SameButTouched r s a b
+  responded_same known r s x y a b is_r is_s both = (reports_same r s (is_r ∙ (ap known both.0 ∙ sym is_s)), same_but_touched a b both.1)
 
   -- two replies are the same, and the arenas are the same but for capacity and touches. Or memory
   -- for n links, at most `pointers.greatest`, was refused to one alone, and so the capacities
@@ -225,7 +225,7 @@ module _ {P T I Gen W : Type 0} (pointers : PointerKind P I Gen W) (same_key : (
       → InsertStep pointers old kind t r a → InsertStep pointers old kind t s b → AlikeOrApart (entry_count old + 1) (reply.Inserted r) (reply.Inserted s) a b
   inserts_apart old a b kind t (Ok p) (Ok q) one two = inl (
     ap (λ (x : P). reply.Inserted (Ok x)) (same_pointer old a b (indexed_kind_of pointers kind) t p q one.1 two.1),
-    both_but_room (insert_as old (indexed_kind_of pointers kind) t) a b one.1.state two.1.state,
+    both_but_capacity (insert_as old (indexed_kind_of pointers kind) t) a b one.1.state two.1.state,
   )
   inserts_apart old a b kind t (Ok p) (Err failed.FailedLinkRequirement) one two = absurd (two.0 one.0)
   inserts_apart old a b kind t (Ok p) (Err failed.BeyondMaxCapacity) one two = absurd (made_within pointers.greatest (entry_count old + 1) old (insert_as old (indexed_kind_of pointers kind) t) a refl one.1.state one.2 two.1)
@@ -240,7 +240,7 @@ module _ {P T I Gen W : Type 0} (pointers : PointerKind P I Gen W) (same_key : (
   inserts_apart old a b kind t (Err failed.BeyondMaxCapacity) (Err failed.BeyondMaxCapacity) one two = inl (refl, kept_both old a b one.2 two.2)
   inserts_apart old a b kind t (Err failed.BeyondMaxCapacity) (Err failed.AllocError) one two = absurd (two.1.1 one.1.1)
   inserts_apart old a b kind t (Err failed.AllocError) (Ok q) one two =
-      inr (made_up_to pointers.greatest (entry_count old + 1) old b two.2 one.1, (λ alike. false≢true (sym alike)), λ room. made_more pointers.greatest (entry_count old + 1) old b a two.2 one.1 one.2 (sym room.0, sym room.1))
+      inr (made_up_to pointers.greatest (entry_count old + 1) old b two.2 one.1, (λ alike. false≢true (sym alike)), λ within_capacity. made_more pointers.greatest (entry_count old + 1) old b a two.2 one.1 one.2 (sym within_capacity.0, sym within_capacity.1))
   inserts_apart old a b kind t (Err failed.AllocError) (Err failed.FailedLinkRequirement) one two = absurd (two.0 one.0)
   inserts_apart old a b kind t (Err failed.AllocError) (Err failed.BeyondMaxCapacity) one two = absurd (one.1.1 two.1.1)
   inserts_apart old a b kind t (Err failed.AllocError) (Err failed.AllocError) one two = inl (refl, kept_both old a b one.2 two.2)
@@ -248,70 +248,70 @@ module _ {P T I Gen W : Type 0} (pointers : PointerKind P I Gen W) (same_key : (
   inserts_apart old a b kind t r (Err failed.NotWithinCapacity) one two = absurd two
 
   reserves_apart : (old a b : Links Gen T) (n : ℕ) (r s : Result Unit ReallocationError) → ReserveStep pointers old n r a → ReserveStep pointers old n s b → AlikeOrApart n (reply.Reserved r) (reply.Reserved s) a b
-  reserves_apart old a b n (Ok u) (Ok v) one two = inl (refl, both_but_room old a b one.0 two.0)
+  reserves_apart old a b n (Ok u) (Ok v) one two = inl (refl, both_but_capacity old a b one.0 two.0)
   reserves_apart old a b n (Ok u) (Err refused.BeyondMaxCapacity) one two = absurd (made_within pointers.greatest n old old a refl one.0 one.1 two.0)
   reserves_apart old a b n (Ok u) (Err refused.AllocError) one two = inr (made_up_to pointers.greatest n old a one.1 two.0, (λ alike. false≢true alike), made_more pointers.greatest n old a b one.1 two.0 two.1)
   reserves_apart old a b n (Err refused.BeyondMaxCapacity) (Ok v) one two = absurd (made_within pointers.greatest n old old b refl two.0 two.1 one.0)
   reserves_apart old a b n (Err refused.BeyondMaxCapacity) (Err refused.BeyondMaxCapacity) one two = inl (refl, kept_both old a b one.1 two.1)
   reserves_apart old a b n (Err refused.BeyondMaxCapacity) (Err refused.AllocError) one two = absurd (two.0.1 one.0.1)
-  reserves_apart old a b n (Err refused.AllocError) (Ok v) one two = inr (made_up_to pointers.greatest n old b two.1 one.0, (λ alike. false≢true (sym alike)), λ room. made_more pointers.greatest n old b a two.1 one.0 one.1 (sym room.0, sym room.1))
+  reserves_apart old a b n (Err refused.AllocError) (Ok v) one two = inr (made_up_to pointers.greatest n old b two.1 one.0, (λ alike. false≢true (sym alike)), λ within_capacity. made_more pointers.greatest n old b a two.1 one.0 one.1 (sym within_capacity.0, sym within_capacity.1))
   reserves_apart old a b n (Err refused.AllocError) (Err refused.BeyondMaxCapacity) one two = absurd (one.0.1 two.0.1)
   reserves_apart old a b n (Err refused.AllocError) (Err refused.AllocError) one two = inl (refl, kept_both old a b one.1 two.1)
 
-  answered_apart : {A : Type 0} (n : ℕ) (told : A → Reply P T I Gen W) (r s : Reply P T I Gen W) (x y : A) (a b : Links Gen T) → r ≡ told x → s ≡ told y → AlikeOrApart n (told x) (told y) a b → AlikeOrApart n r s a b
-  answered_apart n told r s x y a b is_r is_s both = subst (λ q. AlikeOrApart n q s a b) (sym is_r) (subst (λ q. AlikeOrApart n (told x) q a b) (sym is_s) both)
+  responded_apart : {A : Type 0} (n : ℕ) (known : A → Reply P T I Gen W) (r s : Reply P T I Gen W) (x y : A) (a b : Links Gen T) → r ≡ known x → s ≡ known y → AlikeOrApart n (known x) (known y) a b → AlikeOrApart n r s a b
+  responded_apart n known r s x y a b is_r is_s both = subst (λ q. AlikeOrApart n q s a b) (sym is_r) (subst (λ q. AlikeOrApart n (known x) q a b) (sym is_s) both)
 
   -- with the same capacities, replies and arenas are the same but for touches
-  in_one_room : (n : ℕ) (r s : Reply P T I Gen W) (a b : Links Gen T) → HaveSameCapacity a b → AlikeOrApart n r s a b → SameButTouched r s a b
-  in_one_room n r s a b room both = ⊎_elim (λ alike. (alike.0, same_with_room a b room alike.1)) (λ apart. absurd (apart.2 room)) both
+  in_one_capacity : (n : ℕ) (r s : Reply P T I Gen W) (a b : Links Gen T) → HaveSameCapacity a b → AlikeOrApart n r s a b → SameButTouched r s a b
+  in_one_capacity n r s a b within_capacity both = ⊎_elim (λ alike. (alike.0, same_with_capacity a b within_capacity alike.1)) (λ apart. absurd (apart.2 within_capacity)) both
 
   -- the capacity sufficed already, and is unchanged
-  inserts_in_room : (old new : Links Gen T) (kind : InsertKindBody P I) (t : T) (r : Result P ChainInsertionError) → entry_count old < old.capacity → InsertStep pointers old kind t r new → HaveSameCapacity new old
-  inserts_in_room old new kind t (Ok p) room step = room_stays pointers.greatest (entry_count old + 1) old new (omega (arith, room)) step.2
-  inserts_in_room old new kind t (Err failed.FailedLinkRequirement) room step = room_kept old new step.1
-  inserts_in_room old new kind t (Err failed.BeyondMaxCapacity) room step = room_kept old new step.2
-  inserts_in_room old new kind t (Err failed.AllocError) room step = room_kept old new step.2
-  inserts_in_room old new kind t (Err failed.NotWithinCapacity) room step = absurd step
+  inserts_in_capacity : (old new : Links Gen T) (kind : InsertKindBody P I) (t : T) (r : Result P ChainInsertionError) → entry_count old < old.capacity → InsertStep pointers old kind t r new → HaveSameCapacity new old
+  inserts_in_capacity old new kind t (Ok p) within_capacity step = capacity_stays pointers.greatest (entry_count old + 1) old new (omega (arith, within_capacity)) step.2
+  inserts_in_capacity old new kind t (Err failed.FailedLinkRequirement) within_capacity step = capacity_kept old new step.1
+  inserts_in_capacity old new kind t (Err failed.BeyondMaxCapacity) within_capacity step = capacity_kept old new step.2
+  inserts_in_capacity old new kind t (Err failed.AllocError) within_capacity step = capacity_kept old new step.2
+  inserts_in_capacity old new kind t (Err failed.NotWithinCapacity) within_capacity step = absurd step
 
-  reserves_in_room : (old new : Links Gen T) (n : ℕ) (r : Result Unit ReallocationError) → n ≤ old.capacity → ReserveStep pointers old n r new → HaveSameCapacity new old
-  reserves_in_room old new n (Ok done) room step = room_stays pointers.greatest n old new room step.1
-  reserves_in_room old new n (Err why) room step = room_kept old new step.1
+  reserves_in_capacity : (old new : Links Gen T) (n : ℕ) (r : Result Unit ReallocationError) → n ≤ old.capacity → ReserveStep pointers old n r new → HaveSameCapacity new old
+  reserves_in_capacity old new n (Ok done) within_capacity step = capacity_stays pointers.greatest n old new within_capacity step.1
+  reserves_in_capacity old new n (Err why) within_capacity step = capacity_kept old new step.1
 
   step_same : (old : Links Gen T) (c : Call P T I Gen W) (r s : Reply P T I Gen W) (a b : Links Gen T) → HasCapacityAlready old c
       → Step pointers old c r a → Step pointers old c s b → SameButTouched r s a b
-  step_same old (call.Insert kind t) r s a b room one two =
-      let left = inserts_in_room old a kind t one.0 room one.2 in
-      let right = inserts_in_room old b kind t two.0 room two.2 in
-      in_one_room (entry_count old + 1) r s a b (same left.0 right.0, same left.1 right.1) (answered_apart (entry_count old + 1) reply.Inserted r s one.0 two.0 a b one.1 two.1 (inserts_apart old a b kind t one.0 two.0 one.2 two.2))
-  step_same old (call.InsertWithin kind t) r s a b room one two = answered_same reply.Inserted r s one.0 two.0 a b one.1 two.1 (inserts_within_same old a b kind t one.0 two.0 one.2 two.2)
-  step_same old (call.Connect p q) r s a b room one two = answered_same reply.Done r s one.0 two.0 a b one.1 two.1 (connects_same old a b (pointers.key p) (pointers.key q) one.0 two.0 one.2 two.2)
-  step_same old (call.BreakPrev p) r s a b room one two = answered_same reply.Done r s one.0 two.0 a b one.1 two.1 (breaks_prev_same old a b (pointers.key p) one.0 two.0 one.2 two.2)
-  step_same old (call.BreakNext p) r s a b room one two = answered_same reply.Done r s one.0 two.0 a b one.1 two.1 (breaks_next_same old a b (pointers.key p) one.0 two.0 one.2 two.2)
-  step_same old (call.ExchangeNext p q) r s a b room one two = answered_same reply.Done r s one.0 two.0 a b one.1 two.1 (exchanges_same old a b (pointers.key p) (pointers.key q) one.0 two.0 one.2 two.2)
-  step_same old (call.Remove p) r s a b room one two =
-      let both = tells_same (link_view pointers.packed) (λ link c. IsTaken pointers old (pointers.key p).0 (pointers.key p).1 link c) (pointers.wraps old.counter) old a b one.0 two.0
-      (λ link c taken cannot. cannot (record { value = link.t; stands = stands old (pointers.key p).0 (pointers.key p).1 link taken.stood }))
-      (λ k l first second. (ap (λ (e : Gen × LinkView T). e.1) (same_entry old (pointers.key p).0 (pointers.key p).1 (pointers.key p).1 k l first.stood second.stood), same first.removal.state second.removal.state)) one.2 two.2 in
+  step_same old (call.Insert kind t) r s a b within_capacity one two =
+      let left = inserts_in_capacity old a kind t one.0 within_capacity one.2 in
+      let right = inserts_in_capacity old b kind t two.0 within_capacity two.2 in
+      in_one_capacity (entry_count old + 1) r s a b (same left.0 right.0, same left.1 right.1) (responded_apart (entry_count old + 1) reply.Inserted r s one.0 two.0 a b one.1 two.1 (inserts_apart old a b kind t one.0 two.0 one.2 two.2))
+  step_same old (call.InsertWithin kind t) r s a b within_capacity one two = responded_same reply.Inserted r s one.0 two.0 a b one.1 two.1 (inserts_within_same old a b kind t one.0 two.0 one.2 two.2)
+  step_same old (call.Connect p q) r s a b within_capacity one two = responded_same reply.Done r s one.0 two.0 a b one.1 two.1 (connects_same old a b (pointers.key p) (pointers.key q) one.0 two.0 one.2 two.2)
+  step_same old (call.BreakPrev p) r s a b within_capacity one two = responded_same reply.Done r s one.0 two.0 a b one.1 two.1 (breaks_prev_same old a b (pointers.key p) one.0 two.0 one.2 two.2)
+  step_same old (call.BreakNext p) r s a b within_capacity one two = responded_same reply.Done r s one.0 two.0 a b one.1 two.1 (breaks_next_same old a b (pointers.key p) one.0 two.0 one.2 two.2)
+  step_same old (call.ExchangeNext p q) r s a b within_capacity one two = responded_same reply.Done r s one.0 two.0 a b one.1 two.1 (exchanges_same old a b (pointers.key p) (pointers.key q) one.0 two.0 one.2 two.2)
+  step_same old (call.Remove p) r s a b within_capacity one two =
+      let both = states_same (link_view pointers.packed) (λ link c. IsTaken pointers old (pointers.key p).0 (pointers.key p).1 link c) (pointers.wraps old.counter) old a b one.0 two.0
+      (λ link c taken cannot. cannot (record { value = link.t; stored = stored old (pointers.key p).0 (pointers.key p).1 link taken.was_stored }))
+      (λ k l first second. (ap (λ (e : Gen × LinkView T). e.1) (same_entry old (pointers.key p).0 (pointers.key p).1 (pointers.key p).1 k l first.was_stored second.was_stored), same first.removal.state second.removal.state)) one.2 two.2 in
       (subst (λ x. AreSameReplies pointers.packed x s) (sym one.1) (subst (λ x. AreSameReplies pointers.packed (reply.Removed one.0) x) (sym two.1) both.0), same_but_touched a b both.1)
-  step_same old (call.RemoveInx i) r s a b room one two =
-      let both = tells_same (pair_view pointers.packed) (λ (e : Gen × LinkBody (PackedOption I W) T) c. IsTaken pointers old (pointers.number i) e.0 e.1 c) (pointers.wraps old.counter) old a b one.0 two.0
-      (λ e c taken none. none-some _ (sym none ∙ stands old (pointers.number i) e.0 e.1 taken.stood))
-      (λ k l first second. (same_entry old (pointers.number i) k.0 l.0 k.1 l.1 first.stood second.stood, same first.removal.state second.removal.state)) one.2 two.2 in
+  step_same old (call.RemoveInx i) r s a b within_capacity one two =
+      let both = states_same (pair_view pointers.packed) (λ (e : Gen × LinkBody (PackedOption I W) T) c. IsTaken pointers old (pointers.number i) e.0 e.1 c) (pointers.wraps old.counter) old a b one.0 two.0
+      (λ e c taken none. none-some _ (sym none ∙ stored old (pointers.number i) e.0 e.1 taken.was_stored))
+      (λ k l first second. (same_entry old (pointers.number i) k.0 l.0 k.1 l.1 first.was_stored second.was_stored, same first.removal.state second.removal.state)) one.2 two.2 in
       (subst (λ x. AreSameReplies pointers.packed x s) (sym one.1) (subst (λ x. AreSameReplies pointers.packed (reply.RemovedInx one.0) x) (sym two.1) both.0), same_but_touched a b both.1)
-  step_same old (call.Invalidate p) r s a b room one two =
-      let both = tells_same {No = IsValid (entry old) (pointers.key p) → ⊥} (λ (q : P). q) (λ (q : P) (c : Links Gen T). IsRenewed pointers old (pointers.key p) q c)
+  step_same old (call.Invalidate p) r s a b within_capacity one two =
+      let both = states_same {No = IsValid (entry old) (pointers.key p) → ⊥} (λ (q : P). q) (λ (q : P) (c : Links Gen T). IsRenewed pointers old (pointers.key p) q c)
       (pointers.wraps old.counter) old a b one.0 two.0 (λ q c done cannot. cannot done.0) (λ q m first second. (same_key q m (same first.1 second.1), same first.2 second.2)) one.2 two.2 in
-      answered_same reply.Renewed r s one.0 two.0 a b one.1 two.1 (same_told one.0 two.0 both.0, both.1)
-  step_same old (call.DrainChain p take) r s a b room one two = answered_same reply.Drained r s one.0 two.0 a b one.1 two.1 (drains_same old a b (pointers.key p) take one.0 two.0 one.2 two.2)
-  step_same old call.Clear r s a b room one two = (shows_same r s (same one.0 two.0), same_but_touched a b (same one.1 two.1))
-  step_same old (call.Compress reset) r s a b room one two = (shows_same r s (same one.0 two.0), compression_same pointers.first pointers.following reset old a b one.1 two.1)
-  step_same old (call.CompressCanonical reset) r s a b room one two = (shows_same r s (same one.0 two.0), layout_same pointers.first pointers.following reset old a b one.1 two.1)
-  step_same old (call.Reserve n) r s a b room one two =
-      let left = reserves_in_room old a n one.0 room one.2 in
-      let right = reserves_in_room old b n two.0 room two.2 in
-      in_one_room n r s a b (same left.0 right.0, same left.1 right.1) (answered_apart n reply.Reserved r s one.0 two.0 a b one.1 two.1 (reserves_apart old a b n one.0 two.0 one.2 two.2))
-  step_same old (call.SetGeneration g) r s a b room one two = (shows_same r s (same one.0 two.0), same_but_touched a b (same one.1 two.1))
-  step_same old call.IncGeneration r s a b room one two = (shows_same r s (same one.0 two.0), same_but_touched a b (same one.1 two.1))
+      responded_same reply.Renewed r s one.0 two.0 a b one.1 two.1 (same_known one.0 two.0 both.0, both.1)
+  step_same old (call.DrainChain p take) r s a b within_capacity one two = responded_same reply.Drained r s one.0 two.0 a b one.1 two.1 (drains_same old a b (pointers.key p) take one.0 two.0 one.2 two.2)
+  step_same old call.Clear r s a b within_capacity one two = (reports_same r s (same one.0 two.0), same_but_touched a b (same one.1 two.1))
+  step_same old (call.Compress reset) r s a b within_capacity one two = (reports_same r s (same one.0 two.0), compression_same pointers.first pointers.following reset old a b one.1 two.1)
+  step_same old (call.CompressCanonical reset) r s a b within_capacity one two = (reports_same r s (same one.0 two.0), layout_same pointers.first pointers.following reset old a b one.1 two.1)
+  step_same old (call.Reserve n) r s a b within_capacity one two =
+      let left = reserves_in_capacity old a n one.0 within_capacity one.2 in
+      let right = reserves_in_capacity old b n two.0 within_capacity two.2 in
+      in_one_capacity n r s a b (same left.0 right.0, same left.1 right.1) (responded_apart n reply.Reserved r s one.0 two.0 a b one.1 two.1 (reserves_apart old a b n one.0 two.0 one.2 two.2))
+  step_same old (call.SetGeneration g) r s a b within_capacity one two = (reports_same r s (same one.0 two.0), same_but_touched a b (same one.1 two.1))
+  step_same old call.IncGeneration r s a b within_capacity one two = (reports_same r s (same one.0 two.0), same_but_touched a b (same one.1 two.1))
 
   pub run_same : RunIsDetermined pointers T
   run_same old [] [] [] new other one two = (tt, same_but_touched new other (same one two))
@@ -330,9 +330,9 @@ module _ {P T I Gen W : Type 0} (pointers : PointerKind P I Gen W) (same_key : (
   -- two steps are alike, or memory was refused to one alone
   step_apart : (old : Links Gen T) (c : Call P T I Gen W) (r s : Reply P T I Gen W) (a b : Links Gen T) → Step pointers old c r a
       → Step pointers old c s b → AlikeOrApart (capacity_needed old c) r s a b
-  step_apart old (call.Insert kind t) r s a b one two = answered_apart (entry_count old + 1) reply.Inserted r s one.0 two.0 a b one.1 two.1 (inserts_apart old a b kind t one.0 two.0 one.2 two.2)
-  step_apart old (call.Reserve n) r s a b one two = answered_apart n reply.Reserved r s one.0 two.0 a b one.1 two.1 (reserves_apart old a b n one.0 two.0 one.2 two.2)
-  step_apart old c r s a b one two = let both = step_same old c r s a b tt one two in inl (both.0, same_but_room a b both.1)
+  step_apart old (call.Insert kind t) r s a b one two = responded_apart (entry_count old + 1) reply.Inserted r s one.0 two.0 a b one.1 two.1 (inserts_apart old a b kind t one.0 two.0 one.2 two.2)
+  step_apart old (call.Reserve n) r s a b one two = responded_apart n reply.Reserved r s one.0 two.0 a b one.1 two.1 (reserves_apart old a b n one.0 two.0 one.2 two.2)
+  step_apart old c r s a b one two = let both = step_same old c r s a b tt one two in inl (both.0, same_but_capacity a b both.1)
 
   pub step_alike : StepIsDetermined pointers T
   step_alike old c r s new other one two alike = ⊎_elim (λ both. both) (λ apart. absurd (apart.1 (alike apart.0))) (step_apart old c r s new other one two)
@@ -346,10 +346,10 @@ module _ {P T I Gen W : Type 0} (pointers : PointerKind P I Gen W) (same_key : (
       let between : Links Gen T = touch touches runs.1 in
       let beside = subst (λ (a : Links Gen T). Step pointers a c s between) (sym is)
       (step_touched touches pointers before runs.1 c s runs.3) in
-      let step = in_one_room _ r s runs.0 between runs.4 (step_apart old c r s runs.0 between runs.2 beside) in
+      let step = in_one_capacity _ r s runs.0 between runs.4 (step_apart old c r s runs.0 between runs.2 beside) in
       let rest = run_beside runs.0 runs.1 calls replies others new other step.1 runs.5 in
       ((step.0, rest.0), rest.1)
   run_beside old before calls replies others new other is runs = absurd runs
 
-  pub run_in_room : RunIsDeterminedByCapacity pointers T
-  run_in_room old calls replies others new other = run_beside old old calls replies others new other refl
+  pub run_in_capacity : RunIsDeterminedByCapacity pointers T
+  run_in_capacity old calls replies others new other = run_beside old old calls replies others new other refl

@@ -31,7 +31,7 @@ module _ {P Gen K T : Type 0} (key : P → ℕ × Gen) (number : K → Option �
   valid_before : (old new : Arena Gen (LinkView T)) (i : ℕ) (p : ℕ × Gen) → new ≡ remove_link following old i → IsValid (entry new) p → IsValid (entry old) p
   valid_before old new i p gone valid =
       let values = ap (λ (a : Arena Gen (LinkView T)). values_of a) gone ∙ values_of-remove_link following old i in
-      record { value = valid.value; stands = slot_cleared (values_of old).slots i p.0 (p.1, valid.value) (sym (ap (λ (a : Arena Gen T). entry_at a p.0) values) ∙ valid.stands) }
+      record { value = valid.value; stored = slot_cleared (values_of old).slots i p.0 (p.1, valid.value) (sym (ap (λ (a : Arena Gen T). entry_at a p.0) values) ∙ valid.stored) }
 
   -- the link of a step was valid
   step_valid : (old new : Arena Gen (LinkView T)) (at next : ℕ) (gone : InvalidationOption (P × LinkBody K T)) → IsDrainStep key number following wraps old at gone new next
@@ -40,7 +40,7 @@ module _ {P Gen K T : Type 0} (key : P → ℕ × Gen) (number : K → Option �
       let p = key (value_in gone).0 in
       record {
         value = (value_in gone).1.t;
-        stands = entry_at-with_each held_value old p.0 ∙ ap (option_map (on_value held_value)) (ap (entry_at old) step.index ∙ step.stands);
+        stored = entry_at-with_each held_value old p.0 ∙ ap (option_map (on_value held_value)) (ap (entry_at old) step.index ∙ step.stored);
       }
 
   pub drain_gives_the_walk : DrainGivesTheWalk T key number following wraps

@@ -9,7 +9,7 @@ use Rattle.chain_links.specs.declared.links.LinkBody.{LinkBody}
 use Rattle.chain_links.specs.ChainArena.{on_value, LinkView, link_value, with_link_value, values_of, link_map, with_value_at}
 use Rattle.chain_links.specs.Links.{link_view, links_view, pair_view}
 use Rattle.chain_links.proofs.MappedArenaLemmas.{with_each-with_value, with_each-renewed_at, with_each-cleared}
-use Rattle.arena_base.proofs.ArenaViewLemmas.{seen_written, seen_renewed, seen_cleared}
+use Rattle.arena_base.proofs.ArenaViewLemmas.{viewed_written, viewed_renewed, viewed_cleared}
 use Rattle.chain_links.proofs.LinkStateLemmas.{entry_at-links_view}
 use Rattle.chain_linking.proofs.UnlinkLemmas.{link_map-written, link_map-renewed}
 
@@ -17,26 +17,26 @@ module _ {Gen T : Type 0} where
   -- a link with another value is written
   value-written : (a : Arena Gen (LinkView T)) (n : ℕ) (l : LinkView T) (w : T) → option_map (λ (e : Gen × LinkView T). e.1) (entry_at a n) ≡ Some l
       → with_value a n (with_link_value w l) ≡ with_value_at a n w
-  value-written a n l w stands = ap (λ (o : Option (Gen × LinkView T)). let b : Arena Gen (LinkView T) = record a { slots = with_slot a.slots n o } in b) (by (entry_at a n) stands) where
+  value-written a n l w stored = ap (λ (o : Option (Gen × LinkView T)). let b : Arena Gen (LinkView T) = record a { slots = with_slot a.slots n o } in b) (by (entry_at a n) stored) where
     by : (o : Option (Gen × LinkView T)) → option_map (λ (e : Gen × LinkView T). e.1) o ≡ Some l → option_map (λ (e : Gen × LinkView T). (e.0, with_link_value w l)) o ≡ option_map (on_value (with_link_value w)) o
     by None is = refl
     by (Some e) is = ap (λ (k : LinkView T). let o : Option (Gen × LinkView T) = Some (e.0, with_link_value w k) in o) (sym (let h = is in let same : e.1 ≡ l = cc in same))
 
   values_of-with_value_at : (a : Arena Gen (LinkView T)) (n : ℕ) (l : LinkView T) (w : T) → option_map (λ (e : Gen × LinkView T). e.1) (entry_at a n) ≡ Some l
       → values_of (with_value_at a n w) ≡ with_value (values_of a) n w
-  values_of-with_value_at a n l w stands = ap (λ (x : Arena Gen (LinkView T)). values_of x) (sym (value-written a n l w stands)) ∙ with_each-with_value link_value a n (with_link_value w l)
+  values_of-with_value_at a n l w stored = ap (λ (x : Arena Gen (LinkView T)). values_of x) (sym (value-written a n l w stored)) ∙ with_each-with_value link_value a n (with_link_value w l)
 
 module _ {Gen K T : Type 0} (number : K → Option ℕ) (a b : Arena Gen (LinkBody K T)) (n : ℕ) (l : LinkBody K T) (w : T)
-    (stands : option_map (λ (e : Gen × LinkBody K T). e.1) (entry_at a n) ≡ Some l) (wrote : b ≡ with_value a n (record l { t = w })) where
-  seen_stands : option_map (λ (e : Gen × LinkView T). e.1) (entry_at (links_view number a) n) ≡ Some (link_view number l)
-  seen_stands = ap (option_map (λ (e : Gen × LinkView T). e.1)) (entry_at-links_view number a n) ∙ (by (entry_at a n) ∙ ap (option_map (link_view number)) stands) where
+    (stored : option_map (λ (e : Gen × LinkBody K T). e.1) (entry_at a n) ≡ Some l) (wrote : b ≡ with_value a n (record l { t = w })) where
+  viewed_stored : option_map (λ (e : Gen × LinkView T). e.1) (entry_at (links_view number a) n) ≡ Some (link_view number l)
+  viewed_stored = ap (option_map (λ (e : Gen × LinkView T). e.1)) (entry_at-links_view number a n) ∙ (by (entry_at a n) ∙ ap (option_map (link_view number)) stored) where
     by : (o : Option (Gen × LinkBody K T)) → option_map (λ (e : Gen × LinkView T). e.1) (option_map (pair_view number) o) ≡ option_map (link_view number) (option_map (λ (e : Gen × LinkBody K T). e.1) o)
     by None = refl
     by (Some e) = refl
 
   pub written-state : links_view number b ≡ with_value_at (links_view number a) n w
   written-state = ap (λ (x : Arena Gen (LinkBody K T)). links_view number x) wrote
-      ∙ (with_each-with_value (link_view number) a n (record l { t = w }) ∙ value-written (links_view number a) n (link_view number l) w seen_stands)
+      ∙ (with_each-with_value (link_view number) a n (record l { t = w }) ∙ value-written (links_view number a) n (link_view number l) w viewed_stored)
 
   pub written-link_map : link_map (links_view number b) ≡ link_map (links_view number a)
   written-link_map = link_map-written (links_view number a) (links_view number b) n w written-state
@@ -44,9 +44,9 @@ module _ {Gen K T : Type 0} (number : K → Option ℕ) (a b : Arena Gen (LinkBo
   pub written-agrees : IsWellLinked (link_map (links_view number a)) → IsWellLinked (link_map (links_view number b))
   written-agrees agrees = subst IsWellLinked (sym written-link_map) agrees
 
-  pub written-seen : view_of (values_of (links_view number b)) ≡ written (view_of (values_of (links_view number a))) n w
-  written-seen = ap (λ (x : Arena Gen (LinkView T)). view_of (values_of x)) written-state
-      ∙ (ap (λ (x : Arena Gen T). view_of x) (values_of-with_value_at (links_view number a) n (link_view number l) w seen_stands) ∙ seen_written (values_of (links_view number a)) n w)
+  pub written-view_after : view_of (values_of (links_view number b)) ≡ written (view_of (values_of (links_view number a))) n w
+  written-view_after = ap (λ (x : Arena Gen (LinkView T)). view_of (values_of x)) written-state
+      ∙ (ap (λ (x : Arena Gen T). view_of x) (values_of-with_value_at (links_view number a) n (link_view number l) w viewed_stored) ∙ viewed_written (values_of (links_view number a)) n w)
 
 module _ {Gen K T : Type 0} (number : K → Option ℕ) (following : Gen → Gen) (a b : Arena Gen (LinkBody K T)) (n : ℕ) (is : b ≡ renewed_at following a n) where
   pub renewed-state : links_view number b ≡ renewed_at following (links_view number a) n
@@ -55,20 +55,20 @@ module _ {Gen K T : Type 0} (number : K → Option ℕ) (following : Gen → Gen
   pub renewed-link_map : link_map (links_view number b) ≡ link_map (links_view number a)
   renewed-link_map = link_map-renewed following (links_view number a) (links_view number b) n renewed-state
 
-  pub renewed-seen : view_of (values_of (links_view number b)) ≡ renewed (view_of (values_of (links_view number a))) (n, following a.counter)
-  renewed-seen = ap (λ (x : Arena Gen (LinkView T)). view_of (values_of x)) renewed-state
-      ∙ (ap (λ (x : Arena Gen T). view_of x) (with_each-renewed_at link_value following (links_view number a) n) ∙ seen_renewed following (values_of (links_view number a)) n)
+  pub renewed-view_after : view_of (values_of (links_view number b)) ≡ renewed (view_of (values_of (links_view number a))) (n, following a.counter)
+  renewed-view_after = ap (λ (x : Arena Gen (LinkView T)). view_of (values_of x)) renewed-state
+      ∙ (ap (λ (x : Arena Gen T). view_of x) (with_each-renewed_at link_value following (links_view number a) n) ∙ viewed_renewed following (values_of (links_view number a)) n)
 
   -- the new pointer has the new generation
-  pub renewed-told : {Q : Type 0} (X : Q → Type 0) (key : Q → ℕ × Gen) (o : Option Q) → IfSome o (λ q. ((key q).0 ≡ n) × X q) × IsSome o → IfSome o (λ q. (key q).1 ≡ following a.counter)
+  pub renewed-known : {Q : Type 0} (X : Q → Type 0) (key : Q → ℕ × Gen) (o : Option Q) → IfSome o (λ q. ((key q).0 ≡ n) × X q) × IsSome o → IfSome o (λ q. (key q).1 ≡ following a.counter)
       → IfSome o (λ q. ((key q).0 ≡ n) × (view_of (values_of (links_view number b)) ≡ renewed (view_of (values_of (links_view number a))) (key q))) × IsSome o
-  renewed-told X key None told generation = absurd (let h = told.1 in cc)
-  renewed-told X key (Some q) told generation =
-      ((told.0.0, renewed-seen ∙ ap₂ (λ (i : ℕ) (g : Gen). renewed (view_of (values_of (links_view number a))) (i, g)) (sym told.0.0) (sym generation)), told.1)
+  renewed-known X key None known generation = absurd (let h = known.1 in cc)
+  renewed-known X key (Some q) known generation =
+      ((known.0.0, renewed-view_after ∙ ap₂ (λ (i : ℕ) (g : Gen). renewed (view_of (values_of (links_view number a))) (i, g)) (sym known.0.0) (sym generation)), known.1)
 
 -- the arena after a clear
 module _ {Gen K T : Type 0} (number : K → Option ℕ) (following : Gen → Gen) (a b : Arena Gen (LinkBody K T)) (is : b ≡ cleared following a) where
-  pub cleared-seen : view_of (values_of (links_view number b)) ≡ emptied following (view_of (values_of (links_view number a)))
-  cleared-seen = ap (λ (x : Arena Gen (LinkBody K T)). view_of (values_of (links_view number x))) is
+  pub cleared-view_after : view_of (values_of (links_view number b)) ≡ emptied following (view_of (values_of (links_view number a)))
+  cleared-view_after = ap (λ (x : Arena Gen (LinkBody K T)). view_of (values_of (links_view number x))) is
       ∙ (ap (λ (x : Arena Gen (LinkView T)). view_of (values_of x)) (with_each-cleared (link_view number) following a)
-      ∙ (ap (λ (x : Arena Gen T). view_of x) (with_each-cleared link_value following (links_view number a)) ∙ seen_cleared following (values_of (links_view number a))))
+      ∙ (ap (λ (x : Arena Gen T). view_of x) (with_each-cleared link_value following (links_view number a)) ∙ viewed_cleared following (values_of (links_view number a))))

@@ -1,9 +1,9 @@
 -- Effects of an insertion on a chain arena, from its state.
 use Rattle.std.proofs.Common.{◌≡◌, ℕ, ◌+◌, length, Option, None, Some, refl, ap, sym, ◌∙◌, subst, subst₂}
 use Rattle.chain_laws.specs.Chains.{LinkMap, IsWellLinked}
-use Rattle.chain_laws.specs.Joins.{with_lone, linked}
-use Rattle.chain_laws.specs.Insertions.{InsertKind, CanInsert, IsInsertPosition, link_before, link_after, inserted, InsertsPairs, Inserts}
-use Rattle.chain_laws.proofs.InsertionLemmas.Pairs.{kind_gap, inserted_agrees, inserted_in_pairs}
+use Rattle.chain_laws.specs.Joins.{with_lone, with_neighbors}
+use Rattle.chain_laws.specs.Insertions.{InsertKind, CanInsert, IsInsertPosition, link_before, link_after, with_insertion, InsertsPairs, Inserts}
+use Rattle.chain_laws.proofs.InsertionLemmas.Pairs.{kind_position, inserted_agrees, inserted_in_pairs}
 use Rattle.chain_laws.proofs.InsertionLemmas.Chains.{inserted_inserts}
 use Rattle.arena_base.specs.Arena.{Arena, without_first, IsListed, first_or_next, next_index, insert_next, with_capacity_of}
 use Rattle.arena_base.specs.Entries.{Slots, view_of, entries, count}
@@ -15,66 +15,66 @@ use Rattle.chain_links.proofs.ArenaInsertionLemmas.{link_map-insert_lone, link_m
 use Rattle.chain_linking.proofs.LinkWriteLemmas.{FitsLinks, FitsLinks-link_map, FitsLinks-next_set, FitsLinks-prev_set, link_map-relinked, values_of-relinked}
 
 -- the insertion position of a kind that may be inserted
-pub gap_told : (interlinks : LinkMap) (kind : InsertKind ℕ) (q : ℕ) {u v : Option ℕ} → u ≡ link_before interlinks kind q → v ≡ link_after interlinks kind q
+pub position_known : (interlinks : LinkMap) (kind : InsertKind ℕ) (q : ℕ) {u v : Option ℕ} → u ≡ link_before interlinks kind q → v ≡ link_after interlinks kind q
     → IsWellLinked interlinks → CanInsert interlinks kind → IsInsertPosition interlinks q u v
-gap_told interlinks kind q before after agrees can = subst₂ (IsInsertPosition interlinks q) (sym before) (sym after) (kind_gap interlinks kind q agrees can)
+position_known interlinks kind q before after agrees can = subst₂ (IsInsertPosition interlinks q) (sym before) (sym after) (kind_position interlinks kind q agrees can)
 
 module _ {Gen T : Type 0} (a : Arena Gen (LinkView T)) (t : T) (listed : IsListed a) where
-  fits_between : (u v : Option ℕ) → FitsLinks (inserted (link_map a) (next_index a) u v) (insert_lone a t)
+  fits_between : (u v : Option ℕ) → FitsLinks (with_insertion (link_map a) (next_index a) u v) (insert_lone a t)
   fits_between u v =
       let base = insert_lone a t in
       let q = next_index a in
       let lone_fits : FitsLinks (with_lone (link_map a) q) base = subst (λ (m : LinkMap). FitsLinks m base) (link_map-insert_lone a t listed.free) (FitsLinks-link_map base) in
       let links = (λ (m : LinkMap) (x y : Option ℕ) (fits : FitsLinks m base). FitsLinks-prev_set base _ y x (FitsLinks-next_set base m x y fits)) in
-      links (linked (with_lone (link_map a) q) u (Some q)) (Some q) v (links (with_lone (link_map a) q) u (Some q) lone_fits)
+      links (with_neighbors (with_lone (link_map a) q) u (Some q)) (Some q) v (links (with_lone (link_map a) q) u (Some q) lone_fits)
 
   -- the link map of the arena with a link between two others
-  pub link_map-insert_between : (u v : Option ℕ) → link_map (insert_between a t u v) ≡ inserted (link_map a) (next_index a) u v
-  link_map-insert_between u v = link_map-relinked (insert_lone a t) (inserted (link_map a) (next_index a) u v) (fits_between u v)
+  pub link_map-insert_between : (u v : Option ℕ) → link_map (insert_between a t u v) ≡ with_insertion (link_map a) (next_index a) u v
+  link_map-insert_between u v = link_map-relinked (insert_lone a t) (with_insertion (link_map a) (next_index a) u v) (fits_between u v)
 
   -- the values of the arena with a link between two others
   pub values_of-insert_between : (u v : Option ℕ) → values_of (insert_between a t u v) ≡ insert_next (values_of a) t
   values_of-insert_between u v =
-      values_of-relinked (insert_lone a t) (inserted (link_map a) (next_index a) u v) (fits_between u v) ∙ with_each-insert_next link_value a (lone t)
+      values_of-relinked (insert_lone a t) (with_insertion (link_map a) (next_index a) u v) (fits_between u v) ∙ with_each-insert_next link_value a (lone t)
 
   pub agrees-insert_between : (u v : Option ℕ) → IsWellLinked (link_map a) → IsInsertPosition (link_map a) (next_index a) u v → IsWellLinked (link_map (insert_between a t u v))
-  agrees-insert_between u v agrees gap =
-      subst IsWellLinked (sym (link_map-insert_between u v)) (inserted_agrees (link_map a) (next_index a) u v agrees (link_map-next a listed.free) gap)
+  agrees-insert_between u v agrees position =
+      subst IsWellLinked (sym (link_map-insert_between u v)) (inserted_agrees (link_map a) (next_index a) u v agrees (link_map-next a listed.free) position)
 
   next_index-values_of : next_index (values_of a) ≡ next_index a
   next_index-values_of = ap (first_or_next a.freed) (length-with_each link_value a)
 
   module _ (b : Arena Gen (LinkView T)) (u v : Option ℕ) (is : b ≡ with_capacity_of (insert_between a t u v) b) where
-    told_shows : link_map b ≡ inserted (link_map a) (next_index a) u v
-    told_shows = ap (λ (x : Arena Gen (LinkView T)). link_map x) is ∙ link_map-insert_between u v
+    known_reports : link_map b ≡ with_insertion (link_map a) (next_index a) u v
+    known_reports = ap (λ (x : Arena Gen (LinkView T)). link_map x) is ∙ link_map-insert_between u v
 
-    told_values : values_of b ≡ with_capacity_of (insert_next (values_of a) t) (values_of b)
-    told_values = ap (λ (x : Arena Gen (LinkView T)). values_of x) is
+    known_values : values_of b ≡ with_capacity_of (insert_next (values_of a) t) (values_of b)
+    known_values = ap (λ (x : Arena Gen (LinkView T)). values_of x) is
         ∙ ap (λ (x : Arena Gen T). with_capacity_of x (values_of b)) (values_of-insert_between u v)
 
     -- there is one more link
-    told_more : count (value_view b) ≡ count (value_view a) + 1
-    told_more =
-        ap (λ (x : Arena Gen T). length (entries x)) told_values
+    known_more : count (value_view b) ≡ count (value_view a) + 1
+    known_more =
+        ap (λ (x : Arena Gen T). length (entries x)) known_values
         ∙ (length-entries (insert_next (values_of a) t)
         ∙ (count-filled a.freed (values_of a).slots (a.counter, t) (listed-with_each link_value a listed).free
         ∙ ap (λ (n : ℕ). n + 1) (sym (length-entries (values_of a)))))
 
     -- an insertion between two links, from the state alone
-    pub told_between : (p : ℕ × Gen) → p ≡ (next_index a, a.counter) → IsWellLinked (link_map a) → IsInsertPosition (link_map a) (next_index a) u v
+    pub known_between : (p : ℕ × Gen) → p ≡ (next_index a, a.counter) → IsWellLinked (link_map a) → IsInsertPosition (link_map a) (next_index a) u v
         → IsInsertionBetween u v (value_view a) (value_view b) (entry a) (entry b) (link_map a) (link_map b) p t
-    told_between p at agrees gap =
+    known_between p at agrees position =
         let q = next_index a in
         let free : link_map a q ≡ None = link_map-next a listed.free in
         subst (λ (x : ℕ × Gen). IsInsertionBetween u v (value_view a) (value_view b) (entry a) (entry b) (link_map a) (link_map b) x t) (sym at) (record {
-          entries = inserted_at (values_of a) (values_of b) t (q, a.counter) (listed-with_each link_value a listed).free told_values (ap (λ (n : ℕ). (n, a.counter)) (sym next_index-values_of));
-          shows = told_shows;
-          pairs = subst (λ (m : LinkMap). InsertsPairs (link_map a) m q u v) (sym told_shows) (inserted_in_pairs (link_map a) q u v agrees free gap);
-          chains = subst (λ (m : LinkMap). Inserts (link_map a) m q u v) (sym told_shows) (inserted_inserts (link_map a) q u v free);
-          more = told_more;
+          entries = inserted_at (values_of a) (values_of b) t (q, a.counter) (listed-with_each link_value a listed).free known_values (ap (λ (n : ℕ). (n, a.counter)) (sym next_index-values_of));
+          reports = known_reports;
+          pairs = subst (λ (m : LinkMap). InsertsPairs (link_map a) m q u v) (sym known_reports) (inserted_in_pairs (link_map a) q u v agrees free position);
+          chains = subst (λ (m : LinkMap). Inserts (link_map a) m q u v) (sym known_reports) (inserted_inserts (link_map a) q u v free);
+          more = known_more;
           generation = refl;
           index = sym next_index-values_of;
-          slots = ap (λ (x : Arena Gen T). (view_of x).slots) told_values
+          slots = ap (λ (x : Arena Gen T). (view_of x).slots) known_values
               ∙ ap (λ (n : ℕ). let o : Option Slots = Some (record { count = n; freed = without_first a.freed; placed = a.placed + 1; touched = a.touched }) in o)
               (length-filled a.freed (values_of a).slots (a.counter, t));
           counter = ap (λ (x : Arena Gen (LinkView T)). Some x.counter) is;
@@ -82,9 +82,9 @@ module _ {Gen T : Type 0} (a : Arena Gen (LinkView T)) (t : T) (listed : IsListe
         })
 
   -- an insertion of a kind, from the state alone
-  pub insertion_told : (b : Arena Gen (LinkView T)) (kind : InsertKind ℕ) → b ≡ with_capacity_of (insert_as a kind t) b → (p : ℕ × Gen) → p ≡ (next_index a, a.counter)
+  pub insertion_known : (b : Arena Gen (LinkView T)) (kind : InsertKind ℕ) → b ≡ with_capacity_of (insert_as a kind t) b → (p : ℕ × Gen) → p ≡ (next_index a, a.counter)
       → IsWellLinked (link_map a) → CanInsert (link_map a) kind → IsInsertion kind (value_view a) (value_view b) (entry a) (entry b) (link_map a) (link_map b) p t
-  insertion_told b kind is p at agrees can =
+  insertion_known b kind is p at agrees can =
       let q = next_index a in
       subst (λ (x : ℕ × Gen). IsInsertion kind (value_view a) (value_view b) (entry a) (entry b) (link_map a) (link_map b) x t) (sym at)
-      (told_between b (link_before (link_map a) kind q) (link_after (link_map a) kind q) is (q, a.counter) refl agrees (kind_gap (link_map a) kind q agrees can))
+      (known_between b (link_before (link_map a) kind q) (link_after (link_map a) kind q) is (q, a.counter) refl agrees (kind_position (link_map a) kind q agrees can))

@@ -17,44 +17,44 @@ use Rattle.chain_links.specs.ChainArena.{LinkView, on_value, interlinks_in, inte
 use Rattle.chain_links.specs.Links.{link_view, links_view, pair_view, held_in}
 use Rattle.chain_arena.specs.LinkCopies.{MakesLink, MakesOf, RefusesOf, IsLinkCopyBy, IsClone}
 use Rattle.arena_base.proofs.SlotCopyLemmas.{made_by, copy_by}
-use Rattle.arena_base.proofs.FoldLemmas.{folds_seen, folds_mapped}
+use Rattle.arena_base.proofs.FoldLemmas.{folds_viewed, folds_mapped}
 use Rattle.chain_links.proofs.MappedArenaLemmas.{slot_at-map, length-with_each}
 use Rattle.chain_compaction.proofs.ValueViewLemmas.{entry_views-all, held_entries-all}
 
 -- a value made, with views of the source value and of the result
 abbrev made_as : {P U T W X : Type 0} → (U → W) → (T → X) → Copied P U T → Copied P W X
-made_as before after c = record { pointer = c.pointer; shown = before c.shown; answer = after c.answer }
+made_as before after c = record { pointer = c.pointer; reported = before c.reported; returned = after c.returned }
 
 -- A part of what makes the values, with views of the values before and after.
 module _ {V F P U W T X : Type 0} (makes : V → P → U → T → V → Type 0) (others : F → P → W → X → F → Type 0) (see : V → F) (before : U → W) (after : T → X)
     (step : (v : V) (p : P) (u : U) (t : T) (next : V) → makes v p u t next → others (see v) p (before u) (after t) (see next)) where
   module _ {Gen : Type 0} (key : P → ℕ × Gen) where
-    seen_before : (made : List (Copied P U T)) → map (λ c. (key c.pointer, c.shown)) (map (made_as before after) made) ≡ map (on_value before) (map (λ c. (key c.pointer, c.shown)) made)
-    seen_before [] = refl
-    seen_before (c ∷ made) = ap (λ es. (key c.pointer, before c.shown) ∷ es) (seen_before made)
+    viewed_before : (made : List (Copied P U T)) → map (λ c. (key c.pointer, c.reported)) (map (made_as before after) made) ≡ map (on_value before) (map (λ c. (key c.pointer, c.reported)) made)
+    viewed_before [] = refl
+    viewed_before (c ∷ made) = ap (λ es. (key c.pointer, before c.reported) ∷ es) (viewed_before made)
 
-    seen_after : (made : List (Copied P U T)) → map (λ c. (key c.pointer, c.answer)) (map (made_as before after) made) ≡ map (on_value after) (map (λ c. (key c.pointer, c.answer)) made)
-    seen_after [] = refl
-    seen_after (c ∷ made) = ap (λ es. (key c.pointer, after c.answer) ∷ es) (seen_after made)
+    viewed_after : (made : List (Copied P U T)) → map (λ c. (key c.pointer, c.returned)) (map (made_as before after) made) ≡ map (on_value after) (map (λ c. (key c.pointer, c.returned)) made)
+    viewed_after [] = refl
+    viewed_after (c ∷ made) = ap (λ es. (key c.pointer, after c.returned) ∷ es) (viewed_after made)
 
-    pub copies_seen : (f last : V) (source : List ((ℕ × Gen) × U)) (copy : List ((ℕ × Gen) × T)) → CopiesBy makes key f source copy last
+    pub copies_viewed : (f last : V) (source : List ((ℕ × Gen) × U)) (copy : List ((ℕ × Gen) × T)) → CopiesBy makes key f source copy last
         → CopiesBy others key (see f) (map (on_value before) source) (map (on_value after) copy) (see last)
-    copies_seen f last source copy c = record {
+    copies_viewed f last source copy c = record {
       made = map (made_as before after) c.made;
       in_turn = folds_mapped (made_as before after) (Makes others) c.made (see f) (see last)
-          (folds_seen see (Makes makes) (λ s m t. Makes others s (made_as before after m) t) (λ s m t. step s m.pointer m.shown m.answer t) c.made f last c.in_turn);
-      before = seen_before c.made ∙ ap (map (on_value before)) c.before;
-      after = seen_after c.made ∙ ap (map (on_value after)) c.after;
+          (folds_viewed see (Makes makes) (λ s m t. Makes others s (made_as before after m) t) (λ s m t. step s m.pointer m.reported m.returned t) c.made f last c.in_turn);
+      before = viewed_before c.made ∙ ap (map (on_value before)) c.before;
+      after = viewed_after c.made ∙ ap (map (on_value after)) c.after;
     }
 
 -- Each value made has the view of its source.
 module _ {V P U T Z Gen : Type 0} (makes : V → P → U → T → V → Type 0) (f : U → Z) (g : T → Z)
     (same : (v : V) (p : P) (u : U) (t : T) (next : V) → makes v p u t next → g t ≡ f u) (key : P → ℕ × Gen) where
   made_alike : (made : List (Copied P U T)) (v last : V) → FoldsTo (Makes makes) v made last
-      → map (on_value g) (map (λ c. (key c.pointer, c.answer)) made) ≡ map (on_value f) (map (λ c. (key c.pointer, c.shown)) made)
+      → map (on_value g) (map (λ c. (key c.pointer, c.returned)) made) ≡ map (on_value f) (map (λ c. (key c.pointer, c.reported)) made)
   made_alike [] v last folds = refl
   made_alike (c ∷ made) v last folds =
-      λ i. (key c.pointer, same v c.pointer c.shown c.answer folds.0 folds.1 i) ∷ made_alike made folds.0 last folds.2 i
+      λ i. (key c.pointer, same v c.pointer c.reported c.returned folds.0 folds.1 i) ∷ made_alike made folds.0 last folds.2 i
 
   pub copies_alike : (v last : V) (source : List ((ℕ × Gen) × U)) (copy : List ((ℕ × Gen) × T)) → CopiesBy makes key v source copy last → map (on_value g) copy ≡ map (on_value f) source
   copies_alike v last source copy c = ap (map (on_value g)) (sym c.after) ∙ (made_alike c.made v last c.in_turn ∙ ap (map (on_value f)) c.before)
@@ -87,13 +87,13 @@ module _ {Gen X Y : Type 0} (f : X → Y) where
 
 module _ {P K U Gen : Type 0} (number : K → Option ℕ) (may_refuse : P → LinkBody K U → Type 0) (key : P → ℕ × Gen) (source : Arena Gen (LinkBody K U)) where
   -- a link that may be refused, as contracts see it
-  pub refusable_seen : HasRefusable may_refuse key (entries source) → HasRefusable (RefusesOf (link_view number) may_refuse) key (entries (links_view number source))
-  refusable_seen has = record {
+  pub refusable_viewed : HasRefusable may_refuse key (entries source) → HasRefusable (RefusesOf (link_view number) may_refuse) key (entries (links_view number source))
+  refusable_viewed has = record {
     pointer = has.pointer;
     value = link_view number has.value;
     before = map (on_value (link_view number)) has.before;
     after = map (on_value (link_view number)) has.after;
-    stands = sym (entry_views-all number source) ∙ (ap (map (on_value (link_view number))) has.stands
+    stored = sym (entry_views-all number source) ∙ (ap (map (on_value (link_view number))) has.stored
         ∙ map-append (on_value (link_view number)) has.before ((key has.pointer, has.value) ∷ has.after));
     refusable = (has.value, refl, has.refusable);
   }
@@ -111,11 +111,11 @@ given_up_agrees {Gen} {T} old new is =
 
 module _ {Gen K U T : Type 0} (number : K → Option ℕ) where
   -- a copy of an arena of links, as contracts see it
-  pub has_slots_seen : (source : Arena Gen (LinkBody K U)) (old new : Arena Gen (LinkBody K T)) → HasSlotsOf source old new → HasSlotsOf (links_view number source) (links_view number old) (links_view number new)
-  has_slots_seen source old new has = record {
+  pub has_slots_viewed : (source : Arena Gen (LinkBody K U)) (old new : Arena Gen (LinkBody K T)) → HasSlotsOf source old new → HasSlotsOf (links_view number source) (links_view number old) (links_view number new)
+  has_slots_viewed source old new has = record {
     state = ap (links_view number) has.state;
     generations = generations-map (link_view number) new.slots ∙ (has.generations ∙ sym (generations-map (link_view number) source.slots));
-    room = λ few. has.room (subst (λ n. n ≤ old.capacity) (length-with_each (link_view number) source) few);
+    within_capacity = λ few. has.within_capacity (subst (λ n. n ≤ old.capacity) (length-with_each (link_view number) source) few);
   }
 
 abbrev interlinks_as : {K T : Type 0} → (K → Option ℕ) → LinkBody K T → Interlinks
@@ -145,12 +145,12 @@ module _ {V F P K U T Gen : Type 0} (number : K → Option ℕ) (makes : F → P
   values_copied =
       subst (λ es. CopiesBy makes key (see f) (entries (links_view number source)) es (see last)) (held_entries-all number new)
       (subst (λ es. CopiesBy makes key (see f) es (map (on_value held_in) (entries new)) (see last)) (entry_views-all number source)
-      (copies_seen (λ v p u t w. MakesLink number makes (see v) p u t (see w)) makes see (link_view number) held_in (λ v p u t w m. m.value) key f last (entries source) (entries new) made))
+      (copies_viewed (λ v p u t w. MakesLink number makes (see v) p u t (see w)) makes see (link_view number) held_in (λ v p u t w m. m.value) key f last (entries source) (entries new) made))
 
   pub link_copied : IsLinkCopyBy makes key (see f) (links_view number source) (links_view number old) (links_view number new) (see last)
   link_copied = record {
-    slots = has_slots_seen number source old new has;
-    shows = interlinks_copied;
+    slots = has_slots_viewed number source old new has;
+    reports = interlinks_copied;
     values = values_copied;
   }
 
@@ -163,36 +163,36 @@ module _ {F P K U T Gen : Type 0} (number : K → Option ℕ) (makes : F → P �
   as_it_is [] = refl
   as_it_is (e ∷ es) = ap (λ rest. e ∷ rest) (as_it_is es)
 
-  pub copy_as_seen : IsCopyBy makes key f source old new last → IsCopyBy (MakesOf (link_view number) makes) key f (links_view number source) old new last
-  copy_as_seen copy = record {
+  pub copy_as_viewed : IsCopyBy makes key f source old new last → IsCopyBy (MakesOf (link_view number) makes) key f (links_view number source) old new last
+  copy_as_viewed copy = record {
     entries = subst (λ es. CopiesBy (MakesOf (link_view number) makes) key f (entries (links_view number source)) es last) (as_it_is new.entries)
         (subst (λ es. CopiesBy (MakesOf (link_view number) makes) key f es (map (on_value (λ t. t)) new.entries) last) (entry_views-all number source)
-        (copies_seen makes (MakesOf (link_view number) makes) (λ h. h) (link_view number) (λ t. t)
-        (λ v p u t w made. record { shown = u; looks = refl; made = made }) key f last (entries source) new.entries copy.entries));
+        (copies_viewed makes (MakesOf (link_view number) makes) (λ h. h) (link_view number) (λ t. t)
+        (λ v p u t w made. record { reported = u; lookups = refl; made = made }) key f last (entries source) new.entries copy.entries));
     counter = copy.counter;
     slots = copy.slots ∙ ap (λ n. option_map (λ (s : Slots). let t : Slots = record s { count = n; freed = source.freed } in t) old.slots) (sym (length-with_each (link_view number) source));
     maximum = copy.maximum;
   }
 
 -- What a closure makes, if it is a part of what makes the values.
-pub called_of : {V F P K U T : Type 0} (g : Mut F (P × (Bor (LinkBody K U) × Unit {0})) T) (see : V → F) (look : LinkBody K U → LinkView U) (v : V) (p : P) (u : LinkView U) (t : T) (w : V)
-    → MakesOf look (λ x p u t y. IsCopyCall g (see x) p u t (see y)) v p u t w → MakesOf look (IsCopyCall g) (see v) p u t (see w)
-called_of g see look v p u t w makes = record { shown = makes.shown; looks = makes.looks; made = makes.made }
+pub called_of : {V F P K U T : Type 0} (g : Mut F (P × (Bor (LinkBody K U) × Unit {0})) T) (see : V → F) (lookup : LinkBody K U → LinkView U) (v : V) (p : P) (u : LinkView U) (t : T) (w : V)
+    → MakesOf lookup (λ x p u t y. IsCopyCall g (see x) p u t (see y)) v p u t w → MakesOf lookup (IsCopyCall g) (see v) p u t (see w)
+called_of g see lookup v p u t w makes = record { reported = makes.reported; lookups = makes.lookups; made = makes.made }
 
 -- what a closure makes in a copy of an arena of links
-pub called_copies : {V F P K U T Gen : Type 0} (g : Mut F (P × (Bor (LinkBody K U) × Unit {0})) T) (see : V → F) (look : LinkBody K U → LinkView U) (key : P → ℕ × Gen) (f last : V) (source : Arena Gen (LinkView U)) (old new : Arena Gen (LinkView T))
-    → IsLinkCopyBy (MakesOf look (λ x p u t y. IsCopyCall g (see x) p u t (see y))) key f source old new last → IsLinkCopyBy (MakesOf look (IsCopyCall g)) key (see f) source old new (see last)
-called_copies g see look key f last source old new copy = record {
+pub called_copies : {V F P K U T Gen : Type 0} (g : Mut F (P × (Bor (LinkBody K U) × Unit {0})) T) (see : V → F) (lookup : LinkBody K U → LinkView U) (key : P → ℕ × Gen) (f last : V) (source : Arena Gen (LinkView U)) (old new : Arena Gen (LinkView T))
+    → IsLinkCopyBy (MakesOf lookup (λ x p u t y. IsCopyCall g (see x) p u t (see y))) key f source old new last → IsLinkCopyBy (MakesOf lookup (IsCopyCall g)) key (see f) source old new (see last)
+called_copies g see lookup key f last source old new copy = record {
   slots = copy.slots;
-  shows = copy.shows;
-  values = made_by (MakesOf look (λ x p u t y. IsCopyCall g (see x) p u t (see y))) (MakesOf look (IsCopyCall g)) see (called_of g see look) key f last (entries source) (entries (values_of new)) copy.values;
+  reports = copy.reports;
+  values = made_by (MakesOf lookup (λ x p u t y. IsCopyCall g (see x) p u t (see y))) (MakesOf lookup (IsCopyCall g)) see (called_of g see lookup) key f last (entries source) (entries (values_of new)) copy.values;
 }
 
 -- what a closure makes in a copy of any arena
-pub called_copy : {V F P K U T Gen : Type 0} (g : Mut F (P × (Bor (LinkBody K U) × Unit {0})) T) (see : V → F) (look : LinkBody K U → LinkView U) (key : P → ℕ × Gen) (f last : V) (source : Arena Gen (LinkView U)) (old new : ArenaView Gen T)
-    → IsCopyBy (MakesOf look (λ x p u t y. IsCopyCall g (see x) p u t (see y))) key f source old new last → IsCopyBy (MakesOf look (IsCopyCall g)) key (see f) source old new (see last)
-called_copy g see look key f last source old new copy =
-    copy_by (MakesOf look (λ x p u t y. IsCopyCall g (see x) p u t (see y))) (MakesOf look (IsCopyCall g)) see (called_of g see look) key f last source old new copy
+pub called_copy : {V F P K U T Gen : Type 0} (g : Mut F (P × (Bor (LinkBody K U) × Unit {0})) T) (see : V → F) (lookup : LinkBody K U → LinkView U) (key : P → ℕ × Gen) (f last : V) (source : Arena Gen (LinkView U)) (old new : ArenaView Gen T)
+    → IsCopyBy (MakesOf lookup (λ x p u t y. IsCopyCall g (see x) p u t (see y))) key f source old new last → IsCopyBy (MakesOf lookup (IsCopyCall g)) key (see f) source old new (see last)
+called_copy g see lookup key f last source old new copy =
+    copy_by (MakesOf lookup (λ x p u t y. IsCopyCall g (see x) p u t (see y))) (MakesOf lookup (IsCopyCall g)) see (called_of g see lookup) key f last source old new copy
 
 -- The links of a clone have the view of the source's links.
 module _ {F P K T Gen : Type 0} (number : K → Option ℕ) (is_clone : T → T → Type 0) (equal : (x y : T) → is_clone x y → y ≡ x) (key : P → ℕ × Gen) (f last : F) (source : Arena Gen (LinkBody K T)) (old new : Arena Gen (LinkBody K T))
@@ -231,12 +231,12 @@ module _ {P K U Gen : Type 0} (number : K → Option ℕ) (may_refuse : P → Li
   no_slots : (links_view number source).slots ≡ [] → source.slots ≡ []
   no_slots none = none_before (option_map (pair_view number)) source.slots none
 
-  pub no_room_needed : {N : Type 0} (r : Result (Unit {0}) ReallocationError) (e : ReallocationError) (room : ℕ) → r ≡ Err e → (links_view number source).slots ≡ []
-      → (length source.slots ≤ room → (IsOk r ⊎ HasRefusable may_refuse key (entries source)) × N) → ⊥
-  no_room_needed r e room is none within = by (within (let few = ap length (no_slots none) in omega (arith, few))).0 where
+  pub no_capacity_needed : {N : Type 0} (r : Result (Unit {0}) ReallocationError) (e : ReallocationError) (within_capacity : ℕ) → r ≡ Err e → (links_view number source).slots ≡ []
+      → (length source.slots ≤ within_capacity → (IsOk r ⊎ HasRefusable may_refuse key (entries source)) × N) → ⊥
+  no_capacity_needed r e within_capacity is none within = by (within (let few = ap length (no_slots none) in omega (arith, few))).0 where
     by : (IsOk r ⊎ HasRefusable may_refuse key (entries source)) → ⊥
     by (inl ok) = false≢true (sym (ap is_ok is) ∙ ok)
-    by (inr refused) = none_among refused.before refused.after (key refused.pointer, refused.value) (sym (ap (entries_from 1) (no_slots none)) ∙ refused.stands)
+    by (inr refused) = none_among refused.before refused.after (key refused.pointer, refused.value) (sym (ap (entries_from 1) (no_slots none)) ∙ refused.stored)
 
 -- what follows from a success and from either sort of refusal
 pub either_way : {X E A B C D N : Type 0} (r : Result X E) → (A → B → C) → (D → C) → (N → C) → OnOk r A → OnOk r B → OnErr r (D ⊎ N) → C

@@ -17,7 +17,7 @@ use Rattle.chain_links.specs.ChainArena.{LinkView, values_of, value_view, remove
 use Rattle.chain_traits.proofs.GenericArenaLemmas.{entries_at_or_above-rises}
 use Rattle.chain_arena.specs.Drains.{entries_left, without_each, IsLinkDrainStep}
 use Rattle.chain_arena.proofs.ChainDrainLemmas.{is_overflow_result-made}
-use Rattle.chain_linking.proofs.UnlinkLemmas.{seen-removed}
+use Rattle.chain_linking.proofs.UnlinkLemmas.{view_after-removed}
 
 -- the value in a result with an overflow flag
 value_in-made : {X : Type 0} (overflow : Bool) (x : X) → value_in (invalidation_option overflow x) ≡ x
@@ -39,7 +39,7 @@ module _ {Gen T : Type 0} where
   -- the first entry from an index on, and those left once it is removed
   record IsFirst (i : ℕ) (p : ℕ × Gen) (es : List ((ℕ × Gen) × T)) : Type 0 where
     value : T
-    stands : found p.0 es ≡ Some (p.1, value)
+    stored : found p.0 es ≡ Some (p.1, value)
     left : entries_at_or_above i es ≡ (p, value) ∷ entries_at_or_above p.0 (without p.0 es)
     behind : entries_at_or_above p.0 (without p.0 es) ≡ entries_at_or_above (suc p.0) (without p.0 es)
     from : i ≤ p.0
@@ -54,7 +54,7 @@ module _ {Gen T : Type 0} where
       let least = leb-true i e.0.0 here in
       record {
         value = e.1;
-        stands = ap (λ b. cond b (Some (e.0.1, e.1)) (found p.0 es)) same ∙ ap (λ (k : ℕ × Gen). let o : Option (Gen × T) = Some (k.1, e.1) in o) (sym key);
+        stored = ap (λ b. cond b (Some (e.0.1, e.1)) (found p.0 es)) same ∙ ap (λ (k : ℕ × Gen). let o : Option (Gen × T) = Some (k.1, e.1) in o) (sym key);
         left = is ∙ (ap (λ (k : ℕ × Gen). (k, e.1) ∷ es) (sym key)
             ∙ ap (λ (l : List ((ℕ × Gen) × T)). (p, e.1) ∷ l) (sym (ap (λ b. entries_at_or_above p.0 (cond b es (e ∷ without p.0 es))) same ∙ entries_at_or_above-rises p.0 (suc e.0.0) es (omega (arith, index)) rises.1)));
         behind = ap (λ b. entries_at_or_above p.0 (cond b es (e ∷ without p.0 es))) same
@@ -71,7 +71,7 @@ module _ {Gen T : Type 0} where
       let other : (e.0.0 == p.0) ≡ false = ne_eqb e.0.0 p.0 (λ same. omega (arith, before, same)) in
       record {
         value = rest.value;
-        stands = ap (λ b. cond b (Some (e.0.1, e.1)) (found p.0 es)) other ∙ rest.stands;
+        stored = ap (λ b. cond b (Some (e.0.1, e.1)) (found p.0 es)) other ∙ rest.stored;
         left = ap (λ b. cond b (e ∷ es) (entries_at_or_above i es)) later
             ∙ (rest.left
             ∙ ap (λ (l : List ((ℕ × Gen) × T)). (p, rest.value) ∷ l) (sym (ap (λ b. entries_at_or_above p.0 (cond b es (e ∷ without p.0 es))) other
@@ -99,10 +99,10 @@ module _ {Gen T : Type 0} where
   first_left a zero p first = absurd (cc)
   first_left a (suc k) p first =
       let met = first_in (suc k) 1 p (entries (values_of a)) (entries_rise (values_of a)) first in
-      (met.value, sym (found-entries (values_of a) p.0) ∙ met.stands, met.left, omega (arith, met.from), met.behind)
+      (met.value, sym (found-entries (values_of a) p.0) ∙ met.stored, met.left, omega (arith, met.from), met.behind)
 
   pub first_valid : (a : Arena Gen (LinkView T)) (at : ℕ) (p : ℕ × Gen) → Some p ≡ first_key (entries_left a at) → IsValid (entry_at (values_of a)) p
-  first_valid a at p first = let met = first_left a at p first in record { value = met.0; stands = met.1 }
+  first_valid a at p first = let met = first_left a at p first in record { value = met.0; stored = met.1 }
 
   -- nothing is left from a number on that is no index
   pub none_left : (greatest : ℕ) (a : Arena Gen (LinkView T)) (at : ℕ) → (IsWithin greatest at → ⊥) → All (λ e. IsWithin greatest (index_of e)) (entries (values_of a)) → entries_left a at ≡ []
@@ -121,12 +121,12 @@ module _ {Gen T : Type 0} where
   pub without_each-all : (following : Gen → Gen) (a : Arena Gen (LinkView T)) (es : List ((ℕ × Gen) × T)) → entries (values_of a) ≡ es → entries (values_of (without_each following a (map index_of es))) ≡ []
   without_each-all following a [] all = all
   without_each-all following a (e ∷ es) all = without_each-all following (remove_link following a e.0.0) es
-      (ap (λ (s : ArenaView Gen T). s.entries) (seen-removed following a (remove_link following a e.0.0) e.0.0 refl)
+      (ap (λ (s : ArenaView Gen T). s.entries) (view_after-removed following a (remove_link following a e.0.0) e.0.0 refl)
       ∙ (ap (without e.0.0) all ∙ ap (λ b. cond b es (e ∷ without e.0.0 es)) (eq-eqb e.0.0 e.0.0 refl)))
 
 -- a result made from an overflow flag reports that flag
-pub overflow_told : {X : Type 0} (w : Bool) (r : InvalidationResult X) (x : X) → r ≡ invalidation_result w (value_within r) → value_within r ≡ Some x → is_overflow_result r ≡ w
-overflow_told w r x made has = ap is_overflow_result made ∙ (ap (λ (o : Option _). is_overflow_result (invalidation_result w o)) has ∙ is_overflow_result-made w x)
+pub overflow_known : {X : Type 0} (w : Bool) (r : InvalidationResult X) (x : X) → r ≡ invalidation_result w (value_within r) → value_within r ≡ Some x → is_overflow_result r ≡ w
+overflow_known w r x made has = ap is_overflow_result made ∙ (ap (λ (o : Option _). is_overflow_result (invalidation_result w o)) has ∙ is_overflow_result-made w x)
 
 -- the index after another, unless there is no greater number
 abbrev pub IsBehind : ℕ → ℕ → Type 0
@@ -160,11 +160,11 @@ module _ {P Gen T : Type 0} (key : P → ℕ × Gen) (following : Gen → Gen) (
 
     pub drained_first : (t : T) (overflow : Bool) (gone : InvalidationOption (P × T)) → value_view new ≡ entry_removed following (value_view old) (key p).0 → new ≡ remove_link following old (key p).0
         → taken ≡ Some t → overflow ≡ wraps old.counter → gone ≡ invalidation_option overflow (p, t) → IsBehind (key p).0 next → IsLinkDrainStep key following wraps old at gone new next
-    drained_first t overflow gone loses removal has told answered index =
+    drained_first t overflow gone loses removal has known responded index =
         let met = first_left old at (key p) first in
         let both : Some t ≡ Some met.0 = sym has ∙ value_is in
         let same : t ≡ met.0 = cc in
-        let item : value_in gone ≡ (p, t) = ap value_in answered ∙ value_in-made overflow (p, t) in
+        let item : value_in gone ≡ (p, t) = ap value_in responded ∙ value_in-made overflow (p, t) in
         let es : entries (values_of new) ≡ without (key p).0 (entries (values_of old)) = ap (λ (s : ArenaView Gen T). s.entries) loses in
         let keyed : key (value_in gone).0 ≡ key p = ap (λ (x : P × T). key x.0) item in
         let left : entries_left old at ≡ (key (value_in gone).0, (value_in gone).1) ∷ entries_left new next = met.2
@@ -177,7 +177,7 @@ module _ {P Gen T : Type 0} (key : P → ℕ × Gen) (following : Gen → Gen) (
               ∙ (ap (without (key p).0) (sym whole ∙ left)
               ∙ ap (λ b. cond b (entries_left new next) ((key (value_in gone).0, (value_in gone).1) ∷ without (key p).0 (entries_left new next)))
               (eq-eqb (key (value_in gone).0).0 (key p).0 (ap (λ (k : ℕ × Gen). k.0) keyed))));
-          overflow = ap is_overflow answered ∙ (is_overflow-made overflow (p, t) ∙ told);
+          overflow = ap is_overflow responded ∙ (is_overflow-made overflow (p, t) ∙ known);
           state = removal ∙ ap (λ (x : P × T). remove_link following old (key x.0).0) (sym item);
         }
 

@@ -13,22 +13,22 @@ use Rattle.chain_links.specs.Links.{held_in, link_view, pair_view}
 use Rattle.chain_links.specs.declared.links.LinkBody.{LinkBody}
 use Rattle.chain_links.proofs.MappedArenaLemmas.{entry_at-with_each, generation_is}
 use Rattle.chain_links.proofs.MappedArenaLemmas.{is_some-map}
-use Rattle.chain_linking.proofs.UnlinkLemmas.{passes_over, removed-agrees, removed-chains, removed-pairs, seen-removed}
+use Rattle.chain_linking.proofs.UnlinkLemmas.{passes_over, removed-agrees, removed-chains, removed-pairs, view_after-removed}
 use Rattle.chain_arena.specs.Effects.{Links}
 use Rattle.chain_arena.proofs.ChainDrainLemmas.{link_at-entry}
 
 -- a result with a part of another's value has the same overflow flag
 pub same_overflow : {X Y : Type 0} (f : X → Y) (b : Bool) (r : InvalidationResult X) (s : InvalidationResult Y) → value_within s ≡ option_map f (value_within r) → is_overflow_result s ≡ is_overflow_result r
     → r ≡ invalidation_result b (value_within r) → s ≡ invalidation_result b (value_within s)
-same_overflow f b r InvalidPtr value overflow told = refl
-same_overflow f b InvalidPtr (Success y) value overflow told = absurd (let h = value in cc)
-same_overflow f b InvalidPtr (GenerationOverflow y) value overflow told = absurd (let h = value in cc)
-same_overflow f b (Success x) (GenerationOverflow y) value overflow told = absurd (let h = overflow in cc)
-same_overflow f b (GenerationOverflow x) (Success y) value overflow told = absurd (let h = overflow in cc)
-same_overflow f false (Success x) (Success y) value overflow told = refl
-same_overflow f true (Success x) (Success y) value overflow told = absurd (let h = told in cc)
-same_overflow f false (GenerationOverflow x) (GenerationOverflow y) value overflow told = absurd (let h = told in cc)
-same_overflow f true (GenerationOverflow x) (GenerationOverflow y) value overflow told = refl
+same_overflow f b r InvalidPtr value overflow known = refl
+same_overflow f b InvalidPtr (Success y) value overflow known = absurd (let h = value in cc)
+same_overflow f b InvalidPtr (GenerationOverflow y) value overflow known = absurd (let h = value in cc)
+same_overflow f b (Success x) (GenerationOverflow y) value overflow known = absurd (let h = overflow in cc)
+same_overflow f b (GenerationOverflow x) (Success y) value overflow known = absurd (let h = overflow in cc)
+same_overflow f false (Success x) (Success y) value overflow known = refl
+same_overflow f true (Success x) (Success y) value overflow known = absurd (let h = known in cc)
+same_overflow f false (GenerationOverflow x) (GenerationOverflow y) value overflow known = absurd (let h = known in cc)
+same_overflow f true (GenerationOverflow x) (GenerationOverflow y) value overflow known = refl
 
 -- a removal keeps the links well linked, if there is one or not
 pub agreed_after : {Gen T K : Type 0} (following : Gen → Gen) (a b : Links Gen T) (n : ℕ) (taken : Option K) → (is_some taken ≡ true → b ≡ remove_link following a n) → (taken ≡ None → b ≡ a) → IsWellLinked (link_map a) → IsWellLinked (link_map b)
@@ -39,38 +39,38 @@ agreed_after following a b n (Some e) valid invalid agrees = removed-agrees foll
 pub removal_of : {Gen T : Type 0} (following : Gen → Gen) (a b : Links Gen T) (n : ℕ) → IsWellLinked (link_map a) → b ≡ remove_link following a n → IsRemoval following a n b
 removal_of following a b n agrees state = record {
   state = state;
-  shows = passes_over following a b n state;
+  reports = passes_over following a b n state;
   chains = removed-chains following a b n state agrees;
   pairs = removed-pairs following a b n state agrees;
 }
 
 module _ {Gen K T : Type 0} (packed : K → Option ℕ) (following : Gen → Gen) (a b : Links Gen T) (n : ℕ) (taken : Option (Gen × LinkBody K T))
-    (answer : option_map (pair_view packed) taken ≡ entry_at a n) where
+    (returned : option_map (pair_view packed) taken ≡ entry_at a n) where
   value : option_map (on_value held_in) taken ≡ entry a n
-  value = twice taken ∙ (ap (option_map (on_value link_value)) answer ∙ sym (entry_at-with_each link_value a n)) where
+  value = twice taken ∙ (ap (option_map (on_value link_value)) returned ∙ sym (entry_at-with_each link_value a n)) where
     twice : (o : Option (Gen × LinkBody K T)) → option_map (on_value held_in) o ≡ option_map (on_value link_value) (option_map (pair_view packed) o)
     twice None = refl
     twice (Some e) = refl
 
   -- the link removed, with its generation
-  pub link_told : option_map (on_value (link_view packed)) taken ≡ link_at (entry a) (link_map a) n
-  link_told = answer ∙ sym (link_at-entry a n)
+  pub link_known : option_map (on_value (link_view packed)) taken ≡ link_at (entry a) (link_map a) n
+  link_known = returned ∙ sym (link_at-entry a n)
 
   -- the link removed, with a known generation
-  pub link_alone_told : (g : Gen) (t : T) → entry a n ≡ Some (g, t) → option_map (λ (l : LinkBody K T). (g, link_view packed l)) (option_map (λ (e : Gen × LinkBody K T). e.1) taken) ≡ link_at (entry a) (link_map a) n
-  link_alone_told g t stands = alone taken (value ∙ stands) ∙ link_told where
+  pub link_alone_known : (g : Gen) (t : T) → entry a n ≡ Some (g, t) → option_map (λ (l : LinkBody K T). (g, link_view packed l)) (option_map (λ (e : Gen × LinkBody K T). e.1) taken) ≡ link_at (entry a) (link_map a) n
+  link_alone_known g t stored = alone taken (value ∙ stored) ∙ link_known where
     alone : (o : Option (Gen × LinkBody K T)) → option_map (on_value held_in) o ≡ Some (g, t)
         → option_map (λ (l : LinkBody K T). (g, link_view packed l)) (option_map (λ (e : Gen × LinkBody K T). e.1) o) ≡ option_map (on_value (link_view packed)) o
     alone None is = absurd (let h = is in cc)
     alone (Some e) is = ap (λ (h : Gen). let o : Option (Gen × LinkView T) = Some (h, link_view packed e.1) in o) (sym (generation_is e.0 g _ _ is))
 
   -- the value removed, with its generation
-  pub value_told : option_map (λ (e : Gen × LinkBody K T). (e.0, e.1.t)) taken ≡ entry a n
-  value_told = value
+  pub value_known : option_map (λ (e : Gen × LinkBody K T). (e.0, e.1.t)) taken ≡ entry a n
+  value_known = value
 
   -- the value removed, alone
-  pub value_alone_told : option_map (λ (e : Gen × LinkBody K T). e.1.t) taken ≡ option_map (λ (e : Gen × T). e.1) (entry a n)
-  value_alone_told = alone taken ∙ ap (option_map (λ (e : Gen × T). e.1)) value where
+  pub value_alone_known : option_map (λ (e : Gen × LinkBody K T). e.1.t) taken ≡ option_map (λ (e : Gen × T). e.1) (entry a n)
+  value_alone_known = alone taken ∙ ap (option_map (λ (e : Gen × T). e.1)) value where
     alone : (o : Option (Gen × LinkBody K T)) → option_map (λ (e : Gen × LinkBody K T). e.1.t) o ≡ option_map (λ (e : Gen × T). e.1) (option_map (on_value held_in) o)
     alone None = refl
     alone (Some e) = refl
@@ -83,23 +83,23 @@ module _ {Gen K T : Type 0} (packed : K → Option ℕ) (following : Gen → Gen
     by (Some e) is = absurd (let h = is in cc)
 
   some_taken : is_some (entry a n) ≡ true → is_some taken ≡ true
-  some_taken stands = sym (is_some-map (on_value held_in) taken) ∙ (ap is_some value ∙ stands)
+  some_taken stored = sym (is_some-map (on_value held_in) taken) ∙ (ap is_some value ∙ stored)
 
   -- if a valid pointer names the index, something was taken
   pub taken_at : (p : ℕ × Gen) → n ≡ p.0 → IsValid (entry a) p → is_some taken ≡ true
-  taken_at p at valid = some_taken (ap (λ i. is_some (entry a i)) at ∙ ap is_some valid.stands)
+  taken_at p at valid = some_taken (ap (λ i. is_some (entry a i)) at ∙ ap is_some valid.stored)
 
   module _ (removal : is_some taken ≡ true → IsRemoval following a n b) where
     -- an existing link is removed
     pub removal_there : is_some (entry a n) ≡ true → IsRemoval following a n b
-    removal_there stands = removal (some_taken stands)
+    removal_there stored = removal (some_taken stored)
 
-    pub seen_there : is_some (entry a n) ≡ true → value_view b ≡ entry_removed following (value_view a) n
-    seen_there stands = seen-removed following a b n (removal_there stands).state
+    pub viewed_there : is_some (entry a n) ≡ true → value_view b ≡ entry_removed following (value_view a) n
+    viewed_there stored = view_after-removed following a b n (removal_there stored).state
 
     -- the link of a valid pointer is removed
     pub removal_at : (p : ℕ × Gen) → n ≡ p.0 → IsValid (entry a) p → IsRemoval following a n b
-    removal_at p at valid = removal_there (ap (λ i. is_some (entry a i)) at ∙ ap is_some valid.stands)
+    removal_at p at valid = removal_there (ap (λ i. is_some (entry a i)) at ∙ ap is_some valid.stored)
 
-    pub seen_at : (p : ℕ × Gen) → n ≡ p.0 → IsValid (entry a) p → value_view b ≡ entry_removed following (value_view a) n
-    seen_at p at valid = seen_there (ap (λ i. is_some (entry a i)) at ∙ ap is_some valid.stands)
+    pub viewed_at : (p : ℕ × Gen) → n ≡ p.0 → IsValid (entry a) p → value_view b ≡ entry_removed following (value_view a) n
+    viewed_at p at valid = viewed_there (ap (λ i. is_some (entry a i)) at ∙ ap is_some valid.stored)

@@ -86,7 +86,7 @@ module _ {T I : Type 0} (recasts : T → T → Result (Unit {0}) I → Type 0) w
 
   module _ {Gen : Type 0} where
     -- the values so far are recast, and the rest are ahead
-    pub record IsRecasting (old now : Arena Gen (LinkView T)) (look : Cursor) : Type 0 where
+    pub record IsRecasting (old now : Arena Gen (LinkView T)) (lookup : Cursor) : Type 0 where
       pub were : List T
       pub front : List ((ℕ × Gen) × T)
       pub left : List ((ℕ × Gen) × T)
@@ -94,13 +94,13 @@ module _ {T I : Type 0} (recasts : T → T → Result (Unit {0}) I → Type 0) w
       pub olds : values_in (value_view old).entries ≡ were ++ values_in left
       pub news : (value_view now).entries ≡ front ++ left
       pub all : AreAllRecast recasts were (values_in front)
-      pub looks : look ≡ Up from
+      pub lookups : lookup ≡ Up from
       pub ahead : entries_at_or_above from (value_view now).entries ≡ left
       pub rest : with_each link_without_value now ≡ with_each link_without_value old
-      pub shows : link_map now ≡ link_map old
+      pub reports : link_map now ≡ link_map old
 
-    pub recasting_begins : (old : Arena Gen (LinkView T)) (look : Cursor) → look ≡ Up 1 → IsRecasting old old look
-    recasting_begins old look up = record {
+    pub recasting_begins : (old : Arena Gen (LinkView T)) (lookup : Cursor) → lookup ≡ Up 1 → IsRecasting old old lookup
+    recasting_begins old lookup up = record {
       were = [];
       front = [];
       left = (value_view old).entries;
@@ -108,23 +108,23 @@ module _ {T I : Type 0} (recasts : T → T → Result (Unit {0}) I → Type 0) w
       olds = refl;
       news = refl;
       all = tt;
-      looks = up;
+      lookups = up;
       ahead = entries_at_or_above-rises 1 1 (value_view old).entries (le_refl 1) (entries_rise (values_of old));
       rest = refl;
-      shows = refl;
+      reports = refl;
     }
 
-    module _ (old now : Arena Gen (LinkView T)) (look : Cursor) (at : IsRecasting old now look) where
-      left_ahead : ahead look (value_view now).entries ≡ at.left
-      left_ahead = ap (λ (l : Cursor). ahead l (value_view now).entries) at.looks ∙ at.ahead
+    module _ (old now : Arena Gen (LinkView T)) (lookup : Cursor) (at : IsRecasting old now lookup) where
+      left_ahead : ahead lookup (value_view now).entries ≡ at.left
+      left_ahead = ap (λ (l : Cursor). ahead l (value_view now).entries) at.lookups ∙ at.ahead
 
       -- if nothing is ahead, all values are recast
-      pub recast_all : (after : Cursor) → IsAdvance (value_view now).entries look None after → IsRecast recasts old now (Ok tt)
+      pub recast_all : (after : Cursor) → IsAdvance (value_view now).entries lookup None after → IsRecast recasts old now (Ok tt)
       recast_all after none = by at.left refl where
         by : (left : List ((ℕ × Gen) × T)) → at.left ≡ left → IsRecast recasts old now (Ok tt)
         by [] empty = record {
           rest = at.rest;
-          shows = at.shows;
+          reports = at.reports;
           values =
               let olds = at.olds ∙ (ap (λ (l : List ((ℕ × Gen) × T)). at.were ++ values_in l) empty ∙ append-nil at.were) in
               let news = ap values_in (at.news ∙ (ap (λ (l : List ((ℕ × Gen) × T)). at.front ++ l) empty ∙ append-nil at.front)) in
@@ -138,7 +138,7 @@ module _ {T I : Type 0} (recasts : T → T → Result (Unit {0}) I → Type 0) w
         later : List ((ℕ × Gen) × T)
         is : at.left ≡ (p, value) ∷ later
 
-      next_is : (p : ℕ × Gen) (after : Cursor) → IsAdvance (value_view now).entries look (Some p) after → IsNext p
+      next_is : (p : ℕ × Gen) (after : Cursor) → IsAdvance (value_view now).entries lookup (Some p) after → IsNext p
       next_is p after met = by at.left refl where
         by : (left : List ((ℕ × Gen) × T)) → at.left ≡ left → IsNext p
         by [] empty = absurd (let none = met.first ∙ ap first_key (left_ahead ∙ empty) in cc)
@@ -147,7 +147,7 @@ module _ {T I : Type 0} (recasts : T → T → Result (Unit {0}) I → Type 0) w
             let same : p ≡ e.0 = cc in
             record { value = e.1; later = left; is = some ∙ ap (λ (q : ℕ × Gen). let es : List ((ℕ × Gen) × T) = (q, e.1) ∷ left in es) (sym same) }
 
-      module _ (p : ℕ × Gen) (after : Cursor) (met : IsAdvance (value_view now).entries look (Some p) after) where
+      module _ (p : ℕ × Gen) (after : Cursor) (met : IsAdvance (value_view now).entries lookup (Some p) after) where
         abbrev next : IsNext p
         next = next_is p after met
 
@@ -157,15 +157,15 @@ module _ {T I : Type 0} (recasts : T → T → Result (Unit {0}) I → Type 0) w
         rises : RisesFrom 1 (at.front ++ (p, next.value) ∷ next.later)
         rises = subst (RisesFrom 1) entries_are (entries_rise (values_of now))
 
-        stands : entry now p.0 ≡ Some (p.1, next.value)
-        stands = sym (found-entries (values_of now) p.0) ∙ (ap (found p.0) entries_are ∙ found-behind at.front (p, next.value) next.later 1 rises)
+        stored : entry now p.0 ≡ Some (p.1, next.value)
+        stored = sym (found-entries (values_of now) p.0) ∙ (ap (found p.0) entries_are ∙ found-behind at.front (p, next.value) next.later 1 rises)
 
         pub next_valid : IsValid (entry now) p
-        next_valid = record { value = next.value; stands = stands }
+        next_valid = record { value = next.value; stored = stored }
 
-        module _ (new : Arena Gen (LinkView T)) (answer : Result (Unit {0}) I) (is : IsRecastAt recasts now new p answer) where
+        module _ (new : Arena Gen (LinkView T)) (returned : Result (Unit {0}) I) (is : IsRecastAt recasts now new p returned) where
           was_value : is.was ≡ next.value
-          was_value = ap (value_or next.value) (sym is.stood ∙ stands)
+          was_value = ap (value_or next.value) (sym is.was_stored ∙ stored)
 
           entries_then : (value_view new).entries ≡ at.front ++ (p, is.is) ∷ next.later
           entries_then = is.entries ∙ (ap (replaced p.0 (λ (x : Gen × T). (x.0, is.is))) entries_are ∙ replaced-behind is.is at.front (p, next.value) next.later 1 rises)
@@ -176,22 +176,22 @@ module _ {T I : Type 0} (recasts : T → T → Result (Unit {0}) I → Type 0) w
           olds_then : values_in (value_view old).entries ≡ at.were ++ is.was ∷ values_in next.later
           olds_then = at.olds ∙ (ap (λ (l : List ((ℕ × Gen) × T)). at.were ++ values_in l) next.is ∙ ap (λ t. at.were ++ t ∷ values_in next.later) (sym was_value))
 
-          shows_then : link_map new ≡ link_map old
-          shows_then = is.shows ∙ at.shows
+          reports_then : link_map new ≡ link_map old
+          reports_then = is.reports ∙ at.reports
 
           left_then : ahead after (value_view new).entries ≡ next.later
           left_then =
-              let up : after ≡ Up (p.0 + 1) = met.moves ∙ ap (λ (l : Cursor). cursor_after l (Some p)) at.looks in
+              let up : after ≡ Up (p.0 + 1) = met.moves ∙ ap (λ (l : Cursor). cursor_after l (Some p)) at.lookups in
               let es = at.front ++ (p, is.is) ∷ next.later in
               ap₂ (λ (l : Cursor) (xs : List ((ℕ × Gen) × T)). ahead l xs) up entries_then
               ∙ entries_at_or_above-behind at.front (p, is.is) next.later 1 (subst (RisesFrom 1) entries_then (entries_rise (values_of new)))
 
           -- fewer entries are left
-          pub fewer_left : length (ahead after (value_view new).entries) < length (ahead look (value_view now).entries)
+          pub fewer_left : length (ahead after (value_view new).entries) < length (ahead lookup (value_view now).entries)
           fewer_left = let few = ap (λ (l : List ((ℕ × Gen) × T)). length l) left_then in let many = ap (λ (l : List ((ℕ × Gen) × T)). length l) (left_ahead ∙ next.is) in omega (arith, few, many)
 
           -- one more value is recast
-          pub recast_next : answer ≡ Ok tt → IsRecasting old new after
+          pub recast_next : returned ≡ Ok tt → IsRecasting old new after
           recast_next ok = record {
             were = at.were ++ is.was ∷ [];
             front = at.front ++ (p, is.is) ∷ [];
@@ -201,17 +201,17 @@ module _ {T I : Type 0} (recasts : T → T → Result (Unit {0}) I → Type 0) w
             news = entries_then ∙ sym (append_assoc at.front ((p, is.is) ∷ []) next.later);
             all = subst (AreAllRecast recasts (at.were ++ is.was ∷ [])) (sym (values-push at.front (p, is.is) []))
                 (all_pushed at.were (values_in at.front) is.was is.is at.all (subst (recasts is.was is.is) ok is.recast));
-            looks = met.moves ∙ ap (λ (l : Cursor). cursor_after l (Some p)) at.looks;
-            ahead = sym (ap (λ (l : Cursor). ahead l (value_view new).entries) (met.moves ∙ ap (λ (l : Cursor). cursor_after l (Some p)) at.looks)) ∙ left_then;
+            lookups = met.moves ∙ ap (λ (l : Cursor). cursor_after l (Some p)) at.lookups;
+            ahead = sym (ap (λ (l : Cursor). ahead l (value_view new).entries) (met.moves ∙ ap (λ (l : Cursor). cursor_after l (Some p)) at.lookups)) ∙ left_then;
             rest = rest_then;
-            shows = shows_then;
+            reports = reports_then;
           }
 
           -- one value refuses
-          pub recast_refused : (refusal : I) → answer ≡ Err refusal → IsRecast recasts old new (Err refusal)
+          pub recast_refused : (refusal : I) → returned ≡ Err refusal → IsRecast recasts old new (Err refusal)
           recast_refused refusal err = record {
             rest = rest_then;
-            shows = shows_then;
+            reports = reports_then;
             values = record {
               before = at.were;
               recast = values_in at.front;

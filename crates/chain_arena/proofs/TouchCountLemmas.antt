@@ -60,15 +60,15 @@ module _ {Gen T : Type 0} where
       ap₂ (λ (x : (ℕ × Gen) × T) (xs : List ((ℕ × Gen) × T)). x ∷ xs) one (same_entries g es fs (cc) (cc) (All-tail (HasGeneration g) e es left) (All-tail (HasGeneration g) f fs right))
 
   -- what is known of the slots of an arena
-  abbrev slots_told : Links Gen T → Slots
-  slots_told a = record { count = length (values_of a).slots; freed = a.freed; placed = a.placed; touched = a.touched }
+  abbrev slots_known : Links Gen T → Slots
+  slots_known a = record { count = length (values_of a).slots; freed = a.freed; placed = a.placed; touched = a.touched }
 
   -- arenas are the same but for touches if entries, interlinks and capacities are, and slots are
   -- filled alike
-  same_told_alike : (a b : Links Gen T) (count most : ℕ) (old : Slots) → entries (values_of a) ≡ entries (values_of b) → link_map a ≡ link_map b
-      → AreFilledAnew count most old (slots_told a) → AreFilledAnew count most old (slots_told b)
+  same_known_alike : (a b : Links Gen T) (count most : ℕ) (old : Slots) → entries (values_of a) ≡ entries (values_of b) → link_map a ≡ link_map b
+      → AreFilledAnew count most old (slots_known a) → AreFilledAnew count most old (slots_known b)
       → a.counter ≡ b.counter → a.capacity ≡ b.capacity → a.stack_capacity ≡ b.stack_capacity → a.maximum ≡ b.maximum → AreSameButTouched a b
-  same_told_alike a b count most old links interlinks left right counter capacity stack_capacity maximum =
+  same_known_alike a b count most old links interlinks left right counter capacity stack_capacity maximum =
       let long = sym (length-with_each link_value a) ∙ (left.count ∙ (sym right.count ∙ length-with_each link_value b)) in
       let slots = ext_get_or None a.slots b.slots long (λ k inside. same_entry_at (suc k)) in
       let freed = left.freed ∙ sym right.freed in
@@ -96,13 +96,13 @@ module _ {Gen T : Type 0} where
     -- a compression is determined but for touches
     pub compression_same : IsCompression first following reset old a → IsCompression first following reset old b → AreSameButTouched a b
     compression_same one two =
-        let both : Some a.counter ≡ Some b.counter = one.seen.counter ∙ sym two.seen.counter in
+        let both : Some a.counter ≡ Some b.counter = one.view_after.counter ∙ sym two.view_after.counter in
         let counter : a.counter ≡ b.counter = cc in
-        same_told_alike a b (length (value_view old).entries) _ (slots_told old)
-        (same_entries b.counter (entries (values_of a)) (entries (values_of b)) (one.seen.indexes ∙ sym two.seen.indexes) (one.values ∙ sym two.values)
-        (of_counter one.seen.generation b.counter (entries (values_of a)) (sym one.seen.is_counter ∙ counter) one.seen.generations) (of_counter two.seen.generation b.counter (entries (values_of b)) (sym two.seen.is_counter) two.seen.generations))
-        (renaming_is_determined _ (link_map old) (link_map a) (link_map b) one.links.renamed two.links.renamed) one.seen.slots two.seen.slots counter
-        (one.seen.capacity ∙ sym two.seen.capacity) (one.links.stack_capacity ∙ sym two.links.stack_capacity) (one.seen.maximum ∙ sym two.seen.maximum)
+        same_known_alike a b (length (value_view old).entries) _ (slots_known old)
+        (same_entries b.counter (entries (values_of a)) (entries (values_of b)) (one.view_after.indexes ∙ sym two.view_after.indexes) (one.values ∙ sym two.values)
+        (of_counter one.view_after.generation b.counter (entries (values_of a)) (sym one.view_after.is_counter ∙ counter) one.view_after.generations) (of_counter two.view_after.generation b.counter (entries (values_of b)) (sym two.view_after.is_counter) two.view_after.generations))
+        (renaming_is_determined _ (link_map old) (link_map a) (link_map b) one.links.renamed two.links.renamed) one.view_after.slots two.view_after.slots counter
+        (one.view_after.capacity ∙ sym two.view_after.capacity) (one.links.stack_capacity ∙ sym two.links.stack_capacity) (one.view_after.maximum ∙ sym two.view_after.maximum)
 
     -- a canonical compression is determined but for touches
     pub layout_same : IsCanonicalCompression first following reset old a → IsCanonicalCompression first following reset old b → AreSameButTouched a b
@@ -114,17 +114,17 @@ module _ {Gen T : Type 0} where
         let order : x.indexes ≡ y.indexes = x.order.items ∙ (ap all_items (no_others (link_map old) x.order.chains y.order.chains x.order.are y.order.are) ∙ sym y.order.items) in
         let values = same_values (values_in (entries (values_of a))) (values_in (entries (values_of b)))
         (x.values ∙ (ap (λ (is : List ℕ). map (λ i. option_map (λ (e : Gen × T). e.1) (found i (value_view old).entries)) is) order ∙ sym y.values)) in
-        same_told_alike a b (length (value_view old).entries) _ (slots_told old)
+        same_known_alike a b (length (value_view old).entries) _ (slots_known old)
         (same_entries b.counter (entries (values_of a)) (entries (values_of b)) (x.keys ∙ sym y.keys) values
         (of_counter x.generation b.counter (entries (values_of a)) (sym x.is_counter ∙ counter) x.generations) (of_counter y.generation b.counter (entries (values_of b)) (sym y.is_counter) y.generations))
         (renaming_is_determined _ (link_map old) (link_map a) (link_map b) (subst (λ (is : List ℕ). IsRenaming (place_in is) (link_map old) (link_map a)) order x.renamed) y.renamed) x.slots y.slots counter
         (x.capacity ∙ sym y.capacity) (one.stack_capacity ∙ sym two.stack_capacity) (x.maximum ∙ sym y.maximum)
 
 -- what a result reports implies what follows from it
-tells_so : {X : Type 0} {No Not : Type 0} (Done Made : X → Type 0) (overflow : Bool) (r : InvalidationResult X) → (No → Not) → ((x : X) → Done x → Made x) → ReportsOverflow No overflow Done r → ReportsOverflow Not overflow Made r
-tells_so Done Made overflow (Success x) not_made made told = (told.0, made x told.1)
-tells_so Done Made overflow (GenerationOverflow x) not_made made told = (told.0, made x told.1)
-tells_so Done Made overflow InvalidPtr not_made made told = not_made told
+states_so : {X : Type 0} {No Not : Type 0} (Done Made : X → Type 0) (overflow : Bool) (r : InvalidationResult X) → (No → Not) → ((x : X) → Done x → Made x) → ReportsOverflow No overflow Done r → ReportsOverflow Not overflow Made r
+states_so Done Made overflow (Success x) not_made made known = (known.0, made x known.1)
+states_so Done Made overflow (GenerationOverflow x) not_made made known = (known.0, made x known.1)
+states_so Done Made overflow InvalidPtr not_made made known = not_made known
 
 -- each step stays one with the touches set to n before and after
 module _ (n : ℕ) where
@@ -132,21 +132,21 @@ module _ (n : ℕ) where
   touch a = record a { touched = n }
 
   untouched : (count most : ℕ) (old new : Slots) → AreFilledAnew count most old new → AreFilledAnew count most (record old { touched = n }) (record new { touched = n })
-  untouched count most old new told =
-      record { count = told.count; freed = told.freed; placed = told.placed; touches = 0; few = omega arith; touched = omega arith }
+  untouched count most old new known =
+      record { count = known.count; freed = known.freed; placed = known.placed; touches = 0; few = omega arith; touched = omega arith }
 
   module _ {Gen T : Type 0} (old new : Links Gen T) where
     join_touched : (i j : ℕ) → IsJoin old new i j → IsJoin (touch old) (touch new) i j
-    join_touched i j made = record { state = ap touch made.state; shows = made.shows; pair = made.pair; chains = made.chains }
+    join_touched i j made = record { state = ap touch made.state; reports = made.reports; pair = made.pair; chains = made.chains }
 
     cut_touched : (i j : ℕ) → IsCut old new i j → IsCut (touch old) (touch new) i j
-    cut_touched i j made = record { state = ap touch made.state; shows = made.shows; pair = made.pair; chains = made.chains }
+    cut_touched i j made = record { state = ap touch made.state; reports = made.reports; pair = made.pair; chains = made.chains }
 
     exchange_touched : (i j : ℕ) → IsExchange old new i j → IsExchange (touch old) (touch new) i j
-    exchange_touched i j made = record { state = ap touch made.state; shows = made.shows; pairs = made.pairs; chains = made.chains }
+    exchange_touched i j made = record { state = ap touch made.state; reports = made.reports; pairs = made.pairs; chains = made.chains }
 
     removal_touched : (following : Gen → Gen) (i : ℕ) → IsRemoval following old i new → IsRemoval following (touch old) i (touch new)
-    removal_touched following i made = record { state = ap touch made.state; shows = made.shows; chains = made.chains; pairs = made.pairs }
+    removal_touched following i made = record { state = ap touch made.state; reports = made.reports; chains = made.chains; pairs = made.pairs }
 
     connects_touched : (p q : ℕ × Gen) (r : Bool) → ConnectStep old p q r new → ConnectStep (touch old) p q r (touch new)
     connects_touched p q false step = (step.0, ap touch step.1)
@@ -164,22 +164,22 @@ module _ (n : ℕ) where
     exchanges_touched p q false step = (step.0, ap touch step.1)
     exchanges_touched p q true step = (step.0, exchange_touched p.0 q.0 step.1)
 
-    room_touched : (greatest m : ℕ) → GrowsToFit greatest m old new → GrowsToFit greatest m (touch old) (touch new)
-    room_touched greatest m (stays within capacity stack_capacity) = stays within capacity stack_capacity
-    room_touched greatest m (grown less room) = grown less room
+    capacity_touched : (greatest m : ℕ) → GrowsToFit greatest m old new → GrowsToFit greatest m (touch old) (touch new)
+    capacity_touched greatest m (stays within capacity stack_capacity) = stays within capacity stack_capacity
+    capacity_touched greatest m (grown less within_capacity) = grown less within_capacity
 
     compression_touched : (first : Gen) (following : Gen → Gen) (reset : Bool) → IsCompression first following reset old new → IsCompression first following reset (touch old) (touch new)
     compression_touched first following reset made =
         record {
-          seen = record {
-            indexes = made.seen.indexes;
-            counter = made.seen.counter;
-            generation = made.seen.generation;
-            generations = made.seen.generations;
-            is_counter = made.seen.is_counter;
-            slots = untouched _ _ (slots_told old) (slots_told new) made.seen.slots;
-            capacity = made.seen.capacity;
-            maximum = made.seen.maximum;
+          view_after = record {
+            indexes = made.view_after.indexes;
+            counter = made.view_after.counter;
+            generation = made.view_after.generation;
+            generations = made.view_after.generations;
+            is_counter = made.view_after.is_counter;
+            slots = untouched _ _ (slots_known old) (slots_known new) made.view_after.slots;
+            capacity = made.view_after.capacity;
+            maximum = made.view_after.maximum;
           };
           values = made.values;
           links = record { renamed = made.links.renamed; stack_capacity = made.links.stack_capacity };
@@ -199,7 +199,7 @@ module _ (n : ℕ) where
             generation = made.layout.generation;
             generations = made.layout.generations;
             is_counter = made.layout.is_counter;
-            slots = untouched _ _ (slots_told old) (slots_told new) made.layout.slots;
+            slots = untouched _ _ (slots_known old) (slots_known new) made.layout.slots;
             capacity = made.layout.capacity;
             maximum = made.layout.maximum;
           };
@@ -231,7 +231,7 @@ module _ (n : ℕ) where
     inserts_touched kind t (Ok p) step = (
       step.0,
       record { pointer = step.1.pointer; state = ap touch step.1.state; pairs = step.1.pairs; chains = step.1.chains },
-      room_touched old new pointers.greatest _ step.2,
+      capacity_touched old new pointers.greatest _ step.2,
     )
 
     inserts_within_touched : (kind : InsertKindBody P I) (t : T) (r : Result P ChainInsertionError) → InsertWithinStep pointers old kind t r new → InsertWithinStep pointers (touch old) kind t r (touch new)
@@ -247,7 +247,7 @@ module _ (n : ℕ) where
     )
 
     reserves_touched : (m : ℕ) (r : Result Unit ReallocationError) → ReserveStep pointers old m r new → ReserveStep pointers (touch old) m r (touch new)
-    reserves_touched m (Ok done) step = (ap touch step.0, room_touched old new pointers.greatest m step.1)
+    reserves_touched m (Ok done) step = (ap touch step.0, capacity_touched old new pointers.greatest m step.1)
     reserves_touched m (Err why) step = (step.0, ap touch step.1)
 
   module _ {P T I Gen W : Type 0} (pointers : PointerKind P I Gen W) where
@@ -262,16 +262,16 @@ module _ (n : ℕ) where
     step_touched old new (call.Remove p) r step = (
       step.0,
       step.1,
-      tells_so _ _ (pointers.wraps old.counter) step.0 (λ no. (no.0, ap touch no.1))
-          (λ link taken. record { stood = taken.stood; removal = removal_touched old new pointers.following (pointers.key p).0 taken.removal }) step.2,
+      states_so _ _ (pointers.wraps old.counter) step.0 (λ no. (no.0, ap touch no.1))
+          (λ link taken. record { was_stored = taken.was_stored; removal = removal_touched old new pointers.following (pointers.key p).0 taken.removal }) step.2,
     )
     step_touched old new (call.RemoveInx i) r step = (
       step.0,
       step.1,
-      tells_so _ _ (pointers.wraps old.counter) step.0 (λ no. (no.0, ap touch no.1))
-          (λ e taken. record { stood = taken.stood; removal = removal_touched old new pointers.following (pointers.number i) taken.removal }) step.2,
+      states_so _ _ (pointers.wraps old.counter) step.0 (λ no. (no.0, ap touch no.1))
+          (λ e taken. record { was_stored = taken.was_stored; removal = removal_touched old new pointers.following (pointers.number i) taken.removal }) step.2,
     )
-    step_touched old new (call.Invalidate p) r step = (step.0, step.1, tells_so _ _ (pointers.wraps old.counter) step.0 (λ no. (no.0, ap touch no.1)) (λ q made. (made.0, made.1, ap touch made.2, made.3)) step.2)
+    step_touched old new (call.Invalidate p) r step = (step.0, step.1, states_so _ _ (pointers.wraps old.counter) step.0 (λ no. (no.0, ap touch no.1)) (λ q made. (made.0, made.1, ap touch made.2, made.3)) step.2)
     step_touched old new (call.DrainChain p take) r step = (step.0, step.1, drains_touched pointers old new (pointers.key p) take step.0 step.2)
     step_touched old new call.Clear r step = (step.0, ap touch step.1)
     step_touched old new (call.Compress reset) r step = (step.0, compression_touched old new pointers.first pointers.following reset step.1)

@@ -28,12 +28,12 @@ module _ {Q P G Gen U T F : Type 0} (key : Q → ℕ × G) (new_key : P → ℕ 
   pub record AreCalled (generation : Gen) (first : F) (source : ArenaView G U) (order : List ℕ) (f : F) (carried : List (Carried Q P U T)) : Type 0 where
     pub ordered : map (old_index key) carried ≡ order
     pub keys : map (λ c. new_key c.to) carried ≡ map (λ k. (k, generation)) (range_with_len 1 (length carried))
-    pub in_turn : FoldsTo (λ s c t. Called call s (c.from, (c.value, (c.to, tt))) c.answer t) first carried f
-    pub stood : All (λ c. found (old_index key c) source.entries ≡ Some ((key c.from).1, value_in c.value)) carried
+    pub in_turn : FoldsTo (λ s c t. Called call s (c.from, (c.value, (c.to, tt))) c.returned t) first carried f
+    pub was_stored : All (λ c. found (old_index key c) source.entries ≡ Some ((key c.from).1, value_in c.value)) carried
     pub overflow : IfSome source.counter (λ g. map (λ c. is_overflow c.value) carried ≡ overflows following wraps (length carried) g)
 
   pub calls_begin : (generation : Gen) (f : F) (source : ArenaView G U) → AreCalled generation f source [] f []
-  calls_begin generation f source = record { ordered = refl; keys = refl; in_turn = refl; stood = All-nil (λ (d : Carried Q P U T). found (old_index key d) source.entries ≡ Some ((key d.from).1, value_in d.value)); overflow = none source.counter }
+  calls_begin generation f source = record { ordered = refl; keys = refl; in_turn = refl; was_stored = All-nil (λ (d : Carried Q P U T). found (old_index key d) source.entries ≡ Some ((key d.from).1, value_in d.value)); overflow = none source.counter }
     where
       none : (o : Option G) → IfSome o (λ g. map {A = Carried Q P U T} (λ c. is_overflow c.value) [] ≡ overflows following wraps 0 g)
       none None = tt
@@ -42,15 +42,15 @@ module _ {Q P G Gen U T F : Type 0} (key : Q → ℕ × G) (new_key : P → ℕ 
   -- one more call
   pub calls_go_on : (generation : Gen) (first : F) (source : ArenaView G U) (order : List ℕ) (f : F) (carried : List (Carried Q P U T)) → AreCalled generation first source order f carried
       → (c : Carried Q P U T) (next : F) → found (old_index key c) source.entries ≡ Some ((key c.from).1, value_in c.value) → new_key c.to ≡ (length carried + 1, generation)
-      → Called call f (c.from, (c.value, (c.to, tt))) c.answer next
+      → Called call f (c.from, (c.value, (c.to, tt))) c.returned next
       → IfSome (option_map (after_times following (length carried)) source.counter) (λ g. is_overflow c.value ≡ wraps g)
       → AreCalled generation first source (order ++ old_index key c ∷ []) next (carried ++ c ∷ [])
-  calls_go_on generation first source order f carried are c next stood at called overflow = record {
+  calls_go_on generation first source order f carried are c next was_stored at called overflow = record {
     ordered = map-append (old_index key) carried (c ∷ []) ∙ ap (λ (xs : List ℕ). xs ++ old_index key c ∷ []) are.ordered;
     keys = keyed;
     in_turn = FoldsTo-push _ first carried f c next are.in_turn called;
-    stood = All-push (λ (d : Carried Q P U T). found (old_index key d) source.entries ≡ Some ((key d.from).1, value_in d.value)) carried c are.stood stood;
-    overflow = told source.counter are.overflow overflow;
+    was_stored = All-push (λ (d : Carried Q P U T). found (old_index key d) source.entries ≡ Some ((key d.from).1, value_in d.value)) carried c are.was_stored was_stored;
+    overflow = known source.counter are.overflow overflow;
   }
     where
       long : length (carried ++ c ∷ []) ≡ length carried + 1
@@ -63,11 +63,11 @@ module _ {Q P G Gen U T F : Type 0} (key : Q → ℕ × G) (new_key : P → ℕ 
           ∙ (sym (map-append (λ k. let p : ℕ × Gen = (k, generation) in p) (range_with_len 1 (length carried)) ((1 + length carried) ∷ []))
           ∙ ap (map (λ k. let p : ℕ × Gen = (k, generation) in p)) (sym (range_last 1 (length carried)) ∙ ap (range_with_len 1) (sym long))))
 
-      told : (o : Option G) → IfSome o (λ g. map (λ (d : Carried Q P U T). is_overflow d.value) carried ≡ overflows following wraps (length carried) g)
+      known : (o : Option G) → IfSome o (λ g. map (λ (d : Carried Q P U T). is_overflow d.value) carried ≡ overflows following wraps (length carried) g)
           → IfSome (option_map (after_times following (length carried)) o) (λ g. is_overflow c.value ≡ wraps g)
           → IfSome o (λ g. map (λ (d : Carried Q P U T). is_overflow d.value) (carried ++ c ∷ []) ≡ overflows following wraps (length (carried ++ c ∷ [])) g)
-      told None before now = tt
-      told (Some g) before now =
+      known None before now = tt
+      known (Some g) before now =
           map-append (λ (d : Carried Q P U T). is_overflow d.value) carried (c ∷ [])
           ∙ (ap₂ (λ (bs : List Bool) (b : Bool). bs ++ b ∷ []) before now
           ∙ (sym (overflows-append following wraps (length carried) g) ∙ ap (λ n. overflows following wraps n g) (sym long)))

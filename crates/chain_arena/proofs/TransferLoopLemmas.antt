@@ -9,7 +9,7 @@ use Rattle.arena_ptr.specs.declared.invalidation.InvalidationOption.{Invalidatio
 use Rattle.chain_laws.specs.Chains.{LinkMap, Chain, all_items, IsMember, AreDistinct, HasLinksWithin, IsWellLinked, AreChains, first_or, next_of}
 use Rattle.chain_laws.specs.Neighbors.{AreTheChains}
 use Rattle.chain_laws.specs.Insertions.{IsInsertPosition}
-use Rattle.chain_laws.specs.Removals.{removed}
+use Rattle.chain_laws.specs.Removals.{with_removal}
 use Rattle.chain_laws.specs.Renamings.{IsRenaming}
 use Rattle.chain_laws.specs.Arrangements.{place_in, in_runs}
 use Rattle.chain_laws.specs.Walks.{step_forward}
@@ -18,7 +18,7 @@ use Rattle.chain_laws.proofs.ListLemmas.Members.{AreDistinct-apart}
 use Rattle.chain_laws.proofs.ChainLemmas.NeighborPairs.{agrees_from_chains, chains_from_pairs}
 use Rattle.chain_laws.proofs.ChainLemmas.Partitions.{the_chains}
 use Rattle.chain_laws.proofs.TransferLemmas.Source.{items_left}
-use Rattle.chain_laws.proofs.TransferLemmas.Target.{all_items-append, items_laid, laid-length, laid_between}
+use Rattle.chain_laws.proofs.TransferLemmas.Target.{all_items-append, items_arranged, arranged-length, arranged_between}
 use Rattle.chain_laws.proofs.RenamingLemmas.ChainRuns.{runs_are_renumbered}
 use Rattle.arena_base.specs.Arena.{Arena, IsListed, entry_count, next_index}
 use Rattle.arena_base.specs.Entries.{ArenaView, found, entry_removed, RisesFrom}
@@ -28,8 +28,8 @@ use Rattle.chain_links.specs.ChainArena.{LinkView, link_map, insert_between}
 use Rattle.chain_arena.specs.Drains.{after_times}
 use Rattle.chain_arena.specs.Transfers.{Carried, old_index, entries_removed, AreEnds, IsTransfer}
 use Rattle.chain_traits.specs.DrainOrder.{IsNextChain}
-use Rattle.chain_arena.proofs.TransferTargetLemmas.{IsLanded, landing_begins, landing_goes_on, next_behind, gap_at_end, count_landed}
-use Rattle.chain_arena.proofs.TransferSourceLemmas.{IsDeparting, StandsFound, rises_up, entries_left, departs_next, departs_on, first_found, all_departed, found-entries_removed, counter-entries_removed}
+use Rattle.chain_arena.proofs.TransferTargetLemmas.{IsLanded, landing_begins, landing_goes_on, next_behind, position_at_end, count_landed}
+use Rattle.chain_arena.proofs.TransferSourceLemmas.{IsDeparting, StoredFound, rises_up, entries_left, departs_next, departs_on, first_found, all_departed, found-entries_removed, counter-entries_removed}
 use Rattle.chain_arena.proofs.TransferClosureLemmas.{AreCalled, calls_begin, calls_go_on}
 
 left_none : (left : List ℕ) → None ≡ first_or left None → left ≡ []
@@ -48,10 +48,10 @@ none_left ring (x ∷ xs) rest e = absurd (cc)
 module _ {Q P G Gen I U T F : Type 0} (key : Q → ℕ × G) (new_key : P → ℕ × Gen) (following : G → G) (wraps : G → Bool) (call : Mut F (Q × (InvalidationOption U × (P × Unit {0}))) T)
     (number : I → ℕ) (source : ArenaView G U) (interlinks : LinkMap) (first : F) (start : Arena Gen (LinkView T)) where
   abbrev entered : List (Carried Q P U T) → List ((ℕ × Gen) × T)
-  entered carried = map (λ (c : Carried Q P U T). (new_key c.to, c.answer)) carried
+  entered carried = map (λ (c : Carried Q P U T). (new_key c.to, c.returned)) carried
 
   -- k links are carried over: some whole chains, and a part of the next
-  pub record IsCarrying (k : ℕ) (seen : ArenaView G U) (links : LinkMap) (looks : Cursor) (on : Option ℕ) (ring : Bool) (ends : Option (I × I)) (f : F) (now : Arena Gen (LinkView T)) : Type 0 where
+  pub record IsCarrying (k : ℕ) (view_after : ArenaView G U) (links : LinkMap) (lookups : Cursor) (on : Option ℕ) (ring : Bool) (ends : Option (I × I)) (f : F) (now : Arena Gen (LinkView T)) : Type 0 where
     pub chains : List Chain
     pub are : AreTheChains interlinks chains
     pub done : List Chain
@@ -59,7 +59,7 @@ module _ {Q P G Gen I U T F : Type 0} (key : Q → ℕ × G) (new_key : P → �
     pub left : List ℕ
     pub rest : List Chain
     pub parts : chains ≡ done ++ with_rest ring (taken ++ left) rest
-    pub departing : IsDeparting following source seen links looks ring left rest (all_items (with_appended done ring taken))
+    pub departing : IsDeparting following source view_after links lookups ring left rest (all_items (with_appended done ring taken))
     pub next : on ≡ first_or left None
     pub carried : List (Carried Q P U T)
     pub called : AreCalled key new_key following wraps call start.counter first source (all_items (with_appended done ring taken)) f carried
@@ -68,9 +68,9 @@ module _ {Q P G Gen I U T F : Type 0} (key : Q → ℕ × G) (new_key : P → �
     pub bounds : AreEnds number ends (length taken) (k + 1)
 
   -- no link is carried over yet
-  pub carrying_begins : (greatest : ℕ) (looks : Cursor) (ring : Bool) → IsWellLinked interlinks → HasLinksWithin interlinks greatest → start.slots ≡ [] → looks ≡ Up 1
-      → IsCarrying 0 source interlinks looks None ring None first start
-  carrying_begins greatest looks ring agrees within none up =
+  pub carrying_begins : (greatest : ℕ) (lookups : Cursor) (ring : Bool) → IsWellLinked interlinks → HasLinksWithin interlinks greatest → start.slots ≡ [] → lookups ≡ Up 1
+      → IsCarrying 0 source interlinks lookups None ring None first start
+  carrying_begins greatest lookups ring agrees within none up =
       let all = the_chains interlinks greatest agrees within in
       record {
         chains = all.0;
@@ -97,15 +97,15 @@ module _ {Q P G Gen I U T F : Type 0} (key : Q → ℕ × G) (new_key : P → �
         bounds = refl;
       }
 
-  module _ (k : ℕ) (seen : ArenaView G U) (links : LinkMap) (looks : Cursor) (ring : Bool) (ends : Option (I × I)) (f : F) (now : Arena Gen (LinkView T)) (stands : StandsFound links seen) where
+  module _ (k : ℕ) (view_after : ArenaView G U) (links : LinkMap) (lookups : Cursor) (ring : Bool) (ends : Option (I × I)) (f : F) (now : Arena Gen (LinkView T)) (stored : StoredFound links view_after) where
     -- the next chain begins
-    pub carries_next : IsCarrying k seen links looks None ring ends f now → (here : ℕ) (cyclic : Bool) (after : Cursor) → IsNextChain seen links here cyclic after
-        → IsCarrying k seen links after (Some here) cyclic None f now
+    pub carries_next : IsCarrying k view_after links lookups None ring ends f now → (here : ℕ) (cyclic : Bool) (after : Cursor) → IsNextChain view_after links here cyclic after
+        → IsCarrying k view_after links after (Some here) cyclic None f now
     carries_next c here cyclic after next =
         let none = left_none c.left c.next in
-        let departing : IsDeparting following source seen links looks ring [] c.rest (all_items (with_appended c.done ring c.taken)) =
-        subst (λ (l : List ℕ). IsDeparting following source seen links looks ring l c.rest (all_items (with_appended c.done ring c.taken))) none c.departing in
-        let w = departs_next following source seen links looks ring c.rest (all_items (with_appended c.done ring c.taken)) stands departing here cyclic after next in
+        let departing : IsDeparting following source view_after links lookups ring [] c.rest (all_items (with_appended c.done ring c.taken)) =
+        subst (λ (l : List ℕ). IsDeparting following source view_after links lookups ring l c.rest (all_items (with_appended c.done ring c.taken))) none c.departing in
+        let w = departs_next following source view_after links lookups ring c.rest (all_items (with_appended c.done ring c.taken)) stored departing here cyclic after next in
         record {
           chains = c.chains;
           are = c.are;
@@ -115,7 +115,7 @@ module _ {Q P G Gen I U T F : Type 0} (key : Q → ℕ × G) (new_key : P → �
           rest = w.1;
           parts = c.parts ∙ (ap (λ (l : List ℕ). c.done ++ with_rest ring (c.taken ++ l) c.rest) none
               ∙ (ap (λ (l : List ℕ). c.done ++ with_rest ring l c.rest) (append-nil c.taken)
-              ∙ (laid_between c.done ring c.taken c.rest ∙ ap (λ (cs : List Chain). with_appended c.done ring c.taken ++ cs) w.2)));
+              ∙ (arranged_between c.done ring c.taken c.rest ∙ ap (λ (cs : List Chain). with_appended c.done ring c.taken ++ cs) w.2)));
           departing = w.3;
           next = refl;
           carried = c.carried;
@@ -126,34 +126,34 @@ module _ {Q P G Gen I U T F : Type 0} (key : Q → ℕ × G) (new_key : P → �
         }
 
     -- the remaining links are well linked
-    pub agrees_left : (on : Option ℕ) → IsCarrying k seen links looks on ring ends f now → IsWellLinked links
+    pub agrees_left : (on : Option ℕ) → IsCarrying k view_after links lookups on ring ends f now → IsWellLinked links
     agrees_left on c = agrees_from_chains links (with_rest ring c.left c.rest) c.departing.chains
 
     -- between two chains, no remaining entry is below the advancer's index
-    pub looks_up : (on : Option ℕ) → on ≡ None → IsCarrying k seen links looks on ring ends f now → RisesFrom 1 seen.entries → (from : ℕ) × (looks ≡ Up from) × RisesFrom from seen.entries
-    looks_up on none c rises =
-        let departing = subst (λ (l : List ℕ). IsDeparting following source seen links looks ring l c.rest (all_items (with_appended c.done ring c.taken))) (left_none c.left (sym none ∙ c.next)) c.departing in
-        (departing.from, departing.up, rises_up following source seen links looks ring c.rest (all_items (with_appended c.done ring c.taken)) stands departing rises)
+    pub lookups_up : (on : Option ℕ) → on ≡ None → IsCarrying k view_after links lookups on ring ends f now → RisesFrom 1 view_after.entries → (from : ℕ) × (lookups ≡ Up from) × RisesFrom from view_after.entries
+    lookups_up on none c rises =
+        let departing = subst (λ (l : List ℕ). IsDeparting following source view_after links lookups ring l c.rest (all_items (with_appended c.done ring c.taken))) (left_none c.left (sym none ∙ c.next)) c.departing in
+        (departing.from, departing.up, rises_up following source view_after links lookups ring c.rest (all_items (with_appended c.done ring c.taken)) stored departing rises)
 
     -- some entries are left unless all links are carried over
-    pub some_left : (on : Option ℕ) → IsCarrying k seen links looks on ring ends f now → k < length source.entries → seen.entries ≢ []
+    pub some_left : (on : Option ℕ) → IsCarrying k view_after links lookups on ring ends f now → k < length source.entries → view_after.entries ≢ []
     some_left on c few =
-        entries_left following source seen links looks ring c.rest (all_items (with_appended c.done ring c.taken)) stands c.left c.departing
+        entries_left following source view_after links lookups ring c.rest (all_items (with_appended c.done ring c.taken)) stored c.left c.departing
         (subst (λ n. n < length source.entries) (c.count ∙ (sym (length-map c.carried (old_index key)) ∙ ap length c.called.ordered)) few)
 
     -- the next link to take, in the current chain or in the next
-    pub carries_next_link : {J : Type 0} (index : J → ℕ) (on : Option J) (i : ℕ) (cyclic : Bool) (laid : Option (I × I)) (after : Cursor) → IsCarrying k seen links looks (option_map index on) ring ends f now
-        → IfSome on (λ j. (i ≡ index j) × (cyclic ≡ ring) × (after ≡ looks)) → IfNone on (IsNextChain seen links i cyclic after) → laid ≡ option_and on ends
-        → IsCarrying k seen links after (Some i) cyclic laid f now
-    carries_next_link index (Some j) i cyclic laid after c goes begins is =
-        subst (λ (l : Cursor). IsCarrying k seen links l (Some i) cyclic laid f now) (sym goes.2)
-        (subst (λ (e : Option (I × I)). IsCarrying k seen links looks (Some i) cyclic e f now) (sym is)
-        (subst (λ (r : Bool). IsCarrying k seen links looks (Some i) r ends f now) (sym goes.1)
-        (subst (λ (n : ℕ). IsCarrying k seen links looks (Some n) ring ends f now) (sym goes.0) c)))
-    carries_next_link index None i cyclic laid after c goes begins is =
-        subst (λ (e : Option (I × I)). IsCarrying k seen links after (Some i) cyclic e f now) (sym is) (carries_next c i cyclic after begins)
+    pub carries_next_link : {J : Type 0} (index : J → ℕ) (on : Option J) (i : ℕ) (cyclic : Bool) (arranged : Option (I × I)) (after : Cursor) → IsCarrying k view_after links lookups (option_map index on) ring ends f now
+        → IfSome on (λ j. (i ≡ index j) × (cyclic ≡ ring) × (after ≡ lookups)) → IfNone on (IsNextChain view_after links i cyclic after) → arranged ≡ option_and on ends
+        → IsCarrying k view_after links after (Some i) cyclic arranged f now
+    carries_next_link index (Some j) i cyclic arranged after c goes begins is =
+        subst (λ (l : Cursor). IsCarrying k view_after links l (Some i) cyclic arranged f now) (sym goes.2)
+        (subst (λ (e : Option (I × I)). IsCarrying k view_after links lookups (Some i) cyclic e f now) (sym is)
+        (subst (λ (r : Bool). IsCarrying k view_after links lookups (Some i) r ends f now) (sym goes.1)
+        (subst (λ (n : ℕ). IsCarrying k view_after links lookups (Some n) ring ends f now) (sym goes.0) c)))
+    carries_next_link index None i cyclic arranged after c goes begins is =
+        subst (λ (e : Option (I × I)). IsCarrying k view_after links after (Some i) cyclic e f now) (sym is) (carries_next c i cyclic after begins)
 
-    module _ (i : ℕ) (c : IsCarrying k seen links looks (Some i) ring ends f now) where
+    module _ (i : ℕ) (c : IsCarrying k view_after links lookups (Some i) ring ends f now) where
       -- the link to take exists
       abbrev xs : List ℕ
       xs = (left_some c.left i c.next).0
@@ -161,11 +161,11 @@ module _ {Q P G Gen I U T F : Type 0} (key : Q → ℕ × G) (new_key : P → �
       is_left : c.left ≡ i ∷ xs
       is_left = (left_some c.left i c.next).1
 
-      departing : IsDeparting following source seen links looks ring (i ∷ xs) c.rest (all_items (with_appended c.done ring c.taken))
-      departing = subst (λ (l : List ℕ). IsDeparting following source seen links looks ring l c.rest (all_items (with_appended c.done ring c.taken))) is_left c.departing
+      departing : IsDeparting following source view_after links lookups ring (i ∷ xs) c.rest (all_items (with_appended c.done ring c.taken))
+      departing = subst (λ (l : List ℕ). IsDeparting following source view_after links lookups ring l c.rest (all_items (with_appended c.done ring c.taken))) is_left c.departing
 
-      pub link_stands : is_some (found i seen.entries) ≡ true
-      link_stands = first_found following source seen links looks ring c.rest (all_items (with_appended c.done ring c.taken)) stands i xs departing
+      pub link_stored : is_some (found i view_after.entries) ≡ true
+      link_stored = first_found following source view_after links lookups ring c.rest (all_items (with_appended c.done ring c.taken)) stored i xs departing
 
       -- no link carried over had its index
       apart : IsMember (all_items (with_appended c.done ring c.taken)) i → ⊥
@@ -175,32 +175,32 @@ module _ {Q P G Gen I U T F : Type 0} (key : Q → ℕ × G) (new_key : P → �
           ∙ (all_items-append c.done (with_rest ring (c.taken ++ i ∷ xs) c.rest) ∙ ap (λ (zs : List ℕ). all_items c.done ++ zs) (items_left ring (c.taken ++ i ∷ xs) c.rest)) in
           let before : all_items c.done ++ ((c.taken ++ i ∷ xs) ++ all_items c.rest) ≡ all_items (with_appended c.done ring c.taken) ++ (i ∷ xs ++ all_items c.rest) =
           ap (λ (zs : List ℕ). all_items c.done ++ zs) (append_assoc c.taken (i ∷ xs) (all_items c.rest))
-          ∙ (sym (append_assoc (all_items c.done) c.taken (i ∷ xs ++ all_items c.rest)) ∙ ap (λ (zs : List ℕ). zs ++ (i ∷ xs ++ all_items c.rest)) (sym (items_laid c.done ring c.taken))) in
+          ∙ (sym (append_assoc (all_items c.done) c.taken (i ∷ xs ++ all_items c.rest)) ∙ ap (λ (zs : List ℕ). zs ++ (i ∷ xs ++ all_items c.rest)) (sym (items_arranged c.done ring c.taken))) in
           AreDistinct-apart (all_items (with_appended c.done ring c.taken)) (i ∷ xs ++ all_items c.rest) i (subst AreDistinct (all ∙ before) c.are.partition.once) h (inl refl)
 
       -- its entry is as it was in the source
-      pub as_before : found i seen.entries ≡ found i source.entries
+      pub as_before : found i view_after.entries ≡ found i source.entries
       as_before = ap (λ (s : ArenaView G U). found i s.entries) c.departing.same ∙ found-entries_removed following source (all_items (with_appended c.done ring c.taken)) i apart
 
       long : length (all_items (with_appended c.done ring c.taken)) ≡ length c.carried
       long = ap length (sym c.called.ordered) ∙ length-map c.carried (old_index key)
 
-      pub counted : seen.counter ≡ option_map (after_times following (length c.carried)) source.counter
+      pub counted : view_after.counter ≡ option_map (after_times following (length c.carried)) source.counter
       counted =
           ap (λ (s : ArenaView G U). s.counter) c.departing.same
           ∙ (counter-entries_removed following source (all_items (with_appended c.done ring c.taken)) ∙ ap (λ n. option_map (after_times following n) source.counter) long)
 
       values_long : length (entered c.carried) ≡ length (all_items c.done) + length c.taken
-      values_long = length-map c.carried (λ (d : Carried Q P U T). (new_key d.to, d.answer)) ∙ (sym long ∙ laid-length c.done ring c.taken)
+      values_long = length-map c.carried (λ (d : Carried Q P U T). (new_key d.to, d.returned)) ∙ (sym long ∙ arranged-length c.done ring c.taken)
 
       -- the number of links carried over
       come : length (entered c.carried) ≡ k
-      come = length-map c.carried (λ (d : Carried Q P U T). (new_key d.to, d.answer)) ∙ sym c.count
+      come = length-map c.carried (λ (d : Carried Q P U T). (new_key d.to, d.returned)) ∙ sym c.count
 
-      laid_more : all_items (with_appended c.done ring (c.taken ++ i ∷ [])) ≡ all_items (with_appended c.done ring c.taken) ++ i ∷ []
-      laid_more =
-          items_laid c.done ring (c.taken ++ i ∷ [])
-          ∙ (sym (append_assoc (all_items c.done) c.taken (i ∷ [])) ∙ ap (λ (zs : List ℕ). zs ++ i ∷ []) (sym (items_laid c.done ring c.taken)))
+      arranged_more : all_items (with_appended c.done ring (c.taken ++ i ∷ [])) ≡ all_items (with_appended c.done ring c.taken) ++ i ∷ []
+      arranged_more =
+          items_arranged c.done ring (c.taken ++ i ∷ [])
+          ∙ (sym (append_assoc (all_items c.done) c.taken (i ∷ [])) ∙ ap (λ (zs : List ℕ). zs ++ i ∷ []) (sym (items_arranged c.done ring c.taken)))
 
       parts_more : c.chains ≡ c.done ++ with_rest ring ((c.taken ++ i ∷ []) ++ xs) c.rest
       parts_more = c.parts ∙ ap (λ (l : List ℕ). c.done ++ with_rest ring l c.rest) (ap (λ (l : List ℕ). c.taken ++ l) is_left ∙ sym (append_assoc c.taken (i ∷ []) xs))
@@ -212,38 +212,38 @@ module _ {Q P G Gen I U T F : Type 0} (key : Q → ℕ × G) (new_key : P → �
       pub bounds_at : start.freed ≡ [] → AreEnds number ends (length c.taken) (next_index now)
       bounds_at unfreed = subst (AreEnds number ends (length c.taken)) (sym (comes_at unfreed)) c.bounds
 
-      pub gap_at : start.freed ≡ [] → (u v : Option ℕ) → u ≡ end_before ring (length c.taken) (next_index now) → v ≡ end_after ring (length c.taken) (next_index now) → IsInsertPosition (link_map now) (next_index now) u v
-      gap_at unfreed u v before after =
-          subst₂ (IsInsertPosition (link_map now) (next_index now)) (sym before) (sym after) (gap_at_end start now c.done ring c.taken (entered c.carried) c.landed unfreed values_long)
+      pub position_at : start.freed ≡ [] → (u v : Option ℕ) → u ≡ end_before ring (length c.taken) (next_index now) → v ≡ end_after ring (length c.taken) (next_index now) → IsInsertPosition (link_map now) (next_index now) u v
+      position_at unfreed u v before after =
+          subst₂ (IsInsertPosition (link_map now) (next_index now)) (sym before) (sym after) (position_at_end start now c.done ring c.taken (entered c.carried) c.landed unfreed values_long)
 
       -- the target has capacity for it
-      pub room_at : start.freed ≡ [] → (room : ℕ) → k < room → room ≤ start.capacity → entry_count now < now.capacity
-      room_at unfreed room few fits =
+      pub capacity_at : start.freed ≡ [] → (within_capacity : ℕ) → k < within_capacity → within_capacity ≤ start.capacity → entry_count now < now.capacity
+      capacity_at unfreed within_capacity few fits =
           let have : entry_count now ≡ length (entered c.carried) = count_landed start now c.done ring c.taken (entered c.carried) c.landed unfreed in
           let same : now.capacity ≡ start.capacity = ap (λ (a : Arena Gen (LinkView T)). a.capacity) c.landed.state in
           omega (arith, have, come, same, few, fits)
 
       module _ (unfreed : start.freed ≡ []) (listed : IsListed now) (q : Q) (value : InvalidationOption U) (to : P) (t : T) (next : F)
-          (stood : found i seen.entries ≡ Some ((key q).1, value_in value)) (index : (key q).0 ≡ i) (at : new_key to ≡ (k + 1, start.counter))
+          (was_stored : found i view_after.entries ≡ Some ((key q).1, value_in value)) (index : (key q).0 ≡ i) (at : new_key to ≡ (k + 1, start.counter))
           (called : Called call f (q, (value, (to, tt))) t next) where
         abbrev link : Carried Q P U T
-        link = record { from = q; value = value; to = to; answer = t }
+        link = record { from = q; value = value; to = to; returned = t }
 
         keyed : new_key to ≡ (length c.carried + 1, start.counter)
         keyed = at ∙ ap (λ n. let p : ℕ × Gen = (n + 1, start.counter) in p) c.count
 
         entered_more : entered (c.carried ++ link ∷ []) ≡ entered c.carried ++ ((length (entered c.carried) + 1, start.counter), t) ∷ []
         entered_more =
-            map-append (λ (d : Carried Q P U T). (new_key d.to, d.answer)) c.carried (link ∷ [])
+            map-append (λ (d : Carried Q P U T). (new_key d.to, d.returned)) c.carried (link ∷ [])
             ∙ ap (λ (p : ℕ × Gen). entered c.carried ++ (p, t) ∷ []) (at ∙ ap (λ n. let p : ℕ × Gen = (n + 1, start.counter) in p) (sym come))
 
-        called_more : IfSome seen.counter (λ g. is_overflow value ≡ wraps g)
+        called_more : IfSome view_after.counter (λ g. is_overflow value ≡ wraps g)
             → AreCalled key new_key following wraps call start.counter first source (all_items (with_appended c.done ring (c.taken ++ i ∷ []))) next (c.carried ++ link ∷ [])
         called_more overflow =
             subst (λ (order : List ℕ). AreCalled key new_key following wraps call start.counter first source order next (c.carried ++ link ∷ []))
-            (ap (λ n. all_items (with_appended c.done ring c.taken) ++ n ∷ []) index ∙ sym laid_more)
+            (ap (λ n. all_items (with_appended c.done ring c.taken) ++ n ∷ []) index ∙ sym arranged_more)
             (calls_go_on key new_key following wraps call start.counter first source (all_items (with_appended c.done ring c.taken)) f c.carried c.called link next
-            (ap (λ n. found n source.entries) index ∙ (sym as_before ∙ stood)) keyed called
+            (ap (λ n. found n source.entries) index ∙ (sym as_before ∙ was_stored)) keyed called
             (subst (λ (o : Option G). IfSome o (λ g. is_overflow value ≡ wraps g)) counted overflow))
 
         landed_more : (after : Arena Gen (LinkView T)) → after ≡ insert_between now t (end_before ring (length c.taken) (next_index now)) (end_after ring (length c.taken) (next_index now))
@@ -254,13 +254,13 @@ module _ {Q P G Gen I U T F : Type 0} (key : Q → ℕ × G) (new_key : P → �
             (landing_goes_on start now c.done ring c.taken (entered c.carried) c.landed unfreed values_long t listed i))
 
         -- the link is carried over
-        pub carries_link : IsWellLinked links → (after : ArenaView G U) (shows : LinkMap) (on : Option ℕ) (bounds : Option (I × I)) (then_now : Arena Gen (LinkView T))
-            → IfSome seen.counter (λ g. is_overflow value ≡ wraps g) → on ≡ step_forward i (next_of links i) → after ≡ entry_removed following seen i → shows ≡ removed links i
+        pub carries_link : IsWellLinked links → (after : ArenaView G U) (reports : LinkMap) (on : Option ℕ) (bounds : Option (I × I)) (then_now : Arena Gen (LinkView T))
+            → IfSome view_after.counter (λ g. is_overflow value ≡ wraps g) → on ≡ step_forward i (next_of links i) → after ≡ entry_removed following view_after i → reports ≡ with_removal links i
             → then_now ≡ insert_between now t (end_before ring (length c.taken) (next_index now)) (end_after ring (length c.taken) (next_index now))
             → AreEnds number bounds (length c.taken + 1) (k + 1 + 1)
-            → IsCarrying (k + 1) after shows looks on ring bounds next then_now
-        carries_link agrees after shows on bounds then_now overflow goes is passed inserted ends_are =
-            let w = departs_on following source seen links looks ring c.rest (all_items (with_appended c.done ring c.taken)) stands i xs departing agrees after shows is passed in
+            → IsCarrying (k + 1) after reports lookups on ring bounds next then_now
+        carries_link agrees after reports on bounds then_now overflow goes is passed inserted ends_are =
+            let w = departs_on following source view_after links lookups ring c.rest (all_items (with_appended c.done ring c.taken)) stored i xs departing agrees after reports is passed in
             record {
               chains = c.chains;
               are = c.are;
@@ -269,7 +269,7 @@ module _ {Q P G Gen I U T F : Type 0} (key : Q → ℕ × G) (new_key : P → �
               left = xs;
               rest = c.rest;
               parts = parts_more;
-              departing = subst (λ (order : List ℕ). IsDeparting following source after shows looks ring xs c.rest order) (sym laid_more) w.0;
+              departing = subst (λ (order : List ℕ). IsDeparting following source after reports lookups ring xs c.rest order) (sym arranged_more) w.0;
               next = goes ∙ w.1;
               carried = c.carried ++ link ∷ [];
               called = called_more overflow;
@@ -279,42 +279,42 @@ module _ {Q P G Gen I U T F : Type 0} (key : Q → ℕ × G) (new_key : P → �
             }
 
     -- the next link of the current chain exists
-    pub stands_on : {J : Type 0} (index : J → ℕ) (on : Option J) → IsCarrying k seen links looks (option_map index on) ring ends f now → IfSome on (λ j. is_some (found (index j) seen.entries) ≡ true)
-    stands_on index None c = tt
-    stands_on index (Some j) c = link_stands (index j) c
+    pub stored_on : {J : Type 0} (index : J → ℕ) (on : Option J) → IsCarrying k view_after links lookups (option_map index on) ring ends f now → IfSome on (λ j. is_some (found (index j) view_after.entries) ≡ true)
+    stored_on index None c = tt
+    stored_on index (Some j) c = link_stored (index j) c
 
     -- all links are carried over
-    pub carries_all : (on : Option ℕ) → IsCarrying k seen links looks on ring ends f now → start.freed ≡ [] → k ≡ length source.entries
-        → IsTransfer key new_key following wraps call start.counter first source interlinks seen start now
+    pub carries_all : (on : Option ℕ) → IsCarrying k view_after links lookups on ring ends f now → start.freed ≡ [] → k ≡ length source.entries
+        → IsTransfer key new_key following wraps call start.counter first source interlinks view_after start now
     carries_all on c unfreed all =
         let long : length (all_items (with_appended c.done ring c.taken)) ≡ length source.entries = ap length (sym c.called.ordered) ∙ (length-map c.carried (old_index key) ∙ (sym c.count ∙ all)) in
-        let gone = all_departed following source seen links looks ring c.rest (all_items (with_appended c.done ring c.taken)) stands c.left c.departing long in
+        let gone = all_departed following source view_after links lookups ring c.rest (all_items (with_appended c.done ring c.taken)) stored c.left c.departing long in
         let none = none_left ring c.left c.rest gone.1 in
-        let laid : c.chains ≡ with_appended c.done ring c.taken =
+        let arranged : c.chains ≡ with_appended c.done ring c.taken =
         c.parts
         ∙ (ap₂ (λ (l : List ℕ) (r : List Chain). c.done ++ with_rest ring (c.taken ++ l) r) none.0 none.1
         ∙ (ap (λ (l : List ℕ). c.done ++ with_rest ring l []) (append-nil c.taken)
-        ∙ (laid_between c.done ring c.taken [] ∙ append-nil (with_appended c.done ring c.taken)))) in
-        let items : map (old_index key) c.carried ≡ all_items c.chains = c.called.ordered ∙ sym (ap all_items laid) in
+        ∙ (arranged_between c.done ring c.taken [] ∙ append-nil (with_appended c.done ring c.taken)))) in
+        let items : map (old_index key) c.carried ≡ all_items c.chains = c.called.ordered ∙ sym (ap all_items arranged) in
         record {
           carried = c.carried;
           order = record { chains = c.chains; are = c.are; items = items };
           keys = c.called.keys;
           renamed = subst (λ (order : List ℕ). IsRenaming (place_in order) interlinks (link_map now)) (sym items)
               (runs_are_renumbered interlinks (link_map now) c.chains (chains_from_pairs interlinks c.chains c.are.partition c.are.interlinks)
-              (subst (λ (cs : List Chain). AreChains (link_map now) (in_runs 1 cs)) (sym laid) c.landed.chains));
+              (subst (λ (cs : List Chain). AreChains (link_map now) (in_runs 1 cs)) (sym arranged) c.landed.chains));
           last = f;
           in_turn = c.called.in_turn;
-          stood = c.called.stood;
+          was_stored = c.called.was_stored;
           overflow = c.called.overflow;
           values = c.landed.entered;
-          slots = c.landed.slots ∙ length-map c.carried (λ (d : Carried Q P U T). (new_key d.to, d.answer));
+          slots = c.landed.slots ∙ length-map c.carried (λ (d : Carried Q P U T). (new_key d.to, d.returned));
           state = state_of c;
           removals = c.departing.same ∙ ap (entries_removed following source) (sym c.called.ordered);
           empty = gone.0;
         }
       where
-        state_of : (c : IsCarrying k seen links looks on ring ends f now) → now ≡ record start {
+        state_of : (c : IsCarrying k view_after links lookups on ring ends f now) → now ≡ record start {
           slots = now.slots;
           counter = start.counter;
           freed = [];
@@ -326,6 +326,6 @@ module _ {Q P G Gen I U T F : Type 0} (key : Q → ℕ × G) (new_key : P → �
             let made = (λ (f : List ℕ) (m n p : ℕ). let a : Arena Gen (LinkView T) = record start { slots = now.slots; freed = f; capacity = m; stack_capacity = n; placed = p } in a) in
             c.landed.state
             ∙ (ap (λ p. made start.freed start.capacity start.stack_capacity p)
-            (ap (λ n. start.placed + n) (length-map c.carried (λ (d : Carried Q P U T). (new_key d.to, d.answer))))
+            (ap (λ n. start.placed + n) (length-map c.carried (λ (d : Carried Q P U T). (new_key d.to, d.returned))))
             ∙ (ap (λ f. made f start.capacity start.stack_capacity (start.placed + length c.carried)) unfreed
             ∙ ap₂ (λ m n. made [] m n (start.placed + length c.carried)) (sym (ap (λ (a : Arena Gen (LinkView T)). a.capacity) c.landed.state)) (sym (ap (λ (a : Arena Gen (LinkView T)). a.stack_capacity) c.landed.state))))

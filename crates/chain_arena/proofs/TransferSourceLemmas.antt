@@ -5,7 +5,7 @@ use Rattle.std.specs.Option.{option_map}
 use Rattle.std.proofs.lemmas.Bool.{eqb-true}
 use Rattle.std.proofs.Math.Decide.{ℕ_discrete}
 use Rattle.chain_laws.specs.Chains.{LinkMap, Interlinks, Chain, items, IsMember, HasLink, IsInOrder, IsWellLinked, AreChains, first_or, next_of}
-use Rattle.chain_laws.specs.Removals.{removed}
+use Rattle.chain_laws.specs.Removals.{with_removal}
 use Rattle.chain_laws.specs.Walks.{step_forward}
 use Rattle.chain_laws.specs.ChainStart.{chain_of}
 use Rattle.chain_laws.specs.Transfer.{with_rest}
@@ -49,17 +49,17 @@ module _ {Gen T : Type 0} where
   rises_from from low (e ∷ es) rises found_low = (found_low e.0.0 (ap is_some (if_same e.0.0 e.0.0 (Some (e.0.1, e.1)) (found e.0.0 es) refl)), rises.1)
 
   -- there is a link exactly where an entry is found
-  abbrev pub StandsFound : LinkMap → ArenaView Gen T → Type 0
-  StandsFound links seen = (i : ℕ) → is_some (links i) ≡ is_some (found i seen.entries)
+  abbrev pub StoredFound : LinkMap → ArenaView Gen T → Type 0
+  StoredFound links view_after = (i : ℕ) → is_some (links i) ≡ is_some (found i view_after.entries)
 
-  found_valid : (links : LinkMap) (seen : ArenaView Gen T) → StandsFound links seen → (i : ℕ) → is_some (found i seen.entries) ≡ true → HasLink links i
-  found_valid links seen stands i there = by (links i) refl (stands i ∙ there) where
+  found_valid : (links : LinkMap) (view_after : ArenaView Gen T) → StoredFound links view_after → (i : ℕ) → is_some (found i view_after.entries) ≡ true → HasLink links i
+  found_valid links view_after stored i there = by (links i) refl (stored i ∙ there) where
     by : (o : Option Interlinks) → links i ≡ o → is_some (links i) ≡ true → HasLink links i
     by None is some = absurd (let none = ap is_some is in let both = sym some ∙ none in cc)
-    by (Some link) is some = record { link = link; shows = is }
+    by (Some link) is some = record { link = link; reports = is }
 
-  valid_found : (links : LinkMap) (seen : ArenaView Gen T) → StandsFound links seen → (i : ℕ) → HasLink links i → is_some (found i seen.entries) ≡ true
-  valid_found links seen stands i valid = sym (stands i) ∙ ap is_some valid.shows
+  valid_found : (links : LinkMap) (view_after : ArenaView Gen T) → StoredFound links view_after → (i : ℕ) → HasLink links i → is_some (found i view_after.entries) ≡ true
+  valid_found links view_after stored i valid = sym (stored i) ∙ ap is_some valid.reports
 
 module _ {Gen T : Type 0} (following : Gen → Gen) where
   entries_removed-append : (s : ArenaView Gen T) (xs : List ℕ) (i : ℕ) → entries_removed following s (xs ++ i ∷ []) ≡ entry_removed following (entries_removed following s xs) i
@@ -87,34 +87,34 @@ module _ {Gen T : Type 0} (following : Gen → Gen) where
 
   -- links were taken out of a source: these chains are left, the first of them in part. Links
   -- outside that part are at or above the advancer's index.
-  pub record IsDeparting (source seen : ArenaView Gen T) (links : LinkMap) (looks : Cursor) (ring : Bool) (left : List ℕ) (rest : List Chain) (taken : List ℕ) : Type 0 where
+  pub record IsDeparting (source view_after : ArenaView Gen T) (links : LinkMap) (lookups : Cursor) (ring : Bool) (left : List ℕ) (rest : List Chain) (taken : List ℕ) : Type 0 where
     pub chains : AreChains links (with_rest ring left rest)
     pub order : IsInOrder rest
-    pub same : seen ≡ entries_removed following source taken
-    pub size : length seen.entries + length taken ≡ length source.entries
+    pub same : view_after ≡ entries_removed following source taken
+    pub size : length view_after.entries + length taken ≡ length source.entries
     pub from : ℕ
-    pub up : looks ≡ Up from
+    pub up : lookups ≡ Up from
     pub low : (j : ℕ) → HasLink links j → (from ≤ j) ⊎ IsMember left j
 
-  module _ (source seen : ArenaView Gen T) (links : LinkMap) (looks : Cursor) (ring : Bool) (rest : List Chain) (taken : List ℕ) (stands : StandsFound links seen) where
+  module _ (source view_after : ArenaView Gen T) (links : LinkMap) (lookups : Cursor) (ring : Bool) (rest : List Chain) (taken : List ℕ) (stored : StoredFound links view_after) where
     -- if no chain is left in part, the entries ascend from the advancer's index
-    pub rises_up : (d : IsDeparting source seen links looks ring [] rest taken) → RisesFrom 1 seen.entries → RisesFrom d.from seen.entries
-    rises_up d rises = rises_from d.from 1 seen.entries rises (λ j there. above (d.low j (found_valid links seen stands j there)))
+    pub rises_up : (d : IsDeparting source view_after links lookups ring [] rest taken) → RisesFrom 1 view_after.entries → RisesFrom d.from view_after.entries
+    rises_up d rises = rises_from d.from 1 view_after.entries rises (λ j there. above (d.low j (found_valid links view_after stored j there)))
       where
         above : {j : ℕ} → (d.from ≤ j) ⊎ IsMember [] j → d.from ≤ j
         above (inl le) = le
         above (inr h) = absurd h
 
     -- some entries are left unless all were taken
-    pub entries_left : (left : List ℕ) → IsDeparting source seen links looks ring left rest taken → length taken < length source.entries → seen.entries ≢ []
-    entries_left left d few none = let long : length seen.entries ≡ 0 = ap length none in omega (arith, d.size, long)
+    pub entries_left : (left : List ℕ) → IsDeparting source view_after links lookups ring left rest taken → length taken < length source.entries → view_after.entries ≢ []
+    entries_left left d few none = let long : length view_after.entries ≡ 0 = ap length none in omega (arith, d.size, long)
 
     -- the next chain is the first of those left
-    pub departs_next : IsDeparting source seen links looks ring [] rest taken → (here : ℕ) (cyclic : Bool) (after : Cursor) → IsNextChain seen links here cyclic after
-        → (xs : List ℕ) × (others : List Chain) × (rest ≡ chain_of cyclic (here ∷ xs) ∷ others) × IsDeparting source seen links after cyclic (here ∷ xs) others taken
+    pub departs_next : IsDeparting source view_after links lookups ring [] rest taken → (here : ℕ) (cyclic : Bool) (after : Cursor) → IsNextChain view_after links here cyclic after
+        → (xs : List ℕ) × (others : List Chain) × (rest ≡ chain_of cyclic (here ∷ xs) ∷ others) × IsDeparting source view_after links after cyclic (here ∷ xs) others taken
     departs_next d here cyclic after next =
-        let valid = found_valid links seen stands next.least next.stands in
-        let w = least_is_next links rest next.least here d.chains d.order valid (λ j v. next.none_below j (valid_found links seen stands j v)) next.start in
+        let valid = found_valid links view_after stored next.least next.stored in
+        let w = least_is_next links rest next.least here d.chains d.order valid (λ j v. next.none_below j (valid_found links view_after stored j v)) next.start in
         let is : rest ≡ chain_of cyclic (here ∷ w.0) ∷ w.1 = w.2 ∙ ap (λ (b : Bool). chain_of b (here ∷ w.0) ∷ w.1) (sym next.cyclic) in (
           w.0,
           w.1,
@@ -125,8 +125,8 @@ module _ {Gen T : Type 0} (following : Gen → Gen) where
             same = d.same;
             size = d.size;
             from = next.least + 1;
-            up = next.looks;
-            low = λ j v. above j (next.none_below j (valid_found links seen stands j v)) (here ∷ w.0) w.3 (ℕ_discrete next.least j);
+            up = next.lookups;
+            low = λ j v. above j (next.none_below j (valid_found links view_after stored j v)) (here ∷ w.0) w.3 (ℕ_discrete next.least j);
           },
         )
       where
@@ -134,21 +134,21 @@ module _ {Gen T : Type 0} (following : Gen → Gen) where
         above j le left has (yes same) = inr (subst (IsMember left) same has)
         above j le left has (no ne) = inl (omega arith)
 
-    module _ (i : ℕ) (xs : List ℕ) (d : IsDeparting source seen links looks ring (i ∷ xs) rest taken) where
+    module _ (i : ℕ) (xs : List ℕ) (d : IsDeparting source view_after links lookups ring (i ∷ xs) rest taken) where
       -- the first link of the chain exists
-      pub first_found : is_some (found i seen.entries) ≡ true
-      first_found = valid_found links seen stands i (chain_valid links (chain_of ring (i ∷ xs)) i (d.chains.each (chain_of ring (i ∷ xs)) (inl refl)) (subst (λ (zs : List ℕ). IsMember zs i) (sym (items_of ring (i ∷ xs))) (inl refl)))
+      pub first_found : is_some (found i view_after.entries) ≡ true
+      first_found = valid_found links view_after stored i (chain_valid links (chain_of ring (i ∷ xs)) i (d.chains.each (chain_of ring (i ∷ xs)) (inl refl)) (subst (λ (zs : List ℕ). IsMember zs i) (sym (items_of ring (i ∷ xs))) (inl refl)))
 
       -- after it is taken, the rest of the chain is left
-      pub departs_on : IsWellLinked links → (after : ArenaView Gen T) (shows : LinkMap) → after ≡ entry_removed following seen i → shows ≡ removed links i
-          → IsDeparting source after shows looks ring xs rest (taken ++ i ∷ []) × (step_forward i (next_of links i) ≡ first_or xs None)
-      departs_on agrees after shows is passed =
+      pub departs_on : IsWellLinked links → (after : ArenaView Gen T) (reports : LinkMap) → after ≡ entry_removed following view_after i → reports ≡ with_removal links i
+          → IsDeparting source after reports lookups ring xs rest (taken ++ i ∷ []) × (step_forward i (next_of links i) ≡ first_or xs None)
+      departs_on agrees after reports is passed =
           let w = first_is_taken links ring i xs rest agrees d.chains in (
             record {
               chains = subst (λ (m : LinkMap). AreChains m (with_rest ring xs rest)) (sym passed) w.0;
               order = d.order;
               same = is ∙ (ap (λ (s : ArenaView Gen T). entry_removed following s i) d.same ∙ sym (entries_removed-append source taken i));
-              size = omega (arith, d.size, ap (λ (s : ArenaView Gen T). length s.entries) is, length-without i seen.entries first_found, length-append taken (i ∷ []));
+              size = omega (arith, d.size, ap (λ (s : ArenaView Gen T). length s.entries) is, length-without i view_after.entries first_found, length-append taken (i ∷ []));
               from = d.from;
               up = d.up;
               low = λ j v. let u = (HasLink-removed links i j).0 (subst (λ (m : LinkMap). HasLink m j) passed v) in stays j u.1 (d.low j u.0);
@@ -162,23 +162,23 @@ module _ {Gen T : Type 0} (following : Gen → Gen) where
           stays j ne (inr (inr h)) = inr h
 
     -- after all were taken, none is left
-    pub all_departed : (left : List ℕ) → IsDeparting source seen links looks ring left rest taken → length taken ≡ length source.entries
-        → (seen.entries ≡ []) × (with_rest ring left rest ≡ [])
+    pub all_departed : (left : List ℕ) → IsDeparting source view_after links lookups ring left rest taken → length taken ≡ length source.entries
+        → (view_after.entries ≡ []) × (with_rest ring left rest ≡ [])
     all_departed left d all = (gone, nothing (with_rest ring left rest) d.chains)
       where
         empty : (es : List ((ℕ × Gen) × T)) → length es ≡ 0 → es ≡ []
         empty [] e = refl
         empty (x ∷ es) e = absurd (omega (arith, e))
 
-        gone : seen.entries ≡ []
-        gone = empty seen.entries (omega (arith, d.size, all))
+        gone : view_after.entries ≡ []
+        gone = empty view_after.entries (omega (arith, d.size, all))
 
-        unfound : (i : ℕ) → is_some (found i seen.entries) ≡ true → ⊥
-        unfound i there = let none : is_some (found i seen.entries) ≡ false = ap (λ (es : List ((ℕ × Gen) × T)). is_some (found i es)) gone in let both = sym there ∙ none in cc
+        unfound : (i : ℕ) → is_some (found i view_after.entries) ≡ true → ⊥
+        unfound i there = let none : is_some (found i view_after.entries) ≡ false = ap (λ (es : List ((ℕ × Gen) × T)). is_some (found i es)) gone in let both = sym there ∙ none in cc
 
         nothing : (chains : List Chain) → AreChains links chains → chains ≡ []
         nothing [] are = refl
         nothing (c ∷ chains) are =
             let h = are.each c (inl refl) in
             let some = filled-IsMember (items c) (chain_filled links c h) in
-            absurd (unfound some.0 (valid_found links seen stands some.0 (chain_valid links c some.0 h some.1)))
+            absurd (unfound some.0 (valid_found links view_after stored some.0 (chain_valid links c some.0 h some.1)))

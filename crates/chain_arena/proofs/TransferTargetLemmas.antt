@@ -3,10 +3,10 @@
 use Rattle.std.proofs.Common.{◌≡◌, ℕ, zero, suc, ◌+◌, Bool, List, [], ◌∷◌, ◌++◌, length, Option, None, Some, refl, sym, ap, ap₂, ◌∙◌, subst, length-append, arith}
 use Rattle.std.specs.Option.{option_map}
 use Rattle.chain_laws.specs.Chains.{LinkMap, Interlinks, Chain, all_items, AreChains}
-use Rattle.chain_laws.specs.Insertions.{IsInsertPosition, inserted}
+use Rattle.chain_laws.specs.Insertions.{IsInsertPosition, with_insertion}
 use Rattle.chain_laws.specs.Arrangements.{in_runs}
 use Rattle.chain_laws.specs.Transfer.{with_appended, end_before, end_after}
-use Rattle.chain_laws.proofs.TransferLemmas.Target.{last_is_laid}
+use Rattle.chain_laws.proofs.TransferLemmas.Target.{last_is_appended}
 use Rattle.arena_base.specs.Arena.{Arena, IsListed, slot_at, entry_count, filled, first_or_next, next_index, without_first}
 use Rattle.arena_base.specs.Entries.{entries, entries_from}
 use Rattle.chain_links.specs.ChainArena.{LinkView, link_value, values_of, interlinks_of, link_map, lone, insert_lone, insert_between}
@@ -26,8 +26,8 @@ module _ {Gen T : Type 0} where
 module _ {Gen T : Type 0} where
   -- the links carried over have these entries, in the runs of these chains. But for slots and
   -- placements the arena is unchanged.
-  pub record IsLanded (start now : Arena Gen (LinkView T)) (laid : List Chain) (values : List ((ℕ × Gen) × T)) : Type 0 where
-    pub chains : AreChains (link_map now) (in_runs 1 laid)
+  pub record IsLanded (start now : Arena Gen (LinkView T)) (arranged : List Chain) (values : List ((ℕ × Gen) × T)) : Type 0 where
+    pub chains : AreChains (link_map now) (in_runs 1 arranged)
     pub entered : entries (values_of now) ≡ values
     pub slots : length now.slots ≡ length values
     pub state : now ≡ record start { slots = now.slots; placed = start.placed + length values }
@@ -38,7 +38,7 @@ module _ {Gen T : Type 0} where
     chains = record {
       each = λ c h. absurd h;
       once = tt;
-      all = λ i v. absurd (nothing i v.link v.shows);
+      all = λ i v. absurd (nothing i v.link v.reports);
     };
     entered = ap (λ (s : List (Option (Gen × LinkView T))). entries (values_of (record start { slots = s }))) none;
     slots = ap length none;
@@ -71,15 +71,15 @@ module _ {Gen T : Type 0} where
       at_end = next_behind ∙ ap (λ n. n + 1) long
 
       -- there is an insertion position after the last link
-      pub gap_at_end : IsInsertPosition (link_map now) (next_index now) (end_before ring (length xs) (next_index now)) (end_after ring (length xs) (next_index now))
-      gap_at_end = (last_is_laid (link_map now) done ring xs 0 (next_index now) landed.chains at_end).1
+      pub position_at_end : IsInsertPosition (link_map now) (next_index now) (end_before ring (length xs) (next_index now)) (end_after ring (length xs) (next_index now))
+      position_at_end = (last_is_appended (link_map now) done ring xs 0 (next_index now) landed.chains at_end).1
 
       module _ (t : T) (listed : IsListed now) where
         abbrev there : Arena Gen (LinkView T)
         there = insert_between now t (end_before ring (length xs) (next_index now)) (end_after ring (length xs) (next_index now))
 
-        shown_there : link_map there ≡ inserted (link_map now) (next_index now) (end_before ring (length xs) (next_index now)) (end_after ring (length xs) (next_index now))
-        shown_there = link_map-insert_between now t listed (end_before ring (length xs) (next_index now)) (end_after ring (length xs) (next_index now))
+        reported_there : link_map there ≡ with_insertion (link_map now) (next_index now) (end_before ring (length xs) (next_index now)) (end_after ring (length xs) (next_index now))
+        reported_there = link_map-insert_between now t listed (end_before ring (length xs) (next_index now)) (end_after ring (length xs) (next_index now))
 
         values_there : entries (values_of there) ≡ values ++ ((length values + 1, start.counter), t) ∷ []
         values_there =
@@ -107,7 +107,7 @@ module _ {Gen T : Type 0} where
         -- a link is inserted after the last one
         pub landing_goes_on : (x : ℕ) → IsLanded start there (with_appended done ring (xs ++ x ∷ [])) (values ++ ((length values + 1, start.counter), t) ∷ [])
         landing_goes_on x = record {
-          chains = subst (λ (m : LinkMap). AreChains m (in_runs 1 (with_appended done ring (xs ++ x ∷ [])))) (sym shown_there) (last_is_laid (link_map now) done ring xs x (next_index now) landed.chains at_end).2;
+          chains = subst (λ (m : LinkMap). AreChains m (in_runs 1 (with_appended done ring (xs ++ x ∷ [])))) (sym reported_there) (last_is_appended (link_map now) done ring xs x (next_index now) landed.chains at_end).2;
           entered = values_there;
           slots = slots_there;
           state = state_there;

@@ -27,20 +27,20 @@ module _ {Gen X : Type 0} where
   pub valid_or_not : (eq : Gen → Gen → Bool) → ((g h : Gen) → (eq g h ≡ true) ↔ (g ≡ h)) → (a : Arena Gen X) (p : ℕ × Gen) → IsValidPtr a p ⊎ (IsValidPtr a p → ⊥)
   valid_or_not eq law a p = by (entry_at a p.0) refl where
     same : (e : Gen × X) (b : Bool) → entry_at a p.0 ≡ Some e → eq e.0 p.1 ≡ b → IsValidPtr a p ⊎ (IsValidPtr a p → ⊥)
-    same e true at is = inl (record { value = e.1; stands = at ∙ ap (λ (g : Gen). let o : Option (Gen × X) = Some (g, e.1) in o) ((law e.0 p.1).0 is) })
-    same e false at is = inr (λ valid. let h = (law e.0 p.1).1 (ap (generation_or p.1) (sym at ∙ valid.stands)) in absurd (cc))
+    same e true at is = inl (record { value = e.1; stored = at ∙ ap (λ (g : Gen). let o : Option (Gen × X) = Some (g, e.1) in o) ((law e.0 p.1).0 is) })
+    same e false at is = inr (λ valid. let h = (law e.0 p.1).1 (ap (generation_or p.1) (sym at ∙ valid.stored)) in absurd (cc))
 
     by : (o : Option (Gen × X)) → entry_at a p.0 ≡ o → IsValidPtr a p ⊎ (IsValidPtr a p → ⊥)
-    by None at = inr (λ valid. let h = sym at ∙ valid.stands in absurd (cc))
+    by None at = inr (λ valid. let h = sym at ∙ valid.stored in absurd (cc))
     by (Some e) at = same e (eq e.0 p.1) at refl
 
   -- a borrow at the index of a valid pointer is of its value
   pub lent_some : (entry : ℕ → Option (Gen × X)) (n : ℕ) (p : ℕ × Gen) (r : Option (MutBor X)) → n ≡ p.0 → IsValid entry p → option_copied_mut r ≡ option_map (λ (e : Gen × X). e.1) (entry n) → IsSome r
-  lent_some entry n p None at valid told = let h = told ∙ ap (option_map (λ (e : Gen × X). e.1)) (ap entry at ∙ valid.stands) in absurd (cc)
-  lent_some entry n p (Some t) at valid told = refl
+  lent_some entry n p None at valid known = let h = known ∙ ap (option_map (λ (e : Gen × X). e.1)) (ap entry at ∙ valid.stored) in absurd (cc)
+  lent_some entry n p (Some t) at valid known = refl
 
   pub lent_value : (entry : ℕ → Option (Gen × X)) (n : ℕ) (p : ℕ × Gen) (r : Option (MutBor X)) → n ≡ p.0 → IsValid entry p → option_copied_mut r ≡ option_map (λ (e : Gen × X). e.1) (entry n)
       → IfSome r (λ t. entry p.0 ≡ Some (p.1, t.now))
-  lent_value entry n p None at valid told = tt
-  lent_value entry n p (Some t) at valid told =
-      valid.stands ∙ ap (λ (x : X). let o : Option (Gen × X) = Some (p.1, x) in o) (let h = told ∙ ap (option_map (λ (e : Gen × X). e.1)) (ap entry at ∙ valid.stands) in let same : valid.value ≡ t.now = cc in same)
+  lent_value entry n p None at valid known = tt
+  lent_value entry n p (Some t) at valid known =
+      valid.stored ∙ ap (λ (x : X). let o : Option (Gen × X) = Some (p.1, x) in o) (let h = known ∙ ap (option_map (λ (e : Gen × X). e.1)) (ap entry at ∙ valid.stored) in let same : valid.value ≡ t.now = cc in same)

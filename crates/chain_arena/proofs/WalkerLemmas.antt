@@ -13,25 +13,25 @@ use Rattle.chain_arena.specs.Iterators.{IsOnLinks}
 
 module _ {Gen T : Type 0} (i : ℕ) where
   -- a lookup that reports a link reports the entry at the index
-  pub looked_some : (k : ℕ) (e : Gen × LinkView T) (o : Option (Gen × LinkView T)) → Some (k, e) ≡ option_map (index_and_entry i) o → o ≡ Some e
-  looked_some k e None tells = absurd (let h = tells in cc)
-  looked_some k e (Some f) tells = ap (λ (p : ℕ × (Gen × LinkView T)). let o : Option (Gen × LinkView T) = Some p.1 in o) (sym (one_some tells))
+  pub read_some : (k : ℕ) (e : Gen × LinkView T) (o : Option (Gen × LinkView T)) → Some (k, e) ≡ option_map (index_and_entry i) o → o ≡ Some e
+  read_some k e None states = absurd (let h = states in cc)
+  read_some k e (Some f) states = ap (λ (p : ℕ × (Gen × LinkView T)). let o : Option (Gen × LinkView T) = Some p.1 in o) (sym (one_some states))
 
 module _ {Gen T : Type 0} (a : Arena Gen (LinkView T)) where
   -- from an existing link, going forwards, a walker reaches existing links
-  pub onward_stands : (i : ℕ) (back : Option ℕ) (e : Gen × LinkView T) → entry_at a i ≡ Some e → IsWellLinked (link_map a) → IfSome back (HasLink (link_map a)) → IsOnLinks (link_map a) e.1.next back
-  onward_stands i back e stands agrees behind = record {
+  pub onward_stored : (i : ℕ) (back : Option ℕ) (e : Gen × LinkView T) → entry_at a i ≡ Some e → IsWellLinked (link_map a) → IfSome back (HasLink (link_map a)) → IsOnLinks (link_map a) e.1.next back
+  onward_stored i back e stored agrees behind = record {
     agrees = agrees;
-    onward = subst (λ (o : Option ℕ). IfSome o (HasLink (link_map a))) (ap (λ (o : Option (Gen × LinkView T)). next_in (option_map interlinks_of o)) stands) (next_named (link_map a) i agrees);
+    onward = subst (λ (o : Option ℕ). IfSome o (HasLink (link_map a))) (ap (λ (o : Option (Gen × LinkView T)). next_in (option_map interlinks_of o)) stored) (next_named (link_map a) i agrees);
     behind = behind;
   }
 
   -- from an existing link, going back, a walker reaches existing links
-  pub behind_stands : (i : ℕ) (e : Gen × LinkView T) → entry_at a i ≡ Some e → IsWellLinked (link_map a) → IsOnLinks (link_map a) None e.1.prev
-  behind_stands i e stands agrees = record {
+  pub behind_stored : (i : ℕ) (e : Gen × LinkView T) → entry_at a i ≡ Some e → IsWellLinked (link_map a) → IsOnLinks (link_map a) None e.1.prev
+  behind_stored i e stored agrees = record {
     agrees = agrees;
     onward = tt;
-    behind = subst (λ (o : Option ℕ). IfSome o (HasLink (link_map a))) (ap (λ (o : Option (Gen × LinkView T)). prev_in (option_map interlinks_of o)) stands) (prev_named (link_map a) i agrees);
+    behind = subst (λ (o : Option ℕ). IfSome o (HasLink (link_map a))) (ap (λ (o : Option (Gen × LinkView T)). prev_in (option_map interlinks_of o)) stored) (prev_named (link_map a) i agrees);
   }
 
   -- a walker with no next link passes nothing
@@ -39,20 +39,20 @@ module _ {Gen T : Type 0} (a : Arena Gen (LinkView T)) where
   nowhere zero start = refl
   nowhere (suc left) start = refl
 
-  module _ (start i : ℕ) (back : Option ℕ) (e : Gen × LinkView T) (stands : entry_at a i ≡ Some e) where
+  module _ (start i : ℕ) (back : Option ℕ) (e : Gen × LinkView T) (stored : entry_at a i ≡ Some e) where
     -- a walker with steps left passes the current link
     passes_first : (left : ℕ) → (left ≡ 0 → ⊥) → links_ahead a left start (Some i) back ≡ (i, e) ∷ links_ahead a (left - 1) start (step_forward start e.1.next) (step_back start e.1.next back)
     passes_first zero some = absurd (some refl)
     passes_first (suc n) some =
         let ahead : Option ℕ → ℕ → List (ℕ × (Gen × LinkView T)) = λ next left. links_ahead a left start (step_forward start next) (step_back start next back) in
         let less : n ≡ suc n - 1 = omega arith in
-        ap (λ (o : Option (Gen × LinkView T)). elim o [ None ↦ [] | Some f ↦ (i, f) ∷ ahead (next_of (link_map a) i) n ]) stands
-        ∙ ap₂ (λ (next : Option ℕ) (left : ℕ). (i, e) ∷ ahead next left) (ap (λ (o : Option (Gen × LinkView T)). next_in (option_map interlinks_of o)) stands) less
+        ap (λ (o : Option (Gen × LinkView T)). elim o [ None ↦ [] | Some f ↦ (i, f) ∷ ahead (next_of (link_map a) i) n ]) stored
+        ∙ ap₂ (λ (next : Option ℕ) (left : ℕ). (i, e) ∷ ahead next left) (ap (λ (o : Option (Gen × LinkView T)). next_in (option_map interlinks_of o)) stored) less
 
     -- the current link is the last, before the start of a cyclic chain
     pub passes_last : (left : ℕ) (next : Option ℕ) → (left ≡ 0 → ⊥) → next ≡ e.1.next → next ≡ Some start → links_ahead a left start (Some i) back ≡ (i, e) ∷ links_ahead a 0 start next back
-    passes_last left next some named round =
-        let closed : e.1.next ≡ Some start = sym named ∙ round in
+    passes_last left next some named once_around =
+        let closed : e.1.next ≡ Some start = sym named ∙ once_around in
         passes_first left some
         ∙ ap (λ (rest : List (ℕ × (Gen × LinkView T))). (i, e) ∷ rest)
         (ap₂ (λ (forth behind : Option ℕ). links_ahead a (left - 1) start forth behind)

@@ -41,26 +41,26 @@ module _ {Gen T : Type 0} where
 
 module _ {P Gen K T : Type 0} (key : P → ℕ × Gen) (number : K → Option ℕ) (following : Gen → Gen) (wraps : Gen → Bool) where
   -- A drain step removes the link at `at` and returns it; `next` is where its walk goes on.
-  pub record IsDrainStep (old : Arena Gen (LinkView T)) (at : ℕ) (answer : InvalidationOption (P × LinkBody K T)) (new : Arena Gen (LinkView T)) (next : ℕ) : Type 0 where
-    pub index : (key (value_in answer).0).0 ≡ at
-    pub stands : entry_at old at ≡ Some ((key (value_in answer).0).1, link_view number (value_in answer).1)
-    pub overflow : is_overflow answer ≡ wraps old.counter
+  pub record IsDrainStep (old : Arena Gen (LinkView T)) (at : ℕ) (returned : InvalidationOption (P × LinkBody K T)) (new : Arena Gen (LinkView T)) (next : ℕ) : Type 0 where
+    pub index : (key (value_in returned).0).0 ≡ at
+    pub stored : entry_at old at ≡ Some ((key (value_in returned).0).1, link_view number (value_in returned).1)
+    pub overflow : is_overflow returned ≡ wraps old.counter
     pub state : new ≡ remove_link following old at
     pub walk : walk_left old at ≡ at ∷ walk_left new next
 
   -- A call of `next` of a drain changes nothing if nothing is left, and else makes a step.
   abbrev pub DrainSteps : Arena Gen (LinkView T) → ℕ → Option (InvalidationOption (P × LinkBody K T)) → Arena Gen (LinkView T) → ℕ → Type 0
-  DrainSteps old at answer new next = MatchOption answer ((walk_left old at ≡ []) × (new ≡ old) × (next ≡ at)) (λ gone. IsDrainStep old at gone new next)
+  DrainSteps old at returned new next = MatchOption returned ((walk_left old at ≡ []) × (new ≡ old) × (next ≡ at)) (λ gone. IsDrainStep old at gone new next)
 
 module _ {P Gen T : Type 0} (key : P → ℕ × Gen) (following : Gen → Gen) (wraps : Gen → Bool) where
   -- A step of a drain of all links removes the first link that is left and returns it.
-  pub record IsLinkDrainStep (old : Arena Gen (LinkView T)) (at : ℕ) (answer : InvalidationOption (P × T)) (new : Arena Gen (LinkView T)) (next : ℕ) : Type 0 where
-    pub left : entries_left old at ≡ (key (value_in answer).0, (value_in answer).1) ∷ entries_left new next
-    pub overflow : is_overflow answer ≡ wraps old.counter
-    pub state : new ≡ remove_link following old (key (value_in answer).0).0
+  pub record IsLinkDrainStep (old : Arena Gen (LinkView T)) (at : ℕ) (returned : InvalidationOption (P × T)) (new : Arena Gen (LinkView T)) (next : ℕ) : Type 0 where
+    pub left : entries_left old at ≡ (key (value_in returned).0, (value_in returned).1) ∷ entries_left new next
+    pub overflow : is_overflow returned ≡ wraps old.counter
+    pub state : new ≡ remove_link following old (key (value_in returned).0).0
     -- If all links were left before, all that remain are left after.
     pub all : entries_left old at ≡ entries (values_of old) → entries_left new next ≡ entries (values_of new)
 
   -- A call of `next` changes nothing if no link is left, and else makes a step.
   abbrev pub LinkDrainSteps : Arena Gen (LinkView T) → ℕ → Option (InvalidationOption (P × T)) → Arena Gen (LinkView T) → ℕ → Type 0
-  LinkDrainSteps old at answer new next = MatchOption answer ((entries_left old at ≡ []) × (new ≡ old) × (next ≡ at)) (λ gone. IsLinkDrainStep old at gone new next)
+  LinkDrainSteps old at returned new next = MatchOption returned ((entries_left old at ≡ []) × (new ≡ old) × (next ≡ at)) (λ gone. IsLinkDrainStep old at gone new next)

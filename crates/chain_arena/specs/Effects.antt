@@ -46,7 +46,7 @@ module _ {Gen T : Type 0} where
   -- The holes are closed: links are moved to the indexes from 1 on, in order, with their values and
   -- the new indexes of their neighbors.
   pub record IsCompression (first : Gen) (following : Gen → Gen) (reset : Bool) (old new : Links Gen T) : Type 0 where
-    pub seen : IsCompressed first following reset (value_view old) (value_view new)
+    pub view_after : IsCompressed first following reset (value_view old) (value_view new)
     pub values : values_in (entries (values_of new)) ≡ values_in (entries (values_of old))
     pub links : ClosesHoles old new
 

@@ -16,14 +16,14 @@ pub record MakesLink {F P K U T : Type 0} (number : K → Option ℕ) (makes : F
   pub value : makes f p (link_view number u) t.t next
 
 -- `makes`, stated on the views of its arguments.
-pub record MakesOf {F P V U T : Type 0} (look : V → U) (makes : F → P → V → T → F → Type 0) (f : F) (p : P) (u : U) (t : T) (next : F) : Type 0 where
-  pub shown : V
-  pub looks : look shown ≡ u
-  pub made : makes f p shown t next
+pub record MakesOf {F P V U T : Type 0} (lookup : V → U) (makes : F → P → V → T → F → Type 0) (f : F) (p : P) (u : U) (t : T) (next : F) : Type 0 where
+  pub reported : V
+  pub lookups : lookup reported ≡ u
+  pub made : makes f p reported t next
 
 -- `may_refuse`, stated on such views.
 abbrev pub RefusesOf : {P V U : Type 0} → (V → U) → (P → V → Type 0) → P → U → Type 0
-RefusesOf {V = V} look may_refuse p u = (link_map : V) × (look link_map ≡ u) × may_refuse p link_map
+RefusesOf {V = V} lookup may_refuse p u = (link_map : V) × (lookup link_map ≡ u) × may_refuse p link_map
 
 -- The value of a link of the source may be refused.
 abbrev pub HasRefusableLink : {P K U Gen : Type 0} → (K → Option ℕ) → (P → LinkBody K U → Type 0) → (P → ℕ × Gen) → Arena Gen (LinkView U) → Type 0
@@ -33,7 +33,7 @@ HasRefusableLink number may_refuse key source = HasRefusable (RefusesOf (link_vi
 pub record IsLinkCopyBy {F P U T Gen : Type 0} (makes : F → P → LinkView U → T → F → Type 0) (key : P → ℕ × Gen) (f : F) (source : Arena Gen (LinkView U)) (old new : Arena Gen (LinkView T)) (last : F) : Type 0 where
   -- The slots, except for the values, the counter and the freed list are those of the source.
   pub slots : HasSlotsOf source old new
-  pub shows : link_map new ≡ link_map source
+  pub reports : link_map new ≡ link_map source
   -- The maker of values is passed each link of the source once, in ascending index order, and is
   -- `last` then.
   pub values : CopiesBy makes key f (entries source) (entries (values_of new)) last
@@ -56,5 +56,5 @@ IsClone first maximum source copy = copy ≡ record (new_arena first maximum) {
 -- views do.
 pub record IsCopyBelow {K T Gen A : Type 0} (number : K → Option ℕ) (copies : Arena Gen (LinkBody K T) → A → A → Type 0) (source : Arena Gen (LinkView T)) (old new : A) : Type 0 where
   pub links : Arena Gen (LinkBody K T)
-  pub seen : links_view number links ≡ source
+  pub view_after : links_view number links ≡ source
   pub copied : copies links old new

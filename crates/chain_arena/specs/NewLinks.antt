@@ -51,19 +51,19 @@ refusal_of refused.AllocError = failed.AllocError
 
 -- A position, or the error of a growth.
 abbrev pub position_unless_refused : {I : Type 0} → InsertPosition I → Result Unit ReallocationError → Result (InsertPosition I) ChainInsertionError
-position_unless_refused gap grown = result_map_both (λ done. gap) refusal_of grown
+position_unless_refused position grown = result_map_both (λ done. position) refusal_of grown
 
 module _ {P I Gen T : Type 0} (key : P → ℕ × Gen) (number : I → ℕ) where
   -- A position is that of a kind.
-  pub record IsPositionFor (old : Links Gen T) (kind : InsertKindBody P I) (gap : InsertPosition I) : Type 0 where
+  pub record IsPositionFor (old : Links Gen T) (kind : InsertKindBody P I) (position : InsertPosition I) : Type 0 where
     pub may : MayInsertInto key number old kind
     -- The new link is between the links that the kind gives.
-    pub before : before_in number gap (next_index old) ≡ link_before (link_map old) (indexed_kind key number kind) (next_index old)
-    pub after : after_in number gap (next_index old) ≡ link_after (link_map old) (indexed_kind key number kind) (next_index old)
+    pub before : before_in number position (next_index old) ≡ link_before (link_map old) (indexed_kind key number kind) (next_index old)
+    pub after : after_in number position (next_index old) ≡ link_after (link_map old) (indexed_kind key number kind) (next_index old)
 
   -- The result of a search for the position of a kind within the capacity.
   abbrev pub FindsPositionWithin : Links Gen T → InsertKindBody P I → Result (InsertPosition I) ChainInsertionError → Type 0
-  FindsPositionWithin old kind (Ok gap) = IsPositionFor old kind gap × (entry_count old < old.capacity)
+  FindsPositionWithin old kind (Ok position) = IsPositionFor old kind position × (entry_count old < old.capacity)
   FindsPositionWithin old kind (Err failed.FailedLinkRequirement) = MayInsertInto key number old kind → ⊥
   FindsPositionWithin old kind (Err failed.NotWithinCapacity) = MayInsertInto key number old kind × (entry_count old ≡ old.capacity)
   FindsPositionWithin old kind (Err failed.BeyondMaxCapacity) = ⊥
@@ -72,26 +72,26 @@ module _ {P I Gen T : Type 0} (key : P → ℕ × Gen) (number : I → ℕ) wher
   -- The result of a search for the position of a kind, where a full arena grows, and the arena
   -- then.
   abbrev pub FindsPositionGrowing : (ℕ → Option ℕ → ℕ → ℕ → Type 0) → ℕ → Links Gen T → InsertKindBody P I → Result (InsertPosition I) ChainInsertionError → Links Gen T → Type 0
-  FindsPositionGrowing may_reach greatest old kind (Ok gap) new = IsPositionFor old kind gap × HasGrown may_reach greatest old new
+  FindsPositionGrowing may_reach greatest old kind (Ok position) new = IsPositionFor old kind position × HasGrown may_reach greatest old new
   FindsPositionGrowing may_reach greatest old kind (Err failed.FailedLinkRequirement) new = (MayInsertInto key number old kind → ⊥) × (new ≡ old)
   FindsPositionGrowing may_reach greatest old kind (Err failed.BeyondMaxCapacity) new = MayInsertInto key number old kind × RefusesOneMore old refused.BeyondMaxCapacity × (new ≡ old)
   FindsPositionGrowing may_reach greatest old kind (Err failed.AllocError) new = MayInsertInto key number old kind × RefusesOneMore old refused.AllocError × (new ≡ old)
   FindsPositionGrowing may_reach greatest old kind (Err failed.NotWithinCapacity) new = ⊥
 
   -- A link is inserted at a position.
-  pub record IsInsertedIn (old : Links Gen T) (gap : InsertPosition I) (t : T) (p : P) (new : Links Gen T) : Type 0 where
+  pub record IsInsertedIn (old : Links Gen T) (position : InsertPosition I) (t : T) (p : P) (new : Links Gen T) : Type 0 where
     pub pointer : key p ≡ (next_index old, old.counter)
-    pub state : new ≡ insert_between old t (before_in number gap (next_index old)) (after_in number gap (next_index old))
+    pub state : new ≡ insert_between old t (before_in number position (next_index old)) (after_in number position (next_index old))
     -- In every arena each free slot is listed, and the interlinks agree.
     pub listed : IsListed old
     pub agreed : IsWellLinked (link_map old)
 
   -- A link is inserted at the position found, or nothing changes if there is none.
   abbrev pub InsertsAt : Links Gen T → Result (InsertPosition I) ChainInsertionError → T → Result P ChainInsertionError → Links Gen T → Type 0
-  InsertsAt old (Ok gap) t (Ok p) new = IsInsertedIn old gap t p new
-  InsertsAt old (Ok gap) t (Err why) new = ⊥
+  InsertsAt old (Ok position) t (Ok p) new = IsInsertedIn old position t p new
+  InsertsAt old (Ok position) t (Err why) new = ⊥
   InsertsAt old (Err why) t (Ok p) new = ⊥
-  InsertsAt old (Err why) t (Err answered) new = (answered ≡ why) × (new ≡ old)
+  InsertsAt old (Err why) t (Err responded) new = (responded ≡ why) × (new ≡ old)
 
 -- The effects of the insertions on a chain arena: the result, and the arena after it.
 module _ {P I Gen T : Type 0} (key : P → ℕ × Gen) (number : I → ℕ) (old : Links Gen T) (kind : InsertKindBody P I) (t : T) (new : Links Gen T) where
@@ -118,13 +118,13 @@ module _ {P I Gen T : Type 0} (key : P → ℕ × Gen) (number : I → ℕ) (old
       pub err : OnErr result (new ≡ old)
       pub link : (result ≡ Err failed.FailedLinkRequirement) ↔ (MayInsertInto key number old kind → ⊥)
       pub error : IfErr result (λ e. e ≢ failed.NotWithinCapacity)
-      pub room : MayInsertInto key number old kind → SucceedsWithinCapacity (value_view old) result (value_view new)
+      pub within_capacity : MayInsertInto key number old kind → SucceedsWithinCapacity (value_view old) result (value_view new)
       pub grown : OnOk result (IsCapacityFor most (value_view new).maximum (count (value_view old) + 1) (value_view new).capacity)
       pub beyond : (result ≡ Err failed.BeyondMaxCapacity) ↔ (MayInsertInto key number old kind × NeedsBeyondMaximum (value_view old))
       pub greatest : count (value_view old) ≡ most → IsErr result
       pub place : IfOk result (λ p. (key p).0 ≡ next_index old)
       pub state : OnOk result (new ≡ with_capacity_of (insert_as old (indexed_kind key number kind) t) new)
-      pub state_in_room : MayInsertInto key number old kind → entry_count old < old.capacity → new ≡ insert_as old (indexed_kind key number kind) t
+      pub state_within_capacity : MayInsertInto key number old kind → entry_count old < old.capacity → new ≡ insert_as old (indexed_kind key number kind) t
       pub state_grown : OnOk result (ReachesCapacity may_reach most (entry_count old + 1) old new)
 
     -- The effects of `insert`, given a kind that may be inserted.
@@ -132,11 +132,11 @@ module _ {P I Gen T : Type 0} (key : P → ℕ × Gen) (number : I → ℕ) (old
       pub inserted : IfOk result (λ p. GainsLink value_view entry link_map (names_in key number kind) t old (key p) new)
       pub agreed : IsWellLinked (link_map old)
       pub err : OnErr result (new ≡ old)
-      pub room : SucceedsWithinCapacity (value_view old) result (value_view new)
+      pub within_capacity : SucceedsWithinCapacity (value_view old) result (value_view new)
       pub grown : OnOk result (IsCapacityFor most (value_view new).maximum (count (value_view old) + 1) (value_view new).capacity)
       pub beyond : (result ≡ Err refused.BeyondMaxCapacity) ↔ NeedsBeyondMaximum (value_view old)
       pub greatest : count (value_view old) ≡ most → IsErr result
       pub place : IfOk result (λ p. (key p).0 ≡ next_index old)
       pub state : OnOk result (new ≡ with_capacity_of (insert_as old (indexed_kind key number kind) t) new)
-      pub state_in_room : entry_count old < old.capacity → new ≡ insert_as old (indexed_kind key number kind) t
+      pub state_within_capacity : entry_count old < old.capacity → new ≡ insert_as old (indexed_kind key number kind) t
       pub state_grown : OnOk result (ReachesCapacity may_reach most (entry_count old + 1) old new)

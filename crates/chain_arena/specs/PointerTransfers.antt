@@ -12,7 +12,7 @@ use Rattle.chain_arena.specs.Transfers.{Carried, IsTransfer}
 
 -- The closure was passed the old value of a link, and returned its new value.
 abbrev pub IsMapped : {Q P U T : Type 0} → Carried Q P U T → U → T → Type 0
-IsMapped c u t = (value_in c.value ≡ u) × (c.answer ≡ t)
+IsMapped c u t = (value_in c.value ≡ u) × (c.returned ≡ t)
 
 -- The links transferred from any arena are moves from the pointers of the source to the pointers of
 -- the target.

@@ -39,17 +39,17 @@ module _ {T I : Type 0} (recasts : T → T → Result (Unit {0}) I → Type 0) w
   module _ {Gen : Type 0} where
     -- The values are recast in ascending index order. Generations, interlinks and the rest of the
     -- state stay.
-    pub record IsRecast (old new : Arena Gen (LinkView T)) (answer : Result (Unit {0}) I) : Type 0 where
+    pub record IsRecast (old new : Arena Gen (LinkView T)) (returned : Result (Unit {0}) I) : Type 0 where
       pub rest : with_each link_without_value new ≡ with_each link_without_value old
-      pub shows : link_map new ≡ link_map old
-      pub values : AreRecast (values_in (value_view old).entries) (values_in (value_view new).entries) answer
+      pub reports : link_map new ≡ link_map old
+      pub values : AreRecast (values_in (value_view old).entries) (values_in (value_view new).entries) returned
 
     -- The value at a key is recast, and all else stays.
-    pub record IsRecastAt (old new : Arena Gen (LinkView T)) (p : ℕ × Gen) (answer : Result (Unit {0}) I) : Type 0 where
+    pub record IsRecastAt (old new : Arena Gen (LinkView T)) (p : ℕ × Gen) (returned : Result (Unit {0}) I) : Type 0 where
       pub was : T
       pub is : T
-      pub stood : entry old p.0 ≡ Some (p.1, was)
+      pub was_stored : entry old p.0 ≡ Some (p.1, was)
       pub state : new ≡ with_value_at old p.0 is
-      pub shows : link_map new ≡ link_map old
+      pub reports : link_map new ≡ link_map old
       pub entries : (value_view new).entries ≡ replaced p.0 (λ e. (e.0, is)) (value_view old).entries
-      pub recast : recasts was is answer
+      pub recast : recasts was is returned

@@ -34,13 +34,13 @@ abbrev pub AreSameResults : {X Y : Type 0} → (X → Y) → InvalidationResult 
 AreSameResults see InvalidPtr InvalidPtr = ⊤
 AreSameResults see (Success x) (Success y) = see x ≡ see y
 AreSameResults see (GenerationOverflow x) (GenerationOverflow y) = see x ≡ see y
-AreSameResults see answer other = ⊥
+AreSameResults see returned other = ⊥
 
 module _ {P I Gen W T : Type 0} where
   -- Equal replies, where a link is seen as its neighbors and its value.
   abbrev pub AreSameReplies : (PackedOption I W → Option ℕ) → Reply P T I Gen W → Reply P T I Gen W → Type 0
-  AreSameReplies packed (reply.Removed answer) (reply.Removed other) = AreSameResults (link_view packed) answer other
-  AreSameReplies packed (reply.RemovedInx answer) (reply.RemovedInx other) = AreSameResults (pair_view packed) answer other
+  AreSameReplies packed (reply.Removed returned) (reply.Removed other) = AreSameResults (link_view packed) returned other
+  AreSameReplies packed (reply.RemovedInx returned) (reply.RemovedInx other) = AreSameResults (pair_view packed) returned other
   AreSameReplies packed r s = r ≡ s
 
   -- Whether a reply is a refusal of memory or of an index above the greatest.

@@ -75,15 +75,15 @@ module _ {P I Gen W : Type 0} (pointers : PointerKind P I Gen W) where
 
     -- The link at an index is removed, and returned as it was.
     pub record IsTaken (old : Links Gen T) (i : ℕ) (g : Gen) (link : HeldLink T) (new : Links Gen T) : Type 0 where
-      pub stood : entry_at old i ≡ Some (g, link_view pointers.packed link)
+      pub was_stored : entry_at old i ≡ Some (g, link_view pointers.packed link)
       pub removal : IsRemoval pointers.following old i new
 
     -- A removal, by pointer or by index.
     abbrev pub RemoveStep : Links Gen T → ℕ × Gen → InvalidationResult (HeldLink T) → Links Gen T → Type 0
-    RemoveStep old p answer new = ReportsOverflow ((IsValid (entry old) p → ⊥) × (new ≡ old)) (pointers.wraps old.counter) (λ link. IsTaken old p.0 p.1 link new) answer
+    RemoveStep old p returned new = ReportsOverflow ((IsValid (entry old) p → ⊥) × (new ≡ old)) (pointers.wraps old.counter) (λ link. IsTaken old p.0 p.1 link new) returned
 
     abbrev pub RemoveInxStep : Links Gen T → ℕ → InvalidationResult (Gen × HeldLink T) → Links Gen T → Type 0
-    RemoveInxStep old i answer new = ReportsOverflow ((entry old i ≡ None) × (new ≡ old)) (pointers.wraps old.counter) (λ e. IsTaken old i e.0 e.1 new) answer
+    RemoveInxStep old i returned new = ReportsOverflow ((entry old i ≡ None) × (new ≡ old)) (pointers.wraps old.counter) (λ e. IsTaken old i e.0 e.1 new) returned
 
     -- A link has the next generation, with this pointer, and stays in its chain.
     abbrev pub IsRenewed : Links Gen T → ℕ × Gen → P → Links Gen T → Type 0
@@ -91,7 +91,7 @@ module _ {P I Gen W : Type 0} (pointers : PointerKind P I Gen W) where
         IsValid (entry old) p × (pointers.key q ≡ (p.0, pointers.following old.counter)) × (new ≡ renewed_at pointers.following old p.0) × (link_map new ≡ link_map old)
 
     abbrev pub InvalidateStep : Links Gen T → ℕ × Gen → InvalidationResult P → Links Gen T → Type 0
-    InvalidateStep old p answer new = ReportsOverflow ((IsValid (entry old) p → ⊥) × (new ≡ old)) (pointers.wraps old.counter) (λ q. IsRenewed old p q new) answer
+    InvalidateStep old p returned new = ReportsOverflow ((IsValid (entry old) p → ⊥) × (new ≡ old)) (pointers.wraps old.counter) (λ q. IsRenewed old p q new) returned
 
     -- A drain of a chain.
     abbrev pub DrainChainStep : Links Gen T → ℕ × Gen → ℕ → Option ℕ → Links Gen T → Type 0
@@ -113,20 +113,20 @@ module _ {P I Gen W : Type 0} (pointers : PointerKind P I Gen W) where
 
     -- A step of the machine: the reply to a call, and the arena after it.
     abbrev pub Step : Links Gen T → Call P T I Gen W → Reply P T I Gen W → Links Gen T → Type 0
-    Step old (call.Insert kind t) r new = (answer : Result P ChainInsertionError) × (r ≡ reply.Inserted answer) × InsertStep old kind t answer new
-    Step old (call.InsertWithin kind t) r new = (answer : Result P ChainInsertionError) × (r ≡ reply.Inserted answer) × InsertWithinStep old kind t answer new
+    Step old (call.Insert kind t) r new = (returned : Result P ChainInsertionError) × (r ≡ reply.Inserted returned) × InsertStep old kind t returned new
+    Step old (call.InsertWithin kind t) r new = (returned : Result P ChainInsertionError) × (r ≡ reply.Inserted returned) × InsertWithinStep old kind t returned new
     Step old (call.Connect p q) r new = (done : Bool) × (r ≡ reply.Done done) × ConnectStep old (pointers.key p) (pointers.key q) done new
     Step old (call.BreakPrev p) r new = (done : Bool) × (r ≡ reply.Done done) × BreakPrevStep old (pointers.key p) done new
     Step old (call.BreakNext p) r new = (done : Bool) × (r ≡ reply.Done done) × BreakNextStep old (pointers.key p) done new
     Step old (call.ExchangeNext p q) r new = (done : Bool) × (r ≡ reply.Done done) × ExchangeStep old (pointers.key p) (pointers.key q) done new
-    Step old (call.Remove p) r new = (answer : InvalidationResult (HeldLink T)) × (r ≡ reply.Removed answer) × RemoveStep old (pointers.key p) answer new
-    Step old (call.RemoveInx i) r new = (answer : InvalidationResult (Gen × HeldLink T)) × (r ≡ reply.RemovedInx answer) × RemoveInxStep old (pointers.number i) answer new
-    Step old (call.Invalidate p) r new = (answer : InvalidationResult P) × (r ≡ reply.Renewed answer) × InvalidateStep old (pointers.key p) answer new
-    Step old (call.DrainChain p take) r new = (answer : Option ℕ) × (r ≡ reply.Drained answer) × DrainChainStep old (pointers.key p) take answer new
+    Step old (call.Remove p) r new = (returned : InvalidationResult (HeldLink T)) × (r ≡ reply.Removed returned) × RemoveStep old (pointers.key p) returned new
+    Step old (call.RemoveInx i) r new = (returned : InvalidationResult (Gen × HeldLink T)) × (r ≡ reply.RemovedInx returned) × RemoveInxStep old (pointers.number i) returned new
+    Step old (call.Invalidate p) r new = (returned : InvalidationResult P) × (r ≡ reply.Renewed returned) × InvalidateStep old (pointers.key p) returned new
+    Step old (call.DrainChain p take) r new = (returned : Option ℕ) × (r ≡ reply.Drained returned) × DrainChainStep old (pointers.key p) take returned new
     Step old call.Clear r new = (r ≡ overflow_reply (overflows_after_clear pointers.wraps (entry_count old) old.counter)) × (new ≡ cleared pointers.following old)
     Step old (call.Compress reset) r new = (r ≡ compression_reply old reset) × IsCompression pointers.first pointers.following reset old new
     Step old (call.CompressCanonical reset) r new = (r ≡ compression_reply old reset) × IsCanonicalCompression pointers.first pointers.following reset old new
-    Step old (call.Reserve n) r new = (answer : Result Unit ReallocationError) × (r ≡ reply.Reserved answer) × ReserveStep old n answer new
+    Step old (call.Reserve n) r new = (returned : Result Unit ReallocationError) × (r ≡ reply.Reserved returned) × ReserveStep old n returned new
     Step old (call.SetGeneration g) r new = (r ≡ reply.Set) × (new ≡ with_counter old g)
     Step old call.IncGeneration r new = (r ≡ overflow_reply (pointers.wraps old.counter)) × (new ≡ with_counter old (pointers.following old.counter))
 

@@ -21,7 +21,7 @@ pub record Carried (Q P U T : Type 0) : Type 0 where
   pub from : Q
   pub value : InvalidationOption U
   pub to : P
-  pub answer : T
+  pub returned : T
 
 -- Whether each of n removals, one after another, overflows the counter.
 abbrev pub overflows : {Gen : Type 0} → (Gen → Gen) → (Gen → Bool) → ℕ → Gen → List Bool
@@ -41,7 +41,7 @@ module _ {Q P G Gen U T F : Type 0} (key : Q → ℕ × G) (new_key : P → ℕ 
   -- A call of the closure with a link's old pointer, its value with the overflow, and its new
   -- pointer; and the result.
   abbrev pub IsCarryCall : F → Carried Q P U T → F → Type 0
-  IsCarryCall f c next = Called call f (c.from, (c.value, (c.to, tt))) c.answer next
+  IsCarryCall f c next = Called call f (c.from, (c.value, (c.to, tt))) c.returned next
 
   -- All links of a source, given by its view and interlinks, are moved to another arena.
   pub record IsTransfer (generation : Gen) (f : F) (source : ArenaView G U) (interlinks : LinkMap) (source_after : ArenaView G U) (old new : Arena Gen (LinkView T)) : Type 0 where
@@ -56,11 +56,11 @@ module _ {Q P G Gen U T F : Type 0} (key : Q → ℕ × G) (new_key : P → ℕ 
     -- The closure is called once per link, in that order, with its pointer, value and overflow.
     pub last : F
     pub in_turn : FoldsTo IsCarryCall f carried last
-    pub stood : All (λ c. found (old_index key c) source.entries ≡ Some ((key c.from).1, value_in c.value)) carried
+    pub was_stored : All (λ c. found (old_index key c) source.entries ≡ Some ((key c.from).1, value_in c.value)) carried
     pub overflow : IfSome source.counter (λ g. map (λ c. is_overflow c.value) carried ≡ overflows following wraps (length carried) g)
     -- The closure's results are the values. The slots are exactly the links, and none is free.
     -- Otherwise only the counter, the capacity and the number of placements change.
-    pub values : entries (values_of new) ≡ map (λ c. (new_key c.to, c.answer)) carried
+    pub values : entries (values_of new) ≡ map (λ c. (new_key c.to, c.returned)) carried
     pub slots : length new.slots ≡ length carried
     pub state : new ≡ record old {
       slots = new.slots;

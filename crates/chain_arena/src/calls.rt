@@ -240,14 +240,14 @@ fn replies_to<P: PtrKey, T: Drop, S: SlotStack<Item = ArenaSlot<P, LinkNoGen<P, 
 
 /// States that the chain machine leaves no more open than the calls do.
 ///
-/// - `in_room`: an arena and calls that need no growth determine the replies, and the arena except
+/// - `runs_determined`: an arena and calls that need no growth determine the replies, and the arena except
 ///   for its count of touched slots.
-/// - `by_room`: so they do with growth, if each call leaves the same capacity.
+/// - `by_capacity`: so they do with growth, if each call leaves the same capacity.
 /// - `step`: an arena and a call determine the reply, and the arena except for its capacity and
 ///   touches. This holds if memory is refused to both runs or to neither, or if more links are
 ///   needed than the greatest index.
 pub fn runs_are_determined<P: PtrKey, T: Drop>()
-    ensures in_room { RunIsDetermined ⟦<P as AnyPointer>⟧.kind T }
+    ensures runs_determined { RunIsDetermined ⟦<P as AnyPointer>⟧.kind T }
     ensures step { StepIsDetermined ⟦<P as AnyPointer>⟧.kind T }
-    ensures by_room { RunIsDeterminedByCapacity ⟦<P as AnyPointer>⟧.kind T }
+    ensures by_capacity { RunIsDeterminedByCapacity ⟦<P as AnyPointer>⟧.kind T }
 {}

@@ -52,14 +52,14 @@ impl<P: PtrKey, T: Drop, S: SlotStack<Item = ArenaSlot<P, LinkNoGen<P, T>>>> Adv
 
     type Item = P;
 
-    ghost gives = { λ a arena answer b. IsPassing (entry arena) (link_map arena)
-        (walker_of P.Inx.number a.left a.start a.forth a.back) (option_map P.key answer)
+    ghost gives = { λ a arena returned b. IsPassing (entry arena) (link_map arena)
+        (walker_of P.Inx.number a.left a.start a.forth a.back) (option_map P.key returned)
         (walker_of P.Inx.number b.left b.start b.forth b.back) };
 
     ghost is_spent = { λ a. a.left ≡ 0 };
 
-    ghost stays_spent = { λ a b arena answer spent given. spent_stays P.key (entry arena)
-        (link_map arena) answer spent given };
+    ghost stays_spent = { λ a b arena returned spent given. spent_stays P.key (entry arena)
+        (link_map arena) returned spent given };
 
     fn advance(&mut self, collection: &ChainArena<P, T, S>) -> Option<P> {
         if self.left == 0 {

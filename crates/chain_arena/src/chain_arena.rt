@@ -23,10 +23,10 @@ use arena_ptr::{
     AllocError, HeapStack, InvalidationOption, InvalidationResult, LimitStack,
     MaxCapacityReductionError, PtrKey, SetMaxCapacity, SlotStack,
 };
-use chain_compaction::canonical::lay_out;
+use chain_compaction::canonical::arrange;
 use chain_compaction::compress::begin_generation;
 use chain_compaction::visitor::Visitor;
-use chain_linking::insert_position::{InsertPosition, gap_of};
+use chain_linking::insert_position::{InsertPosition, position_of_kind};
 use chain_linking::link_writes::take_out;
 use chain_links::kinds::by_names;
 use chain_links::{LinkInsertKind, LinkNoGen};
@@ -94,7 +94,7 @@ impl<P: PtrKey, T: Drop, S: SlotStack<Item = ArenaSlot<P, LinkNoGen<P, T>>>> Cha
         ensures listed { IsListed self.now }
 
         // The capacity is the lesser of the stack's capacity and the greatest index.
-        ensures room { HasCapacityFor P.Inx.greatest (length self.now.slots) self.now }
+        ensures within_capacity { HasCapacityFor P.Inx.greatest (length self.now.slots) self.now }
     {
         // Naming the field opens the invariant of the type, that the interlinks agree.
         let _ = &self.arena;
@@ -104,16 +104,16 @@ impl<P: PtrKey, T: Drop, S: SlotStack<Item = ArenaSlot<P, LinkNoGen<P, T>>>> Cha
     // Returns the insertion position of a kind, or `None` if the requirement of the kind is not
     // met.
     #[inline(always)]
-    pub(crate) fn gap_for(&self, kind: LinkInsertKind<P>) -> Option<InsertPosition<P::Inx>>
-        ensures gap { IsPositionOf P.Inx.number (entry self.now) (link_map self.now)
+    pub(crate) fn position_for(&self, kind: LinkInsertKind<P>) -> Option<InsertPosition<P::Inx>>
+        ensures position { IsPositionOf P.Inx.number (entry self.now) (link_map self.now)
             (names_in P.key P.Inx.number kind) result }
         ensures agree { IsWellLinked (link_map self.now) }
     {
-        gap_of(&self.arena, by_names(kind))
+        position_of_kind(&self.arena, by_names(kind))
     }
 
     pub(crate) fn unlink(&mut self, i: P::Inx) -> InvalidationResult<(P::Gen, LinkNoGen<P, T>)>
-        ensures answer { option_map (pair_view P.Inx.packed_number) (value_within result)
+        ensures returned { option_map (pair_view P.Inx.packed_number) (value_within result)
             ≡ entry_at self.old (P.Inx.number i) }
         ensures overflow { result ≡ invalidation_result (P.Gen.wraps self.old.counter)
             (value_within result) }
@@ -168,7 +168,7 @@ impl<P: PtrKey, T: Drop, S: SlotStack<Item = ArenaSlot<P, LinkNoGen<P, T>>>> Cha
             (value_view self.old)
             (link_map self.old) (value_view self.new) (link_map self.new) }
         ensures stack_capacity { self.new.stack_capacity ≡ self.old.stack_capacity }
-        ensures shows { ReportsAll V.sees P.key (value_view self.old)
+        ensures reports { ReportsAll V.sees P.key (value_view self.old)
             (link_map self.old) self.new.counter
             visitor result.1 }
         ensures ready { V.is_ready result.1 }
@@ -180,7 +180,7 @@ impl<P: PtrKey, T: Drop, S: SlotStack<Item = ArenaSlot<P, LinkNoGen<P, T>>>> Cha
         ensures agreed { IsWellLinked (link_map self.old) }
     {
         let overflow = begin_generation(&mut self.arena, reset);
-        let (visitor, work) = lay_out(&mut self.arena, visitor);
+        let (visitor, work) = arrange(&mut self.arena, visitor);
         (overflow, visitor, work)
     }
 
@@ -198,7 +198,7 @@ impl<P: PtrKey, T: Drop, S: SlotStack<Item = ArenaSlot<P, LinkNoGen<P, T>>>> Cha
             (value_view self.old)
             (link_map self.old) (value_view self.new) (link_map self.new) }
         ensures stack_capacity { self.new.stack_capacity ≡ self.old.stack_capacity }
-        ensures shows { ReportsLayout F.FnMut P.key (value_view self.old)
+        ensures reports { ReportsLayout F.FnMut P.key (value_view self.old)
             (link_map self.old) self.new.counter
             map }
         ensures overflow { result ≡ invalidation_option
@@ -275,7 +275,7 @@ impl<P: PtrKey, T: Drop, S: SlotStack<Item = ArenaSlot<P, LinkNoGen<P, T>>>> Cha
             (map entry_of (S.items result.now)) ≡ self.now.slots }
         ensures freed { ThreadsFreeList P.Inx.number (S.items result.now) self.now.freed }
         ensures capacity { S.capacity result.now ≡ self.now.stack_capacity }
-        ensures room { self.now.capacity ≡ min (S.capacity result.now) P.Inx.greatest }
+        ensures within_capacity { self.now.capacity ≡ min (S.capacity result.now) P.Inx.greatest }
         ensures maximum { S.maximum result.now ≡ self.now.maximum }
     {
         self.arena.backing()

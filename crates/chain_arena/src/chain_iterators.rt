@@ -7,10 +7,10 @@ ghost use Rattle.chain_links.specs.Links.{links_view};
 ghost use Rattle.chain_links.specs.Walkers.{links_ahead, item_view};
 ghost use Rattle.chain_arena.specs.Iterators.{IsOnLinks};
 
-use arena_base::{Arena, ArenaSlot, ArenaTrait, excluded};
+use arena_base::{Arena, ArenaSlot, ArenaTrait, proved_unreachable};
 use arena_ptr::{HeapStack, PtrKey, SlotStack};
 use chain_linking::insert_position::is_index;
-use chain_linking::walk_step::look;
+use chain_linking::walk_step::lookup;
 use chain_links::LinkNoGen;
 use std::marker::Model;
 
@@ -98,7 +98,7 @@ impl<'a, P: PtrKey, T: Drop, S: SlotStack<Item = ArenaSlot<P, LinkNoGen<P, T>>>>
             return None;
         }
         match self.forth {
-            Some(i) => match look(self.arena, i) {
+            Some(i) => match lookup(self.arena, i) {
                 Some(item) => {
                     self.left -= 1;
                     self.forth = item.1.next();
@@ -108,16 +108,16 @@ impl<'a, P: PtrKey, T: Drop, S: SlotStack<Item = ArenaSlot<P, LinkNoGen<P, T>>>>
                     }
                     Some(item)
                 }
-                None => excluded!(),
+                None => proved_unreachable!(),
             },
             None => match self.back {
-                Some(i) => match look(self.arena, i) {
+                Some(i) => match lookup(self.arena, i) {
                     Some(item) => {
                         self.left -= 1;
                         self.back = item.1.prev();
                         Some(item)
                     }
-                    None => excluded!(),
+                    None => proved_unreachable!(),
                 },
                 None => None,
             },

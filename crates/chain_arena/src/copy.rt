@@ -9,7 +9,7 @@ ghost use Rattle.chain_links.specs.Links.{link_view};
 ghost use Rattle.chain_arena.specs.LinkCopies.{MakesOf, HasRefusableLink, IsLinkCopy, IsLinkCopyBy, IsClone, IsCopyBelow};
 
 use crate::chain_arena::ChainArena;
-use arena_base::{Answering, Arena, ArenaCloneFromWith, ArenaSlot, ArenaTrait, ValueMap};
+use arena_base::{Arena, ArenaCloneFromWith, ArenaSlot, ArenaTrait, ClosureMap, ValueMap};
 use arena_ptr::{AllocError, InxKey, PackedOption, PtrKey, ReallocationError, SlotStack};
 use chain_links::{LinkBody, LinkNoGen};
 use std::alloc::Global;
@@ -129,7 +129,7 @@ impl<P: PtrKey, T: Drop, S: SlotStack<Item = ArenaSlot<P, LinkNoGen<P, T>>>> Cha
         ensures err { OnErr result (self.new ≡ self.old) }
         ensures agreed { IsWellLinked (link_map source.now) }
     {
-        let (done, _) = self.clone_from_by(source, Answering { map });
+        let (done, _) = self.clone_from_by(source, ClosureMap { map });
         done
     }
 
@@ -208,7 +208,7 @@ impl<P: PtrKey, T: Drop, S: SlotStack<Item = ArenaSlot<P, LinkNoGen<P, T>>>> Cha
         ensures more { OnOk result (IsCopyBelow P.Inx.packed_number (A.copies _) self.now arena.old
             arena.new) }
     {
-        let (done, _) = self.clone_to_arena_by(arena, Answering { map });
+        let (done, _) = self.clone_to_arena_by(arena, ClosureMap { map });
         done
     }
 }
@@ -252,10 +252,11 @@ impl<P: PtrKey, T: Clone, S: SlotStack<Item = ArenaSlot<P, LinkNoGen<P, T>>>> Ch
         ensures beyond { (result ≡ Err ReallocationError.BeyondMaxCapacity)
             ↔ IsBeyond S.initial_maximum (length self.now.slots) }
         ensures copied { IfOk result (IsClone P.Gen.first S.initial_maximum self.now) }
-        ensures room { IfOk result (HasCapacityFor P.Inx.greatest (length self.now.slots)) }
+        ensures within_capacity { IfOk result
+            (HasCapacityFor P.Inx.greatest (length self.now.slots)) }
         ensures reached { IfOk result (IsWithinReach S.may_reach (length self.now.slots)
             (new_arena P.Gen.first S.initial_maximum)) }
-        ensures no_room { self.now.slots ≡ [] → IfOk result (λ copy. copy.stack_capacity ≡ 0)
+        ensures no_capacity { self.now.slots ≡ [] → IfOk result (λ copy. copy.stack_capacity ≡ 0)
             × IsOk result }
         ensures agreed { IsWellLinked (link_map self.now) }
     {

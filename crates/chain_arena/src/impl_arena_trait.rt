@@ -36,7 +36,7 @@ impl<P: PtrKey, T: Drop, S: SlotStack<Item = ArenaSlot<P, LinkNoGen<P, T>>>> Are
 
     ghost entry = { λ a. entry_at (values_of a) };
 
-    ghost cursor = { λ a. a.look };
+    ghost cursor = { λ a. a.lookup };
 
     ghost starts = { IsNewWithCapacity S.may_reach P.Gen.first S.initial_maximum };
 
@@ -55,10 +55,10 @@ impl<P: PtrKey, T: Drop, S: SlotStack<Item = ArenaSlot<P, LinkNoGen<P, T>>>> Are
 
     ghost rises = { λ a. entries_rise (values_of a) };
 
-    ghost looked_up = { λ a. found-entries (values_of a) };
+    ghost finds = { λ a. found-entries (values_of a) };
 
-    ghost advances = { λ a b arena answer given. until_none (entries (values_of arena)) a.look
-        (option_map P.key answer) b.look given };
+    ghost advances = { λ a b arena returned given. until_none (entries (values_of arena)) a.lookup
+        (option_map P.key returned) b.lookup given };
 
     fn new(alloc: Global) -> Self {
         ChainArena {
@@ -98,7 +98,7 @@ impl<P: PtrKey, T: Drop, S: SlotStack<Item = ArenaSlot<P, LinkNoGen<P, T>>>> Are
 
         // The slots, the freed list and the capacity, in every arena.
         ensures listed { IsListed self.now }
-        ensures room { HasCapacityFor P.Inx.greatest (length self.now.slots) self.now }
+        ensures within_capacity { HasCapacityFor P.Inx.greatest (length self.now.slots) self.now }
     {
         self.arena.len()
     }
@@ -213,13 +213,13 @@ impl<P: PtrKey, T: Drop, S: SlotStack<Item = ArenaSlot<P, LinkNoGen<P, T>>>> Adv
 
     type Item = P;
 
-    ghost gives = { λ a arena answer b. IsAdvance (entries (values_of arena)) a.look
-        (option_map P.key answer) b.look };
+    ghost gives = { λ a arena returned b. IsAdvance (entries (values_of arena)) a.lookup
+        (option_map P.key returned) b.lookup };
 
-    ghost is_spent = { λ a. a.look ≡ Nowhere };
+    ghost is_spent = { λ a. a.lookup ≡ Nowhere };
 
-    ghost stays_spent = { λ a b arena answer spent given. nowhere_stays P.key
-        (entries (values_of arena)) a.look answer b.look spent given };
+    ghost stays_spent = { λ a b arena returned spent given. nowhere_stays P.key
+        (entries (values_of arena)) a.lookup returned b.lookup spent given };
 
     fn advance(&mut self, collection: &ChainArena<P, T, S>) -> Option<P> {
         self.advance(&collection.arena)

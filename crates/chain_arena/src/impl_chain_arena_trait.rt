@@ -43,22 +43,22 @@ impl<P: PtrKey, T: Drop, S: SlotStack<Item = ArenaSlot<P, LinkNoGen<P, T>>>> Cha
 
     ghost passes = { λ a b c r given. given };
 
-    ghost stand = { links_exist };
+    ghost links_are_entries = { links_exist };
 
-    ghost grown = { λ n a b h. h.1 };
+    ghost growth_keeps = { λ n a b h. h.1 };
 
-    ghost written = { λ a b i t h. h.1 };
+    ghost write_keeps = { λ a b i t h. h.1 };
 
-    ghost renewed = { λ a b i h. h.1 };
+    ghost renewal_keeps = { λ a b i h. h.1 };
 
-    ghost passed_over = { λ a b i h. h.shows };
+    ghost removal_removes = { λ a b i h. h.reports };
 
-    ghost compressed = { λ a b h. h.renamed };
+    ghost compression_renames = { λ a b h. h.renamed };
 
     fn can_insert(&self, kind: LinkInsertKind<P>) -> bool
         ensures { IsTrue result ↔ MayInsertInto P.key P.Inx.number self.now kind }
     {
-        self.gap_for(kind).is_some()
+        self.position_for(kind).is_some()
     }
 
     // Inlined, as the next two, so that an insertion of a known kind has only that kind's branch.
@@ -70,7 +70,7 @@ impl<P: PtrKey, T: Drop, S: SlotStack<Item = ArenaSlot<P, LinkNoGen<P, T>>>> Cha
     ) -> Result<P, ChainInsertionError>
         ensures { InsertsWithinCapacity P.key P.Inx.number self.old kind t self.new result }
     {
-        let asked = self.gap_within(kind);
+        let asked = self.position_within_capacity(kind);
         self.insert_at(asked, t)
     }
 
@@ -83,7 +83,7 @@ impl<P: PtrKey, T: Drop, S: SlotStack<Item = ArenaSlot<P, LinkNoGen<P, T>>>> Cha
         ensures { InsertsReallocating P.key P.Inx.number self.old kind t self.new S.may_reach
             P.Inx.greatest result }
     {
-        let asked = self.gap_growing(kind);
+        let asked = self.position_with_growth(kind);
         self.insert_at(asked, t)
     }
 

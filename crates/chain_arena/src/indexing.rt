@@ -6,7 +6,7 @@ ghost use Rattle.arena_base.specs.Arena.{IsValid};
 ghost use Rattle.chain_links.specs.ChainArena.{entry, with_value_at};
 
 use crate::chain_arena::ChainArena;
-use arena_base::{ArenaSlot, ArenaTrait, excluded};
+use arena_base::{ArenaSlot, ArenaTrait, proved_unreachable};
 use arena_ptr::{InxKey, PtrKey, SlotStack};
 use chain_links::LinkNoGen;
 use std::ops::{Index, IndexMut};
@@ -23,7 +23,7 @@ impl<P: PtrKey, T: Drop, S: SlotStack<Item = ArenaSlot<P, LinkNoGen<P, T>>>> Cha
     {
         match self.get_inx(i) {
             Some((_, t)) => t,
-            None => excluded!(),
+            None => proved_unreachable!(),
         }
     }
 
@@ -40,7 +40,7 @@ impl<P: PtrKey, T: Drop, S: SlotStack<Item = ArenaSlot<P, LinkNoGen<P, T>>>> Cha
     {
         match self.get_inx_mut(i) {
             Some(t) => t,
-            None => excluded!(),
+            None => proved_unreachable!(),
         }
     }
 }
@@ -78,7 +78,7 @@ impl<P: PtrKey, T: Drop, S: SlotStack<Item = ArenaSlot<P, LinkNoGen<P, T>>>> Ind
     {
         match self.get_mut(p) {
             Some(t) => t,
-            None => excluded!(),
+            None => proved_unreachable!(),
         }
     }
 }

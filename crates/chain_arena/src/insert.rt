@@ -9,16 +9,16 @@ ghost use Rattle.chain_linking.specs.InsertPositions.{before_in, after_in};
 ghost use Rattle.chain_arena.specs.NewLinks.{GrowsByOne, position_unless_refused, refusal_of, FindsPositionGrowing, FindsPositionWithin, IsInsertedIn, InsertsAt};
 
 use crate::chain_arena::ChainArena;
-use arena_base::{ArenaSlot, ArenaTrait, excluded};
+use arena_base::{ArenaSlot, ArenaTrait, proved_unreachable};
 use arena_ptr::{ChainInsertionError, PtrKey, ReallocationError, SlotStack};
 use chain_linking::insert_position::InsertPosition;
-use chain_linking::link_writes::tie;
+use chain_linking::link_writes::update_neighbors;
 use chain_linking::new_link::link_in;
 use chain_links::{LinkInsertKind, LinkNoGen};
 
 impl<P: PtrKey, T: Drop, S: SlotStack<Item = ArenaSlot<P, LinkNoGen<P, T>>>> ChainArena<P, T, S> {
     // Grows a full arena to capacity for one more link.
-    pub(crate) fn make_room(&mut self) -> Result<(), ReallocationError>
+    pub(crate) fn grow_if_full(&mut self) -> Result<(), ReallocationError>
         ensures { GrowsByOne S.may_reach P.Inx.greatest self.old result self.new }
     {
         let n = self.len() + 1;
@@ -30,19 +30,19 @@ impl<P: PtrKey, T: Drop, S: SlotStack<Item = ArenaSlot<P, LinkNoGen<P, T>>>> Cha
     // Returns the insertion position of a kind, within the capacity. Inlined, as the insertions
     // are.
     #[inline(always)]
-    pub(crate) fn gap_within(
+    pub(crate) fn position_within_capacity(
         &self,
         kind: LinkInsertKind<P>,
     ) -> Result<InsertPosition<P::Inx>, ChainInsertionError>
         ensures place { FindsPositionWithin P.key P.Inx.number self.now kind result }
         ensures agree { IsWellLinked (link_map self.now) }
     {
-        match self.gap_for(kind) {
-            Some(gap) => {
+        match self.position_for(kind) {
+            Some(position) => {
                 if self.len() == self.capacity() {
                     return Err(ChainInsertionError::NotWithinCapacity);
                 }
-                Ok(gap)
+                Ok(position)
             }
             None => Err(ChainInsertionError::FailedLinkRequirement),
         }
@@ -51,7 +51,7 @@ impl<P: PtrKey, T: Drop, S: SlotStack<Item = ArenaSlot<P, LinkNoGen<P, T>>>> Cha
     // Returns the insertion position of a kind; a full arena grows first. Inlined, as the
     // insertions are.
     #[inline(always)]
-    pub(crate) fn gap_growing(
+    pub(crate) fn position_with_growth(
         &mut self,
         kind: LinkInsertKind<P>,
     ) -> Result<InsertPosition<P::Inx>, ChainInsertionError>
@@ -60,8 +60,8 @@ impl<P: PtrKey, T: Drop, S: SlotStack<Item = ArenaSlot<P, LinkNoGen<P, T>>>> Cha
             result self.new }
         ensures agreed { IsWellLinked (link_map self.old) }
     {
-        match self.gap_for(kind) {
-            Some(gap) => gap_unless_refused(gap, self.make_room()),
+        match self.position_for(kind) {
+            Some(position) => position_unless_refused(position, self.grow_if_full()),
             None => Err(ChainInsertionError::FailedLinkRequirement),
         }
     }
@@ -69,20 +69,23 @@ impl<P: PtrKey, T: Drop, S: SlotStack<Item = ArenaSlot<P, LinkNoGen<P, T>>>> Cha
     // Inserts a link at a position, within the capacity. Inlined, so the position need not go
     // through memory.
     #[inline(always)]
-    pub(crate) fn insert_in_gap(&mut self, gap: InsertPosition<P::Inx>, t: T) -> P
-        requires gap { IsInsertPosition (link_map self.old) (next_index self.old)
-            (before_in P.Inx.number gap (next_index self.old))
-            (after_in P.Inx.number gap (next_index self.old)) }
-        requires room { entry_count self.old < self.old.capacity }
-        ensures { IsInsertedIn P.key P.Inx.number self.old gap t result self.new }
+    pub(crate) fn insert_at_position(&mut self, position: InsertPosition<P::Inx>, t: T) -> P
+        requires position { IsInsertPosition (link_map self.old) (next_index self.old)
+            (before_in P.Inx.number position (next_index self.old))
+            (after_in P.Inx.number position (next_index self.old)) }
+        requires within_capacity { entry_count self.old < self.old.capacity }
+        ensures { IsInsertedIn P.key P.Inx.number self.old position t result self.new }
     {
         self.arena.invariants();
-        match self.arena.insert_within_capacity(link_in::<P, T>(gap, t)) {
+        match self
+            .arena
+            .insert_within_capacity(link_in::<P, T>(position, t))
+        {
             Ok(p) => {
-                tie(&mut self.arena, gap, p);
+                update_neighbors(&mut self.arena, position, p);
                 p
             }
-            Err(_) => excluded!(),
+            Err(_) => proved_unreachable!(),
         }
     }
 
@@ -93,29 +96,30 @@ impl<P: PtrKey, T: Drop, S: SlotStack<Item = ArenaSlot<P, LinkNoGen<P, T>>>> Cha
         asked: Result<InsertPosition<P::Inx>, ChainInsertionError>,
         t: T,
     ) -> Result<P, ChainInsertionError>
-        requires gap { ForOk asked (λ gap. IsInsertPosition (link_map self.old)
+        requires position { ForOk asked (λ position. IsInsertPosition (link_map self.old)
             (next_index self.old)
-            (before_in P.Inx.number gap (next_index self.old))
-            (after_in P.Inx.number gap (next_index self.old))) }
-        requires room { ForOk asked (λ gap. entry_count self.old < self.old.capacity) }
+            (before_in P.Inx.number position (next_index self.old))
+            (after_in P.Inx.number position (next_index self.old))) }
+        requires within_capacity { ForOk asked
+            (λ position. entry_count self.old < self.old.capacity) }
         ensures { InsertsAt P.key P.Inx.number self.old asked t result self.new }
     {
         match asked {
-            Ok(gap) => Ok(self.insert_in_gap(gap, t)),
+            Ok(position) => Ok(self.insert_at_position(position, t)),
             Err(why) => Err(why),
         }
     }
 }
 
 // Returns the position, or the error of the growth that it needed.
-fn gap_unless_refused<I: Drop>(
-    gap: InsertPosition<I>,
+fn position_unless_refused<I: Drop>(
+    position: InsertPosition<I>,
     grown: Result<(), ReallocationError>,
 ) -> Result<InsertPosition<I>, ChainInsertionError>
-    ensures { result ≡ position_unless_refused gap grown }
+    ensures { result ≡ position_unless_refused position grown }
 {
     match grown {
-        Ok(()) => Ok(gap),
+        Ok(()) => Ok(position),
         Err(why) => Err(refusal_of(why)),
     }
 }

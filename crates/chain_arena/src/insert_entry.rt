@@ -12,10 +12,10 @@ ghost use Rattle.chain_arena.specs.Effects.{indexed_kind, MayInsertInto};
 ghost use Rattle.chain_arena.specs.NewLinks.{IsInsertedBetween, RefusesOneMore};
 
 use crate::chain_arena::ChainArena;
-use arena_base::{ArenaSlot, ArenaTrait, excluded};
+use arena_base::{ArenaSlot, ArenaTrait, proved_unreachable};
 use arena_ptr::{ChainInsertionError, HeapStack, InxKey, PtrKey, ReallocationError, SlotStack};
 use chain_linking::insert_position::InsertPosition;
-use chain_linking::new_link::around;
+use chain_linking::new_link::neighbors_of_position;
 use chain_links::{LinkInsertKind, LinkNoGen};
 
 /// An insertion position of a link whose pointer is known before its value.
@@ -35,7 +35,7 @@ pub struct ChainArenaInsertEntry<
     inx: usize,
     prev: usize,
     next: usize,
-    ghost room: { entry_count arena.now < arena.now.capacity },
+    ghost within_capacity: { entry_count arena.now < arena.now.capacity },
     ghost place: { inx ≡ next_index arena.now },
     ghost index: { IsWithin P.Inx.greatest inx },
     ghost indexes: { (prev ≤ P.Inx.greatest) × (next ≤ P.Inx.greatest) },
@@ -52,7 +52,7 @@ pub(crate) fn number_or_zero<I: InxKey>(i: Option<I>) -> usize
     match i {
         Some(i) => match i.try_into_usize() {
             Some(n) => n,
-            None => excluded!(),
+            None => proved_unreachable!(),
         },
         None => 0,
     }
@@ -103,8 +103,8 @@ impl<P: PtrKey, T: Drop, S: SlotStack<Item = ArenaSlot<P, LinkNoGen<P, T>>>> Cha
         ensures next { IfOk result (λ e. nonzero_index e.next ≡ link_after (link_map self.old)
             (indexed_kind P.key P.Inx.number kind) (next_index self.old)) }
     {
-        match self.gap_within(kind) {
-            Ok(gap) => Ok(self.entry_in(gap)),
+        match self.position_within_capacity(kind) {
+            Ok(position) => Ok(self.entry_in(position)),
             Err(why) => Err(why),
         }
     }
@@ -133,7 +133,7 @@ impl<P: PtrKey, T: Drop, S: SlotStack<Item = ArenaSlot<P, LinkNoGen<P, T>>>> Cha
         ensures link { (result ≡ Err ChainInsertionError.FailedLinkRequirement)
             ↔ ¬ MayInsertInto P.key P.Inx.number self.old kind }
         ensures error { IfErr result (λ e. e ≢ ChainInsertionError.NotWithinCapacity) }
-        ensures room { MayInsertInto P.key P.Inx.number self.old kind
+        ensures within_capacity { MayInsertInto P.key P.Inx.number self.old kind
             → entry_count self.old < self.old.capacity
             → IsOkAnd result (λ e. e.arena.now ≡ self.old) }
         ensures grown { IfOk result (λ e. ReachesCapacity S.may_reach P.Inx.greatest
@@ -149,8 +149,8 @@ impl<P: PtrKey, T: Drop, S: SlotStack<Item = ArenaSlot<P, LinkNoGen<P, T>>>> Cha
         ensures next { IfOk result (λ e. nonzero_index e.next ≡ link_after (link_map self.old)
             (indexed_kind P.key P.Inx.number kind) (next_index self.old)) }
     {
-        match self.gap_growing(kind) {
-            Ok(gap) => Ok(self.entry_in(gap)),
+        match self.position_with_growth(kind) {
+            Ok(position) => Ok(self.entry_in(position)),
             Err(why) => Err(why),
         }
     }
@@ -175,7 +175,7 @@ impl<P: PtrKey, T: Drop, S: SlotStack<Item = ArenaSlot<P, LinkNoGen<P, T>>>> Cha
             (arena_row P.row T.row S.row P.Inx.row P.Gen.row P.Inx.Word.row
             P.PtrKey P.Inx.InxKey P.Gen.GenKey S.SlotStack)
             self.entry (λ e. e.arena.ghost_name) result (λ n. n ≡ self.old)) }
-        ensures room { entry_count self.old < self.old.capacity
+        ensures within_capacity { entry_count self.old < self.old.capacity
             → IsOkAnd result (λ e. e.arena.now ≡ self.old) }
         ensures grown { IfOk result (λ e. ReachesCapacity S.may_reach P.Inx.greatest
             (entry_count self.old + 1) self.old e.arena.now) }
@@ -189,12 +189,12 @@ impl<P: PtrKey, T: Drop, S: SlotStack<Item = ArenaSlot<P, LinkNoGen<P, T>>>> Cha
         ensures next { IfOk result (λ e. nonzero_index e.next ≡ link_after (link_map self.old)
             (indexed_kind P.key P.Inx.number kind) (next_index self.old)) }
     {
-        match self.gap_for(kind) {
-            Some(gap) => match self.make_room() {
-                Ok(()) => Ok(self.entry_in(gap)),
+        match self.position_for(kind) {
+            Some(position) => match self.grow_if_full() {
+                Ok(()) => Ok(self.entry_in(position)),
                 Err(why) => Err(why),
             },
-            None => excluded!(),
+            None => proved_unreachable!(),
         }
     }
 
@@ -209,19 +209,20 @@ impl<P: PtrKey, T: Drop, S: SlotStack<Item = ArenaSlot<P, LinkNoGen<P, T>>>> Cha
         }
     }
 
-    fn entry_in(&mut self, gap: InsertPosition<P::Inx>) -> ChainArenaInsertEntry<'_, P, T, S>
-        requires room { entry_count self.old < self.old.capacity }
-        requires gap { IsInsertPosition (link_map self.old) (next_index self.old)
-            (before_in P.Inx.number gap (next_index self.old))
-            (after_in P.Inx.number gap (next_index self.old)) }
+    fn entry_in(&mut self, position: InsertPosition<P::Inx>) -> ChainArenaInsertEntry<'_, P, T, S>
+        requires within_capacity { entry_count self.old < self.old.capacity }
+        requires position { IsInsertPosition (link_map self.old) (next_index self.old)
+            (before_in P.Inx.number position (next_index self.old))
+            (after_in P.Inx.number position (next_index self.old)) }
         ensures same_reference { result.arena.ghost_name ≡ self.entry.ghost_name }
         ensures arena { result.arena.now ≡ self.old }
-        ensures prev { nonzero_index result.prev ≡ before_in P.Inx.number gap
+        ensures prev { nonzero_index result.prev ≡ before_in P.Inx.number position
             (next_index self.old) }
-        ensures next { nonzero_index result.next ≡ after_in P.Inx.number gap (next_index self.old) }
+        ensures next { nonzero_index result.next ≡ after_in P.Inx.number position
+            (next_index self.old) }
     {
         let i = self.next_ptr().inx();
-        let (prev, next) = around(gap, i);
+        let (prev, next) = neighbors_of_position(position, i);
         ChainArenaInsertEntry {
             arena: self,
             inx: number_or_zero(Some(i)),
@@ -243,7 +244,7 @@ impl<
     {
         match P::Inx::try_from_usize(self.inx) {
             Some(i) => P::_from_raw(i, self.arena.generation()),
-            None => excluded!(),
+            None => proved_unreachable!(),
         }
     }
 
@@ -256,8 +257,8 @@ impl<
             self.entry.arena.now t self.exit.0.now }
     {
         let (prev, next) = (self.prev, self.next);
-        let gap = InsertPosition::Between(index_or_none(prev), index_or_none(next));
-        self.arena.insert_in_gap(gap, t);
+        let position = InsertPosition::Between(index_or_none(prev), index_or_none(next));
+        self.arena.insert_at_position(position, t);
         let ChainArenaInsertEntry {
             arena: _,
             inx: _,

@@ -8,7 +8,7 @@ ghost use Rattle.chain_arena.specs.Drains.{entries_left, without_each, IsLinkDra
 
 use crate::chain_arena::ChainArena;
 use crate::insert_entry::number_or_zero;
-use arena_base::{Advancer, ArenaSlot, ArenaTrait, excluded, invalidated};
+use arena_base::{Advancer, ArenaSlot, ArenaTrait, invalidated, proved_unreachable};
 use arena_ptr::{HeapStack, InvalidationOption, InxKey, PtrKey, SlotStack};
 use chain_links::LinkNoGen;
 
@@ -70,7 +70,7 @@ impl<P: PtrKey, T: Drop, S: SlotStack<Item = ArenaSlot<P, LinkNoGen<P, T>>>> Cha
                         let behind = number_or_zero(Some(p.inx())).saturating_add(1);
                         Some((behind, invalidated(overflow, (p, link.t))))
                     }
-                    None => excluded!(),
+                    None => proved_unreachable!(),
                 }
             }
             None => None,

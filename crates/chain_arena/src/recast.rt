@@ -29,7 +29,8 @@ impl<P: PtrKey, I, T: Recast<I> + Drop, S: SlotStack<Item = ArenaSlot<P, LinkNoG
 > for ChainArena<P, T, S> {
     ghost use Rattle.chain_arena.specs.Recasts.{IsRecast};
 
-    ghost recast_by = { λ recasts old new answer. IsRecast (T.recast_by recasts) old new answer };
+    ghost recast_by = { λ recasts old new returned. IsRecast
+        (T.recast_by recasts) old new returned };
 
     /// Recasts each value, in ascending index order; pointers, interlinks and all else stay.
     ///

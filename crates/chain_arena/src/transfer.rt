@@ -10,7 +10,7 @@ ghost use Rattle.chain_arena.specs.Transfers.{ArrangesAlike, IsTransfer, AreEnds
 ghost use Rattle.chain_arena.specs.PointerTransfers.{TransferMovesPointers};
 
 use crate::chain_arena::ChainArena;
-use arena_base::{Advancer, ArenaSlot, ArenaTrait, CompactArenaTrait, excluded};
+use arena_base::{Advancer, ArenaSlot, ArenaTrait, CompactArenaTrait, proved_unreachable};
 use arena_ptr::{InvalidationOption, InxKey, PtrKey, ReallocationError, SlotStack};
 use chain_linking::insert_position::InsertPosition;
 use chain_links::LinkNoGen;
@@ -49,7 +49,7 @@ impl<P: PtrKey, T: Drop, S: SlotStack<Item = ArenaSlot<P, LinkNoGen<P, T>>>> Cha
         ensures transferred { OnOk result
             (IsTransfer Q.key P.key Q.Gen.following Q.Gen.wraps F.FnMut new_generation map
             (A.view source.old) (A.interlinks source.old) (A.view source.new) self.old self.new) }
-        ensures room { OnOk result
+        ensures within_capacity { OnOk result
             (HasCapacityFor P.Inx.greatest (count (A.view source.old)) self.new) }
         ensures reached { OnOk result
             (IsWithinReach S.may_reach (count (A.view source.old)) self.old self.new) }
@@ -63,7 +63,7 @@ impl<P: PtrKey, T: Drop, S: SlotStack<Item = ArenaSlot<P, LinkNoGen<P, T>>>> Cha
             (count (A.view source.old))) }
         ensures err { OnErr result ((self.new ≡ self.old) × (source.new ≡ source.old)) }
     {
-        match self.make_room_for(source.len()) {
+        match self.grow_to_hold(source.len()) {
             Ok(()) => {
                 self.clear();
                 self.set_generation(new_generation);
@@ -75,13 +75,13 @@ impl<P: PtrKey, T: Drop, S: SlotStack<Item = ArenaSlot<P, LinkNoGen<P, T>>>> Cha
     }
 
     // Grows to capacity for `n` links if it is less. Tests the greatest index before the maximum.
-    fn make_room_for(&mut self, n: usize) -> Result<(), ReallocationError>
+    fn grow_to_hold(&mut self, n: usize) -> Result<(), ReallocationError>
         ensures within { n ≤ self.old.capacity → IsOk result × (self.new ≡ self.old) }
         ensures greatest { P.Inx.greatest < n → result ≡ Err ReallocationError.AllocError }
         ensures beyond { (result ≡ Err ReallocationError.BeyondMaxCapacity)
             ↔ ((n ≤ P.Inx.greatest) × IsBeyond self.old.maximum n) }
         ensures err { OnErr result (self.new ≡ self.old) }
-        ensures room { OnOk result (HasCapacityFor P.Inx.greatest n self.new) }
+        ensures within_capacity { OnOk result (HasCapacityFor P.Inx.greatest n self.new) }
         ensures reached { OnOk result (IsWithinReach S.may_reach n self.old self.new) }
         ensures after { self.new ≡ with_capacity_of self.old self.new }
     {
@@ -111,7 +111,7 @@ fn carry_all<
     requires callable { F.IsAlwaysCallable map }
     requires slots { target.old.slots ≡ [] }
     requires freed { target.old.freed ≡ [] }
-    requires room { count (A.view source.old) ≤ target.old.capacity }
+    requires within_capacity { count (A.view source.old) ≤ target.old.capacity }
     requires greatest { target.old.capacity ≤ P.Inx.greatest }
     ensures transferred { IsTransfer Q.key P.key Q.Gen.following Q.Gen.wraps F.FnMut
         target.old.counter map (A.view source.old) (A.interlinks source.old)
@@ -127,7 +127,7 @@ fn carry_all<
     let mut ends = None;
     for k in 0..source.len() {
         // A chain that begins has no link in the target yet.
-        let laid = on.and(ends);
+        let arranged = on.and(ends);
         let Taken {
             ptr,
             value,
@@ -136,7 +136,7 @@ fn carry_all<
         } = take_next::<Q, U, A>(source, &mut advancer, on, ring);
         let to = pointer_at::<P>(k + 1, generation);
         let t = map(ptr, value, to);
-        ends = lay_behind(target, is_cyclic, laid, to, t);
+        ends = append_link(target, is_cyclic, arranged, to, t);
         ring = is_cyclic;
         on = next;
     }
@@ -149,13 +149,13 @@ fn pointer_at<P: PtrKey>(index: usize, generation: P::Gen) -> P
 {
     match P::Inx::try_from_usize(index) {
         Some(i) => P::_from_raw(i, generation),
-        None => excluded!(),
+        None => proved_unreachable!(),
     }
 }
 
 // Returns the insertion position at the end of a chain: after its last link, and in a ring before
 // its first.
-fn gap_behind<I: InxKey>(ring: bool, ends: Option<(I, I)>) -> InsertPosition<I>
+fn position_at_end<I: InxKey>(ring: bool, ends: Option<(I, I)>) -> InsertPosition<I>
     ensures before { (m q : ℕ) → AreEnds I.number ends m q
         → before_in I.number result q ≡ end_before ring m q }
     ensures after { (m q : ℕ) → AreEnds I.number ends m q
@@ -189,7 +189,7 @@ fn with_end<I: InxKey>(ends: Option<(I, I)>, i: I) -> Option<(I, I)>
 
 // Inserts a link at the end of a chain with these ends, at the index of `to`, and returns the new
 // ends.
-fn lay_behind<P: PtrKey, T: Drop, S: SlotStack<Item = ArenaSlot<P, LinkNoGen<P, T>>>>(
+fn append_link<P: PtrKey, T: Drop, S: SlotStack<Item = ArenaSlot<P, LinkNoGen<P, T>>>>(
     target: &mut ChainArena<P, T, S>,
     ring: bool,
     ends: Option<(P::Inx, P::Inx)>,
@@ -198,14 +198,14 @@ fn lay_behind<P: PtrKey, T: Drop, S: SlotStack<Item = ArenaSlot<P, LinkNoGen<P, 
 ) -> Option<(P::Inx, P::Inx)>
     requires ends { (m : ℕ) × AreEnds P.Inx.number ends m (next_index target.old)
         × HasPositionAtEnd ring m target.old }
-    requires room { entry_count target.old < target.old.capacity }
+    requires within_capacity { entry_count target.old < target.old.capacity }
     requires index { (P.key to).0 ≡ next_index target.old }
-    ensures laid { (m : ℕ) → AreEnds P.Inx.number ends m (next_index target.old)
+    ensures arranged { (m : ℕ) → AreEnds P.Inx.number ends m (next_index target.old)
         → (target.new ≡ with_link_at_end ring m target.old t) × AreEnds P.Inx.number result (m + 1)
         (next_index target.old + 1) }
     ensures listed { IsListed target.old }
 {
-    target.insert_in_gap(gap_behind(ring, ends), t);
+    target.insert_at_position(position_at_end(ring, ends), t);
     with_end(ends, to.inx())
 }
 
@@ -228,7 +228,7 @@ pub fn compression_and_transfer_agree<
 /// reports the pointers.
 pub fn compression_moves_pointers<P: PtrKey, T: Drop>()
     ensures moves { CompressionMovesPointers T P.key P.Gen.first P.Gen.following }
-    ensures untold { CompressionHasMoves T P.Gen.first P.Gen.following }
+    ensures unknown { CompressionHasMoves T P.Gen.first P.Gen.following }
 {}
 
 /// States that a transfer moves each link from a pointer that was valid in the source to one that

@@ -14,21 +14,21 @@ use Rattle.chain_commands.proofs.LineSplitLemmas.{line_of-take, lines_of-end, wh
 -- One more line is executed.
 pub Transcribes-more : (old mid new : ToolLinks) (lines : List (List ℕ)) (line text more : List ℕ) → Transcribes old lines text mid → RespondsToLine mid (line_of line) more new
     → Transcribes old (lines ++ line ∷ []) (text ++ more) new
-Transcribes-more old mid new [] line text more answers next =
-    let first : RespondsToLine old (line_of line) more new = subst (λ m. RespondsToLine m (line_of line) more new) answers.1 next in
-    (new, more, [], first, (refl, refl), ap (λ t. t ++ more) answers.0 ∙ sym (append-nil more))
-Transcribes-more old mid new (first ∷ lines) line text more answers next = (
-  answers.0,
-  answers.1,
-  answers.2 ++ more,
-  answers.3,
-  Transcribes-more answers.0 mid new lines line answers.2 more answers.4 next,
-  ap (λ t. t ++ more) answers.5 ∙ append_assoc answers.1 answers.2 more,
+Transcribes-more old mid new [] line text more responses next =
+    let first : RespondsToLine old (line_of line) more new = subst (λ m. RespondsToLine m (line_of line) more new) responses.1 next in
+    (new, more, [], first, (refl, refl), ap (λ t. t ++ more) responses.0 ∙ sym (append-nil more))
+Transcribes-more old mid new (first ∷ lines) line text more responses next = (
+  responses.0,
+  responses.1,
+  responses.2 ++ more,
+  responses.3,
+  Transcribes-more responses.0 mid new lines line responses.2 more responses.4 next,
+  ap (λ t. t ++ more) responses.5 ∙ append_assoc responses.1 responses.2 more,
 )
 
 -- A response to the kept part of a line is a response to the line.
 pub of_kept : (old new : ToolLinks) (kept rest text : List ℕ) → kept ≡ take 201 rest → RespondsToLine old (line_of kept) text new → RespondsToLine old (line_of rest) text new
-of_kept old new kept rest text keeps answers = subst (λ l. RespondsToLine old l text new) (ap line_of keeps ∙ line_of-take rest) answers
+of_kept old new kept rest text keeps responses = subst (λ l. RespondsToLine old l text new) (ap line_of keeps ∙ line_of-take rest) responses
 
 -- The kept part of a line has the effect of the line.
 pub step_of_kept : (old new : ToolLinks) (kept rest : List ℕ) → kept ≡ take 201 rest → LeavesStep old (line_of kept) new → LeavesStep old (line_of rest) new
@@ -39,22 +39,22 @@ module _ (old mid new : ToolLinks) (read kept : List ℕ) (held held_mid held_af
   ended more = lines_of-end read more ∙ ap (λ l. l ++ lines_of more) come.cut ∙ append_assoc come.lines (come.rest ∷ []) (lines_of more)
 
   pub Progress-line : {A : Type 0} (x : A) → TranscribesOne (Ok x) mid new kept held_mid held_after → Progress old (read ++ 10 ∷ []) new [] held held_after
-  Progress-line x answered = record {
+  Progress-line x responded = record {
     lines = come.lines ++ come.rest ∷ [];
     rest = [];
-    text = come.text ++ answered.0;
+    text = come.text ++ responded.0;
     cut = ended [] ∙ sym (append_assoc come.lines (come.rest ∷ []) ([] ∷ []));
     keeps = refl;
-    answers = Transcribes-more old mid new come.lines come.rest come.text answered.0 come.answers (of_kept mid new kept come.rest answered.0 come.keeps answered.1);
-    writes = Appends-trans held held_mid held_after _ _ come.writes answered.2;
+    responses = Transcribes-more old mid new come.lines come.rest come.text responded.0 come.responses (of_kept mid new kept come.rest responded.0 come.keeps responded.1);
+    writes = Appends-trans held held_mid held_after _ _ come.writes responded.2;
   }
 
   whole : (more : List ℕ) → whole_lines (read ++ 10 ∷ more) ≡ come.lines ++ come.rest ∷ whole_lines more
   whole more = whole_lines-end read more come.lines come.rest come.cut
 
   given_up : (more : List ℕ) → (new ≡ mid) ⊎ LeavesStep mid (line_of kept) new → TranscribesSome old new (come.lines ++ come.rest ∷ whole_lines more) come.text
-  given_up more (inl same) = before come.lines (come.rest ∷ whole_lines more) come.text (subst (λ m. Transcribes old come.lines come.text m) (sym same) come.answers)
-  given_up more (inr step) = after come.lines (whole_lines more) come.rest mid come.text come.answers (step_of_kept mid new kept come.rest come.keeps step)
+  given_up more (inl same) = before come.lines (come.rest ∷ whole_lines more) come.text (subst (λ m. Transcribes old come.lines come.text m) (sym same) come.responses)
+  given_up more (inr step) = after come.lines (whole_lines more) come.rest mid come.text come.responses (step_of_kept mid new kept come.rest come.keeps step)
 
   pub HasProgressed-stopped : (A B : Type 0) (error : ToolError) (more kept_after : List ℕ) → TranscribesOne {A = A} (Err error) mid new kept held_mid held_after
       → HasProgressed {A = B} (Err error) old (read ++ 10 ∷ more) new kept_after held held_after
@@ -62,7 +62,7 @@ module _ (old mid new : ToolLinks) (read kept : List ℕ) (held held_mid held_af
   HasProgressed-stopped A B errors.Write more kept_after stopped = (
     come.text ++ stopped.0,
     subst (λ l. IsCutShort old new l (come.text ++ stopped.0)) (sym (whole more))
-        (within come.lines (whole_lines more) come.rest mid come.text stopped.0 stopped.1 come.answers (of_kept mid new kept come.rest (stopped.0 ++ stopped.1) come.keeps stopped.2)),
+        (within come.lines (whole_lines more) come.rest mid come.text stopped.0 stopped.1 come.responses (of_kept mid new kept come.rest (stopped.0 ++ stopped.1) come.keeps stopped.2)),
     Appends-trans held held_mid held_after _ _ come.writes stopped.3,
   )
   HasProgressed-stopped A B errors.Memory more kept_after stopped =
@@ -73,7 +73,7 @@ pub Progress-stopped : (old new : ToolLinks) (read kept more : List ℕ) (held h
     → TranscribesSome old new (whole_lines (read ++ more)) come.text
 Progress-stopped old new read kept more held held_after come =
     let found = whole_lines-more more read come.lines come.rest come.cut in
-    subst (λ l. TranscribesSome old new l come.text) (sym found.1) (before come.lines found.0 come.text come.answers)
+    subst (λ l. TranscribesSome old new l come.text) (sym found.1) (before come.lines found.0 come.text come.responses)
 
 -- More of a line is read, and enough of it is kept.
 pub Progress-front : (old new : ToolLinks) (read kept kept_after front : List ℕ) (held held_after : Option (List ℕ)) (come : Progress old read new kept held held_after) → All IsNoEnd front
@@ -84,32 +84,32 @@ Progress-front old new read kept kept_after front held held_after come all keep 
   text = come.text;
   cut = cut-more front read come.lines come.rest all come.cut;
   keeps = keep;
-  answers = come.answers;
+  responses = come.responses;
   writes = come.writes;
 }
 
 -- ---- a piece, line by line
 
 -- A response to a line is a response to its kept part.
-answers_kept : {A : Type 0} (r : Result A ToolError) (old new : ToolLinks) (line : List ℕ) (held held_after : Option (List ℕ)) → TranscribesOne r old new line held held_after
+returns_kept : {A : Type 0} (r : Result A ToolError) (old new : ToolLinks) (line : List ℕ) (held held_after : Option (List ℕ)) → TranscribesOne r old new line held held_after
     → TranscribesOne r old new (take 201 line) held held_after
-answers_kept (Ok x) old new line held held_after answered = (answered.0, subst (λ l. RespondsToLine old l answered.0 new) (sym (line_of-take line)) answered.1, answered.2)
-answers_kept (Err errors.Read) old new line held held_after answered = answered
-answers_kept (Err errors.Write) old new line held held_after answered =
-    (answered.0, answered.1, subst (λ l. RespondsToLine old l (answered.0 ++ answered.1) new) (sym (line_of-take line)) answered.2, answered.3)
-answers_kept (Err errors.Memory) old new line held held_after answered = (answered.0, step answered.1)
+returns_kept (Ok x) old new line held held_after responded = (responded.0, subst (λ l. RespondsToLine old l responded.0 new) (sym (line_of-take line)) responded.1, responded.2)
+returns_kept (Err errors.Read) old new line held held_after responded = responded
+returns_kept (Err errors.Write) old new line held held_after responded =
+    (responded.0, responded.1, subst (λ l. RespondsToLine old l (responded.0 ++ responded.1) new) (sym (line_of-take line)) responded.2, responded.3)
+returns_kept (Err errors.Memory) old new line held held_after responded = (responded.0, step responded.1)
   where
     step : (new ≡ old) ⊎ LeavesStep old (line_of line) new → (new ≡ old) ⊎ LeavesStep old (line_of (take 201 line)) new
     step (inl same) = inl same
     step (inr leaves) = inr (subst (λ l. LeavesStep old l new) (sym (line_of-take line)) leaves)
 
 -- A line is executed of which a part was kept.
-pub answers-line : {A : Type 0} (r : Result A ToolError) (old new : ToolLinks) (kept line : List ℕ) (held held_after : Option (List ℕ)) → kept ≡ take 201 line → TranscribesOne r old new kept held held_after
+pub responses-line : {A : Type 0} (r : Result A ToolError) (old new : ToolLinks) (kept line : List ℕ) (held held_after : Option (List ℕ)) → kept ≡ take 201 line → TranscribesOne r old new kept held held_after
     → TranscribesOne r old new line held held_after
-answers-line (Ok x) old new kept line held held_after is answered = (answered.0, of_kept old new kept line answered.0 is answered.1, answered.2)
-answers-line (Err errors.Read) old new kept line held held_after is answered = answered
-answers-line (Err errors.Write) old new kept line held held_after is answered = (answered.0, answered.1, of_kept old new kept line (answered.0 ++ answered.1) is answered.2, answered.3)
-answers-line (Err errors.Memory) old new kept line held held_after is answered = (answered.0, step answered.1)
+responses-line (Ok x) old new kept line held held_after is responded = (responded.0, of_kept old new kept line responded.0 is responded.1, responded.2)
+responses-line (Err errors.Read) old new kept line held held_after is responded = responded
+responses-line (Err errors.Write) old new kept line held held_after is responded = (responded.0, responded.1, of_kept old new kept line (responded.0 ++ responded.1) is responded.2, responded.3)
+responses-line (Err errors.Memory) old new kept line held held_after is responded = (responded.0, step responded.1)
   where
     step : (new ≡ old) ⊎ LeavesStep old (line_of kept) new → (new ≡ old) ⊎ LeavesStep old (line_of line) new
     step (inl same) = inl same
@@ -125,9 +125,9 @@ module _ (old now : ToolLinks) (read done left kept : List ℕ) (held held_now :
     pub feed-line : {A : Type 0} (new : ToolLinks) (kept_after : List ℕ) (held_new : Option (List ℕ)) (x : A)
         → ((rest : List ℕ) → kept ≡ take 201 rest → TranscribesOne (Ok x) now new (rest ++ front) held_now held_new) → kept_after ≡ []
         → Progress old (read ++ (done ++ (front ++ 10 ∷ []))) new kept_after held held_new
-    feed-line new kept_after held_new x answered is_empty =
-        let kept_answered = answers_kept (Ok x) now new (come.rest ++ front) held_now held_new (answered come.rest come.keeps) in
-        let here = Progress-line old now new ((read ++ done) ++ front) (take 201 (come.rest ++ front)) held held_now held_new (come_front front ends.first) x kept_answered in
+    feed-line new kept_after held_new x responded is_empty =
+        let kept_responded = returns_kept (Ok x) now new (come.rest ++ front) held_now held_new (responded come.rest come.keeps) in
+        let here = Progress-line old now new ((read ++ done) ++ front) (take 201 (come.rest ++ front)) held held_now held_new (come_front front ends.first) x kept_responded in
         subst (λ k. Progress old (read ++ (done ++ (front ++ 10 ∷ []))) new k held held_new) (sym is_empty)
         (subst (λ l. Progress old l new [] held held_new) (append_assoc (read ++ done) front (10 ∷ []) ∙ append_assoc read done (front ++ 10 ∷ [])) here)
 
@@ -136,7 +136,7 @@ module _ (old now : ToolLinks) (read done left kept : List ℕ) (held held_now :
         → ((rest : List ℕ) → kept ≡ take 201 rest → TranscribesOne {A = A} (Err error) now new (rest ++ front) held_now held_new) → r ≡ Err error
         → HasProgressed r old (read ++ piece) new kept_after held held_new
     feed-stopped A B error r piece new kept_after held_new parts stopped is =
-        let kept_stopped = answers_kept {A = A} (Err error) now new (come.rest ++ front) held_now held_new (stopped come.rest come.keeps) in
+        let kept_stopped = returns_kept {A = A} (Err error) now new (come.rest ++ front) held_now held_new (stopped come.rest come.keeps) in
         let here = HasProgressed-stopped old now new ((read ++ done) ++ front) (take 201 (come.rest ++ front)) held held_now held_new (come_front front ends.first) A B error back kept_after kept_stopped in
         let whole : ((read ++ done) ++ front) ++ 10 ∷ back ≡ read ++ piece = append_assoc (read ++ done) front (10 ∷ back) ∙ (append_assoc read done (front ++ 10 ∷ back)
         ∙ ap (λ l. read ++ l) (ap (λ l. done ++ l) (sym ends.parts) ∙ sym parts)) in

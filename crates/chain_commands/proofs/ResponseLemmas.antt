@@ -15,14 +15,14 @@ pushed_is old text new none is = is ∙ ap (λ b. b ++ text) none
 
 module _ {T E : Type 0} where
   -- A property of a text holds of a cleared text to which it is appended.
-  pub answers_ok : (P : List ℕ → ToolLinks → Type 0) (new : ToolLinks) (before after text : List ℕ) (r : Result T E) → before ≡ [] → OnOk r (after ≡ before ++ text) → P text new → OnOk r (P after new)
-  answers_ok P new before after text (Ok x) none is answer = subst (λ t. P t new) (sym (pushed_is before text after none is)) answer
-  answers_ok P new before after text (Err e) none is answer = tt
+  pub returns_ok : (P : List ℕ → ToolLinks → Type 0) (new : ToolLinks) (before after text : List ℕ) (r : Result T E) → before ≡ [] → OnOk r (after ≡ before ++ text) → P text new → OnOk r (P after new)
+  returns_ok P new before after text (Ok x) none is returned = subst (λ t. P t new) (sym (pushed_is before text after none is)) returned
+  returns_ok P new before after text (Err e) none is returned = tt
 
   -- If appending failed, there is still some response.
-  pub answers_err : (P : List ℕ → ToolLinks → Type 0) (new : ToolLinks) (text : List ℕ) (r : Result T E) → P text new → OnErr r ((words : List ℕ) × P words new)
-  answers_err P new text (Ok x) answer = tt
-  answers_err P new text (Err e) answer = (text, answer)
+  pub returns_err : (P : List ℕ → ToolLinks → Type 0) (new : ToolLinks) (text : List ℕ) (r : Result T E) → P text new → OnErr r ((words : List ℕ) × P words new)
+  returns_err P new text (Ok x) returned = tt
+  returns_err P new text (Err e) returned = (text, returned)
 
   -- If the call of a line takes effect, so does the line.
   pub line_err : (old new : ToolLinks) (line : Line) (command : Command) (r : Result T E) → Good command ≡ line → (new ≡ old) ⊎ LeavesStep old (Good command) new

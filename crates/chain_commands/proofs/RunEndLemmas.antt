@@ -23,7 +23,7 @@ pub HasRead-nothing : (links : ToolLinks) (kept : List ℕ) (left held : Option 
 HasRead-nothing links kept left held none = record {
   read = [];
   reads = Consumes-nil left;
-  come = record { lines = []; rest = []; text = []; cut = refl; keeps = none; answers = (refl, refl); writes = Appends-nil held };
+  come = record { lines = []; rest = []; text = []; cut = refl; keeps = none; responses = (refl, refl); writes = Appends-nil held };
 }
 
 module _ (old now : ToolLinks) (kept : List ℕ) (left left_now held held_now : Option (List ℕ)) (has : HasRead old now kept left left_now held held_now) where
@@ -38,7 +38,7 @@ module _ (old now : ToolLinks) (kept : List ℕ) (left left_now held held_now : 
       text = has.come.text;
       cut = has.come.cut;
       keeps = has.come.keeps;
-      answers = has.come.answers;
+      responses = has.come.responses;
       writes = Appends-kept held held_now held_after _ has.come.writes keeps;
     };
   }
@@ -63,9 +63,9 @@ module _ (old now : ToolLinks) (kept : List ℕ) (left left_now held held_now : 
       by_error : (error : ToolError) → HasProgressed {A = A} (Err error) old (has.read ++ piece) new kept_after held held_after → Ends {A = B} (Err error) old new left left_after held held_after
       by_error errors.Read comes = absurd comes
       by_error errors.Write comes =
-          record { read = has.read ++ piece; lines = whole_lines (has.read ++ piece); text = comes.0; reads = all; complete = by_line_feed; writes = comes.2; answers = comes.1 }
+          record { read = has.read ++ piece; lines = whole_lines (has.read ++ piece); text = comes.0; reads = all; complete = by_line_feed; writes = comes.2; responses = comes.1 }
       by_error errors.Memory comes =
-          record { read = has.read ++ piece; lines = whole_lines (has.read ++ piece); text = comes.0; reads = all; complete = by_line_feed; writes = comes.2; answers = comes.1 }
+          record { read = has.read ++ piece; lines = whole_lines (has.read ++ piece); text = comes.0; reads = all; complete = by_line_feed; writes = comes.2; responses = comes.1 }
 
   -- The whole lines are those executed.
   whole : whole_lines has.read ≡ has.come.lines
@@ -78,7 +78,7 @@ module _ (old now : ToolLinks) (kept : List ℕ) (left left_now held held_now : 
     text = has.come.text;
     reads = Consumes-kept left left_now left_after _ has.reads keeps;
     writes = has.come.writes;
-    answers = subst (λ l. Transcribes old l has.come.text now) (sym whole) has.come.answers;
+    responses = subst (λ l. Transcribes old l has.come.text now) (sym whole) has.come.responses;
   })
 
   -- Flushing the writer fails.
@@ -90,64 +90,64 @@ module _ (old now : ToolLinks) (kept : List ℕ) (left left_now held held_now : 
     reads = has.reads;
     complete = by_line_feed;
     writes = Appends-kept held held_now held_after _ has.come.writes keeps;
-    answers = subst (λ l. IsCutShort old now l has.come.text) (append-nil has.come.lines ∙ sym whole) (between has.come.lines [] has.come.text has.come.answers);
+    responses = subst (λ l. IsCutShort old now l has.come.text) (append-nil has.come.lines ∙ sym whole) (between has.come.lines [] has.come.text has.come.responses);
   })
 
   -- The last line is executed.
   pub Ends-finished : (B : Type 0) (r : Result B ToolError) (new : ToolLinks) (line : List ℕ) (left_after held_after : Option (List ℕ)) → line ≡ kept → Consumes left_now left_after [] → IsAtEnd left_after
       → TranscribesOne r now new line held_now held_after → Ends r old new left left_after held held_after
-  Ends-finished B r new line left_after held_after same reads end answered = by_result r answered
+  Ends-finished B r new line left_after held_after same reads end responded = by_result r responded
     where
       all : Consumes left left_after has.read
       all = subst (Consumes left left_after) (append-nil has.read) (Consumes-trans left left_now left_after _ _ has.reads reads)
 
       last : (text : List ℕ) → RespondsToLine now (line_of line) text new → RespondsToLine now (line_of has.come.rest) text new
-      last text answers = of_kept now new kept has.come.rest text has.come.keeps (subst (λ l. RespondsToLine now (line_of l) text new) same answers)
+      last text responses = of_kept now new kept has.come.rest text has.come.keeps (subst (λ l. RespondsToLine now (line_of l) text new) same responses)
 
       given_up : (new ≡ now) ⊎ LeavesStep now (line_of line) new → TranscribesSome old new (has.come.lines ++ has.come.rest ∷ []) has.come.text
-      given_up (inl stays) = before has.come.lines (has.come.rest ∷ []) has.come.text (subst (λ m. Transcribes old has.come.lines has.come.text m) (sym stays) has.come.answers)
-      given_up (inr step) = after has.come.lines [] has.come.rest now has.come.text has.come.answers
+      given_up (inl stays) = before has.come.lines (has.come.rest ∷ []) has.come.text (subst (λ m. Transcribes old has.come.lines has.come.text m) (sym stays) has.come.responses)
+      given_up (inr step) = after has.come.lines [] has.come.rest now has.come.text has.come.responses
           (step_of_kept now new kept has.come.rest has.come.keeps (subst (λ l. LeavesStep now (line_of l) new) same step))
 
       by_result : (r : Result B ToolError) → TranscribesOne r now new line held_now held_after → Ends r old new left left_after held held_after
-      by_result (Ok x) answered = record {
+      by_result (Ok x) responded = record {
         read = has.read;
-        text = has.come.text ++ answered.0;
+        text = has.come.text ++ responded.0;
         reads = all;
         ended = end;
-        writes = Appends-trans held held_now held_after _ _ has.come.writes answered.2;
-        answers = subst (λ l. Transcribes old l (has.come.text ++ answered.0) new) (sym has.come.cut)
-            (Transcribes-more old now new has.come.lines has.come.rest has.come.text answered.0 has.come.answers (last answered.0 answered.1));
+        writes = Appends-trans held held_now held_after _ _ has.come.writes responded.2;
+        responses = subst (λ l. Transcribes old l (has.come.text ++ responded.0) new) (sym has.come.cut)
+            (Transcribes-more old now new has.come.lines has.come.rest has.come.text responded.0 has.come.responses (last responded.0 responded.1));
       }
-      by_result (Err errors.Read) answered = absurd answered
-      by_result (Err errors.Write) answered = record {
+      by_result (Err errors.Read) responded = absurd responded
+      by_result (Err errors.Write) responded = record {
         read = has.read;
         lines = lines_of has.read;
-        text = has.come.text ++ answered.0;
+        text = has.come.text ++ responded.0;
         reads = all;
         complete = by_the_end end;
-        writes = Appends-trans held held_now held_after _ _ has.come.writes answered.3;
-        answers = subst (λ l. IsCutShort old new l (has.come.text ++ answered.0)) (sym has.come.cut)
-            (within has.come.lines [] has.come.rest now has.come.text answered.0 answered.1 has.come.answers (last (answered.0 ++ answered.1) answered.2));
+        writes = Appends-trans held held_now held_after _ _ has.come.writes responded.3;
+        responses = subst (λ l. IsCutShort old new l (has.come.text ++ responded.0)) (sym has.come.cut)
+            (within has.come.lines [] has.come.rest now has.come.text responded.0 responded.1 has.come.responses (last (responded.0 ++ responded.1) responded.2));
       }
-      by_result (Err errors.Memory) answered = record {
+      by_result (Err errors.Memory) responded = record {
         read = has.read;
         lines = lines_of has.read;
         text = has.come.text;
         reads = all;
         complete = by_the_end end;
-        writes = Appends-kept held held_now held_after _ has.come.writes answered.0;
-        answers = subst (λ l. TranscribesSome old new l has.come.text) (sym has.come.cut) (given_up answered.1);
+        writes = Appends-kept held held_now held_after _ has.come.writes responded.0;
+        responses = subst (λ l. TranscribesSome old new l has.come.text) (sym has.come.cut) (given_up responded.1);
       }
 
 -- If the buffer cannot be allocated, nothing is read and nothing is written.
-pub Ends-no_room : (B : Type 0) (r : Result B ToolError) (error : ToolError) (links : ToolLinks) (left held : Option (List ℕ)) → error ≡ errors.Memory → r ≡ Err error → Ends r links links left left held held
-Ends-no_room B r error links left held memory is = subst (λ q. Ends q links links left left held held) (sym (is ∙ ap Err memory)) (record {
+pub Ends-no_capacity : (B : Type 0) (r : Result B ToolError) (error : ToolError) (links : ToolLinks) (left held : Option (List ℕ)) → error ≡ errors.Memory → r ≡ Err error → Ends r links links left left held held
+Ends-no_capacity B r error links left held memory is = subst (λ q. Ends q links links left left held held) (sym (is ∙ ap Err memory)) (record {
   read = [];
   lines = [];
   text = [];
   reads = Consumes-nil left;
   complete = by_line_feed;
   writes = Appends-nil held;
-  answers = before [] [] [] (refl, refl);
+  responses = before [] [] [] (refl, refl);
 })

@@ -98,8 +98,8 @@ kind_and_value (name ∷ x ∷ y ∷ value ∷ []) = option_zip (kind_between na
 kind_and_value words = None
 
 -- The call on the capacity or the counter with this name and these arguments.
-abbrev pub room_or_counter : List ℕ → List (List ℕ) → Option LinkCall
-room_or_counter name arguments =
+abbrev pub capacity_or_counter_call : List ℕ → List (List ℕ) → Option LinkCall
+capacity_or_counter_call name arguments =
     if bytes_eq name (codes "reserve") then option_map Reserve (option_and_then number_of (one_word arguments))
     else (if bytes_eq name (codes "setgen") then option_map SetGeneration (option_and_then generation_word (one_word arguments))
     else (if bytes_eq name (codes "incgen") then option_map (λ none. IncGeneration) (no_arguments arguments)
@@ -111,7 +111,7 @@ abbrev pub renumbering : List ℕ → List (List ℕ) → Option LinkCall
 renumbering name arguments =
     if bytes_eq name (codes "compress") then option_map Compress (option_and_then reset_word (one_word arguments))
     else (if bytes_eq name (codes "canonical") then option_map CompressCanonical (option_and_then reset_word (one_word arguments))
-    else room_or_counter name arguments)
+    else capacity_or_counter_call name arguments)
 
 -- The call that removes links or invalidates pointers, or else the renumbering.
 abbrev pub removing : List ℕ → List (List ℕ) → Option LinkCall

@@ -33,7 +33,7 @@ pub record Progress (old : ToolLinks) (read : List ℕ) (new : ToolLinks) (kept 
   pub text : List ℕ
   pub cut : lines_of read ≡ lines ++ rest ∷ []
   pub keeps : kept ≡ take 201 rest
-  pub answers : Transcribes old lines text new
+  pub responses : Transcribes old lines text new
   pub writes : Appends held held_after text
 
 -- The progress after more was read; at a fault only whole lines have been executed.
@@ -45,5 +45,5 @@ HasProgressed (Err errors.Memory) old read new kept held held_after = (text : Li
 
 -- The progress before a piece of input determines the progress after it.
 abbrev pub ExtendsProgress : {A : Type 0} → Result A ToolError → List ℕ → ToolLinks → List ℕ → Option (List ℕ) → ToolLinks → List ℕ → Option (List ℕ) → Type 0
-ExtendsProgress answer piece now kept held_now new kept_after held_after =
-    (old : ToolLinks) (read : List ℕ) (held : Option (List ℕ)) → Progress old read now kept held held_now → HasProgressed answer old (read ++ piece) new kept_after held held_after
+ExtendsProgress returned piece now kept held_now new kept_after held_after =
+    (old : ToolLinks) (read : List ℕ) (held : Option (List ℕ)) → Progress old read now kept held held_now → HasProgressed returned old (read ++ piece) new kept_after held held_after

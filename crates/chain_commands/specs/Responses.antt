@@ -105,12 +105,12 @@ reply_text (Inserted (Ok p)) = at_text p
 reply_text (Inserted (Err error)) = refusal_text error
 reply_text (Done true) = codes "ok"
 reply_text (Done false) = codes "none"
-reply_text (Removed answer) = invalidation_text (λ link. value_text link.t) answer
-reply_text (RemovedInx answer) = invalidation_text (λ e. value_text e.1.t) answer
-reply_text (Renewed answer) = invalidation_text at_text answer
+reply_text (Removed returned) = invalidation_text (λ link. value_text link.t) returned
+reply_text (RemovedInx returned) = invalidation_text (λ e. value_text e.1.t) returned
+reply_text (Renewed returned) = invalidation_text at_text returned
 reply_text (Drained (Some count)) = codes "count " ++ decimal count
 reply_text (Drained None) = codes "none"
-reply_text (Counted answer) = counted_text answer
+reply_text (Counted returned) = counted_text returned
 reply_text (Reserved (Ok done)) = codes "ok"
 reply_text (Reserved (Err error)) = growth_refusal_text error
 reply_text Set = codes "ok"
@@ -154,7 +154,7 @@ overflow_text (option.GenerationOverflow done) = codes " overflow"
 
 -- The text of the number of links, their old and new pointers, and any overflow of the counter.
 abbrev pub moves_text : List (ToolPtr × ToolPtr) → InvalidationOption Unit → List ℕ
-moves_text moves told = codes "moved " ++ decimal (length moves) ++ concat (map move_text moves) ++ overflow_text told
+moves_text moves known = codes "moved " ++ decimal (length moves) ++ concat (map move_text moves) ++ overflow_text known
 
 -- The text has capacity for more bytes.
 abbrev pub HasCapacityForText : String Global → List ℕ → Type 0
@@ -163,11 +163,11 @@ HasCapacityForText text more = length (string_bytes text) + length more ≤ stri
 -- A canonical compression by a step of the chain machine, with the old and the new pointer of each
 -- link, by increasing new index.
 pub record RespondsToMoves (old : ToolLinks) (reset : Bool) (text : List ℕ) (new : ToolLinks) : Type 0 where
-  pub told : InvalidationOption Unit
+  pub known : InvalidationOption Unit
   pub moves : List (ToolPtr × ToolPtr)
-  pub step : Step tool_pointers old (CompressCanonical reset) (Counted told) new
+  pub step : Step tool_pointers old (CompressCanonical reset) (Counted known) new
   pub all : AreAllMoves key_of (value_view old) (link_map old) new.counter moves
-  pub words : text ≡ moves_text moves told
+  pub words : text ≡ moves_text moves known
 
 -- The response to a command, and the arena after it.
 abbrev pub RespondsToCommand : ToolLinks → Command → List ℕ → ToolLinks → Type 0

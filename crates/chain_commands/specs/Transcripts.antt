@@ -20,7 +20,7 @@ pub record TranscribesAll (old new : ToolLinks) (left left_after held held_after
   pub reads : Consumes left left_after read
   pub ended : IsAtEnd left_after
   pub writes : Appends held held_after text
-  pub answers : Transcribes old (lines_of read) text new
+  pub responses : Transcribes old (lines_of read) text new
 
 -- A run whose reader fails: the responses to all whole lines that were read are written.
 pub record StopsReading (old new : ToolLinks) (left left_after held held_after : Option (List ℕ)) : Type 0 where
@@ -28,7 +28,7 @@ pub record StopsReading (old new : ToolLinks) (left left_after held held_after :
   pub text : List ℕ
   pub reads : Consumes left left_after read
   pub writes : Appends held held_after text
-  pub answers : Transcribes old (whole_lines read) text new
+  pub responses : Transcribes old (whole_lines read) text new
 
 -- The complete lines of what was read: those with a line feed, and the last one too if the reader
 -- is at its end. An incomplete line is not executed.
@@ -38,9 +38,9 @@ pub data AreComplete (read : List ℕ) (left_after : Option (List ℕ)) : List (
 
 -- The responses to some first lines, the last one possibly in part.
 pub data IsCutShort (old new : ToolLinks) : List (List ℕ) → List ℕ → Type 0 where
-  between : (answered others : List (List ℕ)) (text : List ℕ) → Transcribes old answered text new → IsCutShort old new (answered ++ others) text
-  within : (answered others : List (List ℕ)) (line : List ℕ) (mid : ToolLinks) (text front rest : List ℕ)
-      → Transcribes old answered text mid → RespondsToLine mid (line_of line) (front ++ rest) new → IsCutShort old new (answered ++ line ∷ others) (text ++ front)
+  between : (responded others : List (List ℕ)) (text : List ℕ) → Transcribes old responded text new → IsCutShort old new (responded ++ others) text
+  within : (responded others : List (List ℕ)) (line : List ℕ) (mid : ToolLinks) (text front rest : List ℕ)
+      → Transcribes old responded text mid → RespondsToLine mid (line_of line) (front ++ rest) new → IsCutShort old new (responded ++ line ∷ others) (text ++ front)
 
 -- A run whose writer fails: the arena is as the complete lines executed so far leave it, the last
 -- one included.
@@ -51,13 +51,13 @@ pub record StopsWriting (old new : ToolLinks) (left left_after held held_after :
   pub reads : Consumes left left_after read
   pub complete : AreComplete read left_after lines
   pub writes : Appends held held_after text
-  pub answers : IsCutShort old new lines text
+  pub responses : IsCutShort old new lines text
 
 -- The responses to some first lines; the next line, if a call, may have taken effect.
 pub data TranscribesSome (old new : ToolLinks) : List (List ℕ) → List ℕ → Type 0 where
-  before : (answered others : List (List ℕ)) (text : List ℕ) → Transcribes old answered text new → TranscribesSome old new (answered ++ others) text
-  after : (answered others : List (List ℕ)) (line : List ℕ) (mid : ToolLinks) (text : List ℕ)
-      → Transcribes old answered text mid → LeavesStep mid (line_of line) new → TranscribesSome old new (answered ++ line ∷ others) text
+  before : (responded others : List (List ℕ)) (text : List ℕ) → Transcribes old responded text new → TranscribesSome old new (responded ++ others) text
+  after : (responded others : List (List ℕ)) (line : List ℕ) (mid : ToolLinks) (text : List ℕ)
+      → Transcribes old responded text mid → LeavesStep mid (line_of line) new → TranscribesSome old new (responded ++ line ∷ others) text
 
 -- A run in which an allocation fails: the responses to some first complete lines are written.
 pub record StopsForMemory (old new : ToolLinks) (left left_after held held_after : Option (List ℕ)) : Type 0 where
@@ -67,7 +67,7 @@ pub record StopsForMemory (old new : ToolLinks) (left left_after held held_after
   pub reads : Consumes left left_after read
   pub complete : AreComplete read left_after lines
   pub writes : Appends held held_after text
-  pub answers : TranscribesSome old new lines text
+  pub responses : TranscribesSome old new lines text
 
 -- The end of a run, by its result.
 abbrev pub Ends : {A : Type 0} → Result A ToolError → ToolLinks → ToolLinks → Option (List ℕ) → Option (List ℕ) → Option (List ℕ) → Option (List ℕ) → Type 0

@@ -2,7 +2,7 @@
 ghost use Rattle.std.specs.Prelude.{◌≡◌, bytes_eq, option_map};
 ghost use Rattle.chain_links.specs.declared.kinds.InsertKindBody.TheVariants.{AtInterlink, AtInterlinkInx, Bridge, BridgeInx};
 ghost use Rattle.chain_commands.specs.Words.{words_of};
-ghost use Rattle.chain_commands.specs.Commands.{one_word, one_pointer, two_pointers, pointer_and_number, no_arguments, reset_word, by_either, removal, kind_alone, kind_beside, kind_between, kind_and_value, room_or_counter, renumbering, removing, call_of, command_of, line_of};
+ghost use Rattle.chain_commands.specs.Commands.{one_word, one_pointer, two_pointers, pointer_and_number, no_arguments, reset_word, by_either, removal, kind_alone, kind_beside, kind_between, kind_and_value, capacity_or_counter_call, renumbering, removing, call_of, command_of, line_of};
 
 use crate::lexer::{generation, index, next_word, number, pointer, without_return};
 use arena_ptr::{Inx32, ToolPtr};
@@ -123,13 +123,13 @@ fn renumbering(name: &[u8], arguments: &[u8]) -> Option<Call<ToolPtr, u32>>
     } else if is(name, "canonical") {
         Some(Call::CompressCanonical(reset(one_word(arguments)?)?))
     } else {
-        room_or_counter(name, arguments)
+        capacity_or_counter_call(name, arguments)
     }
 }
 
 /// Parses a call on the capacity or the counter.
-fn room_or_counter(name: &[u8], arguments: &[u8]) -> Option<Call<ToolPtr, u32>>
-    ensures { result ≡ room_or_counter name.now (words_of arguments.now) }
+fn capacity_or_counter_call(name: &[u8], arguments: &[u8]) -> Option<Call<ToolPtr, u32>>
+    ensures { result ≡ capacity_or_counter_call name.now (words_of arguments.now) }
 {
     if is(name, "reserve") {
         Some(Call::Reserve(number(one_word(arguments)?)? as usize))

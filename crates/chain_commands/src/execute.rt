@@ -5,7 +5,7 @@ ghost use Rattle.chain_commands.specs.Commands.{line_of};
 ghost use Rattle.chain_commands.specs.Responses.{RespondsToCall, RespondsToShow, RespondsToChain, RespondsToMoves, RespondsToCommand, RespondsToLine, LeavesStep, HasCapacityForText};
 
 use crate::command::{Command, Line, parse};
-use crate::infallible_text::{room_for_moves, write_moves};
+use crate::infallible_text::{moves_text_capacity, write_moves};
 use crate::reply_text::{push_link, push_reply, push_walk};
 use arena_base::{ArenaSlot, ArenaTrait};
 use arena_ptr::{SlotStack, ToolPtr};
@@ -18,7 +18,7 @@ use std::alloc::AllocError;
 ///
 /// - `AllocError`: an allocation for the response failed. A call may have taken effect; any other
 ///   line has not.
-pub fn answer<S: SlotStack<Item = ArenaSlot<ToolPtr, LinkNoGen<ToolPtr, u32>>>>(
+pub fn respond<S: SlotStack<Item = ArenaSlot<ToolPtr, LinkNoGen<ToolPtr, u32>>>>(
     arena: &mut ChainArena<ToolPtr, u32, S>,
     line: &[u8],
     text: &mut String,
@@ -48,7 +48,7 @@ fn carry_out<S: SlotStack<Item = ArenaSlot<ToolPtr, LinkNoGen<ToolPtr, u32>>>>(
 ) -> Result<(), AllocError>
     ensures ok { OnOk result
         (RespondsToCommand arena.old command (string_bytes text.new) arena.new) }
-    ensures room { OnOk result ((reset : Bool) → command ≡ Command.Moves reset
+    ensures within_capacity { OnOk result ((reset : Bool) → command ≡ Command.Moves reset
         → HasCapacityForText text.new (codes "\n")) }
     ensures err { OnErr result ((arena.new ≡ arena.old)
         ⊎ LeavesStep arena.old (Line.Good command) arena.new) }
@@ -117,14 +117,14 @@ fn moves<S: SlotStack<Item = ArenaSlot<ToolPtr, LinkNoGen<ToolPtr, u32>>>>(
     text: &mut String,
 ) -> Result<(), AllocError>
     ensures ok { OnOk result (RespondsToMoves arena.old reset (string_bytes text.new) arena.new) }
-    ensures room { OnOk result (HasCapacityForText text.new (codes "\n")) }
+    ensures within_capacity { OnOk result (HasCapacityForText text.new (codes "\n")) }
     ensures err { OnErr result (arena.new ≡ arena.old) }
 {
     text.clear();
-    text.reserve(room_for_moves(arena.len()))?;
+    text.reserve(moves_text_capacity(arena.len()))?;
     match arena.compress_canonical_moves(*text.allocator(), reset) {
-        Ok((told, moves)) => {
-            write_moves(text, moves.as_slice(), told);
+        Ok((known, moves)) => {
+            write_moves(text, moves.as_slice(), known);
             Ok(())
         }
         Err(_) => Err(AllocError),

@@ -9,10 +9,10 @@ use arena_ptr::{InvalidationOption, PtrKey, ToolPtr};
 
 /// Returns the capacity in bytes for the response to `moves F` and its line feed: 26, and 44 for
 /// each link.
-pub fn room_for_moves(links: usize) -> usize
+pub fn moves_text_capacity(links: usize) -> usize
     requires { links ≤ greatest_index }
-    ensures { (moves : List (ToolPtr × ToolPtr)) (told : InvalidationOption Unit) →
-        length moves ≡ links → length (moves_text moves told) < result }
+    ensures { (moves : List (ToolPtr × ToolPtr)) (known : InvalidationOption Unit) →
+        length moves ≡ links → length (moves_text moves known) < result }
 {
     links * 44 + 26
 }
@@ -29,7 +29,7 @@ fn write_words(text: &mut String, words: &str)
 /// Appends a digit, within the capacity.
 fn write_digit(text: &mut String, digit: usize)
     requires below { digit < 10 }
-    requires room { HasCapacityForText text.old ((48 + digit) ∷ []) }
+    requires within_capacity { HasCapacityForText text.old ((48 + digit) ∷ []) }
     ensures bytes { string_bytes text.new ≡ string_bytes text.old ++ (48 + digit) ∷ [] }
     ensures capacity { string_capacity text.old ≤ string_capacity text.new }
 {
@@ -89,10 +89,10 @@ fn write_each(text: &mut String, moves: &[(ToolPtr, ToolPtr)])
 }
 
 /// Returns the end of a response, which reports an overflow of the counter.
-fn overflow(told: InvalidationOption<()>) -> &'static str
-    ensures { result.now ≡ overflow_text told }
+fn overflow(known: InvalidationOption<()>) -> &'static str
+    ensures { result.now ≡ overflow_text known }
 {
-    match told {
+    match known {
         InvalidationOption::Success(()) => "",
         InvalidationOption::GenerationOverflow(()) => " overflow",
     }
@@ -100,13 +100,13 @@ fn overflow(told: InvalidationOption<()>) -> &'static str
 
 /// Appends the number of links, their old and new pointers, and any overflow of the counter, within
 /// the capacity.
-pub fn write_moves(text: &mut String, moves: &[(ToolPtr, ToolPtr)], told: InvalidationOption<()>)
-    requires { HasCapacityForText text.old (moves_text moves.now told) }
-    ensures bytes { string_bytes text.new ≡ string_bytes text.old ++ moves_text moves.now told }
+pub fn write_moves(text: &mut String, moves: &[(ToolPtr, ToolPtr)], known: InvalidationOption<()>)
+    requires { HasCapacityForText text.old (moves_text moves.now known) }
+    ensures bytes { string_bytes text.new ≡ string_bytes text.old ++ moves_text moves.now known }
     ensures capacity { string_capacity text.old ≤ string_capacity text.new }
 {
     write_words(text, "moved ");
     write_decimal(text, moves.len());
     write_each(text, moves);
-    write_words(text, overflow(told));
+    write_words(text, overflow(known));
 }

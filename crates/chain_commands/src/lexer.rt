@@ -43,7 +43,7 @@ pub fn position(byte: u8, text: &[u8]) -> usize
 
 /// Returns the parts of a text before and after the first such byte, or all and nothing if there is
 /// none.
-fn around(byte: u8, text: &[u8]) -> (&[u8], &[u8])
+fn split_at_byte(byte: u8, text: &[u8]) -> (&[u8], &[u8])
     ensures front { result.0.now ≡ before_first (λ c. c == byte) text.now }
     ensures back { result.1.now ≡ after_first (λ c. c == byte) text.now }
 {
@@ -89,6 +89,6 @@ pub fn generation(word: &[u8]) -> Option<Gen32>
 pub fn pointer(word: &[u8]) -> Option<ToolPtr>
     ensures { result ≡ pointer_of word.now }
 {
-    let (front, back) = around(b'.', word);
+    let (front, back) = split_at_byte(b'.', word);
     Some(ToolPtr::_from_raw(index(front)?, generation(back)?))
 }

@@ -54,14 +54,14 @@ pub fn push_reply(text: &mut String, reply: Reply<ToolPtr, u32>) -> Result<(), A
     ensures { OnOk result (string_bytes text.new ≡ string_bytes text.old ++ reply_text reply) }
 {
     match reply {
-        Reply::Inserted(answer) => push_inserted(text, answer),
+        Reply::Inserted(returned) => push_inserted(text, returned),
         Reply::Done(done) => text.push_str(if done { "ok" } else { "none" }),
-        Reply::Removed(answer) => push_removed(text, answer),
-        Reply::RemovedInx(answer) => push_removed_inx(text, answer),
-        Reply::Renewed(answer) => push_renewed(text, answer),
-        Reply::Drained(answer) => push_drained(text, answer),
-        Reply::Counted(answer) => text.push_str(counted(answer)),
-        Reply::Reserved(answer) => text.push_str(reserved(answer)),
+        Reply::Removed(returned) => push_removed(text, returned),
+        Reply::RemovedInx(returned) => push_removed_inx(text, returned),
+        Reply::Renewed(returned) => push_renewed(text, returned),
+        Reply::Drained(returned) => push_drained(text, returned),
+        Reply::Counted(returned) => text.push_str(counted(returned)),
+        Reply::Reserved(returned) => text.push_str(reserved(returned)),
         Reply::Set => text.push_str("ok"),
     }
 }
@@ -69,33 +69,33 @@ pub fn push_reply(text: &mut String, reply: Reply<ToolPtr, u32>) -> Result<(), A
 /// Appends the result of an insertion to a text.
 fn push_inserted(
     text: &mut String,
-    answer: Result<ToolPtr, ChainInsertionError>,
+    returned: Result<ToolPtr, ChainInsertionError>,
 ) -> Result<(), AllocError>
     ensures { OnOk result (string_bytes text.new ≡ string_bytes text.old ++ reply_text
-        (Inserted answer)) }
+        (Inserted returned)) }
 {
-    match answer {
+    match returned {
         Ok(p) => push_at(text, p),
         Err(error) => text.push_str(refusal(error)),
     }
 }
 
 /// Appends the result of a drain to a text.
-fn push_drained(text: &mut String, answer: Option<usize>) -> Result<(), AllocError>
+fn push_drained(text: &mut String, returned: Option<usize>) -> Result<(), AllocError>
     ensures { OnOk result (string_bytes text.new ≡ string_bytes text.old ++ reply_text
-        (Drained answer)) }
+        (Drained returned)) }
 {
-    match answer {
+    match returned {
         Some(count) => write!(text, "count {count}"),
         None => text.push_str("none"),
     }
 }
 
 /// Returns the text for the result of a growth.
-fn reserved(answer: Result<(), ReallocationError>) -> &'static str
-    ensures { result.now ≡ reply_text (Reserved answer) }
+fn reserved(returned: Result<(), ReallocationError>) -> &'static str
+    ensures { result.now ≡ reply_text (Reserved returned) }
 {
-    match answer {
+    match returned {
         Ok(()) => "ok",
         Err(error) => growth_refusal(error),
     }
@@ -134,12 +134,12 @@ fn growth_refusal(error: ReallocationError) -> &'static str
 /// Appends the value of a removed link to a text, and any overflow of the counter.
 fn push_removed(
     text: &mut String,
-    answer: InvalidationResult<LinkNoGen<ToolPtr, u32>>,
+    returned: InvalidationResult<LinkNoGen<ToolPtr, u32>>,
 ) -> Result<(), AllocError>
     ensures { OnOk result (string_bytes text.new ≡ string_bytes text.old ++ invalidation_text
-        (λ link. value_text link.t) answer) }
+        (λ link. value_text link.t) returned) }
 {
-    match answer {
+    match returned {
         InvalidationResult::Success(link) => write!(text, "value {}", link.t),
         InvalidationResult::GenerationOverflow(link) => write!(text, "value {} overflow", link.t),
         InvalidationResult::InvalidPtr => text.push_str("none"),
@@ -149,12 +149,12 @@ fn push_removed(
 /// Appends the value of a link removed by index to a text, and any overflow of the counter.
 fn push_removed_inx(
     text: &mut String,
-    answer: InvalidationResult<(Gen32, LinkNoGen<ToolPtr, u32>)>,
+    returned: InvalidationResult<(Gen32, LinkNoGen<ToolPtr, u32>)>,
 ) -> Result<(), AllocError>
     ensures { OnOk result (string_bytes text.new ≡ string_bytes text.old ++ invalidation_text
-        (λ e. value_text e.1.t) answer) }
+        (λ e. value_text e.1.t) returned) }
 {
-    match answer {
+    match returned {
         InvalidationResult::Success((_, link)) => write!(text, "value {}", link.t),
         InvalidationResult::GenerationOverflow((_, link)) => {
             write!(text, "value {} overflow", link.t)
@@ -164,12 +164,12 @@ fn push_removed_inx(
 }
 
 /// Appends the new pointer of a link to a text, and any overflow of the counter.
-fn push_renewed(text: &mut String, answer: InvalidationResult<ToolPtr>) -> Result<(), AllocError>
+fn push_renewed(text: &mut String, returned: InvalidationResult<ToolPtr>) -> Result<(), AllocError>
     ensures { OnOk result (string_bytes text.new ≡ string_bytes text.old ++ invalidation_text
         at_text
-        answer) }
+        returned) }
 {
-    match answer {
+    match returned {
         InvalidationResult::Success(p) => push_at(text, p),
         InvalidationResult::GenerationOverflow(p) => {
             push_at(text, p)?;
@@ -180,10 +180,10 @@ fn push_renewed(text: &mut String, answer: InvalidationResult<ToolPtr>) -> Resul
 }
 
 /// Returns the text for a call that reports only whether the counter overflowed.
-fn counted(answer: InvalidationOption<()>) -> &'static str
-    ensures { result.now ≡ counted_text answer }
+fn counted(returned: InvalidationOption<()>) -> &'static str
+    ensures { result.now ≡ counted_text returned }
 {
-    match answer {
+    match returned {
         InvalidationOption::Success(()) => "ok",
         InvalidationOption::GenerationOverflow(()) => "ok overflow",
     }

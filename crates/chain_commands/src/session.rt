@@ -7,7 +7,7 @@ ghost use Rattle.chain_commands.specs.Responses.{ToolLinks};
 ghost use Rattle.chain_commands.specs.Progress.{TranscribesOne, ExtendsProgress, EndsFirst, IsNoEnd};
 ghost use Rattle.chain_commands.specs.Transcripts.{Ends};
 
-use crate::execute::answer;
+use crate::execute::respond;
 use crate::lexer::position;
 use arena_base::{ArenaSlot, ArenaTrait};
 use arena_ptr::{SlotStack, ToolPtr};
@@ -62,7 +62,7 @@ fn reply<W: Write, S: SlotStack<Item = ArenaSlot<ToolPtr, LinkNoGen<ToolPtr, u32
     ensures { TranscribesOne result arena.old arena.new line.now (W.contents writer.old)
         (W.contents writer.new) }
 {
-    match answer(arena, line, text) {
+    match respond(arena, line, text) {
         Ok(()) => put(writer, text.as_bytes()),
         Err(_) => Err(ToolError::Memory),
     }
@@ -91,7 +91,7 @@ fn end_line<W: Write, S: SlotStack<Item = ArenaSlot<ToolPtr, LinkNoGen<ToolPtr, 
     text: &mut String,
     writer: &mut W,
 ) -> Result<(), ToolError>
-    ensures answered { (rest : List ℕ) → line.old.items ≡ take 201 rest
+    ensures responded { (rest : List ℕ) → line.old.items ≡ take 201 rest
         → TranscribesOne result arena.old arena.new (rest ++ front.now) (W.contents writer.old)
         (W.contents writer.new) }
     ensures empty { OnOk result (line.new.items ≡ []) }
@@ -180,7 +180,7 @@ fn finish<W: Write, S: SlotStack<Item = ArenaSlot<ToolPtr, LinkNoGen<ToolPtr, u3
 }
 
 /// Allocates the buffer for a piece of the input.
-fn room(alloc: Global) -> Result<Vec<u8>, ToolError>
+fn input_buffer(alloc: Global) -> Result<Vec<u8>, ToolError>
     ensures some { IfOk result (λ piece. 0 < vec_len piece) }
     ensures error { IfErr result (λ e. e ≡ ToolError.Memory) }
 {
@@ -235,7 +235,7 @@ pub fn run_on<R: Read, W: Write, S: SlotStack<Item = ArenaSlot<ToolPtr, LinkNoGe
     ensures { Ends result arena.old arena.new (R.remaining reader.old) (R.remaining reader.new)
         (W.contents writer.old) (W.contents writer.new) }
 {
-    let mut piece = room(alloc)?;
+    let mut piece = input_buffer(alloc)?;
     run_pieces(alloc, arena, reader, writer, &mut piece)
 }
 

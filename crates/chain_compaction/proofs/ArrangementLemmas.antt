@@ -25,34 +25,34 @@ module _ {Gen X : Type 0} where
   indexes-once (Some e ∷ slots) i = (λ h. let low = indexes-low slots (suc i) i h in omega (arith, low), indexes-once slots (suc i))
 
   -- the indexes of the entries are exactly the occupied ones
-  indexes-stand : (slots : List (Option (Gen × X))) (i j : ℕ) → IsMember (map index_of (entries_from i slots)) j → (k : ℕ) × (e : Gen × X) × (i + k ≡ j) × (slice_index_or slots k None ≡ Some e)
-  indexes-stand [] i j h = absurd h
-  indexes-stand (None ∷ slots) i j h = let w = indexes-stand slots (suc i) j h in (suc w.0, w.1, omega (arith, w.2), w.3)
-  indexes-stand (Some e ∷ slots) i j (inl same) = (0, e, omega (arith, same), refl)
-  indexes-stand (Some e ∷ slots) i j (inr h) = let w = indexes-stand slots (suc i) j h in (suc w.0, w.1, omega (arith, w.2), w.3)
+  indexes-are_stored : (slots : List (Option (Gen × X))) (i j : ℕ) → IsMember (map index_of (entries_from i slots)) j → (k : ℕ) × (e : Gen × X) × (i + k ≡ j) × (slice_index_or slots k None ≡ Some e)
+  indexes-are_stored [] i j h = absurd h
+  indexes-are_stored (None ∷ slots) i j h = let w = indexes-are_stored slots (suc i) j h in (suc w.0, w.1, omega (arith, w.2), w.3)
+  indexes-are_stored (Some e ∷ slots) i j (inl same) = (0, e, omega (arith, same), refl)
+  indexes-are_stored (Some e ∷ slots) i j (inr h) = let w = indexes-are_stored slots (suc i) j h in (suc w.0, w.1, omega (arith, w.2), w.3)
 
-  stand-indexes : (slots : List (Option (Gen × X))) (i j k : ℕ) (e : Gen × X) → i + k ≡ j → slice_index_or slots k None ≡ Some e → IsMember (map index_of (entries_from i slots)) j
-  stand-indexes [] i j k e at is = absurd (let h = is in cc)
-  stand-indexes (None ∷ slots) i j zero e at is = absurd (let h = is in cc)
-  stand-indexes (None ∷ slots) i j (suc k) e at is = stand-indexes slots (suc i) j k e (omega (arith, at)) is
-  stand-indexes (Some d ∷ slots) i j zero e at is = inl (omega (arith, at))
-  stand-indexes (Some d ∷ slots) i j (suc k) e at is = inr (stand-indexes slots (suc i) j k e (omega (arith, at)) is)
+  are_stored-indexes : (slots : List (Option (Gen × X))) (i j k : ℕ) (e : Gen × X) → i + k ≡ j → slice_index_or slots k None ≡ Some e → IsMember (map index_of (entries_from i slots)) j
+  are_stored-indexes [] i j k e at is = absurd (let h = is in cc)
+  are_stored-indexes (None ∷ slots) i j zero e at is = absurd (let h = is in cc)
+  are_stored-indexes (None ∷ slots) i j (suc k) e at is = are_stored-indexes slots (suc i) j k e (omega (arith, at)) is
+  are_stored-indexes (Some d ∷ slots) i j zero e at is = inl (omega (arith, at))
+  are_stored-indexes (Some d ∷ slots) i j (suc k) e at is = inr (are_stored-indexes slots (suc i) j k e (omega (arith, at)) is)
 
   -- a list of the occupied indexes, each once, is as long as there are entries
-  pub count-standing : (a : Arena Gen X) (indexes : List ℕ) → AreDistinct indexes → ((i : ℕ) (e : Gen × X) → slot_at a.slots i ≡ Some e → IsMember indexes i)
+  pub count-stored : (a : Arena Gen X) (indexes : List ℕ) → AreDistinct indexes → ((i : ℕ) (e : Gen × X) → slot_at a.slots i ≡ Some e → IsMember indexes i)
       → ((i : ℕ) → IsMember indexes i → (e : Gen × X) × (slot_at a.slots i ≡ Some e)) → entry_count a ≡ length indexes
-  count-standing a indexes once each all = omega (arith, length-entries a, length-map (entries_from 1 a.slots) index_of, most, least)
+  count-stored a indexes once each all = omega (arith, length-entries a, length-map (entries_from 1 a.slots) index_of, most, least)
     where
       most : length (map index_of (entries_from 1 a.slots)) ≤ length indexes
       most = length_among (map index_of (entries_from 1 a.slots)) indexes (indexes-once a.slots 1)
-          (λ i h. let w = indexes-stand a.slots 1 i h in let at : suc w.0 ≡ i = omega (arith, w.2) in each i w.1 (sym (ap (slot_at a.slots) at) ∙ w.3))
+          (λ i h. let w = indexes-are_stored a.slots 1 i h in let at : suc w.0 ≡ i = omega (arith, w.2) in each i w.1 (sym (ap (slot_at a.slots) at) ∙ w.3))
 
       least : length indexes ≤ length (map index_of (entries_from 1 a.slots))
       least = length_among indexes (map index_of (entries_from 1 a.slots)) once (λ i h. let w = all i h in by i w.0 w.1)
         where
           by : (i : ℕ) (e : Gen × X) → slot_at a.slots i ≡ Some e → IsMember (map index_of (entries_from 1 a.slots)) i
           by zero e is = absurd (let h = is in cc)
-          by (suc k) e is = stand-indexes a.slots 1 (suc k) k e (omega arith) is
+          by (suc k) e is = are_stored-indexes a.slots 1 (suc k) k e (omega arith) is
 
 -- slots that hold what is given for each item at its place
 pub slots-filled : {X : Type 0} (given : ℕ → Option X) (xs : List ℕ) (n : ℕ) (slots : List (Option X)) → AreDistinct xs → length slots ≡ length xs

@@ -29,53 +29,53 @@ use Rattle.chain_links.proofs.MappedArenaLemmas.{slot_at-map}
 use Rattle.chain_links.proofs.ArenaInsertionLemmas.{some_entry, slots-within}
 use Rattle.chain_compaction.proofs.DetachedLinkLemmas.{work-more}
 use Rattle.chain_compaction.proofs.CompactedLinkLemmas.{trimmed-map, slot_at-trimmed}
-use Rattle.chain_compaction.proofs.CompactedFrontLemmas.{front-packed, front-length, front-none_free, moved_seen}
-use Rattle.chain_compaction.proofs.ChainDestinationLemmas.{length-seen}
+use Rattle.chain_compaction.proofs.CompactedFrontLemmas.{front-packed, front-length, front-none_free, moved_viewed}
+use Rattle.chain_compaction.proofs.ChainDestinationLemmas.{length-view_after}
 use Rattle.chain_compaction.proofs.WorkCountLemmas.{counted_none}
-use Rattle.chain_compaction.proofs.ArrangementLemmas.{count-standing, slots-filled, values-given}
+use Rattle.chain_compaction.proofs.ArrangementLemmas.{count-stored, slots-filled, values-given}
 
 -- ---- links at their places
 
 -- the link map of slots
-abbrev pub shown_slots : {Gen T : Type 0} → List (Option (Gen × LinkView T)) → LinkMap
-shown_slots slots i = option_map interlinks_of (slot_at slots i)
+abbrev pub reported_slots : {Gen T : Type 0} → List (Option (Gen × LinkView T)) → LinkMap
+reported_slots slots i = option_map interlinks_of (slot_at slots i)
 
-module _ {Gen T : Type 0} (g : Gen) (old new : List (Option (Gen × LinkView T))) (indexes : List ℕ) (arranges : IsArrangement (shown_slots old) indexes) (long : length new ≡ length indexes)
+module _ {Gen T : Type 0} (g : Gen) (old new : List (Option (Gen × LinkView T))) (indexes : List ℕ) (arranges : IsArrangement (reported_slots old) indexes) (long : length new ≡ length indexes)
     (sent : (i d : ℕ) (x : Gen × LinkView T) → place_in indexes i ≡ Some d → slot_at old i ≡ Some x → slot_at new d ≡ Some (g, renamed_link (place_in indexes) x.1)) where
   -- the entries with their values alone
   abbrev value_at : ℕ → Option (Gen × T)
   value_at i = slot_at (map (option_map (on_value link_value)) old) i
 
-  stands : (i : ℕ) → IsMember indexes i → (x : Gen × LinkView T) × (slot_at old i ≡ Some x)
-  stands i h = let v = (arranges.valid i).1 h in some_entry interlinks_of (slot_at old i) v.link v.shows
+  stored : (i : ℕ) → IsMember indexes i → (x : Gen × LinkView T) × (slot_at old i ≡ Some x)
+  stored i h = let v = (arranges.valid i).1 h in some_entry interlinks_of (slot_at old i) v.link v.reports
 
-  value_stands : (i : ℕ) → IsMember indexes i → (e : Gen × T) × (value_at i ≡ Some e)
-  value_stands i h = let x = stands i h in (on_value link_value x.0, slot_at-map (on_value link_value) old i ∙ ap (option_map (on_value link_value)) x.1)
+  value_stored : (i : ℕ) → IsMember indexes i → (e : Gen × T) × (value_at i ≡ Some e)
+  value_stored i h = let x = stored i h in (on_value link_value x.0, slot_at-map (on_value link_value) old i ∙ ap (option_map (on_value link_value)) x.1)
 
-  laid_at : (i k : ℕ) → place_in indexes i ≡ Some (suc k) → slice_index_or (map (option_map (on_value link_value)) new) k None ≡ option_map (λ (e : Gen × T). (g, e.1)) (value_at i)
-  laid_at i k e =
-      let x = stands i (place-has 1 indexes i (suc k) e) in
+  arranged_at : (i k : ℕ) → place_in indexes i ≡ Some (suc k) → slice_index_or (map (option_map (on_value link_value)) new) k None ≡ option_map (λ (e : Gen × T). (g, e.1)) (value_at i)
+  arranged_at i k e =
+      let x = stored i (place-has 1 indexes i (suc k) e) in
       slot_at-map (on_value link_value) new (suc k)
       ∙ (ap (option_map (on_value link_value)) (sent i (suc k) x.0 e x.1)
       ∙ sym (ap (option_map (λ (e : Gen × T). (g, e.1))) (slot_at-map (on_value link_value) old i ∙ ap (option_map (on_value link_value)) x.1)))
 
   -- the slots are the values in the order of the list
-  laid_slots : map (option_map (on_value link_value)) new ≡ map (λ i. option_map (λ (e : Gen × T). (g, e.1)) (value_at i)) indexes
-  laid_slots =
+  arranged_slots : map (option_map (on_value link_value)) new ≡ map (λ i. option_map (λ (e : Gen × T). (g, e.1)) (value_at i)) indexes
+  arranged_slots =
       slots-filled (λ i. option_map (λ (e : Gen × T). (g, e.1)) (value_at i)) indexes 0 (map (option_map (on_value link_value)) new) arranges.once (length-map new (option_map (on_value link_value)) ∙ long)
-      (λ i k e. laid_at i k (e ∙ ap (λ (m : ℕ). Some m) (let same : 1 + k ≡ suc k = omega arith in same)))
+      (λ i k e. arranged_at i k (e ∙ ap (λ (m : ℕ). Some m) (let same : 1 + k ≡ suc k = omega arith in same)))
 
-  laid_renamed : IsRenaming (place_in indexes) (shown_slots old) (shown_slots new)
-  laid_renamed = record {
+  arranged_renamed : IsRenaming (place_in indexes) (reported_slots old) (reported_slots new)
+  arranged_renamed = record {
     apart = places_are_apart indexes;
     each = λ i v. has-place 1 indexes i ((arranges.valid i).0 v);
     onto = λ k v.
         let w = (slots-within interlinks_of new).within k v in
         let from = image_of (place_in indexes) indexes (range_with_len 1 (length indexes)) k (place-numbers 1 indexes arranges.once) (range-IsMember 1 (length indexes) k w.0 (omega (arith, w.1, long))) in
         (from.0, (arranges.valid from.0).1 from.1, from.2);
-    carries = λ i k before after shows e.
-        let x = some_entry interlinks_of (slot_at old i) (record { prev = before; next = after }) shows in
-        let same : interlinks_of x.0 ≡ record { prev = before; next = after } = some_link (sym (ap (option_map interlinks_of) x.1) ∙ shows) in
+    carries = λ i k before after reports e.
+        let x = some_entry interlinks_of (slot_at old i) (record { prev = before; next = after }) reports in
+        let same : interlinks_of x.0 ≡ record { prev = before; next = after } = some_link (sym (ap (option_map interlinks_of) x.1) ∙ reports) in
         ap (option_map interlinks_of) (sent i k x.0 e x.1)
         ∙ ap (λ (l : Interlinks). let o : Option Interlinks = Some (record { prev = option_and_then (place_in indexes) l.prev; next = option_and_then (place_in indexes) l.next }) in o) same;
   }
@@ -99,21 +99,21 @@ module _ {Gen K T : Type 0} (number : K → Option ℕ) (slots : List (Option (G
     where
       by : (o : Option (Gen × LinkBody K T)) → slot_at slots i ≡ o → option_and_then (destination_of number) o ≡ Some d → (e : Gen × LinkBody K T) × Waits (destination_of number) (slot_at slots) i e d
       by None is goes = absurd (let h = goes in cc)
-      by (Some e) is goes = (e, record { stands = is; to = goes })
+      by (Some e) is goes = (e, record { stored = is; to = goes })
 
   place_of : (i d : ℕ) (e : Gen × LinkBody K T) → Waits (destination_of number) (slot_at slots) i e d → place_in indexes i ≡ Some d
-  place_of i d e w = sym (places i) ∙ (ap (option_and_then (destination_of number)) w.stands ∙ w.to)
+  place_of i d e w = sym (places i) ∙ (ap (option_and_then (destination_of number)) w.stored ∙ w.to)
 
   has_entry : (i : ℕ) → IsMember indexes i → (e : Gen × LinkBody K T) × (slot_at slots i ≡ Some e)
   has_entry i h =
       let place = has-place 1 indexes i h in
       let w = waits_for i place.0 place.1 in
-      (w.0, w.1.stands)
+      (w.0, w.1.stored)
 
   few_indexes : length indexes ≤ length slots
   few_indexes =
       length_bound indexes (length slots) once
-      (λ i h. let e = has_entry i h in (slots-within (body_interlinks number) slots).within i (record { link = body_interlinks number e.0; shows = ap (option_map (body_interlinks number)) e.1 }))
+      (λ i h. let e = has_entry i h in (slots-within (body_interlinks number) slots).within i (record { link = body_interlinks number e.0; reports = ap (option_map (body_interlinks number)) e.1 }))
 
   can_move : CanMoveAll (destination_of number) slots
   can_move = record {
@@ -135,8 +135,8 @@ module _ {Gen K T : Type 0} (number : K → Option ℕ) (slots : List (Option (G
 
 module _ {Gen K T : Type 0} (number : K → Option ℕ) where
   -- the link map follows from the links as contracts see them
-  pub link_map-seen : (held : Held Gen (LinkBody K T)) → link_map_in number held.slots ≡ shown_slots (held_view number held).slots
-  link_map-seen held = fun_ext (λ i. twice (slot_at held.slots i) ∙ sym (ap (option_map interlinks_of) (slot_at-map (pair_view number) held.slots i)))
+  pub link_map-view_after : (held : Held Gen (LinkBody K T)) → link_map_in number held.slots ≡ reported_slots (held_view number held).slots
+  link_map-view_after held = fun_ext (λ i. twice (slot_at held.slots i) ∙ sym (ap (option_map interlinks_of) (slot_at-map (pair_view number) held.slots i)))
     where
       twice : (o : Option (Gen × LinkBody K T)) → option_map (body_interlinks number) o ≡ option_map interlinks_of (option_map (pair_view number) o)
       twice None = refl
@@ -150,8 +150,8 @@ module _ {Gen K T : Type 0} (number : K → Option ℕ) where
       ∙ (length-map (held_view number other).slots (option_map (on_value (renamed_link to))) ∙ length-map other.slots (option_map (pair_view number))))
 
   -- the pointers follow from the view
-  ptr-seen : (held : Held Gen (LinkBody K T)) (i : ℕ) → ptr_at (slot_at held.slots) i ≡ ptr_at (slot_at (map (option_map (on_value link_value)) (held_view number held).slots)) i
-  ptr-seen held i =
+  ptr-view_after : (held : Held Gen (LinkBody K T)) (i : ℕ) → ptr_at (slot_at held.slots) i ≡ ptr_at (slot_at (map (option_map (on_value link_value)) (held_view number held).slots)) i
+  ptr-view_after held i =
       twice (slot_at held.slots i)
       ∙ sym (ap (option_map (λ (e : Gen × T). (i, e.0))) (slot_at-map (on_value link_value) (held_view number held).slots i ∙ ap (option_map (on_value link_value)) (slot_at-map (pair_view number) held.slots i)))
     where
@@ -160,21 +160,21 @@ module _ {Gen K T : Type 0} (number : K → Option ℕ) where
       twice (Some e) = refl
 
   -- links with the same view are well linked alike
-  pub agree-seen : (a : Arena Gen (LinkBody K T)) (before after : Held Gen (LinkBody K T)) → before ≡ held_of a → held_view number after ≡ held_view number before
+  pub agree-view_after : (a : Arena Gen (LinkBody K T)) (before after : Held Gen (LinkBody K T)) → before ≡ held_of a → held_view number after ≡ held_view number before
       → IsWellLinked (link_map (links_view number a)) → IsWellLinked (link_map_in number after.slots)
-  agree-seen a before after is same agrees =
-      subst IsWellLinked (ap (λ (h : Held Gen (LinkView T)). shown_slots h.slots) (sym (same ∙ ap (held_view number) is)) ∙ sym (link_map-seen after)) agrees
+  agree-view_after a before after is same agrees =
+      subst IsWellLinked (ap (λ (h : Held Gen (LinkView T)). reported_slots h.slots) (sym (same ∙ ap (held_view number) is)) ∙ sym (link_map-view_after after)) agrees
 
 module _ {F P Gen K T : Type 0} (g : F → P → P → F → Type 0) (key : P → ℕ × Gen) (f last : F) (number : K → Option ℕ) (generation : Gen) (h1 h2 : Held Gen (LinkBody K T))
     (old a1 a2 : Arena Gen (LinkBody K T)) (total : ℕ) (emptied : held_view number h1 ≡ held_view number (held_of old)) (numbered : AreAllNumbered number g key generation f last h1 h2 a1 a2 total) where
   abbrev first_slots : List (Option (Gen × LinkView T))
   first_slots = (links_view number old).slots
 
-  first_order : IsLeastIndexOrder (shown_slots first_slots) numbered.indexes
-  first_order = subst (λ (s : LinkMap). IsLeastIndexOrder s numbered.indexes) (link_map-seen number h1 ∙ ap (λ (h : Held Gen (LinkView T)). shown_slots h.slots) emptied) numbered.order
+  first_order : IsLeastIndexOrder (reported_slots first_slots) numbered.indexes
+  first_order = subst (λ (s : LinkMap). IsLeastIndexOrder s numbered.indexes) (link_map-view_after number h1 ∙ ap (λ (h : Held Gen (LinkView T)). reported_slots h.slots) emptied) numbered.order
 
-  first_arranges : IsArrangement (shown_slots first_slots) numbered.indexes
-  first_arranges = canonical_arranges (shown_slots first_slots) numbered.indexes (least_index_order_is_canonical (shown_slots first_slots) numbered.indexes first_order)
+  first_arranges : IsArrangement (reported_slots first_slots) numbered.indexes
+  first_arranges = canonical_arranges (reported_slots first_slots) numbered.indexes (least_index_order_is_canonical (reported_slots first_slots) numbered.indexes first_order)
 
   all_renamed : held_view number h2 ≡ renamed_held (place_in numbered.indexes) (held_view number (held_of old))
   all_renamed = numbered.renamed ∙ ap (renamed_held (place_in numbered.indexes)) emptied
@@ -189,7 +189,7 @@ module _ {F P Gen K T : Type 0} (g : F → P → P → F → Type 0) (key : P �
     where
       by : (o : Option (Gen × LinkView T)) → slot_at first_slots i ≡ o → Some (pair_view number e) ≡ option_map (on_value (renamed_link (place_in numbered.indexes))) o → IsMember numbered.indexes i
       by None is both = absurd (let h = both in cc)
-      by (Some x) is both = (first_arranges.valid i).0 (record { link = interlinks_of x; shows = ap (option_map interlinks_of) is })
+      by (Some x) is both = (first_arranges.valid i).0 (record { link = interlinks_of x; reports = ap (option_map interlinks_of) is })
 
   pub links_can_move : CanMoveAll (destination_of number) h2.slots
   links_can_move = can_move number h2.slots numbered.indexes first_arranges.once numbered.places each_placed
@@ -201,11 +201,11 @@ module _ {F P Gen K T : Type 0} (g : F → P → P → F → Type 0) (key : P �
   links_few = few_indexes number h2.slots numbered.indexes first_arranges.once numbered.places each_placed
 
   links_counted : count_by is_some h2.slots ≡ length numbered.indexes
-  links_counted = count-standing (record old { slots = h2.slots }) numbered.indexes first_arranges.once each_placed (has_entry number h2.slots numbered.indexes first_arranges.once numbered.places each_placed)
+  links_counted = count-stored (record old { slots = h2.slots }) numbered.indexes first_arranges.once each_placed (has_entry number h2.slots numbered.indexes first_arranges.once numbered.places each_placed)
 
   -- the number of slots is unchanged
   first-length : length h1.slots ≡ length old.slots
-  first-length = length-seen number h1 (held_of old) emptied
+  first-length = length-view_after number h1 (held_of old) emptied
 
   second-length : length h2.slots ≡ length old.slots
   second-length = length-renamed number (place_in numbered.indexes) h2 (held_of old) all_renamed
@@ -229,10 +229,10 @@ module _ {F P Gen K T : Type 0} (g : F → P → P → F → Type 0) (key : P �
     all_sent i d x at is =
         let w = waits_for number h2.slots numbered.indexes first_arranges.once numbered.places each_placed i d at in
         let both : ◌≡◌ {A = Option (Gen × LinkView T)} (Some (pair_view number w.0)) (Some (x.0, renamed_link (place_in numbered.indexes) x.1)) =
-        sym (ap (option_map (pair_view number)) w.1.stands) ∙ (renamed_there i ∙ ap (option_map (on_value (renamed_link (place_in numbered.indexes)))) is) in
+        sym (ap (option_map (pair_view number)) w.1.stored) ∙ (renamed_there i ∙ ap (option_map (on_value (renamed_link (place_in numbered.indexes)))) is) in
         ap (λ (s : List (Option (Gen × LinkView T))). slot_at s d) (trimmed-map (pair_view number) h3.slots)
         ∙ (slot_at-trimmed (map (option_map (pair_view number)) h3.slots) d
-        ∙ (moved_seen number generation h2.slots h3.slots moved i d w.0 w.1 ∙ ap (λ (l : LinkView T). let o : Option (Gen × LinkView T) = Some (generation, l) in o) (link_is both)))
+        ∙ (moved_viewed number generation h2.slots h3.slots moved i d w.0 w.1 ∙ ap (λ (l : LinkView T). let o : Option (Gen × LinkView T) = Some (generation, l) in o) (link_is both)))
       where
         link_or : LinkView T → Option (Gen × LinkView T) → LinkView T
         link_or l None = l
@@ -252,43 +252,43 @@ module _ {F P Gen K T : Type 0} (g : F → P → P → F → Type 0) (key : P �
           work-more (work-more first numbered.work 0 (2 * length old.slots + 4 * length numbered.indexes) refl (omega (arith, first-length)))
           last (length numbered.indexes) (4 * length old.slots + 12 * length numbered.indexes) (omega (arith, links_counted)) (omega (arith, links_counted, second-length))
 
-      abbrev laid_arena : Arena Gen (LinkBody K T)
-      laid_arena = returned greatest (with_totals (lent_out maximum old) (length numbered.indexes) whole_work.touches) h3
+      abbrev arranged_arena : Arena Gen (LinkBody K T)
+      arranged_arena = returned greatest (with_totals (lent_out maximum old) (length numbered.indexes) whole_work.touches) h3
 
-      is_laid : (new : Arena Gen (LinkBody K T)) → new ≡ returned greatest a3 h3 → new ≡ laid_arena
-      is_laid new is_new = is_new ∙ ap (λ (a : Arena Gen (LinkBody K T)). returned greatest a h3) whole_work.arena
+      is_arranged : (new : Arena Gen (LinkBody K T)) → new ≡ returned greatest a3 h3 → new ≡ arranged_arena
+      is_arranged new is_new = is_new ∙ ap (λ (a : Arena Gen (LinkBody K T)). returned greatest a h3) whole_work.arena
 
-      pub links_laid : old.capacity ≡ min old.stack_capacity greatest → generation ≡ old.counter → (new : Arena Gen (LinkBody K T)) → new ≡ returned greatest a3 h3
+      pub links_arranged : old.capacity ≡ min old.stack_capacity greatest → generation ≡ old.counter → (new : Arena Gen (LinkBody K T)) → new ≡ returned greatest a3 h3
           → AreArranged g key f last (links_view number old) (links_view number new)
-      links_laid room counter new is_new = record {
+      links_arranged within_capacity counter new is_new = record {
         indexes = numbered.indexes;
         order = first_order;
-        renamed = subst (λ (a : Arena Gen (LinkBody K T)). IsRenaming (place_in numbered.indexes) (link_map (links_view number old)) (link_map (links_view number a))) (sym (is_laid new is_new))
-            (laid_renamed generation first_slots last_slots numbered.indexes first_arranges last-length all_sent);
+        renamed = subst (λ (a : Arena Gen (LinkBody K T)). IsRenaming (place_in numbered.indexes) (link_map (links_view number old)) (link_map (links_view number a))) (sym (is_arranged new is_new))
+            (arranged_renamed generation first_slots last_slots numbered.indexes first_arranges last-length all_sent);
         values = values.0;
-        stood = values.1;
+        was_stored = values.1;
         touches = whole_work.touches;
         few = omega (arith, whole_work.few, length-map old.slots (option_map (pair_view number)));
-        arena = ap (λ (a : Arena Gen (LinkBody K T)). values_of (links_view number a)) (is_laid new is_new) ∙ (λ i. record (values_of (links_view number old)) {
+        arena = ap (λ (a : Arena Gen (LinkBody K T)). values_of (links_view number a)) (is_arranged new is_new) ∙ (λ i. record (values_of (links_view number old)) {
           slots = slots i;
           freed = last-none_free i;
-          capacity = room_kept i;
+          capacity = capacity_kept i;
           stack_capacity = stack_kept i;
           maximum = maximum_kept i;
           placed = old.placed + count i;
           touched = old.touched + whole_work.touches;
         });
-        shows = subst (λ (p : (ℕ → Option (ℕ × Gen)) × Gen). ReportsMoves g key p.0 p.1 1 f numbered.indexes last) (λ i. (pointers i, counter i)) numbered.shows;
+        reports = subst (λ (p : (ℕ → Option (ℕ × Gen)) × Gen). ReportsMoves g key p.0 p.1 1 f numbered.indexes last) (λ i. (pointers i, counter i)) numbered.reports;
       }
         where
           values : (values : List T) × (map (λ t. Some t) values ≡ map (λ i. option_map (λ (e : Gen × T). e.1) (entry (links_view number old) i)) numbered.indexes)
               × (map {B = Option (Gen × T)} (λ t. Some (generation, t)) values ≡ map {B = Option (Gen × T)} (λ i. option_map (λ (e : Gen × T). (generation, e.1)) (entry (links_view number old) i)) numbered.indexes)
               × (length values ≡ length numbered.indexes)
-          values = values-given generation (entry (links_view number old)) numbered.indexes (value_stands generation first_slots last_slots numbered.indexes first_arranges last-length all_sent)
+          values = values-given generation (entry (links_view number old)) numbered.indexes (value_stored generation first_slots last_slots numbered.indexes first_arranges last-length all_sent)
 
           slots : map (option_map (on_value link_value)) last_slots ≡ fronted old.counter values.0 []
           slots =
-              laid_slots generation first_slots last_slots numbered.indexes first_arranges last-length all_sent
+              arranged_slots generation first_slots last_slots numbered.indexes first_arranges last-length all_sent
               ∙ (sym values.2 ∙ (ap (λ (h : Gen). map {B = Option (Gen × T)} (λ t. Some (h, t)) values.0) counter ∙ sym (append-nil (map {B = Option (Gen × T)} (λ t. Some (old.counter, t)) values.0))))
 
           stack_kept : h3.stack_capacity ≡ old.stack_capacity
@@ -297,19 +297,19 @@ module _ {F P Gen K T : Type 0} (g : F → P → P → F → Type 0) (key : P �
           maximum_kept : h3.maximum ≡ old.maximum
           maximum_kept = is_maximum ∙ ap (λ (h : Held Gen (LinkView T)). h.maximum) all_renamed
 
-          room_kept : min h3.stack_capacity greatest ≡ old.capacity
-          room_kept = ap (λ (n : ℕ). min n greatest) stack_kept ∙ sym room
+          capacity_kept : min h3.stack_capacity greatest ≡ old.capacity
+          capacity_kept = ap (λ (n : ℕ). min n greatest) stack_kept ∙ sym within_capacity
 
           count : length numbered.indexes ≡ length values.0
           count = sym values.3
 
           pointers : ptr_at (slot_at h1.slots) ≡ ptr_at (entry (links_view number old))
-          pointers = fun_ext (λ i. ptr-seen number h1 i ∙ ap (λ (h : Held Gen (LinkView T)). ptr_at (slot_at (map (option_map (on_value link_value)) h.slots)) i) emptied)
+          pointers = fun_ext (λ i. ptr-view_after number h1 i ∙ ap (λ (h : Held Gen (LinkView T)). ptr_at (slot_at (map (option_map (on_value link_value)) h.slots)) i) emptied)
 
       -- what was counted is the work
-      pub work_told : (first : Arena Gen (LinkBody K T)) (p t : ℕ) → first ≡ lent_out maximum old → HasCounted first a3 p t → length old.slots ≤ greatest → greatest < 2 ^ 64
+      pub work_known : (first : Arena Gen (LinkBody K T)) (p t : ℕ) → first ≡ lent_out maximum old → HasCounted first a3 p t → length old.slots ≤ greatest → greatest < 2 ^ 64
           → (a3.placed ≡ old.placed + p) × (a3.touched ≡ old.touched + t)
-      work_told first p t is had fits bound =
+      work_known first p t is had fits bound =
           let placed : old.placed + had.placements ≡ a3.placed = ap (λ (a : Arena Gen (LinkBody K T)). a.placed + had.placements) (sym is) ∙ sym (ap (λ (a : Arena Gen (LinkBody K T)). a.placed) had.arena) in
           let touched : old.touched + had.touches ≡ a3.touched = ap (λ (a : Arena Gen (LinkBody K T)). a.touched + had.touches) (sym is) ∙ sym (ap (λ (a : Arena Gen (LinkBody K T)). a.touched) had.arena) in
           let now_placed : a3.placed ≡ old.placed + length numbered.indexes = ap (λ (a : Arena Gen (LinkBody K T)). a.placed) whole_work.arena in

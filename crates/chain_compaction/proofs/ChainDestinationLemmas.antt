@@ -26,7 +26,7 @@ use Rattle.chain_compaction.specs.Layouts.{ReportsMoves}
 use Rattle.chain_compaction.specs.Permutations.{destination_of}
 use Rattle.chain_compaction.specs.Destinations.{renamed_link, number_after, held_view, destination_at, AreNumbered, IsRelinkedAt, IsRingClosed, AreRelinked, CanNumber, IsChainNumbered}
 use Rattle.chain_compaction.proofs.DetachedLinkLemmas.{work-none, work-more}
-use Rattle.chain_compaction.proofs.LinkRewriteLemmas.{seen_as, written_given, written_own, seen_at, retied_none, retied_as, retied_more, retied_over}
+use Rattle.chain_compaction.proofs.LinkRewriteLemmas.{viewed_as, written_given, written_own, viewed_at, retied_none, retied_as, retied_more, retied_over}
 
 -- ---- a walk along a chain
 
@@ -44,15 +44,15 @@ goes_to start ys i [] after once first (inr e) = ap (step_forward start) e ∙ i
 goes_to start ys i (z ∷ ws) after once first e = if_other z start None (Some z) (not_first ys i z ws start once first)
 
 -- from the item i of a chain a walker goes on to the next item
-pub chain_goes_on : (shown : LinkMap) (c : Chain) (start : ℕ) (ys : List ℕ) (i : ℕ) (zs : List ℕ) → IsChain shown c → first_or (items c) None ≡ Some start → items c ≡ ys ++ i ∷ zs
-    → step_forward start (next_of shown i) ≡ first_or zs None
-chain_goes_on shown (linear xs) start ys i zs h first parts =
-    let stands = subst (λ (l : List ℕ). AreLinked shown None l None) parts h.2 in
-    ap (λ (o : Option Interlinks). step_forward start (next_in o)) (AreLinked-at shown None ys zs None i stands)
+pub chain_goes_on : (reported : LinkMap) (c : Chain) (start : ℕ) (ys : List ℕ) (i : ℕ) (zs : List ℕ) → IsChain reported c → first_or (items c) None ≡ Some start → items c ≡ ys ++ i ∷ zs
+    → step_forward start (next_of reported i) ≡ first_or zs None
+chain_goes_on reported (linear xs) start ys i zs h first parts =
+    let stored = subst (λ (l : List ℕ). AreLinked reported None l None) parts h.2 in
+    ap (λ (o : Option Interlinks). step_forward start (next_in o)) (AreLinked-at reported None ys zs None i stored)
     ∙ goes_to start ys i zs None (subst AreDistinct parts h.1) (ap (λ (l : List ℕ). first_or l None) (sym parts) ∙ first) (inl refl)
-chain_goes_on shown (cyclic xs) start ys i zs h first parts =
-    let stands = subst (λ (l : List ℕ). AreLinked shown (last_or xs None) l (first_or xs None)) parts h.2 in
-    ap (λ (o : Option Interlinks). step_forward start (next_in o)) (AreLinked-at shown (last_or xs None) ys zs (first_or xs None) i stands)
+chain_goes_on reported (cyclic xs) start ys i zs h first parts =
+    let stored = subst (λ (l : List ℕ). AreLinked reported (last_or xs None) l (first_or xs None)) parts h.2 in
+    ap (λ (o : Option Interlinks). step_forward start (next_in o)) (AreLinked-at reported (last_or xs None) ys zs (first_or xs None) i stored)
     ∙ goes_to start ys i zs (first_or xs None) (subst AreDistinct parts h.1) (ap (λ (l : List ℕ). first_or l None) (sym parts) ∙ first) (inr first)
 
 -- ---- a visitor that sees links
@@ -63,13 +63,13 @@ folds_append R p q r (x ∷ xs) ys first second = (first.0, first.1, folds_appen
 
 module _ {F P Gen : Type 0} (g : F → P → P → F → Type 0) (key : P → ℕ × Gen) (pointer : ℕ → Option (ℕ × Gen)) (generation : Gen) where
   -- the visitor has seen no link
-  pub shows_none : (n : ℕ) (f : F) → ReportsMoves g key pointer generation n f [] f
-  shows_none n f = record { moves = []; in_turn = refl; from = refl; to = refl }
+  pub reports_none : (n : ℕ) (f : F) → ReportsMoves g key pointer generation n f [] f
+  reports_none n f = record { moves = []; in_turn = refl; from = refl; to = refl }
 
   -- the visitor sees one link
-  pub shows_one : (n : ℕ) (f next : F) (i : ℕ) (p q : P) → Some (key p) ≡ pointer i → key q ≡ (n, generation) → g f p q next
+  pub reports_one : (n : ℕ) (f next : F) (i : ℕ) (p q : P) → Some (key p) ≡ pointer i → key q ≡ (n, generation) → g f p q next
       → ReportsMoves g key pointer generation n f (i ∷ []) next
-  shows_one n f next i p q from to called = record {
+  reports_one n f next i p q from to called = record {
     moves = (p, q) ∷ [];
     in_turn = (next, called, refl);
     from = ap (λ o. o ∷ []) from;
@@ -77,9 +77,9 @@ module _ {F P Gen : Type 0} (g : F → P → P → F → Type 0) (key : P → �
   }
 
   -- the visitor sees some links, and then others
-  pub shows_then : (n : ℕ) (f mid last : F) (xs ys : List ℕ) → ReportsMoves g key pointer generation n f xs mid → ReportsMoves g key pointer generation (n + length xs) mid ys last
+  pub reports_then : (n : ℕ) (f mid last : F) (xs ys : List ℕ) → ReportsMoves g key pointer generation n f xs mid → ReportsMoves g key pointer generation (n + length xs) mid ys last
       → ReportsMoves g key pointer generation n f (xs ++ ys) last
-  shows_then n f mid last xs ys one two = record {
+  reports_then n f mid last xs ys one two = record {
     moves = one.moves ++ two.moves;
     in_turn = folds_append (λ s (m : P × P) t. g s m.0 m.1 t) f mid last one.moves two.moves one.in_turn two.in_turn;
     from = map-append (λ (m : P × P). Some (key m.0)) one.moves two.moves ∙ (ap₂ (λ (us vs : List (Option (ℕ × Gen))). us ++ vs) one.from two.from ∙ sym (map-append pointer xs ys));
@@ -94,12 +94,12 @@ module _ {F P Gen : Type 0} (g : F → P → P → F → Type 0) (key : P → �
 
 module _ {Gen K T : Type 0} (number : K → Option ℕ) where
   -- two views that are the same have as many slots
-  pub length-seen : (a b : Held Gen (LinkBody K T)) → held_view number a ≡ held_view number b → length a.slots ≡ length b.slots
-  length-seen a b same = sym (length-map a.slots (option_map (pair_view number))) ∙ (ap (λ (h : Held Gen (LinkView T)). length h.slots) same ∙ length-map b.slots (option_map (pair_view number)))
+  pub length-view_after : (a b : Held Gen (LinkBody K T)) → held_view number a ≡ held_view number b → length a.slots ≡ length b.slots
+  length-view_after a b same = sym (length-map a.slots (option_map (pair_view number))) ∙ (ap (λ (h : Held Gen (LinkView T)). length h.slots) same ∙ length-map b.slots (option_map (pair_view number)))
 
   -- the entry of a link
-  pub stands_at : (slots : List (Option (Gen × LinkBody K T))) (i : ℕ) → HasLink (link_map_in number slots) i → (e : Gen × LinkBody K T) × (slot_at slots i ≡ Some e)
-  stands_at slots i v = by (slot_at slots i) refl v.shows
+  pub stored_at : (slots : List (Option (Gen × LinkBody K T))) (i : ℕ) → HasLink (link_map_in number slots) i → (e : Gen × LinkBody K T) × (slot_at slots i ≡ Some e)
+  stored_at slots i v = by (slot_at slots i) refl v.reports
     where
       by : (s : Option (Gen × LinkBody K T)) → slot_at slots i ≡ s → option_map (body_interlinks number) s ≡ Some v.link → (e : Gen × LinkBody K T) × (slot_at slots i ≡ Some e)
       by None is e = absurd (cc)
@@ -108,27 +108,27 @@ module _ {Gen K T : Type 0} (number : K → Option ℕ) where
   -- one more link has a destination
   pub one_numbered : (now new : Held Gen (LinkBody K T)) (i : ℕ) (e : Gen × LinkBody K T) (w : LinkBody K T) → slot_at now.slots i ≡ Some e → new ≡ held_with_value now i w → (count : ℕ) (done : List ℕ) → AreNumbered number now.slots count done
       → (IsMember done i → ⊥) → number w.destination ≡ Some (count + 1) → AreNumbered number new.slots (count + 1) (done ++ i ∷ [])
-  one_numbered now new i e w stands wrote count done n fresh value = record {
+  one_numbered now new i e w stored wrote count done n fresh value = record {
     places = λ j. after j (ℕ_discrete j i);
     counts = ap (λ (m : ℕ). m + 1) n.counts ∙ sym (length-append done (i ∷ []));
   }
     where
       after : (j : ℕ) → Dec (j ≡ i) → destination_at number new.slots j ≡ place_in (done ++ i ∷ []) j
       after j (yes s) =
-          ap (destination_at number new.slots) s ∙ (written_own now new i e w stands wrote number
+          ap (destination_at number new.slots) s ∙ (written_own now new i e w stored wrote number
           ∙ (value ∙ (ap (λ (m : ℕ). Some (m + 1)) n.counts ∙ (sym (place-last done i fresh) ∙ ap (place_in (done ++ i ∷ [])) (sym s)))))
-      after j (no ne) = written_given now new i e w stands wrote number j ne ∙ (n.places j ∙ sym (place-before_last done i j (λ s. ne (sym s))))
+      after j (no ne) = written_given now new i e w stored wrote number j ne ∙ (n.places j ∙ sym (place-before_last done i j (λ s. ne (sym s))))
 
   -- a link was overwritten, with its destination unchanged
   pub still_numbered : (now new : Held Gen (LinkBody K T)) (i : ℕ) (e : Gen × LinkBody K T) (w : LinkBody K T) → slot_at now.slots i ≡ Some e → new ≡ held_with_value now i w → (count : ℕ) (done : List ℕ) → AreNumbered number now.slots count done
       → number w.destination ≡ number e.1.destination → AreNumbered number new.slots count done
-  still_numbered now new i e w stands wrote count done n same = record { places = λ j. after j (ℕ_discrete j i); counts = n.counts }
+  still_numbered now new i e w stored wrote count done n same = record { places = λ j. after j (ℕ_discrete j i); counts = n.counts }
     where
       after : (j : ℕ) → Dec (j ≡ i) → destination_at number new.slots j ≡ place_in done j
       after j (yes s) =
           ap (destination_at number new.slots) s
-          ∙ (written_own now new i e w stands wrote number ∙ (same ∙ (sym (ap (option_and_then (destination_of number)) stands) ∙ (n.places i ∙ ap (place_in done) (sym s)))))
-      after j (no ne) = written_given now new i e w stands wrote number j ne ∙ n.places j
+          ∙ (written_own now new i e w stored wrote number ∙ (same ∙ (sym (ap (option_and_then (destination_of number)) stored) ∙ (n.places i ∙ ap (place_in done) (sym s)))))
+      after j (no ne) = written_given now new i e w stored wrote number j ne ∙ n.places j
 
 -- ---- what the links of a chain name, before and after
 
@@ -141,14 +141,14 @@ abbrev pub ahead_of : Chain → Option ℕ
 ahead_of (linear xs) = None
 ahead_of (cyclic xs) = first_or xs None
 
-chain_stands : (shown : LinkMap) (c : Chain) → IsChain shown c → AreLinked shown (behind_of c) (items c) (ahead_of c)
-chain_stands shown (linear xs) h = h.2
-chain_stands shown (cyclic xs) h = h.2
+chain_stored : (reported : LinkMap) (c : Chain) → IsChain reported c → AreLinked reported (behind_of c) (items c) (ahead_of c)
+chain_stored reported (linear xs) h = h.2
+chain_stored reported (cyclic xs) h = h.2
 
 -- the item i of a chain names the items next to it
-chain_names : (shown : LinkMap) (c : Chain) (ys : List ℕ) (i : ℕ) (zs : List ℕ) → IsChain shown c → items c ≡ ys ++ i ∷ zs
-    → shown i ≡ Some (record { prev = last_or ys (behind_of c); next = first_or zs (ahead_of c) })
-chain_names shown c ys i zs h parts = AreLinked-at shown (behind_of c) ys zs (ahead_of c) i (subst (λ (l : List ℕ). AreLinked shown (behind_of c) l (ahead_of c)) parts (chain_stands shown c h))
+chain_names : (reported : LinkMap) (c : Chain) (ys : List ℕ) (i : ℕ) (zs : List ℕ) → IsChain reported c → items c ≡ ys ++ i ∷ zs
+    → reported i ≡ Some (record { prev = last_or ys (behind_of c); next = first_or zs (ahead_of c) })
+chain_names reported c ys i zs h parts = AreLinked-at reported (behind_of c) ys zs (ahead_of c) i (subst (λ (l : List ℕ). AreLinked reported (behind_of c) l (ahead_of c)) parts (chain_stored reported c h))
 
 -- the place of an item
 place-middle : (n : ℕ) (ys : List ℕ) (z : ℕ) (ws : List ℕ) → AreDistinct (ys ++ z ∷ ws) → place_from n (ys ++ z ∷ ws) z ≡ Some (n + length ys)
@@ -198,7 +198,7 @@ pub record IsWalking {Gen K T F P : Type 0} (number : K → Option ℕ) (g : F �
   pub behind : prev ≡ option_and_then (place_from (length done + 1) (items c)) (last_or passed None)
   pub numbered : AreNumbered number now.slots count (done ++ passed)
   pub retied : AreRelinked number (begun_link (place_from (length done + 1) (items c)) start) old now passed
-  pub shows : ReportsMoves g key (ptr_at (slot_at old.slots)) generation (length done + 1) f passed last
+  pub reports : ReportsMoves g key (ptr_at (slot_at old.slots)) generation (length done + 1) f passed last
   pub work : IsWork before after 0 (2 * length passed)
 
 module _ {Gen K T F P : Type 0} (number : K → Option ℕ) (g : F → P → P → F → Type 0) (key : P → ℕ × Gen) (generation : Gen) (f : F) (old : Held Gen (LinkBody K T)) (first : Arena Gen (LinkBody K T))
@@ -221,7 +221,7 @@ module _ {Gen K T F P : Type 0} (number : K → Option ℕ) (g : F → P → P �
     behind = refl;
     numbered = subst (AreNumbered number old.slots before) (sym (append-nil done)) can.numbered;
     retied = retied_none number (begun_link to start) old;
-    shows = shows_none g key (ptr_at (slot_at old.slots)) generation (length done + 1) f;
+    reports = reports_none g key (ptr_at (slot_at old.slots)) generation (length done + 1) f;
     work = work-none first 0;
   }
     where
@@ -231,11 +231,11 @@ module _ {Gen K T F P : Type 0} (number : K → Option ℕ) (g : F → P → P �
 
   -- before the first link there is a free number
   pub walk_first : before < length old.slots
-  walk_first = by (items c) can.starts can.room
+  walk_first = by (items c) can.starts can.within_capacity
     where
       by : (xs : List ℕ) → first_or xs None ≡ Some start → length done + length xs ≤ length old.slots → before < length old.slots
-      by [] e room = absurd (cc)
-      by (x ∷ xs) e room = omega (arith, can.numbered.counts, room)
+      by [] e within_capacity = absurd (cc)
+      by (x ∷ xs) e within_capacity = omega (arith, can.numbered.counts, within_capacity)
 
   module _ (last : F) (now : Held Gen (LinkBody K T)) (later : Arena Gen (LinkBody K T)) (count : ℕ) (named prev : Option ℕ) where
     -- the walk ends, and in a cyclic chain the start names the last link
@@ -267,14 +267,14 @@ module _ {Gen K T F P : Type 0} (number : K → Option ℕ) (g : F → P → P �
           by [] e = absurd (cc)
           by (x ∷ xs) e = (xs, ap (λ (y : ℕ). y ∷ xs) (one_some e))
 
-      start_shows : link_map_in number old.slots start ≡ Some (record { prev = behind_of c; next = first_or begins.0 (ahead_of c) })
-      start_shows = chain_names (link_map_in number old.slots) c [] start begins.0 can.chain begins.1
+      start_reports : link_map_in number old.slots start ≡ Some (record { prev = behind_of c; next = first_or begins.0 (ahead_of c) })
+      start_reports = chain_names (link_map_in number old.slots) c [] start begins.0 can.chain begins.1
 
-      start_stood : (e : Gen × LinkBody K T) × (slot_at old.slots start ≡ Some e)
-      start_stood = stands_at number old.slots start (record { link = _; shows = start_shows })
+      start_was_stored : (e : Gen × LinkBody K T) × (slot_at old.slots start ≡ Some e)
+      start_was_stored = stored_at number old.slots start (record { link = _; reports = start_reports })
 
-      start_prev : number start_stood.0.1.prev ≡ behind_of c
-      start_prev = ap prev_in (sym (ap (option_map (body_interlinks number)) start_stood.1) ∙ start_shows)
+      start_prev : number start_was_stored.0.1.prev ≡ behind_of c
+      start_prev = ap prev_in (sym (ap (option_map (body_interlinks number)) start_was_stored.1) ∙ start_reports)
 
       has_start : IsMember (items c) start
       has_start = subst (λ (xs : List ℕ). IsMember xs start) (sym begins.1) (inl refl)
@@ -290,16 +290,16 @@ module _ {Gen K T F P : Type 0} (number : K → Option ℕ) (g : F → P → P �
           own : (j : ℕ) → j ≡ start → (o : Option (Gen × LinkBody K T)) → slot_at old.slots j ≡ o → option_map (on_value (begun_link to start j)) (option_map (pair_view number) o) ≡ option_map (on_value (renamed_link to)) (option_map (pair_view number) o)
           own j s None is = refl
           own j s (Some e) is =
-              let stood : ◌≡◌ {A = Option (Gen × LinkBody K T)} (Some e) (Some start_stood.0) = sym is ∙ (ap (slot_at old.slots) s ∙ start_stood.1) in
-              let no_prev : number e.1.prev ≡ None = prev_same stood ∙ (start_prev ∙ none) in
-              ap (seen_as e.0) (begun_first to start j (link_view number e.1) s (ap (option_and_then to) no_prev))
+              let was_stored : ◌≡◌ {A = Option (Gen × LinkBody K T)} (Some e) (Some start_was_stored.0) = sym is ∙ (ap (slot_at old.slots) s ∙ start_was_stored.1) in
+              let no_prev : number e.1.prev ≡ None = prev_same was_stored ∙ (start_prev ∙ none) in
+              ap (viewed_as e.0) (begun_first to start j (link_view number e.1) s (ap (option_and_then to) no_prev))
             where
               prev_same : {a b : Gen × LinkBody K T} → ◌≡◌ {A = Option (Gen × LinkBody K T)} (Some a) (Some b) → number a.1.prev ≡ number b.1.prev
               prev_same e = ap (λ (o : Option (Gen × LinkBody K T)). option_and_then (λ (x : Gen × LinkBody K T). number x.1.prev) o) e
 
-          by : (j : ℕ) → Dec (j ≡ start) → option_map (on_value (begun_link to start j)) (seen_at number old j) ≡ option_map (on_value (renamed_link to)) (seen_at number old j)
+          by : (j : ℕ) → Dec (j ≡ start) → option_map (on_value (begun_link to start j)) (viewed_at number old j) ≡ option_map (on_value (renamed_link to)) (viewed_at number old j)
           by j (yes s) = own j s (slot_at old.slots j) refl
-          by j (no differs) = ap (λ (f : LinkView T → LinkView T). option_map (on_value f) (seen_at number old j)) (begun_other to start j differs)
+          by j (no differs) = ap (λ (f : LinkView T → LinkView T). option_map (on_value f) (viewed_at number old j)) (begun_other to start j differs)
 
       -- in a cyclic chain the start was overwritten
       closes_ring : (k : ℕ) → named ≡ Some k → prev ≡ option_and_then to (behind_of c) → AreNumbered number new.slots count (done ++ items c) × AreRelinked number (λ _. renamed_link to) old new (items c)
@@ -307,21 +307,21 @@ module _ {Gen K T F P : Type 0} (number : K → Option ℕ) (g : F → P → P �
         where
           by : (o : Option (Gen × LinkBody K T)) → slot_at now.slots start ≡ o → AreNumbered number new.slots count (done ++ items c) × AreRelinked number (λ _. renamed_link to) old new (items c)
           by None is =
-              let none = sym (ap (option_map (pair_view number)) is) ∙ (begun_all.there start has_start ∙ ap (λ (o : Option (Gen × LinkBody K T)). option_map (on_value (begun_link to start start)) (option_map (pair_view number) o)) start_stood.1) in
+              let none = sym (ap (option_map (pair_view number)) is) ∙ (begun_all.there start has_start ∙ ap (λ (o : Option (Gen × LinkBody K T)). option_map (on_value (begun_link to start start)) (option_map (pair_view number) o)) start_was_stored.1) in
               absurd (cc)
           by (Some e) is =
               let wrote = closed.ring k e.1 some (sym (ap (option_map (λ (x : Gen × LinkBody K T). x.1)) is)) in
               let x = wrote.0 in
-              let seen : seen_as e.0 (link_view number e.1) ≡ seen_as start_stood.0.0 (begun_link to start start (link_view number start_stood.0.1)) =
-              sym (ap (option_map (pair_view number)) is) ∙ (begun_all.there start has_start ∙ ap (λ (o : Option (Gen × LinkBody K T)). option_map (on_value (begun_link to start start)) (option_map (pair_view number) o)) start_stood.1) in
-              let last : number x.prev ≡ option_and_then to (number start_stood.0.1.prev) = wrote.1 ∙ (is_last ∙ sym (ap (option_and_then to) start_prev)) in
+              let view_after : viewed_as e.0 (link_view number e.1) ≡ viewed_as start_was_stored.0.0 (begun_link to start start (link_view number start_was_stored.0.1)) =
+              sym (ap (option_map (pair_view number)) is) ∙ (begun_all.there start has_start ∙ ap (λ (o : Option (Gen × LinkBody K T)). option_map (on_value (begun_link to start start)) (option_map (pair_view number) o)) start_was_stored.1) in
+              let last : number x.prev ≡ option_and_then to (number start_was_stored.0.1.prev) = wrote.1 ∙ (is_last ∙ sym (ap (option_and_then to) start_prev)) in
               let again : link_view number x ≡ record (link_view number e.1) { prev = number x.prev } = ap (link_view number) wrote.2 in
-              let here : seen_as e.0 (link_view number x) ≡ seen_as start_stood.0.0 (renamed_link to (link_view number start_stood.0.1)) =
-              ap (seen_as e.0) again ∙ (ap (λ (o : Option (Gen × LinkView T)). option_map (on_value (λ (l : LinkView T). record l { prev = number x.prev })) o) seen
-              ∙ ap (λ (p : Option ℕ). seen_as start_stood.0.0 (record (renamed_link to (link_view number start_stood.0.1)) { prev = p })) last) in (
+              let here : viewed_as e.0 (link_view number x) ≡ viewed_as start_was_stored.0.0 (renamed_link to (link_view number start_was_stored.0.1)) =
+              ap (viewed_as e.0) again ∙ (ap (λ (o : Option (Gen × LinkView T)). option_map (on_value (λ (l : LinkView T). record l { prev = number x.prev })) o) view_after
+              ∙ ap (λ (p : Option ℕ). viewed_as start_was_stored.0.0 (record (renamed_link to (link_view number start_was_stored.0.1)) { prev = p })) last) in (
                 still_numbered number now new start e x is wrote.3 count (done ++ items c) numbered_all (ap (λ (l : LinkBody K T). number l.destination) wrote.2),
                 retied_over number (begun_link to start) old now (items c) begun_all new start e x is wrote.3 has_start (λ _. renamed_link to) (λ j differs. begun_other to start j differs)
-                    (here ∙ sym (ap (λ (o : Option (Gen × LinkBody K T)). option_map (on_value (renamed_link to)) (option_map (pair_view number) o)) start_stood.1)),
+                    (here ∙ sym (ap (λ (o : Option (Gen × LinkBody K T)). option_map (on_value (renamed_link to)) (option_map (pair_view number) o)) start_was_stored.1)),
               )
 
       -- the two cases together
@@ -340,7 +340,7 @@ module _ {Gen K T F P : Type 0} (number : K → Option ℕ) (g : F → P → P �
       walk_ends final closing = record {
         numbered = ended.0;
         retied = ended.1;
-        shows = subst (λ (xs : List ℕ). ReportsMoves g key (ptr_at (slot_at old.slots)) generation (length done + 1) f xs last) all_passed w.shows;
+        reports = subst (λ (xs : List ℕ). ReportsMoves g key (ptr_at (slot_at old.slots)) generation (length done + 1) f xs last) all_passed w.reports;
         work = work-more w.work closing 0 (3 * length (items c)) refl
             (let a : length w.passed ≡ length (items c) = ap length all_passed in let b : length (items c) ≡ suc (length begins.0) = ap length begins.1 in omega arith);
       }
@@ -359,10 +359,10 @@ module _ {Gen K T F P : Type 0} (number : K → Option ℕ) (g : F → P → P �
       counted = w.numbered.counts ∙ length-append done w.passed
 
       -- there is a free number for the next link
-      pub walk_room : count < length old.slots
-      walk_room =
+      pub walk_capacity : count < length old.slots
+      walk_capacity =
           let l : length (items c) ≡ length w.passed + suc (length here.0) = ap length here.1 ∙ length-append w.passed (i ∷ here.0) in
-          let r : length done + length (items c) ≤ length old.slots = can.room in
+          let r : length done + length (items c) ≤ length old.slots = can.within_capacity in
           omega (arith, counted, l, r)
 
       has : IsMember (items c) i
@@ -382,19 +382,19 @@ module _ {Gen K T F P : Type 0} (number : K → Option ℕ) (g : F → P → P �
       as_first : slot_at now.slots i ≡ slot_at old.slots i
       as_first = w.retied.stay i not_passed
 
-      shows_here : link_map_in number now.slots i ≡ Some (record { prev = last_or w.passed (behind_of c); next = first_or here.0 (ahead_of c) })
-      shows_here = ap (option_map (body_interlinks number)) as_first ∙ chain_names (link_map_in number old.slots) c w.passed i here.0 can.chain here.1
+      reports_here : link_map_in number now.slots i ≡ Some (record { prev = last_or w.passed (behind_of c); next = first_or here.0 (ahead_of c) })
+      reports_here = ap (option_map (body_interlinks number)) as_first ∙ chain_names (link_map_in number old.slots) c w.passed i here.0 can.chain here.1
 
-      pub walk_stands : (e : Gen × LinkBody K T) × (slot_at now.slots i ≡ Some e)
-      walk_stands = stands_at number now.slots i (record { link = _; shows = shows_here })
+      pub walk_stored : (e : Gen × LinkBody K T) × (slot_at now.slots i ≡ Some e)
+      walk_stored = stored_at number now.slots i (record { link = _; reports = reports_here })
 
       -- a read finds the next link
-      pub walk_answers : None ≡ option_map (λ (e : Gen × LinkBody K T). e.0) (slot_at now.slots i) → ⊥
-      walk_answers none = let both = none ∙ ap (option_map (λ (e : Gen × LinkBody K T). e.0)) walk_stands.1 in cc
+      pub walk_returns : None ≡ option_map (λ (e : Gen × LinkBody K T). e.0) (slot_at now.slots i) → ⊥
+      walk_returns none = let both = none ∙ ap (option_map (λ (e : Gen × LinkBody K T). e.0)) walk_stored.1 in cc
 
       module _ (follows on : Option ℕ) (is_next : follows ≡ next_of (link_map_in number now.slots) i) (goes : on ≡ step_forward start follows) where
         names_next : follows ≡ first_or here.0 (ahead_of c)
-        names_next = is_next ∙ ap next_in shows_here
+        names_next = is_next ∙ ap next_in reports_here
 
         goes_next : on ≡ first_or here.0 None
         goes_next =
@@ -407,7 +407,7 @@ module _ {Gen K T F P : Type 0} (number : K → Option ℕ) (g : F → P → P �
         walk_more k some =
             let filled : 1 ≤ length here.0 = by here.0 (sym goes_next ∙ some) in
             let l : length (items c) ≡ length w.passed + suc (length here.0) = ap length here.1 ∙ length-append w.passed (i ∷ here.0) in
-            let r : length done + length (items c) ≤ length old.slots = can.room in
+            let r : length done + length (items c) ≤ length old.slots = can.within_capacity in
             omega (arith, counted, l, r, filled)
           where
             by : (zs : List ℕ) → first_or zs None ≡ Some k → 1 ≤ length zs
@@ -419,7 +419,7 @@ module _ {Gen K T F P : Type 0} (number : K → Option ℕ) (g : F → P → P �
             → IsRelinkedAt number i prev (number_after on follows before (count + 1)) (Some d) now new → d ≡ count + 1 → IsWork later last_work 0 2 → Some was ≡ option_map (λ (e : Gen × LinkBody K T). e.0) (slot_at now.slots i)
             → key p ≡ (i, was) → key q ≡ (d, generation) → g last p q next
             → IsWalking number g key generation f next old new first last_work (count + 1) start on follows (Some d) done c
-        walk_goes_on d new last_work was p q next tied at work generates from goes_to called = record {
+        walk_goes_on d new last_work was p q next relinked at work generates from goes_to called = record {
           passed = w.passed ++ i ∷ [];
           ahead = here.0;
           parts = here.1 ∙ sym (append_assoc w.passed (i ∷ []) here.0);
@@ -427,15 +427,15 @@ module _ {Gen K T F P : Type 0} (number : K → Option ℕ) (g : F → P → P �
           names = names_next;
           behind = sym (ap (option_and_then to) (last_or-append w.passed (i ∷ []) None) ∙ (own_place ∙ ap (λ (m : ℕ). Some m) (sym place)));
           numbered = subst (AreNumbered number new.slots (count + 1)) (append_assoc done w.passed (i ∷ []))
-              (one_numbered number now new i walk_stands.0 x walk_stands.1 wrote.3 count (done ++ w.passed) w.numbered fresh (wrote.2 ∙ ap (λ (m : ℕ). Some m) at));
-          retied = retied_more number (begun_link to start) old now w.passed w.retied new i walk_stands.0 x walk_stands.1 wrote.3 not_passed (wrote.1 ∙ (λ j. record { prev = is_prev j; next = is_after j; value = walk_stands.0.1.t }));
-          shows = shows_then g key (ptr_at (slot_at old.slots)) generation (length done + 1) f last next w.passed (i ∷ []) w.shows
-              (shows_one g key (ptr_at (slot_at old.slots)) generation (length done + 1 + length w.passed) last next i p q shown (goes_to ∙ ap (λ (m : ℕ). (m, generation)) place) called);
+              (one_numbered number now new i walk_stored.0 x walk_stored.1 wrote.3 count (done ++ w.passed) w.numbered fresh (wrote.2 ∙ ap (λ (m : ℕ). Some m) at));
+          retied = retied_more number (begun_link to start) old now w.passed w.retied new i walk_stored.0 x walk_stored.1 wrote.3 not_passed (wrote.1 ∙ (λ j. record { prev = is_prev j; next = is_after j; value = walk_stored.0.1.t }));
+          reports = reports_then g key (ptr_at (slot_at old.slots)) generation (length done + 1) f last next w.passed (i ∷ []) w.reports
+              (reports_one g key (ptr_at (slot_at old.slots)) generation (length done + 1 + length w.passed) last next i p q reported (goes_to ∙ ap (λ (m : ℕ). (m, generation)) place) called);
           work = work-more w.work work 0 (2 * length (w.passed ++ i ∷ [])) refl (let l : length (w.passed ++ i ∷ []) ≡ length w.passed + 1 = length-append w.passed (i ∷ []) in omega arith);
         }
           where
-            wrote : (x : LinkBody K T) × (link_view number x ≡ record { prev = prev; next = number_after on follows before (count + 1); value = walk_stands.0.1.t }) × (number x.destination ≡ Some d) × (new ≡ held_with_value now i x)
-            wrote = tied.there walk_stands.0.1 (sym (ap (option_map (λ (e : Gen × LinkBody K T). e.1)) walk_stands.1))
+            wrote : (x : LinkBody K T) × (link_view number x ≡ record { prev = prev; next = number_after on follows before (count + 1); value = walk_stored.0.1.t }) × (number x.destination ≡ Some d) × (new ≡ held_with_value now i x)
+            wrote = relinked.there walk_stored.0.1 (sym (ap (option_map (λ (e : Gen × LinkBody K T). e.1)) walk_stored.1))
 
             x : LinkBody K T
             x = wrote.0
@@ -446,15 +446,15 @@ module _ {Gen K T F P : Type 0} (number : K → Option ℕ) (g : F → P → P �
             own_place : to i ≡ Some (length done + 1 + length w.passed)
             own_place = ap (λ (xs : List ℕ). place_from (length done + 1) xs i) here.1 ∙ place-middle (length done + 1) w.passed i here.0 (subst AreDistinct here.1 chain_is_once)
 
-            own_links : Some (body_interlinks number walk_stands.0) ≡ Some (record { prev = last_or w.passed (behind_of c); next = first_or here.0 (ahead_of c) })
-            own_links = sym (ap (option_map (body_interlinks number)) walk_stands.1) ∙ shows_here
+            own_links : Some (body_interlinks number walk_stored.0) ≡ Some (record { prev = last_or w.passed (behind_of c); next = first_or here.0 (ahead_of c) })
+            own_links = sym (ap (option_map (body_interlinks number)) walk_stored.1) ∙ reports_here
 
-            is_prev : prev ≡ (if i == start then None else option_and_then to (number walk_stands.0.1.prev))
+            is_prev : prev ≡ (if i == start then None else option_and_then to (number walk_stored.0.1.prev))
             is_prev =
                 w.behind ∙ (named_before to start w.passed i here.0 (behind_of c) (subst AreDistinct here.1 chain_is_once) (ap (λ (xs : List ℕ). first_or xs None) (sym here.1) ∙ can.starts)
                 ∙ ap (λ (o : Option Interlinks). if i == start then None else option_and_then to (prev_in o)) (sym own_links))
 
-            is_after : number_after on follows before (count + 1) ≡ option_and_then to (number walk_stands.0.1.next)
+            is_after : number_after on follows before (count + 1) ≡ option_and_then to (number walk_stored.0.1.next)
             is_after =
                 (λ j. number_after (goes_next j) (names_next j) (can.numbered.counts j) (count + 1))
                 ∙ (named_after c (length done) start w.passed i here.0 here.1 chain_is_once can.starts count counted ∙ ap (λ (o : Option Interlinks). option_and_then to (next_in o)) (sym own_links))
@@ -463,7 +463,7 @@ module _ {Gen K T F P : Type 0} (number : K → Option ℕ) (g : F → P → P �
             in_slot None = refl
             in_slot (Some e) = refl
 
-            shown : Some (key p) ≡ ptr_at (slot_at old.slots) i
-            shown =
+            reported : Some (key p) ≡ ptr_at (slot_at old.slots) i
+            reported =
                 ap (λ (k : ℕ × Gen). Some k) from
                 ∙ (ap (λ (o : Option Gen). option_map {U = ℕ × Gen} (λ (n : Gen). (i, n)) o) generates ∙ (in_slot (slot_at now.slots i) ∙ ap (option_map {U = ℕ × Gen} (λ (e : Gen × LinkBody K T). (i, e.0))) as_first))

@@ -26,8 +26,8 @@ use Rattle.chain_compaction.specs.Permutations.{destination_of}
 use Rattle.chain_compaction.specs.Destinations.{HasChainFrom, renamed_link, destination_at, is_fresh, AreNumbered, AreRelinked, CanNumber, IsChainNumbered, AreAllNumbered}
 use Rattle.chain_links.proofs.ArenaInsertionLemmas.{slots-within}
 use Rattle.chain_compaction.proofs.DetachedLinkLemmas.{work-none, work-more}
-use Rattle.chain_compaction.proofs.ChainDestinationLemmas.{shows_none, shows_then}
-use Rattle.chain_compaction.proofs.LinkRewriteLemmas.{seen_as, retied_none, retied_as, retied_ptr, retied_then, all_retied}
+use Rattle.chain_compaction.proofs.ChainDestinationLemmas.{reports_none, reports_then}
+use Rattle.chain_compaction.proofs.LinkRewriteLemmas.{viewed_as, retied_none, retied_as, retied_ptr, retied_then, all_retied}
 
 -- ---- chains in order
 
@@ -80,9 +80,9 @@ next_chain (c ∷ cs) k i is rises low h = chosen (IsMember-parts (items c) (all
 -- ---- slots with and without destinations
 
 module _ {Gen K T : Type 0} (number : K → Option ℕ) where
-  fresh_shown : (s : Option (Gen × LinkBody K T)) → is_fresh number s ≡ true → (link : Interlinks) × (option_map (body_interlinks number) s ≡ Some link)
-  fresh_shown None e = absurd (cc)
-  fresh_shown (Some x) e = (body_interlinks number x, refl)
+  fresh_reported : (s : Option (Gen × LinkBody K T)) → is_fresh number s ≡ true → (link : Interlinks) × (option_map (body_interlinks number) s ≡ Some link)
+  fresh_reported None e = absurd (cc)
+  fresh_reported (Some x) e = (body_interlinks number x, refl)
 
   fresh_none : (s : Option (Gen × LinkBody K T)) → is_fresh number s ≡ true → option_and_then (destination_of number) s ≡ None
   fresh_none None e = refl
@@ -93,8 +93,8 @@ module _ {Gen K T : Type 0} (number : K → Option ℕ) where
       by (Some i) e = absurd (cc)
 
   stale_some : (s : Option (Gen × LinkBody K T)) (link : Interlinks) → option_map (body_interlinks number) s ≡ Some link → is_fresh number s ≡ false → option_and_then (destination_of number) s ≡ None → ⊥
-  stale_some None link shows e none = cc
-  stale_some (Some x) link shows e none = by (destination_of number x) e none
+  stale_some None link reports e none = cc
+  stale_some (Some x) link reports e none = by (destination_of number x) e none
     where
       by : (o : Option ℕ) → is_none o ≡ false → o ≡ None → ⊥
       by None e none = cc
@@ -117,7 +117,7 @@ module _ {Gen K T : Type 0} (number : K → Option ℕ) where
       by (Some e) is =
           let prev = alike (number e.1.prev) (λ j s. closed.back i j m (ap (λ (o : Option (Gen × LinkBody K T)). prev_in (option_map (body_interlinks number) o)) is ∙ s)) in
           let next = alike (number e.1.next) (λ j s. closed.forth i j m (ap (λ (o : Option (Gen × LinkBody K T)). next_in (option_map (body_interlinks number) o)) is ∙ s)) in
-          ap (seen_as e.0) (λ k. record { prev = prev k; next = next k; value = e.1.t })
+          ap (viewed_as e.0) (λ k. record { prev = prev k; next = next k; value = e.1.t })
 
 -- ---- the loop over all slots
 
@@ -132,7 +132,7 @@ pub record IsOrdering {Gen K T F P : Type 0} (number : K → Option ℕ) (g : F 
   pub low : (y : ℕ) → IsMember (all_items rest) y → k < y
   pub retied : AreRelinked number (λ _. renamed_link (place_in (all_items chains))) old now (all_items done)
   pub numbered : AreNumbered number now.slots count (all_items done)
-  pub shows : ReportsMoves g key (ptr_at (slot_at old.slots)) generation 1 f (all_items done) last
+  pub reports : ReportsMoves g key (ptr_at (slot_at old.slots)) generation 1 f (all_items done) last
   pub work : IsWork before after 0 (k + 4 * length (all_items done))
 
 module _ {Gen K T F P : Type 0} (number : K → Option ℕ) (g : F → P → P → F → Type 0) (key : P → ℕ × Gen) (generation : Gen) (f : F) (old : Held Gen (LinkBody K T)) (before : Arena Gen (LinkBody K T)) where
@@ -150,7 +150,7 @@ module _ {Gen K T F P : Type 0} (number : K → Option ℕ) (g : F → P → P �
         low = λ y h. (let w = within.within y ((all.1.partition.valid y).1 h) in let l : 1 ≤ y = w.0 in omega arith);
         retied = retied_none number (λ _. renamed_link (place_in (all_items all.0))) old;
         numbered = record { places = none; counts = refl };
-        shows = shows_none g key (ptr_at (slot_at old.slots)) generation 1 f;
+        reports = reports_none g key (ptr_at (slot_at old.slots)) generation 1 f;
         work = work-none before 0;
       }
 
@@ -180,7 +180,7 @@ module _ {Gen K T F P : Type 0} (number : K → Option ℕ) (g : F → P → P �
       places = o.numbered.places;
       renamed = all_retied number (place_in (all_items o.done)) old now (all_items o.done)
           (subst (λ (xs : List ℕ). AreRelinked number (λ _. renamed_link (place_in xs)) old now (all_items o.done)) whole o.retied) each;
-      shows = o.shows;
+      reports = o.reports;
       work = subst (λ (n : ℕ). IsWork before after 0 (n + 4 * length (all_items o.done))) all o.work;
     }
       where
@@ -195,13 +195,13 @@ module _ {Gen K T F P : Type 0} (number : K → Option ℕ) (g : F → P → P �
 
         each : (j : ℕ) (e : Gen × LinkBody K T) → slot_at old.slots j ≡ Some e → IsMember (all_items o.done) j
         each j e is =
-            subst (λ (xs : List ℕ). IsMember xs j) whole ((o.are.partition.valid j).0 (record { link = body_interlinks number e; shows = ap (option_map (body_interlinks number)) is }))
+            subst (λ (xs : List ℕ). IsMember xs j) whole ((o.are.partition.valid j).0 (record { link = body_interlinks number e; reports = ap (option_map (body_interlinks number)) is }))
 
     module _ (i : ℕ) (is : i ≡ k + 1) where
       -- the next slot holds no link without a destination
-      pub order_skips : (mid : Held Gen (LinkBody K T)) (looked : Arena Gen (LinkBody K T)) → mid ≡ now → is_fresh number (slot_at now.slots i) ≡ false → IsWork after looked 0 1
-          → IsOrdering number g key generation f last old mid before looked count (k + 1)
-      order_skips mid looked same stale look = record {
+      pub order_skips : (mid : Held Gen (LinkBody K T)) (was_read : Arena Gen (LinkBody K T)) → mid ≡ now → is_fresh number (slot_at now.slots i) ≡ false → IsWork after was_read 0 1
+          → IsOrdering number g key generation f last old mid before was_read count (k + 1)
+      order_skips mid was_read same stale lookup = record {
         chains = o.chains;
         are = o.are;
         done = o.done;
@@ -210,15 +210,15 @@ module _ {Gen K T F P : Type 0} (number : K → Option ℕ) (g : F → P → P �
         low = λ y h. lower y h (ℕ_discrete y i);
         retied = subst (λ (h : Held Gen (LinkBody K T)). AreRelinked number (λ _. renamed_link (place_in (all_items o.chains))) old h (all_items o.done)) (sym same) o.retied;
         numbered = subst (λ (h : Held Gen (LinkBody K T)). AreNumbered number h.slots count (all_items o.done)) (sym same) o.numbered;
-        shows = o.shows;
-        work = work-more o.work look 0 (k + 1 + 4 * length (all_items o.done)) refl (omega arith);
+        reports = o.reports;
+        work = work-more o.work lookup 0 (k + 1 + 4 * length (all_items o.done)) refl (omega arith);
       }
         where
           not_here : IsMember (all_items o.rest) i → ⊥
           not_here h =
               let v = rest_valid i h in
               let out = λ (m : IsMember (all_items o.done) i). AreDistinct-apart (all_items o.done) (all_items o.rest) i once m h in
-              stale_some number (slot_at now.slots i) v.link (as_old i out ∙ v.shows) stale (o.numbered.places i ∙ place-none 1 (all_items o.done) i out)
+              stale_some number (slot_at now.slots i) v.link (as_old i out ∙ v.reports) stale (o.numbered.places i ∙ place-none 1 (all_items o.done) i out)
 
           lower : (y : ℕ) → IsMember (all_items o.rest) y → Dec (y ≡ i) → k + 1 < y
           lower y h (yes s) = absurd (not_here (subst (IsMember (all_items o.rest)) s h))
@@ -232,11 +232,11 @@ module _ {Gen K T F P : Type 0} (number : K → Option ℕ) (g : F → P → P �
             let none : None ≡ Some p.0 = sym (fresh_none number (slot_at now.slots i) fresh) ∙ (o.numbered.places i ∙ p.1) in
             absurd (cc)
 
-        stands : HasLink (link_map_in number old.slots) i
-        stands = let s = fresh_shown number (slot_at now.slots i) fresh in record { link = s.0; shows = sym (as_old i not_done) ∙ s.1 }
+        stored : HasLink (link_map_in number old.slots) i
+        stored = let s = fresh_reported number (slot_at now.slots i) fresh in record { link = s.0; reports = sym (as_old i not_done) ∙ s.1 }
 
         in_rest : IsMember (all_items o.rest) i
-        in_rest = by (IsMember-parts (all_items o.done) (all_items o.rest) i (subst (λ (xs : List ℕ). IsMember xs i) all_parts (are.all i stands)))
+        in_rest = by (IsMember-parts (all_items o.done) (all_items o.rest) i (subst (λ (xs : List ℕ). IsMember xs i) all_parts (are.all i stored)))
           where
             by : IsMember (all_items o.done) i ⊎ IsMember (all_items o.rest) i → IsMember (all_items o.rest) i
             by (inr h) = h
@@ -304,8 +304,8 @@ module _ {Gen K T F P : Type 0} (number : K → Option ℕ) (g : F → P → P �
         with_first : all_items o.done ++ items the_next.first ≡ all_items (o.done ++ the_next.first ∷ [])
         with_first = sym (all_items-append o.done (the_next.first ∷ []) ∙ ap (λ (xs : List ℕ). all_items o.done ++ xs) (append-nil (items the_next.first)))
 
-        room : length (all_items o.done) + length (items the_next.first) ≤ length now.slots
-        room =
+        within_capacity : length (all_items o.done) + length (items the_next.first) ≤ length now.slots
+        within_capacity =
             let long : length now.slots ≡ length old.slots = o.retied.long in
             let bound : length (all_items o.chains) ≤ length old.slots = length_bound (all_items o.chains) (length old.slots) are.once
             (λ j h. (slots-within (body_interlinks number) old.slots).within j ((o.are.partition.valid j).1 h)) in
@@ -316,22 +316,22 @@ module _ {Gen K T F P : Type 0} (number : K → Option ℕ) (g : F → P → P �
             omega arith
 
         -- the state after a read, which changed nothing
-        module _ (mid : Held Gen (LinkBody K T)) (look : mid ≡ now) where
+        module _ (mid : Held Gen (LinkBody K T)) (lookup : mid ≡ now) where
           pub order_found : HasChainFrom (link_map_in number mid.slots) i
-          order_found = subst (λ (h : Held Gen (LinkBody K T)). HasChainFrom (link_map_in number h.slots) i) (sym look) found_from
+          order_found = subst (λ (h : Held Gen (LinkBody K T)). HasChainFrom (link_map_in number h.slots) i) (sym lookup) found_from
 
           -- the state after the walk back
-          module _ (stood : Held Gen (LinkBody K T)) (walked : stood ≡ mid) (start : ℕ) (from : IsStart (link_map_in number mid.slots) i start) where
-            can_here : CanNumber number stood.slots start count (all_items o.done) the_next.first
-            can_here = subst (λ (h : Held Gen (LinkBody K T)). CanNumber number h.slots start count (all_items o.done) the_next.first) (sym (walked ∙ look)) (record {
+          module _ (was_stored : Held Gen (LinkBody K T)) (walked : was_stored ≡ mid) (start : ℕ) (from : IsStart (link_map_in number mid.slots) i start) where
+            can_here : CanNumber number was_stored.slots start count (all_items o.done) the_next.first
+            can_here = subst (λ (h : Held Gen (LinkBody K T)). CanNumber number h.slots start count (all_items o.done) the_next.first) (sym (walked ∙ lookup)) (record {
               numbered = o.numbered;
               chain = first_chain;
-              starts = starts start (subst (λ (h : Held Gen (LinkBody K T)). IsStart (link_map_in number h.slots) i start) look from);
+              starts = starts start (subst (λ (h : Held Gen (LinkBody K T)). IsStart (link_map_in number h.slots) i start) lookup from);
               apart = apart;
-              room = room;
+              within_capacity = within_capacity;
             })
 
-            pub order_can : (done : List ℕ) × (c : Chain) × CanNumber number stood.slots start count done c
+            pub order_can : (done : List ℕ) × (c : Chain) × CanNumber number was_stored.slots start count done c
             order_can = (all_items o.done, the_next.first, can_here)
 
             -- the next chain is numbered
@@ -339,9 +339,9 @@ module _ {Gen K T F P : Type 0} (number : K → Option ℕ) (g : F → P → P �
                 → IsWork after a 0 1
                 → ((xs : List ℕ) → IsChain (link_map_in number mid.slots) (linear xs) → IsMember xs i → IsWork a b 0 (length xs))
                 → ((xs : List ℕ) → IsChain (link_map_in number mid.slots) (cyclic (i ∷ xs)) → IsWork a b 0 (length xs + 1))
-                → ((done : List ℕ) (c : Chain) → CanNumber number stood.slots start count done c → IsChainNumbered number g key generation last next stood new b d more done c)
+                → ((done : List ℕ) (c : Chain) → CanNumber number was_stored.slots start count done c → IsChainNumbered number g key generation last next was_stored new b d more done c)
                 → IsOrdering number g key generation f next old new before d more (k + 1)
-            order_goes_on a b d next new more looked in_linear in_cyclic numbers = record {
+            order_goes_on a b d next new more was_read in_linear in_cyclic numbers = record {
               chains = o.chains;
               are = o.are;
               done = o.done ++ the_next.first ∷ [];
@@ -351,20 +351,20 @@ module _ {Gen K T F P : Type 0} (number : K → Option ℕ) (g : F → P → P �
               retied = subst (AreRelinked number (λ _. renamed_link (place_in (all_items o.chains))) old new) with_first
                   (retied_then number (λ _. renamed_link (place_in (all_items o.chains))) old now (all_items o.done) o.retied new (items the_next.first) first_retied apart);
               numbered = subst (AreNumbered number new.slots more) with_first chain.numbered;
-              shows = subst (λ (xs : List ℕ). ReportsMoves g key (ptr_at (slot_at old.slots)) generation 1 f xs next) with_first
-                  (shows_then g key (ptr_at (slot_at old.slots)) generation 1 f last next (all_items o.done) (items the_next.first) o.shows
+              reports = subst (λ (xs : List ℕ). ReportsMoves g key (ptr_at (slot_at old.slots)) generation 1 f xs next) with_first
+                  (reports_then g key (ptr_at (slot_at old.slots)) generation 1 f last next (all_items o.done) (items the_next.first) o.reports
                   (subst (λ (n : ℕ). ReportsMoves g key (ptr_at (slot_at old.slots)) generation n last (items the_next.first) next) place
-                  (subst (λ (pointer : ℕ → Option (ℕ × Gen)). ReportsMoves g key pointer generation (length (all_items o.done) + 1) last (items the_next.first) next) pointers chain.shows)));
-              work = work-more (work-more (work-more o.work looked 0 (k + 1 + 4 * length (all_items o.done)) refl (omega arith)) walk 0 (k + 1 + 4 * length (all_items o.done) + length (items the_next.first)) refl (omega arith))
+                  (subst (λ (pointer : ℕ → Option (ℕ × Gen)). ReportsMoves g key pointer generation (length (all_items o.done) + 1) last (items the_next.first) next) pointers chain.reports)));
+              work = work-more (work-more (work-more o.work was_read 0 (k + 1 + 4 * length (all_items o.done)) refl (omega arith)) walk 0 (k + 1 + 4 * length (all_items o.done) + length (items the_next.first)) refl (omega arith))
                   chain.work 0 (k + 1 + 4 * length (all_items (o.done ++ the_next.first ∷ []))) refl (omega (arith, long));
             }
               where
-                chain : IsChainNumbered number g key generation last next stood new b d more (all_items o.done) the_next.first
+                chain : IsChainNumbered number g key generation last next was_stored new b d more (all_items o.done) the_next.first
                 chain = numbers (all_items o.done) the_next.first can_here
 
-                pointers : ptr_at (slot_at stood.slots) ≡ ptr_at (slot_at old.slots)
+                pointers : ptr_at (slot_at was_stored.slots) ≡ ptr_at (slot_at old.slots)
                 pointers =
-                    ap (λ (h : Held Gen (LinkBody K T)). ptr_at (slot_at h.slots)) (walked ∙ look)
+                    ap (λ (h : Held Gen (LinkBody K T)). ptr_at (slot_at h.slots)) (walked ∙ lookup)
                     ∙ retied_ptr number (λ _. renamed_link (place_in (all_items o.chains))) old now (all_items o.done) o.retied
 
                 place : length (all_items o.done) + 1 ≡ 1 + length (all_items o.done)
@@ -379,7 +379,7 @@ module _ {Gen K T F P : Type 0} (number : K → Option ℕ) (g : F → P → P �
                     ∙ ap (λ (xs : List ℕ). place_in xs j) (ap (λ (cs : List Chain). all_items o.done ++ all_items cs) (sym the_next.rest_is) ∙ sym all_parts)))
 
                 now_retied : AreRelinked number (λ _. renamed_link (place_from (length (all_items o.done) + 1) (items the_next.first))) now new (items the_next.first)
-                now_retied = subst (λ (h : Held Gen (LinkBody K T)). AreRelinked number (λ _. renamed_link (place_from (length (all_items o.done) + 1) (items the_next.first))) h new (items the_next.first)) (walked ∙ look) chain.retied
+                now_retied = subst (λ (h : Held Gen (LinkBody K T)). AreRelinked number (λ _. renamed_link (place_from (length (all_items o.done) + 1) (items the_next.first))) h new (items the_next.first)) (walked ∙ lookup) chain.retied
 
                 first_retied : AreRelinked number (λ _. renamed_link (place_in (all_items o.chains))) now new (items the_next.first)
                 first_retied =
@@ -391,5 +391,5 @@ module _ {Gen K T F P : Type 0} (number : K → Option ℕ) (g : F → P → P �
 
                 walk : IsWork a b 0 (length (items the_next.first))
                 walk = start_work a b
-                    (subst (λ (h : Held Gen (LinkBody K T)). (xs : List ℕ) → IsChain (link_map_in number h.slots) (linear xs) → IsMember xs i → IsWork a b 0 (length xs)) look in_linear)
-                    (subst (λ (h : Held Gen (LinkBody K T)). (xs : List ℕ) → IsChain (link_map_in number h.slots) (cyclic (i ∷ xs)) → IsWork a b 0 (length xs + 1)) look in_cyclic)
+                    (subst (λ (h : Held Gen (LinkBody K T)). (xs : List ℕ) → IsChain (link_map_in number h.slots) (linear xs) → IsMember xs i → IsWork a b 0 (length xs)) lookup in_linear)
+                    (subst (λ (h : Held Gen (LinkBody K T)). (xs : List ℕ) → IsChain (link_map_in number h.slots) (cyclic (i ∷ xs)) → IsWork a b 0 (length xs + 1)) lookup in_cyclic)

@@ -29,11 +29,11 @@ module _ {X : Type 0} where
 module _ {E : Type 0} (goal : E → Option ℕ) (Settles : E → E → Type 0) (n : ℕ) (old new : List (Option E))
     (front : GoToFront goal old n) (moved : HaveMoved goal Settles (slot_at old) (slot_at new)) where
   -- there is an entry at each index up to n, and at none above
-  stands_in_front : (k : ℕ) → k < n → (e : E) × (slice_index_or new k None ≡ Some e)
-  stands_in_front k below =
+  stored_in_front : (k : ℕ) → k < n → (e : E) × (slice_index_or new k None ≡ Some e)
+  stored_in_front k below =
       let from = front.each (suc k) (omega arith) (omega arith) in
       let there = moved.there from.0 (suc k) from.1 from.2 in
-      (there.entry, there.stands)
+      (there.entry, there.stored)
 
   free_behind : (k : ℕ) → n ≤ k → slice_index_or new k None ≡ None
   free_behind k above = by (slice_index_or new k None) refl
@@ -51,7 +51,7 @@ module _ {E : Type 0} (goal : E → Option ℕ) (Settles : E → E → Type 0) (
     where
       taken : (i : ℕ) → 1 ≤ i → i ≤ n → IsSome (slot_at new i)
       taken zero low high = absurd (omega (arith, low))
-      taken (suc k) low high = ap (λ (o : Option E). is_some o) (stands_in_front k (omega (arith, high))).1
+      taken (suc k) low high = ap (λ (o : Option E). is_some o) (stored_in_front k (omega (arith, high))).1
 
       free : (i : ℕ) → n < i → slot_at new i ≡ None
       free zero above = refl
@@ -59,20 +59,20 @@ module _ {E : Type 0} (goal : E → Option ℕ) (Settles : E → E → Type 0) (
 
   -- trimming leaves exactly n slots, none of them free
   pub front-length : length (trimmed new) ≡ n
-  front-length = (trimmed-front n new stands_in_front free_behind).0
+  front-length = (trimmed-front n new stored_in_front free_behind).0
 
   pub front-none_free : free_from 1 (trimmed new) ≡ []
-  front-none_free = (trimmed-front n new stands_in_front free_behind).1 1
+  front-none_free = (trimmed-front n new stored_in_front free_behind).1 1
 
 module _ {Gen K T : Type 0} (number : K → Option ℕ) (g : Gen) where
   -- what is seen of an entry that is settled
-  pub settled_seen : (e f : Gen × LinkBody K T) → Settles number g e f → pair_view number f ≡ (g, link_view number e.1)
-  settled_seen e f s = ap₂ (λ (h : Gen) (l : LinkView T). (h, l)) s.generation (ap (link_view number) s.rest)
+  pub settled_viewed : (e f : Gen × LinkBody K T) → Settles number g e f → pair_view number f ≡ (g, link_view number e.1)
+  settled_viewed e f s = ap₂ (λ (h : Gen) (l : LinkView T). (h, l)) s.generation (ap (link_view number) s.rest)
 
   -- an entry at its destination is seen as before, but for the generation
-  pub moved_seen : (old new : List (Option (Gen × LinkBody K T))) → HaveMoved (destination_of number) (Settles number g) (slot_at old) (slot_at new) → (i d : ℕ) (e : Gen × LinkBody K T)
+  pub moved_viewed : (old new : List (Option (Gen × LinkBody K T))) → HaveMoved (destination_of number) (Settles number g) (slot_at old) (slot_at new) → (i d : ℕ) (e : Gen × LinkBody K T)
       → Waits (destination_of number) (slot_at old) i e d → slot_at (map (option_map (pair_view number)) new) d ≡ Some (g, link_view number e.1)
-  moved_seen old new moved i d e w =
+  moved_viewed old new moved i d e w =
       let there = moved.there i d e w in
       slot_at-map (pair_view number) new d
-      ∙ (ap (option_map (pair_view number)) there.stands ∙ ap (λ (x : Gen × LinkView T). let o : Option (Gen × LinkView T) = Some x in o) (settled_seen e there.entry there.settled))
+      ∙ (ap (option_map (pair_view number)) there.stored ∙ ap (λ (x : Gen × LinkView T). let o : Option (Gen × LinkView T) = Some x in o) (settled_viewed e there.entry there.settled))

@@ -92,9 +92,9 @@ module _ {F P T Gen K : Type 0} (g : Mut F (P × (MutBor T × (P × Unit {0}))) 
     like = returned greatest (with_totals (with_each held_in start) moved_count (length (held_values before).slots + moved_count)) (held_values after)
 
     like_gathered : old.capacity ≡ min old.stack_capacity greatest → generation ≡ old.counter → IsGathered g key f old_values like
-    like_gathered room counter =
+    like_gathered within_capacity counter =
         gathers g key f greatest maximum generation old_values (with_each held_in start) (with_totals (with_each held_in start) moved_count (length (held_values before).slots + moved_count)) like
-        (held_values before) (held_values after) (ap (λ (a : Arena Gen (LinkBody K T)). with_each held_in a) is_start) (ap (λ (h : Held Gen (LinkBody K T)). held_values h) is_before) room counter closed visits refl refl
+        (held_values before) (held_values after) (ap (λ (a : Arena Gen (LinkBody K T)). with_each held_in a) is_start) (ap (λ (h : Held Gen (LinkBody K T)). held_values h) is_before) within_capacity counter closed visits refl refl
 
     -- the new values are as without interlinks, but for the touches
     values_now : with_each held_in new ≡ record like { touched = old.touched + work.touches }
@@ -111,12 +111,12 @@ module _ {F P T Gen K : Type 0} (g : Mut F (P × (MutBor T × (P × Unit {0}))) 
 
     pub links_gathered : old.capacity ≡ min old.stack_capacity greatest → generation ≡ old.counter → IsRenaming (place_in (indexes_in (held_values before).slots)) (link_map_in number before.slots) (link_map_in number after.slots)
         → AreGathered g key f (links_view number old) (links_view number new)
-    links_gathered room counter renamed =
-        let like = like_gathered room counter in
+    links_gathered within_capacity counter renamed =
+        let like = like_gathered within_capacity counter in
         let old_same = values_of-links_view number old in
         let new_same = values_of-links_view number new in
-        let shown_old : link_map_in number before.slots ≡ link_map (links_view number old) = ap (λ (h : Held Gen (LinkBody K T)). link_map_in number h.slots) is_before ∙ sym (link_map-slots number old) in
-        let shown_new : link_map_in number after.slots ≡ link_map (links_view number new) =
+        let reported_old : link_map_in number before.slots ≡ link_map (links_view number old) = ap (λ (h : Held Gen (LinkBody K T)). link_map_in number h.slots) is_before ∙ sym (link_map-slots number old) in
+        let reported_new : link_map_in number after.slots ≡ link_map (links_view number new) =
         sym (link_map-slots number new ∙ (ap (λ (a : Arena Gen (LinkBody K T)). link_map_in number a.slots) is_new ∙ link_map-trimmed number after.slots)) in
         let indexes : indexes_in (held_values before).slots ≡ map index_of (entries (values_of (links_view number old))) =
         ap (λ (h : Held Gen (LinkBody K T)). indexes_in (held_values h).slots) is_before ∙ ap (λ (a : Arena Gen T). map index_of (entries a)) old_same in
@@ -126,5 +126,5 @@ module _ {F P T Gen K : Type 0} (g : Mut F (P × (MutBor T × (P × Unit {0}))) 
           few = subst (λ (n : ℕ). work.touches ≤ 4 * n) (sym (length-map old.slots (option_map (pair_view number)))) few_touches;
           arena = sym new_same ∙ (values_now ∙ ((λ i. record (like.arena i) { touched = old.touched + work.touches }) ∙ ap (λ (a : Arena Gen T). record (gathered a like.values) { touched = old.touched + work.touches }) old_same));
           visits = subst (λ (p : Arena Gen T × Arena Gen T). VisitsAll g key f (entries p.0) (entries p.1)) (λ i. (old_same i, (sym values_now ∙ new_same) i)) like.visits;
-          renamed = subst (λ (p : List ℕ × (LinkMap × LinkMap)). IsRenaming (place_in p.0) p.1.0 p.1.1) (λ i. (indexes i, (shown_old i, shown_new i))) renamed;
+          renamed = subst (λ (p : List ℕ × (LinkMap × LinkMap)). IsRenaming (place_in p.0) p.1.0 p.1.1) (λ i. (indexes i, (reported_old i, reported_new i))) renamed;
         }

@@ -14,14 +14,14 @@ use Rattle.arena_base.specs.Entries.{entries_from}
 use Rattle.arena_base.specs.DetachedSlots.{Held, IsPacked, with_placed_entry, held_with_value, with_touch}
 use Rattle.arena_base.specs.Compressions.{IsVisit, VisitsAll}
 use Rattle.arena_base.specs.GatheredSlots.{AreClosed}
-use Rattle.arena_base.proofs.HoleClosingLemmas.{IsClosing, none_there, brought_stands, closing_free, closing_frees, closing_brings, closing_visits, closing_counts, closing_closes, closing_packs, next_slot}
+use Rattle.arena_base.proofs.HoleClosingLemmas.{IsClosing, none_there, brought_stored, closing_free, closing_frees, closing_brings, closing_visits, closing_counts, closing_closes, closing_packs, next_slot}
 use Rattle.chain_links.specs.declared.links.LinkBody.{LinkBody}
 use Rattle.chain_links.specs.ChainArena.{on_value}
 use Rattle.chain_links.specs.Links.{held_in}
 use Rattle.chain_links.proofs.ArenaInsertionLemmas.{slots-within}
 use Rattle.chain_links.proofs.MappedArenaLemmas.{slot_at-map}
 use Rattle.chain_compaction.specs.DetachedLinks.{slot_values, held_values, body_interlinks, link_map_in, indexes_in, IsWork}
-use Rattle.chain_compaction.proofs.DetachedLinkLemmas.{values-written, shown-kept, work-touched, work-more}
+use Rattle.chain_compaction.proofs.DetachedLinkLemmas.{values-written, reported-kept, work-touched, work-more}
 use Rattle.chain_compaction.proofs.LinkCompressionLemmas.{AreComing, generation-there, value-there, coming_skips, coming_goes_on, coming_ends}
 
 module _ {F P Gen K T : Type 0} (g : Mut F (P × (MutBor T × (P × Unit {0}))) (Unit {0} × (MutBor T × Unit {0}))) (key : P → ℕ × Gen) (generation : Gen) (number : K → Option ℕ)
@@ -45,9 +45,9 @@ module _ {F P Gen K T : Type 0} (g : Mut F (P × (MutBor T × (P × Unit {0}))) 
         by (Some e) none = absurd (let both = none in cc)
 
     -- the next slot is free
-    module _ (answer : Option Gen) (none : answer ≡ None) (told : answer ≡ option_map (λ (e : Gen × LinkBody K T). e.0) (slot_at now.slots from)) (mid : Held Gen (LinkBody K T)) (same : mid ≡ now) where
+    module _ (returned : Option Gen) (none : returned ≡ None) (known : returned ≡ option_map (λ (e : Gen × LinkBody K T). e.0) (slot_at now.slots from)) (mid : Held Gen (LinkBody K T)) (same : mid ≡ now) where
       free : slot_at (slot_values now.slots) from ≡ None
-      free = none_there (slot_at (slot_values now.slots) from) (sym none ∙ (told ∙ generation-there now.slots from))
+      free = none_there (slot_at (slot_values now.slots) from) (sym none ∙ (known ∙ generation-there now.slots from))
 
       pub passes : IsClosing g key generation first (slot_values old.slots) (k + 1) count f (slot_values mid.slots)
       passes =
@@ -60,47 +60,47 @@ module _ {F P Gen K T : Type 0} (g : Mut F (P × (MutBor T × (P × Unit {0}))) 
           (coming_skips number old.slots agrees now.slots k count coming inside
           (sym (next_slot g key generation first (slot_values old.slots) k count f (slot_values now.slots) closing within from at_from) ∙ free))
 
-      pub room_kept : now.stack_capacity ≡ old.stack_capacity → mid.stack_capacity ≡ old.stack_capacity
-      room_kept was = ap (λ (h : Held Gen (LinkBody K T)). h.stack_capacity) same ∙ was
+      pub capacity_kept : now.stack_capacity ≡ old.stack_capacity → mid.stack_capacity ≡ old.stack_capacity
+      capacity_kept was = ap (λ (h : Held Gen (LinkBody K T)). h.stack_capacity) same ∙ was
 
       pub maximum_kept : now.maximum ≡ old.maximum → mid.maximum ≡ old.maximum
       maximum_kept was = ap (λ (h : Held Gen (LinkBody K T)). h.maximum) same ∙ was
 
     -- the link of the next slot was moved
-    module _ (to : ℕ) (at_to : to ≡ count + 1) (was : Gen) (told : Some was ≡ option_map (λ (e : Gen × LinkBody K T). e.0) (slot_at now.slots from)) (mid : Held Gen (LinkBody K T))
+    module _ (to : ℕ) (at_to : to ≡ count + 1) (was : Gen) (known : Some was ≡ option_map (λ (e : Gen × LinkBody K T). e.0) (slot_at now.slots from)) (mid : Held Gen (LinkBody K T))
         (values : held_values mid ≡ with_placed_entry (held_values now) from to generation) where
-      seen : Some was ≡ option_map (λ (e : Gen × T). e.0) (slot_at (slot_values now.slots) from)
-      seen = told ∙ generation-there now.slots from
+      view_after : Some was ≡ option_map (λ (e : Gen × T). e.0) (slot_at (slot_values now.slots) from)
+      view_after = known ∙ generation-there now.slots from
 
       is_placed : slot_values mid.slots ≡ (with_placed_entry (held_values now) from to generation).slots
       is_placed = ap (λ (h : Held Gen T). h.slots) values
 
       -- the link is at `to`
-      pub stands_there : None ≡ option_map (λ (e : Gen × LinkBody K T). e.1) (slot_at mid.slots to) → ⊥
-      stands_there none =
-          brought_stands g key generation first (slot_values old.slots) k count f (slot_values now.slots) closing within from to was (slot_values mid.slots) at_from at_to seen is_placed
+      pub stored_there : None ≡ option_map (λ (e : Gen × LinkBody K T). e.1) (slot_at mid.slots to) → ⊥
+      stored_there none =
+          brought_stored g key generation first (slot_values old.slots) k count f (slot_values now.slots) closing within from to was (slot_values mid.slots) at_from at_to view_after is_placed
           (ap (option_map held_in) none ∙ value-there mid.slots to)
 
       -- the closure was called with its value
-      module _ (after : Held Gen (LinkBody K T)) (l : LinkBody K T) (left : T) (stands : Some l ≡ option_map (λ (e : Gen × LinkBody K T). e.1) (slot_at mid.slots to))
+      module _ (after : Held Gen (LinkBody K T)) (l : LinkBody K T) (left : T) (stored : Some l ≡ option_map (λ (e : Gen × LinkBody K T). e.1) (slot_at mid.slots to))
           (wrote : after ≡ held_with_value mid to (record l { t = left })) where
         pub brings : (before_ptr after_ptr : P) (next : F) → key before_ptr ≡ (from, was) → key after_ptr ≡ (to, generation)
-            → IsVisit g f (record { from = before_ptr; shown = l.t; to = after_ptr; left = left }) next
+            → IsVisit g f (record { from = before_ptr; reported = l.t; to = after_ptr; left = left }) next
             → IsClosing g key generation first (slot_values old.slots) (k + 1) (count + 1) next (slot_values after.slots)
         brings before_ptr after_ptr next from_key to_key visit =
-            closing_brings g key generation first (slot_values old.slots) k count f (slot_values now.slots) closing within from to was (slot_values mid.slots) at_from at_to seen is_placed
-            (record { from = before_ptr; shown = l.t; to = after_ptr; left = left }) next (slot_values after.slots) (ap (option_map held_in) stands ∙ value-there mid.slots to)
-            (ap (λ (h : Held Gen T). h.slots) (values-written mid after to l (record l { t = left }) stands wrote)) from_key to_key visit
+            closing_brings g key generation first (slot_values old.slots) k count f (slot_values now.slots) closing within from to was (slot_values mid.slots) at_from at_to view_after is_placed
+            (record { from = before_ptr; reported = l.t; to = after_ptr; left = left }) next (slot_values after.slots) (ap (option_map held_in) stored ∙ value-there mid.slots to)
+            (ap (λ (h : Held Gen T). h.slots) (values-written mid after to l (record l { t = left }) stored wrote)) from_key to_key visit
 
         pub comes : (IsWellLinked (link_map_in number now.slots) → CanMove (link_map_in number now.slots) from to → link_map_in number mid.slots ≡ moved (link_map_in number now.slots) from to)
             → AreComing number old.slots after.slots (k + 1) (count + 1)
         comes moves =
             coming_goes_on number old.slots agrees now.slots k count coming inside was
-            (seen ∙ ap (option_map (λ (e : Gen × T). e.0)) (next_slot g key generation first (slot_values old.slots) k count f (slot_values now.slots) closing within from at_from))
-            from to mid.slots after.slots at_from at_to moves (shown-kept mid after to l (record l { t = left }) stands wrote number refl)
+            (view_after ∙ ap (option_map (λ (e : Gen × T). e.0)) (next_slot g key generation first (slot_values old.slots) k count f (slot_values now.slots) closing within from at_from))
+            from to mid.slots after.slots at_from at_to moves (reported-kept mid after to l (record l { t = left }) stored wrote number refl)
 
-        pub room_on : now.stack_capacity ≡ old.stack_capacity → after.stack_capacity ≡ old.stack_capacity
-        room_on had = ap (λ (h : Held Gen (LinkBody K T)). h.stack_capacity) wrote ∙ (ap (λ (h : Held Gen T). h.stack_capacity) values ∙ had)
+        pub capacity_on : now.stack_capacity ≡ old.stack_capacity → after.stack_capacity ≡ old.stack_capacity
+        capacity_on had = ap (λ (h : Held Gen (LinkBody K T)). h.stack_capacity) wrote ∙ (ap (λ (h : Held Gen T). h.stack_capacity) values ∙ had)
 
         pub maximum_on : now.maximum ≡ old.maximum → after.maximum ≡ old.maximum
         maximum_on had = ap (λ (h : Held Gen (LinkBody K T)). h.maximum) wrote ∙ (ap (λ (h : Held Gen T). h.maximum) values ∙ had)
@@ -120,10 +120,10 @@ module _ {F P Gen K T : Type 0} (g : Mut F (P × (MutBor T × (P × Unit {0}))) 
     pub ends_packed : IsPacked now.slots count
     ends_packed =
         let packed = closing_packs g key generation first (slot_values old.slots) k count f (slot_values now.slots) closing ended in
-        record { taken = λ i low high. taken (slot_at now.slots i) (subst IsSome (seen i) (packed.taken i low high)); free = λ i above. free (slot_at now.slots i) (sym (seen i) ∙ packed.free i above) }
+        record { taken = λ i low high. taken (slot_at now.slots i) (subst IsSome (view_after i) (packed.taken i low high)); free = λ i above. free (slot_at now.slots i) (sym (view_after i) ∙ packed.free i above) }
       where
-        seen : (i : ℕ) → slot_at (slot_values now.slots) i ≡ option_map (on_value held_in) (slot_at now.slots i)
-        seen i = slot_at-map (on_value held_in) now.slots i
+        view_after : (i : ℕ) → slot_at (slot_values now.slots) i ≡ option_map (on_value held_in) (slot_at now.slots i)
+        view_after i = slot_at-map (on_value held_in) now.slots i
 
         taken : (o : Option (Gen × LinkBody K T)) → IsSome (option_map (on_value held_in) o) → IsSome o
         taken None some = some

@@ -12,18 +12,18 @@ use Rattle.chain_links.specs.declared.links.LinkBody.{LinkBody}
 use Rattle.chain_links.specs.Links.{link_view, pair_view}
 use Rattle.chain_compaction.specs.Permutations.{destination_of}
 use Rattle.chain_compaction.specs.Destinations.{held_view, destination_at, IsDirectedAt}
-use Rattle.chain_compaction.proofs.SlotCountLemmas.{stands-within}
+use Rattle.chain_compaction.proofs.SlotCountLemmas.{stored-within}
 use Rattle.chain_compaction.proofs.DetachedLinkLemmas.{kept_map}
 use Rattle.chain_links.proofs.LinkStateLemmas.{slot_at-changed}
 
 -- the destination of a link was removed
 module _ {Gen K T : Type 0} (number : K → Option ℕ) (held new : Held Gen (LinkBody K T)) (i : ℕ) (l w : LinkBody K T)
-    (stands : Some l ≡ option_map (λ (e : Gen × LinkBody K T). e.1) (slot_at held.slots i)) (wrote : new ≡ held_with_value held i w)
+    (stored : Some l ≡ option_map (λ (e : Gen × LinkBody K T). e.1) (slot_at held.slots i)) (wrote : new ≡ held_with_value held i w)
     (empty : number w.destination ≡ None) (rest : w ≡ record l { destination = w.destination }) where
-  seen_emptied : held_view number new ≡ held_view number held
-  seen_emptied =
+  viewed_emptied : held_view number new ≡ held_view number held
+  viewed_emptied =
       let same : link_view number w ≡ link_view number l = ap (link_view number) rest in
-      let slots = kept_map (pair_view number) held.slots i l w stands (λ g j. (g, same j)) in
+      let slots = kept_map (pair_view number) held.slots i l w stored (λ g j. (g, same j)) in
       ap (λ (h : Held Gen (LinkBody K T)). held_view number h) wrote ∙ (λ j. record (held_view number held) { slots = slots j })
 
   abbrev written : Option (Gen × LinkBody K T) → Option (Gen × LinkBody K T)
@@ -52,30 +52,30 @@ module _ {Gen K T : Type 0} (number : K → Option ℕ) (held new : Held Gen (Li
 -- the link at an index, if any, has no destination now
 module _ {Gen K T : Type 0} (number : K → Option ℕ) (i : ℕ) (held new : Held Gen (LinkBody K T)) (directed : IsDirectedAt number i None held new) where
   -- whether there is a link or not
-  told : (l : LinkBody K T) → Some l ≡ option_map (λ (e : Gen × LinkBody K T). e.1) (slot_at held.slots i)
+  known : (l : LinkBody K T) → Some l ≡ option_map (λ (e : Gen × LinkBody K T). e.1) (slot_at held.slots i)
       → (held_view number new ≡ held_view number held) × (destination_at number new.slots i ≡ None) × ((j : ℕ) → destination_at number held.slots j ≡ None → destination_at number new.slots j ≡ None)
-  told l stands =
-      let w = directed.there l stands in (
-        seen_emptied number held new i l w.0 stands w.3 w.1 w.2,
-        given_emptied number held new i l w.0 stands w.3 w.1 w.2,
-        others_emptied number held new i l w.0 stands w.3 w.1 w.2,
+  known l stored =
+      let w = directed.there l stored in (
+        viewed_emptied number held new i l w.0 stored w.3 w.1 w.2,
+        given_emptied number held new i l w.0 stored w.3 w.1 w.2,
+        others_emptied number held new i l w.0 stored w.3 w.1 w.2,
       )
 
-  untold : (o : Option (Gen × LinkBody K T)) → None ≡ option_map (λ (e : Gen × LinkBody K T). e.1) o → option_and_then (destination_of number) o ≡ None
-  untold None is = refl
-  untold (Some e) is = cc
+  unknown : (o : Option (Gen × LinkBody K T)) → None ≡ option_map (λ (e : Gen × LinkBody K T). e.1) o → option_and_then (destination_of number) o ≡ None
+  unknown None is = refl
+  unknown (Some e) is = cc
 
   pub emptied : (held_view number new ≡ held_view number held) × (destination_at number new.slots i ≡ None) × ((j : ℕ) → destination_at number held.slots j ≡ None → destination_at number new.slots j ≡ None)
   emptied = by (slot_at held.slots i) refl
     where
       by : (o : Option (Gen × LinkBody K T)) → slot_at held.slots i ≡ o
           → (held_view number new ≡ held_view number held) × (destination_at number new.slots i ≡ None) × ((j : ℕ) → destination_at number held.slots j ≡ None → destination_at number new.slots j ≡ None)
-      by (Some e) is = told e.1 (sym (ap (option_map (λ (e : Gen × LinkBody K T). e.1)) is))
+      by (Some e) is = known e.1 (sym (ap (option_map (λ (e : Gen × LinkBody K T). e.1)) is))
       by None is =
           let none : None ≡ option_map (λ (e : Gen × LinkBody K T). e.1) (slot_at held.slots i) = sym (ap (option_map (λ (e : Gen × LinkBody K T). e.1)) is) in
           let same : new ≡ held = directed.none none in (
             ap (λ (h : Held Gen (LinkBody K T)). held_view number h) same,
-            ap (λ (h : Held Gen (LinkBody K T)). destination_at number h.slots i) same ∙ untold (slot_at held.slots i) none,
+            ap (λ (h : Held Gen (LinkBody K T)). destination_at number h.slots i) same ∙ unknown (slot_at held.slots i) none,
             λ j was. ap (λ (h : Held Gen (LinkBody K T)). destination_at number h.slots j) same ∙ was,
           )
 
@@ -97,14 +97,14 @@ module _ {Gen K T : Type 0} (number : K → Option ℕ) where
   -- there is no link after the last slot
   pub emptying_ends : (old now : Held Gen (LinkBody K T)) → held_view number now ≡ held_view number old → ((j : ℕ) → j ≤ length old.slots → destination_at number now.slots j ≡ None)
       → (j : ℕ) → destination_at number now.slots j ≡ None
-  emptying_ends old now seen empty j = by (slot_at now.slots j) refl
+  emptying_ends old now view_after empty j = by (slot_at now.slots j) refl
     where
       long : length now.slots ≡ length old.slots
-      long = sym (length-map now.slots (option_map (pair_view number))) ∙ (ap (λ h. length h.slots) seen ∙ length-map old.slots (option_map (pair_view number)))
+      long = sym (length-map now.slots (option_map (pair_view number))) ∙ (ap (λ h. length h.slots) view_after ∙ length-map old.slots (option_map (pair_view number)))
 
       by : (o : Option (Gen × LinkBody K T)) → slot_at now.slots j ≡ o → destination_at number now.slots j ≡ None
       by None is = ap (option_and_then (destination_of number)) is
-      by (Some e) is = empty j (let inside = stands-within now.slots j e is in omega (arith, inside.1, long))
+      by (Some e) is = empty j (let inside = stored-within now.slots j e is in omega (arith, inside.1, long))
 
 -- one more touch
 pub touches_more : {Gen T : Type 0} (old now next : Arena Gen T) (k : ℕ) → now ≡ with_totals old 0 k → next ≡ with_touch now → next ≡ with_totals old 0 (k + 1)

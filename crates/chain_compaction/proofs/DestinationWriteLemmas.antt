@@ -19,11 +19,11 @@ module _ {Gen K T : Type 0} where
     -- a link got another destination
     pub directs : (l w : LinkBody K T) → Some l ≡ option_map (λ (e : Gen × LinkBody K T). e.1) (slot_at old.slots i) → new ≡ held_with_value old i w
         → number w.destination ≡ goes → w ≡ record l { destination = w.destination } → IsDirectedAt number i goes old new
-    directs l w stands wrote is rest = record {
+    directs l w stored wrote is rest = record {
       there = λ m there.
-          let same : l ≡ m = one_link (stands ∙ sym there) in
+          let same : l ≡ m = one_link (stored ∙ sym there) in
           (w, is, rest ∙ ap (λ (k : LinkBody K T). let r : LinkBody K T = record k { destination = w.destination } in r) same, wrote);
-      none = λ empty. absurd (let both = stands ∙ sym empty in cc);
+      none = λ empty. absurd (let both = stored ∙ sym empty in cc);
     }
 
     -- there is no link to direct
@@ -32,40 +32,40 @@ module _ {Gen K T : Type 0} where
 
   module _ (number : K → Option ℕ) (i : ℕ) (prev next goes : Option ℕ) (old new : Held Gen (LinkBody K T)) where
     -- a link got other interlinks and a destination
-    pub ties : (l m n w : LinkBody K T) → Some l ≡ link_at old i → new ≡ held_with_value old i w → number m.prev ≡ prev → m ≡ record l { prev = m.prev } → number n.next ≡ next → n ≡ record m { next = n.next }
+    pub links_both : (l m n w : LinkBody K T) → Some l ≡ link_at old i → new ≡ held_with_value old i w → number m.prev ≡ prev → m ≡ record l { prev = m.prev } → number n.next ≡ next → n ≡ record m { next = n.next }
         → number w.destination ≡ goes → w ≡ record n { destination = w.destination } → IsRelinkedAt number i prev next goes old new
-    ties l m n w stands wrote is_prev set_prev is_next set_next sent rest = record {
-      there = λ k there. (w, seen k (one_link (stands ∙ sym there)), sent, wrote);
-      none = λ empty. absurd (let both = stands ∙ sym empty in cc);
+    links_both l m n w stored wrote is_prev set_prev is_next set_next sent rest = record {
+      there = λ k there. (w, view_after k (one_link (stored ∙ sym there)), sent, wrote);
+      none = λ empty. absurd (let both = stored ∙ sym empty in cc);
     }
       where
-        seen : (k : LinkBody K T) → l ≡ k → link_view number w ≡ record { prev = prev; next = next; value = k.t }
-        seen k same =
+        view_after : (k : LinkBody K T) → l ≡ k → link_view number w ≡ record { prev = prev; next = next; value = k.t }
+        view_after k same =
             ap (link_view number) rest ∙ (ap (link_view number) (λ j. record (set_next j) { destination = w.destination })
             ∙ ((λ j. record { prev = number (set_prev j).prev; next = number n.next; value = (set_prev j).t }) ∙ (λ j. record { prev = is_prev j; next = is_next j; value = (same j).t })))
 
     -- there is no link to write
-    pub ties_none : new ≡ old → None ≡ link_at old i → IsRelinkedAt number i prev next goes old new
-    ties_none same empty = record { there = λ k there. absurd (let both = there ∙ sym empty in cc); none = λ e. same }
+    pub links_none : new ≡ old → None ≡ link_at old i → IsRelinkedAt number i prev next goes old new
+    links_none same empty = record { there = λ k there. absurd (let both = there ∙ sym empty in cc); none = λ e. same }
 
     -- the number of slots is unchanged
-    pub tied_long : IsRelinkedAt number i prev next goes old new → length new.slots ≡ length old.slots
-    tied_long tied = by (link_at old i) refl
+    pub linked_long : IsRelinkedAt number i prev next goes old new → length new.slots ≡ length old.slots
+    linked_long relinked = by (link_at old i) refl
       where
         by : (o : Option (LinkBody K T)) → link_at old i ≡ o → length new.slots ≡ length old.slots
-        by None is = ap (λ (h : Held Gen (LinkBody K T)). length h.slots) (tied.none (sym is))
+        by None is = ap (λ (h : Held Gen (LinkBody K T)). length h.slots) (relinked.none (sym is))
         by (Some l) is =
-            let w = tied.there l (sym is) in
+            let w = relinked.there l (sym is) in
             ap (λ (h : Held Gen (LinkBody K T)). length h.slots) w.3 ∙ length-with_slot old.slots i _
 
   -- a link that was read before
-  pub tied_looked : (number : K → Option ℕ) (i : ℕ) (prev named next goes : Option ℕ) (old looked new : Held Gen (LinkBody K T)) → looked ≡ old → named ≡ next → IsRelinkedAt number i prev named goes looked new → IsRelinkedAt number i prev next goes old new
-  tied_looked number i prev named next goes old looked new same is tied = subst (λ (p : Held Gen (LinkBody K T) × Option ℕ). IsRelinkedAt number i prev p.1 goes p.0 new) (λ j. (same j, is j)) tied
+  pub linked_read : (number : K → Option ℕ) (i : ℕ) (prev named next goes : Option ℕ) (old was_read new : Held Gen (LinkBody K T)) → was_read ≡ old → named ≡ next → IsRelinkedAt number i prev named goes was_read new → IsRelinkedAt number i prev next goes old new
+  linked_read number i prev named next goes old was_read new same is relinked = subst (λ (p : Held Gen (LinkBody K T) × Option ℕ). IsRelinkedAt number i prev p.1 goes p.0 new) (λ j. (same j, is j)) relinked
 
   module _ (number : K → Option ℕ) (i : ℕ) (first last : Option ℕ) (old new : Held Gen (LinkBody K T)) where
     -- in a cyclic chain, the first link was written to name the last
     pub closes : (f : ℕ) → first ≡ Some f → (l w : LinkBody K T) → Some l ≡ link_at old i → new ≡ held_with_value old i w → number w.prev ≡ last → w ≡ record l { prev = w.prev } → IsRingClosed number i first last old new
-    closes f some l w stands wrote is rest = record {
-      ring = λ k m named there. (w, is, rest ∙ ap (λ (x : LinkBody K T). let r : LinkBody K T = record x { prev = w.prev } in r) (one_link (stands ∙ sym there)), wrote);
+    closes f some l w stored wrote is rest = record {
+      ring = λ k m named there. (w, is, rest ∙ ap (λ (x : LinkBody K T). let r : LinkBody K T = record x { prev = w.prev } in r) (one_link (stored ∙ sym there)), wrote);
       linear = λ none. absurd (let both = sym some ∙ none in cc);
     }

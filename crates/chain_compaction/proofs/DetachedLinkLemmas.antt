@@ -24,13 +24,13 @@ use Rattle.chain_links.proofs.ArenaInsertionLemmas.{slot_at-written}
 
 -- a write of one entry that leaves what `f` sees of it
 module _ {Gen X Y : Type 0} (f : Gen × X → Y) (slots : List (Option (Gen × X))) (n : ℕ) (l w : X)
-    (stands : Some l ≡ option_map (λ (e : Gen × X). e.1) (slot_at slots n)) (same : (g : Gen) → f (g, w) ≡ f (g, l)) where
+    (stored : Some l ≡ option_map (λ (e : Gen × X). e.1) (slot_at slots n)) (same : (g : Gen) → f (g, w) ≡ f (g, l)) where
   kept_there : (o : Option (Gen × X)) → Some l ≡ option_map (λ (e : Gen × X). e.1) o → option_map f (option_map (λ (e : Gen × X). (e.0, w)) o) ≡ option_map f o
   kept_there None is = refl
   kept_there (Some e) is = ap (λ (y : Y). Some y) (same e.0 ∙ ap (λ (x : X). f (e.0, x)) (one_some is))
 
   pub kept_map : map (option_map f) (with_slot slots n (option_map (λ (e : Gen × X). (e.0, w)) (slot_at slots n))) ≡ map (option_map f) slots
-  kept_map = by n stands
+  kept_map = by n stored
     where
       by : (m : ℕ) → Some l ≡ option_map (λ (e : Gen × X). e.1) (slot_at slots m)
           → map (option_map f) (with_slot slots m (option_map (λ (e : Gen × X). (e.0, w)) (slot_at slots m))) ≡ map (option_map f) slots
@@ -39,19 +39,19 @@ module _ {Gen X Y : Type 0} (f : Gen × X → Y) (slots : List (Option (Gen × X
 
 -- an occupied slot was written
 module _ {Gen K T : Type 0} (held new : Held Gen (LinkBody K T)) (n : ℕ) (l w : LinkBody K T)
-    (stands : Some l ≡ option_map (λ (e : Gen × LinkBody K T). e.1) (slot_at held.slots n)) (wrote : new ≡ held_with_value held n w) where
+    (stored : Some l ≡ option_map (λ (e : Gen × LinkBody K T). e.1) (slot_at held.slots n)) (wrote : new ≡ held_with_value held n w) where
   -- a write that keeps the value keeps all values
   pub values-kept : w.t ≡ l.t → held_values new ≡ held_values held
   values-kept same =
-      let slots = kept_map (on_value held_in) held.slots n l w stands (λ g i. (g, same i)) in
+      let slots = kept_map (on_value held_in) held.slots n l w stored (λ g i. (g, same i)) in
       ap (λ (h : Held Gen (LinkBody K T)). held_values h) wrote ∙ (λ i. record (held_values held) { slots = slots i })
 
   -- a write that keeps the interlinks keeps the link map
-  pub shown-kept : (number : K → Option ℕ) → interlinks_in (link_view number w) ≡ interlinks_in (link_view number l)
+  pub reported-kept : (number : K → Option ℕ) → interlinks_in (link_view number w) ≡ interlinks_in (link_view number l)
       → link_map_in number new.slots ≡ link_map_in number held.slots
-  shown-kept number same = ap (λ (h : Held Gen (LinkBody K T)). link_map_in number h.slots) wrote ∙ fun_ext (λ i.
+  reported-kept number same = ap (λ (h : Held Gen (LinkBody K T)). link_map_in number h.slots) wrote ∙ fun_ext (λ i.
       sym (slot_at-map (body_interlinks number) (held_with_value held n w).slots i)
-      ∙ (ap (λ slots. slot_at slots i) (kept_map (body_interlinks number) held.slots n l w stands (λ g. same)) ∙ slot_at-map (body_interlinks number) held.slots i))
+      ∙ (ap (λ slots. slot_at slots i) (kept_map (body_interlinks number) held.slots n l w stored (λ g. same)) ∙ slot_at-map (body_interlinks number) held.slots i))
 
   -- a write of a value is a write among the values
   pub values-written : held_values new ≡ held_with_value (held_values held) n w.t
@@ -67,9 +67,9 @@ module _ {Gen K T : Type 0} (held new : Held Gen (LinkBody K T)) (n : ℕ) (l w 
       at (Some e) = refl
 
   -- the link map after a write of interlinks
-  shown-changed : (number : K → Option ℕ) (change : Interlinks → Interlinks) → interlinks_in (link_view number w) ≡ change (interlinks_in (link_view number l))
+  reported-changed : (number : K → Option ℕ) (change : Interlinks → Interlinks) → interlinks_in (link_view number w) ≡ change (interlinks_in (link_view number l))
       → (i : ℕ) → link_map_in number (held_with_value held n w).slots i ≡ (if i == n then option_map change (link_map_in number held.slots i) else link_map_in number held.slots i)
-  shown-changed number change is i = by (ℕ_discrete i n)
+  reported-changed number change is i = by (ℕ_discrete i n)
     where
       at : (o : Option (Gen × LinkBody K T)) → Some l ≡ option_map (λ (e : Gen × LinkBody K T). e.1) o
           → option_map (body_interlinks number) (option_map (λ (e : Gen × LinkBody K T). (e.0, w)) o) ≡ option_map change (option_map (body_interlinks number) o)
@@ -79,46 +79,46 @@ module _ {Gen K T : Type 0} (held new : Held Gen (LinkBody K T)) (n : ℕ) (l w 
       by : Dec (i ≡ n) → link_map_in number (held_with_value held n w).slots i ≡ (if i == n then option_map change (link_map_in number held.slots i) else link_map_in number held.slots i)
       by (yes e) =
           ap (option_map (body_interlinks number)) (slot_at-changed held.slots n i (option_map (λ (e : Gen × LinkBody K T). (e.0, w))) refl ∙ if_same i n _ _ e)
-          ∙ (at (slot_at held.slots i) (stands ∙ ap (λ (j : ℕ). option_map (λ (e : Gen × LinkBody K T). e.1) (slot_at held.slots j)) (sym e)) ∙ sym (if_same i n _ _ e))
+          ∙ (at (slot_at held.slots i) (stored ∙ ap (λ (j : ℕ). option_map (λ (e : Gen × LinkBody K T). e.1) (slot_at held.slots j)) (sym e)) ∙ sym (if_same i n _ _ e))
       by (no differs) =
           ap (option_map (body_interlinks number)) (slot_at-changed held.slots n i (option_map (λ (e : Gen × LinkBody K T). (e.0, w))) refl ∙ if_other i n _ _ differs) ∙ sym (if_other i n _ _ differs)
 
   -- `next` of the link was set
-  pub shown-next_set : (number : K → Option ℕ) (next : Option ℕ) → w ≡ record l { next = w.next } → number w.next ≡ next
+  pub reported-next_set : (number : K → Option ℕ) (next : Option ℕ) → w ≡ record l { next = w.next } → number w.next ≡ next
       → link_map_in number new.slots ≡ next_set (link_map_in number held.slots) (Some n) next
-  shown-next_set number next rest named =
-      ap (λ (h : Held Gen (LinkBody K T)). link_map_in number h.slots) wrote ∙ fun_ext (shown-changed number (with_next next) (λ i. record { prev = number (rest i).prev; next = named i }))
+  reported-next_set number next rest named =
+      ap (λ (h : Held Gen (LinkBody K T)). link_map_in number h.slots) wrote ∙ fun_ext (reported-changed number (with_next next) (λ i. record { prev = number (rest i).prev; next = named i }))
 
   -- `prev` of the link was set
-  pub shown-prev_set : (number : K → Option ℕ) (prev : Option ℕ) → w ≡ record l { prev = w.prev } → number w.prev ≡ prev
+  pub reported-prev_set : (number : K → Option ℕ) (prev : Option ℕ) → w ≡ record l { prev = w.prev } → number w.prev ≡ prev
       → link_map_in number new.slots ≡ prev_set (link_map_in number held.slots) (Some n) prev
-  shown-prev_set number prev rest named =
-      ap (λ (h : Held Gen (LinkBody K T)). link_map_in number h.slots) wrote ∙ fun_ext (shown-changed number (with_prev prev) (λ i. record { prev = named i; next = number (rest i).next }))
+  reported-prev_set number prev rest named =
+      ap (λ (h : Held Gen (LinkBody K T)). link_map_in number h.slots) wrote ∙ fun_ext (reported-changed number (with_prev prev) (λ i. record { prev = named i; next = number (rest i).next }))
 
 -- setting the interlinks of a free slot changes nothing
 module _ {Gen K T : Type 0} (number : K → Option ℕ) (slots : List (Option (Gen × LinkBody K T))) (n : ℕ)
     (none : None ≡ option_map (λ (e : Gen × LinkBody K T). e.1) (slot_at slots n)) where
-  nothing_shown : link_map_in number slots n ≡ None
-  nothing_shown = by (slot_at slots n) none
+  nothing_reported : link_map_in number slots n ≡ None
+  nothing_reported = by (slot_at slots n) none
     where
       by : (o : Option (Gen × LinkBody K T)) → None ≡ option_map (λ (e : Gen × LinkBody K T). e.1) o → option_map (body_interlinks number) o ≡ None
       by None is = refl
       by (Some e) is = cc
 
-  untold : (change : Interlinks → Interlinks) (i : ℕ) → link_map_in number slots i ≡ (if i == n then option_map change (link_map_in number slots i) else link_map_in number slots i)
-  untold change i = by (ℕ_discrete i n)
+  unknown : (change : Interlinks → Interlinks) (i : ℕ) → link_map_in number slots i ≡ (if i == n then option_map change (link_map_in number slots i) else link_map_in number slots i)
+  unknown change i = by (ℕ_discrete i n)
     where
       by : Dec (i ≡ n) → link_map_in number slots i ≡ (if i == n then option_map change (link_map_in number slots i) else link_map_in number slots i)
       by (yes e) =
-          let nothing = ap (link_map_in number slots) e ∙ nothing_shown in
+          let nothing = ap (link_map_in number slots) e ∙ nothing_reported in
           nothing ∙ (sym (ap (option_map change) nothing) ∙ sym (if_same i n _ _ e))
       by (no differs) = sym (if_other i n _ _ differs)
 
-  pub next_set-untold : (next : Option ℕ) → link_map_in number slots ≡ next_set (link_map_in number slots) (Some n) next
-  next_set-untold next = fun_ext (untold (with_next next))
+  pub next_set-unknown : (next : Option ℕ) → link_map_in number slots ≡ next_set (link_map_in number slots) (Some n) next
+  next_set-unknown next = fun_ext (unknown (with_next next))
 
-  pub prev_set-untold : (prev : Option ℕ) → link_map_in number slots ≡ prev_set (link_map_in number slots) (Some n) prev
-  prev_set-untold prev = fun_ext (untold (with_prev prev))
+  pub prev_set-unknown : (prev : Option ℕ) → link_map_in number slots ≡ prev_set (link_map_in number slots) (Some n) prev
+  prev_set-unknown prev = fun_ext (unknown (with_prev prev))
 
 module _ {Gen K T : Type 0} (held : Held Gen (LinkBody K T)) (from to : ℕ) (generation : Gen) where
   -- a placement places the value
@@ -140,9 +140,9 @@ module _ {Gen K T : Type 0} (held : Held Gen (LinkBody K T)) (from to : ℕ) (ge
       at (Some e) = refl
 
   -- a placement in a free slot, or its own, moves a link without updating its neighbors
-  pub shown-with_placed_entry : (number : K → Option ℕ) → 1 ≤ from → from ≤ length held.slots → 1 ≤ to → to ≤ length held.slots
+  pub reported-with_placed_entry : (number : K → Option ℕ) → 1 ≤ from → from ≤ length held.slots → 1 ≤ to → to ≤ length held.slots
       → (to ≡ from) ⊎ (link_map_in number held.slots to ≡ None) → link_map_in number (with_placed_entry held from to generation).slots ≡ put (link_map_in number held.slots) from to
-  shown-with_placed_entry number first within first_to within_to free = fun_ext (λ j. by j (ℕ_discrete j to) (ℕ_discrete j from))
+  reported-with_placed_entry number first within first_to within_to free = fun_ext (λ j. by j (ℕ_discrete j to) (ℕ_discrete j from))
     where
       middle : List (Option (Gen × LinkBody K T))
       middle = with_slot held.slots from (slot_at held.slots to)
@@ -156,8 +156,8 @@ module _ {Gen K T : Type 0} (held : Held Gen (LinkBody K T)) (from to : ℕ) (ge
       at_from : (j : ℕ) → slot_at middle j ≡ (if j == from then slot_at held.slots to else slot_at held.slots j)
       at_from j = slot_at-written held.slots from j (slot_at held.slots to) first within
 
-      seen : Option (Gen × LinkBody K T) → Option Interlinks
-      seen o = option_map (body_interlinks number) o
+      view_after : Option (Gen × LinkBody K T) → Option Interlinks
+      view_after o = option_map (body_interlinks number) o
 
       same : (o : Option (Gen × LinkBody K T)) → option_map (body_interlinks number) (option_map (λ (e : Gen × LinkBody K T). (generation, e.1)) o) ≡ option_map (body_interlinks number) o
       same None = refl
@@ -177,32 +177,32 @@ module _ {Gen K T : Type 0} (held : Held Gen (LinkBody K T)) (from to : ℕ) (ge
           ∙ sym (if_other j to _ _ c ∙ if_other j from _ _ d)
 
 -- a link is read, placed, and its neighbors are updated
-module _ {Gen K T : Type 0} (number : K → Option ℕ) (old looked brought told new : Held Gen (LinkBody K T)) (from to : ℕ) (generation : Gen)
-    (is_looked : looked ≡ old) (is_brought : brought ≡ with_placed_entry looked from to generation) where
-  pub move-values : held_values told ≡ held_values brought → held_values new ≡ held_values told → held_values new ≡ with_placed_entry (held_values old) from to generation
+module _ {Gen K T : Type 0} (number : K → Option ℕ) (old was_read brought known new : Held Gen (LinkBody K T)) (from to : ℕ) (generation : Gen)
+    (is_read : was_read ≡ old) (is_brought : brought ≡ with_placed_entry was_read from to generation) where
+  pub move-values : held_values known ≡ held_values brought → held_values new ≡ held_values known → held_values new ≡ with_placed_entry (held_values old) from to generation
   move-values first second =
-      second ∙ (first ∙ (ap (λ (h : Held Gen (LinkBody K T)). held_values h) (is_brought ∙ ap (λ (h : Held Gen (LinkBody K T)). with_placed_entry h from to generation) is_looked)
+      second ∙ (first ∙ (ap (λ (h : Held Gen (LinkBody K T)). held_values h) (is_brought ∙ ap (λ (h : Held Gen (LinkBody K T)). with_placed_entry h from to generation) is_read)
       ∙ values-with_placed_entry old from to generation))
 
-  pub move-shown : (before after prev next : Option ℕ) → 1 ≤ from → from ≤ length old.slots → 1 ≤ to → to ≤ length old.slots
+  pub move-reported : (before after prev next : Option ℕ) → 1 ≤ from → from ≤ length old.slots → 1 ≤ to → to ≤ length old.slots
       → prev ≡ prev_of (link_map_in number old.slots) from → next ≡ next_of (link_map_in number old.slots) from → before ≡ option_map (moved_index from to) prev → after ≡ option_map (moved_index from to) next
-      → link_map_in number told.slots ≡ next_set (link_map_in number brought.slots) before (Some to) → link_map_in number new.slots ≡ prev_set (link_map_in number told.slots) after (Some to)
+      → link_map_in number known.slots ≡ next_set (link_map_in number brought.slots) before (Some to) → link_map_in number new.slots ≡ prev_set (link_map_in number known.slots) after (Some to)
       → IsWellLinked (link_map_in number old.slots) → CanMove (link_map_in number old.slots) from to → link_map_in number new.slots ≡ moved (link_map_in number old.slots) from to
-  move-shown before after prev next first within first_to within_to is_prev is_next is_before is_after first_told second_told agrees can =
+  move-reported before after prev next first within first_to within_to is_prev is_next is_before is_after first_known second_known agrees can =
       let link_map : LinkMap = link_map_in number old.slots in
       let is_put : link_map_in number brought.slots ≡ put link_map from to =
-      ap (λ (h : Held Gen (LinkBody K T)). link_map_in number h.slots) (is_brought ∙ ap (λ (h : Held Gen (LinkBody K T)). with_placed_entry h from to generation) is_looked)
-      ∙ shown-with_placed_entry old from to generation number first within first_to within_to can.free in
+      ap (λ (h : Held Gen (LinkBody K T)). link_map_in number h.slots) (is_brought ∙ ap (λ (h : Held Gen (LinkBody K T)). with_placed_entry h from to generation) is_read)
+      ∙ reported-with_placed_entry old from to generation number first within first_to within_to can.free in
       let names_before : before ≡ option_map (moved_index from to) (prev_of link_map from) = is_before ∙ ap (option_map (moved_index from to)) is_prev in
       let names_after : after ≡ option_map (moved_index from to) (next_of link_map from) = is_after ∙ ap (option_map (moved_index from to)) is_next in
-      second_told
-      ∙ (ap₂ (λ (m : LinkMap) (o : Option ℕ). prev_set m o (Some to)) (first_told ∙ ap₂ (λ (m : LinkMap) (o : Option ℕ). next_set m o (Some to)) is_put names_before) names_after
+      second_known
+      ∙ (ap₂ (λ (m : LinkMap) (o : Option ℕ). prev_set m o (Some to)) (first_known ∙ ap₂ (λ (m : LinkMap) (o : Option ℕ). next_set m o (Some to)) is_put names_before) names_after
       ∙ neighbors_tell_a_move link_map from to agrees can)
 
 -- a read that reports a generation found an entry
-pub entry-seen : {Gen X : Type 0} (old looked : Held Gen X) (n : ℕ) (r : Option Gen) (was : Gen) → looked ≡ old → r ≡ Some was → r ≡ option_map (λ (e : Gen × X). e.0) (slot_at old.slots n)
-    → is_some (slot_at looked.slots n) ≡ true
-entry-seen {Gen} {X} old looked n r was same some told = ap (λ (h : Held Gen X). is_some (slot_at h.slots n)) same ∙ by (slot_at old.slots n) (sym some ∙ told)
+pub entry-view_after : {Gen X : Type 0} (old was_read : Held Gen X) (n : ℕ) (r : Option Gen) (was : Gen) → was_read ≡ old → r ≡ Some was → r ≡ option_map (λ (e : Gen × X). e.0) (slot_at old.slots n)
+    → is_some (slot_at was_read.slots n) ≡ true
+entry-view_after {Gen} {X} old was_read n r was same some known = ap (λ (h : Held Gen X). is_some (slot_at h.slots n)) same ∙ by (slot_at old.slots n) (sym some ∙ known)
   where
     by : (o : Option (Gen × X)) → Some was ≡ option_map (λ (e : Gen × X). e.0) o → is_some o ≡ true
     by None is = absurd (let both = is in cc)
@@ -253,8 +253,8 @@ module _ {Gen T : Type 0} where
 
   -- the work of a read, a placement, and two neighbors updated
   pub work-moved : {a b c d e : Arena Gen T} → b ≡ with_touch a → c ≡ with_placement b → IsWork c d 0 1 → IsWork d e 0 1 → IsWork a e 1 3
-  work-moved {a} {b} {c} looked with_placed_entry first second =
-      work-more (work-more (work-more (work-touched a b looked) (work-with_placed_entry b c with_placed_entry) 1 1 refl (omega arith)) first 1 2 refl (omega arith)) second 1 3 refl (omega arith)
+  work-moved {a} {b} {c} was_read with_placed_entry first second =
+      work-more (work-more (work-more (work-touched a b was_read) (work-with_placed_entry b c with_placed_entry) 1 1 refl (omega arith)) first 1 2 refl (omega arith)) second 1 3 refl (omega arith)
 
   -- the work of two touches
   pub work-twice : (a b c : Arena Gen T) → b ≡ with_touch a → c ≡ with_touch b → IsWork a c 0 2

@@ -60,8 +60,8 @@ module _ {Gen K T : Type 0} (number : K → Option ℕ) (slots : List (Option (G
   next_index = omega arith
 
   -- there is no link where there is no value
-  none-shown : slice_index_or (slot_values slots) k None ≡ None → link_map_in number slots (k + 1) ≡ None
-  none-shown none = sym (ap (link_map_in number slots) next_index) ∙ by (slice_index_or slots k None) (sym at_slot ∙ none)
+  none-reported : slice_index_or (slot_values slots) k None ≡ None → link_map_in number slots (k + 1) ≡ None
+  none-reported none = sym (ap (link_map_in number slots) next_index) ∙ by (slice_index_or slots k None) (sym at_slot ∙ none)
     where
       by : (o : Option (Gen × LinkBody K T)) → option_map (on_value held_in) o ≡ None → option_map (body_interlinks number) o ≡ None
       by None is = refl
@@ -73,7 +73,7 @@ module _ {Gen K T : Type 0} (number : K → Option ℕ) (slots : List (Option (G
     where
       by : (o : Option (Gen × LinkBody K T)) → slice_index_or slots k None ≡ o → HasLink (link_map_in number slots) (suc k)
       by None is = absurd (let both = sym some ∙ (at_slot ∙ ap (option_map (on_value held_in)) is) in cc)
-      by (Some d) is = record { link = body_interlinks number d; shows = ap (option_map (body_interlinks number)) is }
+      by (Some d) is = record { link = body_interlinks number d; reports = ap (option_map (body_interlinks number)) is }
 
 -- the `count` links up to k are at the indexes from 1 on
 pub record AreComing {Gen K T : Type 0} (number : K → Option ℕ) (old now : List (Option (Gen × LinkBody K T))) (k count : ℕ) : Type 0 where
@@ -95,7 +95,7 @@ module _ {Gen K T : Type 0} (number : K → Option ℕ) (old : List (Option (Gen
         let same = indexes-passed (slot_values old) k inside none in
         record {
           gathering = subst (λ done. IsGathering (link_map_in number old) (link_map_in number now) done (k + 1)) (sym same)
-              (gathering_skips (link_map_in number old) (link_map_in number now) (indexes_to k (slot_values old)) k c.gathering (none-shown number old k none));
+              (gathering_skips (link_map_in number old) (link_map_in number now) (indexes_to k (slot_values old)) k c.gathering (none-reported number old k none));
           counted = ap (λ done. length done) same ∙ c.counted;
         }
 
@@ -120,10 +120,10 @@ module _ {Gen K T : Type 0} (number : K → Option ℕ) (old : List (Option (Gen
           let first : k + 1 ≡ from = sym at_from in
           let last : length (indexes_to k (slot_values old)) + 1 ≡ to = ap (λ (n : ℕ). n + 1) c.counted ∙ sym at_to in
           let can : CanMove (link_map_in number now) from to = subst (λ (p : ℕ × ℕ). CanMove (link_map_in number now) p.0 p.1) (λ i. (first i, last i)) goes.1 in
-          let shows : moved (link_map_in number now) (k + 1) (length (indexes_to k (slot_values old)) + 1) ≡ link_map_in number after =
+          let reports : moved (link_map_in number now) (k + 1) (length (indexes_to k (slot_values old)) + 1) ≡ link_map_in number after =
           (λ i. moved (link_map_in number now) (first i) (last i)) ∙ (sym (moves goes.0 can) ∙ sym kept) in
           record {
-            gathering = subst (λ (p : LinkMap × List ℕ). IsGathering (link_map_in number old) p.0 p.1 (k + 1)) (λ i. (shows i, sym met i)) goes.2;
+            gathering = subst (λ (p : LinkMap × List ℕ). IsGathering (link_map_in number old) p.0 p.1 (k + 1)) (λ i. (reports i, sym met i)) goes.2;
             counted = ap (λ done. length done) met ∙ (length-append (indexes_to k (slot_values old)) ((k + 1) ∷ []) ∙ ap (λ (n : ℕ). n + 1) c.counted);
           }
 

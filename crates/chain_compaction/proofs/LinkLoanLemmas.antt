@@ -13,7 +13,7 @@ module _ {P T S Inx Gen Word : Type 0} (old new : Compactor P T S Inx Gen Word) 
   -- the value l at i was overwritten by w
   pub record IsOverwritten (l w : T) : Type 0 where
     pub same_reference : new.arena.ghost_name ≡ old.arena.ghost_name
-    pub stands : Some l ≡ option_map (λ e. e.1) (slot_at old.held.slots i)
+    pub stored : Some l ≡ option_map (λ e. e.1) (slot_at old.held.slots i)
     pub held : new.held ≡ held_with_value old.held i w
     pub arena : new.arena.now ≡ with_touch old.arena.now
     pub counts : CountsOn old.arena.now new.arena.now old.placed old.touched new.placed new.touched
@@ -33,7 +33,7 @@ module _ {P T S Inx Gen Word : Type 0} (old new : Compactor P T S Inx Gen Word) 
       → OnSome lends ((new.held ≡ held_with_value old.held i w) × Touched) → IsOverwritten m.now w
   lent lends m w is there wrote = record {
     same_reference = made.1.0;
-    stands = sym (ap option_copied_mut is) ∙ there;
+    stored = sym (ap option_copied_mut is) ∙ there;
     held = made.0;
     arena = made.1.1;
     counts = counts_touch old.arena.now new.arena.now old.placed new.placed old.touched new.touched made.1.1 made.1.2 made.1.3;

@@ -20,11 +20,11 @@ use Rattle.chain_links.proofs.MappedArenaLemmas.{slot_at-map}
 use Rattle.chain_links.proofs.LinkStateLemmas.{slot_at-changed}
 
 -- an entry as seen, with another link
-abbrev pub seen_as : {Gen T : Type 0} → Gen → LinkView T → Option (Gen × LinkView T)
-seen_as g l = Some (g, l)
+abbrev pub viewed_as : {Gen T : Type 0} → Gen → LinkView T → Option (Gen × LinkView T)
+viewed_as g l = Some (g, l)
 
 -- a link was overwritten
-module _ {Gen K T : Type 0} (now new : Held Gen (LinkBody K T)) (i : ℕ) (e : Gen × LinkBody K T) (w : LinkBody K T) (stands : slot_at now.slots i ≡ Some e) (wrote : new ≡ held_with_value now i w) where
+module _ {Gen K T : Type 0} (now new : Held Gen (LinkBody K T)) (i : ℕ) (e : Gen × LinkBody K T) (w : LinkBody K T) (stored : slot_at now.slots i ≡ Some e) (wrote : new ≡ held_with_value now i w) where
   abbrev written : Option (Gen × LinkBody K T) → Option (Gen × LinkBody K T)
   written o = option_map (λ (e : Gen × LinkBody K T). (e.0, w)) o
 
@@ -33,7 +33,7 @@ module _ {Gen K T : Type 0} (now new : Held Gen (LinkBody K T)) (i : ℕ) (e : G
 
   -- the new link is at i
   pub written_there : slot_at new.slots i ≡ Some (e.0, w)
-  written_there = written_at i ∙ (if_same i i _ _ refl ∙ ap written stands)
+  written_there = written_at i ∙ (if_same i i _ _ refl ∙ ap written stored)
 
   -- all other slots are unchanged
   pub written_other : (j : ℕ) → j ≢ i → slot_at new.slots j ≡ slot_at now.slots j
@@ -57,8 +57,8 @@ module _ {Gen K T : Type 0} (now new : Held Gen (LinkBody K T)) (i : ℕ) (e : G
 
 module _ {Gen K T : Type 0} (number : K → Option ℕ) where
   -- the view of the entry at an index
-  abbrev pub seen_at : Held Gen (LinkBody K T) → ℕ → Option (Gen × LinkView T)
-  seen_at h j = option_map (pair_view number) (slot_at h.slots j)
+  abbrev pub viewed_at : Held Gen (LinkBody K T) → ℕ → Option (Gen × LinkView T)
+  viewed_at h j = option_map (pair_view number) (slot_at h.slots j)
 
   -- no link is overwritten yet
   pub retied_none : (becomes : ℕ → LinkView T → LinkView T) (h : Held Gen (LinkBody K T)) → AreRelinked number becomes h h []
@@ -66,16 +66,16 @@ module _ {Gen K T : Type 0} (number : K → Option ℕ) where
 
   module _ (becomes : ℕ → LinkView T → LinkView T) (old now : Held Gen (LinkBody K T)) (xs : List ℕ) (was : AreRelinked number becomes old now xs) where
     -- the links are unchanged, or changed alike
-    pub retied_as : (instead : ℕ → LinkView T → LinkView T) → ((j : ℕ) → IsMember xs j → option_map (on_value (becomes j)) (seen_at old j) ≡ option_map (on_value (instead j)) (seen_at old j)) → AreRelinked number instead old now xs
+    pub retied_as : (instead : ℕ → LinkView T → LinkView T) → ((j : ℕ) → IsMember xs j → option_map (on_value (becomes j)) (viewed_at old j) ≡ option_map (on_value (instead j)) (viewed_at old j)) → AreRelinked number instead old now xs
     retied_as instead same = record { there = λ j h. was.there j h ∙ same j h; stay = was.stay; long = was.long; capacity = was.capacity; maximum = was.maximum }
 
     -- all pointers are unchanged
     pub retied_ptr : ptr_at (slot_at now.slots) ≡ ptr_at (slot_at old.slots)
     retied_ptr = fun_ext (λ i. by i (IsMember-or_not xs i))
       where
-        seen : (i : ℕ) (s : Option (Gen × LinkBody K T)) → option_map {U = ℕ × Gen} (λ (e : Gen × LinkBody K T). (i, e.0)) s ≡ option_map {U = ℕ × Gen} (λ (e : Gen × LinkView T). (i, e.0)) (option_map (pair_view number) s)
-        seen i None = refl
-        seen i (Some e) = refl
+        view_after : (i : ℕ) (s : Option (Gen × LinkBody K T)) → option_map {U = ℕ × Gen} (λ (e : Gen × LinkBody K T). (i, e.0)) s ≡ option_map {U = ℕ × Gen} (λ (e : Gen × LinkView T). (i, e.0)) (option_map (pair_view number) s)
+        view_after i None = refl
+        view_after i (Some e) = refl
 
         valued : (i : ℕ) (f : LinkView T → LinkView T) (o : Option (Gen × LinkView T)) → option_map {U = ℕ × Gen} (λ (e : Gen × LinkView T). (i, e.0)) (option_map (on_value f) o) ≡ option_map {U = ℕ × Gen} (λ (e : Gen × LinkView T). (i, e.0)) o
         valued i f None = refl
@@ -83,49 +83,49 @@ module _ {Gen K T : Type 0} (number : K → Option ℕ) where
 
         by : (i : ℕ) → IsMember xs i ⊎ (IsMember xs i → ⊥) → ptr_at (slot_at now.slots) i ≡ ptr_at (slot_at old.slots) i
         by i (inl h) =
-            seen i (slot_at now.slots i) ∙ (ap (option_map {U = ℕ × Gen} (λ (e : Gen × LinkView T). (i, e.0))) (was.there i h) ∙ (valued i (becomes i) (seen_at old i) ∙ sym (seen i (slot_at old.slots i))))
+            view_after i (slot_at now.slots i) ∙ (ap (option_map {U = ℕ × Gen} (λ (e : Gen × LinkView T). (i, e.0))) (was.there i h) ∙ (valued i (becomes i) (viewed_at old i) ∙ sym (view_after i (slot_at old.slots i))))
         by i (inr out) = ap (option_map {U = ℕ × Gen} (λ (e : Gen × LinkBody K T). (i, e.0))) (was.stay i out)
 
-    module _ (new : Held Gen (LinkBody K T)) (i : ℕ) (e : Gen × LinkBody K T) (w : LinkBody K T) (stands : slot_at now.slots i ≡ Some e) (wrote : new ≡ held_with_value now i w) where
+    module _ (new : Held Gen (LinkBody K T)) (i : ℕ) (e : Gen × LinkBody K T) (w : LinkBody K T) (stored : slot_at now.slots i ≡ Some e) (wrote : new ≡ held_with_value now i w) where
       -- one more link is overwritten
       pub retied_more : (IsMember xs i → ⊥) → link_view number w ≡ becomes i (link_view number e.1) → AreRelinked number becomes old new (xs ++ i ∷ [])
       retied_more fresh same = record {
         there = λ j h. there j h (ℕ_discrete j i);
-        stay = λ j out. written_other now new i e w stands wrote j (λ s. out (subst (IsMember (xs ++ i ∷ [])) (sym s) (IsMember-right xs (i ∷ []) i (inl refl)))) ∙ was.stay j (λ h. out (IsMember-left xs (i ∷ []) j h));
-        long = written_long now new i e w stands wrote ∙ was.long;
-        capacity = written_capacity now new i e w stands wrote ∙ was.capacity;
-        maximum = written_maximum now new i e w stands wrote ∙ was.maximum;
+        stay = λ j out. written_other now new i e w stored wrote j (λ s. out (subst (IsMember (xs ++ i ∷ [])) (sym s) (IsMember-right xs (i ∷ []) i (inl refl)))) ∙ was.stay j (λ h. out (IsMember-left xs (i ∷ []) j h));
+        long = written_long now new i e w stored wrote ∙ was.long;
+        capacity = written_capacity now new i e w stored wrote ∙ was.capacity;
+        maximum = written_maximum now new i e w stored wrote ∙ was.maximum;
       }
         where
-          here : seen_at new i ≡ option_map (on_value (becomes i)) (seen_at old i)
+          here : viewed_at new i ≡ option_map (on_value (becomes i)) (viewed_at old i)
           here =
-              ap (option_map (pair_view number)) (written_there now new i e w stands wrote)
-              ∙ (ap (seen_as e.0) same ∙ sym (ap (λ (o : Option (Gen × LinkBody K T)). option_map (on_value (becomes i)) (option_map (pair_view number) o)) (sym (was.stay i fresh) ∙ stands)))
+              ap (option_map (pair_view number)) (written_there now new i e w stored wrote)
+              ∙ (ap (viewed_as e.0) same ∙ sym (ap (λ (o : Option (Gen × LinkBody K T)). option_map (on_value (becomes i)) (option_map (pair_view number) o)) (sym (was.stay i fresh) ∙ stored)))
 
           before : (j : ℕ) → j ≢ i → IsMember xs j ⊎ IsMember (i ∷ []) j → IsMember xs j
           before j differs (inl h) = h
           before j differs (inr (inl s)) = absurd (differs (sym s))
           before j differs (inr (inr none)) = absurd none
 
-          there : (j : ℕ) → IsMember (xs ++ i ∷ []) j → Dec (j ≡ i) → seen_at new j ≡ option_map (on_value (becomes j)) (seen_at old j)
-          there j h (yes s) = subst (λ (n : ℕ). seen_at new n ≡ option_map (on_value (becomes n)) (seen_at old n)) (sym s) here
-          there j h (no differs) = ap (option_map (pair_view number)) (written_other now new i e w stands wrote j differs) ∙ was.there j (before j differs (IsMember-parts xs (i ∷ []) j h))
+          there : (j : ℕ) → IsMember (xs ++ i ∷ []) j → Dec (j ≡ i) → viewed_at new j ≡ option_map (on_value (becomes j)) (viewed_at old j)
+          there j h (yes s) = subst (λ (n : ℕ). viewed_at new n ≡ option_map (on_value (becomes n)) (viewed_at old n)) (sym s) here
+          there j h (no differs) = ap (option_map (pair_view number)) (written_other now new i e w stored wrote j differs) ∙ was.there j (before j differs (IsMember-parts xs (i ∷ []) j h))
 
       -- one of the links is overwritten again
-      pub retied_over : IsMember xs i → (instead : ℕ → LinkView T → LinkView T) → ((j : ℕ) → j ≢ i → becomes j ≡ instead j) → seen_as e.0 (link_view number w) ≡ option_map (on_value (instead i)) (seen_at old i) → AreRelinked number instead old new xs
+      pub retied_over : IsMember xs i → (instead : ℕ → LinkView T → LinkView T) → ((j : ℕ) → j ≢ i → becomes j ≡ instead j) → viewed_as e.0 (link_view number w) ≡ option_map (on_value (instead i)) (viewed_at old i) → AreRelinked number instead old new xs
       retied_over has instead others here = record {
         there = λ j h. there j h (ℕ_discrete j i);
-        stay = λ j out. written_other now new i e w stands wrote j (λ s. out (subst (IsMember xs) (sym s) has)) ∙ was.stay j out;
-        long = written_long now new i e w stands wrote ∙ was.long;
-        capacity = written_capacity now new i e w stands wrote ∙ was.capacity;
-        maximum = written_maximum now new i e w stands wrote ∙ was.maximum;
+        stay = λ j out. written_other now new i e w stored wrote j (λ s. out (subst (IsMember xs) (sym s) has)) ∙ was.stay j out;
+        long = written_long now new i e w stored wrote ∙ was.long;
+        capacity = written_capacity now new i e w stored wrote ∙ was.capacity;
+        maximum = written_maximum now new i e w stored wrote ∙ was.maximum;
       }
         where
-          there : (j : ℕ) → IsMember xs j → Dec (j ≡ i) → seen_at new j ≡ option_map (on_value (instead j)) (seen_at old j)
-          there j h (yes s) = subst (λ (n : ℕ). seen_at new n ≡ option_map (on_value (instead n)) (seen_at old n)) (sym s) (ap (option_map (pair_view number)) (written_there now new i e w stands wrote) ∙ here)
+          there : (j : ℕ) → IsMember xs j → Dec (j ≡ i) → viewed_at new j ≡ option_map (on_value (instead j)) (viewed_at old j)
+          there j h (yes s) = subst (λ (n : ℕ). viewed_at new n ≡ option_map (on_value (instead n)) (viewed_at old n)) (sym s) (ap (option_map (pair_view number)) (written_there now new i e w stored wrote) ∙ here)
           there j h (no differs) =
-              ap (option_map (pair_view number)) (written_other now new i e w stands wrote j differs)
-              ∙ (was.there j h ∙ ap (λ (f : LinkView T → LinkView T). option_map (on_value f) (seen_at old j)) (others j differs))
+              ap (option_map (pair_view number)) (written_other now new i e w stored wrote j differs)
+              ∙ (was.there j h ∙ ap (λ (f : LinkView T → LinkView T). option_map (on_value f) (viewed_at old j)) (others j differs))
 
     -- other links are overwritten after these
     pub retied_then : (new : Held Gen (LinkBody K T)) (ys : List ℕ) → AreRelinked number becomes now new ys → ((j : ℕ) → IsMember ys j → IsMember xs j → ⊥) → AreRelinked number becomes old new (xs ++ ys)
@@ -137,7 +137,7 @@ module _ {Gen K T : Type 0} (number : K → Option ℕ) where
       maximum = more.maximum ∙ was.maximum;
     }
       where
-        there : (j : ℕ) → IsMember xs j ⊎ IsMember ys j → seen_at new j ≡ option_map (on_value (becomes j)) (seen_at old j)
+        there : (j : ℕ) → IsMember xs j ⊎ IsMember ys j → viewed_at new j ≡ option_map (on_value (becomes j)) (viewed_at old j)
         there j (inl h) = ap (option_map (pair_view number)) (more.stay j (λ m. apart j m h)) ∙ was.there j h
         there j (inr h) = more.there j h ∙ ap (λ (o : Option (Gen × LinkBody K T)). option_map (on_value (becomes j)) (option_map (pair_view number) o)) (was.stay j (λ m. apart j h m))
 
@@ -150,7 +150,7 @@ module _ {Gen K T : Type 0} (number : K → Option ℕ) where
       free j out None is = refl
       free j out (Some e) is = absurd (out (each j e is))
 
-      by : (j : ℕ) → IsMember xs j ⊎ (IsMember xs j → ⊥) → seen_at now j ≡ option_map (on_value (renamed_link to)) (seen_at old j)
+      by : (j : ℕ) → IsMember xs j ⊎ (IsMember xs j → ⊥) → viewed_at now j ≡ option_map (on_value (renamed_link to)) (viewed_at old j)
       by j (inl h) = was.there j h
       by j (inr out) = ap (option_map (pair_view number)) (was.stay j out) ∙ free j out (slot_at old.slots j) refl
 

@@ -5,12 +5,12 @@ use Rattle.chain_laws.specs.Moves.{moved_index}
 use Rattle.chain_laws.proofs.InterlinkLemmas.Inverses.{if_same, if_other}
 
 -- two indexes that a comparison finds different are different
-pub differ : (told is : Bool) → told ≡ is → told ≡ false → is ≡ true → ⊥
-differ told is by off on = cc
+pub differ : (known is : Bool) → known ≡ is → known ≡ false → is ≡ true → ⊥
+differ known is by off on = cc
 
 -- two indexes that a comparison finds the same are the same
-pub found_same : (told is : Bool) → told ≡ is → told ≡ true → is ≡ true
-found_same told is by on = sym by ∙ on
+pub found_same : (known is : Bool) → known ≡ is → known ≡ true → is ≡ true
+found_same known is by on = sym by ∙ on
 
 module _ {I : Type 0} (number : I → ℕ) (same_number : (i j : I) → number i ≡ number j → i ≡ j) (k : I) (named : Option I) (is : named ≡ Some k) where
   pub named_moved : (from to : I) → k ≡ from → Some (number to) ≡ option_map (moved_index (number from) (number to)) (option_map number named)

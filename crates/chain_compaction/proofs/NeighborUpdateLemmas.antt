@@ -6,11 +6,11 @@ use Rattle.arena_base.specs.Arena.{slot_at}
 use Rattle.arena_base.specs.DetachedSlots.{Held, held_with_value}
 use Rattle.chain_links.specs.declared.links.LinkBody.{LinkBody}
 use Rattle.chain_compaction.specs.DetachedLinks.{held_values, link_map_in, with_neighbor}
-use Rattle.chain_compaction.proofs.DetachedLinkLemmas.{values-kept, shown-next_set, shown-prev_set, next_set-untold, prev_set-untold}
+use Rattle.chain_compaction.proofs.DetachedLinkLemmas.{values-kept, reported-next_set, reported-prev_set, next_set-unknown, prev_set-unknown}
 
 -- no index is given
-pub tells_none : {I : Type 0} (index : I → ℕ) (link_map : LinkMap) (before : Bool) (named : Option I) (goes : Option ℕ) → named ≡ None → link_map ≡ with_neighbor before link_map (option_map index named) goes
-tells_none {I} index link_map before named goes is = by before ∙ (λ j. with_neighbor before link_map (option_map index (sym is j)) goes)
+pub states_none : {I : Type 0} (index : I → ℕ) (link_map : LinkMap) (before : Bool) (named : Option I) (goes : Option ℕ) → named ≡ None → link_map ≡ with_neighbor before link_map (option_map index named) goes
+states_none {I} index link_map before named goes is = by before ∙ (λ j. with_neighbor before link_map (option_map index (sym is j)) goes)
   where
     by : (b : Bool) → link_map ≡ with_neighbor b link_map None goes
     by true = refl
@@ -22,25 +22,25 @@ module _ {I Gen K T : Type 0} (index : I → ℕ) (number : K → Option ℕ) (o
     pub kept_values : held_values new ≡ held_values old
     kept_values = λ j. held_values (same j)
 
-    pub tells_nowhere : None ≡ option_map (λ (e : Gen × LinkBody K T). e.1) (slot_at old.slots (index i)) → link_map_in number new.slots ≡ with_neighbor before (link_map_in number old.slots) (option_map index named) goes
-    tells_nowhere none = (λ j. link_map_in number (same j).slots) ∙ (by before ∙ (λ j. with_neighbor before (link_map_in number old.slots) (option_map index (sym is j)) goes))
+    pub states_nowhere : None ≡ option_map (λ (e : Gen × LinkBody K T). e.1) (slot_at old.slots (index i)) → link_map_in number new.slots ≡ with_neighbor before (link_map_in number old.slots) (option_map index named) goes
+    states_nowhere none = (λ j. link_map_in number (same j).slots) ∙ (by before ∙ (λ j. with_neighbor before (link_map_in number old.slots) (option_map index (sym is j)) goes))
       where
         by : (b : Bool) → link_map_in number old.slots ≡ with_neighbor b (link_map_in number old.slots) (Some (index i)) goes
-        by true = prev_set-untold number old.slots (index i) none goes
-        by false = next_set-untold number old.slots (index i) none goes
+        by true = prev_set-unknown number old.slots (index i) none goes
+        by false = next_set-unknown number old.slots (index i) none goes
 
   -- a link was written
-  module _ (l w : LinkBody K T) (stands : Some l ≡ option_map (λ (e : Gen × LinkBody K T). e.1) (slot_at old.slots (index i))) (wrote : new ≡ held_with_value old (index i) w) where
+  module _ (l w : LinkBody K T) (stored : Some l ≡ option_map (λ (e : Gen × LinkBody K T). e.1) (slot_at old.slots (index i))) (wrote : new ≡ held_with_value old (index i) w) where
     module _ (on : before ≡ true) (rest : w ≡ record l { prev = w.prev }) where
       pub prev_values : held_values new ≡ held_values old
-      prev_values = values-kept old new (index i) l w stands wrote (λ j. (rest j).t)
+      prev_values = values-kept old new (index i) l w stored wrote (λ j. (rest j).t)
 
-      pub tells_prev : number w.prev ≡ goes → link_map_in number new.slots ≡ with_neighbor before (link_map_in number old.slots) (option_map index named) goes
-      tells_prev to = shown-prev_set old new (index i) l w stands wrote number goes rest to ∙ (λ j. with_neighbor (sym on j) (link_map_in number old.slots) (option_map index (sym is j)) goes)
+      pub states_prev : number w.prev ≡ goes → link_map_in number new.slots ≡ with_neighbor before (link_map_in number old.slots) (option_map index named) goes
+      states_prev to = reported-prev_set old new (index i) l w stored wrote number goes rest to ∙ (λ j. with_neighbor (sym on j) (link_map_in number old.slots) (option_map index (sym is j)) goes)
 
     module _ (off : before ≡ false) (rest : w ≡ record l { next = w.next }) where
       pub next_values : held_values new ≡ held_values old
-      next_values = values-kept old new (index i) l w stands wrote (λ j. (rest j).t)
+      next_values = values-kept old new (index i) l w stored wrote (λ j. (rest j).t)
 
-      pub tells_next : number w.next ≡ goes → link_map_in number new.slots ≡ with_neighbor before (link_map_in number old.slots) (option_map index named) goes
-      tells_next to = shown-next_set old new (index i) l w stands wrote number goes rest to ∙ (λ j. with_neighbor (sym off j) (link_map_in number old.slots) (option_map index (sym is j)) goes)
+      pub states_next : number w.next ≡ goes → link_map_in number new.slots ≡ with_neighbor before (link_map_in number old.slots) (option_map index named) goes
+      states_next to = reported-next_set old new (index i) l w stored wrote number goes rest to ∙ (λ j. with_neighbor (sym off j) (link_map_in number old.slots) (option_map index (sym is j)) goes)

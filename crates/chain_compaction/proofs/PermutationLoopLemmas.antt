@@ -6,7 +6,7 @@ use Rattle.arena_base.specs.DetachedSlots.{with_touch, with_placement}
 use Rattle.arena_base.specs.GatheredSlots.{with_totals}
 use Rattle.chain_compaction.specs.Permutations.{Waits, HaveMoved, CanMoveAll, IsSettling, ArePassed, waiting, IsWorkOn}
 use Rattle.chain_compaction.proofs.SlotSwapLemmas.{moving_begins, moving_ends}
-use Rattle.chain_compaction.proofs.SlotCountLemmas.{stands-within, waiting-none}
+use Rattle.chain_compaction.proofs.SlotCountLemmas.{stored-within, waiting-none}
 use Rattle.chain_compaction.proofs.WorkCountLemmas.{same_totals}
 
 module _ {E : Type 0} (goal : E → Option ℕ) (Settles : E → E → Type 0) (done : (e f : E) → Settles e f → goal f ≡ None) where
@@ -19,7 +19,7 @@ module _ {E : Type 0} (goal : E → Option ℕ) (Settles : E → E → Type 0) (
   }
     where
       first : (j d : ℕ) (e : E) → j ≤ 0 → Waits goal (slot_at old) j e d → ⊥
-      first zero d e low w = let none : None ≡ Some e = w.stands in cc
+      first zero d e low w = let none : None ≡ Some e = w.stored in cc
       first (suc k) d e low w = omega arith
 
   pub passing_goes_on : (old now next : List (Option E)) (k i : ℕ) → ArePassed goal Settles old now k → i ≡ k + 1 → IsSettling goal Settles i now next
@@ -36,7 +36,7 @@ module _ {E : Type 0} (goal : E → Option ℕ) (Settles : E → E → Type 0) (
       by j d e low w (no n) = p.passed j d e (omega arith) (s.stays j d e n w)
 
   nowhere : (old now : List (Option E)) → ArePassed goal Settles old now (length old) → (i d : ℕ) (e : E) → Waits goal (slot_at now) i e d → ⊥
-  nowhere old now p i d e w = p.passed i d e (let b : i ≤ length now = (stands-within now i e w.stands).1 in let l : length now ≡ length old = p.length in omega arith) w
+  nowhere old now p i d e w = p.passed i d e (let b : i ≤ length now = (stored-within now i e w.stored).1 in let l : length now ≡ length old = p.length in omega arith) w
 
   pub passing_ends : (old now : List (Option E)) → ArePassed goal Settles old now (length old) → HaveMoved goal Settles (slot_at old) (slot_at now)
   passing_ends old now p = moving_ends goal Settles done (slot_at old) (slot_at now) p.moves (nowhere old now p)
@@ -54,36 +54,36 @@ module _ {Gen T : Type 0} where
   }
 
   -- one touch and one placement, after which one entry less waits
-  pub work_on-more : (old now looked next : Arena Gen T) (waited wait less looks : ℕ) → IsWorkOn old now waited wait looks → looked ≡ with_touch now → next ≡ with_placement looked → less + 1 ≡ wait
-      → IsWorkOn old next waited less looks
-  work_on-more old now looked next waited wait less looks work touched is fewer = record {
+  pub work_on-more : (old now was_read next : Arena Gen T) (waited wait less lookups : ℕ) → IsWorkOn old now waited wait lookups → was_read ≡ with_touch now → next ≡ with_placement was_read → less + 1 ≡ wait
+      → IsWorkOn old next waited less lookups
+  work_on-more old now was_read next waited wait less lookups work touched is fewer = record {
     moved = work.moved + 1;
     arena = is ∙ (ap with_placement touched ∙ (ap (λ (a : Arena Gen T). with_placement (with_touch a)) work.arena
-        ∙ same_totals old ((old.placed + work.moved) + 1) (old.placed + (work.moved + 1)) ((old.touched + (work.moved + looks)) + 1) (old.touched + ((work.moved + 1) + looks)) (omega arith) (omega arith)));
+        ∙ same_totals old ((old.placed + work.moved) + 1) (old.placed + (work.moved + 1)) ((old.touched + (work.moved + lookups)) + 1) (old.touched + ((work.moved + 1) + lookups)) (omega arith) (omega arith)));
     count = (let c : wait + work.moved ≡ waited = work.count in omega arith);
   }
 
   -- one touch that found no destination
-  pub work_on-looked : (old now next : Arena Gen T) (waited wait looks : ℕ) → IsWorkOn old now waited wait looks → next ≡ with_touch now → IsWorkOn old next waited wait (looks + 1)
-  work_on-looked old now next waited wait looks work is = record {
+  pub work_on-was_read : (old now next : Arena Gen T) (waited wait lookups : ℕ) → IsWorkOn old now waited wait lookups → next ≡ with_touch now → IsWorkOn old next waited wait (lookups + 1)
+  work_on-was_read old now next waited wait lookups work is = record {
     moved = work.moved;
     arena = is ∙ (ap with_touch work.arena
-        ∙ same_totals old (old.placed + work.moved) (old.placed + work.moved) ((old.touched + (work.moved + looks)) + 1) (old.touched + (work.moved + (looks + 1))) refl (omega arith));
+        ∙ same_totals old (old.placed + work.moved) (old.placed + work.moved) ((old.touched + (work.moved + lookups)) + 1) (old.touched + (work.moved + (lookups + 1))) refl (omega arith));
     count = work.count;
   }
 
   -- the work of two parts together
-  pub work_on-after : (old now next : Arena Gen T) (waited wait less looks more : ℕ) → IsWorkOn old now waited wait looks → IsWorkOn now next wait less more → IsWorkOn old next waited less (looks + more)
-  work_on-after old now next waited wait less looks more work further = record {
+  pub work_on-after : (old now next : Arena Gen T) (waited wait less lookups more : ℕ) → IsWorkOn old now waited wait lookups → IsWorkOn now next wait less more → IsWorkOn old next waited less (lookups + more)
+  work_on-after old now next waited wait less lookups more work further = record {
     moved = work.moved + further.moved;
     arena = further.arena ∙ (ap (λ (a : Arena Gen T). with_totals a further.moved (further.moved + more)) work.arena
         ∙ same_totals old ((old.placed + work.moved) + further.moved) (old.placed + (work.moved + further.moved))
-        ((old.touched + (work.moved + looks)) + (further.moved + more)) (old.touched + ((work.moved + further.moved) + (looks + more))) (omega arith) (omega arith));
+        ((old.touched + (work.moved + lookups)) + (further.moved + more)) (old.touched + ((work.moved + further.moved) + (lookups + more))) (omega arith) (omega arith));
     count = (let a : wait + work.moved ≡ waited = work.count in let b : less + further.moved ≡ wait = further.count in omega arith);
   }
 
   -- the total work, when no entry waits
-  pub work_on-ends : (old now : Arena Gen T) (waited wait all looks : ℕ) → IsWorkOn old now waited wait looks → wait ≡ 0 → waited ≡ all → now ≡ with_totals old all (all + looks)
-  work_on-ends old now waited wait all looks work none each =
+  pub work_on-ends : (old now : Arena Gen T) (waited wait all lookups : ℕ) → IsWorkOn old now waited wait lookups → wait ≡ 0 → waited ≡ all → now ≡ with_totals old all (all + lookups)
+  work_on-ends old now waited wait all lookups work none each =
       let m : work.moved ≡ all = (let a : wait + work.moved ≡ waited = work.count in omega arith) in
-      work.arena ∙ ap (λ (n : ℕ). with_totals old n (n + looks)) m
+      work.arena ∙ ap (λ (n : ℕ). with_totals old n (n + lookups)) m

@@ -9,7 +9,7 @@ use Rattle.arena_base.specs.DetachedSlots.{Held, with_placed_entry, held_with_va
 use Rattle.arena_base.proofs.SlotLemmas.{length-with_slot}
 use Rattle.chain_links.specs.declared.links.LinkBody.{LinkBody}
 use Rattle.chain_compaction.specs.Permutations.{Waits, IsSettledAt, WaitsWithin, IsSettling, waiting, waits, destination_of, Settles, with_destination, with_destination_at, IsTakenOut}
-use Rattle.chain_compaction.proofs.SlotCountLemmas.{slot_at-same, slot_at-other, stands-within, with_slot-own, count-with_slot, mark, one_if}
+use Rattle.chain_compaction.proofs.SlotCountLemmas.{slot_at-same, slot_at-other, stored-within, with_slot-own, count-with_slot, mark, one_if}
 use Rattle.chain_compaction.proofs.SlotSwapLemmas.{moving_goes_on, came_from, waited_there}
 
 -- a settled entry has no destination
@@ -18,7 +18,7 @@ settled_rests number g e f s = s.empty
 
 -- the destination of a link was taken out
 module _ {Gen K T : Type 0} (number : K → Option ℕ) (held new : Held Gen (LinkBody K T)) (i : ℕ) (l w : LinkBody K T)
-    (stands : Some l ≡ option_map (λ (e : Gen × LinkBody K T). e.1) (slot_at held.slots i)) (wrote : new ≡ held_with_value held i w)
+    (stored : Some l ≡ option_map (λ (e : Gen × LinkBody K T). e.1) (slot_at held.slots i)) (wrote : new ≡ held_with_value held i w)
     (empty : number w.destination ≡ None) (rest : w ≡ record l { destination = w.destination }) where
   slot_taken : (o : Option (Gen × LinkBody K T)) → Some l ≡ option_map (λ (e : Gen × LinkBody K T). e.1) o → option_map (λ (e : Gen × LinkBody K T). (e.0, w)) o ≡ option_map (with_destination w.destination) o
   slot_taken None is = refl
@@ -30,11 +30,11 @@ module _ {Gen K T : Type 0} (number : K → Option ℕ) (held new : Held Gen (Li
   taken_out = record {
     destination = w.destination;
     empty = empty;
-    held = wrote ∙ ap (λ (o : Option (Gen × LinkBody K T)). record held { slots = with_slot held.slots i o }) (slot_taken (slot_at held.slots i) stands);
+    held = wrote ∙ ap (λ (o : Option (Gen × LinkBody K T)). record held { slots = with_slot held.slots i o }) (slot_taken (slot_at held.slots i) stored);
   }
 
   -- the destination was taken out, whatever was returned
-  pub takes : {X : Type 0} (answer : Option X) → OnSome answer (IsTakenOut number i held new)
+  pub takes : {X : Type 0} (returned : Option X) → OnSome returned (IsTakenOut number i held new)
   takes (Some x) = taken_out
   takes None = tt
 
@@ -45,24 +45,24 @@ module _ {Gen K T : Type 0} (number : K → Option ℕ) (held new : Held Gen (Li
       let own : l ≡ e.1 = cc in
       ap (λ (k : LinkBody K T). let r : Option (Gen × LinkBody K T) = Some (e.0, k) in r) (same ∙ own)
 
-  pub takes_none : {I : Type 0} (index : I → ℕ) → ((o p : K) → number o ≡ number p → o ≡ p) → (answer : Option I) → option_map index answer ≡ number l.destination → IfNone answer (new ≡ held)
-  takes_none index same_packed (Some x) answers = tt
-  takes_none index same_packed None answers =
-      let kept : w.destination ≡ l.destination = same_packed w.destination l.destination (empty ∙ answers) in
+  pub takes_none : {I : Type 0} (index : I → ℕ) → ((o p : K) → number o ≡ number p → o ≡ p) → (returned : Option I) → option_map index returned ≡ number l.destination → IfNone returned (new ≡ held)
+  takes_none index same_packed (Some x) responses = tt
+  takes_none index same_packed None responses =
+      let kept : w.destination ≡ l.destination = same_packed w.destination l.destination (empty ∙ responses) in
       let same : w ≡ l = rest ∙ ap (λ (k : K). let r : LinkBody K T = record l { destination = k } in r) kept in
       wrote ∙ ap (λ (s : List (Option (Gen × LinkBody K T))). record held { slots = s })
-      (ap (with_slot held.slots i) (slot_kept same (slot_at held.slots i) stands) ∙ with_slot-own held.slots i)
+      (ap (with_slot held.slots i) (slot_kept same (slot_at held.slots i) stored) ∙ with_slot-own held.slots i)
 
 -- the destination of the entry at the index is returned
 module _ {Gen K T : Type 0} (number : K → Option ℕ) where
-  pub tells_goal : (slot : Option (Gen × LinkBody K T)) (l : LinkBody K T) (answer : Option ℕ) → Some l ≡ option_map (λ (e : Gen × LinkBody K T). e.1) slot
-      → answer ≡ number l.destination → answer ≡ option_and_then (destination_of number) slot
-  tells_goal None l answer is told = absurd (cc)
-  tells_goal (Some e) l answer is told = let same : l ≡ e.1 = cc in told ∙ ap (λ (k : LinkBody K T). number k.destination) same
+  pub states_goal : (slot : Option (Gen × LinkBody K T)) (l : LinkBody K T) (returned : Option ℕ) → Some l ≡ option_map (λ (e : Gen × LinkBody K T). e.1) slot
+      → returned ≡ number l.destination → returned ≡ option_and_then (destination_of number) slot
+  states_goal None l returned is known = absurd (cc)
+  states_goal (Some e) l returned is known = let same : l ≡ e.1 = cc in known ∙ ap (λ (k : LinkBody K T). number k.destination) same
 
-  pub tells_no_goal : (slot : Option (Gen × LinkBody K T)) → None ≡ option_map (λ (e : Gen × LinkBody K T). e.1) slot → None ≡ option_and_then (destination_of number) slot
-  tells_no_goal None is = refl
-  tells_no_goal (Some e) is = absurd (cc)
+  pub states_no_goal : (slot : Option (Gen × LinkBody K T)) → None ≡ option_map (λ (e : Gen × LinkBody K T). e.1) slot → None ≡ option_and_then (destination_of number) slot
+  states_no_goal None is = refl
+  states_no_goal (Some e) is = absurd (cc)
 
 module _ {Gen K T : Type 0} (number : K → Option ℕ) (g : Gen) (k : K) (empty : number k ≡ None) (slots : List (Option (Gen × LinkBody K T))) (i d : ℕ) (e : Gen × LinkBody K T)
     (w : Waits (destination_of number) (slot_at slots) i e d) (low : 1 ≤ d) (high : d ≤ length slots) where
@@ -84,7 +84,7 @@ module _ {Gen K T : Type 0} (number : K → Option ℕ) (g : Gen) (k : K) (empty
   two = with_slot mid d (option_map renewed (slot_at one i))
 
   here : (1 ≤ i) × (i ≤ length slots)
-  here = stands-within slots i e w.stands
+  here = stored-within slots i e w.stored
 
   length-one : length one ≡ length slots
   length-one = length-with_slot slots i (option_map (with_destination k) (slot_at slots i))
@@ -102,7 +102,7 @@ module _ {Gen K T : Type 0} (number : K → Option ℕ) (g : Gen) (k : K) (empty
   within_mid = let l : length mid ≡ length slots = length-mid in omega arith
 
   one_at : slot_at one i ≡ Some (with_destination k e)
-  one_at = slot_at-same slots i (option_map (with_destination k) (slot_at slots i)) here.0 here.1 ∙ ap (option_map (with_destination k)) w.stands
+  one_at = slot_at-same slots i (option_map (with_destination k) (slot_at slots i)) here.0 here.1 ∙ ap (option_map (with_destination k)) w.stored
 
   one_other : (j : ℕ) → (j ≢ i) → slot_at one j ≡ slot_at slots j
   one_other j ne = slot_at-other slots i j (option_map (with_destination k) (slot_at slots i)) here.0 here.1 ne
@@ -124,7 +124,7 @@ module _ {Gen K T : Type 0} (number : K → Option ℕ) (g : Gen) (k : K) (empty
   two_at_d = slot_at-same mid d (option_map renewed (slot_at one i)) low within_mid ∙ ap (option_map renewed) one_at
 
   settled_at_d : IsSettledAt (Settles number g) (slot_at two) d e
-  settled_at_d = record { entry = renewed (with_destination k e); stands = two_at_d; settled = record { generation = refl; empty = empty; rest = refl } }
+  settled_at_d = record { entry = renewed (with_destination k e); stored = two_at_d; settled = record { generation = refl; empty = empty; rest = refl } }
 
   two_at_i : (i ≢ d) → slot_at two i ≡ slot_at slots d
   two_at_i ne =
@@ -148,8 +148,8 @@ module _ {Gen K T : Type 0} (number : K → Option ℕ) (g : Gen) (k : K) (empty
       = count-with_slot (waits (destination_of number)) one i (slot_at one d) here.0 within_one in
       let c : waiting (destination_of number) two + mark (destination_of number) (slot_at mid d) ≡ waiting (destination_of number) mid + mark (destination_of number) (option_map renewed (slot_at one i))
       = count-with_slot (waits (destination_of number)) mid d (option_map renewed (slot_at one i)) low within_mid in
-      let m1 : mark (destination_of number) (slot_at slots i) ≡ 1 = ap (mark (destination_of number)) w.stands ∙ ap (λ (o : Option ℕ). one_if (is_some o)) w.to in
-      let m2 : mark (destination_of number) (option_map (with_destination k) (slot_at slots i)) ≡ 0 = marks_none (option_map (with_destination k) (slot_at slots i)) (ap (option_map (with_destination k)) w.stands) in
+      let m1 : mark (destination_of number) (slot_at slots i) ≡ 1 = ap (mark (destination_of number)) w.stored ∙ ap (λ (o : Option ℕ). one_if (is_some o)) w.to in
+      let m2 : mark (destination_of number) (option_map (with_destination k) (slot_at slots i)) ≡ 0 = marks_none (option_map (with_destination k) (slot_at slots i)) (ap (option_map (with_destination k)) w.stored) in
       let m3 : mark (destination_of number) (slot_at one i) ≡ 0 = marks_none (slot_at one i) one_at in
       let m4 : mark (destination_of number) (slot_at mid d) ≡ mark (destination_of number) (slot_at one d) = ap (mark (destination_of number)) mid_at_d in
       let m5 : mark (destination_of number) (option_map renewed (slot_at one i)) ≡ 0 = ap (λ (x : Option Entry). mark (destination_of number) (option_map renewed x)) one_at ∙ ap (λ (o : Option ℕ). one_if (is_some o)) empty in
@@ -179,7 +179,7 @@ settling_begins goal Settled i old = record { moves = λ first m. m; within = λ
 -- no entry waits if there is no destination
 pub none_waits : {E : Type 0} (goal : E → Option ℕ) (slots : List (Option E)) (i : ℕ) → None ≡ option_and_then goal (slot_at slots i) → (d : ℕ) (e : E) → Waits goal (slot_at slots) i e d → ⊥
 none_waits goal slots i is d e w =
-    let none : None ≡ goal e = is ∙ ap (option_and_then goal) w.stands in
+    let none : None ≡ goal e = is ∙ ap (option_and_then goal) w.stored in
     let some : goal e ≡ Some d = w.to in
     cc
 
@@ -194,7 +194,7 @@ module _ {Gen K T : Type 0} (number : K → Option ℕ) (g : Gen) (i d : ℕ) (b
     where
       by : (s : Option (Gen × LinkBody K T)) → slot_at before.slots i ≡ s → Some d ≡ option_and_then (destination_of number) s → (e : Gen × LinkBody K T) × Waits (destination_of number) (slot_at before.slots) i e d
       by None at is = absurd (cc)
-      by (Some e) at is = (e, record { stands = at; to = sym is })
+      by (Some e) at is = (e, record { stored = at; to = sym is })
 
   bounds : (1 ≤ d) × (d ≤ length before.slots)
   bounds = all.within i d who.0 who.1
@@ -204,17 +204,17 @@ module _ {Gen K T : Type 0} (number : K → Option ℕ) (g : Gen) (i d : ℕ) (b
 
   -- both slots exist, and the first is occupied
   pub from_within : i ≤ length taken.slots
-  from_within = let l : length taken.slots ≡ length before.slots = length-taken in let h : i ≤ length before.slots = (stands-within before.slots i who.0 who.1.stands).1 in omega arith
+  from_within = let l : length taken.slots ≡ length before.slots = length-taken in let h : i ≤ length before.slots = (stored-within before.slots i who.0 who.1.stored).1 in omega arith
 
   pub to_within : d ≤ length taken.slots
   to_within = let l : length taken.slots ≡ length before.slots = length-taken in let h : d ≤ length before.slots = bounds.1 in omega arith
 
   pub entry_there : is_some (slot_at taken.slots i) ≡ true
   entry_there =
-      let at = stands-within before.slots i who.0 who.1.stands in
+      let at = stored-within before.slots i who.0 who.1.stored in
       ap (λ (h : Held Gen (LinkBody K T)). is_some (slot_at h.slots i)) out.held
       ∙ (ap (λ (o : Option (Gen × LinkBody K T)). is_some o) (slot_at-same before.slots i (option_map (with_destination out.destination) (slot_at before.slots i)) at.0 at.1)
-      ∙ ap (λ (o : Option (Gen × LinkBody K T)). is_some (option_map (with_destination out.destination) o)) who.1.stands)
+      ∙ ap (λ (o : Option (Gen × LinkBody K T)). is_some (option_map (with_destination out.destination) o)) who.1.stored)
 
   module _ (moved : after ≡ with_placed_entry taken i d g) where
     pub capacity_after : after.stack_capacity ≡ before.stack_capacity

@@ -33,10 +33,10 @@ module _ {Gen T : Type 0} where
   -- each entry is found at its index
   pub each_found : (i : ℕ) (es : List ((ℕ × Gen) × T)) (entry : ℕ → Option (Gen × T)) → RisesFrom i es → ((j : ℕ) → i ≤ j → entry j ≡ found j es)
       → AllByRecursion (λ (e : (ℕ × Gen) × T). entry e.0.0 ≡ Some (e.0.1, e.1)) es
-  each_found i [] entry rises looked = tt
-  each_found i (e ∷ es) entry rises looked = (
-    looked e.0.0 rises.0 ∙ ap (λ b. cond b (Some (e.0.1, e.1)) (found e.0.0 es)) (eq-eqb e.0.0 e.0.0 refl),
-    each_found (suc e.0.0) es entry rises.1 (λ j below. looked j (omega (arith, below, rises.0)) ∙ ap (λ b. cond b (Some (e.0.1, e.1)) (found j es)) (ne_eqb e.0.0 j (λ is. omega (arith, below, is)))),
+  each_found i [] entry rises was_read = tt
+  each_found i (e ∷ es) entry rises was_read = (
+    was_read e.0.0 rises.0 ∙ ap (λ b. cond b (Some (e.0.1, e.1)) (found e.0.0 es)) (eq-eqb e.0.0 e.0.0 refl),
+    each_found (suc e.0.0) es entry rises.1 (λ j below. was_read j (omega (arith, below, rises.0)) ∙ ap (λ b. cond b (Some (e.0.1, e.1)) (found j es)) (ne_eqb e.0.0 j (λ is. omega (arith, below, is)))),
   )
 
   -- a found entry has its pointer among those of all entries
@@ -75,10 +75,10 @@ module _ {X G Gen U T : Type 0} (from : X → ℕ × G) (to : X → ℕ × Gen) 
 
   -- a valid pointer is the old one of the move from its index
   old_has : (p : ℕ × G) (u : U) (moves : List X) → before p.0 ≡ Some (p.1, u) → AllByRecursion Moves moves → IsMember (map (λ (m : X). (from m).0) moves) p.0 → Contains (map from moves) p
-  old_has p u [] stands all has = absurd has
-  old_has p u (m ∷ moves) stands all (inl same) =
-      (0, omega arith, λ i. (same i, generation_is (from m).1 p.1 all.0.0.value u (sym all.0.0.stands ∙ (ap before same ∙ stands)) i))
-  old_has p u (m ∷ moves) stands all (inr has) = Contains-append_right (from m ∷ []) (map from moves) p (old_has p u moves stands all.1 has)
+  old_has p u [] stored all has = absurd has
+  old_has p u (m ∷ moves) stored all (inl same) =
+      (0, omega arith, λ i. (same i, generation_is (from m).1 p.1 all.0.0.value u (sym all.0.0.stored ∙ (ap before same ∙ stored)) i))
+  old_has p u (m ∷ moves) stored all (inr has) = Contains-append_right (from m ∷ []) (map from moves) p (old_has p u moves stored all.1 has)
 
   indexes-mapped : (moves : List X) (es : List ((ℕ × Gen) × T)) → map to moves ≡ map (λ (e : (ℕ × Gen) × T). e.0) es → map (λ (m : X). (to m).0) moves ≡ map index_of es
   indexes-mapped [] [] is = refl
@@ -92,19 +92,19 @@ module _ {X G Gen U T : Type 0} (from : X → ℕ × G) (to : X → ℕ × Gen) 
   -- moves from the links in their least-index order to ascending entries
   pub all_moved : (links : LinkMap) (indexes : List ℕ) (es : List ((ℕ × Gen) × T)) (moves : List X) → IsLeastIndexOrder links indexes → HasLinksWhere links before → RisesFrom 1 es → ((i : ℕ) → found i es ≡ after i)
       → map (λ (m : X). (from m).0) moves ≡ indexes → map to moves ≡ map (λ (e : (ℕ × Gen) × T). e.0) es → AllByRecursion Moves moves → AreMoved from to Becomes before after moves
-  all_moved links indexes es moves order stand rises looked comes goes values = record {
+  all_moved links indexes es moves order are_stored rises was_read comes goes values = record {
     values = All-from_recursion Moves moves values;
-    old = λ p was. old_has p was.value moves was.stands values (subst (λ (is : List ℕ). IsMember is p.0) (sym (comes ∙ order.items)) ((order.are.partition.valid p.0).0 (shows p was)));
+    old = λ p was. old_has p was.value moves was.stored values (subst (λ (is : List ℕ). IsMember is p.0) (sym (comes ∙ order.items)) ((order.are.partition.valid p.0).0 (reports p was)));
     old_apart = subst AreDistinct (sym (comes ∙ order.items)) order.are.partition.once;
-    new = λ q is. subst (λ (qs : List (ℕ × Gen)). Contains qs q) (sym goes) (found_key q is.value es (looked q.0 ∙ is.stands));
+    new = λ q is. subst (λ (qs : List (ℕ × Gen)). Contains qs q) (sym goes) (found_key q is.value es (was_read q.0 ∙ is.stored));
     new_apart = subst AreDistinct (sym (indexes-mapped moves es goes)) (rises-apart 1 es rises);
   }
     where
-      shows : (p : ℕ × G) → IsValid before p → chains.HasLink links p.0
-      shows p was = by (links p.0) refl (stand p.0 ∙ ap is_some was.stands) where
+      reports : (p : ℕ × G) → IsValid before p → chains.HasLink links p.0
+      reports p was = by (links p.0) refl (are_stored p.0 ∙ ap is_some was.stored) where
         by : (o : Option Interlinks) → links p.0 ≡ o → is_some (links p.0) ≡ true → chains.HasLink links p.0
         by None is some = absurd (let none = ap is_some is in let both = sym some ∙ none in cc)
-        by (Some link) is some = record { link = link; shows = is }
+        by (Some link) is some = record { link = link; reports = is }
 
 module _ {P Gen T : Type 0} (key : P → ℕ × Gen) (before after : ℕ → Option (Gen × T)) where
   -- a pointer to the entry at an index has that index
@@ -123,41 +123,41 @@ module _ {P Gen T : Type 0} (key : P → ℕ × Gen) (before after : ℕ → Opt
 
   -- one move
   one_keeps : (m : P × P) (i : ℕ) (e : (ℕ × Gen) × T) → Some (key m.0) ≡ ptr_at before i → key m.1 ≡ e.0 → Some e.1 ≡ option_map (λ (e : Gen × T). e.1) (before i) → after e.0.0 ≡ Some (e.0.1, e.1) → IsPointerMove key before after m
-  one_keeps m i e comes goes value stands = by (before i) refl comes value where
+  one_keeps m i e comes goes value stored = by (before i) refl comes value where
     by : (o : Option (Gen × T)) → before i ≡ o → Some (key m.0) ≡ option_map (λ (e : Gen × T). (i, e.0)) o → Some e.1 ≡ option_map (λ (e : Gen × T). e.1) o → IsPointerMove key before after m
     by None is comes value = absurd (cc)
     by (Some b) is comes value =
         let same : key m.0 ≡ (i, b.0) = cc in
         let kept : e.1 ≡ b.1 = cc in (
-          record { value = e.1; stands = ap (λ (p : ℕ × Gen). before p.0) same ∙ (is ∙ sym (λ j. Some ((same j).1, kept j))) },
-          record { value = e.1; stands = ap (λ (q : ℕ × Gen). after q.0) goes ∙ (stands ∙ sym (ap (λ (q : ℕ × Gen). Some (q.1, e.1)) goes)) },
+          record { value = e.1; stored = ap (λ (p : ℕ × Gen). before p.0) same ∙ (is ∙ sym (λ j. Some ((same j).1, kept j))) },
+          record { value = e.1; stored = ap (λ (q : ℕ × Gen). after q.0) goes ∙ (stored ∙ sym (ap (λ (q : ℕ × Gen). Some (q.1, e.1)) goes)) },
           refl,
         )
 
   -- all moves
   each_keeps : (moves : List (P × P)) (indexes : List ℕ) (es : List ((ℕ × Gen) × T)) → map (λ (m : P × P). Some (key m.0)) moves ≡ map (ptr_at before) indexes → map (λ (m : P × P). key m.1) moves ≡ map (λ (e : (ℕ × Gen) × T). e.0) es
       → map (λ t. Some t) (map (λ (e : (ℕ × Gen) × T). e.1) es) ≡ map (λ i. option_map (λ (e : Gen × T). e.1) (before i)) indexes → AllByRecursion (λ (e : (ℕ × Gen) × T). after e.0.0 ≡ Some (e.0.1, e.1)) es → AllByRecursion (IsPointerMove key before after) moves
-  each_keeps [] indexes es comes goes values stand = tt
-  each_keeps (m ∷ moves) [] es comes goes values stand = absurd (cc)
-  each_keeps (m ∷ moves) (i ∷ indexes) [] comes goes values stand = absurd (cc)
-  each_keeps (m ∷ moves) (i ∷ indexes) (e ∷ es) comes goes values stand =
+  each_keeps [] indexes es comes goes values are_stored = tt
+  each_keeps (m ∷ moves) [] es comes goes values are_stored = absurd (cc)
+  each_keeps (m ∷ moves) (i ∷ indexes) [] comes goes values are_stored = absurd (cc)
+  each_keeps (m ∷ moves) (i ∷ indexes) (e ∷ es) comes goes values are_stored =
       let come : Some (key m.0) ≡ ptr_at before i = cc in
       let come_rest : map (λ (m : P × P). Some (key m.0)) moves ≡ map (ptr_at before) indexes = cc in
       let go : key m.1 ≡ e.0 = cc in
       let go_rest : map (λ (m : P × P). key m.1) moves ≡ map (λ (e : (ℕ × Gen) × T). e.0) es = cc in
       let value : Some e.1 ≡ option_map (λ (e : Gen × T). e.1) (before i) = cc in
       let value_rest : map (λ t. Some t) (map (λ (e : (ℕ × Gen) × T). e.1) es) ≡ map (λ i. option_map (λ (e : Gen × T). e.1) (before i)) indexes = cc in
-      (one_keeps m i e come go value stand.0, each_keeps moves indexes es come_rest go_rest value_rest stand.1)
+      (one_keeps m i e come go value are_stored.0, each_keeps moves indexes es come_rest go_rest value_rest are_stored.1)
 
 -- a canonical compression moves pointers
 pub compression_moves_pointers : {P Gen T : Type 0} (key : P → ℕ × Gen) (first : Gen) (following : Gen → Gen) → CompressionMovesPointers T key first following
-compression_moves_pointers {P} {Gen} {T} key first following reset old new links new_links before after moves looked_before looked_after stand layout all =
-    all_moved (λ (m : P × P). key m.0) (λ (m : P × P). key m.1) (λ m t u. t ≡ u) before after links all.indexes new.entries moves all.order stand rises looked_after (indexes-from key before after moves all.indexes comes) goes
+compression_moves_pointers {P} {Gen} {T} key first following reset old new links new_links before after moves read_before read_after are_stored layout all =
+    all_moved (λ (m : P × P). key m.0) (λ (m : P × P). key m.1) (λ m t u. t ≡ u) before after links all.indexes new.entries moves all.order are_stored rises read_after (indexes-from key before after moves all.indexes comes) goes
     (each_keeps key before after moves all.indexes new.entries comes goes (layout.values ∙ (λ j. map (λ i. option_map (λ (e : Gen × T). e.1) (entry_found j i)) (sym same_order j)))
-    (each_found 1 new.entries after rises (λ j below. sym (looked_after j))))
+    (each_found 1 new.entries after rises (λ j below. sym (read_after j))))
   where
     entry_found : (λ i. found i old.entries) ≡ before
-    entry_found = fun_ext looked_before
+    entry_found = fun_ext read_before
 
     same_order : all.indexes ≡ layout.indexes
     same_order = all.order.items ∙ (ap all_items (no_others links all.order.chains layout.order.chains all.order.are layout.order.are) ∙ sym layout.order.items)
@@ -181,9 +181,9 @@ compression_moves_pointers {P} {Gen} {T} key first following reset old new links
         ∙ sym (keys-run layout.generation (range_with_len 1 (length old.entries)) new.entries layout.keys (recursion_from_All _ new.entries layout.generations)))
 
 module _ {Gen T : Type 0} (entry : ℕ → Option (Gen × T)) where
-  what_stands : (o : Option (Gen × T)) → is_some o ≡ true → (e : Gen × T) × (o ≡ Some e)
-  what_stands None some = absurd (let h = some in cc)
-  what_stands (Some e) some = (e, refl)
+  what_stored : (o : Option (Gen × T)) → is_some o ≡ true → (e : Gen × T) × (o ≡ Some e)
+  what_stored None some = absurd (let h = some in cc)
+  what_stored (Some e) some = (e, refl)
 
   -- the pointers at occupied indexes, paired with those at consecutive ones
   pairs_of : (g : Gen) (n : ℕ) (indexes : List ℕ) → ((i : ℕ) → IsMember indexes i → is_some (entry i) ≡ true)
@@ -192,7 +192,7 @@ module _ {Gen T : Type 0} (entry : ℕ → Option (Gen × T)) where
   pairs_of g n [] there = ([], refl, refl)
   pairs_of g n (i ∷ indexes) there =
       let rest = pairs_of g (n + 1) indexes (λ j has. there j (inr has)) in
-      let here = what_stands (entry i) (there i (inl refl)) in (
+      let here = what_stored (entry i) (there i (inl refl)) in (
         ((i, here.0.0), (n, g)) ∷ rest.0,
         ap₂ (λ (p : Option (ℕ × Gen)) (ps : List (Option (ℕ × Gen))). p ∷ ps) (sym (ap (option_map (λ (e : Gen × T). (i, e.0))) here.1)) rest.1,
         ap (λ (ps : List (ℕ × Gen)). (n, g) ∷ ps) rest.2,
@@ -200,14 +200,14 @@ module _ {Gen T : Type 0} (entry : ℕ → Option (Gen × T)) where
 
 -- a canonical compression has moves
 pub compression_has_moves : {Gen T : Type 0} (first : Gen) (following : Gen → Gen) → CompressionHasMoves T first following
-compression_has_moves {Gen} {T} first following reset old new links new_links before after looked_before looked_after stand layout =
-    (pairs.0, all, compression_moves_pointers (λ (p : ℕ × Gen). p) first following reset old new links new_links before after pairs.0 looked_before looked_after stand layout all)
+compression_has_moves {Gen} {T} first following reset old new links new_links before after read_before read_after are_stored layout =
+    (pairs.0, all, compression_moves_pointers (λ (p : ℕ × Gen). p) first following reset old new links new_links before after pairs.0 read_before read_after are_stored layout all)
   where
     pairs : (moves : List ((ℕ × Gen) × (ℕ × Gen))) × (map (λ (m : (ℕ × Gen) × (ℕ × Gen)). Some m.0) moves ≡ map (ptr_at (λ i. found i old.entries)) layout.indexes)
         × (map (λ (m : (ℕ × Gen) × (ℕ × Gen)). m.1) moves ≡ map (λ k. (k, layout.generation)) (range_with_len 1 (length layout.indexes)))
     pairs =
         pairs_of (λ i. found i old.entries) layout.generation 1 layout.indexes
-        (λ i has. ap is_some (looked_before i) ∙ (sym (stand i) ∙ ap is_some ((layout.order.are.partition.valid i).1 (subst (λ (is : List ℕ). IsMember is i) layout.order.items has)).shows))
+        (λ i has. ap is_some (read_before i) ∙ (sym (are_stored i) ∙ ap is_some ((layout.order.are.partition.valid i).1 (subst (λ (is : List ℕ). IsMember is i) layout.order.items has)).reports))
 
     all : AreAllMoves (λ (p : ℕ × Gen). p) old links layout.generation pairs.0
     all = record { indexes = layout.indexes; order = layout.order; from = pairs.1; to = pairs.2 }

@@ -18,10 +18,10 @@ module _ {X : Type 0} where
   slot_at-other xs i j x low high differs = slot_at-written xs i j x low high ∙ if_other j i _ _ differs
 
   -- the index of an entry is within the slots
-  pub stands-within : (xs : List (Option X)) (i : ℕ) (x : X) → slot_at xs i ≡ Some x → (1 ≤ i) × (i ≤ length xs)
-  stands-within xs i x is =
+  pub stored-within : (xs : List (Option X)) (i : ℕ) (x : X) → slot_at xs i ≡ Some x → (1 ≤ i) × (i ≤ length xs)
+  stored-within xs i x is =
       let lone : X → Interlinks = λ _. record { prev = None; next = None } in
-      (slots-within lone xs).within i (record { link = lone x; shows = ap (option_map lone) is })
+      (slots-within lone xs).within i (record { link = lone x; reports = ap (option_map lone) is })
 
   -- writing back what a slot holds changes nothing
   pub with_slot-own : (xs : List (Option X)) (i : ℕ) → with_slot xs i (slot_at xs i) ≡ xs
@@ -44,12 +44,12 @@ mark goal slot = one_if (waits goal slot)
 module _ {E : Type 0} (goal : E → Option ℕ) where
   -- with a slot added in front, each entry waits at the next index
   waits-behind : (x : Option E) (xs : List (Option E)) (i : ℕ) (e : E) (d : ℕ) → Waits goal (slot_at xs) i e d → Waits goal (slot_at (x ∷ xs)) (suc i) e d
-  waits-behind x xs zero e d w = let none : None ≡ Some e = w.stands in absurd (cc)
-  waits-behind x xs (suc k) e d w = record { stands = w.stands; to = w.to }
+  waits-behind x xs zero e d w = let none : None ≡ Some e = w.stored in absurd (cc)
+  waits-behind x xs (suc k) e d w = record { stored = w.stored; to = w.to }
 
-  stands-behind : (x : Option E) (xs : List (Option E)) (i : ℕ) (e : E) → slot_at xs i ≡ Some e → slot_at (x ∷ xs) (suc i) ≡ Some e
-  stands-behind x xs zero e s = absurd (cc)
-  stands-behind x xs (suc k) e s = s
+  stored-behind : (x : Option E) (xs : List (Option E)) (i : ℕ) (e : E) → slot_at xs i ≡ Some e → slot_at (x ∷ xs) (suc i) ≡ Some e
+  stored-behind x xs zero e s = absurd (cc)
+  stored-behind x xs (suc k) e s = s
 
   mark-none : (x : Option E) → ((e : E) (d : ℕ) → x ≡ Some e → goal e ≡ Some d → ⊥) → mark goal x ≡ 0
   mark-none None not = refl
@@ -68,14 +68,14 @@ module _ {E : Type 0} (goal : E → Option ℕ) where
   waiting-none [] not = refl
   waiting-none (x ∷ xs) not =
       let rest : waiting goal xs ≡ 0 = waiting-none xs (λ i d e w. not (suc i) d e (waits-behind x xs i e d w)) in
-      let first : mark goal x ≡ 0 = mark-none x (λ e d is to. not 1 d e (record { stands = is; to = to })) in
+      let first : mark goal x ≡ 0 = mark-none x (λ e d is to. not 1 d e (record { stored = is; to = to })) in
       sum_by-cons (mark goal) x xs ∙ ap₂ (λ (a b : ℕ). a + b) first rest
 
   -- if each entry waits, the count is the number of entries
   pub waiting-all : (xs : List (Option E)) → ((i : ℕ) (e : E) → slot_at xs i ≡ Some e → (d : ℕ) × (goal e ≡ Some d)) → waiting goal xs ≡ count_by is_some xs
   waiting-all [] all = refl
   waiting-all (x ∷ xs) all =
-      let rest : waiting goal xs ≡ count_by is_some xs = waiting-all xs (λ i e s. all (suc i) e (stands-behind x xs i e s)) in
+      let rest : waiting goal xs ≡ count_by is_some xs = waiting-all xs (λ i e s. all (suc i) e (stored-behind x xs i e s)) in
       let first : mark goal x ≡ one_if (is_some x) = mark-all x (λ e s. all 1 e s) in
       sum_by-cons (mark goal) x xs ∙ (ap₂ (λ (a b : ℕ). a + b) first rest ∙ sym (sum_by-cons (λ (y : Option E). one_if (is_some y)) x xs))
 

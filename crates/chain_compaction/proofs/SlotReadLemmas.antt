@@ -14,17 +14,17 @@ use Rattle.chain_compaction.proofs.WorkCountLemmas.{counts_touch}
 
 module _ {P T S Inx Gen Word : Type 0} where
   -- a read is one touch, and keeps the slots
-  pub has_looked : (old new : Compactor P T S Inx Gen Word)
+  pub has_read : (old new : Compactor P T S Inx Gen Word)
       → (new.held ≡ old.held) × ((new.arena.ghost_name ≡ old.arena.ghost_name) × (new.arena.now ≡ with_touch old.arena.now) × (new.placed ≡ old.placed) × (new.touched ≡ one_more old.touched))
       → HasReadSlot old new
-  has_looked old new h = record { same_reference = h.1.0; held = h.0; arena = h.1.1; counts = counts_touch _ _ _ _ _ _ h.1.1 h.1.2 h.1.3 }
+  has_read old new h = record { same_reference = h.1.0; held = h.0; arena = h.1.1; counts = counts_touch _ _ _ _ _ _ h.1.1 h.1.2 h.1.3 }
 
 module _ {Gen K T : Type 0} (packed : K → Option ℕ) where
   -- an entry has its generation, its interlinks and its destination
-  pub entry_shown : (e : Gen × LinkBody K T) (o : Option (Gen × LinkBody K T)) → Some e ≡ o
+  pub entry_reported : (e : Gen × LinkBody K T) (o : Option (Gen × LinkBody K T)) → Some e ≡ o
       → (Some e.0 ≡ option_map (λ (x : Gen × LinkBody K T). x.0) o) × (packed e.1.prev ≡ prev_in (option_map (body_interlinks packed) o))
       × (packed e.1.next ≡ next_in (option_map (body_interlinks packed) o)) × (packed e.1.destination ≡ option_and_then (destination_of packed) o)
-  entry_shown e o is = (
+  entry_reported e o is = (
     ap (option_map (λ (x : Gen × LinkBody K T). x.0)) is,
     ap (λ (x : Option (Gen × LinkBody K T)). prev_in (option_map (body_interlinks packed) x)) is,
     ap (λ (x : Option (Gen × LinkBody K T)). next_in (option_map (body_interlinks packed) x)) is,
@@ -32,10 +32,10 @@ module _ {Gen K T : Type 0} (packed : K → Option ℕ) where
   )
 
   -- a free slot has no generation, interlinks or destination
-  pub nothing_shown : (o : Option (Gen × LinkBody K T)) → None ≡ o
+  pub nothing_reported : (o : Option (Gen × LinkBody K T)) → None ≡ o
       → (None ≡ option_map (λ (x : Gen × LinkBody K T). x.0) o) × (None ≡ prev_in (option_map (body_interlinks packed) o))
       × (None ≡ next_in (option_map (body_interlinks packed) o)) × (None ≡ option_and_then (destination_of packed) o)
-  nothing_shown o is = (
+  nothing_reported o is = (
     ap (option_map (λ (x : Gen × LinkBody K T). x.0)) is,
     ap (λ (x : Option (Gen × LinkBody K T)). prev_in (option_map (body_interlinks packed) x)) is,
     ap (λ (x : Option (Gen × LinkBody K T)). next_in (option_map (body_interlinks packed) x)) is,
@@ -45,26 +45,26 @@ module _ {Gen K T : Type 0} (packed : K → Option ℕ) where
   -- whether a slot holds a fresh link, by what a read returns
   fresh_there : {I : Type 0} (number : I → ℕ) (o : Option (Gen × LinkBody K T)) (r : Option Gen) (g : Gen) (d : Option I) (b : Bool) → r ≡ Some g
       → r ≡ option_map (λ (x : Gen × LinkBody K T). x.0) o → option_map number d ≡ option_and_then (destination_of packed) o → is_some d ≡ not b → b ≡ is_fresh packed o
-  fresh_there number None r g d b is stands to none = cc
-  fresh_there number (Some e) r g None true is stands to none = ap is_none to
-  fresh_there number (Some e) r g None false is stands to none = cc
-  fresh_there number (Some e) r g (Some x) true is stands to none = cc
-  fresh_there number (Some e) r g (Some x) false is stands to none = ap is_none to
+  fresh_there number None r g d b is stored to none = cc
+  fresh_there number (Some e) r g None true is stored to none = ap is_none to
+  fresh_there number (Some e) r g None false is stored to none = cc
+  fresh_there number (Some e) r g (Some x) true is stored to none = cc
+  fresh_there number (Some e) r g (Some x) false is stored to none = ap is_none to
 
   none_fresh : (o : Option (Gen × LinkBody K T)) (r : Option Gen) → r ≡ None → r ≡ option_map (λ (x : Gen × LinkBody K T). x.0) o → false ≡ is_fresh packed o
-  none_fresh None r is stands = refl
-  none_fresh (Some e) r is stands = cc
+  none_fresh None r is stored = refl
+  none_fresh (Some e) r is stored = cc
 
   -- a link read with no destination is fresh
-  pub told_fresh : {I : Type 0} (number : I → ℕ) (o : Option (Gen × LinkBody K T)) (r : Option Gen) (g : Gen) (d : Option I) → r ≡ Some g → r ≡ option_map (λ (x : Gen × LinkBody K T). x.0) o
+  pub known_fresh : {I : Type 0} (number : I → ℕ) (o : Option (Gen × LinkBody K T)) (r : Option Gen) (g : Gen) (d : Option I) → r ≡ Some g → r ≡ option_map (λ (x : Gen × LinkBody K T). x.0) o
       → option_map number d ≡ option_and_then (destination_of packed) o → d ≡ None → is_fresh packed o ≡ true
-  told_fresh number o r g d is stands to none = sym (fresh_there number o r g d true is stands to (ap is_some none))
+  known_fresh number o r g d is stored to none = sym (fresh_there number o r g d true is stored to (ap is_some none))
 
   -- a link read with a destination is not fresh
-  pub told_directed : {I : Type 0} (number : I → ℕ) (o : Option (Gen × LinkBody K T)) (r : Option Gen) (g : Gen) (d : Option I) (i : I) → r ≡ Some g → r ≡ option_map (λ (x : Gen × LinkBody K T). x.0) o
+  pub known_directed : {I : Type 0} (number : I → ℕ) (o : Option (Gen × LinkBody K T)) (r : Option Gen) (g : Gen) (d : Option I) (i : I) → r ≡ Some g → r ≡ option_map (λ (x : Gen × LinkBody K T). x.0) o
       → option_map number d ≡ option_and_then (destination_of packed) o → d ≡ Some i → is_fresh packed o ≡ false
-  told_directed number o r g d i is stands to some = sym (fresh_there number o r g d false is stands to (ap is_some some))
+  known_directed number o r g d i is stored to some = sym (fresh_there number o r g d false is stored to (ap is_some some))
 
   -- a free slot holds no fresh link
-  pub told_none : (o : Option (Gen × LinkBody K T)) (r : Option Gen) → r ≡ None → r ≡ option_map (λ (x : Gen × LinkBody K T). x.0) o → is_fresh packed o ≡ false
-  told_none o r is stands = sym (none_fresh o r is stands)
+  pub known_none : (o : Option (Gen × LinkBody K T)) (r : Option Gen) → r ≡ None → r ≡ option_map (λ (x : Gen × LinkBody K T). x.0) o → is_fresh packed o ≡ false
+  known_none o r is stored = sym (none_fresh o r is stored)

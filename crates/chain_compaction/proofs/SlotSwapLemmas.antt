@@ -19,7 +19,7 @@ module _ {E : Type 0} (goal : E → Option ℕ) (Settles : E → E → Type 0) (
       clash f d n s = cc
 
       waits_as_ever : (j : ℕ) (e : E) (d : ℕ) → old j ≡ Some e → goal e ≡ Some d → StillWaits goal old old j e
-      waits_as_ever j e d s to = record { from = j; to = d; waited = record { stands = s; to = to }; waits = record { stands = s; to = to } }
+      waits_as_ever j e d s to = record { from = j; to = d; waited = record { stored = s; to = to }; waits = record { stored = s; to = to } }
 
   -- the entry e at i is exchanged with the slot at d, and settled there
   module _ (now next : ℕ → Option E) (i d : ℕ) (e : E)
@@ -32,7 +32,7 @@ module _ {E : Type 0} (goal : E → Option ℕ) (Settles : E → E → Type 0) (
     -- no entry waits at d
     none_at_d : (f : E) (k : ℕ) → next d ≡ Some f → goal f ≡ Some k → ⊥
     none_at_d f k s to =
-        let there : next d ≡ Some at_d.entry = at_d.stands in
+        let there : next d ≡ Some at_d.entry = at_d.stored in
         let same : at_d.entry ≡ f = cc in
         let none : goal f ≡ None = ap goal (sym same) ∙ done e at_d.entry at_d.settled in
         cc
@@ -41,11 +41,11 @@ module _ {E : Type 0} (goal : E → Option ℕ) (Settles : E → E → Type 0) (
     before j f k v = by (ℕ_discrete j d) (ℕ_discrete j i)
       where
         by : Dec (j ≡ d) → Dec (j ≡ i) → Before j f k
-        by (yes s) other = absurd (none_at_d f k (ap next (sym s) ∙ v.stands) v.to)
+        by (yes s) other = absurd (none_at_d f k (ap next (sym s) ∙ v.stored) v.to)
         by (no n) (yes s) =
             let differs : i ≢ d = λ t. n (s ∙ t) in
-            came s differs (record { stands = sym (at_i differs) ∙ (ap next (sym s) ∙ v.stands); to = v.to })
-        by (no n) (no m) = stayed m n (record { stands = sym (elsewhere j m n) ∙ v.stands; to = v.to })
+            came s differs (record { stored = sym (at_i differs) ∙ (ap next (sym s) ∙ v.stored); to = v.to })
+        by (no n) (no m) = stayed m n (record { stored = sym (elsewhere j m n) ∙ v.stored; to = v.to })
 
     -- an entry that waits afterwards waited before
     pub came_from : (j : ℕ) (f : E) (k : ℕ) → Waits goal next j f k → (l : ℕ) × Waits goal now l f k
@@ -108,28 +108,28 @@ module _ {E : Type 0} (goal : E → Option ℕ) (Settles : E → E → Type 0) (
         where
           waited : (l : ℕ) → Waits goal now l f k → Dec (l ≡ i) → Dec (l ≡ d) → Outcome k f
           waited l u (yes s) other =
-              let stood : now i ≡ Some f = ap now (sym s) ∙ u.stands in
-              let first : now i ≡ Some e = w.stands in
+              let was_stored : now i ≡ Some f = ap now (sym s) ∙ u.stored in
+              let first : now i ≡ Some e = w.stored in
               let same : e ≡ f = cc in
               let to : goal e ≡ Some d = w.to in
               let there : goal e ≡ Some k = ap goal same ∙ u.to in
               let place : d ≡ k = cc in
-              inr (record { entry = at_d.entry; stands = ap next (sym place) ∙ at_d.stands; settled = subst (λ (x : E). Settles x at_d.entry) same at_d.settled })
+              inr (record { entry = at_d.entry; stored = ap next (sym place) ∙ at_d.stored; settled = subst (λ (x : E). Settles x at_d.entry) same at_d.settled })
           waited l u (no n) (yes s) =
               let differs : i ≢ d = λ t. n (s ∙ sym t) in
-              inl (i, record { stands = at_i differs ∙ (ap now (sym s) ∙ u.stands); to = u.to })
-          waited l u (no n) (no m) = inl (l, record { stands = elsewhere l n m ∙ u.stands; to = u.to })
+              inl (i, record { stored = at_i differs ∙ (ap now (sym s) ∙ u.stored); to = u.to })
+          waited l u (no n) (no m) = inl (l, record { stored = elsewhere l n m ∙ u.stored; to = u.to })
 
           placed : IsSettledAt Settles now k f → Dec (k ≡ i) → Dec (k ≡ d) → Outcome k f
           placed s (yes t) other =
-              let stood : now i ≡ Some s.entry = ap now (sym t) ∙ s.stands in
-              let first : now i ≡ Some e = w.stands in
+              let was_stored : now i ≡ Some s.entry = ap now (sym t) ∙ s.stored in
+              let first : now i ≡ Some e = w.stored in
               let same : e ≡ s.entry = cc in
               let to : goal e ≡ Some d = w.to in
               let none : goal e ≡ None = ap goal same ∙ done f s.entry s.settled in
               absurd (cc)
-          placed s (no n) (yes t) = absurd (moving.unsettled i d e s.entry w (ap now (sym t) ∙ s.stands) (done f s.entry s.settled))
-          placed s (no n) (no m) = inr (record { entry = s.entry; stands = elsewhere k n m ∙ s.stands; settled = s.settled })
+          placed s (no n) (yes t) = absurd (moving.unsettled i d e s.entry w (ap now (sym t) ∙ s.stored) (done f s.entry s.settled))
+          placed s (no n) (no m) = inr (record { entry = s.entry; stored = elsewhere k n m ∙ s.stored; settled = s.settled })
 
           by : ((l : ℕ) × Waits goal now l f k) ⊎ IsSettledAt Settles now k f → Outcome k f
           by (inl u) = waited u.0 u.1 (ℕ_discrete u.0 i) (ℕ_discrete u.0 d)
@@ -162,14 +162,14 @@ module _ {E : Type 0} (goal : E → Option ℕ) (Settles : E → E → Type 0) (
           by : Dec (j ≡ d) → Dec (j ≡ i) → Origin j f
           by (yes t) other =
               let here : next d ≡ Some f = ap next (sym t) ∙ s in
-              let there : next d ≡ Some at_d.entry = at_d.stands in
+              let there : next d ≡ Some at_d.entry = at_d.stored in
               let same : at_d.entry ≡ f = cc in
-              own (moving.back i e w.stands) t (subst (Settles e) same at_d.settled)
+              own (moving.back i e w.stored) t (subst (Settles e) same at_d.settled)
           by (no n) (yes t) =
               let differs : i ≢ d = λ r. n (t ∙ r) in
-              let stood : now d ≡ Some f = sym (at_i differs) ∙ (ap next (sym t) ∙ s) in
-              moved d (λ k v. record { stands = s; to = v.to }) (λ g r. absurd (moving.unsettled i d e f w stood (done g f r))) (moving.back d f stood)
-          by (no n) (no m) = moved j (λ k v. record { stands = s; to = v.to }) (λ g r. refl) (moving.back j f (sym (elsewhere j m n) ∙ s))
+              let was_stored : now d ≡ Some f = sym (at_i differs) ∙ (ap next (sym t) ∙ s) in
+              moved d (λ k v. record { stored = s; to = v.to }) (λ g r. absurd (moving.unsettled i d e f w was_stored (done g f r))) (moving.back d f was_stored)
+          by (no n) (no m) = moved j (λ k v. record { stored = s; to = v.to }) (λ g r. refl) (moving.back j f (sym (elsewhere j m n) ∙ s))
 
       pub moving_goes_on : IsMoving goal Settles old next
       moving_goes_on = record { apart = apart_after; unsettled = unsettled_after; there = there_after; back = back_after }

@@ -51,7 +51,7 @@ module _ {Gen X Y : Type 0} (f : X → Y) where
   up_to-map i [] = refl
   up_to-map i (e ∷ es) = ap (λ rest. cond (leb e.0.0 i) (on_entry e ∷ rest) []) (up_to-map i es) ∙ cond-map (leb e.0.0 i) (e ∷ entries_at_or_below i es) []
 
-  ahead-map : (look : Cursor) (es : List ((ℕ × Gen) × X)) → ahead look (map on_entry es) ≡ map on_entry (ahead look es)
+  ahead-map : (lookup : Cursor) (es : List ((ℕ × Gen) × X)) → ahead lookup (map on_entry es) ≡ map on_entry (ahead lookup es)
   ahead-map (Up i) es = from-map i es
   ahead-map (Down i) es = ap (λ rest. reverse rest) (up_to-map i es) ∙ reverse-map (entries_at_or_below i es)
   ahead-map Nowhere es = refl
@@ -65,9 +65,9 @@ module _ {Gen X Y : Type 0} (f : X → Y) where
   pub last-with_each : (a : Arena Gen X) → last_key (entries (with_each f a)) ≡ last_key (entries a)
   last-with_each a = ap (λ es. last_key es) (entries-with_each a) ∙ (ap (λ es. first_key es) (reverse-map (entries a)) ∙ first-map (reverse (entries a)))
 
-  pub look-with_each : (a : Arena Gen X) (look after : Cursor) (answer : Option (ℕ × Gen)) → IsAdvance (entries a) look answer after → IsAdvance (entries (with_each f a)) look answer after
-  look-with_each a look after answer is = record {
-    first = is.first ∙ sym (ap (λ es. first_key (ahead look es)) (entries-with_each a) ∙ (ap (λ es. first_key es) (ahead-map look (entries a)) ∙ first-map (ahead look (entries a))));
+  pub lookup-with_each : (a : Arena Gen X) (lookup after : Cursor) (returned : Option (ℕ × Gen)) → IsAdvance (entries a) lookup returned after → IsAdvance (entries (with_each f a)) lookup returned after
+  lookup-with_each a lookup after returned is = record {
+    first = is.first ∙ sym (ap (λ es. first_key (ahead lookup es)) (entries-with_each a) ∙ (ap (λ es. first_key es) (ahead-map lookup (entries a)) ∙ first-map (ahead lookup (entries a))));
     moves = is.moves;
   }
 

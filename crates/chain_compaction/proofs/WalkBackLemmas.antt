@@ -11,16 +11,16 @@ use Rattle.chain_links.proofs.ArenaInsertionLemmas.{slots-within}
 
 module _ (link_map : LinkMap) (i steps here : ℕ) (back : IsBack link_map i steps here) where
   -- the steps back and one more are at most the links of a linear chain
-  pub looks_linear : (xs : List ℕ) → IsChain link_map (linear xs) → IsMember xs i → steps + 1 ≤ length xs
-  looks_linear xs h m =
+  pub lookups_linear : (xs : List ℕ) → IsChain link_map (linear xs) → IsMember xs i → steps + 1 ≤ length xs
+  lookups_linear xs h m =
       let b = back.in_linear xs h m in
       let long : length xs ≡ length b.0 + suc (length b.1) = ap length b.2 ∙ length-append b.0 (here ∷ b.1) in
       let few : steps ≤ length b.1 = b.4 in
       omega arith
 
   -- the steps back and one more are at most the links of a cyclic chain
-  pub looks_cyclic : (xs : List ℕ) → IsChain link_map (cyclic (i ∷ xs)) → steps + 1 ≤ length xs + 1
-  looks_cyclic xs h =
+  pub lookups_cyclic : (xs : List ℕ) → IsChain link_map (cyclic (i ∷ xs)) → steps + 1 ≤ length xs + 1
+  lookups_cyclic xs h =
       let b = back.in_cyclic xs h in
       let long : length xs ≡ length b.0 + length b.1 = ap length b.2 ∙ length-append b.0 b.1 in
       let few : steps ≤ length b.1 = b.4 in
@@ -37,5 +37,5 @@ back_within {Gen} {K} {T} number slots i steps here found back = by found.1
         (λ j m. (slots-within (body_interlinks number) slots).within j (chain_valid (link_map_in number slots) c j h m))
 
     by : (IsChain (link_map_in number slots) (linear found.0) × IsMember found.0 i) ⊎ IsChain (link_map_in number slots) (cyclic (i ∷ found.0)) → steps < length slots
-    by (inl h) = omega (arith, looks_linear (link_map_in number slots) i steps here back found.0 h.0 h.1, few (linear found.0) h.0)
-    by (inr h) = let all : length (i ∷ found.0) ≤ length slots = few (cyclic (i ∷ found.0)) h in omega (arith, looks_cyclic (link_map_in number slots) i steps here back found.0 h, all)
+    by (inl h) = omega (arith, lookups_linear (link_map_in number slots) i steps here back found.0 h.0 h.1, few (linear found.0) h.0)
+    by (inr h) = let all : length (i ∷ found.0) ≤ length slots = few (cyclic (i ∷ found.0)) h in omega (arith, lookups_cyclic (link_map_in number slots) i steps here back found.0 h, all)

@@ -15,7 +15,7 @@ use Rattle.chain_links.specs.declared.links.LinkBody.{LinkBody}
 
 -- i is in a linear chain, or a cyclic one is written from it
 abbrev pub HasChainFrom : LinkMap → ℕ → Type 0
-HasChainFrom shown i = (xs : List ℕ) × ((IsChain shown (linear xs) × IsMember xs i) ⊎ IsChain shown (cyclic (i ∷ xs)))
+HasChainFrom reported i = (xs : List ℕ) × ((IsChain reported (linear xs) × IsMember xs i) ⊎ IsChain reported (cyclic (i ∷ xs)))
 
 -- the link with its interlinks renumbered by `to`
 abbrev pub renamed_link : {T : Type 0} → (ℕ → Option ℕ) → LinkView T → LinkView T
@@ -84,7 +84,7 @@ module _ {Gen K T : Type 0} (number : K → Option ℕ) where
     pub chain : IsChain (link_map_in number slots) c
     pub starts : first_or (items c) None ≡ Some start
     pub apart : (j : ℕ) → IsMember (items c) j → IsMember done j → ⊥
-    pub room : length done + length (items c) ≤ length slots
+    pub within_capacity : length done + length (items c) ≤ length slots
 
   module _ {F P : Type 0} (g : F → P → P → F → Type 0) (key : P → ℕ × Gen) where
     -- the chain is numbered after `done`, its interlinks name destinations, and the visitor has
@@ -92,7 +92,7 @@ module _ {Gen K T : Type 0} (number : K → Option ℕ) where
     pub record IsChainNumbered (generation : Gen) (f last : F) (old new : Held Gen (LinkBody K T)) (before after : Arena Gen (LinkBody K T)) (count : ℕ) (done : List ℕ) (c : Chain) : Type 0 where
       pub numbered : AreNumbered new.slots count (done ++ items c)
       pub retied : AreRelinked (λ _. renamed_link (place_from (length done + 1) (items c))) old new (items c)
-      pub shows : ReportsMoves g key (ptr_at (slot_at old.slots)) generation (length done + 1) f (items c) last
+      pub reports : ReportsMoves g key (ptr_at (slot_at old.slots)) generation (length done + 1) f (items c) last
       pub work : IsWork before after 0 (3 * length (items c))
 
     -- a chain that may be numbered from `start`, after `before` links, is numbered, and `count`
@@ -109,5 +109,5 @@ module _ {Gen K T : Type 0} (number : K → Option ℕ) where
       pub counted : count ≡ length indexes
       pub places : (j : ℕ) → destination_at new.slots j ≡ place_in indexes j
       pub renamed : held_view new ≡ renamed_held (place_in indexes) (held_view old)
-      pub shows : ReportsMoves g key (ptr_at (slot_at old.slots)) generation 1 f indexes last
+      pub reports : ReportsMoves g key (ptr_at (slot_at old.slots)) generation 1 f indexes last
       pub work : IsWork before after 0 (length old.slots + 4 * length indexes)

@@ -30,8 +30,8 @@ module _ {Gen K T : Type 0} where
 
 -- the link map after `prev` (`true`) or `next` (`false`) of the link at an index, if any, is set
 abbrev pub with_neighbor : Bool → LinkMap → Option ℕ → Option ℕ → LinkMap
-with_neighbor true shown i named = prev_set shown i named
-with_neighbor false shown i named = next_set shown i named
+with_neighbor true reported i named = prev_set reported i named
+with_neighbor false reported i named = next_set reported i named
 
 -- the indexes of the entries in slots, in ascending order
 abbrev pub indexes_in : {Gen T : Type 0} → List (Option (Gen × T)) → List ℕ

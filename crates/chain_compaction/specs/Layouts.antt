@@ -44,7 +44,7 @@ module _ {F P Gen : Type 0} (g : F → P → P → F → Type 0) (key : P → �
   pub record ReportsAll {T : Type 0} (old : ArenaView Gen T) (links : LinkMap) (generation : Gen) (f last : F) : Type 0 where
     pub indexes : List ℕ
     pub order : IsLeastIndexOrder links indexes
-    pub shows : ReportsMoves (ptr_at (λ i. found i old.entries)) generation 1 f indexes last
+    pub reports : ReportsMoves (ptr_at (λ i. found i old.entries)) generation 1 f indexes last
 
   -- the links of an arena are arranged canonically, with their values and the counter as their
   -- generation
@@ -53,11 +53,11 @@ module _ {F P Gen : Type 0} (g : F → P → P → F → Type 0) (key : P → �
     pub order : IsLeastIndexOrder (link_map old) indexes
     pub renamed : IsRenaming (place_in indexes) (link_map old) (link_map new)
     pub values : List T
-    pub stood : map (λ t. Some t) values ≡ map (λ i. option_map (λ e. e.1) (entry old i)) indexes
+    pub was_stored : map (λ t. Some t) values ≡ map (λ i. option_map (λ e. e.1) (entry old i)) indexes
     pub touches : ℕ
     pub few : touches ≤ 4 * length old.slots + 12 * length indexes
     pub arena : values_of new ≡ record (gathered (values_of old) values) { touched = old.touched + touches }
-    pub shows : ReportsMoves (ptr_at (entry old)) old.counter 1 f indexes last
+    pub reports : ReportsMoves (ptr_at (entry old)) old.counter 1 f indexes last
 
 -- a pair is appended if there is spare capacity
 pub record IsPairListed {P A : Type 0} (old : Vec (P × P) A) (from to : P) (new : Vec (P × P) A) : Type 0 where

@@ -11,13 +11,13 @@ use Rattle.chain_links.specs.declared.links.LinkBody.{LinkBody}
 module _ {E : Type 0} where
   -- the entry e is at i, and waits for d
   pub record Waits (goal : E → Option ℕ) (now : ℕ → Option E) (i : ℕ) (e : E) (d : ℕ) : Type 0 where
-    pub stands : now i ≡ Some e
+    pub stored : now i ≡ Some e
     pub to : goal e ≡ Some d
 
   -- what the entry e has become is at d
   pub record IsSettledAt (Settles : E → E → Type 0) (now : ℕ → Option E) (d : ℕ) (e : E) : Type 0 where
     pub entry : E
-    pub stands : now d ≡ Some entry
+    pub stored : now d ≡ Some entry
     pub settled : Settles e entry
 
   -- the entry e, now at j, waits for the slot that it waited for at first
@@ -115,7 +115,7 @@ module _ {Gen K T : Type 0} where
 module _ {Gen T : Type 0} where
   -- the work: one placement and one touch for each entry that no longer waits, and some more
   -- touches
-  pub record IsWorkOn (old new : Arena Gen T) (waited wait looks : ℕ) : Type 0 where
+  pub record IsWorkOn (old new : Arena Gen T) (waited wait lookups : ℕ) : Type 0 where
     pub moved : ℕ
-    pub arena : new ≡ with_totals old moved (moved + looks)
+    pub arena : new ≡ with_totals old moved (moved + lookups)
     pub count : wait + moved ≡ waited

@@ -32,7 +32,7 @@ ArePointerMoves key = AreMoved (λ m. key m.0) (λ m. key m.1) (λ m t u. t ≡ 
 
 -- the entries of the view are the given ones
 abbrev pub FindsEntries : {Gen T : Type 0} → ArenaView Gen T → (ℕ → Option (Gen × T)) → Type 0
-FindsEntries seen entry = (i : ℕ) → found i seen.entries ≡ entry i
+FindsEntries view_after entry = (i : ℕ) → found i view_after.entries ≡ entry i
 
 -- links are exactly where entries are
 abbrev pub HasLinksWhere : {Gen T : Type 0} → LinkMap → (ℕ → Option (Gen × T)) → Type 0

@@ -8,9 +8,9 @@ ghost use Rattle.chain_compaction.specs.DetachedLinks.{link_map_in, IsWork};
 ghost use Rattle.chain_compaction.specs.WorkCounts.{CountsOn};
 ghost use Rattle.chain_compaction.specs.Destinations.{HasChainFrom, number_after, destination_at, IsRingClosed, CanNumber, NumbersFrom, AreAllNumbered};
 
-use crate::slot_access::{look_at, tie_at};
+use crate::slot_access::{read_link, relink_at};
 use crate::visitor::Visitor;
-use arena_base::{ArenaSlot, Compactor, SlotAccess, excluded, inx_at};
+use arena_base::{ArenaSlot, Compactor, SlotAccess, inx_at, proved_unreachable};
 use arena_ptr::{InxKey, PtrKey, SlotStack};
 use chain_links::walk_direction::going_on;
 use chain_links::{LinkNoGen, link_access};
@@ -41,7 +41,7 @@ fn start_at<P: PtrKey, T: Drop, S: SlotStack<Item = ArenaSlot<P, LinkNoGen<P, T>
 {
     let mut at = i;
     for step in 0..compactor.slots() {
-        let (_, before, _, _) = look_at(compactor, at);
+        let (_, before, _, _) = read_link(compactor, at);
         match before {
             Some(k) => {
                 if k.is_same(i) {
@@ -52,7 +52,7 @@ fn start_at<P: PtrKey, T: Drop, S: SlotStack<Item = ArenaSlot<P, LinkNoGen<P, T>
             None => return at,
         }
     }
-    excluded!()
+    proved_unreachable!()
 }
 
 // Returns the destination of the link after the one just numbered, where `before` links precede the
@@ -138,15 +138,15 @@ fn number_chain<
     while let Some(i) = on {
         let destination = inx_at::<P>(count);
         count += 1;
-        let (was, _, next, _) = look_at(compactor, i);
+        let (was, _, next, _) = read_link(compactor, i);
         named = next;
         on = going_on(start, next);
         let after = after_it::<P>(on, next, before, count);
-        tie_at(compactor, i, prev, after, destination);
+        relink_at(compactor, i, prev, after, destination);
         prev = Some(destination);
         match was {
             Some(was) => visitor.visit(P::_from_raw(i, was), P::_from_raw(destination, generation)),
-            None => excluded!(),
+            None => proved_unreachable!(),
         }
     }
     close_ring(compactor, start, named, prev);
@@ -184,7 +184,7 @@ pub fn number_all<
     let mut count = 0;
     for k in 0..compactor.slots() {
         let i = inx_at::<P>(k);
-        let (was, _, _, destination) = look_at(compactor, i);
+        let (was, _, _, destination) = read_link(compactor, i);
         match was {
             Some(_) => {}
             None => continue,
@@ -194,8 +194,8 @@ pub fn number_all<
             None => {}
         }
         let start = start_at(compactor, i);
-        let (shown, numbered) = number_chain(compactor, start, count, generation, visitor);
-        visitor = shown;
+        let (reported, numbered) = number_chain(compactor, start, count, generation, visitor);
+        visitor = reported;
         count = numbered;
     }
     (visitor, count)

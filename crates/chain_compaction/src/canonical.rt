@@ -23,7 +23,8 @@ pub fn empty_all<P: PtrKey, T: Drop, S: SlotStack<Item = ArenaSlot<P, LinkNoGen<
 )
     requires fits { length compactor.old.held.slots ≤ P.Inx.greatest }
     ensures same_reference { compactor.new.arena.ghost_name ≡ compactor.old.arena.ghost_name }
-    ensures seen { held_view P.Inx.packed_number compactor.new.held ≡ held_view P.Inx.packed_number
+    ensures view_after { held_view P.Inx.packed_number compactor.new.held
+        ≡ held_view P.Inx.packed_number
         compactor.old.held }
     ensures empty { (j : ℕ) → destination_at P.Inx.packed_number compactor.new.held.slots j ≡ None }
     ensures totals { compactor.new.arena.now ≡ with_totals compactor.old.arena.now 0
@@ -41,7 +42,7 @@ pub fn empty_all<P: PtrKey, T: Drop, S: SlotStack<Item = ArenaSlot<P, LinkNoGen<
 /// Each link is moved to its destination, names the destinations of its neighbors, and gets the
 /// counter as its generation. The visitor sees each link's old and new pointer, and is then ready
 /// for others. Afterwards every slot is occupied.
-pub fn lay_out<
+pub fn arrange<
     P: PtrKey,
     T: Drop,
     S: SlotStack<Item = ArenaSlot<P, LinkNoGen<P, T>>>,
@@ -50,7 +51,7 @@ pub fn lay_out<
     requires ready { V.is_ready visitor }
     requires agree { IsWellLinked (link_map (links_view P.Inx.packed_number arena.old)) }
     ensures ready { V.is_ready result.0 }
-    ensures laid { AreArranged V.sees P.key visitor result.0
+    ensures arranged { AreArranged V.sees P.key visitor result.0
         (links_view P.Inx.packed_number arena.old) (links_view P.Inx.packed_number arena.new) }
     ensures placed { arena.new.placed ≡ arena.old.placed + result.1.placed }
     ensures touched { arena.new.touched ≡ arena.old.touched + result.1.touched }

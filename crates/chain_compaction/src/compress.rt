@@ -17,8 +17,8 @@ ghost use Rattle.chain_compaction.specs.DetachedLinks.{held_values, link_map_in,
 ghost use Rattle.chain_compaction.specs.CompressionSteps.{IsLinkMove, IsClosingWork};
 ghost use Rattle.chain_compaction.specs.LinkCompressions.{AreGathered};
 
-use crate::slot_access::look_at;
-use arena_base::{Arena, ArenaSlot, ArenaTrait, Compactor, SlotAccess, excluded, inx_at};
+use crate::slot_access::read_link;
+use arena_base::{Arena, ArenaSlot, ArenaTrait, Compactor, SlotAccess, inx_at, proved_unreachable};
 use arena_ptr::{GenKey, InvalidationOption, InxKey, PtrKey, SlotStack};
 use chain_links::{LinkNoGen, link_access};
 
@@ -34,7 +34,7 @@ fn index_now<I: InxKey>(named: Option<I>, from: I, to: I) -> Option<I>
 }
 
 // Sets `prev` (if `before`) or else `next` of the link at `i`, if any, to `named`.
-fn tell<P: PtrKey, T: Drop, S: SlotStack<Item = ArenaSlot<P, LinkNoGen<P, T>>>>(
+fn set_neighbor<P: PtrKey, T: Drop, S: SlotStack<Item = ArenaSlot<P, LinkNoGen<P, T>>>>(
     compactor: &mut Compactor<'_, P, LinkNoGen<P, T>, S>,
     i: Option<P::Inx>,
     before: bool,
@@ -42,7 +42,7 @@ fn tell<P: PtrKey, T: Drop, S: SlotStack<Item = ArenaSlot<P, LinkNoGen<P, T>>>>(
 )
     ensures same_reference { compactor.new.arena.ghost_name ≡ compactor.old.arena.ghost_name }
     ensures values { held_values compactor.new.held ≡ held_values compactor.old.held }
-    ensures shows { link_map_in P.Inx.packed_number compactor.new.held.slots
+    ensures reports { link_map_in P.Inx.packed_number compactor.new.held.slots
         ≡ with_neighbor before (link_map_in P.Inx.packed_number compactor.old.held.slots)
         (option_map P.Inx.number i) (Some (P.Inx.number named)) }
     ensures work { IsWork compactor.old.arena.now compactor.new.arena.now 0 1 }
@@ -73,7 +73,7 @@ fn move_link<P: PtrKey, T: Drop, S: SlotStack<Item = ArenaSlot<P, LinkNoGen<P, T
     requires free { P.Inx.number to ≢ P.Inx.number from
         → slot_at compactor.old.held.slots (P.Inx.number to) ≡ None }
     ensures same_reference { compactor.new.arena.ghost_name ≡ compactor.old.arena.ghost_name }
-    ensures answer { result ≡ option_map (λ e. e.0)
+    ensures returned { result ≡ option_map (λ e. e.0)
         (slot_at compactor.old.held.slots (P.Inx.number from)) }
     ensures values { OnSome result (held_values compactor.new.held ≡ with_placed_entry
         (held_values compactor.old.held) (P.Inx.number from) (P.Inx.number to) generation) }
@@ -85,21 +85,21 @@ fn move_link<P: PtrKey, T: Drop, S: SlotStack<Item = ArenaSlot<P, LinkNoGen<P, T
     ensures none { IfNone result ((compactor.new.held ≡ compactor.old.held)
         × (compactor.new.arena.now ≡ with_touch compactor.old.arena.now)) }
 {
-    let (was, prev, next, _) = look_at(compactor, from);
+    let (was, prev, next, _) = read_link(compactor, from);
     let was = match was {
         Some(was) => was,
         None => return None,
     };
     compactor.bring(from, to, generation);
-    tell(compactor, index_now(prev, from, to), false, to);
-    tell(compactor, index_now(next, from, to), true, to);
+    set_neighbor(compactor, index_now(prev, from, to), false, to);
+    set_neighbor(compactor, index_now(next, from, to), true, to);
     Some(was)
 }
 
 // Moves each link, by ascending index, to the first free index, sets its generation, and updates
 // its neighbors. Calls the closure with the old pointer, the value by mutable reference, and the
 // new pointer. Returns the number of links, which then occupy the first slots.
-fn close_gaps<
+fn compact_links<
     P: PtrKey,
     T: Drop,
     S: SlotStack<Item = ArenaSlot<P, LinkNoGen<P, T>>>,
@@ -136,7 +136,7 @@ fn close_gaps<
                 &mut link.t,
                 P::_from_raw(to, generation),
             ),
-            None => excluded!(),
+            None => proved_unreachable!(),
         }
     }
     count
@@ -184,6 +184,6 @@ pub fn gather<
     arena.invariants();
     let generation = arena.generation();
     let mut compactor = arena.compactor();
-    let count = close_gaps(&mut compactor, generation, map);
+    let count = compact_links(&mut compactor, generation, map);
     compactor.finish_packed(count);
 }

@@ -17,7 +17,7 @@ fn take_at<P: PtrKey, T: Drop, S: SlotStack<Item = ArenaSlot<P, LinkNoGen<P, T>>
     i: P::Inx,
 ) -> Option<P::Inx>
     ensures same_reference { compactor.new.arena.ghost_name ≡ compactor.old.arena.ghost_name }
-    ensures answer { option_map P.Inx.number result ≡ option_and_then
+    ensures returned { option_map P.Inx.number result ≡ option_and_then
         (destination_of P.Inx.packed_number)
         (slot_at compactor.old.held.slots (P.Inx.number i)) }
     ensures taken { OnSome result

@@ -14,7 +14,7 @@ use arena_ptr::{InxKey, PtrKey, SlotStack};
 use chain_links::{LinkNoGen, link_access};
 
 // Returns the generation, `prev`, `next` and destination of the link at `i`, if any.
-pub(crate) fn look_at<P: PtrKey, T: Drop, S: SlotStack<Item = ArenaSlot<P, LinkNoGen<P, T>>>>(
+pub(crate) fn read_link<P: PtrKey, T: Drop, S: SlotStack<Item = ArenaSlot<P, LinkNoGen<P, T>>>>(
     compactor: &mut Compactor<'_, P, LinkNoGen<P, T>, S>,
     i: P::Inx,
 ) -> (
@@ -23,7 +23,7 @@ pub(crate) fn look_at<P: PtrKey, T: Drop, S: SlotStack<Item = ArenaSlot<P, LinkN
     Option<P::Inx>,
     Option<P::Inx>,
 )
-    ensures looked { HasReadSlot compactor.old compactor.new }
+    ensures was_read { HasReadSlot compactor.old compactor.new }
     ensures generation { result.0 ≡ option_map (λ e. e.0)
         (slot_at compactor.old.held.slots (P.Inx.number i)) }
     ensures prev { option_map P.Inx.number result.1 ≡ prev_of
@@ -64,7 +64,7 @@ pub(crate) fn direct_at<P: PtrKey, T: Drop, S: SlotStack<Item = ArenaSlot<P, Lin
 }
 
 // Sets `prev`, `next` and the destination of the link at `i`, if any.
-pub(crate) fn tie_at<P: PtrKey, T: Drop, S: SlotStack<Item = ArenaSlot<P, LinkNoGen<P, T>>>>(
+pub(crate) fn relink_at<P: PtrKey, T: Drop, S: SlotStack<Item = ArenaSlot<P, LinkNoGen<P, T>>>>(
     compactor: &mut Compactor<'_, P, LinkNoGen<P, T>, S>,
     i: P::Inx,
     prev: Option<P::Inx>,
@@ -72,7 +72,8 @@ pub(crate) fn tie_at<P: PtrKey, T: Drop, S: SlotStack<Item = ArenaSlot<P, LinkNo
     destination: P::Inx,
 )
     ensures same_reference { compactor.new.arena.ghost_name ≡ compactor.old.arena.ghost_name }
-    ensures tied { IsRelinkedAt P.Inx.packed_number (P.Inx.number i) (option_map P.Inx.number prev)
+    ensures relinked { IsRelinkedAt P.Inx.packed_number (P.Inx.number i)
+        (option_map P.Inx.number prev)
         (option_map P.Inx.number next) (Some (P.Inx.number destination))
         compactor.old.held compactor.new.held }
     ensures arena { compactor.new.arena.now ≡ with_touch compactor.old.arena.now }

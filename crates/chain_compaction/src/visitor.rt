@@ -15,6 +15,6 @@ pub trait Visitor<P: PtrKey>: Drop {
     /// Visits a link, given its old and its new pointer.
     fn visit(&mut self, from: P, to: P)
         requires { is_ready self.old }
-        ensures seen { sees self.old from to self.new }
+        ensures view_after { sees self.old from to self.new }
         ensures ready { is_ready self.new };
 }

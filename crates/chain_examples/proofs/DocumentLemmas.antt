@@ -6,7 +6,7 @@ use Rattle.std.proofs.lemmas.List.{map-append, reverse-append}
 use Rattle.chain_laws.specs.Chains.{LinkMap, linear, IsChain, IsMember, AreDistinct, IsWellLinked, next_of, prev_of, next_in, prev_in, first_or, last_or}
 use Rattle.chain_laws.specs.Cuts.{Cuts}
 use Rattle.chain_laws.specs.Joins.{Connects}
-use Rattle.chain_laws.proofs.ChainLemmas.MemberLaws.{places_in_a_line, neighbors_stand_together}
+use Rattle.chain_laws.proofs.ChainLemmas.MemberLaws.{places_in_a_line, neighbors_share_a_chain}
 use Rattle.chain_laws.proofs.ChainLemmas.Frame.{cut_keeps_others}
 use Rattle.chain_laws.proofs.ListLemmas.MemberLaws.{once_in_middle}
 use Rattle.chain_laws.proofs.ListLemmas.Members.{last_or-append, IsMember-left, IsMember-right, IsMember-parts}
@@ -16,7 +16,7 @@ use Rattle.arena_base.specs.Entries.{index_of, first_key, last_key}
 use Rattle.chain_links.specs.ChainArena.{CanConnect, ptr_at}
 use Rattle.chain_examples.specs.Lists.{Item, AreEntries, indexes, IsText, KeepsWithout}
 use Rattle.chain_examples.specs.Texts.{EndsIn, BeginsWith, AreJoined}
-use Rattle.chain_examples.proofs.ItemListLemmas.{stand-append, stand-left, stand-right}
+use Rattle.chain_examples.proofs.ItemListLemmas.{are_stored-append, are_stored-left, are_stored-right}
 use Rattle.chain_examples.proofs.ListChangeLemmas.{parts, whole, stays}
 
 module _ {Gen T : Type 0} where
@@ -52,8 +52,8 @@ module _ {Gen T : Type 0} where
 
 module _ {A Gen T : Type 0} (entry : A → ℕ → Option (Gen × T)) (links : A → LinkMap) where
   -- The pointer `o`, if any, occurs only in texts that contain `p`.
-  abbrev pub StandsWith : A → ℕ × Gen → Option (ℕ × Gen) → Type 0
-  StandsWith a p o = IfSome o (λ k. (xs : List (Item Gen T)) → IsText entry links a xs → IsMember (indexes xs) k.0 → IsMember (indexes xs) p.0)
+  abbrev pub StoredWith : A → ℕ × Gen → Option (ℕ × Gen) → Type 0
+  StoredWith a p o = IfSome o (λ k. (xs : List (Item Gen T)) → IsText entry links a xs → IsMember (indexes xs) k.0 → IsMember (indexes xs) p.0)
 
   -- The last index of a list that ends with `u`.
   last_index : (xs : List (Item Gen T)) (u : Item Gen T) → last_or (indexes (xs ++ u ∷ [])) None ≡ Some u.0.0
@@ -61,26 +61,26 @@ module _ {A Gen T : Type 0} (entry : A → ℕ → Option (Gen × T)) (links : A
 
   module _ (a : A) (p : ℕ × Gen) (t : T) (before after : List (Item Gen T)) (is : IsText entry links a (before ++ (p, t) ∷ after)) where
     pub in_a_text : IsValid (entry a) p
-    in_a_text = record { value = t; stands = (stand-right (entry a) before ((p, t) ∷ after) is.stand).0 }
+    in_a_text = record { value = t; stored = (are_stored-right (entry a) before ((p, t) ∷ after) is.are_stored).0 }
 
     -- The interlinks of `p` name the items beside it.
     place : links a p.0 ≡ Some (record { prev = last_or (indexes before) None; next = first_or (indexes after) None })
     place = places_in_a_line (links a) (indexes before) (indexes after) p.0 (parts entry links linear (λ xs. refl) a before ((p, t) ∷ after) is.chain)
 
-    pub goes_on : option_and_then (ptr_at (entry a)) (next_of (links a) p.0) ≡ first_key after
-    goes_on = ap (λ o. option_and_then (ptr_at (entry a)) (next_in o)) place ∙ key_of after (stand-right (entry a) before ((p, t) ∷ after) is.stand).1
+    pub continues : option_and_then (ptr_at (entry a)) (next_of (links a) p.0) ≡ first_key after
+    continues = ap (λ o. option_and_then (ptr_at (entry a)) (next_in o)) place ∙ key_of after (are_stored-right (entry a) before ((p, t) ∷ after) is.are_stored).1
       where
         key_of : (es : List (Item Gen T)) → AreEntries (entry a) es → option_and_then (ptr_at (entry a)) (first_or (indexes es) None) ≡ first_key es
         key_of [] s = refl
         key_of (e ∷ es) s = ap (option_map (λ (x : Gen × T). (e.0.0, x.0))) s.0
 
     pub comes_from : option_and_then (ptr_at (entry a)) (prev_of (links a) p.0) ≡ last_key before
-    comes_from = ap (λ o. option_and_then (ptr_at (entry a)) (prev_in o)) place ∙ key_of before (stand-left (entry a) before ((p, t) ∷ after) is.stand)
+    comes_from = ap (λ o. option_and_then (ptr_at (entry a)) (prev_in o)) place ∙ key_of before (are_stored-left (entry a) before ((p, t) ∷ after) is.are_stored)
       where
         at_end : (es : List (Item Gen T)) (e : Item Gen T) → AreEntries (entry a) (es ++ e ∷ []) → option_and_then (ptr_at (entry a)) (last_or (indexes (es ++ e ∷ [])) None) ≡ last_key (es ++ e ∷ [])
         at_end es e s =
             ap (option_and_then (ptr_at (entry a))) (last_index es e)
-            ∙ (ap (option_map (λ (x : Gen × T). (e.0.0, x.0))) (stand-right (entry a) es (e ∷ []) s).0 ∙ sym (last_is es e))
+            ∙ (ap (option_map (λ (x : Gen × T). (e.0.0, x.0))) (are_stored-right (entry a) es (e ∷ []) s).0 ∙ sym (last_is es e))
 
         key_of : (es : List (Item Gen T)) → AreEntries (entry a) es → option_and_then (ptr_at (entry a)) (last_or (indexes es) None) ≡ last_key es
         key_of [] s = refl
@@ -90,21 +90,21 @@ module _ {A Gen T : Type 0} (entry : A → ℕ → Option (Gen × T)) (links : A
 
   -- A neighbor of `p` occurs only in texts that contain `p`.
   beside : (a : A) (p : ℕ × Gen) (o : Option ℕ) → ((j : ℕ) → o ≡ Some j → (xs : List (Item Gen T)) → IsText entry links a xs → IsMember (indexes xs) j → IsMember (indexes xs) p.0)
-      → StandsWith a p (option_and_then (ptr_at (entry a)) o)
+      → StoredWith a p (option_and_then (ptr_at (entry a)) o)
   beside a p None together = tt
   beside a p (Some j) together = by (entry a j)
     where
-      by : (e : Option (Gen × T)) → StandsWith a p (option_map (λ (x : Gen × T). (j, x.0)) e)
+      by : (e : Option (Gen × T)) → StoredWith a p (option_map (λ (x : Gen × T). (j, x.0)) e)
       by None = tt
       by (Some x) = together j refl
 
-  pub with_next : (a : A) (p : ℕ × Gen) (o : Option (ℕ × Gen)) → IsWellLinked (links a) → o ≡ option_and_then (ptr_at (entry a)) (next_of (links a) p.0) → StandsWith a p o
-  with_next a p o agrees is = subst (StandsWith a p) (sym is)
-      (beside a p (next_of (links a) p.0) (λ j next xs text. (neighbors_stand_together (links a) (linear (indexes xs)) p.0 j agrees next text.chain).1))
+  pub with_next : (a : A) (p : ℕ × Gen) (o : Option (ℕ × Gen)) → IsWellLinked (links a) → o ≡ option_and_then (ptr_at (entry a)) (next_of (links a) p.0) → StoredWith a p o
+  with_next a p o agrees is = subst (StoredWith a p) (sym is)
+      (beside a p (next_of (links a) p.0) (λ j next xs text. (neighbors_share_a_chain (links a) (linear (indexes xs)) p.0 j agrees next text.chain).1))
 
-  pub with_prev : (a : A) (p : ℕ × Gen) (o : Option (ℕ × Gen)) → IsWellLinked (links a) → o ≡ option_and_then (ptr_at (entry a)) (prev_of (links a) p.0) → StandsWith a p o
-  with_prev a p o agrees is = subst (StandsWith a p) (sym is)
-      (beside a p (prev_of (links a) p.0) (λ j prev xs text. (neighbors_stand_together (links a) (linear (indexes xs)) j p.0 agrees ((agrees.both j p.0).1 prev) text.chain).0))
+  pub with_prev : (a : A) (p : ℕ × Gen) (o : Option (ℕ × Gen)) → IsWellLinked (links a) → o ≡ option_and_then (ptr_at (entry a)) (prev_of (links a) p.0) → StoredWith a p o
+  with_prev a p o agrees is = subst (StoredWith a p) (sym is)
+      (beside a p (prev_of (links a) p.0) (λ j prev xs text. (neighbors_share_a_chain (links a) (linear (indexes xs)) j p.0 agrees ((agrees.both j p.0).1 prev) text.chain).0))
 
   -- Any item but the first has a previous one.
   comes_before : (a : A) (p : ℕ × Gen) (t : T) (e : Item Gen T) (es after : List (Item Gen T)) → IsText entry links a ((e ∷ es) ++ (p, t) ∷ after) → (k : ℕ) × (prev_of (links a) p.0 ≡ Some k)
@@ -133,8 +133,8 @@ module _ {A Gen T : Type 0} (entry : A → ℕ → Option (Gen × T)) (links : A
     ends_in (broken b next cuts same) t before (f ∷ fs) is =
         let b_is : b ≡ f.0.0 = one_some (sym next ∙ ap next_in (place old p t before (f ∷ fs) is)) in
         let two = (subst (λ (j : ℕ). Cuts (links old) (links new) p.0 j) b_is cuts).two (indexes before) (indexes fs) (parts entry links linear (λ xs. refl) old before ((p, t) ∷ f ∷ fs) is.chain) in
-        let right = stand-right (entry old) before ((p, t) ∷ f ∷ fs) is.stand in (
-          stays entry links linear (λ xs. refl) old new same (before ++ (p, t) ∷ []) (stand-append (entry old) before ((p, t) ∷ []) (stand-left (entry old) before ((p, t) ∷ f ∷ fs) is.stand) (right.0, tt))
+        let right = are_stored-right (entry old) before ((p, t) ∷ f ∷ fs) is.are_stored in (
+          stays entry links linear (λ xs. refl) old new same (before ++ (p, t) ∷ []) (are_stored-append (entry old) before ((p, t) ∷ []) (are_stored-left (entry old) before ((p, t) ∷ f ∷ fs) is.are_stored) (right.0, tt))
               (whole entry links linear (λ xs. refl) new before ((p, t) ∷ []) two.0),
           λ something. stays entry links linear (λ xs. refl) old new same (f ∷ fs) right.1 two.1,
         )
@@ -143,7 +143,7 @@ module _ {A Gen T : Type 0} (entry : A → ℕ → Option (Gen × T)) (links : A
     pub keeps_ended : IsWellLinked (links old) → Breaks old new p (next_of (links old) p.0) (λ b. Cuts (links old) (links new) p.0 b) → KeepsWithout entry links linear old new (p ∷ [])
     keeps_ended agrees (unbroken none stay) xs lacks is = subst (λ (a : A). IsText entry links a xs) (sym stay) is
     keeps_ended agrees (broken b next cuts same) xs lacks is =
-        stays entry links linear (λ xs. refl) old new same xs is.stand (cut_keeps_others (links old) (links new) p.0 b agrees next cuts (linear (indexes xs)) (inl lacks.0) is.chain)
+        stays entry links linear (λ xs. refl) old new same xs is.are_stored (cut_keeps_others (links old) (links new) p.0 b agrees next cuts (linear (indexes xs)) (inl lacks.0) is.chain)
 
     -- A break before `p` makes its text begin with `p`.
     pub begins_with : Breaks old new p (prev_of (links old) p.0) (λ a. Cuts (links old) (links new) a p.0) → BeginsWith entry links old new p
@@ -160,16 +160,16 @@ module _ {A Gen T : Type 0} (entry : A → ℕ → Option (Gen × T)) (links : A
             let a_is : a ≡ u.0.0 = one_some (sym prev ∙ (ap prev_in (place old p t (xs ++ u ∷ []) after is) ∙ last_index xs u)) in
             let as_one = subst (IsText entry links old) (append_assoc xs (u ∷ []) ((p, t) ∷ after)) is in
             let two = (subst (λ (j : ℕ). Cuts (links old) (links new) j p.0) a_is cuts).two (indexes xs) (indexes after) (parts entry links linear (λ xs. refl) old xs (u ∷ (p, t) ∷ after) as_one.chain) in
-            let right = stand-right (entry old) xs (u ∷ (p, t) ∷ after) as_one.stand in (
+            let right = are_stored-right (entry old) xs (u ∷ (p, t) ∷ after) as_one.are_stored in (
               stays entry links linear (λ xs. refl) old new same ((p, t) ∷ after) right.1 two.1,
-              stays entry links linear (λ xs. refl) old new same (xs ++ u ∷ []) (stand-append (entry old) xs (u ∷ []) (stand-left (entry old) xs (u ∷ (p, t) ∷ after) as_one.stand) (right.0, tt))
+              stays entry links linear (λ xs. refl) old new same (xs ++ u ∷ []) (are_stored-append (entry old) xs (u ∷ []) (are_stored-left (entry old) xs (u ∷ (p, t) ∷ after) as_one.are_stored) (right.0, tt))
                   (whole entry links linear (λ xs. refl) new xs (u ∷ []) two.0),
             )
 
     -- A break before `p` keeps every text without `p`.
     pub keeps_begun : IsWellLinked (links old) → Breaks old new p (prev_of (links old) p.0) (λ a. Cuts (links old) (links new) a p.0) → KeepsWithout entry links linear old new (p ∷ [])
     keeps_begun agrees (unbroken none stay) xs lacks is = subst (λ (a : A). IsText entry links a xs) (sym stay) is
-    keeps_begun agrees (broken a prev cuts same) xs lacks is = stays entry links linear (λ xs. refl) old new same xs is.stand
+    keeps_begun agrees (broken a prev cuts same) xs lacks is = stays entry links linear (λ xs. refl) old new same xs is.are_stored
         (cut_keeps_others (links old) (links new) a p.0 agrees ((agrees.both a p.0).1 prev) cuts (linear (indexes xs)) (inr lacks.0) is.chain)
 
   module _ (old new : A) (p q : ℕ × Gen) where
@@ -194,7 +194,7 @@ module _ {A Gen T : Type 0} (entry : A → ℕ → Option (Gen × T)) (links : A
               let parted = map-append index_of before ((p, s) ∷ []) in
               let chain = connects.two (indexes before) (indexes after) (parts entry links linear (λ xs. refl) old before ((p, s) ∷ []) first.chain) second.chain (λ has. two_texts (subst (λ (l : List ℕ). IsMember l q.0) (sym parted) has)) in
               stays entry links linear (λ xs. refl) old new same (before ++ (p, s) ∷ (q, t) ∷ after)
-              (subst (AreEntries (entry old)) (append_assoc before ((p, s) ∷ []) ((q, t) ∷ after)) (stand-append (entry old) (before ++ (p, s) ∷ []) ((q, t) ∷ after) first.stand second.stand))
+              (subst (AreEntries (entry old)) (append_assoc before ((p, s) ∷ []) ((q, t) ∷ after)) (are_stored-append (entry old) (before ++ (p, s) ∷ []) ((q, t) ∷ after) first.are_stored second.are_stored))
               (whole entry links linear (λ xs. refl) new before ((p, s) ∷ (q, t) ∷ after) (subst (λ (l : List ℕ). IsChain (links new) (linear l)) (append_assoc (indexes before) (p.0 ∷ []) (q.0 ∷ indexes after)) chain))
 
       -- A join keeps every text without `p` and `q`.
@@ -203,4 +203,4 @@ module _ {A Gen T : Type 0} (entry : A → ℕ → Option (Gen × T)) (links : A
         where
           by : (o : Option R) → OnSome o (Connects (links old) (links new) p.0 q.0) → OnSome o (entry new ≡ entry old) → IfNone o (new ≡ old) → IsText entry links new xs
           by None connects same none = subst (λ (a : A). IsText entry links a xs) (sym none) is
-          by (Some x) connects same none = stays entry links linear (λ xs. refl) old new same xs is.stand ((connects.rest (linear (indexes xs)) lacks.0 lacks.1.0).0 is.chain)
+          by (Some x) connects same none = stays entry links linear (λ xs. refl) old new same xs is.are_stored ((connects.rest (linear (indexes xs)) lacks.0 lacks.1.0).0 is.chain)

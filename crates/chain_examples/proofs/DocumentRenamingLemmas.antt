@@ -44,17 +44,17 @@ module _ {Gen T : Type 0} (entry : ℕ → Option (Gen × T)) (to : ℕ → Opti
 module _ {Gen T : Type 0} (before after : ℕ → Option (Gen × T)) (moves : List (Move Gen)) (moved : ArePointerMoves (λ (p : ℕ × Gen). p) before after moves) (to : ℕ → Option ℕ) (go : All (λ (m : Move Gen). to m.0.0 ≡ Some m.1.0) moves) where
   -- Stored items are moved to stored items at the images of their indexes.
   items_move : (text : List (Item Gen T)) → AreEntries before text → (items : List (Item Gen T)) × AreMovedTo moves text items × AreImages to (indexes text) (indexes items) × AreEntries after items
-  items_move [] stand = ([], tt, tt, tt)
-  items_move (e ∷ text) stand =
-      let rest = items_move text stand.1 in
-      let m = map_has_of (λ (m : Move Gen). m.0) moves e.0 (moved.old e.0 (record { value = e.1; stands = stand.0 })) in
+  items_move [] are_stored = ([], tt, tt, tt)
+  items_move (e ∷ text) are_stored =
+      let rest = items_move text are_stored.1 in
+      let m = map_has_of (λ (m : Move Gen). m.0) moves e.0 (moved.old e.0 (record { value = e.1; stored = are_stored.0 })) in
       let values = move_keeps (λ (p : ℕ × Gen). p) before after moves m.0 moved m.1 in
-      let both : ◌≡◌ {A = Option (Gen × T)} (Some (m.0.0.1, values.0.value)) (Some (e.0.1, e.1)) = sym values.0.stands ∙ (ap (λ (p : ℕ × Gen). before p.0) m.2 ∙ stand.0) in
+      let both : ◌≡◌ {A = Option (Gen × T)} (Some (m.0.0.1, values.0.value)) (Some (e.0.1, e.1)) = sym values.0.stored ∙ (ap (λ (p : ℕ × Gen). before p.0) m.2 ∙ are_stored.0) in
       let pairs : ◌≡◌ {A = Gen × T} (m.0.0.1, values.0.value) (e.0.1, e.1) = cc in (
         (m.0.1, values.1.value) ∷ rest.0,
         (subst (λ (p : ℕ × Gen). Contains moves (p, m.0.1)) m.2 m.1, sym (ap (λ (x : Gen × T). x.1) pairs) ∙ values.2, rest.1),
         (ap (λ (p : ℕ × Gen). to p.0) (sym m.2) ∙ All-contains (λ (n : Move Gen). to n.0.0 ≡ Some n.1.0) moves m.0 go m.1, rest.2),
-        (values.1.stands, rest.3),
+        (values.1.stored, rest.3),
       )
 
 -- If links are renamed and entries move with them, each text keeps its items.
@@ -62,5 +62,5 @@ pub texts_move : {A Gen T : Type 0} (entry : A → ℕ → Option (Gen × T)) (l
     → All (λ (m : Move Gen). to m.0.0 ≡ Some m.1.0) moves → IsRenaming to (links old) (links new) → (text : List (Item Gen T)) → IsText entry links old text
     → (after : List (Item Gen T)) × AreMovedTo moves text after × IsText entry links new after
 texts_move entry links old new moves to moved go renaming text is =
-    let items = items_move (entry old) (entry new) moves moved to go text is.stand in
-    (items.0, items.1, record { chain = renaming_carries_chains to (links old) (links new) (linear (indexes text)) (linear (indexes items.0)) renaming is.chain items.2; stand = items.3 })
+    let items = items_move (entry old) (entry new) moves moved to go text is.are_stored in
+    (items.0, items.1, record { chain = renaming_carries_chains to (links old) (links new) (linear (indexes text)) (linear (indexes items.0)) renaming is.chain items.2; are_stored = items.3 })

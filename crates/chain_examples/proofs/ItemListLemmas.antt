@@ -8,28 +8,28 @@ use Rattle.arena_base.specs.Entries.{index_of, found, RisesFrom}
 use Rattle.chain_examples.specs.Lists.{Item, AreEntries, indexes}
 
 module _ {Gen T : Type 0} where
-  pub stand-append : (entry : ℕ → Option (Gen × T)) (xs ys : List (Item Gen T)) → AreEntries entry xs → AreEntries entry ys → AreEntries entry (xs ++ ys)
-  stand-append entry [] ys a b = b
-  stand-append entry (x ∷ xs) ys a b = (a.0, stand-append entry xs ys a.1 b)
+  pub are_stored-append : (entry : ℕ → Option (Gen × T)) (xs ys : List (Item Gen T)) → AreEntries entry xs → AreEntries entry ys → AreEntries entry (xs ++ ys)
+  are_stored-append entry [] ys a b = b
+  are_stored-append entry (x ∷ xs) ys a b = (a.0, are_stored-append entry xs ys a.1 b)
 
-  pub stand-left : (entry : ℕ → Option (Gen × T)) (xs ys : List (Item Gen T)) → AreEntries entry (xs ++ ys) → AreEntries entry xs
-  stand-left entry [] ys a = tt
-  stand-left entry (x ∷ xs) ys a = (a.0, stand-left entry xs ys a.1)
+  pub are_stored-left : (entry : ℕ → Option (Gen × T)) (xs ys : List (Item Gen T)) → AreEntries entry (xs ++ ys) → AreEntries entry xs
+  are_stored-left entry [] ys a = tt
+  are_stored-left entry (x ∷ xs) ys a = (a.0, are_stored-left entry xs ys a.1)
 
-  pub stand-right : (entry : ℕ → Option (Gen × T)) (xs ys : List (Item Gen T)) → AreEntries entry (xs ++ ys) → AreEntries entry ys
-  stand-right entry [] ys a = a
-  stand-right entry (x ∷ xs) ys a = stand-right entry xs ys a.1
+  pub are_stored-right : (entry : ℕ → Option (Gen × T)) (xs ys : List (Item Gen T)) → AreEntries entry (xs ++ ys) → AreEntries entry ys
+  are_stored-right entry [] ys a = a
+  are_stored-right entry (x ∷ xs) ys a = are_stored-right entry xs ys a.1
 
   -- Items stay stored if nothing at their indexes has changed.
-  pub stand-frame : (old new : ℕ → Option (Gen × T)) (xs : List (Item Gen T)) → ((i : ℕ) → IsMember (indexes xs) i → new i ≡ old i) → AreEntries old xs → AreEntries new xs
-  stand-frame old new [] same s = tt
-  stand-frame old new (x ∷ xs) same s = (same x.0.0 (inl refl) ∙ s.0, stand-frame old new xs (λ i has. same i (inr has)) s.1)
+  pub are_stored-frame : (old new : ℕ → Option (Gen × T)) (xs : List (Item Gen T)) → ((i : ℕ) → IsMember (indexes xs) i → new i ≡ old i) → AreEntries old xs → AreEntries new xs
+  are_stored-frame old new [] same s = tt
+  are_stored-frame old new (x ∷ xs) same s = (same x.0.0 (inl refl) ∙ s.0, are_stored-frame old new xs (λ i has. same i (inr has)) s.1)
 
   -- The index of a stored item is occupied.
-  pub stand-some : (entry : ℕ → Option (Gen × T)) (xs : List (Item Gen T)) (i : ℕ) → AreEntries entry xs → IsMember (indexes xs) i → is_some (entry i) ≡ true
-  stand-some entry [] i s has = absurd has
-  stand-some entry (x ∷ xs) i s (inl is) = ap (λ k. is_some (entry k)) (sym is) ∙ ap is_some s.0
-  stand-some entry (x ∷ xs) i s (inr has) = stand-some entry xs i s.1 has
+  pub are_stored-some : (entry : ℕ → Option (Gen × T)) (xs : List (Item Gen T)) (i : ℕ) → AreEntries entry xs → IsMember (indexes xs) i → is_some (entry i) ≡ true
+  are_stored-some entry [] i s has = absurd has
+  are_stored-some entry (x ∷ xs) i s (inl is) = ap (λ k. is_some (entry k)) (sym is) ∙ ap is_some s.0
+  are_stored-some entry (x ∷ xs) i s (inr has) = are_stored-some entry xs i s.1 has
 
   pub among-left : (xs ys : List (Item Gen T)) (i : ℕ) → IsMember (indexes xs) i → IsMember (indexes (xs ++ ys)) i
   among-left xs ys i has = subst (λ (l : List ℕ). IsMember l i) (sym (map-append index_of xs ys)) (IsMember-left (map index_of xs) (map index_of ys) i has)
@@ -38,11 +38,11 @@ module _ {Gen T : Type 0} where
   among-right xs ys i has = subst (λ (l : List ℕ). IsMember l i) (sym (map-append index_of xs ys)) (IsMember-right (map index_of xs) (map index_of ys) i has)
 
   -- An insertion at a free index keeps the stored items.
-  pub stand_kept : (entry after : ℕ → Option (Gen × T)) (p : ℕ × Gen) → entry p.0 ≡ None → ((i : ℕ) → i ≢ p.0 → after i ≡ entry i) → (xs : List (Item Gen T)) → AreEntries entry xs → AreEntries after xs
-  stand_kept entry after p free rest xs s = stand-frame entry after xs (λ i has. rest i (λ is. not_among (subst (λ (k : ℕ). IsMember (indexes xs) k) is has))) s
+  pub stored_kept : (entry after : ℕ → Option (Gen × T)) (p : ℕ × Gen) → entry p.0 ≡ None → ((i : ℕ) → i ≢ p.0 → after i ≡ entry i) → (xs : List (Item Gen T)) → AreEntries entry xs → AreEntries after xs
+  stored_kept entry after p free rest xs s = are_stored-frame entry after xs (λ i has. rest i (λ is. not_among (subst (λ (k : ℕ). IsMember (indexes xs) k) is has))) s
     where
       not_among : IsMember (indexes xs) p.0 → ⊥
-      not_among has = let some = stand-some entry xs p.0 s has in let none = ap is_some free in let both = sym some ∙ none in cc
+      not_among has = let some = are_stored-some entry xs p.0 s has in let none = ap is_some free in let both = sym some ∙ none in cc
 
   -- Entries sorted by index have distinct indexes.
   rises_low : (from i : ℕ) (es : List (Item Gen T)) → RisesFrom from es → IsMember (indexes es) i → from ≤ i

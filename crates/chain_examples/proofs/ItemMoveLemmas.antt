@@ -9,7 +9,7 @@ use Rattle.chain_laws.proofs.InterlinkLemmas.Inverses.{one_some}
 use Rattle.arena_base.specs.Entries.{index_of, first_key, last_key}
 use Rattle.chain_examples.specs.Lists.{Item, indexes, IsText, KeepsWithout}
 use Rattle.chain_examples.specs.Texts.{EndsIn, BeginsWith, AreJoined, IsClosed, IsSeparated, IsPutAfter, IsMovedAfter}
-use Rattle.chain_examples.proofs.DocumentLemmas.{StandsWith, last_apart, last_is, filled, apart, has_left, has_right, has_parts}
+use Rattle.chain_examples.proofs.DocumentLemmas.{StoredWith, last_apart, last_is, filled, apart, has_left, has_right, has_parts}
 
 module _ {Gen T : Type 0} where
   -- The first and the last item of a list are members.
@@ -77,16 +77,16 @@ module _ {A Gen T : Type 0} (entry : A → ℕ → Option (Gen × T)) (links : A
         texts (b ∷ bs) after last first left right once something = absurd (let l = last_apart b bs in let some = ap last_key l.2 ∙ last_is l.0 l.1 in let both = last ∙ some in cc)
 
   -- A neighbor of `p` is in no text without `p`.
-  apart_from : (a : A) (p : ℕ × Gen) (o : Option (ℕ × Gen)) (xs : List (Item Gen T)) → StandsWith entry links a p o → IsText entry links a xs → (IsMember (indexes xs) p.0 → ⊥) → IfSome o (λ k. ¬ IsMember (indexes xs) k.0)
+  apart_from : (a : A) (p : ℕ × Gen) (o : Option (ℕ × Gen)) (xs : List (Item Gen T)) → StoredWith entry links a p o → IsText entry links a xs → (IsMember (indexes xs) p.0 → ⊥) → IfSome o (λ k. ¬ IsMember (indexes xs) k.0)
   apart_from a p None xs with is lacks = tt
   apart_from a p (Some k) xs with is lacks = λ has. lacks (with xs is has)
 
   module _ (old begun ended new : A) (p : ℕ × Gen) (u v : Option (ℕ × Gen)) where
     -- Breaks on both sides of `p` and a join of its neighbors make `p` a text of its own.
-    pub stands_alone : BeginsWith entry links old begun p → EndsIn entry links begun ended p → KeepsWithout entry links linear begun ended (p ∷ []) → IsClosed entry links ended new u v
+    pub stored_alone : BeginsWith entry links old begun p → EndsIn entry links begun ended p → KeepsWithout entry links linear begun ended (p ∷ []) → IsClosed entry links ended new u v
         → ((t : T) (before after : List (Item Gen T)) → IsText entry links old (before ++ (p, t) ∷ after) → u ≡ last_key before)
         → ((t : T) (before after : List (Item Gen T)) → IsText entry links old (before ++ (p, t) ∷ after) → v ≡ first_key after) → IsSeparated entry links old new p
-    stands_alone begins ends kept closed u_is v_is t before after is =
+    stored_alone begins ends kept closed u_is v_is t before after is =
         let begin = begins t before after is in
         let end = ends t [] after begin.0 in
         let two = apart before (p, t) after is.chain.1 in
@@ -104,7 +104,7 @@ module _ {A Gen T : Type 0} (entry : A → ℕ → Option (Gen × T)) (links : A
 
     -- Separating `p` keeps every text without `p`.
     pub keeps_alone : KeepsWithout entry links linear old begun (p ∷ []) → KeepsWithout entry links linear begun ended (p ∷ []) → IsClosed entry links ended new u v
-        → StandsWith entry links old p u → StandsWith entry links old p v → KeepsWithout entry links linear old new (p ∷ [])
+        → StoredWith entry links old p u → StoredWith entry links old p v → KeepsWithout entry links linear old new (p ∷ [])
     keeps_alone begin end closed with_u with_v xs lacks is =
         closed.others xs (apart_from old p u xs with_u is lacks.0) (apart_from old p v xs with_v is lacks.0) (end xs lacks (begin xs lacks is))
 
@@ -131,21 +131,21 @@ module _ {A Gen T : Type 0} (entry : A → ℕ → Option (Gen × T)) (links : A
 
     -- Putting `p` after `q` keeps every text without `p` and `q`.
     pub keeps_put : KeepsWithout entry links linear old ended (q ∷ []) → KeepsWithout entry links linear ended joined (q ∷ p ∷ []) → IsClosed entry links joined new (Some p) v
-        → StandsWith entry links old q v → KeepsWithout entry links linear old new (p ∷ q ∷ [])
+        → StoredWith entry links old q v → KeepsWithout entry links linear old new (p ∷ q ∷ [])
     keeps_put end join closed with_v xs lacks is = closed.others xs lacks.0 (apart_from old q v xs with_v is lacks.1.0) (join xs (lacks.1.0, (lacks.0, tt)) (end xs (lacks.1.0, tt) is))
 
-  module _ (old alone new : A) (p q : ℕ × Gen) (stands : IsSeparated entry links old alone p) (others : KeepsWithout entry links linear old alone (p ∷ [])) (put : IsPutAfter entry links alone new p q)
+  module _ (old alone new : A) (p q : ℕ × Gen) (stored : IsSeparated entry links old alone p) (others : KeepsWithout entry links linear old alone (p ∷ [])) (put : IsPutAfter entry links alone new p q)
       (rest : KeepsWithout entry links linear alone new (p ∷ q ∷ [])) where
     -- Separating `p` and putting it after `q` moves it.
     pub moved_after : IsMovedAfter entry links old new p q
     moved_after = record {
       within = λ s t before after left right is same.
-          let one = stands t before after is in
+          let one = stored t before after is in
           let two = apart before (p, t) after is.chain.1 in
           put s t left right one.0 (subst (IsText entry links alone) same (one.1 (λ none. filled left (q, s) right (sym same ∙ none))))
           (λ is_q. two.0 (subst (λ (xs : List (Item Gen T)). IsMember (indexes xs) p.0) (sym same) (has_right left ((q, s) ∷ right) p.0 (inl (sym is_q)))));
       across = λ s t before after left right is there apart_q.
-          let one = stands t before after is in
+          let one = stored t before after is in
           let two = apart before (p, t) after is.chain.1 in
           let no_p : IsMember (indexes (left ++ (q, s) ∷ right)) p.0 → ⊥ = λ has. apart_q ((chains_share_each (links old) (linear (indexes (before ++ (p, t) ∷ after))) (linear (indexes (left ++ (q, s) ∷ right))) p.0 q.0
           is.chain there.chain (has_right before ((p, t) ∷ after) p.0 (inl refl)) has).1 (has_right left ((q, s) ∷ right) q.0 (inl refl))) in (

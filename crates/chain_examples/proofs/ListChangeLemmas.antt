@@ -10,7 +10,7 @@ use Rattle.chain_laws.proofs.ListLemmas.MemberLaws.{once_in_middle}
 use Rattle.arena_base.specs.Entries.{index_of}
 use Rattle.chain_links.specs.ChainArena.{IsInserted}
 use Rattle.chain_examples.specs.Lists.{Item, AreEntries, indexes, IsListOf, KeepsWithout, InsertsAfter, InsertsBefore, Leaves}
-use Rattle.chain_examples.proofs.ItemListLemmas.{stand-append, stand-left, stand-right, stand-frame, stand_kept}
+use Rattle.chain_examples.proofs.ItemListLemmas.{are_stored-append, are_stored-left, are_stored-right, are_stored-frame, stored_kept}
 
 -- There is no link where there is no entry.
 pub unlinked : {Gen T : Type 0} (entry : ℕ → Option (Gen × T)) (links : LinkMap) (i : ℕ) → is_some (links i) ≡ is_some (entry i) → entry i ≡ None → links i ≡ None
@@ -48,17 +48,17 @@ module _ {A Gen T : Type 0} (entry : A → ℕ → Option (Gen × T)) (links : A
     -- An item was inserted.
     module _ (q : ℕ × Gen) (t : T) (came : IsInserted (entry old) (entry new) q t) where
       kept : (xs : List (Item Gen T)) → AreEntries (entry old) xs → AreEntries (entry new) xs
-      kept = stand_kept (entry old) (entry new) q came.free came.rest
+      kept = stored_kept (entry old) (entry new) q came.free came.rest
 
       -- An item inserted after `p` comes directly after it in its list.
       pub comes_after : (p : ℕ × Gen) → ((x y : List ℕ) → IsChain (links old) (shape (x ++ p.0 ∷ y)) → IsChain (links new) (shape (x ++ p.0 ∷ q.0 ∷ y)))
           → InsertsAfter entry links shape old new p (q, t)
       comes_after p grows s before after is =
-          let right = stand-right (entry old) before ((p, s) ∷ after) is.stand in
+          let right = are_stored-right (entry old) before ((p, s) ∷ after) is.are_stored in
           record {
             chain = whole new before ((p, s) ∷ (q, t) ∷ after) (grows (indexes before) (indexes after) (parts old before ((p, s) ∷ after) is.chain));
-            stand = stand-append (entry new) before ((p, s) ∷ (q, t) ∷ after) (kept before (stand-left (entry old) before ((p, s) ∷ after) is.stand))
-                ((kept ((p, s) ∷ []) (right.0, tt)).0, (came.stands, kept after right.1));
+            are_stored = are_stored-append (entry new) before ((p, s) ∷ (q, t) ∷ after) (kept before (are_stored-left (entry old) before ((p, s) ∷ after) is.are_stored))
+                ((kept ((p, s) ∷ []) (right.0, tt)).0, (came.stored, kept after right.1));
           }
 
       -- An item inserted before `p` comes directly before it in its list.
@@ -66,8 +66,8 @@ module _ {A Gen T : Type 0} (entry : A → ℕ → Option (Gen × T)) (links : A
           → InsertsBefore entry links shape old new p (q, t)
       comes_before p grows s before after is = record {
         chain = whole new before ((q, t) ∷ (p, s) ∷ after) (grows (indexes before) (indexes after) (parts old before ((p, s) ∷ after) is.chain));
-        stand = stand-append (entry new) before ((q, t) ∷ (p, s) ∷ after) (kept before (stand-left (entry old) before ((p, s) ∷ after) is.stand))
-            (came.stands, kept ((p, s) ∷ after) (stand-right (entry old) before ((p, s) ∷ after) is.stand));
+        are_stored = are_stored-append (entry new) before ((q, t) ∷ (p, s) ∷ after) (kept before (are_stored-left (entry old) before ((p, s) ∷ after) is.are_stored))
+            (came.stored, kept ((p, s) ∷ after) (are_stored-right (entry old) before ((p, s) ∷ after) is.are_stored));
       }
 
       -- An insertion keeps every list without the named neighbors.
@@ -76,7 +76,7 @@ module _ {A Gen T : Type 0} (entry : A → ℕ → Option (Gen × T)) (links : A
           → (xs : List (Item Gen T)) → IsDisjointFrom (shape (indexes xs)) (indexes_of_kind kind) → IsListOf entry links shape old xs → IsListOf entry links shape new xs
       keeps_others kind agrees alike inserts xs lacks is = record {
         chain = insertion_keeps_others (links old) (links new) kind q.0 agrees (unlinked (entry old) (links old) q.0 alike came.free) inserts (shape (indexes xs)) lacks is.chain;
-        stand = kept xs is.stand;
+        are_stored = kept xs is.are_stored;
       }
 
     -- A removed item leaves its list.
@@ -87,9 +87,9 @@ module _ {A Gen T : Type 0} (entry : A → ℕ → Option (Gen × T)) (links : A
         let apart = ((once_in_middle (indexes before) (indexes after) e.0.0).0 (once old (indexes before ++ e.0.0 ∷ indexes after) chain)).0 in
         record {
           chain = whole new before after (shrinks (indexes before) (indexes after) chain (λ none. filled (no_items (before ++ after) (map-append index_of before after ∙ none))));
-          stand = stand-frame (entry old) (entry new) (before ++ after)
+          are_stored = are_stored-frame (entry old) (entry new) (before ++ after)
               (λ i has. same i (λ is_e. apart (subst (λ (l : List ℕ). IsMember l e.0.0) (map-append index_of before after) (subst (IsMember (indexes (before ++ after))) is_e has))))
-              (stand-append (entry old) before after (stand-left (entry old) before (e ∷ after) is.stand) (stand-right (entry old) before (e ∷ after) is.stand).1);
+              (are_stored-append (entry old) before after (are_stored-left (entry old) before (e ∷ after) is.are_stored) (are_stored-right (entry old) before (e ∷ after) is.are_stored).1);
         }
 
     -- A removal keeps every list without the removed item.
@@ -97,9 +97,9 @@ module _ {A Gen T : Type 0} (entry : A → ℕ → Option (Gen × T)) (links : A
         → ((c : Chain) → (IsMember (items c) p.0 → ⊥) → IsChain (links old) c → IsChain (links new) c) → KeepsWithout entry links shape old new (p ∷ [])
     keeps_left p same rest xs lacks is = record {
       chain = rest (shape (indexes xs)) lacks.0 is.chain;
-      stand = stand-frame (entry old) (entry new) xs (λ i has. same i (λ is_p. lacks.0 (of_chain (indexes xs) p.0 (subst (IsMember (indexes xs)) is_p has)))) is.stand;
+      are_stored = are_stored-frame (entry old) (entry new) xs (λ i has. same i (λ is_p. lacks.0 (of_chain (indexes xs) p.0 (subst (IsMember (indexes xs)) is_p has)))) is.are_stored;
     }
 
     -- If all entries are kept, items form a list if their indexes form a chain.
     pub stays : entry new ≡ entry old → (xs : List (Item Gen T)) → AreEntries (entry old) xs → IsChain (links new) (shape (indexes xs)) → IsListOf entry links shape new xs
-    stays same xs stand chain = record { chain = chain; stand = subst (λ (f : ℕ → Option (Gen × T)). AreEntries f xs) (sym same) stand }
+    stays same xs are_stored chain = record { chain = chain; are_stored = subst (λ (f : ℕ → Option (Gen × T)). AreEntries f xs) (sym same) are_stored }

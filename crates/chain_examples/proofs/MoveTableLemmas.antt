@@ -14,9 +14,9 @@ use Rattle.chain_links.proofs.ArenaInsertionLemmas.{slot_at-written}
 use Rattle.chain_examples.specs.MoveTables.{with_move, noted}
 
 -- An empty table has no moves.
-none_stands : {X : Type 0} (n i : ℕ) → ◌≡◌ {A = Option X} (slot_at (replicate n None) i) None
-none_stands {X} n zero = refl
-none_stands {X} n (suc k) = by n k where
+none_stored : {X : Type 0} (n i : ℕ) → ◌≡◌ {A = Option X} (slot_at (replicate n None) i) None
+none_stored {X} n zero = refl
+none_stored {X} n (suc k) = by n k where
   by : (m j : ℕ) → ◌≡◌ {A = Option X} (slice_index_or (replicate m None) j None) None
   by zero j = refl
   by (suc m) zero = refl
@@ -81,15 +81,15 @@ module _ {P Gen : Type 0} (key : P → ℕ × Gen) where
         ⊎_elim (by (ℕ_discrete i (from_index x))) (λ has. inr (Contains-append_right (x ∷ []) moves m has)) (noted_only (with_move key table x) moves i m (stays table x long) within.1 is)
       where
         by : Dec (i ≡ from_index x) → slot_at (with_move key table x) i ≡ Some m → (slot_at table i ≡ Some m) ⊎ Contains (x ∷ moves) m
-        by (yes same) stands =
-            let both : Some x ≡ Some m = sym (there table x long within.0) ∙ (ap (slot_at (with_move key table x)) (sym same) ∙ stands) in
+        by (yes same) stored =
+            let both : Some x ≡ Some m = sym (there table x long within.0) ∙ (ap (slot_at (with_move key table x)) (sym same) ∙ stored) in
             let first : x ≡ m = cc in
             inr (0, omega arith, first)
-        by (no other) stands = inl (sym (elsewhere table x i long within.0 other) ∙ stands)
+        by (no other) stored = inl (sym (elsewhere table x i long within.0 other) ∙ stored)
 
     -- Writing moves into an empty table gives the table of these moves.
     pub noted_table : (moves : List (P × P)) → HasPlaces n moves → AreDistinct (map from_index moves) → IsTable moves (noted key (replicate n None) moves)
     noted_table moves within apart = record {
       has = λ m has. noted_has (replicate n None) moves m has.0 (length-replicate n None) within apart has.1 has.2;
-      only = λ i m is. ⊎_elim (λ stood. absurd (let none = sym (none_stands n i) ∙ stood in cc)) (λ has. has) (noted_only (replicate n None) moves i m (length-replicate n None) within is);
+      only = λ i m is. ⊎_elim (λ was_stored. absurd (let none = sym (none_stored n i) ∙ was_stored in cc)) (λ has. has) (noted_only (replicate n None) moves i m (length-replicate n None) within is);
     }

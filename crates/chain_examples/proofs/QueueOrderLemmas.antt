@@ -19,11 +19,11 @@ use Rattle.chain_traits.proofs.GenericArenaLemmas.{found_has}
 use Rattle.chain_examples.specs.Lists.{Item, AreEntries, indexes, IsQueueOrder}
 use Rattle.chain_examples.specs.QueueOrder.{Queue, IsAmong, IsCancelled, items_from, with_entry_first, queue_order, rotation}
 use Rattle.chain_traits.proofs.GenericRemovalLemmas.{HasGone}
-use Rattle.chain_examples.proofs.ItemListLemmas.{stand-append, stand-left, stand-right, stand-frame, among-left, among-right, stand_kept, stand-some, rises_once, has_found}
+use Rattle.chain_examples.proofs.ItemListLemmas.{are_stored-append, are_stored-left, are_stored-right, are_stored-frame, among-left, among-right, stored_kept, are_stored-some, rises_once, has_found}
 
 module _ {Gen T : Type 0} where
   -- A task was appended.
-  module _ (entry after : ℕ → Option (Gen × T)) (links changed : LinkMap) (p : ℕ × Gen) (t : T) (free : entry p.0 ≡ None) (stands : after p.0 ≡ Some (p.1, t)) (rest : (i : ℕ) → i ≢ p.0 → after i ≡ entry i) where
+  module _ (entry after : ℕ → Option (Gen × T)) (links changed : LinkMap) (p : ℕ × Gen) (t : T) (free : entry p.0 ≡ None) (stored : after p.0 ≡ Some (p.1, t)) (rest : (i : ℕ) → i ≢ p.0 → after i ≡ entry i) where
     all_with : (turn : List (Item Gen T)) → ((i : ℕ) → is_some (entry i) ≡ true → IsMember (indexes turn) i) → (i : ℕ) → is_some (after i) ≡ true → IsMember (indexes (turn ++ (p, t) ∷ [])) i
     all_with turn all i some = ⊎_elim
         (λ is. among-right turn ((p, t) ∷ []) i (inl (sym is)))
@@ -34,7 +34,7 @@ module _ {Gen T : Type 0} where
     spawned_first ring [] is = record {
       first = refl;
       ring = λ filled. ring;
-      stand = (stands, tt);
+      are_stored = (stored, tt);
       all = all_with [] is.all;
     }
     spawned_first ring (e ∷ es) is = let h = is.first in absurd (cc)
@@ -50,7 +50,7 @@ module _ {Gen T : Type 0} where
         record {
           first = is.first;
           ring = λ filled. subst (λ (l : List ℕ). IsChain changed (cyclic l)) (sym (map-append index_of (e ∷ es) ((p, t) ∷ []))) ring;
-          stand = stand-append after (e ∷ es) ((p, t) ∷ []) (stand_kept entry after p free rest (e ∷ es) is.stand) (stands, tt);
+          are_stored = are_stored-append after (e ∷ es) ((p, t) ∷ []) (stored_kept entry after p free rest (e ∷ es) is.are_stored) (stored, tt);
           all = all_with (e ∷ es) is.all;
         }
 
@@ -60,7 +60,7 @@ module _ {Gen T : Type 0} where
     turn_on current e es is = record {
       first = refl;
       ring = λ filled. subst (λ (l : List ℕ). IsChain links (cyclic l)) (sym (map-append index_of es (e ∷ []))) (turned links (e.0.0 ∷ []) (indexes es) (is.ring (λ h. cc)));
-      stand = stand-append entry es (e ∷ []) is.stand.1 (is.stand.0, tt);
+      are_stored = are_stored-append entry es (e ∷ []) is.are_stored.1 (is.are_stored.0, tt);
       all = λ i some. subst (λ (l : List ℕ). IsMember l i) (sym (map-append index_of es (e ∷ []))) (IsMember-turned (e.0.0 ∷ []) (indexes es) i (is.all i some));
     }
 
@@ -69,15 +69,15 @@ module _ {Gen T : Type 0} where
         → option_and_then (λ i. option_map (λ (x : Gen × T). (i, x.0)) (entry i)) (next_of links e.0.0) ≡ first_key (es ++ e ∷ [])
     next_is current e es is =
         let chain = (is.ring (λ h. cc)).2 in
-        ap (λ o. option_and_then (λ i. option_map (λ (x : Gen × T). (i, x.0)) (entry i)) (next_in o)) chain.0 ∙ key_of es is.stand.1
+        ap (λ o. option_and_then (λ i. option_map (λ (x : Gen × T). (i, x.0)) (entry i)) (next_in o)) chain.0 ∙ key_of es is.are_stored.1
       where
         key_of : (fs : List (Item Gen T)) → AreEntries entry fs → option_and_then (λ i. option_map (λ (x : Gen × T). (i, x.0)) (entry i)) (first_or (indexes fs) (Some e.0.0)) ≡ first_key (fs ++ e ∷ [])
-        key_of [] s = ap (option_map (λ (x : Gen × T). (e.0.0, x.0))) is.stand.0
+        key_of [] s = ap (option_map (λ (x : Gen × T). (e.0.0, x.0))) is.are_stored.0
         key_of (f ∷ fs) s = ap (option_map (λ (x : Gen × T). (f.0.0, x.0))) s.0
 
     -- An index occurs once in a turn.
-    pub stands_once : (current : Option (ℕ × Gen)) (xs ys : List (Item Gen T)) (e : Item Gen T) → IsQueueOrder entry links current (xs ++ e ∷ ys) → IsMember (indexes (xs ++ ys)) e.0.0 → ⊥
-    stands_once current xs ys e is has =
+    pub stored_once : (current : Option (ℕ × Gen)) (xs ys : List (Item Gen T)) (e : Item Gen T) → IsQueueOrder entry links current (xs ++ e ∷ ys) → IsMember (indexes (xs ++ ys)) e.0.0 → ⊥
+    stored_once current xs ys e is has =
         let filled : xs ++ e ∷ ys ≢ [] = not_empty xs e ys in
         let once : AreDistinct (indexes xs ++ e.0.0 ∷ indexes ys) = subst AreDistinct (map-append index_of xs (e ∷ ys)) (is.ring filled).1 in
         (AreDistinct-turned (indexes xs) (e.0.0 ∷ indexes ys) once).0 (IsMember-turned (indexes xs) (indexes ys) e.0.0 (subst (λ (l : List ℕ). IsMember l e.0.0) (map-append index_of xs ys) has))
@@ -93,8 +93,8 @@ module _ {Gen T : Type 0} where
     cancelled after changed current next xs ys e is first gone kept removes = record {
       first = first;
       ring = λ filled. subst (λ (l : List ℕ). IsChain changed (cyclic l)) (sym (map-append index_of xs ys)) (removes.from_cyclic (indexes xs) (indexes ys) old (λ none. filled (empty (xs ++ ys) (map-append index_of xs ys ∙ none))));
-      stand = stand-frame entry after (xs ++ ys) (λ i has. kept i (λ is_e. stands_once current xs ys e is (subst (λ (k : ℕ). IsMember (indexes (xs ++ ys)) k) is_e has)))
-          (stand-append entry xs ys (stand-left entry xs (e ∷ ys) is.stand) (stand-right entry xs (e ∷ ys) is.stand).1);
+      are_stored = are_stored-frame entry after (xs ++ ys) (λ i has. kept i (λ is_e. stored_once current xs ys e is (subst (λ (k : ℕ). IsMember (indexes (xs ++ ys)) k) is_e has)))
+          (are_stored-append entry xs ys (are_stored-left entry xs (e ∷ ys) is.are_stored) (are_stored-right entry xs (e ∷ ys) is.are_stored).1);
       all = λ i some. ⊎_elim
           (λ is_e. absurd (let none = ap is_some (ap after is_e ∙ gone) in let both = sym some ∙ none in cc))
           (λ other. left_of i other (is.all i (ap is_some (sym (kept i other)) ∙ some)))
@@ -123,7 +123,7 @@ module _ {Gen T : Type 0} where
     after_alone k e [] is second = refl
     after_alone k e (f ∷ fs) is second =
         let same : e.0 ≡ f.0 = let first = is.first in cc in
-        absurd (stands_once (Some k) [] (f ∷ fs) e is (inl (ap (λ (p : ℕ × Gen). p.0) (sym same))))
+        absurd (stored_once (Some k) [] (f ∷ fs) e is (inl (ap (λ (p : ℕ × Gen). p.0) (sym same))))
 
     -- If the second in turn is another task, it is the first of the rest.
     pub after_other : (k q : ℕ × Gen) (e : Item Gen T) (es : List (Item Gen T)) → IsQueueOrder entry links (Some k) (e ∷ es) → Some q ≡ first_key (es ++ e ∷ []) → q ≢ k → Some q ≡ first_key es
@@ -135,7 +135,7 @@ module _ {Gen T : Type 0} where
     is_first k t [] ys is = refl
     is_first k t (x ∷ xs) ys is =
         let same : x.0 ≡ k = let first = is.first in cc in
-        absurd (stands_once (Some k) (x ∷ xs) ys (k, t) is (inl (ap (λ (p : ℕ × Gen). p.0) same)))
+        absurd (stored_once (Some k) (x ∷ xs) ys (k, t) is (inl (ap (λ (p : ℕ × Gen). p.0) same)))
 
     -- The current task stays first when another task is removed.
     pub stays_first : (k q : ℕ × Gen) (t : T) (xs ys : List (Item Gen T)) → IsQueueOrder entry links (Some k) (xs ++ (q, t) ∷ ys) → k ≢ q → Some k ≡ first_key (xs ++ ys)
@@ -148,9 +148,9 @@ module _ {Gen T : Type 0} where
 
     -- There are as many tasks as entries.
     pub turn_length : (current : Option (ℕ × Gen)) (turn es : List (Item Gen T)) → IsQueueOrder entry links current turn → RisesFrom 1 es → ((i : ℕ) → found i es ≡ entry i) → length es ≡ length turn
-    turn_length current turn es is rises looked =
-        let fewer = length_among (indexes es) (indexes turn) (rises_once 1 es rises) (λ i has. is.all i (ap is_some (sym (looked i)) ∙ has_found i es has)) in
-        let more = length_among (indexes turn) (indexes es) (once turn is.ring) (λ i has. found_has i es (ap is_some (looked i) ∙ stand-some entry turn i is.stand has)) in
+    turn_length current turn es is rises was_read =
+        let fewer = length_among (indexes es) (indexes turn) (rises_once 1 es rises) (λ i has. is.all i (ap is_some (sym (was_read i)) ∙ has_found i es has)) in
+        let more = length_among (indexes turn) (indexes es) (once turn is.ring) (λ i has. found_has i es (ap is_some (was_read i) ∙ are_stored-some entry turn i is.are_stored has)) in
         omega (arith, fewer, more, length-map es index_of, length-map turn index_of)
       where
         once : (xs : List (Item Gen T)) → (xs ≢ [] → IsChain links (cyclic (indexes xs))) → AreDistinct (indexes xs)
@@ -161,70 +161,70 @@ module _ {Gen T : Type 0} where
     from_items : (before after : Option ℕ) (xs : List (Item Gen T)) → AreLinked links before (indexes xs) after → AreEntries entry xs
         → items_from entry links (length xs) (first_or (indexes xs) after) ≡ xs
     unfolding items_from
-    from_items before after [] chain stand = refl
-    from_items before after (x ∷ xs) chain stand =
-        ap (λ (e : Option (Gen × T)). with_entry_first x.0.0 e (items_from entry links (length xs) (next_of links x.0.0))) stand.0
-        ∙ ap (λ (others : List (Item Gen T)). x ∷ others) (ap (λ (l : Option Interlinks). items_from entry links (length xs) (next_in l)) chain.0 ∙ from_items (Some x.0.0) after xs chain.1 stand.1)
+    from_items before after [] chain are_stored = refl
+    from_items before after (x ∷ xs) chain are_stored =
+        ap (λ (e : Option (Gen × T)). with_entry_first x.0.0 e (items_from entry links (length xs) (next_of links x.0.0))) are_stored.0
+        ∙ ap (λ (others : List (Item Gen T)). x ∷ others) (ap (λ (l : Option Interlinks). items_from entry links (length xs) (next_in l)) chain.0 ∙ from_items (Some x.0.0) after xs chain.1 are_stored.1)
 
     turn_found : (current : Option (ℕ × Gen)) (turn : List (Item Gen T)) → IsQueueOrder entry links current turn → queue_order entry links (length turn) current ≡ turn
     unfolding items_from
     turn_found current [] is = refl
     turn_found current (e ∷ es) is =
-        ap (λ (c : Option (ℕ × Gen)). queue_order entry links (length (e ∷ es)) c) is.first ∙ from_items _ _ (e ∷ es) (is.ring (λ h. cc)).2 is.stand
+        ap (λ (c : Option (ℕ × Gen)). queue_order entry links (length (e ∷ es)) c) is.first ∙ from_items _ _ (e ∷ es) (is.ring (λ h. cc)).2 is.are_stored
 
     -- A turn is what is found from the current task on.
     pub settles : (current : Option (ℕ × Gen)) (turn es : List (Item Gen T)) → IsQueueOrder entry links current turn → RisesFrom 1 es → ((i : ℕ) → found i es ≡ entry i)
         → queue_order entry links (length es) current ≡ turn
-    settles current turn es is rises looked = ap (λ (n : ℕ). queue_order entry links n current) (turn_length current turn es is rises looked) ∙ turn_found current turn is
+    settles current turn es is rises was_read = ap (λ (n : ℕ). queue_order entry links n current) (turn_length current turn es is rises was_read) ∙ turn_found current turn is
 
     pub settled : (current : Option (ℕ × Gen)) (turn es : List (Item Gen T)) → IsQueueOrder entry links current turn → RisesFrom 1 es → ((i : ℕ) → found i es ≡ entry i)
         → IsQueueOrder entry links current (queue_order entry links (length es) current)
-    settled current turn es is rises looked = subst (IsQueueOrder entry links current) (sym (settles current turn es is rises looked)) is
+    settled current turn es is rises was_read = subst (IsQueueOrder entry links current) (sym (settles current turn es is rises was_read)) is
 
     -- An arena without entries is an empty queue.
     pub begins : (es : List (Item Gen T)) → es ≡ [] → ((i : ℕ) → found i es ≡ entry i) → IsQueueOrder entry links None []
-    begins es none looked = record {
+    begins es none was_read = record {
       first = refl;
       ring = λ filled. absurd (filled refl);
-      stand = tt;
-      all = λ i some. absurd (let nothing : entry i ≡ None = sym (looked i) ∙ ap (found i) none in let both = sym some ∙ ap is_some nothing in cc);
+      are_stored = tt;
+      all = λ i some. absurd (let nothing : entry i ≡ None = sym (was_read i) ∙ ap (found i) none in let both = sym some ∙ ap is_some nothing in cc);
     }
 
     -- The pointer of an item of the turn is valid.
-    pub among_stands : (turn : List (Item Gen T)) (p : ℕ × Gen) → AreEntries entry turn → IsAmong p turn → IsValid entry p
-    among_stands [] p stand among = absurd among
-    among_stands (e ∷ es) p stand (inl same) = subst (IsValid entry) same (record { value = e.1; stands = stand.0 })
-    among_stands (e ∷ es) p stand (inr among) = among_stands es p stand.1 among
+    pub among_stored : (turn : List (Item Gen T)) (p : ℕ × Gen) → AreEntries entry turn → IsAmong p turn → IsValid entry p
+    among_stored [] p are_stored among = absurd among
+    among_stored (e ∷ es) p are_stored (inl same) = subst (IsValid entry) same (record { value = e.1; stored = are_stored.0 })
+    among_stored (e ∷ es) p are_stored (inr among) = among_stored es p are_stored.1 among
 
     pub no_task : (current : Option (ℕ × Gen)) (turn : List (Item Gen T)) (p : ℕ × Gen) → IsQueueOrder entry links current turn → (IsValid entry p → ⊥) → IsAmong p turn → ⊥
-    no_task current turn p is invalid among = invalid (among_stands turn p is.stand among)
+    no_task current turn p is invalid among = invalid (among_stored turn p is.are_stored among)
 
     -- A valid pointer belongs to a task of the turn.
     pub valid_task : (current : Option (ℕ × Gen)) (turn : List (Item Gen T)) (p : ℕ × Gen) → IsQueueOrder entry links current turn → (valid : IsValid entry p)
         → (before : List (Item Gen T)) × (after : List (Item Gen T)) × (turn ≡ before ++ (p, valid.value) ∷ after)
-    valid_task current turn p is valid = found_at turn is.stand (is.all p.0 (ap is_some valid.stands))
+    valid_task current turn p is valid = found_at turn is.are_stored (is.all p.0 (ap is_some valid.stored))
       where
         found_at : (xs : List (Item Gen T)) → AreEntries entry xs → IsMember (indexes xs) p.0 → (before : List (Item Gen T)) × (after : List (Item Gen T)) × (xs ≡ before ++ (p, valid.value) ∷ after)
-        found_at [] stand has = absurd has
-        found_at (x ∷ xs) stand (inl same) =
-            let both : Some (x.0.1, x.1) ≡ Some (p.1, valid.value) = sym stand.0 ∙ (ap entry same ∙ valid.stands) in
+        found_at [] are_stored has = absurd has
+        found_at (x ∷ xs) are_stored (inl same) =
+            let both : Some (x.0.1, x.1) ≡ Some (p.1, valid.value) = sym are_stored.0 ∙ (ap entry same ∙ valid.stored) in
             let pair : (x.0.1, x.1) ≡ (p.1, valid.value) = ap (λ (o : Option (Gen × T)). unwrap_or o (x.0.1, x.1)) both in
             let generation : x.0.1 ≡ p.1 = ap (λ (e : Gen × T). e.0) pair in
             let value : x.1 ≡ valid.value = ap (λ (e : Gen × T). e.1) pair in
             ([], xs, λ i. ((same i, generation i), value i) ∷ xs)
-        found_at (x ∷ xs) stand (inr has) =
-            let there = found_at xs stand.1 has in
+        found_at (x ∷ xs) are_stored (inr has) =
+            let there = found_at xs are_stored.1 has in
             (x ∷ there.0, there.1, ap (λ (l : List (Item Gen T)). x ∷ l) there.2)
 
     -- The turn advances from any current task.
-    pub goes_on : (k : ℕ × Gen) (next : Option (ℕ × Gen)) (turn : List (Item Gen T)) → IsQueueOrder entry links (Some k) turn
+    pub continues : (k : ℕ × Gen) (next : Option (ℕ × Gen)) (turn : List (Item Gen T)) → IsQueueOrder entry links (Some k) turn
         → ((task : Item Gen T) (rest : List (Item Gen T)) → IsQueueOrder entry links (Some k) (task ∷ rest) → next ≡ first_key (rest ++ task ∷ [])) → IsQueueOrder entry links next (rotation turn)
-    goes_on k next [] is second = let first = is.first in absurd (cc)
-    goes_on k next (e ∷ es) is second = subst (λ (o : Option (ℕ × Gen)). IsQueueOrder entry links o (es ++ e ∷ [])) (sym (second e es is)) (turn_on (Some k) e es is)
+    continues k next [] is second = let first = is.first in absurd (cc)
+    continues k next (e ∷ es) is second = subst (λ (o : Option (ℕ × Gen)). IsQueueOrder entry links o (es ++ e ∷ [])) (sym (second e es is)) (turn_on (Some k) e es is)
 
     -- A cancelled task is not among the others.
     pub not_among : (current : Option (ℕ × Gen)) (xs ys : List (Item Gen T)) (e : Item Gen T) → IsQueueOrder entry links current (xs ++ e ∷ ys) → IsAmong e.0 (xs ++ ys) → ⊥
-    not_among current xs ys e is among = stands_once current xs ys e is (has_index (xs ++ ys) among)
+    not_among current xs ys e is among = stored_once current xs ys e is (has_index (xs ++ ys) among)
       where
         has_index : (zs : List (Item Gen T)) → IsAmong e.0 zs → IsMember (indexes zs) e.0.0
         has_index [] h = absurd h
@@ -237,23 +237,23 @@ module _ {Gen T : Type 0} where
     valid_current key (Some p) [] is = let first = is.first in absurd (cc)
     valid_current key (Some p) (e ∷ es) is =
         let same : e.0 ≡ key p = let first = is.first in cc in
-        subst (IsValid entry) same (record { value = e.1; stands = is.stand.0 })
+        subst (IsValid entry) same (record { value = e.1; stored = is.are_stored.0 })
 
 -- A cancelled current task was the first in turn.
 pub first_cancelled : {Gen T : Type 0} (p : ℕ × Gen) (task : T) (old new : List (Item Gen T)) → Some p ≡ first_key old → IsCancelled p task old new → old ≡ (p, task) ∷ new
-first_cancelled p task old new first is = by is.before is.stood is.left
+first_cancelled p task old new first is = by is.before is.was_stored is.left
   where
     by : (before : List (Item _ _)) → old ≡ before ++ (p, task) ∷ is.after → new ≡ before ++ is.after → old ≡ (p, task) ∷ new
-    by [] stood left = stood ∙ ap (λ (l : List (Item _ _)). (p, task) ∷ l) (sym left)
-    by (x ∷ before) stood left =
-        let same : Some p ≡ Some x.0 = first ∙ ap first_key stood in
+    by [] was_stored left = was_stored ∙ ap (λ (l : List (Item _ _)). (p, task) ∷ l) (sym left)
+    by (x ∷ before) was_stored left =
+        let same : Some p ≡ Some x.0 = first ∙ ap first_key was_stored in
         let key : x.0 ≡ p = cc in
         absurd (is.gone (subst (IsAmong p) (sym left) (inl key)))
 
 -- The turn of a queue, as found in an arena.
-module _ {A Gen T : Type 0} (seen : A → ArenaView Gen T) (entry : A → ℕ → Option (Gen × T)) (links : A → LinkMap) (rises : (a : A) → RisesFrom 1 (seen a).entries) (looked : (a : A) (i : ℕ) → found i (seen a).entries ≡ entry a i) where
+module _ {A Gen T : Type 0} (view_of : A → ArenaView Gen T) (entry : A → ℕ → Option (Gen × T)) (links : A → LinkMap) (rises : (a : A) → RisesFrom 1 (view_of a).entries) (was_read : (a : A) (i : ℕ) → found i (view_of a).entries ≡ entry a i) where
   abbrev pub turn_in : A → Option (ℕ × Gen) → List (Item Gen T)
-  turn_in a current = queue_order (entry a) (links a) (count (seen a)) current
+  turn_in a current = queue_order (entry a) (links a) (count (view_of a)) current
 
   -- The turn found in the arena, which is in queue order.
   pub record IsSettled (a : A) (current : Option (ℕ × Gen)) (turn : List (Item Gen T)) : Type 0 where
@@ -262,29 +262,29 @@ module _ {A Gen T : Type 0} (seen : A → ArenaView Gen T) (entry : A → ℕ �
 
   pub settle : (a : A) (current : Option (ℕ × Gen)) (turn : List (Item Gen T)) → IsQueueOrder (entry a) (links a) current turn → IsSettled a current turn
   settle a current turn is = record {
-    is_found = settles (entry a) (links a) current turn (seen a).entries is (rises a) (looked a);
-    holds = settled (entry a) (links a) current turn (seen a).entries is (rises a) (looked a);
+    is_found = settles (entry a) (links a) current turn (view_of a).entries is (rises a) (was_read a);
+    holds = settled (entry a) (links a) current turn (view_of a).entries is (rises a) (was_read a);
   }
 
   -- The queue found in an arena.
   abbrev pub queue_in : A → Option (ℕ × Gen) → Queue Gen T
-  queue_in a current = record { turn = turn_in a current; room = (seen a).capacity; maximum = (seen a).maximum }
+  queue_in a current = record { turn = turn_in a current; capacity = (view_of a).capacity; maximum = (view_of a).maximum }
 
   -- If the queue has free capacity, so has its arena.
-  pub has_room : (a : A) (current : Option (ℕ × Gen)) (q : Queue Gen T) → IsQueueOrder (entry a) (links a) current (turn_in a current) → queue_in a current ≡ q → length q.turn < q.room → HasFreeCapacity (seen a)
-  has_room a current q is same less =
-      let many = turn_length (entry a) (links a) current (turn_in a current) (seen a).entries is (rises a) (looked a) in
+  pub has_capacity : (a : A) (current : Option (ℕ × Gen)) (q : Queue Gen T) → IsQueueOrder (entry a) (links a) current (turn_in a current) → queue_in a current ≡ q → length q.turn < q.capacity → HasFreeCapacity (view_of a)
+  has_capacity a current q is same less =
+      let many = turn_length (entry a) (links a) current (turn_in a current) (view_of a).entries is (rises a) (was_read a) in
       let turn = ap (λ (s : Queue Gen T). length s.turn) same in
-      let room = ap (λ (s : Queue Gen T). s.room) same in
+      let within_capacity = ap (λ (s : Queue Gen T). s.capacity) same in
       omega arith
 
   -- Inserting a task before the current one, or into an empty queue, appends it.
   module _ (a b : A) (p : ℕ × Gen) (t : T) where
-    pub first_comes : GainsLink seen entry links single_link_cyclic t a p b → (turn : List (Item Gen T)) → IsQueueOrder (entry a) (links a) None turn → IsQueueOrder (entry b) (links b) (Some p) (turn ++ (p, t) ∷ [])
-    first_comes came = spawned_first (entry a) (entry b) (links a) (links b) p t came.entries.free came.entries.stands came.entries.rest (came.chains.ring refl refl)
+    pub first_comes : GainsLink view_of entry links single_link_cyclic t a p b → (turn : List (Item Gen T)) → IsQueueOrder (entry a) (links a) None turn → IsQueueOrder (entry b) (links b) (Some p) (turn ++ (p, t) ∷ [])
+    first_comes came = spawned_first (entry a) (entry b) (links a) (links b) p t came.entries.free came.entries.stored came.entries.rest (came.chains.ring refl refl)
 
-    pub last_comes : (k : ℕ × Gen) → GainsLink seen entry links (prev_to (k.0, Some k.1)) t a p b → (turn : List (Item Gen T)) → IsQueueOrder (entry a) (links a) (Some k) turn → IsQueueOrder (entry b) (links b) (Some k) (turn ++ (p, t) ∷ [])
-    last_comes k came = spawned_last (entry a) (entry b) (links a) (links b) p t came.entries.free came.entries.stands came.entries.rest k (λ y. (came.chains.before k.0 refl refl [] y).1)
+    pub last_comes : (k : ℕ × Gen) → GainsLink view_of entry links (prev_to (k.0, Some k.1)) t a p b → (turn : List (Item Gen T)) → IsQueueOrder (entry a) (links a) (Some k) turn → IsQueueOrder (entry b) (links b) (Some k) (turn ++ (p, t) ∷ [])
+    last_comes k came = spawned_last (entry a) (entry b) (links a) (links b) p t came.entries.free came.entries.stored came.entries.rest k (λ y. (came.chains.before k.0 refl refl [] y).1)
 
   -- A call that adds a task appends it, or fails and keeps the queue.
   module _ {P E : Type 0} (key : P → ℕ × Gen) (a b : A) (current : Option P) (t : T) where
@@ -311,28 +311,28 @@ module _ {A Gen T : Type 0} (seen : A → ArenaView Gen T) (entry : A → ℕ �
   pub goes_on_in : (a : A) (current next : Option (ℕ × Gen)) (k : ℕ × Gen) → current ≡ Some k → IsQueueOrder (entry a) (links a) current (turn_in a current)
       → ((task : Item Gen T) (rest : List (Item Gen T)) → IsQueueOrder (entry a) (links a) (Some k) (task ∷ rest) → next ≡ first_key (rest ++ task ∷ [])) → IsSettled a next (rotation (turn_in a current))
   goes_on_in a current next k known is second =
-      settle a next (rotation (turn_in a current)) (goes_on (entry a) (links a) k next (turn_in a current) (subst (λ (o : Option (ℕ × Gen)). IsQueueOrder (entry a) (links a) o (turn_in a current)) known is) second)
+      settle a next (rotation (turn_in a current)) (continues (entry a) (links a) k next (turn_in a current) (subst (λ (o : Option (ℕ × Gen)). IsQueueOrder (entry a) (links a) o (turn_in a current)) known is) second)
 
   -- A task is cancelled, and the turn is what remains.
   pub record IsLeft (a b : A) (current next : Option (ℕ × Gen)) (p : ℕ × Gen) (t : T) : Type 0 where
     pub cancelled : IsCancelled p t (turn_in a current) (turn_in b next)
     pub holds : IsQueueOrder (entry b) (links b) next (turn_in b next)
 
-  pub task_goes : (a b : A) (current next : Option (ℕ × Gen)) (k p : ℕ × Gen) → current ≡ Some k → IsQueueOrder (entry a) (links a) current (turn_in a current) → (gone : HasGone seen entry links a b p)
-      → ((before after : List (Item Gen T)) (task : T) → IsQueueOrder (entry a) (links a) (Some k) (before ++ (p, task) ∷ after) → next ≡ first_key (before ++ after)) → IsLeft a b current next p gone.stood.value
+  pub task_goes : (a b : A) (current next : Option (ℕ × Gen)) (k p : ℕ × Gen) → current ≡ Some k → IsQueueOrder (entry a) (links a) current (turn_in a current) → (gone : HasGone view_of entry links a b p)
+      → ((before after : List (Item Gen T)) (task : T) → IsQueueOrder (entry a) (links a) (Some k) (before ++ (p, task) ∷ after) → next ≡ first_key (before ++ after)) → IsLeft a b current next p gone.was_stored.value
   task_goes a b current next k p known is gone follows =
       let turn = subst (λ (o : Option (ℕ × Gen)). IsQueueOrder (entry a) (links a) o (turn_in a current)) known is in
-      let split = valid_task (entry a) (links a) (Some k) (turn_in a current) p turn gone.stood in
-      let stood = subst (IsQueueOrder (entry a) (links a) (Some k)) split.2 turn in
-      let left = cancelled (entry a) (links a) (entry b) (links b) (Some k) next split.0 split.1 (p, gone.stood.value) stood (follows split.0 split.1 gone.stood.value stood) gone.gone gone.kept gone.chains in
+      let split = valid_task (entry a) (links a) (Some k) (turn_in a current) p turn gone.was_stored in
+      let was_stored = subst (IsQueueOrder (entry a) (links a) (Some k)) split.2 turn in
+      let left = cancelled (entry a) (links a) (entry b) (links b) (Some k) next split.0 split.1 (p, gone.was_stored.value) was_stored (follows split.0 split.1 gone.was_stored.value was_stored) gone.gone gone.kept gone.chains in
       let now = settle b next (split.0 ++ split.1) left in
       record {
         cancelled = record {
           before = split.0;
           after = split.1;
-          stood = split.2;
+          was_stored = split.2;
           left = now.is_found;
-          gone = subst (λ l. ¬ IsAmong p l) (sym now.is_found) (not_among (entry a) (links a) (Some k) split.0 split.1 (p, gone.stood.value) stood);
+          gone = subst (λ l. ¬ IsAmong p l) (sym now.is_found) (not_among (entry a) (links a) (Some k) split.0 split.1 (p, gone.was_stored.value) was_stored);
         };
         holds = now.holds;
       }

@@ -19,7 +19,7 @@ use Rattle.chain_compaction.specs.Layouts.{AreAllMoves}
 use Rattle.chain_compaction.specs.PointerMoves.{ArePointerMoves}
 use Rattle.chain_arena.proofs.PointerTransferLemmas.{arena_moves_pointers}
 use Rattle.chain_examples.specs.Renumbering.{Move, IsRenumbered}
-use Rattle.chain_examples.specs.MoveTables.{noted, looked_up}
+use Rattle.chain_examples.specs.MoveTables.{noted, finds}
 use Rattle.chain_examples.proofs.MoveTableLemmas.{HasPlaces, noted_table}
 use Rattle.chain_examples.proofs.PointerPairLemmas.{keys_of}
 use Rattle.chain_examples.proofs.BookmarkLemmas.{all_followed}
@@ -32,7 +32,7 @@ module _ {P Gen T : Type 0} (key : P → ℕ × Gen) (old new : Arena Gen (LinkV
   -- A valid pointer has the index of a slot.
   within : (p : ℕ × Gen) → IsValid (entry old) p → (1 ≤ p.0) × (p.0 ≤ length old.slots)
   within p valid =
-      let inside = (slots-within (λ e. no_neighbors) (values_of old).slots).within p.0 (record { link = no_neighbors; shows = ap (option_map (λ e. no_neighbors)) valid.stands }) in
+      let inside = (slots-within (λ e. no_neighbors) (values_of old).slots).within p.0 (record { link = no_neighbors; reports = ap (option_map (λ e. no_neighbors)) valid.stored }) in
       (inside.0, omega (arith, inside.1, length-with_each link_value old))
 
   -- A table with an entry for each slot has one for each move.
@@ -40,8 +40,8 @@ module _ {P Gen T : Type 0} (key : P → ℕ × Gen) (old new : Arena Gen (LinkV
   has_places moved = recursion_from_All _ moves (λ k d below. within (key (slice_index_or moves k d).0) (moved.values k d below).0)
 
   -- The old indexes of the moves returned are within the table.
-  pub fits : ArePointerMoves key (entry old) (entry new) moves → (told : List (P × P)) (count : ℕ) → told ≡ moves → count ≡ length old.slots → All (λ (m : P × P). (key m.0).0 ≤ count) told
-  fits moved told count is long =
+  pub fits : ArePointerMoves key (entry old) (entry new) moves → (known : List (P × P)) (count : ℕ) → known ≡ moves → count ≡ length old.slots → All (λ (m : P × P). (key m.0).0 ≤ count) known
+  fits moved known count is long =
       subst (All (λ (m : P × P). (key m.0).0 ≤ count)) (sym is) (λ k d below. omega (arith, long, (within (key (slice_index_or moves k d).0) (moved.values k d below).0).1))
 
   module _ (first : Gen) (following : Gen → Gen) (layout : IsCanonicalLayout first following false (value_view old) (link_map old) (value_view new) (link_map new)) (all : AreAllMoves key (value_view old) (link_map old) new.counter moves) where
@@ -71,7 +71,7 @@ module _ {P Gen T : Type 0} (key : P → ℕ × Gen) (old new : Arena Gen (LinkV
 
     -- The links are renumbered, and the bookmarks follow their items.
     pub renumbered : (eq : P → P → Bool) → ((p q : P) → key p ≡ key q → p ≡ q) → ((p q : P) → (eq p q ≡ true) ↔ (p ≡ q)) → ArePointerMoves key (entry old) (entry new) moves → (bookmarks : List (Option P))
-        → IsRenumbered first following value_view entry link_map old new (map (option_map key) bookmarks) (map (option_map key) (map (option_and_then (looked_up key eq (noted key (replicate (length old.slots) None) moves))) bookmarks))
+        → IsRenumbered first following value_view entry link_map old new (map (option_map key) bookmarks) (map (option_map key) (map (option_and_then (finds key eq (noted key (replicate (length old.slots) None) moves))) bookmarks))
     renumbered eq same_key eq_is_same moved bookmarks =
         let moved_keys = arena_moves_pointers (λ (p : ℕ × Gen). p) first following false old new (map (keys_of key) moves) layout all_keys in
         record {

@@ -4,7 +4,7 @@ use Rattle.std.specs.Prelude.{◌↔◌, All, is_some, true, OnSome, IfNone}
 use Rattle.std.specs.Option.{option_map, option_and_then}
 use Rattle.std.proofs.lemmas.List.{map-append}
 use Rattle.chain_laws.specs.Chains.{LinkMap, cyclic, IsChain, IsMember, AreDistinct, HasLink, IsWellLinked, next_of, next_in, first_or}
-use Rattle.chain_laws.specs.Exchanges.{Exchanges, exchanged}
+use Rattle.chain_laws.specs.Exchanges.{Exchanges, with_exchange}
 use Rattle.chain_laws.proofs.ChainLemmas.Rotations.{turned}
 use Rattle.chain_laws.proofs.ListLemmas.Members.{IsMember-right}
 use Rattle.chain_laws.proofs.ListLemmas.MemberLaws.{once_in_middle}
@@ -18,7 +18,7 @@ use Rattle.chain_links.specs.ChainArena.{CanExchange, IsInserted, ptr_at}
 use Rattle.chain_traits.proofs.GenericArenaLemmas.{some_valid, valid_some, links_within}
 use Rattle.chain_examples.specs.Lists.{Item, AreEntries, indexes, IsRing, KeepsWithout, InsertsAfter, InsertsBefore}
 use Rattle.chain_examples.specs.Rings.{AllCyclic, AllInRings, IsCutInTwo, AreMerged, AreCopied, IsSplit, IsBridged, CutAndMergeRestore}
-use Rattle.chain_examples.proofs.ItemListLemmas.{stand-append, stand-left, stand-right, stand-some}
+use Rattle.chain_examples.proofs.ItemListLemmas.{are_stored-append, are_stored-left, are_stored-right, are_stored-some}
 use Rattle.chain_examples.proofs.ListChangeLemmas.{parts, whole, stays}
 use Rattle.chain_examples.proofs.MeshInvariantLemmas.{some_item, ring_from}
 
@@ -33,15 +33,15 @@ items_at entry (k ∷ ks) some =
 -- Two insertions, at `c` and then at `d`, use two free indexes.
 module _ {Gen T : Type 0} (entry mid after : ℕ → Option (Gen × T)) (c d : ℕ × Gen) (a b : T) (came : IsInserted entry mid c a) (also : IsInserted mid after d b) where
   pub come_apart : c.0 ≢ d.0
-  come_apart same = let some = ap is_some came.stands in let none = ap is_some (ap mid same ∙ also.free) in let both = sym some ∙ none in cc
+  come_apart same = let some = ap is_some came.stored in let none = ap is_some (ap mid same ∙ also.free) in let both = sym some ∙ none in cc
 
   pub copies_come : (p q : ℕ × Gen) → entry p.0 ≡ Some (p.1, a) → entry q.0 ≡ Some (q.1, b) → AreCopied entry after p q c d
   copies_come p q at_p at_q = record {
     first_free = came.free;
     second_free = sym (came.rest d.0 (λ same. come_apart (sym same))) ∙ also.free;
     distinct = come_apart;
-    first = λ s at. also.rest c.0 come_apart ∙ (came.stands ∙ ap (λ (t : T). Some (c.1, t)) (ap (λ (e : Gen × T). e.1) (one_some (sym at_p ∙ at))));
-    second = λ t at. also.stands ∙ ap (λ (t : T). Some (d.1, t)) (ap (λ (e : Gen × T). e.1) (one_some (sym at_q ∙ at)));
+    first = λ s at. also.rest c.0 come_apart ∙ (came.stored ∙ ap (λ (t : T). Some (c.1, t)) (ap (λ (e : Gen × T). e.1) (one_some (sym at_p ∙ at))));
+    second = λ t at. also.stored ∙ ap (λ (t : T). Some (d.1, t)) (ap (λ (e : Gen × T). e.1) (one_some (sym at_q ∙ at)));
     rest = λ i not_c not_d. also.rest i not_d ∙ came.rest i not_c;
   }
 
@@ -49,32 +49,32 @@ module _ {A Gen T : Type 0} (entry : A → ℕ → Option (Gen × T)) (links : A
   -- The next corner is the next in the ring.
   module _ (a : A) (p : ℕ × Gen) (t : T) (others : List (Item Gen T)) (is : IsRing entry links a ((p, t) ∷ others)) where
     pub in_a_ring : IsValid (entry a) p
-    in_a_ring = record { value = t; stands = is.stand.0 }
+    in_a_ring = record { value = t; stored = is.are_stored.0 }
 
     pub ring_goes_on : option_and_then (ptr_at (entry a)) (next_of (links a) p.0) ≡ first_key (others ++ (p, t) ∷ [])
-    ring_goes_on = ap (λ o. option_and_then (ptr_at (entry a)) (next_in o)) is.chain.2.0 ∙ key_of others is.stand.1
+    ring_goes_on = ap (λ o. option_and_then (ptr_at (entry a)) (next_in o)) is.chain.2.0 ∙ key_of others is.are_stored.1
       where
         key_of : (es : List (Item Gen T)) → AreEntries (entry a) es → option_and_then (ptr_at (entry a)) (first_or (indexes es) (Some p.0)) ≡ first_key (es ++ (p, t) ∷ [])
-        key_of [] s = ap (option_map (λ (x : Gen × T). (p.0, x.0))) is.stand.0
+        key_of [] s = ap (option_map (λ (x : Gen × T). (p.0, x.0))) is.are_stored.0
         key_of (e ∷ es) s = ap (option_map (λ (x : Gen × T). (e.0.0, x.0))) s.0
 
   -- A ring can be listed from any of its corners.
   ring_turned : (a : A) (xs ys : List (Item Gen T)) → IsRing entry links a (xs ++ ys) → IsRing entry links a (ys ++ xs)
   ring_turned a xs ys is = record {
     chain = whole entry links cyclic (λ l. refl) a ys xs (turned (links a) (indexes xs) (indexes ys) (parts entry links cyclic (λ l. refl) a xs ys is.chain));
-    stand = stand-append (entry a) ys xs (stand-right (entry a) xs ys is.stand) (stand-left (entry a) xs ys is.stand);
+    are_stored = are_stored-append (entry a) ys xs (are_stored-right (entry a) xs ys is.are_stored) (are_stored-left (entry a) xs ys is.are_stored);
   }
 
   -- If all chains are cyclic, the successors of any two links can be exchanged.
   pub can_exchange : (a : A) → ((i : ℕ) → is_some (entry a i) ≡ true → HasLink (links a) i) → AllCyclic (links a) → (p q : ℕ × Gen)
       → CanExchange (entry a) (links a) p q ↔ (IsValid (entry a) p × IsValid (entry a) q)
-  can_exchange a linked round p q = (
+  can_exchange a linked all_cyclic p q = (
     λ can. (can.first_valid, can.second_valid),
     λ valid. record {
       first_valid = valid.0;
       second_valid = valid.1;
-      first_next = round p.0 (linked p.0 (ap is_some valid.0.stands));
-      second_next = round q.0 (linked q.0 (ap is_some valid.1.stands));
+      first_next = all_cyclic p.0 (linked p.0 (ap is_some valid.0.stored));
+      second_next = all_cyclic q.0 (linked q.0 (ap is_some valid.1.stored));
     },
   )
 
@@ -88,18 +88,18 @@ module _ {A Gen T : Type 0} (entry : A → ℕ → Option (Gen × T)) (links : A
     -- An exchange cuts one ring in two.
     pub cuts_in_two : IsCutInTwo entry links old new p q
     cuts_in_two s t x y is =
-        let right = stand-right (entry old) x ((q, t) ∷ y) is.stand.1 in
-        let chains = held r (some (record { value = s; stands = is.stand.0 }, record { value = t; stands = right.0 })) exchanges in
+        let right = are_stored-right (entry old) x ((q, t) ∷ y) is.are_stored.1 in
+        let chains = held r (some (record { value = s; stored = is.are_stored.0 }, record { value = t; stored = right.0 })) exchanges in
         let both = chains.one_cyclic (indexes x) (indexes y) (parts entry links cyclic (λ l. refl) old ((p, s) ∷ x) ((q, t) ∷ y) is.chain) in (
-          stays entry links cyclic (λ l. refl) old new same ((p, s) ∷ y) (is.stand.0, right.1) both.0,
-          stays entry links cyclic (λ l. refl) old new same ((q, t) ∷ x) (right.0, stand-left (entry old) x ((q, t) ∷ y) is.stand.1) both.1,
+          stays entry links cyclic (λ l. refl) old new same ((p, s) ∷ y) (is.are_stored.0, right.1) both.0,
+          stays entry links cyclic (λ l. refl) old new same ((q, t) ∷ x) (right.0, are_stored-left (entry old) x ((q, t) ∷ y) is.are_stored.1) both.1,
         )
 
     -- An exchange merges two rings.
     pub merges : AreMerged entry links old new p q
     merges s t x y first second apart =
-        let chains = held r (some (record { value = s; stands = first.stand.0 }, record { value = t; stands = second.stand.0 })) exchanges in
-        stays entry links cyclic (λ l. refl) old new same ((p, s) ∷ y ++ (q, t) ∷ x) (first.stand.0, stand-append (entry old) y ((q, t) ∷ x) second.stand.1 (second.stand.0, first.stand.1))
+        let chains = held r (some (record { value = s; stored = first.are_stored.0 }, record { value = t; stored = second.are_stored.0 })) exchanges in
+        stays entry links cyclic (λ l. refl) old new same ((p, s) ∷ y ++ (q, t) ∷ x) (first.are_stored.0, are_stored-append (entry old) y ((q, t) ∷ x) second.are_stored.1 (second.are_stored.0, first.are_stored.1))
         (whole entry links cyclic (λ l. refl) new ((p, s) ∷ y) ((q, t) ∷ x) (chains.two_cyclic (indexes x) (indexes y) first.chain second.chain apart))
 
     -- An exchange keeps the other rings.
@@ -108,17 +108,17 @@ module _ {A Gen T : Type 0} (entry : A → ℕ → Option (Gen × T)) (links : A
       where
         by : (o : Option R) → OnSome o (Exchanges (links old) (links new) p.0 q.0) → IfNone o (new ≡ old) → IsRing entry links new xs
         by None exchanges none = subst (λ (a : A). IsRing entry links a xs) (sym none) is
-        by (Some x) exchanges none = stays entry links cyclic (λ l. refl) old new same xs is.stand ((exchanges.rest (cyclic (indexes xs)) lacks.0 lacks.1.0).0 is.chain)
+        by (Some x) exchanges none = stays entry links cyclic (λ l. refl) old new same xs is.are_stored ((exchanges.rest (cyclic (indexes xs)) lacks.0 lacks.1.0).0 is.chain)
 
   -- Exchanging a corner with itself changes nothing.
   pub exchanged_itself : (old new : A) → ((i : ℕ) → is_some (entry old i) ≡ true → HasLink (links old) i) → (p q : ℕ × Gen) → IsValid (entry old) p → IsWellLinked (links old) → p ≡ q
-      → links new ≡ exchanged (links old) p.0 q.0 → links new ≡ links old
+      → links new ≡ with_exchange (links old) p.0 q.0 → links new ≡ links old
   exchanged_itself old new linked p q valid agrees same changed =
-      changed ∙ subst (λ (k : ℕ × Gen). exchanged (links old) p.0 k.0 ≡ links old) same (exchanged_with_itself (links old) p.0 agrees (linked p.0 (ap is_some valid.stands)))
+      changed ∙ subst (λ (k : ℕ × Gen). with_exchange (links old) p.0 k.0 ≡ links old) same (exchanged_with_itself (links old) p.0 agrees (linked p.0 (ap is_some valid.stored)))
 
   -- A ring depends only on entries and links.
-  pub ring_seen : (old new : A) → entry new ≡ entry old → links new ≡ links old → (xs : List (Item Gen T)) → IsRing entry links old xs → IsRing entry links new xs
-  ring_seen old new same linked xs is = stays entry links cyclic (λ l. refl) old new same xs is.stand (subst (λ (l : LinkMap). IsChain l (cyclic (indexes xs))) (sym linked) is.chain)
+  pub ring_viewed : (old new : A) → entry new ≡ entry old → links new ≡ links old → (xs : List (Item Gen T)) → IsRing entry links old xs → IsRing entry links new xs
+  ring_viewed old new same linked xs is = stays entry links cyclic (λ l. refl) old new same xs is.are_stored (subst (λ (l : LinkMap). IsChain l (cyclic (indexes xs))) (sym linked) is.chain)
 
   module _ (old first second new : A) (u v c d : ℕ × Gen) (a b : T) where
     -- Inserting the copies and an exchange split one ring.
@@ -128,8 +128,8 @@ module _ {A Gen T : Type 0} (entry : A → ℕ → Option (Gen × T)) (links : A
         let one = before s [] (x ++ (v, t) ∷ y) is in
         let two = after t ((c, a) ∷ (u, s) ∷ x) y one in
         let parts = cut t a ((d, b) ∷ y) ((u, s) ∷ x) (ring_turned second ((c, a) ∷ (u, s) ∷ x) ((v, t) ∷ (d, b) ∷ y) two) in
-        let same_u : a ≡ s = ap (λ (e : Gen × T). e.1) (one_some (sym at_u ∙ is.stand.0)) in
-        let same_v : b ≡ t = ap (λ (e : Gen × T). e.1) (one_some (sym at_v ∙ (stand-right (entry old) x ((v, t) ∷ y) is.stand.1).0)) in
+        let same_u : a ≡ s = ap (λ (e : Gen × T). e.1) (one_some (sym at_u ∙ is.are_stored.0)) in
+        let same_v : b ≡ t = ap (λ (e : Gen × T). e.1) (one_some (sym at_v ∙ (are_stored-right (entry old) x ((v, t) ∷ y) is.are_stored.1).0)) in
         (parts.0, subst (λ (w : T). IsRing entry links new ((c, s) ∷ (d, w) ∷ y)) same_v (subst (λ (w : T). IsRing entry links new ((c, w) ∷ (d, b) ∷ y)) same_u parts.1))
 
     -- Inserting the copies and an exchange bridge two rings.
@@ -138,8 +138,8 @@ module _ {A Gen T : Type 0} (entry : A → ℕ → Option (Gen × T)) (links : A
         → InsertsAfter entry links cyclic first second v (d, b) → KeepsWithout entry links cyclic first second (v ∷ [])
         → AreMerged entry links second new v c → IsBridged entry links old new u v c d
     bridges at_u at_v came also before kept after kept_too merged s t x y one two apart =
-        let same_u : a ≡ s = ap (λ (e : Gen × T). e.1) (one_some (sym at_u ∙ one.stand.0)) in
-        let same_v : b ≡ t = ap (λ (e : Gen × T). e.1) (one_some (sym at_v ∙ two.stand.0)) in
+        let same_u : a ≡ s = ap (λ (e : Gen × T). e.1) (one_some (sym at_u ∙ one.are_stored.0)) in
+        let same_v : b ≡ t = ap (λ (e : Gen × T). e.1) (one_some (sym at_v ∙ two.are_stored.0)) in
         let grown = kept_too ((c, a) ∷ (u, s) ∷ x) (not_among, tt) (before s [] x one) in
         let other = after t [] y (kept ((v, t) ∷ y) (other_lacks, tt) two) in
         let ring = merged t a ((d, b) ∷ y) ((u, s) ∷ x) other grown new_among in
@@ -147,33 +147,33 @@ module _ {A Gen T : Type 0} (entry : A → ℕ → Option (Gen × T)) (links : A
         (subst (λ (w : T). IsRing entry links new ((v, t) ∷ (u, s) ∷ x ++ (c, w) ∷ (d, b) ∷ y)) same_u ring)
       where
         free : (xs : List (Item Gen T)) → AreEntries (entry old) xs → IsMember (indexes xs) c.0 → ⊥
-        free xs stand has = let some = stand-some (entry old) xs c.0 stand has in let none = ap is_some came.free in let both = sym some ∙ none in cc
+        free xs are_stored has = let some = are_stored-some (entry old) xs c.0 are_stored has in let none = ap is_some came.free in let both = sym some ∙ none in cc
 
         other_lacks : IsMember (indexes ((v, t) ∷ y)) u.0 → ⊥
         other_lacks has = apart ((chains_share_each (links old) (cyclic (indexes ((u, s) ∷ x))) (cyclic (indexes ((v, t) ∷ y))) u.0 v.0 one.chain two.chain (inl refl) has).1 (inl refl))
 
         not_among : IsMember (indexes ((c, a) ∷ (u, s) ∷ x)) v.0 → ⊥
-        not_among (inl is) = free ((v, t) ∷ y) two.stand (inl (sym is))
+        not_among (inl is) = free ((v, t) ∷ y) two.are_stored (inl (sym is))
         not_among (inr has) = apart has
 
         new_among : IsMember (indexes ((v, t) ∷ (d, b) ∷ y)) c.0 → ⊥
-        new_among (inl is) = free ((v, t) ∷ y) two.stand (inl is)
+        new_among (inl is) = free ((v, t) ∷ y) two.are_stored (inl is)
         new_among (inr (inl is)) = come_apart (entry old) (entry first) (entry second) c d a b came also (sym is)
-        new_among (inr (inr has)) = free ((v, t) ∷ y) two.stand (inr has)
+        new_among (inr (inr has)) = free ((v, t) ∷ y) two.are_stored (inr has)
 
     -- A split keeps the other rings, which contain no copy.
     pub keeps_split : entry old c.0 ≡ None → KeepsWithout entry links cyclic old first (u ∷ []) → KeepsWithout entry links cyclic first second (v ∷ []) → KeepsWithout entry links cyclic second new (v ∷ c ∷ [])
         → KeepsWithout entry links cyclic old new (u ∷ v ∷ [])
     keeps_split free came also cut xs lacks is =
-        cut xs (lacks.1.0, ((λ has. let some = stand-some (entry old) xs c.0 is.stand has in let none = ap is_some free in let both = sym some ∙ none in cc), tt)) (also xs (lacks.1.0, tt) (came xs (lacks.0, tt) is))
+        cut xs (lacks.1.0, ((λ has. let some = are_stored-some (entry old) xs c.0 is.are_stored has in let none = ap is_some free in let both = sym some ∙ none in cc), tt)) (also xs (lacks.1.0, tt) (came xs (lacks.0, tt) is))
 
   -- Each entry is in a ring.
   pub all_in_rings : (a : A) (es : List (Item Gen T)) → ((i : ℕ) → found i es ≡ entry a i) → ((i : ℕ) → is_some (links a i) ≡ is_some (entry a i)) → (greatest : ℕ)
       → All (λ e. IsWithin greatest (index_of e)) es → IsWellLinked (links a) → AllCyclic (links a) → AllInRings entry links a
-  all_in_rings a es looked stand greatest within agrees round e at =
-      let ring = ring_from (links a) greatest e.0.0 agrees (links_within (links a) (entry a) es stand looked greatest within) round (some_valid (links a) (entry a) es stand looked e.0.0 (ap is_some at)) in
-      let items = items_at (entry a) ring.0 (λ k has. valid_some (links a) (entry a) es stand looked k (members_are_links (links a) (cyclic (e.0.0 ∷ ring.0)) k ring.1 (inr has))) in
-      (items.0, record { chain = subst (λ (l : List ℕ). IsChain (links a) (cyclic (e.0.0 ∷ l))) (sym items.1) ring.1; stand = (at, items.2) })
+  all_in_rings a es was_read are_stored greatest within agrees all_cyclic e at =
+      let ring = ring_from (links a) greatest e.0.0 agrees (links_within (links a) (entry a) es are_stored was_read greatest within) all_cyclic (some_valid (links a) (entry a) es are_stored was_read e.0.0 (ap is_some at)) in
+      let items = items_at (entry a) ring.0 (λ k has. valid_some (links a) (entry a) es are_stored was_read k (members_are_links (links a) (cyclic (e.0.0 ∷ ring.0)) k ring.1 (inr has))) in
+      (items.0, record { chain = subst (λ (l : List ℕ). IsChain (links a) (cyclic (e.0.0 ∷ l))) (sym items.1) ring.1; are_stored = (at, items.2) })
 
   -- A merge undoes a cut, and a cut a merge.
   pub cut_and_merge : CutAndMergeRestore entry links

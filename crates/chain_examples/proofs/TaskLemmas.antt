@@ -7,9 +7,9 @@ use Rattle.arena_base.specs.Arena.{IsValid}
 use Rattle.arena_base.specs.Entries.{ArenaView, count, found, replaced, written, RisesFrom}
 use Rattle.chain_examples.specs.Lists.{Item, indexes, IsQueueOrder}
 use Rattle.chain_examples.specs.QueueOrder.{Queue, IsAmong, with_task}
-use Rattle.chain_examples.proofs.ItemListLemmas.{stand-some}
-use Rattle.chain_examples.proofs.ValueWriteLemmas.{valued, found-standing, indexes-written, first_key-written, stand-written, some-written, value_there, values_elsewhere}
-use Rattle.chain_examples.proofs.QueueOrderLemmas.{settle, turn_length, among_stands, valid_task, turn_in, queue_in}
+use Rattle.chain_examples.proofs.ItemListLemmas.{are_stored-some}
+use Rattle.chain_examples.proofs.ValueWriteLemmas.{valued, found-stored, indexes-written, first_key-written, are_stored-written, some-written, value_there, values_elsewhere}
+use Rattle.chain_examples.proofs.QueueOrderLemmas.{settle, turn_length, among_stored, valid_task, turn_in, queue_in}
 
 module _ {Gen T : Type 0} where
   among_parts : (before after : List (Item Gen T)) (e : Item Gen T) → IsAmong e.0 (before ++ e ∷ after)
@@ -24,19 +24,19 @@ module _ {Gen T : Type 0} where
         subst (IsAmong p) (sym split.2) (among_parts split.0 split.1 (p, valid.value))
 
     pub valid_if_among : (p : ℕ × Gen) → IsAmong p turn → IsValid entry p
-    valid_if_among p among = among_stands entry links turn p is.stand among
+    valid_if_among p among = among_stored entry links turn p is.are_stored among
 
     -- The entry at the index of a task is that task.
     pub task_found : (p : ℕ × Gen) (t : T) → entry p.0 ≡ Some (p.1, t) → found p.0 turn ≡ Some (p.1, t)
-    task_found p t stands = found-standing entry p.0 turn is.stand (is.all p.0 (ap is_some stands)) ∙ stands
+    task_found p t stored = found-stored entry p.0 turn is.are_stored (is.all p.0 (ap is_some stored)) ∙ stored
 
-    pub task_shown : {R : Type 0} (p : ℕ × Gen) (value : R → T) (o : Option R) → IfSome o (λ r. entry p.0 ≡ Some (p.1, value r)) → IfSome o (λ r. found p.0 turn ≡ Some (p.1, value r))
-    task_shown p value None stands = tt
-    task_shown p value (Some r) stands = task_found p (value r) stands
+    pub task_reported : {R : Type 0} (p : ℕ × Gen) (value : R → T) (o : Option R) → IfSome o (λ r. entry p.0 ≡ Some (p.1, value r)) → IfSome o (λ r. found p.0 turn ≡ Some (p.1, value r))
+    task_reported p value None stored = tt
+    task_reported p value (Some r) stored = task_found p (value r) stored
 
     -- A free index belongs to no task.
     pub free_index : (i : ℕ) → entry i ≡ None → IsMember (indexes turn) i → ⊥
-    free_index i free has = let some = stand-some entry turn i is.stand has in let none = ap is_some free in let both = sym some ∙ none in cc
+    free_index i free has = let some = are_stored-some entry turn i is.are_stored has in let none = ap is_some free in let both = sym some ∙ none in cc
 
     -- A value is written at an index.
     pub turn-written : (new : ℕ → Option (Gen × T)) (changed : LinkMap) (i : ℕ) (t : T) → new i ≡ option_map (valued t) (entry i) → ((k : ℕ) → k ≢ i → new k ≡ entry k) → changed ≡ links
@@ -44,7 +44,7 @@ module _ {Gen T : Type 0} where
     turn-written new changed i t there rest same = record {
       first = is.first ∙ sym (first_key-written i t turn);
       ring = λ filled. subst (λ (l : List ℕ). IsChain changed (cyclic l)) (sym (indexes-written i t turn)) (subst (λ (l : LinkMap). IsChain l (cyclic (indexes turn))) (sym same) (is.ring (λ none. filled (ap (replaced i (valued t)) none))));
-      stand = stand-written entry new i t there rest turn (once turn is.ring) is.stand;
+      are_stored = are_stored-written entry new i t there rest turn (once turn is.ring) is.are_stored;
       all = λ k some. subst (λ (l : List ℕ). IsMember l k) (sym (indexes-written i t turn)) (is.all k (sym (some-written entry new i t there rest k) ∙ some));
     }
       where
@@ -55,26 +55,26 @@ module _ {Gen T : Type 0} where
 -- A queue has the size, the capacity and the maximum of its arena.
 pub record HasSize {Gen T : Type 0} (s : ArenaView Gen T) (q : Queue Gen T) : Type 0 where
   pub tasks : count s ≡ length q.turn
-  pub room : s.capacity ≡ q.room
+  pub capacity : s.capacity ≡ q.capacity
   pub maximum : s.maximum ≡ q.maximum
 
-pub has_size : {A Gen T : Type 0} (seen : A → ArenaView Gen T) (entry : A → ℕ → Option (Gen × T)) (links : A → LinkMap) (rises : (a : A) → RisesFrom 1 (seen a).entries) (looked : (a : A) (i : ℕ) → found i (seen a).entries ≡ entry a i)
-    (a : A) (current : Option (ℕ × Gen)) (q : Queue Gen T) → IsQueueOrder (entry a) (links a) current (turn_in seen entry links rises looked a current) → queue_in seen entry links rises looked a current ≡ q → HasSize (seen a) q
-has_size {Gen = Gen} {T = T} seen entry links rises looked a current q is shows = record {
-  tasks = turn_length (entry a) (links a) current (turn_in seen entry links rises looked a current) (seen a).entries is (rises a) (looked a) ∙ ap (λ (r : Queue Gen T). length r.turn) shows;
-  room = ap (λ (r : Queue Gen T). r.room) shows;
-  maximum = ap (λ (r : Queue Gen T). r.maximum) shows;
+pub has_size : {A Gen T : Type 0} (view_of : A → ArenaView Gen T) (entry : A → ℕ → Option (Gen × T)) (links : A → LinkMap) (rises : (a : A) → RisesFrom 1 (view_of a).entries) (was_read : (a : A) (i : ℕ) → found i (view_of a).entries ≡ entry a i)
+    (a : A) (current : Option (ℕ × Gen)) (q : Queue Gen T) → IsQueueOrder (entry a) (links a) current (turn_in view_of entry links rises was_read a current) → queue_in view_of entry links rises was_read a current ≡ q → HasSize (view_of a) q
+has_size {Gen = Gen} {T = T} view_of entry links rises was_read a current q is reports = record {
+  tasks = turn_length (entry a) (links a) current (turn_in view_of entry links rises was_read a current) (view_of a).entries is (rises a) (was_read a) ∙ ap (λ (r : Queue Gen T). length r.turn) reports;
+  capacity = ap (λ (r : Queue Gen T). r.capacity) reports;
+  maximum = ap (λ (r : Queue Gen T). r.maximum) reports;
 }
 
 -- The queue found in an arena.
-module _ {A Gen T : Type 0} (seen : A → ArenaView Gen T) (entry : A → ℕ → Option (Gen × T)) (links : A → LinkMap) (rises : (a : A) → RisesFrom 1 (seen a).entries) (looked : (a : A) (i : ℕ) → found i (seen a).entries ≡ entry a i)
-    (a b : A) (current : Option (ℕ × Gen)) (is : IsQueueOrder (entry a) (links a) current (turn_in seen entry links rises looked a current)) where
+module _ {A Gen T : Type 0} (view_of : A → ArenaView Gen T) (entry : A → ℕ → Option (Gen × T)) (links : A → LinkMap) (rises : (a : A) → RisesFrom 1 (view_of a).entries) (was_read : (a : A) (i : ℕ) → found i (view_of a).entries ≡ entry a i)
+    (a b : A) (current : Option (ℕ × Gen)) (is : IsQueueOrder (entry a) (links a) current (turn_in view_of entry links rises was_read a current)) where
   -- The queue found in the second arena is `q`.
   pub record IsQueue (q : Queue Gen T) : Type 0 where
-    pub holds : IsQueueOrder (entry b) (links b) current (turn_in seen entry links rises looked b current)
-    pub shows : queue_in seen entry links rises looked b current ≡ q
+    pub holds : IsQueueOrder (entry b) (links b) current (turn_in view_of entry links rises was_read b current)
+    pub reports : queue_in view_of entry links rises was_read b current ≡ q
 
-  pub task_written : (i : ℕ) (t : T) → seen b ≡ written (seen a) i t → links b ≡ links a → IsQueue (with_task (queue_in seen entry links rises looked a current) i t)
+  pub task_written : (i : ℕ) (t : T) → view_of b ≡ written (view_of a) i t → links b ≡ links a → IsQueue (with_task (queue_in view_of entry links rises was_read a current) i t)
   task_written i t was same =
-      let now = settle seen entry links rises looked b current _ (turn-written (entry a) (links a) current _ is (entry b) (links b) i t (value_there seen entry links looked a b i t was) (values_elsewhere seen entry links looked a b i t was) same) in
-      record { holds = now.holds; shows = λ k. record { turn = now.is_found k; room = (ap (λ (s : ArenaView Gen T). s.capacity) was) k; maximum = (ap (λ (s : ArenaView Gen T). s.maximum) was) k } }
+      let now = settle view_of entry links rises was_read b current _ (turn-written (entry a) (links a) current _ is (entry b) (links b) i t (value_there view_of entry links was_read a b i t was) (values_elsewhere view_of entry links was_read a b i t was) same) in
+      record { holds = now.holds; reports = λ k. record { turn = now.is_found k; capacity = (ap (λ (s : ArenaView Gen T). s.capacity) was) k; maximum = (ap (λ (s : ArenaView Gen T). s.maximum) was) k } }

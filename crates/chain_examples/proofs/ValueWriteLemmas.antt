@@ -8,7 +8,7 @@ use Rattle.chain_laws.specs.Chains.{LinkMap, linear, IsChain, IsMember, AreDisti
 use Rattle.arena_base.specs.Entries.{ArenaView, found, first_key, index_of, replaced, written}
 use Rattle.chain_examples.specs.Lists.{Item, AreEntries, indexes}
 use Rattle.chain_examples.specs.Texts.{HasNewValue}
-use Rattle.chain_examples.proofs.ItemListLemmas.{stand-append, stand-left, stand-right, stand-frame}
+use Rattle.chain_examples.proofs.ItemListLemmas.{are_stored-append, are_stored-left, are_stored-right, are_stored-frame}
 use Rattle.chain_examples.proofs.DocumentLemmas.{apart, has_left, has_right}
 
 module _ {Gen T : Type 0} where
@@ -61,11 +61,11 @@ module _ {Gen T : Type 0} where
       (cases_eq e.0.0 i)
 
   -- Lookup among stored items finds the entries.
-  pub found-standing : (entry : ℕ → Option (Gen × T)) (i : ℕ) (es : List (Item Gen T)) → AreEntries entry es → IsMember (indexes es) i → found i es ≡ entry i
-  found-standing entry i [] stand has = absurd has
-  found-standing entry i (e ∷ es) stand has = ⊎_elim
-      (λ is. at_first e i es is ∙ (sym stand.0 ∙ ap entry is))
-      (λ other. past_first e i es other ∙ found-standing entry i es stand.1 (later other has))
+  pub found-stored : (entry : ℕ → Option (Gen × T)) (i : ℕ) (es : List (Item Gen T)) → AreEntries entry es → IsMember (indexes es) i → found i es ≡ entry i
+  found-stored entry i [] are_stored has = absurd has
+  found-stored entry i (e ∷ es) are_stored has = ⊎_elim
+      (λ is. at_first e i es is ∙ (sym are_stored.0 ∙ ap entry is))
+      (λ other. past_first e i es other ∙ found-stored entry i es are_stored.1 (later other has))
       (cases_eq e.0.0 i)
     where
       later : e.0.0 ≢ i → IsMember (indexes (e ∷ es)) i → IsMember (indexes es) i
@@ -74,14 +74,14 @@ module _ {Gen T : Type 0} where
 
   -- Items stay stored after writing the value at an index.
   module _ (old new : ℕ → Option (Gen × T)) (i : ℕ) (t : T) (there : new i ≡ option_map (valued t) (old i)) (rest : (k : ℕ) → k ≢ i → new k ≡ old k) where
-    pub stand-written : (es : List (Item Gen T)) → AreDistinct (indexes es) → AreEntries old es → AreEntries new (replaced i (valued t) es)
-    stand-written [] once stand = tt
-    stand-written (e ∷ es) once stand = ⊎_elim
+    pub are_stored-written : (es : List (Item Gen T)) → AreDistinct (indexes es) → AreEntries old es → AreEntries new (replaced i (valued t) es)
+    are_stored-written [] once are_stored = tt
+    are_stored-written (e ∷ es) once are_stored = ⊎_elim
         (λ is. subst (AreEntries new) (sym (writes_first i t e es is)) (
-          there ∙ ap (option_map (valued t)) (ap old (sym is) ∙ stand.0),
-          stand-frame old new es (λ k has. rest k (λ same. once.0 (subst (IsMember (indexes es)) (same ∙ sym is) has))) stand.1,
+          there ∙ ap (option_map (valued t)) (ap old (sym is) ∙ are_stored.0),
+          are_stored-frame old new es (λ k has. rest k (λ same. once.0 (subst (IsMember (indexes es)) (same ∙ sym is) has))) are_stored.1,
         ))
-        (λ other. subst (AreEntries new) (sym (writes_later i t e es other)) (rest e.0.0 other ∙ stand.0, stand-written es once.1 stand.1))
+        (λ other. subst (AreEntries new) (sym (writes_later i t e es other)) (rest e.0.0 other ∙ are_stored.0, are_stored-written es once.1 are_stored.1))
         (cases_eq e.0.0 i)
 
     some_mapped : (o : Option (Gen × T)) → is_some (option_map (valued t) o) ≡ is_some o
@@ -96,30 +96,30 @@ module _ {Gen T : Type 0} where
         (cases_eq k i)
 
 -- A value written in an arena.
-module _ {A Gen T : Type 0} (seen : A → ArenaView Gen T) (entry : A → ℕ → Option (Gen × T)) (links : A → LinkMap) (looked : (a : A) (i : ℕ) → found i (seen a).entries ≡ entry a i)
-    (a b : A) (i : ℕ) (t : T) (was : seen b ≡ written (seen a) i t) where
+module _ {A Gen T : Type 0} (view_of : A → ArenaView Gen T) (entry : A → ℕ → Option (Gen × T)) (links : A → LinkMap) (was_read : (a : A) (i : ℕ) → found i (view_of a).entries ≡ entry a i)
+    (a b : A) (i : ℕ) (t : T) (was : view_of b ≡ written (view_of a) i t) where
   pub value_there : entry b i ≡ option_map (valued t) (entry a i)
-  value_there = sym (looked b i) ∙ (ap (λ (s : ArenaView Gen T). found i s.entries) was ∙ (found-written i t (seen a).entries ∙ ap (option_map (valued t)) (looked a i)))
+  value_there = sym (was_read b i) ∙ (ap (λ (s : ArenaView Gen T). found i s.entries) was ∙ (found-written i t (view_of a).entries ∙ ap (option_map (valued t)) (was_read a i)))
 
   pub values_elsewhere : (k : ℕ) → k ≢ i → entry b k ≡ entry a k
-  values_elsewhere k other = sym (looked b k) ∙ (ap (λ (s : ArenaView Gen T). found k s.entries) was ∙ (found-unwritten k i t (seen a).entries other ∙ looked a k))
+  values_elsewhere k other = sym (was_read b k) ∙ (ap (λ (s : ArenaView Gen T). found k s.entries) was ∙ (found-unwritten k i t (view_of a).entries other ∙ was_read a k))
 
   -- The item of a text has the new value, and the others keep theirs.
-  pub has_new_value : (g : Gen) → links b ≡ links a → HasNewValue seen entry links a b (i, g) t
+  pub has_new_value : (g : Gen) → links b ≡ links a → HasNewValue view_of entry links a b (i, g) t
   has_new_value g same = record {
     text = λ s before after is.
-        let right = stand-right (entry a) before (((i, g), s) ∷ after) is.stand in
+        let right = are_stored-right (entry a) before (((i, g), s) ∷ after) is.are_stored in
         let other = (apart before ((i, g), s) after is.chain.1).0 in
         let indexes_stay : indexes (before ++ ((i, g), s) ∷ after) ≡ indexes (before ++ ((i, g), t) ∷ after) = map-append index_of before (((i, g), s) ∷ after) ∙ sym (map-append index_of before (((i, g), t) ∷ after)) in
         record {
           chain = subst (λ (l : List ℕ). IsChain (links b) (linear l)) indexes_stay (subst (λ (l : LinkMap). IsChain l (linear (indexes (before ++ ((i, g), s) ∷ after)))) (sym same) is.chain);
-          stand = stand-append (entry b) before (((i, g), t) ∷ after)
-              (stand-frame (entry a) (entry b) before (λ k has. values_elsewhere k (λ is_i. other (has_left before after i (subst (IsMember (indexes before)) is_i has)))) (stand-left (entry a) before (((i, g), s) ∷ after) is.stand))
-              (value_there ∙ ap (option_map (valued t)) right.0, stand-frame (entry a) (entry b) after (λ k has. values_elsewhere k (λ is_i. other (has_right before after i (subst (IsMember (indexes after)) is_i has)))) right.1);
+          are_stored = are_stored-append (entry b) before (((i, g), t) ∷ after)
+              (are_stored-frame (entry a) (entry b) before (λ k has. values_elsewhere k (λ is_i. other (has_left before after i (subst (IsMember (indexes before)) is_i has)))) (are_stored-left (entry a) before (((i, g), s) ∷ after) is.are_stored))
+              (value_there ∙ ap (option_map (valued t)) right.0, are_stored-frame (entry a) (entry b) after (λ k has. values_elsewhere k (λ is_i. other (has_right before after i (subst (IsMember (indexes after)) is_i has)))) right.1);
         };
     others = λ items lacks is. record {
       chain = subst (λ (l : LinkMap). IsChain l (linear (indexes items))) (sym same) is.chain;
-      stand = stand-frame (entry a) (entry b) items (λ k has. values_elsewhere k (λ is_i. lacks.0 (subst (IsMember (indexes items)) is_i has))) is.stand;
+      are_stored = are_stored-frame (entry a) (entry b) items (λ k has. values_elsewhere k (λ is_i. lacks.0 (subst (IsMember (indexes items)) is_i has))) is.are_stored;
     };
     state = was;
     order = same;

@@ -22,7 +22,7 @@ module _ {Gen T : Type 0} (entry : ℕ → Option (Gen × T)) (links : LinkMap) 
   pub record IsQueueOrder (current : Option (ℕ × Gen)) (turn : List (Item Gen T)) : Type 0 where
     pub first : current ≡ first_key turn
     pub ring : turn ≢ [] → IsChain links (cyclic (indexes turn))
-    pub stand : AreEntries entry turn
+    pub are_stored : AreEntries entry turn
     pub all : (i : ℕ) → is_some (entry i) ≡ true → IsMember (indexes turn) i
 
 -- `entry` gives the entry at each index of an arena, `links` the interlinks.
@@ -30,7 +30,7 @@ module _ {A Gen T : Type 0} (entry : A → ℕ → Option (Gen × T)) (links : A
   -- The items are stored in the arena as exactly one chain, linear or cyclic by `shape`.
   pub record IsListOf (shape : List ℕ → Chain) (arena : A) (items : List (Item Gen T)) : Type 0 where
     pub chain : IsChain (links arena) (shape (indexes items))
-    pub stand : AreEntries (entry arena) items
+    pub are_stored : AreEntries (entry arena) items
 
   -- A text is a linear list, from start to end; a ring is a cyclic one, listed from any item.
   abbrev pub IsText : A → List (Item Gen T) → Type 0

@@ -17,5 +17,5 @@ target_from eq p None = None
 target_from eq p (Some m) = if eq m.0 p then Some m.1 else None
 
 -- The new pointer that the table has for `p`, if there is one.
-abbrev pub looked_up : {P Gen : Type 0} → (P → ℕ × Gen) → (P → P → Bool) → List (Option (P × P)) → P → Option P
-looked_up key eq table p = target_from eq p (slot_at table (key p).0)
+abbrev pub finds : {P Gen : Type 0} → (P → ℕ × Gen) → (P → P → Bool) → List (Option (P × P)) → P → Option P
+finds key eq table p = target_from eq p (slot_at table (key p).0)

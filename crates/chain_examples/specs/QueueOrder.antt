@@ -9,7 +9,7 @@ use Rattle.chain_examples.specs.Lists.{Item, IsQueueOrder}
 -- any.
 pub record Queue (Gen T : Type 0) : Type 0 where
   pub turn : List (Item Gen T)
-  pub room : ℕ
+  pub capacity : ℕ
   pub maximum : Option ℕ
 
 -- The queue with the task at an index replaced.
@@ -30,7 +30,7 @@ IsAmong p (e ∷ items) = (e.0 ≡ p) ⊎ IsAmong p items
 pub record IsCancelled {Gen T : Type 0} (p : ℕ × Gen) (task : T) (old new : List (Item Gen T)) : Type 0 where
   pub before : List (Item Gen T)
   pub after : List (Item Gen T)
-  pub stood : old ≡ before ++ (p, task) ∷ after
+  pub was_stored : old ≡ before ++ (p, task) ∷ after
   pub left : new ≡ before ++ after
   pub gone : ¬ IsAmong p new
 

@@ -5,7 +5,7 @@ ghost use Rattle.std.specs.Option.{option_map, option_and_then};
 ghost use Rattle.chain_links.specs.ChainArena.{entry, value_view, link_map};
 ghost use Rattle.chain_links.specs.CanonicalLayouts.{IsCanonicalLayout};
 ghost use Rattle.chain_examples.specs.Renumbering.{IsRenumbered};
-ghost use Rattle.chain_examples.specs.MoveTables.{noted, looked_up};
+ghost use Rattle.chain_examples.specs.MoveTables.{noted, finds};
 
 use arena_base::{ArenaSlot, ArenaTrait};
 use arena_ptr::{InxKey, PtrKey, SlotStack};
@@ -35,7 +35,7 @@ pub fn renumber<P: PtrKey, T: Drop, S: SlotStack<Item = ArenaSlot<P, LinkNoGen<P
         (map (option_map P.key) bookmarks.old) (map (option_map P.key) bookmarks.new)) }
     ensures err { OnErr result ((arena.new ≡ arena.old) × (bookmarks.new ≡ bookmarks.old)) }
 {
-    let mut table = room(alloc, arena.backing().len())?;
+    let mut table = empty_table(alloc, arena.backing().len())?;
     match arena.compress_canonical_moves(alloc, false) {
         Ok((_, moves)) => {
             let table = table.as_mut_slice();
@@ -52,7 +52,7 @@ pub fn renumber<P: PtrKey, T: Drop, S: SlotStack<Item = ArenaSlot<P, LinkNoGen<P
 /// # Errors
 ///
 /// - `AllocError`: an allocation failed.
-fn room<P: PtrKey>(alloc: Global, n: usize) -> Result<Vec<Option<(P, P)>>, AllocError>
+fn empty_table<P: PtrKey>(alloc: Global, n: usize) -> Result<Vec<Option<(P, P)>>, AllocError>
     ensures { IfOk result (λ table. table.items ≡ replicate n None) }
 {
     let mut table = Vec::new(alloc);
@@ -83,7 +83,7 @@ fn note<P: PtrKey>(table: &mut [Option<(P, P)>], moves: &[(P, P)])
 /// Returns the new pointer of a bookmark, or `None` if it is `None` or the table has no move from
 /// it.
 fn find<P: PtrKey>(table: &[Option<(P, P)>], bookmark: Option<P>) -> Option<P>
-    ensures { result ≡ option_and_then (looked_up P.key P.same table.now) bookmark }
+    ensures { result ≡ option_and_then (finds P.key P.same table.now) bookmark }
 {
     let p = bookmark?;
     match table.get(place_of(p)) {
@@ -94,7 +94,7 @@ fn find<P: PtrKey>(table: &[Option<(P, P)>], bookmark: Option<P>) -> Option<P>
 
 /// Replaces each bookmark with its new pointer, or with `None` if the table has no move from it.
 fn follow<P: PtrKey>(table: &[Option<(P, P)>], bookmarks: &mut [Option<P>])
-    ensures { bookmarks.new ≡ map (option_and_then (looked_up P.key P.same table.now))
+    ensures { bookmarks.new ≡ map (option_and_then (finds P.key P.same table.now))
         bookmarks.old }
 {
     for bookmark in bookmarks.iter_mut() {

@@ -106,7 +106,7 @@ impl<P: PtrKey, T: Drop, A: ChainArenaTrait<P, T> + Drop> Documents<P, T, A> {
         ensures greatest { P.Inx.greatest < count (A.view self.old) + additional → IsErr result }
         ensures ok { OnOk result (IsCapacityFor P.Inx.greatest (A.view self.new).maximum
             (count (A.view self.old) + additional) (A.view self.new).capacity) }
-        ensures seen { A.view self.new
+        ensures view_after { A.view self.new
             ≡ with_capacity (A.view self.old) (A.view self.new).capacity }
         ensures never_less { (A.view self.old).capacity ≤ (A.view self.new).capacity }
         ensures paragraphs { A.entry self.new ≡ A.entry self.old }
@@ -134,7 +134,8 @@ impl<P: PtrKey, T: Drop, A: ChainArenaTrait<P, T> + Drop> Documents<P, T, A> {
         ensures others { OnOk result
             (KeepsWithout A.entry A.interlinks linear self.old self.new []) }
         ensures size { OnOk result (count (A.view self.new) ≡ count (A.view self.old) + 1) }
-        ensures room { SucceedsWithinCapacity (A.view self.old) result (A.view self.new) }
+        ensures within_capacity { SucceedsWithinCapacity (A.view self.old) result
+            (A.view self.new) }
         ensures grown { OnOk result (IsCapacityFor P.Inx.greatest (A.view self.new).maximum
             (count (A.view self.old) + 1) (A.view self.new).capacity) }
         ensures beyond { (result ≡ Err ReallocationError.BeyondMaxCapacity)
@@ -163,9 +164,14 @@ impl<P: PtrKey, T: Drop, A: ChainArenaTrait<P, T> + Drop> Documents<P, T, A> {
         ensures* writes_back { sem 𝓛 (LendsSo
             (the_row P.row T.row A.row P.Inx.row P.Gen.row P.Inx.Word.row
             A.ChainPtrAdvancer.row A.PtrAdvancer.row P.PtrKey P.Inx.InxKey P.Gen.GenKey
-            (record { interlinks = A.interlinks; walker = A.walker; connects = A.connects;
-            breaks = A.breaks; exchanges = A.exchanges;
-            compresses_canonically = A.compresses_canonically }) A.ArenaTrait
+            (record {
+              interlinks = A.interlinks;
+              walker = A.walker;
+              connects = A.connects;
+              breaks = A.breaks;
+              exchanges = A.exchanges;
+              compresses_canonically = A.compresses_canonically;
+            }) A.ArenaTrait
             A.PtrAdvancer.Advancer A.ChainPtrAdvancer.Advancer)
             T.row self.entry result
             (λ new t. OnSome result
@@ -239,7 +245,7 @@ impl<P: PtrKey, T: Drop, A: ChainArenaTrait<P, T> + Drop> Documents<P, T, A> {
         ensures link { (result ≡ Err ChainInsertionError.FailedLinkRequirement)
             ↔ ¬ IsValid (A.entry self.old) (P.key p) }
         ensures error { IfErr result (λ e. e ≢ ChainInsertionError.NotWithinCapacity) }
-        ensures room { IsValid (A.entry self.old) (P.key p)
+        ensures within_capacity { IsValid (A.entry self.old) (P.key p)
             → SucceedsWithinCapacity (A.view self.old) result (A.view self.new) }
         ensures grown { OnOk result (IsCapacityFor P.Inx.greatest (A.view self.new).maximum
             (count (A.view self.old) + 1) (A.view self.new).capacity) }
@@ -275,7 +281,7 @@ impl<P: PtrKey, T: Drop, A: ChainArenaTrait<P, T> + Drop> Documents<P, T, A> {
         ensures link { (result ≡ Err ChainInsertionError.FailedLinkRequirement)
             ↔ ¬ IsValid (A.entry self.old) (P.key p) }
         ensures error { IfErr result (λ e. e ≢ ChainInsertionError.NotWithinCapacity) }
-        ensures room { IsValid (A.entry self.old) (P.key p)
+        ensures within_capacity { IsValid (A.entry self.old) (P.key p)
             → SucceedsWithinCapacity (A.view self.old) result (A.view self.new) }
         ensures grown { OnOk result (IsCapacityFor P.Inx.greatest (A.view self.new).maximum
             (count (A.view self.old) + 1) (A.view self.new).capacity) }
@@ -303,7 +309,7 @@ impl<P: PtrKey, T: Drop, A: ChainArenaTrait<P, T> + Drop> Documents<P, T, A> {
         ensures paragraphs { (i : ℕ) → i ≢ (P.key p).0 → A.entry self.new i ≡ A.entry self.old i }
         ensures others { KeepsWithout A.entry A.interlinks linear self.old self.new (P.key p ∷ []) }
         ensures size { OnSome result (count (A.view self.old) ≡ count (A.view self.new) + 1) }
-        ensures seen { OnSome result (A.view self.new
+        ensures view_after { OnSome result (A.view self.new
             ≡ entry_removed P.Gen.following (A.view self.old) (P.key p).0) }
         ensures none { IfNone result (self.new ≡ self.old) }
     {
@@ -321,7 +327,7 @@ impl<P: PtrKey, T: Drop, A: ChainArenaTrait<P, T> + Drop> Documents<P, T, A> {
         ensures texts { EndsIn A.entry A.interlinks self.old self.new (P.key p) }
         ensures others { KeepsWithout A.entry A.interlinks linear self.old self.new (P.key p ∷ []) }
         ensures paragraphs { A.entry self.new ≡ A.entry self.old }
-        ensures seen { A.view self.new ≡ A.view self.old }
+        ensures view_after { A.view self.new ≡ A.view self.old }
         ensures none { IfNone result (self.new ≡ self.old) }
     {
         self.paragraphs.break_next(p)
@@ -337,7 +343,7 @@ impl<P: PtrKey, T: Drop, A: ChainArenaTrait<P, T> + Drop> Documents<P, T, A> {
         ensures texts { BeginsWith A.entry A.interlinks self.old self.new (P.key p) }
         ensures others { KeepsWithout A.entry A.interlinks linear self.old self.new (P.key p ∷ []) }
         ensures paragraphs { A.entry self.new ≡ A.entry self.old }
-        ensures seen { A.view self.new ≡ A.view self.old }
+        ensures view_after { A.view self.new ≡ A.view self.old }
         ensures none { IfNone result (self.new ≡ self.old) }
     {
         self.paragraphs.break_prev(p)
@@ -357,7 +363,7 @@ impl<P: PtrKey, T: Drop, A: ChainArenaTrait<P, T> + Drop> Documents<P, T, A> {
         ensures others { KeepsWithout A.entry A.interlinks linear self.old self.new
             (P.key p ∷ P.key q ∷ []) }
         ensures paragraphs { A.entry self.new ≡ A.entry self.old }
-        ensures seen { A.view self.new ≡ A.view self.old }
+        ensures view_after { A.view self.new ≡ A.view self.old }
         ensures none { IfNone result (self.new ≡ self.old) }
     {
         self.paragraphs.connect(p, q)
@@ -367,7 +373,7 @@ impl<P: PtrKey, T: Drop, A: ChainArenaTrait<P, T> + Drop> Documents<P, T, A> {
     fn close(&mut self, end: Option<P>, start: Option<P>) -> Option<()>
         ensures texts { IsClosed A.entry A.interlinks self.old self.new (option_map P.key end)
             (option_map P.key start) }
-        ensures seen { A.view self.new ≡ A.view self.old }
+        ensures view_after { A.view self.new ≡ A.view self.old }
     {
         let p = end?;
         let q = start?;
@@ -394,7 +400,7 @@ impl<P: PtrKey, T: Drop, A: ChainArenaTrait<P, T> + Drop> Documents<P, T, A> {
         ensures some { IsSome result ↔ IsValid (A.entry self.old) (P.key p) }
         ensures texts { IsSeparated A.entry A.interlinks self.old self.new (P.key p) }
         ensures others { KeepsWithout A.entry A.interlinks linear self.old self.new (P.key p ∷ []) }
-        ensures seen { A.view self.new ≡ A.view self.old }
+        ensures view_after { A.view self.new ≡ A.view self.old }
         ensures none { IfNone result (self.new ≡ self.old) }
     {
         let (before, after) = self.beside(p)?;
@@ -409,7 +415,7 @@ impl<P: PtrKey, T: Drop, A: ChainArenaTrait<P, T> + Drop> Documents<P, T, A> {
         ensures texts { IsPutAfter A.entry A.interlinks self.old self.new (P.key p) (P.key q) }
         ensures others { KeepsWithout A.entry A.interlinks linear self.old self.new
             (P.key p ∷ P.key q ∷ []) }
-        ensures seen { A.view self.new ≡ A.view self.old }
+        ensures view_after { A.view self.new ≡ A.view self.old }
     {
         let after = self.next(q);
         self.part_after(q);
@@ -430,7 +436,7 @@ impl<P: PtrKey, T: Drop, A: ChainArenaTrait<P, T> + Drop> Documents<P, T, A> {
         ensures others { KeepsWithout A.entry A.interlinks linear self.old self.new
             (P.key p ∷ P.key q ∷ []) }
         ensures paragraphs { A.entry self.new ≡ A.entry self.old }
-        ensures seen { A.view self.new ≡ A.view self.old }
+        ensures view_after { A.view self.new ≡ A.view self.old }
         ensures none { IfNone result (self.new ≡ self.old) }
     {
         if p.is_same(q) || !self.paragraphs.contains(q) {

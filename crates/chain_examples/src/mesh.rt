@@ -159,7 +159,8 @@ impl<P: PtrKey, T: Drop, A: ChainArenaTrait<P, T> + Drop> Mesh<P, T, A> {
         ensures others { OnOk result
             (KeepsWithout A.entry A.interlinks cyclic self.old self.new []) }
         ensures size { OnOk result (count (A.view self.new) ≡ count (A.view self.old) + 1) }
-        ensures room { SucceedsWithinCapacity (A.view self.old) result (A.view self.new) }
+        ensures within_capacity { SucceedsWithinCapacity (A.view self.old) result
+            (A.view self.new) }
         ensures grown { OnOk result (IsCapacityFor P.Inx.greatest (A.view self.new).maximum
             (count (A.view self.old) + 1) (A.view self.new).capacity) }
         ensures maximum { (A.view self.new).maximum ≡ (A.view self.old).maximum }
@@ -191,7 +192,7 @@ impl<P: PtrKey, T: Drop, A: ChainArenaTrait<P, T> + Drop> Mesh<P, T, A> {
         ensures link { (result ≡ Err ChainInsertionError.FailedLinkRequirement)
             ↔ ¬ IsValid (A.entry self.old) (P.key corner) }
         ensures error { IfErr result (λ e. e ≢ ChainInsertionError.NotWithinCapacity) }
-        ensures room { IsValid (A.entry self.old) (P.key corner)
+        ensures within_capacity { IsValid (A.entry self.old) (P.key corner)
             → SucceedsWithinCapacity (A.view self.old) result (A.view self.new) }
         ensures grown { OnOk result (IsCapacityFor P.Inx.greatest (A.view self.new).maximum
             (count (A.view self.old) + 1) (A.view self.new).capacity) }
@@ -220,7 +221,7 @@ impl<P: PtrKey, T: Drop, A: ChainArenaTrait<P, T> + Drop> Mesh<P, T, A> {
         ensures others { KeepsWithout A.entry A.interlinks cyclic self.old self.new
             (P.key corner ∷ []) }
         ensures size { OnSome result (count (A.view self.old) ≡ count (A.view self.new) + 1) }
-        ensures seen { OnSome result (A.view self.new
+        ensures view_after { OnSome result (A.view self.new
             ≡ entry_removed P.Gen.following (A.view self.old) (P.key corner).0) }
         ensures none { IfNone result (self.new ≡ self.old) }
     {
@@ -240,7 +241,7 @@ impl<P: PtrKey, T: Drop, A: ChainArenaTrait<P, T> + Drop> Mesh<P, T, A> {
         ensures others { KeepsWithout A.entry A.interlinks cyclic self.old self.new
             (P.key u ∷ P.key v ∷ []) }
         ensures corners { A.entry self.new ≡ A.entry self.old }
-        ensures seen { A.view self.new ≡ A.view self.old }
+        ensures view_after { A.view self.new ≡ A.view self.old }
         ensures itself { P.key u ≡ P.key v → A.interlinks self.new ≡ A.interlinks self.old }
         ensures none { IfNone result (self.new ≡ self.old) }
     {
@@ -259,7 +260,7 @@ impl<P: PtrKey, T: Drop, A: ChainArenaTrait<P, T> + Drop> Mesh<P, T, A> {
         ensures others { KeepsWithout A.entry A.interlinks cyclic self.old self.new
             (P.key u ∷ P.key v ∷ []) }
         ensures corners { A.entry self.new ≡ A.entry self.old }
-        ensures seen { A.view self.new ≡ A.view self.old }
+        ensures view_after { A.view self.new ≡ A.view self.old }
         ensures itself { P.key u ≡ P.key v → A.interlinks self.new ≡ A.interlinks self.old }
         ensures none { IfNone result (self.new ≡ self.old) }
     {
@@ -275,7 +276,7 @@ impl<P: PtrKey, T: Drop, A: ChainArenaTrait<P, T> + Drop> Mesh<P, T, A> {
         ensures others { KeepsWithout A.entry A.interlinks cyclic self.old self.new
             (P.key u ∷ P.key v ∷ []) }
         ensures corners { A.entry self.new ≡ A.entry self.old }
-        ensures seen { A.view self.new ≡ A.view self.old }
+        ensures view_after { A.view self.new ≡ A.view self.old }
         ensures itself { P.key u ≡ P.key v → A.interlinks self.new ≡ A.interlinks self.old }
         ensures none { IfNone result (self.new ≡ self.old) }
     {
@@ -319,7 +320,7 @@ impl<P: PtrKey, T: Copy + Drop, A: ChainArenaTrait<P, T> + Drop> Mesh<P, T, A> {
         ensures size { IfOk result
             (λ r. OnSome r (count (A.view self.new) ≡ count (A.view self.old) + 2)) }
         ensures none { IfOk result (λ r. IfNone r (self.new ≡ self.old)) }
-        ensures room { count (A.view self.old) + 2 ≤ (A.view self.old).capacity
+        ensures within_capacity { count (A.view self.old) + 2 ≤ (A.view self.old).capacity
             → IsOk result × ((A.view self.new).capacity ≡ (A.view self.old).capacity) }
         ensures grown { IfOk result
             (λ r. OnSome r (IsCapacityFor P.Inx.greatest (A.view self.new).maximum
@@ -336,15 +337,15 @@ impl<P: PtrKey, T: Copy + Drop, A: ChainArenaTrait<P, T> + Drop> Mesh<P, T, A> {
         match self.points(u, v) {
             Some(both) => {
                 self.reserve(2)?;
-                Ok(Some(self.split_in_room(u, v, both)))
+                Ok(Some(self.split_within_capacity(u, v, both)))
             }
             None => Ok(None),
         }
     }
 
     // Splits as `split` does, within the capacity. `both` holds the points of `u` and `v`.
-    fn split_in_room(&mut self, u: P, v: P, both: (T, T)) -> (P, P)
-        requires room { count (A.view self.old) + 2 ≤ (A.view self.old).capacity }
+    fn split_within_capacity(&mut self, u: P, v: P, both: (T, T)) -> (P, P)
+        requires within_capacity { count (A.view self.old) + 2 ≤ (A.view self.old).capacity }
         requires first { A.entry self.old (P.key u).0 ≡ Some ((P.key u).1, both.0) }
         requires second { A.entry self.old (P.key v).0 ≡ Some ((P.key v).1, both.1) }
         ensures rings { IsSplit A.entry A.interlinks self.old self.new
@@ -387,13 +388,14 @@ impl<P: PtrKey, T: Copy + Drop, A: ChainArenaTrait<P, T> + Drop> Mesh<P, T, A> {
 // Inserts a corner directly before another, within the capacity.
 fn add_before<P: PtrKey, T: Drop, A: ChainArenaTrait<P, T>>(corners: &mut A, u: P, t: T) -> P
     requires valid { IsValid (A.entry corners.old) (P.key u) }
-    requires room { HasFreeCapacity (A.view corners.old) }
+    requires within_capacity { HasFreeCapacity (A.view corners.old) }
     ensures ring { InsertsBefore A.entry A.interlinks cyclic corners.old corners.new (P.key u)
         (P.key result, t) }
     ensures corner { IsInserted (A.entry corners.old) (A.entry corners.new) (P.key result) t }
     ensures others { KeepsWithout A.entry A.interlinks cyclic corners.old corners.new
         (P.key u ∷ []) }
-    ensures round { AllCyclic (A.interlinks corners.old) → AllCyclic (A.interlinks corners.new) }
+    ensures all_cyclic { AllCyclic (A.interlinks corners.old) → AllCyclic
+        (A.interlinks corners.new) }
     ensures size { count (A.view corners.new) ≡ count (A.view corners.old) + 1 }
     ensures capacity { (A.view corners.new).capacity ≡ (A.view corners.old).capacity }
     ensures maximum { (A.view corners.new).maximum ≡ (A.view corners.old).maximum }
@@ -408,13 +410,14 @@ fn add_before<P: PtrKey, T: Drop, A: ChainArenaTrait<P, T>>(corners: &mut A, u: 
 // Inserts a corner directly after another, within the capacity.
 fn add_after<P: PtrKey, T: Drop, A: ChainArenaTrait<P, T>>(corners: &mut A, v: P, t: T) -> P
     requires valid { IsValid (A.entry corners.old) (P.key v) }
-    requires room { HasFreeCapacity (A.view corners.old) }
+    requires within_capacity { HasFreeCapacity (A.view corners.old) }
     ensures ring { InsertsAfter A.entry A.interlinks cyclic corners.old corners.new (P.key v)
         (P.key result, t) }
     ensures corner { IsInserted (A.entry corners.old) (A.entry corners.new) (P.key result) t }
     ensures others { KeepsWithout A.entry A.interlinks cyclic corners.old corners.new
         (P.key v ∷ []) }
-    ensures round { AllCyclic (A.interlinks corners.old) → AllCyclic (A.interlinks corners.new) }
+    ensures all_cyclic { AllCyclic (A.interlinks corners.old) → AllCyclic
+        (A.interlinks corners.new) }
     ensures size { count (A.view corners.new) ≡ count (A.view corners.old) + 1 }
     ensures capacity { (A.view corners.new).capacity ≡ (A.view corners.old).capacity }
     ensures maximum { (A.view corners.new).maximum ≡ (A.view corners.old).maximum }

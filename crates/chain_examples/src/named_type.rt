@@ -7,7 +7,7 @@ ghost use Rattle.arena_base.specs.Entries.{HasFreeCapacity};
 ghost use Rattle.arena_ptr.specs.ToolPtr.{key_of};
 ghost use Rattle.chain_laws.specs.Chains.{next_of};
 ghost use Rattle.chain_laws.specs.Neighbors.{AreNeighbors};
-ghost use Rattle.chain_laws.specs.Removals.{removed};
+ghost use Rattle.chain_laws.specs.Removals.{with_removal};
 ghost use Rattle.chain_links.specs.ChainArena.{entry, value_view, link_map};
 
 use arena_base::ArenaTrait;
@@ -21,7 +21,7 @@ pub fn remove_value(arena: &mut ChainArena<ToolPtr, u32>, p: ToolPtr) -> Option<
     ensures some { IsSome result ↔ IsValid (entry arena.old) (key_of p) }
     ensures value { IfSome result (λ t. entry arena.old (key_of p).0 ≡ Some ((key_of p).1, t)) }
     ensures links { IsValid (entry arena.old) (key_of p)
-        → link_map arena.new ≡ removed (link_map arena.old) (key_of p).0 }
+        → link_map arena.new ≡ with_removal (link_map arena.old) (key_of p).0 }
     ensures none { ¬ IsValid (entry arena.old) (key_of p)
         → (result ≡ None) × (arena.new ≡ arena.old) }
 {
@@ -45,7 +45,8 @@ pub fn insert_behind(
 ) -> Result<ToolPtr, ChainInsertionError>
     ensures link { (result ≡ Err ChainInsertionError.FailedLinkRequirement)
         ↔ ¬ IsValid (entry arena.old) (key_of p) }
-    ensures room { IsValid (entry arena.old) (key_of p) → HasFreeCapacity (value_view arena.old)
+    ensures within_capacity { IsValid (entry arena.old) (key_of p) → HasFreeCapacity
+        (value_view arena.old)
         → IsOk result }
     ensures behind { IfOk result (λ q. AreNeighbors (link_map arena.new) (key_of p).0
         (key_of q).0) }

@@ -43,7 +43,7 @@ impl<P: PtrKey, T: Drop, A: ChainArenaTrait<P, T> + Drop> Model for RunQueue<P, 
     ghost view = { λ q. record {
       turn = queue_order (A.entry q.tasks) (A.interlinks q.tasks) (count (A.view q.tasks))
           (option_map P.key q.current);
-      room = (A.view q.tasks).capacity;
+      capacity = (A.view q.tasks).capacity;
       maximum = (A.view q.tasks).maximum;
     } };
 
@@ -59,7 +59,7 @@ impl<P: PtrKey, T: Drop, A: ChainArenaTrait<P, T> + Drop> RunQueue<P, T, A> {
     /// Creates an empty queue. It does not allocate.
     pub fn new(alloc: Global) -> Self
         ensures turn { result.turn ≡ [] }
-        ensures room { result.room ≡ 0 }
+        ensures within_capacity { result.capacity ≡ 0 }
     {
         RunQueue {
             tasks: A::new(alloc),
@@ -71,7 +71,7 @@ impl<P: PtrKey, T: Drop, A: ChainArenaTrait<P, T> + Drop> RunQueue<P, T, A> {
     /// Returns the number of tasks, which is at most the capacity.
     pub fn len(&self) -> usize
         ensures count { result ≡ length self.now.turn }
-        ensures fits { result ≤ self.now.room }
+        ensures fits { result ≤ self.now.capacity }
     {
         self.tasks.len()
     }
@@ -85,7 +85,7 @@ impl<P: PtrKey, T: Drop, A: ChainArenaTrait<P, T> + Drop> RunQueue<P, T, A> {
 
     /// Returns the number of tasks that the queue can hold without growing.
     pub fn capacity(&self) -> usize
-        ensures value { result ≡ self.now.room }
+        ensures value { result ≡ self.now.capacity }
         ensures greatest { result ≤ P.Inx.greatest }
         ensures maximum { IsWithinMaximum self.now.maximum result }
     {
@@ -110,16 +110,16 @@ impl<P: PtrKey, T: Drop, A: ChainArenaTrait<P, T> + Drop> RunQueue<P, T, A> {
     ///
     /// On error, nothing changes.
     pub fn reserve(&mut self, additional: usize) -> Result<(), ReallocationError>
-        ensures within { length self.old.turn + additional ≤ self.old.room
+        ensures within { length self.old.turn + additional ≤ self.old.capacity
             → IsOk result × (self.new ≡ self.old) }
         ensures beyond { (result ≡ Err ReallocationError.BeyondMaxCapacity)
             ↔ IsBeyond self.old.maximum (length self.old.turn + additional) }
         ensures greatest { P.Inx.greatest < length self.old.turn + additional → IsErr result }
         ensures ok { OnOk result (IsCapacityFor P.Inx.greatest self.new.maximum
-            (length self.old.turn + additional) self.new.room) }
+            (length self.old.turn + additional) self.new.capacity) }
         ensures turn { self.new.turn ≡ self.old.turn }
         ensures maximum { self.new.maximum ≡ self.old.maximum }
-        ensures never_less { self.old.room ≤ self.new.room }
+        ensures never_less { self.old.capacity ≤ self.new.capacity }
         ensures err { OnErr result (self.new ≡ self.old) }
     {
         reserve(&mut self.tasks, additional)
@@ -148,9 +148,14 @@ impl<P: PtrKey, T: Drop, A: ChainArenaTrait<P, T> + Drop> RunQueue<P, T, A> {
         ensures* writes_back { sem 𝓛 (LendsSo
             (the_row P.row T.row A.row P.Inx.row P.Gen.row P.Inx.Word.row
             A.ChainPtrAdvancer.row A.PtrAdvancer.row P.PtrKey P.Inx.InxKey P.Gen.GenKey
-            (record { interlinks = A.interlinks; walker = A.walker; connects = A.connects;
-            breaks = A.breaks; exchanges = A.exchanges;
-            compresses_canonically = A.compresses_canonically }) A.ArenaTrait
+            (record {
+              interlinks = A.interlinks;
+              walker = A.walker;
+              connects = A.connects;
+              breaks = A.breaks;
+              exchanges = A.exchanges;
+              compresses_canonically = A.compresses_canonically;
+            }) A.ArenaTrait
             A.PtrAdvancer.Advancer A.ChainPtrAdvancer.Advancer)
             T.row self.entry result
             (λ new t. OnSome result (new ≡ with_task self.old (P.key p).0 t))
@@ -179,12 +184,12 @@ impl<P: PtrKey, T: Drop, A: ChainArenaTrait<P, T> + Drop> RunQueue<P, T, A> {
     pub fn spawn(&mut self, task: T) -> Result<P, ReallocationError>
         ensures last { IfOk result (λ p. self.new.turn ≡ self.old.turn ++ (P.key p, task) ∷ []) }
         ensures fresh { IfOk result (λ p. ¬ IsMember (indexes self.old.turn) (P.key p).0) }
-        ensures room { length self.old.turn < self.old.room
-            → IsOk result × (self.new.room ≡ self.old.room) }
+        ensures within_capacity { length self.old.turn < self.old.capacity
+            → IsOk result × (self.new.capacity ≡ self.old.capacity) }
         ensures grown { OnOk result (IsCapacityFor P.Inx.greatest self.new.maximum
-            (length self.old.turn + 1) self.new.room) }
+            (length self.old.turn + 1) self.new.capacity) }
         ensures beyond { (result ≡ Err ReallocationError.BeyondMaxCapacity)
-            ↔ ((length self.old.turn ≡ self.old.room)
+            ↔ ((length self.old.turn ≡ self.old.capacity)
             × IsBeyond self.old.maximum (length self.old.turn + 1)) }
         ensures greatest { length self.old.turn ≡ P.Inx.greatest → IsErr result }
         ensures maximum { self.new.maximum ≡ self.old.maximum }
@@ -201,7 +206,7 @@ impl<P: PtrKey, T: Drop, A: ChainArenaTrait<P, T> + Drop> RunQueue<P, T, A> {
     pub fn next(&mut self) -> Option<P>
         ensures turned { self.new.turn ≡ rotation self.old.turn }
         ensures current { option_map P.key result ≡ first_key self.new.turn }
-        ensures room { self.new.room ≡ self.old.room }
+        ensures within_capacity { self.new.capacity ≡ self.old.capacity }
         ensures maximum { self.new.maximum ≡ self.old.maximum }
     {
         let current = self.current?;
@@ -219,7 +224,7 @@ impl<P: PtrKey, T: Drop, A: ChainArenaTrait<P, T> + Drop> RunQueue<P, T, A> {
         ensures some { IfSome result
             (λ task. IsCancelled (P.key p) task self.old.turn self.new.turn) }
         ensures none { IfNone result ((self.new ≡ self.old) × ¬ IsAmong (P.key p) self.old.turn) }
-        ensures room { self.new.room ≡ self.old.room }
+        ensures within_capacity { self.new.capacity ≡ self.old.capacity }
         ensures maximum { self.new.maximum ≡ self.old.maximum }
     {
         let current = self.current?;
@@ -235,7 +240,7 @@ impl<P: PtrKey, T: Drop, A: ChainArenaTrait<P, T> + Drop> RunQueue<P, T, A> {
         ensures some { IfSome result (λ task. (p : ℕ × P.Gen)
             × (self.old.turn ≡ (p, task) ∷ self.new.turn)) }
         ensures none { IfNone result ((self.old.turn ≡ []) × (self.new ≡ self.old)) }
-        ensures room { self.new.room ≡ self.old.room }
+        ensures within_capacity { self.new.capacity ≡ self.old.capacity }
         ensures maximum { self.new.maximum ≡ self.old.maximum }
     {
         let p = self.current()?;
@@ -250,7 +255,7 @@ impl<P: PtrKey, T: Drop, A: ChainArenaTrait<P, T> + Drop> RunQueue<P, T, A> {
     pub fn drain_all<B: Allocator>(&mut self, alloc: B) -> Result<Vec<T, B>, AllocError>
         ensures drained { IfOk result (λ tasks. (tasks.items ≡ map (λ e. e.1) self.old.turn)
             × (self.new.turn ≡ [])) }
-        ensures room { self.new.room ≡ self.old.room }
+        ensures within_capacity { self.new.capacity ≡ self.old.capacity }
         ensures maximum { self.new.maximum ≡ self.old.maximum }
         ensures err { OnErr result (self.new ≡ self.old) }
     {
@@ -280,7 +285,7 @@ fn come_last<P: PtrKey, T: Drop, A: ChainArenaTrait<P, T>>(
         (option_map P.key current) (option_map P.key (option_or current (Some p)))
         (P.key p, task)) }
     ensures fresh { IfOk result (λ p. A.entry tasks.old (P.key p).0 ≡ None) }
-    ensures room { SucceedsWithinCapacity (A.view tasks.old) result (A.view tasks.new) }
+    ensures within_capacity { SucceedsWithinCapacity (A.view tasks.old) result (A.view tasks.new) }
     ensures grown { OnOk result (IsCapacityFor P.Inx.greatest (A.view tasks.new).maximum
         (count (A.view tasks.old) + 1) (A.view tasks.new).capacity) }
     ensures beyond { (result ≡ Err ReallocationError.BeyondMaxCapacity)

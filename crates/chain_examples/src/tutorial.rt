@@ -7,8 +7,8 @@ ghost use Rattle.std.specs.Option.{option_map};
 ghost use Rattle.chain_laws.specs.Chains.{linear, cyclic, IsChain, first_or, last_or, next_of};
 ghost use Rattle.chain_laws.specs.Insertions.{next_to};
 ghost use Rattle.chain_laws.specs.Neighbors.{AreNeighbors};
-ghost use Rattle.chain_laws.specs.Joins.{joined, KeepsChainsWithout};
-ghost use Rattle.chain_laws.specs.Removals.{removed};
+ghost use Rattle.chain_laws.specs.Joins.{with_join, KeepsChainsWithout};
+ghost use Rattle.chain_laws.specs.Removals.{with_removal};
 ghost use Rattle.arena_base.specs.Arena.{IsValid};
 ghost use Rattle.arena_base.specs.Entries.{entry_removed, HasFreeCapacity, NeedsBeyondMaximum};
 ghost use Rattle.chain_links.specs.CallEffects.{GainsLink};
@@ -22,14 +22,15 @@ use chain_traits::ChainArenaTrait;
 /// Connects `p` to `q`, so that `q` is the link after `p`, and returns whether it succeeded.
 ///
 /// All other chains and all values stay the same. On failure, the arena is unchanged.
-pub fn tie<P: PtrKey, T: Drop, A: ChainArenaTrait<P, T>>(arena: &mut A, p: P, q: P) -> bool
-    ensures tied { IsTrue result ↔ CanConnect (A.entry arena.old) (A.interlinks arena.old) (P.key p)
+pub fn connect_pair<P: PtrKey, T: Drop, A: ChainArenaTrait<P, T>>(arena: &mut A, p: P, q: P) -> bool
+    ensures connected { IsTrue result ↔ CanConnect (A.entry arena.old) (A.interlinks arena.old)
+        (P.key p)
         (P.key q) }
-    ensures links { IsTrue result → A.interlinks arena.new ≡ joined (A.interlinks arena.old)
+    ensures links { IsTrue result → A.interlinks arena.new ≡ with_join (A.interlinks arena.old)
         (P.key p).0 (P.key q).0 }
     ensures others { IsTrue result → KeepsChainsWithout (A.interlinks arena.old)
         (A.interlinks arena.new) (P.key p).0 (P.key q).0 }
-    ensures seen { IsTrue result → A.view arena.new ≡ A.view arena.old }
+    ensures view_after { IsTrue result → A.view arena.new ≡ A.view arena.old }
     ensures refused { IsFalse result → arena.new ≡ arena.old }
 {
     match arena.connect(p, q) {
@@ -42,15 +43,15 @@ pub fn tie<P: PtrKey, T: Drop, A: ChainArenaTrait<P, T>>(arena: &mut A, p: P, q:
 ///
 /// Returns `None` if no link came after it, or if there is no link at `i`. In the second case the
 /// arena is unchanged.
-pub fn take_next<P: PtrKey, T: Drop, A: ChainArenaTrait<P, T>>(
+pub fn remove_and_step<P: PtrKey, T: Drop, A: ChainArenaTrait<P, T>>(
     arena: &mut A,
     i: P::Inx,
 ) -> Option<P::Inx>
     ensures next { IsSome (A.entry arena.old (P.Inx.number i))
         → option_map P.Inx.number result ≡ next_of (A.interlinks arena.old) (P.Inx.number i) }
     ensures links { IsSome (A.entry arena.old (P.Inx.number i))
-        → A.interlinks arena.new ≡ removed (A.interlinks arena.old) (P.Inx.number i) }
-    ensures seen { IsSome (A.entry arena.old (P.Inx.number i))
+        → A.interlinks arena.new ≡ with_removal (A.interlinks arena.old) (P.Inx.number i) }
+    ensures view_after { IsSome (A.entry arena.old (P.Inx.number i))
         → A.view arena.new ≡ entry_removed P.Gen.following (A.view arena.old) (P.Inx.number i) }
     ensures none { A.entry arena.old (P.Inx.number i) ≡ None
         → (result ≡ None) × (arena.new ≡ arena.old) }
@@ -73,7 +74,7 @@ pub fn close<P: PtrKey, T: Drop, A: ChainArenaTrait<P, T>>(arena: &mut A, p: P, 
     ensures others { IsTrue result
         → KeepsChainsWithout (A.interlinks arena.old) (A.interlinks arena.new) (P.key p).0
         (P.key q).0 }
-    ensures seen { IsTrue result → A.view arena.new ≡ A.view arena.old }
+    ensures view_after { IsTrue result → A.view arena.new ≡ A.view arena.old }
     ensures refused { IsFalse result → arena.new ≡ arena.old }
 {
     match arena.connect(p, q) {
@@ -104,7 +105,8 @@ pub fn put_behind<P: PtrKey, T: Drop, A: ChainArenaTrait<P, T>>(
         (next_to (pointed P.key P.Inx.number p)) t arena.old (P.key q) arena.new) }
     ensures link { (result ≡ Err ChainInsertionError.FailedLinkRequirement)
         ↔ ¬ IsValid (A.entry arena.old) (P.key p) }
-    ensures room { IsValid (A.entry arena.old) (P.key p) × HasFreeCapacity (A.view arena.old)
+    ensures within_capacity { IsValid (A.entry arena.old) (P.key p) × HasFreeCapacity
+        (A.view arena.old)
         → IsOk result }
     ensures capacity { HasFreeCapacity (A.view arena.old)
         → (A.view arena.new).capacity ≡ (A.view arena.old).capacity }

@@ -27,7 +27,7 @@ next_of link_map i = next_in (link_map i)
 -- index i has a link
 pub record HasLink (link_map : LinkMap) (i : ℕ) : Type 0 where
   pub link : Interlinks
-  pub shows : link_map i ≡ Some link
+  pub reports : link_map i ≡ Some link
 
 -- i names j as next exactly if j names i as prev. So each index named is valid, since an invalid
 -- one names nothing.

@@ -2,11 +2,11 @@
 use Rattle.std.specs.Prelude.{◌≡◌, ◌↔◌, ℕ, List, [], ◌∷◌, ◌++◌, None, Some}
 use Rattle.chain_laws.specs.Chains.{LinkMap, linear, cyclic, IsChain, HasLink, HasLinksWithin, IsWellLinked, first_or, last_or}
 use Rattle.chain_laws.specs.Neighbors.{AreNeighbors}
-use Rattle.chain_laws.specs.Joins.{linked, joined, KeepsChainsWithout, AreEndAndStart, HaveSameChains}
+use Rattle.chain_laws.specs.Joins.{with_neighbors, with_join, KeepsChainsWithout, AreEndAndStart, HaveSameChains}
 
 -- nothing comes after a, and nothing before b
-abbrev pub cut : LinkMap → ℕ → ℕ → LinkMap
-cut link_map a b = linked (linked link_map (Some a) None) None (Some b)
+abbrev pub without_pair : LinkMap → ℕ → ℕ → LinkMap
+without_pair link_map a b = with_neighbors (with_neighbors link_map (Some a) None) None (Some b)
 
 -- exactly the neighbor pair (a, b) is removed
 pub record TakesPair (old new : LinkMap) (a b : ℕ) : Type 0 where
@@ -23,31 +23,31 @@ pub record Cuts (old new : LinkMap) (a b : ℕ) : Type 0 where
 
 -- a cut keeps the arena well linked
 abbrev pub CutAgrees : Type 0
-CutAgrees = (link_map : LinkMap) (a b : ℕ) → IsWellLinked link_map → AreNeighbors link_map a b → IsWellLinked (cut link_map a b)
+CutAgrees = (link_map : LinkMap) (a b : ℕ) → IsWellLinked link_map → AreNeighbors link_map a b → IsWellLinked (without_pair link_map a b)
 
 -- a cut removes its pair and no other
 abbrev pub CutTakesAPair : Type 0
-CutTakesAPair = (link_map : LinkMap) (a b : ℕ) → AreNeighbors link_map a b → TakesPair link_map (cut link_map a b) a b
+CutTakesAPair = (link_map : LinkMap) (a b : ℕ) → AreNeighbors link_map a b → TakesPair link_map (without_pair link_map a b) a b
 
 -- a cut cuts the chain
 abbrev pub CutPartsChains : Type 0
-CutPartsChains = (link_map : LinkMap) (a b : ℕ) → Cuts link_map (cut link_map a b) a b
+CutPartsChains = (link_map : LinkMap) (a b : ℕ) → Cuts link_map (without_pair link_map a b) a b
 
 -- `Cuts` gives exactly the chains of the cut
 abbrev pub CutIsDetermined : Type 0
 CutIsDetermined = (old new : LinkMap) (slots a b : ℕ) → IsWellLinked old → HasLinksWithin old slots → AreNeighbors old a b
-    → Cuts old new a b → HaveSameChains new (cut old a b)
+    → Cuts old new a b → HaveSameChains new (without_pair old a b)
 
 -- `TakesPair` with a well-linked result gives exactly the cut
 abbrev pub CutIsDeterminedByPairs : Type 0
-CutIsDeterminedByPairs = (old new : LinkMap) (a b : ℕ) → IsWellLinked old → IsWellLinked new → AreNeighbors old a b → TakesPair old new a b → new ≡ cut old a b
+CutIsDeterminedByPairs = (old new : LinkMap) (a b : ℕ) → IsWellLinked old → IsWellLinked new → AreNeighbors old a b → TakesPair old new a b → new ≡ without_pair old a b
 
 -- a cut gives an end and a start, and joining them restores the arena
 abbrev pub JoinOfCutRestores : Type 0
 JoinOfCutRestores = (link_map : LinkMap) (a b : ℕ) → IsWellLinked link_map → AreNeighbors link_map a b
-    → AreEndAndStart (cut link_map a b) a b × (joined (cut link_map a b) a b ≡ link_map)
+    → AreEndAndStart (without_pair link_map a b) a b × (with_join (without_pair link_map a b) a b ≡ link_map)
 
 -- a join gives neighbors, and cutting them restores the arena
 abbrev pub CutOfJoinRestores : Type 0
 CutOfJoinRestores = (link_map : LinkMap) (a b : ℕ) → IsWellLinked link_map → AreEndAndStart link_map a b
-    → AreNeighbors (joined link_map a b) a b × (cut (joined link_map a b) a b ≡ link_map)
+    → AreNeighbors (with_join link_map a b) a b × (without_pair (with_join link_map a b) a b ≡ link_map)

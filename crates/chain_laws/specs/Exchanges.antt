@@ -2,11 +2,11 @@
 use Rattle.std.specs.Prelude.{◌≡◌, ◌≢◌, ◌↔◌, ℕ, ◌⊎◌, List, [], ◌∷◌, ◌++◌, Some}
 use Rattle.chain_laws.specs.Chains.{LinkMap, linear, cyclic, IsMember, IsChain, HasLink, HasLinksWithin, IsWellLinked, next_of}
 use Rattle.chain_laws.specs.Neighbors.{AreNeighbors, IsRotation}
-use Rattle.chain_laws.specs.Joins.{linked, KeepsChainsWithout, HaveSameChains}
+use Rattle.chain_laws.specs.Joins.{with_neighbors, KeepsChainsWithout, HaveSameChains}
 
 -- p and q trade what follows them, which may be nothing; p may be q
-abbrev pub exchanged : LinkMap → ℕ → ℕ → LinkMap
-exchanged link_map p q = linked (linked link_map (Some p) (next_of link_map q)) (Some q) (next_of link_map p)
+abbrev pub with_exchange : LinkMap → ℕ → ℕ → LinkMap
+with_exchange link_map p q = with_neighbors (with_neighbors link_map (Some p) (next_of link_map q)) (Some q) (next_of link_map p)
 
 -- by pairs: (p, a) and (q, b) become (p, b) and (q, a); others stay
 pub record ExchangesPairs (old new : LinkMap) (p q : ℕ) : Type 0 where
@@ -41,49 +41,49 @@ pub record Exchanges (old new : LinkMap) (p q : ℕ) : Type 0 where
 
 -- an exchange keeps the arena well linked
 abbrev pub ExchangeAgrees : Type 0
-ExchangeAgrees = (link_map : LinkMap) (p q : ℕ) → IsWellLinked link_map → HasLink link_map p → HasLink link_map q → IsWellLinked (exchanged link_map p q)
+ExchangeAgrees = (link_map : LinkMap) (p q : ℕ) → IsWellLinked link_map → HasLink link_map p → HasLink link_map q → IsWellLinked (with_exchange link_map p q)
 
 -- an exchange changes pairs as `ExchangesPairs` states
 abbrev pub ExchangeInPairs : Type 0
-ExchangeInPairs = (link_map : LinkMap) (p q : ℕ) → IsWellLinked link_map → HasLink link_map p → HasLink link_map q → ExchangesPairs link_map (exchanged link_map p q) p q
+ExchangeInPairs = (link_map : LinkMap) (p q : ℕ) → IsWellLinked link_map → HasLink link_map p → HasLink link_map q → ExchangesPairs link_map (with_exchange link_map p q) p q
 
 -- an exchange changes chains as `Exchanges` states
 abbrev pub ExchangeExchanges : Type 0
-ExchangeExchanges = (link_map : LinkMap) (p q : ℕ) → IsWellLinked link_map → HasLink link_map p → HasLink link_map q → Exchanges link_map (exchanged link_map p q) p q
+ExchangeExchanges = (link_map : LinkMap) (p q : ℕ) → IsWellLinked link_map → HasLink link_map p → HasLink link_map q → Exchanges link_map (with_exchange link_map p q) p q
 
 -- `Exchanges` gives exactly the chains of the exchange
 abbrev pub ExchangeIsDetermined : Type 0
 ExchangeIsDetermined = (old new : LinkMap) (slots p q : ℕ) → IsWellLinked old → HasLinksWithin old slots → HasLink old p → HasLink old q
-    → Exchanges old new p q → HaveSameChains new (exchanged old p q)
+    → Exchanges old new p q → HaveSameChains new (with_exchange old p q)
 
 -- `ExchangesPairs` with a well-linked result gives exactly the exchange
 abbrev pub ExchangeIsDeterminedByPairs : Type 0
 ExchangeIsDeterminedByPairs = (old new : LinkMap) (p q : ℕ) → IsWellLinked old → IsWellLinked new → HasLink old p → HasLink old q
-    → ExchangesPairs old new p q → new ≡ exchanged old p q
+    → ExchangesPairs old new p q → new ≡ with_exchange old p q
 
 -- an exchange done twice restores the arena
 abbrev pub ExchangeTwiceRestores : Type 0
 ExchangeTwiceRestores = (link_map : LinkMap) (p q : ℕ) → IsWellLinked link_map → HasLink link_map p → HasLink link_map q
-    → exchanged (exchanged link_map p q) p q ≡ link_map
+    → with_exchange (with_exchange link_map p q) p q ≡ link_map
 
 -- an exchange of a link with itself changes nothing
 abbrev pub ExchangeWithItselfKeeps : Type 0
-ExchangeWithItselfKeeps = (link_map : LinkMap) (p : ℕ) → IsWellLinked link_map → HasLink link_map p → exchanged link_map p p ≡ link_map
+ExchangeWithItselfKeeps = (link_map : LinkMap) (p : ℕ) → IsWellLinked link_map → HasLink link_map p → with_exchange link_map p p ≡ link_map
 
 -- an exchange is symmetric in the two links
 abbrev pub ExchangeIsMutual : Type 0
-ExchangeIsMutual = (link_map : LinkMap) (p q : ℕ) → IsWellLinked link_map → HasLink link_map p → HasLink link_map q → exchanged link_map p q ≡ exchanged link_map q p
+ExchangeIsMutual = (link_map : LinkMap) (p q : ℕ) → IsWellLinked link_map → HasLink link_map p → HasLink link_map q → with_exchange link_map p q ≡ with_exchange link_map q p
 
 -- an exchange of two links of one cyclic chain, written from any link, splits it into two with its
 -- links
 abbrev pub ExchangeSplitsACycle : Type 0
 ExchangeSplitsACycle = (link_map : LinkMap) (p q : ℕ) (xs : List ℕ) → IsWellLinked link_map → p ≢ q → IsChain link_map (cyclic xs) → IsMember xs p → IsMember xs q
     → (x : List ℕ) × (y : List ℕ) × IsRotation (cyclic xs) (cyclic (p ∷ x ++ q ∷ y))
-    × IsChain (exchanged link_map p q) (cyclic (p ∷ y)) × IsChain (exchanged link_map p q) (cyclic (q ∷ x))
+    × IsChain (with_exchange link_map p q) (cyclic (p ∷ y)) × IsChain (with_exchange link_map p q) (cyclic (q ∷ x))
 
 -- an exchange merges the cyclic chains of two links; the result has the links of both
 abbrev pub ExchangeMergesCycles : Type 0
 ExchangeMergesCycles = (link_map : LinkMap) (p q : ℕ) (xs ys : List ℕ) → IsWellLinked link_map → IsChain link_map (cyclic xs) → IsChain link_map (cyclic ys)
     → IsMember xs p → IsMember ys q → (IsMember xs q → ⊥)
     → (x : List ℕ) × (y : List ℕ) × IsRotation (cyclic xs) (cyclic (p ∷ x)) × IsRotation (cyclic ys) (cyclic (q ∷ y))
-    × IsChain (exchanged link_map p q) (cyclic (p ∷ y ++ q ∷ x))
+    × IsChain (with_exchange link_map p q) (cyclic (p ∷ y ++ q ∷ x))

@@ -5,11 +5,11 @@
 use Rattle.std.specs.Prelude.{◌≡◌, ℕ, ◌⊎◌, List, [], ◌∷◌, Option, None}
 use Rattle.chain_laws.specs.Chains.{LinkMap, Chain, items, IsMember, IsChain, IsWellLinked, prev_of, next_of}
 use Rattle.chain_laws.specs.Neighbors.{AreNeighbors}
-use Rattle.chain_laws.specs.Joins.{AddsLone, AreEndAndStart, joined}
+use Rattle.chain_laws.specs.Joins.{AddsLone, AreEndAndStart, with_join}
 use Rattle.chain_laws.specs.Cuts.{Cuts}
-use Rattle.chain_laws.specs.Removals.{removed}
+use Rattle.chain_laws.specs.Removals.{with_removal}
 use Rattle.chain_laws.specs.Insertions.{InsertKind, disconnected, single_link_cyclic, chain_end, chain_start, next_to, prev_to, at_interlink, bridge}
-use Rattle.chain_laws.specs.Insertions.{HasIndex, IsInsertPosition, Inserts, link_before, link_after, inserted}
+use Rattle.chain_laws.specs.Insertions.{HasIndex, IsInsertPosition, Inserts, link_before, link_after, with_insertion}
 
 -- the chain has none of these
 abbrev pub IsDisjointFrom : Chain → List ℕ → Type 0
@@ -39,7 +39,7 @@ InsertionKeepsOthers = (old new : LinkMap) (kind : InsertKind ℕ) (q : ℕ) →
 -- after an insertion, a chain without the new link existed before
 abbrev pub InsertionMakesNoOthers : Type 0
 InsertionMakesNoOthers = (link_map : LinkMap) (q : ℕ) (u v : Option ℕ) → IsWellLinked link_map → link_map q ≡ None → IsInsertPosition link_map q u v
-    → (c : Chain) → (IsMember (items c) q → ⊥) → IsChain (inserted link_map q u v) c → IsChain link_map c
+    → (c : Chain) → (IsMember (items c) q → ⊥) → IsChain (with_insertion link_map q u v) c → IsChain link_map c
 
 -- a new lone link keeps every chain
 abbrev pub LoneKeepsEach : Type 0
@@ -53,9 +53,9 @@ CutKeepsOthers = (old new : LinkMap) (a b : ℕ) → IsWellLinked old → AreNei
 -- after a join, a chain without one of the two links existed before
 abbrev pub JoinMakesNoOthers : Type 0
 JoinMakesNoOthers = (link_map : LinkMap) (a b : ℕ) → IsWellLinked link_map → AreEndAndStart link_map a b
-    → (c : Chain) → (IsMember (items c) a → ⊥) ⊎ (IsMember (items c) b → ⊥) → IsChain (joined link_map a b) c → IsChain link_map c
+    → (c : Chain) → (IsMember (items c) a → ⊥) ⊎ (IsMember (items c) b → ⊥) → IsChain (with_join link_map a b) c → IsChain link_map c
 
 -- after a removal, a chain without the links that the removed one named existed before
 abbrev pub RemovalMakesNoOthers : Type 0
 RemovalMakesNoOthers = (link_map : LinkMap) (i : ℕ) → (c : Chain) → (HasIndex c (prev_of link_map i) → ⊥) → (HasIndex c (next_of link_map i) → ⊥)
-    → IsChain (removed link_map i) c → IsChain link_map c
+    → IsChain (with_removal link_map i) c → IsChain link_map c

@@ -2,8 +2,8 @@
 use Rattle.std.specs.Prelude.{◌≡◌, ◌↔◌, ℕ, ◌⊎◌, List, [], ◌∷◌, ◌++◌, Option, None, Some}
 use Rattle.chain_laws.specs.Chains.{LinkMap, Chain, linear, cyclic, items, IsMember, IsChain, HasLink, HasLinksWithin, IsWellLinked, first_or, last_or, prev_of, next_of}
 use Rattle.chain_laws.specs.Neighbors.{AreNeighbors}
-use Rattle.chain_laws.specs.Joins.{linked, with_lone, AreEndAndStart, HaveSameChains}
-use Rattle.chain_laws.specs.Removals.{removed}
+use Rattle.chain_laws.specs.Joins.{with_neighbors, with_lone, AreEndAndStart, HaveSameChains}
+use Rattle.chain_laws.specs.Removals.{with_removal}
 
 -- the kinds of insertion, with the names of the links beside the new one
 pub data InsertKind (N : Type 0) : Type 0 where
@@ -50,12 +50,12 @@ link_after link_map (at_interlink a b) q = Some b
 link_after link_map (bridge a b) q = Some b
 
 -- q comes after u and before v; either may be none
-abbrev pub inserted : LinkMap → ℕ → Option ℕ → Option ℕ → LinkMap
-inserted link_map q u v = linked (linked (with_lone link_map q) u (Some q)) (Some q) v
+abbrev pub with_insertion : LinkMap → ℕ → Option ℕ → Option ℕ → LinkMap
+with_insertion link_map q u v = with_neighbors (with_neighbors (with_lone link_map q) u (Some q)) (Some q) v
 
 -- a new link at q, by its kind
-abbrev pub inserted_as : LinkMap → InsertKind ℕ → ℕ → LinkMap
-inserted_as link_map kind q = inserted link_map q (link_before link_map kind q) (link_after link_map kind q)
+abbrev pub with_insertion_as : LinkMap → InsertKind ℕ → ℕ → LinkMap
+with_insertion_as link_map kind q = with_insertion link_map q (link_before link_map kind q) (link_after link_map kind q)
 
 -- u and v are neighbors, or an end and a start (one or both may be missing), or both q
 abbrev pub IsInsertPosition : LinkMap → ℕ → Option ℕ → Option ℕ → Type 0
@@ -104,28 +104,28 @@ KindGivesAPosition = (link_map : LinkMap) (kind : InsertKind ℕ) (q : ℕ) → 
 
 -- an insertion keeps the arena well linked
 abbrev pub InsertionAgrees : Type 0
-InsertionAgrees = (link_map : LinkMap) (q : ℕ) (u v : Option ℕ) → IsWellLinked link_map → link_map q ≡ None → IsInsertPosition link_map q u v → IsWellLinked (inserted link_map q u v)
+InsertionAgrees = (link_map : LinkMap) (q : ℕ) (u v : Option ℕ) → IsWellLinked link_map → link_map q ≡ None → IsInsertPosition link_map q u v → IsWellLinked (with_insertion link_map q u v)
 
 -- an insertion changes pairs as `InsertsPairs` states
 abbrev pub InsertionInPairs : Type 0
 InsertionInPairs = (link_map : LinkMap) (q : ℕ) (u v : Option ℕ) → IsWellLinked link_map → link_map q ≡ None → IsInsertPosition link_map q u v
-    → InsertsPairs link_map (inserted link_map q u v) q u v
+    → InsertsPairs link_map (with_insertion link_map q u v) q u v
 
 -- an insertion changes chains as `Inserts` states
 abbrev pub InsertionInserts : Type 0
-InsertionInserts = (link_map : LinkMap) (q : ℕ) (u v : Option ℕ) → link_map q ≡ None → Inserts link_map (inserted link_map q u v) q u v
+InsertionInserts = (link_map : LinkMap) (q : ℕ) (u v : Option ℕ) → link_map q ≡ None → Inserts link_map (with_insertion link_map q u v) q u v
 
 -- `Inserts` gives exactly the chains of the insertion
 abbrev pub InsertionIsDetermined : Type 0
 InsertionIsDetermined = (old new : LinkMap) (slots q : ℕ) (u v : Option ℕ) → IsWellLinked old → HasLinksWithin old slots → old q ≡ None → IsInsertPosition old q u v
-    → Inserts old new q u v → HaveSameChains new (inserted old q u v)
+    → Inserts old new q u v → HaveSameChains new (with_insertion old q u v)
 
 -- `InsertsPairs` with a well-linked result gives exactly the insertion
 abbrev pub InsertionIsDeterminedByPairs : Type 0
 InsertionIsDeterminedByPairs = (old new : LinkMap) (q : ℕ) (u v : Option ℕ) → IsWellLinked old → IsWellLinked new → old q ≡ None → IsInsertPosition old q u v
-    → InsertsPairs old new q u v → new ≡ inserted old q u v
+    → InsertsPairs old new q u v → new ≡ with_insertion old q u v
 
 -- removing a link just inserted beside another one restores the arena
 abbrev pub RemovalOfInsertedRestores : Type 0
 RemovalOfInsertedRestores = (link_map : LinkMap) (a q : ℕ) → IsWellLinked link_map → HasLink link_map a → link_map q ≡ None
-    → (removed (inserted_as link_map (next_to a) q) q ≡ link_map) × (removed (inserted_as link_map (prev_to a) q) q ≡ link_map)
+    → (with_removal (with_insertion_as link_map (next_to a) q) q ≡ link_map) × (with_removal (with_insertion_as link_map (prev_to a) q) q ≡ link_map)

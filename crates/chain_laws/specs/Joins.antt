@@ -21,12 +21,12 @@ next_set link_map None after j = link_map j
 next_set link_map (Some i) after j = if j == i then option_map (with_next after) (link_map j) else link_map j
 
 -- v comes after u; a missing one leaves no neighbor on that side
-abbrev pub linked : LinkMap → Option ℕ → Option ℕ → LinkMap
-linked link_map u v = prev_set (next_set link_map u v) v u
+abbrev pub with_neighbors : LinkMap → Option ℕ → Option ℕ → LinkMap
+with_neighbors link_map u v = prev_set (next_set link_map u v) v u
 
 -- b comes after a
-abbrev pub joined : LinkMap → ℕ → ℕ → LinkMap
-joined link_map a b = linked link_map (Some a) (Some b)
+abbrev pub with_join : LinkMap → ℕ → ℕ → LinkMap
+with_join link_map a b = with_neighbors link_map (Some a) (Some b)
 
 -- a lone link is added at q
 abbrev pub with_lone : LinkMap → ℕ → LinkMap
@@ -66,15 +66,15 @@ pub record AreEndAndStart (link_map : LinkMap) (a b : ℕ) : Type 0 where
 
 -- a join keeps the arena well linked
 abbrev pub JoinAgrees : Type 0
-JoinAgrees = (link_map : LinkMap) (a b : ℕ) → IsWellLinked link_map → AreEndAndStart link_map a b → IsWellLinked (joined link_map a b)
+JoinAgrees = (link_map : LinkMap) (a b : ℕ) → IsWellLinked link_map → AreEndAndStart link_map a b → IsWellLinked (with_join link_map a b)
 
 -- a join adds its pair and no other
 abbrev pub JoinAddsAPair : Type 0
-JoinAddsAPair = (link_map : LinkMap) (a b : ℕ) → AreEndAndStart link_map a b → AddsPair link_map (joined link_map a b) a b
+JoinAddsAPair = (link_map : LinkMap) (a b : ℕ) → AreEndAndStart link_map a b → AddsPair link_map (with_join link_map a b) a b
 
 -- a join connects the chains
 abbrev pub JoinConnects : Type 0
-JoinConnects = (link_map : LinkMap) (a b : ℕ) → Connects link_map (joined link_map a b) a b
+JoinConnects = (link_map : LinkMap) (a b : ℕ) → Connects link_map (with_join link_map a b) a b
 
 -- a new lone link keeps the arena well linked
 abbrev pub LoneAgrees : Type 0
@@ -101,7 +101,7 @@ PairsDecide = (left right : LinkMap) → IsWellLinked left → IsWellLinked righ
 -- `Connects` gives exactly the chains of the join
 abbrev pub JoinIsDetermined : Type 0
 JoinIsDetermined = (old new : LinkMap) (slots a b : ℕ) → IsWellLinked old → HasLinksWithin old slots → AreEndAndStart old a b
-    → Connects old new a b → HaveSameChains new (joined old a b)
+    → Connects old new a b → HaveSameChains new (with_join old a b)
 
 -- `AddsLone` gives exactly the chains with the lone link
 abbrev pub LoneIsDetermined : Type 0

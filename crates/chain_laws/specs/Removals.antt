@@ -2,16 +2,16 @@
 use Rattle.std.specs.Prelude.{◌≡◌, ◌≢◌, ◌↔◌, ℕ, ◌==◌, if◌then◌else◌, ◌⊎◌, List, [], ◌∷◌, ◌++◌, None, Some}
 use Rattle.chain_laws.specs.Chains.{LinkMap, Chain, linear, cyclic, items, IsMember, IsChain, HasLink, HasLinksWithin, IsWellLinked, prev_of, next_of}
 use Rattle.chain_laws.specs.Neighbors.{AreNeighbors}
-use Rattle.chain_laws.specs.Joins.{linked, with_lone, HaveSameChains}
+use Rattle.chain_laws.specs.Joins.{with_neighbors, with_lone, HaveSameChains}
 
 -- there is no link at q
-abbrev pub vacated : LinkMap → ℕ → LinkMap
-vacated link_map q j = if j == q then None else link_map j
+abbrev pub without_link : LinkMap → ℕ → LinkMap
+without_link link_map q j = if j == q then None else link_map j
 
 -- there is no link at q, and the links that it named follow one another. A write at a free index
 -- does nothing, so a link that names itself needs no case.
-abbrev pub removed : LinkMap → ℕ → LinkMap
-removed link_map q = linked (vacated link_map q) (prev_of link_map q) (next_of link_map q)
+abbrev pub with_removal : LinkMap → ℕ → LinkMap
+with_removal link_map q = with_neighbors (without_link link_map q) (prev_of link_map q) (next_of link_map q)
 
 -- by pairs: pairs with i go, and the links before and after it become a pair
 pub record RemovesPairs (old new : LinkMap) (i : ℕ) : Type 0 where
@@ -44,19 +44,19 @@ HasChainsWithout old new i = (c : Chain) → IsChain new c ↔ ((d : Chain) × I
 
 -- a removal keeps the arena well linked
 abbrev pub RemovalAgrees : Type 0
-RemovalAgrees = (link_map : LinkMap) (i : ℕ) → IsWellLinked link_map → IsWellLinked (removed link_map i)
+RemovalAgrees = (link_map : LinkMap) (i : ℕ) → IsWellLinked link_map → IsWellLinked (with_removal link_map i)
 
 -- a removal takes the index out of its chain
 abbrev pub RemovalRemoves : Type 0
-RemovalRemoves = (link_map : LinkMap) (i : ℕ) → IsWellLinked link_map → Removes link_map (removed link_map i) i
+RemovalRemoves = (link_map : LinkMap) (i : ℕ) → IsWellLinked link_map → Removes link_map (with_removal link_map i) i
 
 -- a removal changes pairs as `RemovesPairs` states
 abbrev pub RemovalInPairs : Type 0
-RemovalInPairs = (link_map : LinkMap) (i : ℕ) → IsWellLinked link_map → RemovesPairs link_map (removed link_map i) i
+RemovalInPairs = (link_map : LinkMap) (i : ℕ) → IsWellLinked link_map → RemovesPairs link_map (with_removal link_map i) i
 
 -- `Removes` gives exactly the chains of the removal
 abbrev pub RemovalIsDetermined : Type 0
-RemovalIsDetermined = (old new : LinkMap) (slots i : ℕ) → IsWellLinked old → HasLinksWithin old slots → Removes old new i → HaveSameChains new (removed old i)
+RemovalIsDetermined = (old new : LinkMap) (slots i : ℕ) → IsWellLinked old → HasLinksWithin old slots → Removes old new i → HaveSameChains new (with_removal old i)
 
 -- `Removes` gives exactly the old chains without the index
 abbrev pub RemovalLeavesEachWithout : Type 0
@@ -64,8 +64,8 @@ RemovalLeavesEachWithout = (old new : LinkMap) (slots i : ℕ) → IsWellLinked 
 
 -- `RemovesPairs` with a well-linked result gives exactly the removal
 abbrev pub RemovalIsDeterminedByPairs : Type 0
-RemovalIsDeterminedByPairs = (old new : LinkMap) (i : ℕ) → IsWellLinked old → IsWellLinked new → RemovesPairs old new i → new ≡ removed old i
+RemovalIsDeterminedByPairs = (old new : LinkMap) (i : ℕ) → IsWellLinked old → IsWellLinked new → RemovesPairs old new i → new ≡ with_removal old i
 
 -- removing a lone link just added restores the arena
 abbrev pub RemovalOfLoneRestores : Type 0
-RemovalOfLoneRestores = (link_map : LinkMap) (q : ℕ) → link_map q ≡ None → removed (with_lone link_map q) q ≡ link_map
+RemovalOfLoneRestores = (link_map : LinkMap) (q : ℕ) → link_map q ≡ None → with_removal (with_lone link_map q) q ≡ link_map

@@ -1,8 +1,8 @@
 -- Chains removed from one arena, first link by first link, and arranged in runs in another.
 use Rattle.std.specs.Prelude.{◌≡◌, ℕ, zero, suc, ◌+◌, ◌-◌, Bool, if◌then◌else◌, List, [], ◌∷◌, ◌++◌, length, Option, None, Some}
 use Rattle.chain_laws.specs.Chains.{LinkMap, Chain, all_items, IsWellLinked, AreChains, first_or, next_of}
-use Rattle.chain_laws.specs.Removals.{removed}
-use Rattle.chain_laws.specs.Insertions.{inserted, IsInsertPosition}
+use Rattle.chain_laws.specs.Removals.{with_removal}
+use Rattle.chain_laws.specs.Insertions.{with_insertion, IsInsertPosition}
 use Rattle.chain_laws.specs.Walks.{step_forward}
 use Rattle.chain_laws.specs.Arrangements.{in_runs}
 use Rattle.chain_laws.specs.ChainStart.{chain_of}
@@ -20,7 +20,7 @@ with_appended done ring (x ∷ xs) = done ++ chain_of ring (x ∷ xs) ∷ []
 -- removing its first link leaves the rest of a chain, from the next link on, and the others
 abbrev pub FirstIsTaken : Type 0
 FirstIsTaken = (link_map : LinkMap) (ring : Bool) (x : ℕ) (xs : List ℕ) (rest : List Chain) → IsWellLinked link_map → AreChains link_map (chain_of ring (x ∷ xs) ∷ rest)
-    → AreChains (removed link_map x) (with_rest ring xs rest) × (step_forward x (next_of link_map x) ≡ first_or xs None)
+    → AreChains (with_removal link_map x) (with_rest ring xs rest) × (step_forward x (next_of link_map x) ≡ first_or xs None)
 
 -- the links beside a new link at q, the end of a chain in the given number of indexes before q
 abbrev pub end_before : Bool → ℕ → ℕ → Option ℕ
@@ -36,4 +36,4 @@ abbrev pub LastIsAppended : Type 0
 LastIsAppended = (link_map : LinkMap) (done : List Chain) (ring : Bool) (xs : List ℕ) (x q : ℕ) → AreChains link_map (in_runs 1 (with_appended done ring xs))
     → q ≡ length (all_items done) + length xs + 1
     → (link_map q ≡ None) × IsInsertPosition link_map q (end_before ring (length xs) q) (end_after ring (length xs) q)
-    × AreChains (inserted link_map q (end_before ring (length xs) q) (end_after ring (length xs) q)) (in_runs 1 (with_appended done ring (xs ++ x ∷ [])))
+    × AreChains (with_insertion link_map q (end_before ring (length xs) q) (end_after ring (length xs) q)) (in_runs 1 (with_appended done ring (xs ++ x ∷ [])))

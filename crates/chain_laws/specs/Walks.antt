@@ -2,12 +2,12 @@
 use Rattle.std.specs.Prelude.{◌≡◌, ◌↔◌, ℕ, zero, suc, ◌==◌, if◌then◌else◌, List, [], ◌∷◌, ◌++◌, reverse, Option, None, Some, is_some}
 use Rattle.std.specs.Option.{option_or}
 use Rattle.chain_laws.specs.Chains.{LinkMap, Chain, linear, cyclic, items, IsMember, AreDistinct, IsChain, HasLink, HasLinksWithin, IsWellLinked, first_or, prev_of, next_of}
-use Rattle.chain_laws.specs.Removals.{removed}
+use Rattle.chain_laws.specs.Removals.{with_removal}
 
 -- linear: from i to the end, then from the link before i back to the start; cyclic: once around
 pub data IsWalk (link_map : LinkMap) (i : ℕ) : List ℕ → Type 0 where
   there_and_back : (before after : List ℕ) → IsChain link_map (linear (before ++ i ∷ after)) → IsWalk link_map i (i ∷ after ++ reverse before)
-  round : (after : List ℕ) → IsChain link_map (cyclic (i ∷ after)) → IsWalk link_map i (i ∷ after)
+  once_around : (after : List ℕ) → IsChain link_map (cyclic (i ∷ after)) → IsWalk link_map i (i ∷ after)
 
 -- the next link, unless that is `start`
 abbrev pub step_forward : ℕ → Option ℕ → Option ℕ
@@ -87,7 +87,7 @@ rest_start_of link_map i = rest_start i (prev_of link_map i) (next_of link_map i
 -- if its first link is removed, the rest of a walk is the walk from `rest_start_of`
 abbrev pub RemovalLeavesTheWalk : Type 0
 RemovalLeavesTheWalk = (link_map : LinkMap) (i : ℕ) (rest : List ℕ) → IsWalk link_map i (i ∷ rest)
-    → (first_or rest None ≡ rest_start_of link_map i) × ((k : ℕ) → first_or rest None ≡ Some k → IsWalk (removed link_map i) k rest)
+    → (first_or rest None ≡ rest_start_of link_map i) × ((k : ℕ) → first_or rest None ≡ Some k → IsWalk (with_removal link_map i) k rest)
 
 -- the walk from i, or nothing if i is none or free
 abbrev pub walk_from : ℕ → LinkMap → Option ℕ → List ℕ
@@ -97,7 +97,7 @@ walk_from slots link_map (Some i) = if is_some (link_map i) then walk_ahead slot
 -- the links at these indexes are removed, one after another
 abbrev pub removed_each : LinkMap → List ℕ → LinkMap
 removed_each link_map [] = link_map
-removed_each link_map (i ∷ rest) = removed_each (removed link_map i) rest
+removed_each link_map (i ∷ rest) = removed_each (with_removal link_map i) rest
 
 -- the links of a walk are gone, and nothing else has changed
 pub record TakesWalk (old new : LinkMap) (walk : List ℕ) : Type 0 where

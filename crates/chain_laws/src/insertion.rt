@@ -3,7 +3,7 @@
 ghost use Rattle.chain_laws.specs.Insertions.{KindGivesAPosition, InsertionAgrees, InsertionInPairs, InsertionInserts, InsertionIsDetermined, InsertionIsDeterminedByPairs, RemovalOfInsertedRestores};
 
 /// States that a kind whose requirements hold gives an insertion position.
-pub fn kind_gives_a_gap()
+pub fn kind_gives_a_position()
     ensures { KindGivesAPosition }
 {}
 

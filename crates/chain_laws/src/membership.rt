@@ -21,11 +21,11 @@ pub fn members_name_neighbors()
     ensures in_line { PlacesInALine }
     ensures in_ring { PlacesInARing }
     ensures line_ends { LinesEnd }
-    ensures ring_goes_round { RingsAreCyclic }
+    ensures ring_is_cyclic { RingsAreCyclic }
 {}
 
 /// States that neighbors share a chain, and that chains with a common link have the same links.
-pub fn neighbors_stand_together()
+pub fn neighbors_share_a_chain()
     ensures together { NeighborsShareAChain }
     ensures each { ChainsShareEach }
     ensures turned { RotationsHaveTheSame }

@@ -26,9 +26,9 @@ pub fn arrangement_numbers()
 /// States that renumbering by the chains, in any order, moves each to a run of indexes.
 ///
 /// The chains list all links. No other arena has them in these runs.
-pub fn canonical_lays_runs()
+pub fn canonical_places_chains_in_runs()
     ensures arranges { CanonicalArranges }
-    ensures lays { PlacesChainsInRuns }
+    ensures places_in_runs { PlacesChainsInRuns }
     ensures renumbered { RunsAreRenumbered }
 {}
 
@@ -58,6 +58,6 @@ pub fn move_renames()
 pub fn gathering_renumbers()
     ensures begins { GatheringBegins }
     ensures skips { GatheringSkips }
-    ensures goes_on { GatheringContinues }
+    ensures continues { GatheringContinues }
     ensures ends { GatheringEnds }
 {}

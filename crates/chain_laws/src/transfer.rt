@@ -8,9 +8,9 @@ ghost use Rattle.chain_laws.specs.Transfer.{FirstIsTaken, LastIsAppended};
 /// It takes fewer steps than there are links.
 pub fn walk_back_finds_the_start()
     ensures begins { WalkBackBegins }
-    ensures goes_on { WalkBackContinues }
+    ensures continues { WalkBackContinues }
     ensures ends { WalkBackEnds }
-    ensures comes_round { WalkBackIsCyclic }
+    ensures is_cyclic { WalkBackIsCyclic }
     ensures is_short { WalkBackIsShort }
 {}
 
@@ -25,6 +25,6 @@ pub fn first_is_taken()
 {}
 
 /// States that a new link at the end of the last chain extends its run; other chains stay.
-pub fn last_is_laid()
+pub fn last_is_appended()
     ensures { LastIsAppended }
 {}

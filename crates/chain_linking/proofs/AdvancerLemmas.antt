@@ -11,16 +11,16 @@ use Rattle.chain_links.proofs.MappedArenaLemmas.{entry_at-with_each}
 
 -- a lookup that returns `None` finds no link
 module _ {Gen T : Type 0} (i : ℕ) where
-  pub looked_none : (o : Option (Gen × LinkView T)) → None ≡ option_map (index_and_entry i) o → o ≡ None
-  looked_none None tells = refl
-  looked_none (Some e) tells = absurd (let h = tells in cc)
+  pub read_none : (o : Option (Gen × LinkView T)) → None ≡ option_map (index_and_entry i) o → o ≡ None
+  read_none None states = refl
+  read_none (Some e) states = absurd (let h = states in cc)
 
 module _ {Gen T : Type 0} (a : Arena Gen (LinkView T)) where
   -- the pointer to a link is valid
   pub valid_there : (i : ℕ) (p : ℕ × Gen) (link : LinkView T) → entry_at a i ≡ Some (p.1, link) → p.0 ≡ i → IsValid (entry a) p
-  valid_there i p link stands at = record {
+  valid_there i p link stored at = record {
     value = link.value;
-    stands = ap (entry a) at ∙ entry_at-with_each link_value a i ∙ ap (option_map (on_value link_value)) stands;
+    stored = ap (entry a) at ∙ entry_at-with_each link_value a i ∙ ap (option_map (on_value link_value)) stored;
   }
 
   -- the next index of the advancer has no link

@@ -5,7 +5,7 @@ use Rattle.std.specs.Option.{option_map, option_and_then}
 use Rattle.std.proofs.lemmas.Bool.{cases_eq}
 use mathlib.Core.Path.{fun_ext}
 use Rattle.chain_laws.specs.Chains.{LinkMap, Interlinks, IsWellLinked, HasLink, prev_of, next_of, prev_in, next_in}
-use Rattle.chain_laws.specs.Joins.{AddsPair, Connects, joined, AreEndAndStart, next_set, with_next}
+use Rattle.chain_laws.specs.Joins.{AddsPair, Connects, with_join, AreEndAndStart, next_set, with_next}
 use Rattle.chain_laws.proofs.InterlinkLemmas.Inverses.{if_same, if_other}
 use Rattle.chain_laws.proofs.JoinLemmas.Chains.{joined_agrees, joined_adds_a_pair, joined_connects}
 use Rattle.chain_links.specs.declared.links.LinkBody.{LinkBody}
@@ -28,11 +28,11 @@ truth_of_not false h = absurd (let k = h in cc)
 
 module _ {Gen K T : Type 0} (number : K → Option ℕ) where
   -- the neighbors of a link in the link map
-  pub next_of-seen : (a : Arena Gen (LinkBody K T)) (p : ℕ × Gen) (link : LinkBody K T) → entry_at a p.0 ≡ Some (p.1, link) → next_of (link_map (links_view number a)) p.0 ≡ number link.next
-  next_of-seen a p link stands = ap (λ (o : Option (Gen × LinkView T)). next_in (option_map interlinks_of o)) (entry_at-links_view number a p.0 ∙ ap (option_map (pair_view number)) stands)
+  pub next_of-view_after : (a : Arena Gen (LinkBody K T)) (p : ℕ × Gen) (link : LinkBody K T) → entry_at a p.0 ≡ Some (p.1, link) → next_of (link_map (links_view number a)) p.0 ≡ number link.next
+  next_of-view_after a p link stored = ap (λ (o : Option (Gen × LinkView T)). next_in (option_map interlinks_of o)) (entry_at-links_view number a p.0 ∙ ap (option_map (pair_view number)) stored)
 
-  pub prev_of-seen : (a : Arena Gen (LinkBody K T)) (p : ℕ × Gen) (link : LinkBody K T) → entry_at a p.0 ≡ Some (p.1, link) → prev_of (link_map (links_view number a)) p.0 ≡ number link.prev
-  prev_of-seen a p link stands = ap (λ (o : Option (Gen × LinkView T)). prev_in (option_map interlinks_of o)) (entry_at-links_view number a p.0 ∙ ap (option_map (pair_view number)) stands)
+  pub prev_of-view_after : (a : Arena Gen (LinkBody K T)) (p : ℕ × Gen) (link : LinkBody K T) → entry_at a p.0 ≡ Some (p.1, link) → prev_of (link_map (links_view number a)) p.0 ≡ number link.prev
+  prev_of-view_after a p link stored = ap (λ (o : Option (Gen × LinkView T)). prev_in (option_map interlinks_of o)) (entry_at-links_view number a p.0 ∙ ap (option_map (pair_view number)) stored)
 
   -- the same pointers are valid for links and for values
   pub same_valid : (a : Arena Gen (LinkBody K T)) (p : ℕ × Gen) → IsValidPtr a p ↔ IsValidPtr (values_of (links_view number a)) p
@@ -41,27 +41,27 @@ module _ {Gen K T : Type 0} (number : K → Option ℕ) where
       let second = IsValidPtr-with_each link_value (links_view number a) p in
       (λ valid. second.0 (first.0 valid), λ valid. first.1 (second.1 valid))
 
-  valid-seen : (a : Arena Gen (LinkBody K T)) (p : ℕ × Gen) (link : LinkBody K T) → entry_at a p.0 ≡ Some (p.1, link) → IsValidPtr (values_of (links_view number a)) p
-  valid-seen a p link stands = (same_valid a p).0 (record { value = link; stands = stands })
+  valid-view_after : (a : Arena Gen (LinkBody K T)) (p : ℕ × Gen) (link : LinkBody K T) → entry_at a p.0 ≡ Some (p.1, link) → IsValidPtr (values_of (links_view number a)) p
+  valid-view_after a p link stored = (same_valid a p).0 (record { value = link; stored = stored })
 
   -- a valid pointer has a link
   pub valid_at : (a : Arena Gen (LinkBody K T)) (p : ℕ × Gen) (link : LinkBody K T) → entry_at a p.0 ≡ Some (p.1, link) → HasLink (link_map (links_view number a)) p.0
-  valid_at a p link stands = record { link = interlinks_of (p.1, link_view number link); shows = ap (option_map interlinks_of) (entry_at-links_view number a p.0 ∙ ap (option_map (pair_view number)) stands) }
+  valid_at a p link stored = record { link = interlinks_of (p.1, link_view number link); reports = ap (option_map interlinks_of) (entry_at-links_view number a p.0 ∙ ap (option_map (pair_view number)) stored) }
 
   -- a link is an end exactly if it has no next
   pub ends : (a : Arena Gen (LinkBody K T)) (p : ℕ × Gen) (link : LinkBody K T) (b : Bool) → entry_at a p.0 ≡ Some (p.1, link) → is_some (number link.next) ≡ not b
       → IsTrue b ↔ IsValidEnd (entry_at (values_of (links_view number a))) (link_map (links_view number a)) p
-  ends a p link b at tells = (
-    (λ yes. record { valid = valid-seen a p link at; end = next_of-seen a p link at ∙ none_unless_some (number link.next) (tells ∙ ap not yes) }),
-    (λ is. truth_of_not b (sym (ap is_some (sym (next_of-seen a p link at) ∙ is.end)) ∙ tells)),
+  ends a p link b at states = (
+    (λ yes. record { valid = valid-view_after a p link at; end = next_of-view_after a p link at ∙ none_unless_some (number link.next) (states ∙ ap not yes) }),
+    (λ is. truth_of_not b (sym (ap is_some (sym (next_of-view_after a p link at) ∙ is.end)) ∙ states)),
   )
 
   -- a link is a start exactly if it has no prev
   pub starts : (a : Arena Gen (LinkBody K T)) (p : ℕ × Gen) (link : LinkBody K T) (b : Bool) → entry_at a p.0 ≡ Some (p.1, link) → is_some (number link.prev) ≡ not b
       → IsTrue b ↔ IsValidStart (entry_at (values_of (links_view number a))) (link_map (links_view number a)) p
-  starts a p link b at tells = (
-    (λ yes. record { valid = valid-seen a p link at; start = prev_of-seen a p link at ∙ none_unless_some (number link.prev) (tells ∙ ap not yes) }),
-    (λ is. truth_of_not b (sym (ap is_some (sym (prev_of-seen a p link at) ∙ is.start)) ∙ tells)),
+  starts a p link b at states = (
+    (λ yes. record { valid = valid-view_after a p link at; start = prev_of-view_after a p link at ∙ none_unless_some (number link.prev) (states ∙ ap not yes) }),
+    (λ is. truth_of_not b (sym (ap is_some (sym (prev_of-view_after a p link at) ∙ is.start)) ∙ states)),
   )
 
   -- an invalid pointer is neither an end nor a start
@@ -72,29 +72,29 @@ module _ {Gen T : Type 0} where
   end_and_start : (a : Arena Gen (LinkView T)) (p q : ℕ × Gen) → CanConnect (entry_at (values_of a)) (link_map a) p q → AreEndAndStart (link_map a) p.0 q.0
   end_and_start a p q can = record { valid_end = valid_link a p can.first_valid; valid_start = valid_link a q can.second_valid; end = can.no_next; start = can.no_prev }
 
-  link_map-joined : (a : Arena Gen (LinkView T)) (i j : ℕ) → link_map (relinked a (joined (link_map a) i j)) ≡ joined (link_map a) i j
-  link_map-joined a i j = link_map-relinked a (joined (link_map a) i j) (FitsLinks-linked a (Some i) (Some j))
+  link_map-joined : (a : Arena Gen (LinkView T)) (i j : ℕ) → link_map (relinked a (with_join (link_map a) i j)) ≡ with_join (link_map a) i j
+  link_map-joined a i j = link_map-relinked a (with_join (link_map a) i j) (FitsLinks-linked a (Some i) (Some j))
 
   -- the join of two links that may be joined
-  module _ (a b : Arena Gen (LinkView T)) (p q : ℕ × Gen) (can : CanConnect (entry_at (values_of a)) (link_map a) p q) (is_joined : b ≡ relinked a (joined (link_map a) p.0 q.0)) where
-    pub shows : link_map b ≡ joined (link_map a) p.0 q.0
-    shows = ap (λ (x : Arena Gen (LinkView T)). link_map x) is_joined ∙ link_map-joined a p.0 q.0
+  module _ (a b : Arena Gen (LinkView T)) (p q : ℕ × Gen) (can : CanConnect (entry_at (values_of a)) (link_map a) p q) (is_joined : b ≡ relinked a (with_join (link_map a) p.0 q.0)) where
+    pub reports : link_map b ≡ with_join (link_map a) p.0 q.0
+    reports = ap (λ (x : Arena Gen (LinkView T)). link_map x) is_joined ∙ link_map-joined a p.0 q.0
 
     -- values are unchanged
     pub joined-values : values_of b ≡ values_of a
-    joined-values = ap (λ (x : Arena Gen (LinkView T)). values_of x) is_joined ∙ values_of-relinked a (joined (link_map a) p.0 q.0) (FitsLinks-linked a (Some p.0) (Some q.0))
+    joined-values = ap (λ (x : Arena Gen (LinkView T)). values_of x) is_joined ∙ values_of-relinked a (with_join (link_map a) p.0 q.0) (FitsLinks-linked a (Some p.0) (Some q.0))
 
     -- the interlinks stay consistent
     pub joined-agrees : IsWellLinked (link_map a) → IsWellLinked (link_map b)
-    joined-agrees agrees = subst IsWellLinked (sym shows) (joined_agrees (link_map a) p.0 q.0 agrees (end_and_start a p q can))
+    joined-agrees agrees = subst IsWellLinked (sym reports) (joined_agrees (link_map a) p.0 q.0 agrees (end_and_start a p q can))
 
     -- one pair is added
     pub joined-pair : AddsPair (link_map a) (link_map b) p.0 q.0
-    joined-pair = subst (λ (new : LinkMap). AddsPair (link_map a) new p.0 q.0) (sym shows) (joined_adds_a_pair (link_map a) p.0 q.0 (end_and_start a p q can))
+    joined-pair = subst (λ (new : LinkMap). AddsPair (link_map a) new p.0 q.0) (sym reports) (joined_adds_a_pair (link_map a) p.0 q.0 (end_and_start a p q can))
 
     -- the chains are connected
     pub joined-chains : Connects (link_map a) (link_map b) p.0 q.0
-    joined-chains = subst (λ (new : LinkMap). Connects (link_map a) new p.0 q.0) (sym shows) (joined_connects (link_map a) p.0 q.0)
+    joined-chains = subst (λ (new : LinkMap). Connects (link_map a) new p.0 q.0) (sym reports) (joined_connects (link_map a) p.0 q.0)
 
 -- clearing a new `next` restores a link without one
 cleared : (l : Option Interlinks) (v : Option ℕ) → next_in l ≡ None → option_map (with_next None) (option_map (with_next v) l) ≡ l
@@ -124,14 +124,14 @@ module _ {Gen T : Type 0} (a b : Arena Gen (LinkView T)) (p q : ℕ × Gen) (nam
   fits : FitsLinks names a
   fits = FitsLinks-next_set a (link_map a) (Some p.0) (Some q.0) (FitsLinks-link_map a)
 
-  shows_names : link_map b ≡ names
-  shows_names = ap (λ (x : Arena Gen (LinkView T)). link_map x) named ∙ link_map-relinked a names fits
+  reports_names : link_map b ≡ names
+  reports_names = ap (λ (x : Arena Gen (LinkView T)). link_map x) named ∙ link_map-relinked a names fits
 
   same_values : values_of b ≡ values_of a
   same_values = ap (λ (x : Arena Gen (LinkView T)). values_of x) named ∙ values_of-relinked a names fits
 
   same_prev : prev_of (link_map b) q.0 ≡ prev_of (link_map a) q.0
-  same_prev = ap (λ (m : LinkMap). prev_of m q.0) shows_names ∙ prev_kept (q.0 == p.0) (link_map a q.0) (Some q.0)
+  same_prev = ap (λ (m : LinkMap). prev_of m q.0) reports_names ∙ prev_kept (q.0 == p.0) (link_map a q.0) (Some q.0)
 
   -- p and q may be connected if q is then a start
   pub named_may : IsValidEnd (entry_at (values_of a)) (link_map a) p → IsValidStart (entry_at (values_of b)) (link_map b) q → CanConnect (entry_at (values_of a)) (link_map a) p q
@@ -149,7 +149,7 @@ module _ {Gen T : Type 0} (a b : Arena Gen (LinkView T)) (p q : ℕ × Gen) (nam
   -- clearing `next` of p again restores the arena
   pub taken_back : (c : Arena Gen (LinkView T)) → next_of (link_map a) p.0 ≡ None → c ≡ relinked b (next_set (link_map b) (Some p.0) None) → c ≡ a
   taken_back c none back =
-      back ∙ (ap (λ (m : LinkMap). relinked b (next_set m (Some p.0) None)) shows_names
+      back ∙ (ap (λ (m : LinkMap). relinked b (next_set m (Some p.0) None)) reports_names
       ∙ (ap (λ (x : Arena Gen (LinkView T)). relinked x (next_set names (Some p.0) None)) named
       ∙ (relinked-again a names (next_set names (Some p.0) None) fits
       ∙ (ap (relinked a) (undone (link_map a) p.0 (Some q.0) none) ∙ sym (relinked-own a)))))
@@ -164,15 +164,15 @@ module _ {Gen K T : Type 0} (number : K → Option ℕ) where
 
   -- the current pointer to a link
   pub ptr_at-some : (a : Arena Gen (LinkBody K T)) (i : ℕ) (g : Gen) (link : LinkBody K T) → entry_at a i ≡ Some (g, link) → ptr_at (entry_at (values_of (links_view number a))) i ≡ Some (i, g)
-  ptr_at-some a i g link stands = ap (λ (o : Option (Gen × T)). let p : Option (ℕ × Gen) = option_map (λ e. (i, e.0)) o in p) (value_at a i ∙ ap (option_map (on_value (λ l. l.t))) stands)
+  ptr_at-some a i g link stored = ap (λ (o : Option (Gen × T)). let p : Option (ℕ × Gen) = option_map (λ e. (i, e.0)) o in p) (value_at a i ∙ ap (option_map (on_value (λ l. l.t))) stored)
 
   -- the link of a pointer, with current pointers to its neighbors
   pub link_at_ptr : (a : Arena Gen (LinkBody K T)) (p : ℕ × Gen) (link : LinkBody K T) (prev next : Option (ℕ × Gen)) → entry_at a p.0 ≡ Some (p.1, link)
       → prev ≡ option_and_then (ptr_at (entry_at (values_of (links_view number a)))) (number link.prev)
       → next ≡ option_and_then (ptr_at (entry_at (values_of (links_view number a)))) (number link.next)
       → IsLinkAt (entry_at (values_of (links_view number a))) (link_map (links_view number a)) p prev next link.t
-  link_at_ptr a p link prev next stands before after = record {
-    stands = value_at a p.0 ∙ ap (option_map (on_value (λ l. l.t))) stands;
-    before = before ∙ ap (option_and_then (ptr_at (entry_at (values_of (links_view number a))))) (sym (prev_of-seen number a p link stands));
-    after = after ∙ ap (option_and_then (ptr_at (entry_at (values_of (links_view number a))))) (sym (next_of-seen number a p link stands));
+  link_at_ptr a p link prev next stored before after = record {
+    stored = value_at a p.0 ∙ ap (option_map (on_value (λ l. l.t))) stored;
+    before = before ∙ ap (option_and_then (ptr_at (entry_at (values_of (links_view number a))))) (sym (prev_of-view_after number a p link stored));
+    after = after ∙ ap (option_and_then (ptr_at (entry_at (values_of (links_view number a))))) (sym (next_of-view_after number a p link stored));
   }

@@ -5,11 +5,11 @@ use Rattle.chain_laws.specs.Chains.{LinkMap, Interlinks, IsWellLinked, HasLinksW
 use Rattle.chain_linking.specs.Consistency.{IsWellLinkedAt}
 
 -- reading the link that an interlink names decides consistency
-pub is_answered : (named naming : ℕ → Option ℕ) (i j : ℕ) (look : Option ℕ) (answer : Bool) → Some j ≡ named i → look ≡ naming j → (IsTrue answer ↔ (look ≡ Some i))
-    → IsTrue answer ↔ ((k : ℕ) → named i ≡ Some k → naming k ≡ Some i)
-is_answered named naming i j look answer names looked test = (
-  (λ told k at. let both = names ∙ at in let same : j ≡ k = cc in subst (λ n. naming n ≡ Some i) same (sym looked ∙ test.0 told)),
-  (λ given. test.1 (looked ∙ given j (sym names))),
+pub is_responded : (named naming : ℕ → Option ℕ) (i j : ℕ) (lookup : Option ℕ) (returned : Bool) → Some j ≡ named i → lookup ≡ naming j → (IsTrue returned ↔ (lookup ≡ Some i))
+    → IsTrue returned ↔ ((k : ℕ) → named i ≡ Some k → naming k ≡ Some i)
+is_responded named naming i j lookup returned names was_read test = (
+  (λ known k at. let both = names ∙ at in let same : j ≡ k = cc in subst (λ n. naming n ≡ Some i) same (sym was_read ∙ test.0 known)),
+  (λ given. test.1 (was_read ∙ given j (sym names))),
 )
 
 module _ (link_map : LinkMap) where
@@ -29,7 +29,7 @@ module _ (link_map : LinkMap) where
 
     by : (i : ℕ) (o : Option Interlinks) → link_map i ≡ o → IsWellLinkedAt link_map i
     by i None is = nothing_there i is
-    by i (Some link) is = there i (within.within i (record { link = link; shows = is }))
+    by i (Some link) is = there i (within.within i (record { link = link; reports = is }))
 
     at : (i : ℕ) → IsWellLinkedAt link_map i
     at i = by i (link_map i) refl

@@ -5,9 +5,9 @@ use Rattle.std.proofs.lemmas.Bool.{cases_eq}
 use Rattle.std.specs.Option.{option_map}
 use Rattle.chain_laws.specs.Chains.{LinkMap, IsWellLinked, HasLink}
 use Rattle.chain_laws.specs.Insertions.{IsInsertPosition}
-use Rattle.chain_laws.specs.Joins.{next_set, prev_set, linked}
+use Rattle.chain_laws.specs.Joins.{next_set, prev_set, with_neighbors}
 use Rattle.chain_laws.proofs.InterlinkLemmas.Inverses.{if_same, if_other}
-use Rattle.chain_laws.proofs.InsertionLemmas.Pairs.{gap_between}
+use Rattle.chain_laws.proofs.InsertionLemmas.Pairs.{position_between}
 use Rattle.chain_laws.proofs.ChainLemmas.LinkedLists.{link}
 use Rattle.chain_laws.proofs.InsertionLemmas.Writes.{with_link, inserted_by_writes, ringed_by_writes}
 use Rattle.chain_links.specs.declared.links.LinkBody.{LinkBody}
@@ -68,75 +68,75 @@ module _ {Gen T : Type 0} (a : Arena Gen (LinkView T)) (free : AreFree a.slots a
   pub ringed : named_by (insert_lone a t) (Some (next_index a)) (Some (next_index a)) (next_index a) ≡ insert_between a t (Some (next_index a)) (Some (next_index a))
   ringed =
       let q = next_index a in
-      ap (λ (m : LinkMap). relinked (insert_lone a t) (linked m (Some q) (Some q))) (link_map-insert_lone a t free)
+      ap (λ (m : LinkMap). relinked (insert_lone a t) (with_neighbors m (Some q) (Some q))) (link_map-insert_lone a t free)
       ∙ ap (relinked (insert_lone a t)) (ringed_by_writes (link_map a) q)
 
   -- a new link that the links of its position name is inserted there
-  pub placed_in : {I : Type 0} (number : I → ℕ) (gap : InsertPosition I) → (before_in number gap (next_index a) ≡ Some (next_index a) → after_in number gap (next_index a) ≡ Some (next_index a))
-      → named_by (insert_next a (new_link t (named_before number gap) (named_after number gap))) (before_in number gap (next_index a)) (after_in number gap (next_index a)) (next_index a)
-      ≡ insert_between a t (before_in number gap (next_index a)) (after_in number gap (next_index a))
+  pub placed_in : {I : Type 0} (number : I → ℕ) (position : InsertPosition I) → (before_in number position (next_index a) ≡ Some (next_index a) → after_in number position (next_index a) ≡ Some (next_index a))
+      → named_by (insert_next a (new_link t (named_before number position) (named_after number position))) (before_in number position (next_index a)) (after_in number position (next_index a)) (next_index a)
+      ≡ insert_between a t (before_in number position (next_index a)) (after_in number position (next_index a))
   placed_in number Itself itself = ringed
   placed_in number (Between u v) itself = placed (option_map number u) (option_map number v) itself
 
 -- an insertion in the stored arena of links
-module _ {Gen K T I : Type 0} (packed : K → Option ℕ) (number : I → ℕ) (a b : Arena Gen (LinkBody K T)) (d : Arena Gen (LinkView T)) (gap : InsertPosition I) (t : T) (link : LinkBody K T)
-    (listed : IsListed a) (link_is : link_view packed link ≡ new_link t (named_before number gap) (named_after number gap))
-    (itself : before_in number gap (next_index (links_view packed a)) ≡ Some (next_index (links_view packed a)) → after_in number gap (next_index (links_view packed a)) ≡ Some (next_index (links_view packed a)))
-    (i : ℕ) (at : i ≡ next_index a) (tied : d ≡ named_by (links_view packed b) (before_in number gap i) (after_in number gap i) i) where
-  abbrev in_gap : Arena Gen (LinkView T)
-  in_gap = insert_between (links_view packed a) t (before_in number gap (next_index (links_view packed a))) (after_in number gap (next_index (links_view packed a)))
+module _ {Gen K T I : Type 0} (packed : K → Option ℕ) (number : I → ℕ) (a b : Arena Gen (LinkBody K T)) (d : Arena Gen (LinkView T)) (position : InsertPosition I) (t : T) (link : LinkBody K T)
+    (listed : IsListed a) (link_is : link_view packed link ≡ new_link t (named_before number position) (named_after number position))
+    (itself : before_in number position (next_index (links_view packed a)) ≡ Some (next_index (links_view packed a)) → after_in number position (next_index (links_view packed a)) ≡ Some (next_index (links_view packed a)))
+    (i : ℕ) (at : i ≡ next_index a) (linked_at : d ≡ named_by (links_view packed b) (before_in number position i) (after_in number position i) i) where
+  abbrev in_position : Arena Gen (LinkView T)
+  in_position = insert_between (links_view packed a) t (before_in number position (next_index (links_view packed a))) (after_in number position (next_index (links_view packed a)))
 
-  abbrev tied_at_next : Arena Gen (LinkView T) → Arena Gen (LinkView T)
-  tied_at_next x = named_by x (before_in number gap (next_index (links_view packed a))) (after_in number gap (next_index (links_view packed a))) (next_index (links_view packed a))
+  abbrev linked_at_next : Arena Gen (LinkView T) → Arena Gen (LinkView T)
+  linked_at_next x = named_by x (before_in number position (next_index (links_view packed a))) (after_in number position (next_index (links_view packed a))) (next_index (links_view packed a))
 
-  tied_next : d ≡ tied_at_next (links_view packed b)
-  tied_next = tied ∙ ap (λ (j : ℕ). named_by (links_view packed b) (before_in number gap j) (after_in number gap j) j) (at ∙ sym (next_index-links_view packed a))
+  linked_next : d ≡ linked_at_next (links_view packed b)
+  linked_next = linked_at ∙ ap (λ (j : ℕ). named_by (links_view packed b) (before_in number position j) (after_in number position j) j) (at ∙ sym (next_index-links_view packed a))
 
-  named_next : tied_at_next (links_view packed (insert_next a link)) ≡ in_gap
-  named_next = ap tied_at_next (links_view-insert_next packed a link ∙ ap (insert_next (links_view packed a)) link_is)
-      ∙ placed_in (links_view packed a) (listed-links_view packed a listed).free t number gap itself
+  named_next : linked_at_next (links_view packed (insert_next a link)) ≡ in_position
+  named_next = ap linked_at_next (links_view-insert_next packed a link ∙ ap (insert_next (links_view packed a)) link_is)
+      ∙ placed_in (links_view packed a) (listed-links_view packed a listed).free t number position itself
 
-  pub placed_in_room : b ≡ insert_next a link → d ≡ in_gap
-  placed_in_room is = tied_next ∙ (ap (λ (x : Arena Gen (LinkBody K T)). tied_at_next (links_view packed x)) is ∙ named_next)
+  pub placed_in_capacity : b ≡ insert_next a link → d ≡ in_position
+  placed_in_capacity is = linked_next ∙ (ap (λ (x : Arena Gen (LinkBody K T)). linked_at_next (links_view packed x)) is ∙ named_next)
 
 -- the entries after the insertion of a link
 module _ {Gen T : Type 0} (a : Arena Gen (LinkView T)) (free : AreFree a.slots a.freed) (l : LinkView T) where
   abbrev entry_after : ℕ → Option (Gen × LinkView T)
   entry_after i = if i == next_index a then Some (a.counter, l) else entry_at a i
 
-  shows_after : (i : ℕ) → link_map (insert_next a l) i ≡ option_map interlinks_of (entry_after i)
-  shows_after i = ap (option_map interlinks_of) (slot_at-filled a.freed a.slots (a.counter, l) i free)
+  reports_after : (i : ℕ) → link_map (insert_next a l) i ≡ option_map interlinks_of (entry_after i)
+  reports_after i = ap (option_map interlinks_of) (slot_at-filled a.freed a.slots (a.counter, l) i free)
 
-  new_stands : (i : ℕ) → i ≡ next_index a → HasLink (link_map (insert_next a l)) i
-  new_stands i same = record { link = interlinks_of (a.counter, l); shows = shows_after i ∙ ap (option_map interlinks_of) (if_same i (next_index a) _ _ same) }
+  new_stored : (i : ℕ) → i ≡ next_index a → HasLink (link_map (insert_next a l)) i
+  new_stored i same = record { link = interlinks_of (a.counter, l); reports = reports_after i ∙ ap (option_map interlinks_of) (if_same i (next_index a) _ _ same) }
 
-  old_stands : (i : ℕ) → HasLink (link_map a) i → HasLink (link_map (insert_next a l)) i
-  old_stands i has = ⊎_elim (new_stands i) (λ other. record { link = has.link; shows = shows_after i ∙ (ap (option_map interlinks_of) (if_other i (next_index a) _ _ other) ∙ has.shows) }) (cases_eq i (next_index a))
+  old_stored : (i : ℕ) → HasLink (link_map a) i → HasLink (link_map (insert_next a l)) i
+  old_stored i has = ⊎_elim (new_stored i) (λ other. record { link = has.link; reports = reports_after i ∙ (ap (option_map interlinks_of) (if_other i (next_index a) _ _ other) ∙ has.reports) }) (cases_eq i (next_index a))
 
   -- the links of the position exist
-  gap_stands : (u v : Option ℕ) → IsWellLinked (link_map a) → IsInsertPosition (link_map a) (next_index a) u v → IfSome u (HasLink (link_map (insert_next a l))) × IfSome v (HasLink (link_map (insert_next a l)))
-  gap_stands u v agrees gap =
-      let between = gap_between (link_map a) (next_index a) u v agrees (link_map-next a free) gap in (
-        if_each u (HasLink (link_map (insert_next a l))) (λ i is. ⊎_elim (old_stands i) (new_stands i) (between.valid_before i is)),
-        if_each v (HasLink (link_map (insert_next a l))) (λ i is. ⊎_elim (old_stands i) (new_stands i) (between.valid_after i is)),
+  position_stored : (u v : Option ℕ) → IsWellLinked (link_map a) → IsInsertPosition (link_map a) (next_index a) u v → IfSome u (HasLink (link_map (insert_next a l))) × IfSome v (HasLink (link_map (insert_next a l)))
+  position_stored u v agrees position =
+      let between = position_between (link_map a) (next_index a) u v agrees (link_map-next a free) position in (
+        if_each u (HasLink (link_map (insert_next a l))) (λ i is. ⊎_elim (old_stored i) (new_stored i) (between.valid_before i is)),
+        if_each v (HasLink (link_map (insert_next a l))) (λ i is. ⊎_elim (old_stored i) (new_stored i) (between.valid_after i is)),
       )
 
 -- the links of a position exist in the stored arena of links after the insertion
-module _ {Gen K T I : Type 0} (packed : K → Option ℕ) (number : I → ℕ) (a b : Arena Gen (LinkBody K T)) (gap : InsertPosition I) (link : LinkBody K T) (listed : IsListed a) (agrees : IsWellLinked (link_map (links_view packed a)))
-    (is_gap : IsInsertPosition (link_map (links_view packed a)) (next_index (links_view packed a)) (before_in number gap (next_index (links_view packed a))) (after_in number gap (next_index (links_view packed a))))
+module _ {Gen K T I : Type 0} (packed : K → Option ℕ) (number : I → ℕ) (a b : Arena Gen (LinkBody K T)) (position : InsertPosition I) (link : LinkBody K T) (listed : IsListed a) (agrees : IsWellLinked (link_map (links_view packed a)))
+    (is_position : IsInsertPosition (link_map (links_view packed a)) (next_index (links_view packed a)) (before_in number position (next_index (links_view packed a))) (after_in number position (next_index (links_view packed a))))
     (i : ℕ) (at : i ≡ next_index a) (is : b ≡ insert_next a link) where
-  abbrev StandsNow : Option ℕ → Type 0
-  StandsNow o = IfSome o (HasLink (link_map (links_view packed b)))
+  abbrev StoredNow : Option ℕ → Type 0
+  StoredNow o = IfSome o (HasLink (link_map (links_view packed b)))
 
-  both_stand : StandsNow (before_in number gap (next_index (links_view packed a))) × StandsNow (after_in number gap (next_index (links_view packed a)))
-  both_stand =
+  both_stored : StoredNow (before_in number position (next_index (links_view packed a))) × StoredNow (after_in number position (next_index (links_view packed a)))
+  both_stored =
       let s = links_view packed a in
-      subst (λ (x : Arena Gen (LinkView T)). IfSome (before_in number gap (next_index s)) (HasLink (link_map x)) × IfSome (after_in number gap (next_index s)) (HasLink (link_map x)))
+      subst (λ (x : Arena Gen (LinkView T)). IfSome (before_in number position (next_index s)) (HasLink (link_map x)) × IfSome (after_in number position (next_index s)) (HasLink (link_map x)))
       (sym (ap (links_view packed) is ∙ links_view-insert_next packed a link))
-      (gap_stands s (listed-links_view packed a listed).free (link_view packed link) _ _ agrees is_gap)
+      (position_stored s (listed-links_view packed a listed).free (link_view packed link) _ _ agrees is_position)
 
-  pub before_stands : StandsNow (before_in number gap i)
-  before_stands = subst (λ (j : ℕ). StandsNow (before_in number gap j)) (sym (at ∙ sym (next_index-links_view packed a))) both_stand.0
+  pub before_stored : StoredNow (before_in number position i)
+  before_stored = subst (λ (j : ℕ). StoredNow (before_in number position j)) (sym (at ∙ sym (next_index-links_view packed a))) both_stored.0
 
-  pub after_stands : StandsNow (after_in number gap i)
-  after_stands = subst (λ (j : ℕ). StandsNow (after_in number gap j)) (sym (at ∙ sym (next_index-links_view packed a))) both_stand.1
+  pub after_stored : StoredNow (after_in number position i)
+  after_stored = subst (λ (j : ℕ). StoredNow (after_in number position j)) (sym (at ∙ sym (next_index-links_view packed a))) both_stored.1

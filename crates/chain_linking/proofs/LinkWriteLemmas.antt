@@ -3,7 +3,7 @@ use Rattle.std.proofs.Common.{◌≡◌, ◌≢◌, ℕ, suc, List, Bool, true, 
 use Rattle.std.specs.Prelude.{◌==◌, if◌then◌else◌, is_some}
 use Rattle.std.specs.Option.{option_map}
 use Rattle.chain_laws.specs.Chains.{LinkMap, Interlinks}
-use Rattle.chain_laws.specs.Joins.{next_set, prev_set, linked, with_next, with_prev}
+use Rattle.chain_laws.specs.Joins.{next_set, prev_set, with_neighbors, with_next, with_prev}
 use Rattle.std.proofs.lemmas.Bool.{cases_eq}
 use Rattle.std.proofs.lemmas.List.{ext_get_or}
 use mathlib.Core.Path.{fun_ext}
@@ -81,62 +81,62 @@ module _ {Gen T : Type 0} where
       ∙ (ap (option_map (on_value link_value)) (entry_at-relinked a interlinks (suc k))
       ∙ (value-relink (interlinks (suc k)) (entry_at a (suc k)) (fits (suc k)) ∙ sym (entry_at-with_each link_value a (suc k))))))
 
-  pub FitsLinks-linked : (a : Arena Gen (LinkView T)) (u v : Option ℕ) → FitsLinks (linked (link_map a) u v) a
+  pub FitsLinks-linked : (a : Arena Gen (LinkView T)) (u v : Option ℕ) → FitsLinks (with_neighbors (link_map a) u v) a
   FitsLinks-linked a u v = FitsLinks-prev_set a (next_set (link_map a) u v) v u (FitsLinks-next_set a (link_map a) u v (FitsLinks-link_map a))
 
   -- writes to `next` and `prev` link a pair
   pub linked_by_writes : (a b c : Arena Gen (LinkView T)) (u v : Option ℕ) → b ≡ relinked a (next_set (link_map a) u v) → c ≡ relinked b (prev_set (link_map b) v u)
-      → c ≡ relinked a (linked (link_map a) u v)
+      → c ≡ relinked a (with_neighbors (link_map a) u v)
   linked_by_writes a b c u v first second =
       let fits = FitsLinks-next_set a (link_map a) u v (FitsLinks-link_map a) in
       second
       ∙ (ap (λ (x : Arena Gen (LinkView T)). relinked x (prev_set (link_map x) v u)) first
       ∙ (ap (λ (m : LinkMap). relinked (relinked a (next_set (link_map a) u v)) (prev_set m v u)) (link_map-relinked a (next_set (link_map a) u v) fits)
-      ∙ relinked-again a (next_set (link_map a) u v) (linked (link_map a) u v) fits))
+      ∙ relinked-again a (next_set (link_map a) u v) (with_neighbors (link_map a) u v) fits))
 
   -- two pairs are linked one after another
-  pub linked_twice : (a b c : Arena Gen (LinkView T)) (u v w x : Option ℕ) → b ≡ relinked a (linked (link_map a) u v) → c ≡ relinked b (linked (link_map b) w x)
-      → c ≡ relinked a (linked (linked (link_map a) u v) w x)
+  pub linked_twice : (a b c : Arena Gen (LinkView T)) (u v w x : Option ℕ) → b ≡ relinked a (with_neighbors (link_map a) u v) → c ≡ relinked b (with_neighbors (link_map b) w x)
+      → c ≡ relinked a (with_neighbors (with_neighbors (link_map a) u v) w x)
   linked_twice a b c u v w x first second =
-      let one : LinkMap = linked (link_map a) u v in
+      let one : LinkMap = with_neighbors (link_map a) u v in
       let fits : FitsLinks one a = FitsLinks-linked a u v in
-      second ∙ (ap (λ (y : Arena Gen (LinkView T)). relinked y (linked (link_map y) w x)) first
-      ∙ (ap (λ (m : LinkMap). relinked (relinked a one) (linked m w x)) (link_map-relinked a one fits) ∙ relinked-again a one (linked one w x) fits))
+      second ∙ (ap (λ (y : Arena Gen (LinkView T)). relinked y (with_neighbors (link_map y) w x)) first
+      ∙ (ap (λ (m : LinkMap). relinked (relinked a one) (with_neighbors m w x)) (link_map-relinked a one fits) ∙ relinked-again a one (with_neighbors one w x) fits))
 
-  pub FitsLinks-twice : (a : Arena Gen (LinkView T)) (u v w x : Option ℕ) → FitsLinks (linked (linked (link_map a) u v) w x) a
-  FitsLinks-twice a u v w x = FitsLinks-prev_set a (next_set (linked (link_map a) u v) w x) x w (FitsLinks-next_set a (linked (link_map a) u v) w x (FitsLinks-linked a u v))
+  pub FitsLinks-twice : (a : Arena Gen (LinkView T)) (u v w x : Option ℕ) → FitsLinks (with_neighbors (with_neighbors (link_map a) u v) w x) a
+  FitsLinks-twice a u v w x = FitsLinks-prev_set a (next_set (with_neighbors (link_map a) u v) w x) x w (FitsLinks-next_set a (with_neighbors (link_map a) u v) w x (FitsLinks-linked a u v))
 
 -- as contracts see links, `write` changes their interlinks by `change`
 abbrev pub IsWrite : {K T : Type 0} → (K → Option ℕ) → (LinkBody K T → LinkBody K T) → (Interlinks → Interlinks) → Type 0
 IsWrite {K} {T} number write change = (l : LinkBody K T) → link_view number (write l) ≡ with_interlinks (change (interlinks_in (link_view number l))) (link_view number l)
 
 module _ {Gen K T : Type 0} (number : K → Option ℕ) where
-  seen-write : (o : Option (Gen × LinkBody K T)) (link : LinkBody K T) (write : LinkBody K T → LinkBody K T) (change : Interlinks → Interlinks) → IsWrite number write change
+  view_after-write : (o : Option (Gen × LinkBody K T)) (link : LinkBody K T) (write : LinkBody K T → LinkBody K T) (change : Interlinks → Interlinks) → IsWrite number write change
       → option_map (λ (e : Gen × LinkBody K T). e.1) o ≡ Some link
       → option_map (pair_view number) (option_map (λ (e : Gen × LinkBody K T). (e.0, write link)) o)
       ≡ relink (option_map change (option_map interlinks_of (option_map (pair_view number) o))) (option_map (pair_view number) o)
-  seen-write None link write change is stands = refl
-  seen-write (Some e) link write change is stands =
-      ap (λ (l : LinkBody K T). let o : Option (Gen × LinkView T) = Some (e.0, link_view number (write l)) in o) (sym (one_some stands)) ∙ ap (λ (l : LinkView T). let o : Option (Gen × LinkView T) = Some (e.0, l) in o) (is e.1)
+  view_after-write None link write change is stored = refl
+  view_after-write (Some e) link write change is stored =
+      ap (λ (l : LinkBody K T). let o : Option (Gen × LinkView T) = Some (e.0, link_view number (write l)) in o) (sym (one_some stored)) ∙ ap (λ (l : LinkView T). let o : Option (Gen × LinkView T) = Some (e.0, l) in o) (is e.1)
 
   -- a write to a link, in an arena of links
   pub links_view-write : (a : Arena Gen (LinkBody K T)) (n : ℕ) (link : LinkBody K T) (write : LinkBody K T → LinkBody K T) (change : Interlinks → Interlinks) (interlinks : LinkMap) → IsWrite number write change
       → option_map (λ (e : Gen × LinkBody K T). e.1) (entry_at a n) ≡ Some link
       → ((i : ℕ) → interlinks i ≡ (if i == n then option_map change (link_map (links_view number a) i) else link_map (links_view number a) i))
       → links_view number (with_value a n (write link)) ≡ relinked (links_view number a) interlinks
-  links_view-write a n link write change interlinks is stands are =
-      let seen = links_view number a in
+  links_view-write a n link write change interlinks is stored are =
+      let view_after = links_view number a in
       let w = write link in
-      let at : (i : ℕ) → i ≡ n → entry_at (links_view number (with_value a n w)) i ≡ relink (interlinks i) (entry_at seen i) =
+      let at : (i : ℕ) → i ≡ n → entry_at (links_view number (with_value a n w)) i ≡ relink (interlinks i) (entry_at view_after i) =
       (λ i same. entry_at-links_view number (with_value a n w) i
       ∙ (ap (option_map (pair_view number)) (entry_at-with_value a n w i ∙ if_same i n _ _ same)
-      ∙ (seen-write (entry_at a i) link write change is (ap (λ k. option_map (λ (e : Gen × LinkBody K T). e.1) (entry_at a k)) same ∙ stands)
+      ∙ (view_after-write (entry_at a i) link write change is (ap (λ k. option_map (λ (e : Gen × LinkBody K T). e.1) (entry_at a k)) same ∙ stored)
       ∙ ap₂ relink (ap (λ o. option_map change (option_map interlinks_of o)) (sym (entry_at-links_view number a i)) ∙ sym (are i ∙ if_same i n _ _ same)) (sym (entry_at-links_view number a i))))) in
-      let off : (i : ℕ) → i ≢ n → entry_at (links_view number (with_value a n w)) i ≡ relink (interlinks i) (entry_at seen i) =
+      let off : (i : ℕ) → i ≢ n → entry_at (links_view number (with_value a n w)) i ≡ relink (interlinks i) (entry_at view_after i) =
       (λ i other. entry_at-links_view number (with_value a n w) i
       ∙ (ap (option_map (pair_view number)) (entry_at-with_value a n w i ∙ if_other i n _ _ other)
       ∙ (sym (entry_at-links_view number a i)
-      ∙ (relink-own (entry_at seen i) ∙ ap (λ l. relink l (entry_at seen i)) (sym (are i ∙ if_other i n _ _ other)))))) in
-      is_relinked seen (links_view number (with_value a n w)) interlinks
+      ∙ (relink-own (entry_at view_after i) ∙ ap (λ l. relink l (entry_at view_after i)) (sym (are i ∙ if_other i n _ _ other)))))) in
+      is_relinked view_after (links_view number (with_value a n w)) interlinks
       (length-links_view number (with_value a n w) ∙ (length-with_value a n w ∙ sym (length-links_view number a))) refl
       (λ i. ⊎_elim (at i) (off i) (cases_eq i n))

@@ -4,10 +4,10 @@ use Rattle.std.specs.Prelude.{is_some, IsSome, IfSome}
 use Rattle.std.specs.Option.{option_map}
 use Rattle.std.proofs.lemmas.Bool.{false≢true}
 use Rattle.chain_laws.specs.Chains.{LinkMap, Interlinks, IsWellLinked, HasLink, prev_of, next_of}
-use Rattle.chain_laws.specs.Removals.{vacated}
+use Rattle.chain_laws.specs.Removals.{without_link}
 use Rattle.chain_laws.proofs.InterlinkLemmas.Inverses.{not_both_ways}
 use Rattle.chain_laws.proofs.RemovalLemmas.Pairs.{HasLink-vacated}
-use Rattle.chain_laws.proofs.ChainLemmas.LinkedLists.{next_valid, prev_valid, shows_valid}
+use Rattle.chain_laws.proofs.ChainLemmas.LinkedLists.{next_valid, prev_valid, reports_valid}
 use Rattle.chain_links.specs.declared.links.LinkBody.{LinkBody}
 use Rattle.chain_links.specs.Links.{links_view, pair_view}
 use Rattle.chain_links.specs.ChainArena.{LinkView, entry, link_map, relinked, interlinks_of}
@@ -27,7 +27,7 @@ link_where link_map i some = of (link_map i) refl some
   where
     of : (o : Option Interlinks) → link_map i ≡ o → IsSome o → HasLink link_map i
     of None is none = absurd (false≢true none)
-    of (Some l) is here = shows_valid link_map i l is
+    of (Some l) is here = reports_valid link_map i l is
 
 -- with consistent interlinks, the index after a link has a link
 pub next_named : (link_map : LinkMap) (i : ℕ) → IsWellLinked link_map → IfSome (next_of link_map i) (HasLink link_map)
@@ -38,29 +38,29 @@ pub prev_named : (link_map : LinkMap) (i : ℕ) → IsWellLinked link_map → If
 prev_named link_map i agrees = if_each (prev_of link_map i) (HasLink link_map) (λ j is. next_valid link_map j i ((agrees.both j i).1 is))
 
 -- other links stay when the link at i is removed
-pub apart_named : (link_map : LinkMap) (i : ℕ) (o : Option ℕ) → IfSome o (HasLink link_map) → o ≢ Some i → IfSome o (HasLink (vacated link_map i))
-apart_named link_map i None stands apart = tt
-apart_named link_map i (Some j) stands apart = (HasLink-vacated link_map i j).1 (stands, λ same. apart (ap Some same))
+pub apart_named : (link_map : LinkMap) (i : ℕ) (o : Option ℕ) → IfSome o (HasLink link_map) → o ≢ Some i → IfSome o (HasLink (without_link link_map i))
+apart_named link_map i None stored apart = tt
+apart_named link_map i (Some j) stored apart = (HasLink-vacated link_map i j).1 (stored, λ same. apart (ap Some same))
 
 module _ {Gen T : Type 0} where
   -- a valid pointer has a link
   pub valid_link : (a : Arena Gen (LinkView T)) (p : ℕ × Gen) → IsValid (entry a) p → HasLink (link_map a) p.0
-  valid_link a p valid = link_where (link_map a) p.0 (links_exist a p.0 ∙ ap is_some valid.stands)
+  valid_link a p valid = link_where (link_map a) p.0 (links_exist a p.0 ∙ ap is_some valid.stored)
 
   -- a write of interlinks removes no link
   pub still_named : (a b : Arena Gen (LinkView T)) (interlinks : LinkMap) (i : Option ℕ) → FitsLinks interlinks a → b ≡ relinked a interlinks → IfSome i (HasLink (link_map a)) → IfSome i (HasLink (link_map b))
-  still_named a b interlinks None fits is stands = tt
-  still_named a b interlinks (Some i) fits is stands = link_where (link_map b) i
+  still_named a b interlinks None fits is stored = tt
+  still_named a b interlinks (Some i) fits is stored = link_where (link_map b) i
       (ap (λ (x : Arena Gen (LinkView T)). is_some (link_map x i)) is
-      ∙ (ap (λ (m : LinkMap). is_some (m i)) (link_map-relinked a interlinks fits) ∙ (fits i ∙ (sym (FitsLinks-link_map a i) ∙ ap is_some stands.shows))))
+      ∙ (ap (λ (m : LinkMap). is_some (m i)) (link_map-relinked a interlinks fits) ∙ (fits i ∙ (sym (FitsLinks-link_map a i) ∙ ap is_some stored.reports))))
 
 module _ {Gen K T : Type 0} (number : K → Option ℕ) where
   -- an index without an entry has no link
   pub nothing_at : (a : Arena Gen (LinkBody K T)) (n : ℕ) → entry_at a n ≡ None → HasLink (link_map (links_view number a)) n → ⊥
-  nothing_at a n none stands =
+  nothing_at a n none stored =
       let nothing : link_map (links_view number a) n ≡ None = ap (option_map interlinks_of) (entry_at-links_view number a n ∙ ap (option_map (pair_view number)) none) in
-      not_both_ways (link_map (links_view number a) n) stands.link nothing stands.shows
+      not_both_ways (link_map (links_view number a) n) stored.link nothing stored.reports
 
   -- an index without a value has no link
   pub nothing_named : (a : Arena Gen (LinkBody K T)) (n : ℕ) → option_map (λ (e : Gen × LinkBody K T). e.1) (entry_at a n) ≡ None → HasLink (link_map (links_view number a)) n → ⊥
-  nothing_named a n none stands = nothing_at a n (no_entry (entry_at a n) none) stands
+  nothing_named a n none stored = nothing_at a n (no_entry (entry_at a n) none) stored

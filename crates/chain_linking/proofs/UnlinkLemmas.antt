@@ -6,8 +6,8 @@ use Rattle.std.specs.Option.{option_map}
 use mathlib.Core.Path.{fun_ext}
 use Rattle.arena_base.proofs.ArenaViewLemmas.{value_within-made}
 use Rattle.chain_laws.specs.Chains.{LinkMap, IsWellLinked, prev_of, next_of}
-use Rattle.chain_laws.specs.Joins.{linked, with_next, with_prev}
-use Rattle.chain_laws.specs.Removals.{vacated, removed, Removes, RemovesPairs}
+use Rattle.chain_laws.specs.Joins.{with_neighbors, with_next, with_prev}
+use Rattle.chain_laws.specs.Removals.{without_link, with_removal, Removes, RemovesPairs}
 use Rattle.chain_laws.proofs.InterlinkLemmas.Inverses.{if_same, if_other}
 use Rattle.chain_laws.proofs.RemovalLemmas.Pairs.{removed_agrees, removed_in_pairs}
 use Rattle.chain_laws.proofs.RemovalLemmas.Chains.{removed_removes}
@@ -28,10 +28,10 @@ same_if true x y same = same
 same_if false x y same = refl
 
 -- linking a free index to itself changes nothing
-linked_nowhere : (link_map : LinkMap) (i : ℕ) → link_map i ≡ None → linked link_map (Some i) (Some i) ≡ link_map
+linked_nowhere : (link_map : LinkMap) (i : ℕ) → link_map i ≡ None → with_neighbors link_map (Some i) (Some i) ≡ link_map
 linked_nowhere link_map i none = fun_ext (λ j. ⊎_elim (at j) (λ other. if_other j i _ _ other ∙ if_other j i _ _ other) (cases_eq j i))
   where
-    at : (j : ℕ) → j ≡ i → linked link_map (Some i) (Some i) j ≡ link_map j
+    at : (j : ℕ) → j ≡ i → with_neighbors link_map (Some i) (Some i) j ≡ link_map j
     at j same =
         let nothing : link_map j ≡ None = ap link_map same ∙ none in
         if_same j i _ _ same
@@ -59,19 +59,19 @@ module _ {Gen T : Type 0} where
       kept (Some e) = refl
 
   -- a freed slot has no interlinks
-  pub link_map-remove_at : (following : Gen → Gen) (a : Arena Gen (LinkView T)) (i : ℕ) → link_map (remove_at following a i) ≡ vacated (link_map a) i
+  pub link_map-remove_at : (following : Gen → Gen) (a : Arena Gen (LinkView T)) (i : ℕ) → link_map (remove_at following a i) ≡ without_link (link_map a) i
   link_map-remove_at following a i = fun_ext (λ j. ap (option_map interlinks_of) (slot_at-changed a.slots i j (λ _. None) refl) ∙ map-if (j == i) None (entry_at a j))
 
-  fits-removed : (following : Gen → Gen) (a : Arena Gen (LinkView T)) (i : ℕ) → FitsLinks (removed (link_map a) i) (remove_at following a i)
+  fits-removed : (following : Gen → Gen) (a : Arena Gen (LinkView T)) (i : ℕ) → FitsLinks (with_removal (link_map a) i) (remove_at following a i)
   fits-removed following a i =
       let out = remove_at following a i in
-      subst (λ (s : LinkMap). FitsLinks (linked s (prev_of (link_map a) i) (next_of (link_map a) i)) out) (link_map-remove_at following a i) (FitsLinks-linked out (prev_of (link_map a) i) (next_of (link_map a) i))
+      subst (λ (s : LinkMap). FitsLinks (with_neighbors s (prev_of (link_map a) i) (next_of (link_map a) i)) out) (link_map-remove_at following a i) (FitsLinks-linked out (prev_of (link_map a) i) (next_of (link_map a) i))
 
   -- a removal bypasses the index
-  pub link_map-remove_link : (following : Gen → Gen) (a : Arena Gen (LinkView T)) (i : ℕ) → link_map (remove_link following a i) ≡ removed (link_map a) i
-  link_map-remove_link following a i = link_map-relinked (remove_at following a i) (removed (link_map a) i) (fits-removed following a i)
+  pub link_map-remove_link : (following : Gen → Gen) (a : Arena Gen (LinkView T)) (i : ℕ) → link_map (remove_link following a i) ≡ with_removal (link_map a) i
+  link_map-remove_link following a i = link_map-relinked (remove_at following a i) (with_removal (link_map a) i) (fits-removed following a i)
 
-  pub passes_over : (following : Gen → Gen) (a b : Arena Gen (LinkView T)) (i : ℕ) → b ≡ remove_link following a i → link_map b ≡ removed (link_map a) i
+  pub passes_over : (following : Gen → Gen) (a b : Arena Gen (LinkView T)) (i : ℕ) → b ≡ remove_link following a i → link_map b ≡ with_removal (link_map a) i
   passes_over following a b i gone = ap (λ (x : Arena Gen (LinkView T)). link_map x) gone ∙ link_map-remove_link following a i
 
   -- the state after a removal
@@ -90,20 +90,20 @@ module _ {Gen T : Type 0} where
 
   -- the values at other indexes are unchanged
   pub values_of-remove_link : (following : Gen → Gen) (a : Arena Gen (LinkView T)) (i : ℕ) → values_of (remove_link following a i) ≡ remove_at following (values_of a) i
-  values_of-remove_link following a i = values_of-relinked (remove_at following a i) (removed (link_map a) i) (fits-removed following a i) ∙ with_each-remove_at link_value following a i
+  values_of-remove_link following a i = values_of-relinked (remove_at following a i) (with_removal (link_map a) i) (fits-removed following a i) ∙ with_each-remove_at link_value following a i
 
-  pub seen-removed : (following : Gen → Gen) (a b : Arena Gen (LinkView T)) (i : ℕ) → b ≡ remove_link following a i → view_of (values_of b) ≡ entry_removed following (view_of (values_of a)) i
-  seen-removed following a b i gone =
-      ap (λ (x : Arena Gen (LinkView T)). view_of (values_of x)) gone ∙ (ap (λ (x : Arena Gen T). view_of x) (values_of-remove_link following a i) ∙ seeing.seen_removed following (values_of a) i)
+  pub view_after-removed : (following : Gen → Gen) (a b : Arena Gen (LinkView T)) (i : ℕ) → b ≡ remove_link following a i → view_of (values_of b) ≡ entry_removed following (view_of (values_of a)) i
+  view_after-removed following a b i gone =
+      ap (λ (x : Arena Gen (LinkView T)). view_of (values_of x)) gone ∙ (ap (λ (x : Arena Gen T). view_of x) (values_of-remove_link following a i) ∙ seeing.viewed_removed following (values_of a) i)
 
   -- the steps of a removal
   pub removal_by_steps : (following : Gen → Gen) (a out b : Arena Gen (LinkView T)) (i : ℕ) (u v : Option ℕ) → out ≡ remove_at following a i
-      → b ≡ relinked out (linked (link_map out) u v) → u ≡ prev_of (link_map a) i → v ≡ next_of (link_map a) i → b ≡ remove_link following a i
+      → b ≡ relinked out (with_neighbors (link_map out) u v) → u ≡ prev_of (link_map a) i → v ≡ next_of (link_map a) i → b ≡ remove_link following a i
   removal_by_steps following a out b i u v taken joined before after =
       joined
-      ∙ (ap (λ (x : Arena Gen (LinkView T)). relinked x (linked (link_map x) u v)) taken
-      ∙ (ap (λ (s : LinkMap). relinked (remove_at following a i) (linked s u v)) (link_map-remove_at following a i)
-      ∙ ap₂ (λ (s t : Option ℕ). relinked (remove_at following a i) (linked (vacated (link_map a) i) s t)) before after))
+      ∙ (ap (λ (x : Arena Gen (LinkView T)). relinked x (with_neighbors (link_map x) u v)) taken
+      ∙ (ap (λ (s : LinkMap). relinked (remove_at following a i) (with_neighbors s u v)) (link_map-remove_at following a i)
+      ∙ ap₂ (λ (s t : Option ℕ). relinked (remove_at following a i) (with_neighbors (without_link (link_map a) i) s t)) before after))
 
   -- the former neighbors of a removed link
   pub were_beside : (following : Gen → Gen) (a out : Arena Gen (LinkView T)) (i : ℕ) (u v : Option ℕ) → out ≡ remove_at following a i → IsWellLinked (link_map a)
@@ -118,5 +118,5 @@ module _ {Gen T : Type 0} where
       }
 
   -- a link alone in a ring is removed without a write
-  pub ring_gone : (a : Arena Gen (LinkView T)) (i : ℕ) (u v : Option ℕ) → WereBeside (link_map a) i u v → u ≡ Some i → a ≡ relinked a (linked (link_map a) u v)
-  ring_gone a i u v were same = relinked-own a ∙ ap (relinked a) (sym (linked_nowhere (link_map a) i were.gone) ∙ ap₂ (λ (x y : Option ℕ). linked (link_map a) x y) (sym same) (sym (were.ring same)))
+  pub ring_gone : (a : Arena Gen (LinkView T)) (i : ℕ) (u v : Option ℕ) → WereBeside (link_map a) i u v → u ≡ Some i → a ≡ relinked a (with_neighbors (link_map a) u v)
+  ring_gone a i u v were same = relinked-own a ∙ ap (relinked a) (sym (linked_nowhere (link_map a) i were.gone) ∙ ap₂ (λ (x y : Option ℕ). with_neighbors (link_map a) x y) (sym same) (sym (were.ring same)))

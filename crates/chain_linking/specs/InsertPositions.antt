@@ -29,20 +29,20 @@ module _ {I : Type 0} (number : I → ℕ) where
   named_after (Between u v) = option_map number v
 
   -- the result is the position of the kind, or `None` if it may not be inserted
-  pub record IsPositionOf {Gen T : Type 0} (entry : ℕ → Option (Gen × T)) (interlinks : LinkMap) (kind : InsertKind (LinkName Gen)) (answer : Option (InsertPosition I)) : Type 0 where
-    pub some : IsSome answer ↔ MayInsert entry interlinks kind
-    pub before : IfSome answer (λ gap. (q : ℕ) → before_in gap q ≡ link_before interlinks (by_index kind) q)
-    pub after : IfSome answer (λ gap. (q : ℕ) → after_in gap q ≡ link_after interlinks (by_index kind) q)
+  pub record IsPositionOf {Gen T : Type 0} (entry : ℕ → Option (Gen × T)) (interlinks : LinkMap) (kind : InsertKind (LinkName Gen)) (returned : Option (InsertPosition I)) : Type 0 where
+    pub some : IsSome returned ↔ MayInsert entry interlinks kind
+    pub before : IfSome returned (λ position. (q : ℕ) → before_in position q ≡ link_before interlinks (by_index kind) q)
+    pub after : IfSome returned (λ position. (q : ℕ) → after_in position q ≡ link_after interlinks (by_index kind) q)
 
   module _ {Gen T : Type 0} where
     -- the position of a kind in an arena of links
     abbrev pub IsPositionIn : Arena Gen (LinkView T) → InsertKind (LinkName Gen) → Option (InsertPosition I) → Type 0
-    IsPositionIn a kind answer = IsPositionOf (entry a) (link_map a) kind answer
+    IsPositionIn a kind returned = IsPositionOf (entry a) (link_map a) kind returned
 
     -- the index after the link with the name, if there is such a link
     abbrev pub IsNextOf : Arena Gen (LinkView T) → LinkName Gen → Option I → Type 0
-    IsNextOf a name answer = HasName (entry a) name → option_map number answer ≡ next_of (link_map a) name.0
+    IsNextOf a name returned = HasName (entry a) name → option_map number returned ≡ next_of (link_map a) name.0
 
     -- the index before the link with the name, if there is such a link
     abbrev pub IsPrevOf : Arena Gen (LinkView T) → LinkName Gen → Option I → Type 0
-    IsPrevOf a name answer = HasName (entry a) name → option_map number answer ≡ prev_of (link_map a) name.0
+    IsPrevOf a name returned = HasName (entry a) name → option_map number returned ≡ prev_of (link_map a) name.0

@@ -2,7 +2,7 @@
 use Rattle.std.specs.Prelude.{◌≡◌, ◌≢◌, ℕ, IfSome, Option, None, Some}
 use Rattle.std.specs.Option.{option_map}
 use Rattle.chain_laws.specs.Chains.{LinkMap, HasLink, prev_of, next_of}
-use Rattle.chain_laws.specs.Joins.{next_set, prev_set, linked}
+use Rattle.chain_laws.specs.Joins.{next_set, prev_set, with_neighbors}
 use Rattle.arena_base.specs.Arena.{Arena, IsValid}
 use Rattle.chain_links.specs.ChainArena.{LinkView, link_map, relinked}
 
@@ -21,11 +21,11 @@ module _ {Gen T : Type 0} where
 
   -- v comes after u
   abbrev pub linked_up : Arena Gen (LinkView T) → Option ℕ → Option ℕ → Arena Gen (LinkView T)
-  linked_up a u v = relinked a (linked (link_map a) u v)
+  linked_up a u v = relinked a (with_neighbors (link_map a) u v)
 
   -- the pair p is linked, then the pair q
   abbrev pub linked_twice : Arena Gen (LinkView T) → Option ℕ × Option ℕ → Option ℕ × Option ℕ → Arena Gen (LinkView T)
-  linked_twice a p q = relinked a (linked (linked (link_map a) p.0 p.1) q.0 q.1)
+  linked_twice a p q = relinked a (with_neighbors (with_neighbors (link_map a) p.0 p.1) q.0 q.1)
 
 module _ {Gen T : Type 0} (entry : ℕ → Option (Gen × T)) (interlinks : LinkMap) (p : ℕ × Gen) where
   -- p is valid, and no link comes after it

@@ -40,11 +40,11 @@ pub fn is_start<P: PtrKey, T: Drop, S: SlotStack<Item = ArenaSlot<P, LinkNoGen<P
 }
 
 // Returns `i` if a link is stored there.
-fn standing_at<P: PtrKey, T: Drop, S: SlotStack<Item = ArenaSlot<P, LinkNoGen<P, T>>>>(
+fn occupied_index<P: PtrKey, T: Drop, S: SlotStack<Item = ArenaSlot<P, LinkNoGen<P, T>>>>(
     arena: &Arena<P, LinkNoGen<P, T>, S>,
     i: Option<P::Inx>,
 ) -> Option<P::Inx>
-    ensures stands { IfSome (option_map P.Inx.number result)
+    ensures stored { IfSome (option_map P.Inx.number result)
         (HasLink (link_map (links_view P.Inx.packed_number arena.now))) }
     ensures some { OnSome result (option_map P.Inx.number result ≡ option_map P.Inx.number i) }
     ensures none { IfNone result
@@ -71,7 +71,7 @@ fn set_next<P: PtrKey, T: Drop, S: SlotStack<Item = ArenaSlot<P, LinkNoGen<P, T>
         (links_view P.Inx.packed_number arena.old) (option_map P.Inx.number i)
         (option_map P.Inx.number next) }
 {
-    let i = standing_at(arena, i);
+    let i = occupied_index(arena, i);
     link_writes::set_next(arena, i, next);
 }
 

@@ -190,7 +190,7 @@ fn bridging<P: PtrKey, T: Drop, S: SlotStack<Item = ArenaSlot<P, LinkNoGen<P, T>
 ///
 /// Inlined, so that a kind known at compile time leaves only its own branch.
 #[inline(always)]
-pub fn gap_of<P: PtrKey, T: Drop, S: SlotStack<Item = ArenaSlot<P, LinkNoGen<P, T>>>>(
+pub fn position_of_kind<P: PtrKey, T: Drop, S: SlotStack<Item = ArenaSlot<P, LinkNoGen<P, T>>>>(
     arena: &Arena<P, LinkNoGen<P, T>, S>,
     kind: NamedKind<Name<P, P::Inx>>,
 ) -> Option<InsertPosition<P::Inx>>

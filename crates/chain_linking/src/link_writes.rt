@@ -10,8 +10,8 @@ ghost use Rattle.chain_linking.specs.InsertPositions.{before_in, after_in};
 ghost use Rattle.chain_linking.specs.LinkWrites.{next_written, prev_written, linked_up, linked_twice, numbers, WereBeside};
 
 use crate::insert_position::InsertPosition;
-use crate::new_link::around;
-use arena_base::{Arena, ArenaSlot, ArenaTrait, excluded, outcome};
+use crate::new_link::neighbors_of_position;
+use arena_base::{Arena, ArenaSlot, ArenaTrait, outcome, proved_unreachable};
 use arena_ptr::{InvalidationResult, InxKey, PtrKey, SlotStack};
 use chain_links::{LinkNoGen, link_access};
 
@@ -28,7 +28,7 @@ pub fn neighbor<P: PtrKey, T: Drop, S: SlotStack<Item = ArenaSlot<P, LinkNoGen<P
     match i {
         Some(i) => match arena.get_inx(i) {
             Some((generation, _)) => Some(P::_from_raw(i, generation)),
-            None => excluded!(),
+            None => proved_unreachable!(),
         },
         None => None,
     }
@@ -49,7 +49,7 @@ pub fn set_next<P: PtrKey, T: Drop, S: SlotStack<Item = ArenaSlot<P, LinkNoGen<P
     match i {
         Some(i) => match arena.get_inx_mut(i) {
             Some(link) => link_access::set_next(link, next),
-            None => excluded!(),
+            None => proved_unreachable!(),
         },
         None => {}
     }
@@ -70,7 +70,7 @@ pub fn set_prev<P: PtrKey, T: Drop, S: SlotStack<Item = ArenaSlot<P, LinkNoGen<P
     match i {
         Some(i) => match arena.get_inx_mut(i) {
             Some(link) => link_access::set_prev(link, prev),
-            None => excluded!(),
+            None => proved_unreachable!(),
         },
         None => {}
     }
@@ -117,22 +117,22 @@ pub fn link_twice<P: PtrKey, T: Drop, S: SlotStack<Item = ArenaSlot<P, LinkNoGen
 }
 
 /// Sets the index of a new link in the links of its insertion position.
-pub fn tie<P: PtrKey, T: Drop, S: SlotStack<Item = ArenaSlot<P, LinkNoGen<P, T>>>>(
+pub fn update_neighbors<P: PtrKey, T: Drop, S: SlotStack<Item = ArenaSlot<P, LinkNoGen<P, T>>>>(
     arena: &mut Arena<P, LinkNoGen<P, T>, S>,
-    gap: InsertPosition<P::Inx>,
+    position: InsertPosition<P::Inx>,
     p: P,
 )
-    requires before { IfSome (before_in P.Inx.number gap (P.key p).0)
+    requires before { IfSome (before_in P.Inx.number position (P.key p).0)
         (HasLink (link_map (links_view P.Inx.packed_number arena.old))) }
-    requires after { IfSome (after_in P.Inx.number gap (P.key p).0)
+    requires after { IfSome (after_in P.Inx.number position (P.key p).0)
         (HasLink (link_map (links_view P.Inx.packed_number arena.old))) }
     ensures { links_view P.Inx.packed_number arena.new ≡ named_by
         (links_view P.Inx.packed_number arena.old)
-        (before_in P.Inx.number gap (P.key p).0) (after_in P.Inx.number gap (P.key p).0)
+        (before_in P.Inx.number position (P.key p).0) (after_in P.Inx.number position (P.key p).0)
         (P.key p).0 }
 {
     let i = p.inx();
-    let (prev, next) = around(gap, i);
+    let (prev, next) = neighbors_of_position(position, i);
     set_next(arena, prev, Some(i));
     set_prev(arena, next, Some(i));
 }
@@ -169,7 +169,7 @@ pub fn take_out<P: PtrKey, T: Drop, S: SlotStack<Item = ArenaSlot<P, LinkNoGen<P
     i: P::Inx,
 ) -> InvalidationResult<(P::Gen, LinkNoGen<P, T>)>
     requires { IsWellLinked (link_map (links_view P.Inx.packed_number arena.old)) }
-    ensures answer { option_map (pair_view P.Inx.packed_number) (value_within result) ≡ entry_at
+    ensures returned { option_map (pair_view P.Inx.packed_number) (value_within result) ≡ entry_at
         (links_view P.Inx.packed_number arena.old) (P.Inx.number i) }
     ensures overflow { result ≡ invalidation_result (P.Gen.wraps arena.old.counter)
         (value_within result) }

@@ -13,7 +13,7 @@ use chain_links::LinkNoGen;
 use chain_links::walk_direction::going;
 
 /// Returns the pointer and the link at an index, if there is one.
-pub fn look<P: PtrKey, T: Drop, S: SlotStack<Item = ArenaSlot<P, LinkNoGen<P, T>>>>(
+pub fn lookup<P: PtrKey, T: Drop, S: SlotStack<Item = ArenaSlot<P, LinkNoGen<P, T>>>>(
     arena: &Arena<P, LinkNoGen<P, T>, S>,
     i: P::Inx,
 ) -> Option<(P, &LinkNoGen<P, T>)>
@@ -47,7 +47,7 @@ pub fn step<P: PtrKey, T: Drop, S: SlotStack<Item = ArenaSlot<P, LinkNoGen<P, T>
         (PassesNothing P.Inx.number (links_view P.Inx.packed_number arena.now) start forth back) }
 {
     match forth {
-        Some(i) => match look(arena, i) {
+        Some(i) => match lookup(arena, i) {
             Some((p, link)) => {
                 let (forth, back) = going(start, link.next(), back);
                 Some((p, forth, back))
@@ -55,7 +55,7 @@ pub fn step<P: PtrKey, T: Drop, S: SlotStack<Item = ArenaSlot<P, LinkNoGen<P, T>
             None => None,
         },
         None => match back {
-            Some(i) => match look(arena, i) {
+            Some(i) => match lookup(arena, i) {
                 Some((p, link)) => Some((p, None, link.prev())),
                 None => None,
             },

@@ -25,22 +25,22 @@ slice_index_or-append (y ∷ xs) x zero = sym (if_other 0 (suc (length xs)) _ _ 
 slice_index_or-append (y ∷ xs) x (suc k) = slice_index_or-append xs x k ∙ if_suc k (length xs) _ _
 
 slice_index_or-inside : {X : Type 0} (xs : List (Option X)) (k : ℕ) (x : X) → slice_index_or xs k None ≡ Some x → k < length xs
-slice_index_or-inside [] k x stands = absurd (let h = stands in cc)
-slice_index_or-inside (y ∷ xs) zero x stands = omega arith
-slice_index_or-inside (y ∷ xs) (suc k) x stands = let inside = slice_index_or-inside xs k x stands in omega arith
+slice_index_or-inside [] k x stored = absurd (let h = stored in cc)
+slice_index_or-inside (y ∷ xs) zero x stored = omega arith
+slice_index_or-inside (y ∷ xs) (suc k) x stored = let inside = slice_index_or-inside xs k x stored in omega arith
 
 -- interlinks are those of an entry
 pub some_entry : {X : Type 0} (f : X → Interlinks) (o : Option X) (l : Interlinks) → option_map f o ≡ Some l → (x : X) × (o ≡ Some x)
-some_entry f None l shows = absurd (let h = shows in cc)
-some_entry f (Some x) l shows = (x, refl)
+some_entry f None l reports = absurd (let h = reports in cc)
+some_entry f (Some x) l reports = (x, refl)
 
 -- the links of slots are within the slots
 pub slots-within : {X : Type 0} (f : X → Interlinks) (slots : List (Option X)) → HasLinksWithin (λ i. option_map f (slot_at slots i)) (length slots)
 slots-within {X} f slots = record { within = inside } where
   inside : (i : ℕ) → HasLink (λ i. option_map f (slot_at slots i)) i → (1 ≤ i) × (i ≤ length slots)
-  inside zero valid = absurd (let h = valid.shows in cc)
+  inside zero valid = absurd (let h = valid.reports in cc)
   inside (suc k) valid =
-      let x = some_entry f (slice_index_or slots k None) valid.link valid.shows in
+      let x = some_entry f (slice_index_or slots k None) valid.link valid.reports in
       let below = slice_index_or-inside slots k x.0 x.1 in (omega arith, omega arith)
 
 -- lookup in a list with one item written
@@ -108,7 +108,7 @@ module _ {Gen T : Type 0} where
       (λ i. ap (λ (x : Arena Gen T). entry_at x i) inserted ∙ slot_at-filled a.freed a.slots (a.counter, t) i free) in
       subst (λ (q : ℕ × Gen). IsInserted (entry_at a) (entry_at b) q t) (sym at) (record {
         free = slot_at-next a.freed a.slots free;
-        stands = entries (next_index a) ∙ if_same (next_index a) (next_index a) _ _ refl;
+        stored = entries (next_index a) ∙ if_same (next_index a) (next_index a) _ _ refl;
         rest = λ i other. entries i ∙ if_other i (next_index a) _ _ other;
       })
 

@@ -60,14 +60,14 @@ module _ {Gen X Y : Type 0} (f : X → Y) where
     listed = λ i some within none. listed.listed i some (subst (λ n. i ≤ n) (length-with_each a) within) ((none-with_each a i).1 none);
   }
 
-  tell : (o : Option (Gen × X)) → is_some (option_map (on_value f) o) ≡ is_some o
-  tell None = refl
-  tell (Some e) = refl
+  set_neighbor : (o : Option (Gen × X)) → is_some (option_map (on_value f) o) ≡ is_some o
+  set_neighbor None = refl
+  set_neighbor (Some e) = refl
 
   count : (slots : List (Option (Gen × X))) → count_by is_some (map (option_map (on_value f)) slots) ≡ count_by is_some slots
   count [] = refl
   count (e ∷ slots) = sum_by-cons _ (option_map (on_value f) e) (map (option_map (on_value f)) slots)
-      ∙ (ap₂ (λ b n. (if b then 1 else 0) + n) (tell e) (count slots) ∙ sym (sum_by-cons _ e slots))
+      ∙ (ap₂ (λ b n. (if b then 1 else 0) + n) (set_neighbor e) (count slots) ∙ sym (sum_by-cons _ e slots))
 
   pub entry_count-with_each : (a : Arena Gen X) → entry_count (with_each f a) ≡ entry_count a
   entry_count-with_each a = count a.slots
@@ -110,11 +110,11 @@ module _ {Gen X Y : Type 0} (f : X → Y) where
   -- the same pointers are valid
   pub IsValidPtr-with_each : (a : Arena Gen X) (p : ℕ × Gen) → IsValidPtr a p ↔ IsValidPtr (with_each f a) p
   IsValidPtr-with_each a p = (
-    (λ valid. record { value = f valid.value; stands = entry_at-with_each a p.0 ∙ ap (option_map (on_value f)) valid.stands }),
-    (λ valid. of_entry (entry_at a p.0) valid.value refl (sym (entry_at-with_each a p.0) ∙ valid.stands)),
+    (λ valid. record { value = f valid.value; stored = entry_at-with_each a p.0 ∙ ap (option_map (on_value f)) valid.stored }),
+    (λ valid. of_entry (entry_at a p.0) valid.value refl (sym (entry_at-with_each a p.0) ∙ valid.stored)),
   ) where
     of_entry : (o : Option (Gen × X)) (y : Y) → entry_at a p.0 ≡ o → option_map (on_value f) o ≡ Some (p.1, y) → IsValidPtr a p
-    of_entry None y stands seen = absurd (nothing seen) where
+    of_entry None y stored view_after = absurd (nothing view_after) where
       nothing : ◌≡◌ {A = Option (Gen × Y)} None (Some (p.1, y)) → ⊥
       nothing h = cc
-    of_entry (Some e) y stands seen = record { value = e.1; stands = stands ∙ ap (λ (g : Gen). let o : Option (Gen × X) = Some (g, e.1) in o) (generation_is e.0 p.1 _ y seen) }
+    of_entry (Some e) y stored view_after = record { value = e.1; stored = stored ∙ ap (λ (g : Gen). let o : Option (Gen × X) = Some (g, e.1) in o) (generation_is e.0 p.1 _ y view_after) }

@@ -3,7 +3,7 @@ use Rattle.std.specs.Prelude.{◌≡◌, ℕ, IsOk, Option, Result}
 use Rattle.std.specs.Option.{option_map}
 use Rattle.chain_laws.specs.Chains.{LinkMap}
 use Rattle.chain_laws.specs.Insertions.{InsertKind}
-use Rattle.chain_laws.specs.Removals.{removed}
+use Rattle.chain_laws.specs.Removals.{with_removal}
 use Rattle.arena_base.specs.Entries.{ArenaView, count, HasFreeCapacity, entry_removed}
 use Rattle.chain_links.specs.ChainArena.{link_at}
 use Rattle.chain_links.specs.Insertions.{IsInsertion}
@@ -20,17 +20,17 @@ module _ {Gen T : Type 0} where
   abbrev pub SucceedsWithinCapacity : {X E : Type 0} → ArenaView Gen T → Result X E → ArenaView Gen T → Type 0
   SucceedsWithinCapacity old result new = HasFreeCapacity old → IsOk result × (new.capacity ≡ old.capacity)
 
-module _ {A Gen T : Type 0} (seen : A → ArenaView Gen T) (interlinks : A → LinkMap) where
+module _ {A Gen T : Type 0} (view_of : A → ArenaView Gen T) (interlinks : A → LinkMap) where
   -- the link at i is removed, its neighbors are linked, and the counter advances
   abbrev pub LosesLink : (Gen → Gen) → ℕ → A → A → Type 0
-  LosesLink following i old new = (seen new ≡ entry_removed following (seen old) i) × (interlinks new ≡ removed (interlinks old) i)
+  LosesLink following i old new = (view_of new ≡ entry_removed following (view_of old) i) × (interlinks new ≡ with_removal (interlinks old) i)
 
-module _ {A Gen T : Type 0} (seen : A → ArenaView Gen T) (entry : A → ℕ → Option (Gen × T)) (interlinks : A → LinkMap) where
+module _ {A Gen T : Type 0} (view_of : A → ArenaView Gen T) (entry : A → ℕ → Option (Gen × T)) (interlinks : A → LinkMap) where
   -- a link of a kind, with a value, is inserted at p
   abbrev pub GainsLink : InsertKind (LinkName Gen) → T → A → ℕ × Gen → A → Type 0
-  GainsLink kind t old p new = IsInsertion (by_index kind) (seen old) (seen new) (entry old) (entry new) (interlinks old) (interlinks new) p t
+  GainsLink kind t old p new = IsInsertion (by_index kind) (view_of old) (view_of new) (entry old) (entry new) (interlinks old) (interlinks new) p t
 
   -- the link of a pointer is removed, and returned as it was
   abbrev pub YieldsLink : {K : Type 0} → (K → Option ℕ) → (Gen → Gen) → ℕ × Gen → A → Option (LinkBody K T) → A → Type 0
-  YieldsLink packed following p old answer new =
-      (option_map (λ link. (p.1, link_view packed link)) answer ≡ link_at (entry old) (interlinks old) p.0) × LosesLink seen interlinks following p.0 old new
+  YieldsLink packed following p old returned new =
+      (option_map (λ link. (p.1, link_view packed link)) returned ≡ link_at (entry old) (interlinks old) p.0) × LosesLink view_of interlinks following p.0 old new

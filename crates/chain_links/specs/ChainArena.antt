@@ -3,11 +3,11 @@ use Rattle.std.specs.Prelude.{◌≡◌, ◌≢◌, ℕ, suc, List, [], ◌∷�
 use Rattle.std.specs.Option.{option_map, option_and_then}
 use Rattle.chain_laws.specs.Chains.{LinkMap, Interlinks, prev_of, next_of}
 use Rattle.chain_laws.specs.Walks.{IsWalk}
-use Rattle.chain_laws.specs.Removals.{removed, Removes, RemovesPairs}
-use Rattle.chain_laws.specs.Cuts.{cut, Cuts, TakesPair}
-use Rattle.chain_laws.specs.Exchanges.{exchanged, Exchanges, ExchangesPairs}
-use Rattle.chain_laws.specs.Joins.{next_set, prev_set, joined, AddsPair, Connects}
-use Rattle.chain_laws.specs.Insertions.{InsertKind, inserted, inserted_as}
+use Rattle.chain_laws.specs.Removals.{with_removal, Removes, RemovesPairs}
+use Rattle.chain_laws.specs.Cuts.{without_pair, Cuts, TakesPair}
+use Rattle.chain_laws.specs.Exchanges.{with_exchange, Exchanges, ExchangesPairs}
+use Rattle.chain_laws.specs.Joins.{next_set, prev_set, with_join, AddsPair, Connects}
+use Rattle.chain_laws.specs.Insertions.{InsertKind, with_insertion, with_insertion_as}
 use Rattle.arena_base.specs.Arena.{Arena, with_slot, entry_at, next_index, insert_next, remove_at, IsValid}
 use Rattle.arena_base.specs.Entries.{ArenaView, view_of}
 
@@ -101,11 +101,11 @@ module _ {Gen T : Type 0} where
 
   -- a link is inserted between u and v
   abbrev pub insert_between : Arena Gen (LinkView T) → T → Option ℕ → Option ℕ → Arena Gen (LinkView T)
-  insert_between a t u v = relinked (insert_lone a t) (inserted (link_map a) (next_index a) u v)
+  insert_between a t u v = relinked (insert_lone a t) (with_insertion (link_map a) (next_index a) u v)
 
   -- a link of a kind is inserted
   abbrev pub insert_as : Arena Gen (LinkView T) → InsertKind ℕ → T → Arena Gen (LinkView T)
-  insert_as a kind t = relinked (insert_lone a t) (inserted_as (link_map a) kind (next_index a))
+  insert_as a kind t = relinked (insert_lone a t) (with_insertion_as (link_map a) kind (next_index a))
 
   -- the link at i, if there is one, with another value
   abbrev pub with_value_at : Arena Gen (LinkView T) → ℕ → T → Arena Gen (LinkView T)
@@ -113,40 +113,40 @@ module _ {Gen T : Type 0} where
 
   -- the link at i is removed and its neighbors are linked
   abbrev pub remove_link : (Gen → Gen) → Arena Gen (LinkView T) → ℕ → Arena Gen (LinkView T)
-  remove_link following a i = relinked (remove_at following a i) (removed (link_map a) i)
+  remove_link following a i = relinked (remove_at following a i) (with_removal (link_map a) i)
 
   -- the link at i was removed, by state, link map, chains and pairs
   pub record IsRemoval (following : Gen → Gen) (old : Arena Gen (LinkView T)) (i : ℕ) (new : Arena Gen (LinkView T)) : Type 0 where
     pub state : new ≡ remove_link following old i
-    pub shows : link_map new ≡ removed (link_map old) i
+    pub reports : link_map new ≡ with_removal (link_map old) i
     pub chains : Removes (link_map old) (link_map new) i
     pub pairs : RemovesPairs (link_map old) (link_map new) i
 
   -- the start b was joined to the end a, by state, link map, pairs and chains
   pub record IsJoin (old new : Arena Gen (LinkView T)) (a b : ℕ) : Type 0 where
-    pub state : new ≡ relinked old (joined (link_map old) a b)
-    pub shows : link_map new ≡ joined (link_map old) a b
+    pub state : new ≡ relinked old (with_join (link_map old) a b)
+    pub reports : link_map new ≡ with_join (link_map old) a b
     pub pair : AddsPair (link_map old) (link_map new) a b
     pub chains : Connects (link_map old) (link_map new) a b
 
   -- the neighbors a and b were cut, by state, link map, pairs and chains
   pub record IsCut (old new : Arena Gen (LinkView T)) (a b : ℕ) : Type 0 where
-    pub state : new ≡ relinked old (cut (link_map old) a b)
-    pub shows : link_map new ≡ cut (link_map old) a b
+    pub state : new ≡ relinked old (without_pair (link_map old) a b)
+    pub reports : link_map new ≡ without_pair (link_map old) a b
     pub pair : TakesPair (link_map old) (link_map new) a b
     pub chains : Cuts (link_map old) (link_map new) a b
 
   -- the links after p and q were exchanged, by state, link map, pairs and chains
   pub record IsExchange (old new : Arena Gen (LinkView T)) (p q : ℕ) : Type 0 where
-    pub state : new ≡ relinked old (exchanged (link_map old) p q)
-    pub shows : link_map new ≡ exchanged (link_map old) p q
+    pub state : new ≡ relinked old (with_exchange (link_map old) p q)
+    pub reports : link_map new ≡ with_exchange (link_map old) p q
     pub pairs : ExchangesPairs (link_map old) (link_map new) p q
     pub chains : Exchanges (link_map old) (link_map new) p q
 
   -- the links of the walk from i, with indexes and generations
   pub record IsWalkOf (a : Arena Gen (LinkView T)) (i : ℕ) (links : List (ℕ × (Gen × LinkView T))) : Type 0 where
     pub walk : IsWalk (link_map a) i (map (λ e. e.0) links)
-    pub stands : All (λ e. entry_at a e.0 ≡ Some e.1) links
+    pub stored : All (λ e. entry_at a e.0 ≡ Some e.1) links
 
 -- Links of any arena, from its entries and interlinks.
 module _ {Gen T : Type 0} where
@@ -163,7 +163,7 @@ module _ {Gen T : Type 0} (entry : ℕ → Option (Gen × T)) where
   -- the free index p has the value t, and every other entry is unchanged
   pub record IsInserted (after : ℕ → Option (Gen × T)) (p : ℕ × Gen) (t : T) : Type 0 where
     pub free : entry p.0 ≡ None
-    pub stands : after p.0 ≡ Some (p.1, t)
+    pub stored : after p.0 ≡ Some (p.1, t)
     pub rest : (i : ℕ) → i ≢ p.0 → after i ≡ entry i
 
 module _ {Gen T : Type 0} (entry : ℕ → Option (Gen × T)) (interlinks : LinkMap) where
@@ -187,6 +187,6 @@ module _ {Gen T : Type 0} (entry : ℕ → Option (Gen × T)) (interlinks : Link
 
   -- the link of a pointer, with current pointers to its neighbors
   pub record IsLinkAt (p : ℕ × Gen) (prev next : Option (ℕ × Gen)) (t : T) : Type 0 where
-    pub stands : entry p.0 ≡ Some (p.1, t)
+    pub stored : entry p.0 ≡ Some (p.1, t)
     pub before : prev ≡ option_and_then (ptr_at entry) (prev_of interlinks p.0)
     pub after : next ≡ option_and_then (ptr_at entry) (next_of interlinks p.0)

@@ -2,7 +2,7 @@
 use Rattle.std.specs.Prelude.{◌≡◌, ℕ, zero, suc, ◌+◌, length, IfSome, Option, None, Some}
 use Rattle.std.specs.Option.{option_map}
 use Rattle.chain_laws.specs.Chains.{LinkMap}
-use Rattle.chain_laws.specs.Insertions.{InsertKind, link_before, link_after, inserted, InsertsPairs, Inserts}
+use Rattle.chain_laws.specs.Insertions.{InsertKind, link_before, link_after, with_insertion, InsertsPairs, Inserts}
 use Rattle.arena_base.specs.Entries.{ArenaView, next_slot, with_next_filled}
 use Rattle.chain_links.specs.ChainArena.{IsInserted}
 
@@ -14,7 +14,7 @@ nonzero_index (suc n) = Some (suc n)
 -- a link was inserted at p between u and v, by entries, link map, pairs and chains
 pub record IsInsertionBetween {Gen T : Type 0} (u v : Option ℕ) (old new : ArenaView Gen T) (entry after : ℕ → Option (Gen × T)) (interlinks changed : LinkMap) (p : ℕ × Gen) (t : T) : Type 0 where
   pub entries : IsInserted entry after p t
-  pub shows : changed ≡ inserted interlinks p.0 u v
+  pub reports : changed ≡ with_insertion interlinks p.0 u v
   pub pairs : InsertsPairs interlinks changed p.0 u v
   pub chains : Inserts interlinks changed p.0 u v
   -- One more entry, with the counter as its generation and at the next slot, if these are known.

@@ -31,10 +31,10 @@ module _ {P Gen K T : Type 0} where
 
 -- one call of an advancer: it passes the link at its next step and takes the step; without such a
 -- link it has no steps left
-pub record IsPassing {Gen T : Type 0} (entry : ℕ → Option (Gen × T)) (interlinks : LinkMap) (old : Walker) (answer : Option (ℕ × Gen)) (new : Walker) : Type 0 where
-  pub passed : IfSome answer (λ p. IsValid entry p × (step_of interlinks old ≡ Some (p.0, new)))
-  pub spent : IfNone answer (new.left ≡ 0)
-  pub end : IfNone answer (IfSome (step_of interlinks old) (λ step. entry step.0 ≡ None))
+pub record IsPassing {Gen T : Type 0} (entry : ℕ → Option (Gen × T)) (interlinks : LinkMap) (old : Walker) (returned : Option (ℕ × Gen)) (new : Walker) : Type 0 where
+  pub passed : IfSome returned (λ p. IsValid entry p × (step_of interlinks old ≡ Some (p.0, new)))
+  pub spent : IfNone returned (new.left ≡ 0)
+  pub end : IfNone returned (IfSome (step_of interlinks old) (λ step. entry step.0 ≡ None))
 
 -- the walker of an advancer, with its indexes as numbers
 abbrev pub walker_of : {I : Type 0} → (I → ℕ) → ℕ → I → Option I → Option I → Walker

@@ -60,7 +60,7 @@ pub fn set_destination<W: Copy, I: InxKey<Word = W>, T>(
 pub fn take_destination<W: Copy, I: InxKey<Word = W>, T>(
     link: &mut LinkBody<PackedOption<I, W>, T>,
 ) -> Option<I>
-    ensures answer { option_map I.number result ≡ I.packed_number link.old.destination }
+    ensures returned { option_map I.number result ≡ I.packed_number link.old.destination }
     ensures empty { I.packed_number link.new.destination ≡ None }
     ensures rest { link.new ≡ record link.old { destination = link.new.destination } }
 {

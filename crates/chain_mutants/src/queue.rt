@@ -17,12 +17,12 @@ pub fn spawn<P: PtrKey, T: Drop, A: ChainArenaTrait<P, T> + Drop>(
 ) -> Result<P, ReallocationError>
     ensures last { IfOk result (λ p. queue.new.turn ≡ queue.old.turn ++ (P.key p, task) ∷ []) }
     ensures fresh { IfOk result (λ p. ¬ IsMember (indexes queue.old.turn) (P.key p).0) }
-    ensures room { length queue.old.turn < queue.old.room
-        → IsOk result × (queue.new.room ≡ queue.old.room) }
+    ensures within_capacity { length queue.old.turn < queue.old.capacity
+        → IsOk result × (queue.new.capacity ≡ queue.old.capacity) }
     ensures grown { OnOk result (IsCapacityFor P.Inx.greatest queue.new.maximum
-        (length queue.old.turn + 1) queue.new.room) }
+        (length queue.old.turn + 1) queue.new.capacity) }
     ensures beyond { (result ≡ Err ReallocationError.BeyondMaxCapacity)
-        ↔ ((length queue.old.turn ≡ queue.old.room)
+        ↔ ((length queue.old.turn ≡ queue.old.capacity)
         × IsBeyond queue.old.maximum (length queue.old.turn + 1)) }
     ensures greatest { length queue.old.turn ≡ P.Inx.greatest → IsErr result }
     ensures maximum { queue.new.maximum ≡ queue.old.maximum }

@@ -10,18 +10,18 @@ use std::io::{BufWriter, Read, Write, writer};
 use std::process::ExitCode;
 
 fn main(rt: HostRuntime) -> ExitCode {
-    answer(rt.alloc(), &mut rt.reader(), writer(&rt), &mut rt.stderr())
+    respond_to_input(rt.alloc(), &mut rt.reader(), writer(&rt), &mut rt.stderr())
 }
 
 /// Runs the lines of a reader and returns the exit status. Writes a fault to `errors`.
-fn answer<R: Read, W: Write + Drop, E: Write>(
+fn respond_to_input<R: Read, W: Write + Drop, E: Write>(
     alloc: Global,
     reader: &mut R,
     writer: W,
     errors: &mut E,
 ) -> ExitCode {
     let result = match BufWriter::new(alloc, writer) {
-        Ok(mut answers) => run(alloc, reader, &mut answers),
+        Ok(mut responses) => run(alloc, reader, &mut responses),
         Err(_) => Err(ToolError::Memory),
     };
     match result {

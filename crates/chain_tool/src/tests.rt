@@ -1,6 +1,6 @@
 //! Tests of the exit status and of the text on standard error at each fault.
 
-use super::{answer, reason};
+use super::{reason, respond_to_input};
 use chain_commands::ToolError;
 use std::alloc::Global;
 use std::io;
@@ -36,7 +36,7 @@ fn ends<R: Read + Drop, W: Write + Drop>(
     words: &str,
 ) -> bool {
     let mut errors = Vec::new(alloc);
-    let ended = answer(alloc, &mut reader, writer, &mut errors);
+    let ended = respond_to_input(alloc, &mut reader, writer, &mut errors);
     ended == status && errors.as_slice() == words.as_bytes()
 }
 
@@ -53,7 +53,7 @@ fn a_fault_is_reported(rt: HostRuntime) {
 
 #[test]
 fn a_fault_that_cannot_be_reported(rt: HostRuntime) {
-    let ended = answer(rt.alloc(), &mut Failing, sink(), &mut Failing);
+    let ended = respond_to_input(rt.alloc(), &mut Failing, sink(), &mut Failing);
     assert!(rt; ended == ExitCode::FAILURE);
     assert!(rt; reason(ToolError::Memory) == "chain_tool: no memory\n");
 }

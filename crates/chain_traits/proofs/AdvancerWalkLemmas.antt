@@ -15,15 +15,15 @@ use Rattle.arena_base.specs.Entries.{found, index_of}
 use Rattle.chain_laws.proofs.WalkLemmas.WalkBack.{length_among}
 use Rattle.chain_traits.proofs.GenericArenaLemmas.{valid_some, valid_has, links_within}
 
-module _ {Gen T : Type 0} (interlinks : LinkMap) (entry : ℕ → Option (Gen × T)) (es : List ((ℕ × Gen) × T)) (stands : (i : ℕ) → is_some (interlinks i) ≡ is_some (entry i))
-    (looked : (i : ℕ) → found i es ≡ entry i) where
+module _ {Gen T : Type 0} (interlinks : LinkMap) (entry : ℕ → Option (Gen × T)) (es : List ((ℕ × Gen) × T)) (stored : (i : ℕ) → is_some (interlinks i) ≡ is_some (entry i))
+    (was_read : (i : ℕ) → found i es ≡ entry i) where
   -- A walker with as many steps as entries passes the walk.
   pub passes_walk : (greatest i : ℕ) → IsWellLinked interlinks → All (λ e. IsWithin greatest (index_of e)) es → chains.HasLink interlinks i
       → IsWalk interlinks i (walk_ahead (length es) interlinks i (Some i) (prev_of interlinks i))
   passes_walk greatest i agrees within valid =
-      let inside = links_within interlinks entry es stands looked greatest within in
+      let inside = links_within interlinks entry es stored was_read greatest within in
       let walk = has_walk interlinks greatest i agrees inside valid in
-      let enough = subst (λ n. length walk.0 ≤ n) (length-map es index_of) (length_among walk.0 (map index_of es) (walk_once interlinks i walk.0 walk.1) (λ j has. valid_has interlinks entry es stands looked j (walk_valid interlinks i walk.0 walk.1 j has))) in
+      let enough = subst (λ n. length walk.0 ≤ n) (length-map es index_of) (length_among walk.0 (map index_of es) (walk_once interlinks i walk.0 walk.1) (λ j has. valid_has interlinks entry es stored was_read j (walk_valid interlinks i walk.0 walk.1 j has))) in
       subst (IsWalk interlinks i) (sym (walk_passed (length es) interlinks i walk.0 walk.1 enough)) walk.1
 
   -- A walk is over if no entry is at the first index left.
@@ -31,7 +31,7 @@ module _ {Gen T : Type 0} (interlinks : LinkMap) (entry : ℕ → Option (Gen ×
   walk_whole i passed [] walk none = subst (IsWalk interlinks i) (append-nil passed) walk
   walk_whole i passed (j ∷ rest) walk none =
       let valid = walk_valid interlinks i (passed ++ j ∷ rest) walk j (IsMember-right passed (j ∷ rest) j (inl refl)) in
-      absurd (let some = valid_some interlinks entry es stands looked j valid in let no = none j rest refl in let both = sym some ∙ ap is_some no in cc)
+      absurd (let some = valid_some interlinks entry es stored was_read j valid in let no = none j rest refl in let both = sym some ∙ ap is_some no in cc)
 
 -- A last item comes before what is ahead.
 passed_last : {Q : Type 0} (name : Q → ℕ) (all : List Q) (q : Q) (ahead : List ℕ) → map name (all ++ q ∷ []) ++ ahead ≡ map name all ++ name q ∷ ahead

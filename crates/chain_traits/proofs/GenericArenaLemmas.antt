@@ -45,7 +45,7 @@ module _ {Gen T : Type 0} where
 
   -- An entry of the least index.
   pub record IsLeast (es : List ((ℕ × Gen) × T)) (i : ℕ) : Type 0 where
-    pub stands : is_some (found i es) ≡ true
+    pub stored : is_some (found i es) ≡ true
     pub low : (j : ℕ) → is_some (found j es) ≡ true → i ≤ j
 
   first_least : (from : ℕ) (p : ℕ × Gen) (es : List ((ℕ × Gen) × T)) → RisesFrom from es → Some p ≡ first_key es → IsLeast es p.0
@@ -53,42 +53,42 @@ module _ {Gen T : Type 0} where
   first_least from p (e ∷ es) rises first =
       let same : p ≡ e.0 = cc in
       subst (λ (q : ℕ × Gen). IsLeast (e ∷ es) q.0) (sym same) (record {
-        stands = ap (λ b. is_some (cond b (Some (e.0.1, e.1)) (found e.0.0 es))) (eq-eqb e.0.0 e.0.0 refl);
+        stored = ap (λ b. is_some (cond b (Some (e.0.1, e.1)) (found e.0.0 es))) (eq-eqb e.0.0 e.0.0 refl);
         low = λ j some. found_from e.0.0 j (e ∷ es) (le_refl e.0.0, rises.1) some;
       })
 
   -- An advancer from where the entries begin returns the first.
-  pub next_is : (es : List ((ℕ × Gen) × T)) (look after : Cursor) (from : ℕ) (p : ℕ × Gen) → look ≡ Up from → RisesFrom from es → IsAdvanceUntilNone es look (Some p) after
+  pub next_is : (es : List ((ℕ × Gen) × T)) (lookup after : Cursor) (from : ℕ) (p : ℕ × Gen) → lookup ≡ Up from → RisesFrom from es → IsAdvanceUntilNone es lookup (Some p) after
       → IsLeast es p.0 × (after ≡ Up (p.0 + 1))
-  next_is es look after from p up rises given =
+  next_is es lookup after from p up rises given =
       let at = subst (λ (l : Cursor). IsAdvanceUntilNone es l (Some p) after) up given in
       (first_least from p es rises (at.first ∙ ap first_key (entries_at_or_above-rises from from es (le_refl from) rises)), at.moves)
 
-  pub none_is : (es : List ((ℕ × Gen) × T)) (look after : Cursor) (from : ℕ) → look ≡ Up from → RisesFrom from es → IsAdvanceUntilNone es look None after → es ≡ []
-  none_is es look after from up rises given =
+  pub none_is : (es : List ((ℕ × Gen) × T)) (lookup after : Cursor) (from : ℕ) → lookup ≡ Up from → RisesFrom from es → IsAdvanceUntilNone es lookup None after → es ≡ []
+  none_is es lookup after from up rises given =
       sym (entries_at_or_above-rises from from es (le_refl from) rises) ∙ subst (λ (l : Cursor). IsAdvanceUntilNone es l None after) up given
 
-module _ {Gen T : Type 0} (interlinks : LinkMap) (entry : ℕ → Option (Gen × T)) (es : List ((ℕ × Gen) × T)) (stands : (i : ℕ) → is_some (interlinks i) ≡ is_some (entry i))
-    (looked : (i : ℕ) → found i es ≡ entry i) where
+module _ {Gen T : Type 0} (interlinks : LinkMap) (entry : ℕ → Option (Gen × T)) (es : List ((ℕ × Gen) × T)) (stored : (i : ℕ) → is_some (interlinks i) ≡ is_some (entry i))
+    (was_read : (i : ℕ) → found i es ≡ entry i) where
   pub valid_some : (i : ℕ) → chains.HasLink interlinks i → is_some (entry i) ≡ true
-  valid_some i valid = sym (stands i) ∙ ap is_some valid.shows
+  valid_some i valid = sym (stored i) ∙ ap is_some valid.reports
 
   pub valid_has : (i : ℕ) → chains.HasLink interlinks i → IsMember (map index_of es) i
-  valid_has i valid = found_has i es (ap is_some (looked i) ∙ valid_some i valid)
+  valid_has i valid = found_has i es (ap is_some (was_read i) ∙ valid_some i valid)
 
   -- A link exists where an entry does.
   pub some_valid : (i : ℕ) → is_some (entry i) ≡ true → chains.HasLink interlinks i
-  some_valid i there = by (interlinks i) refl (stands i ∙ there) where
+  some_valid i there = by (interlinks i) refl (stored i ∙ there) where
     by : (o : Option Interlinks) → interlinks i ≡ o → is_some (interlinks i) ≡ true → chains.HasLink interlinks i
     by None is some = absurd (let none = ap is_some is in let both = sym some ∙ none in cc)
-    by (Some link) is some = record { link = link; shows = is }
+    by (Some link) is some = record { link = link; reports = is }
 
   pub entry_valid : (i : ℕ) (e : Gen × T) → entry i ≡ Some e → chains.HasLink interlinks i
   entry_valid i e there = some_valid i (ap is_some there)
 
   -- The link of a valid pointer exists.
   pub valid_link : (p : ℕ × Gen) → IsValid entry p → chains.HasLink interlinks p.0
-  valid_link p valid = entry_valid p.0 (p.1, valid.value) valid.stands
+  valid_link p valid = entry_valid p.0 (p.1, valid.value) valid.stored
 
   module _ (greatest : ℕ) (within : All (λ e. IsWithin greatest (index_of e)) es) where
     pub links_within : chains.HasLinksWithin interlinks greatest

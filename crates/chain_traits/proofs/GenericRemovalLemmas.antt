@@ -3,7 +3,7 @@ use Rattle.std.proofs.Common.{◌≡◌, ◌≢◌, ℕ, suc, ◌+◌, List, [],
 use Rattle.std.specs.Prelude.{◌↔◌, is_some, cond, ◌==◌, IsSome, IfSome, OnSome, IfNone}
 use Rattle.std.specs.Option.{option_map}
 use Rattle.chain_laws.specs.Chains.{LinkMap, IsWellLinked}
-use Rattle.chain_laws.specs.Removals.{removed, Removes}
+use Rattle.chain_laws.specs.Removals.{with_removal, Removes}
 use Rattle.chain_laws.proofs.RemovalLemmas.Chains.{removed_removes}
 use Rattle.arena_base.specs.Arena.{IsValid}
 use Rattle.arena_base.specs.Entries.{ArenaView, count, found, without, RisesFrom, entry_removed}
@@ -30,17 +30,17 @@ module _ {Gen T : Type 0} where
 
 -- Equal entries are found alike at each index.
 pub same_entry : {A Gen T : Type 0} (entries : A → List ((ℕ × Gen) × T)) (entry : A → ℕ → Option (Gen × T)) → ((a : A) (i : ℕ) → found i (entries a) ≡ entry a i) → (a b : A) → entries b ≡ entries a → entry b ≡ entry a
-same_entry entries entry looked a b same = λ k i. (sym (looked b i) ∙ (ap (found i) same ∙ looked a i)) k
+same_entry entries entry was_read a b same = λ k i. (sym (was_read b i) ∙ (ap (found i) same ∙ was_read a i)) k
 
-module _ {A Gen T : Type 0} (seen : A → ArenaView Gen T) (entry : A → ℕ → Option (Gen × T)) (links : A → LinkMap) where
+module _ {A Gen T : Type 0} (view_of : A → ArenaView Gen T) (entry : A → ℕ → Option (Gen × T)) (links : A → LinkMap) where
   -- The entry of a pointer existed and is gone.
   pub record HasGone (old new : A) (p : ℕ × Gen) : Type 0 where
-    pub stood : IsValid (entry old) p
+    pub was_stored : IsValid (entry old) p
     pub gone : entry new p.0 ≡ None
     pub kept : (i : ℕ) → i ≢ p.0 → entry new i ≡ entry old i
-    pub shows : links new ≡ removed (links old) p.0
+    pub reports : links new ≡ with_removal (links old) p.0
     pub chains : Removes (links old) (links new) p.0
-    pub less : count (seen old) ≡ count (seen new) + 1
+    pub less : count (view_of old) ≡ count (view_of new) + 1
 
   -- A removal returns a pointer's value and removes its entry, or changes nothing.
   pub record TakesEntry (old new : A) (p : ℕ × Gen) (o : Option T) : Type 0 where
@@ -49,12 +49,12 @@ module _ {A Gen T : Type 0} (seen : A → ArenaView Gen T) (entry : A → ℕ �
     pub some : is_some o ≡ true → HasGone old new p
     pub same : o ≡ None → new ≡ old
 
-  pub removal : ((a : A) → RisesFrom 1 (seen a).entries) → ((a : A) (i : ℕ) → found i (seen a).entries ≡ entry a i) → (old new : A) (p : ℕ × Gen) (following : Gen → Gen) (o : Option T)
-      → IsSome o ↔ IsValid (entry old) p → (IsValid (entry old) p → (o ≡ option_map (λ e. e.1) (entry old p.0)) × (seen new ≡ entry_removed following (seen old) p.0))
-      → ((IsValid (entry old) p → ⊥) → (o ≡ None) × (new ≡ old)) → (IsValid (entry old) p → links new ≡ removed (links old) p.0) → IsWellLinked (links old) → TakesEntry old new p o
-  removal rises looked old new p following o some valid invalid passed agrees = record {
+  pub removal : ((a : A) → RisesFrom 1 (view_of a).entries) → ((a : A) (i : ℕ) → found i (view_of a).entries ≡ entry a i) → (old new : A) (p : ℕ × Gen) (following : Gen → Gen) (o : Option T)
+      → IsSome o ↔ IsValid (entry old) p → (IsValid (entry old) p → (o ≡ option_map (λ e. e.1) (entry old p.0)) × (view_of new ≡ entry_removed following (view_of old) p.0))
+      → ((IsValid (entry old) p → ⊥) → (o ≡ None) × (new ≡ old)) → (IsValid (entry old) p → links new ≡ with_removal (links old) p.0) → IsWellLinked (links old) → TakesEntry old new p o
+  removal rises was_read old new p following o some valid invalid passed agrees = record {
     valid = some.1;
-    value = λ v. (valid v).0 ∙ ap (option_map (λ (e : Gen × T). e.1)) v.stands;
+    value = λ v. (valid v).0 ∙ ap (option_map (λ (e : Gen × T). e.1)) v.stored;
     some = λ is. has_gone (some.0 is);
     same = λ none. (invalid (λ v. let is = some.1 v in let not = ap is_some none in let both = sym is ∙ not in cc)).1;
   }
@@ -63,28 +63,28 @@ module _ {A Gen T : Type 0} (seen : A → ArenaView Gen T) (entry : A → ℕ �
       has_gone v =
           let entries = ap (λ (s : ArenaView Gen T). s.entries) (valid v).1 in
           record {
-            stood = v;
-            gone = entry_gone (entry old) (entry new) (seen old).entries (seen new).entries p.0 (rises old) (looked old) (looked new) entries;
-            kept = entry_kept (entry old) (entry new) (seen old).entries (seen new).entries p.0 (rises old) (looked old) (looked new) entries;
-            shows = passed v;
+            was_stored = v;
+            gone = entry_gone (entry old) (entry new) (view_of old).entries (view_of new).entries p.0 (rises old) (was_read old) (was_read new) entries;
+            kept = entry_kept (entry old) (entry new) (view_of old).entries (view_of new).entries p.0 (rises old) (was_read old) (was_read new) entries;
+            reports = passed v;
             chains = subst (λ (l : LinkMap). Removes (links old) l p.0) (sym (passed v)) (removed_removes (links old) p.0 agrees);
-            less = let one = one_less p.0 (seen old).entries (ap is_some (looked old p.0) ∙ ap is_some v.stands) in let many = ap length entries in omega arith;
+            less = let one = one_less p.0 (view_of old).entries (ap is_some (was_read old p.0) ∙ ap is_some v.stored) in let many = ap length entries in omega arith;
           }
 
   -- Consequences of a removal, whichever it returns.
   module _ (old new : A) (p : ℕ × Gen) where
-    pub value_told : (o : Option T) → TakesEntry old new p o → IfSome o (λ t. entry old p.0 ≡ Some (p.1, t))
-    value_told None r = tt
-    value_told (Some t) r =
-        let v = (r.some refl).stood in
+    pub value_known : (o : Option T) → TakesEntry old new p o → IfSome o (λ t. entry old p.0 ≡ Some (p.1, t))
+    value_known None r = tt
+    value_known (Some t) r =
+        let v = (r.some refl).was_stored in
         let same : t ≡ v.value = let h = r.value v in cc in
-        subst (λ (u : T). entry old p.0 ≡ Some (p.1, u)) (sym same) v.stands
+        subst (λ (u : T). entry old p.0 ≡ Some (p.1, u)) (sym same) v.stored
 
     pub gone_of : (o : Option T) → TakesEntry old new p o → OnSome o (entry new p.0 ≡ None)
     gone_of None r = tt
     gone_of (Some t) r = (r.some refl).gone
 
-    pub less_of : (o : Option T) → TakesEntry old new p o → OnSome o (count (seen old) ≡ count (seen new) + 1)
+    pub less_of : (o : Option T) → TakesEntry old new p o → OnSome o (count (view_of old) ≡ count (view_of new) + 1)
     less_of None r = tt
     less_of (Some t) r = (r.some refl).less
 

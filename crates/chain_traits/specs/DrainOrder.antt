@@ -11,8 +11,8 @@ use Rattle.arena_base.specs.declared.cursor.Cursor.TheVariants.{Up}
 -- least index.
 pub record IsNextChain {Gen T : Type 0} (source : ArenaView Gen T) (interlinks : LinkMap) (here : ℕ) (ring : Bool) (after : Cursor) : Type 0 where
   pub least : ℕ
-  pub stands : IsSome (found least source.entries)
+  pub stored : IsSome (found least source.entries)
   pub none_below : (j : ℕ) → IsSome (found j source.entries) → least ≤ j
   pub start : IsStart interlinks least here
   pub cyclic : ring ≡ is_some (prev_of interlinks here)
-  pub looks : after ≡ Up (least + 1)
+  pub lookups : after ≡ Up (least + 1)

@@ -3,11 +3,11 @@ ghost use Rattle.std.specs.Option.{option_map};
 ghost use Rattle.arena_ptr.specs.Numbers.{IsWithin};
 ghost use Rattle.arena_ptr.specs.Invalidation.{value_within, invalidation_option, invalidation_result};
 ghost use Rattle.chain_laws.specs.Chains.{LinkMap, IsWellLinked, HasLinksWithin, prev_of, next_of};
-ghost use Rattle.chain_laws.specs.Cuts.{cut, Cuts};
-ghost use Rattle.chain_laws.specs.Exchanges.{exchanged, Exchanges};
+ghost use Rattle.chain_laws.specs.Cuts.{without_pair, Cuts};
+ghost use Rattle.chain_laws.specs.Exchanges.{with_exchange, Exchanges};
 ghost use Rattle.chain_laws.specs.Neighbors.{AreNeighbors, HasOneSetOfChains};
-ghost use Rattle.chain_laws.specs.Joins.{joined, Connects};
-ghost use Rattle.chain_laws.specs.Removals.{removed, Removes};
+ghost use Rattle.chain_laws.specs.Joins.{with_join, Connects};
+ghost use Rattle.chain_laws.specs.Removals.{with_removal, Removes};
 ghost use Rattle.chain_laws.specs.Renamings.{IsRenaming};
 ghost use Rattle.chain_laws.specs.Arrangements.{place_in};
 ghost use Rattle.arena_base.specs.Arena.{IsValid, IsCapacityFor};
@@ -149,7 +149,7 @@ pub trait ChainArenaTrait<P: PtrKey, T: Drop>: ArenaTrait<P, T> {
             ↔ ¬ MayInsert (Self.entry self.old) (interlinks self.old)
             (names_in P.key P.Inx.number kind) }
         ensures error { IfErr result (λ e. e ≢ ChainInsertionError.NotWithinCapacity) }
-        ensures room { MayInsert (Self.entry self.old) (interlinks self.old)
+        ensures within_capacity { MayInsert (Self.entry self.old) (interlinks self.old)
             (names_in P.key P.Inx.number kind) → SucceedsWithinCapacity (Self.view self.old) result
             (Self.view self.new) }
         ensures grown { OnOk result (IsCapacityFor P.Inx.greatest (Self.view self.new).maximum
@@ -176,7 +176,8 @@ pub trait ChainArenaTrait<P: PtrKey, T: Drop>: ArenaTrait<P, T> {
             (names_in P.key P.Inx.number kind) t self.old (P.key p) self.new) }
         ensures agreed { IsWellLinked (interlinks self.old) }
         ensures err { OnErr result (self.new ≡ self.old) }
-        ensures room { SucceedsWithinCapacity (Self.view self.old) result (Self.view self.new) }
+        ensures within_capacity { SucceedsWithinCapacity (Self.view self.old) result
+            (Self.view self.new) }
         ensures grown { OnOk result (IsCapacityFor P.Inx.greatest (Self.view self.new).maximum
             (count (Self.view self.old) + 1) (Self.view self.new).capacity) }
         ensures beyond { (result ≡ Err ReallocationError.BeyondMaxCapacity)
@@ -249,11 +250,11 @@ pub trait ChainArenaTrait<P: PtrKey, T: Drop>: ArenaTrait<P, T> {
     fn connect(&mut self, p: P, q: P) -> Option<()>
         ensures some { IsSome result ↔ CanConnect (Self.entry self.old) (interlinks self.old)
             (P.key p) (P.key q) }
-        ensures joined { OnSome result (interlinks self.new ≡ joined (interlinks self.old)
+        ensures joined { OnSome result (interlinks self.new ≡ with_join (interlinks self.old)
             (P.key p).0 (P.key q).0) }
         ensures chains { OnSome result (Connects (interlinks self.old) (interlinks self.new)
             (P.key p).0 (P.key q).0) }
-        ensures seen { OnSome result (Self.view self.new ≡ Self.view self.old) }
+        ensures view_after { OnSome result (Self.view self.new ≡ Self.view self.old) }
         ensures none { IfNone result (self.new ≡ self.old) }
         ensures agreed { IsWellLinked (interlinks self.old) }
         ensures more { OnSome result (connects self.old (P.key p).0 (P.key q).0 self.new) };
@@ -270,10 +271,10 @@ pub trait ChainArenaTrait<P: PtrKey, T: Drop>: ArenaTrait<P, T> {
             ↔ (IsValid (Self.entry self.old) (P.key p)
             × IsSome (prev_of (interlinks self.old) (P.key p).0)) }
         ensures cut { OnSome result (IfSome (prev_of (interlinks self.old) (P.key p).0)
-            (λ a. interlinks self.new ≡ cut (interlinks self.old) a (P.key p).0)) }
+            (λ a. interlinks self.new ≡ without_pair (interlinks self.old) a (P.key p).0)) }
         ensures chains { OnSome result (IfSome (prev_of (interlinks self.old) (P.key p).0)
             (λ a. Cuts (interlinks self.old) (interlinks self.new) a (P.key p).0)) }
-        ensures seen { OnSome result (Self.view self.new ≡ Self.view self.old) }
+        ensures view_after { OnSome result (Self.view self.new ≡ Self.view self.old) }
         ensures none { IfNone result (self.new ≡ self.old) }
         ensures agreed { IsWellLinked (interlinks self.old) }
         ensures more { OnSome result (IfSome (prev_of (interlinks self.old) (P.key p).0)
@@ -290,10 +291,10 @@ pub trait ChainArenaTrait<P: PtrKey, T: Drop>: ArenaTrait<P, T> {
             ↔ (IsValid (Self.entry self.old) (P.key p)
             × IsSome (next_of (interlinks self.old) (P.key p).0)) }
         ensures cut { OnSome result (IfSome (next_of (interlinks self.old) (P.key p).0)
-            (λ b. interlinks self.new ≡ cut (interlinks self.old) (P.key p).0 b)) }
+            (λ b. interlinks self.new ≡ without_pair (interlinks self.old) (P.key p).0 b)) }
         ensures chains { OnSome result (IfSome (next_of (interlinks self.old) (P.key p).0)
             (λ b. Cuts (interlinks self.old) (interlinks self.new) (P.key p).0 b)) }
-        ensures seen { OnSome result (Self.view self.new ≡ Self.view self.old) }
+        ensures view_after { OnSome result (Self.view self.new ≡ Self.view self.old) }
         ensures none { IfNone result (self.new ≡ self.old) }
         ensures agreed { IsWellLinked (interlinks self.old) }
         ensures more { OnSome result (IfSome (next_of (interlinks self.old) (P.key p).0)
@@ -309,11 +310,11 @@ pub trait ChainArenaTrait<P: PtrKey, T: Drop>: ArenaTrait<P, T> {
     fn exchange_next(&mut self, p: P, q: P) -> Option<()>
         ensures some { IsSome result ↔ CanExchange (Self.entry self.old) (interlinks self.old)
             (P.key p) (P.key q) }
-        ensures exchanged { OnSome result (interlinks self.new ≡ exchanged (interlinks self.old)
+        ensures exchanged { OnSome result (interlinks self.new ≡ with_exchange (interlinks self.old)
             (P.key p).0 (P.key q).0) }
         ensures chains { OnSome result (Exchanges (interlinks self.old) (interlinks self.new)
             (P.key p).0 (P.key q).0) }
-        ensures seen { OnSome result (Self.view self.new ≡ Self.view self.old) }
+        ensures view_after { OnSome result (Self.view self.new ≡ Self.view self.old) }
         ensures none { IfNone result (self.new ≡ self.old) }
         ensures agreed { IsWellLinked (interlinks self.old) }
         ensures more { OnSome result (exchanges self.old (P.key p).0 (P.key q).0 self.new) };
@@ -349,7 +350,8 @@ pub trait ChainArenaTrait<P: PtrKey, T: Drop>: ArenaTrait<P, T> {
     ///
     /// Port of `ChainArenaTrait::remove_inx_link_no_gen`.
     fn remove_inx_link_no_gen(&mut self, i: P::Inx) -> InvalidationResult<(P::Gen, LinkNoGen<P, T>)>
-        ensures answer { option_map (on_value (link_view P.Inx.packed_number)) (value_within result)
+        ensures returned { option_map (on_value (link_view P.Inx.packed_number))
+            (value_within result)
             ≡ link_at (Self.entry self.old) (interlinks self.old) (P.Inx.number i) }
         ensures overflow { IfSome (Self.view self.old).counter
             (λ g. result ≡ invalidation_result (P.Gen.wraps g) (value_within result)) }
@@ -388,20 +390,21 @@ pub trait ChainArenaTrait<P: PtrKey, T: Drop>: ArenaTrait<P, T> {
         (option_map P.key r) (walker b) };
 
     // A link exists exactly where an entry does.
-    ghost stand: { (a : Self) (i : ℕ) → is_some (interlinks a i) ≡ is_some (Self.entry a i) };
+    ghost links_are_entries: { (a : Self) (i : ℕ) → is_some (interlinks a i) ≡ is_some
+        (Self.entry a i) };
 
     // The effects of the calls of `ArenaTrait` on the chains.
-    ghost grown: { (n : ℕ) (a b : Self) → Self.grows n a b → interlinks b ≡ interlinks a };
+    ghost growth_keeps: { (n : ℕ) (a b : Self) → Self.grows n a b → interlinks b ≡ interlinks a };
 
-    ghost written: { (a b : Self) (i : ℕ) (t : T) → Self.writes a i t b
+    ghost write_keeps: { (a b : Self) (i : ℕ) (t : T) → Self.writes a i t b
         → interlinks b ≡ interlinks a };
 
-    ghost renewed: { (a b : Self) (i : ℕ) → Self.renews a i b → interlinks b ≡ interlinks a };
+    ghost renewal_keeps: { (a b : Self) (i : ℕ) → Self.renews a i b → interlinks b ≡ interlinks a };
 
-    ghost passed_over: { (a b : Self) (i : ℕ) → Self.removes a i b
-        → interlinks b ≡ removed (interlinks a) i };
+    ghost removal_removes: { (a b : Self) (i : ℕ) → Self.removes a i b
+        → interlinks b ≡ with_removal (interlinks a) i };
 
-    ghost compressed: { (a b : Self) → Self.compresses a b
+    ghost compression_renames: { (a b : Self) → Self.compresses a b
         → IsRenaming (place_in (map index_of (Self.view a).entries)) (interlinks a)
         (interlinks b) };
 }

@@ -3,7 +3,7 @@ ghost use Rattle.std.specs.Prelude.{◌≡◌, ◌≢◌, ℕ, [], IsSome, IfSom
 ghost use Rattle.std.specs.Option.{option_map};
 ghost use Rattle.arena_ptr.specs.Invalidation.{value_in, is_overflow};
 ghost use Rattle.chain_laws.specs.Chains.{IsWellLinked, prev_of, next_of};
-ghost use Rattle.chain_laws.specs.Removals.{removed};
+ghost use Rattle.chain_laws.specs.Removals.{with_removal};
 ghost use Rattle.chain_laws.specs.Walks.{step_forward};
 ghost use Rattle.chain_laws.specs.ChainStart.{IsStart};
 ghost use Rattle.arena_base.specs.Entries.{entry_removed, RisesFrom};
@@ -11,7 +11,7 @@ ghost use Rattle.arena_base.specs.declared.cursor.Cursor.{Cursor};
 ghost use Rattle.chain_traits.specs.DrainOrder.{IsNextChain};
 
 use crate::chain_traits::ChainArenaTrait;
-use arena_base::{Advancer, excluded, invalidated};
+use arena_base::{Advancer, invalidated, proved_unreachable};
 use arena_ptr::{InvalidationOption, InxKey, PtrKey};
 use chain_links::walk_direction::going_on;
 
@@ -44,7 +44,7 @@ fn start_of<Q: PtrKey, U: Drop, A: ChainArenaTrait<Q, U>>(source: &A, i: Q::Inx)
             None => return at,
         }
     }
-    excluded!()
+    proved_unreachable!()
 }
 
 // Returns the first link of the next chain of a source, and whether the chain is cyclic.
@@ -65,7 +65,7 @@ fn next_chain<Q: PtrKey, U: Drop, A: ChainArenaTrait<Q, U>>(
             let start = start_of(source, q.inx());
             (start, before(source, start).is_some())
         }
-        None => excluded!(),
+        None => proved_unreachable!(),
     }
 }
 
@@ -95,8 +95,8 @@ fn next_link<Q: PtrKey, U: Drop, A: ChainArenaTrait<Q, U>>(
     requires low { on ≡ None → (from : ℕ) × (A.cursor advancer.old ≡ Cursor.Up from)
         × RisesFrom from (A.view source.now).entries }
     requires some { on ≡ None → (A.view source.now).entries ≢ [] }
-    requires stands { IfSome on (λ i. IsSome (A.entry source.now (Q.Inx.number i))) }
-    ensures goes_on { IfSome on (λ i. (result ≡ (i, ring))
+    requires stored { IfSome on (λ i. IsSome (A.entry source.now (Q.Inx.number i))) }
+    ensures continues { IfSome on (λ i. (result ≡ (i, ring))
         × (A.cursor advancer.new ≡ A.cursor advancer.old)) }
     ensures begins { IfNone on (IsNextChain (A.view source.now) (A.interlinks source.now)
         (Q.Inx.number result.0) result.1 (A.cursor advancer.new)) }
@@ -122,20 +122,20 @@ pub fn take_next<Q: PtrKey, U: Drop, A: ChainArenaTrait<Q, U>>(
     requires low { on ≡ None → (from : ℕ) × (A.cursor advancer.old ≡ Cursor.Up from)
         × RisesFrom from (A.view source.old).entries }
     requires some { on ≡ None → (A.view source.old).entries ≢ [] }
-    requires stands { IfSome on (λ i. IsSome (A.entry source.old (Q.Inx.number i))) }
-    ensures goes_on { IfSome on (λ i. ((Q.key result.ptr).0 ≡ Q.Inx.number i)
+    requires stored { IfSome on (λ i. IsSome (A.entry source.old (Q.Inx.number i))) }
+    ensures continues { IfSome on (λ i. ((Q.key result.ptr).0 ≡ Q.Inx.number i)
         × (result.is_cyclic ≡ ring) × (A.cursor advancer.new ≡ A.cursor advancer.old)) }
     ensures begins { IfNone on (IsNextChain (A.view source.old) (A.interlinks source.old)
         (Q.key result.ptr).0 result.is_cyclic (A.cursor advancer.new)) }
-    ensures stood { A.entry source.old (Q.key result.ptr).0 ≡ Some
+    ensures was_stored { A.entry source.old (Q.key result.ptr).0 ≡ Some
         ((Q.key result.ptr).1, value_in result.value) }
     ensures overflow { IfSome (A.view source.old).counter
         (λ g. is_overflow result.value ≡ Q.Gen.wraps g) }
     ensures next { option_map Q.Inx.number result.next ≡ step_forward (Q.key result.ptr).0
         (next_of (A.interlinks source.old) (Q.key result.ptr).0) }
-    ensures seen { A.view source.new ≡ entry_removed Q.Gen.following (A.view source.old)
+    ensures view_after { A.view source.new ≡ entry_removed Q.Gen.following (A.view source.old)
         (Q.key result.ptr).0 }
-    ensures links { A.interlinks source.new ≡ removed (A.interlinks source.old)
+    ensures links { A.interlinks source.new ≡ with_removal (A.interlinks source.old)
         (Q.key result.ptr).0 }
 {
     let (i, is_cyclic) = next_link(source, advancer, on, ring);
@@ -155,16 +155,17 @@ fn take_link<Q: PtrKey, U: Drop, A: ChainArenaTrait<Q, U>>(
     i: Q::Inx,
 ) -> (Q, InvalidationOption<U>, Option<Q::Inx>)
     requires { IsSome (A.entry source.old (Q.Inx.number i)) }
-    ensures stood { A.entry source.old (Q.Inx.number i) ≡ Some
+    ensures was_stored { A.entry source.old (Q.Inx.number i) ≡ Some
         ((Q.key result.0).1, value_in result.1) }
     ensures index { (Q.key result.0).0 ≡ Q.Inx.number i }
     ensures overflow { IfSome (A.view source.old).counter
         (λ g. is_overflow result.1 ≡ Q.Gen.wraps g) }
     ensures next { option_map Q.Inx.number result.2 ≡ step_forward (Q.Inx.number i)
         (next_of (A.interlinks source.old) (Q.Inx.number i)) }
-    ensures seen { A.view source.new ≡ entry_removed Q.Gen.following (A.view source.old)
+    ensures view_after { A.view source.new ≡ entry_removed Q.Gen.following (A.view source.old)
         (Q.Inx.number i) }
-    ensures links { A.interlinks source.new ≡ removed (A.interlinks source.old) (Q.Inx.number i) }
+    ensures links { A.interlinks source.new ≡ with_removal (A.interlinks source.old)
+        (Q.Inx.number i) }
     ensures agreed { IsWellLinked (A.interlinks source.old) }
 {
     let (entry, overflow) = source.remove_inx_link_no_gen(i).overflowing();
@@ -177,6 +178,6 @@ fn take_link<Q: PtrKey, U: Drop, A: ChainArenaTrait<Q, U>>(
                 next,
             )
         }
-        None => excluded!(),
+        None => proved_unreachable!(),
     }
 }

@@ -10,8 +10,8 @@ use chain_compaction::canonical;
 use chain_compaction::visitor::Visitor;
 use chain_links::LinkNoGen;
 
-/// Forwards to `chain_compaction::canonical::lay_out`, with its clause on the links.
-pub fn lay_out<
+/// Forwards to `chain_compaction::canonical::arrange`, with its clause on the links.
+pub fn arrange<
     P: PtrKey,
     T: Drop,
     S: SlotStack<Item = ArenaSlot<P, LinkNoGen<P, T>>>,
@@ -19,9 +19,9 @@ pub fn lay_out<
 >(arena: &mut Arena<P, LinkNoGen<P, T>, S>, visitor: V) -> (V, Work)
     requires ready { V.is_ready visitor }
     requires agree { IsWellLinked (link_map (links_view P.Inx.packed_number arena.old)) }
-    ensures laid { AreArranged V.sees P.key visitor result.0
+    ensures arranged { AreArranged V.sees P.key visitor result.0
         (links_view P.Inx.packed_number arena.old) (links_view P.Inx.packed_number arena.new) }
 {
-    let done = canonical::lay_out(arena, visitor);
+    let done = canonical::arrange(arena, visitor);
     done
 }

@@ -8,7 +8,7 @@ mod links;
 mod stacks;
 mod trait_calls;
 
-pub use layouts::lay_out;
+pub use layouts::arrange;
 pub use links::{join, link_up, take_out};
 pub use stacks::{reserve_to, slot_at};
 pub use trait_calls::break_next;

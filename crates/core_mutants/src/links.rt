@@ -52,7 +52,7 @@ pub fn take_out<P: PtrKey, T: Drop, S: SlotStack<Item = ArenaSlot<P, LinkNoGen<P
     i: P::Inx,
 ) -> InvalidationResult<(P::Gen, LinkNoGen<P, T>)>
     requires { IsWellLinked (link_map (links_view P.Inx.packed_number arena.old)) }
-    ensures answer { option_map (pair_view P.Inx.packed_number) (value_within result) ≡ entry_at
+    ensures returned { option_map (pair_view P.Inx.packed_number) (value_within result) ≡ entry_at
         (links_view P.Inx.packed_number arena.old) (P.Inx.number i) }
     ensures overflow { result ≡ invalidation_result (P.Gen.wraps arena.old.counter)
         (value_within result) }

@@ -33,24 +33,24 @@ impl<A, V: Advancer<A>> Advancer<ForwardingArena<A>> for ForwardingAdvancer<V> {
 
     type Item = V::Item;
 
-    ghost gives = { λ a arena answer b. (mid : V) × V.gives a.inner arena.inner answer mid
-        × OnSome answer (b.inner ≡ mid) × (a.again ≡ None → (b.inner ≡ mid) × (b.again ≡ None)) };
+    ghost gives = { λ a arena returned b. (mid : V) × V.gives a.inner arena.inner returned mid
+        × OnSome returned (b.inner ≡ mid) × (a.again ≡ None → (b.inner ≡ mid) × (b.again ≡ None)) };
 
     ghost is_spent = { λ a. V.is_spent a.inner × (a.again ≡ None) };
 
-    ghost stays_spent = { λ a b arena answer spent given.
-        let still = V.stays_spent a.inner given.0 arena.inner answer spent.0 given.1 in
+    ghost stays_spent = { λ a b arena returned spent given.
+        let still = V.stays_spent a.inner given.0 arena.inner returned spent.0 given.1 in
         let kept = given.3 spent.1 in
         (still.0, (subst V.is_spent (sym kept.0) still.1, kept.1)) };
 
     fn advance(&mut self, collection: &ForwardingArena<A>) -> Option<V::Item> {
-        let answer = self.inner.advance(&collection.inner);
-        if answer.is_none() {
+        let returned = self.inner.advance(&collection.inner);
+        if returned.is_none() {
             if let Some(again) = self.again.take() {
                 self.inner = again;
             }
         }
-        answer
+        returned
     }
 
     fn empty() -> Self {
@@ -70,12 +70,13 @@ pub struct ForwardingWalk<V> {
 impl<A, V: Advancer<A>> Advancer<ForwardingArena<A>> for ForwardingWalk<V> {
     type Item = V::Item;
 
-    ghost gives = { λ a arena answer b. V.gives a.inner arena.inner answer b.inner };
+    ghost gives = { λ a arena returned b. V.gives a.inner arena.inner returned b.inner };
 
     ghost is_spent = { λ a. V.is_spent a.inner };
 
-    ghost stays_spent = { λ a b arena answer spent given. V.stays_spent a.inner b.inner arena.inner
-        answer spent given };
+    ghost stays_spent = { λ a b arena returned spent given. V.stays_spent a.inner b.inner
+        arena.inner
+        returned spent given };
 
     fn advance(&mut self, collection: &ForwardingArena<A>) -> Option<V::Item> {
         self.inner.advance(&collection.inner)
@@ -113,11 +114,11 @@ impl<P: PtrKey, T: Drop, A: ArenaTrait<P, T>> ArenaTrait<P, T> for ForwardingAre
 
     ghost rises = { λ w. A.rises w.inner };
 
-    ghost looked_up = { λ w. A.looked_up w.inner };
+    ghost finds = { λ w. A.finds w.inner };
 
-    ghost advances = { λ a b w answer given. until_none_after (A.view w.inner).entries
-        (A.cursor a.inner) P.key answer A.cursor given.0 b.inner given.2
-        (A.advances a.inner given.0 w.inner answer given.1) };
+    ghost advances = { λ a b w returned given. until_none_after (A.view w.inner).entries
+        (A.cursor a.inner) P.key returned A.cursor given.0 b.inner given.2
+        (A.advances a.inner given.0 w.inner returned given.1) };
 
     fn new(alloc: Global) -> Self {
         ForwardingArena {
@@ -249,19 +250,19 @@ impl<P: PtrKey, T: Drop, A: ChainArenaTrait<P, T>> ChainArenaTrait<P, T> for For
 
     ghost compresses_canonically = { λ v w. A.compresses_canonically v.inner w.inner };
 
-    ghost passes = { λ v w arena answer given. A.passes v.inner w.inner arena.inner answer given };
+    ghost passes = { λ v w arena returned given. A.passes v.inner w.inner arena.inner returned given };
 
-    ghost stand = { λ w i. A.stand w.inner i };
+    ghost links_are_entries = { λ w i. A.links_are_entries w.inner i };
 
-    ghost grown = { λ n v w grows. A.grown n v.inner w.inner grows };
+    ghost growth_keeps = { λ n v w grows. A.growth_keeps n v.inner w.inner grows };
 
-    ghost written = { λ v w i t writes. A.written v.inner w.inner i t writes };
+    ghost write_keeps = { λ v w i t writes. A.write_keeps v.inner w.inner i t writes };
 
-    ghost renewed = { λ v w i renews. A.renewed v.inner w.inner i renews };
+    ghost renewal_keeps = { λ v w i renews. A.renewal_keeps v.inner w.inner i renews };
 
-    ghost passed_over = { λ v w i removes. A.passed_over v.inner w.inner i removes };
+    ghost removal_removes = { λ v w i removes. A.removal_removes v.inner w.inner i removes };
 
-    ghost compressed = { λ v w compresses. A.compressed v.inner w.inner compresses };
+    ghost compression_renames = { λ v w compresses. A.compression_renames v.inner w.inner compresses };
 
     fn can_insert(&self, kind: LinkInsertKind<P>) -> bool
         ensures { IsTrue result ↔ MayInsert (A.entry self.now.inner) (A.interlinks self.now.inner)
@@ -309,7 +310,7 @@ impl<P: PtrKey, T: Drop, A: ChainArenaTrait<P, T>> ChainArenaTrait<P, T> for For
             ↔ ¬ MayInsert (A.entry self.old.inner) (A.interlinks self.old.inner)
             (names_in P.key P.Inx.number kind) }
         ensures error { IfErr result (λ e. e ≢ ChainInsertionError.NotWithinCapacity) }
-        ensures room { MayInsert (A.entry self.old.inner) (A.interlinks self.old.inner)
+        ensures within_capacity { MayInsert (A.entry self.old.inner) (A.interlinks self.old.inner)
             (names_in P.key P.Inx.number kind)
             → SucceedsWithinCapacity (A.view self.old.inner) result
             (A.view self.new.inner) }
@@ -330,7 +331,7 @@ impl<P: PtrKey, T: Drop, A: ChainArenaTrait<P, T>> ChainArenaTrait<P, T> for For
             (names_in P.key P.Inx.number kind) t self.old.inner (P.key p) self.new.inner) }
         ensures agreed { IsWellLinked (A.interlinks self.old.inner) }
         ensures err { OnErr result (self.new ≡ self.old) }
-        ensures room { SucceedsWithinCapacity (A.view self.old.inner) result
+        ensures within_capacity { SucceedsWithinCapacity (A.view self.old.inner) result
             (A.view self.new.inner) }
         ensures grown { OnOk result (IsCapacityFor P.Inx.greatest (A.view self.new.inner).maximum
             (count (A.view self.old.inner) + 1) (A.view self.new.inner).capacity) }

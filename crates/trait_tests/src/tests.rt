@@ -157,7 +157,7 @@ fn add_lone<P: PtrKey, A: ChainArenaTrait<P, u32>>(arena: &mut A, count: u32) ->
 }
 
 // Inserts lone links and connects each pair. Returns an empty arena if a pair is refused.
-fn tied_links<P: Numbered, A: ChainArenaTrait<P, u32> + Drop>(
+fn linked_pairs<P: Numbered, A: ChainArenaTrait<P, u32> + Drop>(
     alloc: Global,
     count: u32,
     pairs: &[At],

@@ -2,7 +2,7 @@
 use crate::tests::compressions::{compactors, compressions};
 use crate::tests::copies::copy;
 use crate::tests::next_pointers::nexts;
-use crate::tests::scripts::{Answers, Call, Row, runs};
+use crate::tests::scripts::{Call, Row, RunsCalls, run_rows};
 use std::alloc::Global;
 use std::process::Abort;
 
@@ -23,7 +23,7 @@ static EACH: [Row; 58] = [
     (Call::New, "a new arena"),
     (Call::IsEmpty, "true"),
     (Call::Reserve(4), "Ok(())"),
-    (Call::HasRoom(4), "true"),
+    (Call::HasCapacity(4), "true"),
     (Call::Maximum, "None"),
     (Call::New, "each call"),
     (Call::Reserve(3), "Ok(())"),
@@ -40,7 +40,7 @@ static EACH: [Row; 58] = [
     (Call::SetGeneration(2), "()"),
     (Call::Generation, "2"),
     // Calls of the trait, over the entries 10, 20 and 30 at 1, 2 and 3, which are removed.
-    (Call::HasRoom(3), "true"),
+    (Call::HasCapacity(3), "true"),
     (Call::Ends, "(Some(1.2), Some(3.2))"),
     (Call::Len, "3"),
     (Call::IsEmpty, "false"),
@@ -71,18 +71,18 @@ static EACH: [Row; 58] = [
     (Call::RemoveInx(3), "None"),
     (Call::Len, "1"),
     (Call::Held, "[(2.2, 20)]"),
-    (Call::ClearInRoom, "(Success(()), Ok(()), true)"),
+    (Call::ClearAndReserve, "(Success(()), Ok(()), true)"),
     (Call::Len, "0"),
     (Call::Counter, "Some(6)"),
     (Call::Insert(5), "Ok(1.6)"),
     (Call::Drain, "[(1.6, 5)]"),
 ];
 
-pub(super) fn check_scripts<A: Answers + Drop>(rt: &impl Abort, alloc: Global) {
+pub(super) fn check_scripts<A: RunsCalls + Drop>(rt: &impl Abort, alloc: Global) {
     let mut arena = A::fresh(alloc);
-    runs(rt, alloc, &mut arena, each());
-    runs(rt, alloc, &mut arena, nexts());
-    runs(rt, alloc, &mut arena, compactors());
-    runs(rt, alloc, &mut arena, compressions());
-    runs(rt, alloc, &mut arena, copy());
+    run_rows(rt, alloc, &mut arena, each());
+    run_rows(rt, alloc, &mut arena, nexts());
+    run_rows(rt, alloc, &mut arena, compactors());
+    run_rows(rt, alloc, &mut arena, compressions());
+    run_rows(rt, alloc, &mut arena, copy());
 }

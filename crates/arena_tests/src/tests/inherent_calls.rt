@@ -4,7 +4,7 @@ ghost use Rattle.arena_base.specs.Arena.{slot_at};
 
 use crate::tests::entries::enter;
 use crate::tests::pointers::Numbered;
-use crate::tests::scripts::{Answers, Call, overwritten, trait_answer};
+use crate::tests::scripts::{Call, RunsCalls, overwritten, run_trait_call};
 use crate::tests::support::{Slot, index, text, text_of_all};
 use arena_base::{Arena, ArenaTrait, Compactor, SlotAccess, Work};
 use arena_ptr::{InxKey, PtrKey, SlotStack};
@@ -53,7 +53,7 @@ fn is_within<I: InxKey>(i: I, slots: usize) -> bool
 }
 
 // Returns the value at an index, overwritten first if another is given.
-fn looked<P: PtrKey, C: SlotAccess<P, u32>>(
+fn value_read<P: PtrKey, C: SlotAccess<P, u32>>(
     slots: &mut C,
     i: P::Inx,
     value: Option<u32>,
@@ -78,7 +78,7 @@ fn moved<P: PtrKey, S: SlotStack<Item = Slot<P>>>(
     generation: P::Gen,
     value: Option<u32>,
 ) -> (usize, Option<u32>) {
-    let value = looked(compactor, from, value);
+    let value = value_read(compactor, from, value);
     let slots = compactor.slots();
     if value.is_some() && is_within(from, slots) && is_within(to, slots) {
         compactor.place(from, to, generation);
@@ -107,7 +107,7 @@ fn compactor_idle<P: PtrKey, S: SlotStack<Item = Slot<P>>>(
     }
 }
 
-fn own_answer<P: Numbered, S: SlotStack<Item = Slot<P>>>(
+fn run_own_call<P: Numbered, S: SlotStack<Item = Slot<P>>>(
     alloc: Global,
     arena: &mut Arena<P, u32, S>,
     call: Call,
@@ -120,12 +120,12 @@ fn own_answer<P: Numbered, S: SlotStack<Item = Slot<P>>>(
         Call::Slots => text(alloc, arena.backing().len()),
         Call::DropCompactor => text(alloc, compactor_idle(arena, false)),
         Call::ForgetCompactor => text(alloc, compactor_idle(arena, true)),
-        other => whole_answer(alloc, arena, other),
+        other => run_whole_call(alloc, arena, other),
     }
 }
 
 // Runs a call on the counter or on all entries.
-fn whole_answer<P: Numbered, S: SlotStack<Item = Slot<P>>>(
+fn run_whole_call<P: Numbered, S: SlotStack<Item = Slot<P>>>(
     alloc: Global,
     arena: &mut Arena<P, u32, S>,
     call: Call,
@@ -137,25 +137,25 @@ fn whole_answer<P: Numbered, S: SlotStack<Item = Slot<P>>>(
         Call::Entries => iterated(alloc, arena),
         Call::Drain => drained(alloc, arena),
         Call::Compact(from, to, g, value) => text(alloc, compacted(arena, (from, to, g), value)),
-        other => given_answer(alloc, arena, other),
+        other => run_other_call(alloc, arena, other),
     }
 }
 
 // Runs a call of the traits. Only here generic code gets an arena.
-fn given_answer<P: Numbered, S: SlotStack<Item = Slot<P>>>(
+fn run_other_call<P: Numbered, S: SlotStack<Item = Slot<P>>>(
     alloc: Global,
     arena: &mut Arena<P, u32, S>,
     call: Call,
 ) -> String {
-    trait_answer::<P, S, Arena<P, u32, S>>(alloc, arena, call)
+    run_trait_call::<P, S, Arena<P, u32, S>>(alloc, arena, call)
 }
 
-impl<P: Numbered, S: SlotStack<Item = Slot<P>>> Answers for Arena<P, u32, S> {
+impl<P: Numbered, S: SlotStack<Item = Slot<P>>> RunsCalls for Arena<P, u32, S> {
     fn fresh(alloc: Global) -> Self {
         Arena::new(alloc)
     }
 
-    fn answer(&mut self, alloc: Global, call: Call) -> String {
-        own_answer(alloc, self, call)
+    fn run_call(&mut self, alloc: Global, call: Call) -> String {
+        run_own_call(alloc, self, call)
     }
 }

@@ -1,8 +1,8 @@
 // Tests of arenas with a maximum, and of values and growths that are refused.
 use crate::tests::calls::check_scripts;
 use crate::tests::pointers::{Numbered, SmallPtr};
-use crate::tests::scripts::{Answers, Call, Row, runs};
-use crate::tests::stacks::Rationed;
+use crate::tests::scripts::{Call, Row, RunsCalls, run_rows};
+use crate::tests::stacks::FailingStack;
 use crate::tests::support::{Slot, equal};
 use arena_base::{Arena, ArenaSlot, ArenaTrait};
 use arena_ptr::{
@@ -40,27 +40,31 @@ static USED_UP: [Row; 3] = [
 ];
 
 // Checks each call under a maximum of two, which cannot be lowered then.
-fn check_within<A: Answers + SetMaxCapacity + Drop>(rt: &impl Abort, alloc: Global, rows: &[Row]) {
+fn check_within<A: RunsCalls + SetMaxCapacity + Drop>(
+    rt: &impl Abort,
+    alloc: Global,
+    rows: &[Row],
+) {
     let mut arena = A::fresh(alloc);
     equal(rt, "a maximum", arena.set_max_capacity(2), Ok(()));
-    runs(rt, alloc, &mut arena, rows);
+    run_rows(rt, alloc, &mut arena, rows);
     let less = arena.set_max_capacity(1);
     equal(rt, "less", less, Err(MaxCapacityReductionError));
-    runs(rt, alloc, &mut arena, &USED_UP);
+    run_rows(rt, alloc, &mut arena, &USED_UP);
 }
 
-fn check_limited<A: Answers + SetMaxCapacity + Drop>(rt: &impl Abort, alloc: Global) {
+fn check_limited<A: RunsCalls + SetMaxCapacity + Drop>(rt: &impl Abort, alloc: Global) {
     check_scripts::<A>(rt, alloc);
     check_within::<A>(rt, alloc, &WITHIN);
     check_within::<A>(rt, alloc, &COPIED);
 }
 
-fn check_refused<A: Answers + Drop>(rt: &impl Abort, alloc: Global) {
-    runs(rt, alloc, &mut A::fresh(alloc), &EVERY_OTHER);
+fn check_refused<A: RunsCalls + Drop>(rt: &impl Abort, alloc: Global) {
+    run_rows(rt, alloc, &mut A::fresh(alloc), &EVERY_OTHER);
 }
 
 // Offers 600 values to an arena, which drops those that it refuses.
-fn hand_many<P: PtrKey, S: SlotStack<Item = Shared<P>>>(
+fn pass_many<P: PtrKey, S: SlotStack<Item = Shared<P>>>(
     rt: &impl Abort,
     arena: &mut Arena<P, Rc<u8>, S>,
     value: &Rc<u8>,
@@ -72,7 +76,7 @@ fn hand_many<P: PtrKey, S: SlotStack<Item = Shared<P>>>(
 }
 
 // Offers them to a new arena, and returns its length and the number of copies.
-fn handed<P: PtrKey, S: LimitStack<Item = Shared<P>>>(
+fn passed_values<P: PtrKey, S: LimitStack<Item = Shared<P>>>(
     rt: &impl Abort,
     alloc: Global,
     most: usize,
@@ -80,17 +84,22 @@ fn handed<P: PtrKey, S: LimitStack<Item = Shared<P>>>(
     let value = Rc::new(alloc, 5).ok().expect(rt, "memory");
     let mut arena: Arena<P, Rc<u8>, S> = Arena::new(alloc);
     let _ = arena.set_max_capacity(most);
-    hand_many(rt, &mut arena, &value);
+    pass_many(rt, &mut arena, &value);
     (arena.len(), Rc::strong_count(&value))
 }
 
 // A refused value is dropped: only the values in the arena and the original are left.
 fn check_values<P: PtrKey, S: LimitStack<Item = Shared<P>>>(rt: &impl Abort, alloc: Global) {
-    equal(rt, "two values", handed::<P, S>(rt, alloc, 2), (2, 3));
+    equal(
+        rt,
+        "two values",
+        passed_values::<P, S>(rt, alloc, 2),
+        (2, 3),
+    );
     equal(
         rt,
         "all values",
-        handed::<P, S>(rt, alloc, 1000),
+        passed_values::<P, S>(rt, alloc, 1000),
         (255, 256),
     );
 }
@@ -139,7 +148,7 @@ fn check_arenas<
 >(rt: &impl Abort, alloc: Global) {
     check_scripts::<Arena<P, u32, H>>(rt, alloc);
     check_limited::<Arena<P, u32, L>>(rt, alloc);
-    check_refused::<Arena<P, u32, Rationed<H>>>(rt, alloc);
+    check_refused::<Arena<P, u32, FailingStack<H>>>(rt, alloc);
     check_values::<P, V>(rt, alloc);
 }
 

@@ -1,6 +1,6 @@
 // Tests of which index and generation comes next, up to the greatest of each.
 use crate::tests::pointers::BarePtr;
-use crate::tests::scripts::{Answers, Call, Row, runs};
+use crate::tests::scripts::{Call, Row, RunsCalls, run_rows};
 use arena_base::Arena;
 use std::alloc::Global;
 use std::process::Abort;
@@ -58,14 +58,14 @@ static NEXTS: [Row; 61] = [
     (Call::Drain, "[(1.2, 10)]"),
     (Call::Reserve(200), "Ok(())"),
     (Call::Reserve(201), "Ok(())"),
-    (Call::HasRoom(201), "true"),
+    (Call::HasCapacity(201), "true"),
     (Call::New, "a generation type of 255"),
     (Call::Insert(7), "Ok(1.2)"),
     (Call::SetGeneration(255), "()"),
     (Call::Remove(1, 2), "GenerationOverflow(7)"),
     (Call::Generation, "2"),
     (Call::Remove(1, 2), "InvalidPtr"),
-    (Call::ClearInRoom, "(Success(()), Ok(()), true)"),
+    (Call::ClearAndReserve, "(Success(()), Ok(()), true)"),
     (Call::Generation, "2"),
     (Call::New, "a dropped place changes nothing"),
     (Call::Reserve(2), "Ok(())"),
@@ -87,7 +87,7 @@ static REUSED: [Row; 12] = [
     (Call::InsertMany(255), "255"),
     (Call::Remove(9, 0), "Success(8)"),
     (Call::Insert(8), "Ok(9.0)"),
-    (Call::ClearInRoom, "(Success(()), Ok(()), true)"),
+    (Call::ClearAndReserve, "(Success(()), Ok(()), true)"),
     (Call::InsertMany(5), "5"),
     (
         Call::Drain,
@@ -97,8 +97,8 @@ static REUSED: [Row; 12] = [
 ];
 
 // Checks pointers that are indexes alone.
-fn check_reused<A: Answers + Drop>(rt: &impl Abort, alloc: Global) {
-    runs(rt, alloc, &mut A::fresh(alloc), &REUSED);
+fn check_reused<A: RunsCalls + Drop>(rt: &impl Abort, alloc: Global) {
+    run_rows(rt, alloc, &mut A::fresh(alloc), &REUSED);
 }
 
 #[test]

@@ -157,13 +157,13 @@ fn the_empty_generation_never_overflows(rt: HostRuntime) {
 #[test]
 fn a_pointer_is_its_two_parts(rt: HostRuntime) {
     let p = tool_ptr(&rt, 3, 5);
-    let looks = [
+    let lookups = [
         is_made_of(p, inx32(&rt, 3), gen32(&rt, 5)),
         is_made_of(ToolPtr::invalid(), inx32(&rt, 1), gen32(&rt, 1)),
         p != tool_ptr(&rt, 3, 2),
         p != tool_ptr(&rt, 4, 5),
     ];
-    equal(&rt, "made of them", looks, [true; 4]);
+    equal(&rt, "made of them", lookups, [true; 4]);
 }
 
 #[test]

@@ -7,9 +7,9 @@ use std::process::Abort;
 
 // An index and a generation, displayed by their own texts.
 #[derive(Drop)]
-struct Shown<I, G>(I, G);
+struct Printed<I, G>(I, G);
 
-impl<I: PtrInx, G: PtrGen> fmt::Display for Shown<I, G> {
+impl<I: PtrInx, G: PtrGen> fmt::Display for Printed<I, G> {
     fn fmt<W: fmt::Write>(&self, f: &mut fmt::Formatter<W>) -> fmt::Result {
         self.0.fmt_hex(f)?;
         self.1.fmt_gen(f)
@@ -18,7 +18,7 @@ impl<I: PtrInx, G: PtrGen> fmt::Display for Shown<I, G> {
 
 // Checks the text written plain, with `#` and with a width.
 fn reads<I: PtrInx, G: PtrGen>(rt: &impl Abort, alloc: Global, inx: I, generation: G, want: &str) {
-    let shown = Shown(inx, generation);
+    let shown = Printed(inx, generation);
     let texts = format!(in alloc; "{shown} {shown:#} {shown:>12}").expect(rt, "memory");
     same(rt, "whatever the format", texts.as_str(), want);
 }

@@ -27,7 +27,7 @@ fn each_of_result(
 }
 
 #[test]
-fn an_answer_gives_its_value_and_tells_overflow(rt: HostRuntime) {
+fn a_result_has_its_value_and_reports_overflow(rt: HostRuntime) {
     let told = each_of_option(InvalidationOption::Success(3));
     equal(
         &rt,
@@ -58,7 +58,7 @@ fn a_result_may_have_no_value(rt: HostRuntime) {
 }
 
 #[test]
-fn an_answer_may_own_its_value(rt: HostRuntime) {
+fn a_result_may_own_its_value(rt: HostRuntime) {
     let owned = Vec::from_array(rt.alloc(), [5]).expect(&rt, "memory");
     let answer = InvalidationResult::GenerationOverflow(owned);
     let want = InvalidationResult::GenerationOverflow(1);

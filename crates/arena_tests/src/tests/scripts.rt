@@ -19,7 +19,7 @@ pub(super) enum Call {
     Len,
     IsEmpty,
     Capacity,
-    HasRoom(usize),
+    HasCapacity(usize),
     Maximum,
     Counter,
     Contains(u8, u8),
@@ -41,7 +41,7 @@ pub(super) enum Call {
     RemoveInx(u8),
     // A clear, then a reservation of the old capacity: both results, and whether the capacity is
     // kept.
-    ClearInRoom,
+    ClearAndReserve,
     // A compression, and one whose closure adds the number of its call to each value: the result,
     // and the closure's arguments.
     Compress(bool),
@@ -153,7 +153,7 @@ fn named(call: Call) -> (u8, u8) {
     }
 }
 
-fn look_answer<P: Numbered, A: ArenaTrait<P, u32>>(
+fn run_lookup<P: Numbered, A: ArenaTrait<P, u32>>(
     alloc: Global,
     arena: &A,
     call: Call,
@@ -163,17 +163,17 @@ fn look_answer<P: Numbered, A: ArenaTrait<P, u32>>(
         Call::Len => text(alloc, arena.len()),
         Call::IsEmpty => text(alloc, arena.is_empty()),
         Call::Capacity => text(alloc, arena.capacity()),
-        Call::HasRoom(n) => text(alloc, arena.capacity() >= n),
+        Call::HasCapacity(n) => text(alloc, arena.capacity() >= n),
         Call::Maximum => text(alloc, arena.max_capacity()),
         Call::Counter => text(alloc, number_of::<P>(arena.singular_generation())),
         Call::Contains(..) => text(alloc, arena.contains(p)),
         Call::Get(..) => text(alloc, arena.get(p)),
         Call::GetInx(_) => text(alloc, numbered::<P, &u32>(arena.get_inx(p.inx()))),
-        _ => walk_answer(alloc, arena, call, p),
+        _ => run_walk(alloc, arena, call, p),
     }
 }
 
-fn walk_answer<P: Numbered, A: ArenaTrait<P, u32>>(
+fn run_walk<P: Numbered, A: ArenaTrait<P, u32>>(
     alloc: Global,
     arena: &A,
     call: Call,
@@ -206,7 +206,7 @@ fn cleared<P: PtrKey, A: ArenaTrait<P, u32>>(
     (answer, again, arena.capacity() == capacity)
 }
 
-fn change_answer<P: Numbered, A: ArenaTrait<P, u32> + Drop>(
+fn run_change<P: Numbered, A: ArenaTrait<P, u32> + Drop>(
     alloc: Global,
     arena: &mut A,
     call: Call,
@@ -222,27 +222,27 @@ fn change_answer<P: Numbered, A: ArenaTrait<P, u32> + Drop>(
             let removed = arena.remove_inx(p.inx()).allow();
             text(alloc, numbered::<P, u32>(removed))
         }
-        other => whole_change_answer(alloc, arena, other, p),
+        other => run_whole_change(alloc, arena, other, p),
     }
 }
 
-fn whole_change_answer<P: Numbered, A: ArenaTrait<P, u32> + Drop>(
+fn run_whole_change<P: Numbered, A: ArenaTrait<P, u32> + Drop>(
     alloc: Global,
     arena: &mut A,
     call: Call,
     p: P,
 ) -> String {
     match call {
-        Call::ClearInRoom => text(alloc, cleared(arena)),
+        Call::ClearAndReserve => text(alloc, cleared(arena)),
         Call::Compress(reset) => text(alloc, arena.compress(reset)),
         Call::CompressWith(reset) => text(alloc, compressed(alloc, arena, reset)),
         Call::Reserve(n) => text(alloc, arena.reallocate_min_capacity(n)),
-        other => look_answer(alloc, arena, other, p),
+        other => run_lookup(alloc, arena, other, p),
     }
 }
 
 // Runs a call of the traits on the pointer that it names, or a copy of an arena over stack `R`.
-pub(super) fn trait_answer<
+pub(super) fn run_trait_call<
     P: Numbered,
     R: SlotStack<Item = Slot<P>>,
     A: ArenaCloneFromWith<P, u32> + Drop,
@@ -251,26 +251,31 @@ pub(super) fn trait_answer<
         Call::CopyHole => text(alloc, copied_hole::<P, R, A>(alloc, arena)),
         other => {
             let (i, g) = named(other);
-            change_answer(alloc, arena, other, at(i, g))
+            run_change(alloc, arena, other, at(i, g))
         }
     }
 }
 
 // An arena that runs calls.
-pub(super) trait Answers {
+pub(super) trait RunsCalls {
     fn fresh(alloc: Global) -> Self;
 
-    fn answer(&mut self, alloc: Global, call: Call) -> String;
+    fn run_call(&mut self, alloc: Global, call: Call) -> String;
 }
 
-pub(super) fn runs<A: Answers + Drop>(rt: &impl Abort, alloc: Global, arena: &mut A, rows: &[Row]) {
+pub(super) fn run_rows<A: RunsCalls + Drop>(
+    rt: &impl Abort,
+    alloc: Global,
+    arena: &mut A,
+    rows: &[Row],
+) {
     let mut name = "";
     for (call, want) in rows {
         if let Call::New = call {
             *arena = A::fresh(alloc);
             name = want;
         } else {
-            let got = arena.answer(alloc, *call);
+            let got = arena.run_call(alloc, *call);
             same(rt, name, got.as_str(), want);
         }
     }

@@ -26,12 +26,12 @@ fn replace<E: Drop, S: SlotStack<Item = E>>(stack: &mut S, i: usize, item: E) ->
 
 // A wrapper of a stack that grows `ration` times, then refuses one growth and sets `ration` to 1.
 #[derive(Drop)]
-pub(super) struct Rationed<S> {
+pub(super) struct FailingStack<S> {
     inner: S,
     ration: u32,
 }
 
-impl<S: SlotStack> SlotStack for Rationed<S> {
+impl<S: SlotStack> SlotStack for FailingStack<S> {
     type Item = S::Item;
 
     ghost items = { λ s. S.items s.inner };
@@ -44,9 +44,9 @@ impl<S: SlotStack> SlotStack for Rationed<S> {
 
     ghost with_item = { λ s i e. record s { inner = S.with_item s.inner i e } };
 
-    ghost has_room = { λ s. S.has_room s.inner };
+    ghost has_capacity = { λ s. S.has_capacity s.inner };
 
-    ghost room_fits = { λ s. S.room_fits s.inner };
+    ghost capacity_fits = { λ s. S.capacity_fits s.inner };
 
     ghost within_maximum = { λ s. S.within_maximum s.inner };
 
@@ -57,7 +57,7 @@ impl<S: SlotStack> SlotStack for Rationed<S> {
     ghost maximum_written = { λ s i e. S.maximum_written s.inner i e };
 
     fn new(alloc: Global) -> Self {
-        Rationed {
+        FailingStack {
             inner: S::new(alloc),
             ration: 0,
         }
@@ -155,7 +155,7 @@ fn fill<S: SlotStack<Item = u32>>(stack: &mut S, n: u32) -> u64 {
 }
 
 // Returns whether the stack grew, or why it did not.
-fn answer_to<S: SlotStack<Item = u32>>(
+fn reply_to<S: SlotStack<Item = u32>>(
     stack: &mut S,
     call: Call,
 ) -> Result<bool, ReallocationError> {
@@ -173,20 +173,20 @@ fn answer_to<S: SlotStack<Item = u32>>(
 }
 
 // Returns the text of a call's result, and the length, capacity, maximum and items then.
-fn told<S: SlotStack<Item = u32>>(alloc: Global, stack: &mut S, call: Call) -> String {
-    let answer = answer_to(stack, call);
+fn state_text<S: SlotStack<Item = u32>>(alloc: Global, stack: &mut S, call: Call) -> String {
+    let answer = reply_to(stack, call);
     text(alloc, (answer, shape(stack), held(alloc, stack)))
 }
 
 // Checks the text of each call.
-fn runs<S: SlotStack<Item = u32>>(
+fn run_rows<S: SlotStack<Item = u32>>(
     rt: &impl Abort,
     alloc: Global,
     stack: &mut S,
     rows: &[(Call, &str)],
 ) {
     for (call, want) in rows {
-        let after = told(alloc, stack, *call);
+        let after = state_text(alloc, stack, *call);
         same(rt, "what is left", after.as_str(), want);
     }
 }
@@ -313,7 +313,7 @@ fn limits<S: LimitStack<Item = u32>>(rt: &impl Abort, alloc: Global, maxima: &[M
     for (most, want, rows) in maxima {
         let set = text(alloc, stack.set_max_capacity(*most));
         same(rt, "a maximum", set.as_str(), want);
-        runs(rt, alloc, &mut stack, rows);
+        run_rows(rt, alloc, &mut stack, rows);
     }
 }
 
@@ -412,7 +412,7 @@ fn check_growth<S: SlotStack<Item = u32>>(rt: &impl Abort, alloc: Global, one: u
     equal(rt, "far", has_grown(&mut stack, 100), true);
     equal(rt, "no growth", fill(&mut stack, 2), 0);
     let before = shape(&stack);
-    let refused = answer_to(&mut stack, Call::Reserve(usize::MAX));
+    let refused = reply_to(&mut stack, Call::Reserve(usize::MAX));
     equal(rt, "refused", refused, Err(ReallocationError::AllocError));
     equal(rt, "unchanged", shape(&stack), before);
     equal(rt, "farther", has_grown(&mut stack, 1000), true);
@@ -430,11 +430,11 @@ static GROWTHS: [(u32, &str); 4] = [
 
 fn check_growths<S: SlotStack<Item = u32>>(rt: &impl Abort, alloc: Global) {
     for (ration, want) in &GROWTHS {
-        let mut stack = Rationed {
+        let mut stack = FailingStack {
             inner: S::new(alloc),
             ration: *ration,
         };
-        let after = told(alloc, &mut stack, Call::Fill(100));
+        let after = state_text(alloc, &mut stack, Call::Fill(100));
         same(rt, "what is left", after.as_str(), want);
     }
 }
@@ -500,7 +500,7 @@ fn check_each<H: SlotStack<Item = u32>, L: LimitStack<Item = u32>, C: SlotStack<
     check_list::<L>(rt, alloc, 11, 1);
     check_limits::<L>(rt, alloc);
     check_list::<C>(rt, alloc, 16, 64);
-    runs(rt, alloc, &mut C::new(alloc), &IN_BLOCKS);
+    run_rows(rt, alloc, &mut C::new(alloc), &IN_BLOCKS);
 }
 
 #[test]

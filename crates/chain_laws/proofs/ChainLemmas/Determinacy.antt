@@ -3,13 +3,13 @@ use Rattle.std.specs.Prelude.{◌≡◌, ℕ, ◌⊎◌, List, [], ◌∷◌, �
 use Rattle.std.proofs.Common.{sym, refl, ap, ◌∙◌, subst, inl, inr}
 use mathlib.Core.Path.{fun_ext}
 use Rattle.chain_laws.specs.Chains.{LinkMap, Interlinks, Chain, linear, cyclic, items, IsChain, HasLink, HasLinksWithin, IsWellLinked, IsMember, AreLinked, prev_of, next_of, first_or, last_or}
-use Rattle.chain_laws.specs.Joins.{joined, with_lone, Connects, AddsLone, KeepsChainsWithout, HaveSameChains, ChainsDecide, PairsDecide, JoinIsDetermined, LoneIsDetermined}
+use Rattle.chain_laws.specs.Joins.{with_join, with_lone, Connects, AddsLone, KeepsChainsWithout, HaveSameChains, ChainsDecide, PairsDecide, JoinIsDetermined, LoneIsDetermined}
 use Rattle.chain_laws.proofs.ChainLemmas.NeighborPairs.{same_named}
 use Rattle.chain_laws.proofs.ListLemmas.Members.{IsMember-left, IsMember-middle, IsMember-written, IsMember-or_not, last_or-filled, last_or-append}
-use Rattle.chain_laws.proofs.ChainLemmas.LinkedLists.{AreLinked-at, shows_next, shows_prev, shows_both}
+use Rattle.chain_laws.proofs.ChainLemmas.LinkedLists.{AreLinked-at, reports_next, reports_prev, reports_both}
 use Rattle.chain_laws.proofs.ChainLemmas.Uniqueness.{chains_share, not_both, one_linear, one_cyclic}
 use Rattle.chain_laws.proofs.ChainLemmas.Rotations.{turned, turned_to}
-use Rattle.chain_laws.proofs.ChainLemmas.Existence.{ChainOf, stands_in, has_chain}
+use Rattle.chain_laws.proofs.ChainLemmas.Existence.{ChainOf, stored_in, has_chain}
 use Rattle.chain_laws.proofs.JoinLemmas.Chains.{joined_connects}
 use Rattle.chain_laws.proofs.JoinLemmas.LoneLinks.{with_lone_adds}
 
@@ -48,8 +48,8 @@ pub record NamesChains (Holds : LinkMap → Type 0) (a b : ℕ) : Type 0 where
   pub right : Chain
   pub has_a : IsMember (items left) a
   pub has_b : IsMember (items right) b
-  pub left_stands : (new : LinkMap) → Holds new → IsChain new left
-  pub right_stands : (new : LinkMap) → Holds new → IsChain new right
+  pub left_stored : (new : LinkMap) → Holds new → IsChain new left
+  pub right_stored : (new : LinkMap) → Holds new → IsChain new right
 
 -- `Holds` determines all chains if it determines those of a and b, and keeps the others
 pub settled : (old one other : LinkMap) (Holds : LinkMap → Type 0) (a b : ℕ) → ((new : LinkMap) → Holds new → KeepsChainsWithout old new a b)
@@ -60,42 +60,42 @@ settled old one other Holds a b keeps settles m n c = (alike one other m n, alik
     alike left right l r chain = by (IsMember-or_not (items c) a) (IsMember-or_not (items c) b)
       where
         by : IsMember (items c) a ⊎ (IsMember (items c) a → ⊥) → IsMember (items c) b ⊎ (IsMember (items c) b → ⊥) → IsChain right c
-        by (inl h) _ = chain_elsewhere left right c settles.left a chain (settles.left_stands left l) (settles.left_stands right r) h settles.has_a
+        by (inl h) _ = chain_elsewhere left right c settles.left a chain (settles.left_stored left l) (settles.left_stored right r) h settles.has_a
         by (inr none_a) (inl h) =
-            chain_elsewhere left right c settles.right b chain (settles.right_stands left l) (settles.right_stands right r) h settles.has_b
+            chain_elsewhere left right c settles.right b chain (settles.right_stored left l) (settles.right_stored right r) h settles.has_b
         by (inr none_a) (inr none_b) = (keeps right r c none_a none_b).0 ((keeps left l c none_a none_b).1 chain)
 
 -- the chain of an index without a next link ends there
 pub end_chain : (link_map : LinkMap) (a : ℕ) → ChainOf link_map a → next_of link_map a ≡ None → (x : List ℕ) × IsChain link_map (linear (x ++ a ∷ []))
-end_chain link_map a (stands_in (linear xs) chain has) end = let w = IsMember-written xs a has in by w.0 w.1 w.2
+end_chain link_map a (stored_in (linear xs) chain has) end = let w = IsMember-written xs a has in by w.0 w.1 w.2
   where
     by : (before after : List ℕ) → xs ≡ before ++ a ∷ after → (x : List ℕ) × IsChain link_map (linear (x ++ a ∷ []))
     by before [] e = (before, subst (λ (zs : List ℕ). IsChain link_map (linear zs)) e chain)
     by before (k ∷ after) e =
-        let on = shows_next link_map a _ _ (AreLinked-at link_map None before (k ∷ after) None a (subst (λ (zs : List ℕ). AreLinked link_map None zs None) e chain.2)) in
+        let on = reports_next link_map a _ _ (AreLinked-at link_map None before (k ∷ after) None a (subst (λ (zs : List ℕ). AreLinked link_map None zs None) e chain.2)) in
         absurd (cc)
-end_chain link_map a (stands_in (cyclic xs) chain has) end =
+end_chain link_map a (stored_in (cyclic xs) chain has) end =
     let t = turned_to link_map xs a chain has in
     by t.0 t.1
   where
     by : (rest : List ℕ) → IsChain link_map (cyclic (a ∷ rest)) → (x : List ℕ) × IsChain link_map (linear (x ++ a ∷ []))
-    by [] ring = let on = shows_next link_map a _ _ ring.2.0 in absurd (cc)
-    by (k ∷ rest) ring = let on = shows_next link_map a _ _ ring.2.0 in absurd (cc)
+    by [] ring = let on = reports_next link_map a _ _ ring.2.0 in absurd (cc)
+    by (k ∷ rest) ring = let on = reports_next link_map a _ _ ring.2.0 in absurd (cc)
 
 -- the chain of an index without a previous link starts there
 pub start_chain : (link_map : LinkMap) (b : ℕ) → ChainOf link_map b → prev_of link_map b ≡ None → (y : List ℕ) × IsChain link_map (linear (b ∷ y))
-start_chain link_map b (stands_in (linear xs) chain has) start = let w = IsMember-written xs b has in by w.0 w.1 w.2
+start_chain link_map b (stored_in (linear xs) chain has) start = let w = IsMember-written xs b has in by w.0 w.1 w.2
   where
     by : (before after : List ℕ) → xs ≡ before ++ b ∷ after → (y : List ℕ) × IsChain link_map (linear (b ∷ y))
     by [] after e = (after, subst (λ (zs : List ℕ). IsChain link_map (linear zs)) e chain)
     by (k ∷ before) after e =
-        let back = shows_prev link_map b _ _ (AreLinked-at link_map None (k ∷ before) after None b (subst (λ (zs : List ℕ). AreLinked link_map None zs None) e chain.2)) in
+        let back = reports_prev link_map b _ _ (AreLinked-at link_map None (k ∷ before) after None b (subst (λ (zs : List ℕ). AreLinked link_map None zs None) e chain.2)) in
         let last = last_or-filled (k ∷ before) k (inl refl) in
         let some = last.1 None in
         absurd (cc)
-start_chain link_map b (stands_in (cyclic xs) chain has) start =
+start_chain link_map b (stored_in (cyclic xs) chain has) start =
     let t = turned_to link_map xs b chain has in
-    let back = shows_prev link_map b _ _ t.1.2.0 in
+    let back = reports_prev link_map b _ _ t.1.2.0 in
     let last = last_or-filled (b ∷ t.0) b (inl refl) in
     let some = last.1 None in
     absurd (cc)
@@ -107,7 +107,7 @@ connected old a b x y left right = by (IsMember-or_not (x ++ a ∷ []) b)
   where
     in_one : (d : Chain) → IsMember (items d) a → IsMember (items d) b → ((new : LinkMap) → Connects old new a b → IsChain new d)
         → NamesChains (λ (new : LinkMap). Connects old new a b) a b
-    in_one d has_a has_b stands = record { left = d; right = d; has_a = has_a; has_b = has_b; left_stands = stands; right_stands = stands }
+    in_one d has_a has_b stored = record { left = d; right = d; has_a = has_a; has_b = has_b; left_stored = stored; right_stored = stored }
 
     by : IsMember (x ++ a ∷ []) b ⊎ (IsMember (x ++ a ∷ []) b → ⊥) → NamesChains (λ (new : LinkMap). Connects old new a b) a b
     by (inl h) =
@@ -123,7 +123,7 @@ pub join_is_determined : JoinIsDetermined
 join_is_determined old new slots a b agrees within ends connects =
     let x = end_chain old a (has_chain old slots agrees within a ends.valid_end) ends.end in
     let y = start_chain old b (has_chain old slots agrees within b ends.valid_start) ends.start in
-    settled old new (joined old a b) (λ (s : LinkMap). Connects old s a b) a b (λ s made. made.rest)
+    settled old new (with_join old a b) (λ (s : LinkMap). Connects old s a b) a b (λ s made. made.rest)
     (connected old a b x.0 y.0 x.1 y.1) connects (joined_connects old a b)
 
 -- two arenas with a lone q added have the same chains
@@ -141,20 +141,20 @@ lone_is_determined old new q free adds c =
     (added_alike old new (with_lone old q) q adds lone c, added_alike old (with_lone old q) new q lone adds c)
 
 -- valid indexes have the same interlinks in an arena with the same chains
-shows_alike : (left right : LinkMap) (slots : ℕ) → IsWellLinked left → HasLinksWithin left slots → HaveSameChains left right → (i : ℕ) → HasLink left i → left i ≡ right i
-shows_alike left right slots agrees within same i valid = by (has_chain left slots agrees within i valid)
+reports_alike : (left right : LinkMap) (slots : ℕ) → IsWellLinked left → HasLinksWithin left slots → HaveSameChains left right → (i : ℕ) → HasLink left i → left i ≡ right i
+reports_alike left right slots agrees within same i valid = by (has_chain left slots agrees within i valid)
   where
     by : ChainOf left i → left i ≡ right i
-    by (stands_in c chain has) = IsChain-same left right c i chain ((same c).0 chain) has
+    by (stored_in c chain has) = IsChain-same left right c i chain ((same c).0 chain) has
 
 -- well-linked arenas with the same chains are equal
 pub chains_decide : ChainsDecide
 chains_decide left right slots agrees_left agrees_right within_left within_right same = fun_ext (λ i. by i (left i) refl (right i) refl)
   where
     by : (i : ℕ) (o : Option Interlinks) → left i ≡ o → (p : Option Interlinks) → right i ≡ p → left i ≡ right i
-    by i (Some l) e p f = shows_alike left right slots agrees_left within_left same i (record { link = l; shows = e })
+    by i (Some l) e p f = reports_alike left right slots agrees_left within_left same i (record { link = l; reports = e })
     by i None e None f = e ∙ sym f
-    by i None e (Some m) f = sym (shows_alike right left slots agrees_right within_right (λ c. ((same c).1, (same c).0)) i (record { link = m; shows = f }))
+    by i None e (Some m) f = sym (reports_alike right left slots agrees_right within_right (λ c. ((same c).1, (same c).0)) i (record { link = m; reports = f }))
 
 -- well-linked arenas with the same links and neighbor pairs are equal
 pub pairs_decide : PairsDecide
@@ -169,10 +169,10 @@ pairs_decide left right agrees_left agrees_right links pairs = fun_ext (λ i. by
 
     valid_same : (i : ℕ) → HasLink left i → left i ≡ right i
     valid_same i valid =
-        shows_both left i (prev_of right i) (next_of right i) valid (prev_same i) (next_same i)
-        ∙ sym (shows_both right i (prev_of right i) (next_of right i) ((links i).0 valid) refl refl)
+        reports_both left i (prev_of right i) (next_of right i) valid (prev_same i) (next_same i)
+        ∙ sym (reports_both right i (prev_of right i) (next_of right i) ((links i).0 valid) refl refl)
 
     by : (i : ℕ) (o : Option Interlinks) → left i ≡ o → (p : Option Interlinks) → right i ≡ p → left i ≡ right i
-    by i (Some l) e p f = valid_same i (record { link = l; shows = e })
+    by i (Some l) e p f = valid_same i (record { link = l; reports = e })
     by i None e None f = e ∙ sym f
-    by i None e (Some m) f = valid_same i ((links i).1 (record { link = m; shows = f }))
+    by i None e (Some m) f = valid_same i ((links i).1 (record { link = m; reports = f }))

@@ -3,7 +3,7 @@ use Rattle.std.proofs.Common.{◌≡◌, ◌≢◌, ℕ, zero, suc, ◌+◌, ◌
 use Rattle.std.proofs.Math.Decide.{ℕ_discrete}
 use Rattle.chain_laws.specs.Chains.{LinkMap, Interlinks, HasLink, HasLinksWithin, IsWellLinked, IsMember, AreDistinct, Chain, linear, cyclic, items, last_or, prev_in, prev_of, next_of, AreLinked, IsChain, HasChain, all_items, StartsAtLeast, IsSortedByLeast, AreChains, IsInOrder}
 use Rattle.chain_laws.proofs.ListLemmas.Members.{IsMember-left, IsMember-right, IsMember-parts, IsMember-filled, IsMember-or_not, AreDistinct-append, last_or-filled, length_bound}
-use Rattle.chain_laws.proofs.ChainLemmas.LinkedLists.{link, shows_valid, shows_both, next_valid, prev_valid, AreLinked-append, AreLinked-valid, AreLinked-last, apart_no_repetition, last_no_repetition}
+use Rattle.chain_laws.proofs.ChainLemmas.LinkedLists.{link, reports_valid, reports_both, next_valid, prev_valid, AreLinked-append, AreLinked-valid, AreLinked-last, apart_no_repetition, last_no_repetition}
 use Rattle.chain_laws.proofs.ChainLemmas.Uniqueness.{chain_valid, chain_once, chains_share, IsMember-at_most}
 use Rattle.chain_laws.proofs.ChainLemmas.Rotations.{turned_to}
 use Rattle.chain_laws.proofs.ChainLemmas.ChainLists.{IsMember-all_items, chain_at, all_items_valid}
@@ -11,7 +11,7 @@ use Rattle.chain_laws.proofs.ChainLemmas.ChainLists.{IsMember-all_items, chain_a
 -- the links after k: they end, or return to k
 data Ending (link_map : LinkMap) (before : Option ℕ) (k : ℕ) : Type 0 where
   ends : (after : List ℕ) → AreLinked link_map before (k ∷ after) None → Ending link_map before k
-  comes_round : (after : List ℕ) → AreLinked link_map before (k ∷ after) (Some k) → (IsMember after k → ⊥) → Ending link_map before k
+  is_cyclic : (after : List ℕ) → AreLinked link_map before (k ∷ after) (Some k) → (IsMember after k → ⊥) → Ending link_map before k
 
 -- a linked list with k, and nothing before or after it
 data Beginning (link_map : LinkMap) (k : ℕ) : Type 0 where
@@ -19,12 +19,12 @@ data Beginning (link_map : LinkMap) (k : ℕ) : Type 0 where
 
 -- a chain with k in it
 pub data ChainOf (link_map : LinkMap) (k : ℕ) : Type 0 where
-  stands_in : (c : Chain) → IsChain link_map c → IsMember (items c) k → ChainOf link_map k
+  stored_in : (c : Chain) → IsChain link_map c → IsMember (items c) k → ChainOf link_map k
 
 module _ (link_map : LinkMap) (slots : ℕ) (agrees : IsWellLinked link_map) (within : HasLinksWithin link_map slots) where
   -- there are no more distinct valid indexes than slots
-  room : (xs : List ℕ) → AreDistinct xs → ((i : ℕ) → IsMember xs i → HasLink link_map i) → slots < length xs → ⊥
-  room xs once valid more =
+  within_capacity : (xs : List ℕ) → AreDistinct xs → ((i : ℕ) → IsMember xs i → HasLink link_map i) → slots < length xs → ⊥
+  within_capacity xs once valid more =
       let bound : length xs ≤ slots = length_bound xs slots once (λ i h. within.within i (valid i h)) in
       omega arith
 
@@ -39,7 +39,7 @@ module _ (link_map : LinkMap) (slots : ℕ) (agrees : IsWellLinked link_map) (wi
   onward : (left : ℕ) (before : Option ℕ) (k : ℕ) (xs : List ℕ) (j : ℕ) → AreLinked link_map before (k ∷ xs) (Some j) → (IsMember xs k → ⊥) → (j ≢ k)
       → slots < left + length (k ∷ xs) → Ending link_map before k
   onward zero before k xs j s apart differs more =
-      absurd (room (k ∷ xs) (apart_no_repetition link_map before k xs (Some j) s apart) (λ i h. AreLinked-valid link_map before (k ∷ xs) (Some j) i s h) (omega arith))
+      absurd (within_capacity (k ∷ xs) (apart_no_repetition link_map before k xs (Some j) s apart) (λ i h. AreLinked-valid link_map before (k ∷ xs) (Some j) i s h) (omega arith))
   onward (suc left) before k xs j s apart differs more = by_next (next_of link_map j) refl (λ m t a d. onward left before k (xs ++ j ∷ []) m t a d longer)
     where
       named : prev_of link_map j ≡ last_or (k ∷ xs) before
@@ -51,64 +51,64 @@ module _ (link_map : LinkMap) (slots : ℕ) (agrees : IsWellLinked link_map) (wi
       longer : slots < left + length (k ∷ xs ++ j ∷ [])
       longer = let l : length (xs ++ j ∷ []) ≡ length xs + length (j ∷ []) = length-append xs (j ∷ []) in omega arith
 
-      stands : (after : Option ℕ) → next_of link_map j ≡ after → AreLinked link_map before (k ∷ xs ++ j ∷ []) after
-      stands after n = AreLinked-append link_map before (k ∷ xs) (j ∷ []) after s (shows_both link_map j (last_or (k ∷ xs) before) after valid named n, tt)
+      stored : (after : Option ℕ) → next_of link_map j ≡ after → AreLinked link_map before (k ∷ xs ++ j ∷ []) after
+      stored after n = AreLinked-append link_map before (k ∷ xs) (j ∷ []) after s (reports_both link_map j (last_or (k ∷ xs) before) after valid named n, tt)
 
       still_apart : IsMember (xs ++ j ∷ []) k → ⊥
       still_apart h = ⊎_elim apart (⊎_elim differs (λ (n : ⊥). n)) (IsMember-parts xs (j ∷ []) k h)
 
       by_test : (m : ℕ) → next_of link_map j ≡ Some m → Dec (m ≡ k)
           → ((m : ℕ) → AreLinked link_map before (k ∷ xs ++ j ∷ []) (Some m) → (IsMember (xs ++ j ∷ []) k → ⊥) → (m ≢ k) → Ending link_map before k) → Ending link_map before k
-      by_test m n (yes e) on = comes_round (xs ++ j ∷ []) (stands (Some k) (n ∙ ap (λ (z : ℕ). Some z) e)) still_apart
-      by_test m n (no d) on = on m (stands (Some m) n) still_apart d
+      by_test m n (yes e) on = is_cyclic (xs ++ j ∷ []) (stored (Some k) (n ∙ ap (λ (z : ℕ). Some z) e)) still_apart
+      by_test m n (no d) on = on m (stored (Some m) n) still_apart d
 
       by_next : (after : Option ℕ) → next_of link_map j ≡ after
           → ((m : ℕ) → AreLinked link_map before (k ∷ xs ++ j ∷ []) (Some m) → (IsMember (xs ++ j ∷ []) k → ⊥) → (m ≢ k) → Ending link_map before k) → Ending link_map before k
-      by_next None n on = ends (xs ++ j ∷ []) (stands None n)
+      by_next None n on = ends (xs ++ j ∷ []) (stored None n)
       by_next (Some m) n on = by_test m n (ℕ_discrete m k) on
 
   -- follows next from a valid index
   on_from : (k : ℕ) → HasLink link_map k → Ending link_map (prev_of link_map k) k
   on_from k valid = by_next (next_of link_map k) refl
     where
-      stands : (after : Option ℕ) → next_of link_map k ≡ after → AreLinked link_map (prev_of link_map k) (k ∷ []) after
-      stands after n = (shows_both link_map k (prev_of link_map k) after valid refl n, tt)
+      stored : (after : Option ℕ) → next_of link_map k ≡ after → AreLinked link_map (prev_of link_map k) (k ∷ []) after
+      stored after n = (reports_both link_map k (prev_of link_map k) after valid refl n, tt)
 
       by_test : (m : ℕ) → next_of link_map k ≡ Some m → Dec (m ≡ k) → Ending link_map (prev_of link_map k) k
-      by_test m n (yes e) = comes_round [] (stands (Some k) (n ∙ ap (λ (z : ℕ). Some z) e)) (λ h. h)
-      by_test m n (no d) = onward slots (prev_of link_map k) k [] m (stands (Some m) n) (λ h. h) d (omega arith)
+      by_test m n (yes e) = is_cyclic [] (stored (Some k) (n ∙ ap (λ (z : ℕ). Some z) e)) (λ h. h)
+      by_test m n (no d) = onward slots (prev_of link_map k) k [] m (stored (Some m) n) (λ h. h) d (omega arith)
 
       by_next : (after : Option ℕ) → next_of link_map k ≡ after → Ending link_map (prev_of link_map k) k
-      by_next None n = ends [] (stands None n)
+      by_next None n = ends [] (stored None n)
       by_next (Some m) n = by_test m n (ℕ_discrete m k)
 
   -- follows prev from a list with nothing after it, for at most `left` steps
   backward : (left : ℕ) (before : Option ℕ) (x : ℕ) (xs : List ℕ) (k : ℕ) → AreLinked link_map before (x ∷ xs) None → IsMember (x ∷ xs) k → slots < left + length (x ∷ xs) → Beginning link_map k
   backward left None x xs k s h more = begins (x ∷ xs) s h
   backward zero (Some j) x xs k s h more =
-      absurd (room (x ∷ xs) (last_no_repetition link_map (Some j) (x ∷ xs) s) (λ i m. AreLinked-valid link_map (Some j) (x ∷ xs) None i s m) (omega arith))
+      absurd (within_capacity (x ∷ xs) (last_no_repetition link_map (Some j) (x ∷ xs) s) (λ i m. AreLinked-valid link_map (Some j) (x ∷ xs) None i s m) (omega arith))
   backward (suc left) (Some j) x xs k s h more = backward left (prev_of link_map j) j (x ∷ xs) k (before, s) (inr h) (omega arith)
     where
       on : next_of link_map j ≡ Some x
       on = (agrees.both j x).1 (ap prev_in s.0)
 
       before : link_map j ≡ Some (link (prev_of link_map j) (Some x))
-      before = shows_both link_map j (prev_of link_map j) (Some x) (next_valid link_map j x on) refl on
+      before = reports_both link_map j (prev_of link_map j) (Some x) (next_valid link_map j x on) refl on
 
   -- each valid index is in a chain
   pub has_chain : (k : ℕ) → HasLink link_map k → ChainOf link_map k
   has_chain k valid = by_ending (on_from k valid)
     where
       by_beginning : Beginning link_map k → ChainOf link_map k
-      by_beginning (begins xs s h) = stands_in (linear xs) (IsMember-filled xs k h, last_no_repetition link_map None xs s, s) h
+      by_beginning (begins xs s h) = stored_in (linear xs) (IsMember-filled xs k h, last_no_repetition link_map None xs s, s) h
 
       ring : (after : List ℕ) → AreLinked link_map (prev_of link_map k) (k ∷ after) (Some k) → AreLinked link_map (last_or (k ∷ after) None) (k ∷ after) (Some k)
       ring after s = subst (λ (o : Option ℕ). AreLinked link_map o (k ∷ after) (Some k)) (names_last (prev_of link_map k) k after k s) s
 
       by_ending : Ending link_map (prev_of link_map k) k → ChainOf link_map k
       by_ending (ends after s) = by_beginning (backward slots (prev_of link_map k) k after k s (inl refl) (omega arith))
-      by_ending (comes_round after s apart) =
-          stands_in (cyclic (k ∷ after))
+      by_ending (is_cyclic after s apart) =
+          stored_in (cyclic (k ∷ after))
           (IsMember-filled (k ∷ after) k (inl refl), apart_no_repetition link_map (prev_of link_map k) k after (Some k) s apart, ring after s)
           (inl refl)
 
@@ -118,8 +118,8 @@ module _ (link_map : LinkMap) (slots : ℕ) (agrees : IsWellLinked link_map) (wi
 
   -- the chain with least index k, written from k if cyclic
   from_least : (k : ℕ) → ChainOf link_map k → ((c : Chain) (y : ℕ) → IsChain link_map c → IsMember (items c) k → IsMember (items c) y → k ≤ y) → WrittenFrom k
-  from_least k (stands_in (linear xs) h m) least = written_from (linear xs) h m tt
-  from_least k (stands_in (cyclic xs) h m) least =
+  from_least k (stored_in (linear xs) h m) least = written_from (linear xs) h m tt
+  from_least k (stored_in (cyclic xs) h m) least =
       let t = turned_to link_map xs k h m in
       written_from (cyclic (k ∷ t.0)) t.1 (inl refl) (IsMember-at_most k t.0 (λ y n. least (cyclic (k ∷ t.0)) y t.1 (inl refl) (inr n)))
 
@@ -224,8 +224,8 @@ module _ (link_map : LinkMap) (slots : ℕ) (agrees : IsWellLinked link_map) (wi
       by_valid : (o : Option Interlinks) → link_map k ≡ o
           → (((i : ℕ) → HasLink link_map i → i < suc k → IsMember (all_items done) i) → Others done)
           → ((c : Chain) → IsChain link_map c → ((i : ℕ) → HasLink link_map i → i < suc k → IsMember (all_items (c ∷ done)) i) → Others (c ∷ done)) → Others done
-      by_valid None is same more = same (split (IsMember (all_items done)) below (λ (v : HasLink link_map k). let f = v.shows in absurd (cc)))
-      by_valid (Some l) is same more = by_done (shows_valid link_map k l is) (IsMember-or_not (all_items done) k) same more
+      by_valid None is same more = same (split (IsMember (all_items done)) below (λ (v : HasLink link_map k). let f = v.reports in absurd (cc)))
+      by_valid (Some l) is same more = by_done (reports_valid link_map k l is) (IsMember-or_not (all_items done) k) same more
 
   -- the arena has chains, in order
   pub has_chains : (chains : List Chain) × AreChains link_map chains × IsInOrder chains

@@ -1,11 +1,11 @@
 -- Lemmas on chains that a change leaves alone.
 use Rattle.std.proofs.Common.{◌≡◌, ℕ, inl, inr, ⊎_elim, Option, None, Some, refl, sym, subst}
 use Rattle.chain_laws.specs.Chains.{LinkMap, Chain, items, IsMember, IsChain, IsWellLinked, prev_of, next_of}
-use Rattle.chain_laws.specs.Joins.{joined}
-use Rattle.chain_laws.specs.Cuts.{cut}
-use Rattle.chain_laws.specs.Removals.{vacated}
+use Rattle.chain_laws.specs.Joins.{with_join}
+use Rattle.chain_laws.specs.Cuts.{without_pair}
+use Rattle.chain_laws.specs.Removals.{without_link}
 use Rattle.chain_laws.specs.Insertions.{InsertKind, disconnected, single_link_cyclic, chain_end, chain_start, next_to, prev_to, at_interlink, bridge}
-use Rattle.chain_laws.specs.Insertions.{HasIndex, InsertsPairs, link_before, link_after, inserted}
+use Rattle.chain_laws.specs.Insertions.{HasIndex, InsertsPairs, link_before, link_after, with_insertion}
 use Rattle.chain_laws.specs.Frame.{IsDisjointFrom, indexes_of_kind, SameLinksKeepAChain, InsertionKeepsOthers, InsertionMakesNoOthers, LoneKeepsEach, CutKeepsOthers, JoinMakesNoOthers, RemovalMakesNoOthers}
 use Rattle.chain_laws.proofs.ChainLemmas.LinkedLists.{IsChain-frame}
 use Rattle.chain_laws.proofs.JoinLemmas.Lists.{IsChain-linked}
@@ -15,7 +15,7 @@ use Rattle.chain_laws.proofs.CutLemmas.Pairs.{cut_of_join}
 use Rattle.chain_laws.proofs.CutLemmas.Chains.{cut_cuts}
 use Rattle.chain_laws.proofs.InsertionLemmas.Pairs.{inserted_agrees, inserted_in_pairs}
 use Rattle.chain_laws.proofs.InsertionLemmas.Chains.{HasIndex-apart, inserted_inserts}
-use Rattle.chain_laws.proofs.ChainLemmas.MemberLaws.{free_is_in_no_chain, neighbors_stand_together}
+use Rattle.chain_laws.proofs.ChainLemmas.MemberLaws.{free_is_in_no_chain, neighbors_share_a_chain}
 
 -- a chain stays if its links keep their interlinks
 pub same_links_keep_a_chain : SameLinksKeepAChain
@@ -27,7 +27,7 @@ lacks_next link_map c a agrees is lacks = at (next_of link_map a) refl
   where
     at : (o : Option ℕ) → next_of link_map a ≡ o → HasIndex c o → ⊥
     at None next has = has
-    at (Some j) next has = lacks ((neighbors_stand_together link_map c a j agrees next is).1 has)
+    at (Some j) next has = lacks ((neighbors_share_a_chain link_map c a j agrees next is).1 has)
 
 -- a chain without b lacks what precedes b
 lacks_prev : (link_map : LinkMap) (c : Chain) (b : ℕ) → IsWellLinked link_map → IsChain link_map c → (IsMember (items c) b → ⊥) → HasIndex c (prev_of link_map b) → ⊥
@@ -35,7 +35,7 @@ lacks_prev link_map c b agrees is lacks = at (prev_of link_map b) refl
   where
     at : (o : Option ℕ) → prev_of link_map b ≡ o → HasIndex c o → ⊥
     at None prev has = has
-    at (Some j) prev has = lacks ((neighbors_stand_together link_map c j b agrees ((agrees.both j b).1 prev) is).0 has)
+    at (Some j) prev has = lacks ((neighbors_share_a_chain link_map c j b agrees ((agrees.both j b).1 prev) is).0 has)
 
 -- a chain without the links of a kind lacks both links beside the new one
 lacks_beside : (link_map : LinkMap) (kind : InsertKind ℕ) (q : ℕ) (c : Chain) → IsWellLinked link_map → IsChain link_map c → (IsMember (items c) q → ⊥) → IsDisjointFrom c (indexes_of_kind kind)
@@ -58,22 +58,22 @@ insertion_keeps_others old new kind q agrees free inserts c lacks is =
 
 -- a chain without the new link lacks its neighbors, so it existed before
 pub insertion_makes_no_others : InsertionMakesNoOthers
-insertion_makes_no_others link_map q u v agrees free gap c off is =
+insertion_makes_no_others link_map q u v agrees free position c off is =
     ((inserted_inserts link_map q u v free).rest c off (before u refl) (after v refl)).1 is
   where
-    agree : IsWellLinked (inserted link_map q u v)
-    agree = inserted_agrees link_map q u v agrees free gap
+    agree : IsWellLinked (with_insertion link_map q u v)
+    agree = inserted_agrees link_map q u v agrees free position
 
-    inserts : InsertsPairs link_map (inserted link_map q u v) q u v
-    inserts = inserted_in_pairs link_map q u v agrees free gap
+    inserts : InsertsPairs link_map (with_insertion link_map q u v) q u v
+    inserts = inserted_in_pairs link_map q u v agrees free position
 
     before : (o : Option ℕ) → u ≡ o → HasIndex c o → ⊥
     before None at_u has = has
-    before (Some i) at_u has = off ((neighbors_stand_together (inserted link_map q u v) c i q agree ((inserts.pairs i q).1 (inr (inl (at_u, refl)))) is).0 has)
+    before (Some i) at_u has = off ((neighbors_share_a_chain (with_insertion link_map q u v) c i q agree ((inserts.pairs i q).1 (inr (inl (at_u, refl)))) is).0 has)
 
     after : (o : Option ℕ) → v ≡ o → HasIndex c o → ⊥
     after None at_v has = has
-    after (Some j) at_v has = off ((neighbors_stand_together (inserted link_map q u v) c q j agree ((inserts.pairs q j).1 (inr (inr (refl, at_v)))) is).1 has)
+    after (Some j) at_v has = off ((neighbors_share_a_chain (with_insertion link_map q u v) c q j agree ((inserts.pairs q j).1 (inr (inr (refl, at_v)))) is).1 has)
 
 -- a new lone link keeps every chain, since chains have no free index
 pub lone_keeps_each : LoneKeepsEach
@@ -82,7 +82,7 @@ lone_keeps_each old new q free adds c is = (adds.rest c (free_is_in_no_chain old
 -- a cut keeps a chain without one of the two neighbors
 pub cut_keeps_others : CutKeepsOthers
 cut_keeps_others old new a b agrees pair cuts c lacks is =
-    let both = neighbors_stand_together old c a b agrees pair is in
+    let both = neighbors_share_a_chain old c a b agrees pair is in
     ⊎_elim (λ no_a. (cuts.rest c no_a (λ h. no_a (both.1 h))).0 is) (λ no_b. (cuts.rest c (λ h. no_b (both.0 h)) no_b).0 is) lacks
 
 -- a chain without one of two joined links existed before, as a cut shows
@@ -90,13 +90,13 @@ pub join_makes_no_others : JoinMakesNoOthers
 join_makes_no_others link_map a b agrees ends c lacks is =
     let restored = cut_of_join link_map a b agrees ends in
     subst (λ (s : LinkMap). IsChain s c) restored.1
-    (cut_keeps_others (joined link_map a b) (cut (joined link_map a b) a b) a b (joined_agrees link_map a b agrees ends) restored.0 (cut_cuts (joined link_map a b) a b) c lacks is)
+    (cut_keeps_others (with_join link_map a b) (without_pair (with_join link_map a b) a b) a b (joined_agrees link_map a b agrees ends) restored.0 (cut_cuts (with_join link_map a b) a b) c lacks is)
 
 -- a chain without the links that a removed link named existed before
 pub removal_makes_no_others : RemovalMakesNoOthers
 removal_makes_no_others link_map i c no_prev no_next is =
-    let left = (IsChain-linked (vacated link_map i) (prev_of link_map i) (next_of link_map i) c (HasIndex-apart c (prev_of link_map i) no_prev) (HasIndex-apart c (next_of link_map i) no_next)).1 is in
-    same_links_keep_a_chain (vacated link_map i) link_map c (λ j has. sym (vacated-off link_map i j (λ e. off left (subst (λ (k : ℕ). IsMember (items c) k) e has)))) left
+    let left = (IsChain-linked (without_link link_map i) (prev_of link_map i) (next_of link_map i) c (HasIndex-apart c (prev_of link_map i) no_prev) (HasIndex-apart c (next_of link_map i) no_next)).1 is in
+    same_links_keep_a_chain (without_link link_map i) link_map c (λ j has. sym (vacated-off link_map i j (λ e. off left (subst (λ (k : ℕ). IsMember (items c) k) e has)))) left
   where
-    off : IsChain (vacated link_map i) c → IsMember (items c) i → ⊥
-    off left has = free_is_in_no_chain (vacated link_map i) c i (vacated-at link_map i i refl) left has
+    off : IsChain (without_link link_map i) c → IsMember (items c) i → ⊥
+    off left has = free_is_in_no_chain (without_link link_map i) c i (vacated-at link_map i i refl) left has

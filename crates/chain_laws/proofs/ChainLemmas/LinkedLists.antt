@@ -8,16 +8,16 @@ abbrev pub link : Option ℕ → Option ℕ → Interlinks
 link before after = record { prev = before; next = after }
 
 -- an index with interlinks is valid
-pub shows_valid : (link_map : LinkMap) (i : ℕ) (l : Interlinks) → link_map i ≡ Some l → HasLink link_map i
-shows_valid link_map i l e = record { link = l; shows = e }
+pub reports_valid : (link_map : LinkMap) (i : ℕ) (l : Interlinks) → link_map i ≡ Some l → HasLink link_map i
+reports_valid link_map i l e = record { link = l; reports = e }
 
 -- the next link of an index with given interlinks
-pub shows_next : (link_map : LinkMap) (i : ℕ) (before after : Option ℕ) → link_map i ≡ Some (link before after) → next_of link_map i ≡ after
-shows_next link_map i before after e = ap next_in e
+pub reports_next : (link_map : LinkMap) (i : ℕ) (before after : Option ℕ) → link_map i ≡ Some (link before after) → next_of link_map i ≡ after
+reports_next link_map i before after e = ap next_in e
 
 -- the previous link of an index with given interlinks
-pub shows_prev : (link_map : LinkMap) (i : ℕ) (before after : Option ℕ) → link_map i ≡ Some (link before after) → prev_of link_map i ≡ before
-shows_prev link_map i before after e = ap prev_in e
+pub reports_prev : (link_map : LinkMap) (i : ℕ) (before after : Option ℕ) → link_map i ≡ Some (link before after) → prev_of link_map i ≡ before
+reports_prev link_map i before after e = ap prev_in e
 
 -- an index with a next link is valid
 pub next_valid : (link_map : LinkMap) (i j : ℕ) → next_of link_map i ≡ Some j → HasLink link_map i
@@ -25,7 +25,7 @@ next_valid link_map i j e = by_link (link_map i) refl e
   where
     by_link : (o : Option Interlinks) → link_map i ≡ o → next_in o ≡ Some j → HasLink link_map i
     by_link None is n = absurd (cc)
-    by_link (Some l) is n = record { link = l; shows = is }
+    by_link (Some l) is n = record { link = l; reports = is }
 
 -- an index with a previous link is valid
 pub prev_valid : (link_map : LinkMap) (i j : ℕ) → prev_of link_map i ≡ Some j → HasLink link_map i
@@ -33,15 +33,15 @@ prev_valid link_map i j e = by_link (link_map i) refl e
   where
     by_link : (o : Option Interlinks) → link_map i ≡ o → prev_in o ≡ Some j → HasLink link_map i
     by_link None is n = absurd (cc)
-    by_link (Some l) is n = record { link = l; shows = is }
+    by_link (Some l) is n = record { link = l; reports = is }
 
 -- prev and next determine the interlinks of a valid index
-pub shows_both : (link_map : LinkMap) (i : ℕ) (before after : Option ℕ) → HasLink link_map i → prev_of link_map i ≡ before → next_of link_map i ≡ after → link_map i ≡ Some (link before after)
-shows_both link_map i before after v p n =
+pub reports_both : (link_map : LinkMap) (i : ℕ) (before after : Option ℕ) → HasLink link_map i → prev_of link_map i ≡ before → next_of link_map i ≡ after → link_map i ≡ Some (link before after)
+reports_both link_map i before after v p n =
     let l : Interlinks = v.link in
-    let q : l.prev ≡ before = sym (ap prev_in v.shows) ∙ p in
-    let m : l.next ≡ after = sym (ap next_in v.shows) ∙ n in
-    v.shows ∙ ap (λ (r : Interlinks). Some r) (both l before after q m)
+    let q : l.prev ≡ before = sym (ap prev_in v.reports) ∙ p in
+    let m : l.next ≡ after = sym (ap next_in v.reports) ∙ n in
+    v.reports ∙ ap (λ (r : Interlinks). Some r) (both l before after q m)
   where
     both : (l : Interlinks) (before after : Option ℕ) → l.prev ≡ before → l.next ≡ after → l ≡ link before after
     both l before after q m = λ i. record { prev = q i; next = m i }
@@ -100,7 +100,7 @@ IsChain-frame old new (cyclic xs) same c = (c.0, c.1, AreLinked-frame old new (l
 pub AreLinked-valid : (link_map : LinkMap) (before : Option ℕ) (xs : List ℕ) (after : Option ℕ) (i : ℕ)
     → AreLinked link_map before xs after → IsMember xs i → HasLink link_map i
 AreLinked-valid link_map before [] after i s h = elim h [ ]
-AreLinked-valid link_map before (x ∷ xs) after i s (inl e) = subst (HasLink link_map) e (shows_valid link_map x _ s.0)
+AreLinked-valid link_map before (x ∷ xs) after i s (inl e) = subst (HasLink link_map) e (reports_valid link_map x _ s.0)
 AreLinked-valid link_map before (x ∷ xs) after i s (inr h) = AreLinked-valid link_map (Some x) xs after i s.1 h
 
 -- what follows an item of a linked list is an item, or follows the list

@@ -9,7 +9,7 @@ use Rattle.chain_laws.proofs.ChainLemmas.LinkedLists.{link, AreLinked-first, Are
 use Rattle.chain_laws.proofs.ChainLemmas.Uniqueness.{chain_valid, chain_closed, chains_share, cyclic_prev_some}
 use Rattle.chain_laws.proofs.ChainLemmas.ChainLists.{IsMember-all_items, chain_at}
 use Rattle.chain_laws.proofs.InsertionLemmas.Pairs.{free_invalid}
-use Rattle.chain_laws.proofs.ChainLemmas.NeighborPairs.{chain_next, chain_prev, chain_shows}
+use Rattle.chain_laws.proofs.ChainLemmas.NeighborPairs.{chain_next, chain_prev, chain_reports}
 
 -- items of a chain are valid
 pub members_are_links : MembersAreLinks
@@ -25,12 +25,12 @@ members_name_neighbors link_map c i j is has = (chain_next link_map c i j is has
 
 -- the interlinks of an item of a linear chain
 pub places_in_a_line : PlacesInALine
-places_in_a_line link_map x y i is = chain_shows link_map (linear (x ++ i ∷ y)) x y i is refl
+places_in_a_line link_map x y i is = chain_reports link_map (linear (x ++ i ∷ y)) x y i is refl
 
 -- the interlinks of an item of a cyclic chain
 pub places_in_a_ring : PlacesInARing
 places_in_a_ring link_map x y i is = subst₂ (λ (before after : Option ℕ). link_map i ≡ Some (link (last_or x before) (first_or y after)))
-    (last_or-append x (i ∷ y) None) (first_or-append x (i ∷ y) None) (chain_shows link_map (cyclic (x ++ i ∷ y)) x y i is refl)
+    (last_or-append x (i ∷ y) None) (first_or-append x (i ∷ y) None) (chain_reports link_map (cyclic (x ++ i ∷ y)) x y i is refl)
 
 -- in a linear chain, only the last item has no next link, and only the first no previous one
 pub lines_end : LinesEnd
@@ -40,15 +40,15 @@ lines_end link_map xs i is has = (
 )
   where
     ends : (before : List ℕ) × (after : List ℕ) × (xs ≡ before ++ i ∷ after) → next_of link_map i ≡ None → last_or xs None ≡ Some i
-    ends w none = nothing_after w.1 w.2 (sym (ap next_in (chain_shows link_map (linear xs) w.0 w.1 i is w.2)) ∙ none)
+    ends w none = nothing_after w.1 w.2 (sym (ap next_in (chain_reports link_map (linear xs) w.0 w.1 i is w.2)) ∙ none)
       where
         nothing_after : (after : List ℕ) → xs ≡ w.0 ++ i ∷ after → first_or after None ≡ None → last_or xs None ≡ Some i
         nothing_after [] e first = ap (λ (zs : List ℕ). last_or zs None) e ∙ last_or-append w.0 (i ∷ []) None
         nothing_after (y ∷ ys) e first = absurd (cc)
 
     starts : (zs : List ℕ) → AreLinked link_map None zs None → first_or zs None ≡ Some i → prev_of link_map i ≡ None
-    starts [] stands first = absurd (cc)
-    starts (z ∷ zs) stands first = subst (λ (k : ℕ). prev_of link_map k ≡ None) (one_some first) (ap prev_in stands.0)
+    starts [] stored first = absurd (cc)
+    starts (z ∷ zs) stored first = subst (λ (k : ℕ). prev_of link_map k ≡ None) (one_some first) (ap prev_in stored.0)
 
 -- the first item, or else `after`, exists
 some_first : (xs : List ℕ) (after : ℕ) → (j : ℕ) × (first_or xs (Some after) ≡ Some j)
@@ -60,16 +60,16 @@ pub rings_go_round : RingsAreCyclic
 rings_go_round link_map xs i is has =
     let closed = chain_closed link_map (cyclic xs) is in
     let w = IsMember-written xs i has in
-    let shows = places_in_a_ring link_map w.0 w.1 i (subst (λ (zs : List ℕ). IsChain link_map (cyclic zs)) w.2 is) in
-    let round = some_first w.0 i in
-    let after = some_first w.1 round.0 in
-    let next = ap next_in shows ∙ (ap (first_or w.1) round.1 ∙ after.1) in
+    let reports = places_in_a_ring link_map w.0 w.1 i (subst (λ (zs : List ℕ). IsChain link_map (cyclic zs)) w.2 is) in
+    let once_around = some_first w.0 i in
+    let after = some_first w.1 once_around.0 in
+    let next = ap next_in reports ∙ (ap (first_or w.1) once_around.1 ∙ after.1) in
     let prev = cyclic_prev_some link_map xs i is has in
     ((after.0, next, closed.forth i after.0 has next), (prev.0, prev.1, closed.back i prev.0 has prev.1))
 
 -- a chain with one of two neighbors has both
-pub neighbors_stand_together : NeighborsShareAChain
-neighbors_stand_together link_map c a b agrees pair is =
+pub neighbors_share_a_chain : NeighborsShareAChain
+neighbors_share_a_chain link_map c a b agrees pair is =
     let closed = chain_closed link_map c is in
     (λ has. closed.forth a b has pair, λ has. closed.back b a has ((agrees.both a b).0 pair))
 

@@ -4,7 +4,7 @@ use Rattle.chain_laws.specs.Chains.{LinkMap, IsWellLinked, IsMember, AreDistinct
 use Rattle.chain_laws.specs.Neighbors.{IsBeside, AreNeighborsIn, Partition, HasInterlinks}
 use Rattle.chain_laws.proofs.ListLemmas.Members.{IsMember-right, IsMember-middle, IsMember-written, AreDistinct-right, first_or-IsMember, last_or-IsMember, last_or-append, last_apart, written_once}
 use Rattle.chain_laws.proofs.InterlinkLemmas.Inverses.{one_some}
-use Rattle.chain_laws.proofs.ChainLemmas.LinkedLists.{link, shows_both, next_valid, prev_valid, AreLinked-at, AreLinked-each}
+use Rattle.chain_laws.proofs.ChainLemmas.LinkedLists.{link, reports_both, next_valid, prev_valid, AreLinked-at, AreLinked-each}
 use Rattle.chain_laws.proofs.ChainLemmas.Uniqueness.{chain_once, chain_filled}
 use Rattle.chain_laws.proofs.ChainLemmas.ChainLists.{IsMember-all_items, chain_at, once_each, once_chain, all_items_valid}
 
@@ -19,14 +19,14 @@ after_last (linear xs) = None
 after_last (cyclic xs) = first_or xs None
 
 -- the items of a chain are linked
-pub chain_stands : (link_map : LinkMap) (c : Chain) → IsChain link_map c → AreLinked link_map (before_first c) (items c) (after_last c)
-chain_stands link_map (linear xs) h = h.2
-chain_stands link_map (cyclic xs) h = h.2
+pub chain_stored : (link_map : LinkMap) (c : Chain) → IsChain link_map c → AreLinked link_map (before_first c) (items c) (after_last c)
+chain_stored link_map (linear xs) h = h.2
+chain_stored link_map (cyclic xs) h = h.2
 
 -- distinct linked items, at least one, are a chain
-pub stands_chain : (link_map : LinkMap) (c : Chain) → items c ≢ [] → AreDistinct (items c) → AreLinked link_map (before_first c) (items c) (after_last c) → IsChain link_map c
-stands_chain link_map (linear xs) filled once s = (filled, once, s)
-stands_chain link_map (cyclic xs) filled once s = (filled, once, s)
+pub stored_chain : (link_map : LinkMap) (c : Chain) → items c ≢ [] → AreDistinct (items c) → AreLinked link_map (before_first c) (items c) (after_last c) → IsChain link_map c
+stored_chain link_map (linear xs) filled once s = (filled, once, s)
+stored_chain link_map (cyclic xs) filled once s = (filled, once, s)
 
 -- ---- in a list
 
@@ -127,27 +127,27 @@ neighbors_Has (cyclic xs) i j (inr w) = (
 )
 
 -- the interlinks of an item of a chain
-pub chain_shows : (link_map : LinkMap) (c : Chain) (before after : List ℕ) (i : ℕ) → IsChain link_map c → items c ≡ before ++ i ∷ after
+pub chain_reports : (link_map : LinkMap) (c : Chain) (before after : List ℕ) (i : ℕ) → IsChain link_map c → items c ≡ before ++ i ∷ after
     → link_map i ≡ Some (link (last_or before (before_first c)) (first_or after (after_last c)))
-chain_shows link_map c before after i h e =
-    AreLinked-at link_map (before_first c) before after (after_last c) i (subst (λ (zs : List ℕ). AreLinked link_map (before_first c) zs (after_last c)) e (chain_stands link_map c h))
+chain_reports link_map c before after i h e =
+    AreLinked-at link_map (before_first c) before after (after_last c) i (subst (λ (zs : List ℕ). AreLinked link_map (before_first c) zs (after_last c)) e (chain_stored link_map c h))
 
 -- an item of a chain names its next neighbor there and no other
 pub chain_next : (link_map : LinkMap) (c : Chain) (i j : ℕ) → IsChain link_map c → IsMember (items c) i → (next_of link_map i ≡ Some j) ↔ AreNeighborsIn c i j
 chain_next link_map c i j h m =
     let w = IsMember-written (items c) i m in
-    let shows : next_of link_map i ≡ first_or w.1 (after_last c) = ap next_in (chain_shows link_map c w.0 w.1 i h w.2) in (
-      (λ e. after_neighbors c w.0 w.1 i j w.2 (sym shows ∙ e)),
-      (λ n. shows ∙ neighbors_after c w.0 w.1 i j (chain_once link_map c h) w.2 n),
+    let reports : next_of link_map i ≡ first_or w.1 (after_last c) = ap next_in (chain_reports link_map c w.0 w.1 i h w.2) in (
+      (λ e. after_neighbors c w.0 w.1 i j w.2 (sym reports ∙ e)),
+      (λ n. reports ∙ neighbors_after c w.0 w.1 i j (chain_once link_map c h) w.2 n),
     )
 
 -- an item of a chain names its previous neighbor there and no other
 pub chain_prev : (link_map : LinkMap) (c : Chain) (i j : ℕ) → IsChain link_map c → IsMember (items c) i → (prev_of link_map i ≡ Some j) ↔ AreNeighborsIn c j i
 chain_prev link_map c i j h m =
     let w = IsMember-written (items c) i m in
-    let shows : prev_of link_map i ≡ last_or w.0 (before_first c) = ap prev_in (chain_shows link_map c w.0 w.1 i h w.2) in (
-      (λ e. before_neighbors c w.0 w.1 i j w.2 (sym shows ∙ e)),
-      (λ n. shows ∙ neighbors_before c w.0 w.1 i j (chain_once link_map c h) w.2 n),
+    let reports : prev_of link_map i ≡ last_or w.0 (before_first c) = ap prev_in (chain_reports link_map c w.0 w.1 i h w.2) in (
+      (λ e. before_neighbors c w.0 w.1 i j w.2 (sym reports ∙ e)),
+      (λ n. reports ∙ neighbors_before c w.0 w.1 i j (chain_once link_map c h) w.2 n),
     )
 
 -- ---- in the arena
@@ -182,8 +182,8 @@ same_named (Some j) p same = sym ((same j).0 refl)
 -- a partition that has the interlinks is the chains of the arena
 pub chains_from_pairs : (link_map : LinkMap) (chains : List Chain) → Partition link_map chains → HasInterlinks link_map chains → AreChains link_map chains
 chains_from_pairs link_map chains partition pairs = record {
-  each = λ c m. stands_chain link_map c (partition.filled c m) (once_each chains c partition.once m)
-      (AreLinked-each link_map (before_first c) (items c) (after_last c) (λ left right i e. shows c m left right i e));
+  each = λ c m. stored_chain link_map c (partition.filled c m) (once_each chains c partition.once m)
+      (AreLinked-each link_map (before_first c) (items c) (after_last c) (λ left right i e. reports c m left right i e));
   once = partition.once;
   all = λ i v. (partition.valid i).0 v;
 }
@@ -212,10 +212,10 @@ chains_from_pairs link_map chains partition pairs = record {
       (λ n. (pairs.prev j i).1 (c, m, before_neighbors c left right i j e n)),
     )
 
-    shows : (c : Chain) → HasChain chains c → (left right : List ℕ) (i : ℕ) → items c ≡ left ++ i ∷ right
+    reports : (c : Chain) → HasChain chains c → (left right : List ℕ) (i : ℕ) → items c ≡ left ++ i ∷ right
         → link_map i ≡ Some (link (last_or left (before_first c)) (first_or right (after_last c)))
-    shows c m left right i e =
-        shows_both link_map i (last_or left (before_first c)) (first_or right (after_last c))
+    reports c m left right i e =
+        reports_both link_map i (last_or left (before_first c)) (first_or right (after_last c))
         ((partition.valid i).1 (IsMember-all_items chains c i m (member c left right i e)))
         (same_named (prev_of link_map i) (last_or left (before_first c)) (prev_is c m left right i e))
         (same_named (next_of link_map i) (first_or right (after_last c)) (next_is c m left right i e))

@@ -3,13 +3,13 @@ use Rattle.std.specs.Prelude.{◌≡◌, ℕ, List, [], ◌∷◌, ◌++◌, Opt
 use Rattle.std.proofs.Common.{sym, refl, ap, ◌∙◌, subst, inl, inr, ⊎_elim}
 use Rattle.std.proofs.lemmas.List.{append_assoc}
 use Rattle.chain_laws.specs.Chains.{LinkMap, Chain, linear, cyclic, items, IsChain, IsMember, AreDistinct, AreLinked, next_of, first_or, last_or}
-use Rattle.chain_laws.specs.Exchanges.{exchanged, ExchangesInOrder, ExchangeExchanges}
+use Rattle.chain_laws.specs.Exchanges.{with_exchange, ExchangesInOrder, ExchangeExchanges}
 use Rattle.chain_laws.proofs.ListLemmas.Members.{IsMember-left, IsMember-right, IsMember-parts, IsMember-middle, IsMember-filled, first_or-append, last_or-append}
 use Rattle.chain_laws.proofs.ListLemmas.Members.{AreDistinct-left, AreDistinct-right, AreDistinct-apart, AreDistinct-turned}
-use Rattle.chain_laws.proofs.ChainLemmas.LinkedLists.{link, shows_valid, shows_next, shows_prev, shows_both, AreLinked-append, AreLinked-left, AreLinked-right, AreLinked-at, AreLinked-last}
+use Rattle.chain_laws.proofs.ChainLemmas.LinkedLists.{link, reports_valid, reports_next, reports_prev, reports_both, AreLinked-append, AreLinked-left, AreLinked-right, AreLinked-at, AreLinked-last}
 use Rattle.chain_laws.proofs.ChainLemmas.LinkedLists.{apart_no_repetition, first_no_repetition}
 use Rattle.chain_laws.proofs.ChainLemmas.Uniqueness.{chain_once, chain_filled, chains_share, not_both}
-use Rattle.chain_laws.proofs.ChainLemmas.NeighborPairs.{before_first, after_last, chain_stands, stands_chain}
+use Rattle.chain_laws.proofs.ChainLemmas.NeighborPairs.{before_first, after_last, chain_stored, stored_chain}
 use Rattle.chain_laws.proofs.ExchangeLemmas.Swaps.{swapped, swapped_in, swapped-first, swapped-second, swapped-other}
 use Rattle.chain_laws.proofs.ExchangeLemmas.Pairs.{AreExchanged, are_exchanged_back, are_exchanged_mutually, exchanged_are, exchanged_with_itself}
 
@@ -34,39 +34,39 @@ last_or-swapped p q (x ∷ xs) before neither =
 
 module _ (old new : LinkMap) (p q : ℕ) (are : AreExchanged old new p q) where
   -- the interlinks at an index after the exchange
-  shows_exchanged : (i : ℕ) (before after : Option ℕ) → old i ≡ Some (link before after)
+  reports_exchanged : (i : ℕ) (before after : Option ℕ) → old i ≡ Some (link before after)
       → new i ≡ Some (link (swapped_in p q before) (next_of old (swapped p q i)))
-  shows_exchanged i before after e =
-      shows_both new i (swapped_in p q before) (next_of old (swapped p q i)) ((are.links i).1 (shows_valid old i (link before after) e))
-      (are.back i ∙ ap (swapped_in p q) (shows_prev old i before after e)) (are.forth i)
+  reports_exchanged i before after e =
+      reports_both new i (swapped_in p q before) (next_of old (swapped p q i)) ((are.links i).1 (reports_valid old i (link before after) e))
+      (are.back i ∙ ap (swapped_in p q) (reports_prev old i before after e)) (are.forth i)
 
   -- a list with neither stays linked, with a swap before it
   AreLinked-neither : (before : Option ℕ) (xs : List ℕ) (after : Option ℕ) → HasNeither xs p q → AreLinked old before xs after
       → AreLinked new (swapped_in p q before) xs after
-  AreLinked-neither before [] after neither stands = tt
-  AreLinked-neither before (x ∷ xs) after neither stands =
+  AreLinked-neither before [] after neither stored = tt
+  AreLinked-neither before (x ∷ xs) after neither stored =
       let same : swapped p q x ≡ x = swapped-other p q x (λ e. neither.0 (inl e)) (λ e. neither.1 (inl e)) in (
-        shows_exchanged x before (first_or xs after) stands.0
-            ∙ ap (λ (o : Option ℕ). Some (link (swapped_in p q before) o)) (ap (next_of old) same ∙ shows_next old x before (first_or xs after) stands.0),
+        reports_exchanged x before (first_or xs after) stored.0
+            ∙ ap (λ (o : Option ℕ). Some (link (swapped_in p q before) o)) (ap (next_of old) same ∙ reports_next old x before (first_or xs after) stored.0),
         subst (λ (k : ℕ). AreLinked new (Some k) xs after) same
-            (AreLinked-neither (Some x) xs after (λ h. neither.0 (inr h), λ h. neither.1 (inr h)) stands.1),
+            (AreLinked-neither (Some x) xs after (λ h. neither.0 (inr h), λ h. neither.1 (inr h)) stored.1),
       )
 
   -- what followed p follows q
   AreLinked-after_p : (xs : List ℕ) (after : Option ℕ) → HasNeither xs p q → AreLinked old (Some p) xs after → AreLinked new (Some q) xs after
-  AreLinked-after_p xs after neither stands =
-      subst (λ (k : ℕ). AreLinked new (Some k) xs after) (swapped-first p q p refl) (AreLinked-neither (Some p) xs after neither stands)
+  AreLinked-after_p xs after neither stored =
+      subst (λ (k : ℕ). AreLinked new (Some k) xs after) (swapped-first p q p refl) (AreLinked-neither (Some p) xs after neither stored)
 
   -- what followed q follows p
   AreLinked-after_q : (xs : List ℕ) (after : Option ℕ) → HasNeither xs p q → AreLinked old (Some q) xs after → AreLinked new (Some p) xs after
-  AreLinked-after_q xs after neither stands =
-      subst (λ (k : ℕ). AreLinked new (Some k) xs after) (swapped-second p q q refl) (AreLinked-neither (Some q) xs after neither stands)
+  AreLinked-after_q xs after neither stored =
+      subst (λ (k : ℕ). AreLinked new (Some k) xs after) (swapped-second p q q refl) (AreLinked-neither (Some q) xs after neither stored)
 
   -- p or q, and what follows it
   AreLinked-onward : (r : ℕ) (before : Option ℕ) (z : List ℕ) (end : Option ℕ) (y : List ℕ) (after : Option ℕ) → AreLinked old before (r ∷ z) end
       → next_of old (swapped p q r) ≡ first_or y after → AreLinked new (Some r) y after → AreLinked new (swapped_in p q before) (r ∷ y) after
-  AreLinked-onward r before z end y after stands follows rest = (
-    shows_exchanged r before (first_or z end) stands.0 ∙ ap (λ (o : Option ℕ). Some (link (swapped_in p q before) o)) follows,
+  AreLinked-onward r before z end y after stored follows rest = (
+    reports_exchanged r before (first_or z end) stored.0 ∙ ap (λ (o : Option ℕ). Some (link (swapped_in p q before) o)) follows,
     rest,
   )
 
@@ -74,11 +74,11 @@ module _ (old new : LinkMap) (p q : ℕ) (are : AreExchanged old new p q) where
   AreLinked-through : (before : Option ℕ) (x : List ℕ) (r : ℕ) (z : List ℕ) (end : Option ℕ) (y : List ℕ) (after : Option ℕ) → HasNeither x p q
       → AreLinked old before (x ++ r ∷ z) end → next_of old (swapped p q r) ≡ first_or y after → AreLinked new (Some r) y after
       → AreLinked new (swapped_in p q before) (x ++ r ∷ y) after
-  AreLinked-through before x r z end y after neither stands follows rest =
+  AreLinked-through before x r z end y after neither stored follows rest =
       AreLinked-append new (swapped_in p q before) x (r ∷ y) after
-      (AreLinked-neither before x (Some r) neither (AreLinked-left old before x (r ∷ z) end stands))
+      (AreLinked-neither before x (Some r) neither (AreLinked-left old before x (r ∷ z) end stored))
       (subst (λ (o : Option ℕ). AreLinked new o (r ∷ y) after) (last_or-swapped p q x before neither)
-      (AreLinked-onward r (last_or x before) z end y after (AreLinked-right old before x (r ∷ z) end stands) follows rest))
+      (AreLinked-onward r (last_or x before) z end y after (AreLinked-right old before x (r ∷ z) end stored) follows rest))
 
   -- p has the next of q
   follows_p : (o : Option ℕ) → next_of old q ≡ o → next_of old (swapped p q p) ≡ o
@@ -98,20 +98,20 @@ module _ (old new : LinkMap) (p q : ℕ) (are : AreExchanged old new p q) where
 
   -- a linked list with an item, and nothing around it, is a linear chain
   linear_chain : (xs : List ℕ) (i : ℕ) → IsMember xs i → AreLinked new None xs None → IsChain new (linear xs)
-  linear_chain xs i h stands = (IsMember-filled xs i h, first_no_repetition new xs None stands, stands)
+  linear_chain xs i h stored = (IsMember-filled xs i h, first_no_repetition new xs None stored, stored)
 
   -- a linear chain becomes a linear and a cyclic one
   taken_out : (x m y : List ℕ) → IsChain old (linear (x ++ p ∷ (m ++ q ∷ y))) → IsChain new (linear (x ++ p ∷ y)) × IsChain new (cyclic (m ++ q ∷ []))
   taken_out x m y chain = (
     linear_chain (x ++ p ∷ y) p (IsMember-middle x y p)
-        (AreLinked-through None x p (m ++ q ∷ y) None y None not_in_x chain.2 (follows_p (first_or y None) (shows_next old q _ _ at_q.0))
+        (AreLinked-through None x p (m ++ q ∷ y) None y None not_in_x chain.2 (follows_p (first_or y None) (reports_next old q _ _ at_q.0))
         (AreLinked-after_q y None not_in_y at_q.1)),
     (
       IsMember-filled ring q (IsMember-middle m [] q),
       AreDistinct-turned (q ∷ []) m (not_in_m.1, AreDistinct-left m (q ∷ y) inner),
       subst (λ (o : Option ℕ). AreLinked new o ring (first_or ring None)) (ap Some (swapped-first p q p refl) ∙ sym (last_or-append m (q ∷ []) None))
           (AreLinked-through (Some p) m q y None [] (first_or ring None) not_in_m from_p
-          (follows_q (first_or ring None) (shows_next old p _ _ at_p ∙ first_alike m y [] q None None)) tt),
+          (follows_q (first_or ring None) (reports_next old p _ _ at_p ∙ first_alike m y [] q None None)) tt),
     ),
   )
     where
@@ -154,7 +154,7 @@ module _ (old new : LinkMap) (p q : ℕ) (are : AreExchanged old new p q) where
       (subst (λ (k : ℕ). AreLinked new (Some k) (z ++ q ∷ y) None) (swapped-second p q q refl)
       (AreLinked-through (Some q) z q [] (first_or ring None) y None (λ h. not_right (IsMember-left z (q ∷ []) p h), q_once.0)
       (subst (λ (o : Option ℕ). AreLinked old o ring (first_or ring None)) ends right.2)
-      (follows_q (first_or y None) (shows_next old p _ _ (AreLinked-at old None x y None p left.2)))
+      (follows_q (first_or y None) (reports_next old p _ _ (AreLinked-at old None x y None p left.2)))
       (AreLinked-after_p y None (p_once.1, λ h. not_left (IsMember-right x (p ∷ y) q (inr h))) (AreLinked-right old None x (p ∷ y) None left.2).1))))
     where
       ring : List ℕ
@@ -181,11 +181,11 @@ module _ (old new : LinkMap) (p q : ℕ) (are : AreExchanged old new p q) where
   two_linear x y z w left right none = (
     linear_chain (x ++ p ∷ w) p (IsMember-middle x w p)
         (AreLinked-through None x p y None w None (p_once.0, λ h. none (IsMember-left x (p ∷ y) q h)) left.2
-        (follows_p (first_or w None) (shows_next old q _ _ at_q.0))
+        (follows_p (first_or w None) (reports_next old q _ _ at_q.0))
         (AreLinked-after_q w None (λ h. not_right (IsMember-right z (q ∷ w) p (inr h)), q_once.1) at_q.1)),
     linear_chain (z ++ q ∷ y) q (IsMember-middle z y q)
         (AreLinked-through None z q w None y None (λ h. not_right (IsMember-left z (q ∷ w) p h), q_once.0) right.2
-        (follows_q (first_or y None) (shows_next old p _ _ at_p.0))
+        (follows_q (first_or y None) (reports_next old p _ _ at_p.0))
         (AreLinked-after_p y None (p_once.1, λ h. none (IsMember-right x (p ∷ y) q (inr h))) at_p.1)),
   )
     where
@@ -208,7 +208,7 @@ module _ (old new : LinkMap) (p q : ℕ) (are : AreExchanged old new p q) where
   two_cyclic : (x y : List ℕ) → IsChain old (cyclic (p ∷ x)) → IsChain old (cyclic (q ∷ y)) → (IsMember (p ∷ x) q → ⊥)
       → IsChain new (cyclic (p ∷ y ++ q ∷ x))
   two_cyclic x y left right none =
-      (IsMember-filled ring p (inl refl), apart_no_repetition new (last_or ring None) p (y ++ q ∷ x) (Some p) stands not_again, stands)
+      (IsMember-filled ring p (inl refl), apart_no_repetition new (last_or ring None) p (y ++ q ∷ x) (Some p) stored not_again, stored)
     where
       ring : List ℕ
       ring = p ∷ y ++ q ∷ x
@@ -228,17 +228,17 @@ module _ (old new : LinkMap) (p q : ℕ) (are : AreExchanged old new p q) where
       from_q : AreLinked new (last_or y (Some p)) (q ∷ x) (Some p)
       from_q =
           subst (λ (o : Option ℕ). AreLinked new o (q ∷ x) (Some p)) (last_after_q y not_in_y)
-          (AreLinked-onward q (last_or y (Some q)) y (Some q) x (Some p) right.2 (follows_q (first_or x (Some p)) (shows_next old p _ _ left.2.0))
+          (AreLinked-onward q (last_or y (Some q)) y (Some q) x (Some p) right.2 (follows_q (first_or x (Some p)) (reports_next old p _ _ left.2.0))
           (AreLinked-after_p x (Some p) not_in_x left.2.1))
 
       ends : swapped_in p q (last_or x (Some p)) ≡ last_or ring None
       ends = last_after_p x not_in_x ∙ sym (last_or-append y (q ∷ x) (Some p))
 
-      stands : AreLinked new (last_or ring None) ring (Some p)
-      stands =
+      stored : AreLinked new (last_or ring None) ring (Some p)
+      stored =
           subst (λ (o : Option ℕ). AreLinked new o ring (Some p)) ends
           (AreLinked-onward p (last_or x (Some p)) x (Some p) (y ++ q ∷ x) (Some p) left.2
-          (follows_p (first_or (y ++ q ∷ x) (Some p)) (shows_next old q _ _ right.2.0 ∙ sym (first_or-append y (q ∷ x) (Some p))))
+          (follows_p (first_or (y ++ q ∷ x) (Some p)) (reports_next old q _ _ right.2.0 ∙ sym (first_or-append y (q ∷ x) (Some p))))
           (AreLinked-append new (Some p) y (q ∷ x) (Some p) (AreLinked-after_q y (Some q) not_in_y right.2.1) from_q))
 
   -- one cyclic chain becomes two
@@ -267,13 +267,13 @@ module _ (old new : LinkMap) (p q : ℕ) (are : AreExchanged old new p q) where
       from_p =
           subst (λ (o : Option ℕ). AreLinked new o (p ∷ y) (Some p)) ends
           (AreLinked-onward p (last_or (x ++ q ∷ y) (Some p)) (x ++ q ∷ y) (Some p) y (Some p) chain.2
-          (follows_p (first_or y (Some p)) (shows_next old q _ _ at_q.0)) (AreLinked-after_q y (Some p) not_in_y at_q.1))
+          (follows_p (first_or y (Some p)) (reports_next old q _ _ at_q.0)) (AreLinked-after_q y (Some p) not_in_y at_q.1))
 
       from_q : AreLinked new (last_or x (Some q)) (q ∷ x) (Some q)
       from_q =
           subst (λ (o : Option ℕ). AreLinked new o (q ∷ x) (Some q)) (last_after_p x not_in_x)
           (AreLinked-onward q (last_or x (Some p)) y (Some p) x (Some q) at_q
-          (follows_q (first_or x (Some q)) (shows_next old p _ _ chain.2.0 ∙ first_or-append x (q ∷ y) (Some p)))
+          (follows_q (first_or x (Some q)) (reports_next old p _ _ chain.2.0 ∙ first_or-append x (q ∷ y) (Some p)))
           (AreLinked-after_p x (Some q) not_in_x (AreLinked-left old (Some p) x (q ∷ y) (Some p) chain.2.1)))
 
   -- a swap keeps the link before the first of a chain with neither
@@ -284,9 +284,9 @@ module _ (old new : LinkMap) (p q : ℕ) (are : AreExchanged old new p q) where
   -- a chain with neither is unchanged
   chain_stays : (c : Chain) → HasNeither (items c) p q → IsChain old c → IsChain new c
   chain_stays c neither chain =
-      stands_chain new c (chain_filled old c chain) (chain_once old c chain)
+      stored_chain new c (chain_filled old c chain) (chain_once old c chain)
       (subst (λ (o : Option ℕ). AreLinked new o (items c) (after_last c)) (before_neither c neither)
-      (AreLinked-neither (before_first c) (items c) (after_last c) neither (chain_stands old c chain)))
+      (AreLinked-neither (before_first c) (items c) (after_last c) neither (chain_stored old c chain)))
 
   -- the cases for p and q in this order
   exchanges_in_order : ExchangesInOrder old new p q
@@ -300,7 +300,7 @@ module _ (old new : LinkMap) (p q : ℕ) (are : AreExchanged old new p q) where
 -- an exchange exchanges the links after two links
 pub exchanged_exchanges : ExchangeExchanges
 exchanged_exchanges link_map p q agrees valid_p valid_q =
-    let new = exchanged link_map p q in
+    let new = with_exchange link_map p q in
     let are = exchanged_are link_map p q agrees valid_p valid_q in
     let back = are_exchanged_back link_map new p q are in
     record {
@@ -310,7 +310,7 @@ exchanged_exchanges link_map p q agrees valid_p valid_q =
       two_cyclic = two_cyclic link_map new p q are;
       one_cyclic = one_cyclic link_map new p q are;
       itself = λ e c.
-          let same : new ≡ link_map = subst (λ (k : ℕ). exchanged link_map p k ≡ link_map) e (exchanged_with_itself link_map p agrees valid_p) in
+          let same : new ≡ link_map = subst (λ (k : ℕ). with_exchange link_map p k ≡ link_map) e (exchanged_with_itself link_map p agrees valid_p) in
           (λ chain. subst (λ (s : LinkMap). IsChain s c) (sym same) chain, λ chain. subst (λ (s : LinkMap). IsChain s c) same chain);
       rest = λ c none_p none_q. (chain_stays link_map new p q are c (none_p, none_q), chain_stays new link_map p q back c (none_p, none_q));
     }

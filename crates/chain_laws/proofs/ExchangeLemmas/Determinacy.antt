@@ -4,11 +4,11 @@ use Rattle.std.proofs.Common.{sym, refl, ap, ◌∙◌, subst, inl, inr, ⊎_eli
 use Rattle.std.proofs.lemmas.Bool.{cases_eq}
 use Rattle.std.proofs.lemmas.List.{append_assoc}
 use Rattle.chain_laws.specs.Chains.{LinkMap, Chain, linear, cyclic, items, IsChain, IsMember}
-use Rattle.chain_laws.specs.Exchanges.{exchanged, Exchanges, ExchangesInOrder, ExchangeIsDetermined, ExchangeSplitsACycle, ExchangeMergesCycles}
+use Rattle.chain_laws.specs.Exchanges.{with_exchange, Exchanges, ExchangesInOrder, ExchangeIsDetermined, ExchangeSplitsACycle, ExchangeMergesCycles}
 use Rattle.chain_laws.proofs.ListLemmas.Members.{IsMember-left, IsMember-parts, IsMember-middle, IsMember-written, IsMember-or_not}
 use Rattle.chain_laws.proofs.ChainLemmas.Uniqueness.{chain_valid}
 use Rattle.chain_laws.proofs.ChainLemmas.Rotations.{turned, turned_to, one_ring}
-use Rattle.chain_laws.proofs.ChainLemmas.Existence.{ChainOf, stands_in, has_chain}
+use Rattle.chain_laws.proofs.ChainLemmas.Existence.{ChainOf, stored_in, has_chain}
 use Rattle.chain_laws.proofs.ChainLemmas.Determinacy.{NamesChains, settled}
 use Rattle.chain_laws.proofs.ExchangeLemmas.Chains.{exchanged_exchanges}
 
@@ -28,8 +28,8 @@ settles_mutually Holds a b settles =
       right = settles.left;
       has_a = settles.has_b;
       has_b = settles.has_a;
-      left_stands = settles.right_stands;
-      right_stands = settles.left_stands;
+      left_stored = settles.right_stored;
+      right_stored = settles.left_stored;
     }
 
 -- one linear chain, a before b
@@ -41,8 +41,8 @@ taken_out_settles old Holds a b in_order x m y chain =
       right = cyclic (m ++ b ∷ []);
       has_a = IsMember-middle x y a;
       has_b = IsMember-middle m [] b;
-      left_stands = λ new holds. ((in_order new holds).taken_out x m y chain).0;
-      right_stands = λ new holds. ((in_order new holds).taken_out x m y chain).1;
+      left_stored = λ new holds. ((in_order new holds).taken_out x m y chain).0;
+      right_stored = λ new holds. ((in_order new holds).taken_out x m y chain).1;
     }
 
 -- a in a linear chain, b in a cyclic one
@@ -52,15 +52,15 @@ taken_in_settles old Holds a b in_order xs ys left right has_a has_b =
     let w = IsMember-written xs a has_a in
     let t = turned_to old ys b right has_b in
     let whole = w.0 ++ a ∷ t.0 ++ b ∷ w.1 in
-    let stands : (new : LinkMap) → Holds new → IsChain new (linear whole) = λ new holds.
+    let stored : (new : LinkMap) → Holds new → IsChain new (linear whole) = λ new holds.
     (in_order new holds).taken_in w.0 w.1 t.0 (subst (λ (zs : List ℕ). IsChain old (linear zs)) w.2 left) (turned old (b ∷ []) t.0 t.1) in
     record {
       left = linear whole;
       right = linear whole;
       has_a = IsMember-left (w.0 ++ a ∷ t.0) (b ∷ w.1) a (IsMember-middle w.0 t.0 a);
       has_b = IsMember-middle (w.0 ++ a ∷ t.0) w.1 b;
-      left_stands = stands;
-      right_stands = stands;
+      left_stored = stored;
+      right_stored = stored;
     }
 
 -- two linear chains
@@ -78,8 +78,8 @@ two_linear_settle old p q xs ys left right has_p has_q none =
       right = linear (w.0 ++ q ∷ v.1);
       has_a = IsMember-middle v.0 w.1 p;
       has_b = IsMember-middle w.0 v.1 q;
-      left_stands = λ new exchanges. (parts new exchanges).0;
-      right_stands = λ new exchanges. (parts new exchanges).1;
+      left_stored = λ new exchanges. (parts new exchanges).0;
+      right_stored = λ new exchanges. (parts new exchanges).1;
     }
 
 -- two cyclic chains
@@ -89,15 +89,15 @@ two_cyclic_settle old p q xs ys left right has_p has_q none =
     let v = turned_to old xs p left has_p in
     let w = turned_to old ys q right has_q in
     let ring = p ∷ w.0 ++ q ∷ v.0 in
-    let stands : (new : LinkMap) → Exchanges old new p q → IsChain new (cyclic ring) = λ new exchanges.
+    let stored : (new : LinkMap) → Exchanges old new p q → IsChain new (cyclic ring) = λ new exchanges.
     exchanges.two_cyclic v.0 w.0 v.1 w.1 (λ h. none ((v.2 q).1 h)) in
     record {
       left = cyclic ring;
       right = cyclic ring;
       has_a = inl refl;
       has_b = IsMember-middle (p ∷ w.0) v.0 q;
-      left_stands = stands;
-      right_stands = stands;
+      left_stored = stored;
+      right_stored = stored;
     }
 
 -- a cyclic chain with p and q, written from p
@@ -121,8 +121,8 @@ one_cyclic_settles old p q xs ne chain has_p has_q =
       right = cyclic (q ∷ w.0);
       has_a = inl refl;
       has_b = inl refl;
-      left_stands = λ new exchanges. (exchanges.one_cyclic w.0 w.1 w.2).0;
-      right_stands = λ new exchanges. (exchanges.one_cyclic w.0 w.1 w.2).1;
+      left_stored = λ new exchanges. (exchanges.one_cyclic w.0 w.1 w.2).0;
+      right_stored = λ new exchanges. (exchanges.one_cyclic w.0 w.1 w.2).1;
     }
 
 -- one linear chain
@@ -147,14 +147,14 @@ one_linear_settles old p q xs ne chain has_p has_q = let w = IsMember-written xs
 
 -- two different links, in one chain or in two
 crossed_apart : (old : LinkMap) (p q : ℕ) → p ≢ q → ChainOf old p → ChainOf old q → Crossed old p q
-crossed_apart old p q ne (stands_in (linear xs) left has_p) (stands_in d right has_q) = by d right has_q (IsMember-or_not xs q)
+crossed_apart old p q ne (stored_in (linear xs) left has_p) (stored_in d right has_q) = by d right has_q (IsMember-or_not xs q)
   where
     by : (d : Chain) → IsChain old d → IsMember (items d) q → IsMember xs q ⊎ (IsMember xs q → ⊥) → Crossed old p q
     by d right has_q (inl h) = one_linear_settles old p q xs ne left has_p h
     by (linear ys) right has_q (inr none) = two_linear_settle old p q xs ys left right has_p has_q none
     by (cyclic ys) right has_q (inr none) =
         taken_in_settles old (Crosses old p q) p q (λ new exchanges. exchanges.in_order) xs ys left right has_p has_q
-crossed_apart old p q ne (stands_in (cyclic xs) left has_p) (stands_in d right has_q) = by d right has_q (IsMember-or_not xs q)
+crossed_apart old p q ne (stored_in (cyclic xs) left has_p) (stored_in d right has_q) = by d right has_q (IsMember-or_not xs q)
   where
     by : (d : Chain) → IsChain old d → IsMember (items d) q → IsMember xs q ⊎ (IsMember xs q → ⊥) → Crossed old p q
     by d right has_q (inl h) = one_cyclic_settles old p q xs ne left has_p h
@@ -165,14 +165,14 @@ crossed_apart old p q ne (stands_in (cyclic xs) left has_p) (stands_in d right h
 
 -- the same link twice
 crossed_itself : (old : LinkMap) (p q : ℕ) → p ≡ q → ChainOf old p → Crossed old p q
-crossed_itself old p q e (stands_in c chain has) =
+crossed_itself old p q e (stored_in c chain has) =
     record {
       left = c;
       right = c;
       has_a = has;
       has_b = subst (IsMember (items c)) e has;
-      left_stands = λ new exchanges. (exchanges.itself e c).0 chain;
-      right_stands = λ new exchanges. (exchanges.itself e c).0 chain;
+      left_stored = λ new exchanges. (exchanges.itself e c).0 chain;
+      right_stored = λ new exchanges. (exchanges.itself e c).0 chain;
     }
 
 -- any exchange has the chains of `exchanged`
@@ -181,7 +181,7 @@ exchange_is_determined old new slots p q agrees within valid_p valid_q exchanges
     let of_p = has_chain old slots agrees within p valid_p in
     let of_q = has_chain old slots agrees within q valid_q in
     let crossed : Crossed old p q = ⊎_elim (λ e. crossed_itself old p q e of_p) (λ ne. crossed_apart old p q ne of_p of_q) (cases_eq p q) in
-    settled old new (exchanged old p q) (Crosses old p q) p q (λ s made. made.rest)
+    settled old new (with_exchange old p q) (Crosses old p q) p q (λ s made. made.rest)
     crossed exchanges (exchanged_exchanges old p q agrees valid_p valid_q)
 
 -- an exchange splits a cyclic chain

@@ -4,8 +4,8 @@ use Rattle.std.proofs.Common.{sym, refl, ap, ◌∙◌, inl, inr}
 use Rattle.std.proofs.lemmas.Bool.{cases_eq}
 use Rattle.chain_laws.specs.Chains.{LinkMap, HasLink, IsWellLinked, prev_of, next_of}
 use Rattle.chain_laws.specs.Neighbors.{AreNeighbors}
-use Rattle.chain_laws.specs.Joins.{linked}
-use Rattle.chain_laws.specs.Exchanges.{exchanged, ExchangeAgrees, ExchangeInPairs, ExchangeIsDeterminedByPairs}
+use Rattle.chain_laws.specs.Joins.{with_neighbors}
+use Rattle.chain_laws.specs.Exchanges.{with_exchange, ExchangeAgrees, ExchangeInPairs, ExchangeIsDeterminedByPairs}
 use Rattle.chain_laws.specs.Exchanges.{ExchangeTwiceRestores, ExchangeWithItselfKeeps, ExchangeIsMutual}
 use Rattle.chain_laws.proofs.InterlinkLemmas.Inverses.{altered, altered-same, altered-other}
 use Rattle.chain_laws.proofs.ChainLemmas.LinkedLists.{prev_valid}
@@ -41,7 +41,7 @@ are_exchanged_mutually old new p q are =
     }
 
 -- `exchanged` exchanges them
-pub exchanged_are : (link_map : LinkMap) (p q : ℕ) → IsWellLinked link_map → HasLink link_map p → HasLink link_map q → AreExchanged link_map (exchanged link_map p q) p q
+pub exchanged_are : (link_map : LinkMap) (p q : ℕ) → IsWellLinked link_map → HasLink link_map p → HasLink link_map q → AreExchanged link_map (with_exchange link_map p q) p q
 exchanged_are link_map p q agrees valid_p valid_q =
     record {
       forth = λ i. outer_next i ∙ next_by i (cases_eq i q) (cases_eq i p);
@@ -59,12 +59,12 @@ exchanged_are link_map p q agrees valid_p valid_q =
     b = next_of link_map q
 
     half : LinkMap
-    half = linked link_map (Some p) b
+    half = with_neighbors link_map (Some p) b
 
     named_valid : (k : ℕ) → IsValidAt link_map (next_of link_map k)
     named_valid k i e = prev_valid link_map i k ((agrees.both k i).0 e)
 
-    outer_next : (i : ℕ) → next_of (exchanged link_map p q) i ≡ altered (next_of half) q a i
+    outer_next : (i : ℕ) → next_of (with_exchange link_map p q) i ≡ altered (next_of half) q a i
     outer_next i = next_of-linked half (Some q) a i (IsValidAt-Some half q ((HasLink-linked link_map (Some p) b q).1 valid_q))
 
     inner_next : (i : ℕ) → next_of half i ≡ altered (next_of link_map) p b i
@@ -78,7 +78,7 @@ exchanged_are link_map p q agrees valid_p valid_q =
         altered-other (next_of half) q a i not_q ∙ inner_next i ∙ altered-other (next_of link_map) p b i not_p
         ∙ ap (next_of link_map) (sym (swapped-other p q i not_p not_q))
 
-    outer_prev : (i : ℕ) → prev_of (exchanged link_map p q) i ≡ put_at (prev_of half) a (Some q) i
+    outer_prev : (i : ℕ) → prev_of (with_exchange link_map p q) i ≡ put_at (prev_of half) a (Some q) i
     outer_prev i = prev_of-linked half (Some q) a i (λ k e. (HasLink-linked link_map (Some p) b k).1 (named_valid p k e))
 
     inner_prev : (i : ℕ) → prev_of half i ≡ put_at (prev_of link_map) b (Some p) i
@@ -105,11 +105,11 @@ exchanged_agrees link_map p q agrees valid_p valid_q =
       );
     }
   where
-    are : AreExchanged link_map (exchanged link_map p q) p q
+    are : AreExchanged link_map (with_exchange link_map p q) p q
     are = exchanged_are link_map p q agrees valid_p valid_q
 
-    there : AreExchanged (exchanged link_map p q) link_map p q
-    there = are_exchanged_back link_map (exchanged link_map p q) p q are
+    there : AreExchanged (with_exchange link_map p q) link_map p q
+    there = are_exchanged_back link_map (with_exchange link_map p q) p q are
 
 -- the pairs and links after an exchange
 pub exchanged_in_pairs : ExchangeInPairs
@@ -119,7 +119,7 @@ exchanged_in_pairs link_map p q agrees valid_p valid_q =
       links = are.links;
     }
   where
-    are : AreExchanged link_map (exchanged link_map p q) p q
+    are : AreExchanged link_map (with_exchange link_map p q) p q
     are = exchanged_are link_map p q agrees valid_p valid_q
 
     there : (i j : ℕ) → AreNeighbors link_map (swapped p q i) j → (i ≡ p) ⊎ (i ≡ q) ⊎ ((i ≢ p) × (i ≢ q))
@@ -138,7 +138,7 @@ exchanged_in_pairs link_map p q agrees valid_p valid_q =
 pub exchange_is_determined_by_pairs : ExchangeIsDeterminedByPairs
 exchange_is_determined_by_pairs old new p q agrees agrees_new valid_p valid_q exchanges =
     let that = exchanged_in_pairs old p q agrees valid_p valid_q in
-    pairs_decide new (exchanged old p q) agrees_new (exchanged_agrees old p q agrees valid_p valid_q)
+    pairs_decide new (with_exchange old p q) agrees_new (exchanged_agrees old p q agrees valid_p valid_q)
     (λ i. (λ v. (that.links i).1 ((exchanges.links i).0 v), λ v. (exchanges.links i).1 ((that.links i).0 v)))
     (λ i j. (λ e. (that.pairs i j).1 ((exchanges.pairs i j).0 e), λ e. (exchanges.pairs i j).1 ((that.pairs i j).0 e)))
 
@@ -152,7 +152,7 @@ same_after left right agrees_left agrees_right links same =
 pub exchanged_with_itself : ExchangeWithItselfKeeps
 exchanged_with_itself link_map p agrees valid =
     let are = exchanged_are link_map p p agrees valid valid in
-    same_after (exchanged link_map p p) link_map (exchanged_agrees link_map p p agrees valid valid) agrees are.links
+    same_after (with_exchange link_map p p) link_map (exchanged_agrees link_map p p agrees valid valid) agrees are.links
     (λ i. are.forth i ∙ ap (next_of link_map) (swapped-itself p i))
 
 -- an exchange with the two links in the other order
@@ -160,7 +160,7 @@ pub exchanged_mutually : ExchangeIsMutual
 exchanged_mutually link_map p q agrees valid_p valid_q =
     let are = exchanged_are link_map p q agrees valid_p valid_q in
     let that = exchanged_are link_map q p agrees valid_q valid_p in
-    same_after (exchanged link_map p q) (exchanged link_map q p)
+    same_after (with_exchange link_map p q) (with_exchange link_map q p)
     (exchanged_agrees link_map p q agrees valid_p valid_q) (exchanged_agrees link_map q p agrees valid_q valid_p)
     (λ i. (λ v. (that.links i).1 ((are.links i).0 v), λ v. (are.links i).1 ((that.links i).0 v)))
     (λ i. are.forth i ∙ ap (next_of link_map) (swapped-mutual p q i) ∙ sym (that.forth i))
@@ -168,12 +168,12 @@ exchanged_mutually link_map p q agrees valid_p valid_q =
 -- two exchanges of the same two links
 pub exchanged_twice : ExchangeTwiceRestores
 exchanged_twice link_map p q agrees valid_p valid_q =
-    let once = exchanged link_map p q in
+    let once = with_exchange link_map p q in
     let are = exchanged_are link_map p q agrees valid_p valid_q in
     let agrees_once = exchanged_agrees link_map p q agrees valid_p valid_q in
     let valid_p_once = (are.links p).1 valid_p in
     let valid_q_once = (are.links q).1 valid_q in
     let again = exchanged_are once p q agrees_once valid_p_once valid_q_once in
-    same_after (exchanged once p q) link_map (exchanged_agrees once p q agrees_once valid_p_once valid_q_once) agrees
+    same_after (with_exchange once p q) link_map (exchanged_agrees once p q agrees_once valid_p_once valid_q_once) agrees
     (λ i. (λ v. (are.links i).0 ((again.links i).0 v), λ v. (again.links i).1 ((are.links i).1 v)))
     (λ i. again.forth i ∙ are.forth (swapped p q i) ∙ ap (next_of link_map) (swapped-twice p q i))

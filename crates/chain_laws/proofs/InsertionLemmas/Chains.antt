@@ -3,11 +3,11 @@ use Rattle.std.specs.Prelude.{◌≡◌, ◌≢◌, ◌↔◌, ℕ, ◌⊎◌, L
 use Rattle.std.proofs.Common.{sym, refl, ◌∙◌, subst, subst₂, inl, inr, ⊎_elim}
 use Rattle.std.proofs.lemmas.List.{append_assoc}
 use Rattle.chain_laws.specs.Chains.{LinkMap, Chain, linear, cyclic, items, IsChain, IsMember, AreDistinct, AreLinked, prev_of, next_of, first_or, last_or}
-use Rattle.chain_laws.specs.Joins.{linked, with_lone}
-use Rattle.chain_laws.specs.Insertions.{inserted, HasIndex, InsertionInserts}
+use Rattle.chain_laws.specs.Joins.{with_neighbors, with_lone}
+use Rattle.chain_laws.specs.Insertions.{with_insertion, HasIndex, InsertionInserts}
 use Rattle.chain_laws.proofs.ListLemmas.Members.{IsMember-left, IsMember-right, IsMember-parts, IsMember-middle, IsMember-filled, first_or-IsMember, last_or-IsMember, last_or-append}
 use Rattle.chain_laws.proofs.ListLemmas.Members.{AreDistinct-left, AreDistinct-right, AreDistinct-apart, AreDistinct-append}
-use Rattle.chain_laws.proofs.ChainLemmas.LinkedLists.{AreLinked-left, AreLinked-right, AreLinked-at, AreLinked-last, shows_next, shows_prev}
+use Rattle.chain_laws.proofs.ChainLemmas.LinkedLists.{AreLinked-left, AreLinked-right, AreLinked-at, AreLinked-last, reports_next, reports_prev}
 use Rattle.chain_laws.proofs.ChainLemmas.Uniqueness.{chain_closed, chain_valid, reaches_first}
 use Rattle.chain_laws.proofs.ChainLemmas.Rotations.{turned}
 use Rattle.chain_laws.proofs.JoinLemmas.Lists.{IsOutside, IsOutside-Some, AreLinked-linked, AreLinked-glued, AreLinked-ringed, IsChain-linked}
@@ -34,36 +34,36 @@ once_appended xs q once none = AreDistinct-append xs (q ∷ []) once (λ h. h, t
 -- a new link after the last item of a list, if any, is appended
 AreLinked-appended : (link_map : LinkMap) (q : ℕ) (before : Option ℕ) (xs : List ℕ) (after : Option ℕ) → last_or xs before ≡ last_or xs None
     → AreDistinct xs → (IsMember xs q → ⊥) → AreLinked link_map before xs after → AreLinked (appended link_map q (last_or xs None)) before (xs ++ q ∷ []) None
-AreLinked-appended link_map q before xs after ends once none stands =
+AreLinked-appended link_map q before xs after ends once none stored =
     subst (λ (u : Option ℕ). AreLinked (appended link_map q u) before (xs ++ q ∷ []) None) ends
     (AreLinked-glued (with_lone link_map q) before xs after None (q ∷ []) None once (λ h. h, tt)
     (subst (λ (u : Option ℕ). IsOutside u (q ∷ [])) (sym ends) (last_apart xs (q ∷ []) (one_apart xs q none)))
     (IsOutside-Some q xs none)
-    ((AreLinked-with_lone link_map q before xs after none).0 stands)
+    ((AreLinked-with_lone link_map q before xs after none).0 stored)
     (with_lone-at link_map q q refl, tt))
 
 -- a new link after the end of one list and before the start of another, either maybe empty
 pub inserted_between : (link_map : LinkMap) (q : ℕ) (xs : List ℕ) (xs_after ys_before : Option ℕ) (ys : List ℕ) → AreDistinct (xs ++ ys)
     → (IsMember (xs ++ ys) q → ⊥) → AreLinked link_map None xs xs_after → AreLinked link_map ys_before ys None
-    → IsChain (inserted link_map q (last_or xs None) (first_or ys None)) (linear (xs ++ q ∷ ys))
-inserted_between link_map q xs xs_after ys_before ys once none xs_stands ys_stands =
+    → IsChain (with_insertion link_map q (last_or xs None) (first_or ys None)) (linear (xs ++ q ∷ ys))
+inserted_between link_map q xs xs_after ys_before ys once none xs_stored ys_stored =
     let u = last_or xs None in
     let longer = xs ++ q ∷ [] in
     let xs_once : AreDistinct longer = once_appended xs q (AreDistinct-left xs ys once) not_left in
     let ys_once : AreDistinct ys = AreDistinct-right xs ys once in
-    let left : AreLinked (appended link_map q u) None longer None = AreLinked-appended link_map q None xs xs_after refl (AreDistinct-left xs ys once) not_left xs_stands in
+    let left : AreLinked (appended link_map q u) None longer None = AreLinked-appended link_map q None xs xs_after refl (AreDistinct-left xs ys once) not_left xs_stored in
     let right : AreLinked (appended link_map q u) ys_before ys None =
     AreLinked-linked (with_lone link_map q) u (Some q) ys_before ys None (last_apart xs ys apart) (IsOutside-Some q ys not_right)
-    ((AreLinked-with_lone link_map q ys_before ys None not_right).0 ys_stands) in
-    let glued : AreLinked (linked (appended link_map q u) (last_or longer None) (first_or ys None)) None (longer ++ ys) None =
+    ((AreLinked-with_lone link_map q ys_before ys None not_right).0 ys_stored) in
+    let glued : AreLinked (with_neighbors (appended link_map q u) (last_or longer None) (first_or ys None)) None (longer ++ ys) None =
     AreLinked-glued (appended link_map q u) None longer None ys_before ys None xs_once ys_once
     (last_apart longer ys longer_apart) (first_apart longer ys longer_apart) left right in
-    let chain : IsChain (inserted link_map q u (first_or ys None)) (linear (longer ++ ys)) = (
+    let chain : IsChain (with_insertion link_map q u (first_or ys None)) (linear (longer ++ ys)) = (
       IsMember-filled (longer ++ ys) q (IsMember-left longer ys q (IsMember-middle xs [] q)),
       AreDistinct-append longer ys xs_once ys_once longer_apart,
-      subst (λ (o : Option ℕ). AreLinked (linked (appended link_map q u) o (first_or ys None)) None (longer ++ ys) None) (last_or-append xs (q ∷ []) None) glued,
+      subst (λ (o : Option ℕ). AreLinked (with_neighbors (appended link_map q u) o (first_or ys None)) None (longer ++ ys) None) (last_or-append xs (q ∷ []) None) glued,
     ) in
-    subst (λ (zs : List ℕ). IsChain (inserted link_map q u (first_or ys None)) (linear zs)) (append_assoc xs (q ∷ []) ys) chain
+    subst (λ (zs : List ℕ). IsChain (with_insertion link_map q u (first_or ys None)) (linear zs)) (append_assoc xs (q ∷ []) ys) chain
   where
     apart : (k : ℕ) → IsMember xs k → IsMember ys k → ⊥
     apart k h g = AreDistinct-apart xs ys k once h g
@@ -83,17 +83,17 @@ inserted_between link_map q xs xs_after ys_before ys once none xs_stands ys_stan
 
 -- a new link after the end and before the start of a list
 pub inserted_round : (link_map : LinkMap) (q : ℕ) (before : Option ℕ) (xs : List ℕ) (after : Option ℕ) → xs ≢ [] → AreDistinct xs → (IsMember xs q → ⊥)
-    → AreLinked link_map before xs after → IsChain (inserted link_map q (last_or xs None) (first_or xs None)) (cyclic (xs ++ q ∷ []))
-inserted_round link_map q before [] after filled once none stands = absurd (filled refl)
-inserted_round link_map q before (x ∷ xs) after filled once none stands =
+    → AreLinked link_map before xs after → IsChain (with_insertion link_map q (last_or xs None) (first_or xs None)) (cyclic (xs ++ q ∷ []))
+inserted_round link_map q before [] after filled once none stored = absurd (filled refl)
+inserted_round link_map q before (x ∷ xs) after filled once none stored =
     let u = last_or xs (Some x) in
     let longer = x ∷ xs ++ q ∷ [] in
     let longer_once : AreDistinct longer = once_appended (x ∷ xs) q once none in
-    let ringed : AreLinked (linked (appended link_map q u) (last_or longer None) (Some x)) (last_or longer None) longer (Some x) =
-    AreLinked-ringed (appended link_map q u) before longer None longer_once (AreLinked-appended link_map q before (x ∷ xs) after refl once none stands) in (
+    let ringed : AreLinked (with_neighbors (appended link_map q u) (last_or longer None) (Some x)) (last_or longer None) longer (Some x) =
+    AreLinked-ringed (appended link_map q u) before longer None longer_once (AreLinked-appended link_map q before (x ∷ xs) after refl once none stored) in (
       IsMember-filled longer x (inl refl),
       longer_once,
-      subst (λ (o : Option ℕ). AreLinked (linked (appended link_map q u) o (Some x)) (last_or longer None) longer (Some x))
+      subst (λ (o : Option ℕ). AreLinked (with_neighbors (appended link_map q u) o (Some x)) (last_or longer None) longer (Some x))
           (last_or-append (x ∷ xs) (q ∷ []) None) ringed,
     )
 
@@ -103,16 +103,16 @@ chain_lacks_free link_map q c free chain h = free_invalid link_map q free (chain
 
 -- a new link between two parts of a linear chain
 inserted_in_linear : (link_map : LinkMap) (q : ℕ) (xs ys : List ℕ) → link_map q ≡ None → IsChain link_map (linear (xs ++ ys))
-    → IsChain (inserted link_map q (last_or xs None) (first_or ys None)) (linear (xs ++ q ∷ ys))
+    → IsChain (with_insertion link_map q (last_or xs None) (first_or ys None)) (linear (xs ++ q ∷ ys))
 inserted_in_linear link_map q xs ys free chain =
     inserted_between link_map q xs (first_or ys None) (last_or xs None) ys chain.1 (chain_lacks_free link_map q (linear (xs ++ ys)) free chain)
     (AreLinked-left link_map None xs ys None chain.2) (AreLinked-right link_map None xs ys None chain.2)
 
 -- a new link between two parts of a cyclic chain
 inserted_in_cyclic : (link_map : LinkMap) (q : ℕ) (xs ys : List ℕ) → link_map q ≡ None → IsChain link_map (cyclic (xs ++ ys))
-    → IsChain (inserted link_map q (last_or (ys ++ xs) None) (first_or (ys ++ xs) None)) (cyclic (xs ++ q ∷ ys))
+    → IsChain (with_insertion link_map q (last_or (ys ++ xs) None) (first_or (ys ++ xs) None)) (cyclic (xs ++ q ∷ ys))
 inserted_in_cyclic link_map q xs ys free chain =
-    let new = inserted link_map q (last_or (ys ++ xs) None) (first_or (ys ++ xs) None) in
+    let new = with_insertion link_map q (last_or (ys ++ xs) None) (first_or (ys ++ xs) None) in
     let ring : IsChain link_map (cyclic (ys ++ xs)) = turned link_map xs ys chain in
     let longer : IsChain new (cyclic ((ys ++ xs) ++ q ∷ [])) =
     inserted_round link_map q (last_or (ys ++ xs) None) (ys ++ xs) (first_or (ys ++ xs) None) ring.0 ring.1
@@ -123,50 +123,50 @@ inserted_in_cyclic link_map q xs ys free chain =
 
 -- insertion after an item of a linear chain
 inserted_after_in_linear : (link_map : LinkMap) (a q : ℕ) (x y : List ℕ) → link_map q ≡ None → IsChain link_map (linear (x ++ a ∷ y))
-    → IsChain (inserted link_map q (Some a) (next_of link_map a)) (linear (x ++ a ∷ q ∷ y))
+    → IsChain (with_insertion link_map q (Some a) (next_of link_map a)) (linear (x ++ a ∷ q ∷ y))
 inserted_after_in_linear link_map a q x y free chain =
     let split : IsChain link_map (linear ((x ++ a ∷ []) ++ y)) = subst (λ (zs : List ℕ). IsChain link_map (linear zs)) (sym (append_assoc x (a ∷ []) y)) chain in
     let ends : last_or (x ++ a ∷ []) None ≡ Some a = last_or-append x (a ∷ []) None in
-    let follows : first_or y None ≡ next_of link_map a = sym (shows_next link_map a _ _ (AreLinked-at link_map None x y None a chain.2)) in
-    subst (λ (zs : List ℕ). IsChain (inserted link_map q (Some a) (next_of link_map a)) (linear zs)) (append_assoc x (a ∷ []) (q ∷ y))
-    (subst₂ (λ (u v : Option ℕ). IsChain (inserted link_map q u v) (linear ((x ++ a ∷ []) ++ q ∷ y))) ends follows
+    let follows : first_or y None ≡ next_of link_map a = sym (reports_next link_map a _ _ (AreLinked-at link_map None x y None a chain.2)) in
+    subst (λ (zs : List ℕ). IsChain (with_insertion link_map q (Some a) (next_of link_map a)) (linear zs)) (append_assoc x (a ∷ []) (q ∷ y))
+    (subst₂ (λ (u v : Option ℕ). IsChain (with_insertion link_map q u v) (linear ((x ++ a ∷ []) ++ q ∷ y))) ends follows
     (inserted_in_linear link_map q (x ++ a ∷ []) y free split))
 
 -- insertion after an item of a cyclic chain
 inserted_after_in_cyclic : (link_map : LinkMap) (a q : ℕ) (x y : List ℕ) → link_map q ≡ None → IsChain link_map (cyclic (x ++ a ∷ y))
-    → IsChain (inserted link_map q (Some a) (next_of link_map a)) (cyclic (x ++ a ∷ q ∷ y))
+    → IsChain (with_insertion link_map q (Some a) (next_of link_map a)) (cyclic (x ++ a ∷ q ∷ y))
 inserted_after_in_cyclic link_map a q x y free chain =
-    let round = y ++ (x ++ a ∷ []) in
+    let once_around = y ++ (x ++ a ∷ []) in
     let split : IsChain link_map (cyclic ((x ++ a ∷ []) ++ y)) = subst (λ (zs : List ℕ). IsChain link_map (cyclic zs)) (sym (append_assoc x (a ∷ []) y)) chain in
-    let ring : IsChain link_map (cyclic round) = turned link_map (x ++ a ∷ []) y split in
-    let ends : last_or round None ≡ Some a = last_or-append y (x ++ a ∷ []) None ∙ last_or-append x (a ∷ []) (last_or y None) in
-    let follows : first_or round None ≡ next_of link_map a = sym (AreLinked-last link_map _ round _ a ring.2 ring.0 ends) in
-    subst (λ (zs : List ℕ). IsChain (inserted link_map q (Some a) (next_of link_map a)) (cyclic zs)) (append_assoc x (a ∷ []) (q ∷ y))
-    (subst₂ (λ (u v : Option ℕ). IsChain (inserted link_map q u v) (cyclic ((x ++ a ∷ []) ++ q ∷ y))) ends follows
+    let ring : IsChain link_map (cyclic once_around) = turned link_map (x ++ a ∷ []) y split in
+    let ends : last_or once_around None ≡ Some a = last_or-append y (x ++ a ∷ []) None ∙ last_or-append x (a ∷ []) (last_or y None) in
+    let follows : first_or once_around None ≡ next_of link_map a = sym (AreLinked-last link_map _ once_around _ a ring.2 ring.0 ends) in
+    subst (λ (zs : List ℕ). IsChain (with_insertion link_map q (Some a) (next_of link_map a)) (cyclic zs)) (append_assoc x (a ∷ []) (q ∷ y))
+    (subst₂ (λ (u v : Option ℕ). IsChain (with_insertion link_map q u v) (cyclic ((x ++ a ∷ []) ++ q ∷ y))) ends follows
     (inserted_in_cyclic link_map q (x ++ a ∷ []) y free split))
 
 -- insertion before an item of a linear chain
 inserted_before_in_linear : (link_map : LinkMap) (b q : ℕ) (x y : List ℕ) → link_map q ≡ None → IsChain link_map (linear (x ++ b ∷ y))
-    → IsChain (inserted link_map q (prev_of link_map b) (Some b)) (linear (x ++ q ∷ b ∷ y))
+    → IsChain (with_insertion link_map q (prev_of link_map b) (Some b)) (linear (x ++ q ∷ b ∷ y))
 inserted_before_in_linear link_map b q x y free chain =
-    let precedes : last_or x None ≡ prev_of link_map b = sym (shows_prev link_map b _ _ (AreLinked-at link_map None x y None b chain.2)) in
-    subst (λ (u : Option ℕ). IsChain (inserted link_map q u (Some b)) (linear (x ++ q ∷ b ∷ y))) precedes (inserted_in_linear link_map q x (b ∷ y) free chain)
+    let precedes : last_or x None ≡ prev_of link_map b = sym (reports_prev link_map b _ _ (AreLinked-at link_map None x y None b chain.2)) in
+    subst (λ (u : Option ℕ). IsChain (with_insertion link_map q u (Some b)) (linear (x ++ q ∷ b ∷ y))) precedes (inserted_in_linear link_map q x (b ∷ y) free chain)
 
 -- insertion before an item of a cyclic chain
 inserted_before_in_cyclic : (link_map : LinkMap) (b q : ℕ) (x y : List ℕ) → link_map q ≡ None → IsChain link_map (cyclic (x ++ b ∷ y))
-    → IsChain (inserted link_map q (prev_of link_map b) (Some b)) (cyclic (x ++ q ∷ b ∷ y))
+    → IsChain (with_insertion link_map q (prev_of link_map b) (Some b)) (cyclic (x ++ q ∷ b ∷ y))
 inserted_before_in_cyclic link_map b q x y free chain =
     let ring : IsChain link_map (cyclic (b ∷ y ++ x)) = turned link_map x (b ∷ y) chain in
-    let precedes : last_or (b ∷ y ++ x) None ≡ prev_of link_map b = sym (shows_prev link_map b _ _ ring.2.0) in
-    subst (λ (u : Option ℕ). IsChain (inserted link_map q u (Some b)) (cyclic (x ++ q ∷ b ∷ y))) precedes (inserted_in_cyclic link_map q x (b ∷ y) free chain)
+    let precedes : last_or (b ∷ y ++ x) None ≡ prev_of link_map b = sym (reports_prev link_map b _ _ ring.2.0) in
+    subst (λ (u : Option ℕ). IsChain (with_insertion link_map q u (Some b)) (cyclic (x ++ q ∷ b ∷ y))) precedes (inserted_in_cyclic link_map q x (b ∷ y) free chain)
 
 -- insertion between the end of a chain and the start of another
 inserted_two : (link_map : LinkMap) (a b q : ℕ) (x y : List ℕ) → link_map q ≡ None → IsChain link_map (linear (x ++ a ∷ [])) → IsChain link_map (linear (b ∷ y))
-    → (IsMember (x ++ a ∷ []) b → ⊥) → IsChain (inserted link_map q (Some a) (Some b)) (linear ((x ++ a ∷ q ∷ []) ++ b ∷ y))
+    → (IsMember (x ++ a ∷ []) b → ⊥) → IsChain (with_insertion link_map q (Some a) (Some b)) (linear ((x ++ a ∷ q ∷ []) ++ b ∷ y))
 inserted_two link_map a b q x y free left right none =
-    let longer : IsChain (inserted link_map q (last_or (x ++ a ∷ []) None) (Some b)) (linear ((x ++ a ∷ []) ++ q ∷ b ∷ y)) =
+    let longer : IsChain (with_insertion link_map q (last_or (x ++ a ∷ []) None) (Some b)) (linear ((x ++ a ∷ []) ++ q ∷ b ∷ y)) =
     inserted_between link_map q (x ++ a ∷ []) None None (b ∷ y) (AreDistinct-append (x ++ a ∷ []) (b ∷ y) left.1 right.1 apart) lacks left.2 right.2 in
-    subst₂ (λ (u : Option ℕ) (zs : List ℕ). IsChain (inserted link_map q u (Some b)) (linear zs)) (last_or-append x (a ∷ []) None) written longer
+    subst₂ (λ (u : Option ℕ) (zs : List ℕ). IsChain (with_insertion link_map q u (Some b)) (linear zs)) (last_or-append x (a ∷ []) None) written longer
   where
     apart : (k : ℕ) → IsMember (x ++ a ∷ []) k → IsMember (b ∷ y) k → ⊥
     apart k h g = none (reaches_first link_map (IsMember (x ++ a ∷ [])) None b y None k (chain_closed link_map (linear (x ++ a ∷ [])) left) right.2 g h)
@@ -182,13 +182,13 @@ inserted_two link_map a b q x y free left right none =
 
 -- insertion between the end and the start of the same chain
 inserted_one : (link_map : LinkMap) (a b q : ℕ) (xs : List ℕ) → link_map q ≡ None → IsChain link_map (linear xs)
-    → first_or xs None ≡ Some b → last_or xs None ≡ Some a → IsChain (inserted link_map q (Some a) (Some b)) (cyclic (xs ++ q ∷ []))
+    → first_or xs None ≡ Some b → last_or xs None ≡ Some a → IsChain (with_insertion link_map q (Some a) (Some b)) (cyclic (xs ++ q ∷ []))
 inserted_one link_map a b q xs free chain starts ends =
-    subst₂ (λ (u v : Option ℕ). IsChain (inserted link_map q u v) (cyclic (xs ++ q ∷ []))) ends starts
+    subst₂ (λ (u v : Option ℕ). IsChain (with_insertion link_map q u v) (cyclic (xs ++ q ∷ []))) ends starts
     (inserted_round link_map q None xs None chain.0 chain.1 (chain_lacks_free link_map q (linear xs) free chain) chain.2)
 
 -- a new link that names itself
-inserted_ring : (link_map : LinkMap) (q : ℕ) → IsChain (inserted link_map q (Some q) (Some q)) (cyclic (q ∷ []))
+inserted_ring : (link_map : LinkMap) (q : ℕ) → IsChain (with_insertion link_map q (Some q) (Some q)) (cyclic (q ∷ []))
 inserted_ring link_map q =
     let once : AreDistinct (q ∷ []) = (λ h. h, tt) in
     let closed : AreLinked (appended link_map q (Some q)) (Some q) (q ∷ []) (Some q) =
@@ -202,7 +202,7 @@ HasIndex-apart c (Some i) none k e h = IsOutside-Some i (items c) none k e h
 
 -- a chain with none of the indexes is unchanged
 inserted_rest : (link_map : LinkMap) (q : ℕ) (u v : Option ℕ) → link_map q ≡ None → (c : Chain)
-    → (IsMember (items c) q → ⊥) → (HasIndex c u → ⊥) → (HasIndex c v → ⊥) → IsChain link_map c ↔ IsChain (inserted link_map q u v) c
+    → (IsMember (items c) q → ⊥) → (HasIndex c u → ⊥) → (HasIndex c v → ⊥) → IsChain link_map c ↔ IsChain (with_insertion link_map q u v) c
 inserted_rest link_map q u v free c none_q none_u none_v =
     let alone = (with_lone_adds link_map q free).rest c none_q in
     let inner = IsChain-linked (with_lone link_map q) u (Some q) c (HasIndex-apart c u none_u) (IsOutside-Some q (items c) none_q) in
@@ -229,5 +229,5 @@ inserted_inserts link_map q u v free =
       links = HasLink-inserted link_map q u v;
     }
   where
-    moved : {s t : Option ℕ} → u ≡ s → v ≡ t → (c : Chain) → IsChain (inserted link_map q s t) c → IsChain (inserted link_map q u v) c
-    moved at_u at_v c chain = subst₂ (λ (s t : Option ℕ). IsChain (inserted link_map q s t) c) (sym at_u) (sym at_v) chain
+    moved : {s t : Option ℕ} → u ≡ s → v ≡ t → (c : Chain) → IsChain (with_insertion link_map q s t) c → IsChain (with_insertion link_map q u v) c
+    moved at_u at_v c chain = subst₂ (λ (s t : Option ℕ). IsChain (with_insertion link_map q s t) c) (sym at_u) (sym at_v) chain

@@ -2,12 +2,12 @@
 use Rattle.std.specs.Prelude.{◌≡◌, ℕ, ◌⊎◌, List, [], ◌∷◌, ◌++◌, Option, None, Some}
 use Rattle.std.proofs.Common.{sym, refl, ap, ◌∙◌, subst, inl, inr, ⊎_elim}
 use Rattle.chain_laws.specs.Chains.{LinkMap, Chain, linear, cyclic, items, IsChain, HasLinksWithin, IsWellLinked, IsMember, prev_of, next_of, first_or}
-use Rattle.chain_laws.specs.Insertions.{inserted, IsInsertPosition, HasIndex, Inserts, InsertionIsDetermined}
+use Rattle.chain_laws.specs.Insertions.{with_insertion, IsInsertPosition, HasIndex, Inserts, InsertionIsDetermined}
 use Rattle.chain_laws.proofs.InterlinkLemmas.Inverses.{one_some}
 use Rattle.chain_laws.proofs.ListLemmas.Members.{IsMember-left, IsMember-right, IsMember-middle, IsMember-written, IsMember-or_not, last_or-append}
 use Rattle.chain_laws.proofs.ChainLemmas.LinkedLists.{prev_valid}
 use Rattle.chain_laws.proofs.ChainLemmas.Uniqueness.{chain_closed, one_linear}
-use Rattle.chain_laws.proofs.ChainLemmas.Existence.{ChainOf, stands_in, has_chain}
+use Rattle.chain_laws.proofs.ChainLemmas.Existence.{ChainOf, stored_in, has_chain}
 use Rattle.chain_laws.proofs.ChainLemmas.Determinacy.{chain_elsewhere, end_chain, start_chain}
 use Rattle.chain_laws.proofs.InsertionLemmas.Chains.{inserted_inserts}
 
@@ -17,7 +17,7 @@ record Lengthened (old : LinkMap) (q : ℕ) (u v : Option ℕ) : Type 0 where
   has_new : IsMember (items chain) q
   has_before : (i : ℕ) → u ≡ Some i → IsMember (items chain) i
   has_after : (i : ℕ) → v ≡ Some i → IsMember (items chain) i
-  stands : (new : LinkMap) → Inserts old new q u v → IsChain new chain
+  stored : (new : LinkMap) → Inserts old new q u v → IsChain new chain
 
 -- a member, as an optional index
 IsMember-Some : (xs : List ℕ) (a i : ℕ) → IsMember xs a → Some a ≡ Some i → IsMember xs i
@@ -37,7 +37,7 @@ lengthened_end old a q end x chain =
       has_new = IsMember-right x (a ∷ q ∷ []) q (inr (inl refl));
       has_before = λ i e. IsMember-Some (x ++ a ∷ q ∷ []) a i (IsMember-middle x (q ∷ []) a) e;
       has_after = λ i e. absurd (cc);
-      stands = λ new inserts. (inserts.after a refl (sym end) x []).0 chain;
+      stored = λ new inserts. (inserts.after a refl (sym end) x []).0 chain;
     }
 
 -- insertion before a start
@@ -48,32 +48,32 @@ lengthened_start old b q start y chain =
       has_new = inl refl;
       has_before = λ i e. absurd (cc);
       has_after = λ i e. IsMember-Some (q ∷ b ∷ y) b i (inr (inl refl)) e;
-      stands = λ new inserts. (inserts.before b refl (sym start) [] y).0 chain;
+      stored = λ new inserts. (inserts.before b refl (sym start) [] y).0 chain;
     }
 
 -- insertion between neighbors of one list
 lengthened_list : (old : LinkMap) (a b q : ℕ) (x y : List ℕ) → IsMember (x ++ b ∷ y) a → (c : Chain) → items c ≡ x ++ q ∷ b ∷ y
     → ((new : LinkMap) → Inserts old new q (Some a) (Some b) → IsChain new c) → Lengthened old q (Some a) (Some b)
-lengthened_list old a b q x y has_a c same stands =
+lengthened_list old a b q x y has_a c same stored =
     let has : (k : ℕ) → IsMember (x ++ q ∷ b ∷ y) k → IsMember (items c) k = λ k h. subst (λ (zs : List ℕ). IsMember zs k) (sym same) h in
     record {
       chain = c;
       has_new = has q (IsMember-middle x (b ∷ y) q);
       has_before = λ i e. IsMember-Some (items c) a i (has a (IsMember-inserted x (b ∷ y) q a has_a)) e;
       has_after = λ i e. IsMember-Some (items c) b i (has b (IsMember-right x (q ∷ b ∷ y) b (inr (inl refl)))) e;
-      stands = stands;
+      stored = stored;
     }
 
 -- insertion between neighbors
 lengthened_pair : (old : LinkMap) (a b q : ℕ) → prev_of old b ≡ Some a → ChainOf old b → Lengthened old q (Some a) (Some b)
-lengthened_pair old a b q before (stands_in (linear xs) chain has) = let w = IsMember-written xs b has in by w.0 w.1 w.2
+lengthened_pair old a b q before (stored_in (linear xs) chain has) = let w = IsMember-written xs b has in by w.0 w.1 w.2
   where
     by : (x y : List ℕ) → xs ≡ x ++ b ∷ y → Lengthened old q (Some a) (Some b)
     by x y e =
         let here : IsChain old (linear (x ++ b ∷ y)) = subst (λ (zs : List ℕ). IsChain old (linear zs)) e chain in
         let has_a : IsMember (x ++ b ∷ y) a = (chain_closed old (linear (x ++ b ∷ y)) here).back b a (IsMember-middle x y b) before in
         lengthened_list old a b q x y has_a (linear (x ++ q ∷ b ∷ y)) refl (λ new inserts. (inserts.before b refl (sym before) x y).0 here)
-lengthened_pair old a b q before (stands_in (cyclic xs) chain has) = let w = IsMember-written xs b has in by w.0 w.1 w.2
+lengthened_pair old a b q before (stored_in (cyclic xs) chain has) = let w = IsMember-written xs b has in by w.0 w.1 w.2
   where
     by : (x y : List ℕ) → xs ≡ x ++ b ∷ y → Lengthened old q (Some a) (Some b)
     by x y e =
@@ -96,7 +96,7 @@ lengthened_bridge old a b q x y left right = by (IsMember-or_not (x ++ a ∷ [])
           has_new = IsMember-middle xs [] q;
           has_before = λ i e. IsMember-Some (xs ++ q ∷ []) a i (IsMember-left xs (q ∷ []) a (IsMember-middle x [] a)) e;
           has_after = λ i e. IsMember-Some (xs ++ q ∷ []) b i (IsMember-left xs (q ∷ []) b h) e;
-          stands = λ new inserts. inserts.one a b refl refl xs left starts (last_or-append x (a ∷ []) None);
+          stored = λ new inserts. inserts.one a b refl refl xs left starts (last_or-append x (a ∷ []) None);
         }
     by (inr none) =
         let xs = x ++ a ∷ q ∷ [] in
@@ -105,25 +105,25 @@ lengthened_bridge old a b q x y left right = by (IsMember-or_not (x ++ a ∷ [])
           has_new = IsMember-left xs (b ∷ y) q (IsMember-right x (a ∷ q ∷ []) q (inr (inl refl)));
           has_before = λ i e. IsMember-Some (xs ++ b ∷ y) a i (IsMember-left xs (b ∷ y) a (IsMember-middle x (q ∷ []) a)) e;
           has_after = λ i e. IsMember-Some (xs ++ b ∷ y) b i (IsMember-middle xs y b) e;
-          stands = λ new inserts. inserts.two a b refl refl x y left right none;
+          stored = λ new inserts. inserts.two a b refl refl x y left right none;
         }
 
 -- insertion in any position
 lengthened : (old : LinkMap) (slots q : ℕ) (u v : Option ℕ) → IsWellLinked old → HasLinksWithin old slots → IsInsertPosition old q u v → Lengthened old q u v
-lengthened old slots q None None agrees within gap =
+lengthened old slots q None None agrees within position =
     record {
       chain = linear (q ∷ []);
       has_new = inl refl;
       has_before = λ i e. absurd (cc);
       has_after = λ i e. absurd (cc);
-      stands = λ new inserts. inserts.alone refl refl;
+      stored = λ new inserts. inserts.alone refl refl;
     }
-lengthened old slots q (Some a) None agrees within gap =
-    let x = end_chain old a (has_chain old slots agrees within a gap.0) gap.1 in
-    lengthened_end old a q gap.1 x.0 x.1
-lengthened old slots q None (Some b) agrees within gap =
-    let y = start_chain old b (has_chain old slots agrees within b gap.0) gap.1 in
-    lengthened_start old b q gap.1 y.0 y.1
+lengthened old slots q (Some a) None agrees within position =
+    let x = end_chain old a (has_chain old slots agrees within a position.0) position.1 in
+    lengthened_end old a q position.1 x.0 x.1
+lengthened old slots q None (Some b) agrees within position =
+    let y = start_chain old b (has_chain old slots agrees within b position.0) position.1 in
+    lengthened_start old b q position.1 y.0 y.1
 lengthened old slots q (Some a) (Some b) agrees within (inl pair) =
     let before : prev_of old b ≡ Some a = (agrees.both a b).0 pair in
     lengthened_pair old a b q before (has_chain old slots agrees within b (prev_valid old b a before))
@@ -137,7 +137,7 @@ lengthened old slots q (Some a) (Some b) agrees within (inr (inr ring)) =
       has_new = inl refl;
       has_before = λ i e. inl (sym ring.0 ∙ one_some e);
       has_after = λ i e. inl (sym ring.1 ∙ one_some e);
-      stands = λ new inserts. inserts.ring (ap Some ring.0) (ap Some ring.1);
+      stored = λ new inserts. inserts.ring (ap Some ring.0) (ap Some ring.1);
     }
 
 -- a chain has an optional index or not
@@ -151,7 +151,7 @@ inserted_alike : (old left right : LinkMap) (q : ℕ) (u v : Option ℕ) → Len
 inserted_alike old left right q u v longer l r c chain = by (IsMember-or_not (items c) q) (HasIndex-or_not c u) (HasIndex-or_not c v)
   where
     shared : (i : ℕ) → IsMember (items c) i → IsMember (items longer.chain) i → IsChain right c
-    shared i h k = chain_elsewhere left right c longer.chain i chain (longer.stands left l) (longer.stands right r) h k
+    shared i h k = chain_elsewhere left right c longer.chain i chain (longer.stored left l) (longer.stored right r) h k
 
     by : IsMember (items c) q ⊎ (IsMember (items c) q → ⊥) → ((i : ℕ) × (u ≡ Some i) × IsMember (items c) i) ⊎ (HasIndex c u → ⊥)
         → ((i : ℕ) × (v ≡ Some i) × IsMember (items c) i) ⊎ (HasIndex c v → ⊥) → IsChain right c
@@ -162,9 +162,9 @@ inserted_alike old left right q u v longer l r c chain = by (IsMember-or_not (it
 
 -- any insertion has the chains of `inserted`
 pub insertion_is_determined : InsertionIsDetermined
-insertion_is_determined old new slots q u v agrees within free gap inserts c =
-    let longer = lengthened old slots q u v agrees within gap in
+insertion_is_determined old new slots q u v agrees within free position inserts c =
+    let longer = lengthened old slots q u v agrees within position in
     let that = inserted_inserts old q u v free in (
-      inserted_alike old new (inserted old q u v) q u v longer inserts that c,
-      inserted_alike old (inserted old q u v) new q u v longer that inserts c,
+      inserted_alike old new (with_insertion old q u v) q u v longer inserts that c,
+      inserted_alike old (with_insertion old q u v) new q u v longer that inserts c,
     )

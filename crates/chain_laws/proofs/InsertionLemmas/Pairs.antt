@@ -2,9 +2,9 @@
 use Rattle.std.specs.Prelude.{◌≡◌, ◌≢◌, ◌↔◌, ℕ, ◌⊎◌, Option, None, Some}
 use Rattle.std.proofs.Common.{sym, refl, ap, ◌∙◌, inl, inr, ⊎_elim}
 use Rattle.chain_laws.specs.Chains.{LinkMap, HasLink, IsWellLinked, prev_in, next_in, prev_of, next_of}
-use Rattle.chain_laws.specs.Joins.{linked, with_lone}
+use Rattle.chain_laws.specs.Joins.{with_neighbors, with_lone}
 use Rattle.chain_laws.specs.Insertions.{disconnected, single_link_cyclic, chain_end, chain_start, next_to, prev_to, at_interlink, bridge}
-use Rattle.chain_laws.specs.Insertions.{inserted, IsInsertPosition, KindGivesAPosition, InsertionAgrees, InsertionInPairs, InsertionIsDeterminedByPairs}
+use Rattle.chain_laws.specs.Insertions.{with_insertion, IsInsertPosition, KindGivesAPosition, InsertionAgrees, InsertionInPairs, InsertionIsDeterminedByPairs}
 use Rattle.chain_laws.proofs.InterlinkLemmas.Inverses.{altered, altered-same, altered-other, one_some, not_both_ways}
 use Rattle.chain_laws.proofs.ChainLemmas.LinkedLists.{next_valid, prev_valid}
 use Rattle.chain_laws.proofs.InterlinkLemmas.Linked.{IsValidAt, IsValidAt-Some, put_at, next_of-linked, prev_of-linked, HasLink-linked}
@@ -25,11 +25,11 @@ put_at-other f (Some i) o j ne = altered-other f i o j (λ e. ne (ap Some (sym e
 
 -- a free index is not valid
 pub free_invalid : (link_map : LinkMap) (q : ℕ) → link_map q ≡ None → HasLink link_map q → ⊥
-free_invalid link_map q free valid = let shows = sym free ∙ valid.shows in cc
+free_invalid link_map q free valid = let reports = sym free ∙ valid.reports in cc
 
 -- a new link at q comes after u
 abbrev pub appended : LinkMap → ℕ → Option ℕ → LinkMap
-appended link_map q u = linked (with_lone link_map q) u (Some q)
+appended link_map q u = with_neighbors (with_lone link_map q) u (Some q)
 
 -- q is the only index that becomes valid
 pub HasLink-appended : (link_map : LinkMap) (q : ℕ) (u : Option ℕ) (i : ℕ) → HasLink (appended link_map q u) i ↔ (HasLink link_map i ⊎ (i ≡ q))
@@ -39,7 +39,7 @@ HasLink-appended link_map q u i =
     (λ v. inner.0 (outer.0 v), λ v. outer.1 (inner.1 v))
 
 -- the valid indexes once q comes before v
-pub HasLink-inserted : (link_map : LinkMap) (q : ℕ) (u v : Option ℕ) (i : ℕ) → HasLink (inserted link_map q u v) i ↔ (HasLink link_map i ⊎ (i ≡ q))
+pub HasLink-inserted : (link_map : LinkMap) (q : ℕ) (u v : Option ℕ) (i : ℕ) → HasLink (with_insertion link_map q u v) i ↔ (HasLink link_map i ⊎ (i ≡ q))
 HasLink-inserted link_map q u v i =
     let outer = HasLink-linked (appended link_map q u) (Some q) v i in
     let inner = HasLink-appended link_map q u i in
@@ -54,7 +54,7 @@ pub record IsBetween (link_map : LinkMap) (q : ℕ) (u v : Option ℕ) : Type 0 
 
 -- `next` after the insertion puts q between u and v
 pub next_puts : (link_map : LinkMap) (q : ℕ) (u v : Option ℕ) → link_map q ≡ None → IsBetween link_map q u v
-    → Puts (next_of link_map) (next_of (inserted link_map q u v)) q u v
+    → Puts (next_of link_map) (next_of (with_insertion link_map q u v)) q u v
 next_puts link_map q u v free between =
     record {
       here = outer q ∙ altered-same (next_of (appended link_map q u)) q v q refl;
@@ -64,7 +64,7 @@ next_puts link_map q u v free between =
           ∙ put_at-other (next_of (with_lone link_map q)) u (Some q) j not_u ∙ next_of-with_lone link_map q free j;
     }
   where
-    outer : (j : ℕ) → next_of (inserted link_map q u v) j ≡ altered (next_of (appended link_map q u)) q v j
+    outer : (j : ℕ) → next_of (with_insertion link_map q u v) j ≡ altered (next_of (appended link_map q u)) q v j
     outer j = next_of-linked (appended link_map q u) (Some q) v j (IsValidAt-Some (appended link_map q u) q ((HasLink-appended link_map q u q).1 (inr refl)))
 
     inner : (j : ℕ) → next_of (appended link_map q u) j ≡ put_at (next_of (with_lone link_map q)) u (Some q) j
@@ -72,7 +72,7 @@ next_puts link_map q u v free between =
 
 -- `prev` after the insertion puts q between v and u
 pub prev_puts : (link_map : LinkMap) (q : ℕ) (u v : Option ℕ) → link_map q ≡ None → IsBetween link_map q u v
-    → Puts (prev_of link_map) (prev_of (inserted link_map q u v)) q v u
+    → Puts (prev_of link_map) (prev_of (with_insertion link_map q u v)) q v u
 prev_puts link_map q u v free between =
     record {
       here = outer q ∙ ⊎_elim
@@ -84,17 +84,17 @@ prev_puts link_map q u v free between =
           ∙ altered-other (prev_of (with_lone link_map q)) q u j ne ∙ prev_of-with_lone link_map q free j;
     }
   where
-    outer : (j : ℕ) → prev_of (inserted link_map q u v) j ≡ put_at (prev_of (appended link_map q u)) v (Some q) j
+    outer : (j : ℕ) → prev_of (with_insertion link_map q u v) j ≡ put_at (prev_of (appended link_map q u)) v (Some q) j
     outer j = prev_of-linked (appended link_map q u) (Some q) v j (λ i e. (HasLink-appended link_map q u i).1 (between.valid_after i e))
 
     inner : (j : ℕ) → prev_of (appended link_map q u) j ≡ altered (prev_of (with_lone link_map q)) q u j
     inner j = prev_of-linked (with_lone link_map q) u (Some q) j (IsValidAt-Some (with_lone link_map q) q ((HasLink-with_lone link_map q q).1 (inr refl)))
 
 -- q may be put between valid u and v that name at most each other
-room_between : (link_map : LinkMap) (q : ℕ) (u v : Option ℕ) → link_map q ≡ None → IsValidAt link_map u → IsValidAt link_map v
+capacity_between : (link_map : LinkMap) (q : ℕ) (u v : Option ℕ) → link_map q ≡ None → IsValidAt link_map u → IsValidAt link_map v
     → ((i j : ℕ) → u ≡ Some i → next_of link_map i ≡ Some j → v ≡ Some j)
     → ((i j : ℕ) → v ≡ Some i → prev_of link_map i ≡ Some j → u ≡ Some j) → IsBetween link_map q u v
-room_between link_map q u v free valid_u valid_v after before =
+capacity_between link_map q u v free valid_u valid_v after before =
     record {
       valid_before = λ i e. inl (valid_u i e);
       valid_after = λ i e. inl (valid_v i e);
@@ -103,35 +103,35 @@ room_between link_map q u v free valid_u valid_v after before =
     }
 
 -- q may be put in an insertion position
-pub gap_between : (link_map : LinkMap) (q : ℕ) (u v : Option ℕ) → IsWellLinked link_map → link_map q ≡ None → IsInsertPosition link_map q u v → IsBetween link_map q u v
-gap_between link_map q None None agrees free gap =
-    room_between link_map q None None free (λ i e. absurd (cc)) (λ i e. absurd (cc)) (λ i j e n. absurd (cc)) (λ i j e p. absurd (cc))
-gap_between link_map q (Some a) None agrees free gap =
-    room_between link_map q (Some a) None free
-    (IsValidAt-Some link_map a gap.0)
+pub position_between : (link_map : LinkMap) (q : ℕ) (u v : Option ℕ) → IsWellLinked link_map → link_map q ≡ None → IsInsertPosition link_map q u v → IsBetween link_map q u v
+position_between link_map q None None agrees free position =
+    capacity_between link_map q None None free (λ i e. absurd (cc)) (λ i e. absurd (cc)) (λ i j e n. absurd (cc)) (λ i j e p. absurd (cc))
+position_between link_map q (Some a) None agrees free position =
+    capacity_between link_map q (Some a) None free
+    (IsValidAt-Some link_map a position.0)
     (λ i e. absurd (cc))
-    (λ i j e n. absurd (not_both_ways (next_of link_map a) j gap.1 (ap (next_of link_map) (one_some e) ∙ n)))
+    (λ i j e n. absurd (not_both_ways (next_of link_map a) j position.1 (ap (next_of link_map) (one_some e) ∙ n)))
     (λ i j e p. absurd (cc))
-gap_between link_map q None (Some b) agrees free gap =
-    room_between link_map q None (Some b) free
+position_between link_map q None (Some b) agrees free position =
+    capacity_between link_map q None (Some b) free
     (λ i e. absurd (cc))
-    (IsValidAt-Some link_map b gap.0)
+    (IsValidAt-Some link_map b position.0)
     (λ i j e n. absurd (cc))
-    (λ i j e p. absurd (not_both_ways (prev_of link_map b) j gap.1 (ap (prev_of link_map) (one_some e) ∙ p)))
-gap_between link_map q (Some a) (Some b) agrees free (inl pair) =
+    (λ i j e p. absurd (not_both_ways (prev_of link_map b) j position.1 (ap (prev_of link_map) (one_some e) ∙ p)))
+position_between link_map q (Some a) (Some b) agrees free (inl pair) =
     let back = (agrees.both a b).0 pair in
-    room_between link_map q (Some a) (Some b) free
+    capacity_between link_map q (Some a) (Some b) free
     (IsValidAt-Some link_map a (next_valid link_map a b pair))
     (IsValidAt-Some link_map b (prev_valid link_map b a back))
     (λ i j e n. sym pair ∙ ap (next_of link_map) (one_some e) ∙ n)
     (λ i j e p. sym back ∙ ap (prev_of link_map) (one_some e) ∙ p)
-gap_between link_map q (Some a) (Some b) agrees free (inr (inl ends)) =
-    room_between link_map q (Some a) (Some b) free
+position_between link_map q (Some a) (Some b) agrees free (inr (inl ends)) =
+    capacity_between link_map q (Some a) (Some b) free
     (IsValidAt-Some link_map a ends.valid_end)
     (IsValidAt-Some link_map b ends.valid_start)
     (λ i j e n. absurd (not_both_ways (next_of link_map a) j ends.end (ap (next_of link_map) (one_some e) ∙ n)))
     (λ i j e p. absurd (not_both_ways (prev_of link_map b) j ends.start (ap (prev_of link_map) (one_some e) ∙ p)))
-gap_between link_map q (Some a) (Some b) agrees free (inr (inr ring)) =
+position_between link_map q (Some a) (Some b) agrees free (inr (inr ring)) =
     record {
       valid_before = λ i e. inr (sym (one_some e) ∙ ring.0);
       valid_after = λ i e. inr (sym (one_some e) ∙ ring.1);
@@ -149,46 +149,46 @@ gap_between link_map q (Some a) (Some b) agrees free (inr (inr ring)) =
 
 -- an insertion keeps the interlinks consistent
 pub inserted_agrees : InsertionAgrees
-inserted_agrees link_map q u v agrees free gap =
-    let between = gap_between link_map q u v agrees free gap in
+inserted_agrees link_map q u v agrees free position =
+    let between = position_between link_map q u v agrees free position in
     record {
-      both = puts_undo (next_of link_map) (prev_of link_map) (next_of (inserted link_map q u v)) (prev_of (inserted link_map q u v)) q u v
+      both = puts_undo (next_of link_map) (prev_of link_map) (next_of (with_insertion link_map q u v)) (prev_of (with_insertion link_map q u v)) q u v
           agrees.both between.forth between.back (next_puts link_map q u v free between) (prev_puts link_map q u v free between);
     }
 
 -- the pairs and links after an insertion
 pub inserted_in_pairs : InsertionInPairs
-inserted_in_pairs link_map q u v agrees free gap =
-    let between = gap_between link_map q u v agrees free gap in
+inserted_in_pairs link_map q u v agrees free position =
+    let between = position_between link_map q u v agrees free position in
     record {
-      pairs = puts_pairs (next_of link_map) (next_of (inserted link_map q u v)) q u v between.forth (next_puts link_map q u v free between);
+      pairs = puts_pairs (next_of link_map) (next_of (with_insertion link_map q u v)) q u v between.forth (next_puts link_map q u v free between);
       links = HasLink-inserted link_map q u v;
     }
 
 -- a consistent insertion is determined by its pairs
 pub insertion_is_determined_by_pairs : InsertionIsDeterminedByPairs
-insertion_is_determined_by_pairs old new q u v agrees agrees_new free gap inserts =
-    let that = inserted_in_pairs old q u v agrees free gap in
-    pairs_decide new (inserted old q u v) agrees_new (inserted_agrees old q u v agrees free gap)
+insertion_is_determined_by_pairs old new q u v agrees agrees_new free position inserts =
+    let that = inserted_in_pairs old q u v agrees free position in
+    pairs_decide new (with_insertion old q u v) agrees_new (inserted_agrees old q u v agrees free position)
     (λ i. (λ w. (that.links i).1 ((inserts.links i).0 w), λ w. (inserts.links i).1 ((that.links i).0 w)))
     (λ i j. (λ e. (that.pairs i j).1 ((inserts.pairs i j).0 e), λ e. (inserts.pairs i j).1 ((that.pairs i j).0 e)))
 
 -- positions after a link and before a link
-pub gap_after : (link_map : LinkMap) (a q : ℕ) (v : Option ℕ) → HasLink link_map a → next_of link_map a ≡ v → IsInsertPosition link_map q (Some a) v
-gap_after link_map a q None valid is = (valid, is)
-gap_after link_map a q (Some b) valid is = inl is
+pub position_after : (link_map : LinkMap) (a q : ℕ) (v : Option ℕ) → HasLink link_map a → next_of link_map a ≡ v → IsInsertPosition link_map q (Some a) v
+position_after link_map a q None valid is = (valid, is)
+position_after link_map a q (Some b) valid is = inl is
 
-pub gap_before : (link_map : LinkMap) (b q : ℕ) (u : Option ℕ) → IsWellLinked link_map → HasLink link_map b → prev_of link_map b ≡ u → IsInsertPosition link_map q u (Some b)
-gap_before link_map b q None agrees valid is = (valid, is)
-gap_before link_map b q (Some a) agrees valid is = inl ((agrees.both a b).1 is)
+pub position_before : (link_map : LinkMap) (b q : ℕ) (u : Option ℕ) → IsWellLinked link_map → HasLink link_map b → prev_of link_map b ≡ u → IsInsertPosition link_map q u (Some b)
+position_before link_map b q None agrees valid is = (valid, is)
+position_before link_map b q (Some a) agrees valid is = inl ((agrees.both a b).1 is)
 
 -- the conditions of a kind give an insertion position
-pub kind_gap : KindGivesAPosition
-kind_gap link_map disconnected q agrees can = tt
-kind_gap link_map single_link_cyclic q agrees can = inr (inr (refl, refl))
-kind_gap link_map (chain_end a) q agrees can = can
-kind_gap link_map (chain_start b) q agrees can = can
-kind_gap link_map (next_to a) q agrees can = gap_after link_map a q (next_of link_map a) can refl
-kind_gap link_map (prev_to b) q agrees can = gap_before link_map b q (prev_of link_map b) agrees can refl
-kind_gap link_map (at_interlink a b) q agrees can = inl can.2
-kind_gap link_map (bridge a b) q agrees can = inr (inl can)
+pub kind_position : KindGivesAPosition
+kind_position link_map disconnected q agrees can = tt
+kind_position link_map single_link_cyclic q agrees can = inr (inr (refl, refl))
+kind_position link_map (chain_end a) q agrees can = can
+kind_position link_map (chain_start b) q agrees can = can
+kind_position link_map (next_to a) q agrees can = position_after link_map a q (next_of link_map a) can refl
+kind_position link_map (prev_to b) q agrees can = position_before link_map b q (prev_of link_map b) agrees can refl
+kind_position link_map (at_interlink a b) q agrees can = inl can.2
+kind_position link_map (bridge a b) q agrees can = inr (inl can)

@@ -7,9 +7,9 @@ use Rattle.chain_laws.specs.Joins.{AreEndAndStart}
 use Rattle.chain_laws.specs.Insertions.{IsInsertPosition}
 
 -- double negations of `HasLink` and of `None` can be removed
-stands_had : (link_map : LinkMap) (i : ℕ) (link : Option Interlinks) → link_map i ≡ link → ((HasLink link_map i → ⊥) → ⊥) → HasLink link_map i
-stands_had link_map i None none some = absurd (some (λ v. let no = sym none ∙ v.shows in cc))
-stands_had link_map i (Some l) is some = record { link = l; shows = is }
+stored_had : (link_map : LinkMap) (i : ℕ) (link : Option Interlinks) → link_map i ≡ link → ((HasLink link_map i → ⊥) → ⊥) → HasLink link_map i
+stored_had link_map i None none some = absurd (some (λ v. let no = sym none ∙ v.reports in cc))
+stored_had link_map i (Some l) is some = record { link = l; reports = is }
 
 none_had : (o p : Option ℕ) → o ≡ p → ((o ≡ None → ⊥) → ⊥) → o ≡ None
 none_had o None is none = is
@@ -18,7 +18,7 @@ none_had o (Some n) is none = absurd (none (λ no. let both = sym is ∙ no in c
 module _ (link_map : LinkMap) (q a b : ℕ) (h : (IsInsertPosition link_map q (Some a) (Some b) → ⊥) → ⊥) where
   -- neither neighbors nor the new link: an end and a start
   only_ends : next_of link_map a ≡ None → ((a ≡ q) × (b ≡ q) → ⊥) → (AreEndAndStart link_map a b → ⊥) → ⊥
-  only_ends none other not = h (λ gap. elim gap [
+  only_ends none other not = h (λ position. elim position [
     | inl pair ↦ (let both = sym none ∙ pair in cc)
     | inr (inl ends) ↦ not ends
     | inr (inr new) ↦ other new
@@ -26,8 +26,8 @@ module _ (link_map : LinkMap) (q a b : ℕ) (h : (IsInsertPosition link_map q (S
 
   ends_had : next_of link_map a ≡ None → ((a ≡ q) × (b ≡ q) → ⊥) → AreEndAndStart link_map a b
   ends_had none other = record {
-    valid_end = stands_had link_map a (link_map a) refl (λ no. only_ends none other (λ e. no e.valid_end));
-    valid_start = stands_had link_map b (link_map b) refl (λ no. only_ends none other (λ e. no e.valid_start));
+    valid_end = stored_had link_map a (link_map a) refl (λ no. only_ends none other (λ e. no e.valid_end));
+    valid_start = stored_had link_map b (link_map b) refl (λ no. only_ends none other (λ e. no e.valid_start));
     end = none;
     start = none_had (prev_of link_map b) (prev_of link_map b) refl (λ no. only_ends none other (λ e. no e.start));
   }
@@ -40,12 +40,12 @@ module _ (link_map : LinkMap) (q a b : ℕ) (h : (IsInsertPosition link_map q (S
   by_equal : (n : ℕ) → next_of link_map a ≡ Some n → Dec (n ≡ b) → Dec (a ≡ q) → Dec (b ≡ q) → IsInsertPosition link_map q (Some a) (Some b)
   by_equal n is (yes same) first second = inl (is ∙ ap (λ (m : ℕ). Some m) same)
   by_equal n is (no other) (yes first) (yes second) = inr (inr (first, second))
-  by_equal n is (no other) (no past) second = absurd (h (λ gap. elim gap [
+  by_equal n is (no other) (no past) second = absurd (h (λ position. elim position [
     | inl pair ↦ other (let both = sym is ∙ pair in cc)
     | inr (inl ends) ↦ (let both = sym is ∙ ends.end in cc)
     | inr (inr new) ↦ past new.0
   ]))
-  by_equal n is (no other) (yes first) (no past) = absurd (h (λ gap. elim gap [
+  by_equal n is (no other) (yes first) (no past) = absurd (h (λ position. elim position [
     | inl pair ↦ other (let both = sym is ∙ pair in cc)
     | inr (inl ends) ↦ (let both = sym is ∙ ends.end in cc)
     | inr (inr new) ↦ past new.1
@@ -58,10 +58,10 @@ module _ (link_map : LinkMap) (q a b : ℕ) (h : (IsInsertPosition link_map q (S
 by_links : (link_map : LinkMap) (q : ℕ) (u v : Option ℕ) → ((IsInsertPosition link_map q u v → ⊥) → ⊥) → IsInsertPosition link_map q u v
 by_links link_map q None None h = tt
 by_links link_map q (Some a) None h =
-    (stands_had link_map a (link_map a) refl (λ no. h (λ gap. no gap.0)), none_had (next_of link_map a) (next_of link_map a) refl (λ no. h (λ gap. no gap.1)))
+    (stored_had link_map a (link_map a) refl (λ no. h (λ position. no position.0)), none_had (next_of link_map a) (next_of link_map a) refl (λ no. h (λ position. no position.1)))
 by_links link_map q None (Some b) h =
-    (stands_had link_map b (link_map b) refl (λ no. h (λ gap. no gap.0)), none_had (prev_of link_map b) (prev_of link_map b) refl (λ no. h (λ gap. no gap.1)))
+    (stored_had link_map b (link_map b) refl (λ no. h (λ position. no position.0)), none_had (prev_of link_map b) (prev_of link_map b) refl (λ no. h (λ position. no position.1)))
 by_links link_map q (Some a) (Some b) h = by_next link_map q a b h (next_of link_map a) refl
 
-pub gap_had : (link_map : LinkMap) (q : ℕ) (u v : Option ℕ) → ∥ IsInsertPosition link_map q u v ∥₁ → IsInsertPosition link_map q u v
-gap_had link_map q u v h = by_links link_map q u v (λ not_one. ∥∥₁_elim h (λ x y. absurd x) not_one)
+pub position_had : (link_map : LinkMap) (q : ℕ) (u v : Option ℕ) → ∥ IsInsertPosition link_map q u v ∥₁ → IsInsertPosition link_map q u v
+position_had link_map q u v h = by_links link_map q u v (λ not_one. ∥∥₁_elim h (λ x y. absurd x) not_one)

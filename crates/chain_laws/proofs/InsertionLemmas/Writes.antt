@@ -5,8 +5,8 @@ use Rattle.std.proofs.Common.{refl, sym, ap, ◌∙◌}
 use mathlib.Core.Path.{fun_ext}
 use Rattle.std.proofs.lemmas.Bool.{eqb-true}
 use Rattle.chain_laws.specs.Chains.{LinkMap, Interlinks}
-use Rattle.chain_laws.specs.Joins.{with_prev, with_next, prev_set, next_set, linked, with_lone}
-use Rattle.chain_laws.specs.Insertions.{inserted}
+use Rattle.chain_laws.specs.Joins.{with_prev, with_next, prev_set, next_set, with_neighbors, with_lone}
+use Rattle.chain_laws.specs.Insertions.{with_insertion}
 use Rattle.chain_laws.proofs.ChainLemmas.LinkedLists.{link}
 
 -- a new link at q that names u and v
@@ -42,7 +42,7 @@ named_alike link_map q (Some a) v itself j =
 
 -- a link that names u and v and is named by them is inserted, if v is q where u is
 pub inserted_by_writes : (link_map : LinkMap) (q : ℕ) (u v : Option ℕ) → (u ≡ Some q → v ≡ Some q)
-    → prev_set (next_set (with_link link_map q u v) u (Some q)) v (Some q) ≡ inserted link_map q u v
+    → prev_set (next_set (with_link link_map q u v) u (Some q)) v (Some q) ≡ with_insertion link_map q u v
 inserted_by_writes link_map q u v itself = ap (λ (s : LinkMap). prev_set s v (Some q)) (sym (fun_ext (named_alike link_map q u v itself)))
 
 -- a lone link that names itself, by two writes and at once
@@ -52,7 +52,7 @@ ringed_at true q s = refl
 ringed_at false q s = refl
 
 -- a lone link that then names itself is a ring
-pub ringed_by_writes : (link_map : LinkMap) (q : ℕ) → linked (with_lone link_map q) (Some q) (Some q) ≡ inserted link_map q (Some q) (Some q)
+pub ringed_by_writes : (link_map : LinkMap) (q : ℕ) → with_neighbors (with_lone link_map q) (Some q) (Some q) ≡ with_insertion link_map q (Some q) (Some q)
 ringed_by_writes link_map q = fun_ext (λ j. ringed_at (j == q) q (link_map j)) ∙ fun_ext (λ j. ringed_twice (j == q) q (link_map j)) where
   ringed_twice : (b : Bool) (q : ℕ) (s : Option Interlinks) → (if b then Some (link (Some q) (Some q)) else s)
       ≡ (let lone = (if b then Some (link None None) else s) in let named = (if b then option_map (with_next (Some q)) lone else lone) in let both = (if b then option_map (with_prev (Some q)) named else named) in
@@ -61,7 +61,7 @@ ringed_by_writes link_map q = fun_ext (λ j. ringed_at (j == q) q (link_map j)) 
   ringed_twice false q s = refl
 
 -- without neighbors, an inserted link is a lone link
-pub alone_by_writes : (link_map : LinkMap) (q : ℕ) → inserted link_map q None None ≡ with_lone link_map q
+pub alone_by_writes : (link_map : LinkMap) (q : ℕ) → with_insertion link_map q None None ≡ with_lone link_map q
 alone_by_writes link_map q = fun_ext (λ j. alone_written (j == q) (link_map j)) where
   alone_written : (b : Bool) (s : Option Interlinks)
       → (let lone = (if b then Some (link None None) else s) in let before = (if b then option_map (with_prev None) lone else lone) in if b then option_map (with_next None) before else before)

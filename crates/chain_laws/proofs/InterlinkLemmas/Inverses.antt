@@ -40,8 +40,8 @@ pub one_some : {A : Type 0} {x y : A} → Some x ≡ Some y → x ≡ y
 one_some e = cc
 
 -- a new pair (a, b), if b had no previous index
-pub join_answers : (f g : ℕ → Option ℕ) (a b : ℕ) → NamesBack f g → g b ≡ None → NamesBack (altered f a (Some b)) (altered g b (Some a))
-join_answers f g a b each free i j e =
+pub join_returns : (f g : ℕ → Option ℕ) (a b : ℕ) → NamesBack f g → g b ≡ None → NamesBack (altered f a (Some b)) (altered g b (Some a))
+join_returns f g a b each free i j e =
     ⊎_elim
     (λ s. let same : j ≡ b = one_some (sym e ∙ altered-same f a (Some b) i s) in altered-same g b (Some a) j same ∙ ap Some (sym s))
     (λ ne.
@@ -51,8 +51,8 @@ join_answers f g a b each free i j e =
     (cases_eq i a)
 
 -- the pair (a, b) removed, if b came after a
-pub cut_answers : (f g : ℕ → Option ℕ) (a b : ℕ) → NamesBack f g → NamesBack g f → f a ≡ Some b → NamesBack (altered f a None) (altered g b None)
-cut_answers f g a b each back pair i j e =
+pub cut_returns : (f g : ℕ → Option ℕ) (a b : ℕ) → NamesBack f g → NamesBack g f → f a ≡ Some b → NamesBack (altered f a None) (altered g b None)
+cut_returns f g a b each back pair i j e =
     ⊎_elim
     (λ s. absurd (not_both_ways (altered f a None i) j (altered-same f a None i s) e))
     (λ ne.
@@ -69,15 +69,15 @@ undoes_both f g there back i j = (there i j, back j i)
 pub join_undoes : (f g : ℕ → Option ℕ) (a b : ℕ) → Undoes f g → f a ≡ None → g b ≡ None → Undoes (altered f a (Some b)) (altered g b (Some a))
 join_undoes f g a b each none_after none_before =
     undoes_both (altered f a (Some b)) (altered g b (Some a))
-    (join_answers f g a b (λ i j. (each i j).0) none_before)
-    (join_answers g f b a (λ i j. (each j i).1) none_after)
+    (join_returns f g a b (λ i j. (each i j).0) none_before)
+    (join_returns g f b a (λ i j. (each j i).1) none_after)
 
 -- a cut of a pair
 pub cut_undoes : (f g : ℕ → Option ℕ) (a b : ℕ) → Undoes f g → f a ≡ Some b → Undoes (altered f a None) (altered g b None)
 cut_undoes f g a b each pair =
     undoes_both (altered f a None) (altered g b None)
-    (cut_answers f g a b (λ i j. (each i j).0) (λ i j. (each j i).1) pair)
-    (cut_answers g f b a (λ i j. (each j i).1) (λ i j. (each i j).0) ((each a b).0 pair))
+    (cut_returns f g a b (λ i j. (each i j).0) (λ i j. (each j i).1) pair)
+    (cut_returns g f b a (λ i j. (each j i).1) (λ i j. (each i j).0) ((each a b).0 pair))
 
 -- functions equal to f and g at each index
 pub Undoes-at : (f g h k : ℕ → Option ℕ) → ((i : ℕ) → h i ≡ f i) → ((i : ℕ) → k i ≡ g i) → Undoes f g → Undoes h k

@@ -4,7 +4,7 @@ use Rattle.std.specs.Option.{option_map}
 use Rattle.std.proofs.Common.{sym, refl, ap, ◌∙◌, subst, ⊎_elim}
 use Rattle.std.proofs.lemmas.Bool.{cases_eq}
 use Rattle.chain_laws.specs.Chains.{LinkMap, Interlinks, prev_in, next_in, prev_of, next_of, HasLink}
-use Rattle.chain_laws.specs.Joins.{with_prev, with_next, prev_set, next_set, linked}
+use Rattle.chain_laws.specs.Joins.{with_prev, with_next, prev_set, next_set, with_neighbors}
 use Rattle.chain_laws.proofs.InterlinkLemmas.Inverses.{altered, if_same, if_other, altered-same, altered-other, one_some}
 
 -- the optional index is not j
@@ -35,7 +35,7 @@ prev_set-off link_map None v j off = refl
 prev_set-off link_map (Some i) v j off = if_other j i _ _ (off i refl)
 
 -- linking u and v leaves other indexes unchanged
-pub linked-off : (link_map : LinkMap) (u v : Option ℕ) (j : ℕ) → IsOff u j → IsOff v j → linked link_map u v j ≡ link_map j
+pub linked-off : (link_map : LinkMap) (u v : Option ℕ) (j : ℕ) → IsOff u j → IsOff v j → with_neighbors link_map u v j ≡ link_map j
 linked-off link_map u v j off_u off_v = prev_set-off (next_set link_map u v) v u j off_v ∙ next_set-off link_map u v j off_u
 
 -- the link whose `next` is written
@@ -77,7 +77,7 @@ pub next_of-next_set : (link_map : LinkMap) (u v : Option ℕ) (j : ℕ) → IsV
 next_of-next_set link_map None v j valid = refl
 next_of-next_set link_map (Some i) v j valid = ⊎_elim
     (λ e. let at_i = valid i refl in
-    subst (λ k. next_of (next_set link_map (Some i) v) k ≡ v) (sym e) (ap next_in (next_set-at link_map i v at_i.link at_i.shows)) ∙ sym (altered-same (next_of link_map) i v j e))
+    subst (λ k. next_of (next_set link_map (Some i) v) k ≡ v) (sym e) (ap next_in (next_set-at link_map i v at_i.link at_i.reports)) ∙ sym (altered-same (next_of link_map) i v j e))
     (λ ne. ap next_in (if_other j i _ _ ne) ∙ sym (altered-other (next_of link_map) i v j ne))
     (cases_eq j i)
 
@@ -86,23 +86,23 @@ pub prev_of-prev_set : (link_map : LinkMap) (u v : Option ℕ) (j : ℕ) → IsV
 prev_of-prev_set link_map None v j valid = refl
 prev_of-prev_set link_map (Some i) v j valid = ⊎_elim
     (λ e. let at_i = valid i refl in
-    subst (λ k. prev_of (prev_set link_map (Some i) v) k ≡ v) (sym e) (ap prev_in (prev_set-at link_map i v at_i.link at_i.shows)) ∙ sym (altered-same (prev_of link_map) i v j e))
+    subst (λ k. prev_of (prev_set link_map (Some i) v) k ≡ v) (sym e) (ap prev_in (prev_set-at link_map i v at_i.link at_i.reports)) ∙ sym (altered-same (prev_of link_map) i v j e))
     (λ ne. ap prev_in (if_other j i _ _ ne) ∙ sym (altered-other (prev_of link_map) i v j ne))
     (cases_eq j i)
 
 -- equal interlinks are valid alike
 pub HasLink-same : (left right : LinkMap) (j : ℕ) → left j ≡ right j → HasLink left j ↔ HasLink right j
 HasLink-same left right j e =
-    (λ h. record { link = h.link; shows = sym e ∙ h.shows }, λ h. record { link = h.link; shows = e ∙ h.shows })
+    (λ h. record { link = h.link; reports = sym e ∙ h.reports }, λ h. record { link = h.link; reports = e ∙ h.reports })
 
 -- a link whose interlinks are changed is a link
 pub HasLink-changed : (left right : LinkMap) (change : Interlinks → Interlinks) (j : ℕ) → left j ≡ option_map change (right j) → HasLink left j ↔ HasLink right j
 HasLink-changed left right change j e =
-    (λ h. by (right j) refl (sym e ∙ h.shows), λ h. record { link = change h.link; shows = e ∙ ap (option_map change) h.shows })
+    (λ h. by (right j) refl (sym e ∙ h.reports), λ h. record { link = change h.link; reports = e ∙ ap (option_map change) h.reports })
   where
     by : {link : Interlinks} (o : Option Interlinks) → right j ≡ o → option_map change o ≡ Some link → HasLink right j
-    by None shows h = absurd (cc)
-    by (Some l) shows h = record { link = l; shows = shows }
+    by None reports h = absurd (cc)
+    by (Some l) reports h = record { link = l; reports = reports }
 
 -- a write of `next` leaves the valid indexes unchanged
 pub HasLink-next_set : (link_map : LinkMap) (u v : Option ℕ) (j : ℕ) → HasLink (next_set link_map u v) j ↔ HasLink link_map j
@@ -121,18 +121,18 @@ HasLink-prev_set link_map (Some i) v j = ⊎_elim
     (cases_eq j i)
 
 -- linking leaves the valid indexes unchanged
-pub HasLink-linked : (link_map : LinkMap) (u v : Option ℕ) (j : ℕ) → HasLink (linked link_map u v) j ↔ HasLink link_map j
+pub HasLink-linked : (link_map : LinkMap) (u v : Option ℕ) (j : ℕ) → HasLink (with_neighbors link_map u v) j ↔ HasLink link_map j
 HasLink-linked link_map u v j =
     let outer = HasLink-prev_set (next_set link_map u v) v u j in
     let inner = HasLink-next_set link_map u v j in
     (λ h. inner.0 (outer.0 h), λ h. outer.1 (inner.1 h))
 
 -- each `next` once v comes after u
-pub next_of-linked : (link_map : LinkMap) (u v : Option ℕ) (j : ℕ) → IsValidAt link_map u → next_of (linked link_map u v) j ≡ put_at (next_of link_map) u v j
+pub next_of-linked : (link_map : LinkMap) (u v : Option ℕ) (j : ℕ) → IsValidAt link_map u → next_of (with_neighbors link_map u v) j ≡ put_at (next_of link_map) u v j
 next_of-linked link_map u v j valid = next_of-prev_set (next_set link_map u v) v u j ∙ next_of-next_set link_map u v j valid
 
 -- each `prev` once v comes after u
-pub prev_of-linked : (link_map : LinkMap) (u v : Option ℕ) (j : ℕ) → IsValidAt link_map v → prev_of (linked link_map u v) j ≡ put_at (prev_of link_map) v u j
+pub prev_of-linked : (link_map : LinkMap) (u v : Option ℕ) (j : ℕ) → IsValidAt link_map v → prev_of (with_neighbors link_map u v) j ≡ put_at (prev_of link_map) v u j
 prev_of-linked link_map u v j valid =
     prev_of-prev_set (next_set link_map u v) v u j (λ i e. (HasLink-next_set link_map u v i).1 (valid i e)) ∙ same v
   where

@@ -24,7 +24,7 @@ IsPairAround f q u v i j = ((f i ≡ Some j) × ((u ≡ Some i) × (v ≡ Some j
 -- the pairs with q between u and v
 pub puts_pairs : (f h : ℕ → Option ℕ) (q : ℕ) (u v : Option ℕ) → IsOpenPlace f q u v → Puts f h q u v
     → (i j : ℕ) → (h i ≡ Some j) ↔ IsPairAround f q u v i j
-puts_pairs f h q u v room puts i j = (λ e. by e (cases_eq i q) (names_or_not u i), λ p. back p (cases_eq i q))
+puts_pairs f h q u v within_capacity puts i j = (λ e. by e (cases_eq i q) (names_or_not u i), λ p. back p (cases_eq i q))
   where
     by : h i ≡ Some j → (i ≡ q) ⊎ (i ≢ q) → (u ≡ Some i) ⊎ (u ≢ Some i) → IsPairAround f q u v i j
     by e (inl s) _ = inr (inr (s, sym puts.here ∙ sym (ap h s) ∙ e))
@@ -32,9 +32,9 @@ puts_pairs f h q u v room puts i j = (λ e. by e (cases_eq i q) (names_or_not u 
     by e (inr ne) (inr not_u) = inl (sym (puts.off i ne not_u) ∙ e, λ p. not_u p.0)
 
     back : IsPairAround f q u v i j → (i ≡ q) ⊎ (i ≢ q) → h i ≡ Some j
-    back (inl p) (inl s) = absurd (not_both_ways (f i) j (ap f s ∙ room.free) p.0)
-    back (inl p) (inr ne) = puts.off i ne (λ at_u. p.1 (at_u, room.only i j at_u p.0)) ∙ p.0
-    back (inr (inl p)) (inl s) = ap h s ∙ puts.here ∙ room.itself (p.0 ∙ ap Some s) ∙ sym (ap Some p.1)
+    back (inl p) (inl s) = absurd (not_both_ways (f i) j (ap f s ∙ within_capacity.free) p.0)
+    back (inl p) (inr ne) = puts.off i ne (λ at_u. p.1 (at_u, within_capacity.only i j at_u p.0)) ∙ p.0
+    back (inr (inl p)) (inl s) = ap h s ∙ puts.here ∙ within_capacity.itself (p.0 ∙ ap Some s) ∙ sym (ap Some p.1)
     back (inr (inl p)) (inr ne) = puts.named i ne p.0 ∙ sym (ap Some p.1)
     back (inr (inr p)) _ = ap h p.0 ∙ puts.here ∙ p.1
 
@@ -47,9 +47,9 @@ pair_around_back f g q u v i j each (inr (inr p)) = inr (inl (p.1, p.0))
 -- inverse functions stay inverse with q put between
 pub puts_undo : (f g h k : ℕ → Option ℕ) (q : ℕ) (u v : Option ℕ) → Undoes f g → IsOpenPlace f q u v → IsOpenPlace g q v u
     → Puts f h q u v → Puts g k q v u → Undoes h k
-puts_undo f g h k q u v each room_after room_before forth back i j =
-    let after = puts_pairs f h q u v room_after forth i j in
-    let before = puts_pairs g k q v u room_before back j i in (
+puts_undo f g h k q u v each capacity_after capacity_before forth back i j =
+    let after = puts_pairs f h q u v capacity_after forth i j in
+    let before = puts_pairs g k q v u capacity_before back j i in (
       λ e. before.1 (pair_around_back f g q u v i j each (after.0 e)),
       λ e. after.1 (pair_around_back g f q v u j i (undoes_back f g each) (before.0 e)),
     )

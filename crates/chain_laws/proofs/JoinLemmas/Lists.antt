@@ -2,7 +2,7 @@
 use Rattle.std.specs.Prelude.{◌≡◌, ◌↔◌, ℕ, List, [], ◌∷◌, ◌++◌, Option, None, Some}
 use Rattle.std.proofs.Common.{sym, ◌∙◌, subst, inl, inr, ⊎_elim}
 use Rattle.chain_laws.specs.Chains.{LinkMap, Chain, items, IsChain, IsMember, AreDistinct, AreLinked, first_or, last_or}
-use Rattle.chain_laws.specs.Joins.{prev_set, next_set, linked}
+use Rattle.chain_laws.specs.Joins.{prev_set, next_set, with_neighbors}
 use Rattle.chain_laws.proofs.ListLemmas.Members.{last_or-IsMember}
 use Rattle.chain_laws.proofs.ChainLemmas.LinkedLists.{AreLinked-frame, IsChain-frame, AreLinked-append}
 use Rattle.chain_laws.proofs.InterlinkLemmas.Linked.{IsOff, next_set-off, prev_set-off, linked-off, next_set-at, prev_set-at}
@@ -18,22 +18,22 @@ IsOff-item u xs j apart h i named e = apart i named (subst (IsMember xs) e h)
 
 -- a list without u stays linked when `next` of u is written
 pub AreLinked-next_set : (link_map : LinkMap) (u v before : Option ℕ) (xs : List ℕ) (after : Option ℕ) → IsOutside u xs → AreLinked link_map before xs after → AreLinked (next_set link_map u v) before xs after
-AreLinked-next_set link_map u v before xs after apart stands =
-    AreLinked-frame link_map (next_set link_map u v) before xs after (λ i h. sym (next_set-off link_map u v i (IsOff-item u xs i apart h))) stands
+AreLinked-next_set link_map u v before xs after apart stored =
+    AreLinked-frame link_map (next_set link_map u v) before xs after (λ i h. sym (next_set-off link_map u v i (IsOff-item u xs i apart h))) stored
 
 -- a list without u stays linked when `prev` of u is written
 pub AreLinked-prev_set : (link_map : LinkMap) (u v before : Option ℕ) (xs : List ℕ) (after : Option ℕ) → IsOutside u xs → AreLinked link_map before xs after → AreLinked (prev_set link_map u v) before xs after
-AreLinked-prev_set link_map u v before xs after apart stands =
-    AreLinked-frame link_map (prev_set link_map u v) before xs after (λ i h. sym (prev_set-off link_map u v i (IsOff-item u xs i apart h))) stands
+AreLinked-prev_set link_map u v before xs after apart stored =
+    AreLinked-frame link_map (prev_set link_map u v) before xs after (λ i h. sym (prev_set-off link_map u v i (IsOff-item u xs i apart h))) stored
 
 -- linking u and v leaves a list with neither unchanged
-linked-outside : (link_map : LinkMap) (u v : Option ℕ) (xs : List ℕ) → IsOutside u xs → IsOutside v xs → (i : ℕ) → IsMember xs i → linked link_map u v i ≡ link_map i
+linked-outside : (link_map : LinkMap) (u v : Option ℕ) (xs : List ℕ) → IsOutside u xs → IsOutside v xs → (i : ℕ) → IsMember xs i → with_neighbors link_map u v i ≡ link_map i
 linked-outside link_map u v xs apart_u apart_v i h = linked-off link_map u v i (IsOff-item u xs i apart_u h) (IsOff-item v xs i apart_v h)
 
 -- a list with neither u nor v stays linked
-pub AreLinked-linked : (link_map : LinkMap) (u v before : Option ℕ) (xs : List ℕ) (after : Option ℕ) → IsOutside u xs → IsOutside v xs → AreLinked link_map before xs after → AreLinked (linked link_map u v) before xs after
-AreLinked-linked link_map u v before xs after apart_u apart_v stands =
-    AreLinked-frame link_map (linked link_map u v) before xs after (λ i h. sym (linked-outside link_map u v xs apart_u apart_v i h)) stands
+pub AreLinked-linked : (link_map : LinkMap) (u v before : Option ℕ) (xs : List ℕ) (after : Option ℕ) → IsOutside u xs → IsOutside v xs → AreLinked link_map before xs after → AreLinked (with_neighbors link_map u v) before xs after
+AreLinked-linked link_map u v before xs after apart_u apart_v stored =
+    AreLinked-frame link_map (with_neighbors link_map u v) before xs after (λ i h. sym (linked-outside link_map u v xs apart_u apart_v i h)) stored
 
 -- an item before others is not the last one
 last_beyond : (x y : ℕ) (ys : List ℕ) → (IsMember (y ∷ ys) x → ⊥) → IsOff (last_or ys (Some y)) x
@@ -46,43 +46,43 @@ last_beyond x y ys none i named e =
 -- v after the last item comes after the list
 pub AreLinked-next_of_last : (link_map : LinkMap) (v before : Option ℕ) (xs : List ℕ) (after : Option ℕ) → AreDistinct xs → AreLinked link_map before xs after
     → AreLinked (next_set link_map (last_or xs before) v) before xs v
-AreLinked-next_of_last link_map v before [] after once stands = tt
-AreLinked-next_of_last link_map v before (x ∷ []) after once stands = (next_set-at link_map x v _ stands.0, tt)
-AreLinked-next_of_last link_map v before (x ∷ y ∷ ys) after once stands =
-    (next_set-off link_map (last_or ys (Some y)) v x (last_beyond x y ys once.0) ∙ stands.0, AreLinked-next_of_last link_map v (Some x) (y ∷ ys) after once.1 stands.1)
+AreLinked-next_of_last link_map v before [] after once stored = tt
+AreLinked-next_of_last link_map v before (x ∷ []) after once stored = (next_set-at link_map x v _ stored.0, tt)
+AreLinked-next_of_last link_map v before (x ∷ y ∷ ys) after once stored =
+    (next_set-off link_map (last_or ys (Some y)) v x (last_beyond x y ys once.0) ∙ stored.0, AreLinked-next_of_last link_map v (Some x) (y ∷ ys) after once.1 stored.1)
 
 -- u before the first item comes before the list
 pub AreLinked-prev_of_first : (link_map : LinkMap) (u before : Option ℕ) (xs : List ℕ) (after : Option ℕ) → AreDistinct xs → AreLinked link_map before xs after
     → AreLinked (prev_set link_map (first_or xs after) u) u xs after
-AreLinked-prev_of_first link_map u before [] after once stands = tt
-AreLinked-prev_of_first link_map u before (x ∷ xs) after once stands =
-    (prev_set-at link_map x u _ stands.0, AreLinked-prev_set link_map (Some x) u (Some x) xs after (λ i named h. once.0 (subst (IsMember xs) (sym (one_some named)) h)) stands.1)
+AreLinked-prev_of_first link_map u before [] after once stored = tt
+AreLinked-prev_of_first link_map u before (x ∷ xs) after once stored =
+    (prev_set-at link_map x u _ stored.0, AreLinked-prev_set link_map (Some x) u (Some x) xs after (λ i named h. once.0 (subst (IsMember xs) (sym (one_some named)) h)) stored.1)
 
 -- two lists joined at an end and a start are one
 pub AreLinked-glued : (link_map : LinkMap) (before : Option ℕ) (xs : List ℕ) (xs_after ys_before : Option ℕ) (ys : List ℕ) (after : Option ℕ)
     → AreDistinct xs → AreDistinct ys → IsOutside (last_or xs before) ys → IsOutside (first_or ys after) xs
     → AreLinked link_map before xs xs_after → AreLinked link_map ys_before ys after
-    → AreLinked (linked link_map (last_or xs before) (first_or ys after)) before (xs ++ ys) after
-AreLinked-glued link_map before xs xs_after ys_before ys after xs_once ys_once last_apart first_apart xs_stands ys_stands =
+    → AreLinked (with_neighbors link_map (last_or xs before) (first_or ys after)) before (xs ++ ys) after
+AreLinked-glued link_map before xs xs_after ys_before ys after xs_once ys_once last_apart first_apart xs_stored ys_stored =
     let u = last_or xs before in
     let v = first_or ys after in
-    AreLinked-append (linked link_map u v) before xs ys after
-    (AreLinked-prev_set (next_set link_map u v) v u before xs v first_apart (AreLinked-next_of_last link_map v before xs xs_after xs_once xs_stands))
-    (AreLinked-prev_of_first (next_set link_map u v) u ys_before ys after ys_once (AreLinked-next_set link_map u v ys_before ys after last_apart ys_stands))
+    AreLinked-append (with_neighbors link_map u v) before xs ys after
+    (AreLinked-prev_set (next_set link_map u v) v u before xs v first_apart (AreLinked-next_of_last link_map v before xs xs_after xs_once xs_stored))
+    (AreLinked-prev_of_first (next_set link_map u v) u ys_before ys after ys_once (AreLinked-next_set link_map u v ys_before ys after last_apart ys_stored))
 
 -- a list whose end is linked to its start is a ring
 pub AreLinked-ringed : (link_map : LinkMap) (before : Option ℕ) (xs : List ℕ) (after : Option ℕ) → AreDistinct xs → AreLinked link_map before xs after
-    → AreLinked (linked link_map (last_or xs None) (first_or xs None)) (last_or xs None) xs (first_or xs None)
-AreLinked-ringed link_map before [] after once stands = tt
-AreLinked-ringed link_map before (x ∷ xs) after once stands =
+    → AreLinked (with_neighbors link_map (last_or xs None) (first_or xs None)) (last_or xs None) xs (first_or xs None)
+AreLinked-ringed link_map before [] after once stored = tt
+AreLinked-ringed link_map before (x ∷ xs) after once stored =
     let u = last_or xs (Some x) in
-    AreLinked-prev_of_first (next_set link_map u (Some x)) u before (x ∷ xs) (Some x) once (AreLinked-next_of_last link_map (Some x) before (x ∷ xs) after once stands)
+    AreLinked-prev_of_first (next_set link_map u (Some x)) u before (x ∷ xs) (Some x) once (AreLinked-next_of_last link_map (Some x) before (x ∷ xs) after once stored)
 
 -- linking leaves the chains with neither u nor v unchanged
-pub IsChain-linked : (link_map : LinkMap) (u v : Option ℕ) (c : Chain) → IsOutside u (items c) → IsOutside v (items c) → IsChain link_map c ↔ IsChain (linked link_map u v) c
+pub IsChain-linked : (link_map : LinkMap) (u v : Option ℕ) (c : Chain) → IsOutside u (items c) → IsOutside v (items c) → IsChain link_map c ↔ IsChain (with_neighbors link_map u v) c
 IsChain-linked link_map u v c apart_u apart_v = (
-  IsChain-frame link_map (linked link_map u v) c (λ i h. sym (linked-outside link_map u v (items c) apart_u apart_v i h)),
-  IsChain-frame (linked link_map u v) link_map c (linked-outside link_map u v (items c) apart_u apart_v),
+  IsChain-frame link_map (with_neighbors link_map u v) c (λ i h. sym (linked-outside link_map u v (items c) apart_u apart_v i h)),
+  IsChain-frame (with_neighbors link_map u v) link_map c (linked-outside link_map u v (items c) apart_u apart_v),
 )
 
 -- an index that a list lacks is outside it

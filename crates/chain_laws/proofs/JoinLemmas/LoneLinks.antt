@@ -41,22 +41,22 @@ with_lone_agrees link_map q free agrees =
     }
 
 -- the items of a list without q are unchanged
-shows_same : (link_map : LinkMap) (q : ℕ) (xs : List ℕ) → (IsMember xs q → ⊥) → (i : ℕ) → IsMember xs i → with_lone link_map q i ≡ link_map i
-shows_same link_map q xs none i h = with_lone-off link_map q i (λ e. none (subst (IsMember xs) e h))
+reports_same : (link_map : LinkMap) (q : ℕ) (xs : List ℕ) → (IsMember xs q → ⊥) → (i : ℕ) → IsMember xs i → with_lone link_map q i ≡ link_map i
+reports_same link_map q xs none i h = with_lone-off link_map q i (λ e. none (subst (IsMember xs) e h))
 
 -- the linked lists without q are unchanged
 pub AreLinked-with_lone : (link_map : LinkMap) (q : ℕ) (before : Option ℕ) (xs : List ℕ) (after : Option ℕ) → (IsMember xs q → ⊥)
     → AreLinked link_map before xs after ↔ AreLinked (with_lone link_map q) before xs after
 AreLinked-with_lone link_map q before xs after none = (
-  AreLinked-frame link_map (with_lone link_map q) before xs after (λ i h. sym (shows_same link_map q xs none i h)),
-  AreLinked-frame (with_lone link_map q) link_map before xs after (shows_same link_map q xs none),
+  AreLinked-frame link_map (with_lone link_map q) before xs after (λ i h. sym (reports_same link_map q xs none i h)),
+  AreLinked-frame (with_lone link_map q) link_map before xs after (reports_same link_map q xs none),
 )
 
 -- the chains without q are unchanged
 pub IsChain-with_lone : (link_map : LinkMap) (q : ℕ) (c : Chain) → (IsMember (items c) q → ⊥) → IsChain link_map c ↔ IsChain (with_lone link_map q) c
 IsChain-with_lone link_map q c none = (
-  IsChain-frame link_map (with_lone link_map q) c (λ i h. sym (shows_same link_map q (items c) none i h)),
-  IsChain-frame (with_lone link_map q) link_map c (shows_same link_map q (items c) none),
+  IsChain-frame link_map (with_lone link_map q) c (λ i h. sym (reports_same link_map q (items c) none i h)),
+  IsChain-frame (with_lone link_map q) link_map c (reports_same link_map q (items c) none),
 )
 
 -- q is the only index that becomes valid
@@ -68,10 +68,10 @@ HasLink-with_lone link_map q i = (
       (cases_eq i q),
   λ h. ⊎_elim
       (λ v. ⊎_elim
-      (λ e. record { link = link None None; shows = with_lone-at link_map q i e })
+      (λ e. record { link = link None None; reports = with_lone-at link_map q i e })
       (λ ne. (HasLink-same (with_lone link_map q) link_map i (with_lone-off link_map q i ne)).1 v)
       (cases_eq i q))
-      (λ e. record { link = link None None; shows = with_lone-at link_map q i e })
+      (λ e. record { link = link None None; reports = with_lone-at link_map q i e })
       h,
 )
 

@@ -4,12 +4,12 @@ use Rattle.std.proofs.Common.{sym, refl, ap, ◌∙◌, subst, inl, inr, ⊎_eli
 use Rattle.std.proofs.lemmas.Bool.{cases_eq}
 use Rattle.chain_laws.specs.Chains.{LinkMap, Chain, linear, cyclic, items, IsChain, HasLinksWithin, IsWellLinked, IsMember, AreDistinct}
 use Rattle.chain_laws.specs.Neighbors.{IsRotation}
-use Rattle.chain_laws.specs.Removals.{removed, Removes, list_without, chain_without, RemovalIsDetermined, RemovalLeavesEachWithout, RemovalIsDeterminedByPairs}
+use Rattle.chain_laws.specs.Removals.{with_removal, Removes, list_without, chain_without, RemovalIsDetermined, RemovalLeavesEachWithout, RemovalIsDeterminedByPairs}
 use Rattle.chain_laws.proofs.InterlinkLemmas.Inverses.{if_same, if_other}
 use Rattle.chain_laws.proofs.ListLemmas.Members.{IsMember-written, IsMember-middle, IsMember-or_not, IsMember-filled, filled-IsMember}
 use Rattle.chain_laws.proofs.ChainLemmas.Uniqueness.{chain_valid, chain_filled, chains_share}
 use Rattle.chain_laws.proofs.ChainLemmas.Rotations.{turned, turned_to, one_turned}
-use Rattle.chain_laws.proofs.ChainLemmas.Existence.{ChainOf, stands_in, has_chain}
+use Rattle.chain_laws.proofs.ChainLemmas.Existence.{ChainOf, stored_in, has_chain}
 use Rattle.chain_laws.proofs.ChainLemmas.Determinacy.{chain_elsewhere, pairs_decide}
 use Rattle.chain_laws.proofs.RemovalLemmas.Pairs.{removed_agrees, removed_in_pairs}
 use Rattle.chain_laws.proofs.RemovalLemmas.Chains.{removed_removes}
@@ -89,7 +89,7 @@ removed_alike old left right slots i agrees within l r c chain =
     by some.0 some.1 valid.1 (has_chain old slots agrees within some.0 valid.0)
   where
     by : (j : ℕ) → IsMember (items c) j → j ≢ i → ChainOf old j → IsChain right c
-    by j h ne (stands_in d old_chain has) =
+    by j h ne (stored_in d old_chain has) =
         let has_j = chain_without-IsMember d i j ne has in
         let filled = IsMember-filled (items (chain_without d i)) j has_j in
         chain_elsewhere left right c (chain_without d i) j chain (removes_shortens old left i l d old_chain filled) (removes_shortens old right i r d old_chain filled) h has_j
@@ -98,7 +98,7 @@ removed_alike old left right slots i agrees within l r c chain =
 pub removal_is_determined : RemovalIsDetermined
 removal_is_determined old new slots i agrees within removes c =
     let removal = removed_removes old i agrees in
-    (removed_alike old new (removed old i) slots i agrees within removes removal c, removed_alike old (removed old i) new slots i agrees within removal removes c)
+    (removed_alike old new (with_removal old i) slots i agrees within removes removal c, removed_alike old (with_removal old i) new slots i agrees within removal removes c)
 
 -- a rotation of a cyclic chain without i is that chain, rotated, without i
 turned_without : (old : LinkMap) (i : ℕ) (xs ys : List ℕ) → IsChain old (cyclic xs) → IsMember xs i
@@ -150,7 +150,7 @@ longer_chain old new slots i agrees within removes c chain =
     not_i h = ((removes.links i).0 (chain_valid new c i chain h)).1 refl
 
     by : (j : ℕ) → IsMember (items c) j → j ≢ i → ChainOf old j → (e : Chain) × IsChain old e × (c ≡ chain_without e i)
-    by j h ne (stands_in d old_chain has) = by_i (IsMember-or_not (items d) i)
+    by j h ne (stored_in d old_chain has) = by_i (IsMember-or_not (items d) i)
       where
         by_i : IsMember (items d) i ⊎ (IsMember (items d) i → ⊥) → (e : Chain) × IsChain old e × (c ≡ chain_without e i)
         by_i (inl has_i) = longer_of old new i j removes ne d c old_chain chain has h has_i
@@ -168,6 +168,6 @@ removal_leaves_each_without old new slots i agrees within removes c =
 pub removal_is_determined_by_pairs : RemovalIsDeterminedByPairs
 removal_is_determined_by_pairs old new i agrees agrees_new removes =
     let removal = removed_in_pairs old i agrees in
-    pairs_decide new (removed old i) agrees_new (removed_agrees old i agrees)
+    pairs_decide new (with_removal old i) agrees_new (removed_agrees old i agrees)
     (λ j. (λ v. (removal.links j).1 ((removes.links j).0 v), λ v. (removes.links j).1 ((removal.links j).0 v)))
     (λ j k. (λ e. (removal.pairs j k).1 ((removes.pairs j k).0 e), λ e. (removes.pairs j k).1 ((removal.pairs j k).0 e)))

@@ -5,8 +5,8 @@ use Rattle.std.proofs.Common.{sym, refl, ap, ap₂, ◌∙◌, inl, inr, ⊎_eli
 use Rattle.std.proofs.lemmas.Bool.{cases_eq}
 use mathlib.Core.Path.{fun_ext}
 use Rattle.chain_laws.specs.Chains.{LinkMap, HasLink, IsWellLinked, prev_in, next_in, prev_of, next_of}
-use Rattle.chain_laws.specs.Joins.{with_prev, with_next, prev_set, next_set, linked, with_lone}
-use Rattle.chain_laws.specs.Removals.{vacated, removed, RemovesPairs}
+use Rattle.chain_laws.specs.Joins.{with_prev, with_next, prev_set, next_set, with_neighbors, with_lone}
+use Rattle.chain_laws.specs.Removals.{without_link, with_removal, RemovesPairs}
 use Rattle.chain_laws.proofs.InterlinkLemmas.Inverses.{if_same, if_other, altered-same}
 use Rattle.chain_laws.proofs.ChainLemmas.LinkedLists.{next_valid, prev_valid}
 use Rattle.chain_laws.proofs.InterlinkLemmas.Linked.{IsOff, IsValidAt-Some, next_set-off, prev_set-off, prev_of-next_set, next_of-prev_set, next_of-next_set, prev_of-prev_set, HasLink-same, HasLink-next_set, HasLink-linked}
@@ -14,11 +14,11 @@ use Rattle.chain_laws.proofs.JoinLemmas.LoneLinks.{with_lone-at, with_lone-off}
 use Rattle.chain_laws.proofs.InterlinkLemmas.Skips.{Skips, skips_pairs, skips_undo}
 
 -- the vacated index has no link
-pub vacated-at : (link_map : LinkMap) (q j : ℕ) → j ≡ q → vacated link_map q j ≡ None
+pub vacated-at : (link_map : LinkMap) (q j : ℕ) → j ≡ q → without_link link_map q j ≡ None
 vacated-at link_map q j e = if_same j q None (link_map j) e
 
 -- another index is unchanged
-pub vacated-off : (link_map : LinkMap) (q j : ℕ) → j ≢ q → vacated link_map q j ≡ link_map j
+pub vacated-off : (link_map : LinkMap) (q j : ℕ) → j ≢ q → without_link link_map q j ≡ link_map j
 vacated-off link_map q j ne = if_other j q None (link_map j) ne
 
 -- a write of `next` makes no link
@@ -38,107 +38,107 @@ prev_set-none link_map (Some i) v j e = ⊎_elim
     (cases_eq j i)
 
 -- a removed index has no link
-pub removed-at : (link_map : LinkMap) (q : ℕ) → removed link_map q q ≡ None
+pub removed-at : (link_map : LinkMap) (q : ℕ) → with_removal link_map q q ≡ None
 removed-at link_map q =
     let u = prev_of link_map q in
     let v = next_of link_map q in
-    prev_set-none (next_set (vacated link_map q) u v) v u q (next_set-none (vacated link_map q) u v q (vacated-at link_map q q refl))
+    prev_set-none (next_set (without_link link_map q) u v) v u q (next_set-none (without_link link_map q) u v q (vacated-at link_map q q refl))
 
 -- the valid indexes are the old ones without q
-pub HasLink-vacated : (link_map : LinkMap) (q j : ℕ) → HasLink (vacated link_map q) j ↔ (HasLink link_map j × (j ≢ q))
-HasLink-vacated link_map q j = (λ v. by v (cases_eq j q), λ p. (HasLink-same (vacated link_map q) link_map j (vacated-off link_map q j p.1)).1 p.0)
+pub HasLink-vacated : (link_map : LinkMap) (q j : ℕ) → HasLink (without_link link_map q) j ↔ (HasLink link_map j × (j ≢ q))
+HasLink-vacated link_map q j = (λ v. by v (cases_eq j q), λ p. (HasLink-same (without_link link_map q) link_map j (vacated-off link_map q j p.1)).1 p.0)
   where
-    by : HasLink (vacated link_map q) j → (j ≡ q) ⊎ (j ≢ q) → HasLink link_map j × (j ≢ q)
-    by v (inl e) = let none = sym (vacated-at link_map q j e) ∙ v.shows in absurd (cc)
-    by v (inr ne) = ((HasLink-same (vacated link_map q) link_map j (vacated-off link_map q j ne)).0 v, ne)
+    by : HasLink (without_link link_map q) j → (j ≡ q) ⊎ (j ≢ q) → HasLink link_map j × (j ≢ q)
+    by v (inl e) = let none = sym (vacated-at link_map q j e) ∙ v.reports in absurd (cc)
+    by v (inr ne) = ((HasLink-same (without_link link_map q) link_map j (vacated-off link_map q j ne)).0 v, ne)
 
 -- the valid indexes once the neighbors of q are linked
-pub HasLink-removed : (link_map : LinkMap) (q j : ℕ) → HasLink (removed link_map q) j ↔ (HasLink link_map j × (j ≢ q))
+pub HasLink-removed : (link_map : LinkMap) (q j : ℕ) → HasLink (with_removal link_map q) j ↔ (HasLink link_map j × (j ≢ q))
 HasLink-removed link_map q j =
-    let linking = HasLink-linked (vacated link_map q) (prev_of link_map q) (next_of link_map q) j in
+    let linking = HasLink-linked (without_link link_map q) (prev_of link_map q) (next_of link_map q) j in
     let rest = HasLink-vacated link_map q j in
     (λ v. rest.0 (linking.0 v), λ p. linking.1 (rest.1 p))
 
 -- `next` after the removal skips q
-pub next_skips : (link_map : LinkMap) (q : ℕ) → IsWellLinked link_map → Skips (next_of link_map) (next_of (removed link_map q)) q
+pub next_skips : (link_map : LinkMap) (q : ℕ) → IsWellLinked link_map → Skips (next_of link_map) (next_of (with_removal link_map q)) q
 next_skips link_map q agrees = record { gone = ap next_in (removed-at link_map q); past = past; off = off }
   where
-    past : (j : ℕ) → j ≢ q → next_of link_map j ≡ Some q → next_of (removed link_map q) j ≡ next_of link_map q
+    past : (j : ℕ) → j ≢ q → next_of link_map j ≡ Some q → next_of (with_removal link_map q) j ≡ next_of link_map q
     past j ne to_q =
         let u = prev_of link_map q in
         let v = next_of link_map q in
         let named : u ≡ Some j = (agrees.both j q).0 to_q in
-        let valid : HasLink (vacated link_map q) j = (HasLink-vacated link_map q j).1 (next_valid link_map j q to_q, ne) in
-        next_of-prev_set (next_set (vacated link_map q) u v) v u j
-        ∙ ap (λ o. next_of (next_set (vacated link_map q) o v) j) named
-        ∙ next_of-next_set (vacated link_map q) (Some j) v j (IsValidAt-Some (vacated link_map q) j valid)
-        ∙ altered-same (next_of (vacated link_map q)) j v j refl
+        let valid : HasLink (without_link link_map q) j = (HasLink-vacated link_map q j).1 (next_valid link_map j q to_q, ne) in
+        next_of-prev_set (next_set (without_link link_map q) u v) v u j
+        ∙ ap (λ o. next_of (next_set (without_link link_map q) o v) j) named
+        ∙ next_of-next_set (without_link link_map q) (Some j) v j (IsValidAt-Some (without_link link_map q) j valid)
+        ∙ altered-same (next_of (without_link link_map q)) j v j refl
 
-    off : (j : ℕ) → j ≢ q → next_of link_map j ≢ Some q → next_of (removed link_map q) j ≡ next_of link_map j
+    off : (j : ℕ) → j ≢ q → next_of link_map j ≢ Some q → next_of (with_removal link_map q) j ≡ next_of link_map j
     off j ne not_q =
         let u = prev_of link_map q in
         let v = next_of link_map q in
         let unnamed : IsOff u j = λ i named s. not_q ((agrees.both j q).1 (named ∙ ap Some (sym s))) in
-        next_of-prev_set (next_set (vacated link_map q) u v) v u j
-        ∙ ap next_in (next_set-off (vacated link_map q) u v j unnamed)
+        next_of-prev_set (next_set (without_link link_map q) u v) v u j
+        ∙ ap next_in (next_set-off (without_link link_map q) u v j unnamed)
         ∙ ap next_in (vacated-off link_map q j ne)
 
 -- `prev` after the removal skips q
-pub prev_skips : (link_map : LinkMap) (q : ℕ) → IsWellLinked link_map → Skips (prev_of link_map) (prev_of (removed link_map q)) q
+pub prev_skips : (link_map : LinkMap) (q : ℕ) → IsWellLinked link_map → Skips (prev_of link_map) (prev_of (with_removal link_map q)) q
 prev_skips link_map q agrees = record { gone = ap prev_in (removed-at link_map q); past = past; off = off }
   where
-    past : (j : ℕ) → j ≢ q → prev_of link_map j ≡ Some q → prev_of (removed link_map q) j ≡ prev_of link_map q
+    past : (j : ℕ) → j ≢ q → prev_of link_map j ≡ Some q → prev_of (with_removal link_map q) j ≡ prev_of link_map q
     past j ne to_q =
         let u = prev_of link_map q in
         let v = next_of link_map q in
         let named : v ≡ Some j = (agrees.both q j).1 to_q in
-        let valid : HasLink (vacated link_map q) j = (HasLink-vacated link_map q j).1 (prev_valid link_map j q to_q, ne) in
-        let written = next_set (vacated link_map q) u v in
+        let valid : HasLink (without_link link_map q) j = (HasLink-vacated link_map q j).1 (prev_valid link_map j q to_q, ne) in
+        let written = next_set (without_link link_map q) u v in
         ap (λ o. prev_of (prev_set written o u) j) named
-        ∙ prev_of-prev_set written (Some j) u j (IsValidAt-Some written j ((HasLink-next_set (vacated link_map q) u v j).1 valid))
+        ∙ prev_of-prev_set written (Some j) u j (IsValidAt-Some written j ((HasLink-next_set (without_link link_map q) u v j).1 valid))
         ∙ altered-same (prev_of written) j u j refl
 
-    off : (j : ℕ) → j ≢ q → prev_of link_map j ≢ Some q → prev_of (removed link_map q) j ≡ prev_of link_map j
+    off : (j : ℕ) → j ≢ q → prev_of link_map j ≢ Some q → prev_of (with_removal link_map q) j ≡ prev_of link_map j
     off j ne not_q =
         let u = prev_of link_map q in
         let v = next_of link_map q in
         let unnamed : IsOff v j = λ i named s. not_q ((agrees.both q j).0 (named ∙ ap Some (sym s))) in
-        ap prev_in (prev_set-off (next_set (vacated link_map q) u v) v u j unnamed)
-        ∙ prev_of-next_set (vacated link_map q) u v j
+        ap prev_in (prev_set-off (next_set (without_link link_map q) u v) v u j unnamed)
+        ∙ prev_of-next_set (without_link link_map q) u v j
         ∙ ap prev_in (vacated-off link_map q j ne)
 
 -- a removal keeps the interlinks consistent
-pub removed_agrees : (link_map : LinkMap) (q : ℕ) → IsWellLinked link_map → IsWellLinked (removed link_map q)
+pub removed_agrees : (link_map : LinkMap) (q : ℕ) → IsWellLinked link_map → IsWellLinked (with_removal link_map q)
 removed_agrees link_map q agrees =
     record {
-      both = skips_undo (next_of link_map) (prev_of link_map) (next_of (removed link_map q)) (prev_of (removed link_map q)) q
+      both = skips_undo (next_of link_map) (prev_of link_map) (next_of (with_removal link_map q)) (prev_of (with_removal link_map q)) q
           agrees.both (next_skips link_map q agrees) (prev_skips link_map q agrees);
     }
 
 -- the pairs and links after a removal
-pub removed_in_pairs : (link_map : LinkMap) (q : ℕ) → IsWellLinked link_map → RemovesPairs link_map (removed link_map q) q
+pub removed_in_pairs : (link_map : LinkMap) (q : ℕ) → IsWellLinked link_map → RemovesPairs link_map (with_removal link_map q) q
 removed_in_pairs link_map q agrees =
     record {
-      pairs = skips_pairs (next_of link_map) (prev_of link_map) (next_of (removed link_map q)) q agrees.both (next_skips link_map q agrees);
+      pairs = skips_pairs (next_of link_map) (prev_of link_map) (next_of (with_removal link_map q)) q agrees.both (next_skips link_map q agrees);
       links = HasLink-removed link_map q;
     }
 
 -- no link names a removed index
-pub removed_unnamed : (link_map : LinkMap) (q : ℕ) → IsWellLinked link_map → (j : ℕ) → (next_of (removed link_map q) j ≢ Some q) × (prev_of (removed link_map q) j ≢ Some q)
+pub removed_unnamed : (link_map : LinkMap) (q : ℕ) → IsWellLinked link_map → (j : ℕ) → (next_of (with_removal link_map q) j ≢ Some q) × (prev_of (with_removal link_map q) j ≢ Some q)
 removed_unnamed link_map q agrees j =
-    let valid_q : HasLink (removed link_map q) q → ⊥ = λ v. ((HasLink-removed link_map q q).0 v).1 refl in
+    let valid_q : HasLink (with_removal link_map q) q → ⊥ = λ v. ((HasLink-removed link_map q q).0 v).1 refl in
     let both = (removed_agrees link_map q agrees).both in
-    (λ e. valid_q (prev_valid (removed link_map q) q j ((both j q).0 e)), λ e. valid_q (next_valid (removed link_map q) q j ((both q j).1 e)))
+    (λ e. valid_q (prev_valid (with_removal link_map q) q j ((both j q).0 e)), λ e. valid_q (next_valid (with_removal link_map q) q j ((both q j).1 e)))
 
 -- the removal of a link without neighbors links nothing
-pub removed_lone : (link_map : LinkMap) (q : ℕ) → prev_of link_map q ≡ None → next_of link_map q ≡ None → removed link_map q ≡ vacated link_map q
-removed_lone link_map q start end = ap₂ (linked (vacated link_map q)) start end
+pub removed_lone : (link_map : LinkMap) (q : ℕ) → prev_of link_map q ≡ None → next_of link_map q ≡ None → with_removal link_map q ≡ without_link link_map q
+removed_lone link_map q start end = ap₂ (with_neighbors (without_link link_map q)) start end
 
 -- the removal of a new lone link
-pub removed_of_lone : (link_map : LinkMap) (q : ℕ) → link_map q ≡ None → removed (with_lone link_map q) q ≡ link_map
+pub removed_of_lone : (link_map : LinkMap) (q : ℕ) → link_map q ≡ None → with_removal (with_lone link_map q) q ≡ link_map
 removed_of_lone link_map q free =
     removed_lone (with_lone link_map q) q (ap prev_in (with_lone-at link_map q q refl)) (ap next_in (with_lone-at link_map q q refl)) ∙ fun_ext (λ j. by j (cases_eq j q))
   where
-    by : (j : ℕ) → (j ≡ q) ⊎ (j ≢ q) → vacated (with_lone link_map q) q j ≡ link_map j
+    by : (j : ℕ) → (j ≡ q) ⊎ (j ≢ q) → without_link (with_lone link_map q) q j ≡ link_map j
     by j (inl e) = vacated-at (with_lone link_map q) q j e ∙ sym (ap link_map e ∙ free)
     by j (inr ne) = vacated-off (with_lone link_map q) q j ne ∙ with_lone-off link_map q j ne

@@ -64,8 +64,8 @@ placed_in_runs k (cyclic xs ∷ chains) once = (
 )
 
 -- the renumbering by chains one after another puts them in runs
-pub lays_chains_in_runs : PlacesChainsInRuns
-lays_chains_in_runs old new chains are renaming =
+pub arranges_chains_in_runs : PlacesChainsInRuns
+arranges_chains_in_runs old new chains are renaming =
     (renaming_carries_all (place_in (all_items chains)) old new chains (in_runs 1 chains) renaming are (placed_in_runs 1 chains are.once), items_in_runs 1 chains)
 
 -- an arena with the chains in these runs is that renumbering

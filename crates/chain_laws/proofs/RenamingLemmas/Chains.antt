@@ -7,26 +7,26 @@ use Rattle.chain_laws.specs.Chains.{LinkMap, Interlinks, Chain, linear, cyclic, 
 use Rattle.chain_laws.specs.Neighbors.{AreNeighbors}
 use Rattle.chain_laws.specs.Renamings.{IsRenaming, AreImages, IsImage, AreImagesOf, RenamingAgrees, RenamingCarriesPairs, RenamingCarriesChains, RenamingCarriesAll, RenamingIsDetermined}
 use Rattle.chain_laws.specs.Moves.{RenamingsCompose}
-use Rattle.chain_laws.proofs.ChainLemmas.LinkedLists.{link, shows_both, shows_valid, next_valid, prev_valid}
+use Rattle.chain_laws.proofs.ChainLemmas.LinkedLists.{link, reports_both, reports_valid, next_valid, prev_valid}
 use Rattle.chain_laws.proofs.ChainLemmas.ChainLists.{chain_at, all_items_valid}
 use Rattle.chain_laws.proofs.RenamingLemmas.Images.{comes_from, images-first, images-last, images-filled, images-once, images-items, has_image, image_has, image_of, chain_image, image_of_chain}
 
 module _ (to : ℕ → Option ℕ) (old new : LinkMap) (renaming : IsRenaming to old new) where
   -- the interlinks of a link at its new index
-  pub shows_renamed : (i k : ℕ) → HasLink old i → to i ≡ Some k → new k ≡ Some (link (option_and_then to (prev_of old i)) (option_and_then to (next_of old i)))
-  shows_renamed i k valid e = renaming.carries i k (prev_of old i) (next_of old i) (shows_both old i (prev_of old i) (next_of old i) valid refl refl) e
+  pub reports_renamed : (i k : ℕ) → HasLink old i → to i ≡ Some k → new k ≡ Some (link (option_and_then to (prev_of old i)) (option_and_then to (next_of old i)))
+  reports_renamed i k valid e = renaming.carries i k (prev_of old i) (next_of old i) (reports_both old i (prev_of old i) (next_of old i) valid refl refl) e
 
   -- there is a link at the new index
   pub valid_renamed : (i k : ℕ) → HasLink old i → to i ≡ Some k → HasLink new k
-  valid_renamed i k valid e = shows_valid new k _ (shows_renamed i k valid e)
+  valid_renamed i k valid e = reports_valid new k _ (reports_renamed i k valid e)
 
   -- each `next` at the new index
   next_renamed : (i k : ℕ) → HasLink old i → to i ≡ Some k → next_of new k ≡ option_and_then to (next_of old i)
-  next_renamed i k valid e = ap next_in (shows_renamed i k valid e)
+  next_renamed i k valid e = ap next_in (reports_renamed i k valid e)
 
   -- each `prev` at the new index
   prev_renamed : (i k : ℕ) → HasLink old i → to i ≡ Some k → prev_of new k ≡ option_and_then to (prev_of old i)
-  prev_renamed i k valid e = ap prev_in (shows_renamed i k valid e)
+  prev_renamed i k valid e = ap prev_in (reports_renamed i k valid e)
 
   -- indexes are neighbors exactly if their new indexes are
   pairs_renamed : (i j k m : ℕ) → HasLink old i → to i ≡ Some k → to j ≡ Some m → AreNeighbors old i j ↔ AreNeighbors new k m
@@ -57,26 +57,26 @@ module _ (to : ℕ → Option ℕ) (old new : LinkMap) (renaming : IsRenaming to
       next_renamed i.0 k (next_valid old i.0 j.0 n) i.2 ∙ (ap (option_and_then to) n ∙ j.2)
 
   -- a linked list is linked at its new indexes
-  stands_renamed : (before : Option ℕ) (xs ys : List ℕ) (after : Option ℕ) → AreImages to xs ys → AreLinked old before xs after
+  stored_renamed : (before : Option ℕ) (xs ys : List ℕ) (after : Option ℕ) → AreImages to xs ys → AreLinked old before xs after
       → AreLinked new (option_and_then to before) ys (option_and_then to after)
-  stands_renamed before xs [] after images s = tt
-  stands_renamed before [] (y ∷ ys) after images s = absurd images
-  stands_renamed before (x ∷ xs) (y ∷ ys) after images s = (
+  stored_renamed before xs [] after images s = tt
+  stored_renamed before [] (y ∷ ys) after images s = absurd images
+  stored_renamed before (x ∷ xs) (y ∷ ys) after images s = (
     renaming.carries x y before (first_or xs after) s.0 images.0 ∙ ap (λ (o : Option ℕ). Some (link (option_and_then to before) o)) (images-first to xs ys after images.1),
-    subst (λ (o : Option ℕ). AreLinked new o ys (option_and_then to after)) images.0 (stands_renamed (Some x) xs ys after images.1 s.1),
+    subst (λ (o : Option ℕ). AreLinked new o ys (option_and_then to after)) images.0 (stored_renamed (Some x) xs ys after images.1 s.1),
   )
 
   -- a chain is a chain at its new indexes
   chain_renamed : (c d : Chain) → IsChain old c → IsImage to c d → IsChain new d
   chain_renamed (linear xs) (linear ys) h image =
-      (images-filled to xs ys image h.0, images-once to xs ys renaming.apart image h.1, stands_renamed None xs ys None image h.2)
+      (images-filled to xs ys image h.0, images-once to xs ys renaming.apart image h.1, stored_renamed None xs ys None image h.2)
   chain_renamed (cyclic xs) (cyclic ys) h image = (images-filled to xs ys image h.0, images-once to xs ys renaming.apart image h.1, ring)
     where
       ring : AreLinked new (last_or ys None) ys (first_or ys None)
       ring =
           subst (λ (o : Option ℕ). AreLinked new o ys (first_or ys None)) (images-last to xs ys None image)
           (subst (λ (o : Option ℕ). AreLinked new (option_and_then to (last_or xs None)) ys o) (images-first to xs ys None image)
-          (stands_renamed (last_or xs None) xs ys (first_or xs None) image h.2))
+          (stored_renamed (last_or xs None) xs ys (first_or xs None) image h.2))
   chain_renamed (linear xs) (cyclic ys) h image = absurd image
   chain_renamed (cyclic xs) (linear ys) h image = absurd image
 
@@ -101,13 +101,13 @@ renaming_carries_all to old new chains others renaming are images = record {
 }
 
 -- two arenas are equal if equal where either has a link
-pub same_shown : (left right : LinkMap) → ((k : ℕ) → HasLink left k → left k ≡ right k) → ((k : ℕ) → HasLink right k → left k ≡ right k) → left ≡ right
-same_shown left right in_left in_right = fun_ext (λ k. by k (left k) refl (right k) refl)
+pub same_reported : (left right : LinkMap) → ((k : ℕ) → HasLink left k → left k ≡ right k) → ((k : ℕ) → HasLink right k → left k ≡ right k) → left ≡ right
+same_reported left right in_left in_right = fun_ext (λ k. by k (left k) refl (right k) refl)
   where
     by : (k : ℕ) (o : Option Interlinks) → left k ≡ o → (p : Option Interlinks) → right k ≡ p → left k ≡ right k
-    by k (Some l) e p f = in_left k (shows_valid left k l e)
+    by k (Some l) e p f = in_left k (reports_valid left k l e)
     by k None e None f = e ∙ sym f
-    by k None e (Some l) f = in_right k (shows_valid right k l f)
+    by k None e (Some l) f = in_right k (reports_valid right k l f)
 
 -- a renaming by a function with equal values
 pub renaming-same : (to by : ℕ → Option ℕ) (old new : LinkMap) → ((i : ℕ) → to i ≡ by i) → IsRenaming to old new → IsRenaming by old new
@@ -115,10 +115,10 @@ renaming-same to by old new same renaming = subst (λ (f : ℕ → Option ℕ). 
 
 -- the new indexes determine the renaming
 pub renaming_is_determined : RenamingIsDetermined
-renaming_is_determined to old new other one also = same_shown new other (λ k valid. shown_by k (one.onto k valid)) (λ k valid. shown_by k (also.onto k valid))
+renaming_is_determined to old new other one also = same_reported new other (λ k valid. reported_by k (one.onto k valid)) (λ k valid. reported_by k (also.onto k valid))
   where
-    shown_by : (k : ℕ) → (i : ℕ) × HasLink old i × (to i ≡ Some k) → new k ≡ other k
-    shown_by k i = shows_renamed to old new one i.0 k i.1 i.2 ∙ sym (shows_renamed to old other also i.0 k i.1 i.2)
+    reported_by : (k : ℕ) → (i : ℕ) × HasLink old i × (to i ≡ Some k) → new k ≡ other k
+    reported_by k i = reports_renamed to old new one i.0 k i.1 i.2 ∙ sym (reports_renamed to old other also i.0 k i.1 i.2)
 
 -- two renamings one after another are a renaming
 pub renamings_compose : RenamingsCompose
@@ -135,9 +135,9 @@ renamings_compose first second old between new one next = record {
       let y = next.onto k valid in
       let x = one.onto y.0 y.1 in
       (x.0, x.1, ap (option_and_then second) x.2 ∙ y.2);
-  carries = λ i k u v shows e.
+  carries = λ i k u v reports e.
       let x = comes_from second (first i) k e in
-      next.carries x.0 k (option_and_then first u) (option_and_then first v) (one.carries i x.0 u v shows x.1) x.2
+      next.carries x.0 k (option_and_then first u) (option_and_then first v) (one.carries i x.0 u v reports x.1) x.2
       ∙ ap₂ (λ (o p : Option ℕ). Some (link o p)) (through_both u) (through_both v);
 }
   where
@@ -149,15 +149,15 @@ renamings_compose first second old between new one next = record {
 
 module _ (to : ℕ → Option ℕ) (old new : LinkMap) where
   -- a list linked in both arenas gives the interlinks at its new indexes
-  stands_tells : (before : Option ℕ) (xs ys : List ℕ) (after : Option ℕ) (i k : ℕ) (u v : Option ℕ) → AreImages to xs ys
+  stored_states : (before : Option ℕ) (xs ys : List ℕ) (after : Option ℕ) (i k : ℕ) (u v : Option ℕ) → AreImages to xs ys
       → AreLinked old before xs after → AreLinked new (option_and_then to before) ys (option_and_then to after)
       → IsMember xs i → old i ≡ Some (link u v) → to i ≡ Some k → new k ≡ Some (link (option_and_then to u) (option_and_then to v))
-  stands_tells before [] ys after i k u v images s t h shows e = absurd h
-  stands_tells before (x ∷ xs) [] after i k u v images s t h shows e = absurd images
-  stands_tells before (x ∷ xs) (y ∷ ys) after i k u v images s t (inl same) shows e =
+  stored_states before [] ys after i k u v images s t h reports e = absurd h
+  stored_states before (x ∷ xs) [] after i k u v images s t h reports e = absurd images
+  stored_states before (x ∷ xs) (y ∷ ys) after i k u v images s t (inl same) reports e =
       let there : to i ≡ Some y = ap to (sym same) ∙ images.0 in
       let at : y ≡ k = cc in
-      let one : Some (link u v) ≡ Some (link before (first_or xs after)) = sym shows ∙ (ap old (sym same) ∙ s.0) in
+      let one : Some (link u v) ≡ Some (link before (first_or xs after)) = sym reports ∙ (ap old (sym same) ∙ s.0) in
       ap new (sym at)
       ∙ (t.0
       ∙ (ap (λ (o : Option ℕ). Some (link (option_and_then to before) o)) (sym (images-first to xs ys after images.1))
@@ -166,20 +166,20 @@ module _ (to : ℕ → Option ℕ) (old new : LinkMap) where
       renamed_link : Option Interlinks → Option Interlinks
       renamed_link None = None
       renamed_link (Some l) = Some (link (option_and_then to l.prev) (option_and_then to l.next))
-  stands_tells before (x ∷ xs) (y ∷ ys) after i k u v images s t (inr h) shows e =
-      stands_tells (Some x) xs ys after i k u v images.1 s.1 (subst (λ (o : Option ℕ). AreLinked new o ys (option_and_then to after)) (sym images.0) t.1) h shows e
+  stored_states before (x ∷ xs) (y ∷ ys) after i k u v images s t (inr h) reports e =
+      stored_states (Some x) xs ys after i k u v images.1 s.1 (subst (λ (o : Option ℕ). AreLinked new o ys (option_and_then to after)) (sym images.0) t.1) h reports e
 
   -- a chain and its image give the interlinks at the new indexes
-  chain_tells : (c d : Chain) (i k : ℕ) (u v : Option ℕ) → IsImage to c d → IsChain old c → IsChain new d
+  chain_states : (c d : Chain) (i k : ℕ) (u v : Option ℕ) → IsImage to c d → IsChain old c → IsChain new d
       → IsMember (items c) i → old i ≡ Some (link u v) → to i ≡ Some k → new k ≡ Some (link (option_and_then to u) (option_and_then to v))
-  chain_tells (linear xs) (linear ys) i k u v image h n m shows e = stands_tells None xs ys None i k u v image h.2 n.2 m shows e
-  chain_tells (cyclic xs) (cyclic ys) i k u v image h n m shows e =
-      stands_tells (last_or xs None) xs ys (first_or xs None) i k u v image h.2
+  chain_states (linear xs) (linear ys) i k u v image h n m reports e = stored_states None xs ys None i k u v image h.2 n.2 m reports e
+  chain_states (cyclic xs) (cyclic ys) i k u v image h n m reports e =
+      stored_states (last_or xs None) xs ys (first_or xs None) i k u v image h.2
       (subst (λ (o : Option ℕ). AreLinked new o ys (option_and_then to (first_or xs None))) (sym (images-last to xs ys None image))
       (subst (λ (o : Option ℕ). AreLinked new (last_or ys None) ys o) (sym (images-first to xs ys None image)) n.2))
-      m shows e
-  chain_tells (linear xs) (cyclic ys) i k u v image h n m shows e = absurd image
-  chain_tells (cyclic xs) (linear ys) i k u v image h n m shows e = absurd image
+      m reports e
+  chain_states (linear xs) (cyclic ys) i k u v image h n m reports e = absurd image
+  chain_states (cyclic xs) (linear ys) i k u v image h n m reports e = absurd image
 
   -- an arena with the images of all chains is their renaming
   pub renames_by_chains : (chains others : List Chain) → ((i j k : ℕ) → to i ≡ Some k → to j ≡ Some k → i ≡ j) → AreChains old chains → AreImagesOf to chains others
@@ -190,8 +190,8 @@ module _ (to : ℕ → Option ℕ) (old new : LinkMap) where
     onto = λ k valid.
         let i = image_of to (all_items chains) (all_items others) k (images-items to chains others images) (also.all k valid) in
         (i.0, all_items_valid old chains i.0 are.each i.1, i.2);
-    carries = λ i k u v shows e.
-        let c = chain_at chains i (are.all i (shows_valid old i (link u v) shows)) in
+    carries = λ i k u v reports e.
+        let c = chain_at chains i (are.all i (reports_valid old i (link u v) reports)) in
         let d = chain_image to chains others c.0 images c.1 in
-        chain_tells c.0 d.0 i k u v d.2 (are.each c.0 c.1) (also.each d.0 d.1) c.2 shows e;
+        chain_states c.0 d.0 i k u v d.2 (are.each c.0 c.1) (also.each d.0 d.1) c.2 reports e;
   }

@@ -9,7 +9,7 @@ use Rattle.chain_laws.specs.Renamings.{IsRenaming}
 use Rattle.chain_laws.specs.Arrangements.{place_in}
 use Rattle.chain_laws.specs.Moves.{moved_index, moved, CanMove, moving, gathered_place, IsGathering, GatheringBegins, GatheringSkips, GatheringContinues, GatheringEnds}
 use Rattle.chain_laws.proofs.ListLemmas.Members.{IsMember-left, IsMember-middle, IsMember-parts, IsMember-or_not, AreDistinct-append}
-use Rattle.chain_laws.proofs.ChainLemmas.LinkedLists.{link, shows_valid}
+use Rattle.chain_laws.proofs.ChainLemmas.LinkedLists.{link, reports_valid}
 use Rattle.chain_laws.proofs.InterlinkLemmas.Inverses.{not_both_ways}
 use Rattle.chain_laws.proofs.InterlinkLemmas.Linked.{IsValidAt}
 use Rattle.chain_laws.proofs.RenamingLemmas.Chains.{valid_renamed, renaming-same, renaming_agrees, renamings_compose}
@@ -74,7 +74,7 @@ module _ (old now : LinkMap) (done : List ℕ) (k : ℕ) (gathering : IsGatherin
       holds i w = by (ℕ_discrete i (k + 1))
         where
           by : Dec (i ≡ k + 1) → IsMember done i
-          by (yes e) = absurd (not_both_ways (old i) w.0.link (ap old e ∙ free) w.0.shows)
+          by (yes e) = absurd (not_both_ways (old i) w.0.link (ap old e ∙ free) w.0.reports)
           by (no differs) = let low : i ≤ k + 1 = w.1 in (gathering.holds i).1 (w.0, omega arith)
 
   -- ---- at the end
@@ -85,7 +85,7 @@ module _ (old now : LinkMap) (done : List ℕ) (k : ℕ) (gathering : IsGatherin
     where
       none : (i : ℕ) (o : Option Interlinks) → old i ≡ o → k < i → option_map (λ _. i) o ≡ place_in done i
       none i None is high = sym (place-none 1 done i (λ h. let low : i ≤ k = holds_low i h in omega arith))
-      none i (Some l) is high = let w = within.within i (shows_valid old i l is) in let low : i ≤ k = w.1 in absurd (omega arith)
+      none i (Some l) is high = let w = within.within i (reports_valid old i l is) in let low : i ≤ k = w.1 in absurd (omega arith)
 
       same : (i : ℕ) → gathered_place old done k i ≡ place_in done i
       same i = by (cases_lt k i)
@@ -99,7 +99,7 @@ module _ (old now : LinkMap) (done : List ℕ) (k : ℕ) (gathering : IsGatherin
   module _ (agrees : IsWellLinked old) (valid : HasLink old (k + 1)) where
     -- the next link has not been moved yet
     here : gathered_place old done k (k + 1) ≡ Some (k + 1)
-    here = gathered_place-high old done k (k + 1) (omega arith) ∙ ap (option_map (λ _. k + 1)) valid.shows
+    here = gathered_place-high old done k (k + 1) (omega arith) ∙ ap (option_map (λ _. k + 1)) valid.reports
 
     -- no other link is at the destination
     free : (length done + 1 ≡ k + 1) ⊎ (now (length done + 1) ≡ None)
@@ -124,7 +124,7 @@ module _ (old now : LinkMap) (done : List ℕ) (k : ℕ) (gathering : IsGatherin
         by (yes e) o is = inl e
         by (no differs) None is = inr is
         by (no differs) (Some l) is =
-            let i = gathering.renamed.onto (length done + 1) (shows_valid now (length done + 1) l is) in
+            let i = gathering.renamed.onto (length done + 1) (reports_valid now (length done + 1) l is) in
             absurd (none i.0 i.2 differs)
 
     -- the next link may be moved
@@ -220,10 +220,10 @@ rests link_map agrees = record {
   apart = λ i j k e f. (sent-from link_map i i k e).1 ∙ sym (sent-from link_map j j k f).1;
   each = λ i valid. (i, sent-valid link_map i i valid);
   onto = λ i valid. (i, valid, sent-valid link_map i i valid);
-  carries = λ i k u v shows e.
+  carries = λ i k u v reports e.
       ap link_map (sym (sent-from link_map i i k e).1)
-      ∙ (shows
-      ∙ ap₂ (λ (o p : Option ℕ). Some (link o p)) (stays u (λ q s. prev_named link_map i agrees q (ap prev_in shows ∙ s))) (stays v (λ q s. next_named link_map i agrees q (ap next_in shows ∙ s))));
+      ∙ (reports
+      ∙ ap₂ (λ (o p : Option ℕ). Some (link o p)) (stays u (λ q s. prev_named link_map i agrees q (ap prev_in reports ∙ s))) (stays v (λ q s. next_named link_map i agrees q (ap next_in reports ∙ s))));
 }
   where
     stays : (o : Option ℕ) → IsValidAt link_map o → o ≡ option_and_then (λ i. option_map (λ _. i) (link_map i)) o
@@ -244,7 +244,7 @@ gathering_begins link_map slots agrees within = record {
 
     unsent : (i : ℕ) (o : Option Interlinks) → link_map i ≡ o → i ≤ 0 → option_map (λ _. i) o ≡ None
     unsent i None is low = refl
-    unsent i (Some l) is low = absurd (none i (shows_valid link_map i l is) low)
+    unsent i (Some l) is low = absurd (none i (reports_valid link_map i l is) low)
 
     same : (i : ℕ) → option_map (λ _. i) (link_map i) ≡ gathered_place link_map [] 0 i
     same i = by (cases_lt 0 i)

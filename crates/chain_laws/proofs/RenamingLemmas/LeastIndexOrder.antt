@@ -10,7 +10,7 @@ use Rattle.chain_laws.proofs.ChainLemmas.Uniqueness.{IsMember-at_most, chain_fil
 use Rattle.chain_laws.proofs.ChainLemmas.NeighborPairs.{partitions, interlinks, chains_from_pairs}
 use Rattle.chain_laws.proofs.ChainLemmas.Partitions.{the_chains}
 use Rattle.chain_laws.proofs.RenamingLemmas.Positions.{place-first, place-other}
-use Rattle.chain_laws.proofs.RenamingLemmas.ChainRuns.{lays_chains_in_runs}
+use Rattle.chain_laws.proofs.RenamingLemmas.ChainRuns.{arranges_chains_in_runs}
 
 -- there is a least-index order
 pub has_least_index_order : HasLeastIndexOrder
@@ -106,7 +106,7 @@ least_index_order_rests link_map n canonical = record {
 pub layout_rests : LayoutRests
 layout_rests old new indexes order renaming =
     let runs =
-    lays_chains_in_runs old new order.chains (chains_from_pairs old order.chains order.are.partition order.are.interlinks)
+    arranges_chains_in_runs old new order.chains (chains_from_pairs old order.chains order.are.partition order.are.interlinks)
     (subst (λ (is : List ℕ). IsRenaming (place_in is) old new) order.items renaming) in
     least_index_order_rests new (length indexes) (record {
       chains = in_runs 1 order.chains;

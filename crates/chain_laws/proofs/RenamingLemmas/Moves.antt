@@ -6,10 +6,10 @@ use Rattle.chain_laws.specs.Chains.{LinkMap, Interlinks, HasLink, IsWellLinked, 
 use Rattle.chain_laws.specs.Joins.{next_set, prev_set}
 use Rattle.chain_laws.specs.Renamings.{IsRenaming}
 use Rattle.chain_laws.specs.Moves.{moved_index, with_moved, moved, put, CanMove, moving, MoveRenames, NeighborsDetermineAMove}
-use Rattle.chain_laws.proofs.ChainLemmas.LinkedLists.{link, shows_both, shows_valid, next_valid, prev_valid}
+use Rattle.chain_laws.proofs.ChainLemmas.LinkedLists.{link, reports_both, reports_valid, next_valid, prev_valid}
 use Rattle.chain_laws.proofs.InterlinkLemmas.Inverses.{if_same, if_other, altered-same, altered-other, one_some, not_both_ways}
 use Rattle.chain_laws.proofs.InterlinkLemmas.Linked.{IsValidAt, put_at, prev_of-next_set, next_of-prev_set, next_of-next_set, prev_of-prev_set, HasLink-next_set, HasLink-prev_set, HasLink-changed}
-use Rattle.chain_laws.proofs.RenamingLemmas.Chains.{same_shown}
+use Rattle.chain_laws.proofs.RenamingLemmas.Chains.{same_reported}
 
 -- the moved index
 pub moved_index-same : (i k j : ℕ) → j ≡ i → moved_index i k j ≡ k
@@ -21,7 +21,7 @@ moved_index-other i k j differs = if_other j i k j differs
 
 -- a link sent to n has the destination n
 pub sent-valid : (link_map : LinkMap) (j n : ℕ) → HasLink link_map j → option_map (λ _. n) (link_map j) ≡ Some n
-sent-valid link_map j n valid = ap (option_map (λ _. n)) valid.shows
+sent-valid link_map j n valid = ap (option_map (λ _. n)) valid.reports
 
 -- only a link has a destination
 pub sent-from : (link_map : LinkMap) (j n m : ℕ) → option_map (λ _. n) (link_map j) ≡ Some m → HasLink link_map j × (n ≡ m)
@@ -29,16 +29,16 @@ sent-from link_map j n m e = by (link_map j) refl e
   where
     by : (o : Option Interlinks) → link_map j ≡ o → option_map (λ _. n) o ≡ Some m → HasLink link_map j × (n ≡ m)
     by None is goes = absurd (cc)
-    by (Some l) is goes = (shows_valid link_map j l is, one_some goes)
+    by (Some l) is goes = (reports_valid link_map j l is, one_some goes)
 
 -- each link after a move was there before it
 put_from : (link_map : LinkMap) (i k m : ℕ) → HasLink (put link_map i k) m → (j : ℕ) × HasLink link_map j × (moved_index i k j ≡ m)
 put_from link_map i k m valid = by (ℕ_discrete m k) (ℕ_discrete m i)
   where
     by : Dec (m ≡ k) → Dec (m ≡ i) → (j : ℕ) × HasLink link_map j × (moved_index i k j ≡ m)
-    by (yes e) rest = (i, shows_valid link_map i valid.link (sym (if_same m k _ _ e) ∙ valid.shows), moved_index-same i k i refl ∙ sym e)
-    by (no c) (yes e) = absurd (not_both_ways (put link_map i k m) valid.link (if_other m k _ _ c ∙ if_same m i _ _ e) valid.shows)
-    by (no c) (no d) = (m, shows_valid link_map m valid.link (sym (if_other m k _ _ c ∙ if_other m i _ _ d) ∙ valid.shows), moved_index-other i k m d)
+    by (yes e) rest = (i, reports_valid link_map i valid.link (sym (if_same m k _ _ e) ∙ valid.reports), moved_index-same i k i refl ∙ sym e)
+    by (no c) (yes e) = absurd (not_both_ways (put link_map i k m) valid.link (if_other m k _ _ c ∙ if_same m i _ _ e) valid.reports)
+    by (no c) (no d) = (m, reports_valid link_map m valid.link (sym (if_other m k _ _ c ∙ if_other m i _ _ d) ∙ valid.reports), moved_index-other i k m d)
 
 -- the index after a link is valid
 pub next_named : (link_map : LinkMap) (j : ℕ) → IsWellLinked link_map → IsValidAt link_map (next_of link_map j)
@@ -55,7 +55,7 @@ module _ (link_map : LinkMap) (i k : ℕ) (agrees : IsWellLinked link_map) (can 
     where
       by : (k ≡ i) ⊎ (link_map k ≡ None) → ⊥
       by (inl same) = differs (e ∙ same)
-      by (inr none) = not_both_ways (link_map j) valid.link (ap link_map e ∙ none) valid.shows
+      by (inr none) = not_both_ways (link_map j) valid.link (ap link_map e ∙ none) valid.reports
 
   -- no two links are moved to one index
   index_apart : (a b : ℕ) → HasLink link_map a → HasLink link_map b → moved_index i k a ≡ moved_index i k b → a ≡ b
@@ -86,13 +86,13 @@ module _ (link_map : LinkMap) (i k : ℕ) (agrees : IsWellLinked link_map) (can 
   -- after the move a link names the new indexes of its neighbors
   moved_to : (j : ℕ) (u v : Option ℕ) → link_map j ≡ Some (link u v)
       → moved link_map i k (moved_index i k j) ≡ Some (link (option_map (moved_index i k) u) (option_map (moved_index i k) v))
-  moved_to j u v shows =
-      put_to (λ m. option_map (with_moved i k) (link_map m)) j (shows_valid link_map j (link u v) shows) ∙ ap (option_map (with_moved i k)) shows
+  moved_to j u v reports =
+      put_to (λ m. option_map (with_moved i k) (link_map m)) j (reports_valid link_map j (link u v) reports) ∙ ap (option_map (with_moved i k)) reports
 
   -- each link after the move was there before it
   moved_from : (m : ℕ) → HasLink (moved link_map i k) m → (j : ℕ) × HasLink link_map j × (moved_index i k j ≡ m)
   moved_from m valid =
-      let j = put_from (λ (a : ℕ). option_map (with_moved i k) (link_map a)) i k m (record { link = valid.link; shows = valid.shows }) in
+      let j = put_from (λ (a : ℕ). option_map (with_moved i k) (link_map a)) i k m (record { link = valid.link; reports = valid.reports }) in
       (j.0, (HasLink-changed (λ (a : ℕ). option_map (with_moved i k) (link_map a)) link_map (with_moved i k) j.0 refl).0 j.1, j.2)
 
   -- a move is a renaming
@@ -104,20 +104,20 @@ module _ (link_map : LinkMap) (i k : ℕ) (agrees : IsWellLinked link_map) (can 
         index_apart a b x.0 y.0 (x.1 ∙ sym y.1);
     each = λ j valid. (moved_index i k j, sent-valid link_map j (moved_index i k j) valid);
     onto = λ m valid. let j = moved_from m valid in (j.0, j.1, sent-valid link_map j.0 (moved_index i k j.0) j.1 ∙ ap Some j.2);
-    carries = λ j m u v shows e.
+    carries = λ j m u v reports e.
         ap (moved link_map i k) (sym (sent-from link_map j (moved_index i k j) m e).1)
-        ∙ (moved_to j u v shows
-        ∙ ap₂ (λ (o p : Option ℕ). Some (link o p)) (goes_to u (λ q s. prev_named link_map j agrees q (ap prev_in shows ∙ s))) (goes_to v (λ q s. next_named link_map j agrees q (ap next_in shows ∙ s))));
+        ∙ (moved_to j u v reports
+        ∙ ap₂ (λ (o p : Option ℕ). Some (link o p)) (goes_to u (λ q s. prev_named link_map j agrees q (ap prev_in reports ∙ s))) (goes_to v (λ q s. next_named link_map j agrees q (ap next_in reports ∙ s))));
   }
 
   -- ---- writes to the neighbors
 
   -- there are links at the new indexes of the neighbors
-  neighbor_stands : (o : Option ℕ) → IsValidAt link_map o → IsValidAt (put link_map i k) (option_map (moved_index i k) o)
-  neighbor_stands None valid m e = absurd (cc)
-  neighbor_stands (Some q) valid m e =
-      let stands = valid q refl in
-      shows_valid (put link_map i k) m stands.link (ap (put link_map i k) (sym (one_some e)) ∙ (put_to link_map q stands ∙ stands.shows))
+  neighbor_stored : (o : Option ℕ) → IsValidAt link_map o → IsValidAt (put link_map i k) (option_map (moved_index i k) o)
+  neighbor_stored None valid m e = absurd (cc)
+  neighbor_stored (Some q) valid m e =
+      let stored = valid q refl in
+      reports_valid (put link_map i k) m stored.link (ap (put link_map i k) (sym (one_some e)) ∙ (put_to link_map q stored ∙ stored.reports))
 
   -- an index other than i is unchanged
   named_as_before : (o : Option ℕ) → o ≢ Some i → option_map (moved_index i k) o ≡ o
@@ -125,10 +125,10 @@ module _ (link_map : LinkMap) (i k : ℕ) (agrees : IsWellLinked link_map) (can 
   named_as_before (Some q) differs = ap Some (moved_index-other i k q (λ e. differs (ap Some e)))
 
   -- writing k to the one link that names i gives each link its new neighbor
-  told : (names now : ℕ → Option ℕ) (o : Option ℕ) (j : ℕ) → ((q : ℕ) → (o ≡ Some q) ↔ (names q ≡ Some i)) → IsValidAt link_map o → HasLink link_map j
+  known : (names now : ℕ → Option ℕ) (o : Option ℕ) (j : ℕ) → ((q : ℕ) → (o ≡ Some q) ↔ (names q ≡ Some i)) → IsValidAt link_map o → HasLink link_map j
       → now (moved_index i k j) ≡ names j → put_at now (option_map (moved_index i k) o) (Some k) (moved_index i k j) ≡ option_map (moved_index i k) (names j)
-  told names now None j only valid here as_before = as_before ∙ sym (named_as_before (names j) (λ e. absurd (not_both_ways None j refl ((only j).1 e))))
-  told names now (Some q) j only valid here as_before = by (ℕ_discrete j q)
+  known names now None j only valid here as_before = as_before ∙ sym (named_as_before (names j) (λ e. absurd (not_both_ways None j refl ((only j).1 e))))
+  known names now (Some q) j only valid here as_before = by (ℕ_discrete j q)
     where
       by : Dec (j ≡ q) → put_at now (Some (moved_index i k q)) (Some k) (moved_index i k j) ≡ option_map (moved_index i k) (names j)
       by (yes e) =
@@ -139,51 +139,51 @@ module _ (link_map : LinkMap) (i k : ℕ) (agrees : IsWellLinked link_map) (can 
           ∙ (as_before ∙ sym (named_as_before (names j) (λ e. differs (sym (one_some ((only j).1 e))))))
 
   -- the arena after the write to the link before i
-  abbrev next_told : LinkMap
-  next_told = next_set (put link_map i k) (option_map (moved_index i k) (prev_of link_map i)) (Some k)
+  abbrev next_known : LinkMap
+  next_known = next_set (put link_map i k) (option_map (moved_index i k) (prev_of link_map i)) (Some k)
 
   -- the arena after both writes
-  abbrev both_told : LinkMap
-  both_told = prev_set next_told (option_map (moved_index i k) (next_of link_map i)) (Some k)
+  abbrev both_known : LinkMap
+  both_known = prev_set next_known (option_map (moved_index i k) (next_of link_map i)) (Some k)
 
   -- the valid indexes after both writes
-  told_valid : (m : ℕ) → HasLink both_told m ↔ HasLink (put link_map i k) m
-  told_valid m =
-      let after = HasLink-prev_set next_told (option_map (moved_index i k) (next_of link_map i)) (Some k) m in
+  known_valid : (m : ℕ) → HasLink both_known m ↔ HasLink (put link_map i k) m
+  known_valid m =
+      let after = HasLink-prev_set next_known (option_map (moved_index i k) (next_of link_map i)) (Some k) m in
       let before = HasLink-next_set (put link_map i k) (option_map (moved_index i k) (prev_of link_map i)) (Some k) m in
       (λ v. before.0 (after.0 v), λ v. after.1 (before.1 v))
 
   -- each `next` after both writes
-  told_next : (j : ℕ) → HasLink link_map j → next_of both_told (moved_index i k j) ≡ option_map (moved_index i k) (next_of link_map j)
-  told_next j valid =
-      next_of-prev_set next_told (option_map (moved_index i k) (next_of link_map i)) (Some k) (moved_index i k j)
-      ∙ (next_of-next_set (put link_map i k) (option_map (moved_index i k) (prev_of link_map i)) (Some k) (moved_index i k j) (neighbor_stands (prev_of link_map i) (prev_named link_map i agrees))
-      ∙ told (next_of link_map) (next_of (put link_map i k)) (prev_of link_map i) j (λ q. ((agrees.both q i).1, (agrees.both q i).0)) (prev_named link_map i agrees) valid (ap next_in (put_to link_map j valid)))
+  known_next : (j : ℕ) → HasLink link_map j → next_of both_known (moved_index i k j) ≡ option_map (moved_index i k) (next_of link_map j)
+  known_next j valid =
+      next_of-prev_set next_known (option_map (moved_index i k) (next_of link_map i)) (Some k) (moved_index i k j)
+      ∙ (next_of-next_set (put link_map i k) (option_map (moved_index i k) (prev_of link_map i)) (Some k) (moved_index i k j) (neighbor_stored (prev_of link_map i) (prev_named link_map i agrees))
+      ∙ known (next_of link_map) (next_of (put link_map i k)) (prev_of link_map i) j (λ q. ((agrees.both q i).1, (agrees.both q i).0)) (prev_named link_map i agrees) valid (ap next_in (put_to link_map j valid)))
 
   -- each `prev` after both writes
-  told_prev : (j : ℕ) → HasLink link_map j → prev_of both_told (moved_index i k j) ≡ option_map (moved_index i k) (prev_of link_map j)
-  told_prev j valid =
-      prev_of-prev_set next_told (option_map (moved_index i k) (next_of link_map i)) (Some k) (moved_index i k j) after_stands
-      ∙ told (prev_of link_map) (prev_of next_told) (next_of link_map i) j (agrees.both i) (next_named link_map i agrees) valid
+  known_prev : (j : ℕ) → HasLink link_map j → prev_of both_known (moved_index i k j) ≡ option_map (moved_index i k) (prev_of link_map j)
+  known_prev j valid =
+      prev_of-prev_set next_known (option_map (moved_index i k) (next_of link_map i)) (Some k) (moved_index i k j) after_stored
+      ∙ known (prev_of link_map) (prev_of next_known) (next_of link_map i) j (agrees.both i) (next_named link_map i agrees) valid
       (prev_of-next_set (put link_map i k) (option_map (moved_index i k) (prev_of link_map i)) (Some k) (moved_index i k j) ∙ ap prev_in (put_to link_map j valid))
     where
-      after_stands : IsValidAt next_told (option_map (moved_index i k) (next_of link_map i))
-      after_stands m e =
-          (HasLink-next_set (put link_map i k) (option_map (moved_index i k) (prev_of link_map i)) (Some k) m).1 (neighbor_stands (next_of link_map i) (next_named link_map i agrees) m e)
+      after_stored : IsValidAt next_known (option_map (moved_index i k) (next_of link_map i))
+      after_stored m e =
+          (HasLink-next_set (put link_map i k) (option_map (moved_index i k) (prev_of link_map i)) (Some k) m).1 (neighbor_stored (next_of link_map i) (next_named link_map i agrees) m e)
 
   -- both writes leave each link as the move does
-  told_shows : (j : ℕ) → HasLink link_map j → both_told (moved_index i k j) ≡ moved link_map i k (moved_index i k j)
-  told_shows j valid =
-      let stands = shows_valid (put link_map i k) (moved_index i k j) valid.link (put_to link_map j valid ∙ valid.shows) in
-      shows_both both_told (moved_index i k j) _ _ ((told_valid (moved_index i k j)).1 stands) (told_prev j valid) (told_next j valid)
-      ∙ sym (moved_to j (prev_of link_map j) (next_of link_map j) (shows_both link_map j (prev_of link_map j) (next_of link_map j) valid refl refl))
+  known_reports : (j : ℕ) → HasLink link_map j → both_known (moved_index i k j) ≡ moved link_map i k (moved_index i k j)
+  known_reports j valid =
+      let stored = reports_valid (put link_map i k) (moved_index i k j) valid.link (put_to link_map j valid ∙ valid.reports) in
+      reports_both both_known (moved_index i k j) _ _ ((known_valid (moved_index i k j)).1 stored) (known_prev j valid) (known_next j valid)
+      ∙ sym (moved_to j (prev_of link_map j) (next_of link_map j) (reports_both link_map j (prev_of link_map j) (next_of link_map j) valid refl refl))
 
   -- both writes make the move
-  is_told : both_told ≡ moved link_map i k
-  is_told = same_shown both_told (moved link_map i k) (λ m v. at m (put_from link_map i k m ((told_valid m).0 v))) (λ m v. at m (moved_from m v))
+  is_known : both_known ≡ moved link_map i k
+  is_known = same_reported both_known (moved link_map i k) (λ m v. at m (put_from link_map i k m ((known_valid m).0 v))) (λ m v. at m (moved_from m v))
     where
-      at : (m : ℕ) → (j : ℕ) × HasLink link_map j × (moved_index i k j ≡ m) → both_told m ≡ moved link_map i k m
-      at m j = subst (λ (a : ℕ). both_told a ≡ moved link_map i k a) j.2 (told_shows j.0 j.1)
+      at : (m : ℕ) → (j : ℕ) × HasLink link_map j × (moved_index i k j ≡ m) → both_known m ≡ moved link_map i k m
+      at m j = subst (λ (a : ℕ). both_known a ≡ moved link_map i k a) j.2 (known_reports j.0 j.1)
 
 -- a move to a free index is a renaming
 pub move_renames : MoveRenames
@@ -191,4 +191,4 @@ move_renames link_map i k agrees can = is_renaming link_map i k agrees can
 
 -- only the two neighbors have to be written
 pub neighbors_tell_a_move : NeighborsDetermineAMove
-neighbors_tell_a_move link_map i k agrees can = is_told link_map i k agrees can
+neighbors_tell_a_move link_map i k agrees can = is_known link_map i k agrees can

@@ -2,7 +2,7 @@
 use Rattle.std.proofs.Common.{◌≡◌, ◌≢◌, ℕ, ◌≤◌, ◌⊎◌, inl, inr, Bool, true, false, List, [], ◌∷◌, ◌++◌, Option, None, Some, refl, sym, ap, ◌∙◌, subst, arith}
 use Rattle.std.specs.Prelude.{is_some}
 use Rattle.chain_laws.specs.Chains.{LinkMap, Chain, linear, cyclic, items, all_items, HasChain, IsMember, AreDistinct, IsChain, HasLink, StartsAtLeast, first_or, prev_in, next_in, prev_of, next_of}
-use Rattle.chain_laws.specs.Removals.{removed}
+use Rattle.chain_laws.specs.Removals.{with_removal}
 use Rattle.chain_laws.specs.Walks.{step_forward}
 use Rattle.chain_laws.specs.ChainStart.{IsStart, chain_of, LeastIsNext}
 use Rattle.chain_laws.specs.Transfer.{with_rest, FirstIsTaken}
@@ -60,7 +60,7 @@ least_is_next link_map (c ∷ rest) i here are order valid least start =
         absurd (omega arith)
 
 -- the rest of the chain, if it is not empty
-left_chain : (link_map : LinkMap) (ring : Bool) (x : ℕ) (xs : List ℕ) → IsChain link_map (chain_of ring (x ∷ xs)) → xs ≢ [] → IsChain (removed link_map x) (chain_of ring xs)
+left_chain : (link_map : LinkMap) (ring : Bool) (x : ℕ) (xs : List ℕ) → IsChain link_map (chain_of ring (x ∷ xs)) → xs ≢ [] → IsChain (with_removal link_map x) (chain_of ring xs)
 left_chain link_map false x xs h filled = removed_from_linear link_map x [] xs h filled
 left_chain link_map true x xs h filled = removed_first_of_cyclic link_map x xs h filled
 
@@ -91,19 +91,19 @@ first_is_taken link_map ring x xs rest agrees are = (record { each = each xs ref
     once : AreDistinct (x ∷ xs ++ all_items rest)
     once = subst AreDistinct written are.once
 
-    others : (c : Chain) → HasChain rest c → IsChain (removed link_map x) c
+    others : (c : Chain) → HasChain rest c → IsChain (with_removal link_map x) c
     others c h = removed_rest link_map x agrees c (λ m. once.0 (IsMember-right xs (all_items rest) x (IsMember-all_items rest c x h m))) (are.each c (inr h))
 
-    each : (ys : List ℕ) → xs ≡ ys → (c : Chain) → HasChain (with_rest ring ys rest) c → IsChain (removed link_map x) c
+    each : (ys : List ℕ) → xs ≡ ys → (c : Chain) → HasChain (with_rest ring ys rest) c → IsChain (with_removal link_map x) c
     each [] e c h = others c h
-    each (y ∷ ys) e c (inl same) = subst (IsChain (removed link_map x)) same (subst (λ (zs : List ℕ). IsChain (removed link_map x) (chain_of ring zs)) e (left_chain link_map ring x xs first (λ empty. cc)))
+    each (y ∷ ys) e c (inl same) = subst (IsChain (with_removal link_map x)) same (subst (λ (zs : List ℕ). IsChain (with_removal link_map x) (chain_of ring zs)) e (left_chain link_map ring x xs first (λ empty. cc)))
     each (y ∷ ys) e c (inr h) = others c h
 
     among : (j : ℕ) → j ≢ x → IsMember (x ∷ xs ++ all_items rest) j → IsMember (xs ++ all_items rest) j
     among j ne (inl same) = absurd (ne (sym same))
     among j ne (inr h) = h
 
-    all : (j : ℕ) → HasLink (removed link_map x) j → IsMember (all_items (with_rest ring xs rest)) j
+    all : (j : ℕ) → HasLink (with_removal link_map x) j → IsMember (all_items (with_rest ring xs rest)) j
     all j v =
         let w = (HasLink-removed link_map x j).0 v in
         subst (λ (zs : List ℕ). IsMember zs j) (sym (items_left ring xs rest)) (among j w.1 (subst (λ (zs : List ℕ). IsMember zs j) written (are.all j w.0)))

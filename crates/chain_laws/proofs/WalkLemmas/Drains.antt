@@ -4,8 +4,8 @@ use Rattle.std.specs.Option.{option_or}
 use Rattle.std.proofs.Common.{sym, refl, ap, ap₂, ◌∙◌, subst, inl, inr, ⊎_elim, append-nil}
 use mathlib.Core.List.{reverse_aux}
 use Rattle.chain_laws.specs.Chains.{LinkMap, Interlinks, Chain, linear, cyclic, items, IsChain, HasLink, HasLinksWithin, IsWellLinked, IsMember, prev_in, next_in, prev_of, next_of, first_or, last_or}
-use Rattle.chain_laws.specs.Removals.{removed, vacated}
-use Rattle.chain_laws.specs.Walks.{IsWalk, there_and_back, round, walk_ahead, step_forward, rest_start_of, walk_from, removed_each, RemovalLeavesTheWalk, TakesWalk, WalkIsTaken}
+use Rattle.chain_laws.specs.Removals.{with_removal, without_link}
+use Rattle.chain_laws.specs.Walks.{IsWalk, there_and_back, once_around, walk_ahead, step_forward, rest_start_of, walk_from, removed_each, RemovalLeavesTheWalk, TakesWalk, WalkIsTaken}
 use Rattle.chain_laws.proofs.ListLemmas.Members.{IsMember-left, IsMember-filled, IsMember-middle, AreDistinct-right, AreDistinct-apart, last_or-append, last_apart}
 use Rattle.chain_laws.proofs.ChainLemmas.LinkedLists.{link, AreLinked-right, AreLinked-frame}
 use Rattle.chain_laws.proofs.InterlinkLemmas.Inverses.{if_same, one_some, not_both_ways}
@@ -41,27 +41,27 @@ goes_back link_map i k e ne = goes_on_by link_map i (Some k) None e ∙ step_for
 -- the rest of a walk without its first link
 record LeavesWalk (link_map : LinkMap) (i : ℕ) (rest : List ℕ) : Type 0 where
   first : first_or rest None ≡ rest_start_of link_map i
-  walk : (k : ℕ) → first_or rest None ≡ Some k → IsWalk (removed link_map i) k rest
+  walk : (k : ℕ) → first_or rest None ≡ Some k → IsWalk (with_removal link_map i) k rest
 
 -- the first link of the rest is known
-leaves_from : (link_map : LinkMap) (i k : ℕ) (rest : List ℕ) → rest_start_of link_map i ≡ Some k → first_or rest None ≡ Some k → IsWalk (removed link_map i) k rest → LeavesWalk link_map i rest
+leaves_from : (link_map : LinkMap) (i k : ℕ) (rest : List ℕ) → rest_start_of link_map i ≡ Some k → first_or rest None ≡ Some k → IsWalk (with_removal link_map i) k rest → LeavesWalk link_map i rest
 leaves_from link_map i k rest goes first walk = record {
   first = first ∙ sym goes;
-  walk = λ j e. subst (λ (n : ℕ). IsWalk (removed link_map i) n rest) (one_some (sym first ∙ e)) walk;
+  walk = λ j e. subst (λ (n : ℕ). IsWalk (with_removal link_map i) n rest) (one_some (sym first ∙ e)) walk;
 }
 
 -- from the end of a linear chain the walk goes back
 leaves_back : (link_map : LinkMap) (i k : ℕ) (before : List ℕ) → IsChain link_map (linear ((before ++ k ∷ []) ++ i ∷ [])) → LeavesWalk link_map i (reverse (before ++ k ∷ []))
 leaves_back link_map i k before chain =
     let left = before ++ k ∷ [] in
-    let stands : link_map i ≡ Some (link (last_or left None) None) = (AreLinked-right link_map None left (i ∷ []) None chain.2).0 in
+    let stored : link_map i ≡ Some (link (last_or left None) None) = (AreLinked-right link_map None left (i ∷ []) None chain.2).0 in
     let other : k ≢ i = λ e. AreDistinct-apart left (i ∷ []) k chain.1 (IsMember-middle before [] k) (inl (sym e)) in
-    let shorter : IsChain (removed link_map i) (linear left) = subst (λ (zs : List ℕ). IsChain (removed link_map i) (linear zs)) (append-nil left)
+    let shorter : IsChain (with_removal link_map i) (linear left) = subst (λ (zs : List ℕ). IsChain (with_removal link_map i) (linear zs)) (append-nil left)
     (removed_from_linear link_map i left [] chain (IsMember-filled (left ++ []) k (IsMember-left left [] k (IsMember-middle before [] k)))) in
     leaves_from link_map i k (reverse left)
-    (goes_back link_map i k (stands ∙ ap (λ (o : Option ℕ). let l : Option Interlinks = Some (link o None) in l) (last_or-append before (k ∷ []) None)) other)
+    (goes_back link_map i k (stored ∙ ap (λ (o : Option ℕ). let l : Option Interlinks = Some (link o None) in l) (last_or-append before (k ∷ []) None)) other)
     (ap (λ (zs : List ℕ). first_or zs None) (last_reversed before k []))
-    (subst (λ (zs : List ℕ). IsWalk (removed link_map i) k zs) (sym (last_reversed before k [])) (there_and_back before [] shorter))
+    (subst (λ (zs : List ℕ). IsWalk (with_removal link_map i) k zs) (sym (last_reversed before k [])) (there_and_back before [] shorter))
 
 -- without its first link, a walk goes on
 leaves : (link_map : LinkMap) (i : ℕ) (walk : List ℕ) → IsWalk link_map i walk → LeavesWalk link_map i (rest_of walk)
@@ -70,17 +70,17 @@ leaves link_map i _ (there_and_back (x ∷ xs) [] chain) =
     let l = last_apart x xs in
     subst (λ (zs : List ℕ). LeavesWalk link_map i (reverse zs)) (sym l.2) (leaves_back link_map i l.1 l.0 (subst (λ (zs : List ℕ). IsChain link_map (linear (zs ++ i ∷ []))) l.2 chain))
 leaves link_map i _ (there_and_back before (k ∷ ks) chain) =
-    let stands = AreLinked-right link_map None before (i ∷ k ∷ ks) None chain.2 in
+    let stored = AreLinked-right link_map None before (i ∷ k ∷ ks) None chain.2 in
     let once = AreDistinct-right before (i ∷ k ∷ ks) chain.1 in
-    leaves_from link_map i k (k ∷ ks ++ reverse before) (goes_forth link_map i k (last_or before None) stands.0 (λ e. once.0 (inl e))) refl
+    leaves_from link_map i k (k ∷ ks ++ reverse before) (goes_forth link_map i k (last_or before None) stored.0 (λ e. once.0 (inl e))) refl
     (there_and_back before ks (removed_from_linear link_map i before (k ∷ ks) chain (IsMember-filled (before ++ k ∷ ks) k (IsMember-middle before ks k))))
-leaves link_map i _ (round [] chain) = record {
+leaves link_map i _ (once_around [] chain) = record {
   first = sym (goes_on_by link_map i (Some i) (Some i) chain.2.0 ∙ ap₂ (λ (o p : Option ℕ). option_or o p) (if_same i i None (Some i) refl) (if_same i i None (Some i) refl));
   walk = λ k e. absurd (cc);
 }
-leaves link_map i _ (round (k ∷ ks) chain) =
+leaves link_map i _ (once_around (k ∷ ks) chain) =
     leaves_from link_map i k (k ∷ ks) (goes_forth link_map i k (last_or (k ∷ ks) None) chain.2.0 (λ e. chain.1.0 (inl e))) refl
-    (round ks (removed_first_of_cyclic link_map i (k ∷ ks) chain (λ e. cc)))
+    (once_around ks (removed_first_of_cyclic link_map i (k ∷ ks) chain (λ e. cc)))
 
 pub removal_leaves_the_walk : RemovalLeavesTheWalk
 removal_leaves_the_walk link_map i rest walk =
@@ -88,12 +88,12 @@ removal_leaves_the_walk link_map i rest walk =
     (l.first, l.walk)
 
 -- the removal of the first link leaves links outside the walk unchanged
-shows_rest : (link_map : LinkMap) (i : ℕ) (walk : List ℕ) → IsWalk link_map i walk → (j : ℕ) → (IsMember walk j → ⊥) → removed link_map i j ≡ link_map j
-shows_rest link_map i walk is_walk j none =
+reports_rest : (link_map : LinkMap) (i : ℕ) (walk : List ℕ) → IsWalk link_map i walk → (j : ℕ) → (IsMember walk j → ⊥) → with_removal link_map i j ≡ link_map j
+reports_rest link_map i walk is_walk j none =
     let own = walk_chain link_map i walk is_walk in
     let closed = chain_closed link_map own.0 own.1 in
     let here : IsMember (items own.0) i = (own.2 i).0 (walk_starts link_map i walk is_walk) in
-    linked-off (vacated link_map i) (prev_of link_map i) (next_of link_map i) j
+    linked-off (without_link link_map i) (prev_of link_map i) (next_of link_map i) j
     (λ k named same. none ((own.2 j).1 (closed.back i j here (named ∙ ap (λ (n : ℕ). Some n) (sym same)))))
     (λ k named same. none ((own.2 j).1 (closed.forth i j here (named ∙ ap (λ (n : ℕ). Some n) (sym same)))))
     ∙ vacated-off link_map i j (λ same. none (subst (IsMember walk) (sym same) (walk_starts link_map i walk is_walk)))
@@ -104,19 +104,19 @@ record EmptiesWalk (old new : LinkMap) (walk : List ℕ) : Type 0 where
   rest : (j : ℕ) → (IsMember walk j → ⊥) → new j ≡ old j
 
 -- the links of a walk after its first are removed
-goes_after : (link_map : LinkMap) (i k : ℕ) (rest : List ℕ) → IsWalk link_map i (i ∷ k ∷ rest) → EmptiesWalk (removed link_map i) (removed_each (removed link_map i) (k ∷ rest)) (k ∷ rest)
+goes_after : (link_map : LinkMap) (i k : ℕ) (rest : List ℕ) → IsWalk link_map i (i ∷ k ∷ rest) → EmptiesWalk (with_removal link_map i) (removed_each (with_removal link_map i) (k ∷ rest)) (k ∷ rest)
     → EmptiesWalk link_map (removed_each link_map (i ∷ k ∷ rest)) (i ∷ k ∷ rest)
 goes_after link_map i k rest walk after = record {
-  gone = λ j h. ⊎_elim (λ (e : i ≡ j). after.rest j (λ g. (walk_once link_map i (i ∷ k ∷ rest) walk).0 (subst (IsMember (k ∷ rest)) (sym e) g)) ∙ subst (λ (n : ℕ). removed link_map i n ≡ None) e (removed-at link_map i)) (after.gone j) h;
-  rest = λ j none. after.rest j (λ h. none (inr h)) ∙ shows_rest link_map i (i ∷ k ∷ rest) walk j none;
+  gone = λ j h. ⊎_elim (λ (e : i ≡ j). after.rest j (λ g. (walk_once link_map i (i ∷ k ∷ rest) walk).0 (subst (IsMember (k ∷ rest)) (sym e) g)) ∙ subst (λ (n : ℕ). with_removal link_map i n ≡ None) e (removed-at link_map i)) (after.gone j) h;
+  rest = λ j none. after.rest j (λ h. none (inr h)) ∙ reports_rest link_map i (i ∷ k ∷ rest) walk j none;
 }
 
 goes : (link_map : LinkMap) (i : ℕ) (rest : List ℕ) → IsWalk link_map i (i ∷ rest) → EmptiesWalk link_map (removed_each link_map (i ∷ rest)) (i ∷ rest)
 goes link_map i [] walk = record {
-  gone = λ j h. ⊎_elim (λ (e : i ≡ j). subst (λ (n : ℕ). removed link_map i n ≡ None) e (removed-at link_map i)) (λ n. absurd n) h;
-  rest = shows_rest link_map i (i ∷ []) walk;
+  gone = λ j h. ⊎_elim (λ (e : i ≡ j). subst (λ (n : ℕ). with_removal link_map i n ≡ None) e (removed-at link_map i)) (λ n. absurd n) h;
+  rest = reports_rest link_map i (i ∷ []) walk;
 }
-goes link_map i (k ∷ rest) walk = goes_after link_map i k rest walk (goes (removed link_map i) k rest ((removal_leaves_the_walk link_map i (k ∷ rest) walk).1 k refl))
+goes link_map i (k ∷ rest) walk = goes_after link_map i k rest walk (goes (with_removal link_map i) k rest ((removal_leaves_the_walk link_map i (k ∷ rest) walk).1 k refl))
 
 -- equal interlinks at its items keep a chain
 same_chain : (old new : LinkMap) (c : Chain) → ((j : ℕ) → IsMember (items c) j → old j ≡ new j) → IsChain old c → IsChain new c
@@ -126,14 +126,14 @@ same_chain old new (cyclic xs) same c = (c.0, c.1, AreLinked-frame old new (last
 -- a walk begins with its link
 walk_written : (link_map : LinkMap) (i : ℕ) (walk : List ℕ) → IsWalk link_map i walk → walk ≡ i ∷ rest_of walk
 walk_written link_map i _ (there_and_back before after chain) = refl
-walk_written link_map i _ (round after chain) = refl
+walk_written link_map i _ (once_around after chain) = refl
 
 taken : (old new : LinkMap) (walk : List ℕ) → EmptiesWalk old new walk → TakesWalk old new walk
 taken old new walk each = record {
   gone = each.gone;
   rest = each.rest;
   chains = λ c. (
-    (λ chain. let apart : (j : ℕ) → IsMember walk j → IsMember (items c) j → ⊥ = λ j h k. let valid = chain_valid new c j chain k in not_both_ways (new j) valid.link (each.gone j h) valid.shows in
+    (λ chain. let apart : (j : ℕ) → IsMember walk j → IsMember (items c) j → ⊥ = λ j h k. let valid = chain_valid new c j chain k in not_both_ways (new j) valid.link (each.gone j h) valid.reports in
         (same_chain new old c (λ j k. each.rest j (λ h. apart j h k)) chain, apart)),
     (λ old_chain. same_chain old new c (λ j k. sym (each.rest j (λ h. old_chain.1 j h k))) old_chain.0),
   );
@@ -148,7 +148,7 @@ walk_is_taken link_map i walk is_walk =
 -- the walk of a valid link
 pub walk_from-walk : (slots : ℕ) (link_map : LinkMap) (i : ℕ) → IsWellLinked link_map → HasLinksWithin link_map slots → HasLink link_map i → IsWalk link_map i (walk_from slots link_map (Some i))
 walk_from-walk slots link_map i agrees within valid =
-    subst (IsWalk link_map i) (sym (ap (λ (b : Bool). if b then walk_ahead slots link_map i (Some i) (prev_of link_map i) else []) (ap (is_some {T = Interlinks}) valid.shows)))
+    subst (IsWalk link_map i) (sym (ap (λ (b : Bool). if b then walk_ahead slots link_map i (Some i) (prev_of link_map i) else []) (ap (is_some {T = Interlinks}) valid.reports)))
     (walks_ahead link_map slots i agrees within valid)
 
 -- the walk of a free index is empty
@@ -166,11 +166,11 @@ walk_from-rest slots link_map o (k ∷ rest) agrees within first walk =
 
 -- a walk goes on when its first link is removed
 pub walk_from-next : (slots : ℕ) (link_map : LinkMap) (i : ℕ) → IsWellLinked link_map → HasLinksWithin link_map slots → HasLink link_map i
-    → walk_from slots link_map (Some i) ≡ i ∷ walk_from slots (removed link_map i) (rest_start_of link_map i)
+    → walk_from slots link_map (Some i) ≡ i ∷ walk_from slots (with_removal link_map i) (rest_start_of link_map i)
 walk_from-next slots link_map i agrees within valid =
     let walk = walk_from slots link_map (Some i) in
     let is_walk = walk_from-walk slots link_map i agrees within valid in
     let left = leaves link_map i walk is_walk in
-    let still : HasLinksWithin (removed link_map i) slots = record { within = λ j v. within.within j ((HasLink-removed link_map i j).0 v).0 } in
+    let still : HasLinksWithin (with_removal link_map i) slots = record { within = λ j v. within.within j ((HasLink-removed link_map i j).0 v).0 } in
     walk_written link_map i walk is_walk
-    ∙ ap (λ (zs : List ℕ). i ∷ zs) (walk_from-rest slots (removed link_map i) (rest_start_of link_map i) (rest_of walk) (removed_agrees link_map i agrees) still left.first left.walk)
+    ∙ ap (λ (zs : List ℕ). i ∷ zs) (walk_from-rest slots (with_removal link_map i) (rest_start_of link_map i) (rest_of walk) (removed_agrees link_map i agrees) still left.first left.walk)

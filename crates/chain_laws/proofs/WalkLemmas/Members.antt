@@ -3,11 +3,11 @@ use Rattle.std.specs.Prelude.{◌↔◌, ℕ, ◌≤◌, ◌⊎◌, List, [], �
 use Rattle.std.proofs.Common.{sym, refl, subst, inl, inr, ⊎_elim}
 use mathlib.Core.List.{reverse_aux}
 use Rattle.chain_laws.specs.Chains.{LinkMap, Chain, linear, cyclic, items, IsChain, HasLink, HasLinksWithin, IsWellLinked, IsMember, AreDistinct}
-use Rattle.chain_laws.specs.Walks.{IsWalk, there_and_back, round, WalksAhead, PassesTheChain}
+use Rattle.chain_laws.specs.Walks.{IsWalk, there_and_back, once_around, WalksAhead, PassesTheChain}
 use Rattle.chain_laws.proofs.ListLemmas.Members.{IsMember-left, IsMember-right, IsMember-parts, IsMember-written, AreDistinct-left, AreDistinct-right, AreDistinct-apart, AreDistinct-append, length_bound}
 use Rattle.chain_laws.proofs.ChainLemmas.Uniqueness.{chain_valid, chains_share}
 use Rattle.chain_laws.proofs.ChainLemmas.Rotations.{turned_to}
-use Rattle.chain_laws.proofs.ChainLemmas.Existence.{ChainOf, stands_in, has_chain}
+use Rattle.chain_laws.proofs.ChainLemmas.Existence.{ChainOf, stored_in, has_chain}
 use Rattle.chain_laws.proofs.WalkLemmas.Walker.{walk_passed}
 
 -- a reversed list has the same members
@@ -44,7 +44,7 @@ IsMember-back xs y h = ⊎_elim (λ k. k) (λ n. absurd n) ((IsMember-reversed x
 -- a walk begins at its link
 pub walk_starts : (link_map : LinkMap) (i : ℕ) (walk : List ℕ) → IsWalk link_map i walk → IsMember walk i
 walk_starts link_map i _ (there_and_back before after chain) = inl refl
-walk_starts link_map i _ (round after chain) = inl refl
+walk_starts link_map i _ (once_around after chain) = inl refl
 
 -- a walk has each link at most once
 pub walk_once : (link_map : LinkMap) (i : ℕ) (walk : List ℕ) → IsWalk link_map i walk → AreDistinct walk
@@ -52,7 +52,7 @@ walk_once link_map i _ (there_and_back before after chain) =
     AreDistinct-append (i ∷ after) (reverse before) (AreDistinct-right before (i ∷ after) chain.1)
     (AreDistinct-reversed before [] (AreDistinct-left before (i ∷ after) chain.1) tt (λ y h n. n))
     (λ y h k. AreDistinct-apart before (i ∷ after) y chain.1 (IsMember-back before y k) h)
-walk_once link_map i _ (round after chain) = chain.1
+walk_once link_map i _ (once_around after chain) = chain.1
 
 -- a chain with the members of a walk
 pub walk_chain : (link_map : LinkMap) (i : ℕ) (walk : List ℕ) → IsWalk link_map i walk → (c : Chain) × IsChain link_map c × ((j : ℕ) → IsMember walk j ↔ IsMember (items c) j)
@@ -63,7 +63,7 @@ walk_chain link_map i _ (there_and_back before after chain) = (linear (before ++
 
     back : (j : ℕ) → IsMember (before ++ i ∷ after) j → IsMember ((i ∷ after) ++ reverse before) j
     back j h = ⊎_elim (λ k. IsMember-right (i ∷ after) (reverse before) j ((IsMember-reversed before [] j).1 (inl k))) (λ k. IsMember-left (i ∷ after) (reverse before) j k) (IsMember-parts before (i ∷ after) j h)
-walk_chain link_map i _ (round after chain) = (cyclic (i ∷ after), chain, λ j. (λ h. h, λ h. h))
+walk_chain link_map i _ (once_around after chain) = (cyclic (i ∷ after), chain, λ j. (λ h. h, λ h. h))
 
 -- a walk has the links of its chain and no others
 pub walk_has : PassesTheChain
@@ -92,14 +92,14 @@ walk_of_chain link_map i (linear xs) chain has =
     (i ∷ w.1 ++ reverse w.0, there_and_back w.0 w.1 (subst (λ (zs : List ℕ). IsChain link_map (linear zs)) w.2 chain))
 walk_of_chain link_map i (cyclic xs) chain has =
     let t = turned_to link_map xs i chain has in
-    (i ∷ t.0, round t.0 t.1)
+    (i ∷ t.0, once_around t.0 t.1)
 
 -- there is a walk from each valid index
 pub has_walk : (link_map : LinkMap) (slots i : ℕ) → IsWellLinked link_map → HasLinksWithin link_map slots → HasLink link_map i → (walk : List ℕ) × IsWalk link_map i walk
 has_walk link_map slots i agrees within valid = by (has_chain link_map slots agrees within i valid)
   where
     by : ChainOf link_map i → (walk : List ℕ) × IsWalk link_map i walk
-    by (stands_in c chain has) = walk_of_chain link_map i c chain has
+    by (stored_in c chain has) = walk_of_chain link_map i c chain has
 
 -- a walker passes the walk
 pub walks_ahead : WalksAhead

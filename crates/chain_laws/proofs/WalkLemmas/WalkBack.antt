@@ -81,7 +81,7 @@ something_before _ i is_empty e = cc
 something_before _ i (ends_in ys y) e = let l : last_or (ys ++ y ∷ []) (Some i) ≡ Some y = last_or-append ys (y ∷ []) (Some i) in cc
 
 pub back_ends : WalkBackEnds
-back_ends link_map i steps here back none = record { in_linear = from_start; in_cyclic = λ xs h. absurd (round xs h) }
+back_ends link_map i steps here back none = record { in_linear = from_start; in_cyclic = λ xs h. absurd (once_around xs h) }
   where
     from_start : (xs : List ℕ) → IsChain link_map (linear xs) → IsMember xs i → first_or xs None ≡ Some here
     from_start xs h m =
@@ -89,8 +89,8 @@ back_ends link_map i steps here back none = record { in_linear = from_start; in_
         let empty = nothing_before at.before (ending at.before) (sym (before_linear link_map i steps here back xs h m) ∙ none) in
         ap (λ (ys : List ℕ). first_or ys None) (at.parts ∙ ap (λ (ys : List ℕ). ys ++ here ∷ at.after) empty)
 
-    round : (xs : List ℕ) → IsChain link_map (cyclic (i ∷ xs)) → ⊥
-    round xs h =
+    once_around : (xs : List ℕ) → IsChain link_map (cyclic (i ∷ xs)) → ⊥
+    once_around xs h =
         let at = cyclic_at link_map i steps here back xs h in
         something_before at.before i (ending at.before) (sym (before_cyclic link_map i steps here back xs h) ∙ none)
 

@@ -3,7 +3,7 @@ use Rattle.std.specs.Prelude.{◌≡◌, ◌≢◌, ℕ, zero, suc, ◌+◌, ◌
 use Rattle.std.proofs.Common.{sym, refl, ap, ap₂, ◌∙◌, inl, inr, arith}
 use mathlib.Core.List.{reverse_aux}
 use Rattle.chain_laws.specs.Chains.{LinkMap, IsMember, AreLinked, prev_in, next_in, prev_of, first_or, last_or}
-use Rattle.chain_laws.specs.Walks.{IsWalk, there_and_back, round, walk_ahead, step_forward, step_back, HasNoOtherWalk}
+use Rattle.chain_laws.specs.Walks.{IsWalk, there_and_back, once_around, walk_ahead, step_forward, step_back, HasNoOtherWalk}
 use Rattle.chain_laws.proofs.ListLemmas.Members.{AreDistinct-right}
 use Rattle.chain_laws.proofs.ChainLemmas.LinkedLists.{AreLinked-left, AreLinked-right}
 use Rattle.chain_laws.proofs.InterlinkLemmas.Inverses.{if_same, if_other}
@@ -15,8 +15,8 @@ GoesBack link_map (z ∷ zs) = (prev_of link_map z ≡ first_or zs None) × Goes
 
 -- a linked list, reversed, goes back
 pub GoesBack-reversed : (link_map : LinkMap) (xs zs : List ℕ) (after : Option ℕ) → AreLinked link_map (first_or zs None) xs after → GoesBack link_map zs → GoesBack link_map (reverse_aux xs zs)
-GoesBack-reversed link_map [] zs after stands back = back
-GoesBack-reversed link_map (x ∷ xs) zs after stands back = GoesBack-reversed link_map xs (x ∷ zs) after stands.1 (ap prev_in stands.0, back)
+GoesBack-reversed link_map [] zs after stored back = back
+GoesBack-reversed link_map (x ∷ xs) zs after stored back = GoesBack-reversed link_map xs (x ∷ zs) after stored.1 (ap prev_in stored.0, back)
 
 -- the last item is the first of the reversed list
 pub first_or-reversed : (xs zs : List ℕ) → first_or (reverse_aux xs zs) None ≡ last_or xs (first_or zs None)
@@ -43,44 +43,44 @@ step_back-other start k back ne = if_other k start None back ne
 passes_on : (left : ℕ) (link_map : LinkMap) (start : ℕ) (before : Option ℕ) (y : ℕ) (ys zs : List ℕ)
     → AreLinked link_map before (y ∷ ys) None → (IsMember ys start → ⊥) → GoesBack link_map zs → length (y ∷ ys ++ zs) ≤ left
     → walk_ahead left link_map start (Some y) (first_or zs None) ≡ y ∷ ys ++ zs
-passes_on zero link_map start before y ys zs stands none back enough = absurd (omega arith)
-passes_on (suc left) link_map start before y [] zs stands none back enough =
+passes_on zero link_map start before y ys zs stored none back enough = absurd (omega arith)
+passes_on (suc left) link_map start before y [] zs stored none back enough =
     ap (λ (w : List ℕ). y ∷ w)
-    (ap (λ (o : Option ℕ). walk_ahead left link_map start (step_forward start o) (step_back start o (first_or zs None))) (ap next_in stands.0)
+    (ap (λ (o : Option ℕ). walk_ahead left link_map start (step_forward start o) (step_back start o (first_or zs None))) (ap next_in stored.0)
     ∙ passes_back left link_map start zs back (omega arith))
-passes_on (suc left) link_map start before y (k ∷ ks) zs stands none back enough =
+passes_on (suc left) link_map start before y (k ∷ ks) zs stored none back enough =
     let other : k ≢ start = λ e. none (inl e) in
     ap (λ (w : List ℕ). y ∷ w)
-    (ap (λ (o : Option ℕ). walk_ahead left link_map start (step_forward start o) (step_back start o (first_or zs None))) (ap next_in stands.0)
+    (ap (λ (o : Option ℕ). walk_ahead left link_map start (step_forward start o) (step_back start o (first_or zs None))) (ap next_in stored.0)
     ∙ ap₂ (λ (o p : Option ℕ). walk_ahead left link_map start o p) (step_forward-other start k other) (step_back-other start k (first_or zs None) other)
-    ∙ passes_on left link_map start (Some y) k ks zs stands.1 (λ h. none (inr h)) back (omega arith))
+    ∙ passes_on left link_map start (Some y) k ks zs stored.1 (λ h. none (inr h)) back (omega arith))
 
 -- once around a cyclic chain
 passes_round : (left : ℕ) (link_map : LinkMap) (start : ℕ) (before back : Option ℕ) (y : ℕ) (ys : List ℕ)
     → AreLinked link_map before (y ∷ ys) (Some start) → (IsMember ys start → ⊥) → length (y ∷ ys) ≤ left
     → walk_ahead left link_map start (Some y) back ≡ y ∷ ys
-passes_round zero link_map start before back y ys stands none enough = absurd (omega arith)
-passes_round (suc left) link_map start before back y [] stands none enough =
+passes_round zero link_map start before back y ys stored none enough = absurd (omega arith)
+passes_round (suc left) link_map start before back y [] stored none enough =
     ap (λ (w : List ℕ). y ∷ w)
-    (ap (λ (o : Option ℕ). walk_ahead left link_map start (step_forward start o) (step_back start o back)) (ap next_in stands.0)
+    (ap (λ (o : Option ℕ). walk_ahead left link_map start (step_forward start o) (step_back start o back)) (ap next_in stored.0)
     ∙ ap₂ (λ (o p : Option ℕ). walk_ahead left link_map start o p) (if_same start start None (Some start) refl) (if_same start start None back refl)
     ∙ passes_back left link_map start [] tt (omega arith))
-passes_round (suc left) link_map start before back y (k ∷ ks) stands none enough =
+passes_round (suc left) link_map start before back y (k ∷ ks) stored none enough =
     let other : k ≢ start = λ e. none (inl e) in
     ap (λ (w : List ℕ). y ∷ w)
-    (ap (λ (o : Option ℕ). walk_ahead left link_map start (step_forward start o) (step_back start o back)) (ap next_in stands.0)
+    (ap (λ (o : Option ℕ). walk_ahead left link_map start (step_forward start o) (step_back start o back)) (ap next_in stored.0)
     ∙ ap₂ (λ (o p : Option ℕ). walk_ahead left link_map start o p) (step_forward-other start k other) (step_back-other start k back other)
-    ∙ passes_round left link_map start (Some y) back k ks stands.1 (λ h. none (inr h)) (omega arith))
+    ∙ passes_round left link_map start (Some y) back k ks stored.1 (λ h. none (inr h)) (omega arith))
 
 -- with enough steps a walker passes any walk from its first link
 pub walk_passed : (left : ℕ) (link_map : LinkMap) (i : ℕ) (walk : List ℕ) → IsWalk link_map i walk → length walk ≤ left → walk_ahead left link_map i (Some i) (prev_of link_map i) ≡ walk
 walk_passed left link_map i _ (there_and_back before after chain) enough =
-    let stands = AreLinked-right link_map None before (i ∷ after) None chain.2 in
+    let stored = AreLinked-right link_map None before (i ∷ after) None chain.2 in
     let once = AreDistinct-right before (i ∷ after) chain.1 in
     let home = GoesBack-reversed link_map before [] (Some i) (AreLinked-left link_map None before (i ∷ after) None chain.2) tt in
-    ap (λ (o : Option ℕ). walk_ahead left link_map i (Some i) o) (ap prev_in stands.0 ∙ sym (first_or-reversed before []))
-    ∙ passes_on left link_map i (last_or before None) i after (reverse before) stands once.0 home enough
-walk_passed left link_map i _ (round after chain) enough =
+    ap (λ (o : Option ℕ). walk_ahead left link_map i (Some i) o) (ap prev_in stored.0 ∙ sym (first_or-reversed before []))
+    ∙ passes_on left link_map i (last_or before None) i after (reverse before) stored once.0 home enough
+walk_passed left link_map i _ (once_around after chain) enough =
     passes_round left link_map i (last_or after (Some i)) (prev_of link_map i) i after chain.2 chain.1.0 enough
 
 -- there is one walk from a link

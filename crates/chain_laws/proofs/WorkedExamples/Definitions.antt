@@ -17,8 +17,8 @@ indexes (r ∷ rs) = r.0 ∷ indexes rs
 
 -- each valid index has a row
 rows_valid : (rs : List (ℕ × Interlinks)) (i : ℕ) → HasLink (rows rs) i → IsMember (indexes rs) i
-rows_valid [] i v = let shows : None ≡ Some v.link = v.shows in absurd (cc)
-rows_valid (r ∷ rs) i v = by_test (i == r.0) refl v.shows (λ e. rows_valid rs i (record { link = v.link; shows = e }))
+rows_valid [] i v = let reports : None ≡ Some v.link = v.reports in absurd (cc)
+rows_valid (r ∷ rs) i v = by_test (i == r.0) refl v.reports (λ e. rows_valid rs i (record { link = v.link; reports = e }))
   where
     by_test : (b : Bool) → (i == r.0) ≡ b → (if b then Some r.1 else rows rs i) ≡ Some v.link → (rows rs i ≡ Some v.link → IsMember (indexes rs) i) → IsMember (r.0 ∷ indexes rs) i
     by_test true is e rest = inl (sym (eqb-true i r.0 is))
@@ -70,14 +70,14 @@ three_cyclic : IsChain (rows three) (cyclic (3 ∷ []))
 three_cyclic = ((λ e. cc), ((λ h. h), tt), (refl, tt))
 
 three_not_linear : IsChain (rows three) (linear (3 ∷ [])) → ⊥
-three_not_linear h = let shows : next_of (rows three) 3 ≡ None = ap next_in h.2.0 in cc
+three_not_linear h = let reports : next_of (rows three) 3 ≡ None = ap next_in h.2.0 in cc
 
 three_not_whole : IsChain (rows three) (linear (1 ∷ [])) → ⊥
-three_not_whole h = let shows : next_of (rows three) 1 ≡ None = ap next_in h.2.0 in cc
+three_not_whole h = let reports : next_of (rows three) 1 ≡ None = ap next_in h.2.0 in cc
 
 -- 1 and 2 are no cyclic chain
 three_not_cyclic : IsChain (rows three) (cyclic (1 ∷ 2 ∷ [])) → ⊥
-three_not_cyclic h = let shows : prev_of (rows three) 1 ≡ Some 2 = ap prev_in h.2.0 in cc
+three_not_cyclic h = let reports : prev_of (rows three) 1 ≡ Some 2 = ap prev_in h.2.0 in cc
 
 -- no chain is empty
 no_empty_chain : (link_map : LinkMap) → IsChain link_map (linear []) → ⊥

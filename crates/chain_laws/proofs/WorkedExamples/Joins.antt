@@ -2,8 +2,8 @@
 use Rattle.std.specs.Prelude.{◌≡◌, [], ◌∷◌, None, Some}
 use Rattle.std.proofs.Common.{refl, inl, inr, arith}
 use Rattle.chain_laws.specs.Chains.{LinkMap, IsChain, linear, cyclic, prev_of}
-use Rattle.chain_laws.specs.Joins.{joined, linked, with_lone}
-use Rattle.chain_laws.specs.Walks.{IsWalk, there_and_back, round, walk_ahead}
+use Rattle.chain_laws.specs.Joins.{with_join, with_neighbors, with_lone}
+use Rattle.chain_laws.specs.Walks.{IsWalk, there_and_back, once_around, walk_ahead}
 use Rattle.chain_laws.proofs.ChainLemmas.LinkedLists.{link, first_no_repetition}
 
 -- the empty arena
@@ -16,32 +16,32 @@ two_lone = with_lone (with_lone bare 1) 2
 
 -- the linear chain 1 2, and the lone link 3
 abbrev pair_and_lone : LinkMap
-pair_and_lone = with_lone (joined two_lone 1 2) 3
+pair_and_lone = with_lone (with_join two_lone 1 2) 3
 
 -- the linear chain 1 2 3
 abbrev three : LinkMap
-three = joined pair_and_lone 2 3
+three = with_join pair_and_lone 2 3
 
 -- the cyclic chain 1 2 3
 abbrev ring : LinkMap
-ring = joined three 3 1
+ring = with_join three 3 1
 
 -- the linear chain 4 2 9 7
 abbrev four : LinkMap
-four = joined (joined (joined (with_lone (with_lone (with_lone (with_lone bare 2) 4) 7) 9) 4 2) 9 7) 2 9
+four = with_join (with_join (with_join (with_lone (with_lone (with_lone (with_lone bare 2) 4) 7) 9) 4 2) 9 7) 2 9
 
 -- two lone links joined
-two_lone_joined_first : joined two_lone 1 2 1 ≡ Some (link None (Some 2))
+two_lone_joined_first : with_join two_lone 1 2 1 ≡ Some (link None (Some 2))
 two_lone_joined_first = refl
 
-two_lone_joined_second : joined two_lone 1 2 2 ≡ Some (link (Some 1) None)
+two_lone_joined_second : with_join two_lone 1 2 2 ≡ Some (link (Some 1) None)
 two_lone_joined_second = refl
 
 -- a lone link joined to itself is a cyclic chain of one; others stay
-lone_joined_with_itself : joined two_lone 1 1 1 ≡ Some (link (Some 1) (Some 1))
+lone_joined_with_itself : with_join two_lone 1 1 1 ≡ Some (link (Some 1) (Some 1))
 lone_joined_with_itself = refl
 
-lone_beside_a_cycle : joined two_lone 1 1 2 ≡ Some (link None None)
+lone_beside_a_cycle : with_join two_lone 1 1 2 ≡ Some (link None None)
 lone_beside_a_cycle = refl
 
 -- the linear chain 1 2 joined to 3
@@ -56,16 +56,16 @@ chain_joined_with_itself : ring 1 ≡ Some (link (Some 3) (Some 2))
 chain_joined_with_itself = refl
 
 -- a join with a free index adds no link there
-join_with_nothing : joined two_lone 1 5 5 ≡ None
+join_with_nothing : with_join two_lone 1 5 5 ≡ None
 join_with_nothing = refl
 
 -- linking to none removes the neighbor on that side
-linked_to_none : linked three (Some 1) None 1 ≡ Some (link None None)
+linked_to_none : with_neighbors three (Some 1) None 1 ≡ Some (link None None)
 linked_to_none = refl
 
 -- two joined lone links are a linear chain
-two_lone_as_a_chain : IsChain (joined two_lone 1 2) (linear (1 ∷ 2 ∷ []))
-two_lone_as_a_chain = (λ e. cc, first_no_repetition (joined two_lone 1 2) (1 ∷ 2 ∷ []) None (refl, (refl, tt)), (refl, (refl, tt)))
+two_lone_as_a_chain : IsChain (with_join two_lone 1 2) (linear (1 ∷ 2 ∷ []))
+two_lone_as_a_chain = (λ e. cc, first_no_repetition (with_join two_lone 1 2) (1 ∷ 2 ∷ []) None (refl, (refl, tt)), (refl, (refl, tt)))
 
 -- the cyclic chain, written from its second link
 ring_as_a_chain : IsChain ring (cyclic (2 ∷ 3 ∷ 1 ∷ []))
@@ -89,7 +89,7 @@ walker_in_a_cycle_at_ease : walk_ahead 9 ring 2 (Some 2) (prev_of ring 2) ≡ 2 
 walker_in_a_cycle_at_ease = refl
 
 -- a walker at a link that names itself
-walker_in_a_cycle_of_one : walk_ahead 3 (joined two_lone 1 1) 1 (Some 1) (prev_of (joined two_lone 1 1) 1) ≡ 1 ∷ []
+walker_in_a_cycle_of_one : walk_ahead 3 (with_join two_lone 1 1) 1 (Some 1) (prev_of (with_join two_lone 1 1) 1) ≡ 1 ∷ []
 walker_in_a_cycle_of_one = refl
 
 -- walks in linear and cyclic chains
@@ -100,4 +100,4 @@ walk_from_end : (link_map : LinkMap) → IsChain link_map (linear (4 ∷ 2 ∷ 9
 walk_from_end link_map chain = there_and_back (4 ∷ 2 ∷ 9 ∷ []) [] chain
 
 walk_in_a_cycle : (link_map : LinkMap) → IsChain link_map (cyclic (2 ∷ 3 ∷ 1 ∷ [])) → IsWalk link_map 2 (2 ∷ 3 ∷ 1 ∷ [])
-walk_in_a_cycle link_map chain = round (3 ∷ 1 ∷ []) chain
+walk_in_a_cycle link_map chain = once_around (3 ∷ 1 ∷ []) chain

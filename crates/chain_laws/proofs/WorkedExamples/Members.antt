@@ -3,10 +3,10 @@ use Rattle.std.specs.Prelude.{◌≡◌, [], ◌∷◌, None, Some}
 use Rattle.std.proofs.Common.{refl, ap, inl, inr, arith}
 use Rattle.chain_laws.specs.Chains.{LinkMap, IsChain, linear, cyclic, IsMember, next_in, next_of}
 use Rattle.chain_laws.specs.Neighbors.{AreNeighbors}
-use Rattle.chain_laws.specs.Joins.{joined, next_set, with_lone}
-use Rattle.chain_laws.specs.Cuts.{cut}
-use Rattle.chain_laws.specs.Removals.{removed}
-use Rattle.chain_laws.specs.Insertions.{inserted_as, next_to}
+use Rattle.chain_laws.specs.Joins.{with_join, next_set, with_lone}
+use Rattle.chain_laws.specs.Cuts.{without_pair}
+use Rattle.chain_laws.specs.Removals.{with_removal}
+use Rattle.chain_laws.specs.Insertions.{with_insertion_as, next_to}
 use Rattle.chain_laws.specs.Members.{PlacesInARing}
 use Rattle.chain_laws.proofs.InterlinkLemmas.Inverses.{not_both_ways}
 use Rattle.chain_laws.proofs.ChainLemmas.LinkedLists.{link, first_no_repetition}
@@ -17,7 +17,7 @@ two_lone = with_lone (with_lone (λ i. None) 1) 2
 
 -- the linear chain 1 2
 abbrev pair : LinkMap
-pair = joined two_lone 1 2
+pair = with_join two_lone 1 2
 
 -- 1 names 2 as next, but 2 names nothing as prev
 abbrev torn : LinkMap
@@ -45,19 +45,19 @@ torn_apart (inl e) = omega arith
 torn_apart (inr h) = h
 
 -- a chain with the link beside a new one does not stay
-pair_goes_by_insertion : IsChain (inserted_as pair (next_to 1) 3) (linear (1 ∷ 2 ∷ [])) → ⊥
-pair_goes_by_insertion is = let shows = is.2.0 in cc
+pair_goes_by_insertion : IsChain (with_insertion_as pair (next_to 1) 3) (linear (1 ∷ 2 ∷ [])) → ⊥
+pair_goes_by_insertion is = let reports = is.2.0 in cc
 
 -- a chain with both neighbors does not survive their cut, or exist before their join
-pair_goes_by_cut : IsChain (cut pair 1 2) (linear (1 ∷ 2 ∷ [])) → ⊥
-pair_goes_by_cut is = let shows = is.2.0 in cc
+pair_goes_by_cut : IsChain (without_pair pair 1 2) (linear (1 ∷ 2 ∷ [])) → ⊥
+pair_goes_by_cut is = let reports = is.2.0 in cc
 
 pair_comes_by_join : IsChain two_lone (linear (1 ∷ 2 ∷ [])) → ⊥
 pair_comes_by_join is = not_both_ways (next_of two_lone 1) 2 refl (ap next_in is.2.0)
 
 -- a chain with a link that named the removed one did not exist before
-rest_comes_by_removal : IsChain (removed pair 2) (linear (1 ∷ []))
+rest_comes_by_removal : IsChain (with_removal pair 2) (linear (1 ∷ []))
 rest_comes_by_removal = (λ e. cc, (λ h. h, tt), (refl, tt))
 
 rest_was_not_there : IsChain pair (linear (1 ∷ [])) → ⊥
-rest_was_not_there is = let shows = is.2.0 in cc
+rest_was_not_there is = let reports = is.2.0 in cc

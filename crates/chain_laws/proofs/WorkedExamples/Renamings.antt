@@ -4,7 +4,7 @@ use Rattle.std.specs.Option.{option_map}
 use Rattle.std.specs.List.{range_with_len}
 use Rattle.std.proofs.Common.{refl}
 use Rattle.chain_laws.specs.Chains.{LinkMap, linear, cyclic, all_items, prev_of, next_of}
-use Rattle.chain_laws.specs.Joins.{prev_set, next_set, joined, with_lone}
+use Rattle.chain_laws.specs.Joins.{prev_set, next_set, with_join, with_lone}
 use Rattle.chain_laws.specs.Arrangements.{place_in, in_runs}
 use Rattle.chain_laws.specs.Moves.{moved_index, moved, put, gathered_place}
 use Rattle.chain_laws.proofs.ChainLemmas.LinkedLists.{link}
@@ -15,15 +15,15 @@ bare i = None
 
 -- the linear chain 1 4, and the cyclic chain 2 3
 abbrev two_chains : LinkMap
-two_chains = joined (joined (joined (with_lone (with_lone (with_lone (with_lone bare 1) 2) 3) 4) 1 4) 2 3) 3 2
+two_chains = with_join (with_join (with_join (with_lone (with_lone (with_lone (with_lone bare 1) 2) 3) 4) 1 4) 2 3) 3 2
 
 -- the cyclic chain 2
 abbrev ring_of_one : LinkMap
-ring_of_one = joined (with_lone bare 2) 2 2
+ring_of_one = with_join (with_lone bare 2) 2 2
 
 -- the linear chain 3 4
 abbrev pair : LinkMap
-pair = joined (with_lone (with_lone bare 3) 4) 3 4
+pair = with_join (with_lone (with_lone bare 3) 4) 3 4
 
 -- ---- an order of all links
 
@@ -77,9 +77,9 @@ ring_leaves = refl
 ring_put : put ring_of_one 2 1 1 ≡ Some (link (Some 2) (Some 2))
 ring_put = refl
 
-ring_told : prev_set (next_set (put ring_of_one 2 1) (option_map (moved_index 2 1) (prev_of ring_of_one 2)) (Some 1)) (option_map (moved_index 2 1) (next_of ring_of_one 2)) (Some 1) 1
+ring_known : prev_set (next_set (put ring_of_one 2 1) (option_map (moved_index 2 1) (prev_of ring_of_one 2)) (Some 1)) (option_map (moved_index 2 1) (next_of ring_of_one 2)) (Some 1) 1
     ≡ Some (link (Some 1) (Some 1))
-ring_told = refl
+ring_known = refl
 
 -- the start of the chain 3 4 moves to 2; only the end is rewritten
 start_moves : moved pair 3 2 2 ≡ Some (link None (Some 4))
@@ -91,9 +91,9 @@ end_names = refl
 start_leaves : moved pair 3 2 3 ≡ None
 start_leaves = refl
 
-end_told : prev_set (next_set (put pair 3 2) (option_map (moved_index 3 2) (prev_of pair 3)) (Some 2)) (option_map (moved_index 3 2) (next_of pair 3)) (Some 2) 4
+end_known : prev_set (next_set (put pair 3 2) (option_map (moved_index 3 2) (prev_of pair 3)) (Some 2)) (option_map (moved_index 3 2) (next_of pair 3)) (Some 2) 4
     ≡ Some (link (Some 2) None)
-end_told = refl
+end_known = refl
 
 -- a link of a cyclic chain of two moves
 ring_of_two_moves : moved two_chains 2 7 3 ≡ Some (link (Some 7) (Some 7))

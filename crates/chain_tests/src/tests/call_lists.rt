@@ -1,6 +1,6 @@
 //! Tests of lists of calls and their replies.
 
-use super::scripts::{Do, Kind, Line, look};
+use super::scripts::{Do, Kind, Line, lookup};
 use super::{ChainsOver, Slot, at, fresh, generation, index, limited, same, text};
 use arena_base::ArenaTrait;
 use arena_ptr::{AllocError, LimitStack, SlotStack, ToolPtr};
@@ -57,7 +57,7 @@ fn calls_of(alloc: Global, lines: &[Line]) -> Vec<Call<ToolPtr, u32>> {
     calls
 }
 
-pub(super) fn told(alloc: Global, reply: Reply<ToolPtr, u32>) -> String {
+pub(super) fn reply_text(alloc: Global, reply: Reply<ToolPtr, u32>) -> String {
     match reply {
         Reply::Inserted(answer) => text(alloc, answer),
         Reply::Done(done) => text(alloc, done),
@@ -85,8 +85,8 @@ fn replies<S: SlotStack<Item = Slot>>(
     let mut replies = made.expect(rt, "memory for the replies").into_iter();
     for (row, want) in lines {
         let got = match replies.next() {
-            Some(reply) => told(alloc, reply),
-            None => look(alloc, arena, *row),
+            Some(reply) => reply_text(alloc, reply),
+            None => lookup(alloc, arena, *row),
         };
         same(rt, what, got.as_str(), *want);
     }

@@ -28,7 +28,7 @@ pub(super) fn placed<S: SlotStack<Item = Slot>>(
 type Moves = Vec<(ToolPtr, ToolPtr)>;
 
 // Returns the moves that a compression reports to its closure.
-pub(super) fn moves_seen<S: SlotStack<Item = Slot>>(
+pub(super) fn moves_visited<S: SlotStack<Item = Slot>>(
     alloc: Global,
     arena: &mut ChainsOver<S>,
     reset: bool,
@@ -161,7 +161,7 @@ static LAYOUTS: [(Script, &[&[Line]]); 6] = [
                 (Do::Generation, "4"),
             ],
             &[(
-                Do::MovesSeen(false),
+                Do::MovesVisited(false),
                 "(Success(()), [(P0[2](2), P0[1](4)), (P0[4](2), P0[2](4)), (P0[1](3), P0[3](4)), \
                 (P0[3](2), P0[4](4))])",
             )],
@@ -180,7 +180,7 @@ static LAYOUTS: [(Script, &[&[Line]]); 6] = [
         INTERLEAVED,
         &[
             &[(
-                Do::MovesSeen(false),
+                Do::MovesVisited(false),
                 "(Success(()), [(P0[1](2), P0[1](3)), (P0[4](2), P0[2](3)), (P0[2](2), P0[3](3)), \
                 (P0[3](2), P0[4](3))])",
             )],
@@ -199,7 +199,7 @@ static LAYOUTS: [(Script, &[&[Line]]); 6] = [
         BY_LEAST_INDEX,
         &[
             &[(
-                Do::MovesSeen(false),
+                Do::MovesVisited(false),
                 "(Success(()), [(P0[3](2), P0[1](3)), (P0[1](2), P0[2](3)), (P0[2](2), P0[3](3))])",
             )],
             &[(

@@ -1,7 +1,7 @@
 //! Tests of copies of chain arenas: what they contain, what their closures are given, and when one
 //! is refused.
 
-use super::failing_stack::Rationed;
+use super::failing_stack::FailingStack;
 use super::fallible_insertion::add;
 use super::scripts::{Do, Kind, Line, Script, slots_of};
 use super::{At, ChainsOver, Slot, at, fresh, fresh_plain, remove, same, text};
@@ -34,7 +34,7 @@ pub(super) fn with_a_hole<S: SlotStack<Item = Slot>>(alloc: Global, count: u32) 
 }
 
 // What a closure of a copy is given.
-type Seen = Vec<(ToolPtr, LinkNoGen<ToolPtr, u32>)>;
+type Visited = Vec<(ToolPtr, LinkNoGen<ToolPtr, u32>)>;
 
 // Copies a chain of `count` links without the second, and returns what the closure is given. It
 // adds ten times the number of its call to each value.
@@ -44,7 +44,7 @@ pub(super) fn copied_over<S: SlotStack<Item = Slot>>(
     count: u32,
 ) -> String {
     let source: ChainsOver<S> = with_a_hole(alloc, count);
-    let mut seen: Seen = Vec::new(alloc);
+    let mut seen: Visited = Vec::new(alloc);
     let mut calls = 0u32;
     let answer = target.clone_from_with(&source, |p, link: &LinkNoGen<ToolPtr, u32>| {
         let _ = seen.push((p, *link));
@@ -59,7 +59,7 @@ fn copied_plain<R: SlotStack<Item = Slot>, S: SlotStack<Item = ArenaSlot<ToolPtr
     alloc: Global,
     source: &ChainsOver<R>,
     target: &mut Arena<ToolPtr, u32, S>,
-) -> (Result<(), ReallocationError>, Seen) {
+) -> (Result<(), ReallocationError>, Visited) {
     let mut seen = Vec::new(alloc);
     let mut calls = 0u32;
     let answer = source.clone_to_arena(target, |p, link: &LinkNoGen<ToolPtr, u32>| {
@@ -141,8 +141,8 @@ pub(super) fn check_refused_copy<
     S: SlotStack<Item = Slot>,
     R: SlotStack<Item = ArenaSlot<ToolPtr, u32>>,
 >(rt: &impl Abort, alloc: Global) {
-    let mut target: Arena<ToolPtr, u32, Rationed<R>> = fresh_plain(alloc);
-    let told = copied_twice::<S, Rationed<R>>(alloc, &mut target);
+    let mut target: Arena<ToolPtr, u32, FailingStack<R>> = fresh_plain(alloc);
+    let told = copied_twice::<S, FailingStack<R>>(alloc, &mut target);
     let want = "(((Err(AllocError), []), (0, 0, Gen32 { number: 2 }), \
         (Ok(()), [(P0[1](2), {(start), 3} 1), (P0[3](2), {1, (end)} 3)])), \
         (Ok(P0[2](3)), (Some(11), Some(23))))";
@@ -150,7 +150,7 @@ pub(super) fn check_refused_copy<
 }
 
 // Returns the length, capacity, counter and slots of a plain arena.
-fn plain_shown<R: SlotStack<Item = ArenaSlot<ToolPtr, u32>>>(
+fn plain_texts<R: SlotStack<Item = ArenaSlot<ToolPtr, u32>>>(
     alloc: Global,
     arena: &Arena<ToolPtr, u32, R>,
 ) -> (String, String) {
@@ -184,8 +184,8 @@ pub(super) fn check_refused_beside_holes<
     R: SlotStack<Item = ArenaSlot<ToolPtr, u32>>,
 >(rt: &impl Abort, alloc: Global) {
     let source: ChainsOver<S> = with_a_hole(alloc, 70);
-    let mut target: Arena<ToolPtr, u32, Rationed<R>> = plain_with_holes(alloc);
-    let before = plain_shown(alloc, &target);
+    let mut target: Arena<ToolPtr, u32, FailingStack<R>> = plain_with_holes(alloc);
+    let before = plain_texts(alloc, &target);
     let (answer, seen) = copied_plain(alloc, &source, &mut target);
     let refused = (answer, seen.len());
     same(
@@ -197,7 +197,7 @@ pub(super) fn check_refused_beside_holes<
     same(
         rt,
         "nothing has changed",
-        plain_shown(alloc, &target),
+        plain_texts(alloc, &target),
         before,
     );
     let next = target.insert_within_capacity(9);

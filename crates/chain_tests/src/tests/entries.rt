@@ -153,7 +153,7 @@ static FULL: [Line; 14] = [
 // It is still full after refused calls.
 static FULL_STILL: [Line; 3] = [
     (Do::Len, "2"),
-    (Do::HasRoom(3), "false"),
+    (Do::HasCapacity(3), "false"),
     (Do::Maximum, "Some(2)"),
 ];
 

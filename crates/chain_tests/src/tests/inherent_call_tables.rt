@@ -11,7 +11,7 @@ const FOUR: [At; 3] = [(1, 2), (2, 3), (3, 4)];
 // The chain 3, 1, 4, 2.
 const CROSSED: [At; 3] = [(4, 2), (3, 1), (1, 4)];
 
-const ROUND: [At; 3] = [(1, 2), (2, 3), (3, 1)];
+const RING_PAIRS: [At; 3] = [(1, 2), (2, 3), (3, 1)];
 
 // The two links that are left of three in a row without the second.
 const TWO_LEFT: &str = "[(P0[1](2), {(start), 3} 1), (P0[3](2), {1, (end)} 3)]";
@@ -56,7 +56,7 @@ static WALKS: [Script; 4] = [
     (
         "a ring of three",
         4,
-        &ROUND,
+        &RING_PAIRS,
         &[(
             Do::Walk((2, 2)),
             "[(P0[2](2), {1, 3} 2), (P0[3](2), {2, 1} 3), (P0[1](2), {3, 2} 1)]",
@@ -206,7 +206,7 @@ static CHAIN_DRAINS: [Script; 4] = [
     (
         "a cycle drained",
         3,
-        &ROUND,
+        &RING_PAIRS,
         &[
             (
                 Do::DrainChain((1, 2)),

@@ -1,7 +1,7 @@
 //! The inherent calls of a chain arena, as rows of tables.
 
 use super::call_lists::{kind, two_calls};
-use super::canonical::{both_arranged, carried_in, counted, moves_listed, moves_seen, placed};
+use super::canonical::{both_arranged, carried_in, counted, moves_listed, moves_visited, placed};
 use super::drains::{Ends, drained, drained_chain, remove_all};
 use super::entries::{
     forget, give_up, insert_asked, insert_by_any_entry, insert_by_entry, place_refusals,
@@ -9,14 +9,14 @@ use super::entries::{
 use super::fallible_insertion::{dig, fill};
 use super::indexing::{value_at, write_at, write_at_index};
 use super::iterators::{indexes, links, links_by_reference, links_used_up, values, walk};
-use super::scripts::{Answers, Do, answer};
+use super::scripts::{Do, RunsCalls, run_call};
 use super::{ChainsOver, Slot, at, fresh, index, text};
 use arena_base::ArenaTrait;
 use arena_ptr::SlotStack;
 use std::alloc::Global;
 
 // Runs a call on a value, a walk, or a loop over all links.
-fn own_answer<S: SlotStack<Item = Slot>>(
+fn run_own_call<S: SlotStack<Item = Slot>>(
     alloc: Global,
     arena: &mut ChainsOver<S>,
     row: Do,
@@ -31,12 +31,12 @@ fn own_answer<S: SlotStack<Item = Slot>>(
         Do::LinksByReference => links_by_reference(alloc, arena),
         Do::LinksUsedUp => links_used_up(alloc, arena),
         Do::Indexes => text(alloc, indexes(alloc, arena)),
-        other => layout_answer(alloc, arena, other),
+        other => run_layout(alloc, arena, other),
     }
 }
 
 // Runs a canonical compression.
-fn layout_answer<S: SlotStack<Item = Slot>>(
+fn run_layout<S: SlotStack<Item = Slot>>(
     alloc: Global,
     arena: &mut ChainsOver<S>,
     row: Do,
@@ -44,10 +44,10 @@ fn layout_answer<S: SlotStack<Item = Slot>>(
     match row {
         Do::Placed(reset) => text(alloc, placed(arena, reset)),
         Do::Counted(reset) => text(alloc, counted(arena, reset)),
-        Do::MovesSeen(reset) => text(alloc, moves_seen(alloc, arena, reset)),
+        Do::MovesVisited(reset) => text(alloc, moves_visited(alloc, arena, reset)),
         Do::MovesListed(reset) => text(alloc, moves_listed(alloc, arena, reset)),
         Do::BothArranged => text(alloc, both_arranged(alloc, arena)),
-        other => growth_answer(alloc, arena, other),
+        other => run_growth(alloc, arena, other),
     }
 }
 
@@ -59,7 +59,7 @@ fn born<S: SlotStack<Item = Slot>>(alloc: Global, n: usize) -> String {
 }
 
 // Runs a call that is tested with refused allocations.
-fn growth_answer<S: SlotStack<Item = Slot>>(
+fn run_growth<S: SlotStack<Item = Slot>>(
     alloc: Global,
     arena: &mut ChainsOver<S>,
     row: Do,
@@ -70,11 +70,11 @@ fn growth_answer<S: SlotStack<Item = Slot>>(
         Do::CarryIn(count) => carried_in(alloc, arena, count),
         Do::TwoCalls => text(alloc, two_calls(alloc, arena)),
         Do::Birth(n) => born::<S>(alloc, n),
-        other => drain_answer(alloc, arena, other),
+        other => run_drain(alloc, arena, other),
     }
 }
 
-fn drain_answer<S: SlotStack<Item = Slot>>(
+fn run_drain<S: SlotStack<Item = Slot>>(
     alloc: Global,
     arena: &mut ChainsOver<S>,
     row: Do,
@@ -87,12 +87,12 @@ fn drain_answer<S: SlotStack<Item = Slot>>(
         Do::DrainOne => drained(alloc, arena, Ends::Dropped),
         Do::ForgetDrain => drained(alloc, arena, Ends::Forgotten),
         Do::RemoveAll => text(alloc, remove_all(arena)),
-        other => place_answer(alloc, arena, other),
+        other => run_placement(alloc, arena, other),
     }
 }
 
 // Runs an insertion by a vacant entry.
-fn place_answer<S: SlotStack<Item = Slot>>(
+fn run_placement<S: SlotStack<Item = Slot>>(
     alloc: Global,
     arena: &mut ChainsOver<S>,
     row: Do,
@@ -104,16 +104,16 @@ fn place_answer<S: SlotStack<Item = Slot>>(
         Do::InsertByEntry(k, t) => text(alloc, insert_by_entry(arena, kind(k), t)),
         Do::InsertByAnyEntry(k, t) => text(alloc, insert_by_any_entry(arena, kind(k), t)),
         Do::InsertAsked(k, t) => text(alloc, insert_asked(arena, kind(k), t)),
-        other => answer(alloc, arena, other),
+        other => run_call(alloc, arena, other),
     }
 }
 
-impl<S: SlotStack<Item = Slot>> Answers for ChainsOver<S> {
+impl<S: SlotStack<Item = Slot>> RunsCalls for ChainsOver<S> {
     fn fresh(alloc: Global) -> Self {
         fresh(alloc)
     }
 
-    fn answer(&mut self, alloc: Global, row: Do) -> String {
-        own_answer(alloc, self, row)
+    fn run_call(&mut self, alloc: Global, row: Do) -> String {
+        run_own_call(alloc, self, row)
     }
 }

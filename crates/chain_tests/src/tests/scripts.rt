@@ -1,6 +1,6 @@
 //! Calls on chain arenas as rows of tables, each with the text of its result.
 
-use super::call_lists::{call, told};
+use super::call_lists::{call, reply_text};
 use super::copies::{cloned, copied_over};
 use super::{At, ChainsOver, Slot, at, same, text};
 use arena_base::{ArenaSlot, ArenaTrait};
@@ -44,8 +44,8 @@ pub(super) enum Do {
     Debug,
     Len,
     IsEmpty,
-    HasRoom(usize),
-    Room,
+    HasCapacity(usize),
+    Capacities,
     Maximum,
     Counter,
     Generation,
@@ -86,7 +86,7 @@ pub(super) enum Do {
     // a transfer.
     Placed(bool),
     Counted(bool),
-    MovesSeen(bool),
+    MovesVisited(bool),
     MovesListed(bool),
     BothArranged,
     // Calls that are tested with refused allocations: a full chain, holes, a minimum capacity, a
@@ -104,14 +104,14 @@ pub(super) type Line = (Do, &'static str);
 pub(super) type Script = (&'static str, u32, &'static [At], &'static [Line]);
 
 // Runs a call: one of lists of calls, or another.
-pub(super) fn answer<S: SlotStack<Item = Slot>>(
+pub(super) fn run_call<S: SlotStack<Item = Slot>>(
     alloc: Global,
     arena: &mut ChainsOver<S>,
     row: Do,
 ) -> String {
     match call(row) {
-        Some(call) => told(alloc, apply(arena, call)),
-        None => look(alloc, arena, row),
+        Some(call) => reply_text(alloc, apply(arena, call)),
+        None => lookup(alloc, arena, row),
     }
 }
 
@@ -137,7 +137,7 @@ pub(super) fn slots_of<T: Copy + Debug, S: SlotStack<Item = ArenaSlot<ToolPtr, T
 }
 
 // Runs a read of the chain arena, or a copy.
-pub(super) fn look<S: SlotStack<Item = Slot>>(
+pub(super) fn lookup<S: SlotStack<Item = Slot>>(
     alloc: Global,
     arena: &mut ChainsOver<S>,
     row: Do,
@@ -145,7 +145,7 @@ pub(super) fn look<S: SlotStack<Item = Slot>>(
     match row {
         Do::Debug => text(alloc, &*arena),
         Do::Generation => text(alloc, arena.generation().get()),
-        Do::Room => {
+        Do::Capacities => {
             let room = (arena.capacity(), arena.max_capacity());
             text(alloc, (arena.generation(), room))
         }
@@ -153,16 +153,16 @@ pub(super) fn look<S: SlotStack<Item = Slot>>(
         Do::SlotsListed => slots_of(alloc, arena.backing()),
         Do::Clone => cloned(alloc, arena),
         Do::CopyOver(count) => copied_over(alloc, arena, count),
-        other => trait_look(alloc, arena, other),
+        other => trait_lookup(alloc, arena, other),
     }
 }
 
 // Runs a read by the trait. By a bound, calls cost their proof a third of what they cost at a type.
-fn trait_look<A: ArenaTrait<ToolPtr, u32>>(alloc: Global, arena: &mut A, row: Do) -> String {
+fn trait_lookup<A: ArenaTrait<ToolPtr, u32>>(alloc: Global, arena: &mut A, row: Do) -> String {
     match row {
         Do::Len => text(alloc, arena.len()),
         Do::IsEmpty => text(alloc, arena.is_empty()),
-        Do::HasRoom(n) => text(alloc, arena.capacity() >= n),
+        Do::HasCapacity(n) => text(alloc, arena.capacity() >= n),
         Do::Maximum => text(alloc, arena.max_capacity()),
         Do::Counter => text(alloc, arena.singular_generation()),
         Do::Get(p) => text(alloc, arena.get(at(p))),
@@ -172,24 +172,24 @@ fn trait_look<A: ArenaTrait<ToolPtr, u32>>(alloc: Global, arena: &mut A, row: Do
 }
 
 // A chain arena that runs calls.
-pub(super) trait Answers {
+pub(super) trait RunsCalls {
     fn fresh(alloc: Global) -> Self;
 
-    fn answer(&mut self, alloc: Global, row: Do) -> String;
+    fn run_call(&mut self, alloc: Global, row: Do) -> String;
 }
 
 // Inserts lone links, each with its index as its value, and connects each pair.
-fn begins<A: Answers>(rt: &impl Abort, alloc: Global, arena: &mut A, count: u32, pairs: &[At]) {
+fn begins<A: RunsCalls>(rt: &impl Abort, alloc: Global, arena: &mut A, count: u32, pairs: &[At]) {
     for k in 1..=count {
-        arena.answer(alloc, Do::Insert(Kind::Disconnected, k));
+        arena.run_call(alloc, Do::Insert(Kind::Disconnected, k));
     }
     for (i, j) in pairs {
-        let tied = arena.answer(alloc, Do::Connect((*i, 2), (*j, 2)));
+        let tied = arena.run_call(alloc, Do::Connect((*i, 2), (*j, 2)));
         same(rt, "tied", tied.as_str(), "true");
     }
 }
 
-pub(super) fn plays<A: Answers>(
+pub(super) fn plays<A: RunsCalls>(
     rt: &impl Abort,
     alloc: Global,
     what: &str,
@@ -197,13 +197,13 @@ pub(super) fn plays<A: Answers>(
     lines: &[Line],
 ) {
     for (row, want) in lines {
-        let got = arena.answer(alloc, *row);
+        let got = arena.run_call(alloc, *row);
         same(rt, what, got.as_str(), *want);
     }
 }
 
 // Runs a script, and returns its arena.
-pub(super) fn played<A: Answers>(rt: &impl Abort, alloc: Global, script: Script) -> A {
+pub(super) fn played<A: RunsCalls>(rt: &impl Abort, alloc: Global, script: Script) -> A {
     let (what, count, pairs, lines) = script;
     let mut arena = A::fresh(alloc);
     begins(rt, alloc, &mut arena, count, pairs);
@@ -211,14 +211,14 @@ pub(super) fn played<A: Answers>(rt: &impl Abort, alloc: Global, script: Script)
     arena
 }
 
-pub(super) fn plays_all<A: Answers + Drop>(rt: &impl Abort, alloc: Global, table: &[Script]) {
+pub(super) fn plays_all<A: RunsCalls + Drop>(rt: &impl Abort, alloc: Global, table: &[Script]) {
     for script in table {
         let _: A = played(rt, alloc, *script);
     }
 }
 
 // Runs each list of lines on a new arena after its script.
-pub(super) fn plays_on<A: Answers + Drop>(
+pub(super) fn plays_on<A: RunsCalls + Drop>(
     rt: &impl Abort,
     alloc: Global,
     table: &[(Script, &[&[Line]])],

@@ -6,8 +6,8 @@ use super::consistency::{check_accepted, check_rows};
 use super::copies::{check_plain, check_refused_beside_holes, check_refused_copy, copies};
 use super::entries::check_full;
 use super::inherent_call_tables::tables;
-use super::scripts::{Answers, plays_all, plays_on};
-use super::stress::{check_hostile, check_limited};
+use super::scripts::{RunsCalls, plays_all, plays_on};
+use super::stress::{check_limited, check_under_stress};
 use super::visitor_state::{check_beyond_one, check_counted, check_kept};
 use super::{ChainsOver, Slot};
 use arena_base::ArenaSlot;
@@ -16,7 +16,7 @@ use std::alloc::Global;
 use std::process::Abort;
 
 // Runs the tables of inherent calls and of layouts.
-fn check_scripts<A: Answers + Drop>(rt: &impl Abort, alloc: Global) {
+fn check_scripts<A: RunsCalls + Drop>(rt: &impl Abort, alloc: Global) {
     for table in &tables() {
         plays_all::<A>(rt, alloc, table);
     }
@@ -52,7 +52,7 @@ fn check_plain_arenas<S: SlotStack<Item = Slot>, R: LimitStack<Item = ArenaSlot<
 
 fn check_all<S: SlotStack<Item = Slot>>(rt: &impl Abort, alloc: Global) {
     check_links::<S>(rt, alloc);
-    check_hostile::<S>(rt, alloc, 40);
+    check_under_stress::<S>(rt, alloc, 40);
 }
 
 #[test]
@@ -62,7 +62,7 @@ fn links_over_the_heap_stack(rt: HostRuntime) {
 
 #[test]
 fn links_in_blocks(rt: HostRuntime) {
-    check_hostile::<ChunkStack<Slot>>(&rt, rt.alloc(), 10);
+    check_under_stress::<ChunkStack<Slot>>(&rt, rt.alloc(), 10);
 }
 
 #[test]

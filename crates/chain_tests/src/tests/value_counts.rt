@@ -74,7 +74,7 @@ fn lone_values<S: SlotStack<Item = SlotOf<Counted>>>(
 
 // Connects three links, and drains them by a `Call` that takes `take` of them. Generic over
 // pointers and values, the types cost its proof less.
-fn tie_and_drain<P: PtrKey, T: Drop, S: SlotStack<Item = ArenaSlot<P, LinkNoGen<P, T>>>>(
+fn link_and_drain<P: PtrKey, T: Drop, S: SlotStack<Item = ArenaSlot<P, LinkNoGen<P, T>>>>(
     arena: &mut ChainArena<P, T, S>,
     p: P,
     q: P,
@@ -96,7 +96,7 @@ fn left_by_a_drain<S: SlotStack<Item = SlotOf<Counted>>>(
 ) -> (usize, usize) {
     let clones = no_clones(rt, alloc);
     let mut arena: ValuesOver<S> = lone_values(rt, alloc, &clones, &[0, 0, 0, 0]);
-    let left = tie_and_drain(&mut arena, at((1, 2)), at((2, 2)), at((3, 2)), take);
+    let left = link_and_drain(&mut arena, at((1, 2)), at((2, 2)), at((3, 2)), take);
     (left, Rc::strong_count(&clones))
 }
 

@@ -76,13 +76,13 @@ fn counted_over<S: SlotStack<Item = Slot>>(
 }
 
 // The error of a copy, the calls of the value map, and the number of entries then.
-type Told = (Option<ReallocationError>, u32, usize);
+type Report = (Option<ReallocationError>, u32, usize);
 
 // Copies lone links into a plain arena.
 fn counted_to_plain<S: SlotStack<Item = Slot>, R: SlotStack<Item = ArenaSlot<ToolPtr, u32>>>(
     alloc: Global,
     count: u32,
-) -> Told {
+) -> Report {
     let mut target: Arena<ToolPtr, u32, R> = fresh_plain(alloc);
     let source: ChainsOver<S> = lone_links(alloc, count);
     let (answer, map) = source.clone_to_arena_by(&mut target, Counting { calls: 0 });
@@ -96,7 +96,7 @@ pub(super) fn check_kept<S: SlotStack<Item = Slot>>(rt: &impl Abort, alloc: Glob
 }
 
 // Numbers of links, and the results of copies over one link and to a plain arena.
-static COUNTED: [(u32, &str, Told); 2] = [
+static COUNTED: [(u32, &str, Report); 2] = [
     (
         2,
         "(Ok(()), Counting { calls: 2 }, {P0[1](2): {(start), (end)} 2, P0[2](2): {(start), (end)} 3})",

@@ -12,7 +12,7 @@ use arena_ptr::{ChunkStack, HeapStack, PtrKey, SlotStack, ToolPtr};
 use bookmarks::Renumbers;
 use chain_arena::{ChainArena, ChainArenaTrait, LinkNoGen};
 use chain_examples::{Documents, Mesh, RunQueue};
-use failing_stack::Rationed;
+use failing_stack::FailingStack;
 use forwarding_arena::ForwardingArena;
 use std::alloc::Global;
 use std::process::Abort;
@@ -85,13 +85,15 @@ fn played<P: PtrKey, A: ChainArenaTrait<P, u32> + Drop>(alloc: Global) -> [Diffe
     ]
 }
 
-fn played_handed_on<P: PtrKey, A: ChainArenaTrait<P, u32> + Drop>(alloc: Global) -> [Differing; 3] {
+fn played_by_forwarding<P: PtrKey, A: ChainArenaTrait<P, u32> + Drop>(
+    alloc: Global,
+) -> [Differing; 3] {
     played::<P, ForwardingArena<A>>(alloc)
 }
 
 // Runs them at an arena and at its forwarding arena, and the bookmarks at the arena.
 fn all_played<P: PtrKey, A: Renumbers<P>>(alloc: Global) -> ([[Differing; 3]; 2], Differing) {
-    let both = [played::<P, A>(alloc), played_handed_on::<P, A>(alloc)];
+    let both = [played::<P, A>(alloc), played_by_forwarding::<P, A>(alloc)];
     (both, bookmarks::differing::<P, A>(alloc))
 }
 
@@ -122,11 +124,11 @@ fn are_refused<P: PtrKey, A: ChainArenaTrait<P, u32> + Drop>(alloc: Global) -> [
 // Runs all rows where each growth is refused once. A refused call changes nothing, and then
 // succeeds.
 fn are_all_refused<P: PtrKey, S: SlotStack<Item = Slot<P>>>(rt: &impl Abort, alloc: Global) {
-    let refused = are_refused::<P, ChainArena<P, u32, Rationed<S>>>(alloc);
+    let refused = are_refused::<P, ChainArena<P, u32, FailingStack<S>>>(alloc);
     same(rt, "refused", refused, [true; 6]);
-    let split = mesh::split_beside_a_hole::<P, ChainArena<P, u32, Rationed<S>>>(alloc);
+    let split = mesh::split_beside_a_hole::<P, ChainArena<P, u32, FailingStack<S>>>(alloc);
     same(rt, "split beside a hole", split, (true, [Some(2), Some(5)]));
-    are_all_played::<P, Rationed<S>>(rt, alloc);
+    are_all_played::<P, FailingStack<S>>(rt, alloc);
 }
 
 #[test]
@@ -135,10 +137,10 @@ fn each_growth_is_refused_once(rt: HostRuntime) {
 }
 
 #[test]
-fn one_corner_is_not_split_and_room_is_reserved(rt: HostRuntime) {
+fn one_corner_is_not_split_and_capacity_is_reserved(rt: HostRuntime) {
     let answers = (
         mesh::one_corner_is_not_split(rt.alloc()),
-        mesh::room_is_reserved(rt.alloc()),
+        mesh::capacity_is_reserved(rt.alloc()),
     );
     same(&rt, "mesh", answers, (true, true));
 }

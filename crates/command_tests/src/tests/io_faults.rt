@@ -69,13 +69,13 @@ fn ends_at_the_fault<S: SlotStack<Item = Slot>>(
     let result = run_on(alloc, &mut arena, &mut reader, &mut written);
     (
         result == Err(ToolError::Read),
-        are_answered(left, written.as_slice(), arena.len()),
+        are_whole(left, written.as_slice(), arena.len()),
         reader.left == later,
     )
 }
 
 /// Returns whether the output and the number of links are those of the lines that were read.
-fn are_answered(read: &[u8], written: &[u8], links: usize) -> bool {
+fn are_whole(read: &[u8], written: &[u8], links: usize) -> bool {
     let lines = read.iter().filter(|b| **b == b'\n').count();
     let want = WRITTEN.get(lines).copied().unwrap_or("no such line");
     written == want.as_bytes() && links == lines.saturating_add(1) / 2

@@ -1,6 +1,6 @@
 //! Advancers along chains, in any arena of links.
 
-use super::{At, NONE, Numbered, at, numbers, tied_links};
+use super::{At, NONE, Numbered, at, linked_pairs, numbers};
 use arena_base::Advancer;
 use chain_arena::ChainArenaTrait;
 use std::alloc::Global;
@@ -37,7 +37,7 @@ pub(super) fn met_along<P: Numbered, A: ChainArenaTrait<P, u32>>(
 fn met_while_removed<P: Numbered, A: ChainArenaTrait<P, u32> + Drop>(
     alloc: Global,
 ) -> (At, [At; 5], A) {
-    let mut arena: A = tied_links(alloc, 2, &[(1, 2)]);
+    let mut arena: A = linked_pairs(alloc, 2, &[(1, 2)]);
     let mut along = match arena.advancer_chain(at((1, 2))) {
         Some(along) => along,
         None => return (NONE, [NONE; 5], arena),
@@ -77,10 +77,10 @@ pub(super) fn changes_met<P: Numbered, A: ChainArenaTrait<P, u32> + Drop>(
     alloc: Global,
 ) -> (At, [[At; 5]; 4]) {
     let (first, gone, arena) = met_while_removed::<P, A>(alloc);
-    let other: A = tied_links(alloc, 3, &[(1, 2), (2, 3)]);
+    let other: A = linked_pairs(alloc, 3, &[(1, 2), (2, 3)]);
     let one_step = met_elsewhere(&arena, at((1, 2)), &other);
-    let lone: A = tied_links(alloc, 3, &[]);
-    let untied = met_elsewhere(&other, at((3, 2)), &lone);
+    let lone: A = linked_pairs(alloc, 3, &[]);
+    let unlinked = met_elsewhere(&other, at((3, 2)), &lone);
     let none = met_after_none::<P, A>(alloc, &other);
-    (first, [gone, one_step, untied, none])
+    (first, [gone, one_step, unlinked, none])
 }

@@ -1,7 +1,7 @@
 //! Runs the rows that any arena of links satisfies, at the chain arena and at a forwarding arena.
 
-use super::parser::asked;
-use super::scripts::{Answers, answer, plays};
+use super::parser::parse_call;
+use super::scripts::{RunsCalls, plays, run_call};
 use super::trait_calls::{NONE_THEN_AGAIN, NONE_THEN_NONE, ROWS};
 use super::transfers::TRANSFERS;
 use super::{Numbered, Slot};
@@ -15,27 +15,27 @@ use std::process::Abort;
 
 // A forwarding arena, and the type of its pointers.
 #[derive(Drop)]
-struct HandsOn<P, A> {
+struct Forwarding<P, A> {
     arena: ForwardingArena<A>,
     pointer: PhantomData<P>,
 }
 
-impl<P: Numbered, A: ChainArenaTrait<P, u32> + CompactArenaTrait<P, u32> + Drop> Answers
-    for HandsOn<P, A> {
+impl<P: Numbered, A: ChainArenaTrait<P, u32> + CompactArenaTrait<P, u32> + Drop> RunsCalls
+    for Forwarding<P, A> {
     fn renew(&mut self, alloc: Global) {
         self.arena = ForwardingArena::<A>::new(alloc);
     }
 
-    fn answer(&mut self, alloc: Global, call: &str) -> Option<String> {
-        match asked::<P>(call) {
-            Some(asked) => answer(alloc, &mut self.arena, asked),
+    fn run_call(&mut self, alloc: Global, call: &str) -> Option<String> {
+        match parse_call::<P>(call) {
+            Some(asked) => run_call(alloc, &mut self.arena, asked),
             None => None,
         }
     }
 }
 
 // Runs all rows, and those of an advancer after its first `None`.
-fn check_all<A: Answers>(rt: &impl Abort, alloc: Global, arena: &mut A, after_none: &str) {
+fn check_all<A: RunsCalls>(rt: &impl Abort, alloc: Global, arena: &mut A, after_none: &str) {
     plays(rt, alloc, arena, ROWS);
     plays(rt, alloc, arena, TRANSFERS);
     plays(rt, alloc, arena, after_none);
@@ -46,22 +46,22 @@ fn check_chains<P: Numbered, S: SlotStack<Item = Slot<P>>>(rt: &impl Abort, allo
     check_all(rt, alloc, &mut arena, NONE_THEN_NONE);
 }
 
-fn check_handed_on<P: Numbered, A: ChainArenaTrait<P, u32> + CompactArenaTrait<P, u32> + Drop>(
+fn check_forwarding<P: Numbered, A: ChainArenaTrait<P, u32> + CompactArenaTrait<P, u32> + Drop>(
     rt: &impl Abort,
     alloc: Global,
 ) {
-    let mut arena: HandsOn<P, A> = HandsOn {
+    let mut arena: Forwarding<P, A> = Forwarding {
         arena: ForwardingArena::<A>::new(alloc),
         pointer: PhantomData,
     };
     check_all(rt, alloc, &mut arena, NONE_THEN_AGAIN);
 }
 
-fn check_handed_on_to_chains<P: Numbered, S: SlotStack<Item = Slot<P>>>(
+fn check_forwarding_of_chains<P: Numbered, S: SlotStack<Item = Slot<P>>>(
     rt: &impl Abort,
     alloc: Global,
 ) {
-    check_handed_on::<P, ChainArena<P, u32, S>>(rt, alloc);
+    check_forwarding::<P, ChainArena<P, u32, S>>(rt, alloc);
 }
 
 #[test]
@@ -71,6 +71,6 @@ fn chain_arenas(rt: HostRuntime) {
 }
 
 #[test]
-fn an_arena_that_hands_each_call_on(rt: HostRuntime) {
-    check_handed_on_to_chains::<ToolPtr, HeapStack<Slot<ToolPtr>>>(&rt, rt.alloc());
+fn a_forwarding_arena(rt: HostRuntime) {
+    check_forwarding_of_chains::<ToolPtr, HeapStack<Slot<ToolPtr>>>(&rt, rt.alloc());
 }

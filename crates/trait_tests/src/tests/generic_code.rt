@@ -3,7 +3,7 @@
 ghost use Rattle.std.specs.Prelude.{◌≡◌, ◌↔◌, ℕ, IsSome, IfSome, IfNone, IfOk, OnErr, None, length};
 ghost use Rattle.chain_laws.specs.Chains.{next_of};
 ghost use Rattle.chain_laws.specs.Neighbors.{HasOneSetOfChains};
-ghost use Rattle.chain_laws.specs.Joins.{joined, with_lone};
+ghost use Rattle.chain_laws.specs.Joins.{with_join, with_lone};
 ghost use Rattle.arena_base.specs.Arena.{IsValid};
 ghost use Rattle.trait_tests.specs.Extensions.{Extends};
 ghost use Rattle.chain_links.specs.ChainArena.{IsInserted};
@@ -33,9 +33,9 @@ pub(super) fn add_behind<P: PtrKey, T: Drop, A: ChainArenaTrait<P, T>>(
         × (next_of (A.interlinks arena.old) (P.key p).0 ≡ None))) }
     ensures added { IfOk result
         (λ r. IfSome r (λ q. IsInserted (A.entry arena.old) (A.entry arena.new) (P.key q) t)) }
-    ensures tied { IfOk result
+    ensures linked { IfOk result
         (λ r.
-        IfSome r (λ q. A.interlinks arena.new ≡ joined
+        IfSome r (λ q. A.interlinks arena.new ≡ with_join
         (with_lone (A.interlinks arena.old) (P.key q).0) (P.key p).0 (P.key q).0)) }
     ensures chains { IfOk result
         (λ r. IfSome r (λ q. Extends (A.interlinks arena.old) (A.interlinks arena.new) (P.key p).0
@@ -56,7 +56,7 @@ pub(super) fn add_behind<P: PtrKey, T: Drop, A: ChainArenaTrait<P, T>>(
 }
 
 // Removes a link of any arena, and returns the index of the next link.
-pub(super) fn take_next<P: PtrKey, T: Drop, A: ChainArenaTrait<P, T>>(
+pub(super) fn remove_and_step<P: PtrKey, T: Drop, A: ChainArenaTrait<P, T>>(
     arena: &mut A,
     i: P::Inx,
 ) -> Option<P::Inx> {

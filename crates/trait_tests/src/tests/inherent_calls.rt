@@ -1,7 +1,7 @@
 //! The inherent calls of a chain arena that rows at any pointer make.
 
-use super::parser::{Asked, Do, asked};
-use super::scripts::{Answers, answer};
+use super::parser::{Do, ParsedCall, parse_call};
+use super::scripts::{RunsCalls, run_call};
 use super::{Numbered, Slot, text};
 use arena_base::ArenaTrait;
 use arena_ptr::{InvalidationOption, PtrKey, SlotStack};
@@ -27,35 +27,35 @@ fn drained_two<P: PtrKey, S: SlotStack<Item = Slot<P>>>(
     }
 }
 
-fn own_answer<P: Numbered, S: SlotStack<Item = Slot<P>>>(
+fn run_own_call<P: Numbered, S: SlotStack<Item = Slot<P>>>(
     alloc: Global,
     arena: &mut ChainArena<P, u32, S>,
-    asked: Asked<P>,
+    asked: ParsedCall<P>,
 ) -> Option<String> {
     match asked.call {
         Do::SetGeneration => text(alloc, arena.set_generation(P::generation_of(asked.n))),
         Do::DrainTwo => text(alloc, drained_two(arena, asked.p)),
-        _ => trait_answer(alloc, arena, asked),
+        _ => run_trait_call(alloc, arena, asked),
     }
 }
 
 // Runs a call of the traits. Only here generic code gets an arena.
-fn trait_answer<P: Numbered, S: SlotStack<Item = Slot<P>>>(
+fn run_trait_call<P: Numbered, S: SlotStack<Item = Slot<P>>>(
     alloc: Global,
     arena: &mut ChainArena<P, u32, S>,
-    asked: Asked<P>,
+    asked: ParsedCall<P>,
 ) -> Option<String> {
-    answer(alloc, arena, asked)
+    run_call(alloc, arena, asked)
 }
 
-impl<P: Numbered, S: SlotStack<Item = Slot<P>>> Answers for ChainArena<P, u32, S> {
+impl<P: Numbered, S: SlotStack<Item = Slot<P>>> RunsCalls for ChainArena<P, u32, S> {
     fn renew(&mut self, alloc: Global) {
         *self = ChainArena::new(alloc);
     }
 
-    fn answer(&mut self, alloc: Global, call: &str) -> Option<String> {
-        match asked::<P>(call) {
-            Some(asked) => own_answer(alloc, self, asked),
+    fn run_call(&mut self, alloc: Global, call: &str) -> Option<String> {
+        match parse_call::<P>(call) {
+            Some(asked) => run_own_call(alloc, self, asked),
             None => None,
         }
     }

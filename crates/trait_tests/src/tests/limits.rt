@@ -159,7 +159,7 @@ fn other_pointers(rt: HostRuntime) {
 type Shared = ArenaSlot<BarePtr, LinkNoGen<BarePtr, Rc<u8>>>;
 
 // Offers 300 values to an arena with a maximum. Returns its length and the number of copies.
-fn handed<S: LimitStack<Item = Shared>>(alloc: Global, most: usize) -> (usize, usize) {
+fn passed_values<S: LimitStack<Item = Shared>>(alloc: Global, most: usize) -> (usize, usize) {
     let Ok(value) = Rc::new(alloc, 5) else {
         return (0, 0);
     };
@@ -177,6 +177,6 @@ fn handed<S: LimitStack<Item = Shared>>(alloc: Global, most: usize) -> (usize, u
 #[test]
 fn refused_values_are_dropped(rt: HostRuntime) {
     for (most, left) in [(2, (2, 3)), (1000, (255, 256))] {
-        assert!(rt; handed::<LimitedStack<Shared>>(rt.alloc(), most) == left);
+        assert!(rt; passed_values::<LimitedStack<Shared>>(rt.alloc(), most) == left);
     }
 }

@@ -13,9 +13,9 @@ use std::process::Abort;
 // A value that writes what of a format reaches it: `#` for the alternate flag, `!` for anything
 // else.
 #[derive(Clone, Copy)]
-struct Teller;
+struct FormatProbe;
 
-fn tell<W: fmt::Write>(f: &mut fmt::Formatter<W>, word: &str) -> fmt::Result {
+fn write_word<W: fmt::Write>(f: &mut fmt::Formatter<W>, word: &str) -> fmt::Result {
     let is_wide = f.width().is_some() || f.precision().is_some() || f.sign_plus();
     let marks = match (f.alternate(), is_wide) {
         (false, false) => "",
@@ -27,15 +27,15 @@ fn tell<W: fmt::Write>(f: &mut fmt::Formatter<W>, word: &str) -> fmt::Result {
     f.write_str(marks)
 }
 
-impl fmt::Debug for Teller {
+impl fmt::Debug for FormatProbe {
     fn fmt<W: fmt::Write>(&self, f: &mut fmt::Formatter<W>) -> fmt::Result {
-        tell(f, "debug")
+        write_word(f, "debug")
     }
 }
 
-impl fmt::Display for Teller {
+impl fmt::Display for FormatProbe {
     fn fmt<W: fmt::Write>(&self, f: &mut fmt::Formatter<W>) -> fmt::Result {
-        tell(f, "display")
+        write_word(f, "display")
     }
 }
 
@@ -50,7 +50,7 @@ fn neighbor<P: Numbered>(p: At) -> Option<P> {
 }
 
 // Returns them for a link, with and without the generations of its neighbors.
-fn texts_of_link<P: Ptr>(alloc: Global, link: Link<P, Teller>) -> [Option<String>; 2] {
+fn texts_of_link<P: Ptr>(alloc: Global, link: Link<P, FormatProbe>) -> [Option<String>; 2] {
     [texts_of(alloc, &link), texts_of(alloc, &link.no_gen())]
 }
 
@@ -85,9 +85,12 @@ const LINKS: [(At, At, &str); 4] = [
 ];
 
 #[test]
-fn links_show_indexes_in_hexadecimal(rt: HostRuntime) {
+fn links_print_indexes_in_hexadecimal(rt: HostRuntime) {
     for (prev, next, want) in LINKS {
-        let link: Link<ToolPtr, Teller> = Link::new((neighbor(prev), neighbor(next)), Teller);
+        let link: Link<ToolPtr, FormatProbe> = Link::new(
+            (neighbor(prev), neighbor(next)),
+            FormatProbe,
+        );
         let [link, bare] = texts_of_link(rt.alloc(), link);
         reads(&rt, "with generations", link, want);
         reads(&rt, "without", bare, want);
@@ -95,7 +98,7 @@ fn links_show_indexes_in_hexadecimal(rt: HostRuntime) {
 }
 
 #[test]
-fn links_show_their_values_behind_their_neighbors(rt: HostRuntime) {
+fn links_print_their_values_after_their_neighbors(rt: HostRuntime) {
     let alloc = rt.alloc();
     let end = LinkNoGen::<ToolPtr, u32>::new((Inx32::new(10), None), 7);
     let texts = format!(in alloc; "{end} {end:?}").ok();
@@ -105,18 +108,18 @@ fn links_show_their_values_behind_their_neighbors(rt: HostRuntime) {
     reads(&rt, "a text", texts, "{1a, abcdef} B {1a, abcdef} \"B\"");
 }
 
-type Telling<P> = ArenaSlot<P, LinkNoGen<P, Teller>>;
+type Telling<P> = ArenaSlot<P, LinkNoGen<P, FormatProbe>>;
 
 // Returns the alternate text of a ring of one and a lone link. The transfers test plain texts.
 fn text_of_two<P: Ptr, S: SlotStack<Item = Telling<P>>>(alloc: Global) -> Option<String> {
-    let mut arena: ChainArena<P, Teller, S> = ChainArena::new(alloc);
-    let _ = arena.insert_reallocating(LinkInsertKind::SingleLinkCyclic, Teller);
-    let _ = arena.insert_reallocating(LinkInsertKind::Disconnected, Teller);
+    let mut arena: ChainArena<P, FormatProbe, S> = ChainArena::new(alloc);
+    let _ = arena.insert_reallocating(LinkInsertKind::SingleLinkCyclic, FormatProbe);
+    let _ = arena.insert_reallocating(LinkInsertKind::Disconnected, FormatProbe);
     format!(in alloc; "{arena:#?}").ok()
 }
 
 #[test]
-fn pointers_without_a_generation_show_none(rt: HostRuntime) {
+fn pointers_without_a_generation_print_none(rt: HostRuntime) {
     let text = text_of_two::<BarePtr, HeapStack<Telling<BarePtr>>>(rt.alloc());
     let want = "{\n    Bare[1]: {1, 1} debug#,\n    Bare[2]: {(start), (end)} debug#,\n}";
     reads(&rt, "an arena", text, want);

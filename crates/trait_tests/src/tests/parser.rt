@@ -12,7 +12,7 @@ pub(super) enum Do {
     // length and capacity.
     Len,
     IsEmpty,
-    HasRoom,
+    HasCapacity,
     Maximum,
     Counter,
     Contains,
@@ -21,7 +21,7 @@ pub(super) enum Do {
     Ends,
     Advance,
     Birth,
-    Room,
+    Capacities,
     AdvanceFrom,
     AdvanceEmpty,
     // Reads of the trait of arenas of links. `Along` steps five times, `AlongAll` to the end.
@@ -49,7 +49,7 @@ pub(super) enum Do {
     Canonical,
     AddBehind,
     TakeNext,
-    // Changes of any arena. `ClearInRoom` reports whether the capacity is kept, `CompressWith` the
+    // Changes of any arena. `ClearAndReserve` reports whether the capacity is kept, `CompressWith` the
     // closure's arguments.
     Write,
     WriteInx,
@@ -57,7 +57,7 @@ pub(super) enum Do {
     RemoveInx,
     Invalidate,
     Clear,
-    ClearInRoom,
+    ClearAndReserve,
     Reserve,
     CompressWith,
     // Transfers of all links, with a generation, to other pointers. The targets are one with two
@@ -105,7 +105,7 @@ impl<P: Copy, I: Copy> Clone for Body<P, I> {
 impl<P: Copy, I: Copy> Copy for Body<P, I> {}
 
 // A call on an arena of these pointers.
-pub(super) type Asked<P> = Body<P, <P as PtrKey>::Inx>;
+pub(super) type ParsedCall<P> = Body<P, <P as PtrKey>::Inx>;
 
 fn read(line: &str) -> Words<'_> {
     let mut words = Words {
@@ -131,10 +131,10 @@ fn read(line: &str) -> Words<'_> {
     words
 }
 
-const LOOKS: [(&str, Do); 14] = [
+const LOOKUPS: [(&str, Do); 14] = [
     ("Len", Do::Len),
     ("IsEmpty", Do::IsEmpty),
-    ("HasRoom", Do::HasRoom),
+    ("HasCapacity", Do::HasCapacity),
     ("Maximum", Do::Maximum),
     ("Counter", Do::Counter),
     ("Contains", Do::Contains),
@@ -143,12 +143,12 @@ const LOOKS: [(&str, Do); 14] = [
     ("Ends", Do::Ends),
     ("Advance", Do::Advance),
     ("Birth", Do::Birth),
-    ("Room", Do::Room),
+    ("Room", Do::Capacities),
     ("AdvanceFrom", Do::AdvanceFrom),
     ("AdvanceEmpty", Do::AdvanceEmpty),
 ];
 
-const LINK_LOOKS: [(&str, Do); 11] = [
+const LINK_LOOKUPS: [(&str, Do); 11] = [
     ("CanInsert", Do::CanInsert),
     ("Neighbors", Do::Neighbors),
     ("NeighborsInx", Do::NeighborsInx),
@@ -183,7 +183,7 @@ const CHANGES: [(&str, Do); 15] = [
     ("RemoveInx", Do::RemoveInx),
     ("Invalidate", Do::Invalidate),
     ("Clear", Do::Clear),
-    ("ClearInRoom", Do::ClearInRoom),
+    ("ClearAndReserve", Do::ClearAndReserve),
     ("Reserve", Do::Reserve),
     ("CompressWith", Do::CompressWith),
     ("CarryOut", Do::CarryOut),
@@ -203,9 +203,9 @@ fn found(table: &[(&str, Do)], name: &str) -> Option<Do> {
     None
 }
 
-fn look_of(name: &str) -> Option<Do> {
-    match found(&LOOKS, name) {
-        None => found(&LINK_LOOKS, name),
+fn lookup_of(name: &str) -> Option<Do> {
+    match found(&LOOKUPS, name) {
+        None => found(&LINK_LOOKUPS, name),
         call => call,
     }
 }
@@ -218,7 +218,7 @@ fn change_of(name: &str) -> Option<Do> {
 }
 
 fn call_of(name: &str) -> Option<Do> {
-    match look_of(name) {
+    match lookup_of(name) {
         None => change_of(name),
         call => call,
     }
@@ -258,7 +258,12 @@ fn kind_by_index_of<P: Copy, I: Copy>(kind: &str, i: I, j: I) -> Option<InsertKi
 }
 
 // Returns a call with these numbers, if there is such a kind.
-fn with_numbers<P: Numbered>(call: Do, kind: &str, numbers: [u32; 4], t: u32) -> Option<Asked<P>> {
+fn with_numbers<P: Numbered>(
+    call: Do,
+    kind: &str,
+    numbers: [u32; 4],
+    t: u32,
+) -> Option<ParsedCall<P>> {
     let [n, g, l, h] = numbers;
     let (p, q) = (at::<P>((n, g)), at::<P>((l, h)));
     let (i, j) = (index::<P>(n), index::<P>(g));
@@ -278,7 +283,7 @@ fn with_numbers<P: Numbered>(call: Do, kind: &str, numbers: [u32; 4], t: u32) ->
 }
 
 // Returns the call of a line, if there is such a call and such a kind.
-pub(super) fn asked<P: Numbered>(line: &str) -> Option<Asked<P>> {
+pub(super) fn parse_call<P: Numbered>(line: &str) -> Option<ParsedCall<P>> {
     let words = read(line);
     match call_of(words.name) {
         Some(call) => with_numbers(call, words.kind, words.numbers, words.last),

@@ -1,8 +1,8 @@
 //! Calls on arenas of links as lines of texts, each with the text of its result.
 
 use super::advancers::{changes_met, met, met_along};
-use super::generic_code::{add_behind, count_of_links, take_next};
-use super::parser::{Asked, Do};
+use super::generic_code::{add_behind, count_of_links, remove_and_step};
+use super::parser::{Do, ParsedCall};
 use super::transfers::carried;
 use super::{At, Numbered, add_lone, number, numbers, rows_of, same, text};
 use arena_base::{Advancer, ArenaTrait, CompactArenaTrait};
@@ -59,14 +59,14 @@ fn counted<P: Numbered>(generation: Option<P::Gen>) -> Option<u32> {
     }
 }
 
-fn standing<P: Numbered, T: Drop>(entry: Option<(P::Gen, T)>) -> Option<(u32, T)> {
+fn entry_value<P: Numbered, T: Drop>(entry: Option<(P::Gen, T)>) -> Option<(u32, T)> {
     match entry {
         Some((generation, t)) => Some((P::number_of(generation), t)),
         None => None,
     }
 }
 
-fn index_told<I: InxKey>(i: Option<I>) -> u32 {
+fn index_number<I: InxKey>(i: Option<I>) -> u32 {
     match i {
         Some(i) => number(i),
         None => 0,
@@ -76,7 +76,7 @@ fn index_told<I: InxKey>(i: Option<I>) -> u32 {
 // Returns a link's neighbors as indexes, and its value.
 fn bare<P: PtrKey>(link: &LinkNoGen<P, u32>) -> (u32, u32, u32) {
     let (prev, next) = link.prev_next();
-    (index_told(prev), index_told(next), link.t)
+    (index_number(prev), index_number(next), link.t)
 }
 
 // Returns a link's neighbors as pointers, and its value.
@@ -112,28 +112,28 @@ fn removed<P: PtrKey>(
     }
 }
 
-fn look<P: Numbered, A: ChainArenaTrait<P, u32> + Drop>(
+fn lookup<P: Numbered, A: ChainArenaTrait<P, u32> + Drop>(
     alloc: Global,
     arena: &A,
-    asked: Asked<P>,
+    asked: ParsedCall<P>,
 ) -> Option<String> {
     match asked.call {
         Do::Len => text(alloc, arena.len()),
         Do::IsEmpty => text(alloc, arena.is_empty()),
-        Do::HasRoom => text(alloc, arena.capacity() >= asked.n as usize),
+        Do::HasCapacity => text(alloc, arena.capacity() >= asked.n as usize),
         Do::Maximum => text(alloc, arena.max_capacity()),
         Do::Counter => text(alloc, counted::<P>(arena.singular_generation())),
         Do::Contains => text(alloc, arena.contains(asked.p)),
         Do::Get => text(alloc, arena.get(asked.p)),
-        Do::GetInx => text(alloc, standing::<P, &u32>(arena.get_inx(asked.i))),
-        _ => look_along(alloc, arena, asked),
+        Do::GetInx => text(alloc, entry_value::<P, &u32>(arena.get_inx(asked.i))),
+        _ => walk_reply(alloc, arena, asked),
     }
 }
 
-fn look_along<P: Numbered, A: ChainArenaTrait<P, u32> + Drop>(
+fn walk_reply<P: Numbered, A: ChainArenaTrait<P, u32> + Drop>(
     alloc: Global,
     arena: &A,
-    asked: Asked<P>,
+    asked: ParsedCall<P>,
 ) -> Option<String> {
     match asked.call {
         Do::Ends => {
@@ -147,16 +147,16 @@ fn look_along<P: Numbered, A: ChainArenaTrait<P, u32> + Drop>(
         }
         Do::AdvanceEmpty => text(alloc, A::PtrAdvancer::empty().advance(arena)),
         Do::Birth => text(alloc, born::<P, A>(alloc, asked.n as usize)),
-        Do::Room => text(alloc, (arena.len(), arena.capacity())),
+        Do::Capacities => text(alloc, (arena.len(), arena.capacity())),
         Do::Changes => text(alloc, changes_met::<P, A>(alloc)),
-        _ => look_at_links(alloc, arena, asked),
+        _ => link_reply(alloc, arena, asked),
     }
 }
 
-fn look_at_links<P: Numbered, A: ChainArenaTrait<P, u32>>(
+fn link_reply<P: Numbered, A: ChainArenaTrait<P, u32>>(
     alloc: Global,
     arena: &A,
-    asked: Asked<P>,
+    asked: ParsedCall<P>,
 ) -> Option<String> {
     match asked.call {
         Do::CanInsert => text(alloc, arena.can_insert(asked.kind)),
@@ -165,14 +165,14 @@ fn look_at_links<P: Numbered, A: ChainArenaTrait<P, u32>>(
         Do::Link => text(alloc, with_pointers(arena.get_link(asked.p))),
         Do::LinkNoGen => text(alloc, arena.get_link_no_gen(asked.p).is_some()),
         Do::LinkNoGenInx => text(alloc, bare_at(arena, asked.i)),
-        _ => look_along_links(alloc, arena, asked),
+        _ => link_walk_reply(alloc, arena, asked),
     }
 }
 
-fn look_along_links<P: Numbered, A: ChainArenaTrait<P, u32>>(
+fn link_walk_reply<P: Numbered, A: ChainArenaTrait<P, u32>>(
     alloc: Global,
     arena: &A,
-    asked: Asked<P>,
+    asked: ParsedCall<P>,
 ) -> Option<String> {
     match asked.call {
         Do::Along => text(alloc, met_along(arena, asked.p)),
@@ -184,10 +184,10 @@ fn look_along_links<P: Numbered, A: ChainArenaTrait<P, u32>>(
 }
 
 // Runs a call of the traits.
-pub(super) fn answer<P: Numbered, A: ChainArenaTrait<P, u32> + CompactArenaTrait<P, u32> + Drop>(
+pub(super) fn run_call<P: Numbered, A: ChainArenaTrait<P, u32> + CompactArenaTrait<P, u32> + Drop>(
     alloc: Global,
     arena: &mut A,
-    asked: Asked<P>,
+    asked: ParsedCall<P>,
 ) -> Option<String> {
     match asked.call {
         Do::Insert => text(alloc, arena.insert_reallocating(asked.kind, asked.t)),
@@ -204,13 +204,13 @@ pub(super) fn answer<P: Numbered, A: ChainArenaTrait<P, u32> + CompactArenaTrait
 fn change_links<P: Numbered, A: ChainArenaTrait<P, u32> + CompactArenaTrait<P, u32> + Drop>(
     alloc: Global,
     arena: &mut A,
-    asked: Asked<P>,
+    asked: ParsedCall<P>,
 ) -> Option<String> {
     match asked.call {
         Do::RemoveLink => text(alloc, removed::<P>(arena.remove_link_no_gen(asked.p))),
         Do::Canonical => text(alloc, arena.compress_canonical(asked.n > 0)),
         Do::AddBehind => text(alloc, add_behind(arena, asked.p, asked.t)),
-        Do::TakeNext => text(alloc, index_told(take_next(arena, asked.i))),
+        Do::TakeNext => text(alloc, index_number(remove_and_step(arena, asked.i))),
         Do::CarryOut | Do::CarryAsFive | Do::CarryToFull | Do::CarryToBare => {
             carried(alloc, arena, asked.call, asked.n)
         }
@@ -221,7 +221,7 @@ fn change_links<P: Numbered, A: ChainArenaTrait<P, u32> + CompactArenaTrait<P, u
 fn change<P: Numbered, A: ChainArenaTrait<P, u32> + Drop>(
     alloc: Global,
     arena: &mut A,
-    asked: Asked<P>,
+    asked: ParsedCall<P>,
 ) -> Option<String> {
     match asked.call {
         Do::Write => text(alloc, overwritten(arena.get_mut(asked.p), asked.t)),
@@ -229,7 +229,7 @@ fn change<P: Numbered, A: ChainArenaTrait<P, u32> + Drop>(
         Do::Remove => text(alloc, arena.remove(asked.p)),
         Do::RemoveInx => {
             let removed = arena.remove_inx(asked.i).allow();
-            text(alloc, standing::<P, u32>(removed))
+            text(alloc, entry_value::<P, u32>(removed))
         }
         Do::Invalidate => text(alloc, arena.invalidate(asked.p)),
         _ => change_whole(alloc, arena, asked),
@@ -239,31 +239,31 @@ fn change<P: Numbered, A: ChainArenaTrait<P, u32> + Drop>(
 fn change_whole<P: Numbered, A: ChainArenaTrait<P, u32> + Drop>(
     alloc: Global,
     arena: &mut A,
-    asked: Asked<P>,
+    asked: ParsedCall<P>,
 ) -> Option<String> {
     match asked.call {
         Do::Clear => text(alloc, arena.clear()),
-        Do::ClearInRoom => text(alloc, cleared(arena)),
+        Do::ClearAndReserve => text(alloc, cleared(arena)),
         Do::Reserve => text(alloc, arena.reallocate_min_capacity(asked.n as usize)),
         Do::CompressWith => text(alloc, compressed(alloc, arena, asked.n > 0)),
-        _ => look(alloc, arena, asked),
+        _ => lookup(alloc, arena, asked),
     }
 }
 
 // An arena of links that runs calls.
-pub(super) trait Answers {
+pub(super) trait RunsCalls {
     // Replaces the arena with a new one.
     fn renew(&mut self, alloc: Global);
 
     // Returns the text of a call's result, if there is such a call and memory for the text.
-    fn answer(&mut self, alloc: Global, call: &str) -> Option<String>;
+    fn run_call(&mut self, alloc: Global, call: &str) -> Option<String>;
 }
 
 // Replaces the arena, or checks the result of a call.
-fn plays_line<A: Answers>(rt: &impl Abort, alloc: Global, arena: &mut A, line: &str) {
+fn plays_line<A: RunsCalls>(rt: &impl Abort, alloc: Global, arena: &mut A, line: &str) {
     match line.split_once(" = ") {
         Some((call, want)) => {
-            let got = arena.answer(alloc, call).expect(rt, "an answer");
+            let got = arena.run_call(alloc, call).expect(rt, "an answer");
             same(rt, line, got.as_str(), want);
         }
         None => {
@@ -273,7 +273,7 @@ fn plays_line<A: Answers>(rt: &impl Abort, alloc: Global, arena: &mut A, line: &
     }
 }
 
-pub(super) fn plays<A: Answers>(rt: &impl Abort, alloc: Global, arena: &mut A, table: &str) {
+pub(super) fn plays<A: RunsCalls>(rt: &impl Abort, alloc: Global, arena: &mut A, table: &str) {
     let mut rest = table;
     for _ in 0..table.len() {
         if let Some((line, after)) = rest.split_once('\n') {

@@ -81,7 +81,7 @@ fn carry<
 }
 
 // Returns the links, counter and maximum, and whether the capacity is at most 64.
-fn shown<Q: Ptr, S: SlotStack<Item = Slot<Q>>>(
+fn contents<Q: Ptr, S: SlotStack<Item = Slot<Q>>>(
     alloc: Global,
     arena: &ChainArena<Q, u32, S>,
 ) -> Option<String> {
@@ -107,7 +107,7 @@ fn carried_to<
 >(alloc: Global, source: &mut A, generation: Q::Gen, place: &Place) -> Option<String> {
     let mut target: ChainArena<Q, u32, S> = arena_at(alloc, place);
     let told = carry(alloc, source, generation, &mut target, place.answered);
-    joined(alloc, told, shown(alloc, &target))
+    joined(alloc, told, contents(alloc, &target))
 }
 
 pub(super) fn carried<P: PtrKey + Debug, A: ChainArenaTrait<P, u32> + CompactArenaTrait<P, u32>>(
@@ -188,7 +188,7 @@ InsertMany 3 = 3
 Connect 3 2 1 2 = Some(())
 Reserve 100 = Ok(())
 CarryToFull 7 = (Err(BeyondMaxCapacity), []) ({P0[1](2): {(start), (end)} 1, P0[2](2): {(start), (end)} 2}, Gen32 { number: 2 }, Some(2), true)
-HasRoom 100 = true
+HasCapacity 100 = true
 All = [((1, 2), 1, (3, 2), (0, 0)), ((2, 2), 2, (0, 0), (0, 0)), ((3, 2), 3, (0, 0), (1, 2))]
 Counter = Some(2)
 # .. and beyond the index type, which is tested before the maximum: nothing grows, and the source keeps all that it has
@@ -197,7 +197,7 @@ Connect 3 2 1 2 = Some(())
 Reserve 300 = Ok(())
 CarryToBare 300 = (Err(AllocError), []) ({Bare[1]: {1, 1} 5, Bare[2]: {2, 2} 6}, (), Some(300), true)
 CarryToBare 2 = (Err(AllocError), []) ({Bare[1]: {1, 1} 5, Bare[2]: {2, 2} 6}, (), Some(2), true)
-HasRoom 300 = true
+HasCapacity 300 = true
 Len = 256
 Along 3 2 = Some([(3, 2), (1, 2), (0, 0), (0, 0), (0, 0)])
 Counter = Some(2)

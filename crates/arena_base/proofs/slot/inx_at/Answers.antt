@@ -5,5 +5,5 @@ use Rattle.arena_base.proofs.slot.inx_at.Goals as goal
 pub overflow_add-k : goal.overflow_add-k
 overflow_add-k g c = omega (arith, g.met.P.Inx.InxKey.greatest_fits)
 
-pub assert_unchecked-requires : goal.assert_unchecked-requires
-assert_unchecked-requires g c = absurd (let made = c.in-None.ensures.variant.1 (omega arith, omega arith) in cc)
+pub assume_proved-requires : goal.assume_proved-requires
+assume_proved-requires g c = absurd (let made = c.in-None.ensures.variant.1 (omega arith, omega arith) in cc)

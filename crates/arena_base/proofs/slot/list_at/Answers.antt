@@ -3,8 +3,8 @@ use Rattle.std.proofs.Common.{◌≡◌, None, Some, ◌∙◌, arith}
 use Rattle.arena_base.proofs.FreeListLemmas.{there}
 use Rattle.arena_base.proofs.slot.list_at.Goals as goal
 
-pub assert_unchecked-requires : goal.assert_unchecked-requires
-assert_unchecked-requires g c = absurd (
+pub assume_proved-requires : goal.assume_proved-requires
+assume_proved-requires g c = absurd (
     let slot = there (g.S.SlotStack.items c.args.slots.now) c.args.k c.requires.in_bounds in
     let both : None ≡ Some slot.0 = c.in-None.ensures.value ∙ slot.1 in cc)
 

@@ -60,7 +60,7 @@ returns-in-RemoveInx g c =
         c.remove_inx_link_no_gen.result,
         refl,
         removes_inx (kind_by g.P.PtrKey g.P.Inx.InxKey g.P.Gen.GenKey) c.args.arena.now c.remove_inx_link_no_gen.new.self (g.P.Inx.InxKey.number c.in-RemoveInx.i)
-            c.remove_inx_link_no_gen.result made.answer made.more made.overflow made.invalid,
+            c.remove_inx_link_no_gen.result made.returned made.more made.overflow made.invalid,
       );
     })
 
@@ -96,7 +96,7 @@ returns-in-Compress g c =
     rw c.in-Compress.is (record {
       step = (
         ap (λ r. reply.Counted r) (compresses g.P.Gen.GenKey.wraps c.args.arena.now c.in-Compress.reset c.compress.result made.overflow),
-        record { seen = made.compressed; values = made.values; links = made.more },
+        record { view_after = made.compressed; values = made.values; links = made.more },
       );
     })
 

@@ -9,9 +9,9 @@ returns-in-Some g c = λ valid.
     record {
       was = c.in-Some.t.now;
       is = c.recast.new.self;
-      stood = c.in-Some.ensures.value;
+      was_stored = c.in-Some.ensures.value;
       state = held.1.0;
-      shows = held.1.1;
+      reports = held.1.1;
       entries = ap (λ (s : ArenaView _ _). s.entries) held.0;
       recast = c.recast.ensures;
     }

@@ -6,20 +6,20 @@ use Rattle.arena_base.specs.Arena.{Arena, next_index}
 use Rattle.arena_base.specs.Entries.{found}
 use Rattle.chain_arena.specs.Transfers.{AreEnds}
 use Rattle.chain_traits.proofs.GenericArenaLemmas.{links_within}
-use Rattle.chain_arena.proofs.TransferLoopLemmas.{IsCarrying, carrying_begins, agrees_left, looks_up, some_left, stands_on, carries_next_link, comes_at, bounds_at, gap_at, room_at, carries_link, carries_all}
+use Rattle.chain_arena.proofs.TransferLoopLemmas.{IsCarrying, carrying_begins, agrees_left, lookups_up, some_left, stored_on, carries_next_link, comes_at, bounds_at, position_at, capacity_at, carries_link, carries_all}
 use Rattle.chain_arena.proofs.transfer.carry_all.Given.{Over}
 use Rattle.chain_arena.proofs.transfer.carry_all.Goals.{After-take_next-value}
 use Rattle.chain_arena.proofs.transfer.carry_all.Goals as goal
 
 -- there is a link where an entry is found
-stands : (g : Over) (a : g.row.A.Denot) (i : ℕ) → is_some (g.A.ChainArenaTrait.interlinks a i) ≡ is_some (found i (g.A.ArenaTrait.view a).entries)
-stands g a i = g.met.A.ChainArenaTrait.stand a i ∙ ap is_some (sym (g.met.A.ArenaTrait.looked_up a i))
+stored : (g : Over) (a : g.row.A.Denot) (i : ℕ) → is_some (g.A.ChainArenaTrait.interlinks a i) ≡ is_some (found i (g.A.ArenaTrait.view a).entries)
+stored g a i = g.met.A.ChainArenaTrait.links_are_entries a i ∙ ap is_some (sym (g.met.A.ArenaTrait.finds a i))
 
 -- an entry found at an index, if one is given, is there
-stands_entry : (g : Over) (a : g.row.A.Denot) (on : Option g.row.Q-Inx.Denot) → IfSome on (λ j. is_some (found (g.Q.Inx.InxKey.number j) (g.A.ArenaTrait.view a).entries) ≡ true)
+stored_entry : (g : Over) (a : g.row.A.Denot) (on : Option g.row.Q-Inx.Denot) → IfSome on (λ j. is_some (found (g.Q.Inx.InxKey.number j) (g.A.ArenaTrait.view a).entries) ≡ true)
     → IfSome on (λ j. is_some (g.A.ArenaTrait.entry a (g.Q.Inx.InxKey.number j)) ≡ true)
-stands_entry g a None there = tt
-stands_entry g a (Some j) there = ap is_some (sym (g.met.A.ArenaTrait.looked_up a (g.Q.Inx.InxKey.number j))) ∙ there
+stored_entry g a None there = tt
+stored_entry g a (Some j) there = ap is_some (sym (g.met.A.ArenaTrait.finds a (g.Q.Inx.InxKey.number j))) ∙ there
 
 pub loop-k-init : goal.loop-k-init
 loop-k-init g c =
@@ -28,79 +28,79 @@ loop-k-init g c =
       callable = c.requires.callable;
       carrying = carrying_begins g.Q.PtrKey.key g.P.PtrKey.key g.Q.Gen.GenKey.following g.Q.Gen.GenKey.wraps g.F.FnMut g.P.Inx.InxKey.number (g.A.ArenaTrait.view source) (g.A.ChainArenaTrait.interlinks source) c.args.map c.args.target.now
           g.Q.Inx.InxKey.greatest (g.A.ArenaTrait.cursor c.advancer-advancer.result) _ c.agrees.ensures
-          (links_within (g.A.ChainArenaTrait.interlinks source) (g.A.ArenaTrait.entry source) (g.A.ArenaTrait.view source).entries (g.met.A.ChainArenaTrait.stand source) (g.met.A.ArenaTrait.looked_up source) g.Q.Inx.InxKey.greatest c.len-k-end.ensures.indexes)
+          (links_within (g.A.ChainArenaTrait.interlinks source) (g.A.ArenaTrait.entry source) (g.A.ArenaTrait.view source).entries (g.met.A.ChainArenaTrait.links_are_entries source) (g.met.A.ArenaTrait.finds source) g.Q.Inx.InxKey.greatest c.len-k-end.ensures.indexes)
           c.requires.slots c.advancer-advancer.ensures;
     }
 
 pub take_next-value-requires-clause-agree : goal.take_next-value-requires-clause-agree
-take_next-value-requires-clause-agree g c = agrees_left _ _ _ _ _ _ _ _ _ _ _ _ _ _ _ _ _ _ (stands g c.loop-k.source) _ c.loop-k.invariant.carrying
+take_next-value-requires-clause-agree g c = agrees_left _ _ _ _ _ _ _ _ _ _ _ _ _ _ _ _ _ _ (stored g c.loop-k.source) _ c.loop-k.invariant.carrying
 
 pub take_next-value-requires-clause-low : goal.take_next-value-requires-clause-low
 take_next-value-requires-clause-low g c none =
-    looks_up _ _ _ _ _ _ _ _ _ _ _ _ _ _ _ _ _ _ (stands g c.loop-k.source) _ (ap (option_map g.Q.Inx.InxKey.number) none) c.loop-k.invariant.carrying (g.met.A.ArenaTrait.rises c.loop-k.source)
+    lookups_up _ _ _ _ _ _ _ _ _ _ _ _ _ _ _ _ _ _ (stored g c.loop-k.source) _ (ap (option_map g.Q.Inx.InxKey.number) none) c.loop-k.invariant.carrying (g.met.A.ArenaTrait.rises c.loop-k.source)
 
 pub take_next-value-requires-clause-some : goal.take_next-value-requires-clause-some
 take_next-value-requires-clause-some g c none =
-    some_left _ _ _ _ _ _ _ _ _ _ _ _ _ _ _ _ _ _ (stands g c.loop-k.source) _ c.loop-k.invariant.carrying (omega (arith, c.loop-k-test.true, c.len-k-end.ensures.count))
+    some_left _ _ _ _ _ _ _ _ _ _ _ _ _ _ _ _ _ _ (stored g c.loop-k.source) _ c.loop-k.invariant.carrying (omega (arith, c.loop-k-test.true, c.len-k-end.ensures.count))
 
-pub take_next-value-requires-clause-stands : goal.take_next-value-requires-clause-stands
-take_next-value-requires-clause-stands g c = stands_entry g c.loop-k.source c.loop-k.on (stands_on _ _ _ _ _ _ _ _ _ _ _ _ _ _ _ _ _ _ (stands g c.loop-k.source) g.Q.Inx.InxKey.number c.loop-k.on c.loop-k.invariant.carrying)
+pub take_next-value-requires-clause-stored : goal.take_next-value-requires-clause-stored
+take_next-value-requires-clause-stored g c = stored_entry g c.loop-k.source c.loop-k.on (stored_on _ _ _ _ _ _ _ _ _ _ _ _ _ _ _ _ _ _ (stored g c.loop-k.source) g.Q.Inx.InxKey.number c.loop-k.on c.loop-k.invariant.carrying)
 
 -- the state after the link was taken
 carrying_it : (g : Over) (c : After-take_next-value g) → IsCarrying g.Q.PtrKey.key g.P.PtrKey.key g.Q.Gen.GenKey.following g.Q.Gen.GenKey.wraps g.F.FnMut g.P.Inx.InxKey.number
     (g.A.ArenaTrait.view c.args.source.now) (g.A.ChainArenaTrait.interlinks c.args.source.now) c.args.map c.args.target.now
     c.loop-k.k (g.A.ArenaTrait.view c.loop-k.source) (g.A.ChainArenaTrait.interlinks c.loop-k.source) (g.A.ArenaTrait.cursor c.take_next-value.new.advancer)
-    (Some (g.Q.PtrKey.key c.take_next-value.result.ptr).0) c.take_next-value.result.is_cyclic c.and-laid.result c.loop-k.map c.loop-k.target
+    (Some (g.Q.PtrKey.key c.take_next-value.result.ptr).0) c.take_next-value.result.is_cyclic c.and-arranged.result c.loop-k.map c.loop-k.target
 carrying_it g c =
-    carries_next_link _ _ _ _ _ _ _ _ _ _ _ _ _ _ _ _ _ _ (stands g c.loop-k.source) g.Q.Inx.InxKey.number c.loop-k.on _ _ _ _ c.loop-k.invariant.carrying c.take_next-value.ensures.goes_on c.take_next-value.ensures.begins c.and-laid.ensures
+    carries_next_link _ _ _ _ _ _ _ _ _ _ _ _ _ _ _ _ _ _ (stored g c.loop-k.source) g.Q.Inx.InxKey.number c.loop-k.on _ _ _ _ c.loop-k.invariant.carrying c.take_next-value.ensures.continues c.take_next-value.ensures.begins c.and-arranged.ensures
 
 pub map-t-requires : goal.map-t-requires
 map-t-requires g c = search of_calls
 
 -- the next index is the one after the last link
 the_place : (g : Over) (c : After-take_next-value g) → next_index c.loop-k.target ≡ c.loop-k.k + 1
-the_place g c = comes_at _ _ _ _ _ _ _ _ _ _ _ _ _ _ _ _ _ _ (stands g c.loop-k.source) _ (carrying_it g c) c.requires.freed
+the_place g c = comes_at _ _ _ _ _ _ _ _ _ _ _ _ _ _ _ _ _ _ (stored g c.loop-k.source) _ (carrying_it g c) c.requires.freed
 
-pub lay_behind-ends-requires-clause-ends : goal.lay_behind-ends-requires-clause-ends
-lay_behind-ends-requires-clause-ends g c =
-    let at = (goal.at.lay_behind-ends-requires-clause-ends g c).After-take_next-value in
+pub append_link-ends-requires-clause-ends : goal.append_link-ends-requires-clause-ends
+append_link-ends-requires-clause-ends g c =
+    let at = (goal.at.append_link-ends-requires-clause-ends g c).After-take_next-value in
     let it = carrying_it g at in (
       length it.taken,
-      bounds_at _ _ _ _ _ _ _ _ _ _ _ _ _ _ _ _ _ _ (stands g at.loop-k.source) _ it at.requires.freed,
-      gap_at _ _ _ _ _ _ _ _ _ _ _ _ _ _ _ _ _ _ (stands g at.loop-k.source) _ it at.requires.freed _ _ refl refl,
+      bounds_at _ _ _ _ _ _ _ _ _ _ _ _ _ _ _ _ _ _ (stored g at.loop-k.source) _ it at.requires.freed,
+      position_at _ _ _ _ _ _ _ _ _ _ _ _ _ _ _ _ _ _ (stored g at.loop-k.source) _ it at.requires.freed _ _ refl refl,
     )
 
-pub lay_behind-ends-requires-clause-room : goal.lay_behind-ends-requires-clause-room
-lay_behind-ends-requires-clause-room g c =
-    let at = (goal.at.lay_behind-ends-requires-clause-room g c).After-take_next-value in
-    room_at _ _ _ _ _ _ _ _ _ _ _ _ _ _ _ _ _ _ (stands g at.loop-k.source) _ (carrying_it g at) at.requires.freed c.len-k-end.result c.loop-k-test.true
-    (omega (arith, c.len-k-end.ensures.count, at.requires.room))
+pub append_link-ends-requires-clause-within_capacity : goal.append_link-ends-requires-clause-within_capacity
+append_link-ends-requires-clause-within_capacity g c =
+    let at = (goal.at.append_link-ends-requires-clause-within_capacity g c).After-take_next-value in
+    capacity_at _ _ _ _ _ _ _ _ _ _ _ _ _ _ _ _ _ _ (stored g at.loop-k.source) _ (carrying_it g at) at.requires.freed c.len-k-end.result c.loop-k-test.true
+    (omega (arith, c.len-k-end.ensures.count, at.requires.within_capacity))
 
-pub lay_behind-ends-requires-clause-index : goal.lay_behind-ends-requires-clause-index
-lay_behind-ends-requires-clause-index g c =
-    let at = (goal.at.lay_behind-ends-requires-clause-index g c).After-take_next-value in
+pub append_link-ends-requires-clause-index : goal.append_link-ends-requires-clause-index
+append_link-ends-requires-clause-index g c =
+    let at = (goal.at.append_link-ends-requires-clause-index g c).After-take_next-value in
     ap (λ (p : ℕ × _). p.0) c.pointer_at-to.ensures ∙ sym (the_place g at)
 
 pub loop-k-preserved : goal.loop-k-preserved
 loop-k-preserved g c =
     let at = (goal.at.loop-k-preserved g c).After-take_next-value in
     let it = carrying_it g at in
-    let bounds = bounds_at _ _ _ _ _ _ _ _ _ _ _ _ _ _ _ _ _ _ (stands g at.loop-k.source) _ it at.requires.freed in
-    let laid = c.lay_behind-ends.ensures.laid (length it.taken) bounds in
-    let stood = g.met.A.ArenaTrait.looked_up c.loop-k.source (g.Q.PtrKey.key c.take_next-value.result.ptr).0 ∙ c.take_next-value.ensures.stood in
+    let bounds = bounds_at _ _ _ _ _ _ _ _ _ _ _ _ _ _ _ _ _ _ (stored g at.loop-k.source) _ it at.requires.freed in
+    let arranged = c.append_link-ends.ensures.arranged (length it.taken) bounds in
+    let was_stored = g.met.A.ArenaTrait.finds c.loop-k.source (g.Q.PtrKey.key c.take_next-value.result.ptr).0 ∙ c.take_next-value.ensures.was_stored in
     record {
       callable = search of_calls;
-      carrying = carries_link _ _ _ _ _ _ _ _ _ _ _ _ _ _ _ _ _ _ (stands g at.loop-k.source) _ it at.requires.freed c.lay_behind-ends.ensures.listed
-          c.take_next-value.result.ptr c.take_next-value.result.value c.pointer_at-to.result c.map-t.result _ stood refl
+      carrying = carries_link _ _ _ _ _ _ _ _ _ _ _ _ _ _ _ _ _ _ (stored g at.loop-k.source) _ it at.requires.freed c.append_link-ends.ensures.listed
+          c.take_next-value.result.ptr c.take_next-value.result.value c.pointer_at-to.result c.map-t.result _ was_stored refl
           (c.pointer_at-to.ensures ∙ ap (λ n. (c.loop-k.k + 1, n)) c.generation-generation.ensures) c.map-t.ensures
-          (agrees_left _ _ _ _ _ _ _ _ _ _ _ _ _ _ _ _ _ _ (stands g at.loop-k.source) _ it) _ _ _ _ _ c.take_next-value.ensures.overflow c.take_next-value.ensures.next c.take_next-value.ensures.seen c.take_next-value.ensures.links laid.0
-          (subst (λ n. AreEnds g.P.Inx.InxKey.number c.lay_behind-ends.result (length it.taken + 1) (n + 1)) (the_place g at) laid.1);
+          (agrees_left _ _ _ _ _ _ _ _ _ _ _ _ _ _ _ _ _ _ (stored g at.loop-k.source) _ it) _ _ _ _ _ c.take_next-value.ensures.overflow c.take_next-value.ensures.next c.take_next-value.ensures.view_after c.take_next-value.ensures.links arranged.0
+          (subst (λ n. AreEnds g.P.Inx.InxKey.number c.append_link-ends.result (length it.taken + 1) (n + 1)) (the_place g at) arranged.1);
     }
 
 pub returns : goal.returns
 returns g c =
     let carrying = c.loop-k.invariant.carrying in record {
-      transferred = carries_all _ _ _ _ _ _ _ _ _ _ _ _ _ _ _ _ _ _ (stands g c.loop-k.source) _ carrying c.requires.freed (omega (arith, c.loop-k-test.false, c.len-k-end.ensures.count));
+      transferred = carries_all _ _ _ _ _ _ _ _ _ _ _ _ _ _ _ _ _ _ (stored g c.loop-k.source) _ carrying c.requires.freed (omega (arith, c.loop-k-test.false, c.len-k-end.ensures.count));
       capacity = ap (λ (a : Arena _ _). a.capacity) carrying.landed.state;
       stack_capacity = ap (λ (a : Arena _ _). a.stack_capacity) carrying.landed.state;
     }

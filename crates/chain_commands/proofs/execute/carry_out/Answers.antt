@@ -7,9 +7,9 @@ use Rattle.chain_commands.specs.declared.command.Command.TheVariants.{Change, Sh
 use Rattle.chain_commands.specs.declared.command.Line.TheVariants.{Good}
 use Rattle.chain_commands.proofs.execute.carry_out.Goals as goal
 
-shows_ok : {T E : Type 0} (old : ToolLinks) (p : ToolPtr) (text : List ℕ) (r : Result T E) → OnOk r (RespondsToShow old (key_of p) text) → OnOk r (RespondsToCommand old (Show p) text old)
-shows_ok old p text (Ok x) shows = (shows, refl)
-shows_ok old p text (Err e) shows = tt
+reports_ok : {T E : Type 0} (old : ToolLinks) (p : ToolPtr) (text : List ℕ) (r : Result T E) → OnOk r (RespondsToShow old (key_of p) text) → OnOk r (RespondsToCommand old (Show p) text old)
+reports_ok old p text (Ok x) reports = (reports, refl)
+reports_ok old p text (Err e) reports = tt
 
 walks_ok : {T E : Type 0} (old : ToolLinks) (p : ToolPtr) (text : List ℕ) (r : Result T E) → OnOk r (RespondsToChain old (key_of p) text) → OnOk r (RespondsToCommand old (Chain p) text old)
 walks_ok old p text (Ok x) walks = (walks, refl)
@@ -21,7 +21,7 @@ step_or old new call (Ok x) steps = tt
 step_or old new call (Err e) steps = inr (call, steps.0, refl, steps.1)
 
 pub returns-in-Show-clause-ok : goal.returns-in-Show-clause-ok
-returns-in-Show-clause-ok g c = rw c.in-Show.is (shows_ok _ c.in-Show.p _ c.show.result c.show.ensures)
+returns-in-Show-clause-ok g c = rw c.in-Show.is (reports_ok _ c.in-Show.p _ c.show.result c.show.ensures)
 
 pub returns-in-Chain-clause-ok : goal.returns-in-Chain-clause-ok
 returns-in-Chain-clause-ok g c = rw c.in-Chain.is (walks_ok _ c.in-Chain.p _ c.chain.result c.chain.ensures)

@@ -8,38 +8,38 @@ use Rattle.chain_compaction.proofs.VisitorLemmas.{moves_count}
 use Rattle.chain_commands.proofs.execute.moves.Goals as goal
 
 -- A cleared text has capacity for what was reserved.
-fits_into : (before added : List ℕ) (n len room : ℕ) → before ≡ [] → length added < n → len + n ≤ room → length before + length added ≤ room
-fits_into before added n len room none less fits = omega (arith, ap length none, less, fits)
+fits_into : (before added : List ℕ) (n len within_capacity : ℕ) → before ≡ [] → length added < n → len + n ≤ within_capacity → length before + length added ≤ within_capacity
+fits_into before added n len within_capacity none less fits = omega (arith, ap length none, less, fits)
 
 -- After the response there is capacity for one more byte.
-room_after : (before text added : List ℕ) (n len room room_now : ℕ) → before ≡ [] → text ≡ before ++ added → length added < n → len + n ≤ room → room ≤ room_now → length text + 1 ≤ room_now
-room_after before text added n len room room_now none is less fits more =
+capacity_after : (before text added : List ℕ) (n len within_capacity capacity_now : ℕ) → before ≡ [] → text ≡ before ++ added → length added < n → len + n ≤ within_capacity → within_capacity ≤ capacity_now → length text + 1 ≤ capacity_now
+capacity_after before text added n len within_capacity capacity_now none is less fits more =
     omega (arith, ap length none, ap length is, length-append before added, less, fits, more)
 
-pub room_for_moves-requires : goal.room_for_moves-requires
-room_for_moves-requires g c = let len = c.len.ensures in omega (arith, len.fits, len.room.1)
+pub moves_text_capacity-requires : goal.moves_text_capacity-requires
+moves_text_capacity-requires g c = let len = c.len.ensures in omega (arith, len.fits, len.within_capacity.1)
 
 pub write_moves-requires : goal.write_moves-requires
 write_moves-requires g c =
     let made = c.in-Ok.ensures in
     let as_many = moves_count key_of two32 after32 c.args.reset _ _ _ _ _ c.in-Ok.moves.items made.canonical made.moves in
-    let less = c.room_for_moves.ensures c.as_slice.result.now c.in-Ok.told (ap length c.as_slice.ensures.value ∙ (as_many ∙ sym c.len.ensures.count)) in
-    fits_into (string_bytes c.reserve.new.self) (moves_text c.as_slice.result.now c.in-Ok.told) _ _ _ (c.reserve.ensures.bytes ∙ c.clear.ensures.bytes) less c.in_ok-reserve.ensures.ok
+    let less = c.moves_text_capacity.ensures c.as_slice.result.now c.in-Ok.known (ap length c.as_slice.ensures.value ∙ (as_many ∙ sym c.len.ensures.count)) in
+    fits_into (string_bytes c.reserve.new.self) (moves_text c.as_slice.result.now c.in-Ok.known) _ _ _ (c.reserve.ensures.bytes ∙ c.clear.ensures.bytes) less c.in_ok-reserve.ensures.ok
 
 pub returns-in-Ok : goal.returns-in-Ok
 returns-in-Ok g c =
     let made = c.in-Ok.ensures in
     let none : string_bytes c.reserve.new.self ≡ [] = c.reserve.ensures.bytes ∙ c.clear.ensures.bytes in
     let as_many = moves_count key_of two32 after32 c.args.reset _ _ _ _ _ c.in-Ok.moves.items made.canonical made.moves in
-    let less = c.room_for_moves.ensures c.as_slice.result.now c.in-Ok.told (ap length c.as_slice.ensures.value ∙ (as_many ∙ sym c.len.ensures.count)) in
+    let less = c.moves_text_capacity.ensures c.as_slice.result.now c.in-Ok.known (ap length c.as_slice.ensures.value ∙ (as_many ∙ sym c.len.ensures.count)) in
     record {
       ok = record {
-        told = c.in-Ok.told;
+        known = c.in-Ok.known;
         moves = c.in-Ok.moves.items;
         step = (ap Counted made.overflow, record { layout = made.canonical; stack_capacity = made.stack_capacity });
         all = made.moves;
-        words = c.write_moves.ensures.bytes ∙ (ap (λ b. b ++ moves_text c.as_slice.result.now c.in-Ok.told) none ∙ ap (λ items. moves_text items c.in-Ok.told) c.as_slice.ensures.value);
+        words = c.write_moves.ensures.bytes ∙ (ap (λ b. b ++ moves_text c.as_slice.result.now c.in-Ok.known) none ∙ ap (λ items. moves_text items c.in-Ok.known) c.as_slice.ensures.value);
       };
-      room = room_after (string_bytes c.reserve.new.self) _ _ _ _ _ _ none c.write_moves.ensures.bytes less c.in_ok-reserve.ensures.ok c.write_moves.ensures.capacity;
+      within_capacity = capacity_after (string_bytes c.reserve.new.self) _ _ _ _ _ _ none c.write_moves.ensures.bytes less c.in_ok-reserve.ensures.ok c.write_moves.ensures.capacity;
       err = tt;
     }

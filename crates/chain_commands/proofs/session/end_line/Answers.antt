@@ -2,15 +2,15 @@
 use Rattle.std.proofs.Common.{◌++◌, ap, ◌∙◌, sym, subst, Err, Ok}
 use Rattle.std.proofs.lemmas.Result.{err_from_is_err_and}
 use Rattle.chain_commands.specs.Progress.{TranscribesOne}
-use Rattle.chain_commands.proofs.ProgressLemmas.{answers-line}
+use Rattle.chain_commands.proofs.ProgressLemmas.{responses-line}
 use Rattle.chain_commands.proofs.session.end_line.Goals as goal
 
-pub returns-in_err-reply-clause-answered : goal.returns-in_err-reply-clause-answered
-returns-in_err-reply-clause-answered g c = λ rest is.
+pub returns-in_err-reply-clause-responded : goal.returns-in_err-reply-clause-responded
+returns-in_err-reply-clause-responded g c = λ rest is.
     let p = err_from_is_err_and c.from_residual-in_err-reply.result c.from_residual-in_err-reply.ensures.1 in
     subst (λ r. TranscribesOne r c.args.arena.now c.reply-2.new.arena (rest ++ c.args.front.now) (g.W.Write.contents c.args.writer.now) (g.W.Write.contents c.reply-2.new.writer)) (sym (p.1 ∙ ap Err p.2))
-    (answers-line {A = Unit {0}} (Err c.in_err-reply.field-0.0) _ _ c.deref.result.now (rest ++ c.args.front.now) _ _ (c.deref.ensures.value ∙ c.in_ok-keep.ensures.ok rest is) c.in_err-reply.ensures)
+    (responses-line {A = Unit {0}} (Err c.in_err-reply.field-0.0) _ _ c.deref.result.now (rest ++ c.args.front.now) _ _ (c.deref.ensures.value ∙ c.in_ok-keep.ensures.ok rest is) c.in_err-reply.ensures)
 
-pub returns-clause-answered : goal.returns-clause-answered
-returns-clause-answered g c = λ rest is.
-    answers-line {A = Unit {0}} (Ok c.in_ok-reply.field-0) _ _ c.deref.result.now (rest ++ c.args.front.now) _ _ (c.deref.ensures.value ∙ c.in_ok-keep.ensures.ok rest is) c.in_ok-reply.ensures
+pub returns-clause-responded : goal.returns-clause-responded
+returns-clause-responded g c = λ rest is.
+    responses-line {A = Unit {0}} (Ok c.in_ok-reply.field-0) _ _ c.deref.result.now (rest ++ c.args.front.now) _ _ (c.deref.ensures.value ∙ c.in_ok-keep.ensures.ok rest is) c.in_ok-reply.ensures

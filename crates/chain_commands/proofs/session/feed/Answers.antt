@@ -16,7 +16,7 @@ returns-in_err-end_line g c = λ old read held come.
     let p = err_from_is_err_and c.from_residual.result c.from_residual.ensures.1 in
     let at = c.loop-front.invariant in
     feed-stopped old _ read at.0 c.loop-front.left.now _ held _ (at.2 old read held come) c.in-Some.front.now c.in-Some.back.now c.in-Some.ensures.some
-    (Unit {0}) (Unit {0}) c.in_err-end_line.field-0.0 c.from_residual.result c.args.piece.now _ _ _ at.1 c.in_err-end_line.ensures.answered (p.1 ∙ ap Err p.2)
+    (Unit {0}) (Unit {0}) c.in_err-end_line.field-0.0 c.from_residual.result c.args.piece.now _ _ _ at.1 c.in_err-end_line.ensures.responded (p.1 ∙ ap Err p.2)
 
 pub loop-front-preserved : goal.loop-front-preserved
 loop-front-preserved g c =
@@ -27,7 +27,7 @@ loop-front-preserved g c =
       at.0 ++ (front ++ 10 ∷ []),
       at.1 ∙ (ap (λ l. at.0 ++ l) (ends.parts ∙ sym (append_assoc front (10 ∷ []) back)) ∙ sym (append_assoc at.0 (front ++ 10 ∷ []) back)),
       λ old read held come. feed-line old _ read at.0 c.loop-front.left.now _ held _ (at.2 old read held come) front back ends
-          _ _ _ c.in_ok-end_line.field-0 c.in_ok-end_line.ensures.answered c.in_ok-end_line.ensures.empty,
+          _ _ _ c.in_ok-end_line.field-0 c.in_ok-end_line.ensures.responded c.in_ok-end_line.ensures.empty,
     )
 
 pub returns : goal.returns

@@ -11,13 +11,13 @@ use Rattle.chain_commands.proofs.session.reply.Goals as goal
 written : {A : Type 0} (r : Result A ToolError) (old new : ToolLinks) (line text bytes : List ℕ) (held held_after : Option (List ℕ)) → RespondsToLine old (line_of line) text new → bytes ≡ text
     → OnOk r (Appends held held_after bytes) → OnErr r ((n : ℕ) × Appends held held_after (take n bytes)) → IfErr r (λ e. e ≡ errors.Write)
     → TranscribesOne r old new line held held_after
-written (Ok x) old new line text bytes held held_after answers is ok err error = (text, answers, subst (Appends held held_after) is ok)
-written (Err errors.Read) old new line text bytes held held_after answers is ok err error = cc
-written (Err errors.Memory) old new line text bytes held held_after answers is ok err error = cc
-written (Err errors.Write) old new line text bytes held held_after answers is ok err error = (
+written (Ok x) old new line text bytes held held_after responses is ok err error = (text, responses, subst (Appends held held_after) is ok)
+written (Err errors.Read) old new line text bytes held held_after responses is ok err error = cc
+written (Err errors.Memory) old new line text bytes held held_after responses is ok err error = cc
+written (Err errors.Write) old new line text bytes held held_after responses is ok err error = (
   take err.0 text,
   drop err.0 text,
-  subst (λ t. RespondsToLine old (line_of line) t new) (sym (take-append-drop err.0 text)) answers,
+  subst (λ t. RespondsToLine old (line_of line) t new) (sym (take-append-drop err.0 text)) responses,
   subst (λ t. Appends held held_after (take err.0 t)) is err.1,
 )
 

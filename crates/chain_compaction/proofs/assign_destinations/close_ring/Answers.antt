@@ -18,7 +18,7 @@ returns-in-Some-value_mut g c =
     record {
       same_reference = wrote.same_reference;
       closed = closes g.P.Inx.InxKey.packed_number i (option_map number c.args.named) (option_map number c.args.last) old.held new.held (number c.in-Some.field-0) (ap (option_map number) c.in-Some.is)
-          link left wrote.stands wrote.held c.set_prev.ensures.prev c.set_prev.ensures.rest;
+          link left wrote.stored wrote.held c.set_prev.ensures.prev c.set_prev.ensures.rest;
       work = work-touched old.arena.now new.arena.now wrote.arena;
       counts = wrote.counts;
     }

@@ -4,7 +4,7 @@ use Rattle.arena_base.specs.Arena.{slot_at}
 use Rattle.chain_compaction.proofs.SlotCountLemmas.{at_end}
 use Rattle.chain_compaction.proofs.DetachedLinkLemmas.{work-touched}
 use Rattle.chain_compaction.proofs.LinkLoanLemmas.{same_then, counts_on}
-use Rattle.chain_compaction.proofs.SlotReadLemmas.{told_fresh, told_directed, told_none}
+use Rattle.chain_compaction.proofs.SlotReadLemmas.{known_fresh, known_directed, known_none}
 use Rattle.chain_compaction.proofs.ChainOrderLemmas.{order_begins, order_ends, order_skips, order_found, order_can, order_goes_on}
 use Rattle.chain_compaction.proofs.WorkCountLemmas.{counts_none}
 use Rattle.chain_compaction.proofs.assign_destinations.number_all.Goals as goal
@@ -23,81 +23,81 @@ pub start_at-start-requires : goal.start_at-start-requires
 start_at-start-requires g c =
     let old = c.args.compactor.now in
     let now = c.loop-k.compactor in
-    let look = c.look_at-was.ensures in
+    let lookup = c.read_link-was.ensures in
     order_found g.P.Inx.InxKey.packed_number g.V.Visitor.sees g.P.PtrKey.key c.args.generation c.args.visitor old.held old.arena.now c.loop-k.visitor now.held now.arena.now c.loop-k.count c.loop-k.k
-    c.loop-k.invariant.order (g.P.Inx.InxKey.number c.inx_at-i.result) c.inx_at-i.ensures (told_fresh g.P.Inx.InxKey.packed_number g.P.Inx.InxKey.number (slot_at now.held.slots (g.P.Inx.InxKey.number c.inx_at-i.result)) c.look_at-was.result.0 c.in-Some.field-0 c.look_at-was.result.3 c.in-Some.is look.generation look.destination c.in-None-destination.is)
-    c.look_at-was.new.compactor.held look.looked.held
+    c.loop-k.invariant.order (g.P.Inx.InxKey.number c.inx_at-i.result) c.inx_at-i.ensures (known_fresh g.P.Inx.InxKey.packed_number g.P.Inx.InxKey.number (slot_at now.held.slots (g.P.Inx.InxKey.number c.inx_at-i.result)) c.read_link-was.result.0 c.in-Some.field-0 c.read_link-was.result.3 c.in-Some.is lookup.generation lookup.destination c.in-None-destination.is)
+    c.read_link-was.new.compactor.held lookup.was_read.held
 
-pub number_chain-shown-requires-clause-ready : goal.number_chain-shown-requires-clause-ready
-number_chain-shown-requires-clause-ready g c = c.loop-k.invariant.ready
+pub number_chain-reported-requires-clause-ready : goal.number_chain-reported-requires-clause-ready
+number_chain-reported-requires-clause-ready g c = c.loop-k.invariant.ready
 
-pub number_chain-shown-requires-clause-fits : goal.number_chain-shown-requires-clause-fits
-number_chain-shown-requires-clause-fits g c =
-    omega (arith, c.loop-k.invariant.order.retied.long, ap (λ h. length h.slots) c.look_at-was.ensures.looked.held, ap (λ h. length h.slots) c.start_at-start.ensures.held, c.requires.fits)
+pub number_chain-reported-requires-clause-fits : goal.number_chain-reported-requires-clause-fits
+number_chain-reported-requires-clause-fits g c =
+    omega (arith, c.loop-k.invariant.order.retied.long, ap (λ h. length h.slots) c.read_link-was.ensures.was_read.held, ap (λ h. length h.slots) c.start_at-start.ensures.held, c.requires.fits)
 
-pub number_chain-shown-requires-clause-can : goal.number_chain-shown-requires-clause-can
-number_chain-shown-requires-clause-can g c =
+pub number_chain-reported-requires-clause-can : goal.number_chain-reported-requires-clause-can
+number_chain-reported-requires-clause-can g c =
     let old = c.args.compactor.now in
     let now = c.loop-k.compactor in
-    let look = c.look_at-was.ensures in
+    let lookup = c.read_link-was.ensures in
     let start = c.start_at-start.ensures in
     order_can g.P.Inx.InxKey.packed_number g.V.Visitor.sees g.P.PtrKey.key c.args.generation c.args.visitor old.held old.arena.now c.loop-k.visitor now.held now.arena.now c.loop-k.count c.loop-k.k
-    c.loop-k.invariant.order (g.P.Inx.InxKey.number c.inx_at-i.result) c.inx_at-i.ensures (told_fresh g.P.Inx.InxKey.packed_number g.P.Inx.InxKey.number (slot_at now.held.slots (g.P.Inx.InxKey.number c.inx_at-i.result)) c.look_at-was.result.0 c.in-Some.field-0 c.look_at-was.result.3 c.in-Some.is look.generation look.destination c.in-None-destination.is)
-    c.look_at-was.new.compactor.held look.looked.held c.start_at-start.new.compactor.held start.held (g.P.Inx.InxKey.number c.start_at-start.result) start.start
+    c.loop-k.invariant.order (g.P.Inx.InxKey.number c.inx_at-i.result) c.inx_at-i.ensures (known_fresh g.P.Inx.InxKey.packed_number g.P.Inx.InxKey.number (slot_at now.held.slots (g.P.Inx.InxKey.number c.inx_at-i.result)) c.read_link-was.result.0 c.in-Some.field-0 c.read_link-was.result.3 c.in-Some.is lookup.generation lookup.destination c.in-None-destination.is)
+    c.read_link-was.new.compactor.held lookup.was_read.held c.start_at-start.new.compactor.held start.held (g.P.Inx.InxKey.number c.start_at-start.result) start.start
 
 pub loop-k-preserved-in-None : goal.loop-k-preserved-in-None
 loop-k-preserved-in-None g c =
     let at = c.loop-k.invariant in
-    let look = c.look_at-was.ensures in
+    let lookup = c.read_link-was.ensures in
     let old = c.args.compactor.now in
     let now = c.loop-k.compactor in
-    let mid = c.look_at-was.new.compactor in
+    let mid = c.read_link-was.new.compactor in
     record {
       ready = at.ready;
-      same_reference = same_then old now mid at.same_reference look.looked.same_reference;
+      same_reference = same_then old now mid at.same_reference lookup.was_read.same_reference;
       order = order_skips g.P.Inx.InxKey.packed_number g.V.Visitor.sees g.P.PtrKey.key c.args.generation c.args.visitor old.held old.arena.now c.loop-k.visitor now.held now.arena.now c.loop-k.count c.loop-k.k
-          at.order (g.P.Inx.InxKey.number c.inx_at-i.result) c.inx_at-i.ensures mid.held mid.arena.now look.looked.held
-          (told_none g.P.Inx.InxKey.packed_number (slot_at now.held.slots (g.P.Inx.InxKey.number c.inx_at-i.result)) c.look_at-was.result.0 c.in-None.is look.generation) (work-touched now.arena.now mid.arena.now look.looked.arena);
-      counts = counts_on old now mid at.counts look.looked.counts;
+          at.order (g.P.Inx.InxKey.number c.inx_at-i.result) c.inx_at-i.ensures mid.held mid.arena.now lookup.was_read.held
+          (known_none g.P.Inx.InxKey.packed_number (slot_at now.held.slots (g.P.Inx.InxKey.number c.inx_at-i.result)) c.read_link-was.result.0 c.in-None.is lookup.generation) (work-touched now.arena.now mid.arena.now lookup.was_read.arena);
+      counts = counts_on old now mid at.counts lookup.was_read.counts;
     }
 
 pub loop-k-preserved-in-Some-destination : goal.loop-k-preserved-in-Some-destination
 loop-k-preserved-in-Some-destination g c =
     let at = c.loop-k.invariant in
-    let look = c.look_at-was.ensures in
+    let lookup = c.read_link-was.ensures in
     let old = c.args.compactor.now in
     let now = c.loop-k.compactor in
-    let mid = c.look_at-was.new.compactor in
+    let mid = c.read_link-was.new.compactor in
     record {
       ready = at.ready;
-      same_reference = same_then old now mid at.same_reference look.looked.same_reference;
+      same_reference = same_then old now mid at.same_reference lookup.was_read.same_reference;
       order = order_skips g.P.Inx.InxKey.packed_number g.V.Visitor.sees g.P.PtrKey.key c.args.generation c.args.visitor old.held old.arena.now c.loop-k.visitor now.held now.arena.now c.loop-k.count c.loop-k.k
-          at.order (g.P.Inx.InxKey.number c.inx_at-i.result) c.inx_at-i.ensures mid.held mid.arena.now look.looked.held
-          (told_directed g.P.Inx.InxKey.packed_number g.P.Inx.InxKey.number (slot_at now.held.slots (g.P.Inx.InxKey.number c.inx_at-i.result)) c.look_at-was.result.0 c.in-Some.field-0 c.look_at-was.result.3 c.in-Some-destination.field-0 c.in-Some.is look.generation look.destination c.in-Some-destination.is) (work-touched now.arena.now mid.arena.now look.looked.arena);
-      counts = counts_on old now mid at.counts look.looked.counts;
+          at.order (g.P.Inx.InxKey.number c.inx_at-i.result) c.inx_at-i.ensures mid.held mid.arena.now lookup.was_read.held
+          (known_directed g.P.Inx.InxKey.packed_number g.P.Inx.InxKey.number (slot_at now.held.slots (g.P.Inx.InxKey.number c.inx_at-i.result)) c.read_link-was.result.0 c.in-Some.field-0 c.read_link-was.result.3 c.in-Some-destination.field-0 c.in-Some.is lookup.generation lookup.destination c.in-Some-destination.is) (work-touched now.arena.now mid.arena.now lookup.was_read.arena);
+      counts = counts_on old now mid at.counts lookup.was_read.counts;
     }
 
 pub loop-k-preserved : goal.loop-k-preserved
 loop-k-preserved g c =
     let at = c.loop-k.invariant in
-    let look = c.look_at-was.ensures in
+    let lookup = c.read_link-was.ensures in
     let start = c.start_at-start.ensures in
-    let chain = c.number_chain-shown.ensures in
+    let chain = c.number_chain-reported.ensures in
     let old = c.args.compactor.now in
     let now = c.loop-k.compactor in
-    let mid = c.look_at-was.new.compactor in
-    let stood = c.start_at-start.new.compactor in
-    let new = c.number_chain-shown.new.compactor in
+    let mid = c.read_link-was.new.compactor in
+    let was_stored = c.start_at-start.new.compactor in
+    let new = c.number_chain-reported.new.compactor in
     record {
       ready = chain.ready;
-      same_reference = same_then old now new at.same_reference (same_then now mid new look.looked.same_reference (same_then mid stood new start.same_reference chain.same_reference));
+      same_reference = same_then old now new at.same_reference (same_then now mid new lookup.was_read.same_reference (same_then mid was_stored new start.same_reference chain.same_reference));
       order = order_goes_on g.P.Inx.InxKey.packed_number g.V.Visitor.sees g.P.PtrKey.key c.args.generation c.args.visitor old.held old.arena.now c.loop-k.visitor now.held now.arena.now c.loop-k.count c.loop-k.k
           at.order (g.P.Inx.InxKey.number c.inx_at-i.result) c.inx_at-i.ensures
-          (told_fresh g.P.Inx.InxKey.packed_number g.P.Inx.InxKey.number (slot_at now.held.slots (g.P.Inx.InxKey.number c.inx_at-i.result)) c.look_at-was.result.0 c.in-Some.field-0 c.look_at-was.result.3 c.in-Some.is look.generation look.destination c.in-None-destination.is)
-          mid.held look.looked.held stood.held start.held (g.P.Inx.InxKey.number c.start_at-start.result) start.start mid.arena.now stood.arena.now new.arena.now
-          c.number_chain-shown.result.0 new.held c.number_chain-shown.result.1
-          (work-touched now.arena.now mid.arena.now look.looked.arena) start.linear start.cyclic chain.numbered;
-      counts = counts_on old now new at.counts (counts_on now mid new look.looked.counts (counts_on mid stood new start.counts chain.counts));
+          (known_fresh g.P.Inx.InxKey.packed_number g.P.Inx.InxKey.number (slot_at now.held.slots (g.P.Inx.InxKey.number c.inx_at-i.result)) c.read_link-was.result.0 c.in-Some.field-0 c.read_link-was.result.3 c.in-Some.is lookup.generation lookup.destination c.in-None-destination.is)
+          mid.held lookup.was_read.held was_stored.held start.held (g.P.Inx.InxKey.number c.start_at-start.result) start.start mid.arena.now was_stored.arena.now new.arena.now
+          c.number_chain-reported.result.0 new.held c.number_chain-reported.result.1
+          (work-touched now.arena.now mid.arena.now lookup.was_read.arena) start.linear start.cyclic chain.numbered;
+      counts = counts_on old now new at.counts (counts_on now mid new lookup.was_read.counts (counts_on mid was_stored new start.counts chain.counts));
     }
 
 pub returns : goal.returns

@@ -4,12 +4,12 @@ use Rattle.std.specs.Prelude.{true, false, IsSome}
 use Rattle.std.specs.Option.{option_map}
 use Rattle.chain_laws.specs.Chains.{Chain}
 use Rattle.chain_compaction.specs.Destinations.{CanNumber, IsRelinkedAt, number_after}
-use Rattle.chain_compaction.proofs.DestinationWriteLemmas.{tied_long, tied_looked}
+use Rattle.chain_compaction.proofs.DestinationWriteLemmas.{linked_long, linked_read}
 use Rattle.chain_compaction.proofs.DetachedLinkLemmas.{work-twice}
 use Rattle.chain_compaction.proofs.LinkLoanLemmas.{same_then, counts_on}
 use Rattle.chain_compaction.proofs.WorkCountLemmas.{counts_none}
-use Rattle.chain_compaction.proofs.ChainDestinationLemmas.{IsWalking, walk_begins, walk_first, walk_ends, walk_room, walk_more, walk_answers, walk_goes_on}
-use Rattle.chain_compaction.proofs.assign_destinations.number_chain.Goals.{In-Some, After-tie_at}
+use Rattle.chain_compaction.proofs.ChainDestinationLemmas.{IsWalking, walk_begins, walk_first, walk_ends, walk_capacity, walk_more, walk_returns, walk_goes_on}
+use Rattle.chain_compaction.proofs.assign_destinations.number_chain.Goals.{In-Some, After-relink_at}
 use Rattle.chain_compaction.proofs.assign_destinations.number_chain.Given.{Over}
 use Rattle.chain_compaction.proofs.assign_destinations.number_chain.Goals as goal
 
@@ -23,10 +23,10 @@ walk_at g c done l can =
     c.in-Some.is (c.loop-on.invariant.walks done l can)
 
 -- fewer links are numbered than there are slots
-room_at : (g : Over) (c : In-Some g) → c.loop-on.count < length c.args.compactor.now.held.slots
-room_at g c =
+capacity_at : (g : Over) (c : In-Some g) → c.loop-on.count < length c.args.compactor.now.held.slots
+capacity_at g c =
     let can = c.requires.can in
-    walk_room g.P.Inx.InxKey.packed_number g.V.Visitor.sees g.P.PtrKey.key c.args.generation c.args.visitor c.args.compactor.now.held c.args.compactor.now.arena.now (g.P.Inx.InxKey.number c.args.start) c.args.before can.0 can.1 can.2 c.loop-on.visitor c.loop-on.compactor.held c.loop-on.compactor.arena.now c.loop-on.count
+    walk_capacity g.P.Inx.InxKey.packed_number g.V.Visitor.sees g.P.PtrKey.key c.args.generation c.args.visitor c.args.compactor.now.held c.args.compactor.now.arena.now (g.P.Inx.InxKey.number c.args.start) c.args.before can.0 can.1 can.2 c.loop-on.visitor c.loop-on.compactor.held c.loop-on.compactor.arena.now c.loop-on.count
     (option_map g.P.Inx.InxKey.number c.loop-on.named) (option_map g.P.Inx.InxKey.number c.loop-on.prev) (g.P.Inx.InxKey.number c.in-Some.i) (walk_at g c can.0 can.1 can.2)
 
 pub loop-on-init : goal.loop-on-init
@@ -41,13 +41,13 @@ loop-on-init g c =
     }
 
 pub inx_at-destination-requires : goal.inx_at-destination-requires
-inx_at-destination-requires g c = omega (arith, room_at g c, c.requires.fits)
+inx_at-destination-requires g c = omega (arith, capacity_at g c, c.requires.fits)
 
 pub after_it-after-requires-clause-first : goal.after_it-after-requires-clause-first
 after_it-after-requires-clause-first g c =
     let can = c.requires.can in
-    let room = walk_first g.P.Inx.InxKey.packed_number g.V.Visitor.sees g.P.PtrKey.key c.args.generation c.args.visitor c.args.compactor.now.held c.args.compactor.now.arena.now (g.P.Inx.InxKey.number c.args.start) c.args.before can.0 can.1 can.2 in
-    omega (arith, room, c.requires.fits)
+    let within_capacity = walk_first g.P.Inx.InxKey.packed_number g.V.Visitor.sees g.P.PtrKey.key c.args.generation c.args.visitor c.args.compactor.now.held c.args.compactor.now.arena.now (g.P.Inx.InxKey.number c.args.start) c.args.before can.0 can.1 can.2 in
+    omega (arith, within_capacity, c.requires.fits)
 
 some_there : {X : Type 0} (o : Option X) → IsSome o → (x : X) × (o ≡ Some x)
 some_there None some = let both : false ≡ true = some in absurd (cc)
@@ -59,57 +59,57 @@ after_it-after-requires-clause-next g c some =
     let next = (goal.at.after_it-after-requires-clause-next g c).In-Some in
     let can = c.requires.can in
     let on = some_there c.going_on-on.result some in
-    let room = walk_more g.P.Inx.InxKey.packed_number g.V.Visitor.sees g.P.PtrKey.key c.args.generation c.args.visitor c.args.compactor.now.held c.args.compactor.now.arena.now (g.P.Inx.InxKey.number c.args.start) c.args.before can.0 can.1 can.2 c.loop-on.visitor c.loop-on.compactor.held c.loop-on.compactor.arena.now c.loop-on.count
+    let within_capacity = walk_more g.P.Inx.InxKey.packed_number g.V.Visitor.sees g.P.PtrKey.key c.args.generation c.args.visitor c.args.compactor.now.held c.args.compactor.now.arena.now (g.P.Inx.InxKey.number c.args.start) c.args.before can.0 can.1 can.2 c.loop-on.visitor c.loop-on.compactor.held c.loop-on.compactor.arena.now c.loop-on.count
     (option_map g.P.Inx.InxKey.number c.loop-on.named) (option_map g.P.Inx.InxKey.number c.loop-on.prev) (g.P.Inx.InxKey.number c.in-Some.i) (walk_at g next can.0 can.1 can.2)
-    (option_map g.P.Inx.InxKey.number c.look_at.result.2) (option_map g.P.Inx.InxKey.number c.going_on-on.result) c.look_at.ensures.next c.going_on-on.ensures (g.P.Inx.InxKey.number on.0) (ap (option_map g.P.Inx.InxKey.number) on.1) in
-    omega (arith, room, c.requires.fits)
+    (option_map g.P.Inx.InxKey.number c.read_link.result.2) (option_map g.P.Inx.InxKey.number c.going_on-on.result) c.read_link.ensures.next c.going_on-on.ensures (g.P.Inx.InxKey.number on.0) (ap (option_map g.P.Inx.InxKey.number) on.1) in
+    omega (arith, within_capacity, c.requires.fits)
 
-pub excluded-assert_unchecked-requires : goal.excluded-assert_unchecked-requires
-excluded-assert_unchecked-requires g c = absurd (
-    let next = (goal.at.excluded-assert_unchecked-requires g c).In-Some in
+pub proved_unreachable-assume_proved-requires : goal.proved_unreachable-assume_proved-requires
+proved_unreachable-assume_proved-requires g c = absurd (
+    let next = (goal.at.proved_unreachable-assume_proved-requires g c).In-Some in
     let can = c.requires.can in
-    walk_answers g.P.Inx.InxKey.packed_number g.V.Visitor.sees g.P.PtrKey.key c.args.generation c.args.visitor c.args.compactor.now.held c.args.compactor.now.arena.now (g.P.Inx.InxKey.number c.args.start) c.args.before can.0 can.1 can.2 c.loop-on.visitor c.loop-on.compactor.held c.loop-on.compactor.arena.now c.loop-on.count
+    walk_returns g.P.Inx.InxKey.packed_number g.V.Visitor.sees g.P.PtrKey.key c.args.generation c.args.visitor c.args.compactor.now.held c.args.compactor.now.arena.now (g.P.Inx.InxKey.number c.args.start) c.args.before can.0 can.1 can.2 c.loop-on.visitor c.loop-on.compactor.held c.loop-on.compactor.arena.now c.loop-on.count
     (option_map g.P.Inx.InxKey.number c.loop-on.named) (option_map g.P.Inx.InxKey.number c.loop-on.prev) (g.P.Inx.InxKey.number c.in-Some.i) (walk_at g next can.0 can.1 can.2)
-    (sym c.in-None.is ∙ c.look_at.ensures.generation))
+    (sym c.in-None.is ∙ c.read_link.ensures.generation))
 
 -- the slots after the write
-tied_now : (g : Over) (c : After-tie_at g) → IsRelinkedAt g.P.Inx.InxKey.packed_number (g.P.Inx.InxKey.number c.in-Some.i) (option_map g.P.Inx.InxKey.number c.loop-on.prev)
-    (number_after (option_map g.P.Inx.InxKey.number c.going_on-on.result) (option_map g.P.Inx.InxKey.number c.look_at.result.2) c.args.before (c.loop-on.count + 1)) (Some (g.P.Inx.InxKey.number c.inx_at-destination.result))
-    c.loop-on.compactor.held c.tie_at.new.compactor.held
-tied_now g c =
-    tied_looked g.P.Inx.InxKey.packed_number (g.P.Inx.InxKey.number c.in-Some.i) (option_map g.P.Inx.InxKey.number c.loop-on.prev) _ _ (Some (g.P.Inx.InxKey.number c.inx_at-destination.result))
-    c.loop-on.compactor.held c.look_at.new.compactor.held c.tie_at.new.compactor.held c.look_at.ensures.looked.held c.after_it-after.ensures c.tie_at.ensures.tied
+linked_now : (g : Over) (c : After-relink_at g) → IsRelinkedAt g.P.Inx.InxKey.packed_number (g.P.Inx.InxKey.number c.in-Some.i) (option_map g.P.Inx.InxKey.number c.loop-on.prev)
+    (number_after (option_map g.P.Inx.InxKey.number c.going_on-on.result) (option_map g.P.Inx.InxKey.number c.read_link.result.2) c.args.before (c.loop-on.count + 1)) (Some (g.P.Inx.InxKey.number c.inx_at-destination.result))
+    c.loop-on.compactor.held c.relink_at.new.compactor.held
+linked_now g c =
+    linked_read g.P.Inx.InxKey.packed_number (g.P.Inx.InxKey.number c.in-Some.i) (option_map g.P.Inx.InxKey.number c.loop-on.prev) _ _ (Some (g.P.Inx.InxKey.number c.inx_at-destination.result))
+    c.loop-on.compactor.held c.read_link.new.compactor.held c.relink_at.new.compactor.held c.read_link.ensures.was_read.held c.after_it-after.ensures c.relink_at.ensures.relinked
 
-long_now : (g : Over) (c : After-tie_at g) → length c.tie_at.new.compactor.held.slots ≡ length c.args.compactor.now.held.slots
-long_now g c = tied_long g.P.Inx.InxKey.packed_number (g.P.Inx.InxKey.number c.in-Some.i) _ _ _ c.loop-on.compactor.held c.tie_at.new.compactor.held (tied_now g c) ∙ c.loop-on.invariant.long
+long_now : (g : Over) (c : After-relink_at g) → length c.relink_at.new.compactor.held.slots ≡ length c.args.compactor.now.held.slots
+long_now g c = linked_long g.P.Inx.InxKey.packed_number (g.P.Inx.InxKey.number c.in-Some.i) _ _ _ c.loop-on.compactor.held c.relink_at.new.compactor.held (linked_now g c) ∙ c.loop-on.invariant.long
 
 pub loop-on-smaller : goal.loop-on-smaller
 loop-on-smaller g c =
     let next = (goal.at.loop-on-smaller g c).In-Some in
-    let long = long_now g (goal.at.loop-on-smaller g c).After-tie_at in
-    omega (arith, room_at g next, long, c.loop-on.invariant.long)
+    let long = long_now g (goal.at.loop-on-smaller g c).After-relink_at in
+    omega (arith, capacity_at g next, long, c.loop-on.invariant.long)
 
 pub loop-on-preserved : goal.loop-on-preserved
 loop-on-preserved g c =
     let next = (goal.at.loop-on-preserved g c).In-Some in
-    let wrote = (goal.at.loop-on-preserved g c).After-tie_at in
+    let wrote = (goal.at.loop-on-preserved g c).After-relink_at in
     let at = c.loop-on.invariant in
-    let look = c.look_at.ensures in
-    let ties = c.tie_at.ensures in
+    let lookup = c.read_link.ensures in
+    let links_both = c.relink_at.ensures in
     let now = c.loop-on.compactor in
-    let new = c.tie_at.new.compactor in
+    let new = c.relink_at.new.compactor in
     record {
       ready = c.visit.ensures.ready;
-      same_reference = same_then c.args.compactor.now now new at.same_reference (same_then now c.look_at.new.compactor new look.looked.same_reference ties.same_reference);
+      same_reference = same_then c.args.compactor.now now new at.same_reference (same_then now c.read_link.new.compactor new lookup.was_read.same_reference links_both.same_reference);
       long = long_now g wrote;
       walks = λ done l can.
           walk_goes_on g.P.Inx.InxKey.packed_number g.V.Visitor.sees g.P.PtrKey.key c.args.generation c.args.visitor c.args.compactor.now.held c.args.compactor.now.arena.now (g.P.Inx.InxKey.number c.args.start) c.args.before done l can c.loop-on.visitor c.loop-on.compactor.held c.loop-on.compactor.arena.now c.loop-on.count
           (option_map g.P.Inx.InxKey.number c.loop-on.named) (option_map g.P.Inx.InxKey.number c.loop-on.prev) (g.P.Inx.InxKey.number c.in-Some.i) (walk_at g next done l can)
-          (option_map g.P.Inx.InxKey.number c.look_at.result.2) (option_map g.P.Inx.InxKey.number c.going_on-on.result) look.next c.going_on-on.ensures
+          (option_map g.P.Inx.InxKey.number c.read_link.result.2) (option_map g.P.Inx.InxKey.number c.going_on-on.result) lookup.next c.going_on-on.ensures
           (g.P.Inx.InxKey.number c.inx_at-destination.result) new.held new.arena.now c.in-Some-was.was c._from_raw.result c._from_raw-in-Some-was.result c.visit.new.self
-          (tied_now g wrote) c.inx_at-destination.ensures (work-twice now.arena.now c.look_at.new.compactor.arena.now new.arena.now look.looked.arena ties.arena)
-          (sym c.in-Some-was.is ∙ look.generation) c._from_raw.ensures c._from_raw-in-Some-was.ensures c.visit.ensures.seen;
-      counts = counts_on c.args.compactor.now now new at.counts (counts_on now c.look_at.new.compactor new look.looked.counts ties.counts);
+          (linked_now g wrote) c.inx_at-destination.ensures (work-twice now.arena.now c.read_link.new.compactor.arena.now new.arena.now lookup.was_read.arena links_both.arena)
+          (sym c.in-Some-was.is ∙ lookup.generation) c._from_raw.ensures c._from_raw-in-Some-was.ensures c.visit.ensures.view_after;
+      counts = counts_on c.args.compactor.now now new at.counts (counts_on now c.read_link.new.compactor new lookup.was_read.counts links_both.counts);
     }
 
 pub returns : goal.returns

@@ -4,7 +4,7 @@ use Rattle.std.specs.Option.{option_map}
 use Rattle.chain_laws.specs.Chains.{prev_of}
 use Rattle.chain_laws.proofs.WalkLemmas.WalkBack.{back_begins, back_goes_on, back_ends, back_comes_round}
 use Rattle.chain_compaction.specs.DetachedLinks.{link_map_in}
-use Rattle.chain_compaction.proofs.WalkBackLemmas.{looks_linear, looks_cyclic, back_within}
+use Rattle.chain_compaction.proofs.WalkBackLemmas.{lookups_linear, lookups_cyclic, back_within}
 use Rattle.chain_compaction.proofs.DetachedLinkLemmas.{work-none, work-touched, work-more}
 use Rattle.chain_compaction.proofs.LinkLoanLemmas.{same_then, held_then, counts_on}
 use Rattle.chain_compaction.proofs.WorkCountLemmas.{counts_none}
@@ -28,41 +28,41 @@ pub returns-then-is_same : goal.returns-then-is_same
 returns-then-is_same g c =
     let number = g.P.Inx.InxKey.number in
     let at = c.loop-step.invariant in
-    let look = c.look_at-before.ensures in
+    let lookup = c.read_link-before.ensures in
     let old = c.args.compactor.now in
     let now = c.loop-step.compactor in
-    let new = c.look_at-before.new.compactor in
-    let shown = link_map_in g.P.Inx.InxKey.packed_number c.args.compactor.now.held.slots in
+    let new = c.read_link-before.new.compactor in
+    let reported = link_map_in g.P.Inx.InxKey.packed_number c.args.compactor.now.held.slots in
     let came = ap (λ h. prev_of (link_map_in g.P.Inx.InxKey.packed_number h.slots) (number c.loop-step.at)) at.held in
-    let told = c.is_same.ensures in
-    let same = (g.met.P.Inx.InxKey.same_is_equal c.in-Some.k c.args.i).0 (sym told ∙ c.if-is_same.true) in
+    let known = c.is_same.ensures in
+    let same = (g.met.P.Inx.InxKey.same_is_equal c.in-Some.k c.args.i).0 (sym known ∙ c.if-is_same.true) in
     record {
-      same_reference = same_then old now new at.same_reference look.looked.same_reference;
-      start = back_comes_round shown (number c.args.i) c.loop-step.step (number c.loop-step.at) at.back
-          (sym came ∙ (sym look.prev ∙ ap (option_map number) c.in-Some.is ∙ ap (λ k. Some (number k)) same));
-      held = held_then old now new at.held look.looked.held;
-      linear = λ xs h m. work-more at.work (work-touched now.arena.now new.arena.now look.looked.arena) 0 _ refl (looks_linear shown (number c.args.i) c.loop-step.step (number c.loop-step.at) at.back xs h m);
-      cyclic = λ xs h. work-more at.work (work-touched now.arena.now new.arena.now look.looked.arena) 0 _ refl (looks_cyclic shown (number c.args.i) c.loop-step.step (number c.loop-step.at) at.back xs h);
-      counts = counts_on old now new at.counts look.looked.counts;
+      same_reference = same_then old now new at.same_reference lookup.was_read.same_reference;
+      start = back_comes_round reported (number c.args.i) c.loop-step.step (number c.loop-step.at) at.back
+          (sym came ∙ (sym lookup.prev ∙ ap (option_map number) c.in-Some.is ∙ ap (λ k. Some (number k)) same));
+      held = held_then old now new at.held lookup.was_read.held;
+      linear = λ xs h m. work-more at.work (work-touched now.arena.now new.arena.now lookup.was_read.arena) 0 _ refl (lookups_linear reported (number c.args.i) c.loop-step.step (number c.loop-step.at) at.back xs h m);
+      cyclic = λ xs h. work-more at.work (work-touched now.arena.now new.arena.now lookup.was_read.arena) 0 _ refl (lookups_cyclic reported (number c.args.i) c.loop-step.step (number c.loop-step.at) at.back xs h);
+      counts = counts_on old now new at.counts lookup.was_read.counts;
     }
 
 pub returns-in-None : goal.returns-in-None
 returns-in-None g c =
     let number = g.P.Inx.InxKey.number in
     let at = c.loop-step.invariant in
-    let look = c.look_at-before.ensures in
+    let lookup = c.read_link-before.ensures in
     let old = c.args.compactor.now in
     let now = c.loop-step.compactor in
-    let new = c.look_at-before.new.compactor in
-    let shown = link_map_in g.P.Inx.InxKey.packed_number c.args.compactor.now.held.slots in
+    let new = c.read_link-before.new.compactor in
+    let reported = link_map_in g.P.Inx.InxKey.packed_number c.args.compactor.now.held.slots in
     let came = ap (λ h. prev_of (link_map_in g.P.Inx.InxKey.packed_number h.slots) (number c.loop-step.at)) at.held in
     record {
-      same_reference = same_then old now new at.same_reference look.looked.same_reference;
-      start = back_ends shown (number c.args.i) c.loop-step.step (number c.loop-step.at) at.back (sym came ∙ (sym look.prev ∙ ap (option_map number) c.in-None.is));
-      held = held_then old now new at.held look.looked.held;
-      linear = λ xs h m. work-more at.work (work-touched now.arena.now new.arena.now look.looked.arena) 0 _ refl (looks_linear shown (number c.args.i) c.loop-step.step (number c.loop-step.at) at.back xs h m);
-      cyclic = λ xs h. work-more at.work (work-touched now.arena.now new.arena.now look.looked.arena) 0 _ refl (looks_cyclic shown (number c.args.i) c.loop-step.step (number c.loop-step.at) at.back xs h);
-      counts = counts_on old now new at.counts look.looked.counts;
+      same_reference = same_then old now new at.same_reference lookup.was_read.same_reference;
+      start = back_ends reported (number c.args.i) c.loop-step.step (number c.loop-step.at) at.back (sym came ∙ (sym lookup.prev ∙ ap (option_map number) c.in-None.is));
+      held = held_then old now new at.held lookup.was_read.held;
+      linear = λ xs h m. work-more at.work (work-touched now.arena.now new.arena.now lookup.was_read.arena) 0 _ refl (lookups_linear reported (number c.args.i) c.loop-step.step (number c.loop-step.at) at.back xs h m);
+      cyclic = λ xs h. work-more at.work (work-touched now.arena.now new.arena.now lookup.was_read.arena) 0 _ refl (lookups_cyclic reported (number c.args.i) c.loop-step.step (number c.loop-step.at) at.back xs h);
+      counts = counts_on old now new at.counts lookup.was_read.counts;
     }
 
 pub loop-step-preserved : goal.loop-step-preserved
@@ -70,23 +70,23 @@ loop-step-preserved g c =
     let number = g.P.Inx.InxKey.number in
     let packed_number = g.P.Inx.InxKey.packed_number in
     let at = c.loop-step.invariant in
-    let look = c.look_at-before.ensures in
+    let lookup = c.read_link-before.ensures in
     let old = c.args.compactor.now in
     let now = c.loop-step.compactor in
-    let new = c.look_at-before.new.compactor in
-    let told = c.is_same.ensures in
+    let new = c.read_link-before.new.compactor in
+    let known = c.is_same.ensures in
     record {
-      same_reference = same_then old now new at.same_reference look.looked.same_reference;
-      held = held_then old now new at.held look.looked.held;
+      same_reference = same_then old now new at.same_reference lookup.was_read.same_reference;
+      held = held_then old now new at.held lookup.was_read.held;
       back = back_goes_on (link_map_in packed_number c.args.compactor.now.held.slots) (number c.args.i) c.loop-step.step (number c.loop-step.at) (number c.in-Some.k) at.back
-          (sym (ap (λ h. prev_of (link_map_in packed_number h.slots) (number c.loop-step.at)) at.held) ∙ sym c.look_at-before.ensures.prev ∙ ap (option_map number) c.in-Some.is)
-          (λ e. not_both _ ((g.met.P.Inx.InxKey.same_is_equal c.in-Some.k c.args.i).1 (g.met.P.Inx.InxKey.same_number c.in-Some.k c.args.i e)) (sym told ∙ c.if-is_same.false));
-      work = work-more at.work (work-touched now.arena.now new.arena.now look.looked.arena) 0 _ refl (omega arith);
-      counts = counts_on old now new at.counts look.looked.counts;
+          (sym (ap (λ h. prev_of (link_map_in packed_number h.slots) (number c.loop-step.at)) at.held) ∙ sym c.read_link-before.ensures.prev ∙ ap (option_map number) c.in-Some.is)
+          (λ e. not_both _ ((g.met.P.Inx.InxKey.same_is_equal c.in-Some.k c.args.i).1 (g.met.P.Inx.InxKey.same_number c.in-Some.k c.args.i e)) (sym known ∙ c.if-is_same.false));
+      work = work-more at.work (work-touched now.arena.now new.arena.now lookup.was_read.arena) 0 _ refl (omega arith);
+      counts = counts_on old now new at.counts lookup.was_read.counts;
     }
 
-pub excluded-assert_unchecked-requires : goal.excluded-assert_unchecked-requires
-excluded-assert_unchecked-requires g c = absurd (
+pub proved_unreachable-assume_proved-requires : goal.proved_unreachable-assume_proved-requires
+proved_unreachable-assume_proved-requires g c = absurd (
     let number = g.P.Inx.InxKey.number in
     let few = back_within g.P.Inx.InxKey.packed_number c.args.compactor.now.held.slots (number c.args.i) c.loop-step.step (number c.loop-step.at) c.requires c.loop-step.invariant.back in
     omega (arith, few))

@@ -12,7 +12,7 @@ loop-k-init g c =
     let old = c.args.compactor.now in
     record {
       same_reference = refl {a = old.arena.ghost_name};
-      seen = refl {a = held_view g.P.Inx.InxKey.packed_number old.held};
+      view_after = refl {a = held_view g.P.Inx.InxKey.packed_number old.held};
       empty = emptying_begins g.P.Inx.InxKey.packed_number old.held.slots;
       totals = touches_none old.arena.now;
       counts = counts_none old.arena.now old.placed old.touched;
@@ -25,12 +25,12 @@ loop-k-preserved g c =
     let old = c.args.compactor.now in
     let now = c.loop-k.compactor in
     let next = c.direct_at.new.compactor in
-    let told = emptied g.P.Inx.InxKey.packed_number (g.P.Inx.InxKey.number c.inx_at.result) c.loop-k.compactor.held c.direct_at.new.compactor.held after.directed in
+    let known = emptied g.P.Inx.InxKey.packed_number (g.P.Inx.InxKey.number c.inx_at.result) c.loop-k.compactor.held c.direct_at.new.compactor.held after.directed in
     record {
       same_reference = same_then old now next inv.same_reference after.same_reference;
-      seen = told.0 ∙ inv.seen;
+      view_after = known.0 ∙ inv.view_after;
       empty = emptying_goes_on g.P.Inx.InxKey.packed_number c.loop-k.compactor.held.slots c.direct_at.new.compactor.held.slots c.loop-k.k (g.P.Inx.InxKey.number c.inx_at.result) c.inx_at.ensures
-          inv.empty told.1 told.2;
+          inv.empty known.1 known.2;
       totals = touches_more c.args.compactor.now.arena.now c.loop-k.compactor.arena.now c.direct_at.new.compactor.arena.now c.loop-k.k inv.totals after.arena;
       counts = counts_on old now next inv.counts after.counts;
     }
@@ -42,8 +42,8 @@ returns g c =
     let all : c.loop-k.k ≡ length old.held.slots = omega arith in
     record {
       same_reference = inv.same_reference;
-      seen = inv.seen;
-      empty = emptying_ends g.P.Inx.InxKey.packed_number old.held c.loop-k.compactor.held inv.seen (λ j low. inv.empty j (omega (arith, low, all)));
+      view_after = inv.view_after;
+      empty = emptying_ends g.P.Inx.InxKey.packed_number old.held c.loop-k.compactor.held inv.view_after (λ j low. inv.empty j (omega (arith, low, all)));
       totals = inv.totals ∙ ap (with_totals old.arena.now 0) all;
       counts = inv.counts;
     }

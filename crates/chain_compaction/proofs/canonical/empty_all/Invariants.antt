@@ -10,7 +10,7 @@ invariant-loop-k g l =
     let packed_number = g.P.Inx.InxKey.packed_number in
     record {
       same_reference : l.compactor.arena.ghost_name ≡ l.fn.compactor.arena.ghost_name;
-      seen : held_view packed_number l.compactor.held ≡ held_view packed_number l.fn.compactor.held;
+      view_after : held_view packed_number l.compactor.held ≡ held_view packed_number l.fn.compactor.held;
       empty : (j : ℕ) → j ≤ l.k → destination_at packed_number l.compactor.held.slots j ≡ None;
       totals : l.compactor.arena.now ≡ with_totals l.fn.compactor.arena.now 0 l.k;
       counts : CountsOn l.fn.compactor.arena.now l.compactor.arena.now l.fn.compactor.placed l.fn.compactor.touched l.compactor.placed l.compactor.touched;

@@ -5,11 +5,11 @@ use Rattle.chain_compaction.specs.DetachedLinks.{link_map_in}
 use Rattle.chain_compaction.proofs.CompactedLinkLemmas.{link_map-slots, links_gathered}
 use Rattle.chain_compaction.proofs.compress.gather.Goals as goal
 
-pub close_gaps-count-requires-clause-agree : goal.close_gaps-count-requires-clause-agree
-close_gaps-count-requires-clause-agree g c = subst IsWellLinked (link_map-slots g.P.Inx.InxKey.packed_number c.args.arena.now ∙ sym (ap (λ h. link_map_in g.P.Inx.InxKey.packed_number h.slots) c.compactor-compactor.ensures.held)) c.requires.agree
+pub compact_links-count-requires-clause-agree : goal.compact_links-count-requires-clause-agree
+compact_links-count-requires-clause-agree g c = subst IsWellLinked (link_map-slots g.P.Inx.InxKey.packed_number c.args.arena.now ∙ sym (ap (λ h. link_map_in g.P.Inx.InxKey.packed_number h.slots) c.compactor-compactor.ensures.held)) c.requires.agree
 
 pub returns : goal.returns
 returns g c =
     links_gathered g.F.FnMut g.P.PtrKey.key c.args.map g.P.Inx.InxKey.packed_number g.P.Inx.InxKey.greatest g.S.SlotStack.initial_maximum c.generation-generation.result c.args.arena.now c.compactor-compactor.result.arena.now
-    c.close_gaps-count.new.compactor.arena.now _ c.compactor-compactor.result.held c.close_gaps-count.new.compactor.held c.compactor-compactor.ensures.arena c.compactor-compactor.ensures.held (search rules)
-    c.close_gaps-count.ensures.closed c.close_gaps-count.ensures.visits c.close_gaps-count.ensures.work c.invariants.ensures.room.1 c.generation-generation.ensures c.close_gaps-count.ensures.renamed
+    c.compact_links-count.new.compactor.arena.now _ c.compactor-compactor.result.held c.compact_links-count.new.compactor.held c.compactor-compactor.ensures.arena c.compactor-compactor.ensures.held (search rules)
+    c.compact_links-count.ensures.closed c.compact_links-count.ensures.visits c.compact_links-count.ensures.work c.invariants.ensures.within_capacity.1 c.generation-generation.ensures c.compact_links-count.ensures.renamed

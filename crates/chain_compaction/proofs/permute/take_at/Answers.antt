@@ -2,7 +2,7 @@
 use Rattle.std.specs.Option.{option_map}
 use Rattle.arena_base.specs.Arena.{slot_at}
 use Rattle.chain_compaction.proofs.LinkLoanLemmas.{lent, lent_none}
-use Rattle.chain_compaction.proofs.PermutationStepLemmas.{takes, takes_none, tells_goal, tells_no_goal}
+use Rattle.chain_compaction.proofs.PermutationStepLemmas.{takes, takes_none, states_goal, states_no_goal}
 use Rattle.chain_compaction.proofs.permute.take_at.Goals as goal
 
 pub returns-in-Some : goal.returns-in-Some
@@ -18,9 +18,9 @@ returns-in-Some g c =
     let wrote = lent old new i c.value_mut.result c.in-Some.link left c.in-Some.is c.value_mut.ensures.value (c.value_mut.follows.holds left) in
     record {
       same_reference = wrote.same_reference;
-      answer = tells_goal packed (slot_at old.held.slots i) link (option_map number c.take_destination.result) wrote.stands takes_it.answer;
-      taken = takes packed old.held new.held i link left wrote.stands wrote.held takes_it.empty takes_it.rest c.take_destination.result;
-      none = takes_none packed old.held new.held i link left wrote.stands wrote.held takes_it.empty takes_it.rest number g.met.P.Inx.InxKey.same_packed c.take_destination.result takes_it.answer;
+      returned = states_goal packed (slot_at old.held.slots i) link (option_map number c.take_destination.result) wrote.stored takes_it.returned;
+      taken = takes packed old.held new.held i link left wrote.stored wrote.held takes_it.empty takes_it.rest c.take_destination.result;
+      none = takes_none packed old.held new.held i link left wrote.stored wrote.held takes_it.empty takes_it.rest number g.met.P.Inx.InxKey.same_packed c.take_destination.result takes_it.returned;
       arena = wrote.arena;
       counts = wrote.counts;
     }
@@ -32,7 +32,7 @@ returns-in-None g c =
     let kept = lent_none old c.value_mut.follows.lender-at-none i c.value_mut.result c.in-None.is c.value_mut.ensures.value c.value_mut.follows.holds-at-none in
     record {
       same_reference = kept.same_reference;
-      answer = tells_no_goal g.P.Inx.InxKey.packed_number (slot_at old.held.slots i) kept.none;
+      returned = states_no_goal g.P.Inx.InxKey.packed_number (slot_at old.held.slots i) kept.none;
       taken = tt;
       none = kept.held;
       arena = kept.arena;

@@ -16,7 +16,7 @@ returns-in-Some g c =
     let wrote = lent old new i c.value_mut.result c.in-Some.link left c.in-Some.is c.value_mut.ensures.value (c.value_mut.follows.holds left) in
     record {
       same_reference = wrote.same_reference;
-      directed = directs g.P.Inx.InxKey.packed_number i (option_map number c.args.destination) old.held new.held link left wrote.stands wrote.held sets.destination sets.rest;
+      directed = directs g.P.Inx.InxKey.packed_number i (option_map number c.args.destination) old.held new.held link left wrote.stored wrote.held sets.destination sets.rest;
       arena = wrote.arena;
       counts = wrote.counts;
     }

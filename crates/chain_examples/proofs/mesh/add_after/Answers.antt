@@ -17,7 +17,7 @@ pub returns-clause-others : goal.returns-clause-others
 returns-clause-others g c =
     let came = c.in-Ok.ensures.inserted in
     keeps_others g.A.ArenaTrait.entry g.A.ChainArenaTrait.interlinks cyclic (λ l. refl) c.args.corners.now c.insert.new.self (g.P.PtrKey.key c.in-Ok.p) c.args.t came.entries (next_to (g.P.PtrKey.key c.args.v).0)
-    c.insert.ensures.agreed (g.met.A.ChainArenaTrait.stand c.args.corners.now (g.P.PtrKey.key c.in-Ok.p).0) came.chains
+    c.insert.ensures.agreed (g.met.A.ChainArenaTrait.links_are_entries c.args.corners.now (g.P.PtrKey.key c.in-Ok.p).0) came.chains
 
 pub returns-clause-corner : goal.returns-clause-corner
 returns-clause-corner g c = c.in-Ok.ensures.inserted.entries
@@ -26,13 +26,13 @@ pub returns-clause-size : goal.returns-clause-size
 returns-clause-size g c = c.in-Ok.ensures.inserted.more
 
 pub returns-clause-capacity : goal.returns-clause-capacity
-returns-clause-capacity g c = (c.in-Ok.ensures.room c.requires.room).1
+returns-clause-capacity g c = (c.in-Ok.ensures.within_capacity c.requires.within_capacity).1
 
-pub returns-clause-round : goal.returns-clause-round
-returns-clause-round g c =
+pub returns-clause-all_cyclic : goal.returns-clause-all_cyclic
+returns-clause-all_cyclic g c =
     let a = c.args.corners.now in
     let v = g.P.PtrKey.key c.args.v in
-    round_after (g.A.ChainArenaTrait.interlinks a) (g.A.ChainArenaTrait.interlinks c.insert.new.self) (g.P.PtrKey.key c.in-Ok.p).0 v.0 c.in-Ok.ensures.inserted.pairs (valid_link (g.A.ChainArenaTrait.interlinks a) (g.A.ArenaTrait.entry a) (g.A.ArenaTrait.view a).entries (g.met.A.ChainArenaTrait.stand a) (g.met.A.ArenaTrait.looked_up a) v c.requires.valid)
+    round_after (g.A.ChainArenaTrait.interlinks a) (g.A.ChainArenaTrait.interlinks c.insert.new.self) (g.P.PtrKey.key c.in-Ok.p).0 v.0 c.in-Ok.ensures.inserted.pairs (valid_link (g.A.ChainArenaTrait.interlinks a) (g.A.ArenaTrait.entry a) (g.A.ArenaTrait.view a).entries (g.met.A.ChainArenaTrait.links_are_entries a) (g.met.A.ArenaTrait.finds a) v c.requires.valid)
 
 pub unreachable-requires : goal.unreachable-requires
-unreachable-requires g c = absurd (let succeeds = (c.in-Err.ensures.room c.requires.room).0 in cc)
+unreachable-requires g c = absurd (let succeeds = (c.in-Err.ensures.within_capacity c.requires.within_capacity).0 in cc)

@@ -19,5 +19,5 @@ pub returns-in-None : goal.returns-in-None
 returns-in-None g c = λ task rest is.
     let same : g.P.PtrKey.key c.args.p ≡ task.0 = let first = is.first in cc in
     let valid : IsValid (g.A.ArenaTrait.entry c.args.tasks.now) (g.P.PtrKey.key c.args.p) =
-    subst (IsValid (g.A.ArenaTrait.entry c.args.tasks.now)) (sym same) (record { value = task.1; stands = is.stand.0 }) in
+    subst (IsValid (g.A.ArenaTrait.entry c.args.tasks.now)) (sym same) (record { value = task.1; stored = is.are_stored.0 }) in
     absurd (let h = c.in-None.ensures.some.1 valid in cc)

@@ -5,8 +5,8 @@ use Rattle.chain_examples.proofs.queue.come_last.Goals as goal
 
 pub returns-in-None-clause-last : goal.returns-in-None-clause-last
 returns-in-None-clause-last g c = rw c.in-None.is (if_ok c.insert.result c.insert.ensures.inserted (λ p came.
-    first_comes g.A.ArenaTrait.view g.A.ArenaTrait.entry g.A.ChainArenaTrait.interlinks g.met.A.ArenaTrait.rises g.met.A.ArenaTrait.looked_up c.args.tasks.now c.insert.new.self (g.P.PtrKey.key p) c.args.task came))
+    first_comes g.A.ArenaTrait.view g.A.ArenaTrait.entry g.A.ChainArenaTrait.interlinks g.met.A.ArenaTrait.rises g.met.A.ArenaTrait.finds c.args.tasks.now c.insert.new.self (g.P.PtrKey.key p) c.args.task came))
 
 pub returns-in-Some-clause-last : goal.returns-in-Some-clause-last
 returns-in-Some-clause-last g c = rw c.in-Some.is (if_ok c.insert-in-Some.result c.insert-in-Some.ensures.inserted (λ p came.
-    last_comes g.A.ArenaTrait.view g.A.ArenaTrait.entry g.A.ChainArenaTrait.interlinks g.met.A.ArenaTrait.rises g.met.A.ArenaTrait.looked_up c.args.tasks.now c.insert-in-Some.new.self (g.P.PtrKey.key p) c.args.task (g.P.PtrKey.key c.in-Some.p) came))
+    last_comes g.A.ArenaTrait.view g.A.ArenaTrait.entry g.A.ChainArenaTrait.interlinks g.met.A.ArenaTrait.rises g.met.A.ArenaTrait.finds c.args.tasks.now c.insert-in-Some.new.self (g.P.PtrKey.key p) c.args.task (g.P.PtrKey.key c.in-Some.p) came))

@@ -14,5 +14,5 @@ returns-clause-in_ring c = places_in_a_ring
 pub returns-clause-line_ends : goal.returns-clause-line_ends
 returns-clause-line_ends c = lines_end
 
-pub returns-clause-ring_goes_round : goal.returns-clause-ring_goes_round
-returns-clause-ring_goes_round c = rings_go_round
+pub returns-clause-ring_is_cyclic : goal.returns-clause-ring_is_cyclic
+returns-clause-ring_is_cyclic c = rings_go_round

@@ -8,8 +8,8 @@ returns-clause-begins c = gathering_begins
 pub returns-clause-skips : goal.returns-clause-skips
 returns-clause-skips c = gathering_skips
 
-pub returns-clause-goes_on : goal.returns-clause-goes_on
-returns-clause-goes_on c = gathering_goes_on
+pub returns-clause-continues : goal.returns-clause-continues
+returns-clause-continues c = gathering_goes_on
 
 pub returns-clause-ends : goal.returns-clause-ends
 returns-clause-ends c = gathering_ends

@@ -17,8 +17,8 @@ loop-k-preserved g c =
 
 pub returns : goal.returns
 returns g c =
-    let seen = links_view g.P.Inx.InxKey.packed_number c.args.arena.now in
-    let long : length seen.slots ≤ c.loop-k.k = omega (
+    let view_after = links_view g.P.Inx.InxKey.packed_number c.args.arena.now in
+    let long : length view_after.slots ≤ c.loop-k.k = omega (
       arith,
       c.loop-k-test.false,
       c.len-k-end.ensures,
@@ -26,4 +26,4 @@ returns g c =
       ap (λ slots. length slots) c.backing.ensures.slots,
       length-links_view g.P.Inx.InxKey.packed_number c.args.arena.now,
     ) in
-    ((λ _. agrees_all (link_map seen) (length seen.slots) (link_map-within seen) (λ k less. c.loop-k.invariant k (omega (arith, less, long)))), (λ _. refl))
+    ((λ _. agrees_all (link_map view_after) (length view_after.slots) (link_map-within view_after) (λ k less. c.loop-k.invariant k (omega (arith, less, long)))), (λ _. refl))

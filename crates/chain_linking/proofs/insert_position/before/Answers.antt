@@ -5,19 +5,19 @@ use Rattle.chain_laws.specs.Chains.{prev_in}
 use Rattle.chain_links.specs.ChainArena.{link_map, entry}
 use Rattle.chain_links.specs.Links.{links_view}
 use Rattle.chain_links.specs.Kinds.{name_of}
-use Rattle.chain_linking.proofs.InsertPositionLemmas.{may_come_before, no_gap}
+use Rattle.chain_linking.proofs.InsertPositionLemmas.{may_come_before, no_position}
 use Rattle.chain_linking.proofs.insert_position.before.Goals as goal
 
 pub returns-in-Some : goal.returns-in-Some
 returns-in-Some g c =
-    let seen = links_view g.P.Inx.InxKey.packed_number c.args.arena.now in
+    let view_after = links_view g.P.Inx.InxKey.packed_number c.args.arena.now in
     record {
-      some = (λ _. may_come_before (entry seen) (link_map seen) (name_of g.P.PtrKey.key g.P.Inx.InxKey.number c.args.b) _ (c.in-Some.ensures.some.0 refl) c.in-Some.ensures.link, λ _. refl);
+      some = (λ _. may_come_before (entry view_after) (link_map view_after) (name_of g.P.PtrKey.key g.P.Inx.InxKey.number c.args.b) _ (c.in-Some.ensures.some.0 refl) c.in-Some.ensures.link, λ _. refl);
       before = λ q. c.prev.ensures ∙ sym (ap prev_in c.in-Some.ensures.link);
       after = λ q. ap Some c.index_of.ensures;
     }
 
 pub returns-in-None : goal.returns-in-None
 returns-in-None g c =
-    let seen = links_view g.P.Inx.InxKey.packed_number c.args.arena.now in
-    no_gap g.P.Inx.InxKey.number (entry seen) (link_map seen) _ (λ may. false≢true (c.in-None.ensures.some.1 may.0))
+    let view_after = links_view g.P.Inx.InxKey.packed_number c.args.arena.now in
+    no_position g.P.Inx.InxKey.number (entry view_after) (link_map view_after) _ (λ may. false≢true (c.in-None.ensures.some.1 may.0))

@@ -7,15 +7,15 @@ use Rattle.chain_linking.proofs.ConnectionLemmas.{none_unless_some}
 use Rattle.chain_links.specs.ChainArena.{link_map, entry}
 use Rattle.chain_links.specs.Links.{links_view}
 use Rattle.chain_links.specs.Kinds.{name_of}
-use Rattle.chain_linking.proofs.InsertPositionLemmas.{may_precede, no_gap, not_a_start}
+use Rattle.chain_linking.proofs.InsertPositionLemmas.{may_precede, no_position, not_a_start}
 use Rattle.chain_linking.proofs.insert_position.before_start.Goals as goal
 
 pub returns-then-is_none : goal.returns-then-is_none
 returns-then-is_none g c =
     let none = none_unless_some _ (sym (ap is_some c.prev.ensures) ∙ (is_some-map _ c.prev.result ∙ (c.is_none.ensures ∙ ap not c.if-is_none.true))) in
-    let seen = links_view g.P.Inx.InxKey.packed_number c.args.arena.now in
+    let view_after = links_view g.P.Inx.InxKey.packed_number c.args.arena.now in
     record {
-      some = (λ _. may_precede (entry seen) (link_map seen) (name_of g.P.PtrKey.key g.P.Inx.InxKey.number c.args.b) _ (c.in-Some.ensures.some.0 refl) c.in-Some.ensures.link none, λ _. refl);
+      some = (λ _. may_precede (entry view_after) (link_map view_after) (name_of g.P.PtrKey.key g.P.Inx.InxKey.number c.args.b) _ (c.in-Some.ensures.some.0 refl) c.in-Some.ensures.link none, λ _. refl);
       before = λ q. refl;
       after = λ q. ap Some c.index_of.ensures;
     }
@@ -23,11 +23,11 @@ returns-then-is_none g c =
 pub returns-else-is_none : goal.returns-else-is_none
 returns-else-is_none g c =
     let some = sym (ap is_some c.prev.ensures) ∙ (is_some-map _ c.prev.result ∙ (c.is_none.ensures ∙ ap not c.if-is_none.false)) in
-    let seen = links_view g.P.Inx.InxKey.packed_number c.args.arena.now in
-    no_gap g.P.Inx.InxKey.number (entry seen) (link_map seen) _
-    (not_a_start (entry seen) (link_map seen) (name_of g.P.PtrKey.key g.P.Inx.InxKey.number c.args.b) _ (c.in-Some.ensures.some.0 refl) c.in-Some.ensures.link some)
+    let view_after = links_view g.P.Inx.InxKey.packed_number c.args.arena.now in
+    no_position g.P.Inx.InxKey.number (entry view_after) (link_map view_after) _
+    (not_a_start (entry view_after) (link_map view_after) (name_of g.P.PtrKey.key g.P.Inx.InxKey.number c.args.b) _ (c.in-Some.ensures.some.0 refl) c.in-Some.ensures.link some)
 
 pub returns-in-None : goal.returns-in-None
 returns-in-None g c =
-    let seen = links_view g.P.Inx.InxKey.packed_number c.args.arena.now in
-    no_gap g.P.Inx.InxKey.number (entry seen) (link_map seen) _ (λ may. false≢true (c.in-None.ensures.some.1 may.0))
+    let view_after = links_view g.P.Inx.InxKey.packed_number c.args.arena.now in
+    no_position g.P.Inx.InxKey.number (entry view_after) (link_map view_after) _ (λ may. false≢true (c.in-None.ensures.some.1 may.0))

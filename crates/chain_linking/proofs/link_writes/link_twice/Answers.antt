@@ -1,7 +1,7 @@
 -- Two pairs are linked, one after another.
 use Rattle.std.specs.Option.{option_map}
 use Rattle.chain_links.specs.Links.{links_view}
-use Rattle.chain_laws.specs.Joins.{linked}
+use Rattle.chain_laws.specs.Joins.{with_neighbors}
 use Rattle.chain_links.specs.ChainArena.{link_map}
 use Rattle.chain_linking.proofs.NeighborLemmas.{still_named}
 use Rattle.chain_linking.proofs.LinkWriteLemmas.{FitsLinks-linked, linked_twice}
@@ -16,8 +16,8 @@ link_up-requires-2 g c =
     let prev = option_map number c.args.first.0 in
     let next = option_map number c.args.first.1 in
     record {
-      prev = still_named a b (linked (link_map a) prev next) (option_map number c.args.second.0) (FitsLinks-linked a prev next) c.link_up.ensures c.requires.second_prev;
-      next = still_named a b (linked (link_map a) prev next) (option_map number c.args.second.1) (FitsLinks-linked a prev next) c.link_up.ensures c.requires.second_next;
+      prev = still_named a b (with_neighbors (link_map a) prev next) (option_map number c.args.second.0) (FitsLinks-linked a prev next) c.link_up.ensures c.requires.second_prev;
+      next = still_named a b (with_neighbors (link_map a) prev next) (option_map number c.args.second.1) (FitsLinks-linked a prev next) c.link_up.ensures c.requires.second_next;
     }
 
 pub returns : goal.returns

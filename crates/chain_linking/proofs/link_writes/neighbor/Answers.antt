@@ -12,8 +12,8 @@ returns-in-Some-get_inx g c =
     let named : g.P.PtrKey.key c._from_raw.result ≡ (number c.in-Some.i, c.in-Some-get_inx.generation) = search of_calls in
     rw c.in-Some.is (ap Some named ∙ sym at)
 
-pub excluded-assert_unchecked-requires : goal.excluded-assert_unchecked-requires
-excluded-assert_unchecked-requires g c = absurd (nothing_at g.P.Inx.InxKey.packed_number c.args.arena.now (g.P.Inx.InxKey.number c.in-Some.i) (sym c.in-None-get_inx.ensures) (rw c.in-Some.is at c.requires))
+pub proved_unreachable-assume_proved-requires : goal.proved_unreachable-assume_proved-requires
+proved_unreachable-assume_proved-requires g c = absurd (nothing_at g.P.Inx.InxKey.packed_number c.args.arena.now (g.P.Inx.InxKey.number c.in-Some.i) (sym c.in-None-get_inx.ensures) (rw c.in-Some.is at c.requires))
 
 pub returns-in-None : goal.returns-in-None
 returns-in-None g c = rw c.in-None.is refl

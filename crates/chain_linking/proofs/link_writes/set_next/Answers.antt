@@ -26,8 +26,8 @@ returns-in-Some-get_inx_mut g c =
     ∙ links_view-write packed_number a n c.in-Some-get_inx_mut.link.now write (with_next (option_map number c.args.next)) _ says
     (sym c.get_inx_mut.ensures.value ∙ ap option_copied_mut c.in-Some-get_inx_mut.is) (λ i. refl)))
 
-pub excluded-assert_unchecked-requires : goal.excluded-assert_unchecked-requires
-excluded-assert_unchecked-requires g c = absurd (
+pub proved_unreachable-assume_proved-requires : goal.proved_unreachable-assume_proved-requires
+proved_unreachable-assume_proved-requires g c = absurd (
     nothing_named g.P.Inx.InxKey.packed_number c.args.arena.now (g.P.Inx.InxKey.number c.in-Some.i)
     (sym c.get_inx_mut.ensures.value ∙ ap option_copied_mut c.in-None-get_inx_mut.is) (rw c.in-Some.is at c.requires))
 

@@ -8,7 +8,7 @@ use Rattle.arena_base.proofs.ArenaViewLemmas.{value_within-made}
 use Rattle.chain_links.specs.Links.{links_view, link_view, pair_view}
 use Rattle.chain_links.proofs.LinkStateLemmas.{entry_at-links_view}
 use Rattle.chain_links.proofs.MappedArenaLemmas.{with_each-remove_at}
-use Rattle.chain_linking.proofs.ConnectionLemmas.{prev_of-seen, next_of-seen}
+use Rattle.chain_linking.proofs.ConnectionLemmas.{prev_of-view_after, next_of-view_after}
 use Rattle.chain_linking.proofs.UnlinkLemmas.{removal_by_steps, were_beside}
 use Rattle.chain_linking.proofs.link_writes.take_out.Goals as goal
 
@@ -19,21 +19,21 @@ close_over-requires g c =
     let a = c.args.arena.now in
     let n = number c.args.i in
     let link = c.in-Some.link in
-    let stands : entry_at a n ≡ Some (c.in-Some.generation, link) = sym c.remove_inx.ensures.answer ∙ (sym (ap (λ x. x.0) c.overflowing-entry.ensures) ∙ c.in-Some.is) in
+    let stored : entry_at a n ≡ Some (c.in-Some.generation, link) = sym c.remove_inx.ensures.returned ∙ (sym (ap (λ x. x.0) c.overflowing-entry.ensures) ∙ c.in-Some.is) in
     let named_prev : option_map number c.prev.result ≡ packed link.prev = search of_calls in
     let named_next : option_map number c.next.result ≡ packed link.next = search of_calls in
     were_beside g.P.Gen.GenKey.following (links_view packed a) (links_view packed c.remove_inx.new.self) n _ _
-    (ap (links_view packed) (c.remove_inx.ensures.more (ap is_some stands)) ∙ with_each-remove_at (link_view packed) g.P.Gen.GenKey.following a n) c.requires
-    (named_prev ∙ sym (prev_of-seen packed a (n, c.in-Some.generation) link stands)) (named_next ∙ sym (next_of-seen packed a (n, c.in-Some.generation) link stands))
+    (ap (links_view packed) (c.remove_inx.ensures.more (ap is_some stored)) ∙ with_each-remove_at (link_view packed) g.P.Gen.GenKey.following a n) c.requires
+    (named_prev ∙ sym (prev_of-view_after packed a (n, c.in-Some.generation) link stored)) (named_next ∙ sym (next_of-view_after packed a (n, c.in-Some.generation) link stored))
 
-pub returns-in-Some-clause-answer : goal.returns-in-Some-clause-answer
-returns-in-Some-clause-answer g c =
+pub returns-in-Some-clause-returned : goal.returns-in-Some-clause-returned
+returns-in-Some-clause-returned g c =
     let packed = g.P.Inx.InxKey.packed_number in
     let a = c.args.arena.now in
     let n = g.P.Inx.InxKey.number c.args.i in
-    let stands : entry_at a n ≡ Some (c.in-Some.generation, c.in-Some.link) = sym c.remove_inx.ensures.answer ∙ (sym (ap (λ x. x.0) c.overflowing-entry.ensures) ∙ c.in-Some.is) in
+    let stored : entry_at a n ≡ Some (c.in-Some.generation, c.in-Some.link) = sym c.remove_inx.ensures.returned ∙ (sym (ap (λ x. x.0) c.overflowing-entry.ensures) ∙ c.in-Some.is) in
     let found : value_within c.outcome.result ≡ Some (c.in-Some.generation, c.in-Some.link) = search (of_calls, value_within-made) in
-    ap (option_map (pair_view packed)) found ∙ sym (entry_at-links_view packed a n ∙ ap (option_map (pair_view packed)) stands)
+    ap (option_map (pair_view packed)) found ∙ sym (entry_at-links_view packed a n ∙ ap (option_map (pair_view packed)) stored)
 
 pub returns-in-Some-clause-valid : goal.returns-in-Some-clause-valid
 returns-in-Some-clause-valid g c =
@@ -42,20 +42,20 @@ returns-in-Some-clause-valid g c =
     let a = c.args.arena.now in
     let n = number c.args.i in
     let link = c.in-Some.link in
-    let stands : entry_at a n ≡ Some (c.in-Some.generation, link) = sym c.remove_inx.ensures.answer ∙ (sym (ap (λ x. x.0) c.overflowing-entry.ensures) ∙ c.in-Some.is) in
+    let stored : entry_at a n ≡ Some (c.in-Some.generation, link) = sym c.remove_inx.ensures.returned ∙ (sym (ap (λ x. x.0) c.overflowing-entry.ensures) ∙ c.in-Some.is) in
     let named_prev : option_map number c.prev.result ≡ packed link.prev = search of_calls in
     let named_next : option_map number c.next.result ≡ packed link.next = search of_calls in
     λ _. removal_by_steps g.P.Gen.GenKey.following (links_view packed a) (links_view packed c.remove_inx.new.self) (links_view packed c.close_over.new.arena) n
     (option_map number c.prev.result) (option_map number c.next.result)
-    (ap (links_view packed) (c.remove_inx.ensures.more (ap is_some stands)) ∙ with_each-remove_at (link_view packed) g.P.Gen.GenKey.following a n)
+    (ap (links_view packed) (c.remove_inx.ensures.more (ap is_some stored)) ∙ with_each-remove_at (link_view packed) g.P.Gen.GenKey.following a n)
     c.close_over.ensures
-    (named_prev ∙ sym (prev_of-seen packed a (n, c.in-Some.generation) link stands))
-    (named_next ∙ sym (next_of-seen packed a (n, c.in-Some.generation) link stands))
+    (named_prev ∙ sym (prev_of-view_after packed a (n, c.in-Some.generation) link stored))
+    (named_next ∙ sym (next_of-view_after packed a (n, c.in-Some.generation) link stored))
 
-pub returns-in-None-clause-answer : goal.returns-in-None-clause-answer
-returns-in-None-clause-answer g c =
+pub returns-in-None-clause-returned : goal.returns-in-None-clause-returned
+returns-in-None-clause-returned g c =
     let packed = g.P.Inx.InxKey.packed_number in
     let a = c.args.arena.now in
     let n = g.P.Inx.InxKey.number c.args.i in
-    let none : entry_at a n ≡ None = sym c.remove_inx.ensures.answer ∙ (sym (ap (λ x. x.0) c.overflowing-entry.ensures) ∙ c.in-None.is) in
+    let none : entry_at a n ≡ None = sym c.remove_inx.ensures.returned ∙ (sym (ap (λ x. x.0) c.overflowing-entry.ensures) ∙ c.in-None.is) in
     sym (entry_at-links_view packed a n ∙ ap (option_map (pair_view packed)) none)

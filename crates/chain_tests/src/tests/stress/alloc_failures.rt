@@ -4,11 +4,11 @@
 //! Here a stack refuses every other growth. `tools/test_alloc_failures` refuses each request for
 //! memory in turn, in the tests that allow it.
 
-use super::{ChainsOver, Rationed, Slot, same};
+use super::{ChainsOver, FailingStack, Slot, same};
 use crate::tests::call_lists::check_refused_list;
 use crate::tests::canonical::carry_over;
 use crate::tests::copies::{copied_twice, with_a_hole};
-use crate::tests::scripts::{Answers, Do, Kind, Script, plays_all};
+use crate::tests::scripts::{Do, Kind, RunsCalls, Script, plays_all};
 use crate::tests::{fresh_plain, generation};
 use arena_base::{Arena, ArenaSlot};
 use arena_ptr::{ChunkStack, HeapStack, LimitedStack, SlotStack, ToolPtr};
@@ -40,7 +40,7 @@ const NO_GROWTHS: [Do; 9] = [
     Do::RemoveLink((1, 2)),
     Do::Compress(false),
     Do::Canonical(false),
-    Do::MovesSeen(true),
+    Do::MovesVisited(true),
     Do::InsertWithin(Kind::Disconnected, 7),
     Do::RemoveLink((2, 2)),
     Do::Insert(Kind::Disconnected, 7),
@@ -76,55 +76,55 @@ fn refused() -> &'static [Script] {
 }
 
 // Returns whether a result reports an error or `false`.
-fn is_refused<A: Answers>(alloc: Global, arena: &mut A, call: Do) -> bool {
-    let answer = arena.answer(alloc, call);
+fn is_refused<A: RunsCalls>(alloc: Global, arena: &mut A, call: Do) -> bool {
+    let answer = arena.run_call(alloc, call);
     answer.contains("Err") || answer.contains("false")
 }
 
 // Returns a full arena, or one with holes.
-fn begun<A: Answers>(alloc: Global, begin: Do) -> A {
+fn begun<A: RunsCalls>(alloc: Global, begin: Do) -> A {
     let mut arena = A::fresh(alloc);
-    arena.answer(alloc, begin);
+    arena.run_call(alloc, begin);
     arena
 }
 
 // All that an arena reports: links, counter, capacity, and all slots.
-type Shown = (String, String, String);
+type Texts = (String, String, String);
 
-fn shown<A: Answers>(alloc: Global, arena: &mut A) -> Shown {
-    let links = arena.answer(alloc, Do::Debug);
-    let room = arena.answer(alloc, Do::Room);
-    (links, room, arena.answer(alloc, Do::SlotsListed))
+fn arena_texts<A: RunsCalls>(alloc: Global, arena: &mut A) -> Texts {
+    let links = arena.run_call(alloc, Do::Debug);
+    let room = arena.run_call(alloc, Do::Capacities);
+    (links, room, arena.run_call(alloc, Do::SlotsListed))
 }
 
 // Returns whether a call is refused at first, and the arena and the next pointer after it. Checks
 // that a refusal changes nothing, and that a second attempt succeeds.
-fn grown<A: Answers + Drop>(
+fn grown<A: RunsCalls + Drop>(
     rt: &impl Abort,
     alloc: Global,
     begin: Do,
     call: Do,
-) -> (bool, Shown, String) {
+) -> (bool, Texts, String) {
     let mut arena: A = begun(alloc, begin);
-    let before = shown(alloc, &mut arena);
+    let before = arena_texts(alloc, &mut arena);
     let refused = is_refused(alloc, &mut arena, call);
     if refused {
-        let after = shown(alloc, &mut arena);
+        let after = arena_texts(alloc, &mut arena);
         same(rt, "nothing has changed", after, before);
         let again = is_refused(alloc, &mut arena, call);
         same(rt, "once more", again, false);
     }
-    let after = shown(alloc, &mut arena);
+    let after = arena_texts(alloc, &mut arena);
     (
         refused,
         after,
-        arena.answer(alloc, Do::InsertWithin(Kind::Disconnected, 7)),
+        arena.run_call(alloc, Do::InsertWithin(Kind::Disconnected, 7)),
     )
 }
 
 // Checks that calls without requests for memory succeed. Returns whether the next growth is
 // refused.
-fn next_is_refused<A: Answers + Drop>(rt: &impl Abort, alloc: Global) -> bool {
+fn next_is_refused<A: RunsCalls + Drop>(rt: &impl Abort, alloc: Global) -> bool {
     let mut arena: A = begun(alloc, Do::Fill);
     for call in NO_GROWTHS {
         let refused = is_refused(alloc, &mut arena, call);
@@ -134,7 +134,7 @@ fn next_is_refused<A: Answers + Drop>(rt: &impl Abort, alloc: Global) -> bool {
 }
 
 // Compares an arena that refuses each growth at first with one that does not.
-fn check_grown<A: Answers + Drop, B: Answers + Drop>(
+fn check_grown<A: RunsCalls + Drop, B: RunsCalls + Drop>(
     rt: &impl Abort,
     alloc: Global,
     begin: Do,
@@ -148,7 +148,7 @@ fn check_grown<A: Answers + Drop, B: Answers + Drop>(
 }
 
 // Checks each growth. A call that makes a new arena is refused each time.
-fn check_growths<A: Answers + Drop, B: Answers + Drop>(rt: &impl Abort, alloc: Global) {
+fn check_growths<A: RunsCalls + Drop, B: RunsCalls + Drop>(rt: &impl Abort, alloc: Global) {
     check_grown::<A, B>(rt, alloc, Do::Fill, &GROWTHS);
     check_grown::<A, B>(rt, alloc, Do::Dig, &GROWTHS_BESIDE_HOLES);
     let mut arena: A = begun(alloc, Do::Dig);
@@ -162,46 +162,46 @@ fn check_growths<A: Answers + Drop, B: Answers + Drop>(rt: &impl Abort, alloc: G
     same(rt, "the next growth is refused", next, true);
 }
 
-type BothShown = (Shown, Shown);
+type BothTexts = (Texts, Texts);
 
-fn both_shown<A: Answers>(alloc: Global, source: &mut A, target: &mut A) -> BothShown {
-    let first = shown(alloc, source);
-    (first, shown(alloc, target))
+fn both_texts<A: RunsCalls>(alloc: Global, source: &mut A, target: &mut A) -> BothTexts {
+    let first = arena_texts(alloc, source);
+    (first, arena_texts(alloc, target))
 }
 
 // Returns whether a transfer of many links between arenas with holes is refused at first, and both
 // arenas after it. Checks that a refusal changes neither, and that a second attempt succeeds.
-fn carried<S: SlotStack<Item = Slot>>(rt: &impl Abort, alloc: Global) -> (bool, BothShown) {
+fn carried<S: SlotStack<Item = Slot>>(rt: &impl Abort, alloc: Global) -> (bool, BothTexts) {
     let mut source: ChainsOver<S> = with_a_hole(alloc, 70);
     let mut target: ChainsOver<S> = begun(alloc, Do::Dig);
-    let before = both_shown(alloc, &mut source, &mut target);
+    let before = both_texts(alloc, &mut source, &mut target);
     let refused = carry_over(&mut source, &mut target, generation(9)).is_err();
     if refused {
-        let after = both_shown(alloc, &mut source, &mut target);
+        let after = both_texts(alloc, &mut source, &mut target);
         same(rt, "neither has changed", after, before);
         let again = carry_over(&mut source, &mut target, generation(9));
         same(rt, "once more", again, Ok(()));
     }
-    (refused, both_shown(alloc, &mut source, &mut target))
+    (refused, both_texts(alloc, &mut source, &mut target))
 }
 
 // Compares a stack that refuses the transfer at first with one that does not.
 fn check_carried<S: SlotStack<Item = Slot>>(rt: &impl Abort, alloc: Global) {
     let (_, want) = carried::<S>(rt, alloc);
-    let got = carried::<Rationed<S>>(rt, alloc);
+    let got = carried::<FailingStack<S>>(rt, alloc);
     same(rt, "refused at first", got, (true, want));
 }
 
 // Checks refusals over any stack. The first call of a list is refused, and the second is not.
 pub(super) fn check_all<S: SlotStack<Item = Slot>>(rt: &impl Abort, alloc: Global) {
-    check_growths::<ChainsOver<Rationed<S>>, ChainsOver<S>>(rt, alloc);
+    check_growths::<ChainsOver<FailingStack<S>>, ChainsOver<S>>(rt, alloc);
     check_carried::<S>(rt, alloc);
-    check_refused_list::<Rationed<S>>(rt, alloc);
+    check_refused_list::<FailingStack<S>>(rt, alloc);
 }
 
 // Checks each call that may request memory: if any one request is refused, nothing changes, and a
 // second attempt succeeds.
-fn check_bearing<A: Answers + Drop>(rt: &impl Abort, alloc: Global, begin: Do) {
+fn check_bearing<A: RunsCalls + Drop>(rt: &impl Abort, alloc: Global, begin: Do) {
     for calls in [&GROWTHS[..], &BIRTHS[..], &LISTS[..]] {
         for call in calls {
             let _ = grown::<A>(rt, alloc, begin, *call);

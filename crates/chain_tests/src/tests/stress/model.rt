@@ -116,7 +116,7 @@ impl Lists {
     }
 
     // Joins the end of a chain to the start of the same chain or of another.
-    fn tie(&mut self, rt: &impl Abort, t: u32, u: u32) {
+    fn join_chains(&mut self, rt: &impl Abort, t: u32, u: u32) {
         if let Some((chain, _)) = self.take(t) {
             let mut values = chain.values;
             match self.take(u) {
@@ -142,7 +142,7 @@ impl Lists {
     }
 
     // Returns the neighbors of a new link, or `None` if its kind's requirement fails.
-    pub(super) fn gap(&self, kind: Kind) -> Option<(Option<u32>, Option<u32>)> {
+    pub(super) fn position(&self, kind: Kind) -> Option<(Option<u32>, Option<u32>)> {
         let (holds, before, after) = match kind {
             Kind::ChainEnd(t) | Kind::ChainEndInx(t) => (self.is_end(t), Some(t), None),
             Kind::ChainStart(t) | Kind::ChainStartInx(t) => (self.is_start(t), None, Some(t)),
@@ -163,7 +163,7 @@ impl Lists {
 
     // Inserts a link, and returns whether its kind's requirement holds.
     pub(super) fn insert(&mut self, rt: &impl Abort, kind: Kind, t: u32) -> bool {
-        let Some((before, after)) = self.gap(kind) else {
+        let Some((before, after)) = self.position(kind) else {
             return false;
         };
         if let Some(before) = before {
@@ -172,10 +172,10 @@ impl Lists {
         let values = Vec::from_array(self.alloc, [t]).expect(rt, "memory");
         self.add(rt, values, matches!(kind, Kind::SingleLinkCyclic));
         if let Some(before) = before {
-            self.tie(rt, before, t);
+            self.join_chains(rt, before, t);
         }
         if let Some(after) = after {
-            self.tie(rt, t, after);
+            self.join_chains(rt, t, after);
         }
         true
     }
@@ -184,7 +184,7 @@ impl Lists {
     pub(super) fn connect(&mut self, rt: &impl Abort, t: u32, u: u32) -> bool {
         let holds = self.is_end(t) && self.is_start(u);
         if holds {
-            self.tie(rt, t, u);
+            self.join_chains(rt, t, u);
         }
         holds
     }
@@ -197,8 +197,8 @@ impl Lists {
         if t != u {
             self.cut(rt, t);
             self.cut(rt, u);
-            self.tie(rt, t, after_u);
-            self.tie(rt, u, after_t);
+            self.join_chains(rt, t, after_u);
+            self.join_chains(rt, u, after_t);
         }
         true
     }
@@ -211,7 +211,7 @@ impl Lists {
         if let (Some(prev), Some(next)) = (prev, next)
             && prev != t
         {
-            self.tie(rt, prev, next);
+            self.join_chains(rt, prev, next);
         }
         self.take(t).is_some()
     }

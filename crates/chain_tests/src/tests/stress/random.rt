@@ -343,7 +343,9 @@ fn check_step<S: SlotStack<Item = Slot>>(
 fn could_be(lists: &Lists, step: Step, named: Named) -> bool {
     let Named { p, q, i, j } = named;
     match step.which {
-        Which::Insert | Which::InsertWithin => lists.gap(kind_of(step.kind, p, q, i, j)).is_some(),
+        Which::Insert | Which::InsertWithin => lists
+            .position(kind_of(step.kind, p, q, i, j))
+            .is_some(),
         Which::Reserve => true,
         _ => false,
     }

@@ -12,10 +12,10 @@ start_of-start-requires-clause-some g c =
     let low = c.requires.low in
     let first = next_is (g.A.ArenaTrait.view source).entries (g.A.ArenaTrait.cursor c.args.advancer.now) (g.A.ArenaTrait.cursor c.advance.new.self) low.0 (g.Q.PtrKey.key c.in-Some.q) low.1 low.2
     (g.met.A.ArenaTrait.advances c.args.advancer.now c.advance.new.self source (Some c.in-Some.q) c.in-Some.ensures) in
-    ap is_some (ap (g.A.ArenaTrait.entry source) c.inx.ensures ∙ sym (g.met.A.ArenaTrait.looked_up source (g.Q.PtrKey.key c.in-Some.q).0)) ∙ first.0.stands
+    ap is_some (ap (g.A.ArenaTrait.entry source) c.inx.ensures ∙ sym (g.met.A.ArenaTrait.finds source (g.Q.PtrKey.key c.in-Some.q).0)) ∙ first.0.stored
 
-pub excluded-assert_unchecked-requires : goal.excluded-assert_unchecked-requires
-excluded-assert_unchecked-requires g c = absurd (
+pub proved_unreachable-assume_proved-requires : goal.proved_unreachable-assume_proved-requires
+proved_unreachable-assume_proved-requires g c = absurd (
     let source = c.args.source.now in
     let low = c.requires.low in
     c.requires.some (none_is (g.A.ArenaTrait.view source).entries (g.A.ArenaTrait.cursor c.args.advancer.now) (g.A.ArenaTrait.cursor c.advance.new.self) low.0 low.1 low.2
@@ -30,9 +30,9 @@ returns-clause-next g c =
     (g.met.A.ArenaTrait.advances c.args.advancer.now c.advance.new.self source (Some c.in-Some.q) c.in-Some.ensures) in
     record {
       least = (g.Q.PtrKey.key c.in-Some.q).0;
-      stands = first.0.stands;
+      stored = first.0.stored;
       none_below = first.0.low;
       start = subst (λ i. IsStart links i (g.Q.Inx.InxKey.number c.start_of-start.result)) c.inx.ensures c.start_of-start.ensures.start;
       cyclic = c.is_some.ensures ∙ (sym (is_some-map g.Q.Inx.InxKey.number c.before-in-Some.result) ∙ ap is_some c.before-in-Some.ensures);
-      looks = first.1;
+      lookups = first.1;
     }

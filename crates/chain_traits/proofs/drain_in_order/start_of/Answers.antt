@@ -14,8 +14,8 @@ loop-step-init g c = record { back = back_begins (g.A.ChainArenaTrait.interlinks
 pub returns-then-is_same-clause-start : goal.returns-then-is_same-clause-start
 returns-then-is_same-clause-start g c =
     let number = g.Q.Inx.InxKey.number in
-    let told : c.is_same.result ≡ g.Q.Inx.InxKey.same c.in-Some.k c.args.i = search of_calls in
-    let same = (g.met.Q.Inx.InxKey.same_is_equal c.in-Some.k c.args.i).0 (sym told ∙ c.if-is_same.true) in
+    let known : c.is_same.result ≡ g.Q.Inx.InxKey.same c.in-Some.k c.args.i = search of_calls in
+    let same = (g.met.Q.Inx.InxKey.same_is_equal c.in-Some.k c.args.i).0 (sym known ∙ c.if-is_same.true) in
     back_comes_round (g.A.ChainArenaTrait.interlinks c.args.source.now) (number c.args.i) c.loop-step.step (number c.loop-step.at) c.loop-step.invariant.back
     (sym c.in-Some.ensures ∙ ap (λ k. Some (number k)) same)
 
@@ -29,19 +29,19 @@ loop-step-preserved g c =
     let number = g.Q.Inx.InxKey.number in
     let source = c.args.source.now in
     let links = g.A.ChainArenaTrait.interlinks source in
-    let told : c.is_same.result ≡ g.Q.Inx.InxKey.same c.in-Some.k c.args.i = search of_calls in
+    let known : c.is_same.result ≡ g.Q.Inx.InxKey.same c.in-Some.k c.args.i = search of_calls in
     let before = sym c.in-Some.ensures in
     record {
       back = back_goes_on links (number c.args.i) c.loop-step.step (number c.loop-step.at) (number c.in-Some.k) c.loop-step.invariant.back before
-          (λ e. not_both _ ((g.met.Q.Inx.InxKey.same_is_equal c.in-Some.k c.args.i).1 (g.met.Q.Inx.InxKey.same_number c.in-Some.k c.args.i e)) (sym told ∙ c.if-is_same.false));
-      some = valid_some links (g.A.ArenaTrait.entry source) (g.A.ArenaTrait.view source).entries (g.met.A.ChainArenaTrait.stand source) (g.met.A.ArenaTrait.looked_up source) (number c.in-Some.k)
+          (λ e. not_both _ ((g.met.Q.Inx.InxKey.same_is_equal c.in-Some.k c.args.i).1 (g.met.Q.Inx.InxKey.same_number c.in-Some.k c.args.i e)) (sym known ∙ c.if-is_same.false));
+      some = valid_some links (g.A.ArenaTrait.entry source) (g.A.ArenaTrait.view source).entries (g.met.A.ChainArenaTrait.links_are_entries source) (g.met.A.ArenaTrait.finds source) (number c.in-Some.k)
           (next_valid links (number c.in-Some.k) (number c.loop-step.at) ((c.requires.agree.both (number c.in-Some.k) (number c.loop-step.at)).1 before));
     }
 
-pub excluded-assert_unchecked-requires : goal.excluded-assert_unchecked-requires
-excluded-assert_unchecked-requires g c = absurd (
+pub proved_unreachable-assume_proved-requires : goal.proved_unreachable-assume_proved-requires
+proved_unreachable-assume_proved-requires g c = absurd (
     let number = g.Q.Inx.InxKey.number in
     let source = c.args.source.now in
-    let few = few_back (g.A.ChainArenaTrait.interlinks source) (g.A.ArenaTrait.entry source) (g.A.ArenaTrait.view source).entries (g.met.A.ChainArenaTrait.stand source) (g.met.A.ArenaTrait.looked_up source)
+    let few = few_back (g.A.ChainArenaTrait.interlinks source) (g.A.ArenaTrait.entry source) (g.A.ArenaTrait.view source).entries (g.met.A.ChainArenaTrait.links_are_entries source) (g.met.A.ArenaTrait.finds source)
     g.Q.Inx.InxKey.greatest c.len-step-end.ensures.indexes (number c.args.i) c.loop-step.step (number c.loop-step.at) c.requires.agree c.requires.some c.loop-step.invariant.back in
     omega (arith, few, c.len-step-end.ensures.count))

@@ -1,5 +1,5 @@
 use Rattle.std.proofs.Common.{sym, ap, ◌∙◌}
-use Rattle.chain_laws.specs.Removals.{removed as passed_over}
+use Rattle.chain_laws.specs.Removals.{with_removal as passed_over}
 use Rattle.chain_traits.proofs.drain_in_order.take_next.Goals as goal
 
 pub returns-clause-links : goal.returns-clause-links

@@ -9,7 +9,7 @@ returns g c valid =
     let links = g.A.ChainArenaTrait.interlinks a in
     let entry = g.A.ArenaTrait.entry a in
     let es = (g.A.ArenaTrait.view a).entries in
-    let stands = g.met.A.ChainArenaTrait.stand a in
-    let looked = g.met.A.ArenaTrait.looked_up a in
+    let stored = g.met.A.ChainArenaTrait.links_are_entries a in
+    let was_read = g.met.A.ArenaTrait.finds a in
     let i = (g.P.PtrKey.key c.args.p).0 in
-    passes_walk links entry es stands looked g.P.Inx.InxKey.greatest i c.invariants.ensures.agree c.invariants.ensures.indexes (entry_valid links entry es stands looked i _ valid.stands)
+    passes_walk links entry es stored was_read g.P.Inx.InxKey.greatest i c.invariants.ensures.agree c.invariants.ensures.indexes (entry_valid links entry es stored was_read i _ valid.stored)

@@ -1,6 +1,6 @@
 //! Tests of bookmarks in texts that are edited and renumbered.
 
-use super::documents::{Edit, made, read, shown};
+use super::documents::{Edit, contents, made, read};
 use super::{Differing, Slot, name, names_of};
 use arena_ptr::{PtrKey, SlotStack};
 use chain_arena::{ChainArena, ChainArenaTrait};
@@ -111,11 +111,11 @@ fn renumbered<P: PtrKey, A: Renumbers<P>>(
     names: &[P],
     bookmarks: &mut [Option<P>],
 ) -> bool {
-    let before = shown(texts, names);
+    let before = contents(texts, names);
     if A::renumber(texts, alloc, bookmarks) {
         return true;
     }
-    shown(texts, names) == before
+    contents(texts, names) == before
         && are_same(bookmarks, &marks(alloc, names))
         && A::renumber(texts, alloc, bookmarks)
 }

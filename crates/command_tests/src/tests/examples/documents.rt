@@ -131,7 +131,7 @@ pub(super) fn read<P: PtrKey, A: ChainArenaTrait<P, u32> + Drop>(
 }
 
 // Returns each paragraph with the number of the next one.
-pub(super) fn shown<P: PtrKey, A: ChainArenaTrait<P, u32> + Drop>(
+pub(super) fn contents<P: PtrKey, A: ChainArenaTrait<P, u32> + Drop>(
     texts: &Documents<P, u32, A>,
     names: &[P],
 ) -> u128 {
@@ -150,11 +150,11 @@ pub(super) fn made<P: PtrKey, A: ChainArenaTrait<P, u32> + Drop>(
     names: &mut Vec<P>,
     edit: Edit,
 ) -> Option<bool> {
-    let before = shown(texts, names);
+    let before = contents(texts, names);
     if edited(texts, names, edit) {
         return Some(true);
     }
-    if shown(texts, names) == before {
+    if contents(texts, names) == before {
         Some(edited(texts, names, edit))
     } else {
         None

@@ -5,12 +5,12 @@ use std::alloc::Global;
 
 // A wrapper of a stack that refuses every other growth, beginning with the first.
 #[derive(Drop)]
-pub(super) struct Rationed<S> {
+pub(super) struct FailingStack<S> {
     inner: S,
     refuses: bool,
 }
 
-impl<S: SlotStack> SlotStack for Rationed<S> {
+impl<S: SlotStack> SlotStack for FailingStack<S> {
     type Item = S::Item;
 
     ghost items = { λ s. S.items s.inner };
@@ -23,9 +23,9 @@ impl<S: SlotStack> SlotStack for Rationed<S> {
 
     ghost with_item = { λ s i e. record s { inner = S.with_item s.inner i e } };
 
-    ghost has_room = { λ s. S.has_room s.inner };
+    ghost has_capacity = { λ s. S.has_capacity s.inner };
 
-    ghost room_fits = { λ s. S.room_fits s.inner };
+    ghost capacity_fits = { λ s. S.capacity_fits s.inner };
 
     ghost within_maximum = { λ s. S.within_maximum s.inner };
 
@@ -36,7 +36,7 @@ impl<S: SlotStack> SlotStack for Rationed<S> {
     ghost maximum_written = { λ s i e. S.maximum_written s.inner i e };
 
     fn new(alloc: Global) -> Self {
-        Rationed {
+        FailingStack {
             inner: S::new(alloc),
             refuses: true,
         }

@@ -109,7 +109,10 @@ fn relinked<P: PtrKey, A: ChainArenaTrait<P, u32> + Drop>(
 }
 
 // Returns the points from a corner on, once around.
-fn round<P: PtrKey, A: ChainArenaTrait<P, u32> + Drop>(mesh: &Mesh<P, u32, A>, from: P) -> u32 {
+fn points_around<P: PtrKey, A: ChainArenaTrait<P, u32> + Drop>(
+    mesh: &Mesh<P, u32, A>,
+    from: P,
+) -> u32 {
     let mut all = 0;
     let mut at = from;
     for _ in 0..8 {
@@ -123,7 +126,7 @@ fn round<P: PtrKey, A: ChainArenaTrait<P, u32> + Drop>(mesh: &Mesh<P, u32, A>, f
 }
 
 // Returns the point of each corner with the number of the next one.
-fn shown<P: PtrKey, A: ChainArenaTrait<P, u32> + Drop>(
+fn contents<P: PtrKey, A: ChainArenaTrait<P, u32> + Drop>(
     mesh: &Mesh<P, u32, A>,
     names: &[P],
 ) -> u128 {
@@ -142,11 +145,11 @@ fn made<P: PtrKey, A: ChainArenaTrait<P, u32> + Drop>(
     names: &mut Vec<P>,
     change: Change,
 ) -> Option<bool> {
-    let before = shown(mesh, names);
+    let before = contents(mesh, names);
     if changed(mesh, names, change) {
         return Some(true);
     }
-    if shown(mesh, names) == before {
+    if contents(mesh, names) == before {
         Some(changed(mesh, names, change))
     } else {
         None
@@ -161,7 +164,7 @@ fn holds<P: PtrKey, A: ChainArenaTrait<P, u32> + Drop>(
     let (change, done, n, points) = *row;
     let is_done = made(mesh, names, change);
     mesh.all_in_polygons();
-    is_done == Some(done) && round(mesh, name(names, n)) == points
+    is_done == Some(done) && points_around(mesh, name(names, n)) == points
 }
 
 // Splits beside a hole. Returns whether each row holds, and the indexes of the copies.
@@ -201,11 +204,11 @@ pub(super) fn one_corner_is_not_split(alloc: Global) -> bool {
         return false;
     };
     let is_refused = matches!(mesh.split(p, p), Ok(None));
-    is_refused && mesh.len() == 1 && round(&mesh, p) == 1
+    is_refused && mesh.len() == 1 && points_around(&mesh, p) == 1
 }
 
 // Returns whether a mesh has the reserved capacity, and keeps it when a corner is added.
-pub(super) fn room_is_reserved(alloc: Global) -> bool {
+pub(super) fn capacity_is_reserved(alloc: Global) -> bool {
     let mut mesh = ToolMesh::new(alloc);
     let was_empty = mesh.is_empty() && mesh.capacity() == 0;
     let is_reserved = mesh.reserve(3).is_ok() && mesh.capacity() >= 3;

@@ -26,7 +26,7 @@ enum Turn {
     // maximum.
     Count,
     IsEmpty,
-    HasRoom,
+    HasCapacity,
     // All tasks left, in turn.
     Drain,
 }
@@ -58,7 +58,7 @@ const ROWS: [(Turn, u32); 35] = [
     (Turn::Current, 1),
     (Turn::Count, 3),
     (Turn::IsEmpty, 0),
-    (Turn::HasRoom, 1),
+    (Turn::HasCapacity, 1),
     (Turn::Read(2), 5),
     (Turn::Read(3), 0),
     (Turn::Write(2, 9), 5),
@@ -128,11 +128,11 @@ fn done<P: PtrKey, A: ChainArenaTrait<P, u32> + Drop>(
         Turn::Write(n, task) => written(queue, name(names, n), task),
         Turn::Reserve(n) => reserved(queue, n),
         Turn::Drain => drained(alloc, queue),
-        look => looked(queue, names, look),
+        look => lookups_agree(queue, names, look),
     }
 }
 
-fn looked<P: PtrKey, A: ChainArenaTrait<P, u32> + Drop>(
+fn lookups_agree<P: PtrKey, A: ChainArenaTrait<P, u32> + Drop>(
     queue: &RunQueue<P, u32, A>,
     names: &[P],
     turn: Turn,
@@ -141,7 +141,7 @@ fn looked<P: PtrKey, A: ChainArenaTrait<P, u32> + Drop>(
         Turn::Current => number(names, queue.current()),
         Turn::Read(n) => queue.get(name(names, n)).copied().unwrap_or(0),
         Turn::IsEmpty => u32::from(queue.is_empty()),
-        Turn::HasRoom => {
+        Turn::HasCapacity => {
             u32::from(queue.capacity() >= queue.len() && queue.max_capacity().is_none())
         }
         _ => u32::try_from(queue.len()).unwrap_or(u32::MAX),
@@ -150,7 +150,7 @@ fn looked<P: PtrKey, A: ChainArenaTrait<P, u32> + Drop>(
 
 // Returns the tasks in turn, their number, and the capacity. After one round the current task is
 // current again.
-fn shown<P: PtrKey, A: ChainArenaTrait<P, u32> + Drop>(
+fn contents<P: PtrKey, A: ChainArenaTrait<P, u32> + Drop>(
     queue: &mut RunQueue<P, u32, A>,
     names: &[P],
 ) -> (u128, usize, usize) {
@@ -171,11 +171,11 @@ fn holds<P: PtrKey, A: ChainArenaTrait<P, u32> + Drop>(
     row: &(Turn, u32),
 ) -> bool {
     let (turn, want) = *row;
-    let before = shown(queue, names);
+    let before = contents(queue, names);
     if done(alloc, queue, names, turn) == want {
         return true;
     }
-    shown(queue, names) == before && done(alloc, queue, names, turn) == want
+    contents(queue, names) == before && done(alloc, queue, names, turn) == want
 }
 
 pub(super) fn differing<P: PtrKey, A: ChainArenaTrait<P, u32> + Drop>(alloc: Global) -> Differing {

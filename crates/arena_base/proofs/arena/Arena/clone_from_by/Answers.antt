@@ -4,7 +4,7 @@ use Rattle.std.proofs.lemmas.List.{length-map}
 use Rattle.arena_base.specs.Slots.{entry_of}
 use Rattle.arena_base.proofs.SoundnessLemmas.{closed, none_sound}
 use Rattle.arena_base.proofs.SlotShapeLemmas.{sound_too}
-use Rattle.arena_base.proofs.SlotCopyLemmas.{has_slots_of, given_up, on_err_is, on_ok_is, same_room}
+use Rattle.arena_base.proofs.SlotCopyLemmas.{has_slots_of, given_up, on_err_is, on_ok_is, equal_capacity}
 use Rattle.arena_base.proofs.ArenaGrowthLemmas.{same_reach, stays_within_reach}
 use Rattle.arena_base.proofs.arena.Arena.clone_from_by.Goals as goal
 
@@ -25,18 +25,18 @@ returns-in-Ok-copied g c =
     let count : c.len.result ≡ length c.args.source.now.slots = c.len.ensures ∙ (sym (length-map (g.S1.SlotStack.items source.slots) entry_of) ∙ ap (λ a. length a.slots) c.source.view_is) in
     let stays : g.S.SlotStack.capacity c.copy_slots-copied.new.slots ≡ g.S.SlotStack.capacity self.slots = c.copy_slots-copied.ensures.capacity ∙ c.truncate.ensures.capacity in
     let limit : g.S.SlotStack.maximum c.copy_slots-copied.new.slots ≡ g.S.SlotStack.maximum self.slots = c.copy_slots-copied.ensures.maximum ∙ c.truncate.ensures.maximum in
-    let room : min (g.S.SlotStack.capacity c.copy_slots-copied.new.slots) greatest ≡ c.reallocate_min_capacity.new.self.capacity = ap (λ n. min n greatest) stays ∙ ap (λ a. a.capacity) c.self.view_is in
+    let within_capacity : min (g.S.SlotStack.capacity c.copy_slots-copied.new.slots) greatest ≡ c.reallocate_min_capacity.new.self.capacity = ap (λ n. min n greatest) stays ∙ ap (λ a. a.capacity) c.self.view_is in
     record {
-      within = λ few. (inl refl, room ∙ ap (λ a. a.capacity) (grown.within (omega (arith, few, count))).1);
+      within = λ few. (inl refl, within_capacity ∙ ap (λ a. a.capacity) (grown.within (omega (arith, few, count))).1);
       beyond = (λ is. cc, λ beyond. let never = grown.beyond.1 (rw count beyond) in cc);
       unchanged = λ is. cc;
-      ok = (same_room count room (limit ∙ ap (λ a. a.maximum) c.self.view_is) grown.ok, refl, g.met.S.SlotStack.within_maximum c.copy_slots-copied.new.slots);
+      ok = (equal_capacity count within_capacity (limit ∙ ap (λ a. a.maximum) c.self.view_is) grown.ok, refl, g.met.S.SlotStack.within_maximum c.copy_slots-copied.new.slots);
       copied = rw (← c.source.view_is) (on_ok_is c.copy_slots-copied.result.0 _ c.in-Ok-copied.is c.copy_slots-copied.ensures.copies);
       ready = on_ok_is c.copy_slots-copied.result.0 _ c.in-Ok-copied.is c.copy_slots-copied.ensures.ready;
       slots = has_slots_of g.P.Inx.InxKey.number (g.S1.SlotStack.items source.slots) (g.S.SlotStack.items c.copy_slots-copied.new.slots) (on_ok_is c.copy_slots-copied.result.0 _ c.in-Ok-copied.is c.copy_slots-copied.ensures.alike) greatest source.len source.first_free c.source.invariant
           c.args.source.now c.args.self.now c.reallocate_min_capacity.new.self source.counter self.counter _ (g.S.SlotStack.items self.slots) (g.S1.SlotStack.capacity source.slots) (g.S.SlotStack.capacity self.slots) (g.S.SlotStack.capacity c.copy_slots-copied.new.slots) (g.S1.SlotStack.maximum source.slots) (g.S.SlotStack.maximum self.slots) (g.S.SlotStack.maximum c.copy_slots-copied.new.slots)
           source.placed.count source.touched.count self.placed.count self.touched.count c.len.result stays limit c.source.view_is c.self.view_is grown.more.0 c.len.ensures (λ few. (grown.within few).1);
-      never_less = omega (arith, room, grown.never_less);
+      never_less = omega (arith, within_capacity, grown.never_less);
       reached = same_reach g.S.SlotStack.may_reach (length c.args.source.now.slots) c.args.self.now c.reallocate_min_capacity.new.self (stays ∙ ap (λ a. a.stack_capacity) c.self.view_is) (rw (← count) grown.more.1);
       err = tt;
     }
@@ -50,16 +50,16 @@ returns-in-Err-copied g c =
     let count : c.len.result ≡ length c.args.source.now.slots = c.len.ensures ∙ (sym (length-map (g.S1.SlotStack.items source.slots) entry_of) ∙ ap (λ a. length a.slots) c.source.view_is) in
     let stays : g.S.SlotStack.capacity c.truncate-in-Err-copied.new.self ≡ g.S.SlotStack.capacity self.slots = c.truncate-in-Err-copied.ensures.capacity ∙ (c.copy_slots-copied.ensures.capacity ∙ c.truncate.ensures.capacity) in
     let limit : g.S.SlotStack.maximum c.truncate-in-Err-copied.new.self ≡ g.S.SlotStack.maximum self.slots = c.truncate-in-Err-copied.ensures.maximum ∙ (c.copy_slots-copied.ensures.maximum ∙ c.truncate.ensures.maximum) in
-    let room : min (g.S.SlotStack.capacity c.truncate-in-Err-copied.new.self) greatest ≡ c.reallocate_min_capacity.new.self.capacity = ap (λ n. min n greatest) stays ∙ ap (λ a. a.capacity) c.self.view_is in
+    let within_capacity : min (g.S.SlotStack.capacity c.truncate-in-Err-copied.new.self) greatest ≡ c.reallocate_min_capacity.new.self.capacity = ap (λ n. min n greatest) stays ∙ ap (λ a. a.capacity) c.self.view_is in
     record {
-      within = λ few. (inr (rw (← c.source.view_is) (on_err_is c.copy_slots-copied.result.0 _ c.in-Err-copied.is c.copy_slots-copied.ensures.refused)), room ∙ ap (λ a. a.capacity) (grown.within (omega (arith, few, count))).1);
+      within = λ few. (inr (rw (← c.source.view_is) (on_err_is c.copy_slots-copied.result.0 _ c.in-Err-copied.is c.copy_slots-copied.ensures.refused)), within_capacity ∙ ap (λ a. a.capacity) (grown.within (omega (arith, few, count))).1);
       beyond = (λ is. cc, λ beyond. let never = grown.beyond.1 (rw count beyond) in cc);
       unchanged = λ is. cc;
       ok = tt;
       copied = tt;
       ready = tt;
       slots = tt;
-      never_less = omega (arith, room, grown.never_less);
+      never_less = omega (arith, within_capacity, grown.never_less);
       reached = same_reach g.S.SlotStack.may_reach (length c.args.source.now.slots) c.args.self.now c.reallocate_min_capacity.new.self (stays ∙ ap (λ a. a.stack_capacity) c.self.view_is) (rw (← count) grown.more.1);
       err = inr (
         rw (← c.source.view_is) (on_err_is c.copy_slots-copied.result.0 _ c.in-Err-copied.is c.copy_slots-copied.ensures.refused),

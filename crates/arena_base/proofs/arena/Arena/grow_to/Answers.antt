@@ -3,7 +3,7 @@ use Rattle.std.proofs.Common.{refl, ap, arith}
 use Rattle.arena_ptr.specs.SlotStack.{IsWithinMaximum}
 use Rattle.arena_base.specs.Slots.{arena_of, freed_of}
 use Rattle.arena_base.proofs.SlotCopyLemmas.{on_ok, on_err}
-use Rattle.arena_base.proofs.SlotPartitionLemmas.{room_for}
+use Rattle.arena_base.proofs.SlotPartitionLemmas.{capacity_for}
 use Rattle.arena_base.proofs.ArenaGrowthLemmas.{stack_reach}
 use Rattle.arena_base.proofs.arena.Arena.grow_to.Goals as goal
 
@@ -20,11 +20,11 @@ returns g c =
       beyond = grown.beyond;
       greatest = λ above. absurd (omega (arith, above, c.greatest.ensures.value));
       ok = on_ok c.reserve_to.result (λ fits. record {
-        room = (room_for greatest c.args.n (g.S.SlotStack.capacity new) (g.S.SlotStack.maximum inside.slots) fits (omega (arith, c.greatest.ensures.value)) within, refl, within);
+        within_capacity = (capacity_for greatest c.args.n (g.S.SlotStack.capacity new) (g.S.SlotStack.maximum inside.slots) fits (omega (arith, c.greatest.ensures.value)) within, refl, within);
         reached = reached;
       }) grown.grown;
       reached = reached;
-      err = on_err c.reserve_to.result (ap (λ room. arena_of items (freed_of g.P.Inx.InxKey.number items inside.first_free) inside.counter greatest room (g.S.SlotStack.maximum inside.slots) inside.placed.count inside.touched.count)) grown.refused;
+      err = on_err c.reserve_to.result (ap (λ within_capacity. arena_of items (freed_of g.P.Inx.InxKey.number items inside.first_free) inside.counter greatest within_capacity (g.S.SlotStack.maximum inside.slots) inside.placed.count inside.touched.count)) grown.refused;
       after = refl;
       never_less = omega (arith, grown.never_less);
     })

@@ -11,8 +11,8 @@ invariant_of-self g c =
     let inside = c.self.inside in
     let capacity = g.S.SlotStack.capacity inside.slots in
     let maximum = g.S.SlotStack.maximum inside.slots in
-    let room = rw (← c.self.view_is) at c.requires in
-    let less : inside.len < g.P.Inx.InxKey.greatest = omega (arith, room, c.self.invariant.counted) in
+    let within_capacity = rw (← c.self.view_is) at c.requires in
+    let less : inside.len < g.P.Inx.InxKey.greatest = omega (arith, within_capacity, c.self.invariant.counted) in
     elim c.match-self.branch [
       | in-Some w ↦ rw w.self-inside-is
           (filled_freed_view number c.self.invariant inside.counter capacity _ maximum _ inside.placed.count _ inside.touched.count w.position_of.result w.in-Some.i w.fill-self-inside.result c.args.t (g.S.SlotStack.items w.fill-self-inside.new.slots)
@@ -28,13 +28,13 @@ returns-clause-after g c =
     let inside = c.self.inside in
     let capacity = g.S.SlotStack.capacity inside.slots in
     let maximum = g.S.SlotStack.maximum inside.slots in
-    let room = rw (← c.self.view_is) at c.requires in
-    let less : inside.len < g.P.Inx.InxKey.greatest = omega (arith, room, c.self.invariant.counted) in
-    let seen = ap (λ a. insert_next a c.args.t) c.self.view_is in
+    let within_capacity = rw (← c.self.view_is) at c.requires in
+    let less : inside.len < g.P.Inx.InxKey.greatest = omega (arith, within_capacity, c.self.invariant.counted) in
+    let view_after = ap (λ a. insert_next a c.args.t) c.self.view_is in
     elim c.match-self.branch [
       | in-Some w ↦ rw w.self-inside-is
           ((filled_freed_view number c.self.invariant inside.counter capacity _ maximum _ inside.placed.count _ inside.touched.count w.position_of.result w.in-Some.i w.fill-self-inside.result c.args.t (g.S.SlotStack.items w.fill-self-inside.new.slots)
-          w.in-Some.is w.position_of.ensures w.fill-self-inside.ensures.was w.fill-self-inside.ensures.items w.fill-self-inside.ensures.capacity w.fill-self-inside.ensures.maximum (rw w.self-inside-is at c.one_more-self-inside.ensures)).1 ∙ seen)
+          w.in-Some.is w.position_of.ensures w.fill-self-inside.ensures.was w.fill-self-inside.ensures.items w.fill-self-inside.ensures.capacity w.fill-self-inside.ensures.maximum (rw w.self-inside-is at c.one_more-self-inside.ensures)).1 ∙ view_after)
       | in-None w ↦ rw w.self-inside-is (rw w.in-None.is ((filled_next_view number c.self.invariant inside.counter capacity _ maximum _ inside.placed.count _ inside.touched.count c.args.t (g.S.SlotStack.items w.push_within.new.self)
-          w.in-None.is less w.push_within.ensures.items w.push_within.ensures.capacity w.push_within.ensures.maximum (rw w.self-inside-is at c.one_more-self-inside.ensures)).1 ∙ seen))
+          w.in-None.is less w.push_within.ensures.items w.push_within.ensures.capacity w.push_within.ensures.maximum (rw w.self-inside-is at c.one_more-self-inside.ensures)).1 ∙ view_after))
     ]

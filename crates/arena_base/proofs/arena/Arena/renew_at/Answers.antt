@@ -3,7 +3,7 @@ use Rattle.std.specs.Prelude.{slice_get}
 use Rattle.arena_base.specs.Slots.{allocated_slot, entry_in}
 use Rattle.arena_base.proofs.SlotLemmas.{entry_at-position, allocated-at, the_value, with_generation_at-set}
 use Rattle.arena_base.proofs.SoundnessLemmas.{rewritten, closed, walked_all}
-use Rattle.arena_base.proofs.ArenaModelLemmas.{seen_renewed_slot}
+use Rattle.arena_base.proofs.ArenaModelLemmas.{viewed_renewed_slot}
 use Rattle.arena_base.proofs.arena.Arena.renew_at.Goals as goal
 
 pub invariant_of-self : goal.invariant_of-self
@@ -28,5 +28,5 @@ returns-clause-after g c =
     let after = with_generation_at-set items k (allocated_slot entry.0.0 entry.0.1) c.generational_inc-generation.result.0 is in
     let sound = rewritten number c.self.invariant k entry.0.0 c.generational_inc-generation.result.0 entry.0.1 entry.0.1 is in
     rw (← c.self.view_is, c.regenerate_at.ensures.items, c.regenerate_at.ensures.capacity, c.regenerate_at.ensures.maximum, ← after, walked_all number sound, c.generational_inc-generation.ensures.next)
-    (seen_renewed_slot items _ c.self.inside.counter g.P.Inx.InxKey.greatest (g.S.SlotStack.capacity c.self.inside.slots) (g.S.SlotStack.maximum c.self.inside.slots) c.self.inside.placed.count c.self.inside.touched.count
+    (viewed_renewed_slot items _ c.self.inside.counter g.P.Inx.InxKey.greatest (g.S.SlotStack.capacity c.self.inside.slots) (g.S.SlotStack.maximum c.self.inside.slots) c.self.inside.placed.count c.self.inside.touched.count
     g.P.Gen.GenKey.following k (number c.args.i) entry.0.0 entry.0.1 c.position_of.ensures is)

@@ -27,15 +27,15 @@ returns-in-Some g c =
     let items = g.S.SlotStack.items inside.slots in
     let k = c.position_of.result in
     let n = number c.args.i in
-    let stood : entry_at c.args.self.now n ≡ Some c.in-Some.entry = ap (λ a. entry_at a n) (sym c.self.view_is) ∙ (entry_at-position items k n c.position_of.ensures ∙ sym c.in-Some.ensures.entry) in
+    let was_stored : entry_at c.args.self.now n ≡ Some c.in-Some.entry = ap (λ a. entry_at a n) (sym c.self.view_is) ∙ (entry_at-position items k n c.position_of.ensures ∙ sym c.in-Some.ensures.entry) in
     let overflow : c.generational_inc-generation.result.1 ≡ g.P.Gen.GenKey.wraps c.args.self.now.counter = c.generational_inc-generation.ensures.overflow ∙ ap (λ a. g.P.Gen.GenKey.wraps a.counter) c.self.view_is in
     record {
-      answer = c.outcome.ensures ∙ (λ j. invalidation_result (overflow j) (sym stood j));
+      returned = c.outcome.ensures ∙ (λ j. invalidation_result (overflow j) (sym was_stored j));
       some = λ _. vacated_view number c.self.invariant inside.counter c.generational_inc-generation.result.0 (g.S.SlotStack.capacity inside.slots) (g.S.SlotStack.capacity c.vacate_at.new.slots) (g.S.SlotStack.maximum inside.slots) (g.S.SlotStack.maximum c.vacate_at.new.slots) inside.placed.count _ inside.touched.count
           g.P.Gen.GenKey.following k c.args.i _ _ (g.S.SlotStack.items c.vacate_at.new.slots) c.position_of.ensures (allocated-at (slice_get items k) c.in-Some.entry c.in-Some.ensures.entry)
           c.in-Some.ensures.some c.vacate_at.ensures.capacity c.vacate_at.ensures.maximum c.generational_inc-generation.ensures.next c.one_more-self-inside.ensures
           ∙ ap (λ a. remove_at g.P.Gen.GenKey.following a n) c.self.view_is;
-      none = λ none. let both = sym stood ∙ none in cc;
+      none = λ none. let both = sym was_stored ∙ none in cc;
     }
 
 pub returns-in-None : goal.returns-in-None
@@ -43,7 +43,7 @@ returns-in-None g c =
     let n = g.P.Inx.InxKey.number c.args.i in
     let missing : entry_at c.args.self.now n ≡ None = ap (λ a. entry_at a n) (sym c.self.view_is) ∙ (entry_at-position (g.S.SlotStack.items c.self.inside.slots) c.position_of.result n c.position_of.ensures ∙ sym c.in-None.ensures.entry) in
     record {
-      answer = rw missing;
+      returned = rw missing;
       some = λ some. let both : true ≡ false = sym some ∙ ap is_some missing in cc;
       none = λ _. rw (c.in-None.ensures.none, c.vacate_at.ensures.capacity, c.vacate_at.ensures.maximum) c.self.view_is;
     }

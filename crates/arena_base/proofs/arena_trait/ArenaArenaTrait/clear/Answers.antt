@@ -3,7 +3,7 @@ use Rattle.std.proofs.Common.{ap, ◌∙◌}
 use Rattle.arena_base.specs.Arena.{cleared}
 use Rattle.arena_base.specs.Slots.{freed_of}
 use Rattle.arena_base.specs.Entries.{view_of}
-use Rattle.arena_base.proofs.ArenaViewLemmas.{length-entries, seen_cleared}
+use Rattle.arena_base.proofs.ArenaViewLemmas.{length-entries, viewed_cleared}
 use Rattle.arena_base.proofs.SoundnessLemmas.{none_sound}
 use Rattle.arena_base.proofs.ArenaModelLemmas.{cleared_view}
 use Rattle.arena_base.proofs.arena_trait.ArenaArenaTrait.clear.Goals as goal
@@ -20,6 +20,6 @@ returns g c =
     inside.len following c.truncate.ensures.items c.truncate.ensures.capacity c.truncate.ensures.maximum c.self.invariant.counted made.next ∙ ap (cleared following) c.self.view_is in
     record {
       overflow = rw (length-entries c.args.self.now, ← c.self.view_is, ← c.self.invariant.counted, ← made.overflow) c.invalidated.ensures;
-      after = ap view_of after ∙ seen_cleared following c.args.self.now;
+      after = ap view_of after ∙ viewed_cleared following c.args.self.now;
       more = after;
     }

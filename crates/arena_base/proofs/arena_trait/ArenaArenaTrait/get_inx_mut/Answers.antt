@@ -6,7 +6,7 @@ use Rattle.arena_base.specs.Slots.{entry_in, with_value_in}
 use Rattle.arena_base.specs.Entries.{view_of}
 use Rattle.arena_base.proofs.SlotLemmas.{entry_at-position, slice_set-itself}
 use Rattle.arena_base.proofs.SoundnessLemmas.{lent, closed}
-use Rattle.arena_base.proofs.ArenaViewLemmas.{seen_written}
+use Rattle.arena_base.proofs.ArenaViewLemmas.{viewed_written}
 use Rattle.arena_base.proofs.ArenaModelLemmas.{lent_view, kept_view}
 use Rattle.arena_ptr.proofs.OptionLemmas.{on_some}
 use Rattle.arena_base.proofs.arena_trait.ArenaArenaTrait.get_inx_mut.Goals as goal
@@ -40,7 +40,7 @@ returns-in-Some g c =
             (g.S.SlotStack.items (g.S.SlotStack.with_item slots k (with_value_in slot w))) (g.S.SlotStack.capacity (g.S.SlotStack.with_item slots k (with_value_in slot w))) (g.S.SlotStack.maximum (g.S.SlotStack.with_item slots k (with_value_in slot w)))
             at is (g.met.S.SlotStack.items_written slots k (with_value_in slot w)) (g.met.S.SlotStack.capacity_written slots k (with_value_in slot w)) (g.met.S.SlotStack.maximum_written slots k (with_value_in slot w))
             ∙ ap (λ a. with_value a n w) c.self.view_is in
-            on_some c.value_mut.result (ap view_of written ∙ seen_written c.args.self.now n w, written)),
+            on_some c.value_mut.result (ap view_of written ∙ viewed_written c.args.self.now n w, written)),
         kept_view number items (g.S.SlotStack.items (g.S.SlotStack.with_item slots k slot)) c.self.inside.first_free c.self.inside.counter g.P.Inx.InxKey.greatest (g.S.SlotStack.capacity slots) (g.S.SlotStack.capacity (g.S.SlotStack.with_item slots k slot)) (g.S.SlotStack.maximum slots) (g.S.SlotStack.maximum (g.S.SlotStack.with_item slots k slot))
             c.self.inside.placed.count c.self.inside.touched.count k slot is (g.met.S.SlotStack.items_written slots k slot) (g.met.S.SlotStack.capacity_written slots k slot) (g.met.S.SlotStack.maximum_written slots k slot)
             ∙ c.self.view_is,

@@ -7,12 +7,12 @@ use Rattle.arena_base.proofs.arena_trait.ArenaArenaTrait.reallocate_min_capacity
 pub returns : goal.returns
 returns g c =
     let made = c.grow_to.ensures in
-    let room = ap (λ a. a.capacity) c.self.view_is in
+    let within_capacity = ap (λ a. a.capacity) c.self.view_is in
     record {
-      within = λ few. absurd (omega (arith, few, room, c.capacity.ensures, c.greatest.ensures.value, c.min.ensures));
+      within = λ few. absurd (omega (arith, few, within_capacity, c.capacity.ensures, c.greatest.ensures.value, c.min.ensures));
       beyond = made.beyond;
       greatest = made.greatest;
-      ok = on_ok c.grow_to.result (λ has. has.room.0) made.ok;
+      ok = on_ok c.grow_to.result (λ has. has.within_capacity.0) made.ok;
       err = made.err;
       after = ap view_of made.after;
       never_less = made.never_less;

@@ -25,7 +25,7 @@ use denote.Triple.Entry.{alive}
 use denote.Triple.Spec.{Meets, triple_of}
 use denote.Triple.Table.{entered}
 use denote.Triple.Walked.{says, Stays, stay_dropped, walk_of, ends_at, walk_Meets, Goes-dropped}
-use Rattle.arena_base.proofs.TallyWalks.{none, none_made}
+use Rattle.arena_base.proofs.TallyLemmas.{none, none_made}
 use Rattle.arena_base.specs.contracts.tally.Tally as Tally
 use Rattle.arena_base.specs.contracts.tally.Tally.one_more as F
 use Rattle.arena_base.specs.contracts.tally.Tally.one_more.Key.{name as #self}

@@ -23,7 +23,7 @@ use denote.Triple.Entry.{alive}
 use denote.Triple.Spec.{Meets, triple_of}
 use denote.Triple.Table.{entered}
 use denote.Triple.Walked.{says, Stays, walk_of, ends_at, walk_Meets}
-use Rattle.arena_base.proofs.TallyWalks.{none, none_made}
+use Rattle.arena_base.proofs.TallyLemmas.{none, none_made}
 use Rattle.arena_base.specs.contracts.tally.Tally as Tally
 use Rattle.arena_base.specs.contracts.tally.Tally.zero as F
 use Rattle.arena_base.specs.contracts.tally.Tally.zero.Key.{name as #self}

@@ -23,14 +23,14 @@ invariant_of-self g c =
     let i = c.args.i in
     let j = c.args.j in
     let block = c.index_mut.result.now in
-    let lies = within s i c.requires.i_in_bounds in
+    let located = within s i c.requires.i_in_bounds in
     let is = c.index_mut.ensures.value in
-    let i_in = inside_block s i block lies is c.requires.i_in_bounds in
+    let i_in = inside_block s i block located is c.requires.i_in_bounds in
     let j_in = inside_block s j block (within s j c.requires.j_in_bounds) (is ∙ ap (λ k. slice_index_or s.blocks.items k block) c.if-i-j.true) c.requires.j_in_bounds in
     record {
-      filled = (exchanged_in s.blocks.items s.len i j s.filled c.requires.i_in_bounds c.requires.j_in_bounds block c.swap.new.self c.if-i-j.true (found s i block lies is)
-          (omega (arith, lies, s.blocks.ok.0)) (omega (arith, i_in, block.ok.0)) (omega (arith, j_in, block.ok.0)) c.swap.ensures.items c.swap.ensures.capacity).1;
-      fits = still_fits s i block lies is c.swap.new.self;
+      filled = (exchanged_in s.blocks.items s.len i j s.filled c.requires.i_in_bounds c.requires.j_in_bounds block c.swap.new.self c.if-i-j.true (found s i block located is)
+          (omega (arith, located, s.blocks.ok.0)) (omega (arith, i_in, block.ok.0)) (omega (arith, j_in, block.ok.0)) c.swap.ensures.items c.swap.ensures.capacity).1;
+      fits = still_fits s i block located is c.swap.new.self;
     }
 
 pub returns-then-i-j-clause-items : goal.returns-then-i-j-clause-items
@@ -39,9 +39,9 @@ returns-then-i-j-clause-items g c =
     let i = c.args.i in
     let j = c.args.j in
     let block = c.index_mut.result.now in
-    let lies = within s i c.requires.i_in_bounds in
+    let located = within s i c.requires.i_in_bounds in
     let is = c.index_mut.ensures.value in
-    let i_in = inside_block s i block lies is c.requires.i_in_bounds in
+    let i_in = inside_block s i block located is c.requires.i_in_bounds in
     let j_in = inside_block s j block (within s j c.requires.j_in_bounds) (is ∙ ap (λ k. slice_index_or s.blocks.items k block) c.if-i-j.true) c.requires.j_in_bounds in
-    (exchanged_in s.blocks.items s.len i j s.filled c.requires.i_in_bounds c.requires.j_in_bounds block c.swap.new.self c.if-i-j.true (found s i block lies is)
-    (omega (arith, lies, s.blocks.ok.0)) (omega (arith, i_in, block.ok.0)) (omega (arith, j_in, block.ok.0)) c.swap.ensures.items c.swap.ensures.capacity).0
+    (exchanged_in s.blocks.items s.len i j s.filled c.requires.i_in_bounds c.requires.j_in_bounds block c.swap.new.self c.if-i-j.true (found s i block located is)
+    (omega (arith, located, s.blocks.ok.0)) (omega (arith, i_in, block.ok.0)) (omega (arith, j_in, block.ok.0)) c.swap.ensures.items c.swap.ensures.capacity).0

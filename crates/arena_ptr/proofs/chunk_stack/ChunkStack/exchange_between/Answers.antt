@@ -30,11 +30,11 @@ invariant_of-self g c =
     let s = c.args.self.now in
     let left_is = subst (λ b. b ≡ slice_index_or s.blocks.items (c.args.i / 64) b) (sym c.replace-one.ensures.value) c.index_mut.ensures.value in
     let put = put_across s c.args.i c.args.j c.requires.i_in_bounds c.requires.j_in_bounds c.requires.apart c.replace-one.result c.index_mut-2.result.now c.replace-one.new.dest left_is c.index_mut-2.ensures.value
-    c.exchange_items.new.one c.exchange_items.new.other c.exchange_items.ensures.one c.exchange_items.ensures.one_room c.exchange_items.ensures.other c.exchange_items.ensures.other_room in
+    c.exchange_items.new.one c.exchange_items.new.other c.exchange_items.ensures.one c.exchange_items.ensures.one_capacity c.exchange_items.ensures.other c.exchange_items.ensures.other_capacity in
     record {
       filled = put.1;
       fits = put_fits s c.args.i c.args.j c.requires.i_in_bounds c.requires.j_in_bounds c.requires.apart c.replace-one.result c.index_mut-2.result.now c.replace-one.new.dest left_is c.index_mut-2.ensures.value
-          c.exchange_items.new.one c.exchange_items.new.other c.exchange_items.ensures.one c.exchange_items.ensures.one_room c.exchange_items.ensures.other c.exchange_items.ensures.other_room;
+          c.exchange_items.new.one c.exchange_items.new.other c.exchange_items.ensures.one c.exchange_items.ensures.one_capacity c.exchange_items.ensures.other c.exchange_items.ensures.other_capacity;
     }
 
 pub returns-clause-items : goal.returns-clause-items
@@ -42,4 +42,4 @@ returns-clause-items g c =
     let s = c.args.self.now in
     let left_is = subst (λ b. b ≡ slice_index_or s.blocks.items (c.args.i / 64) b) (sym c.replace-one.ensures.value) c.index_mut.ensures.value in
     (put_across s c.args.i c.args.j c.requires.i_in_bounds c.requires.j_in_bounds c.requires.apart c.replace-one.result c.index_mut-2.result.now c.replace-one.new.dest left_is c.index_mut-2.ensures.value
-    c.exchange_items.new.one c.exchange_items.new.other c.exchange_items.ensures.one c.exchange_items.ensures.one_room c.exchange_items.ensures.other c.exchange_items.ensures.other_room).0
+    c.exchange_items.new.one c.exchange_items.new.other c.exchange_items.ensures.one c.exchange_items.ensures.one_capacity c.exchange_items.ensures.other c.exchange_items.ensures.other_capacity).0

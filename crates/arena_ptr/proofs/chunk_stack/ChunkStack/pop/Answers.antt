@@ -10,14 +10,14 @@ pub invariant_of-self : goal.invariant_of-self
 invariant_of-self g c =
     let s = c.args.self.now in
     let block = c.index_mut.result.now in
-    let lies = within s (s.len - 1) (omega (arith, c.requires)) in
+    let located = within s (s.len - 1) (omega (arith, c.requires)) in
     record {
-      filled = (popped s (s.len - 1) block lies c.index_mut.ensures.value c.truncate.new.self (omega (arith, c.requires)) c.truncate.ensures.items c.truncate.ensures.capacity).1;
-      fits = still_fits s (s.len - 1) block lies c.index_mut.ensures.value c.truncate.new.self;
+      filled = (popped s (s.len - 1) block located c.index_mut.ensures.value c.truncate.new.self (omega (arith, c.requires)) c.truncate.ensures.items c.truncate.ensures.capacity).1;
+      fits = still_fits s (s.len - 1) block located c.index_mut.ensures.value c.truncate.new.self;
     }
 
 pub returns-clause-items : goal.returns-clause-items
 returns-clause-items g c =
     let s = c.args.self.now in
-    let lies = within s (s.len - 1) (omega (arith, c.requires)) in
-    (popped s (s.len - 1) c.index_mut.result.now lies c.index_mut.ensures.value c.truncate.new.self (omega (arith, c.requires)) c.truncate.ensures.items c.truncate.ensures.capacity).0
+    let located = within s (s.len - 1) (omega (arith, c.requires)) in
+    (popped s (s.len - 1) c.index_mut.result.now located c.index_mut.ensures.value c.truncate.new.self (omega (arith, c.requires)) c.truncate.ensures.items c.truncate.ensures.capacity).0

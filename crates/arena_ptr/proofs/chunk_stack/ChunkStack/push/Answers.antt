@@ -1,20 +1,20 @@
 -- The item is appended to its block.
 use Rattle.std.proofs.Common.{◌<◌, ◌/◌, vec_len, refl, arith}
-use Rattle.arena_ptr.proofs.ChunkStackLemmas.{has_room, still_fits, pushed}
+use Rattle.arena_ptr.proofs.ChunkStackLemmas.{has_capacity, still_fits, pushed}
 use Rattle.arena_ptr.proofs.chunk_stack.ChunkStack.push.Goals as goal
 
 pub push_reserved-requires : goal.push_reserved-requires
 push_reserved-requires g c =
-    has_room c.args.self.now c.args.self.now.len c.index_mut.result.now (omega (arith, c.requires, c.args.self.now.blocks.ok.0)) c.index_mut.ensures.value refl
+    has_capacity c.args.self.now c.args.self.now.len c.index_mut.result.now (omega (arith, c.requires, c.args.self.now.blocks.ok.0)) c.index_mut.ensures.value refl
 
 pub invariant_of-self : goal.invariant_of-self
 invariant_of-self g c =
     let s = c.args.self.now in
     let block = c.index_mut.result.now in
-    let lies : s.len / 64 < vec_len s.blocks = omega (arith, c.requires, s.blocks.ok.0) in
+    let located : s.len / 64 < vec_len s.blocks = omega (arith, c.requires, s.blocks.ok.0) in
     record {
-      filled = (pushed s s.len block lies c.index_mut.ensures.value c.push_reserved.new.self c.args.item refl c.push_reserved.ensures.items c.push_reserved.ensures.capacity).1;
-      fits = still_fits s s.len block lies c.index_mut.ensures.value c.push_reserved.new.self;
+      filled = (pushed s s.len block located c.index_mut.ensures.value c.push_reserved.new.self c.args.item refl c.push_reserved.ensures.items c.push_reserved.ensures.capacity).1;
+      fits = still_fits s s.len block located c.index_mut.ensures.value c.push_reserved.new.self;
     }
 
 pub returns-clause-items : goal.returns-clause-items

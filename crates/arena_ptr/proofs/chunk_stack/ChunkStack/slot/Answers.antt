@@ -15,5 +15,5 @@ index-requires-2 g c = inside_block c.args.self.now c.args.i c.index.result.now 
 pub returns : goal.returns
 returns g c =
     let s = c.args.self.now in
-    let lies = within s c.args.i c.if-self-i.false in
-    item_at s c.args.i c.index.result.now lies c.index.ensures c.index-2.result.now (inside_block s c.args.i c.index.result.now lies c.index.ensures c.if-self-i.false) c.index-2.ensures
+    let located = within s c.args.i c.if-self-i.false in
+    item_at s c.args.i c.index.result.now located c.index.ensures c.index-2.result.now (inside_block s c.args.i c.index.result.now located c.index.ensures c.if-self-i.false) c.index-2.ensures

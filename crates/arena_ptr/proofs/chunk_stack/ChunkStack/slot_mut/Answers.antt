@@ -18,16 +18,16 @@ invariant_of-self-lent g c = λ w.
     let s = c.args.self.now in
     let i = c.args.i in
     let block = c.index_mut.result.now in
-    let lies = within s i c.if-self-i.false in
+    let located = within s i c.if-self-i.false in
     let other = with_item block (i % 64) w in
-    (written_filled s i block lies c.index_mut.ensures.value other w refl refl, (still_fits s i block lies c.index_mut.ensures.value other, tt))
+    (written_filled s i block located c.index_mut.ensures.value other w refl refl, (still_fits s i block located c.index_mut.ensures.value other, tt))
 
 pub returns : goal.returns
 returns g c =
     let s = c.args.self.now in
     let i = c.args.i in
     let block = c.index_mut.result.now in
-    let lies = within s i c.if-self-i.false in (
-      (refl, (λ w. same_written s i block lies c.index_mut.ensures.value w _ _), refl),
-      record { lends = tt; value = item_at s i block lies c.index_mut.ensures.value c.index_mut-2.result.now (inside_block s i block lies c.index_mut.ensures.value c.if-self-i.false) c.index_mut-2.ensures.value },
+    let located = within s i c.if-self-i.false in (
+      (refl, (λ w. same_written s i block located c.index_mut.ensures.value w _ _), refl),
+      record { lends = tt; value = item_at s i block located c.index_mut.ensures.value c.index_mut-2.result.now (inside_block s i block located c.index_mut.ensures.value c.if-self-i.false) c.index_mut-2.ensures.value },
     )

@@ -6,13 +6,13 @@ use Rattle.chain_arena.specs.LinkCopies.{IsClone}
 use Rattle.chain_links.specs.ChainArena.{LinkView}
 use Rattle.chain_links.specs.Links.{link_view, links_view}
 use Rattle.chain_links.proofs.MappedArenaLemmas.{length-with_each}
-use Rattle.chain_arena.proofs.LinkCopyLemmas.{clone_agrees, is_clone_of, no_room_needed}
+use Rattle.chain_arena.proofs.LinkCopyLemmas.{clone_agrees, is_clone_of, no_capacity_needed}
 use Rattle.chain_arena.proofs.chain_arena.ChainArena.clone.Goals as goal
 
-pub returns-in-Err-clause-no_room : goal.returns-in-Err-clause-no_room
-returns-in-Err-clause-no_room g c none =
+pub returns-in-Err-clause-no_capacity : goal.returns-in-Err-clause-no_capacity
+returns-in-Err-clause-no_capacity g c none =
     let made = c.clone_from_by-done in
-    absurd (no_room_needed g.P.Inx.InxKey.packed_number _ g.P.PtrKey.key c.self.inside.arena made.result.0 c.in-Err.why c.new-arena.result.capacity c.in-Err.is (ap (λ a. a.slots) c.self.view_is ∙ none) made.ensures.within)
+    absurd (no_capacity_needed g.P.Inx.InxKey.packed_number _ g.P.PtrKey.key c.self.inside.arena made.result.0 c.in-Err.why c.new-arena.result.capacity c.in-Err.is (ap (λ a. a.slots) c.self.view_is ∙ none) made.ensures.within)
 
 pub invariant_of-result : goal.invariant_of-result
 invariant_of-result g c =

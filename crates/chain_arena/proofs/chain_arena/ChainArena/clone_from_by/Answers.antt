@@ -7,7 +7,7 @@ use Rattle.chain_links.specs.ChainArena.{link_map}
 use Rattle.chain_links.specs.Links.{link_view, links_view}
 use Rattle.chain_links.proofs.MappedArenaLemmas.{length-with_each}
 use Rattle.chain_arena.specs.LinkCopies.{MakesOf}
-use Rattle.chain_arena.proofs.LinkCopyLemmas.{agrees_copied, either_way, given_up_agrees, link_copied, refusable_seen}
+use Rattle.chain_arena.proofs.LinkCopyLemmas.{agrees_copied, either_way, given_up_agrees, link_copied, refusable_viewed}
 use Rattle.chain_arena.proofs.chain_arena.ChainArena.clone_from_by.Goals as goal
 
 pub invariant_of-self : goal.invariant_of-self
@@ -26,7 +26,7 @@ returns-clause-within g c =
     let number = g.P.Inx.InxKey.packed_number in
     let source = c.source.inside.arena in
     rw (← c.source.view_is, ← c.self.view_is)
-    (λ few. either_as (refusable_seen number g.M.ValueMap.may_refuse g.P.PtrKey.key source)
+    (λ few. either_as (refusable_viewed number g.M.ValueMap.may_refuse g.P.PtrKey.key source)
     (c.clone_from_by-done.ensures.within (subst (λ n. n ≤ c.self.inside.arena.capacity) (length-with_each (link_view number) source) few)))
 
 pub returns-clause-copied : goal.returns-clause-copied
@@ -43,7 +43,7 @@ returns-clause-err g c =
     let called = c.clone_from_by-done in
     rw (← c.source.view_is, ← c.self.view_is)
     (on_err_either called.result.0 (λ same. (ap (links_view number) same.0, ap (λ m. m.values) same.1))
-    (λ gave_up. (refusable_seen number g.M.ValueMap.may_refuse g.P.PtrKey.key c.source.inside.arena gave_up.0, ap (links_view number) gave_up.1)) called.ensures.err)
+    (λ gave_up. (refusable_viewed number g.M.ValueMap.may_refuse g.P.PtrKey.key c.source.inside.arena gave_up.0, ap (links_view number) gave_up.1)) called.ensures.err)
 
 pub returns-clause-reached : goal.returns-clause-reached
 returns-clause-reached g c =

@@ -1,6 +1,6 @@
 -- The closure has seen what the visitor that calls it has seen.
-use Rattle.chain_compaction.proofs.VisitorLemmas.{shown_to}
+use Rattle.chain_compaction.proofs.VisitorLemmas.{reported_to}
 use Rattle.chain_arena.proofs.chain_arena.ChainArena.compress_canonical_with.Goals as goal
 
-pub returns-clause-shows : goal.returns-clause-shows
-returns-clause-shows g c = shown_to g.P.PtrKey.key _ _ _ _ _ g.F.FnMut (λ v. v.map) c.compress_canonical_by-overflow.ensures.shows
+pub returns-clause-reports : goal.returns-clause-reports
+returns-clause-reports g c = reported_to g.P.PtrKey.key _ _ _ _ _ g.F.FnMut (λ v. v.map) c.compress_canonical_by-overflow.ensures.reports

@@ -1,8 +1,8 @@
 -- A link is inserted at the position that was returned.
 use Rattle.chain_arena.proofs.chain_arena.ChainArena.insert_at.Goals as goal
 
-pub insert_in_gap-requires-clause-gap : goal.insert_in_gap-requires-clause-gap
-insert_in_gap-requires-clause-gap g c = c.requires.gap c.in-Ok.gap c.in-Ok.is
+pub insert_at_position-requires-clause-position : goal.insert_at_position-requires-clause-position
+insert_at_position-requires-clause-position g c = c.requires.position c.in-Ok.position c.in-Ok.is
 
-pub insert_in_gap-requires-clause-room : goal.insert_in_gap-requires-clause-room
-insert_in_gap-requires-clause-room g c = c.requires.room c.in-Ok.gap c.in-Ok.is
+pub insert_at_position-requires-clause-within_capacity : goal.insert_at_position-requires-clause-within_capacity
+insert_at_position-requires-clause-within_capacity g c = c.requires.within_capacity c.in-Ok.position c.in-Ok.is

@@ -6,7 +6,7 @@ use Rattle.chain_links.specs.Links.{links_view}
 use Rattle.chain_links.specs.ChainArena.{IsWalkOf, link_map}
 use Rattle.chain_links.proofs.ArenaInsertionLemmas.{entry_count-links_view}
 use Rattle.chain_arena.proofs.ChainIterLemmas.{walker-walk, length-walk}
-use Rattle.chain_linking.proofs.ConnectionLemmas.{prev_of-seen, same_valid, valid_at}
+use Rattle.chain_linking.proofs.ConnectionLemmas.{prev_of-view_after, same_valid, valid_at}
 use Rattle.chain_linking.proofs.NeighborLemmas.{prev_named}
 use Rattle.chain_arena.proofs.chain_arena.ChainArena.iter_chain.Goals as goal
 
@@ -20,7 +20,7 @@ new-requires g c =
     record {
       agrees = c.self.invariant;
       onward = subst (HasLink s) (sym c.inx.ensures) (valid_at number a p c.in-Some.link.now at);
-      behind = subst (λ (o : Option ℕ). IfSome o (HasLink s)) (prev_of-seen number a p c.in-Some.link.now at ∙ sym c.prev.ensures) (prev_named s p.0 c.self.invariant);
+      behind = subst (λ (o : Option ℕ). IfSome o (HasLink s)) (prev_of-view_after number a p c.in-Some.link.now at ∙ sym c.prev.ensures) (prev_named s p.0 c.self.invariant);
     }
 
 pub returns-in-Some : goal.returns-in-Some
@@ -31,7 +31,7 @@ returns-in-Some g c =
     let p = g.P.PtrKey.key c.args.p in
     let at = c.in-Some.ensures.value in
     let walk : IsWalkOf links p.0 c.new.result =
-    walker-walk links p.0 _ _ _ _ c.new.ensures (c.len.ensures.entries ∙ sym (entry_count-links_view number a)) c.inx.ensures (c.prev.ensures ∙ sym (prev_of-seen number a p c.in-Some.link.now at)) c.self.invariant (valid_at number a p c.in-Some.link.now at) in
+    walker-walk links p.0 _ _ _ _ c.new.ensures (c.len.ensures.entries ∙ sym (entry_count-links_view number a)) c.inx.ensures (c.prev.ensures ∙ sym (prev_of-view_after number a p c.in-Some.link.now at)) c.self.invariant (valid_at number a p c.in-Some.link.now at) in
     rw (← c.self.view_is) (record {
       some = (λ _. (same_valid number a p).0 (c.in-Some.ensures.some.0 refl), λ _. refl);
       walk = walk;

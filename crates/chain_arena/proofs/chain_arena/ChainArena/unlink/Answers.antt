@@ -19,7 +19,7 @@ returns g c =
     let a = c.self.inside.arena in
     let made = c.take_out.ensures in
     rw (← c.self.view_is) (record {
-      answer = made.answer;
+      returned = made.returned;
       overflow = made.overflow;
       removal = λ some. removal_of g.P.Gen.GenKey.following (links_view packed a) (links_view packed c.take_out.new.arena) (g.P.Inx.InxKey.number c.args.i) c.self.invariant (made.valid some);
       invalid = λ none. ap (links_view packed) (made.invalid none);

@@ -8,7 +8,7 @@ use Rattle.chain_laws.proofs.InterlinkLemmas.Inverses.{one_some}
 use Rattle.chain_links.specs.ChainArena.{LinkView}
 use Rattle.chain_links.specs.Links.{link_view, links_view}
 use Rattle.chain_links.specs.Walkers.{index_and_entry, links_ahead}
-use Rattle.chain_arena.proofs.WalkerLemmas.{behind_stands, looked_some, onward_stands, passes_last, passes_on}
+use Rattle.chain_arena.proofs.WalkerLemmas.{behind_stored, read_some, onward_stored, passes_last, passes_on}
 use Rattle.chain_arena.proofs.chain_iterators.ChainIterIterator.next.Goals.{then-is_index, else-is_index}
 use Rattle.chain_arena.proofs.chain_iterators.ChainIterIterator.next.Goals as goal
 
@@ -17,32 +17,32 @@ invariant_of-self g c =
     let number = g.P.Inx.InxKey.number in
     let packed = g.P.Inx.InxKey.packed_number in
     let i = number c.in-Some.i in
-    let link = c.in-Some-look.item.1.now in
+    let link = c.in-Some-lookup.item.1.now in
     let named : option_map number c.next-self-inside.result ≡ packed link.next = search of_calls in
-    rw named (onward_stands (links_view packed c.self.inside.arena.now) i (option_map number c.self.inside.back) ((g.P.PtrKey.key c.in-Some-look.item.0).1, link_view packed link)
-    (looked_some i _ _ _ c.in-Some-look.ensures.link) c.self.invariant.agrees c.self.invariant.behind)
+    rw named (onward_stored (links_view packed c.self.inside.arena.now) i (option_map number c.self.inside.back) ((g.P.PtrKey.key c.in-Some-lookup.item.0).1, link_view packed link)
+    (read_some i _ _ _ c.in-Some-lookup.ensures.link) c.self.invariant.agrees c.self.invariant.behind)
 
 pub invariant_of-self-else-is_index : goal.invariant_of-self-else-is_index
 invariant_of-self-else-is_index g c =
     let number = g.P.Inx.InxKey.number in
     let packed = g.P.Inx.InxKey.packed_number in
     let i = number c.in-Some.i in
-    let link = c.in-Some-look.item.1.now in
+    let link = c.in-Some-lookup.item.1.now in
     let named : option_map number c.next-self-inside.result ≡ packed link.next = search of_calls in
-    rw named (onward_stands (links_view packed c.self.inside.arena.now) i (option_map number c.self.inside.back) ((g.P.PtrKey.key c.in-Some-look.item.0).1, link_view packed link)
-    (looked_some i _ _ _ c.in-Some-look.ensures.link) c.self.invariant.agrees c.self.invariant.behind)
+    rw named (onward_stored (links_view packed c.self.inside.arena.now) i (option_map number c.self.inside.back) ((g.P.PtrKey.key c.in-Some-lookup.item.0).1, link_view packed link)
+    (read_some i _ _ _ c.in-Some-lookup.ensures.link) c.self.invariant.agrees c.self.invariant.behind)
 
-pub invariant_of-self-in-Some-look-2 : goal.invariant_of-self-in-Some-look-2
-invariant_of-self-in-Some-look-2 g c =
+pub invariant_of-self-in-Some-lookup-2 : goal.invariant_of-self-in-Some-lookup-2
+invariant_of-self-in-Some-lookup-2 g c =
     let number = g.P.Inx.InxKey.number in
     let packed = g.P.Inx.InxKey.packed_number in
     let a = links_view packed c.self.inside.arena.now in
     let i = number c.in-Some-back.i in
-    let link = c.in-Some-look-2.item.1.now in
+    let link = c.in-Some-lookup-2.item.1.now in
     let named : option_map number c.prev-self-inside.result ≡ packed link.prev = search of_calls in
     rw (c.in-None.is, named)
-    (behind_stands a i ((g.P.PtrKey.key c.in-Some-look-2.item.0).1, link_view packed link)
-    (looked_some i _ _ _ c.in-Some-look-2.ensures.link) c.self.invariant.agrees)
+    (behind_stored a i ((g.P.PtrKey.key c.in-Some-lookup-2.item.0).1, link_view packed link)
+    (read_some i _ _ _ c.in-Some-lookup-2.ensures.link) c.self.invariant.agrees)
 
 pub returns-after-is_index-clause-steps : goal.returns-after-is_index-clause-steps
 returns-after-is_index-clause-steps g c =
@@ -53,16 +53,16 @@ returns-after-is_index-clause-steps g c =
     let back = option_map number c.self.inside.back in
     let left = c.self.inside.left in
     let i = number c.in-Some.i in
-    let link = c.in-Some-look.item.1.now in
+    let link = c.in-Some-lookup.item.1.now in
     let next = option_map number c.next-self-inside.result in
-    let e : g.row.P-Gen.Denot × LinkView g.row.T.Denot = ((g.P.PtrKey.key c.in-Some-look.item.0).1, link_view packed link) in
+    let e : g.row.P-Gen.Denot × LinkView g.row.T.Denot = ((g.P.PtrKey.key c.in-Some-lookup.item.0).1, link_view packed link) in
     let named : next ≡ packed link.next = search of_calls in
-    let stands : entry_at a i ≡ Some e = looked_some i _ _ _ c.in-Some-look.ensures.link in
-    let item : (let x : ℕ × (g.row.P-Gen.Denot × LinkView g.row.T.Denot) = ((g.P.PtrKey.key c.in-Some-look.item.0).0, e) in x) ≡ (i, e) =
-    one_some (c.in-Some-look.ensures.link ∙ ap (option_map (index_and_entry i)) stands) in
+    let stored : entry_at a i ≡ Some e = read_some i _ _ _ c.in-Some-lookup.ensures.link in
+    let item : (let x : ℕ × (g.row.P-Gen.Denot × LinkView g.row.T.Denot) = ((g.P.PtrKey.key c.in-Some-lookup.item.0).0, e) in x) ≡ (i, e) =
+    one_some (c.in-Some-lookup.ensures.link ∙ ap (option_map (index_and_entry i)) stored) in
     sym c.self.view_is ∙ rw c.in-Some.is (elim c.if-is_index.branch [
       | then-is_index w ↦
-          rw w.self-is (passes_last a start i back e stands left next c.if-self-eq0.false named (c.is_index.ensures.0 w.if-is_index.true) ∙ ap (λ x. x ∷ links_ahead a 0 start next back) (sym item))
+          rw w.self-is (passes_last a start i back e stored left next c.if-self-eq0.false named (c.is_index.ensures.0 w.if-is_index.true) ∙ ap (λ x. x ∷ links_ahead a 0 start next back) (sym item))
       | else-is_index w ↦
-          rw w.self-is (passes_on a start i back e stands left next c.if-self-eq0.false named (λ same. false≢true (sym w.if-is_index.false ∙ c.is_index.ensures.1 same)) ∙ ap (λ x. x ∷ links_ahead a (left - 1) start next back) (sym item))
+          rw w.self-is (passes_on a start i back e stored left next c.if-self-eq0.false named (λ same. false≢true (sym w.if-is_index.false ∙ c.is_index.ensures.1 same)) ∙ ap (λ x. x ∷ links_ahead a (left - 1) start next back) (sym item))
     ])

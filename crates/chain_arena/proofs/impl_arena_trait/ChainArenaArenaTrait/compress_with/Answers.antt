@@ -5,15 +5,15 @@ use Rattle.arena_base.specs.Entries.{entries}
 use Rattle.arena_base.specs.Compressions.{overflows_after_compression}
 use Rattle.arena_base.proofs.ArenaViewLemmas.{length-entries}
 use Rattle.chain_links.specs.Links.{links_view}
-use Rattle.chain_arena.proofs.ArenaCompressionLemmas.{links_compressed, links_visited, gaps_closed, links_agree}
+use Rattle.chain_arena.proofs.ArenaCompressionLemmas.{links_compressed, links_visited, positions_closed, links_agree}
 use Rattle.chain_links.proofs.ArenaInsertionLemmas.{count-values}
 use Rattle.chain_arena.proofs.impl_arena_trait.ChainArenaArenaTrait.compress_with.Goals as goal
 
 pub invariant_of-self : goal.invariant_of-self
 invariant_of-self g c =
-    let seen = links_view g.P.Inx.InxKey.packed_number in
-    links_agree g.F.FnMut g.P.PtrKey.key c.args.map _ (seen c.self.inside.arena) (seen c.begin_generation-overflow.new.arena) (seen c.gather.new.arena)
-    (ap seen c.begin_generation-overflow.ensures.after) c.gather.ensures c.self.invariant
+    let view_after = links_view g.P.Inx.InxKey.packed_number in
+    links_agree g.F.FnMut g.P.PtrKey.key c.args.map _ (view_after c.self.inside.arena) (view_after c.begin_generation-overflow.new.arena) (view_after c.gather.new.arena)
+    (ap view_after c.begin_generation-overflow.ensures.after) c.gather.ensures c.self.invariant
 
 pub returns : goal.returns
 returns g c =
@@ -28,5 +28,5 @@ returns g c =
       compressed = links_compressed g.F.FnMut g.P.PtrKey.key c.args.map _ old mid new begun c.gather.ensures g.P.Gen.GenKey.first g.P.Gen.GenKey.following c.args.reset (length (entries a)) refl counted;
       visits = links_visited g.F.FnMut g.P.PtrKey.key c.args.map _ old mid new begun c.gather.ensures;
       overflow = c.begin_generation-overflow.ensures.overflow ∙ ap (λ n. invalidation_option (overflows_after_compression g.P.Gen.GenKey.wraps c.args.reset n a.counter) tt) counted;
-      more = gaps_closed g.F.FnMut g.P.PtrKey.key c.args.map _ old mid new begun c.gather.ensures;
+      more = positions_closed g.F.FnMut g.P.PtrKey.key c.args.map _ old mid new begun c.gather.ensures;
     })

@@ -3,7 +3,7 @@ use Rattle.std.proofs.Common.{refl, ap, sym, ◌∙◌}
 use Rattle.std.specs.Option.{option_map}
 use Rattle.chain_links.specs.Links.{held_in, links_view}
 use Rattle.chain_arena.proofs.ValueLoanLemmas.{value_there}
-use Rattle.chain_arena.proofs.EntryWriteLemmas.{written-state, written-link_map, written-agrees, written-seen}
+use Rattle.chain_arena.proofs.EntryWriteLemmas.{written-state, written-link_map, written-agrees, written-view_after}
 use Rattle.chain_arena.proofs.impl_arena_trait.ChainArenaArenaTrait.get_inx_mut.Goals as goal
 
 pub invariant_of-self-lent : goal.invariant_of-self-lent
@@ -21,7 +21,7 @@ returns-in-Some g c =
         (λ w.
             let held = rw c.in-Some.is at (c.get_inx_mut.follows.holds (record l { t = w })) in
             rw (← c.self.view_is) (
-              written-seen g.P.Inx.InxKey.packed_number a _ n l w (sym c.in-Some.ensures.value) held.1,
+              written-view_after g.P.Inx.InxKey.packed_number a _ n l w (sym c.in-Some.ensures.value) held.1,
               (written-state g.P.Inx.InxKey.packed_number a _ n l w (sym c.in-Some.ensures.value) held.1, written-link_map g.P.Inx.InxKey.packed_number a _ n l w (sym c.in-Some.ensures.value) held.1),
             )),
         refl,

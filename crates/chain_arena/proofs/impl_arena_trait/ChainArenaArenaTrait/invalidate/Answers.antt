@@ -6,7 +6,7 @@ use Rattle.chain_links.specs.Links.{links_view}
 use Rattle.arena_ptr.specs.Invalidation.{value_within}
 use Rattle.chain_linking.proofs.ConnectionLemmas.{same_valid}
 use Rattle.chain_arena.proofs.ValueLoanLemmas.{valid_or_not}
-use Rattle.chain_arena.proofs.EntryWriteLemmas.{renewed-state, renewed-link_map, renewed-told}
+use Rattle.chain_arena.proofs.EntryWriteLemmas.{renewed-state, renewed-link_map, renewed-known}
 use Rattle.chain_arena.proofs.impl_arena_trait.ChainArenaArenaTrait.invalidate.Goals as goal
 
 pub invariant_of-self : goal.invariant_of-self
@@ -27,9 +27,9 @@ returns g c =
     rw (← c.self.view_is) (record {
       some = (λ is. same.0 (made.some.0 is), λ valid. made.some.1 (same.1 valid));
       valid = λ valid.
-          let stands = same.1 valid in
-          renewed-told number following a _ _ (made.more stands) _ g.P.PtrKey.key (value_within c.invalidate.result) (made.valid stands) made.counter.1;
+          let stored = same.1 valid in
+          renewed-known number following a _ _ (made.more stored) _ g.P.PtrKey.key (value_within c.invalidate.result) (made.valid stored) made.counter.1;
       counter = made.counter;
-      invalid = λ invalid. let told = made.invalid (λ valid. invalid (same.0 valid)) in (told.0, ap (links_view number) told.1);
-      more = λ valid. let stands = same.1 valid in (renewed-state number following a _ _ (made.more stands), renewed-link_map number following a _ _ (made.more stands));
+      invalid = λ invalid. let known = made.invalid (λ valid. invalid (same.0 valid)) in (known.0, ap (links_view number) known.1);
+      more = λ valid. let stored = same.1 valid in (renewed-state number following a _ _ (made.more stored), renewed-link_map number following a _ _ (made.more stored));
     })

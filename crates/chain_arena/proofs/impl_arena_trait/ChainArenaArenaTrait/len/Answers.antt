@@ -15,16 +15,16 @@ returns g c =
     let greatest = g.P.Inx.InxKey.greatest in
     let a = c.self.inside.arena in
     let links = links_view number a in
-    let told = c.len.ensures in
-    let counted = told.entries ∙ sym (count-values number a) in
+    let known = c.len.ensures in
+    let counted = known.entries ∙ sym (count-values number a) in
     rw (← c.self.view_is) (record {
       count = counted;
-      fits = told.fits;
-      one_more = told.one_more;
-      indexes = entries_within (values_of links).slots greatest (subst (λ n. n ≤ greatest) (sym (length-values number a)) (omega (arith, told.room.0.fits, told.room.0.at_most_greatest)));
-      filled = they_fill (values_of links) (listed-values number a told.listed) a.placed a.touched;
-      links = told.entries ∙ sym (entry_count-links_view number a);
+      fits = known.fits;
+      one_more = known.one_more;
+      indexes = entries_within (values_of links).slots greatest (subst (λ n. n ≤ greatest) (sym (length-values number a)) (omega (arith, known.within_capacity.0.fits, known.within_capacity.0.at_most_greatest)));
+      filled = they_fill (values_of links) (listed-values number a known.listed) a.placed a.touched;
+      links = known.entries ∙ sym (entry_count-links_view number a);
       chains = one_set (link_map links) _ c.self.invariant (link_map-within links);
-      listed = listed-links_view number a told.listed;
-      room = subst (λ n. HasCapacityFor greatest n links) (sym (length-links_view number a)) told.room;
+      listed = listed-links_view number a known.listed;
+      within_capacity = subst (λ n. HasCapacityFor greatest n links) (sym (length-links_view number a)) known.within_capacity;
     })

@@ -3,7 +3,7 @@ use Rattle.std.proofs.Common.{ap, ◌∙◌}
 use Rattle.std.specs.Prelude.{is_some}
 use Rattle.arena_ptr.specs.Invalidation.{value_within}
 use Rattle.chain_links.proofs.MappedArenaLemmas.{is_some-map}
-use Rattle.chain_arena.proofs.LinkRemovalLemmas.{removal_at, same_overflow, seen_at, taken_at, value_alone_told}
+use Rattle.chain_arena.proofs.LinkRemovalLemmas.{removal_at, same_overflow, viewed_at, taken_at, value_alone_known}
 use Rattle.chain_arena.proofs.impl_arena_trait.ChainArenaArenaTrait.remove.Goals as goal
 
 pub returns-then-contains : goal.returns-then-contains
@@ -17,14 +17,14 @@ returns-then-contains g c =
     let taken = value_within c.unlink.result in
     let made = c.unlink.ensures in
     let alone = c.value_alone.ensures in
-    let stood = c.contains.ensures.0 c.if-contains.true in
+    let was_stored = c.contains.ensures.0 c.if-contains.true in
     rw (← c.inx.ensures) (record {
-      some = (λ _. stood, λ _. ap is_some alone.value ∙ (is_some-map (λ e. e.1.t) taken ∙ taken_at packed following a b i taken made.answer p c.inx.ensures stood));
+      some = (λ _. was_stored, λ _. ap is_some alone.value ∙ (is_some-map (λ e. e.1.t) taken ∙ taken_at packed following a b i taken made.returned p c.inx.ensures was_stored));
       valid = λ _. (
-        alone.value ∙ value_alone_told packed following a b i taken made.answer,
-        seen_at packed following a b i taken made.answer made.removal p c.inx.ensures stood,
+        alone.value ∙ value_alone_known packed following a b i taken made.returned,
+        viewed_at packed following a b i taken made.returned made.removal p c.inx.ensures was_stored,
       );
       overflow = same_overflow (λ e. e.1.t) (g.P.Gen.GenKey.wraps a.counter) c.unlink.result c.value_alone.result alone.value alone.overflow made.overflow;
-      invalid = λ invalid. absurd (invalid stood);
-      more = λ _. removal_at packed following a b i taken made.answer made.removal p c.inx.ensures stood;
+      invalid = λ invalid. absurd (invalid was_stored);
+      more = λ _. removal_at packed following a b i taken made.returned made.removal p c.inx.ensures was_stored;
     })

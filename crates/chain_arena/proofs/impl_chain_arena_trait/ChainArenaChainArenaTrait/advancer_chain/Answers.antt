@@ -5,7 +5,7 @@ use Rattle.std.specs.Option.{option_map}
 use Rattle.std.proofs.lemmas.Bool.{false≢true}
 use Rattle.chain_links.specs.Links.{links_view}
 use Rattle.chain_linking.proofs.AdvancerLemmas.{same_walkers}
-use Rattle.chain_linking.proofs.ConnectionLemmas.{prev_of-seen, same_valid}
+use Rattle.chain_linking.proofs.ConnectionLemmas.{prev_of-view_after, same_valid}
 use Rattle.chain_links.proofs.ArenaInsertionLemmas.{entry_count-links_view, values-count}
 use Rattle.chain_arena.proofs.impl_chain_arena_trait.ChainArenaChainArenaTrait.advancer_chain.Goals as goal
 
@@ -22,7 +22,7 @@ returns-in-Some g c =
           (made.left ∙ (c.len.ensures.entries ∙ (sym (entry_count-links_view packed a) ∙ sym (values-count (links_view packed a)))))
           (ap number made.start ∙ c.inx.ensures)
           (ap (option_map number) made.forth ∙ ap Some c.inx.ensures)
-          (ap (option_map number) made.back ∙ (c.prev.ensures ∙ sym (prev_of-seen packed a p c.in-Some.link.now c.in-Some.ensures.value)));
+          (ap (option_map number) made.back ∙ (c.prev.ensures ∙ sym (prev_of-view_after packed a p c.in-Some.link.now c.in-Some.ensures.value)));
       agree = c.self.invariant;
     })
 

@@ -11,14 +11,14 @@ use Rattle.chain_arena.proofs.impl_chain_arena_trait.ChainArenaChainArenaTrait.a
 use Rattle.chain_arena.proofs.impl_chain_arena_trait.ChainArenaChainArenaTrait.are_neighbors.Goals as goal
 
 -- the same in the links of the arena
-tells : (g : Over) (c : After-is_index g) → let s = links_view g.P.Inx.InxKey.packed_number c.self.inside.arena in
+states : (g : Over) (c : After-is_index g) → let s = links_view g.P.Inx.InxKey.packed_number c.self.inside.arena in
     IsValid (entry s) (g.P.PtrKey.key c.args.q) → IsTrue c.is_index.result
     ↔ (IsValid (entry s) (g.P.PtrKey.key c.args.p) × IsValid (entry s) (g.P.PtrKey.key c.args.q) × AreNeighbors (link_map s) (g.P.PtrKey.key c.args.p).0 (g.P.PtrKey.key c.args.q).0)
-tells g c valid = (
-  λ yes. let named = c.is_index.ensures.0 yes in let stands = c.next_of.ensures.some (sym (is_some-map _ c.next_of.result) ∙ ap is_some named) in
-      (stands, valid, sym (c.next_of.ensures.named stands) ∙ (named ∙ ap Some c.inx.ensures)),
+states g c valid = (
+  λ yes. let named = c.is_index.ensures.0 yes in let stored = c.next_of.ensures.some (sym (is_some-map _ c.next_of.result) ∙ ap is_some named) in
+      (stored, valid, sym (c.next_of.ensures.named stored) ∙ (named ∙ ap Some c.inx.ensures)),
   λ h. c.is_index.ensures.1 (c.next_of.ensures.named h.0 ∙ (h.2 ∙ sym (ap Some c.inx.ensures))),
 )
 
 pub returns-then-contains : goal.returns-then-contains
-returns-then-contains g c = rw (← c.self.view_is) (tells g c (rw (← c.self.view_is) at (c.contains.ensures.0 c.if-contains.true)))
+returns-then-contains g c = rw (← c.self.view_is) (states g c (rw (← c.self.view_is) at (c.contains.ensures.0 c.if-contains.true)))

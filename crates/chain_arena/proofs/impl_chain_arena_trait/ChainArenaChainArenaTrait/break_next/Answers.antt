@@ -3,14 +3,14 @@ use Rattle.std.proofs.Common.{◌≡◌, ℕ, Some, refl, ap, sym, ◌∙◌, su
 use Rattle.std.specs.Prelude.{is_some}
 use Rattle.std.proofs.lemmas.Bool.{false≢true}
 use Rattle.chain_laws.specs.Chains.{HasLink, next_of}
-use Rattle.chain_laws.specs.Cuts.{cut}
+use Rattle.chain_laws.specs.Cuts.{without_pair}
 use Rattle.chain_laws.specs.Neighbors.{AreNeighbors}
 use Rattle.chain_laws.proofs.ChainLemmas.LinkedLists.{next_valid, prev_valid}
 use Rattle.arena_base.specs.Arena.{Arena}
 use Rattle.arena_base.specs.Entries.{view_of}
 use Rattle.chain_links.specs.Links.{links_view}
 use Rattle.chain_links.specs.ChainArena.{LinkView, relinked, link_map}
-use Rattle.chain_arena.proofs.BreakAndExchangeLemmas.{at_told, cut_values, cut_shows, agrees_cut, cut_told}
+use Rattle.chain_arena.proofs.BreakAndExchangeLemmas.{at_known, cut_values, cut_reports, agrees_cut, cut_known}
 use Rattle.chain_arena.proofs.impl_chain_arena_trait.ChainArenaChainArenaTrait.break_next.Given.{Over}
 use Rattle.chain_arena.proofs.impl_chain_arena_trait.ChainArenaChainArenaTrait.break_next.Goals.{After-link_twice}
 use Rattle.chain_arena.proofs.impl_chain_arena_trait.ChainArenaChainArenaTrait.break_next.Goals as goal
@@ -23,15 +23,15 @@ abbrev cut_links : (g : Over) → After-link_twice g → Arena g.row.P-Gen.Denot
 cut_links g c = links_view g.P.Inx.InxKey.packed_number c.link_twice.new.arena
 
 -- the neighbor
-told : (g : Over) (c : After-link_twice g) → next_of (link_map (links g c)) (g.P.PtrKey.key c.args.p).0 ≡ Some (g.P.Inx.InxKey.number c.in-Some.after)
-told g c = sym (c.in-Some.ensures.named (c.in-Some.ensures.some refl))
+known : (g : Over) (c : After-link_twice g) → next_of (link_map (links g c)) (g.P.PtrKey.key c.args.p).0 ≡ Some (g.P.Inx.InxKey.number c.in-Some.after)
+known g c = sym (c.in-Some.ensures.named (c.in-Some.ensures.some refl))
 
 pair : (g : Over) (c : After-link_twice g) → AreNeighbors (link_map (links g c)) (g.P.PtrKey.key c.args.p).0 (g.P.Inx.InxKey.number c.in-Some.after)
-pair g c = told g c
+pair g c = known g c
 
 -- the links written are the cut
-is_cut : (g : Over) (c : After-link_twice g) → cut_links g c ≡ relinked (links g c) (cut (link_map (links g c)) (g.P.PtrKey.key c.args.p).0 (g.P.Inx.InxKey.number c.in-Some.after))
-is_cut g c = c.link_twice.ensures ∙ ap (λ (i : ℕ). relinked (links g c) (cut (link_map (links g c)) i (g.P.Inx.InxKey.number c.in-Some.after))) c.inx.ensures
+is_cut : (g : Over) (c : After-link_twice g) → cut_links g c ≡ relinked (links g c) (without_pair (link_map (links g c)) (g.P.PtrKey.key c.args.p).0 (g.P.Inx.InxKey.number c.in-Some.after))
+is_cut g c = c.link_twice.ensures ∙ ap (λ (i : ℕ). relinked (links g c) (without_pair (link_map (links g c)) i (g.P.Inx.InxKey.number c.in-Some.after))) c.inx.ensures
 
 pub link_twice-requires : goal.link_twice-requires
 link_twice-requires g c =
@@ -55,16 +55,16 @@ returns-in-Some g c =
     let b = cut_links g c in
     let i = (g.P.PtrKey.key c.args.p).0 in
     let j = (g.P.Inx.InxKey.number c.in-Some.after) in
-    let at = told g c in
+    let at = known g c in
     let is = is_cut g c in
     rw (← c.self.view_is) (record {
       some = (λ _. (c.in-Some.ensures.some refl, ap is_some at), λ _. refl);
-      cut = at_told _ _ _ at (cut_shows a b i j is);
-      chains = at_told _ _ _ at (cut_told a b i j is (pair g c)).chains;
-      seen = ap (λ x. view_of x) (cut_values a b i j is);
+      cut = at_known _ _ _ at (cut_reports a b i j is);
+      chains = at_known _ _ _ at (cut_known a b i j is (pair g c)).chains;
+      view_after = ap (λ x. view_of x) (cut_values a b i j is);
       none = tt;
       agreed = c.self.invariant;
-      more = at_told _ _ _ at (cut_told a b i j is (pair g c));
+      more = at_known _ _ _ at (cut_known a b i j is (pair g c));
     })
 
 pub returns-in-None : goal.returns-in-None
@@ -72,7 +72,7 @@ returns-in-None g c = rw (← c.self.view_is) (record {
   some = ((λ no. absurd (false≢true no)), λ can. absurd (false≢true (ap is_some (c.in-None.ensures.named can.0) ∙ can.1)));
   cut = tt;
   chains = tt;
-  seen = tt;
+  view_after = tt;
   none = refl;
   agreed = c.self.invariant;
   more = tt;

@@ -2,25 +2,25 @@
 use Rattle.std.proofs.Common.{◌≡◌, ◌↔◌, ℕ, Option, None, Some, refl, ap, sym, subst}
 use Rattle.std.specs.Prelude.{IsSome, OnSome, IfNone}
 use Rattle.chain_laws.specs.Chains.{IsWellLinked}
-use Rattle.chain_laws.specs.Joins.{joined}
+use Rattle.chain_laws.specs.Joins.{with_join}
 use Rattle.arena_base.specs.Arena.{entry_at}
 use Rattle.arena_base.specs.Entries.{view_of}
 use Rattle.chain_links.specs.Links.{links_view}
 use Rattle.chain_links.specs.ChainArena.{values_of, CanConnect, relinked, link_map}
-use Rattle.chain_linking.proofs.ConnectionLemmas.{shows, joined-values, joined-agrees, joined-pair, joined-chains}
+use Rattle.chain_linking.proofs.ConnectionLemmas.{reports, joined-values, joined-agrees, joined-pair, joined-chains}
 use Rattle.chain_arena.specs.Effects.{Links}
 use Rattle.chain_arena.proofs.impl_chain_arena_trait.ChainArenaChainArenaTrait.connect.Goals as goal
 
 module _ {X Gen T : Type 0} (a b : Links Gen T) (p q : ℕ × Gen) where
-  agrees_after : (o : Option X) → IsSome o ↔ CanConnect (entry_at (values_of a)) (link_map a) p q → OnSome o (b ≡ relinked a (joined (link_map a) p.0 q.0)) → IfNone o (b ≡ a) → IsWellLinked (link_map a) → IsWellLinked (link_map b)
+  agrees_after : (o : Option X) → IsSome o ↔ CanConnect (entry_at (values_of a)) (link_map a) p q → OnSome o (b ≡ relinked a (with_join (link_map a) p.0 q.0)) → IfNone o (b ≡ a) → IsWellLinked (link_map a) → IsWellLinked (link_map b)
   agrees_after None may is none agrees = subst (λ (x : Links Gen T). IsWellLinked (link_map x)) (sym none) agrees
   agrees_after (Some x) may is none agrees = joined-agrees a b p q (may.0 refl) is agrees
 
   -- if they may be joined, the consequences of the join hold
-  told : {Y : Type 0} (o : Option X) → IsSome o ↔ CanConnect (entry_at (values_of a)) (link_map a) p q → OnSome o (b ≡ relinked a (joined (link_map a) p.0 q.0))
-      → (CanConnect (entry_at (values_of a)) (link_map a) p q → b ≡ relinked a (joined (link_map a) p.0 q.0) → Y) → OnSome o Y
-  told None may is tells = tt
-  told (Some x) may is tells = tells (may.0 refl) is
+  known : {Y : Type 0} (o : Option X) → IsSome o ↔ CanConnect (entry_at (values_of a)) (link_map a) p q → OnSome o (b ≡ relinked a (with_join (link_map a) p.0 q.0))
+      → (CanConnect (entry_at (values_of a)) (link_map a) p q → b ≡ relinked a (with_join (link_map a) p.0 q.0) → Y) → OnSome o Y
+  known None may is states = tt
+  known (Some x) may is states = states (may.0 refl) is
 
 pub invariant_of-self : goal.invariant_of-self
 invariant_of-self g c = agrees_after _ _ _ _ c.join.result c.join.ensures.some c.join.ensures.joined c.join.ensures.none c.self.invariant
@@ -36,10 +36,10 @@ returns g c =
     let o = c.join.result in
     rw (← c.self.view_is) (record {
       some = may;
-      joined = told a b p q o may is (λ may is. shows a b p q may is);
-      seen = told a b p q o may is (λ may is. ap (λ x. view_of x) (joined-values a b p q may is));
+      joined = known a b p q o may is (λ may is. reports a b p q may is);
+      view_after = known a b p q o may is (λ may is. ap (λ x. view_of x) (joined-values a b p q may is));
       none = c.join.ensures.none;
       agreed = c.self.invariant;
-      chains = told a b p q o may is (λ may is. joined-chains a b p q may is);
-      more = told a b p q o may is (λ may is. record { state = is; shows = shows a b p q may is; pair = joined-pair a b p q may is; chains = joined-chains a b p q may is });
+      chains = known a b p q o may is (λ may is. joined-chains a b p q may is);
+      more = known a b p q o may is (λ may is. record { state = is; reports = reports a b p q may is; pair = joined-pair a b p q may is; chains = joined-chains a b p q may is });
     })

@@ -3,14 +3,14 @@ use Rattle.std.proofs.Common.{◌≡◌, ℕ, Option, Some, refl, ap, ap₂, sym
 use Rattle.std.specs.Prelude.{is_some}
 use Rattle.std.proofs.lemmas.Bool.{false≢true}
 use Rattle.chain_laws.specs.Chains.{HasLink, next_of}
-use Rattle.chain_laws.specs.Exchanges.{exchanged}
-use Rattle.chain_laws.specs.Joins.{linked}
+use Rattle.chain_laws.specs.Exchanges.{with_exchange}
+use Rattle.chain_laws.specs.Joins.{with_neighbors}
 use Rattle.chain_laws.proofs.ChainLemmas.LinkedLists.{next_valid, prev_valid}
 use Rattle.arena_base.specs.Arena.{Arena}
 use Rattle.arena_base.specs.Entries.{view_of}
 use Rattle.chain_links.specs.Links.{links_view}
 use Rattle.chain_links.specs.ChainArena.{LinkView, relinked, link_map}
-use Rattle.chain_arena.proofs.BreakAndExchangeLemmas.{exchange_values, exchange_shows, agrees_exchange, exchange_told}
+use Rattle.chain_arena.proofs.BreakAndExchangeLemmas.{exchange_values, exchange_reports, agrees_exchange, exchange_known}
 use Rattle.chain_arena.proofs.impl_chain_arena_trait.ChainArenaChainArenaTrait.exchange_next.Given.{Over}
 use Rattle.chain_arena.proofs.impl_chain_arena_trait.ChainArenaChainArenaTrait.exchange_next.Goals.{After-link_twice}
 use Rattle.chain_arena.proofs.impl_chain_arena_trait.ChainArenaChainArenaTrait.exchange_next.Goals as goal
@@ -36,12 +36,12 @@ valid_q : (g : Over) (c : After-link_twice g) → HasLink (link_map (links g c))
 valid_q g c = next_valid (link_map (links g c)) _ _ (sym (after_q g c))
 
 -- the links written are the exchange
-is_exchanged : (g : Over) (c : After-link_twice g) → exchanged_links g c ≡ relinked (links g c) (exchanged (link_map (links g c)) (g.P.PtrKey.key c.args.p).0 (g.P.PtrKey.key c.args.q).0)
+is_exchanged : (g : Over) (c : After-link_twice g) → exchanged_links g c ≡ relinked (links g c) (with_exchange (link_map (links g c)) (g.P.PtrKey.key c.args.p).0 (g.P.PtrKey.key c.args.q).0)
 is_exchanged g c =
     let s = links g c in
     c.link_twice.ensures
-    ∙ (ap₂ (λ (i j : ℕ). relinked s (linked (linked (link_map s) (Some i) (Some (g.P.Inx.InxKey.number c.in-Some-next_of_link.after_q))) (Some j) (Some (g.P.Inx.InxKey.number c.in-Some.after_p)))) c.inx-i.ensures c.inx-j.ensures
-    ∙ ap₂ (λ (a b : Option ℕ). relinked s (linked (linked (link_map s) (Some (g.P.PtrKey.key c.args.p).0) b) (Some (g.P.PtrKey.key c.args.q).0) a)) (after_p g c) (after_q g c))
+    ∙ (ap₂ (λ (i j : ℕ). relinked s (with_neighbors (with_neighbors (link_map s) (Some i) (Some (g.P.Inx.InxKey.number c.in-Some-next_of_link.after_q))) (Some j) (Some (g.P.Inx.InxKey.number c.in-Some.after_p)))) c.inx-i.ensures c.inx-j.ensures
+    ∙ ap₂ (λ (a b : Option ℕ). relinked s (with_neighbors (with_neighbors (link_map s) (Some (g.P.PtrKey.key c.args.p).0) b) (Some (g.P.PtrKey.key c.args.q).0) a)) (after_p g c) (after_q g c))
 
 pub link_twice-requires : goal.link_twice-requires
 link_twice-requires g c =
@@ -73,12 +73,12 @@ returns-in-Some-next_of_link g c =
         λ _. record { first_valid = c.in-Some.ensures.some refl; second_valid = c.in-Some-next_of_link.ensures.some refl; first_next = ap is_some (sym (after_p g c)); second_next = ap is_some (sym (after_q g c)) },
         λ _. refl,
       );
-      exchanged = exchange_shows a b i j is;
-      chains = (exchange_told a b i j is c.self.invariant (valid_p g c) (valid_q g c)).chains;
-      seen = ap (λ x. view_of x) (exchange_values a b i j is);
+      exchanged = exchange_reports a b i j is;
+      chains = (exchange_known a b i j is c.self.invariant (valid_p g c) (valid_q g c)).chains;
+      view_after = ap (λ x. view_of x) (exchange_values a b i j is);
       none = tt;
       agreed = c.self.invariant;
-      more = exchange_told a b i j is c.self.invariant (valid_p g c) (valid_q g c);
+      more = exchange_known a b i j is c.self.invariant (valid_p g c) (valid_q g c);
     })
 
 pub returns-in-None-next_of_link : goal.returns-in-None-next_of_link
@@ -86,7 +86,7 @@ returns-in-None-next_of_link g c = rw (← c.self.view_is) (record {
   some = ((λ no. absurd (false≢true no)), λ can. absurd (false≢true (ap is_some (c.in-None-next_of_link.ensures.named can.second_valid) ∙ can.second_next)));
   exchanged = tt;
   chains = tt;
-  seen = tt;
+  view_after = tt;
   none = refl;
   agreed = c.self.invariant;
   more = tt;
@@ -97,7 +97,7 @@ returns-in-None g c = rw (← c.self.view_is) (record {
   some = ((λ no. absurd (false≢true no)), λ can. absurd (false≢true (ap is_some (c.in-None.ensures.named can.first_valid) ∙ can.first_next)));
   exchanged = tt;
   chains = tt;
-  seen = tt;
+  view_after = tt;
   none = refl;
   agreed = c.self.invariant;
   more = tt;

@@ -13,12 +13,12 @@ use Rattle.chain_arena.proofs.impl_chain_arena_trait.ChainArenaChainArenaTrait.g
 -- the link borrowed from the arena of links
 lent : {K Gen T : Type 0} (number : K → Option ℕ) (a : Arena Gen (LinkBody K T)) (i : ℕ) (r : Option (Gen × Bor (LinkBody K T))) → option_map borrowed_entry r ≡ entry_at a i
     → option_map (borrowed_link number) r ≡ link_at (entry (links_view number a)) (link_map (links_view number a)) i
-lent {K} {Gen} {T} number a i r stands =
-    seen r ∙ (ap (option_map (on_value (link_view number))) stands ∙ (sym (entry_at-with_each (link_view number) a i) ∙ sym (link_at-entry (links_view number a) i)))
+lent {K} {Gen} {T} number a i r stored =
+    view_after r ∙ (ap (option_map (on_value (link_view number))) stored ∙ (sym (entry_at-with_each (link_view number) a i) ∙ sym (link_at-entry (links_view number a) i)))
   where
-    seen : (r : Option (Gen × Bor (LinkBody K T))) → option_map (borrowed_link number) r ≡ option_map (on_value (link_view number)) (option_map borrowed_entry r)
-    seen None = refl
-    seen (Some e) = refl
+    view_after : (r : Option (Gen × Bor (LinkBody K T))) → option_map (borrowed_link number) r ≡ option_map (on_value (link_view number)) (option_map borrowed_entry r)
+    view_after None = refl
+    view_after (Some e) = refl
 
 pub returns : goal.returns
 returns g c = rw (← c.self.view_is) (record {

@@ -6,7 +6,7 @@ use Rattle.chain_laws.specs.Chains.{HasLink}
 use Rattle.arena_base.specs.Arena.{entry_at}
 use Rattle.chain_links.specs.Links.{links_view}
 use Rattle.chain_links.specs.ChainArena.{ptr_at, link_map, values_of}
-use Rattle.chain_linking.proofs.ConnectionLemmas.{link_at_ptr, next_of-seen, prev_of-seen, same_valid}
+use Rattle.chain_linking.proofs.ConnectionLemmas.{link_at_ptr, next_of-view_after, prev_of-view_after, same_valid}
 use Rattle.chain_linking.proofs.NeighborLemmas.{next_named, prev_named}
 use Rattle.chain_arena.proofs.impl_chain_arena_trait.ChainArenaChainArenaTrait.get_link.Goals as goal
 
@@ -16,7 +16,7 @@ neighbor-prev-requires g c =
     let a = c.self.inside.arena in
     let p = g.P.PtrKey.key c.args.p in
     let s = link_map (links_view number a) in
-    subst (λ (o : Option ℕ). IfSome o (HasLink s)) (prev_of-seen number a p c.in-Some.link.now c.in-Some.ensures.value ∙ sym c.prev.ensures) (prev_named s p.0 c.self.invariant)
+    subst (λ (o : Option ℕ). IfSome o (HasLink s)) (prev_of-view_after number a p c.in-Some.link.now c.in-Some.ensures.value ∙ sym c.prev.ensures) (prev_named s p.0 c.self.invariant)
 
 pub neighbor-next-requires : goal.neighbor-next-requires
 neighbor-next-requires g c =
@@ -24,7 +24,7 @@ neighbor-next-requires g c =
     let a = c.self.inside.arena in
     let p = g.P.PtrKey.key c.args.p in
     let s = link_map (links_view number a) in
-    subst (λ (o : Option ℕ). IfSome o (HasLink s)) (next_of-seen number a p c.in-Some.link.now c.in-Some.ensures.value ∙ sym c.next.ensures) (next_named s p.0 c.self.invariant)
+    subst (λ (o : Option ℕ). IfSome o (HasLink s)) (next_of-view_after number a p c.in-Some.link.now c.in-Some.ensures.value ∙ sym c.next.ensures) (next_named s p.0 c.self.invariant)
 
 pub returns-in-Some : goal.returns-in-Some
 returns-in-Some g c =

@@ -15,9 +15,9 @@ use Rattle.chain_arena.proofs.impl_chain_arena_trait.ChainArenaChainArenaTrait.g
 -- the link borrowed from the arena of links
 lent : {K Gen T : Type 0} (number : K → Option ℕ) (a : Arena Gen (LinkBody K T)) (p : ℕ × Gen) (r : Option (Bor (LinkBody K T))) → IfSome r (λ link. entry_at a p.0 ≡ Some (p.1, link.now))
     → IfSome r (λ link. link_at (entry (links_view number a)) (link_map (links_view number a)) p.0 ≡ Some (p.1, link_view number link.now))
-lent number a p None stands = tt
-lent number a p (Some link) stands =
-    link_at-entry (links_view number a) p.0 ∙ (entry_at-with_each (link_view number) a p.0 ∙ ap (option_map (on_value (link_view number))) stands)
+lent number a p None stored = tt
+lent number a p (Some link) stored =
+    link_at-entry (links_view number a) p.0 ∙ (entry_at-with_each (link_view number) a p.0 ∙ ap (option_map (on_value (link_view number))) stored)
 
 pub returns : goal.returns
 returns g c =

@@ -5,17 +5,17 @@ use Rattle.chain_arena.proofs.impl_chain_arena_trait.ChainArenaChainArenaTrait.i
 pub returns : goal.returns
 returns g c =
     let r = c.insert_reallocating.result in
-    let told = c.insert_reallocating.ensures in
+    let known = c.insert_reallocating.ensures in
     rw c.growth_of.ensures (record {
-      inserted = growth-if_ok _ r told.inserted;
-      agreed = told.agreed;
-      err = growth-on_err _ r told.err;
-      room = λ room. let is = told.room c.requires room in (growth-is_ok r is.0, is.1);
-      grown = growth-on_ok _ r told.grown;
-      beyond = growth-beyond r c.requires told.beyond;
-      greatest = λ full. growth-is_err r (told.greatest full);
-      place = growth-if_ok _ r told.place;
-      state = growth-on_ok _ r told.state;
-      state_in_room = told.state_in_room c.requires;
-      state_grown = growth-on_ok _ r told.state_grown;
+      inserted = growth-if_ok _ r known.inserted;
+      agreed = known.agreed;
+      err = growth-on_err _ r known.err;
+      within_capacity = λ within_capacity. let is = known.within_capacity c.requires within_capacity in (growth-is_ok r is.0, is.1);
+      grown = growth-on_ok _ r known.grown;
+      beyond = growth-beyond r c.requires known.beyond;
+      greatest = λ full. growth-is_err r (known.greatest full);
+      place = growth-if_ok _ r known.place;
+      state = growth-on_ok _ r known.state;
+      state_within_capacity = known.state_within_capacity c.requires;
+      state_grown = growth-on_ok _ r known.state_grown;
     })

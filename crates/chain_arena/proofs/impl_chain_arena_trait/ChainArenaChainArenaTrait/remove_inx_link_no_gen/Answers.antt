@@ -1,6 +1,6 @@
 -- `remove_inx_link_no_gen` removes the link and links its neighbors.
 use Rattle.arena_ptr.specs.Invalidation.{value_within}
-use Rattle.chain_arena.proofs.LinkRemovalLemmas.{link_told, none_taken, removal_there, seen_there}
+use Rattle.chain_arena.proofs.LinkRemovalLemmas.{link_known, none_taken, removal_there, viewed_there}
 use Rattle.chain_arena.proofs.impl_chain_arena_trait.ChainArenaChainArenaTrait.remove_inx_link_no_gen.Goals as goal
 
 pub returns : goal.returns
@@ -12,12 +12,12 @@ returns g c =
     let i = g.P.Inx.InxKey.number c.args.i in
     let taken = value_within c.unlink.result in
     let made = c.unlink.ensures in
-    let removal = removal_there packed following a b i taken made.answer made.removal in record {
-      answer = link_told packed following a b i taken made.answer;
+    let removal = removal_there packed following a b i taken made.returned made.removal in record {
+      returned = link_known packed following a b i taken made.returned;
       overflow = made.overflow;
-      valid = λ stands. (seen_there packed following a b i taken made.answer made.removal stands, (removal stands).shows);
-      invalid = λ none. made.invalid (none_taken packed following a b i taken made.answer none);
+      valid = λ stored. (viewed_there packed following a b i taken made.returned made.removal stored, (removal stored).reports);
+      invalid = λ none. made.invalid (none_taken packed following a b i taken made.returned none);
       agreed = made.agreed;
-      chains = λ stands. (removal stands).chains;
+      chains = λ stored. (removal stored).chains;
       more = removal;
     }

@@ -8,7 +8,7 @@ use Rattle.arena_base.specs.Arena.{IsValid}
 use Rattle.chain_links.specs.ChainArena.{entry}
 use Rattle.chain_links.specs.Links.{link_view}
 use Rattle.chain_links.proofs.MappedArenaLemmas.{is_some-map}
-use Rattle.chain_arena.proofs.LinkRemovalLemmas.{link_alone_told, removal_at, same_overflow, seen_at, taken_at}
+use Rattle.chain_arena.proofs.LinkRemovalLemmas.{link_alone_known, removal_at, same_overflow, viewed_at, taken_at}
 use Rattle.chain_arena.proofs.impl_chain_arena_trait.ChainArenaChainArenaTrait.remove_link_no_gen.Goals as goal
 
 pub returns-then-contains : goal.returns-then-contains
@@ -22,17 +22,17 @@ returns-then-contains g c =
     let taken = value_within c.unlink.result in
     let made = c.unlink.ensures in
     let alone = c.link_alone.ensures in
-    let stood = c.contains.ensures.0 c.if-contains.true in
-    let removal = removal_at packed following a b i taken made.answer made.removal p c.inx.ensures stood in
+    let was_stored = c.contains.ensures.0 c.if-contains.true in
+    let removal = removal_at packed following a b i taken made.returned made.removal p c.inx.ensures was_stored in
     rw (← c.inx.ensures) (record {
-      some = (λ _. stood, λ _. ap is_some alone.value ∙ (is_some-map (λ e. e.1) taken ∙ taken_at packed following a b i taken made.answer p c.inx.ensures stood));
+      some = (λ _. was_stored, λ _. ap is_some alone.value ∙ (is_some-map (λ e. e.1) taken ∙ taken_at packed following a b i taken made.returned p c.inx.ensures was_stored));
       valid = λ _. (
         ap (option_map (λ link. (p.1, link_view packed link))) alone.value
-            ∙ link_alone_told packed following a b i taken made.answer p.1 stood.value (ap (entry a) c.inx.ensures ∙ stood.stands),
-        (seen_at packed following a b i taken made.answer made.removal p c.inx.ensures stood, removal.shows),
+            ∙ link_alone_known packed following a b i taken made.returned p.1 was_stored.value (ap (entry a) c.inx.ensures ∙ was_stored.stored),
+        (viewed_at packed following a b i taken made.returned made.removal p c.inx.ensures was_stored, removal.reports),
       );
       overflow = same_overflow (λ e. e.1) (g.P.Gen.GenKey.wraps a.counter) c.unlink.result c.link_alone.result alone.value alone.overflow made.overflow;
-      invalid = λ invalid. absurd (invalid stood);
+      invalid = λ invalid. absurd (invalid was_stored);
       agreed = made.agreed;
       chains = λ _. removal.chains;
       more = λ _. removal;

@@ -1,28 +1,28 @@
 -- The link is inserted at the position that was kept for it.
 use Rattle.std.proofs.Common.{refl, ap, ◌∙◌, sym, subst₂}
 use Rattle.chain_laws.specs.Insertions.{IsInsertPosition}
-use Rattle.chain_laws.proofs.InsertionLemmas.Positions.{gap_had}
+use Rattle.chain_laws.proofs.InsertionLemmas.Positions.{position_had}
 use Rattle.arena_base.specs.Arena.{next_index, with_capacity_of}
 use Rattle.chain_links.specs.ChainArena.{link_map, insert_between}
 use Rattle.chain_links.specs.Insertions.{nonzero_index}
 use Rattle.chain_arena.proofs.NewLinkLemmas.{inserted_between}
-use Rattle.chain_arena.proofs.InsertionEffectLemmas.{told_between}
+use Rattle.chain_arena.proofs.InsertionEffectLemmas.{known_between}
 use Rattle.chain_arena.proofs.insert_entry.ChainArenaInsertEntry.insert.Goals as goal
 
-pub insert_in_gap-requires-clause-gap : goal.insert_in_gap-requires-clause-gap
-insert_in_gap-requires-clause-gap g c =
+pub insert_at_position-requires-clause-position : goal.insert_at_position-requires-clause-position
+insert_at_position-requires-clause-position g c =
     let a = c.args.self.arena.now in
     subst₂ (IsInsertPosition (link_map a) (next_index a)) (sym c.index_or_none.ensures) (sym c.index_or_none-2.ensures)
-    (gap_had (link_map a) (next_index a) (nonzero_index c.args.self.prev) (nonzero_index c.args.self.next) c.args.self.fits)
+    (position_had (link_map a) (next_index a) (nonzero_index c.args.self.prev) (nonzero_index c.args.self.next) c.args.self.fits)
 
 pub returns : goal.returns
 returns g c =
     let a = c.args.self.arena.now in
     let u = nonzero_index c.args.self.prev in
     let v = nonzero_index c.args.self.next in
-    let made = c.insert_in_gap.ensures in
-    let state = inserted_between g.P.PtrKey.key g.P.Inx.InxKey.number a c.insert_in_gap.new.self _ c.args.t c.insert_in_gap.result u v made c.index_or_none.ensures c.index_or_none-2.ensures in record {
+    let made = c.insert_at_position.ensures in
+    let state = inserted_between g.P.PtrKey.key g.P.Inx.InxKey.number a c.insert_at_position.new.self _ c.args.t c.insert_at_position.result u v made c.index_or_none.ensures c.index_or_none-2.ensures in record {
       state = state;
-      inserted = told_between a c.args.t made.listed c.insert_in_gap.new.self u v (state ∙ ap (with_capacity_of (insert_between a c.args.t u v)) (sym state))
-          (next_index a, a.counter) refl made.agreed (gap_had (link_map a) (next_index a) u v c.args.self.fits);
+      inserted = known_between a c.args.t made.listed c.insert_at_position.new.self u v (state ∙ ap (with_capacity_of (insert_between a c.args.t u v)) (sym state))
+          (next_index a, a.counter) refl made.agreed (position_had (link_map a) (next_index a) u v c.args.self.fits);
     }

@@ -10,7 +10,7 @@ use Rattle.chain_examples.proofs.documents.Documents.insert_after.Goals as goal
 pub returns : goal.returns
 returns g c =
     let a = c.self.inside.paragraphs in
-    let linked = valid_link (g.A.ChainArenaTrait.interlinks a) (g.A.ArenaTrait.entry a) (g.A.ArenaTrait.view a).entries (g.met.A.ChainArenaTrait.stand a) (g.met.A.ArenaTrait.looked_up a) (g.P.PtrKey.key c.args.p) in
+    let linked = valid_link (g.A.ChainArenaTrait.interlinks a) (g.A.ArenaTrait.entry a) (g.A.ArenaTrait.view a).entries (g.met.A.ChainArenaTrait.links_are_entries a) (g.met.A.ArenaTrait.finds a) (g.P.PtrKey.key c.args.p) in
     record {
       text = rw (← c.self.view_is) (if_ok c.insert_reallocating.result c.insert_reallocating.ensures.inserted (λ q came.
           comes_after g.A.ArenaTrait.entry g.A.ChainArenaTrait.interlinks linear (λ l. refl) c.self.inside.paragraphs c.insert_reallocating.new.self (g.P.PtrKey.key q) c.args.paragraph came.entries (g.P.PtrKey.key c.args.p)
@@ -18,14 +18,14 @@ returns g c =
       paragraph = rw (← c.self.view_is) (if_ok c.insert_reallocating.result c.insert_reallocating.ensures.inserted (λ q came. came.entries));
       others = rw (← c.self.view_is) (if_ok c.insert_reallocating.result c.insert_reallocating.ensures.inserted (λ q came.
           keeps_others g.A.ArenaTrait.entry g.A.ChainArenaTrait.interlinks linear (λ l. refl) c.self.inside.paragraphs c.insert_reallocating.new.self (g.P.PtrKey.key q) c.args.paragraph came.entries (next_to (g.P.PtrKey.key c.args.p).0)
-          c.insert_reallocating.ensures.agreed (g.met.A.ChainArenaTrait.stand c.self.inside.paragraphs (g.P.PtrKey.key q).0) came.chains));
+          c.insert_reallocating.ensures.agreed (g.met.A.ChainArenaTrait.links_are_entries c.self.inside.paragraphs (g.P.PtrKey.key q).0) came.chains));
       size = rw (← c.self.view_is) (if_ok c.insert_reallocating.result c.insert_reallocating.ensures.inserted (λ q came. came.more));
       link = rw (← c.self.view_is) (
         λ failed valid. c.insert_reallocating.ensures.link.0 failed (valid, linked valid),
         λ invalid. c.insert_reallocating.ensures.link.1 (λ may. invalid may.0),
       );
       error = c.insert_reallocating.ensures.error;
-      room = rw (← c.self.view_is) (λ valid. c.insert_reallocating.ensures.room (valid, linked valid));
+      within_capacity = rw (← c.self.view_is) (λ valid. c.insert_reallocating.ensures.within_capacity (valid, linked valid));
       grown = rw (← c.self.view_is) c.insert_reallocating.ensures.grown;
       beyond = rw (← c.self.view_is) (
         λ refused. let both = c.insert_reallocating.ensures.beyond.0 refused in (both.0.0, both.1),

@@ -13,4 +13,4 @@ returns-clause-others g c = keeps_moved g.A.ArenaTrait.entry g.A.ChainArenaTrait
     c.set_apart.ensures.texts c.set_apart.ensures.others c.put_after.ensures.texts c.put_after.ensures.others
 
 pub returns-clause-paragraphs : goal.returns-clause-paragraphs
-returns-clause-paragraphs g c = same_entry (λ x. (g.A.ArenaTrait.view x).entries) g.A.ArenaTrait.entry g.met.A.ArenaTrait.looked_up c.args.self.now c.put_after.new.self (ap (λ s. s.entries) (c.put_after.ensures.seen ∙ c.set_apart.ensures.seen))
+returns-clause-paragraphs g c = same_entry (λ x. (g.A.ArenaTrait.view x).entries) g.A.ArenaTrait.entry g.met.A.ArenaTrait.finds c.args.self.now c.put_after.new.self (ap (λ s. s.entries) (c.put_after.ensures.view_after ∙ c.set_apart.ensures.view_after))

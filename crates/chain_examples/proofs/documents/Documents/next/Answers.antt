@@ -2,12 +2,12 @@
 use Rattle.std.proofs.Common.{◌∙◌, ap}
 use Rattle.std.specs.Option.{option_map}
 use Rattle.chain_traits.proofs.OutcomeLemmas.{if_mapped}
-use Rattle.chain_examples.proofs.DocumentLemmas.{goes_on, in_a_text, with_next}
+use Rattle.chain_examples.proofs.DocumentLemmas.{continues, in_a_text, with_next}
 use Rattle.chain_examples.proofs.documents.Documents.next.Goals as goal
 
 pub returns-in-Some-clause-next : goal.returns-in-Some-clause-next
 returns-in-Some-clause-next g c = rw (← c.self.view_is) (λ t before after is.
-    ap (option_map g.P.PtrKey.key) c.next.ensures ∙ (c.in-Some.ensures.link.after ∙ goes_on g.A.ArenaTrait.entry g.A.ChainArenaTrait.interlinks c.self.inside.paragraphs (g.P.PtrKey.key c.args.p) t before after is))
+    ap (option_map g.P.PtrKey.key) c.next.ensures ∙ (c.in-Some.ensures.link.after ∙ continues g.A.ArenaTrait.entry g.A.ChainArenaTrait.interlinks c.self.inside.paragraphs (g.P.PtrKey.key c.args.p) t before after is))
 
 pub returns-in-Some-clause-together : goal.returns-in-Some-clause-together
 returns-in-Some-clause-together g c = rw (← c.self.view_is) (if_mapped _ g.P.PtrKey.key c.next.result

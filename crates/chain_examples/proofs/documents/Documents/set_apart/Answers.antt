@@ -1,10 +1,10 @@
 -- The text is split around the paragraph, and its neighbors are joined.
-use Rattle.chain_examples.proofs.ItemMoveLemmas.{stands_alone, keeps_alone}
+use Rattle.chain_examples.proofs.ItemMoveLemmas.{stored_alone, keeps_alone}
 use Rattle.chain_examples.proofs.DocumentLemmas.{in_a_text}
 use Rattle.chain_examples.proofs.documents.Documents.set_apart.Goals as goal
 
 pub returns-clause-texts : goal.returns-clause-texts
-returns-clause-texts g c = stands_alone g.A.ArenaTrait.entry g.A.ChainArenaTrait.interlinks c.args.self.now c.part_before.new.self c.part_after.new.self c.close.new.self (g.P.PtrKey.key c.args.p) _ _
+returns-clause-texts g c = stored_alone g.A.ArenaTrait.entry g.A.ChainArenaTrait.interlinks c.args.self.now c.part_before.new.self c.part_after.new.self c.close.new.self (g.P.PtrKey.key c.args.p) _ _
     c.part_before.ensures.texts c.part_after.ensures.texts c.part_after.ensures.others c.close.ensures.texts c.in_ok-before.ensures.between.before c.in_ok-before.ensures.between.after
 
 pub returns-clause-others : goal.returns-clause-others

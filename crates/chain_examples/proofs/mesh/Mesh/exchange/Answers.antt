@@ -15,12 +15,12 @@ module _ (g : Over) (c : After-exchange_next g) where
   done : IsSome c.exchange_next.result ↔ (IsValid (g.A.ArenaTrait.entry c.self.inside.corners) (g.P.PtrKey.key c.args.u) × IsValid (g.A.ArenaTrait.entry c.self.inside.corners) (g.P.PtrKey.key c.args.v))
   done =
       let a = c.self.inside.corners in
-      let can = can_exchange g.A.ArenaTrait.entry g.A.ChainArenaTrait.interlinks a (some_valid (g.A.ChainArenaTrait.interlinks a) (g.A.ArenaTrait.entry a) (g.A.ArenaTrait.view a).entries (g.met.A.ChainArenaTrait.stand a) (g.met.A.ArenaTrait.looked_up a)) c.self.invariant (g.P.PtrKey.key c.args.u) (g.P.PtrKey.key c.args.v) in
+      let can = can_exchange g.A.ArenaTrait.entry g.A.ChainArenaTrait.interlinks a (some_valid (g.A.ChainArenaTrait.interlinks a) (g.A.ArenaTrait.entry a) (g.A.ArenaTrait.view a).entries (g.met.A.ChainArenaTrait.links_are_entries a) (g.met.A.ArenaTrait.finds a)) c.self.invariant (g.P.PtrKey.key c.args.u) (g.P.PtrKey.key c.args.v) in
       (λ some. can.0 (c.exchange_next.ensures.some.0 some), λ valid. c.exchange_next.ensures.some.1 (can.1 valid))
 
   same : g.A.ArenaTrait.entry c.exchange_next.new.self ≡ g.A.ArenaTrait.entry c.self.inside.corners
-  same = either_some c.exchange_next.result c.exchange_next.ensures.seen c.exchange_next.ensures.none
-      (λ some seen. same_entry (λ x. (g.A.ArenaTrait.view x).entries) g.A.ArenaTrait.entry g.met.A.ArenaTrait.looked_up c.self.inside.corners c.exchange_next.new.self (ap (λ s. s.entries) seen)) (λ same. ap g.A.ArenaTrait.entry same)
+  same = either_some c.exchange_next.result c.exchange_next.ensures.view_after c.exchange_next.ensures.none
+      (λ some view_after. same_entry (λ x. (g.A.ArenaTrait.view x).entries) g.A.ArenaTrait.entry g.met.A.ArenaTrait.finds c.self.inside.corners c.exchange_next.new.self (ap (λ s. s.entries) view_after)) (λ same. ap g.A.ArenaTrait.entry same)
 
 pub returns : goal.returns
 returns g c = record {
@@ -32,9 +32,9 @@ returns g c = record {
   others = rw (← c.self.view_is) (keeps_exchanged g.A.ArenaTrait.entry g.A.ChainArenaTrait.interlinks c.self.inside.corners c.exchange_next.new.self (g.P.PtrKey.key c.args.u) (g.P.PtrKey.key c.args.v) c.exchange_next.result (done g c).1
       c.exchange_next.ensures.chains (same g c) c.exchange_next.ensures.none);
   corners = same g c ∙ ap g.A.ArenaTrait.entry c.self.view_is;
-  seen = either_some c.exchange_next.result c.exchange_next.ensures.seen c.exchange_next.ensures.none (λ some seen. seen) (λ same. ap g.A.ArenaTrait.view same) ∙ ap g.A.ArenaTrait.view c.self.view_is;
+  view_after = either_some c.exchange_next.result c.exchange_next.ensures.view_after c.exchange_next.ensures.none (λ some view_after. view_after) (λ same. ap g.A.ArenaTrait.view same) ∙ ap g.A.ArenaTrait.view c.self.view_is;
   itself = rw (← c.self.view_is) (λ is. either_some c.exchange_next.result c.exchange_next.ensures.exchanged c.exchange_next.ensures.none
       (λ some changed. exchanged_itself g.A.ArenaTrait.entry g.A.ChainArenaTrait.interlinks c.self.inside.corners c.exchange_next.new.self (some_valid (g.A.ChainArenaTrait.interlinks c.self.inside.corners) (g.A.ArenaTrait.entry c.self.inside.corners) (g.A.ArenaTrait.view c.self.inside.corners).entries
-      (g.met.A.ChainArenaTrait.stand c.self.inside.corners) (g.met.A.ArenaTrait.looked_up c.self.inside.corners)) (g.P.PtrKey.key c.args.u) (g.P.PtrKey.key c.args.v) ((done g c).0 some).0 c.exchange_next.ensures.agreed is changed) (λ same. ap g.A.ChainArenaTrait.interlinks same));
+      (g.met.A.ChainArenaTrait.links_are_entries c.self.inside.corners) (g.met.A.ArenaTrait.finds c.self.inside.corners)) (g.P.PtrKey.key c.args.u) (g.P.PtrKey.key c.args.v) ((done g c).0 some).0 c.exchange_next.ensures.agreed is changed) (λ same. ap g.A.ChainArenaTrait.interlinks same));
   none = rw (← c.self.view_is) c.exchange_next.ensures.none;
 }

@@ -15,12 +15,12 @@ returns-clause-ring g c = rw (← c.self.view_is) (if_ok c.insert_reallocating.r
 pub returns-clause-others : goal.returns-clause-others
 returns-clause-others g c = rw (← c.self.view_is) (if_ok c.insert_reallocating.result c.insert_reallocating.ensures.inserted (λ q came.
     keeps_others g.A.ArenaTrait.entry g.A.ChainArenaTrait.interlinks cyclic (λ l. refl) c.self.inside.corners c.insert_reallocating.new.self (g.P.PtrKey.key q) c.args.point came.entries (next_to (g.P.PtrKey.key c.args.corner).0)
-    c.insert_reallocating.ensures.agreed (g.met.A.ChainArenaTrait.stand c.self.inside.corners (g.P.PtrKey.key q).0) came.chains))
+    c.insert_reallocating.ensures.agreed (g.met.A.ChainArenaTrait.links_are_entries c.self.inside.corners (g.P.PtrKey.key q).0) came.chains))
 
-pub returns-clause-room : goal.returns-clause-room
-returns-clause-room g c =
+pub returns-clause-within_capacity : goal.returns-clause-within_capacity
+returns-clause-within_capacity g c =
     let a = c.self.inside.corners in
-    rw (← c.self.view_is) (λ valid. c.insert_reallocating.ensures.room (valid, valid_link (g.A.ChainArenaTrait.interlinks a) (g.A.ArenaTrait.entry a) (g.A.ArenaTrait.view a).entries (g.met.A.ChainArenaTrait.stand a) (g.met.A.ArenaTrait.looked_up a) (g.P.PtrKey.key c.args.corner) valid))
+    rw (← c.self.view_is) (λ valid. c.insert_reallocating.ensures.within_capacity (valid, valid_link (g.A.ChainArenaTrait.interlinks a) (g.A.ArenaTrait.entry a) (g.A.ArenaTrait.view a).entries (g.met.A.ChainArenaTrait.links_are_entries a) (g.met.A.ArenaTrait.finds a) (g.P.PtrKey.key c.args.corner) valid))
 
 pub returns-clause-corner : goal.returns-clause-corner
 returns-clause-corner g c = rw (← c.self.view_is) (if_ok c.insert_reallocating.result c.insert_reallocating.ensures.inserted (λ q came. came.entries))
@@ -43,8 +43,8 @@ returns-clause-beyond g c =
     let a = c.self.inside.corners in
     let beyond = c.insert_reallocating.ensures.beyond in
     rw (← c.self.view_is) (
-      λ is. let told = beyond.0 is in (told.0.0, told.1),
-      λ past. beyond.1 ((past.0, valid_link (g.A.ChainArenaTrait.interlinks a) (g.A.ArenaTrait.entry a) (g.A.ArenaTrait.view a).entries (g.met.A.ChainArenaTrait.stand a) (g.met.A.ArenaTrait.looked_up a) (g.P.PtrKey.key c.args.corner) past.0), past.1),
+      λ is. let known = beyond.0 is in (known.0.0, known.1),
+      λ past. beyond.1 ((past.0, valid_link (g.A.ChainArenaTrait.interlinks a) (g.A.ArenaTrait.entry a) (g.A.ArenaTrait.view a).entries (g.met.A.ChainArenaTrait.links_are_entries a) (g.met.A.ArenaTrait.finds a) (g.P.PtrKey.key c.args.corner) past.0), past.1),
     )
 
 pub returns-clause-greatest : goal.returns-clause-greatest

@@ -2,7 +2,7 @@
 use Rattle.std.proofs.Common.{◌≡◌, Option, None, Some, refl, sym, subst}
 use Rattle.std.specs.Prelude.{is_some, true, OnSome}
 use Rattle.chain_laws.specs.Chains.{cyclic}
-use Rattle.chain_traits.proofs.GenericRemovalLemmas.{TakesEntry, removal, value_told, gone_of, less_of, same_of, kept_of}
+use Rattle.chain_traits.proofs.GenericRemovalLemmas.{TakesEntry, removal, value_known, gone_of, less_of, same_of, kept_of}
 use Rattle.chain_examples.proofs.ItemRemovalLemmas.{leaves_of, keeps_of, round_of}
 use Rattle.chain_examples.proofs.mesh.Mesh.remove.Given.{Over}
 use Rattle.chain_examples.proofs.mesh.Mesh.remove.Goals.{After-allow}
@@ -19,21 +19,21 @@ it g c =
     let new = c.remove.new.self in
     let p = g.P.PtrKey.key c.args.corner in
     subst (TakesEntry g.A.ArenaTrait.view g.A.ArenaTrait.entry g.A.ChainArenaTrait.interlinks old new p) (sym c.allow.ensures)
-    (removal g.A.ArenaTrait.view g.A.ArenaTrait.entry g.A.ChainArenaTrait.interlinks g.met.A.ArenaTrait.rises g.met.A.ArenaTrait.looked_up old new p _ _ c.remove.ensures.some c.remove.ensures.valid c.remove.ensures.invalid
-    (λ valid. g.met.A.ChainArenaTrait.passed_over old new p.0 (c.remove.ensures.more valid)) c.agrees.ensures)
+    (removal g.A.ArenaTrait.view g.A.ArenaTrait.entry g.A.ChainArenaTrait.interlinks g.met.A.ArenaTrait.rises g.met.A.ArenaTrait.finds old new p _ _ c.remove.ensures.some c.remove.ensures.valid c.remove.ensures.invalid
+    (λ valid. g.met.A.ChainArenaTrait.removal_removes old new p.0 (c.remove.ensures.more valid)) c.agrees.ensures)
 
 pub invariant_of-self : goal.invariant_of-self
 invariant_of-self g c = round_of g.A.ArenaTrait.view g.A.ArenaTrait.entry g.A.ChainArenaTrait.interlinks _ _ _ c.allow.result (it g c) c.agrees.ensures c.self.invariant
 
 pub returns : goal.returns
 returns g c = record {
-  some = rw (← c.self.view_is) (λ some. ((it g c).some some).stood, (it g c).valid);
-  point = rw (← c.self.view_is) (value_told g.A.ArenaTrait.view g.A.ArenaTrait.entry g.A.ChainArenaTrait.interlinks _ _ _ c.allow.result (it g c));
+  some = rw (← c.self.view_is) (λ some. ((it g c).some some).was_stored, (it g c).valid);
+  point = rw (← c.self.view_is) (value_known g.A.ArenaTrait.view g.A.ArenaTrait.entry g.A.ChainArenaTrait.interlinks _ _ _ c.allow.result (it g c));
   ring = rw (← c.self.view_is) (leaves_of g.A.ArenaTrait.view g.A.ArenaTrait.entry g.A.ChainArenaTrait.interlinks _ _ _ cyclic (λ l. refl) c.allow.result (it g c) (λ chains. chains.from_cyclic));
   gone = gone_of g.A.ArenaTrait.view g.A.ArenaTrait.entry g.A.ChainArenaTrait.interlinks _ _ _ c.allow.result (it g c);
   corners = rw (← c.self.view_is) (kept_of g.A.ArenaTrait.view g.A.ArenaTrait.entry g.A.ChainArenaTrait.interlinks _ _ _ c.allow.result (it g c));
   others = rw (← c.self.view_is) (keeps_of g.A.ArenaTrait.view g.A.ArenaTrait.entry g.A.ChainArenaTrait.interlinks _ _ _ cyclic (λ l. refl) c.allow.result (it g c));
   size = rw (← c.self.view_is) (less_of g.A.ArenaTrait.view g.A.ArenaTrait.entry g.A.ChainArenaTrait.interlinks _ _ _ c.allow.result (it g c));
-  seen = rw (← c.self.view_is) (if_valid c.allow.result (λ some. ((it g c).some some).stood) (λ valid. (c.remove.ensures.valid valid).1));
+  view_after = rw (← c.self.view_is) (if_valid c.allow.result (λ some. ((it g c).some some).was_stored) (λ valid. (c.remove.ensures.valid valid).1));
   none = rw (← c.self.view_is) (same_of g.A.ArenaTrait.view g.A.ArenaTrait.entry g.A.ChainArenaTrait.interlinks _ _ _ c.allow.result (it g c));
 }

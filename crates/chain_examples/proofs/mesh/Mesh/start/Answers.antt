@@ -15,13 +15,13 @@ invariant_of-self g c = either_ok c.insert.result c.insert.ensures.inserted c.in
 
 pub returns : goal.returns
 returns g c = record {
-  ring = if_ok c.insert.result c.insert.ensures.inserted (λ q came. record { chain = came.chains.ring refl refl; stand = (came.entries.stands, tt) });
+  ring = if_ok c.insert.result c.insert.ensures.inserted (λ q came. record { chain = came.chains.ring refl refl; are_stored = (came.entries.stored, tt) });
   corner = rw (← c.self.view_is) (if_ok c.insert.result c.insert.ensures.inserted (λ q came. came.entries));
   others = rw (← c.self.view_is) (if_ok c.insert.result c.insert.ensures.inserted (λ q came.
       keeps_others g.A.ArenaTrait.entry g.A.ChainArenaTrait.interlinks cyclic (λ l. refl) c.self.inside.corners c.insert.new.self (g.P.PtrKey.key q) c.args.point came.entries single_link_cyclic c.insert.ensures.agreed
-      (g.met.A.ChainArenaTrait.stand c.self.inside.corners (g.P.PtrKey.key q).0) came.chains));
+      (g.met.A.ChainArenaTrait.links_are_entries c.self.inside.corners (g.P.PtrKey.key q).0) came.chains));
   size = rw (← c.self.view_is) (if_ok c.insert.result c.insert.ensures.inserted (λ q came. came.more));
-  room = rw (← c.self.view_is) c.insert.ensures.room;
+  within_capacity = rw (← c.self.view_is) c.insert.ensures.within_capacity;
   grown = rw (← c.self.view_is) c.insert.ensures.grown;
   maximum = rw (← c.self.view_is) (either_ok c.insert.result c.insert.ensures.inserted c.insert.ensures.grown c.insert.ensures.err
       (λ q came grown. came.maximum) (λ same. ap (λ a. (g.A.ArenaTrait.view a).maximum) same));

@@ -9,6 +9,6 @@ invariant-loop-k g l = record {
   left : l.k + length l.self.turn ≡ l.count;
   len : vec_len l.drained ≡ l.k;
   fits : l.count ≤ vec_capacity l.drained;
-  room : l.self.room ≡ l.fn.self.room;
+  capacity : l.self.capacity ≡ l.fn.self.capacity;
   maximum : l.self.maximum ≡ l.fn.self.maximum;
 }

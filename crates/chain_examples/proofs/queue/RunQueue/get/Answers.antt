@@ -1,6 +1,6 @@
 -- A valid pointer belongs to a task, which is stored at its index.
 use Rattle.std.specs.Option.{option_map}
-use Rattle.chain_examples.proofs.TaskLemmas.{valid_if_among, among_if_valid, task_shown}
+use Rattle.chain_examples.proofs.TaskLemmas.{valid_if_among, among_if_valid, task_reported}
 use Rattle.chain_examples.proofs.queue.RunQueue.get.Goals as goal
 
 pub returns : goal.returns
@@ -15,5 +15,5 @@ returns g c =
         λ some. among_if_valid entry links current _ c.self.invariant p (c.get.ensures.some.0 some),
         λ among. c.get.ensures.some.1 (valid_if_among entry links current _ c.self.invariant p among),
       );
-      task = rw (← c.self.view_is) (task_shown entry links current _ c.self.invariant p (λ t. t.now) c.get.result c.get.ensures.value);
+      task = rw (← c.self.view_is) (task_reported entry links current _ c.self.invariant p (λ t. t.now) c.get.result c.get.ensures.value);
     }

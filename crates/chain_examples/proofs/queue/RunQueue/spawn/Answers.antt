@@ -4,7 +4,7 @@ use Rattle.std.specs.Option.{option_map}
 use Rattle.chain_examples.specs.QueueOrder.{Queue}
 use Rattle.chain_traits.proofs.OutcomeLemmas.{if_ok}
 use Rattle.chain_examples.proofs.TaskLemmas.{HasSize, has_size, free_index}
-use Rattle.chain_examples.proofs.QueueOrderLemmas.{IsTaskAdded, task_added, has_room, valid_current}
+use Rattle.chain_examples.proofs.QueueOrderLemmas.{IsTaskAdded, task_added, has_capacity, valid_current}
 use Rattle.chain_examples.proofs.queue.RunQueue.spawn.Given.{Over}
 use Rattle.chain_examples.proofs.queue.RunQueue.spawn.Goals.{After-or-self-inside}
 use Rattle.chain_examples.proofs.queue.RunQueue.spawn.Goals as goal
@@ -12,8 +12,8 @@ use Rattle.chain_examples.proofs.queue.RunQueue.spawn.Goals as goal
 pub come_last-added-requires : goal.come_last-added-requires
 come_last-added-requires g c = valid_current (g.A.ArenaTrait.entry c.self.inside.tasks) (g.A.ChainArenaTrait.interlinks c.self.inside.tasks) g.P.PtrKey.key c.self.inside.current _ c.self.invariant
 
-it : (g : Over) (c : After-or-self-inside g) → IsTaskAdded g.A.ArenaTrait.view g.A.ArenaTrait.entry g.A.ChainArenaTrait.interlinks g.met.A.ArenaTrait.rises g.met.A.ArenaTrait.looked_up g.P.PtrKey.key c.self.inside.tasks c.come_last-added.new.tasks c.self.inside.current c.args.task c.come_last-added.result c.or-self-inside.result
-it g c = rw (c.or-self-inside.ensures, c.ok.ensures.value) (task_added g.A.ArenaTrait.view g.A.ArenaTrait.entry g.A.ChainArenaTrait.interlinks g.met.A.ArenaTrait.rises g.met.A.ArenaTrait.looked_up g.P.PtrKey.key c.self.inside.tasks c.come_last-added.new.tasks c.self.inside.current c.args.task
+it : (g : Over) (c : After-or-self-inside g) → IsTaskAdded g.A.ArenaTrait.view g.A.ArenaTrait.entry g.A.ChainArenaTrait.interlinks g.met.A.ArenaTrait.rises g.met.A.ArenaTrait.finds g.P.PtrKey.key c.self.inside.tasks c.come_last-added.new.tasks c.self.inside.current c.args.task c.come_last-added.result c.or-self-inside.result
+it g c = rw (c.or-self-inside.ensures, c.ok.ensures.value) (task_added g.A.ArenaTrait.view g.A.ArenaTrait.entry g.A.ChainArenaTrait.interlinks g.met.A.ArenaTrait.rises g.met.A.ArenaTrait.finds g.P.PtrKey.key c.self.inside.tasks c.come_last-added.new.tasks c.self.inside.current c.args.task
     c.come_last-added.result c.self.invariant c.come_last-added.ensures.last c.come_last-added.ensures.err)
 
 pub invariant_of-self : goal.invariant_of-self
@@ -24,7 +24,7 @@ returns-clause-last g c = rw (← c.self.view_is) (it g c.before).last
 
 -- There are as many tasks as entries.
 size : (g : Over) (c : After-or-self-inside g) → HasSize (g.A.ArenaTrait.view c.self.inside.tasks) c.args.self.now
-size g c = has_size g.A.ArenaTrait.view g.A.ArenaTrait.entry g.A.ChainArenaTrait.interlinks g.met.A.ArenaTrait.rises g.met.A.ArenaTrait.looked_up c.self.inside.tasks (option_map g.P.PtrKey.key c.self.inside.current) c.args.self.now c.self.invariant c.self.view_is
+size g c = has_size g.A.ArenaTrait.view g.A.ArenaTrait.entry g.A.ChainArenaTrait.interlinks g.met.A.ArenaTrait.rises g.met.A.ArenaTrait.finds c.self.inside.tasks (option_map g.P.PtrKey.key c.self.inside.current) c.args.self.now c.self.invariant c.self.view_is
 
 -- A free index belongs to no task.
 pub returns-clause-fresh : goal.returns-clause-fresh
@@ -35,13 +35,13 @@ pub returns-clause-grown : goal.returns-clause-grown
 returns-clause-grown g c = rw (← (size g c.before).tasks) c.come_last-added.ensures.grown
 
 pub returns-clause-beyond : goal.returns-clause-beyond
-returns-clause-beyond g c = rw (← (size g c.before).tasks, ← (size g c.before).room, ← (size g c.before).maximum) c.come_last-added.ensures.beyond
+returns-clause-beyond g c = rw (← (size g c.before).tasks, ← (size g c.before).capacity, ← (size g c.before).maximum) c.come_last-added.ensures.beyond
 
 pub returns-clause-greatest : goal.returns-clause-greatest
 returns-clause-greatest g c = rw (← (size g c.before).tasks) c.come_last-added.ensures.greatest
 
 -- If the queue has free capacity, so has the arena, and the call succeeds.
-pub returns-clause-room : goal.returns-clause-room
-returns-clause-room g c = λ less.
-    let kept = c.come_last-added.ensures.room (has_room g.A.ArenaTrait.view g.A.ArenaTrait.entry g.A.ChainArenaTrait.interlinks g.met.A.ArenaTrait.rises g.met.A.ArenaTrait.looked_up c.self.inside.tasks (option_map g.P.PtrKey.key c.self.inside.current) c.args.self.now c.self.invariant c.self.view_is less) in
-    (kept.0, kept.1 ∙ ap (λ (q : Queue g.row.P-Gen.Denot g.row.T.Denot). q.room) c.self.view_is)
+pub returns-clause-within_capacity : goal.returns-clause-within_capacity
+returns-clause-within_capacity g c = λ less.
+    let kept = c.come_last-added.ensures.within_capacity (has_capacity g.A.ArenaTrait.view g.A.ArenaTrait.entry g.A.ChainArenaTrait.interlinks g.met.A.ArenaTrait.rises g.met.A.ArenaTrait.finds c.self.inside.tasks (option_map g.P.PtrKey.key c.self.inside.current) c.args.self.now c.self.invariant c.self.view_is less) in
+    (kept.0, kept.1 ∙ ap (λ (q : Queue g.row.P-Gen.Denot g.row.T.Denot). q.capacity) c.self.view_is)

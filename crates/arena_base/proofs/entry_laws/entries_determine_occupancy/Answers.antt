@@ -1,0 +1,19 @@
+-- A lookup among the entries finds the entry at an index.
+use Rattle.std.proofs.Common.{ap, sym, ◌∙◌}
+use Rattle.arena_base.specs.Entries.{found}
+use Rattle.arena_base.proofs.EntrySearchLemmas.{found-gone, found-kept}
+use Rattle.arena_base.proofs.entry_laws.entries_determine_occupancy.Goals as goal
+
+pub returns-clause-same : goal.returns-clause-same
+returns-clause-same g c a b i is =
+    let was_read = g.met.A.ArenaTrait.finds in
+    sym (was_read b i) ∙ (ap (found i) is ∙ was_read a i)
+
+pub returns-clause-gone : goal.returns-clause-gone
+returns-clause-gone g c a b i is =
+    sym (g.met.A.ArenaTrait.finds b i) ∙ (ap (found i) is ∙ found-gone i 1 (g.A.ArenaTrait.view a).entries (g.met.A.ArenaTrait.rises a))
+
+pub returns-clause-kept : goal.returns-clause-kept
+returns-clause-kept g c a b i j is other =
+    let was_read = g.met.A.ArenaTrait.finds in
+    sym (was_read b j) ∙ (ap (found j) is ∙ (found-kept j i (g.A.ArenaTrait.view a).entries other ∙ was_read a j))

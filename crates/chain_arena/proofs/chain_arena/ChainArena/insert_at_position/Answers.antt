@@ -1,0 +1,73 @@
+-- The link is inserted at the position, and the links stay well linked.
+use Rattle.std.proofs.Common.{◌≡◌, ◌<◌, refl, sym, ap, subst, arith}
+use Rattle.chain_laws.specs.Chains.{IsWellLinked}
+use Rattle.chain_laws.specs.Insertions.{IsInsertPosition}
+use Rattle.chain_laws.proofs.InsertionLemmas.Pairs.{position_between}
+use Rattle.arena_base.specs.Arena.{entry_count, next_index}
+use Rattle.chain_links.specs.Links.{links_view}
+use Rattle.chain_linking.specs.InsertPositions.{before_in, after_in}
+use Rattle.chain_links.specs.ChainArena.{link_map, insert_between}
+use Rattle.chain_links.proofs.ArenaInsertionLemmas.{entry_count-links_view, listed-links_view, link_map-next}
+use Rattle.chain_linking.proofs.LinkInsertionLemmas.{placed_in_capacity, before_stored, after_stored}
+use Rattle.chain_arena.proofs.NewLinkLemmas.{next_viewed}
+use Rattle.chain_arena.proofs.InsertionEffectLemmas.{agrees-insert_between}
+use Rattle.chain_arena.proofs.chain_arena.ChainArena.insert_at_position.Given.{Over}
+use Rattle.chain_arena.proofs.chain_arena.ChainArena.insert_at_position.Goals.{After-update_neighbors}
+use Rattle.chain_arena.proofs.chain_arena.ChainArena.insert_at_position.Goals as goal
+
+-- the insertion position, in the links of the arena
+position : (g : Over) (c : After-update_neighbors g) → let s = links_view g.P.Inx.InxKey.packed_number c.self.inside.arena in
+    IsInsertPosition (link_map s) (next_index s) (before_in g.P.Inx.InxKey.number c.args.position (next_index s)) (after_in g.P.Inx.InxKey.number c.args.position (next_index s))
+position g c = rw (← c.self.view_is) at c.requires.position
+
+-- the arena after the insertion
+inserted : (g : Over) (c : After-update_neighbors g) → let s = links_view g.P.Inx.InxKey.packed_number c.self.inside.arena in let d = links_view g.P.Inx.InxKey.packed_number c.update_neighbors.new.arena in
+    d ≡ insert_between s c.args.t (before_in g.P.Inx.InxKey.number c.args.position (next_index s)) (after_in g.P.Inx.InxKey.number c.args.position (next_index s))
+inserted g c =
+    let packed = g.P.Inx.InxKey.packed_number in
+    let number = g.P.Inx.InxKey.number in
+    let a = c.self.inside.arena in
+    let s = links_view packed a in
+    let q = next_index s in
+    placed_in_capacity packed number a c.insert_within_capacity.new.self (links_view packed c.update_neighbors.new.arena) c.args.position c.args.t c.link_in.result c.invariants.ensures.listed c.link_in.ensures
+    (position_between (link_map s) q (before_in number c.args.position q) (after_in number c.args.position q) c.self.invariant (link_map-next s (listed-links_view packed a c.invariants.ensures.listed).free) (position g c)).forth.itself
+    (g.P.PtrKey.key c.in-Ok.p).0 (ap (λ p. p.0) {y = (next_index a, a.counter)} c.in-Ok.ensures.ptr) c.update_neighbors.ensures c.in-Ok.ensures.ok
+
+pub proved_unreachable-assume_proved-requires : goal.proved_unreachable-assume_proved-requires
+proved_unreachable-assume_proved-requires g c =
+    let packed = g.P.Inx.InxKey.packed_number in
+    let a = c.self.inside.arena in
+    let within_capacity : entry_count (links_view packed a) < a.capacity = rw (← c.self.view_is) at c.requires.within_capacity in
+    let full : entry_count a ≡ a.capacity = c.in-Err.ensures.refused.0 refl in
+    absurd (omega (arith, within_capacity, full, entry_count-links_view packed a))
+
+pub update_neighbors-requires : goal.update_neighbors-requires
+update_neighbors-requires g c =
+    let packed = g.P.Inx.InxKey.packed_number in
+    let a = c.self.inside.arena in
+    let b = c.insert_within_capacity.new.self in
+    let in_links = rw (← c.self.view_is) at c.requires.position in
+    let at = ap (λ p. p.0) {y = (next_index a, a.counter)} c.in-Ok.ensures.ptr in
+    record {
+      before = before_stored packed g.P.Inx.InxKey.number a b c.args.position c.link_in.result c.invariants.ensures.listed c.self.invariant in_links (g.P.PtrKey.key c.in-Ok.p).0 at c.in-Ok.ensures.ok;
+      after = after_stored packed g.P.Inx.InxKey.number a b c.args.position c.link_in.result c.invariants.ensures.listed c.self.invariant in_links (g.P.PtrKey.key c.in-Ok.p).0 at c.in-Ok.ensures.ok;
+    }
+
+pub invariant_of-self : goal.invariant_of-self
+invariant_of-self g c =
+    let s = links_view g.P.Inx.InxKey.packed_number c.self.inside.arena in
+    let q = next_index s in
+    subst IsWellLinked (sym (ap (λ a. link_map a) (inserted g c)))
+    (agrees-insert_between s c.args.t (listed-links_view g.P.Inx.InxKey.packed_number c.self.inside.arena c.invariants.ensures.listed)
+    (before_in g.P.Inx.InxKey.number c.args.position q) (after_in g.P.Inx.InxKey.number c.args.position q) c.self.invariant (position g c))
+
+pub returns : goal.returns
+returns g c =
+    let a = c.self.inside.arena in
+    let packed = g.P.Inx.InxKey.packed_number in
+    rw (← c.self.view_is) (record {
+      pointer = next_viewed packed a (g.P.PtrKey.key c.in-Ok.p) c.in-Ok.ensures.ptr;
+      state = inserted g c;
+      listed = listed-links_view packed a c.invariants.ensures.listed;
+      agreed = c.self.invariant;
+    })

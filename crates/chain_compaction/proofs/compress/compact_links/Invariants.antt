@@ -1,0 +1,18 @@
+-- The holes up to slot k are closed, and the links are renamed so far.
+use Rattle.std.proofs.Common.{◌≡◌, ◌+◌, ◌*◌}
+use denote.Param.Always.{always_mut}
+use Rattle.arena_base.proofs.HoleClosingLemmas.{IsClosing}
+use Rattle.chain_compaction.specs.DetachedLinks.{slot_values, IsWork}
+use Rattle.chain_compaction.proofs.LinkCompressionLemmas.{AreComing}
+use Rattle.chain_compaction.proofs.compress.compact_links.Given as goal
+
+abbrev pub invariant-loop-k : goal.invariant-loop-k
+invariant-loop-k g l = record {
+  callable : always_mut g.F.FnMut l.map;
+  same_reference : l.compactor.arena.ghost_name ≡ l.fn.compactor.arena.ghost_name;
+  capacity : l.compactor.held.stack_capacity ≡ l.fn.compactor.held.stack_capacity;
+  maximum : l.compactor.held.maximum ≡ l.fn.compactor.held.maximum;
+  closing : IsClosing g.F.FnMut g.P.PtrKey.key l.generation l.fn.map (slot_values l.fn.compactor.held.slots) l.k l.count l.map (slot_values l.compactor.held.slots);
+  coming : AreComing g.P.Inx.InxKey.packed_number l.fn.compactor.held.slots l.compactor.held.slots l.k l.count;
+  work : IsWork l.fn.compactor.arena.now l.compactor.arena.now l.count (l.k + 3 * l.count);
+}

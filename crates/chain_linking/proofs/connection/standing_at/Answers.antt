@@ -1,9 +1,0 @@
--- There is a link where there is an entry.
-use Rattle.std.proofs.Common.{sym}
-use Rattle.chain_linking.proofs.ConnectionLemmas.{valid_at}
-use Rattle.chain_linking.proofs.connection.standing_at.Goals as goal
-
-pub returns-in-Some-get_inx-clause-stands : goal.returns-in-Some-get_inx-clause-stands
-returns-in-Some-get_inx-clause-stands g c =
-    let found = c.in-Some-get_inx.field-0 in
-    valid_at g.P.Inx.InxKey.packed_number c.args.arena.now (g.P.Inx.InxKey.number c.in-Some.k, found.0) found.1.now (sym c.in-Some-get_inx.ensures)
