@@ -7,6 +7,9 @@ import sys
 import tempfile
 from typing import NamedTuple
 
+# A program is not run again for a case once its runs took so many seconds.
+ENOUGH = 5
+
 # The sides whose sum differs from ours, by case: a SlotMap counts the versions of each slot by itself.
 UNLIKE = {("replace", "slotmap")}
 
@@ -93,15 +96,16 @@ class Times:
     """The nanoseconds of an operation of a case, by side, in runs that alternate between the programs of all sides."""
 
     def __init__(self, case, links, chain, part="timed"):
-        self.case, self.part = case, part
-        self.tail = [case, str(links), str(chain), str(1 if part == "longest" else rounds_of(links)), part]
+        rounds = 1 if part == "longest" else rounds_of(links)
+        self.case, self.part, self.links = case, part, links * rounds
+        self.tail = [case, str(links), str(chain), str(rounds), part]
         self.runs, self.missing, self.spent, self.wanted = {}, {}, {}, None
 
     def measure(self, sides, runs, seconds):
         for _ in range(runs):
             for side in sides:
                 for k, program in enumerate(side.programs):
-                    if side.name not in self.missing and self.spent.get((side.name, k), 0) < seconds * 1e9:
+                    if (side.name, k) not in self.missing and self.spent.get((side.name, k), 0) < ENOUGH * 1e9:
                         self.measure_one(side.name, k, program, seconds)
         return self
 
@@ -109,9 +113,9 @@ class Times:
         try:
             line = line_of([*program, *self.tail], seconds)
         except LeftOut:
-            self.missing[name] = ""
+            self.missing[name, k] = ""
         except TooLong:
-            self.missing[name] = f"over {seconds} s"
+            self.missing[name, k] = f"over {seconds * 1e9 / self.links:,.0f}"
         else:
             self.check(name, line)
             self.spent[name, k] = self.spent.get((name, k), 0) + line.nanoseconds
@@ -125,8 +129,12 @@ class Times:
             sys.exit(f"{' '.join(self.tail)}: {name} has the operations and the sum {line[:2]}, the first side {self.wanted[:2]}")
 
     def of(self, name):
-        """The runs of the better program of a side. None, if it has no times."""
-        return min((runs for (side, _), runs in self.runs.items() if side == name and name not in self.missing), key=min, default=[])
+        """The runs of the better program of a side, if it has any."""
+        return min((runs for (side, _), runs in self.runs.items() if side == name), key=min, default=[])
 
     def best(self, name):
         return min(self.of(name), default=None)
+
+    def reason(self, name):
+        """Why a side has no times."""
+        return self.missing.get((name, 0), "")

@@ -42,7 +42,9 @@ def selection(given, names):
 
 
 def ratio(one, other):
-    return f"{one / other:.2f}" if one is not None and other else ""
+    if one is None or not other:
+        return ""
+    return f"{one / other:.2f}" if one > 0.1 * other else f"{one / other:.1g}"
 
 
 def ratio_heads(sides):
@@ -91,7 +93,7 @@ def print_times(given, sides, links):
 def cell_of(times, name):
     numbers = times.of(name)
     if not numbers:
-        return times.missing.get(name, "")
+        return times.reason(name)
     return f"{min(numbers):.1f} ({statistics.median(numbers):.1f})"
 
 
