@@ -1,4 +1,4 @@
-# Draws `picture` from `data`, both given by bench/picture.py.
+# Draws the picture of the file `data` into the file `picture`. bench/picture.py sets both names.
 set terminal svg size 760,440 font "Helvetica,13" background "#ffffff"
 set output picture
 set datafile missing "-"

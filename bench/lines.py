@@ -1,4 +1,4 @@
-"""Lines for the program of docs/PROGRAM.md, made from a seed, and the instructions that they take."""
+"""Makes lines for the program of docs/CLI.md from a seed, and counts the instructions that they take."""
 import random
 import re
 import sys
@@ -6,67 +6,68 @@ import sys
 from measures import instructions
 
 
-class Lines:
-    """Lines for the program, which know the pointers that it answers, and the link after each in chains and in rings."""
+class Writer:
+    """Writes lines for the program. It knows the pointers of all links, and the neighbors of each link."""
 
     def __init__(self, seed):
-        self.lines, self.numbers = [], random.Random(seed)
+        self.lines, self.rng = [], random.Random(seed)
         self.slots, self.free, self.counter = 0, [], 2
-        self.links, self.places, self.next, self.before = [], {}, {}, {}
+        self.links, self.positions, self.next, self.before = [], {}, {}, {}
 
-    def say(self, *words):
+    def add_line(self, *words):
         self.lines.append(" ".join(map(str, words)))
 
-    def any(self):
-        return self.numbers.choice(self.links)
+    def any_pointer(self):
+        return self.rng.choice(self.links)
 
-    def tie(self, p, q):
+    def connect(self, p, q):
         self.next[p], self.before[q] = q, p
 
     def add(self, kind, *beside):
-        """Adds a link; `after` and `end` tie it behind the one beside it."""
+        """Adds a link, and returns its pointer. For the kinds `after` and `end`, it is added after the link `beside`."""
         index = self.free.pop() if self.free else self.slots + 1
         self.slots = max(self.slots, index)
         p = f"{index}.{self.counter}"
-        self.say("add", kind, *beside, self.numbers.randrange(2**32))
-        self.places[p] = len(self.links)
+        self.add_line("add", kind, *beside, self.rng.randrange(2**32))
+        self.positions[p] = len(self.links)
         self.links.append(p)
         if kind == "ring":
-            self.tie(p, p)
+            self.connect(p, p)
         if beside:
             after = self.next.get(beside[0])
-            self.tie(beside[0], p)
+            self.connect(beside[0], p)
             if after:
-                self.tie(p, after)
+                self.connect(p, after)
         return p
 
-    def forget(self, p):
-        place, last = self.places.pop(p), self.links.pop()
+    def remove_pointer(self, p):
+        """Removes a pointer from the list of all pointers, and moves the last one to its position."""
+        position, last = self.positions.pop(p), self.links.pop()
         if last != p:
-            self.links[place], self.places[last] = last, place
+            self.links[position], self.positions[last] = last, position
 
     def remove(self, p):
-        self.say("remove", p)
+        self.add_line("remove", p)
         before, after = self.before.pop(p, None), self.next.pop(p, None)
         if before and before != p:
             self.next.pop(before)
         if after and after != p:
             self.before.pop(after)
         if before and after and before != p:
-            self.tie(before, after)
-        self.forget(p)
+            self.connect(before, after)
+        self.remove_pointer(p)
         self.free.append(int(p.split(".")[0]))
         self.counter += 1
 
     def exchange(self, p, q):
-        self.say("exchange", p, q)
+        self.add_line("exchange", p, q)
         after_p, after_q = self.next[p], self.next[q]
-        self.tie(p, after_q)
-        self.tie(q, after_p)
+        self.connect(p, after_q)
+        self.connect(q, after_p)
 
-    def part_and_tie(self, p):
-        self.say("breaknext", p)
-        self.say("connect", p, self.next[p])
+    def break_and_connect(self, p):
+        self.add_line("breaknext", p)
+        self.add_line("connect", p, self.next[p])
 
     def chains(self, links, chain):
         starts = []
@@ -82,73 +83,76 @@ class Lines:
 
     def tangle(self, links, chain):
         alone = [self.add("alone") for _ in range(links)]
-        self.numbers.shuffle(alone)
+        self.rng.shuffle(alone)
         for k in range(1, links):
             if k % chain:
-                self.say("connect", alone[k - 1], alone[k])
+                self.add_line("connect", alone[k - 1], alone[k])
 
 
-def build(lines, links, chain):
-    return lambda: lines.chains(links, chain)
+# The kinds of lines. Each function adds the lines that make an arena, and returns a function that adds the measured lines.
 
 
-def churn(lines, links, chain):
-    lines.chains(links, chain)
+def build(writer, links, chain):
+    return lambda: writer.chains(links, chain)
 
-    def more():
+
+def churn(writer, links, chain):
+    writer.chains(links, chain)
+
+    def add_measured():
         for _ in range(links // 2):
-            lines.remove(lines.any())
-            lines.add("after", lines.any())
+            writer.remove(writer.any_pointer())
+            writer.add("after", writer.any_pointer())
 
-    return more
+    return add_measured
 
 
-def splice(lines, links, chain):
-    lines.rings(links, chain)
+def splice(writer, links, chain):
+    writer.rings(links, chain)
 
-    def more():
+    def add_measured():
         for _ in range(links // 4):
-            lines.exchange(lines.any(), lines.any())
-            lines.exchange(lines.any(), lines.any())
-            lines.part_and_tie(lines.any())
+            writer.exchange(writer.any_pointer(), writer.any_pointer())
+            writer.exchange(writer.any_pointer(), writer.any_pointer())
+            writer.break_and_connect(writer.any_pointer())
 
-    return more
-
-
-def walk(lines, links, chain):
-    starts = lines.chains(links, chain)
-    return lambda: [lines.say("chain", p) for p in starts]
+    return add_measured
 
 
-def drain(lines, links, chain):
-    starts = lines.chains(links, chain)
-    return lambda: [lines.say("drain", p, chain) for p in starts]
+def walk(writer, links, chain):
+    starts = writer.chains(links, chain)
+    return lambda: [writer.add_line("chain", p) for p in starts]
 
 
-def compress(lines, links, chain):
-    lines.chains(2 * links, 2 * chain)
-    for p in lines.links[1::2]:
-        lines.say("remove", p)
-    return lambda: lines.say("compress", "keep")
+def drain(writer, links, chain):
+    starts = writer.chains(links, chain)
+    return lambda: [writer.add_line("drain", p, chain) for p in starts]
 
 
-def canonical(lines, links, chain):
-    lines.tangle(links, chain)
-    return lambda: lines.say("canonical", "keep")
+def compress(writer, links, chain):
+    writer.chains(2 * links, 2 * chain)
+    for p in writer.links[1::2]:
+        writer.add_line("remove", p)
+    return lambda: writer.add_line("compress", "keep")
 
 
-def mixed(lines, links, chain):
-    lines.rings(links, chain)
+def canonical(writer, links, chain):
+    writer.tangle(links, chain)
+    return lambda: writer.add_line("canonical", "keep")
 
-    def more():
+
+def mixed(writer, links, chain):
+    writer.rings(links, chain)
+
+    def add_measured():
         for _ in range(links // 5):
-            lines.add("after", lines.any())
-            lines.exchange(lines.any(), lines.any())
-            lines.say("show", lines.any())
-            lines.part_and_tie(lines.any())
-            lines.remove(lines.any())
+            writer.add("after", writer.any_pointer())
+            writer.exchange(writer.any_pointer(), writer.any_pointer())
+            writer.add_line("show", writer.any_pointer())
+            writer.break_and_connect(writer.any_pointer())
+            writer.remove(writer.any_pointer())
 
-    return more
+    return add_measured
 
 
 KINDS = {
@@ -163,24 +167,24 @@ KINDS = {
 }
 
 
-def instructions_of_lines(programs, kind, given):
-    """Instructions of a command, or of a link, of each program. All have to give the same answers."""
+def instructions_of_lines(programs, kind, options):
+    """Returns the instructions of a command, or of a link, for each program. Exits if their responses differ."""
     make, _, unit = KINDS[kind]
-    lines = Lines(given.seed)
-    more = make(lines, given.links[0], given.chain)
-    first = len(lines.lines)
-    more()
-    texts = ["".join(f"{line}\n" for line in part) for part in (lines.lines[:first], lines.lines)]
-    count = given.links[0] if unit == "link" else len(lines.lines) - first
-    runs = [[instructions(words, text) for text in texts] for words in programs]
-    check_answers(kind, lines.lines, runs[0][1][1].splitlines())
-    if any(after[1] != runs[0][1][1] for _, after in runs):
-        sys.exit(f"{kind}: the programs' answers differ")
-    return [(after[0] - before[0]) / count for before, after in runs]
+    writer = Writer(options.seed)
+    add_measured = make(writer, options.links[0], options.chain)
+    first = len(writer.lines)
+    add_measured()
+    texts = ["".join(f"{line}\n" for line in part) for part in (writer.lines[:first], writer.lines)]
+    count = options.links[0] if unit == "link" else len(writer.lines) - first
+    runs = [[instructions(command, text) for text in texts] for command in programs]
+    check_responses(kind, writer.lines, runs[0][1][1].splitlines())
+    if any(whole[1] != runs[0][1][1] for _, whole in runs):
+        sys.exit(f"{kind}: the responses of the programs differ")
+    return [(whole[0] - setup[0]) / count for setup, whole in runs]
 
 
-def check_answers(kind, lines, answers):
-    """Ends the program if an answer is missing or a refusal."""
-    wrong = [(line, answer) for line, answer in zip(lines, answers) if re.match("none|refused|bad", answer)]
-    if wrong or len(answers) != len(lines):
-        sys.exit(f"{kind}: {len(lines)} lines, {len(answers)} answers, of which {wrong[:3]} are refusals")
+def check_responses(kind, lines, responses):
+    """Exits if a response is missing or a refusal."""
+    refusals = [(line, response) for line, response in zip(lines, responses) if re.match("none|refused|bad", response)]
+    if refusals or len(responses) != len(lines):
+        sys.exit(f"{kind}: {len(lines)} lines, {len(responses)} responses, of which {refusals[:3]} are refusals")

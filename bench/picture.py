@@ -1,4 +1,4 @@
-"""The picture of docs/BENCHMARKS.md: a link's time in a canonical compression, by the number of links."""
+"""Draws the picture of docs/BENCHMARKS.md: the time of a link in a canonical compression, by the number of links."""
 import os
 import shutil
 import subprocess
@@ -11,15 +11,15 @@ CASES = ["canonical_behind", "canonical_tangled"]
 SIDES = ["ours", "Rust"]
 
 
-def draw(given, sides):
+def draw(options, sides):
     """Measures both cases on both sides, and writes the data and the picture."""
     sides = [side for side in sides if side.name in SIDES]
-    rows = [[str(links), *(cell for case in CASES for cell in cells(given, sides, case, links))] for links in LINKS]
-    data, picture = (f"{given.picture}/compression.{ending}" for ending in ("dat", "svg"))
-    with open(data, "w", encoding="utf-8") as it:
-        heads = ["links", *(f"{case} {name}" for case in CASES for name in SIDES)]
-        it.write(f"# Nanoseconds of a link: {', '.join(heads)}\n")
-        it.writelines(" ".join(row) + "\n" for row in rows)
+    rows = [[str(links), *(cell for case in CASES for cell in cells(options, sides, case, links))] for links in LINKS]
+    data, picture = (f"{options.picture}/compression.{ending}" for ending in ("dat", "svg"))
+    with open(data, "w", encoding="utf-8") as file:
+        headers = ["links", *(f"{case} {name}" for case in CASES for name in SIDES)]
+        file.write(f"# Nanoseconds of a link: {', '.join(headers)}\n")
+        file.writelines(" ".join(row) + "\n" for row in rows)
     if not shutil.which("gnuplot"):
         print(f"There is no gnuplot on this machine: {data} is written, and no picture.")
         return
@@ -27,7 +27,7 @@ def draw(given, sides):
     print(f"{data} and {picture} are written.")
 
 
-def cells(given, sides, case, links):
-    """The best time of each side, or a dash where there is none."""
-    times = Times(case, links, given.chain).measure(sides, given.runs, given.seconds)
+def cells(options, sides, case, links):
+    """Returns the best time of each side, or a dash where there is none."""
+    times = Times(case, links, options.chain).measure(sides, options.runs, options.seconds)
     return ["-" if times.best(name) is None else f"{times.best(name):.2f}" for name in SIDES]

@@ -1,4 +1,4 @@
-"""The programs that are measured: ours, proved and built, and those of compare/, built by cargo."""
+"""Builds the programs that are measured: ours, which is proved, and those of compare/, which cargo builds."""
 import os
 import shutil
 import subprocess
@@ -7,40 +7,41 @@ from typing import NamedTuple
 
 ROOT = os.path.dirname(os.path.dirname(os.path.abspath(__file__)))
 
-# Arguments, and the line that they have to give: 400 operations, two rounds over 200 links (docs/BENCHMARKS.md has the sum).
-FIRST = ["walk", "200", "10", "2", "all"], "walk: 400 operations, sum 11310695771671459584\n"
+# Arguments, and the output that they must have: 400 operations, in two rounds over 200 links. docs/BENCHMARKS.md has the sum.
+CHECKED_RUN = ["walk", "200", "10", "2", "all"], "walk: 400 operations, sum 11310695771671459584\n"
 
-# The folder of Debian's packages of Rust sources, which cargo takes as a directory source.
+# The folder of Debian's packages of Rust sources. Cargo can use it as a directory source.
 DEBIAN = "/usr/share/cargo/registry"
 
 
 class Side(NamedTuple):
-    """Programs that do the same, each with the arguments before those of a case. The better one counts."""
+    """Equivalent programs, each a command without the arguments of a case. The better one counts."""
 
     name: str
     programs: list
 
 
 def crates_below(name):
-    """The lines of crates.txt of a crate and of all crates that it uses."""
-    with open(f"{ROOT}/crates.txt", encoding="utf-8") as it:
-        lines = {line.partition(":")[0]: line for line in it.read().splitlines() if ":" in line}
+    """Returns the lines of crates.txt of a crate and of all crates that it uses."""
+    with open(f"{ROOT}/crates.txt", encoding="utf-8") as file:
+        lines = {line.partition(":")[0]: line for line in file.read().splitlines() if ":" in line}
     below = [name, *lines[name].partition(":")[2].split()]
     return {it: lines[it] for it in below}
 
 
-def workspace_crate(workspace):
-    """The folder of chain_bench, in a workspace whose other crates are copies of those of this repository, as they were built."""
+def make_workspace(workspace):
+    """Writes a workspace with chain_bench and copies of built crates of this repository. Returns the folder of chain_bench."""
     below = crates_below("chain_arena")
     run = subprocess.run(["rt", "lib"], cwd=f"{ROOT}/crates/chain_arena", stdin=subprocess.DEVNULL, capture_output=True, text=True)
     if run.returncode:
-        sys.exit(f"chain_arena: rt lib ended with status {run.returncode}\n{run.stdout[-2000:]}{run.stderr[-2000:]}")
+        sys.exit(f"chain_arena: rt lib exited with status {run.returncode}\n{run.stdout[-2000:]}{run.stderr[-2000:]}")
     for crate in below:
         for part in ("src", "specs", "proofs", "out/rlib"):
-            to = f"{workspace}/crates/{crate}/{part}"
-            shutil.rmtree(to, ignore_errors=True)
-            shutil.copytree(f"{ROOT}/crates/{crate}/{part}", to)
+            copy = f"{workspace}/crates/{crate}/{part}"
+            shutil.rmtree(copy, ignore_errors=True)
+            shutil.copytree(f"{ROOT}/crates/{crate}/{part}", copy)
     folder = f"{workspace}/crates/chain_bench"
+    shutil.rmtree(f"{folder}/src", ignore_errors=True)
     for part in ("src", "specs", "proofs"):
         os.makedirs(f"{folder}/{part}", exist_ok=True)
     for part in ("specs", "proofs"):
@@ -48,68 +49,71 @@ def workspace_crate(workspace):
     for name in os.listdir(f"{ROOT}/bench"):
         if name.endswith(".rt.txt"):
             shutil.copyfile(f"{ROOT}/bench/{name}", f"{folder}/src/{name[:-len('.txt')]}")
-    with open(f"{workspace}/crates.txt", "w", encoding="utf-8") as it:
-        it.write("\n".join([*below.values(), "chain_bench: arena_base arena_ptr chain_arena", ""]))
+    with open(f"{workspace}/crates.txt", "w", encoding="utf-8") as file:
+        file.write("\n".join([*below.values(), "chain_bench: arena_base arena_ptr chain_arena", ""]))
     shutil.copyfile(f"{ROOT}/HANDLES", f"{workspace}/HANDLES")
     return folder
 
 
-def proved_program(folder, *words):
-    """The program of a crate's folder, proved and built, and what it writes."""
-    run = subprocess.run(["rt", "run", "--", *words], cwd=folder, stdin=subprocess.DEVNULL, capture_output=True, text=True)
+def build_proved(folder, *arguments):
+    """Proves, builds and runs the program of a crate's folder. Returns its path and its output."""
+    run = subprocess.run(["rt", "run", "--", *arguments], cwd=folder, stdin=subprocess.DEVNULL, capture_output=True, text=True)
     if run.returncode:
-        sys.exit(f"{folder}: rt run ended with status {run.returncode}\n{run.stdout[-2000:]}{run.stderr[-2000:]}")
+        sys.exit(f"{folder}: rt run exited with status {run.returncode}\n{run.stdout[-2000:]}{run.stderr[-2000:]}")
     return f"{folder}/out/{os.path.basename(folder)}", run.stdout
 
 
-def ours(given):
-    """Our side: chain_bench, whose first line is compared before anything is measured."""
-    words, wanted = FIRST
-    program = os.path.abspath(given.bench) if given.bench else proved_program(workspace_crate(given.workspace), *words)[0]
-    line = subprocess.run([program, *words], capture_output=True, text=True).stdout
-    if line != wanted:
-        sys.exit(f"chain_bench {' '.join(words)}: it wrote {line!r}, and not {wanted!r}")
+def our_side(options):
+    """Returns the side of chain_bench, after a check of the output of one run."""
+    arguments, expected = CHECKED_RUN
+    program = os.path.abspath(options.bench) if options.bench else build_proved(make_workspace(options.workspace), *arguments)[0]
+    output = subprocess.run([program, *arguments], capture_output=True, text=True).stdout
+    if output != expected:
+        sys.exit(f"chain_bench {' '.join(arguments)}: it wrote {output!r} instead of {expected!r}")
     return Side("ours", [[program]])
 
 
-def tool(given):
-    """chain_tool, the program of docs/PROGRAM.md."""
-    return os.path.abspath(given.tool) if given.tool else proved_program(f"{ROOT}/crates/chain_tool")[0]
+def tool(options):
+    """Returns the path of chain_tool, the program of docs/CLI.md."""
+    return os.path.abspath(options.tool) if options.tool else build_proved(f"{ROOT}/crates/chain_tool")[0]
 
 
-def cargo(folder, profile, *options):
-    """The folder of a package's programs, built by cargo, or `None` and why they cannot be."""
-    words = ["cargo", "build", "--quiet", "--profile", profile, *options]
-    run = subprocess.run(words, cwd=folder, capture_output=True, text=True, env={**os.environ, "CARGO_NET_RETRY": "0"})
+def cargo_build(folder, profile, *cargo_options):
+    """Builds the programs of a package. Returns their folder and "", or `None` and the error."""
+    command = ["cargo", "build", "--quiet", "--profile", profile, *cargo_options]
+    run = subprocess.run(command, cwd=folder, capture_output=True, text=True, env={**os.environ, "CARGO_NET_RETRY": "0"})
     if run.returncode:
         errors = [line for line in run.stderr.splitlines() if line.startswith("error")]
         return None, (errors or [f"status {run.returncode}"])[0]
     return f"{os.environ.get('CARGO_TARGET_DIR', f'{folder}/target')}/{profile}", ""
 
 
-def rust(given):
-    """The sides of the Rust, the programs that answer lines, and what is left out, in words."""
+def rust_sides(options):
+    """Returns the Rust sides, the commands of the Rust programs that execute lines, and notes on what is left out."""
     if not shutil.which("cargo"):
         return [], [], ["There is no cargo on this machine: only our side is measured."]
-    options = []
-    if given.triple_arena:
-        path = os.path.abspath(given.triple_arena)
-        options = ["--offline", "--config", f'patch.crates-io.triple_arena.path="{path}"']
-    folder, why = cargo(f"{ROOT}/compare", "timing", *options)
-    other, why = cargo(f"{ROOT}/compare", "timing-one-unit", *options) if folder else (None, why)
+    cargo_options = []
+    if options.triple_arena:
+        path = os.path.abspath(options.triple_arena)
+        cargo_options = ["--offline", "--config", f'patch.crates-io.triple_arena.path="{path}"']
+    folder, error = cargo_build(f"{ROOT}/compare", "timing", *cargo_options)
+    other, error = cargo_build(f"{ROOT}/compare", "timing-one-unit", *cargo_options) if folder else (None, error)
     if other is None:
-        return [], [], [f"The crate triple_arena is not at hand ({why}): only our side is measured. --triple-arena PATH takes a copy."]
+        return [], [], [f"The crate triple_arena is not available ({error}): only our side is measured. --triple-arena FOLDER uses a copy."]
     programs = [[f"{it}/time"] for it in (folder, other)]
-    sides = [Side("Rust", programs), Side("Rust, 24 bytes", [[*words, "--wide"] for words in programs])]
-    by_hand, notes = slotmap(options)
-    return sides + by_hand, [[f"{it}/answers"] for it in (folder, other)], notes
+    sides = [Side("Rust", programs), Side("Rust, 24 bytes", [[*command, "--wide"] for command in programs])]
+    slotmap, notes = slotmap_sides(cargo_options)
+    return sides + slotmap, [[f"{it}/responses"] for it in (folder, other)], notes
 
 
-def slotmap(options):
-    """The side over a SlotMap. Offline, the sources are those of Debian's package librust-slotmap-dev."""
-    if options and os.path.isdir(DEBIAN):
-        options = [*options, "--config", 'source.crates-io.replace-with="debian"', "--config", f'source.debian.directory="{DEBIAN}"']
-    folder, why = cargo(f"{ROOT}/compare/slotmap_links", "release", *options)
+def slotmap_sides(cargo_options):
+    """Returns the side over a SlotMap, if it can be built, and a note if not.
+
+    Offline, the sources of slotmap are those of Debian's package librust-slotmap-dev.
+    """
+    if cargo_options and os.path.isdir(DEBIAN):
+        cargo_options = [*cargo_options, "--config", 'source.crates-io.replace-with="debian"', "--config", f'source.debian.directory="{DEBIAN}"']
+    folder, error = cargo_build(f"{ROOT}/compare/slotmap_links", "release", *cargo_options)
     if folder is None:
-        return [], [f"slotmap is not at hand ({why}): it is left out."]
+        return [], [f"slotmap is not available ({error}): it is left out."]
     return [Side("slotmap", [[f"{folder}/slotmap_links"]])], []

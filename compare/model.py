@@ -1,14 +1,14 @@
-"""An arena of links as far as the lines of scripts have to know it: pointers, neighbors, freed indexes, counter and capacity.
+"""A model of an arena of links: its pointers, neighbors, freed indexes, counter and capacity.
 
-No answer is judged by it: it only chooses lines that mostly find their links, and keeps the capacities of both programs
-equal, which grow by other rules (known_differences.txt).
+Scripts are written by it, so that most lines find their links. It also keeps the capacities of both programs equal, which grow
+by different rules (known_differences.txt). No response is checked against it.
 """
 
-MOST = 2**32 - 1
+MAX_U32 = 2**32 - 1
 
 
 class Model:
-    """The links of an arena by their indexes: of each its generation, and the indexes before and after it, 0 for none."""
+    """The links of an arena by index. A link is its generation and the indexes before and after it, 0 for none."""
 
     def __init__(self, capacity):
         self.capacity = capacity
@@ -18,14 +18,14 @@ class Model:
     def pointer(self, i):
         return f"{i}.{self.links[i][0]}"
 
-    def has(self, i):
+    def contains(self, i):
         return i in self.links
 
-    def count_up(self):
-        self.counter = 2 if self.counter == MOST else self.counter + 1
+    def increment_counter(self):
+        self.counter = 2 if self.counter == MAX_U32 else self.counter + 1
 
-    def place(self):
-        """The index of the next link. A full arena doubles its capacity."""
+    def take_index(self):
+        """Returns the index of the next link. A full arena doubles its capacity."""
         if self.freed:
             return self.freed.pop()
         if self.slots == self.capacity:
@@ -35,7 +35,7 @@ class Model:
 
     def add(self, before, after):
         """Adds a link between two indexes, 0 for none, and returns its index."""
-        i = self.place()
+        i = self.take_index()
         self.links[i] = [self.counter, before, after]
         if before:
             self.links[before][2] = i
@@ -68,20 +68,20 @@ class Model:
         if after and after != i:
             self.links[after][1] = before
         self.freed.append(i)
-        self.count_up()
+        self.increment_counter()
 
     def walk(self, i):
-        """The indexes of a chain: on to its end, and then from the link before the first back to its start."""
-        walk, j = [i], self.links[i][2]
+        """Returns the indexes of a chain: from `i` to the end, and then from the link before `i` back to the start."""
+        indexes, j = [i], self.links[i][2]
         while j and j != i:
-            walk.append(j)
+            indexes.append(j)
             j = self.links[j][2]
         if not j:
             j = self.links[i][1]
             while j:
-                walk.append(j)
+                indexes.append(j)
                 j = self.links[j][1]
-        return walk
+        return indexes
 
     def drain(self, i):
         for j in self.walk(i):
@@ -89,30 +89,32 @@ class Model:
 
     def clear(self):
         if self.links:
-            self.count_up()
+            self.increment_counter()
         self.links, self.freed, self.slots = {}, [], 0
 
     def start_of(self, i):
+        """Returns the first link of a linear chain, or `i` itself in a cyclic one."""
         j = i
         while self.links[j][1] and self.links[j][1] != i:
             j = self.links[j][1]
         return i if self.links[j][1] else j
 
-    def layout(self):
-        """The indexes in the order of a canonical compression."""
-        order, seen = [], set()
+    def canonical_order(self):
+        """Returns the indexes in the order of a canonical compression."""
+        order, visited = [], set()
         for i in sorted(self.links):
-            if i not in seen:
-                walk = self.walk(self.start_of(i))
-                order += walk
-                seen.update(walk)
+            if i not in visited:
+                chain = self.walk(self.start_of(i))
+                order += chain
+                visited.update(chain)
         return order
 
     def renumber(self, order, reset):
+        """Moves the links to the indexes from 1 on, in the given order. `reset` sets the counter to 2."""
         if reset:
             self.counter = 2
         elif self.links:
-            self.count_up()
-        to = {0: 0, **{i: k + 1 for k, i in enumerate(order)}}
-        self.links = {to[i]: [self.counter, to[it[1]], to[it[2]]] for i, it in self.links.items()}
+            self.increment_counter()
+        new = {0: 0, **{i: k + 1 for k, i in enumerate(order)}}
+        self.links = {new[i]: [self.counter, new[before], new[after]] for i, (_, before, after) in self.links.items()}
         self.freed, self.slots = [], len(self.links)

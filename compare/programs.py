@@ -1,22 +1,25 @@
-"""Runs of both programs, and the smallest script that still differs."""
+"""Runs both programs, and shrinks scripts whose responses differ."""
 import subprocess
 
 from scripts import text_of
 
+NO_RESPONSE = "no response"
 
-def answers_of(text):
-    return [line.decode("utf-8", "replace") for line in text.split(b"\n")[:-1]]
+
+def responses_of(output):
+    return [line.decode("utf-8", "replace") for line in output.split(b"\n")[:-1]]
 
 
 class Programs:
-    """Both programs: ours, and the Rust's, in which the transfer carries out `canonical F`."""
+    """The program of this repository, and the program over the Rust crate."""
 
     def __init__(self, tool, rust):
         self.tool = tool
-        self.rust = f"{rust}/answers"
+        self.rust = f"{rust}/responses"
 
-    def output(self, words, script):
-        run = subprocess.run(words, input=text_of(script), stdout=subprocess.PIPE, stderr=subprocess.DEVNULL, check=False)
+    def output(self, command, script):
+        """Returns what a program writes, followed by its exit status if that is not 0."""
+        run = subprocess.run(command, input=text_of(script), stdout=subprocess.PIPE, stderr=subprocess.DEVNULL, check=False)
         end = b"" if run.returncode == 0 else f"status {run.returncode}\n".encode()
         return run.stdout + end
 
@@ -24,9 +27,11 @@ class Programs:
         return self.output([self.tool], script)
 
     def by_transfer(self, script):
+        """Returns the output of the Rust program, in which the transfer executes `canonical F`."""
         return self.output([self.rust, "--by-transfer"], script)
 
     def in_place(self, script):
+        """Returns the output of the Rust program, in which `compress_canonical` executes `canonical F`."""
         return self.output([self.rust], script)
 
     def both(self, script):
@@ -34,40 +39,44 @@ class Programs:
 
 
 def first_difference(programs, script):
-    """The first answers that differ, each without its numbers. `None`: none do."""
-    ours, rust = (answers_of(it) for it in programs.both(script))
-    for one, other in zip(ours + ["no answer"] * len(rust), rust + ["no answer"] * len(ours)):
-        if one != other:
-            return shape_of(one), shape_of(other)
+    """Returns the first responses that differ, each as its kind, or `None`."""
+    ours, rust = (responses_of(it) for it in programs.both(script))
+    for our_response, rust_response in zip(ours + [NO_RESPONSE] * len(rust), rust + [NO_RESPONSE] * len(ours)):
+        if our_response != rust_response:
+            return kind_of(our_response), kind_of(rust_response)
     return None
 
 
-def shape_of(answer):
-    return "".join(letter for letter in answer if not letter.isdigit())[:12]
+def kind_of(response):
+    """Returns the first 12 characters of a response that are not digits."""
+    return "".join(letter for letter in response if not letter.isdigit())[:12]
 
 
 def differs(programs, script):
     return first_difference(programs, script) is not None
 
 
-def shrunk(programs, script):
-    """The script without lines that the same difference does not need: ever smaller pieces are left out, as long as it is there."""
-    wanted, piece = first_difference(programs, script), max(1, len(script) // 2)
-    while piece:
-        smaller = without_pieces(programs, script, piece, wanted)
-        if piece > 1 or len(smaller) == len(script):
-            piece //= 2
+def shrink(programs, script):
+    """Returns the script without the lines that its first difference does not need.
+
+    Pieces of lines are removed while that difference remains. The pieces become ever smaller.
+    """
+    difference, size = first_difference(programs, script), max(1, len(script) // 2)
+    while size:
+        smaller = without_pieces(programs, script, size, difference)
+        if size > 1 or len(smaller) == len(script):
+            size //= 2
         script = smaller
     return script
 
 
-def without_pieces(programs, script, piece, wanted):
-    """The script without each piece of so many lines that the difference does not need, one after another."""
-    at = 0
-    while at < len(script):
-        smaller = script[:at] + script[at + piece :]
-        if first_difference(programs, smaller) == wanted:
+def without_pieces(programs, script, size, difference):
+    """Returns the script without each piece of `size` lines that the difference does not need."""
+    start = 0
+    while start < len(script):
+        smaller = script[:start] + script[start + size :]
+        if first_difference(programs, smaller) == difference:
             script = smaller
         else:
-            at += piece
+            start += size
     return script

@@ -1,16 +1,16 @@
-"""Scripts of lines for both programs, from seeds. A script is a list of lines, as bytes without their line feeds."""
+"""Makes scripts for both programs, some of them from seeds. A script is a list of lines, as bytes without line feeds."""
 import itertools
 import random
 
-from model import MOST, Model
+from model import MAX_U32, Model
 
 
 def to_bytes(lines):
     return [line if isinstance(line, bytes) else line.encode() for line in lines]
 
 
-def is_answered(line):
-    """Whether a line has an answer: it has words, or is too long."""
+def has_response(line):
+    """Returns whether a program responds to a line: it has words, or it is too long."""
     return len(line) > 200 or line.removesuffix(b"\r").strip(b" ") != b""
 
 
@@ -18,9 +18,9 @@ def text_of(script):
     return b"".join(line + b"\n" for line in script)
 
 
-# Written by hand: each command and each kind, with each answer that it can give without a want of memory.
+# Scripts written by hand. They have each command and kind, with each response that occurs without an allocation failure.
 ROWS = [
-    # Kinds by pointers, and what each refuses.
+    # Kinds by pointers, and the requirements of each.
     "reserve 4;add alone 1;add ring 2;add end 1.2 3;add start 1.2 4;add after 1.2 5;add before 1.2 6;add between 4.2 6.2 7;"
     "add bridge 3.2 4.2 8;chain 1.2;add end 1.2 9;add start 1.2 9;add between 1.2 1.2 9;add bridge 1.2 1.2 9;add after 9.2 9;"
     "add before 1.3 9;add end 9.9 9;add start 1.1 9;add between 4.2 9.2 9;add bridge 9.2 1.2 9;len",
@@ -52,12 +52,12 @@ ROWS = [
     "setgen 4294967295;moves keep;canonical keep;compress keep;clear;incgen;incgen;moves reset;canonical reset;compress reset;"
     "add alone 7;setgen 4294967295;invalidate 1.2;setgen 4294967295;remove 1.2;add alone 8;setgen 4294967295;remove 1;setgen 1;"
     "add alone 9;show 1.1;invalidate 1.1;show 1.2;len",
-    # Room.
+    # Reservations.
     "reserve 2;reserve 2;reserve 0;reserve 1;add alone 1;reserve 8;len;addwithin alone 2;addwithin alone 3;chain 3.2",
 ]
 
-# The same kind of scripts for lines that are no commands, and for what is not part of a word.
-LINES = [
+# Lines that are no commands, and lines that test the limits of the syntax.
+SYNTAX_LINES = [
     b"", b" ", b"   ", b"\r", b" \r", b"\r\r", b"len", b" len", b"len ", b"len\r", b"len \r", b"  len  ", b"len x", b"LEN", b"lena",
     b"\tlen", b"len\t", b"len\0", b"l\xc3\xa9n", b"\xff", b"hello", b"add", b"add alone", b"add alone 1 2", b"add 1", b"add end 1",
     b"add end 1.2", b"add between 1.2 3 9", b"add between 1 3.2 9", b"add bridge 1 9", b"add alone -1", b"add alone +1",
@@ -77,14 +77,15 @@ LINES = [
 
 
 def rows():
+    """Yields the scripts written by hand, and scripts with the lines that test the syntax."""
     yield from (to_bytes(row.split(";")) for row in ROWS)
     first = to_bytes(["reserve 64", "add alone 1", "add ring 2"])
-    yield first + LINES + to_bytes(["len", "moves reset"])
-    for line in LINES:
+    yield first + SYNTAX_LINES + to_bytes(["len", "moves reset"])
+    for line in SYNTAX_LINES:
         yield first + [line] + to_bytes(["len", "moves reset"])
 
 
-# Calls on two links, each of which every script of three calls has in each place.
+# Calls on two links. The three-call scripts have each sequence of three of them.
 CALLS = [
     "connect 1.2 1.2", "connect 1.2 2.2", "connect 2.2 1.2", "connect 2.2 2.2", "breakprev 1.2", "breakprev 2.2", "breaknext 1.2",
     "breaknext 2.2", "exchange 1.2 1.2", "exchange 1.2 2.2", "exchange 2.2 1.2", "remove 1.2", "remove 2", "invalidate 1.2",
@@ -93,6 +94,7 @@ CALLS = [
     "canonical keep", "moves keep", "clear",
 ]
 
+# Further calls, which `--all-calls` adds to these.
 MORE_CALLS = [
     "exchange 2.2 2.2", "remove 2.2", "remove 1", "invalidate 2.2", "drain 1.2 0", "drain 2.2 1", "drain 2.2 2", "addwithin alone 3",
     "addwithin end 2.2 3", "add end 2.2 3", "add end 1 3", "add end 2 3", "add start 1.2 3", "add start 2.2 3", "add start 1 3",
@@ -102,77 +104,80 @@ MORE_CALLS = [
     "canonical reset", "moves reset", "incgen", "setgen 4294967295",
 ]
 
-# Brings both arenas to two lone links with the counter two, and room for as many as three calls add.
-FIRST = ["clear", "setgen 2", "reserve 8", "add alone 1", "add alone 2"]
-# Shows the next index and the counter, all pointers, and all neighbors and values.
-LAST = ["add alone 9", "moves reset", "show 1.2", "show 2.2", "show 3.2", "show 4.2", "show 5.2", "show 6.2"]
+# Makes an arena of two lone links with the counter 2, and with capacity for all links that three calls can add.
+SETUP = ["clear", "setgen 2", "reserve 8", "add alone 1", "add alone 2"]
+# Prints the next index and the counter, all pointers, and all neighbors and values.
+REPORT = ["add alone 9", "moves reset", "show 1.2", "show 2.2", "show 3.2", "show 4.2", "show 5.2", "show 6.2"]
 
 
-def of_three_calls(all_calls):
-    """All scripts of three calls over two links."""
+def three_call_scripts(all_calls):
+    """Yields all scripts of three calls over two links."""
     calls = to_bytes(CALLS + (MORE_CALLS if all_calls else []))
-    first, last = to_bytes(FIRST), to_bytes(LAST)
-    for three in itertools.product(calls, repeat=3):
-        yield [*first, *three, *last]
+    setup, report = to_bytes(SETUP), to_bytes(REPORT)
+    for three_calls in itertools.product(calls, repeat=3):
+        yield [*setup, *three_calls, *report]
 
 
 class Writer:
-    """Writes a random script. The model tells which lines find their links."""
+    """Writes a random script. It has a model of the arena, so that most lines refer to links that exist."""
 
-    def __init__(self, seed, most, capacity):
-        self.numbers = random.Random(seed)
-        self.most = most
-        self.model = Model(capacity or self.numbers.choice([2, 3, 4, 8, 50]))
+    def __init__(self, seed, max_links, capacity):
+        self.rng = random.Random(seed)
+        self.max_links = max_links
+        self.model = Model(capacity or self.rng.choice([2, 3, 4, 8, 50]))
         self.lines = [f"reserve {self.model.capacity}"]
         self.stale = ["1.1"]
 
-    def say(self, *words):
+    def add_line(self, *words):
         self.lines.append(" ".join(map(str, words)))
 
-    def any(self):
-        return self.numbers.choice(list(self.model.links)) if self.model.links else 0
+    def any_index(self):
+        """Returns the index of a random link, or 0 if there are no links."""
+        return self.rng.choice(list(self.model.links)) if self.model.links else 0
 
     def value(self):
-        return self.numbers.choice([self.numbers.randrange(100), self.numbers.randrange(2**32)])
+        return self.rng.choice([self.rng.randrange(100), self.rng.randrange(2**32)])
 
-    def wrong(self):
-        """A pointer that is most likely not valid: a stale one, another generation, or an index beyond the last."""
-        numbers, i = self.numbers, self.any() or 1
-        return numbers.choice(
-            [numbers.choice(self.stale), f"{i}.{numbers.randrange(1, 9)}", f"{self.model.slots + 1}.{self.model.counter}", f"{i}.{MOST}"]
+    def invalid_pointer(self):
+        """Returns a pointer that is probably invalid: a stale one, another generation, or an index beyond the last."""
+        rng, i = self.rng, self.any_index() or 1
+        return rng.choice(
+            [rng.choice(self.stale), f"{i}.{rng.randrange(1, 9)}", f"{self.model.slots + 1}.{self.model.counter}", f"{i}.{MAX_U32}"]
         )
 
     def pointer(self, i):
-        if not self.model.has(i) or self.numbers.random() < 0.06:
-            return self.wrong()
+        """Returns the pointer of a link, or sometimes an invalid one."""
+        if not self.model.contains(i) or self.rng.random() < 0.06:
+            return self.invalid_pointer()
         return self.model.pointer(i)
 
-    def forget(self, i):
+    def keep_stale(self, i):
+        """Keeps the pointer of a link among the last 20 stale ones."""
         self.stale.append(self.model.pointer(i))
         del self.stale[:-20]
 
-    def named(self, words):
-        """The indexes of the links that pointers or indexes name, 0 for one that names none."""
+    def indexes_of(self, words):
+        """Returns the indexes of the links of pointers or indexes, 0 where there is no link."""
         indexes = [int(str(word).partition(".")[0]) for word in words]
-        has, pointer = self.model.has, self.model.pointer
-        return [i if has(i) and word in (i, pointer(i)) else 0 for word, i in zip(words, indexes)]
+        contains, pointer = self.model.contains, self.model.pointer
+        return [i if contains(i) and word in (i, pointer(i)) else 0 for word, i in zip(words, indexes)]
 
-    def form(self, *indexes):
-        """The words for links, by pointers or by indexes, and the indexes of the links that they name."""
-        if self.numbers.random() < 0.3:
-            if self.numbers.random() < 0.06 or not all(indexes):
-                indexes = [self.numbers.randrange(1, self.model.slots + 3) for _ in indexes]
-            return indexes, self.named(indexes)
+    def arguments_for(self, *indexes):
+        """Returns arguments for links, as pointers or as indexes, and the indexes of the links that they refer to."""
+        if self.rng.random() < 0.3:
+            if self.rng.random() < 0.06 or not all(indexes):
+                indexes = [self.rng.randrange(1, self.model.slots + 3) for _ in indexes]
+            return indexes, self.indexes_of(indexes)
         words = [self.pointer(i) for i in indexes]
-        return words, self.named(words)
+        return words, self.indexes_of(words)
 
     def add(self):
-        kind = self.numbers.choice(["alone", "ring", "end", "start", "after", "before", "between", "bridge", "end", "after"])
-        getattr(self, kind)("add" if self.numbers.random() < 0.8 else "addwithin")
+        kind = self.rng.choice(["alone", "ring", "end", "start", "after", "before", "between", "bridge", "end", "after"])
+        getattr(self, kind)("add" if self.rng.random() < 0.8 else "addwithin")
 
     def insert(self, name, words, is_met, before=0, after=0, ring=False):
-        """Says an insertion, and adds the link to the model where its requirement is met, and its capacity suffices."""
-        self.say(name, *words, self.value())
+        """Adds a line with an insertion. The model gets the link if the requirement is met and the capacity suffices."""
+        self.add_line(name, *words, self.value())
         model = self.model
         if is_met and (name == "add" or len(model.links) < model.capacity):
             if ring:
@@ -187,183 +192,184 @@ class Writer:
         self.insert(name, ["ring"], True, ring=True)
 
     def neighbors(self, i):
-        return self.model.links[i][1:] if self.model.has(i) else (0, 0)
+        return self.model.links[i][1:] if self.model.contains(i) else (0, 0)
 
     def choose(self, is_good):
-        """The index of a link, in up to eight tries one that is good."""
+        """Returns the index of a random link. Draws up to eight times for a good one."""
         for _ in range(8):
-            i = self.any()
+            i = self.any_index()
             if i and is_good(*self.neighbors(i)):
                 return i
-        return self.any()
+        return self.any_index()
 
     def end(self, name):
-        words, (i,) = self.form(self.choose(lambda before, after: not after))
+        words, (i,) = self.arguments_for(self.choose(lambda before, after: not after))
         self.insert(name, ["end", *words], i and not self.neighbors(i)[1], before=i)
 
     def start(self, name):
-        words, (i,) = self.form(self.choose(lambda before, after: not before))
+        words, (i,) = self.arguments_for(self.choose(lambda before, after: not before))
         self.insert(name, ["start", *words], i and not self.neighbors(i)[0], after=i)
 
     def after(self, name):
-        words, (i,) = self.form(self.any())
+        words, (i,) = self.arguments_for(self.any_index())
         self.insert(name, ["after", *words], i, before=i, after=self.neighbors(i)[1])
 
     def before(self, name):
-        words, (i,) = self.form(self.any())
+        words, (i,) = self.arguments_for(self.any_index())
         self.insert(name, ["before", *words], i, before=self.neighbors(i)[0], after=i)
 
     def between(self, name):
         i = self.choose(lambda before, after: after)
-        j = self.neighbors(i)[1] if self.numbers.random() < 0.9 else self.any()
-        words, (i, j) = self.form(i, j)
+        j = self.neighbors(i)[1] if self.rng.random() < 0.9 else self.any_index()
+        words, (i, j) = self.arguments_for(i, j)
         self.insert(name, ["between", *words], i and j and self.neighbors(i)[1] == j, before=i, after=j)
 
     def bridge(self, name):
-        words, (i, j) = self.form(self.choose(lambda before, after: not after), self.choose(lambda before, after: not before))
+        words, (i, j) = self.arguments_for(self.choose(lambda before, after: not after), self.choose(lambda before, after: not before))
         is_met = i and j and not self.neighbors(i)[1] and not self.neighbors(j)[0]
         self.insert(name, ["bridge", *words], is_met, before=i, after=j)
 
-    def pointers(self, name, *indexes):
-        """Says a command on links, and returns the indexes of those, or zeros if a pointer is not valid."""
+    def add_command(self, name, *indexes):
+        """Adds a line with a command on links. Returns their indexes, or zeros if a pointer is not valid."""
         words = [self.pointer(i) for i in indexes]
-        self.say(name, *words)
-        named = self.named(words)
-        return named if all(named) else [0] * len(named)
+        self.add_line(name, *words)
+        found = self.indexes_of(words)
+        return found if all(found) else [0] * len(found)
 
     def connect(self):
         i = self.choose(lambda before, after: not after)
         j = self.choose(lambda before, after: not before)
-        i, j = self.pointers("connect", i, j)
+        i, j = self.add_command("connect", i, j)
         if i and not self.neighbors(i)[1] and not self.neighbors(j)[0]:
             self.model.connect(i, j)
 
     def break_next(self):
-        (i,) = self.pointers("breaknext", self.choose(lambda before, after: after))
+        (i,) = self.add_command("breaknext", self.choose(lambda before, after: after))
         if self.neighbors(i)[1]:
             self.model.break_next(i)
 
     def break_prev(self):
-        (i,) = self.pointers("breakprev", self.choose(lambda before, after: before))
+        (i,) = self.add_command("breakprev", self.choose(lambda before, after: before))
         if self.neighbors(i)[0]:
             self.model.break_next(self.neighbors(i)[0])
 
     def exchange(self):
         i = self.choose(lambda before, after: after)
         j = self.choose(lambda before, after: after)
-        i, j = self.pointers("exchange", i, j)
+        i, j = self.add_command("exchange", i, j)
         if self.neighbors(i)[1] and self.neighbors(j)[1]:
             self.model.exchange(i, j)
 
     def remove(self):
-        words, (i,) = self.form(self.any())
-        self.say("remove", *words)
+        words, (i,) = self.arguments_for(self.any_index())
+        self.add_line("remove", *words)
         if i:
-            self.forget(i)
+            self.keep_stale(i)
             self.model.remove(i)
 
     def remove_some(self):
-        for _ in range(self.numbers.randrange(1, 6)):
+        for _ in range(self.rng.randrange(1, 6)):
             self.remove()
 
     def invalidate(self):
-        (i,) = self.pointers("invalidate", self.any())
+        (i,) = self.add_command("invalidate", self.any_index())
         if i:
-            self.forget(i)
-            self.model.count_up()
+            self.keep_stale(i)
+            self.model.increment_counter()
             self.model.links[i][0] = self.model.counter
 
     def drain(self):
-        word = self.pointer(self.any())
-        self.say("drain", word, self.numbers.choice([0, 1, 2, 3, 1000, MOST]))
-        (i,) = self.named([word])
+        word = self.pointer(self.any_index())
+        self.add_line("drain", word, self.rng.choice([0, 1, 2, 3, 1000, MAX_U32]))
+        (i,) = self.indexes_of([word])
         if i:
-            self.forget(i)
+            self.keep_stale(i)
             self.model.drain(i)
 
     def clear(self):
-        self.say("clear")
+        self.add_line("clear")
         self.model.clear()
 
     def renumber(self):
-        name = self.numbers.choice(["compress", "canonical", "moves"])
-        reset = self.numbers.random() < 0.2
-        self.say(name, "reset" if reset else "keep")
+        name = self.rng.choice(["compress", "canonical", "moves"])
+        reset = self.rng.random() < 0.2
+        self.add_line(name, "reset" if reset else "keep")
         if self.model.links:
-            self.forget(self.any())
-        order = sorted(self.model.links) if name == "compress" else self.model.layout()
+            self.keep_stale(self.any_index())
+        order = sorted(self.model.links) if name == "compress" else self.model.canonical_order()
         self.model.renumber(order, reset)
 
     def reserve(self):
-        """Within the capacity, or at least twice of it, where both programs have the same capacity then."""
+        """Adds a reservation of at most the capacity, or of at least twice the capacity. For these, both programs reserve the same."""
         capacity = self.model.capacity
-        n = self.numbers.choice([self.numbers.randrange(capacity + 1), capacity, 2 * capacity, 2 * capacity + self.numbers.randrange(9)])
-        if n <= 4 * self.most:
-            self.say("reserve", n)
+        n = self.rng.choice([self.rng.randrange(capacity + 1), capacity, 2 * capacity, 2 * capacity + self.rng.randrange(9)])
+        if n <= 4 * self.max_links:
+            self.add_line("reserve", n)
             self.model.capacity = max(capacity, n)
 
     def set_counter(self):
-        near = self.numbers.choice([1, 2, 3, self.model.counter, MOST, MOST - 1, MOST - self.numbers.randrange(20)])
-        self.say("setgen", near)
-        self.model.counter = near
+        counter = self.rng.choice([1, 2, 3, self.model.counter, MAX_U32, MAX_U32 - 1, MAX_U32 - self.rng.randrange(20)])
+        self.add_line("setgen", counter)
+        self.model.counter = counter
 
-    def count_up(self):
-        self.say("incgen")
-        self.model.count_up()
+    def increment_counter(self):
+        self.add_line("incgen")
+        self.model.increment_counter()
 
     def show(self):
-        self.say("show", self.pointer(self.any()))
+        self.add_line("show", self.pointer(self.any_index()))
 
     def chain(self):
-        self.say("chain", self.pointer(self.any()))
+        self.add_line("chain", self.pointer(self.any_index()))
 
     def length(self):
-        self.say("len")
+        self.add_line("len")
 
-    def other_line(self):
-        line = self.numbers.choice(LINES)
+    def syntax_line(self):
+        line = self.rng.choice(SYNTAX_LINES)
         if len(line) < 300 and not line.strip().startswith((b"add ", b"reserve 6")):
             self.lines.append(line)
 
-    def altered(self):
-        """The line before once more, with another byte somewhere, or one more, or one less."""
+    def altered_line(self):
+        """Adds the last line again, with a byte inserted, replaced or removed at a random position."""
         line = bytearray(to_bytes(self.lines[-1:])[0])
-        at = self.numbers.randrange(len(line) + 1)
-        line[at : at + self.numbers.randrange(2)] = self.numbers.choice([b"", b" ", b"\r", b"\t", b".", b"x", b"  "])
+        position = self.rng.randrange(len(line) + 1)
+        line[position : position + self.rng.randrange(2)] = self.rng.choice([b"", b" ", b"\r", b"\t", b".", b"x", b"  "])
         name = bytes(line).split()[:1]
         if name and name[0] in (b"show", b"chain", b"len", b"connec", b"remov", b"ad", b"drai"):
             self.lines.append(bytes(line))
 
 
-STEPS = {
+# The methods that `random_script` calls, with the weight of each.
+STEP_WEIGHTS = {
     "add": 30, "connect": 8, "break_next": 4, "break_prev": 4, "exchange": 6, "remove": 10, "remove_some": 1, "invalidate": 4, "drain": 2,
-    "clear": 0.1, "renumber": 1.5, "reserve": 1, "set_counter": 1, "count_up": 1, "show": 16, "chain": 3, "length": 2, "other_line": 2,
-    "altered": 2,
+    "clear": 0.1, "renumber": 1.5, "reserve": 1, "set_counter": 1, "increment_counter": 1, "show": 16, "chain": 3, "length": 2,
+    "syntax_line": 2, "altered_line": 2,
 }
 
 
-def random_script(seed, length, most, capacity=None):
-    """A script of so many lines over at most about so many links, on an arena of a capacity."""
-    writer = Writer(seed, most, capacity)
-    names, weights = list(STEPS), list(STEPS.values())
+def random_script(seed, length, max_links, capacity=None):
+    """Returns a script of about `length` lines. When there are more than `max_links` links, some are removed."""
+    writer = Writer(seed, max_links, capacity)
+    names, weights = list(STEP_WEIGHTS), list(STEP_WEIGHTS.values())
     while len(writer.lines) < length:
-        name = writer.numbers.choices(names, weights)[0]
-        if len(writer.model.links) > most:
-            name = writer.numbers.choice(["drain", "remove_some", "remove", "renumber"])
+        name = writer.rng.choices(names, weights)[0]
+        if len(writer.model.links) > max_links:
+            name = writer.rng.choice(["drain", "remove_some", "remove", "renumber"])
         getattr(writer, name)()
-        if name != "show" and writer.numbers.random() < 0.3:
+        if name != "show" and writer.rng.random() < 0.3:
             writer.show()
-    writer.say("moves reset")
-    writer.lines += [f"show {k}.2" for k in range(1, min(most, 12))]
+    writer.add_line("moves reset")
+    writer.lines += [f"show {k}.2" for k in range(1, min(max_links, 12))]
     return to_bytes(writer.lines)
 
 
 def in_place_script(seed):
-    """A script whose links a canonical compression arranges, and the number of those links: each has a value of its own."""
+    """Returns the lines that make an arena, and those that compress it canonically and print it. The links have distinct values."""
     writer = Writer(seed, 12, None)
     writer.value = itertools.count(1).__next__
-    while len(writer.lines) < writer.most * 2:
-        getattr(writer, writer.numbers.choice(["add", "add", "add", "connect", "exchange", "remove", "break_next"]))()
+    while len(writer.lines) < writer.max_links * 2:
+        getattr(writer, writer.rng.choice(["add", "add", "add", "connect", "exchange", "remove", "break_next"]))()
     count = len(writer.model.links)
     shows = [f"show {k}.2" for k in range(1, count + 1)]
     return to_bytes(writer.lines), to_bytes(["canonical reset", *shows, "len", "add alone 0"])

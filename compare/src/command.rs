@@ -1,6 +1,6 @@
-//! Commands, and the lines that write them.
+//! Commands, and the parser of lines.
 
-use crate::lexer::{LONGEST, generation, index, number, pointer_word, words};
+use crate::lexer::{MAX_LINE_LENGTH, generation, index, number, pointer_word, words};
 use crate::pointer::{Generation, Inx, P0};
 use triple_arena::LinkInsertKind;
 
@@ -28,19 +28,19 @@ pub enum Command {
     Len,
 }
 
-/// What a line says.
+/// A line of input.
 pub enum Line {
-    /// It has no words.
+    /// A line without words.
     Blank,
-    /// It is no command.
+    /// A line that is no command.
     Bad,
-    /// It is a command to carry out.
+    /// A command.
     Good(Command),
 }
 
-/// Reads a line.
+/// Parses a line.
 pub fn parse(line: &[u8]) -> Line {
-    if line.len() > LONGEST {
+    if line.len() > MAX_LINE_LENGTH {
         return Line::Bad;
     }
     match words(line).split_first() {
@@ -52,7 +52,7 @@ pub fn parse(line: &[u8]) -> Line {
     }
 }
 
-/// Returns the command of a name and the words after it.
+/// Returns the command with this name and these arguments.
 fn command(name: &[u8], arguments: &[&[u8]]) -> Option<Command> {
     match (name, arguments) {
         (b"add", [kind @ .., value]) => Some(Command::Add(insert_kind(kind)?, number(value)?)),
@@ -66,7 +66,7 @@ fn command(name: &[u8], arguments: &[&[u8]]) -> Option<Command> {
             Some(p) => Some(Command::Remove(p)),
             None => Some(Command::RemoveInx(index(x)?)),
         },
-        (name, [p]) => on_one(name, p),
+        (name, [argument]) => command_with_one_argument(name, argument),
         (b"clear", []) => Some(Command::Clear),
         (b"incgen", []) => Some(Command::IncGeneration),
         (b"len", []) => Some(Command::Len),
@@ -74,8 +74,8 @@ fn command(name: &[u8], arguments: &[&[u8]]) -> Option<Command> {
     }
 }
 
-/// Returns the command of a name and the one word after it.
-fn on_one(name: &[u8], word: &[u8]) -> Option<Command> {
+/// Returns the command with this name and this one argument.
+fn command_with_one_argument(name: &[u8], word: &[u8]) -> Option<Command> {
     match name {
         b"breakprev" => Some(Command::BreakPrev(pointer_word(word)?)),
         b"breaknext" => Some(Command::BreakNext(pointer_word(word)?)),
@@ -91,7 +91,7 @@ fn on_one(name: &[u8], word: &[u8]) -> Option<Command> {
     }
 }
 
-/// Returns whether a compression sets the counter to two.
+/// Returns whether a compression sets the counter to 2.
 fn is_reset(word: &[u8]) -> Option<bool> {
     match word {
         b"reset" => Some(true),
@@ -100,25 +100,25 @@ fn is_reset(word: &[u8]) -> Option<bool> {
     }
 }
 
-/// Returns the kind of a new link: a name, and none, one or two pointers or indexes.
+/// Returns the kind of an insertion: a name, followed by up to two pointers or indexes.
 fn insert_kind(kind: &[&[u8]]) -> Option<LinkInsertKind<P0>> {
     match kind {
         [b"alone"] => Some(LinkInsertKind::Disconnected),
         [b"ring"] => Some(LinkInsertKind::SingleLinkCyclic),
         [name, x] => match pointer_word(x) {
-            Some(p) => beside_pointer(name, p),
-            None => beside_index(name, index(x)?),
+            Some(p) => kind_at_pointer(name, p),
+            None => kind_at_index(name, index(x)?),
         },
         [name, x, y] => match (pointer_word(x), pointer_word(y)) {
-            (Some(p), Some(q)) => between_pointers(name, p, q),
-            _ => between_indexes(name, index(x)?, index(y)?),
+            (Some(p), Some(q)) => kind_at_pointers(name, p, q),
+            _ => kind_at_indexes(name, index(x)?, index(y)?),
         },
         _ => None,
     }
 }
 
-/// Returns the kind of a name beside one link, by its pointer.
-fn beside_pointer(name: &[u8], p: P0) -> Option<LinkInsertKind<P0>> {
+/// Returns the kind of an insertion at a link, by its pointer.
+fn kind_at_pointer(name: &[u8], p: P0) -> Option<LinkInsertKind<P0>> {
     match name {
         b"end" => Some(LinkInsertKind::ChainEnd(p)),
         b"start" => Some(LinkInsertKind::ChainStart(p)),
@@ -128,8 +128,8 @@ fn beside_pointer(name: &[u8], p: P0) -> Option<LinkInsertKind<P0>> {
     }
 }
 
-/// Returns the kind of a name beside one link, by its index.
-fn beside_index(name: &[u8], i: Inx) -> Option<LinkInsertKind<P0>> {
+/// Returns the kind of an insertion at a link, by its index.
+fn kind_at_index(name: &[u8], i: Inx) -> Option<LinkInsertKind<P0>> {
     match name {
         b"end" => Some(LinkInsertKind::ChainEndInx(i)),
         b"start" => Some(LinkInsertKind::ChainStartInx(i)),
@@ -139,8 +139,8 @@ fn beside_index(name: &[u8], i: Inx) -> Option<LinkInsertKind<P0>> {
     }
 }
 
-/// Returns the kind of a name between two links, by their pointers.
-fn between_pointers(name: &[u8], p: P0, q: P0) -> Option<LinkInsertKind<P0>> {
+/// Returns the kind of an insertion between two links, by their pointers.
+fn kind_at_pointers(name: &[u8], p: P0, q: P0) -> Option<LinkInsertKind<P0>> {
     match name {
         b"between" => Some(LinkInsertKind::AtInterlink {
             next_to: p,
@@ -151,8 +151,8 @@ fn between_pointers(name: &[u8], p: P0, q: P0) -> Option<LinkInsertKind<P0>> {
     }
 }
 
-/// Returns the kind of a name between two links, by their indexes.
-fn between_indexes(name: &[u8], i: Inx, j: Inx) -> Option<LinkInsertKind<P0>> {
+/// Returns the kind of an insertion between two links, by their indexes.
+fn kind_at_indexes(name: &[u8], i: Inx, j: Inx) -> Option<LinkInsertKind<P0>> {
     match name {
         b"between" => Some(LinkInsertKind::AtInterlinkInx {
             next_to: i,

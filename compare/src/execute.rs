@@ -1,4 +1,4 @@
-//! The answers to lines.
+//! Executes lines, and writes the responses.
 
 use crate::command::{Command, Line, parse};
 use crate::layout::{Links, arrange};
@@ -8,7 +8,7 @@ use triple_arena::errors::{ChainInsertionError, ReallocationError};
 use triple_arena::traits::{ArenaTrait, ChainArenaTrait};
 use triple_arena::{InvalidationOption, InvalidationResult, LinkInsertKind};
 
-/// Which of the crate's two calls carries out `canonical F`. Only the transfer reports what `moves F` asks for.
+/// The call of the crate that executes `canonical F`. The transfer always executes `moves F`, since it reports the pointers.
 #[derive(Clone, Copy, PartialEq, Eq)]
 pub enum Canonical {
     /// `ChainArena::compress_canonical`.
@@ -17,10 +17,10 @@ pub enum Canonical {
     ByTransfer,
 }
 
-/// An arena, and the text that is written.
+/// An arena, and the responses that are not written yet.
 pub struct Session {
     pub arena: Links,
-    pub text: String,
+    pub output: String,
     pub canonical: Canonical,
 }
 
@@ -29,27 +29,27 @@ impl Session {
     pub fn new(canonical: Canonical) -> Session {
         Session {
             arena: Links::new(),
-            text: String::new(),
+            output: String::new(),
             canonical,
         }
     }
 
-    /// Carries out a line, and adds its answer to the text, if it has one.
-    pub fn answer(&mut self, line: &[u8]) {
+    /// Executes a line, and adds its response to the output, if it has one.
+    pub fn execute_line(&mut self, line: &[u8]) {
         match parse(line) {
             Line::Blank => return,
             Line::Bad => self.put("bad line"),
-            Line::Good(command) => self.carry_out(command),
+            Line::Good(command) => self.execute(command),
         }
         self.put("\n");
     }
 
     fn put(&mut self, words: &str) {
-        self.text.push_str(words);
+        self.output.push_str(words);
     }
 
     fn put_pointer(&mut self, p: P0) {
-        let _ = write!(self.text, "{}.{}", index_of(p), generation_of(p));
+        let _ = write!(self.output, "{}.{}", index_of(p), generation_of(p));
     }
 
     fn put_neighbor(&mut self, p: Option<P0>) {
@@ -59,8 +59,8 @@ impl Session {
         }
     }
 
-    fn put_done(&mut self, done: Option<()>) {
-        self.put(if done.is_some() { "ok" } else { "none" });
+    fn put_option(&mut self, result: Option<()>) {
+        self.put(if result.is_some() { "ok" } else { "none" });
     }
 
     fn put_overflow(&mut self, overflows: bool) {
@@ -69,35 +69,35 @@ impl Session {
         }
     }
 
-    fn put_counted(&mut self, answer: InvalidationOption<()>) {
+    fn put_ok(&mut self, result: InvalidationOption<()>) {
         self.put("ok");
-        self.put_overflow(answer.overflowing().1);
+        self.put_overflow(result.overflowing().1);
     }
 
-    fn carry_out(&mut self, command: Command) {
+    fn execute(&mut self, command: Command) {
         match command {
             Command::Add(kind, t) => self.add(kind, t),
             Command::AddWithin(kind, t) => self.add_within(kind, t),
             Command::Connect(p, q) => {
-                let done = self.arena.connect(p, q);
-                self.put_done(done);
+                let result = self.arena.connect(p, q);
+                self.put_option(result);
             }
             Command::BreakPrev(p) => {
-                let done = self.arena.break_prev(p);
-                self.put_done(done);
+                let result = self.arena.break_prev(p);
+                self.put_option(result);
             }
             Command::BreakNext(p) => {
-                let done = self.arena.break_next(p);
-                self.put_done(done);
+                let result = self.arena.break_next(p);
+                self.put_option(result);
             }
             Command::Exchange(p, q) => {
-                let done = self.arena.exchange_next(p, q);
-                self.put_done(done);
+                let result = self.arena.exchange_next(p, q);
+                self.put_option(result);
             }
             Command::Show(p) => self.show(p),
             Command::Chain(p) => self.chain(p),
             Command::Len => {
-                let _ = write!(self.text, "count {}", self.arena.len());
+                let _ = write!(self.output, "count {}", self.arena.len());
             }
             other => self.remove_or_renumber(other),
         }
@@ -106,22 +106,22 @@ impl Session {
     fn remove_or_renumber(&mut self, command: Command) {
         match command {
             Command::Remove(p) => {
-                let answer = self.arena.remove(p);
-                self.put_removed(answer);
+                let result = self.arena.remove(p);
+                self.put_removal(result);
             }
             Command::RemoveInx(i) => {
-                let answer = self.arena.remove_inx(i).map(|(_, t)| t);
-                self.put_removed(answer);
+                let result = self.arena.remove_inx(i).map(|(_, t)| t);
+                self.put_removal(result);
             }
             Command::Invalidate(p) => self.invalidate(p),
             Command::Drain(p, take) => self.drain(p, take),
             Command::Clear => {
-                let answer = self.arena.clear();
-                self.put_counted(answer);
+                let result = self.arena.clear();
+                self.put_ok(result);
             }
             Command::Compress(reset) => {
-                let answer = self.arena.compress(reset);
-                self.put_counted(answer);
+                let result = self.arena.compress(reset);
+                self.put_ok(result);
             }
             Command::Canonical(reset) => self.canonical(reset),
             Command::Moves(reset) => self.moves(reset),
@@ -137,25 +137,25 @@ impl Session {
                 self.put("ok");
             }
             Command::IncGeneration => {
-                let answer = self.arena.inc_generation();
-                self.put_counted(answer);
+                let result = self.arena.inc_generation();
+                self.put_ok(result);
             }
             _ => unreachable!(),
         }
     }
 
     fn add(&mut self, kind: LinkInsertKind<P0>, t: u32) {
-        let answer = self.arena.insert_reallocating(kind, t);
-        self.put_inserted(answer);
+        let result = self.arena.insert_reallocating(kind, t);
+        self.put_insertion(result);
     }
 
     fn add_within(&mut self, kind: LinkInsertKind<P0>, t: u32) {
-        let answer = self.arena.insert_within_capacity(kind, t);
-        self.put_inserted(answer);
+        let result = self.arena.insert_within_capacity(kind, t);
+        self.put_insertion(result);
     }
 
-    fn put_inserted(&mut self, answer: Result<P0, ChainInsertionError>) {
-        match answer {
+    fn put_insertion(&mut self, result: Result<P0, ChainInsertionError>) {
+        match result {
             Ok(p) => {
                 self.put("at ");
                 self.put_pointer(p);
@@ -175,10 +175,10 @@ impl Session {
         }
     }
 
-    fn put_removed(&mut self, answer: InvalidationResult<u32>) {
-        match answer.overflowing() {
+    fn put_removal(&mut self, result: InvalidationResult<u32>) {
+        match result.overflowing() {
             (Some(t), overflows) => {
-                let _ = write!(self.text, "value {t}");
+                let _ = write!(self.output, "value {t}");
                 self.put_overflow(overflows);
             }
             (None, _) => self.put("none"),
@@ -203,32 +203,32 @@ impl Session {
             .map(|links| links.take(take).count());
         match count {
             Some(count) => {
-                let _ = write!(self.text, "count {count}");
+                let _ = write!(self.output, "count {count}");
             }
             None => self.put("none"),
         }
     }
 
     fn canonical(&mut self, reset: bool) {
-        let answer = match self.canonical {
+        let result = match self.canonical {
             Canonical::InPlace => self.arena.compress_canonical(reset),
             Canonical::ByTransfer => arrange(&mut self.arena, reset, |_, _| ()),
         };
-        self.put_counted(answer);
+        self.put_ok(result);
     }
 
     fn moves(&mut self, reset: bool) {
         let mut moves = Vec::with_capacity(self.arena.len());
-        let answer = arrange(&mut self.arena, reset, |from, to| moves.push((from, to)));
+        let result = arrange(&mut self.arena, reset, |from, to| moves.push((from, to)));
         moves.sort_by_key(|(_, to)| index_of(*to));
-        let _ = write!(self.text, "moved {}", moves.len());
+        let _ = write!(self.output, "moved {}", moves.len());
         for (from, to) in moves {
             self.put(" ");
             self.put_pointer(from);
             self.put(">");
             self.put_pointer(to);
         }
-        self.put_overflow(answer.overflowing().1);
+        self.put_overflow(result.overflowing().1);
     }
 
     fn show(&mut self, p: P0) {
@@ -240,23 +240,23 @@ impl Session {
         self.put_neighbor(prev);
         self.put(" next ");
         self.put_neighbor(next);
-        let _ = write!(self.text, " value {t}");
+        let _ = write!(self.output, " value {t}");
     }
 
     fn chain(&mut self, p: P0) {
         let Some(links) = self.arena.iter_chain(p) else {
-            return self.text.push_str("none");
+            return self.put("none");
         };
-        let mut between = "";
+        let mut separator = "";
         for (p, link) in links {
             let _ = write!(
-                self.text,
-                "{between}{}.{}:{}",
+                self.output,
+                "{separator}{}.{}:{}",
                 index_of(p),
                 generation_of(p),
                 link.t
             );
-            between = " ";
+            separator = " ";
         }
     }
 }

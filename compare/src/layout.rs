@@ -1,4 +1,4 @@
-//! Chains arranged one after another, by the crate's transfer.
+//! Arranges chains one after another, by the crate's transfer.
 
 use crate::pointer::P0;
 use triple_arena::traits::{ArenaTrait, Ptr};
@@ -8,8 +8,8 @@ use triple_arena::{ChainArena, InvalidationOption};
 /// The arena of the program.
 pub type Links = ChainArena<P0, u32>;
 
-/// Sets the counter as `compress_canonical` does: to two, or else to the next generation, if there are links.
-pub fn renumber(arena: &mut Links, reset: bool) -> InvalidationOption<()> {
+/// Sets the counter as `compress_canonical` does: to 2 if `reset` is set, otherwise to the next generation if there are links.
+pub fn set_counter(arena: &mut Links, reset: bool) -> InvalidationOption<()> {
     if reset {
         arena.set_generation(<P0 as Ptr>::Gen::two());
         InvalidationOption::Success(())
@@ -23,13 +23,13 @@ pub fn renumber(arena: &mut Links, reset: bool) -> InvalidationOption<()> {
 /// Arranges the chains one after another in a new arena of the same capacity, which replaces the old one. The closure is
 /// called with the old and the new pointer of each link.
 ///
-/// The crate's `compress_canonical` does this in place, but cannot report the pointers.
+/// The crate's `compress_canonical` does this in place, but does not report the pointers.
 pub fn arrange<F: FnMut(P0, P0)>(
     arena: &mut Links,
     reset: bool,
     mut visit: F,
 ) -> InvalidationOption<()> {
-    let answer = renumber(arena, reset);
+    let result = set_counter(arena, reset);
     let mut arranged = Links::new();
     arranged
         .reallocate_min_capacity(arena.capacity())
@@ -41,5 +41,5 @@ pub fn arrange<F: FnMut(P0, P0)>(
         })
         .expect("capacity for the links");
     *arena = arranged;
-    answer
+    result
 }

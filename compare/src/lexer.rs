@@ -1,11 +1,11 @@
-//! The words of a line, and the numbers and pointers that words are.
+//! Splits a line into words, and parses numbers, indexes, generations and pointers.
 
 use crate::pointer::{Generation, Inx, P0, pointer};
 
-/// The most bytes that a line may have.
-pub const LONGEST: usize = 200;
+/// The maximum length of a line in bytes.
+pub const MAX_LINE_LENGTH: usize = 200;
 
-/// Returns the words of a line, which spaces separate. A carriage return at its end belongs to none.
+/// Returns the words of a line, which are separated by spaces. A carriage return at its end is ignored.
 pub fn words(line: &[u8]) -> Vec<&[u8]> {
     let line = line.strip_suffix(b"\r").unwrap_or(line);
     line.split(|byte| *byte == b' ')
@@ -13,7 +13,7 @@ pub fn words(line: &[u8]) -> Vec<&[u8]> {
         .collect()
 }
 
-/// Returns the number of a word: up to ten decimal digits, and 32 bits at most.
+/// Parses a number of up to ten decimal digits that fits in 32 bits.
 pub fn number(word: &[u8]) -> Option<u32> {
     if word.len() > 10 || !word.iter().all(u8::is_ascii_digit) {
         return None;
@@ -21,17 +21,17 @@ pub fn number(word: &[u8]) -> Option<u32> {
     std::str::from_utf8(word).ok()?.parse().ok()
 }
 
-/// Returns the index that a word is.
+/// Parses an index.
 pub fn index(word: &[u8]) -> Option<Inx> {
     Inx::new(number(word)?)
 }
 
-/// Returns the generation that a word is.
+/// Parses a generation.
 pub fn generation(word: &[u8]) -> Option<Generation> {
     Generation::new(number(word)?)
 }
 
-/// Returns the pointer that a word is: an index, a dot and a generation.
+/// Parses a pointer: an index, a dot and a generation.
 pub fn pointer_word(word: &[u8]) -> Option<P0> {
     let dot = word.iter().position(|byte| *byte == b'.')?;
     Some(pointer(index(&word[..dot])?, generation(&word[dot + 1..])?))

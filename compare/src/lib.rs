@@ -1,4 +1,4 @@
-//! The program of `docs/CLI.md`, the cases of this repository's tests, and the cases of its bench, over the Rust crate
+//! The program of `docs/CLI.md`, cases of this repository's tests, and the cases of its bench, over the Rust crate
 //! `triple_arena`.
 
 pub mod command;

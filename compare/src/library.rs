@@ -1,7 +1,7 @@
-//! Cases of this repository's tests that the program does not show, each a call and the text of its answer.
+//! Executes the cases of this repository's tests that the program cannot execute.
 //!
-//! A line `# ..` begins a new arena. Any other is `CALL = TEXT`, or `CALL` alone where the text is not compared. A call is
-//! a name, a kind of insertion or of call, and numbers, of which a pointer is two, its index and its generation.
+//! A line `# ..` begins a case with a new arena. Other lines are `CALL = TEXT`, or `CALL` if the result is not compared. A call is
+//! a name, a kind of insertion or of call, and numbers. A pointer is two numbers, its index and its generation.
 
 mod changes;
 mod drains;
@@ -14,35 +14,35 @@ use crate::layout::Links;
 use crate::pointer::{Generation, Inx, P0, generation_of, index_of, pointer};
 use triple_arena::traits::ArenaTrait;
 
-/// A pointer as two numbers, its index and its generation, or two zeros for none.
-pub type At = (u32, u32);
+/// A pointer as two numbers, its index and its generation. Two zeros stand for `None`.
+pub type RawPointer = (u32, u32);
 
-/// What a line asks for: a call, a kind, and numbers.
-pub struct Asked<'a> {
+/// The call of a line: its name, a kind, and numbers.
+pub struct Call<'a> {
     pub name: &'a str,
     pub kind: &'a str,
     pub numbers: Vec<u32>,
 }
 
-impl<'a> Asked<'a> {
-    /// Reads the words of a call.
-    pub fn read(call: &'a str) -> Asked<'a> {
-        let mut asked = Asked {
+impl<'a> Call<'a> {
+    /// Parses the words of a call.
+    pub fn parse(text: &'a str) -> Call<'a> {
+        let mut call = Call {
             name: "",
             kind: "",
             numbers: Vec::new(),
         };
-        for word in call.split_whitespace() {
+        for word in text.split_whitespace() {
             match word.parse() {
-                Ok(number) => asked.numbers.push(number),
-                Err(_) if asked.name.is_empty() => asked.name = word,
-                Err(_) => asked.kind = word,
+                Ok(number) => call.numbers.push(number),
+                Err(_) if call.name.is_empty() => call.name = word,
+                Err(_) => call.kind = word,
             }
         }
-        asked
+        call
     }
 
-    /// Returns a number, or 0 if there is none at this position.
+    /// Returns the number at a position, or 0 if there is none.
     pub fn number(&self, position: usize) -> u32 {
         self.numbers.get(position).copied().unwrap_or(0)
     }
@@ -57,65 +57,65 @@ impl<'a> Asked<'a> {
         self.number(0) > 0
     }
 
-    /// Returns the index of the number at a position.
+    /// Returns the number at a position as an index.
     pub fn index(&self, position: usize) -> Inx {
         Inx::new(self.number(position)).unwrap_or(Inx::MIN)
     }
 
-    /// Returns the pointer of the two numbers from a position on.
+    /// Returns the two numbers from a position on as a pointer.
     pub fn pointer(&self, position: usize) -> P0 {
-        at((self.number(position), self.number(position + 1)))
+        pointer_of((self.number(position), self.number(position + 1)))
     }
 }
 
-/// Returns the pointer of two numbers. A zero is taken for one, which no test's pointer has as its generation.
-pub fn at(p: At) -> P0 {
+/// Returns the pointer of two numbers. A zero is replaced by 1, which is no pointer's generation in the tests.
+pub fn pointer_of(raw: RawPointer) -> P0 {
     pointer(
-        Inx::new(p.0).unwrap_or(Inx::MIN),
-        Generation::new(p.1).unwrap_or(Generation::MIN),
+        Inx::new(raw.0).unwrap_or(Inx::MIN),
+        Generation::new(raw.1).unwrap_or(Generation::MIN),
     )
 }
 
-/// Returns the two numbers of a pointer, zeros for none.
-pub fn numbers(p: Option<P0>) -> At {
+/// Returns the two numbers of a pointer, or zeros for `None`.
+pub fn raw_pointer(p: Option<P0>) -> RawPointer {
     p.map_or((0, 0), |p| (index_of(p), generation_of(p)))
 }
 
-/// Returns the text of an answer.
-pub fn text<T: std::fmt::Debug>(answer: T) -> String {
-    format!("{answer:?}")
+/// Returns the `Debug` text of a result.
+pub fn text<T: std::fmt::Debug>(result: T) -> String {
+    format!("{result:?}")
 }
 
-/// Carries out the lines of a text, and returns them with the crate's answers in place of the texts.
-pub fn answered(cases: &str) -> String {
+/// Executes the lines of `library_cases.txt`, and returns them with the results of the crate.
+pub fn with_results(cases: &str) -> String {
     let mut arena = Links::new();
-    let mut told = String::new();
+    let mut output = String::new();
     for line in cases.lines() {
         if line.starts_with('#') {
             arena = Links::new();
-            told.push_str(line);
+            output.push_str(line);
         } else {
             let (call, text) = line
                 .split_once(" = ")
                 .map_or((line, None), |(call, text)| (call, Some(text)));
-            let answer =
-                answer(&mut arena, &Asked::read(call)).unwrap_or_else(|| "no such call".into());
-            told.push_str(call);
+            let result =
+                execute(&mut arena, &Call::parse(call)).unwrap_or_else(|| "no such call".into());
+            output.push_str(call);
             if text.is_some() {
-                told.push_str(&format!(" = {answer}"));
+                output.push_str(&format!(" = {result}"));
             }
         }
-        told.push('\n');
+        output.push('\n');
     }
-    told
+    output
 }
 
-/// Returns the text of the answer to a call. `None`: there is no such call.
-fn answer(arena: &mut Links, asked: &Asked) -> Option<String> {
-    changes::answer(arena, asked)
-        .or_else(|| drains::answer(arena, asked))
-        .or_else(|| transfers::answer(arena, asked))
-        .or_else(|| lookups::answer(arena, asked))
-        .or_else(|| links::answer(arena, asked))
-        .or_else(|| link_text::answer(arena, asked))
+/// Executes a call, and returns the text of its result. Returns `None` if there is no such call.
+fn execute(arena: &mut Links, call: &Call) -> Option<String> {
+    changes::execute(arena, call)
+        .or_else(|| drains::execute(arena, call))
+        .or_else(|| transfers::execute(arena, call))
+        .or_else(|| lookups::execute(arena, call))
+        .or_else(|| links::execute(arena, call))
+        .or_else(|| link_text::execute(arena, call))
 }

@@ -1,6 +1,6 @@
-//! The pointer type of the arenas compared: an index and a generation of 32 bits each.
+//! The pointer type of the arenas: an index and a generation of 32 bits each.
 //!
-//! This is the one module to change for a crate whose macro for pointer types is called otherwise.
+//! Only this module has to change if the macro for pointer types takes other arguments.
 
 use std::num::NonZeroU32;
 use triple_arena::ptr_struct;
@@ -14,17 +14,17 @@ pub type Inx = NonZeroU32;
 /// A generation.
 pub type Generation = NonZeroU32;
 
-/// Returns the pointer of an index and a generation.
+/// Returns the pointer with an index and a generation.
 pub fn pointer(inx: Inx, generation: Generation) -> P0 {
     P0::_from_raw(inx, generation)
 }
 
-/// Returns the number of a pointer's index.
+/// Returns the index of a pointer as a number.
 pub fn index_of(p: P0) -> u32 {
     p.inx().get()
 }
 
-/// Returns the number of a pointer's generation.
+/// Returns the generation of a pointer as a number.
 pub fn generation_of(p: P0) -> u32 {
     p.generation().get()
 }

@@ -1,11 +1,11 @@
-//! The cases over links in a `SlotMap`, one function a case.
+//! The cases over links in a `SlotMap`, each a function.
 //!
-//! Left out are `advance`, since a cursor by hand is the loop of `walk`, and `compress`: a `SlotMap` keeps its holes.
+//! There is no `advance`, since a cursor by hand is the loop of `walk`. There is no `compress`, since a `SlotMap` keeps its holes.
 
 use crate::links::{Chains, Link};
 use compare::timing::cases::Case;
-use compare::timing::checksum::{Checksum, number_of_done};
-use compare::timing::links::{Links, Place, Task};
+use compare::timing::checksum::{Checksum, number_of_success};
+use compare::timing::links::{Links, Position, Task};
 use slotmap::{DefaultKey, Key, KeyData};
 
 const _: () = assert!(size_of::<Link>() == 20);
@@ -21,12 +21,12 @@ impl Links for Chains {
         self.clone()
     }
 
-    fn insert(&mut self, place: Place<DefaultKey>, t: u32) -> DefaultKey {
-        match place {
-            Place::Alone => self.insert_alone(t),
-            Place::Cycle => self.insert_cycle(t),
-            Place::End(p) => self.insert_end(p, t).expect("the end of a chain"),
-            Place::NextTo(p) => self.insert_next_to(p, t).expect("a link"),
+    fn insert(&mut self, position: Position<DefaultKey>, t: u32) -> DefaultKey {
+        match position {
+            Position::Alone => self.insert_alone(t),
+            Position::Cycle => self.insert_cycle(t),
+            Position::End(p) => self.insert_end(p, t).expect("the end of a chain"),
+            Position::NextTo(p) => self.insert_next_to(p, t).expect("a link"),
         }
     }
 
@@ -46,7 +46,7 @@ impl Links for Chains {
         number(p)
     }
 
-    fn round(&mut self, task: &Task<DefaultKey>) -> Option<Checksum> {
+    fn run_round(&mut self, task: &Task<DefaultKey>) -> Option<Checksum> {
         Some(match task.case {
             Case::Insert => insert(self, task.plan.links),
             Case::InsertEnd => insert_end(self, &task.starts, task.plan.chain),
@@ -54,7 +54,7 @@ impl Links for Chains {
             Case::Exchange => exchange(self, &task.picks),
             Case::BreakConnect => break_connect(self, &task.picks),
             Case::Replace => replace(self, &task.picks),
-            Case::Look => look(self, &task.picks),
+            Case::GetLink => get_link(self, &task.picks),
             Case::Walk => walk(self, &task.starts),
             Case::Iterate => iterate(self),
             Case::DrainChains => drain_chains(self, &task.starts),
@@ -70,130 +70,132 @@ impl Links for Chains {
     }
 }
 
-/// The version of a key that was inserted where none was before, and the generation of such a link of the other sides.
+/// The version of the first key of a slot.
 const FIRST_VERSION: u64 = 1;
+
+/// The generation of such a link in the other arenas.
 const FIRST_GENERATION: u64 = 2;
 
-/// Returns the number of a key: that of the other sides, as long as no link was removed.
+/// Returns a key as a number. It is that of the other arenas as long as no link was removed.
 fn number(p: DefaultKey) -> u64 {
     p.data().as_ffi() + ((FIRST_GENERATION - FIRST_VERSION) << 32)
 }
 
-/// Returns the number of a link.
+/// Returns a link as a number: its key and its value.
 fn number_of_link(p: DefaultKey, link: &Link) -> u64 {
     number(p) ^ u64::from(link.t)
 }
 
 #[inline(never)]
 fn insert(chains: &mut Chains, links: u32) -> Checksum {
-    let mut done = Checksum::default();
+    let mut checksum = Checksum::default();
     for k in 0..links {
-        done.add_operation(number(chains.insert_alone(k)));
+        checksum.add_operation(number(chains.insert_alone(k)));
     }
-    done
+    checksum
 }
 
 #[inline(never)]
 fn insert_end(chains: &mut Chains, starts: &[DefaultKey], chain: u32) -> Checksum {
-    let mut done = Checksum::default();
+    let mut checksum = Checksum::default();
     for start in starts {
         let mut last = *start;
         for k in 1..chain {
             last = chains.insert_end(last, k).expect("the end of a chain");
-            done.add_operation(number(last));
+            checksum.add_operation(number(last));
         }
     }
-    done
+    checksum
 }
 
 #[inline(never)]
 fn insert_beside(chains: &mut Chains, picks: &[(DefaultKey, DefaultKey)]) -> Checksum {
-    let mut done = Checksum::default();
+    let mut checksum = Checksum::default();
     for (p, _) in picks {
-        done.add_operation(number(chains.insert_next_to(*p, 0).expect("a link")));
+        checksum.add_operation(number(chains.insert_next_to(*p, 0).expect("a link")));
     }
-    done
+    checksum
 }
 
 #[inline(never)]
 fn exchange(chains: &mut Chains, picks: &[(DefaultKey, DefaultKey)]) -> Checksum {
-    let mut done = Checksum::default();
+    let mut checksum = Checksum::default();
     for (p, q) in picks {
-        done.add_operation(number_of_done(chains.exchange_next(*p, *q)));
+        checksum.add_operation(number_of_success(chains.exchange_next(*p, *q)));
     }
-    done
+    checksum
 }
 
 #[inline(never)]
 fn break_connect(chains: &mut Chains, picks: &[(DefaultKey, DefaultKey)]) -> Checksum {
-    let mut done = Checksum::default();
+    let mut checksum = Checksum::default();
     for (p, q) in picks {
-        done.add(number_of_done(chains.break_next(*p)));
-        done.add_operation(number_of_done(chains.connect(*p, *q)));
+        checksum.add(number_of_success(chains.break_next(*p)));
+        checksum.add_operation(number_of_success(chains.connect(*p, *q)));
     }
-    done
+    checksum
 }
 
 #[inline(never)]
 fn replace(chains: &mut Chains, picks: &[(DefaultKey, DefaultKey)]) -> Checksum {
-    let mut done = Checksum::default();
+    let mut checksum = Checksum::default();
     for (p, q) in picks {
         let t = chains.remove(*p).map_or(0, |link| link.t);
-        done.add_operation(number(chains.insert_next_to(*q, t).expect("a link")));
+        checksum.add_operation(number(chains.insert_next_to(*q, t).expect("a link")));
     }
-    done
+    checksum
 }
 
 #[inline(never)]
-fn look(chains: &Chains, picks: &[(DefaultKey, DefaultKey)]) -> Checksum {
-    let mut done = Checksum::default();
+fn get_link(chains: &Chains, picks: &[(DefaultKey, DefaultKey)]) -> Checksum {
+    let mut checksum = Checksum::default();
     for (p, _) in picks {
         if let Some(link) = chains.map.get(*p) {
             let neighbors = link.prev.map_or(0, number) ^ link.next.map_or(0, number);
-            done.add_operation(neighbors ^ u64::from(link.t));
+            checksum.add_operation(neighbors ^ u64::from(link.t));
         }
     }
-    done
+    checksum
 }
 
 #[inline(never)]
 fn walk(chains: &Chains, starts: &[DefaultKey]) -> Checksum {
-    let mut done = Checksum::default();
+    let mut checksum = Checksum::default();
     for start in starts {
         for (p, link) in chains.iter_chain(*start) {
-            done.add_operation(number_of_link(p, link));
+            checksum.add_operation(number_of_link(p, link));
         }
     }
-    done
+    checksum
 }
 
 #[inline(never)]
 fn iterate(chains: &Chains) -> Checksum {
-    let mut done = Checksum::default();
+    let mut checksum = Checksum::default();
     for (p, link) in &chains.map {
-        done.add_operation(number_of_link(p, link));
+        checksum.add_operation(number_of_link(p, link));
     }
-    done
+    checksum
 }
 
 #[inline(never)]
 fn drain_chains(chains: &mut Chains, starts: &[DefaultKey]) -> Checksum {
-    let mut done = Checksum::default();
+    let mut checksum = Checksum::default();
     for start in starts {
         for (p, link) in chains.drain_chain(*start) {
-            done.add_operation(number_of_link(p, &link));
+            checksum.add_operation(number_of_link(p, &link));
         }
     }
-    done
+    checksum
 }
 
 #[inline(never)]
 fn drain(chains: &mut Chains) -> Checksum {
-    let mut done = Checksum::default();
+    let mut checksum = Checksum::default();
     for (p, link) in chains.map.drain() {
-        done.add_operation(number_of_link(p, &link));
+        checksum.add_operation(number_of_link(p, &link));
     }
-    done
+    checksum
 }
 
 #[inline(never)]
@@ -202,37 +204,38 @@ fn copy(chains: &Chains) -> Checksum {
     probe(&copy, FIRST_GENERATION)
 }
 
-/// Arranges all links in a new map, which replaces the old one: a `SlotMap` gives a link no index of choice. The other sides
-/// count a generation for each hole, and one for the compression.
+/// Arranges all links in a new map, which replaces the old one, since a `SlotMap` chooses the indexes itself.
+///
+/// The other arenas increment the generation for each hole, and once for the compression.
 #[inline(never)]
 fn canonical(chains: &mut Chains, holes: u32) -> Checksum {
     *chains = chains.transfer();
     probe(chains, FIRST_GENERATION + u64::from(holes) + 1)
 }
 
-/// Transfers all links to a new map, which is dropped then.
+/// Transfers all links to a new map, which is then dropped.
 #[inline(never)]
 fn transfer(chains: &mut Chains) -> Checksum {
     let target = chains.transfer();
     probe(&target, FIRST_GENERATION)
 }
 
-/// Counts each link as an operation, and adds eight links spread over the indexes, with the generation of the other sides.
+/// Counts each link as an operation, and adds eight links spread over the indexes, with the generation of the other arenas.
 fn probe(chains: &Chains, generation: u64) -> Checksum {
-    let mut done = Checksum::default();
+    let mut checksum = Checksum::default();
     let links = chains.map.len() as u64;
     for k in 0..8 {
         let index = links / 8 * k + 1;
         let p = KeyData::from_ffi(FIRST_VERSION << 32 | index).into();
         if let Some(link) = chains.map.get(p) {
-            done.add(generation << 32 | index);
-            done.add(u64::from(link.t));
-            done.add(link.prev.map_or(0, index_of));
-            done.add(link.next.map_or(0, index_of));
+            checksum.add(generation << 32 | index);
+            checksum.add(u64::from(link.t));
+            checksum.add(link.prev.map_or(0, index_of));
+            checksum.add(link.next.map_or(0, index_of));
         }
     }
-    done.operations = links;
-    done
+    checksum.operations = links;
+    checksum
 }
 
 /// Returns the index of a key.

@@ -1,4 +1,4 @@
-//! Chains of links in a `SlotMap`, written by hand.
+//! Chains of links in a `SlotMap`, connected by hand.
 
 use slotmap::{DefaultKey, SlotMap};
 
@@ -64,7 +64,7 @@ impl Chains {
         Some(p)
     }
 
-    /// Removes a link and connects its neighbors.
+    /// Removes a link and connects its neighbors. Returns `None` if `p` is not a link's key.
     pub fn remove(&mut self, p: DefaultKey) -> Option<Link> {
         let link = self.map.remove(p)?;
         match (link.prev, link.next) {
@@ -79,7 +79,7 @@ impl Chains {
         Some(link)
     }
 
-    /// Connects the end of a chain to the start of another.
+    /// Connects the end of a chain to the start of a chain. Returns `None` if `p` is not an end or `q` is not a start.
     pub fn connect(&mut self, p: DefaultKey, q: DefaultKey) -> Option<()> {
         if self.map.get(p)?.next.is_some() || self.map.get(q)?.prev.is_some() {
             return None;
@@ -89,14 +89,14 @@ impl Chains {
         Some(())
     }
 
-    /// Disconnects a link from the next one.
+    /// Disconnects a link from the next one. Returns `None` if there is none.
     pub fn break_next(&mut self, p: DefaultKey) -> Option<()> {
         let next = self.map.get_mut(p)?.next.take()?;
         self.map[next].prev = None;
         Some(())
     }
 
-    /// Exchanges the next links of two links.
+    /// Exchanges the next links of two links. Returns `None` if one of them has no next link.
     pub fn exchange_next(&mut self, p: DefaultKey, q: DefaultKey) -> Option<()> {
         let after_p = self.map.get(p)?.next?;
         let after_q = self.map.get(q)?.next?;
@@ -107,24 +107,24 @@ impl Chains {
         Some(())
     }
 
-    /// Iterates over a chain, from a link on.
+    /// Returns an iterator over links from `start` to the end of the chain, or around a cyclic chain.
     pub fn iter_chain(&self, start: DefaultKey) -> impl Iterator<Item = (DefaultKey, &Link)> {
-        let mut at = Some(start);
+        let mut next = Some(start);
         std::iter::from_fn(move || {
-            let p = at?;
+            let p = next?;
             let link = self.map.get(p)?;
-            at = link.next.filter(|next| *next != start);
+            next = link.next.filter(|next| *next != start);
             Some((p, link))
         })
     }
 
-    /// Removes a chain, from a link on.
+    /// Returns an iterator that removes links from `start` to the end of the chain, or around a cyclic chain.
     pub fn drain_chain(&mut self, start: DefaultKey) -> impl Iterator<Item = (DefaultKey, Link)> {
-        let mut at = Some(start);
+        let mut next = Some(start);
         std::iter::from_fn(move || {
-            let p = at?;
+            let p = next?;
             let link = self.remove(p)?;
-            at = link.next.filter(|next| *next != p);
+            next = link.next.filter(|next| *next != p);
             Some((p, link))
         })
     }
@@ -193,8 +193,8 @@ mod tests {
         let c = chains.insert_end(a, 3).unwrap();
         chains.insert_next_to(a, 2).unwrap();
         chains.insert_next_to(b, 11).unwrap();
-        let gone = chains.insert_end(c, 4).unwrap();
-        assert_eq!(chains.remove(gone).unwrap().t, 4);
+        let d = chains.insert_end(c, 4).unwrap();
+        assert_eq!(chains.remove(d).unwrap().t, 4);
         let target = chains.transfer();
         assert_eq!(chains.map.len(), 0);
         let keys: Vec<DefaultKey> = target.map.keys().collect();

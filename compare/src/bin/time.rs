@@ -1,7 +1,7 @@
 //! Times a case over the crate `triple_arena`.
 //!
-//! The arguments are those of the program of `bench/`, `CASE LINKS CHAIN ROUNDS PART`. `--wide` before them gives each link a
-//! value of 12 bytes in place of 4, so that a slot is 24 bytes wide in place of 16.
+//! The arguments are those of the program of `bench/`, `CASE LINKS CHAIN ROUNDS PART`. With `--wide` before them, each link has a
+//! value of 12 bytes instead of 4, so a slot has 24 bytes instead of 16.
 
 use compare::timing::arena::Wide;
 use compare::timing::rounds::run;

@@ -1,6 +1,6 @@
 //! Calls that change an arena.
 
-use super::{Asked, at, text};
+use super::{Call, pointer_of, text};
 use crate::layout::Links;
 use crate::pointer::P0;
 use std::mem;
@@ -8,19 +8,19 @@ use triple_arena::errors::ChainInsertionError;
 use triple_arena::traits::{ArenaInsertEntryTrait, ArenaTrait, ChainArenaTrait, Ptr};
 use triple_arena::{InvalidationOption, InvalidationResult, LinkInsertKind, LinkNoGen};
 
-/// Returns the text of the answer to a call that changes links.
-pub fn answer(arena: &mut Links, asked: &Asked) -> Option<String> {
-    let (p, q) = (asked.pointer(0), asked.pointer(2));
-    Some(match asked.name {
-        "Call" => return call(arena, asked),
-        "Insert" => text(arena.insert_reallocating(kind(asked)?, asked.value())),
-        "InsertWithin" => text(arena.insert_within_capacity(kind(asked)?, asked.value())),
-        "InsertMany" => text(insert_many(arena, asked.number(0))),
-        "InsertByEntry" => text(insert_by_entry(arena, kind(asked)?, asked.value())),
-        "GiveUp" => text(give_up(arena, kind(asked)?)),
+/// Executes a call that changes links, and returns the text of its result.
+pub fn execute(arena: &mut Links, call: &Call) -> Option<String> {
+    let (p, q) = (call.pointer(0), call.pointer(2));
+    Some(match call.name {
+        "Call" => return execute_for_reply(arena, call),
+        "Insert" => text(arena.insert_reallocating(kind(call)?, call.value())),
+        "InsertWithin" => text(arena.insert_within_capacity(kind(call)?, call.value())),
+        "InsertMany" => text(insert_many(arena, call.number(0))),
+        "InsertByEntry" => text(insert_by_entry(arena, kind(call)?, call.value())),
+        "DropEntry" => text(drop_entry(arena, kind(call)?)),
         "Forget" => text(
             arena
-                .entry_insert_reallocating(kind(asked)?)
+                .entry_insert_reallocating(kind(call)?)
                 .map(mem::forget)
                 .err(),
         ),
@@ -28,18 +28,18 @@ pub fn answer(arena: &mut Links, asked: &Asked) -> Option<String> {
         "BreakPrev" => text(arena.break_prev(p)),
         "BreakNext" => text(arena.break_next(p)),
         "Exchange" => text(arena.exchange_next(p, q)),
-        "RemoveLink" => text(arena.remove_link_no_gen(p).map(bare)),
+        "RemoveLink" => text(arena.remove_link_no_gen(p).map(parts_of)),
         "Remove" => text(arena.remove(p)),
-        "RemoveInx" => text(arena.remove_inx(asked.index(0)).allow()),
+        "RemoveInx" => text(arena.remove_inx(call.index(0)).allow()),
         "Invalidate" => text(arena.invalidate(p)),
-        _ => return change_all(arena, asked),
+        _ => return change_all(arena, call),
     })
 }
 
-/// Returns the text of the answer to a call on values, on all links, or on the counter.
-fn change_all(arena: &mut Links, asked: &Asked) -> Option<String> {
-    let (p, i, t) = (asked.pointer(0), asked.index(0), asked.value());
-    Some(match asked.name {
+/// Executes a call on values, on all links, or on the counter, and returns the text of its result.
+fn change_all(arena: &mut Links, call: &Call) -> Option<String> {
+    let (p, i, t) = (call.pointer(0), call.index(0), call.value());
+    Some(match call.name {
         "Write" => text(arena.get_mut(p).map(|old| mem::replace(old, t))),
         "WriteInx" => text(arena.get_inx_mut(i).map(|(_, old)| mem::replace(old, t))),
         "WriteValue" => text(arena.contains(p) && write(&mut arena[p], t)),
@@ -47,41 +47,41 @@ fn change_all(arena: &mut Links, asked: &Asked) -> Option<String> {
             text(arena.get_inx(i).is_some() && write(arena.get_inx_mut_unwrap(i), t))
         }
         "Clear" => text(arena.clear()),
-        "ClearAndReserve" => text(clear_and_reserve(arena)),
-        "Compress" => text(arena.compress(asked.is_set())),
-        "CompressWith" => text(compress_with(arena, asked.is_set())),
-        "Canonical" => text(arena.compress_canonical(asked.is_set())),
-        "SetGeneration" => text(arena.set_generation(at((1, asked.number(0))).generation())),
+        "ClearAndReserve" => text(clear_keeping_capacity(arena)),
+        "Compress" => text(arena.compress(call.is_set())),
+        "CompressWith" => text(compress_with(arena, call.is_set())),
+        "Canonical" => text(arena.compress_canonical(call.is_set())),
+        "SetGeneration" => text(arena.set_generation(pointer_of((1, call.number(0))).generation())),
         "IncGeneration" => text(arena.inc_generation()),
-        "Reserve" => text(arena.reallocate_min_capacity(asked.number(0) as usize)),
-        "ReservePowerOfTwo" => text(arena.reallocate_min_capacity(1 << asked.number(0))),
+        "Reserve" => text(arena.reallocate_min_capacity(call.number(0) as usize)),
+        "ReservePowerOfTwo" => text(arena.reallocate_min_capacity(1 << call.number(0))),
         _ => return None,
     })
 }
 
-/// Returns the text of the reply to a call of a list of calls: what changed, or what was removed.
-fn call(arena: &mut Links, asked: &Asked) -> Option<String> {
-    let (p, q) = (asked.pointer(0), asked.pointer(2));
-    Some(match asked.kind {
+/// Executes a call of a list of calls, and returns the text of its reply.
+fn execute_for_reply(arena: &mut Links, call: &Call) -> Option<String> {
+    let (p, q) = (call.pointer(0), call.pointer(2));
+    Some(match call.kind {
         "Connect" => text(arena.connect(p, q).is_some()),
         "BreakPrev" => text(arena.break_prev(p).is_some()),
         "BreakNext" => text(arena.break_next(p).is_some()),
         "Exchange" => text(arena.exchange_next(p, q).is_some()),
         "RemoveLink" => text(arena.remove_link_no_gen(p)),
-        "RemoveLinkInx" => text(arena.remove_inx_link_no_gen(asked.index(0))),
+        "RemoveLinkInx" => text(arena.remove_inx_link_no_gen(call.index(0))),
         "DrainTaking" => {
-            let take = asked.number(2) as usize;
+            let take = call.number(2) as usize;
             text(arena.drain_chain(p).map(|links| links.take(take).count()))
         }
         _ => return None,
     })
 }
 
-/// Returns the kind of an insertion.
-pub fn kind(asked: &Asked) -> Option<LinkInsertKind<P0>> {
-    let (p, q) = (asked.pointer(0), asked.pointer(2));
-    let (i, j) = (asked.index(0), asked.index(1));
-    Some(match asked.kind {
+/// Returns the kind of an insertion, or `None` if the call has none.
+pub fn kind(call: &Call) -> Option<LinkInsertKind<P0>> {
+    let (p, q) = (call.pointer(0), call.pointer(2));
+    let (i, j) = (call.index(0), call.index(1));
+    Some(match call.kind {
         "Disconnected" => LinkInsertKind::Disconnected,
         "SingleLinkCyclic" => LinkInsertKind::SingleLinkCyclic,
         "ChainEnd" => LinkInsertKind::ChainEnd(p),
@@ -106,7 +106,7 @@ pub fn kind(asked: &Asked) -> Option<LinkInsertKind<P0>> {
     })
 }
 
-/// Adds lone links of the values from 1 on, and returns how many.
+/// Inserts lone links with the values from 1 to `count`, and returns `count`.
 pub fn insert_many(arena: &mut Links, count: u32) -> u32 {
     for t in 1..=count {
         arena.insert(LinkInsertKind::Disconnected, t);
@@ -125,42 +125,42 @@ fn insert_by_entry(
     Ok(p)
 }
 
-/// Makes an entry, and drops it.
-fn give_up(arena: &mut Links, kind: LinkInsertKind<P0>) -> Result<P0, ChainInsertionError> {
+/// Creates an entry and drops it. Returns its pointer.
+fn drop_entry(arena: &mut Links, kind: LinkInsertKind<P0>) -> Result<P0, ChainInsertionError> {
     arena
         .entry_insert_reallocating(kind)
         .map(|entry| entry.ptr())
 }
 
-fn write(place: &mut u32, t: u32) -> bool {
-    *place = t;
+fn write(value: &mut u32, t: u32) -> bool {
+    *value = t;
     true
 }
 
-/// Returns a link's neighbors by their indexes, 0 for none, and its value.
-pub fn bare(link: LinkNoGen<P0, u32>) -> (u32, u32, u32) {
+/// Returns the indexes of a link's neighbors, 0 for none, and its value.
+pub fn parts_of(link: LinkNoGen<P0, u32>) -> (u32, u32, u32) {
     let number = |i: Option<crate::pointer::Inx>| i.map_or(0, |i| i.get());
     (number(link.prev()), number(link.next()), link.t)
 }
 
-/// Clears an arena, and returns whether its capacity stays.
-fn clear_and_reserve(arena: &mut Links) -> (InvalidationOption<()>, bool) {
+/// Clears an arena, and returns whether its capacity is unchanged.
+fn clear_keeping_capacity(arena: &mut Links) -> (InvalidationOption<()>, bool) {
     let capacity = arena.capacity();
-    let answer = arena.clear();
-    (answer, arena.capacity() == capacity)
+    let result = arena.clear();
+    (result, arena.capacity() == capacity)
 }
 
-/// Compresses, adds ten times the number of the call to each value, and returns what the closure saw.
+/// Compresses an arena, and returns the arguments of the closure's calls. The k-th call adds 10 * k to its value.
 fn compress_with(arena: &mut Links, reset: bool) -> (InvalidationOption<()>, Vec<(P0, u32, P0)>) {
-    let mut seen = Vec::new();
-    let answer = arena.compress_with(reset, |from, t, to| {
-        seen.push((from, *t, to));
-        *t += 10 * seen.len() as u32;
+    let mut visits = Vec::new();
+    let result = arena.compress_with(reset, |from, t, to| {
+        visits.push((from, *t, to));
+        *t += 10 * visits.len() as u32;
     });
-    (answer, seen)
+    (result, visits)
 }
 
-/// Returns whether a removal found its link.
-pub fn is_removed<T>(answer: InvalidationResult<T>) -> bool {
-    answer.allow().is_some()
+/// Returns whether a removal succeeded.
+pub fn is_removed<T>(result: InvalidationResult<T>) -> bool {
+    result.allow().is_some()
 }

@@ -1,6 +1,6 @@
 //! Lookups of values, of all links, and of the counter.
 
-use super::{Asked, At, at, numbers, text};
+use super::{Call, RawPointer, pointer_of, raw_pointer, text};
 use crate::layout::Links;
 use crate::pointer::P0;
 use std::mem;
@@ -8,14 +8,14 @@ use triple_arena::ChainArena;
 use triple_arena::errors::AllocError;
 use triple_arena::traits::{Advancer, ArenaTrait, ChainArenaTrait, Ptr};
 
-/// Returns the text of the answer to a lookup.
-pub fn answer(arena: &mut Links, asked: &Asked) -> Option<String> {
-    let (p, i) = (asked.pointer(0), asked.index(0));
-    Some(match asked.name {
+/// Executes a lookup, and returns the text of its result.
+pub fn execute(arena: &mut Links, call: &Call) -> Option<String> {
+    let (p, i) = (call.pointer(0), call.index(0));
+    Some(match call.name {
         "Len" => text(arena.len()),
         "IsEmpty" => text(arena.is_empty()),
-        "HasCapacity" => text(arena.capacity() >= asked.number(0) as usize),
-        "Birth" => text(born(asked.number(0) as usize)),
+        "HasCapacity" => text(arena.capacity() >= call.number(0) as usize),
+        "WithMinCapacity" => text(new_with_capacity(call.number(0) as usize)),
         "Maximum" => text(arena.max_capacity()),
         "Counter" => text(arena.singular_generation()),
         "Generation" => text(arena.generation()),
@@ -28,23 +28,23 @@ pub fn answer(arena: &mut Links, asked: &Asked) -> Option<String> {
                 .then(|| (arena[p], *arena.get_inx_unwrap(p.inx()))),
         ),
         "Ends" => text((arena.find_first_inx_ptr(), arena.find_last_inx_ptr())),
-        _ => return look_along(arena, asked),
+        _ => return execute_on_all(arena, call),
     })
 }
 
-/// Returns whether an arena that is made with a capacity is empty, and has the capacity.
-fn born(n: usize) -> Result<(bool, bool), AllocError> {
+/// Creates an arena with a capacity, and returns whether it is empty and has at least that capacity.
+fn new_with_capacity(n: usize) -> Result<(bool, bool), AllocError> {
     let arena = Links::with_min_capacity(n)?;
     Ok((arena.is_empty(), arena.capacity() >= n))
 }
 
-/// Returns the text of the answer to a lookup of all links.
-fn look_along(arena: &mut Links, asked: &Asked) -> Option<String> {
-    let i = asked.index(0);
-    Some(match asked.name {
+/// Executes a lookup of all links, and returns the text of its result.
+fn execute_on_all(arena: &mut Links, call: &Call) -> Option<String> {
+    let i = call.index(0);
+    Some(match call.name {
         "Debug" => text(&*arena),
-        "DebugOfWords" => format!("{:?}", words(arena)),
-        "AlternateOfWords" => format!("{:#?}", words(arena)).replace('\n', "\\n"),
+        "DebugOfWords" => format!("{:?}", with_words(arena)),
+        "AlternateOfWords" => format!("{:#?}", with_words(arena)).replace('\n', "\\n"),
         "Values" => text(arena.iter().collect::<Vec<_>>()),
         "Links" => text(arena.iter_link_no_gen().collect::<Vec<_>>()),
         "LinksByReference" => text((&*arena).into_iter().collect::<Vec<_>>()),
@@ -53,16 +53,16 @@ fn look_along(arena: &mut Links, asked: &Asked) -> Option<String> {
             arena.iter().map(|(p, _)| p.inx()).collect::<Vec<_>>(),
         )),
         "All" => text(rows_of(arena)),
-        "Advance" => text(met(arena.advancer(), arena, asked.number(0))),
-        "AdvanceFrom" => text(met(arena.advancer_inx(i, asked.value() > 0), arena, 2)),
+        "Advance" => text(advance(arena.advancer(), arena, call.number(0))),
+        "AdvanceFrom" => text(advance(arena.advancer_inx(i, call.value() > 0), arena, 2)),
         "AdvanceEmpty" => text(empty_advancer().advance(&*arena)),
-        "Changes" => text(changes_met()?),
+        "Changes" => text(advance_over_changes()?),
         _ => return None,
     })
 }
 
 /// Returns the arena with a word in place of each value.
-fn words(arena: &Links) -> ChainArena<P0, &'static str> {
+fn with_words(arena: &Links) -> ChainArena<P0, &'static str> {
     let mut copy = ChainArena::new();
     copy.clone_from_with(arena, |_, link| match link.t {
         1 => "A",
@@ -75,15 +75,15 @@ fn words(arena: &Links) -> ChainArena<P0, &'static str> {
     copy
 }
 
-/// Returns of each link its pointer, its value, and the pointers before and after it.
-fn rows_of(arena: &Links) -> Vec<(At, u32, At, At)> {
+/// Returns the pointer and the value of each link, and the pointers of its neighbors.
+fn rows_of(arena: &Links) -> Vec<(RawPointer, u32, RawPointer, RawPointer)> {
     let row = |p| {
         let link = arena.get_link(p)?;
         Some((
-            numbers(Some(p)),
+            raw_pointer(Some(p)),
             *link.t,
-            numbers(link.prev()),
-            numbers(link.next()),
+            raw_pointer(link.prev()),
+            raw_pointer(link.next()),
         ))
     };
     arena.iter().filter_map(|(p, _)| row(p)).collect()
@@ -96,44 +96,48 @@ fn empty_advancer() -> PtrAdvancer {
     <PtrAdvancer as Advancer<Links>>::empty()
 }
 
-/// Returns so many answers of an advancer, five at most, and zeros for the others.
-pub fn met<V: Advancer<Links, Item = P0>>(mut advancer: V, arena: &Links, count: u32) -> [At; 5] {
-    let mut answers = [(0, 0); 5];
-    for place in answers.iter_mut().take(count as usize) {
-        *place = numbers(advancer.advance(arena));
+/// Returns the pointers of the first `count` calls of an advancer, five at most. The others are zeros.
+pub fn advance<V: Advancer<Links, Item = P0>>(
+    mut advancer: V,
+    arena: &Links,
+    count: u32,
+) -> [RawPointer; 5] {
+    let mut pointers = [(0, 0); 5];
+    for p in pointers.iter_mut().take(count as usize) {
+        *p = raw_pointer(advancer.advance(arena));
     }
-    answers
+    pointers
 }
 
-/// Returns what an advancer along the chain of a pointer answers over an arena.
-pub fn met_along(arena: &Links, p: P0, over: &Links) -> Option<[At; 5]> {
-    Some(met(arena.advancer_chain(p)?, over, 5))
+/// Creates an advancer along the chain of a pointer in one arena, and returns its pointers over another.
+pub fn advance_along(arena: &Links, p: P0, other: &Links) -> Option<[RawPointer; 5]> {
+    Some(advance(arena.advancer_chain(p)?, other, 5))
 }
 
-/// Returns lone links, of which some are connected.
-fn connected(count: u32, pairs: &[At]) -> Links {
+/// Returns an arena of links, where each pair of indexes is connected.
+fn with_connections(count: u32, pairs: &[(u32, u32)]) -> Links {
     let mut arena = Links::new();
     super::changes::insert_many(&mut arena, count);
     for (i, j) in pairs {
-        let _ = arena.connect(at((*i, 2)), at((*j, 2)));
+        let _ = arena.connect(pointer_of((*i, 2)), pointer_of((*j, 2)));
     }
     arena
 }
 
-/// Returns what advancers along chains answer over arenas that change, and over other arenas.
-fn changes_met() -> Option<(At, [[At; 5]; 4])> {
-    let mut arena = connected(2, &[(1, 2)]);
-    let mut along = arena.advancer_chain(at((1, 2)))?;
-    let first = numbers(along.advance(&arena));
-    let _ = arena.remove(at((2, 2)));
-    let gone = met(along, &arena, 5);
-    let other = connected(3, &[(1, 2), (2, 3)]);
-    let one_step = met_along(&arena, at((1, 2)), &other)?;
-    let untied = met_along(&other, at((3, 2)), &connected(3, &[]))?;
-    let mut along = other.advancer_chain(at((1, 2)))?;
-    let none = match along.advance(&Links::new()) {
-        Some(p) => [numbers(Some(p)); 5],
-        None => met(along, &other, 5),
+/// Returns the pointers of advancers along chains, over arenas that change and over other arenas.
+fn advance_over_changes() -> Option<(RawPointer, [[RawPointer; 5]; 4])> {
+    let mut arena = with_connections(2, &[(1, 2)]);
+    let mut advancer = arena.advancer_chain(pointer_of((1, 2)))?;
+    let first = raw_pointer(advancer.advance(&arena));
+    let _ = arena.remove(pointer_of((2, 2)));
+    let after_removal = advance(advancer, &arena, 5);
+    let other = with_connections(3, &[(1, 2), (2, 3)]);
+    let one_step = advance_along(&arena, pointer_of((1, 2)), &other)?;
+    let disconnected = advance_along(&other, pointer_of((3, 2)), &with_connections(3, &[]))?;
+    let mut advancer = other.advancer_chain(pointer_of((1, 2)))?;
+    let after_none = match advancer.advance(&Links::new()) {
+        Some(p) => [raw_pointer(Some(p)); 5],
+        None => advance(advancer, &other, 5),
     };
-    Some((first, [gone, one_step, untied, none]))
+    Some((first, [after_removal, one_step, disconnected, after_none]))
 }

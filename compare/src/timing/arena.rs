@@ -1,8 +1,8 @@
-//! The cases over `ChainArena`, one function a case.
+//! The cases over `ChainArena`, each a function.
 
 use super::cases::Case;
-use super::checksum::{Checksum, number_of_done};
-use super::links::{Links, Place, Task};
+use super::checksum::{Checksum, number_of_success};
+use super::links::{Links, Position, Task};
 use crate::pointer::{Inx, P0, generation_of, index_of, pointer};
 use triple_arena::traits::{Advancer, ArenaTrait, ChainArenaTrait, Ptr};
 use triple_arena::utils::ArenaSlot;
@@ -11,7 +11,7 @@ use triple_arena::{ChainArena, LinkInsertKind, LinkNoGen};
 
 /// The value of a link.
 pub trait Value: Copy {
-    /// Returns the value of a number.
+    /// Returns the value for a number.
     fn of(number: u32) -> Self;
 
     /// Returns the number of a value.
@@ -28,7 +28,7 @@ impl Value for u32 {
     }
 }
 
-/// A number in 12 bytes, which makes a slot of the crate 24 bytes wide.
+/// A number in 12 bytes, with which a slot of the crate has 24 bytes.
 #[derive(Clone, Copy)]
 pub struct Wide([u32; 3]);
 
@@ -60,12 +60,12 @@ impl<T: Value> Links for Chains<T> {
         self.clone()
     }
 
-    fn insert(&mut self, place: Place<P0>, t: u32) -> P0 {
-        let kind = match place {
-            Place::Alone => LinkInsertKind::Disconnected,
-            Place::Cycle => LinkInsertKind::SingleLinkCyclic,
-            Place::End(p) => LinkInsertKind::ChainEnd(p),
-            Place::NextTo(p) => LinkInsertKind::NextTo(p),
+    fn insert(&mut self, position: Position<P0>, t: u32) -> P0 {
+        let kind = match position {
+            Position::Alone => LinkInsertKind::Disconnected,
+            Position::Cycle => LinkInsertKind::SingleLinkCyclic,
+            Position::End(p) => LinkInsertKind::ChainEnd(p),
+            Position::NextTo(p) => LinkInsertKind::NextTo(p),
         };
         self.insert_reallocating(kind, T::of(t)).expect("a link")
     }
@@ -86,7 +86,7 @@ impl<T: Value> Links for Chains<T> {
         number(p)
     }
 
-    fn round(&mut self, task: &Task<P0>) -> Option<Checksum> {
+    fn run_round(&mut self, task: &Task<P0>) -> Option<Checksum> {
         Some(match task.case {
             Case::Insert => insert(self, task.plan.links),
             Case::InsertEnd => insert_end(self, &task.starts, task.plan.chain),
@@ -94,7 +94,7 @@ impl<T: Value> Links for Chains<T> {
             Case::Exchange => exchange(self, &task.picks),
             Case::BreakConnect => break_connect(self, &task.picks),
             Case::Replace => replace(self, &task.picks),
-            Case::Look => look(self, &task.picks),
+            Case::GetLink => get_link(self, &task.picks),
             Case::Walk => walk(self, &task.starts),
             Case::Advance => advance(self, &task.starts),
             Case::Iterate => iterate(self),
@@ -112,146 +112,146 @@ impl<T: Value> Links for Chains<T> {
     }
 }
 
-/// Returns the number of a pointer.
+/// Returns a pointer as a number.
 fn number(p: P0) -> u64 {
     u64::from(generation_of(p)) << 32 | u64::from(index_of(p))
 }
 
-/// Returns the number of a link.
+/// Returns a link as a number: its pointer and its value.
 fn number_of_link<T: Value>(p: P0, link: &LinkNoGen<P0, T>) -> u64 {
     number(p) ^ u64::from(link.t.number())
 }
 
 #[inline(never)]
 fn insert<T: Value>(arena: &mut Chains<T>, links: u32) -> Checksum {
-    let mut done = Checksum::default();
+    let mut checksum = Checksum::default();
     for k in 0..links {
         let p = arena.insert_reallocating(LinkInsertKind::Disconnected, T::of(k));
-        done.add_operation(number(p.expect("a link")));
+        checksum.add_operation(number(p.expect("a link")));
     }
-    done
+    checksum
 }
 
 #[inline(never)]
 fn insert_end<T: Value>(arena: &mut Chains<T>, starts: &[P0], chain: u32) -> Checksum {
-    let mut done = Checksum::default();
+    let mut checksum = Checksum::default();
     for start in starts {
         let mut last = *start;
         for k in 1..chain {
             let p = arena.insert_reallocating(LinkInsertKind::ChainEnd(last), T::of(k));
             last = p.expect("a link");
-            done.add_operation(number(last));
+            checksum.add_operation(number(last));
         }
     }
-    done
+    checksum
 }
 
 #[inline(never)]
 fn insert_beside<T: Value>(arena: &mut Chains<T>, picks: &[(P0, P0)]) -> Checksum {
-    let mut done = Checksum::default();
+    let mut checksum = Checksum::default();
     for (p, _) in picks {
         let p = arena.insert_reallocating(LinkInsertKind::NextTo(*p), T::of(0));
-        done.add_operation(number(p.expect("a link")));
+        checksum.add_operation(number(p.expect("a link")));
     }
-    done
+    checksum
 }
 
 #[inline(never)]
 fn exchange<T: Value>(arena: &mut Chains<T>, picks: &[(P0, P0)]) -> Checksum {
-    let mut done = Checksum::default();
+    let mut checksum = Checksum::default();
     for (p, q) in picks {
-        done.add_operation(number_of_done(arena.exchange_next(*p, *q)));
+        checksum.add_operation(number_of_success(arena.exchange_next(*p, *q)));
     }
-    done
+    checksum
 }
 
 #[inline(never)]
 fn break_connect<T: Value>(arena: &mut Chains<T>, picks: &[(P0, P0)]) -> Checksum {
-    let mut done = Checksum::default();
+    let mut checksum = Checksum::default();
     for (p, q) in picks {
-        done.add(number_of_done(arena.break_next(*p)));
-        done.add_operation(number_of_done(ChainArenaTrait::connect(arena, *p, *q)));
+        checksum.add(number_of_success(arena.break_next(*p)));
+        checksum.add_operation(number_of_success(ChainArenaTrait::connect(arena, *p, *q)));
     }
-    done
+    checksum
 }
 
 #[inline(never)]
 fn replace<T: Value>(arena: &mut Chains<T>, picks: &[(P0, P0)]) -> Checksum {
-    let mut done = Checksum::default();
+    let mut checksum = Checksum::default();
     for (p, q) in picks {
         let t = ArenaTrait::remove(arena, *p).allow().unwrap_or(T::of(0));
         let p = arena.insert_reallocating(LinkInsertKind::NextTo(*q), t);
-        done.add_operation(number(p.expect("a link")));
+        checksum.add_operation(number(p.expect("a link")));
     }
-    done
+    checksum
 }
 
 #[inline(never)]
-fn look<T: Value>(arena: &Chains<T>, picks: &[(P0, P0)]) -> Checksum {
-    let mut done = Checksum::default();
+fn get_link<T: Value>(arena: &Chains<T>, picks: &[(P0, P0)]) -> Checksum {
+    let mut checksum = Checksum::default();
     for (p, _) in picks {
         if let Some(link) = arena.get_link(*p) {
             let neighbors = link.prev().map_or(0, number) ^ link.next().map_or(0, number);
-            done.add_operation(neighbors ^ u64::from(link.t.number()));
+            checksum.add_operation(neighbors ^ u64::from(link.t.number()));
         }
     }
-    done
+    checksum
 }
 
 #[inline(never)]
 fn walk<T: Value>(arena: &Chains<T>, starts: &[P0]) -> Checksum {
-    let mut done = Checksum::default();
+    let mut checksum = Checksum::default();
     for start in starts {
         for (p, link) in arena.iter_chain(*start).into_iter().flatten() {
-            done.add_operation(number_of_link(p, link));
+            checksum.add_operation(number_of_link(p, link));
         }
     }
-    done
+    checksum
 }
 
 #[inline(never)]
 fn advance<T: Value>(arena: &Chains<T>, starts: &[P0]) -> Checksum {
-    let mut done = Checksum::default();
+    let mut checksum = Checksum::default();
     for start in starts {
         let Some(mut advancer) = arena.advancer_chain(*start) else {
             continue;
         };
         while let Some(p) = advancer.advance(arena) {
-            done.add_operation(number(p));
+            checksum.add_operation(number(p));
         }
     }
-    done
+    checksum
 }
 
 #[inline(never)]
 fn iterate<T: Value>(arena: &Chains<T>) -> Checksum {
-    let mut done = Checksum::default();
+    let mut checksum = Checksum::default();
     for (p, link) in arena.iter_link_no_gen() {
-        done.add_operation(number_of_link(p, link));
+        checksum.add_operation(number_of_link(p, link));
     }
-    done
+    checksum
 }
 
 #[inline(never)]
 fn drain_chains<T: Value>(arena: &mut Chains<T>, starts: &[P0]) -> Checksum {
-    let mut done = Checksum::default();
+    let mut checksum = Checksum::default();
     for start in starts {
         for removed in arena.drain_chain(*start).into_iter().flatten() {
             let (p, link) = removed.allow();
-            done.add_operation(number_of_link(p, &link));
+            checksum.add_operation(number_of_link(p, &link));
         }
     }
-    done
+    checksum
 }
 
 #[inline(never)]
 fn drain<T: Value>(arena: &mut Chains<T>) -> Checksum {
-    let mut done = Checksum::default();
+    let mut checksum = Checksum::default();
     for removed in arena.drain() {
         let (p, t) = removed.allow();
-        done.add_operation(number(p) ^ u64::from(t.number()));
+        checksum.add_operation(number(p) ^ u64::from(t.number()));
     }
-    done
+    checksum
 }
 
 #[inline(never)]
@@ -272,7 +272,7 @@ fn canonical<T: Value>(arena: &mut Chains<T>) -> Checksum {
     probe(arena)
 }
 
-/// Transfers all links to a new arena, which is dropped then.
+/// Transfers all links to a new arena, which is then dropped.
 #[inline(never)]
 fn transfer<T: Value>(arena: &mut Chains<T>) -> Checksum {
     let mut target: Chains<T> = ArenaTrait::new();
@@ -284,23 +284,23 @@ fn transfer<T: Value>(arena: &mut Chains<T>) -> Checksum {
 
 /// Counts each link as an operation, and adds eight links spread over the indexes.
 fn probe<T: Value>(arena: &Chains<T>) -> Checksum {
-    let mut done = Checksum::default();
+    let mut checksum = Checksum::default();
     let links = arena.len();
     for k in 0..8 {
-        let at = u32::try_from(links / 8 * k + 1).expect("an index");
-        let i = Inx::new(at).expect("an index");
+        let index = u32::try_from(links / 8 * k + 1).expect("an index");
+        let i = Inx::new(index).expect("an index");
         if let Some((generation, link)) = arena.get_inx_link_no_gen(i) {
-            add_link(&mut done, pointer(i, generation), link);
+            add_link(&mut checksum, pointer(i, generation), link);
         }
     }
-    done.operations = links as u64;
-    done
+    checksum.operations = links as u64;
+    checksum
 }
 
 /// Adds a link's pointer, value and neighbors.
-fn add_link<T: Value>(done: &mut Checksum, p: P0, link: &LinkNoGen<P0, T>) {
-    done.add(number(p));
-    done.add(u64::from(link.t.number()));
-    done.add(link.prev().map_or(0, |i| u64::from(i.get())));
-    done.add(link.next().map_or(0, |i| u64::from(i.get())));
+fn add_link<T: Value>(checksum: &mut Checksum, p: P0, link: &LinkNoGen<P0, T>) {
+    checksum.add(number(p));
+    checksum.add(u64::from(link.t.number()));
+    checksum.add(link.prev().map_or(0, |i| u64::from(i.get())));
+    checksum.add(link.next().map_or(0, |i| u64::from(i.get())));
 }

@@ -13,7 +13,7 @@ pub enum Shape {
     Cycles,
     /// Chains whose links are at random indexes.
     Tangled,
-    /// Chains that grew in turn, by a link each.
+    /// Chains that grew in turn, by one link each.
     Interleaved,
     /// Chains one after another, with a hole after each link.
     HalfHoles,
@@ -24,9 +24,9 @@ pub enum Shape {
 /// The pairs of links that a case uses.
 #[derive(Clone, Copy, Debug)]
 pub enum Picks {
-    /// None.
+    /// No pairs.
     Nothing,
-    /// Any two.
+    /// Any two links.
     Random,
     /// A link and the next one.
     Neighbors,
@@ -43,7 +43,7 @@ pub enum Case {
     Exchange,
     BreakConnect,
     Replace,
-    Look,
+    GetLink,
     Walk,
     Advance,
     Iterate,
@@ -77,7 +77,7 @@ const CASES: [(Case, &str, Shape, Picks); 20] = [
         Picks::Neighbors,
     ),
     (Case::Replace, "replace", Shape::Chains, Picks::Succeeding),
-    (Case::Look, "look", Shape::Chains, Picks::Random),
+    (Case::GetLink, "get_link", Shape::Chains, Picks::Random),
     (Case::Walk, "walk", Shape::Chains, Picks::Nothing),
     (Case::Advance, "advance", Shape::Chains, Picks::Nothing),
     (Case::Iterate, "iterate", Shape::Chains, Picks::Nothing),
@@ -124,7 +124,7 @@ const CASES: [(Case, &str, Shape, Picks); 20] = [
 ];
 
 impl Case {
-    /// Returns the case of a name.
+    /// Returns the case with a name.
     pub fn of(name: &str) -> Option<Case> {
         CASES.iter().find(|row| row.1 == name).map(|row| row.0)
     }
@@ -151,13 +151,13 @@ impl Case {
         self.row().3
     }
 
-    /// Returns whether a round changes the arena, so that each round needs one of its own.
-    pub fn uses_up(self) -> bool {
+    /// Returns whether each round needs an arena of its own, since a round changes which pointers are valid.
+    pub fn needs_arena_per_round(self) -> bool {
         !matches!(
             self,
             Case::Exchange
                 | Case::BreakConnect
-                | Case::Look
+                | Case::GetLink
                 | Case::Walk
                 | Case::Advance
                 | Case::Iterate

@@ -1,6 +1,6 @@
-//! The sum over what a case returned.
+//! The checksum of a case.
 
-/// The number of operations, and a sum over the numbers that they returned, which depends on their order.
+/// The number of operations, and an order-dependent sum over the numbers that they returned.
 #[derive(Clone, Copy, Debug, Default)]
 pub struct Checksum {
     pub operations: u64,
@@ -13,7 +13,7 @@ impl Checksum {
         self.sum = self.sum.wrapping_mul(31).wrapping_add(number);
     }
 
-    /// Adds the number of one more operation.
+    /// Adds an operation with a number.
     pub fn add_operation(&mut self, number: u64) {
         self.operations += 1;
         self.add(number);
@@ -26,7 +26,7 @@ impl Checksum {
     }
 }
 
-/// Returns 1 for a call that was carried out, and 0 for one that was refused.
-pub fn number_of_done(done: Option<()>) -> u64 {
-    u64::from(done.is_some())
+/// Returns 1 for a call that succeeded, and 0 for one that returned `None`.
+pub fn number_of_success(result: Option<()>) -> u64 {
+    u64::from(result.is_some())
 }

@@ -1,12 +1,12 @@
-//! What a side of the comparison provides.
+//! The trait of the arenas that are timed.
 
+use super::arguments::Plan;
 use super::cases::Case;
 use super::checksum::Checksum;
-use super::plan::Plan;
 
-/// Where a link is inserted.
+/// The position of a new link.
 #[derive(Clone, Copy, Debug)]
-pub enum Place<P> {
+pub enum Position<P> {
     /// In a chain of its own.
     Alone,
     /// In a cyclic chain of its own.
@@ -17,7 +17,7 @@ pub enum Place<P> {
     NextTo(P),
 }
 
-/// What a round uses: the first link of each chain, and pairs of links.
+/// The case of a round, the first link of each chain, and pairs of links.
 pub struct Task<P> {
     pub case: Case,
     pub plan: Plan,
@@ -29,14 +29,14 @@ pub struct Task<P> {
 pub trait Links: Sized {
     type Ptr: Copy;
 
-    /// Returns an arena without links.
+    /// Returns an empty arena.
     fn new() -> Self;
 
     /// Returns a copy.
     fn copy(&self) -> Self;
 
     /// Inserts a link.
-    fn insert(&mut self, place: Place<Self::Ptr>, t: u32) -> Self::Ptr;
+    fn insert(&mut self, position: Position<Self::Ptr>, t: u32) -> Self::Ptr;
 
     /// Removes a link.
     fn remove(&mut self, p: Self::Ptr);
@@ -47,9 +47,9 @@ pub trait Links: Sized {
     /// Returns the next link.
     fn next_of(&self, p: Self::Ptr) -> Option<Self::Ptr>;
 
-    /// Returns the number of a pointer.
+    /// Returns a pointer as a number.
     fn number(p: Self::Ptr) -> u64;
 
-    /// Carries out a round of a case, or returns `None` if this side has nothing for it.
-    fn round(&mut self, task: &Task<Self::Ptr>) -> Option<Checksum>;
+    /// Runs a round of a case. Returns `None` if this arena does not support the case.
+    fn run_round(&mut self, task: &Task<Self::Ptr>) -> Option<Checksum>;
 }

@@ -1,6 +1,6 @@
-//! Numbers that look random.
+//! Pseudorandom numbers.
 
-/// A generator of numbers, the same in each run: SplitMix64.
+/// A generator of pseudorandom numbers, the same in each run: SplitMix64.
 pub struct Numbers {
     state: u64,
 }
@@ -32,7 +32,7 @@ impl Numbers {
         Some(items[self.below(items.len())])
     }
 
-    /// Permutes the items.
+    /// Permutes the items pseudorandomly.
     pub fn shuffle<T>(&mut self, items: &mut [T]) {
         for k in 1..items.len() {
             items.swap(k, self.below(k + 1));

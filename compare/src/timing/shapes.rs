@@ -1,21 +1,21 @@
-//! The arenas that cases begin with, and the pairs of links that they use. A link's value is its place in its chain, from 0.
+//! The arenas that cases begin with, and the pairs of links that they use. A link's value is its position in its chain, from 0.
 
+use super::arguments::Plan;
 use super::cases::{Picks, Shape};
-use super::links::{Links, Place};
+use super::links::{Links, Position};
 use super::numbers::Numbers;
-use super::plan::Plan;
 
-/// An arena, the pointers of its links in the order of their insertion, and the first link of each chain.
-pub struct Shaped<L: Links> {
+/// An arena, its pointers in the order of insertion, and the first link of each chain.
+pub struct ShapedArena<L: Links> {
     pub arena: L,
     pub links: Vec<L::Ptr>,
     pub starts: Vec<L::Ptr>,
 }
 
-impl<L: Links> Shaped<L> {
-    /// Returns the arena of a shape.
+impl<L: Links> ShapedArena<L> {
+    /// Returns an arena of a shape.
     pub fn of(shape: Shape, plan: Plan, numbers: &mut Numbers) -> Self {
-        let mut shaped = Shaped {
+        let mut shaped = ShapedArena {
             arena: L::new(),
             links: Vec::new(),
             starts: Vec::new(),
@@ -48,13 +48,13 @@ impl<L: Links> Shaped<L> {
         }
     }
 
-    /// Adds chains that grow in turn, by a link each.
+    /// Adds chains that grow in turn, by one link each.
     fn add_interleaved(&mut self, plan: Plan) {
         self.add(plan.chains(), 1, false);
         for k in 1..plan.chain {
             for _ in 0..plan.chains() {
                 let end = self.links[self.links.len() - plan.chains() as usize];
-                self.add_link(Place::End(end), k);
+                self.add_link(Position::End(end), k);
             }
         }
     }
@@ -76,30 +76,30 @@ impl<L: Links> Shaped<L> {
     fn add(&mut self, chains: u32, chain: u32, are_cyclic: bool) {
         for _ in 0..chains {
             let first = if are_cyclic {
-                Place::Cycle
+                Position::Cycle
             } else {
-                Place::Alone
+                Position::Alone
             };
             let mut last = self.add_link(first, 0);
             self.starts.push(last);
             for k in 1..chain {
-                let place = if are_cyclic {
-                    Place::NextTo(last)
+                let position = if are_cyclic {
+                    Position::NextTo(last)
                 } else {
-                    Place::End(last)
+                    Position::End(last)
                 };
-                last = self.add_link(place, k);
+                last = self.add_link(position, k);
             }
         }
     }
 
-    fn add_link(&mut self, place: Place<L::Ptr>, t: u32) -> L::Ptr {
-        let p = self.arena.insert(place, t);
+    fn add_link(&mut self, position: Position<L::Ptr>, t: u32) -> L::Ptr {
+        let p = self.arena.insert(position, t);
         self.links.push(p);
         p
     }
 
-    /// Removes `count` links, the first at `first` and each `step` places after the one before.
+    /// Removes `count` links, from the position `first` on at every `step`-th position.
     fn make_holes(&mut self, first: usize, step: usize, count: u32) {
         for p in self
             .links
@@ -112,7 +112,7 @@ impl<L: Links> Shaped<L> {
         }
     }
 
-    /// Returns the pairs that a case uses, as many as there are links, or nearly so.
+    /// Returns the pairs that a case uses, about as many as there are links.
     pub fn picks_of(&mut self, picks: Picks, numbers: &mut Numbers) -> Vec<(L::Ptr, L::Ptr)> {
         match picks {
             Picks::Nothing => Vec::new(),
@@ -128,7 +128,7 @@ impl<L: Links> Shaped<L> {
         }
     }
 
-    /// Returns pairs of any link and the one that `other` returns, if it does.
+    /// Returns pairs of a random link and the link that `other` returns. There is no pair where it returns `None`.
     fn random_pairs<F>(&self, numbers: &mut Numbers, other: F) -> Vec<(L::Ptr, L::Ptr)>
     where
         F: Fn(&L, &mut Numbers, &[L::Ptr], L::Ptr) -> Option<L::Ptr>,

@@ -62,43 +62,43 @@ module _ {P T Inx Gen Word : Type 0} (number : Inx → ℕ) where
   -- The arena after a value is written.
   pub lent_view : {slots : List (ArenaSlot P T Inx Gen Word)} {greatest len : ℕ} {head : Option Inx} → IsSound number slots greatest len head (freed_of number slots head)
       → (counter : Gen) (capacity : ℕ) (maximum : Option ℕ) (placed touched : ℕ) (k n : ℕ) (slot : ArenaSlot P T Inx Gen Word) (w : T)
-      → (items : List (ArenaSlot P T Inx Gen Word)) (within_capacity : ℕ) (most : Option ℕ) → k + 1 ≡ n → slice_get slots k ≡ Some slot → items ≡ slice_set slots k (with_value_in slot w) → within_capacity ≡ capacity → most ≡ maximum
-      → arena_of items (freed_of number items head) counter greatest within_capacity most placed touched ≡ with_value (arena_of slots (freed_of number slots head) counter greatest capacity maximum placed touched) n w
-  lent_view {slots = slots} {greatest = greatest} {head = head} s counter capacity maximum placed touched k n slot w items within_capacity most at is written equal_capacity same_most =
+      → (items : List (ArenaSlot P T Inx Gen Word)) (new_capacity : ℕ) (most : Option ℕ) → k + 1 ≡ n → slice_get slots k ≡ Some slot → items ≡ slice_set slots k (with_value_in slot w) → new_capacity ≡ capacity → most ≡ maximum
+      → arena_of items (freed_of number items head) counter greatest new_capacity most placed touched ≡ with_value (arena_of slots (freed_of number slots head) counter greatest capacity maximum placed touched) n w
+  lent_view {slots = slots} {greatest = greatest} {head = head} s counter capacity maximum placed touched k n slot w items new_capacity most at is written equal_capacity same_most =
       rw (written, equal_capacity, same_most, walked_all number (lent number k slot w s is))
       (viewed_with_value slots (freed_of number slots head) counter greatest capacity maximum placed touched k n slot w at is)
 
   -- The arena after an entry is removed.
   pub vacated_view : {slots : List (ArenaSlot P T Inx Gen Word)} {greatest len : ℕ} {head : Option Inx} → IsSound number slots greatest len head (freed_of number slots head)
-      → (counter after : Gen) (capacity within_capacity : ℕ) (maximum most : Option ℕ) (placed total touched : ℕ) (following : Gen → Gen) (k : ℕ) (i : Inx) (g : Gen) (t : T) (items : List (ArenaSlot P T Inx Gen Word))
-      → k + 1 ≡ number i → slice_get slots k ≡ Some (allocated_slot g t) → items ≡ slice_set slots k (free_slot head) → within_capacity ≡ capacity → most ≡ maximum → after ≡ following counter → total ≡ placed + 1
-      → arena_of items (freed_of number items (Some i)) after greatest within_capacity most total touched ≡ remove_at following (arena_of slots (freed_of number slots head) counter greatest capacity maximum placed touched) (number i)
-  vacated_view {slots = slots} {greatest = greatest} {len = len} {head = head} s counter after capacity within_capacity maximum most placed total touched following k i g t items at is written equal_capacity same_most same_after same_total =
+      → (counter after : Gen) (capacity new_capacity : ℕ) (maximum most : Option ℕ) (placed total touched : ℕ) (following : Gen → Gen) (k : ℕ) (i : Inx) (g : Gen) (t : T) (items : List (ArenaSlot P T Inx Gen Word))
+      → k + 1 ≡ number i → slice_get slots k ≡ Some (allocated_slot g t) → items ≡ slice_set slots k (free_slot head) → new_capacity ≡ capacity → most ≡ maximum → after ≡ following counter → total ≡ placed + 1
+      → arena_of items (freed_of number items (Some i)) after greatest new_capacity most total touched ≡ remove_at following (arena_of slots (freed_of number slots head) counter greatest capacity maximum placed touched) (number i)
+  vacated_view {slots = slots} {greatest = greatest} {len = len} {head = head} s counter after capacity new_capacity maximum most placed total touched following k i g t items at is written equal_capacity same_most same_after same_total =
       let some = some_taken number s k g t is in
       rw (written, equal_capacity, same_most, same_after, same_total, walked_all number (slot_vacated number s k i g t (len - 1) at is (omega (arith, some))))
       (viewed_vacated slots (freed_of number slots head) counter greatest capacity maximum placed touched following k (number i) head at)
 
   -- The arena after its slots are dropped.
-  pub cleared_view : (slots items : List (ArenaSlot P T Inx Gen Word)) (ns : List ℕ) (counter after : Gen) (greatest capacity within_capacity : ℕ) (maximum most : Option ℕ) (placed touched len : ℕ) (following : Gen → Gen)
-      → items ≡ [] → within_capacity ≡ capacity → most ≡ maximum → len ≡ count_by is_some (map entry_of slots) → after ≡ counter_after_clear following len counter
-      → arena_of items (freed_of number items None) after greatest within_capacity most placed touched ≡ cleared following (arena_of slots ns counter greatest capacity maximum placed touched)
-  cleared_view slots items ns counter after greatest capacity within_capacity maximum most placed touched len following none equal_capacity same_most counted same_after = rw (none, equal_capacity, same_most, same_after, counted)
+  pub cleared_view : (slots items : List (ArenaSlot P T Inx Gen Word)) (ns : List ℕ) (counter after : Gen) (greatest capacity new_capacity : ℕ) (maximum most : Option ℕ) (placed touched len : ℕ) (following : Gen → Gen)
+      → items ≡ [] → new_capacity ≡ capacity → most ≡ maximum → len ≡ count_by is_some (map entry_of slots) → after ≡ counter_after_clear following len counter
+      → arena_of items (freed_of number items None) after greatest new_capacity most placed touched ≡ cleared following (arena_of slots ns counter greatest capacity maximum placed touched)
+  cleared_view slots items ns counter after greatest capacity new_capacity maximum most placed touched len following none equal_capacity same_most counted same_after = rw (none, equal_capacity, same_most, same_after, counted)
 
   -- The arena after a slot is written back unchanged.
-  pub kept_view : (slots items : List (ArenaSlot P T Inx Gen Word)) (head : Option Inx) (counter : Gen) (greatest capacity within_capacity : ℕ) (maximum most : Option ℕ) (placed touched : ℕ) (k : ℕ) (slot : ArenaSlot P T Inx Gen Word)
-      → slice_get slots k ≡ Some slot → items ≡ slice_set slots k slot → within_capacity ≡ capacity → most ≡ maximum
-      → arena_of items (freed_of number items head) counter greatest within_capacity most placed touched ≡ arena_of slots (freed_of number slots head) counter greatest capacity maximum placed touched
-  kept_view slots items head counter greatest capacity within_capacity maximum most placed touched k slot is written equal_capacity same_most =
+  pub kept_view : (slots items : List (ArenaSlot P T Inx Gen Word)) (head : Option Inx) (counter : Gen) (greatest capacity new_capacity : ℕ) (maximum most : Option ℕ) (placed touched : ℕ) (k : ℕ) (slot : ArenaSlot P T Inx Gen Word)
+      → slice_get slots k ≡ Some slot → items ≡ slice_set slots k slot → new_capacity ≡ capacity → most ≡ maximum
+      → arena_of items (freed_of number items head) counter greatest new_capacity most placed touched ≡ arena_of slots (freed_of number slots head) counter greatest capacity maximum placed touched
+  kept_view slots items head counter greatest capacity new_capacity maximum most placed touched k slot is written equal_capacity same_most =
       let same : items ≡ slots = written ∙ slice_set-itself slots k slot is in
       rw (same, equal_capacity, same_most)
 
   -- The arena after an insertion into the first freed slot.
   pub filled_freed_view : {slots : List (ArenaSlot P T Inx Gen Word)} {greatest len : ℕ} {head : Option Inx} → IsSound number slots greatest len head (freed_of number slots head)
-      → (counter : Gen) (capacity within_capacity : ℕ) (maximum most : Option ℕ) (placed total touched : ℕ) (k : ℕ) (i : Inx) (next : Option Inx) (t : T) (items : List (ArenaSlot P T Inx Gen Word))
-      → head ≡ Some i → k + 1 ≡ number i → slice_get slots k ≡ Some (free_slot next) → items ≡ slice_set slots k (allocated_slot counter t) → within_capacity ≡ capacity → most ≡ maximum → total ≡ placed + 1
+      → (counter : Gen) (capacity new_capacity : ℕ) (maximum most : Option ℕ) (placed total touched : ℕ) (k : ℕ) (i : Inx) (next : Option Inx) (t : T) (items : List (ArenaSlot P T Inx Gen Word))
+      → head ≡ Some i → k + 1 ≡ number i → slice_get slots k ≡ Some (free_slot next) → items ≡ slice_set slots k (allocated_slot counter t) → new_capacity ≡ capacity → most ≡ maximum → total ≡ placed + 1
       → IsSound number items greatest (len + 1) next (freed_of number items next)
-      × (arena_of items (freed_of number items next) counter greatest within_capacity most total touched ≡ insert_next (arena_of slots (freed_of number slots head) counter greatest capacity maximum placed touched) t)
-  filled_freed_view {slots = slots} {greatest = greatest} s counter capacity within_capacity maximum most placed total touched k i next t items first at was written equal_capacity same_most same_total =
+      × (arena_of items (freed_of number items next) counter greatest new_capacity most total touched ≡ insert_next (arena_of slots (freed_of number slots head) counter greatest capacity maximum placed touched) t)
+  filled_freed_view {slots = slots} {greatest = greatest} s counter capacity new_capacity maximum most placed total touched k i next t items first at was written equal_capacity same_most same_total =
       let filled = filled_freed number i next k counter t (rw first at s) at was in (
         rw written (closed number filled.0),
         rw (written, equal_capacity, same_most, same_total, walked_all number filled.0, first) (viewed_filled_freed slots (freed_of number slots (Some i)) counter greatest capacity maximum placed touched k (number i) _ t at filled.1),
@@ -106,11 +106,11 @@ module _ {P T Inx Gen Word : Type 0} (number : Inx → ℕ) where
 
   -- The arena after an insertion into a new slot.
   pub filled_next_view : {slots : List (ArenaSlot P T Inx Gen Word)} {greatest len : ℕ} {head : Option Inx} → IsSound number slots greatest len head (freed_of number slots head)
-      → (counter : Gen) (capacity within_capacity : ℕ) (maximum most : Option ℕ) (placed total touched : ℕ) (t : T) (items : List (ArenaSlot P T Inx Gen Word))
-      → head ≡ None → len < greatest → items ≡ slots ++ allocated_slot counter t ∷ [] → within_capacity ≡ capacity → most ≡ maximum → total ≡ placed + 1
+      → (counter : Gen) (capacity new_capacity : ℕ) (maximum most : Option ℕ) (placed total touched : ℕ) (t : T) (items : List (ArenaSlot P T Inx Gen Word))
+      → head ≡ None → len < greatest → items ≡ slots ++ allocated_slot counter t ∷ [] → new_capacity ≡ capacity → most ≡ maximum → total ≡ placed + 1
       → IsSound number items greatest (len + 1) None (freed_of number items None)
-      × (arena_of items (freed_of number items None) counter greatest within_capacity most total touched ≡ insert_next (arena_of slots (freed_of number slots head) counter greatest capacity maximum placed touched) t)
-  filled_next_view {slots = slots} {greatest = greatest} s counter capacity within_capacity maximum most placed total touched t items none less written equal_capacity same_most same_total =
+      × (arena_of items (freed_of number items None) counter greatest new_capacity most total touched ≡ insert_next (arena_of slots (freed_of number slots head) counter greatest capacity maximum placed touched) t)
+  filled_next_view {slots = slots} {greatest = greatest} s counter capacity new_capacity maximum most placed total touched t items none less written equal_capacity same_most same_total =
       let sound = rw none at s in
       let filled = filled_next number counter t sound (omega (arith, less, none_freed number sound)) in (
         rw written (closed number filled.0),
@@ -123,4 +123,4 @@ module _ {Gen T : Type 0} (old mid new : Arena Gen T) (t : T) (grown : mid ≡ w
   inserted_grown = inserted ∙ (ap (λ (a : Arena Gen T). insert_next a t) grown ∙ ap (λ (a : Arena Gen T). with_capacity_of (insert_next old t) a) (sym inserted))
 
   pub capacity_grown : (may_reach : ℕ → Option ℕ → ℕ → ℕ → Type 0) (greatest n : ℕ) → ReachesCapacity may_reach greatest n old mid → ReachesCapacity may_reach greatest n old new
-  capacity_grown may_reach greatest n has = subst (ReachesCapacity may_reach greatest n old) (sym inserted) (record { within_capacity = has.within_capacity; reached = has.reached })
+  capacity_grown may_reach greatest n has = subst (ReachesCapacity may_reach greatest n old) (sym inserted) (record { capacity = has.capacity; reached = has.reached })

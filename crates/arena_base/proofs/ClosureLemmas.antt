@@ -11,13 +11,13 @@ module _ {F P T Gen : Type 0} (g : Mut F (P × (MutBor T × (P × Unit {0}))) (U
   pub visits_keep_count : {f : F} {old new : List ((ℕ × Gen) × T)} → VisitsAll g key f old new → length new ≡ length old
   visits_keep_count v = sym (ap length v.after) ∙ (length-map v.visits _ ∙ (sym (length-map v.visits _) ∙ ap length v.before))
 
-  values_left : (left : (f : F) (visit : Visit P T) (next : F) → IsVisit g f visit next → visit.left ≡ visit.reported) (visits : List (Visit P T)) (f last : F) → FoldsTo (IsVisit g) f visits last
-      → map (λ v. v.left) visits ≡ map (λ v. v.reported) visits
+  values_left : (left : (f : F) (visit : Visit P T) (next : F) → IsVisit g f visit next → visit.left ≡ visit.value) (visits : List (Visit P T)) (f last : F) → FoldsTo (IsVisit g) f visits last
+      → map (λ v. v.left) visits ≡ map (λ v. v.value) visits
   values_left left [] f last steps = refl
   values_left left (v ∷ visits) f last steps = λ i. left f v steps.0 steps.1 i ∷ values_left left visits steps.0 last steps.2 i
 
   -- If the closure leaves each value, all values stay.
-  pub values_kept : {f : F} {old new : List ((ℕ × Gen) × T)} → ((f : F) (visit : Visit P T) (next : F) → IsVisit g f visit next → visit.left ≡ visit.reported) → VisitsAll g key f old new → values_in new ≡ values_in old
+  pub values_kept : {f : F} {old new : List ((ℕ × Gen) × T)} → ((f : F) (visit : Visit P T) (next : F) → IsVisit g f visit next → visit.left ≡ visit.value) → VisitsAll g key f old new → values_in new ≡ values_in old
   values_kept {f = f} left v =
       ap values_in (sym v.after) ∙ (values_of v.visits ∙ (values_left left v.visits f v.last v.in_turn ∙ (sym (reported_of v.visits) ∙ ap values_in v.before)))
     where
@@ -25,6 +25,6 @@ module _ {F P T Gen : Type 0} (g : Mut F (P × (MutBor T × (P × Unit {0}))) (U
       values_of [] = refl
       values_of (v ∷ visits) = ap (λ ts. v.left ∷ ts) (values_of visits)
 
-      reported_of : (visits : List (Visit P T)) → values_in (map (λ v. (key v.from, v.reported)) visits) ≡ map (λ v. v.reported) visits
+      reported_of : (visits : List (Visit P T)) → values_in (map (λ v. (key v.from, v.value)) visits) ≡ map (λ v. v.value) visits
       reported_of [] = refl
-      reported_of (v ∷ visits) = ap (λ ts. v.reported ∷ ts) (reported_of visits)
+      reported_of (v ∷ visits) = ap (λ ts. v.value ∷ ts) (reported_of visits)

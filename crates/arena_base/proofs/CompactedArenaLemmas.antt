@@ -7,7 +7,7 @@ use Rattle.std.proofs.lemmas.List.Elements.{All-nil, All-cons}
 use denote.Ref.{MutBor}
 use Rattle.arena_base.specs.Arena.{Arena, with_counter}
 use Rattle.arena_base.specs.Entries.{entries_from, entries, index_of, view_of}
-use Rattle.arena_base.specs.DetachedSlots.{Held, before_cut, trimmed, free_from, held_of, lent_out, returned}
+use Rattle.arena_base.specs.DetachedSlots.{DetachedView, before_cut, trimmed, free_from, held_of, lent_out, returned}
 use Rattle.arena_base.specs.Compressions.{IsCompressed, VisitsAll, counter_after_compression}
 use Rattle.arena_base.specs.GatheredSlots.{fronted, AreClosed, IsGathered, with_totals, gathered}
 use Rattle.arena_base.proofs.HoleClosingLemmas.{entries-closed, length-fronted}
@@ -44,11 +44,11 @@ module _ {Gen T : Type 0} (g : Gen) where
 
 module _ {F P T Gen : Type 0} (g : Mut F (P × (MutBor T × (P × Unit {0}))) (Unit {0} × (MutBor T × Unit {0}))) (key : P → ℕ × Gen) (f : F) where
   -- Taking the slots out, closing the holes and returning them compacts the arena.
-  pub gathers : (greatest : ℕ) (maximum : Option ℕ) (generation : Gen) (old start finish new : Arena Gen T) (before after : Held Gen T) → start ≡ lent_out maximum old → before ≡ held_of old → old.capacity ≡ min old.stack_capacity greatest
+  pub gathers : (greatest : ℕ) (maximum : Option ℕ) (generation : Gen) (old start finish new : Arena Gen T) (before after : DetachedView Gen T) → start ≡ lent_out maximum old → before ≡ held_of old → old.capacity ≡ min old.stack_capacity greatest
       → generation ≡ old.counter → AreClosed generation before after → VisitsAll g key f (entries_from 1 before.slots) (entries_from 1 after.slots)
       → finish ≡ with_totals start (length (entries_from 1 before.slots)) (length before.slots + length (entries_from 1 before.slots)) → new ≡ returned greatest finish after
       → IsGathered g key f old new
-  gathers greatest maximum generation old start finish new before after is_start is_before within_capacity counter closed visits totals is_new =
+  gathers greatest maximum generation old start finish new before after is_start is_before same_capacity counter closed visits totals is_new =
       record { values = values; arena = whole; visits = view_after }
     where
       values : List T
@@ -58,30 +58,30 @@ module _ {F P T Gen : Type 0} (g : Mut F (P × (MutBor T × (P × Unit {0}))) (U
       closed_slots = fronted old.counter values (replicate closed.free None)
 
       is_after : after ≡ record (held_of old) { slots = closed_slots }
-      is_after = closed.held ∙ (λ i. let r : Held Gen T = record (is_before i) { slots = fronted (counter i) values (replicate closed.free None) } in r)
+      is_after = closed.held ∙ (λ i. let r : DetachedView Gen T = record (is_before i) { slots = fronted (counter i) values (replicate closed.free None) } in r)
 
       counted : length (entries_from 1 before.slots) ≡ length values
       counted =
-          sym (visits_keep_count g key visits) ∙ (ap (λ (h : Held Gen T). length (entries_from 1 h.slots)) is_after
+          sym (visits_keep_count g key visits) ∙ (ap (λ (h : DetachedView Gen T). length (entries_from 1 h.slots)) is_after
           ∙ (ap length (entries-closed old.counter values closed.free 1) ∙ length-fronted old.counter values 1))
 
       whole : new ≡ gathered old values
       whole =
-          is_new ∙ (ap (λ (h : Held Gen T). returned greatest finish h) is_after
+          is_new ∙ (ap (λ (h : DetachedView Gen T). returned greatest finish h) is_after
           ∙ (ap (λ (a : Arena Gen T). returned greatest a (record (held_of old) { slots = closed_slots })) (totals ∙ ap (λ (a : Arena Gen T). with_totals a (length (entries_from 1 before.slots)) (length before.slots + length (entries_from 1 before.slots))) is_start)
           ∙ (λ i. record old {
             slots = trimmed-closed old.counter values closed.free i;
             freed = (ap (free_from 1) (trimmed-closed old.counter values closed.free) ∙ none_free old.counter values 1) i;
-            capacity = sym within_capacity i;
+            capacity = sym same_capacity i;
             placed = old.placed + counted i;
             touched = old.touched + (length (is_before i).slots + counted i);
           })))
 
       view_after : VisitsAll g key f (entries old) (entries new)
-      view_after = subst (λ (p : List ((ℕ × Gen) × T) × List ((ℕ × Gen) × T)). VisitsAll g key f p.0 p.1) (λ i. (ap (λ (h : Held Gen T). entries_from 1 h.slots) is_before i, same i)) visits
+      view_after = subst (λ (p : List ((ℕ × Gen) × T) × List ((ℕ × Gen) × T)). VisitsAll g key f p.0 p.1) (λ i. (ap (λ (h : DetachedView Gen T). entries_from 1 h.slots) is_before i, same i)) visits
         where
           same : entries_from 1 after.slots ≡ entries new
-          same = ap (λ (h : Held Gen T). entries_from 1 h.slots) is_after ∙ (entries-closed old.counter values closed.free 1 ∙ sym (ap entries whole))
+          same = ap (λ (h : DetachedView Gen T). entries_from 1 h.slots) is_after ∙ (entries-closed old.counter values closed.free 1 ∙ sym (ap entries whole))
 
 -- There are at most as many entries as slots.
 pub few_entries : {Gen T : Type 0} (a : Arena Gen T) → length (entries a) ≤ length a.slots

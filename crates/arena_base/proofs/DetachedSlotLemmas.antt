@@ -5,8 +5,8 @@ use Rattle.std.specs.Option.{option_map}
 use Rattle.std.proofs.Math.Decide.{ℕ_discrete}
 use Rattle.std.proofs.lemmas.List.{length-map, length-set, map-set, set-set, get_or-set_same, get_or-set_other}
 use Rattle.arena_base.specs.Arena.{slot_at, with_slot}
-use Rattle.arena_base.specs.DetachedSlots.{Held, with_placed_entry, held_with_value}
-use Rattle.arena_base.specs.Slots.{entry_of, entry_in, allocated_slot, free_slot, with_value_in, with_generation_in, with_generation_at, held_slots}
+use Rattle.arena_base.specs.DetachedSlots.{DetachedView, with_placed_entry, held_with_value}
+use Rattle.arena_base.specs.Slots.{entry_of, entry_in, allocated_slot, free_slot, with_value_in, with_generation_in, with_generation_at, detached_view}
 use Rattle.arena_base.specs.declared.slot.ArenaSlot.{ArenaSlot}
 use Rattle.arena_base.specs.declared.slot.ArenaSlot.TheVariants.{Allocated, Free}
 use Rattle.arena_base.proofs.SlotLemmas.{entry_at-position, with_slot-position}
@@ -62,7 +62,7 @@ module _ {P T Inx Gen Word : Type 0} where
   -- A placement, in terms of positions.
   held_moved : (slots items : List (ArenaSlot P T Inx Gen Word)) (capacity : ℕ) (maximum : Option ℕ) (i j from to : ℕ) (g : Gen) → i + 1 ≡ from → j + 1 ≡ to
       → map entry_of items ≡ slice_set (slice_set (map entry_of slots) i (slice_index_or (map entry_of slots) j None)) j (regenerated g (slice_index_or (map entry_of slots) i None))
-      → held_slots items capacity maximum ≡ with_placed_entry (held_slots slots capacity maximum) from to g
+      → detached_view items capacity maximum ≡ with_placed_entry (detached_view slots capacity maximum) from to g
   held_moved slots items capacity maximum i j from to g at_from at_to moved =
       let es = map entry_of slots in
       let a : Option (Gen × T) = slice_index_or es i None in
@@ -72,11 +72,11 @@ module _ {P T Inx Gen Word : Type 0} where
       ∙ (ap (λ o. slice_set (slice_set es i (slot_at es to)) j (regenerated g o)) (slot_at-position es i from at_from)
       ∙ (ap (λ fs. slice_set fs j (regenerated g (slot_at es from))) (sym (with_slot-position es i from (slot_at es to) at_from))
       ∙ sym (with_slot-position (with_slot es from (slot_at es to)) j to (regenerated g (slot_at es from)) at_to)))) in
-      ap (λ fs. let h : Held Gen T = record { slots = fs; stack_capacity = capacity; maximum = maximum } in h) all
+      ap (λ fs. let h : DetachedView Gen T = record { slots = fs; stack_capacity = capacity; maximum = maximum } in h) all
 
   -- Setting a generation and swapping is a placement.
   pub held_placed : (slots : List (ArenaSlot P T Inx Gen Word)) (capacity : ℕ) (maximum : Option ℕ) (i j from to : ℕ) (g : Gen) → i + 1 ≡ from → j + 1 ≡ to → i < length slots → j < length slots
-      → held_slots (swap (with_generation_at slots i g) i j) capacity maximum ≡ with_placed_entry (held_slots slots capacity maximum) from to g
+      → detached_view (swap (with_generation_at slots i g) i j) capacity maximum ≡ with_placed_entry (detached_view slots capacity maximum) from to g
   held_placed slots capacity maximum i j from to g at_from at_to first second = held_moved slots (swap (with_generation_at slots i g) i j) capacity maximum i j from to g at_from at_to (all ∙ by (ℕ_discrete j i))
     where
       inside : i < length (map entry_of slots)
@@ -85,13 +85,13 @@ module _ {P T Inx Gen Word : Type 0} where
       long : length (with_generation_at slots i g) ≡ length slots
       long = length-with_generation_at slots i g
 
-      given : map entry_of (with_generation_at slots i g) ≡ slice_set (map entry_of slots) i (regenerated g (slice_index_or (map entry_of slots) i None))
-      given = map-with_generation_at slots i g
+      with_generation : map entry_of (with_generation_at slots i g) ≡ slice_set (map entry_of slots) i (regenerated g (slice_index_or (map entry_of slots) i None))
+      with_generation = map-with_generation_at slots i g
 
       all : map entry_of (swap (with_generation_at slots i g) i j) ≡ slice_set (slice_set (map entry_of slots) i (slice_index_or (slice_set (map entry_of slots) i (regenerated g (slice_index_or (map entry_of slots) i None))) j None)) j (regenerated g (slice_index_or (map entry_of slots) i None))
       all =
           map-swap (with_generation_at slots i g) i j (omega (arith, first, long)) (omega (arith, second, long))
-          ∙ (ap (λ fs. slice_set (slice_set fs i (slice_index_or fs j None)) j (slice_index_or fs i None)) given
+          ∙ (ap (λ fs. slice_set (slice_set fs i (slice_index_or fs j None)) j (slice_index_or fs i None)) with_generation
           ∙ (ap (λ o. slice_set (slice_set (slice_set (map entry_of slots) i (regenerated g (slice_index_or (map entry_of slots) i None))) i (slice_index_or (slice_set (map entry_of slots) i (regenerated g (slice_index_or (map entry_of slots) i None))) j None)) j o) (get_or-set_same (map entry_of slots) i (regenerated g (slice_index_or (map entry_of slots) i None)) None inside)
           ∙ ap (λ fs. slice_set fs j (regenerated g (slice_index_or (map entry_of slots) i None))) (set-set (map entry_of slots) i (regenerated g (slice_index_or (map entry_of slots) i None)) (slice_index_or (slice_set (map entry_of slots) i (regenerated g (slice_index_or (map entry_of slots) i None))) j None))))
 
@@ -102,7 +102,7 @@ module _ {P T Inx Gen Word : Type 0} where
   -- Moving an entry to a free slot or its own is a placement.
   pub held_brought : (slots : List (ArenaSlot P T Inx Gen Word)) (capacity : ℕ) (maximum : Option ℕ) (i j from to : ℕ) (g h : Gen) (t : T) (next : Option Inx) → i + 1 ≡ from → j + 1 ≡ to
       → Some (h, t) ≡ slice_index_or (map entry_of slots) i None → (j ≢ i → slice_index_or (map entry_of slots) j None ≡ None)
-      → held_slots (slice_set (slice_set slots i (free_slot next)) j (allocated_slot g t)) capacity maximum ≡ with_placed_entry (held_slots slots capacity maximum) from to g
+      → detached_view (slice_set (slice_set slots i (free_slot next)) j (allocated_slot g t)) capacity maximum ≡ with_placed_entry (detached_view slots capacity maximum) from to g
   held_brought slots capacity maximum i j from to g h t next at_from at_to stored free =
       held_moved slots (slice_set (slice_set slots i (free_slot next)) j (allocated_slot g t)) capacity maximum i j from to g at_from at_to (all ∙ (by (ℕ_discrete j i) ∙ ap (λ o. slice_set (slice_set (map entry_of slots) i (slice_index_or (map entry_of slots) j None)) j (regenerated g o)) stored))
     where
@@ -127,10 +127,10 @@ module _ {P T Inx Gen Word : Type 0} where
         slot_at-position (map entry_of slots) j to at_to ∙ (ap (λ fs. slot_at fs to) same ∙ free (λ s. differs (omega (arith, s, at_to, at_from))))
 
   -- A value is written.
-  pub held_lent : (slots items : List (ArenaSlot P T Inx Gen Word)) (capacity within_capacity : ℕ) (maximum most : Option ℕ) (k n : ℕ) (slot : ArenaSlot P T Inx Gen Word) (w : T) → k + 1 ≡ n → slice_get slots k ≡ Some slot
-      → items ≡ slice_set slots k (with_value_in slot w) → within_capacity ≡ capacity → most ≡ maximum
-      → held_slots items within_capacity most ≡ held_with_value (held_slots slots capacity maximum) n w
-  held_lent slots items capacity within_capacity maximum most k n slot w at is written equal_capacity same_most =
+  pub held_lent : (slots items : List (ArenaSlot P T Inx Gen Word)) (capacity new_capacity : ℕ) (maximum most : Option ℕ) (k n : ℕ) (slot : ArenaSlot P T Inx Gen Word) (w : T) → k + 1 ≡ n → slice_get slots k ≡ Some slot
+      → items ≡ slice_set slots k (with_value_in slot w) → new_capacity ≡ capacity → most ≡ maximum
+      → detached_view items new_capacity most ≡ held_with_value (detached_view slots capacity maximum) n w
+  held_lent slots items capacity new_capacity maximum most k n slot w at is written equal_capacity same_most =
       let rewrite : Option (Gen × T) → Option (Gen × T) = option_map (λ (e : Gen × T). (e.0, w)) in
       let all = ap (map entry_of) written ∙ (map-set entry_of slots k (with_value_in slot w) ∙ (sym (with_slot-position (map entry_of slots) k n (entry_of (with_value_in slot w)) at)
       ∙ ap (λ (o : Option (Gen × T)). with_slot (map entry_of slots) n o) (entry_of-written slot w ∙ ap rewrite (sym (entry_at-position slots k n at ∙ ap entry_in is))))) in

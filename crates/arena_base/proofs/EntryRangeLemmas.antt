@@ -80,7 +80,7 @@ module _ {Gen T : Type 0} where
       ap (λ m. last_key (entries_from 1 (take m slots))) (sym next)
       ∙ (last_key-take slots k (k + 1) below (omega arith) ∙ ap (λ p. first_of p (last_key (entries_from 1 (take k slots)))) (sym is))
 
-  -- The entries ahead by rising index start at a position.
+  -- The entries ahead by ascending index start at a position.
   pub ahead_up : (slots : List (Option (Gen × T))) (from k : ℕ) → k ≡ from - 1 → entries_from (k + 1) (drop k slots) ≡ entries_at_or_above from (entries_from 1 slots)
   ahead_up slots zero k at =
       let start : k ≡ 0 = omega (arith, at) in
@@ -92,6 +92,6 @@ module _ {Gen T : Type 0} where
       let next : k + 1 ≡ suc n = omega (arith, at) in
       ap (λ j. entries_from j (drop k slots)) next ∙ sym (entries_at_or_above-drop slots (suc n) 1 k (omega (arith, next)))
 
-  -- The entries ahead by falling index end at a position.
+  -- The entries ahead by descending index end at a position.
   pub ahead_down : (slots : List (Option (Gen × T))) (to : ℕ) → entries_from 1 (take to slots) ≡ entries_at_or_below to (entries_from 1 slots)
   ahead_down slots to = sym (entries_at_or_below-take slots to 1 to (omega arith))

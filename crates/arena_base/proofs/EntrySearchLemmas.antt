@@ -1,8 +1,8 @@
--- Lookups in rising entries after one is removed.
+-- Lookups in ascending entries after one is removed.
 use Rattle.std.proofs.Common.{◌≡◌, ◌≢◌, ℕ, suc, ◌<◌, List, [], ◌∷◌, None, Some, refl, ap, sym, ◌∙◌, arith, ⊎_elim}
 use Rattle.std.specs.Prelude.{◌==◌, cond}
 use Rattle.std.proofs.lemmas.Bool.{cases_eq, eq-eqb, ne_eqb}
-use Rattle.arena_base.specs.Entries.{found, without, RisesFrom}
+use Rattle.arena_base.specs.Entries.{found, without, AscendsFrom}
 
 module _ {Gen T : Type 0} where
   at_first : (e : (ℕ × Gen) × T) (i : ℕ) (es : List ((ℕ × Gen) × T)) → e.0.0 ≡ i → found i (e ∷ es) ≡ Some (e.0.1, e.1)
@@ -18,16 +18,16 @@ module _ {Gen T : Type 0} where
   without_later e n es other = ap (λ b. cond b es (e ∷ without n es)) (ne_eqb e.0.0 n other)
 
   -- An index below the entries has none.
-  found-low : (i j : ℕ) (es : List ((ℕ × Gen) × T)) → i < j → RisesFrom j es → found i es ≡ None
-  found-low i j [] below rises = refl
-  found-low i j (e ∷ es) below rises = past_first e i es (λ is. absurd (omega (arith, is, below, rises.0))) ∙ found-low i (suc e.0.0) es (omega (arith, below, rises.0)) rises.1
+  found-low : (i j : ℕ) (es : List ((ℕ × Gen) × T)) → i < j → AscendsFrom j es → found i es ≡ None
+  found-low i j [] below ascends = refl
+  found-low i j (e ∷ es) below ascends = past_first e i es (λ is. absurd (omega (arith, is, below, ascends.0))) ∙ found-low i (suc e.0.0) es (omega (arith, below, ascends.0)) ascends.1
 
   -- The removed index has no entry, and every other index is unchanged.
-  pub found-gone : (n j : ℕ) (es : List ((ℕ × Gen) × T)) → RisesFrom j es → found n (without n es) ≡ None
-  found-gone n j [] rises = refl
-  found-gone n j (e ∷ es) rises = ⊎_elim
-      (λ is. ap (found n) (without_first e n es is) ∙ found-low n (suc e.0.0) es (omega (arith, is)) rises.1)
-      (λ other. ap (found n) (without_later e n es other) ∙ (past_first e n (without n es) other ∙ found-gone n (suc e.0.0) es rises.1))
+  pub found-gone : (n j : ℕ) (es : List ((ℕ × Gen) × T)) → AscendsFrom j es → found n (without n es) ≡ None
+  found-gone n j [] ascends = refl
+  found-gone n j (e ∷ es) ascends = ⊎_elim
+      (λ is. ap (found n) (without_first e n es is) ∙ found-low n (suc e.0.0) es (omega (arith, is)) ascends.1)
+      (λ other. ap (found n) (without_later e n es other) ∙ (past_first e n (without n es) other ∙ found-gone n (suc e.0.0) es ascends.1))
       (cases_eq e.0.0 n)
 
   pub found-kept : (i n : ℕ) (es : List ((ℕ × Gen) × T)) → i ≢ n → found i (without n es) ≡ found i es

@@ -10,7 +10,7 @@ use Rattle.std.proofs.lemmas.Fn.{FoldsTo-push}
 use denote.Ref.{MutBor}
 use Rattle.arena_base.specs.Arena.{Arena, slot_at, with_slot}
 use Rattle.arena_base.specs.Entries.{entries_from}
-use Rattle.arena_base.specs.DetachedSlots.{Held, IsPacked, with_touch, with_placement}
+use Rattle.arena_base.specs.DetachedSlots.{DetachedView, IsPacked, with_touch, with_placement}
 use Rattle.arena_base.specs.Compressions.{Visit, IsVisit, VisitsAll}
 use Rattle.arena_base.specs.GatheredSlots.{fronted, AreClosed, with_totals}
 use Rattle.arena_base.proofs.TrimLemmas.{drop-at}
@@ -30,13 +30,13 @@ module _ {X : Type 0} where
 
 module _ {Gen T : Type 0} (g : Gen) where
   -- The next slot to pass.
-  slot_to_come : (values : List T) (n k : ℕ) (slot : Option (Gen × T)) (rest : List (Option (Gen × T))) → length values + n ≡ k → slice_index_or (fronted g values (replicate n None ++ slot ∷ rest)) k None ≡ slot
-  slot_to_come [] zero zero slot rest at = refl
-  slot_to_come [] zero (suc k) slot rest at = absurd (omega (arith, at))
-  slot_to_come [] (suc n) zero slot rest at = absurd (omega (arith, at))
-  slot_to_come [] (suc n) (suc k) slot rest at = slot_to_come [] n k slot rest (omega (arith, at))
-  slot_to_come (v ∷ values) n zero slot rest at = absurd (omega (arith, at))
-  slot_to_come (v ∷ values) n (suc k) slot rest at = slot_to_come values n k slot rest (omega (arith, at))
+  next_slot_there : (values : List T) (n k : ℕ) (slot : Option (Gen × T)) (rest : List (Option (Gen × T))) → length values + n ≡ k → slice_index_or (fronted g values (replicate n None ++ slot ∷ rest)) k None ≡ slot
+  next_slot_there [] zero zero slot rest at = refl
+  next_slot_there [] zero (suc k) slot rest at = absurd (omega (arith, at))
+  next_slot_there [] (suc n) zero slot rest at = absurd (omega (arith, at))
+  next_slot_there [] (suc n) (suc k) slot rest at = next_slot_there [] n k slot rest (omega (arith, at))
+  next_slot_there (v ∷ values) n zero slot rest at = absurd (omega (arith, at))
+  next_slot_there (v ∷ values) n (suc k) slot rest at = next_slot_there values n k slot rest (omega (arith, at))
 
   -- A free slot after the front.
   free_behind : (values : List T) (n : ℕ) (rest : List (Option (Gen × T))) → 1 ≤ n → slice_index_or (fronted g values (replicate n None ++ rest)) (length values) None ≡ None
@@ -72,7 +72,7 @@ module _ {Gen T : Type 0} (g : Gen) where
       let moved = λ (i j : ℕ) (s : List (Option (Gen × T))). with_slot (with_slot s i (slot_at s j)) j (option_map (λ (x : Gen × T). (g, x.1)) (slot_at s i)) in
       let old = fronted g values (replicate n None ++ Some e ∷ rest) in
       ap (moved from to) is ∙ (ap (λ i. moved i to old) (sym at_from) ∙ (ap (λ j. moved (suc k) j old) (sym at_to)
-      ∙ (ap (λ o. slice_set (slice_set old k (slice_index_or old (length values) None)) (length values) (option_map (λ (x : Gen × T). (g, x.1)) o)) (slot_to_come values n k (Some e) rest at)
+      ∙ (ap (λ o. slice_set (slice_set old k (slice_index_or old (length values) None)) (length values) (option_map (λ (x : Gen × T). (g, x.1)) o)) (next_slot_there values n k (Some e) rest at)
       ∙ brought values n k (Some e) (Some (g, e.1)) rest at)))
 
   -- Writing its value then replaces the value there.
@@ -142,7 +142,7 @@ value_there (Some d) t e is there = cc
 
 -- A visit as an entry, before and after.
 abbrev pub before_visit : {P T Gen : Type 0} → (P → ℕ × Gen) → Visit P T → (ℕ × Gen) × T
-before_visit key v = (key v.from, v.reported)
+before_visit key v = (key v.from, v.value)
 
 abbrev pub after_visit : {P T Gen : Type 0} → (P → ℕ × Gen) → Visit P T → (ℕ × Gen) × T
 after_visit key v = (key v.to, v.left)
@@ -156,7 +156,7 @@ pub record IsClosing {F P T Gen : Type 0} (g : Mut F (P × (MutBor T × (P × Un
   pub before : map (before_visit key) visits ++ entries_from (suc k) (drop k old) ≡ entries_from 1 old
   pub after : map (after_visit key) visits ≡ entries_from 1 (fronted generation values [])
   pub now : slots ≡ fronted generation values (replicate free None ++ drop k old)
-  pub view_after : length values ≡ count
+  pub counted : length values ≡ count
   pub passed : count + free ≡ k
 
 module _ {F P T Gen : Type 0} (g : Mut F (P × (MutBor T × (P × Unit {0}))) (Unit {0} × (MutBor T × Unit {0}))) (key : P → ℕ × Gen) (generation : Gen) (first : F) (old : List (Option (Gen × T))) where
@@ -165,16 +165,16 @@ module _ {F P T Gen : Type 0} (g : Mut F (P × (MutBor T × (P × Unit {0}))) (U
   closing_length k count f slots c below =
       let front = length-append (map (λ (t : T). let o : Option (Gen × T) = Some (generation, t) in o) c.values) (replicate c.free None ++ drop k old) in
       let rest = length-append (replicate {A = Option (Gen × T)} c.free None) (drop k old) in
-      ap length c.now ∙ omega (arith, front, rest, length-map c.values (λ (t : T). let o : Option (Gen × T) = Some (generation, t) in o), length-replicate {A = Option (Gen × T)} c.free None, length-drop k old, c.view_after, c.passed, below)
+      ap length c.now ∙ omega (arith, front, rest, length-map c.values (λ (t : T). let o : Option (Gen × T) = Some (generation, t) in o), length-replicate {A = Option (Gen × T)} c.free None, length-drop k old, c.counted, c.passed, below)
 
   -- The initial state.
   pub closing_begins : IsClosing g key generation first old 0 0 first old
-  closing_begins = record { visits = []; values = []; free = 0; in_turn = refl; before = refl; after = refl; now = refl; view_after = refl; passed = refl }
+  closing_begins = record { visits = []; values = []; free = 0; in_turn = refl; before = refl; after = refl; now = refl; counted = refl; passed = refl }
 
   -- The slot after the front is the next one, or free.
   pub closing_free : (k count : ℕ) (f : F) (slots : List (Option (Gen × T))) → IsClosing g key generation first old k count f slots → (from to : ℕ) → from ≡ k + 1 → to ≡ count + 1 → to ≢ from → slot_at slots to ≡ None
   closing_free k count f slots c from to at_from at_to differs =
-      let next : suc (length c.values) ≡ to = omega (arith, at_to, c.view_after) in
+      let next : suc (length c.values) ≡ to = omega (arith, at_to, c.counted) in
       sym (ap (slot_at slots) next) ∙ (ap (λ es. slice_index_or es (length c.values) None) c.now ∙ free_behind generation c.values c.free (drop k old) (by c.free refl))
     where
       by : (n : ℕ) → c.free ≡ n → 1 ≤ c.free
@@ -182,15 +182,15 @@ module _ {F P T Gen : Type 0} (g : Mut F (P × (MutBor T × (P × Unit {0}))) (U
       by (suc n) is = omega (arith, is)
 
   module _ (k count : ℕ) (f : F) (slots : List (Option (Gen × T))) (c : IsClosing g key generation first old k count f slots) (below : k < length old) where
-    come : (slot : Option (Gen × T)) (is : drop k old ≡ slot ∷ drop (suc k) old) → slots ≡ fronted generation c.values (replicate c.free None ++ slot ∷ drop (suc k) old)
-    come slot is = c.now ∙ ap (λ es. fronted generation c.values (replicate c.free None ++ es)) is
+    split_slots : (slot : Option (Gen × T)) (is : drop k old ≡ slot ∷ drop (suc k) old) → slots ≡ fronted generation c.values (replicate c.free None ++ slot ∷ drop (suc k) old)
+    split_slots slot is = c.now ∙ ap (λ es. fronted generation c.values (replicate c.free None ++ es)) is
 
     -- The next slot is the old one.
     pub next_slot : (n : ℕ) → n ≡ k + 1 → slot_at slots n ≡ slice_index_or old k None
     next_slot n at =
         let next : suc k ≡ n = omega (arith, at) in
-        sym (ap (slot_at slots) next) ∙ (ap (λ es. slice_index_or es k None) (come (slice_index_or old k None) (drop-at old k below))
-        ∙ slot_to_come generation c.values c.free k (slice_index_or old k None) (drop (suc k) old) (omega (arith, c.view_after, c.passed)))
+        sym (ap (slot_at slots) next) ∙ (ap (λ es. slice_index_or es k None) (split_slots (slice_index_or old k None) (drop-at old k below))
+        ∙ next_slot_there generation c.values c.free k (slice_index_or old k None) (drop (suc k) old) (omega (arith, c.counted, c.passed)))
 
     -- A free slot is passed.
     pub closing_frees : (from : ℕ) → from ≡ k + 1 → slot_at slots from ≡ None → IsClosing g key generation first old (k + 1) count f slots
@@ -205,16 +205,16 @@ module _ {F P T Gen : Type 0} (g : Mut F (P × (MutBor T × (P × Unit {0}))) (U
           in_turn = c.in_turn;
           before = ap (λ es. map (before_visit key) c.visits ++ entries_from (suc k) es) (sym is) ∙ c.before;
           after = c.after;
-          now = come None is ∙ ap (fronted generation c.values) (free_passed c.free (drop (suc k) old));
-          view_after = c.view_after;
+          now = split_slots None is ∙ ap (fronted generation c.values) (free_passed c.free (drop (suc k) old));
+          counted = c.counted;
           passed = omega (arith, c.passed);
         })
 
     -- The entry of the next slot is moved to the end of the front.
     module _ (from to : ℕ) (was : Gen) (mid : List (Option (Gen × T))) (at_from : from ≡ k + 1) (at_to : to ≡ count + 1) (returned : Some was ≡ option_map (λ (e : Gen × T). e.0) (slot_at slots from))
         (placed : mid ≡ with_slot (with_slot slots from (slot_at slots to)) to (option_map (λ (e : Gen × T). (generation, e.1)) (slot_at slots from))) where
-      come_entry : (e : Gen × T) × (slot_at slots from ≡ Some e) × (e.0 ≡ was)
-      come_entry = entry_there (slot_at slots from) was returned
+      moved_entry : (e : Gen × T) × (slot_at slots from ≡ Some e) × (e.0 ≡ was)
+      moved_entry = entry_there (slot_at slots from) was returned
 
       abbrev later : List (Option (Gen × T))
       later = drop (suc k) old
@@ -223,30 +223,30 @@ module _ {F P T Gen : Type 0} (g : Mut F (P × (MutBor T × (P × Unit {0}))) (U
       from_number = omega (arith, at_from)
 
       to_number : suc (length c.values) ≡ to
-      to_number = omega (arith, at_to, c.view_after)
+      to_number = omega (arith, at_to, c.counted)
 
-      split : drop k old ≡ Some come_entry.0 ∷ later
-      split = drop-at old k below ∙ ap (λ o. o ∷ later) (sym (next_slot from at_from) ∙ come_entry.1)
+      split : drop k old ≡ Some moved_entry.0 ∷ later
+      split = drop-at old k below ∙ ap (λ o. o ∷ later) (sym (next_slot from at_from) ∙ moved_entry.1)
 
-      is_mid : mid ≡ fronted generation c.values (Some (generation, come_entry.0.1) ∷ (replicate c.free None ++ later))
-      is_mid = placed ∙ placed_fronted generation c.values c.free k from to slots later come_entry.0 (come (Some come_entry.0) split) (omega (arith, c.view_after, c.passed)) from_number to_number
+      is_mid : mid ≡ fronted generation c.values (Some (generation, moved_entry.0.1) ∷ (replicate c.free None ++ later))
+      is_mid = placed ∙ placed_fronted generation c.values c.free k from to slots later moved_entry.0 (split_slots (Some moved_entry.0) split) (omega (arith, c.counted, c.passed)) from_number to_number
 
-      stored : slot_at mid to ≡ Some (generation, come_entry.0.1)
+      stored : slot_at mid to ≡ Some (generation, moved_entry.0.1)
       stored =
-          let now = fronted generation c.values (Some (generation, come_entry.0.1) ∷ (replicate c.free None ++ later)) in
-          ap (λ es. slot_at es to) is_mid ∙ (sym (ap (slot_at now) to_number) ∙ slot_behind generation c.values (Some (generation, come_entry.0.1)) (replicate c.free None ++ later))
+          let now = fronted generation c.values (Some (generation, moved_entry.0.1) ∷ (replicate c.free None ++ later)) in
+          ap (λ es. slot_at es to) is_mid ∙ (sym (ap (slot_at now) to_number) ∙ slot_behind generation c.values (Some (generation, moved_entry.0.1)) (replicate c.free None ++ later))
 
       -- The entry is in its new slot.
       pub brought_stored : None ≡ option_map (λ (e : Gen × T). e.1) (slot_at mid to) → ⊥
       brought_stored none = let both = none ∙ ap (option_map (λ (e : Gen × T). e.1)) stored in cc
 
       -- The closure visits the entry there.
-      pub closing_brings : (v : Visit P T) (next : F) (after : List (Option (Gen × T))) → Some v.reported ≡ option_map (λ (e : Gen × T). e.1) (slot_at mid to)
+      pub closing_brings : (v : Visit P T) (next : F) (after : List (Option (Gen × T))) → Some v.value ≡ option_map (λ (e : Gen × T). e.1) (slot_at mid to)
           → after ≡ with_slot mid to (option_map (λ (e : Gen × T). (e.0, v.left)) (slot_at mid to)) → key v.from ≡ (from, was) → key v.to ≡ (to, generation) → IsVisit g f v next
           → IsClosing g key generation first old (k + 1) (count + 1) next after
-      closing_brings v next after reported written from_key to_key visit =
-          let value = value_there (slot_at mid to) v.reported (generation, come_entry.0.1) reported stored in
-          let view_after : before_visit key v ≡ ((suc k, come_entry.0.0), come_entry.0.1) = λ i. ((from_key ∙ (λ j. (sym from_number j, sym come_entry.2 j))) i, value i) in
+      closing_brings v next after lent written from_key to_key visit =
+          let value = value_there (slot_at mid to) v.value (generation, moved_entry.0.1) lent stored in
+          let before : before_visit key v ≡ ((suc k, moved_entry.0.0), moved_entry.0.1) = λ i. ((from_key ∙ (λ j. (sym from_number j, sym moved_entry.2 j))) i, value i) in
           let left : after_visit key v ≡ ((to, generation), v.left) = λ i. (to_key i, v.left) in
           let number : suc k ≡ k + 1 = omega arith in
           subst (λ n. IsClosing g key generation first old n (count + 1) next after) number (record {
@@ -256,12 +256,12 @@ module _ {F P T Gen : Type 0} (g : Mut F (P × (MutBor T × (P × Unit {0}))) (U
             in_turn = FoldsTo-push (IsVisit g) first c.visits f v next c.in_turn visit;
             before = ap (λ es. es ++ entries_from (suc (suc k)) later) (map-append (before_visit key) c.visits (v ∷ []))
                 ∙ (append_assoc (map (before_visit key) c.visits) (before_visit key v ∷ []) (entries_from (suc (suc k)) later)
-                ∙ (ap (λ b. map (before_visit key) c.visits ++ b ∷ entries_from (suc (suc k)) later) view_after
+                ∙ (ap (λ b. map (before_visit key) c.visits ++ b ∷ entries_from (suc (suc k)) later) before
                 ∙ (ap (λ es. map (before_visit key) c.visits ++ entries_from (suc k) es) (sym split) ∙ c.before)));
             after = map-append (after_visit key) c.visits (v ∷ [])
-                ∙ (ap (λ es. es ++ after_visit key v ∷ []) c.after ∙ (ap (λ b. entries_from 1 (fronted generation c.values []) ++ b ∷ []) left ∙ sym (entries-joined generation c.values 1 to v.left (omega (arith, at_to, c.view_after)))));
-            now = written ∙ written_fronted generation c.values to mid (replicate c.free None ++ later) come_entry.0.1 v.left is_mid to_number;
-            view_after = length-append c.values (v.left ∷ []) ∙ omega (arith, c.view_after);
+                ∙ (ap (λ es. es ++ after_visit key v ∷ []) c.after ∙ (ap (λ b. entries_from 1 (fronted generation c.values []) ++ b ∷ []) left ∙ sym (entries-joined generation c.values 1 to v.left (omega (arith, at_to, c.counted)))));
+            now = written ∙ written_fronted generation c.values to mid (replicate c.free None ++ later) moved_entry.0.1 v.left is_mid to_number;
+            counted = length-append c.values (v.left ∷ []) ∙ omega (arith, c.counted);
             passed = omega (arith, c.passed);
           })
 
@@ -281,22 +281,22 @@ module _ {F P T Gen : Type 0} (g : Mut F (P × (MutBor T × (P × Unit {0}))) (U
 
     -- When all slots are passed, the entries are packed.
     pub closing_packs : IsPacked slots count
-    closing_packs = subst (λ (p : List (Option (Gen × T)) × ℕ). IsPacked p.0 p.1) (λ i. (sym closed_now i, c.view_after i)) (packed-fronted generation c.values c.free)
+    closing_packs = subst (λ (p : List (Option (Gen × T)) × ℕ). IsPacked p.0 p.1) (λ i. (sym closed_now i, c.counted i)) (packed-fronted generation c.values c.free)
 
     pub closing_visits : VisitsAll g key first (entries_from 1 old) (entries_from 1 slots)
     closing_visits = record { visits = c.visits; last = f; in_turn = c.in_turn; before = before_all; after = after_all }
 
     pub closing_counts : count ≡ length (entries_from 1 old)
     closing_counts =
-        sym c.view_after ∙ (sym (length-fronted generation c.values 1) ∙ (ap length (sym c.after)
+        sym c.counted ∙ (sym (length-fronted generation c.values 1) ∙ (ap length (sym c.after)
         ∙ (length-map c.visits (after_visit key) ∙ (sym (length-map c.visits (before_visit key)) ∙ ap length before_all))))
 
-    pub closing_closes : (before after : Held Gen T) → before.slots ≡ old → after.slots ≡ slots → after.stack_capacity ≡ before.stack_capacity → after.maximum ≡ before.maximum → AreClosed generation before after
+    pub closing_closes : (before after : DetachedView Gen T) → before.slots ≡ old → after.slots ≡ slots → after.stack_capacity ≡ before.stack_capacity → after.maximum ≡ before.maximum → AreClosed generation before after
     closing_closes before after is_old is_new capacity maximum = record {
       values = c.values;
       free = c.free;
       held = λ i. record { slots = (is_new ∙ closed_now) i; stack_capacity = capacity i; maximum = maximum i };
-      same_length = omega (arith, c.view_after, c.passed, all, ap length is_old);
+      same_length = omega (arith, c.counted, c.passed, all, ap length is_old);
     }
 
 module _ {Gen T : Type 0} (old now next : Arena Gen T) (k count : ℕ) where

@@ -27,7 +27,7 @@ entries_from-push (Some e ∷ slots) i j slot at = ap (λ es. ((i, e.0), e.1) �
 
 -- A value that was made, as an entry.
 abbrev pub before_call : {P U T Gen : Type 0} → (P → ℕ × Gen) → Copied P U T → (ℕ × Gen) × U
-before_call key c = (key c.pointer, c.reported)
+before_call key c = (key c.pointer, c.value)
 
 abbrev pub after_call : {P U T Gen : Type 0} → (P → ℕ × Gen) → Copied P U T → (ℕ × Gen) × T
 after_call key c = (key c.pointer, c.returned)
@@ -85,12 +85,12 @@ module _ {F P U T Inx Gen Word : Type 0} (makes : F → P → U → T → F → 
 
     -- An entry is copied.
     pub copying_returns : (generation : Gen) (u : U) (call : Copied P U T) (next : F) (after : List (ArenaSlot P T Inx Gen Word)) → slice_get old k ≡ Some (allocated_slot generation u)
-        → call.reported ≡ u → key call.pointer ≡ (k + 1, generation) → Makes makes f call next → after ≡ slots ++ allocated_slot generation call.returned ∷ []
+        → call.value ≡ u → key call.pointer ≡ (k + 1, generation) → Makes makes f call next → after ≡ slots ++ allocated_slot generation call.returned ∷ []
         → IsCopying makes key first old (k + 1) next after
-    copying_returns generation u call next after is reported pointer called pushed =
+    copying_returns generation u call next after is lent pointer called pushed =
         let number : suc k ≡ k + 1 = omega arith in
         let copy : ArenaSlot P T Inx Gen Word = allocated_slot generation call.returned in
-        let view_after : before_call key call ≡ ((suc k, generation), u) = λ i. ((pointer ∙ ap (λ n. (n, generation)) (sym number)) i, reported i) in
+        let made_before : before_call key call ≡ ((suc k, generation), u) = λ i. ((pointer ∙ ap (λ n. (n, generation)) (sym number)) i, lent i) in
         let responded : after_call key call ≡ ((suc k, generation), call.returned) = λ i. ((pointer ∙ ap (λ n. (n, generation)) (sym number)) i, call.returned) in
         subst (λ s. IsCopying makes key first old (k + 1) next s) (sym pushed)
         (subst (λ n. IsCopying makes key first old n next (slots ++ copy ∷ [])) number (record {
@@ -98,7 +98,7 @@ module _ {F P U T Inx Gen Word : Type 0} (makes : F → P → U → T → F → 
           in_turn = FoldsTo-push (Makes makes) first c.calls f call next c.in_turn called;
           before = ap (λ es. es ++ entries_from (suc (suc k)) (map entry_of later)) (map-append (before_call key) c.calls (call ∷ []))
               ∙ (append_assoc (map (before_call key) c.calls) (before_call key call ∷ []) (entries_from (suc (suc k)) (map entry_of later))
-              ∙ (ap (λ e. map (before_call key) c.calls ++ e ∷ entries_from (suc (suc k)) (map entry_of later)) view_after
+              ∙ (ap (λ e. map (before_call key) c.calls ++ e ∷ entries_from (suc (suc k)) (map entry_of later)) made_before
               ∙ (ap (λ s. map (before_call key) c.calls ++ entries_from (suc k) (map entry_of s)) (sym (drop-slot old k (allocated_slot generation u) is)) ∙ c.before)));
           after = map-append (after_call key) c.calls (call ∷ [])
               ∙ (ap (λ es. es ++ after_call key call ∷ []) c.after
@@ -140,11 +140,11 @@ module _ {F P U T Inx Gen Word : Type 0} (makes : F → P → U → T → F → 
 module _ {P T U Inx Gen Word : Type 0} (number : Inx → ℕ) (a : List (ArenaSlot P U Inx Gen Word)) (b : List (ArenaSlot P T Inx Gen Word)) (alike : without_values b ≡ without_values a) (greatest len : ℕ) (head : Option Inx) where
   -- An arena with slots like the source's, its freed list and its counter.
   pub has_slots_of : IsSound number a greatest len head (freed_of number a head)
-      → (source : Arena Gen U) (old mid : Arena Gen T) (counter before : Gen) (ns : List ℕ) (slots : List (ArenaSlot P T Inx Gen Word)) (within_capacity capacity has : ℕ) (limit maximum most : Option ℕ) (p t placed touched n : ℕ) → has ≡ capacity → most ≡ maximum
-      → arena_of a (freed_of number a head) counter greatest within_capacity limit p t ≡ source → arena_of slots ns before greatest capacity maximum placed touched ≡ mid
+      → (source : Arena Gen U) (old mid : Arena Gen T) (counter before : Gen) (ns : List ℕ) (slots : List (ArenaSlot P T Inx Gen Word)) (new_capacity capacity has : ℕ) (limit maximum most : Option ℕ) (p t placed touched n : ℕ) → has ≡ capacity → most ≡ maximum
+      → arena_of a (freed_of number a head) counter greatest new_capacity limit p t ≡ source → arena_of slots ns before greatest capacity maximum placed touched ≡ mid
       → mid ≡ with_capacity_of old mid → n ≡ length a → (n ≤ old.capacity → mid ≡ old)
       → HasSlotsOf source old (arena_of b (freed_of number b head) counter greatest has most placed touched)
-  has_slots_of sound source old mid counter before ns slots within_capacity capacity has limit maximum most p t placed touched n same_capacity same_maximum is_source is_mid after count within =
+  has_slots_of sound source old mid counter before ns slots new_capacity capacity has limit maximum most p t placed touched n same_capacity same_maximum is_source is_mid after count within =
       let same = is_mid ∙ after in
       record {
         state = λ i. record {
@@ -162,24 +162,24 @@ module _ {P T U Inx Gen Word : Type 0} (number : Inx → ℕ) (a : List (ArenaSl
       }
 
 -- An arena that lost its slots when the copy failed.
-pub given_up : {P T Inx Gen Word : Type 0} (number : Inx → ℕ) (items slots : List (ArenaSlot P T Inx Gen Word)) (ns : List ℕ) (counter : Gen) (greatest within_capacity capacity : ℕ) (most maximum : Option ℕ) (placed touched : ℕ) (old mid : Arena Gen T)
-    → items ≡ [] → within_capacity ≡ capacity → most ≡ maximum → arena_of slots ns counter greatest capacity maximum placed touched ≡ mid → mid ≡ with_capacity_of old mid
-    → IsAbandonedCopy old (arena_of items (freed_of number items None) counter greatest within_capacity most placed touched)
-given_up {T = T} {Gen = Gen} number items slots ns counter greatest within_capacity capacity most maximum placed touched old mid empty equal_capacity same_most is_mid after =
+pub copy_abandoned : {P T Inx Gen Word : Type 0} (number : Inx → ℕ) (items slots : List (ArenaSlot P T Inx Gen Word)) (ns : List ℕ) (counter : Gen) (greatest new_capacity capacity : ℕ) (most maximum : Option ℕ) (placed touched : ℕ) (old mid : Arena Gen T)
+    → items ≡ [] → new_capacity ≡ capacity → most ≡ maximum → arena_of slots ns counter greatest capacity maximum placed touched ≡ mid → mid ≡ with_capacity_of old mid
+    → IsAbandonedCopy old (arena_of items (freed_of number items None) counter greatest new_capacity most placed touched)
+copy_abandoned {T = T} {Gen = Gen} number items slots ns counter greatest new_capacity capacity most maximum placed touched old mid empty equal_capacity same_most is_mid after =
     let same = is_mid ∙ after in
     rw empty (λ i. record {
       slots = [];
       counter = (ap (λ (s : Arena Gen T). s.counter) same) i;
       freed = [];
-      capacity = min within_capacity greatest;
-      stack_capacity = within_capacity;
+      capacity = min new_capacity greatest;
+      stack_capacity = new_capacity;
       maximum = (same_most ∙ ap (λ (s : Arena Gen T). s.maximum) same) i;
       placed = (ap (λ (s : Arena Gen T). s.placed) same) i;
       touched = (ap (λ (s : Arena Gen T). s.touched) same) i;
     })
 
 -- The same capacity under equal numbers.
-pub equal_capacity : {greatest n m capacity within_capacity : ℕ} {maximum most : Option ℕ} → n ≡ m → within_capacity ≡ capacity → most ≡ maximum → IsCapacityFor greatest maximum n capacity → IsCapacityFor greatest most m within_capacity
+pub equal_capacity : {greatest n m capacity new_capacity : ℕ} {maximum most : Option ℕ} → n ≡ m → new_capacity ≡ capacity → most ≡ maximum → IsCapacityFor greatest maximum n capacity → IsCapacityFor greatest most m new_capacity
 equal_capacity count same_capacity same_maximum r = rw (← count, same_capacity, same_maximum) r
 
 -- The view of a copy.
@@ -206,7 +206,7 @@ module _ {V F P U T : Type 0} (makes : V → P → U → T → V → Type 0) (ot
       → CopiesBy makes key f source copy last → CopiesBy others key (see f) source copy (see last)
   made_by key f last source copy c = record {
     made = c.made;
-    in_turn = folds_viewed see (Makes makes) (Makes others) (λ s m t. step s m.pointer m.reported m.returned t) c.made f last c.in_turn;
+    in_turn = folds_viewed see (Makes makes) (Makes others) (λ s m t. step s m.pointer m.value m.returned t) c.made f last c.in_turn;
     before = c.before;
     after = c.after;
   }
@@ -256,8 +256,8 @@ surely never (inl a, n) = (a, n)
 surely never (inr b, n) = absurd (never b)
 
 -- The view of an arena that lost its slots.
-pub given_up_viewed : {Gen T : Type 0} (old new : Arena Gen T) → IsAbandonedCopy old new → IsAbandonedView (view_of old) (view_of new)
-given_up_viewed old new is = ap view_of is
+pub copy_abandoned_viewed : {Gen T : Type 0} (old new : Arena Gen T) → IsAbandonedCopy old new → IsAbandonedView (view_of old) (view_of new)
+copy_abandoned_viewed old new is = ap view_of is
 
 -- A fact on a known `Ok` result.
 pub on_ok_is : {X E A : Type 0} (r : Result X E) (x : X) → r ≡ Ok x → OnOk r A → A

@@ -130,7 +130,7 @@ module _ {P T Inx Gen Word : Type 0} (number : Inx → ℕ) where
   pub filled_next : {slots : List (ArenaSlot P T Inx Gen Word)} {greatest len : ℕ} {ns : List ℕ} (g : Gen) (t : T)
       → IsSound number slots greatest len None ns → length slots < greatest
       → IsSound number (slots ++ allocated_slot g t ∷ []) greatest (len + 1) None [] × (ns ≡ [])
-  filled_next {slots = slots} {ns = []} g t s within_capacity =
+  filled_next {slots = slots} {ns = []} g t s less =
       let slot = allocated_slot g t in (
         record {
           linked = refl;
@@ -141,11 +141,11 @@ module _ {P T Inx Gen Word : Type 0} (number : Inx → ℕ) where
           ];
           counted = omega (arith, s.counted, taken_count-push slots slot);
           total = omega (arith, s.total, length-append slots (slot ∷ []));
-          fits = omega (arith, within_capacity, length-append slots (slot ∷ []));
+          fits = omega (arith, less, length-append slots (slot ∷ []));
         },
         refl,
       )
-  filled_next {slots = slots} {ns = n ∷ ns} g t s within_capacity = let some : None ≡ Some s.linked.0 = s.linked.2 in cc
+  filled_next {slots = slots} {ns = n ∷ ns} g t s less = let some : None ≡ Some s.linked.0 = s.linked.2 in cc
 
   none_listed : (slots : List (ArenaSlot P T Inx Gen Word)) (n : ℕ) (next : Option Inx) → slots ≡ [] → item_at slots n ≡ Some (free_slot next) → ⊥
   none_listed slots zero next empty is = cc

@@ -8,10 +8,10 @@ use Rattle.arena_base.specs.Entries.{first_key}
 use Rattle.arena_base.specs.declared.cursor.Cursor.{Cursor}
 use Rattle.arena_base.specs.declared.cursor.Cursor.TheVariants.{Up, Down, Nowhere}
 
-pub nowhere_stays : {P Gen T : Type 0} (key : P → ℕ × Gen) (es : List ((ℕ × Gen) × T)) (lookup : Cursor) (returned : Option P) (after : Cursor)
-    → lookup ≡ Nowhere → IsAdvance es lookup (option_map key returned) after → (returned ≡ None) × (after ≡ Nowhere)
-nowhere_stays key es lookup None after spent given = (refl, given.moves)
-nowhere_stays key es lookup (Some p) after spent given =
+pub nowhere_stays : {P Gen T : Type 0} (key : P → ℕ × Gen) (es : List ((ℕ × Gen) × T)) (cursor : Cursor) (returned : Option P) (after : Cursor)
+    → cursor ≡ Nowhere → IsAdvance es cursor (option_map key returned) after → (returned ≡ None) × (after ≡ Nowhere)
+nowhere_stays key es cursor None after spent given = (refl, given.moves)
+nowhere_stays key es cursor (Some p) after spent given =
     let met : Some (key p) ≡ None = given.first ∙ ap (λ l. first_key (ahead l es)) spent in cc
 
 -- Without a first key there are no entries.
@@ -19,7 +19,7 @@ pub no_first : {Gen T : Type 0} (es : List ((ℕ × Gen) × T)) → None ≡ fir
 no_first [] none = refl
 no_first (e ∷ es) none = cc
 
-pub until_none : {Gen T : Type 0} (es : List ((ℕ × Gen) × T)) (lookup : Cursor) (returned : Option (ℕ × Gen)) (after : Cursor) → IsAdvance es lookup returned after → IsAdvanceUntilNone es lookup returned after
+pub until_none : {Gen T : Type 0} (es : List ((ℕ × Gen) × T)) (cursor : Cursor) (returned : Option (ℕ × Gen)) (after : Cursor) → IsAdvance es cursor returned after → IsAdvanceUntilNone es cursor returned after
 until_none es (Up i) (Some p) after given = given
 until_none es (Down i) (Some p) after given = given
 until_none es (Up i) None after given = no_first (ahead (Up i) es) given.first

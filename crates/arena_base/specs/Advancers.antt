@@ -1,4 +1,4 @@
--- The results of an advancer over entries by rising index.
+-- The results of an advancer over entries by ascending index.
 use Rattle.std.specs.Prelude.{◌≡◌, ℕ, ◌+◌, ◌-◌, ⊤, cond, leb, List, [], ◌∷◌, reverse, Option, None, Some}
 use Rattle.arena_base.specs.Entries.{first_key}
 use Rattle.arena_base.specs.declared.cursor.Cursor.{Cursor}
@@ -12,8 +12,8 @@ cursor_past Nowhere i = Nowhere
 
 -- The cursor after a result: past it, or at the end if it was none.
 abbrev pub cursor_after : {Gen : Type 0} → Cursor → Option (ℕ × Gen) → Cursor
-cursor_after lookup None = Nowhere
-cursor_after lookup (Some p) = cursor_past lookup p.0
+cursor_after cursor None = Nowhere
+cursor_after cursor (Some p) = cursor_past cursor p.0
 
 module _ {Gen T : Type 0} where
   -- The entries at index `i` or above.
@@ -33,9 +33,9 @@ module _ {Gen T : Type 0} where
   ahead Nowhere es = []
 
   -- A call over entries: it returns the key of the first entry ahead, and the cursor moves past it.
-  pub record IsAdvance (es : List ((ℕ × Gen) × T)) (lookup : Cursor) (returned : Option (ℕ × Gen)) (after : Cursor) : Type 0 where
-    pub first : returned ≡ first_key (ahead lookup es)
-    pub moves : after ≡ cursor_after lookup returned
+  pub record IsAdvance (es : List ((ℕ × Gen) × T)) (cursor : Cursor) (returned : Option (ℕ × Gen)) (after : Cursor) : Type 0 where
+    pub first : returned ≡ first_key (ahead cursor es)
+    pub moves : after ≡ cursor_after cursor returned
 
   -- The law of a call of any advancer. It does not state the cursor after the result none, or any
   -- call at the end.

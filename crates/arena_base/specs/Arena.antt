@@ -156,7 +156,7 @@ module _ {Gen T : Type 0} where
 
   -- The new arena has capacity for `n` entries, within reach of the old one.
   pub record ReachesCapacity (may_reach : ℕ → Option ℕ → ℕ → ℕ → Type 0) (greatest n : ℕ) (old new : Arena Gen T) : Type 0 where
-    pub within_capacity : HasCapacityFor greatest n new
+    pub capacity : HasCapacityFor greatest n new
     pub reached : IsWithinReach may_reach n old new
 
   -- The freed list holds exactly the free slots, each once.

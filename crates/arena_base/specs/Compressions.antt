@@ -42,7 +42,7 @@ AreCompacted count = IfKnown (λ old. AreFilledAnew count (4 * old.count) old)
 -- left.
 pub record Visit (P T : Type 0) : Type 0 where
   pub from : P
-  pub reported : T
+  pub value : T
   pub to : P
   pub left : T
 
@@ -50,7 +50,7 @@ module _ {F P T : Type 0} (g : Mut F (P × (MutBor T × (P × Unit {0}))) (Unit 
   -- Such a call changes the closure from `f` to `next`.
   pub record IsVisit (f : F) (visit : Visit P T) (next : F) : Type 0 where
     pub lent : MutBor T
-    pub reports : lent.now ≡ visit.reported
+    pub lends : lent.now ≡ visit.value
     pub back : MutBor T
     pub called : Called g f (visit.from, (lent, (visit.to, tt))) (tt, (back, tt)) next
     pub leaves : back.now ≡ visit.left
@@ -60,7 +60,7 @@ module _ {F P T : Type 0} (g : Mut F (P × (MutBor T × (P × Unit {0}))) (Unit 
     pub visits : List (Visit P T)
     pub last : F
     pub in_turn : FoldsTo IsVisit f visits last
-    pub before : map (λ v. (key v.from, v.reported)) visits ≡ old
+    pub before : map (λ v. (key v.from, v.value)) visits ≡ old
     pub after : map (λ v. (key v.to, v.left)) visits ≡ new
 
 module _ {Gen T : Type 0} where

@@ -10,20 +10,20 @@ use Rattle.arena_base.specs.Entries.{ArenaView, Slots, entries, without_slots}
 -- A value that was made: the entry's pointer, the value passed, and the value returned.
 pub record Copied (P U T : Type 0) : Type 0 where
   pub pointer : P
-  pub reported : U
+  pub value : U
   pub returned : T
 
 -- A maker of values from pointers and values, where `makes` relates its states.
 module _ {F P U T : Type 0} (makes : F → P → U → T → F → Type 0) where
   abbrev pub Makes : F → Copied P U T → F → Type 0
-  Makes f made next = makes f made.pointer made.reported made.returned next
+  Makes f made next = makes f made.pointer made.value made.returned next
 
   -- The maker is called once for each entry of the source, in order, returns the values of the
   -- copy, and ends as `last`.
   pub record CopiesBy {Gen : Type 0} (key : P → ℕ × Gen) (f : F) (source : List ((ℕ × Gen) × U)) (copy : List ((ℕ × Gen) × T)) (last : F) : Type 0 where
     pub made : List (Copied P U T)
     pub in_turn : FoldsTo Makes f made last
-    pub before : map (λ c. (key c.pointer, c.reported)) made ≡ source
+    pub before : map (λ c. (key c.pointer, c.value)) made ≡ source
     pub after : map (λ c. (key c.pointer, c.returned)) made ≡ copy
 
 -- A value may be refused for one of the entries.
@@ -38,7 +38,7 @@ pub record HasRefusable {P U Gen : Type 0} (may_refuse : P → U → Type 0) (ke
 -- A call of a closure that gets a value by reference.
 pub record IsCopyCall {F P U T : Type 0} (g : Mut F (P × (Bor U × Unit {0})) T) (f : F) (p : P) (u : U) (t : T) (next : F) : Type 0 where
   pub lent : Bor U
-  pub reports : lent.now ≡ u
+  pub lends : lent.now ≡ u
   pub called : Called g f (p, (lent, tt)) t next
 
 -- The slots of a view with the number and the freed list of an arena's slots.

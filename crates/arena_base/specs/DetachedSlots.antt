@@ -5,7 +5,7 @@ use Rattle.std.specs.Borrow.{Bor}
 use Rattle.arena_base.specs.Arena.{Arena, slot_at, with_slot}
 
 -- The slots that a compactor holds, with the capacity and the maximum of their stack.
-pub record Held (Gen T : Type 0) : Type 0 where
+pub record DetachedView (Gen T : Type 0) : Type 0 where
   pub slots : List (Option (Gen × T))
   pub stack_capacity : ℕ
   pub maximum : Option ℕ
@@ -26,7 +26,7 @@ module _ {X : Type 0} where
   trimmed [] = []
   trimmed (slot ∷ slots) = before_cut slot (trimmed slots)
 
-  -- The rising indexes of the free slots, where the first slot has index `i`.
+  -- The ascending indexes of the free slots, where the first slot has index `i`.
   abbrev pub free_from : ℕ → List (Option X) → List ℕ
   free_from i [] = []
   free_from i (None ∷ slots) = i ∷ free_from (suc i) slots
@@ -42,7 +42,7 @@ module _ {Gen T : Type 0} where
   abbrev pub borrowed_parts : Bor Gen × Bor T → Gen × T
   borrowed_parts e = (e.0.now, e.1.now)
 
-  abbrev pub held_of : Arena Gen T → Held Gen T
+  abbrev pub held_of : Arena Gen T → DetachedView Gen T
   held_of a = record { slots = a.slots; stack_capacity = a.stack_capacity; maximum = a.maximum }
 
   -- The arena without its slots: empty over a new stack, with its counter and totals.
@@ -50,8 +50,8 @@ module _ {Gen T : Type 0} where
   lent_out maximum a = record a { slots = []; freed = []; capacity = 0; stack_capacity = 0; maximum = maximum }
 
   -- The arena after slots are returned: free slots at the end are removed, and the others listed by
-  -- rising index.
-  abbrev pub returned : ℕ → Arena Gen T → Held Gen T → Arena Gen T
+  -- ascending index.
+  abbrev pub returned : ℕ → Arena Gen T → DetachedView Gen T → Arena Gen T
   returned greatest a held = record a {
     slots = trimmed held.slots;
     freed = free_from 1 (trimmed held.slots);
@@ -67,18 +67,18 @@ module _ {Gen T : Type 0} where
   with_placement a = record a { placed = a.placed + 1 }
 
   -- The slots at two indexes are swapped, and the entry from the first gets a generation.
-  abbrev pub with_placed_entry : Held Gen T → ℕ → ℕ → Gen → Held Gen T
+  abbrev pub with_placed_entry : DetachedView Gen T → ℕ → ℕ → Gen → DetachedView Gen T
   with_placed_entry held from to g = record held {
     slots = with_slot (with_slot held.slots from (slot_at held.slots to)) to (option_map (λ e. (g, e.1)) (slot_at held.slots from));
   }
 
   -- The slots with the value at an index replaced, if it has an entry.
-  abbrev pub held_with_value : Held Gen T → ℕ → T → Held Gen T
+  abbrev pub held_with_value : DetachedView Gen T → ℕ → T → DetachedView Gen T
   held_with_value held i t = record held { slots = with_slot held.slots i (option_map (λ e. (e.0, t)) (slot_at held.slots i)) }
 
   -- After an access the held slots are unchanged, or have the written value, and one touch is
   -- counted.
-  module _ {C : Type 0} (held : C → Held Gen T) (touches : C → C → Type 0) (old : C) where
+  module _ {C : Type 0} (held : C → DetachedView Gen T) (touches : C → C → Type 0) (old : C) where
     abbrev pub IsTouched : C → Type 0
     IsTouched new = (held new ≡ held old) × touches old new
 

@@ -1,5 +1,5 @@
--- The entries of an arena by rising index, each with its key (index and generation), and the view
--- of an arena that generic code has.
+-- The entries of an arena by ascending index, each with its key (index and generation), and the
+-- view of an arena that generic code has.
 use Rattle.std.specs.Prelude.{◌≡◌, ◌↔◌, ℕ, suc, ◌+◌, ◌<◌, ◌≤◌, ◌==◌, ⊤, cond, List, [], ◌∷◌, ◌++◌, map, reverse, length, drop, Option, None, Some, IfSome}
 use Rattle.std.specs.Option.{option_map}
 use Rattle.arena_ptr.specs.Numbers.{IsWithin}
@@ -14,7 +14,7 @@ pub record Slots : Type 0 where
   pub placed : ℕ
   pub touched : ℕ
 
--- The view of an arena in generic code: entries by rising index, counter and slots if known,
+-- The view of an arena in generic code: entries by ascending index, counter and slots if known,
 -- capacity, and maximum.
 pub record ArenaView (Gen T : Type 0) : Type 0 where
   pub entries : List ((ℕ × Gen) × T)
@@ -99,9 +99,9 @@ module _ {Gen T : Type 0} where
   replaced i f (e ∷ es) = cond (e.0.0 == i) (((i, (f (e.0.1, e.1)).0), (f (e.0.1, e.1)).1) ∷ es) (e ∷ replaced i f es)
 
   -- The indexes of the entries rise, and are at least `i`.
-  abbrev pub RisesFrom : ℕ → List ((ℕ × Gen) × T) → Type 0
-  RisesFrom i [] = ⊤
-  RisesFrom i (e ∷ es) = (i ≤ e.0.0) × RisesFrom (suc e.0.0) es
+  abbrev pub AscendsFrom : ℕ → List ((ℕ × Gen) × T) → Type 0
+  AscendsFrom i [] = ⊤
+  AscendsFrom i (e ∷ es) = (i ≤ e.0.0) × AscendsFrom (suc e.0.0) es
 
   abbrev pub first_key : List ((ℕ × Gen) × T) → Option (ℕ × Gen)
   first_key [] = None

@@ -3,16 +3,16 @@ use Rattle.std.specs.Prelude.{◌≡◌, ℕ, zero, suc, ◌+◌, ◌<◌, ◌�
 use Rattle.std.proofs.Common.{refl, ap, ◌∙◌, arith}
 use Rattle.std.proofs.lemmas.Bool.{eq-eqb, ne_eqb}
 use Rattle.arena_base.specs.Arena.{Arena, entry_at}
-use Rattle.arena_base.specs.Entries.{entries_from, entries, found, RisesFrom}
+use Rattle.arena_base.specs.Entries.{entries_from, entries, found, AscendsFrom}
 
 module _ {Gen T : Type 0} where
-  rises_later : (i j : ℕ) (slots : List (Option (Gen × T))) → i ≤ j → RisesFrom i (entries_from j slots)
-  rises_later i j [] below = tt
-  rises_later i j (None ∷ slots) below = rises_later i (suc j) slots (omega (arith, below))
-  rises_later i j (Some e ∷ slots) below = (below, rises_later (suc j) (suc j) slots (omega arith))
+  ascends_later : (i j : ℕ) (slots : List (Option (Gen × T))) → i ≤ j → AscendsFrom i (entries_from j slots)
+  ascends_later i j [] below = tt
+  ascends_later i j (None ∷ slots) below = ascends_later i (suc j) slots (omega (arith, below))
+  ascends_later i j (Some e ∷ slots) below = (below, ascends_later (suc j) (suc j) slots (omega arith))
 
-  pub entries_rise : (a : Arena Gen T) → RisesFrom 1 (entries a)
-  entries_rise a = rises_later 1 1 a.slots (omega arith)
+  pub entries_ascend : (a : Arena Gen T) → AscendsFrom 1 (entries a)
+  entries_ascend a = ascends_later 1 1 a.slots (omega arith)
 
   -- No entry has an index below the first slot's.
   pub found-below : (i j : ℕ) (slots : List (Option (Gen × T))) → i < j → found i (entries_from j slots) ≡ None

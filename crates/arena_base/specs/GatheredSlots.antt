@@ -4,7 +4,7 @@ use Rattle.std.specs.Fn.{Mut}
 use denote.Ref.{MutBor}
 use Rattle.arena_base.specs.Arena.{Arena}
 use Rattle.arena_base.specs.Entries.{entries}
-use Rattle.arena_base.specs.DetachedSlots.{Held}
+use Rattle.arena_base.specs.DetachedSlots.{DetachedView}
 use Rattle.arena_base.specs.Compressions.{VisitsAll}
 
 module _ {Gen T : Type 0} where
@@ -14,7 +14,7 @@ module _ {Gen T : Type 0} where
 
   -- The slots after holes are closed, as many as before: entries of generation `g`, and then free
   -- slots.
-  pub record AreClosed (g : Gen) (old new : Held Gen T) : Type 0 where
+  pub record AreClosed (g : Gen) (old new : DetachedView Gen T) : Type 0 where
     pub values : List T
     pub free : ℕ
     pub held : new ≡ record old { slots = fronted g values (replicate free None) }

@@ -1,7 +1,7 @@
 -- The representation of an arena in its slots. Public clauses cite `entry_of` and
 -- `ThreadsFreeList`.
 use Rattle.std.specs.Prelude.{◌≡◌, ℕ, zero, suc, ◌+◌, ◌≤◌, ⊤, List, [], ◌∷◌, map, min, length, count_by, is_some, slice_get, Option, None, Some}
-use Rattle.arena_base.specs.DetachedSlots.{Held}
+use Rattle.arena_base.specs.DetachedSlots.{DetachedView}
 use Rattle.arena_base.specs.Arena.{Arena, IsMember, AreDistinct}
 use Rattle.arena_base.specs.declared.slot.ArenaSlot.{ArenaSlot}
 use Rattle.arena_base.specs.declared.slot.ArenaSlot.TheVariants.{Allocated, Free}
@@ -113,5 +113,5 @@ arena_of slots freed counter greatest capacity maximum placed touched = record {
 }
 
 -- The slots that a compactor holds.
-abbrev pub held_slots : {P T Inx Gen Word : Type 0} → List (ArenaSlot P T Inx Gen Word) → ℕ → Option ℕ → Held Gen T
-held_slots slots capacity maximum = record { slots = map entry_of slots; stack_capacity = capacity; maximum = maximum }
+abbrev pub detached_view : {P T Inx Gen Word : Type 0} → List (ArenaSlot P T Inx Gen Word) → ℕ → Option ℕ → DetachedView Gen T
+detached_view slots capacity maximum = record { slots = map entry_of slots; stack_capacity = capacity; maximum = maximum }

@@ -1,4 +1,4 @@
-// The advancer over the pointers of an arena, by rising or falling index.
+// The advancer over the pointers of an arena, by ascending or descending index.
 ghost use Rattle.std.specs.Prelude.{◌≡◌, if◌then◌else◌};
 
 use crate::arena::Arena;
@@ -8,34 +8,35 @@ use crate::traits::Advancer;
 use arena_ptr::{PtrKey, SlotStack};
 use std::marker::PhantomData;
 
-/// An advancer over the valid pointers of an arena, by rising or falling index.
+/// An advancer over the valid pointers of an arena, by ascending or descending index.
 ///
 /// After its first `None` it returns only `None`.
 ///
 /// Port of `PtrAdvancer`. One type serves the plain arena and the chain arena.
 #[derive(Drop)]
 pub struct PtrAdvancer<P> {
-    lookup: Cursor,
+    cursor: Cursor,
     of: PhantomData<P>,
 }
 
 impl<P> PtrAdvancer<P> {
-    /// Returns an advancer by rising index that starts at index `from`.
+    /// Returns an advancer by ascending index that starts at index `from`.
     pub(crate) fn up(from: usize) -> Self
-        ensures { result.lookup ≡ Cursor.Up from }
+        ensures { result.cursor ≡ Cursor.Up from }
     {
         PtrAdvancer {
-            lookup: Cursor::Up(from),
+            cursor: Cursor::Up(from),
             of: PhantomData,
         }
     }
 
-    /// Returns an advancer that starts at index `from`, by rising or, with `rev`, by falling index.
+    /// Returns an advancer that starts at index `from`, by ascending or, with `rev`, by descending
+    /// index.
     pub(crate) fn begin(from: usize, rev: bool) -> Self
-        ensures { result.lookup ≡ (if rev then Cursor.Down from else Cursor.Up from) }
+        ensures { result.cursor ≡ (if rev then Cursor.Down from else Cursor.Up from) }
     {
         PtrAdvancer {
-            lookup: if rev {
+            cursor: if rev {
                 Cursor::Down(from)
             } else {
                 Cursor::Up(from)
@@ -56,23 +57,23 @@ impl<P: PtrKey, T: Drop, S: SlotStack<Item = ArenaSlot<P, T>>> Advancer<Arena<P,
 
     type Item = P;
 
-    ghost gives = { λ a arena returned b. IsAdvance (entries arena) a.lookup
+    ghost gives = { λ a arena returned b. IsAdvance (entries arena) a.cursor
         (option_map P.key returned)
-        b.lookup };
+        b.cursor };
 
-    ghost is_spent = { λ a. a.lookup ≡ Nowhere };
+    ghost is_spent = { λ a. a.cursor ≡ Nowhere };
 
     ghost stays_spent = { λ a b arena returned spent given. nowhere_stays P.key
-        (entries arena) a.lookup returned b.lookup spent given };
+        (entries arena) a.cursor returned b.cursor spent given };
 
     fn advance(&mut self, collection: &Arena<P, T, S>) -> Option<P> {
-        match collection.find(self.lookup) {
+        match collection.find(self.cursor) {
             Some(p) => {
-                self.lookup = self.lookup.after(number_of::<P>(p.inx()));
+                self.cursor = self.cursor.after(number_of::<P>(p.inx()));
                 Some(p)
             }
             None => {
-                self.lookup = Cursor::Nowhere;
+                self.cursor = Cursor::Nowhere;
                 None
             }
         }
@@ -80,7 +81,7 @@ impl<P: PtrKey, T: Drop, S: SlotStack<Item = ArenaSlot<P, T>>> Advancer<Arena<P,
 
     fn empty() -> Self {
         PtrAdvancer {
-            lookup: Cursor::Nowhere,
+            cursor: Cursor::Nowhere,
             of: PhantomData,
         }
     }

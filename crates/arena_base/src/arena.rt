@@ -10,7 +10,7 @@ ghost use Rattle.arena_base.specs.DetachedSlots.{held_of, lent_out, returned, Is
 ghost use Rattle.arena_base.specs.Arena.{entry_at, entry_count, next_index, insert_next, remove_at, renewed_at, with_counter, with_capacity_of, with_maximum, new_arena, HasCapacityFor, ReachesCapacity, IsWithinReach};
 
 use crate::cursor::Cursor;
-use crate::detached_slots::HeldSlots;
+use crate::detached_slots::DetachedSlots;
 use crate::free_list::{relist, trim};
 use crate::slot::{ArenaSlot, fill, inx_at, position_of, regenerate_at, vacate_at};
 use crate::tally::Tally;
@@ -110,7 +110,7 @@ impl<P: PtrKey, T: Drop, S: SlotStack<Item = ArenaSlot<P, T>>> Arena<P, T, S> {
         ensures slots { map entry_of (S.items result.now) ≡ self.now.slots }
         ensures freed { ThreadsFreeList P.Inx.number (S.items result.now) self.now.freed }
         ensures capacity { S.capacity result.now ≡ self.now.stack_capacity }
-        ensures within_capacity { self.now.capacity ≡ min (S.capacity result.now) P.Inx.greatest }
+        ensures arena_capacity { self.now.capacity ≡ min (S.capacity result.now) P.Inx.greatest }
         ensures maximum { S.maximum result.now ≡ self.now.maximum }
     {
         &self.slots
@@ -145,7 +145,7 @@ impl<P: PtrKey, T: Drop, S: SlotStack<Item = ArenaSlot<P, T>>> Arena<P, T, S> {
     /// # Errors
     ///
     /// - `BeyondMaxCapacity`: the growth needed is beyond the maximum.
-    /// - `AllocError`: the growth needed is beyond the greatest index, or memory was refused.
+    /// - `AllocError`: the growth needed is beyond the greatest index, or an allocation failed.
     ///
     /// Nothing changes on error, and the value is dropped.
     pub fn insert_reallocating(&mut self, t: T) -> Result<P, ReallocationError>
@@ -191,7 +191,7 @@ impl<P: PtrKey, T: Drop, S: SlotStack<Item = ArenaSlot<P, T>>> Arena<P, T, S> {
     // Returns whether there are as many entries as the capacity.
     pub(crate) fn is_full(&self) -> bool
         ensures full { IsTrue result ↔ (entry_count self.now ≡ self.now.capacity) }
-        ensures within_capacity { HasCapacityFor P.Inx.greatest (entry_count self.now) self.now }
+        ensures capacity { HasCapacityFor P.Inx.greatest (entry_count self.now) self.now }
     {
         self.len == self.slots.capacity().min(P::Inx::greatest())
     }
@@ -293,11 +293,11 @@ impl<P: PtrKey, T: Drop, S: SlotStack<Item = ArenaSlot<P, T>>> Arena<P, T, S> {
     }
 
     // Returns the pointer of the first entry ahead of a cursor.
-    pub(crate) fn find(&self, lookup: Cursor) -> Option<P>
-        ensures key { option_map P.key result ≡ first_key (ahead lookup (entries self.now)) }
+    pub(crate) fn find(&self, cursor: Cursor) -> Option<P>
+        ensures key { option_map P.key result ≡ first_key (ahead cursor (entries self.now)) }
         ensures fits { IfSome result (λ p. (P.key p).0 + 1 < 2 ^ 64) }
     {
-        match lookup {
+        match cursor {
             Cursor::Up(from) => self.first_from(from.saturating_sub(1)),
             Cursor::Down(to) => self.last_to(to),
             Cursor::Nowhere => None,
@@ -352,7 +352,7 @@ impl<P: PtrKey, T: Drop, S: SlotStack<Item = ArenaSlot<P, T>>> Arena<P, T, S> {
     }
 
     // Takes the slots, and leaves the arena empty over a new stack.
-    pub(crate) fn take_slots(&mut self) -> HeldSlots<P, T, S>
+    pub(crate) fn take_slots(&mut self) -> DetachedSlots<P, T, S>
         ensures held { result ≡ held_of self.old }
         ensures after { self.new ≡ lent_out S.initial_maximum self.old }
         ensures fits { length self.old.slots ≤ P.Inx.greatest }
@@ -361,15 +361,15 @@ impl<P: PtrKey, T: Drop, S: SlotStack<Item = ArenaSlot<P, T>>> Arena<P, T, S> {
         let slots = mem::replace(&mut self.slots, empty);
         self.len = 0;
         self.first_free = None;
-        HeldSlots { slots }
+        DetachedSlots { slots }
     }
 
     // Returns slots to the arena: free slots at the end are removed, and the other free slots are
     // listed.
-    pub(crate) fn return_slots(&mut self, held: HeldSlots<P, T, S>)
+    pub(crate) fn return_slots(&mut self, held: DetachedSlots<P, T, S>)
         ensures { self.new ≡ returned P.Inx.greatest self.old held }
     {
-        let HeldSlots { mut slots } = held;
+        let DetachedSlots { mut slots } = held;
         trim(&mut slots);
         let (len, first_free) = relist::<P, T, S>(&mut slots);
         self.slots = slots;
@@ -379,11 +379,11 @@ impl<P: PtrKey, T: Drop, S: SlotStack<Item = ArenaSlot<P, T>>> Arena<P, T, S> {
 
     // Returns slots to the arena, of which exactly the first `count` are entries. The others are
     // removed, without reading any.
-    pub(crate) fn return_packed(&mut self, held: HeldSlots<P, T, S>, count: usize)
+    pub(crate) fn return_packed(&mut self, held: DetachedSlots<P, T, S>, count: usize)
         requires { IsPacked held.slots count }
         ensures { self.new ≡ returned P.Inx.greatest self.old held }
     {
-        let HeldSlots { mut slots } = held;
+        let DetachedSlots { mut slots } = held;
         slots.truncate(count);
         self.slots = slots;
         self.len = count;

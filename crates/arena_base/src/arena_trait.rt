@@ -1,8 +1,8 @@
 // The implementation of the arena traits for `Arena`.
 ghost use Rattle.std.specs.Prelude.{◌≡◌, ◌≤◌, ◌<◌, ◌+◌, ◌^◌, length, All, IfSome};
-ghost use Rattle.arena_ptr.specs.Invalidation.{value_within, is_overflow_result};
+ghost use Rattle.arena_ptr.specs.Invalidation.{value_within, is_overflow_result, invalidation_option};
 ghost use Rattle.std.specs.Option.{option_map};
-ghost use Rattle.arena_base.specs.Arena.{counter_after_clear, overflows_after_clear, entry_count, HasCapacityFor, IsListed};
+ghost use Rattle.arena_base.specs.Arena.{counter_after_clear, overflows_after_clear, entry_count, with_counter, HasCapacityFor, IsListed};
 ghost use Rattle.arena_base.specs.Compressions.{counter_after_compression, overflows_after_compression};
 ghost use Rattle.arena_ptr.specs.Numbers.{IsWithin};
 ghost use Rattle.arena_base.specs.Entries.{entries, view_of, index_of, CoverSlots};
@@ -22,7 +22,7 @@ impl<P: PtrKey, T: Drop, S: SlotStack<Item = ArenaSlot<P, T>>> ArenaTrait<P, T> 
     ghost use Rattle.arena_base.specs.Arena.{entry_at, with_capacity_of, IsWithinReach, IsNewWithCapacity, with_value, renewed_at, remove_at, cleared};
     ghost use Rattle.std.specs.Option.{option_map};
     ghost use Rattle.arena_base.specs.Entries.{view_of, entries};
-    ghost use Rattle.arena_base.specs.EntryLaws.{entries_rise, found-entries};
+    ghost use Rattle.arena_base.specs.EntryLaws.{entries_ascend, found-entries};
     ghost use Rattle.arena_base.specs.AdvancerLaws.{until_none};
 
     type PtrAdvancer = PtrAdvancer<P>;
@@ -31,7 +31,7 @@ impl<P: PtrKey, T: Drop, S: SlotStack<Item = ArenaSlot<P, T>>> ArenaTrait<P, T> 
 
     ghost entry = { entry_at };
 
-    ghost cursor = { λ a. a.lookup };
+    ghost cursor = { λ a. a.cursor };
 
     ghost starts = { IsNewWithCapacity S.may_reach P.Gen.first S.initial_maximum };
 
@@ -47,12 +47,12 @@ impl<P: PtrKey, T: Drop, S: SlotStack<Item = ArenaSlot<P, T>>> ArenaTrait<P, T> 
 
     ghost compresses = { λ a b. b.stack_capacity ≡ a.stack_capacity };
 
-    ghost rises = { entries_rise };
+    ghost ascends = { entries_ascend };
 
     ghost finds = { found-entries };
 
-    ghost advances = { λ a b arena returned given. until_none (entries arena) a.lookup
-        (option_map P.key returned) b.lookup given };
+    ghost advances = { λ a b arena returned given. until_none (entries arena) a.cursor
+        (option_map P.key returned) b.cursor given };
 
     fn new(alloc: Global) -> Self {
         Arena::over(S::new(alloc))
@@ -88,7 +88,7 @@ impl<P: PtrKey, T: Drop, S: SlotStack<Item = ArenaSlot<P, T>>> ArenaTrait<P, T> 
 
         // The slots, the freed list and the capacity of every arena.
         ensures listed { IsListed self.now }
-        ensures within_capacity { HasCapacityFor P.Inx.greatest (length self.now.slots) self.now }
+        ensures capacity { HasCapacityFor P.Inx.greatest (length self.now.slots) self.now }
     {
         self.len
     }
@@ -197,10 +197,9 @@ impl<P: PtrKey, T: Drop, S: SlotStack<Item = ArenaSlot<P, T>>> ArenaTrait<P, T> 
         reset: bool,
         map: F,
     ) -> InvalidationOption<()> {
-        let (generation, overflow) = after_compression(self.generation(), self.len(), reset);
-        self.set_generation(generation);
+        let overflow = self.begin_generation(reset);
         self.gather(map);
-        invalidated(overflow, ())
+        overflow
     }
 }
 
@@ -232,7 +231,7 @@ fn after_clear<G: GenKey>(counter: G, count: usize) -> (G, bool)
 }
 
 // Returns the counter after a compression of `count` entries, and whether it overflowed.
-pub(crate) fn after_compression<G: GenKey>(counter: G, count: usize, reset: bool) -> (G, bool)
+fn after_compression<G: GenKey>(counter: G, count: usize, reset: bool) -> (G, bool)
     ensures next { result.0 ≡ counter_after_compression G.first G.following reset count counter }
     ensures overflow { result.1 ≡ overflows_after_compression G.wraps reset count counter }
 {
@@ -256,8 +255,23 @@ impl<P: PtrKey, T: Drop, S: SlotStack<Item = ArenaSlot<P, T>>> Arena<P, T, S> {
         ensures listed { IsListed self.now }
 
         // The capacity is the lesser of the stack's capacity and the greatest index.
-        ensures within_capacity { HasCapacityFor P.Inx.greatest (length self.now.slots) self.now }
+        ensures capacity { HasCapacityFor P.Inx.greatest (length self.now.slots) self.now }
     {
         self.len();
+    }
+
+    /// Sets the counter for a compression, and reports whether it overflowed.
+    ///
+    /// With `reset` the counter restarts; otherwise it is incremented if there are entries.
+    pub fn begin_generation(&mut self, reset: bool) -> InvalidationOption<()>
+        ensures after { self.new ≡ with_counter self.old
+            (counter_after_compression P.Gen.first P.Gen.following reset
+            (length (entries self.old)) self.old.counter) }
+        ensures overflow { result ≡ invalidation_option (overflows_after_compression P.Gen.wraps
+            reset (length (entries self.old)) self.old.counter) tt }
+    {
+        let (generation, overflow) = after_compression(self.generation(), self.len(), reset);
+        self.set_generation(generation);
+        invalidated(overflow, ())
     }
 }

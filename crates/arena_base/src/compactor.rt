@@ -4,10 +4,10 @@ ghost use Rattle.std.specs.Option.{option_map, option_copied_mut};
 ghost use Rattle.std.specs.Borrow.{LendsSo, follows_so, sem};
 ghost use mathlib.Core.Option.{none};
 ghost use Rattle.arena_base.specs.Arena.{slot_at};
-ghost use Rattle.arena_base.specs.DetachedSlots.{Held, borrowed_parts, with_placed_entry, held_of, IsTouched, IsWrittenAt, lent_out, returned, IsPacked, with_touch, with_placement, one_more};
+ghost use Rattle.arena_base.specs.DetachedSlots.{DetachedView, borrowed_parts, with_placed_entry, held_of, IsTouched, IsWrittenAt, lent_out, returned, IsPacked, with_touch, with_placement, one_more};
 
 use crate::arena::Arena;
-use crate::detached_slots::{HeldSlots, LendsValue};
+use crate::detached_slots::{DetachedSlots, LendsValue};
 use crate::slot::ArenaSlot;
 use arena_ptr::{HeapStack, PtrKey, SlotStack};
 
@@ -31,7 +31,7 @@ pub struct Compactor<
     S: SlotStack<Item = ArenaSlot<P, T>> = HeapStack<ArenaSlot<P, T>>,
 > {
     arena: &'a mut Arena<P, T, S>,
-    held: HeldSlots<P, T, S>,
+    held: DetachedSlots<P, T, S>,
     placed: u128,
     touched: u128,
 }
@@ -159,7 +159,7 @@ impl<'a, P: PtrKey, T: Drop, S: SlotStack<Item = ArenaSlot<P, T>>> Drop for Comp
 
 /// Access to the slots that a compactor holds.
 pub trait SlotAccess<P: PtrKey, T: Drop> {
-    ghost held: { Self → Held P.Gen T };
+    ghost held: { Self → DetachedView P.Gen T };
 
     // The second is the first after one touch, apart from what it holds.
     ghost touches: { Self → Self → Type 0 };

@@ -42,9 +42,10 @@ fn move_entry<P: PtrKey, T: Drop, S: SlotStack<Item = ArenaSlot<P, T>>>(
     Some(was)
 }
 
-// Moves each entry, by rising index, to the first free index, and sets its generation. Calls `map`
-// with the entry's old pointer, its value, for writing, and its new pointer. Each slot is read
-// once, and each value lent once. Returns the number of entries, which then are in the first slots.
+// Moves each entry, by ascending index, to the first free index, and sets its generation. Calls
+// `map` with the entry's old pointer, its value, for writing, and its new pointer. Each slot is
+// read once, and each value lent once. Returns the number of entries, which then are in the first
+// slots.
 fn compact_entries<
     P: PtrKey,
     T: Drop,

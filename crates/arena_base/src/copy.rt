@@ -35,7 +35,7 @@ impl<P, U, T, F: FnMut(P, &U) -> T + Drop> ValueMap<P, U, T> for ClosureMap<F> {
 
 // Appends a copy of each slot to an empty stack. A free slot names the same next one; an entry
 // keeps its generation and has a value made by `values`. `values` is called once for each entry, by
-// rising index, up to the first value that is refused, and is returned.
+// ascending index, up to the first value that is refused, and is returned.
 fn copy_slots<
     P: PtrKey,
     T: Drop,
@@ -46,7 +46,7 @@ fn copy_slots<
 >(slots: &mut S, source: &S1, mut values: M) -> (Result<(), AllocError>, M)
     requires ready { M.is_ready values }
     requires empty { S.items slots.old ≡ [] }
-    requires within_capacity { length (S1.items source.now) ≤ S.capacity slots.old }
+    requires capacity { length (S1.items source.now) ≤ S.capacity slots.old }
     requires fits { length (S1.items source.now) ≤ P.Inx.greatest }
     ensures alike { OnOk result.0 (without_values (S.items slots.new) ≡ without_values
         (S1.items source.now)) }

@@ -2,7 +2,7 @@
 ghost use Rattle.std.specs.Prelude.{◌≡◌, ◌+◌, ◌<◌, ◌^◌};
 ghost use Rattle.arena_base.specs.Advancers.{cursor_past};
 
-/// The position of an advancer: rising from an index, falling from an index, or at the end.
+/// The position of an advancer: ascending from an index, descending from an index, or at the end.
 #[derive(Clone, Copy, Debug, PartialEq, Eq)]
 pub enum Cursor {
     Up(usize),

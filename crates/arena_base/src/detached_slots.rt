@@ -3,7 +3,7 @@ ghost use Rattle.std.specs.Prelude.{◌≡◌, ◌≢◌, ◌≤◌, ◌<◌, No
 ghost use Rattle.std.specs.Option.{option_map, option_copied_mut};
 ghost use Rattle.std.specs.Borrow.{LendsSo, sem};
 ghost use Rattle.arena_base.specs.Arena.{slot_at};
-ghost use Rattle.arena_base.specs.DetachedSlots.{Held, borrowed_parts, with_placed_entry, held_with_value};
+ghost use Rattle.arena_base.specs.DetachedSlots.{DetachedView, borrowed_parts, with_placed_entry, held_with_value};
 
 use crate::proved_unreachable;
 use crate::slot::{ArenaSlot, position_of, put_at, regenerate_at, vacate_at};
@@ -11,24 +11,24 @@ use arena_ptr::{PtrKey, SlotStack};
 use std::marker::Model;
 
 #[derive(Drop)]
-pub(crate) struct HeldSlots<P: PtrKey, T: Drop, S: SlotStack<Item = ArenaSlot<P, T>>> {
+pub(crate) struct DetachedSlots<P: PtrKey, T: Drop, S: SlotStack<Item = ArenaSlot<P, T>>> {
     pub(crate) slots: S,
 }
 
-impl<P: PtrKey, T: Drop, S: SlotStack<Item = ArenaSlot<P, T>>> Model for HeldSlots<P, T, S> {
+impl<P: PtrKey, T: Drop, S: SlotStack<Item = ArenaSlot<P, T>>> Model for DetachedSlots<P, T, S> {
     ghost use Rattle.std.specs.Prelude.{◌≤◌, length};
-    ghost use Rattle.arena_base.specs.DetachedSlots.{Held};
+    ghost use Rattle.arena_base.specs.DetachedSlots.{DetachedView};
 
-    ghost Value = { Held P.Gen T };
+    ghost Value = { DetachedView P.Gen T };
 
-    ghost use Rattle.arena_base.specs.Slots.{held_slots};
+    ghost use Rattle.arena_base.specs.Slots.{detached_view};
 
-    ghost view = { λ h. held_slots (S.items h.slots) (S.capacity h.slots) (S.maximum h.slots) };
+    ghost view = { λ h. detached_view (S.items h.slots) (S.capacity h.slots) (S.maximum h.slots) };
 
     ghost invariant = { λ h. length (S.items h.slots) ≤ P.Inx.greatest };
 }
 
-impl<P: PtrKey, T: Drop, S: SlotStack<Item = ArenaSlot<P, T>>> HeldSlots<P, T, S> {
+impl<P: PtrKey, T: Drop, S: SlotStack<Item = ArenaSlot<P, T>>> DetachedSlots<P, T, S> {
     // Returns the number of slots.
     pub(crate) fn len(&self) -> usize
         ensures { result ≡ length self.now.slots }
@@ -77,7 +77,7 @@ impl<P: PtrKey, T: Drop, S: SlotStack<Item = ArenaSlot<P, T>>> HeldSlots<P, T, S
 
 // A holder of slots that lends the values in them.
 pub(crate) trait LendsValue<P: PtrKey, T: Drop> {
-    ghost lent: { Self → Held P.Gen T };
+    ghost lent: { Self → DetachedView P.Gen T };
 
     // Returns the value at an index, for writing.
     fn value_mut(&mut self, i: P::Inx) -> Option<&mut T>
@@ -89,7 +89,7 @@ pub(crate) trait LendsValue<P: PtrKey, T: Drop> {
 }
 
 impl<P: PtrKey, T: Drop, S: SlotStack<Item = ArenaSlot<P, T>>> LendsValue<P, T>
-    for HeldSlots<P, T, S> {
+    for DetachedSlots<P, T, S> {
     ghost lent = { λ h. h };
 
     fn value_mut(&mut self, i: P::Inx) -> Option<&mut T> {

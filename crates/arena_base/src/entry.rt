@@ -17,7 +17,7 @@ pub struct ArenaInsertEntry<
     S: SlotStack<Item = ArenaSlot<P, T>> = HeapStack<ArenaSlot<P, T>>,
 > {
     arena: &'a mut Arena<P, T, S>,
-    ghost within_capacity: { entry_count arena.now < arena.now.capacity },
+    ghost has_capacity: { entry_count arena.now < arena.now.capacity },
 }
 
 impl<P: PtrKey, T: Drop, S: SlotStack<Item = ArenaSlot<P, T>>> Arena<P, T, S> {

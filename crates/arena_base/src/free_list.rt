@@ -20,7 +20,7 @@ pub(crate) fn trim<P: PtrKey, T: Drop, S: SlotStack<Item = ArenaSlot<P, T>>>(slo
     slots.truncate(count);
 }
 
-// Lists the free slots by rising index. Returns the number of entries and the first free index.
+// Lists the free slots by ascending index. Returns the number of entries and the first free index.
 pub(crate) fn relist<P: PtrKey, T: Drop, S: SlotStack<Item = ArenaSlot<P, T>>>(
     slots: &mut S,
 ) -> (usize, Option<P::Inx>)

@@ -1,4 +1,4 @@
-// Iterators over the entries of an arena, by rising index. Each passes every slot once.
+// Iterators over the entries of an arena, by ascending index. Each passes every slot once.
 ghost use Rattle.std.specs.Prelude.{◌≡◌, ◌+◌, [], ◌∷◌, drop, IfNone, IfSome};
 ghost use Rattle.arena_ptr.specs.Invalidation.{value_within};
 ghost use Rattle.arena_base.specs.Entries.{entries_from};

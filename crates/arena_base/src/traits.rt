@@ -6,7 +6,7 @@ ghost use Rattle.arena_ptr.specs.Numbers.{IsWithin};
 ghost use Rattle.arena_ptr.specs.SlotStack.{IsBeyond, IsWithinMaximum};
 ghost use Rattle.arena_ptr.specs.Invalidation.{value_within, invalidation_result, invalidation_option};
 ghost use Rattle.arena_base.specs.Arena.{IsCapacityFor, IsValid, borrowed_entry, overflows_after_clear};
-ghost use Rattle.arena_base.specs.Entries.{ArenaView, CoverSlots, index_of, IsNew, found, RisesFrom, first_key, last_key, entry_removed, renewed, written, emptied, with_capacity};
+ghost use Rattle.arena_base.specs.Entries.{ArenaView, CoverSlots, index_of, IsNew, found, AscendsFrom, first_key, last_key, entry_removed, renewed, written, emptied, with_capacity};
 ghost use Rattle.arena_base.specs.Advancers.{IsAdvanceUntilNone};
 ghost use Rattle.arena_base.specs.Entries.{entries};
 ghost use Rattle.arena_base.specs.Copies.{IsCopy, IsCopyBy, HasRefusable, IsAbandonedView};
@@ -53,7 +53,7 @@ pub trait Advancer<C>: Drop {
 ///
 /// Port of `ArenaTrait`, which also returns a generation beside a `&mut`; here only the reads do.
 pub trait ArenaTrait<P: PtrKey, T: Drop> {
-    /// The advancer over the pointers of the arena, by rising or falling index.
+    /// The advancer over the pointers of the arena, by ascending or descending index.
     type PtrAdvancer: Advancer<Self, Item = P>;
 
     ghost view: { Self → ArenaView P.Gen T };
@@ -95,7 +95,7 @@ pub trait ArenaTrait<P: PtrKey, T: Drop> {
     /// refused.
     fn with_min_capacity(alloc: Global, n: usize) -> Result<Self, AllocError>
         ensures new { IfOk result (λ a. IsNew P.Gen.first (view a)) }
-        ensures within_capacity { IfOk result (λ a. n ≤ (view a).capacity) }
+        ensures capacity { IfOk result (λ a. n ≤ (view a).capacity) }
         ensures beyond { IfOk result (λ a. IsWithinMaximum (view a).maximum n) }
         ensures greatest { P.Inx.greatest < n → IsErr result }
         ensures no_capacity { n ≡ 0 → IsOk result }
@@ -132,7 +132,7 @@ pub trait ArenaTrait<P: PtrKey, T: Drop> {
     /// # Errors
     ///
     /// - `BeyondMaxCapacity`: `n` is above the maximum.
-    /// - `AllocError`: `n` is above the greatest index, or memory was refused.
+    /// - `AllocError`: `n` is above the greatest index, or an allocation failed.
     ///
     /// Nothing changes on error.
     fn reallocate_min_capacity(&mut self, n: usize) -> Result<(), ReallocationError>
@@ -190,15 +190,15 @@ pub trait ArenaTrait<P: PtrKey, T: Drop> {
     fn find_last_inx_ptr(&self) -> Option<P>
         ensures { option_map P.key result ≡ last_key (view self.now).entries };
 
-    /// Returns an advancer by rising index.
+    /// Returns an advancer by ascending index.
     ///
     /// Up to its first `None`, each call returns the valid pointer of least index above the last
     /// one, in the arena given to that call. If there is none it returns `None`.
     fn advancer(&self) -> Self::PtrAdvancer
         ensures { cursor result ≡ Cursor.Up 1 };
 
-    /// Returns an advancer that starts at index `i` itself, by rising index or, with `rev`, by
-    /// falling index.
+    /// Returns an advancer that starts at index `i` itself, by ascending index or, with `rev`, by
+    /// descending index.
     fn advancer_inx(&self, i: P::Inx, rev: bool) -> Self::PtrAdvancer
         ensures { cursor result ≡ (if rev then Cursor.Down (P.Inx.number i)
             else Cursor.Up (P.Inx.number i)) };
@@ -299,7 +299,7 @@ pub trait ArenaTrait<P: PtrKey, T: Drop> {
         self.compress_with(reset, |_p: P, _t: &mut T, _q: P| {})
     }
 
-    ghost rises: { (a : Self) → RisesFrom 1 (view a).entries };
+    ghost ascends: { (a : Self) → AscendsFrom 1 (view a).entries };
 
     ghost finds: { (a : Self) (i : ℕ) → found i (view a).entries ≡ entry a i };
 
@@ -353,14 +353,14 @@ pub trait ArenaCloneFromWith<P: PtrKey, T: Drop>: ArenaTrait<P, T> {
     /// Becomes a copy of `source`, with values made by `values`, which is returned.
     ///
     /// Indexes, generations, counter, number of slots and freed list are the source's. `values` is
-    /// called once for each entry of the source, by rising index, and can be called again
+    /// called once for each entry of the source, by ascending index, and can be called again
     /// afterwards. Old entries are dropped. The arena grows only if the source has more slots than
     /// its capacity.
     ///
     /// # Errors
     ///
     /// - `BeyondMaxCapacity`: the source has more slots than the maximum.
-    /// - `AllocError`: memory was refused.
+    /// - `AllocError`: an allocation failed.
     ///
     /// Nothing changes on error, and `values` is not called. But if memory for a value was refused,
     /// the arena has no entries and slots left.
@@ -390,12 +390,12 @@ pub trait ArenaCloneFromWith<P: PtrKey, T: Drop>: ArenaTrait<P, T> {
 
     /// Becomes a copy of `source` as by `clone_from_by`, with the values that `map` returns.
     ///
-    /// `map` is called for each entry of the source, by rising index.
+    /// `map` is called for each entry of the source, by ascending index.
     ///
     /// # Errors
     ///
     /// - `BeyondMaxCapacity`: the source has more slots than the maximum.
-    /// - `AllocError`: memory was refused.
+    /// - `AllocError`: an allocation failed.
     ///
     /// Nothing changes on error.
     final fn clone_from_with<

@@ -45,13 +45,13 @@ module _ {E : Type 0} where
     pub push_in : (blocks : List (Vec E Global)) (n q r : ℕ) (block : Vec E Global) → r < 64 → n ≡ 64 * q + r → AreFilled blocks n → slice_get blocks q ≡ Some block
         → other.items ≡ block.items ++ e ∷ [] → vec_capacity other ≡ vec_capacity block
         → (items_in (slice_set blocks q other) ≡ items_in blocks ++ e ∷ []) × AreFilled (slice_set blocks q other) (n + 1)
-    push_in [] n q r block small at filled is made within_capacity = cc
-    push_in (b ∷ blocks) n zero r block small at filled is made within_capacity = (
+    push_in [] n q r block small at filled is made fits = cc
+    push_in (b ∷ blocks) n zero r block small at filled is made fits = (
       ap (λ (xs : List E). xs ++ items_in blocks) items ∙ (ap (λ (xs : List E). (b.items ++ e ∷ []) ++ xs) none ∙ (append-nil (b.items ++ e ∷ []) ∙ sym (ap (λ (xs : List E). (b.items ++ xs) ++ e ∷ []) none ∙ ap (λ (xs : List E). xs ++ e ∷ []) (append-nil b.items)))),
       (
         ap length items ∙ (length-append b.items (e ∷ []) ∙ omega (arith, filled.0, at, small)),
         (
-          subst (λ (k : ℕ). 64 ≤ k) (sym (within_capacity ∙ ap vec_capacity same)) filled.1.0,
+          subst (λ (k : ℕ). 64 ≤ k) (sym (fits ∙ ap vec_capacity same)) filled.1.0,
           subst (AreFilled blocks) (let left : n - 64 ≡ (n + 1) - 64 = omega (arith, at, small) in left) filled.1.1,
         ),
       ),
@@ -65,8 +65,8 @@ module _ {E : Type 0} where
 
         none : items_in blocks ≡ []
         none = none_at_all (items_in blocks) (let rest = length-items_in blocks (n - 64) filled.1.1 in omega (arith, rest, at, small))
-    push_in (b ∷ blocks) n (suc q) r block small at filled is made within_capacity =
-        let behind = push_in blocks (n - 64) q r block small (omega (arith, at)) filled.1.1 is made within_capacity in (
+    push_in (b ∷ blocks) n (suc q) r block small at filled is made fits =
+        let behind = push_in blocks (n - 64) q r block small (omega (arith, at)) filled.1.1 is made fits in (
           ap (λ (xs : List E). b.items ++ xs) behind.0 ∙ sym (append_assoc b.items (items_in blocks) (e ∷ [])),
           (filled.0 ∙ omega (arith, at), (filled.1.0, subst (AreFilled (slice_set blocks q other)) (let left : (n - 64) + 1 ≡ (n + 1) - 64 = omega (arith, at) in left) behind.1)),
         )
@@ -75,14 +75,14 @@ module _ {E : Type 0} where
   pub pop_in : (other : Vec E Global) (blocks : List (Vec E Global)) (n q r : ℕ) (block : Vec E Global) → r < 64 → n ≡ 64 * q + r → AreFilled blocks (n + 1) → slice_get blocks q ≡ Some block
       → other.items ≡ take r block.items → vec_capacity other ≡ vec_capacity block
       → (items_in (slice_set blocks q other) ≡ take n (items_in blocks)) × AreFilled (slice_set blocks q other) n
-  pop_in other [] n q r block small at filled is made within_capacity = cc
-  pop_in other (b ∷ blocks) n zero r block small at filled is made within_capacity = (
+  pop_in other [] n q r block small at filled is made fits = cc
+  pop_in other (b ∷ blocks) n zero r block small at filled is made fits = (
     ap (λ (xs : List E). xs ++ items_in blocks) items ∙ (ap (λ (xs : List E). take r b.items ++ xs) none ∙ (append-nil (take r b.items)
         ∙ (ap (λ (k : ℕ). take k b.items) (let same : r ≡ n = omega (arith, at) in same) ∙ sym (ap (λ (xs : List E). take n (b.items ++ xs)) none ∙ ap (take n) (append-nil b.items))))),
     (
       ap length items ∙ (length-take r b.items ∙ omega (arith, filled.0, at, small)),
       (
-        subst (λ (k : ℕ). 64 ≤ k) (sym (within_capacity ∙ ap vec_capacity same)) filled.1.0,
+        subst (λ (k : ℕ). 64 ≤ k) (sym (fits ∙ ap vec_capacity same)) filled.1.0,
         subst (AreFilled blocks) (let left : (n + 1) - 64 ≡ n - 64 = omega (arith, at, small) in left) filled.1.1,
       ),
     ),
@@ -96,9 +96,9 @@ module _ {E : Type 0} where
 
       none : items_in blocks ≡ []
       none = none_at_all (items_in blocks) (let rest = length-items_in blocks ((n + 1) - 64) filled.1.1 in omega (arith, rest, at, small))
-  pop_in other (b ∷ blocks) n (suc q) r block small at filled is made within_capacity =
+  pop_in other (b ∷ blocks) n (suc q) r block small at filled is made fits =
       let left : (n + 1) - 64 ≡ (n - 64) + 1 = omega (arith, at) in
-      let behind = pop_in other blocks (n - 64) q r block small (omega (arith, at)) (subst (AreFilled blocks) left filled.1.1) is made within_capacity in
+      let behind = pop_in other blocks (n - 64) q r block small (omega (arith, at)) (subst (AreFilled blocks) left filled.1.1) is made fits in
       let long : length b.items ≡ 64 = omega (arith, filled.0, at) in (
         ap (λ (xs : List E). b.items ++ xs) behind.0 ∙ sym (take_over b.items (items_in blocks) n (n - 64) (omega (arith, long, at))),
         (filled.0 ∙ omega (arith, at), (filled.1.0, behind.1)),
@@ -119,12 +119,12 @@ module _ {E : Type 0} where
   -- Appending an empty block keeps all items.
   pub more_in : (other : Vec E Global) (blocks : List (Vec E Global)) (n : ℕ) → other.items ≡ [] → 64 ≤ vec_capacity other → AreFilled blocks n
       → (items_in (blocks ++ other ∷ []) ≡ items_in blocks) × AreFilled (blocks ++ other ∷ []) n
-  more_in other [] n none within_capacity filled = (
+  more_in other [] n none fits filled = (
     ap (λ (xs : List E). xs ++ []) none,
-    (ap length none ∙ omega (arith, filled), (within_capacity, omega (arith, filled))),
+    (ap length none ∙ omega (arith, filled), (fits, omega (arith, filled))),
   )
-  more_in other (b ∷ blocks) n none within_capacity filled =
-      let behind = more_in other blocks (n - 64) none within_capacity filled.1.1 in
+  more_in other (b ∷ blocks) n none fits filled =
+      let behind = more_in other blocks (n - 64) none fits filled.1.1 in
       (ap (λ (xs : List E). b.items ++ xs) behind.0, (filled.0, (filled.1.0, behind.1)))
 
   -- Dropping blocks without items keeps all items.

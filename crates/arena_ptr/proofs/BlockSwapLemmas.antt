@@ -49,7 +49,7 @@ module _ {E : Type 0} (blocks : List (Vec E Global)) (n i j : ℕ) (filled : Are
 
   -- A swap within one block.
   module _ (block other : Vec E Global) (same : i / 64 ≡ j / 64) (found : slice_get blocks (i / 64) ≡ Some block) (located : i / 64 < length blocks)
-      (i_in : i % 64 < length block.items) (j_in : j % 64 < length block.items) (made : other.items ≡ swap block.items (i % 64) (j % 64)) (within_capacity : vec_capacity other ≡ vec_capacity block) where
+      (i_in : i % 64 < length block.items) (j_in : j % 64 < length block.items) (made : other.items ≡ swap block.items (i % 64) (j % 64)) (enough : vec_capacity other ≡ vec_capacity block) where
     pub exchanged_in : (items_in (slice_set blocks (i / 64) other) ≡ swap (items_in blocks) i j) × AreFilled (slice_set blocks (i / 64) other) n
     exchanged_in =
         let d = some_item block.items (i % 64) i_in in
@@ -58,7 +58,7 @@ module _ {E : Type 0} (blocks : List (Vec E Global)) (n i j : ℕ) (filled : Are
         let mid = with_item block (i % 64) y in
         let first = set_in mid y blocks n (i / 64) (i % 64) block (omega arith) filled found refl refl in
         let second = set_in other x (slice_set blocks (i / 64) mid) n (i / 64) (j % 64) mid (omega arith) first.1 (get-set_same blocks (i / 64) mid located)
-        (made ∙ sym (swap_is block.items (i % 64) (j % 64) d i_in j_in)) within_capacity in
+        (made ∙ sym (swap_is block.items (i % 64) (j % 64) d i_in j_in)) enough in
         let one : slice_set (slice_set blocks (i / 64) mid) (i / 64) other ≡ slice_set blocks (i / 64) other = set-set blocks (i / 64) mid other in
         let i_place : 64 * (i / 64) + i % 64 ≡ i = omega arith in
         let j_place : 64 * (i / 64) + j % 64 ≡ j = omega (arith, same) in (

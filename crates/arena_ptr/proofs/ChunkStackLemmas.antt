@@ -32,7 +32,7 @@ module _ {E : Type 0} (s : ChunkStack E) (i : ℕ) (e : E) where
 module _ {E : Type 0} (s : ChunkStack E) where
   -- The block of an item exists.
   pub within : (i : ℕ) → i < s.len → i / 64 < vec_len s.blocks
-  within i inside = let within_capacity = filled_capacity s.blocks.items s.len s.filled in omega (arith, inside, within_capacity, s.blocks.ok.0)
+  within i inside = let capacity_is = filled_capacity s.blocks.items s.len s.filled in omega (arith, inside, capacity_is, s.blocks.ok.0)
 
   -- No item is beyond the length.
   pub past : (i : ℕ) → s.len ≤ i → slice_get (items_in s.blocks.items) i ≡ None
@@ -41,11 +41,11 @@ module _ {E : Type 0} (s : ChunkStack E) where
   -- The invariant holds after an empty block is appended, or none.
   pub more_blocks : (block : Vec E Global) (done : Bool) (blocks : List (Vec E Global)) → blocks ≡ (if done then s.blocks.items ++ block ∷ [] else s.blocks.items) → block.items ≡ [] → 64 ≤ vec_capacity block
       → 64 * length s.blocks.items + 65 < 2 ^ 64 → AreFilled blocks s.len × (64 * length blocks + 1 < 2 ^ 64)
-  more_blocks block true blocks is none within_capacity few = (
-    subst (λ (bs : List (Vec E Global)). AreFilled bs s.len) (sym is) (more_in block s.blocks.items s.len none within_capacity s.filled).1,
+  more_blocks block true blocks is none capacity_is few = (
+    subst (λ (bs : List (Vec E Global)). AreFilled bs s.len) (sym is) (more_in block s.blocks.items s.len none capacity_is s.filled).1,
     (let long = ap length is ∙ length-append s.blocks.items (block ∷ []) in omega (arith, long, few)),
   )
-  more_blocks block false blocks is none within_capacity few = (
+  more_blocks block false blocks is none capacity_is few = (
     subst (λ (bs : List (Vec E Global)). AreFilled bs s.len) (sym is) s.filled,
     subst (λ (bs : List (Vec E Global)). 64 * length bs + 1 < 2 ^ 64) (sym is) s.fits,
   )
@@ -75,16 +75,16 @@ module _ {E : Type 0} (s : ChunkStack E) where
       still_fits = subst (λ (k : ℕ). 64 * k + 1 < 2 ^ 64) (sym (length-set s.blocks.items (i / 64) other)) s.fits
 
       pub written_filled : (e : E) → other.items ≡ slice_set block.items (i % 64) e → vec_capacity other ≡ vec_capacity block → AreFilled (slice_set s.blocks.items (i / 64) other) s.len
-      written_filled e made within_capacity = (set_in other e s.blocks.items s.len (i / 64) (i % 64) block (omega arith) s.filled found made within_capacity).1
+      written_filled e made capacity_is = (set_in other e s.blocks.items s.len (i / 64) (i % 64) block (omega arith) s.filled found made capacity_is).1
 
       -- Appending an item to its block, or removing the last one.
       pub pushed : (e : E) → i ≡ s.len → other.items ≡ block.items ++ e ∷ [] → vec_capacity other ≡ vec_capacity block
           → (items_in (slice_set s.blocks.items (i / 64) other) ≡ items_in s.blocks.items ++ e ∷ []) × AreFilled (slice_set s.blocks.items (i / 64) other) (s.len + 1)
-      pushed e at made within_capacity = push_in other e s.blocks.items s.len (i / 64) (i % 64) block (omega arith) (omega (arith, at)) s.filled found made within_capacity
+      pushed e at made capacity_is = push_in other e s.blocks.items s.len (i / 64) (i % 64) block (omega arith) (omega (arith, at)) s.filled found made capacity_is
 
       pub popped : i + 1 ≡ s.len → other.items ≡ take (i % 64) block.items → vec_capacity other ≡ vec_capacity block
           → (items_in (slice_set s.blocks.items (i / 64) other) ≡ take i (items_in s.blocks.items)) × AreFilled (slice_set s.blocks.items (i / 64) other) i
-      popped at made within_capacity = pop_in other s.blocks.items i (i / 64) (i % 64) block (omega arith) (omega arith) (subst (AreFilled s.blocks.items) (sym at) s.filled) found made within_capacity
+      popped at made capacity_is = pop_in other s.blocks.items i (i / 64) (i % 64) block (omega arith) (omega arith) (subst (AreFilled s.blocks.items) (sym at) s.filled) found made capacity_is
 
     -- Writing a lent item gives `with_item_at`.
     pub same_written : (e : E) (filled : AreFilled (blocks_with s i e block).items s.len) (fits : 64 * length (blocks_with s i e block).items + 1 < 2 ^ 64) → made s i e block filled fits ≡ with_item_at s i e

@@ -49,10 +49,10 @@ module _ {E : Type 0} where
     pub set_in : (blocks : List (Vec E Global)) (n q r : ℕ) (block : Vec E Global) → r < 64 → AreFilled blocks n → slice_get blocks q ≡ Some block
         → other.items ≡ slice_set block.items r e → vec_capacity other ≡ vec_capacity block
         → (items_in (slice_set blocks q other) ≡ slice_set (items_in blocks) (64 * q + r) e) × AreFilled (slice_set blocks q other) n
-    set_in [] n q r block small filled is made within_capacity = cc
-    set_in (b ∷ blocks) n zero r block small filled is made within_capacity = (
+    set_in [] n q r block small filled is made fits = cc
+    set_in (b ∷ blocks) n zero r block small filled is made fits = (
       ap (λ (xs : List E). xs ++ items_in blocks) items ∙ (by (cases_lt r (length b.items)) ∙ ap (λ (k : ℕ). slice_set (b.items ++ items_in blocks) k e) at),
-      (ap length items ∙ (length-set b.items r e ∙ filled.0), (subst (λ (k : ℕ). 64 ≤ k) (sym (within_capacity ∙ ap vec_capacity same)) filled.1.0, filled.1.1)),
+      (ap length items ∙ (length-set b.items r e ∙ filled.0), (subst (λ (k : ℕ). 64 ≤ k) (sym (fits ∙ ap vec_capacity same)) filled.1.0, filled.1.1)),
     )
       where
         same : block ≡ b
@@ -72,8 +72,8 @@ module _ {E : Type 0} where
         by (inr past) =
             let whole = length-append b.items (items_in blocks) in
             ap (λ (xs : List E). xs ++ items_in blocks) (set_past b.items r e past) ∙ sym (set_past (b.items ++ items_in blocks) r e (omega (arith, past, whole, rest, filled.0, small)))
-    set_in (b ∷ blocks) n (suc q) r block small filled is made within_capacity =
-        let behind = set_in blocks (n - 64) q r block small filled.1.1 is made within_capacity in
+    set_in (b ∷ blocks) n (suc q) r block small filled is made fits =
+        let behind = set_in blocks (n - 64) q r block small filled.1.1 is made fits in
         (ap (λ (xs : List E). b.items ++ xs) behind.0 ∙ by (cases_lt n 64), (filled.0, (filled.1.0, behind.1)))
       where
         rest : length (items_in blocks) ≡ n - 64
@@ -90,4 +90,4 @@ module _ {E : Type 0} where
 
   -- There are at most as many items as slots.
   pub blocks_have_capacity : (blocks : List (Vec E Global)) (n : ℕ) → AreFilled blocks n → length (items_in blocks) ≤ 64 * length blocks
-  blocks_have_capacity blocks n filled = let long = length-items_in blocks n filled in let within_capacity = filled_capacity blocks n filled in omega (arith, long, within_capacity)
+  blocks_have_capacity blocks n filled = let long = length-items_in blocks n filled in let fits = filled_capacity blocks n filled in omega (arith, long, fits)

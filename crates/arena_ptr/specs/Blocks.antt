@@ -20,9 +20,9 @@ module _ {E : Type 0} where
   AreFilled-prop [] n = Coded-set coded_ℕ n 0
   AreFilled-prop (block ∷ blocks) n =
       let full : IsProp (length block.items ≡ min n 64) = Coded-set coded_ℕ (length block.items) (min n 64) in
-      let within_capacity : IsProp (64 ≤ vec_capacity block) = le_prop in
+      let capacity_is : IsProp (64 ≤ vec_capacity block) = le_prop in
       let rest : IsProp (AreFilled blocks (n - 64)) = AreFilled-prop blocks (n - 64) in
-      ×_prop full (×_prop within_capacity rest)
+      ×_prop full (×_prop capacity_is rest)
 
 -- The number of slots in the blocks that `n` items need.
 abbrev pub slots_for : ℕ → ℕ

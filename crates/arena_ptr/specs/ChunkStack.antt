@@ -32,7 +32,7 @@ module _ {E : Type 0} where
       at = omega arith
 
       by : (found : Option (Vec E Global)) (is : slice_get s.blocks.items (i / 64) ≡ found) → items_in (with_item_in s i e found is).blocks.items ≡ slice_set (items_in s.blocks.items) i e
-      by None is = sym (set_past (items_in s.blocks.items) i e (let long = length-items_in s.blocks.items s.len s.filled in let within_capacity = filled_capacity s.blocks.items s.len s.filled in let past = beyond s.blocks.items (i / 64) is in omega (arith, long, within_capacity, past)))
+      by None is = sym (set_past (items_in s.blocks.items) i e (let long = length-items_in s.blocks.items s.len s.filled in let capacity_is = filled_capacity s.blocks.items s.len s.filled in let past = beyond s.blocks.items (i / 64) is in omega (arith, long, capacity_is, past)))
         where
           beyond : (blocks : List (Vec E Global)) (q : ℕ) → slice_get blocks q ≡ None → length blocks ≤ q
           beyond [] q none = omega arith

@@ -30,7 +30,7 @@ pub struct ChunkStack<E> {
 // Allocates an empty block.
 fn new_block<E: Drop>(alloc: Global) -> Result<Vec<E>, AllocError>
     ensures items { IfOk result (λ block. block.items ≡ []) }
-    ensures within_capacity { IfOk result (λ block. 64 ≤ vec_capacity block) }
+    ensures capacity { IfOk result (λ block. 64 ≤ vec_capacity block) }
 {
     let mut block = Vec::new(alloc);
     block.reserve_exact(SLOTS)?;
@@ -119,7 +119,7 @@ impl<E: Drop> ChunkStack<E> {
     // Frees empty blocks until `count` blocks are left.
     fn drop_blocks(&mut self, count: usize)
         requires few { count ≤ length self.old.blocks.items }
-        requires within_capacity { self.old.len ≤ 64 * count }
+        requires capacity { self.old.len ≤ 64 * count }
         ensures items { items_in self.new.blocks.items ≡ items_in self.old.blocks.items }
         ensures blocks { length self.new.blocks.items ≡ count }
     {

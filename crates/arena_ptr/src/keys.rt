@@ -104,8 +104,8 @@ pub trait GenKey: Copy {
 /// pointer.
 ///
 /// Each `Ptr` implements it by its functions of the same names. Not in `triple_arena`: it is `Ptr`
-/// with `is_same` for `==`, without order, hash and texts. Implement `Ptr` for a pointer type; generic
-/// code requires `P: PtrKey`, or `P: Ptr` to order, hash or format pointers.
+/// with `is_same` for `==`, without order, hash and texts. Implement `Ptr` for a pointer type;
+/// generic code requires `P: PtrKey`, or `P: Ptr` to order, hash or format pointers.
 pub trait PtrKey: Copy {
     /// The type of the index.
     type Inx: InxKey;

@@ -58,7 +58,7 @@ pub trait SlotStack: Drop {
     /// # Errors
     ///
     /// - `BeyondMaxCapacity`: `n` is above the maximum.
-    /// - `AllocError`: memory was refused.
+    /// - `AllocError`: an allocation failed.
     ///
     /// Nothing changes on error.
     fn reserve_to(&mut self, n: usize) -> Result<(), ReallocationError>

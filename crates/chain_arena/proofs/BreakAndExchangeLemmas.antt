@@ -13,7 +13,7 @@ use Rattle.arena_base.specs.Arena.{Arena}
 use Rattle.chain_links.specs.ChainArena.{LinkView, link_map, values_of, relinked, IsCut, IsExchange}
 use Rattle.chain_linking.proofs.LinkWriteLemmas.{FitsLinks-twice, link_map-relinked, values_of-relinked}
 
--- what holds of a known index
+-- What holds of a known index.
 pub at_known : (F : ℕ → Type 0) (o : Option ℕ) (n : ℕ) → o ≡ Some n → F n → IfSome o F
 at_known F o n is holds = subst (λ x. IfSome x F) (sym is) holds
 
@@ -38,7 +38,7 @@ module _ {Gen T : Type 0} (a b : Arena Gen (LinkView T)) where
     pub cut_known : AreNeighbors (link_map a) i j → IsCut a b i j
     cut_known pair = record {
       state = is;
-      reports = cut_reports;
+      links = cut_reports;
       pair = subst (λ (m : LinkMap). TakesPair (link_map a) m i j) (sym cut_reports) (cut_takes_a_pair (link_map a) i j pair);
       chains = subst (λ (m : LinkMap). Cuts (link_map a) m i j) (sym cut_reports) (cut_cuts (link_map a) i j);
     }
@@ -56,7 +56,7 @@ module _ {Gen T : Type 0} (a b : Arena Gen (LinkView T)) where
     pub exchange_known : IsWellLinked (link_map a) → HasLink (link_map a) p → HasLink (link_map a) q → IsExchange a b p q
     exchange_known agrees first second = record {
       state = is;
-      reports = exchange_reports;
+      links = exchange_reports;
       pairs = subst (λ (m : LinkMap). ExchangesPairs (link_map a) m p q) (sym exchange_reports) (exchanged_in_pairs (link_map a) p q agrees first second);
       chains = subst (λ (m : LinkMap). Exchanges (link_map a) m p q) (sym exchange_reports) (exchanged_exchanges (link_map a) p q agrees first second);
     }

@@ -1,4 +1,4 @@
--- Calls made one after another are a run of the chain machine.
+-- Calls made one after another are a run.
 use Rattle.std.proofs.Common.{◌≡◌, List, [], ◌∷◌, ◌++◌, length, refl, sym, ap, ◌∙◌, subst, arith, append_assoc, append-nil}
 use Rattle.chain_arena.specs.Effects.{Links}
 use Rattle.chain_arena.specs.PointerKinds.{PointerKind}
@@ -7,7 +7,7 @@ use Rattle.chain_arena.specs.declared.calls.Call.{Call}
 use Rattle.chain_arena.specs.declared.calls.Reply.{Reply}
 
 module _ {P T I Gen W : Type 0} (pointers : PointerKind P I Gen W) where
-  -- one more step
+  -- One more step.
   pub run_more : (old between new : Links Gen T) (calls : List (Call P T I Gen W)) (replies : List (Reply P T I Gen W)) (call : Call P T I Gen W) (reply : Reply P T I Gen W)
       → Run pointers old calls replies between → Step pointers between call reply new
       → Run pointers old (calls ++ call ∷ []) (replies ++ reply ∷ []) new
@@ -16,17 +16,17 @@ module _ {P T I Gen W : Type 0} (pointers : PointerKind P I Gen W) where
   run_more old between new (c ∷ calls) [] call reply run step = absurd run
   run_more old between new (c ∷ calls) (r ∷ replies) call reply run step = (run.0, run.1, run_more run.0 between new calls replies call reply run.2 step)
 
-  -- the calls made so far, with their replies, and the remaining ones
+  -- The calls made so far, with their replies, and the remaining ones.
   pub record IsUnderWay (old now : Links Gen T) (all left : List (Call P T I Gen W)) (replies : List (Reply P T I Gen W)) : Type 0 where
     pub made : List (Call P T I Gen W)
     pub calls : all ≡ made ++ left
     pub run : Run pointers old made replies now
 
-  -- no call is made yet
+  -- No call is made yet.
   pub under_way_first : (old : Links Gen T) (all left : List (Call P T I Gen W)) (replies : List (Reply P T I Gen W)) → left ≡ all → replies ≡ [] → IsUnderWay old old all left replies
   under_way_first old all left replies same none = record { made = []; calls = sym same; run = subst (λ r. Run pointers old [] r old) (sym none) refl }
 
-  -- one more call is made
+  -- One more call is made.
   pub under_way_more : (old between new : Links Gen T) (all left rest : List (Call P T I Gen W)) (replies more : List (Reply P T I Gen W)) (call : Call P T I Gen W) (reply : Reply P T I Gen W)
       → IsUnderWay old between all left replies → left ≡ call ∷ rest → Step pointers between call reply new → more ≡ replies ++ reply ∷ [] → IsUnderWay old new all rest more
   under_way_more old between new all left rest replies more call reply under_way next step is = record {
@@ -35,7 +35,7 @@ module _ {P T I Gen W : Type 0} (pointers : PointerKind P I Gen W) where
     run = subst (λ r. Run pointers old (under_way.made ++ call ∷ []) r new) (sym is) (run_more old between new under_way.made replies call reply under_way.run step);
   }
 
-  -- no call remains
+  -- No call remains.
   pub under_way_last : (old new : Links Gen T) (all left : List (Call P T I Gen W)) (replies : List (Reply P T I Gen W)) → IsUnderWay old new all left replies → length left ≡ 0 → Run pointers old all replies new
   under_way_last old new all left replies under_way none =
       subst (λ l. Run pointers old l replies new) (sym (under_way.calls ∙ (ap (λ l. under_way.made ++ l) (by left none) ∙ append-nil under_way.made))) under_way.run

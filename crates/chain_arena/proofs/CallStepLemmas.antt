@@ -1,4 +1,4 @@
--- The calls are steps of the chain machine.
+-- Each call is a step.
 use Rattle.std.proofs.Common.{◌≡◌, ◌≢◌, ◌↔◌, ◌⊎◌, inl, inr, ℕ, ◌+◌, ◌<◌, ◌≤◌, Bool, true, false, List, length, min, Option, None, Some, Result, Ok, Err, OnOk, OnErr, refl, sym, ap, ap₂, ◌∙◌, ⊎_elim, subst, arith}
 use Rattle.std.specs.Prelude.{is_some, IsSome, IsTrue, IsOk, IfOk, IfErr, IfSome, OnSome, IfNone}
 use Rattle.std.specs.Option.{option_map}
@@ -35,7 +35,7 @@ use Rattle.chain_arena.proofs.NewLinkLemmas.{ReturnsInsertion}
 use Rattle.chain_arena.proofs.ChainDrainLemmas.{link_map-without_each, link_at-entry}
 use Rattle.chain_links.proofs.MappedArenaLemmas.{entry_at-with_each}
 
--- a call that is done exactly if it can be
+-- A call that is done exactly if it can be.
 done_is : (P : Bool → Type 0) {Can Done Same : Type 0} → (Can → Done → P true) → ((Can → ⊥) → Same → P false) → (r : Option Unit) → IsSome r ↔ Can → OnSome r Done → IfNone r Same → P (is_some r)
 done_is P made not_made (Some u) some done none = made (some.0 refl) done
 done_is P made not_made None some done none = not_made (λ can. false≢true (some.1 can)) none
@@ -45,11 +45,11 @@ pub done_step : (P : Bool → Type 0) {Can Done Same : Type 0} → (Can → Done
 done_step P made not_made r b some done none is = subst P (sym is) (done_is P made not_made r some done none)
 
 module _ {Gen T : Type 0} (old new : Links Gen T) where
-  -- a join
+  -- A join.
   pub joins : (p q : ℕ × Gen) (r : Option Unit) (b : Bool) → IsSome r ↔ CanConnect (entry old) (link_map old) p q → OnSome r (IsJoin old new p.0 q.0) → IfNone r (new ≡ old) → b ≡ is_some r → ConnectStep old p q b new
   joins p q r b some state none is = done_step (λ b. ConnectStep old p q b new) (λ can made. (can, made)) (λ no same. (no, same)) r b some state none is
 
-  -- a cut from the previous link
+  -- A cut from the previous link.
   pub breaks_prev : (p : ℕ × Gen) (r : Option Unit) (b : Bool) → IsSome r ↔ (IsValid (entry old) p × IsSome (prev_of (link_map old) p.0)) → OnSome r (IfSome (prev_of (link_map old) p.0) (λ a. IsCut old new a p.0))
       → IfNone r (new ≡ old) → b ≡ is_some r → BreakPrevStep old p b new
   breaks_prev p r b some state none is = done_step (λ b. BreakPrevStep old p b new) (made (prev_of (link_map old) p.0) refl) (not_made (prev_of (link_map old) p.0) refl) r b some state none is
@@ -62,7 +62,7 @@ module _ {Gen T : Type 0} (old new : Links Gen T) where
       not_made None at cannot same = (λ valid. at, same)
       not_made (Some a) at cannot same = (λ valid. absurd (cannot (valid, ap (λ (o : Option ℕ). is_some o) at)), same)
 
-  -- a cut from the next link
+  -- A cut from the next link.
   pub breaks_next : (p : ℕ × Gen) (r : Option Unit) (b : Bool) → IsSome r ↔ (IsValid (entry old) p × IsSome (next_of (link_map old) p.0)) → OnSome r (IfSome (next_of (link_map old) p.0) (λ c. IsCut old new p.0 c))
       → IfNone r (new ≡ old) → b ≡ is_some r → BreakNextStep old p b new
   breaks_next p r b some state none is = done_step (λ b. BreakNextStep old p b new) (made (next_of (link_map old) p.0) refl) (not_made (next_of (link_map old) p.0) refl) r b some state none is
@@ -75,7 +75,7 @@ module _ {Gen T : Type 0} (old new : Links Gen T) where
       not_made None at cannot same = (λ valid. at, same)
       not_made (Some c) at cannot same = (λ valid. absurd (cannot (valid, ap (λ (o : Option ℕ). is_some o) at)), same)
 
-  -- an exchange
+  -- An exchange.
   pub exchanges : (p q : ℕ × Gen) (r : Option Unit) (b : Bool) → IsSome r ↔ CanExchange (entry old) (link_map old) p q → OnSome r (IsExchange old new p.0 q.0) → IfNone r (new ≡ old) → b ≡ is_some r → ExchangeStep old p q b new
   exchanges p q r b some state none is = done_step (λ b. ExchangeStep old p q b new) (λ can made. (can, made)) (λ no same. (no, same)) r b some state none is
 
@@ -87,7 +87,7 @@ overflowed : {A : Type 0} (b : Bool) (x : A) → GenerationOverflow x ≡ invali
 overflowed true x known = refl
 overflowed false x known = absurd (let h = known in cc)
 
--- a result reports what was done, or else that nothing was
+-- A result reports what was done, or else that nothing was.
 pub states : {X : Type 0} {Can Invalid : Type 0} (Done : X → Type 0) (overflow : Bool) (r : InvalidationResult X) → Can ⊎ (Can → ⊥) → r ≡ invalidation_result overflow (value_within r)
     → (Can → IsSome (value_within r)) → (Can → (x : X) → value_within r ≡ Some x → Done x) → ((Can → ⊥) → (value_within r ≡ None) × Invalid) → ReportsOverflow Invalid overflow Done r
 states Done overflow (Success x) can known some done invalid = ⊎_elim (λ is. (not_overflowed overflow x known, done is x refl)) (λ no. absurd (let h = (invalid no).0 in cc)) can
@@ -95,7 +95,7 @@ states Done overflow (GenerationOverflow x) can known some done invalid = ⊎_el
 states Done overflow InvalidPtr can known some done invalid = ⊎_elim (λ is. absurd (false≢true (some is))) (λ no. (invalid no).1) can
 
 module _ {Gen T : Type 0} where
-  -- a drain that took some links from a pointer's link on, and then the rest
+  -- A drain that took some links from a pointer's link on, and then the rest.
   pub drained_is : (following : Gen → Gen) (old held new : Links Gen T) (p : ℕ × Gen) (at take count : ℕ) → held ≡ old → at ≡ p.0 → IsValid (entry old) p → IsWalk (link_map old) p.0 (walk_left old p.0)
       → count ≡ min take (length (walk_left held at)) → new ≡ without_each following held (walk_left held at) → IsDrained following old p take count new
   drained_is following old held new p at take count same was_stored valid is_walk counted gone =
@@ -112,7 +112,7 @@ module _ {Gen T : Type 0} where
       }
 
 module _ {P I Gen W T : Type 0} (pointers : PointerKind P I Gen W) where
-  -- a growth to a given capacity
+  -- A growth to a given capacity.
   pub reserves : (n : ℕ) (old new : Links Gen T) (r : Result Unit ReallocationError) → (n ≤ old.capacity → IsOk r × (new ≡ old)) → (r ≡ Err refused.BeyondMaxCapacity) ↔ IsBeyond old.maximum n
       → OnOk r (IsCapacityFor pointers.greatest new.maximum n new.capacity) → OnErr r (new ≡ old) → new ≡ with_capacity_of old new → HasCapacityFor pointers.greatest (length new.slots) new → ReserveStep pointers old n r new
   reserves n old new (Ok done) within beyond ok err state within_capacity =
@@ -134,7 +134,7 @@ module _ {P I Gen W T : Type 0} (pointers : PointerKind P I Gen W) (old new : Li
   abbrev IsReturned : Result P ChainInsertionError → Type 0
   IsReturned = ReturnsInsertion pointers.key pointers.number old kind t new
 
-  -- a kind that is not refused for its links may be inserted
+  -- A kind that is not refused for its links may be inserted.
   may : (r : Result P ChainInsertionError) → (r ≡ Err failed.FailedLinkRequirement) ↔ (MayInsertKind pointers old kind → ⊥) → (r ≡ Err failed.FailedLinkRequirement → ⊥) → MayInsertKind pointers old kind
   may r link other = decides (λ no. other (link.1 no))
 
@@ -146,11 +146,11 @@ module _ {P I Gen W T : Type 0} (pointers : PointerKind P I Gen W) (old new : Li
     chains = subst (λ q. Inserts (link_map old) (link_map new) q (link_before (link_map old) by q) (link_after (link_map old) by q)) place inserted.chains;
   }
 
-  -- in an arena without free capacity, one more link exceeds the capacity
+  -- In an arena without free capacity, one more link exceeds the capacity.
   is_full : (more : Type 0) → (HasFreeCapacity (value_view old) → IsTrue false × more) → old.capacity < entry_count old + 1
   is_full more within_capacity = let none : HasFreeCapacity (value_view old) → ⊥ = (λ left. false≢true (within_capacity left).0) in omega (arith, none, values-count old)
 
-  -- an insertion that may grow
+  -- An insertion that may grow.
   pub inserts_growing : (r : Result P ChainInsertionError) (more : Type 0) → IsReturned r → OnErr r (new ≡ old) → (r ≡ Err failed.FailedLinkRequirement) ↔ (MayInsertKind pointers old kind → ⊥)
       → IfErr r (λ e. e ≢ failed.NotWithinCapacity) → (MayInsertKind pointers old kind → HasFreeCapacity (value_view old) → IsOk r × more)
       → (r ≡ Err failed.BeyondMaxCapacity) ↔ (MayInsertKind pointers old kind × NeedsBeyondMaximum (value_view old))
@@ -178,7 +178,7 @@ module _ {P I Gen W T : Type 0} (pointers : PointerKind P I Gen W) (old new : Li
       let past = beyond.0 refl in
       (past.0, (is_full more (within_capacity past.0), subst (λ n. IsBeyond old.maximum (n + 1)) (values-count old) past.1.1), same)
 
-  -- an insertion within the capacity
+  -- An insertion within the capacity.
   pub inserts_within : (r : Result P ChainInsertionError) → IsReturned r → OnErr r (new ≡ old) → (r ≡ Err failed.FailedLinkRequirement) ↔ (MayInsertKind pointers old kind → ⊥)
       → (r ≡ Err failed.NotWithinCapacity) ↔ (MayInsertKind pointers old kind × (count (value_view old) ≡ old.capacity)) → IfErr r (λ e. (e ≡ failed.FailedLinkRequirement) ⊎ (e ≡ failed.NotWithinCapacity))
       → IfOk r (λ p. (pointers.key p).0 ≡ next_index old) → OnOk r (new ≡ insert_as old by t) → InsertWithinStep pointers old kind t r new
@@ -197,7 +197,7 @@ module _ {P I Gen W T : Type 0} (pointers : PointerKind P I Gen W) (old new : Li
   inserts_within (Err failed.BeyondMaxCapacity) inserted same link full error place state = ⊎_elim (λ is. let h = is in absurd (cc)) (λ is. let h = is in absurd (cc)) error
 
 module _ {P I Gen W T : Type 0} (pointers : PointerKind P I Gen W) (old new : Links Gen T) where
-  -- there is a link where there is a value
+  -- There is a link where there is a value.
   some_link : (i : ℕ) (e : Gen × T) → entry old i ≡ Some e → is_some (entry_at old i) ≡ true
   some_link i e stored = by (entry_at old i) (sym (entry_at-with_each link_value old i) ∙ stored)
     where
@@ -205,7 +205,7 @@ module _ {P I Gen W T : Type 0} (pointers : PointerKind P I Gen W) (old new : Li
       by None is = absurd (none-some e is)
       by (Some f) is = refl
 
-  -- a removal by pointer
+  -- A removal by pointer.
   pub removes_link : (p : ℕ × Gen) (r : InvalidationResult (LinkBody (PackedOption I W) T)) → IsValid (entry old) p ⊎ (IsValid (entry old) p → ⊥)
       → (IsValid (entry old) p → option_map (λ (link : LinkBody (PackedOption I W) T). (p.1, link_view pointers.packed link)) (value_within r) ≡ link_at (entry old) (link_map old) p.0)
       → (IsValid (entry old) p → IsRemoval pointers.following old p.0 new) → r ≡ invalidation_result (pointers.wraps old.counter) (value_within r)
@@ -223,7 +223,7 @@ module _ {P I Gen W T : Type 0} (pointers : PointerKind P I Gen W) (old new : Li
       responses None same stored = sym same ∙ stored
       responses (Some l) same stored = refl
 
-  -- a removal by index
+  -- A removal by index.
   pub removes_inx : (i : ℕ) (r : InvalidationResult (Gen × LinkBody (PackedOption I W) T)) → option_map (on_value (link_view pointers.packed)) (value_within r) ≡ link_at (entry old) (link_map old) i
       → (IsSome (entry old i) → IsRemoval pointers.following old i new) → r ≡ invalidation_result (pointers.wraps old.counter) (value_within r) → (entry old i ≡ None → new ≡ old)
       → RemoveInxStep pointers old i r new
@@ -240,7 +240,7 @@ module _ {P I Gen W T : Type 0} (pointers : PointerKind P I Gen W) (old new : Li
       by (Some e) is = states {Can = Unit {0}} (λ e. IsTaken pointers old i e.0 e.1 new) (pointers.wraps old.counter) r (inl tt) overflow (λ _. ap is_some is)
           (λ _ f now. record { was_stored = was_stored (Some f) now; removal = removal (ap is_some (held (Some e) is)) }) (λ no. absurd (no tt))
 
-  -- a new generation for a link
+  -- A new generation for a link.
   pub renews_link : (p : ℕ × Gen) (r : InvalidationResult P) → IsValid (entry old) p ⊎ (IsValid (entry old) p → ⊥)
       → (IsValid (entry old) p → IfSome (value_within r) (λ q. ((pointers.key q).0 ≡ p.0) × (value_view new ≡ renewed (value_view old) (pointers.key q))) × IsSome (value_within r))
       → (r ≡ invalidation_result (pointers.wraps old.counter) (value_within r)) × IfSome (value_within r) (λ q. (pointers.key q).1 ≡ pointers.following old.counter)
@@ -250,12 +250,12 @@ module _ {P I Gen W T : Type 0} (pointers : PointerKind P I Gen W) (old new : Li
       (λ is q at. (is, ap₂ (λ (i : ℕ) (g : Gen). (i, g)) (subst (λ o. IfSome o (λ q. ((pointers.key q).0 ≡ p.0) × (value_view new ≡ renewed (value_view old) (pointers.key q)))) at (valid is).0).0 (subst (λ o. IfSome o (λ q. (pointers.key q).1 ≡ pointers.following old.counter)) at counter.1), (state is).0, (state is).1))
       (λ no. ((invalid no).0, (no, (invalid no).1)))
 
--- a clear's overflow, by the number of links in place of entries
+-- A clear's overflow, by the number of links in place of entries.
 pub clears_all : {Gen T : Type 0} (wraps : Gen → Bool) (old : Links Gen T) (r : InvalidationOption Unit) → r ≡ invalidation_option (overflows_after_clear wraps (length (value_view old).entries) old.counter) tt
     → r ≡ invalidation_option (overflows_after_clear wraps (entry_count old) old.counter) tt
 clears_all wraps old r known = known ∙ ap (λ n. invalidation_option (overflows_after_clear wraps n old.counter) tt) (values-count old)
 
--- a compression's overflow, by the number of links in place of entries
+-- A compression's overflow, by the number of links in place of entries.
 pub compresses : {Gen T : Type 0} (wraps : Gen → Bool) (old : Links Gen T) (reset : Bool) (r : InvalidationOption Unit) → r ≡ invalidation_option (overflows_after_compression wraps reset (length (value_view old).entries) old.counter) tt
     → r ≡ invalidation_option (overflows_after_compression wraps reset (entry_count old) old.counter) tt
 compresses wraps old reset r known = known ∙ ap (λ n. invalidation_option (overflows_after_compression wraps reset n old.counter) tt) (values-count old)

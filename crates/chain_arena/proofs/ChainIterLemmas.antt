@@ -15,7 +15,7 @@ use Rattle.chain_links.specs.ChainArena.{LinkView, interlinks_of, link_map, IsWa
 use Rattle.chain_links.specs.Walkers.{links_at, links_ahead}
 use Rattle.chain_links.proofs.ArenaInsertionLemmas.{link_map-within, some_entry}
 
--- the indexes of the entries, counted from k
+-- The indexes of the entries, counted from k.
 abbrev taken : {X : Type 0} → ℕ → List (Option X) → List ℕ
 taken k [] = []
 taken k (None ∷ slots) = taken (suc k) slots
@@ -34,22 +34,22 @@ IsMember-taken k x (suc j) (None ∷ slots) e at stored = IsMember-taken (suc k)
 IsMember-taken k x (suc j) (Some f ∷ slots) e at stored = inr (IsMember-taken (suc k) x j slots e (omega (arith, at)) stored)
 
 module _ {Gen T : Type 0} where
-  -- there are no more distinct valid indexes than entries
+  -- There are no more distinct valid indexes than entries.
   pub length-le_entries : (a : Arena Gen (LinkView T)) (xs : List ℕ) → AreDistinct xs → ((x : ℕ) → IsMember xs x → HasLink (link_map a) x) → length xs ≤ entry_count a
   length-le_entries a xs once valid = subst (λ n. length xs ≤ n) (length-taken 1 a.slots) (length_among xs (taken 1 a.slots) once (λ x has. place x (valid x has))) where
     place : (x : ℕ) → HasLink (link_map a) x → IsMember (taken 1 a.slots) x
-    place zero valid_at = absurd (let h = valid_at.reports in cc)
-    place (suc j) valid_at = let entry = some_entry interlinks_of (slice_index_or a.slots j None) valid_at.link valid_at.reports in IsMember-taken 1 (suc j) j a.slots entry.0 (omega arith) entry.1
+    place zero valid_at = absurd (let h = valid_at.links in cc)
+    place (suc j) valid_at = let entry = some_entry interlinks_of (slice_index_or a.slots j None) valid_at.link valid_at.links in IsMember-taken 1 (suc j) j a.slots entry.0 (omega arith) entry.1
 
   links_at-entry : (a : Arena Gen (LinkView T)) (i : ℕ) (indexes : List ℕ) (e : Gen × LinkView T) → entry_at a i ≡ Some e → links_at a (i ∷ indexes) ≡ (i, e) ∷ links_at a indexes
   links_at-entry a i indexes e stored = ap (λ (o : Option (Gen × LinkView T)). let links : List (ℕ × (Gen × LinkView T)) = elim o [ None ↦ [] | Some f ↦ (i, f) ∷ links_at a indexes ] in links) stored
 
-  -- the links at valid indexes have these indexes
+  -- The links at valid indexes have these indexes.
   index-links_at : (a : Arena Gen (LinkView T)) (indexes : List ℕ) → ((j : ℕ) → IsMember indexes j → HasLink (link_map a) j) → map (λ (e : ℕ × (Gen × LinkView T)). e.0) (links_at a indexes) ≡ indexes
   index-links_at a [] valid = refl
   index-links_at a (i ∷ indexes) valid =
       let here = valid i (inl refl) in
-      let entry = some_entry interlinks_of (entry_at a i) here.link here.reports in
+      let entry = some_entry interlinks_of (entry_at a i) here.link here.links in
       ap (map (λ (e : ℕ × (Gen × LinkView T)). e.0)) (links_at-entry a i indexes entry.0 entry.1) ∙ ap (λ l. i ∷ l) (index-links_at a indexes (λ j has. valid j (inr has)))
 
   abbrev StoredAs : Arena Gen (LinkView T) → ℕ × (Gen × LinkView T) → Type 0
@@ -63,7 +63,7 @@ module _ {Gen T : Type 0} where
     by rest None stored = tt
     by rest (Some e) stored = (stored, rest)
 
-  -- a walker before a valid link passes its walk
+  -- A walker before a valid link passes its walk.
   pub links_ahead-walk : (a : Arena Gen (LinkView T)) (i : ℕ) → IsWellLinked (link_map a) → HasLink (link_map a) i → IsWalkOf a i (links_ahead a (entry_count a) i (Some i) (prev_of (link_map a) i))
   links_ahead-walk a i agrees valid =
       let walk = has_walk (link_map a) (length a.slots) i agrees (link_map-within a) valid in
@@ -74,12 +74,12 @@ module _ {Gen T : Type 0} where
         stored = All-from_recursion (StoredAs a) (links_at a walk.0) (links_at-are_stored a walk.0);
       })
 
-  -- a walk has at most as many links as the arena
+  -- A walk has at most as many links as the arena.
   pub length-walk : (a : Arena Gen (LinkView T)) (i : ℕ) (links : List (ℕ × (Gen × LinkView T))) → IsWalkOf a i links → length links ≤ entry_count a
   length-walk a i links is = subst (λ n. n ≤ entry_count a) (length-map links (λ (e : ℕ × (Gen × LinkView T)). e.0))
       (length-le_entries a (map (λ (e : ℕ × (Gen × LinkView T)). e.0) links) (walk_once (link_map a) i _ is.walk) (walk_valid (link_map a) i _ is.walk))
 
-  -- the same for a walker whose parts are known by equations
+  -- The same for a walker whose parts are known by equations.
   pub walker-walk : (a : Arena Gen (LinkView T)) (i left start : ℕ) (back : Option ℕ) (links : List (ℕ × (Gen × LinkView T))) → links ≡ links_ahead a left start (Some start) back
       → left ≡ entry_count a → start ≡ i → back ≡ prev_of (link_map a) i → IsWellLinked (link_map a) → HasLink (link_map a) i → IsWalkOf a i links
   walker-walk a i left start back links are same_left same_start same_back agrees valid =

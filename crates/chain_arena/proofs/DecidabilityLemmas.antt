@@ -32,11 +32,11 @@ stable-some None j given = absurd (given (λ is. none-some j is))
 stable-some (Some i) j given = ⊎_elim (λ same. ap Some same) (λ other. absurd (given (λ is. other (ap (index_or i) is)))) (cases_eq i j)
 
 stable-valid : (interlinks : LinkMap) (i : ℕ) (o : Option Interlinks) → interlinks i ≡ o → Stable (HasLink interlinks i)
-stable-valid interlinks i None is given = absurd (given (λ valid. none-some _ (sym is ∙ valid.reports)))
-stable-valid interlinks i (Some l) is given = record { link = l; reports = is }
+stable-valid interlinks i None is given = absurd (given (λ valid. none-some _ (sym is ∙ valid.links)))
+stable-valid interlinks i (Some l) is given = record { link = l; links = is }
 
 module _ {Gen T : Type 0} (eq : Gen → Gen → Bool) (law : (g h : Gen) → (eq g h ≡ true) ↔ (g ≡ h)) (a : Arena Gen (LinkView T)) where
-  -- a link has a name or not
+  -- A link has a name or not.
   named_or_not : (name : LinkName Gen) → HasName (entry a) name ⊎ (HasName (entry a) name → ⊥)
   named_or_not (i, Some g) = valid_or_not eq law (values_of a) (i, g)
   named_or_not (i, None) = by_option (entry a i)
@@ -51,7 +51,7 @@ module _ {Gen T : Type 0} (eq : Gen → Gen → Bool) (law : (g h : Gen) → (eq
   stable-link : (i : ℕ) → Stable (HasLink (link_map a) i)
   stable-link i = stable-valid (link_map a) i (link_map a i) refl
 
-  -- a link may be inserted if it is not so that it may not
+  -- A link may be inserted if it is not so that it may not.
   pub stable-insertion : (kind : InsertKind (LinkName Gen)) → Stable (MayInsert (entry a) (link_map a) kind)
   stable-insertion disconnected given = (tt, tt)
   stable-insertion single_link_cyclic given = (tt, tt)

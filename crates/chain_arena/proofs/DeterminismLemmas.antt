@@ -33,11 +33,11 @@ use Rattle.chain_links.proofs.MappedArenaLemmas.{entry_at-with_each}
 use Rattle.chain_arena.proofs.NewLinkLemmas.{not_beyond}
 use Rattle.chain_arena.proofs.TouchCountLemmas.{touch, compression_same, layout_same, step_touched, run_touched}
 
--- two things equal to a third are equal
+-- Two things equal to a third are equal.
 same : {A : Type 0} {x a b : A} → a ≡ x → b ≡ x → a ≡ b
 same one two = one ∙ sym two
 
--- two results are the same, and so are two states
+-- Two results are the same, and so are two states.
 abbrev Same : {R S : Type 0} → R → R → S → S → Type 0
 Same r s a b = (r ≡ s) × (a ≡ b)
 
@@ -45,7 +45,7 @@ same_but_touched : {Gen T : Type 0} (a b : Links Gen T) → a ≡ b → AreSameB
 same_but_touched {Gen} {T} a b is = is ∙ ap (λ (n : ℕ). touch n b) (sym (ap (λ (x : Links Gen T). x.touched) is))
 
 module _ {Gen T : Type 0} where
-  -- a sufficient capacity stays
+  -- A sufficient capacity stays.
   capacity_stays : (greatest n : ℕ) (old new : Links Gen T) → n ≤ old.capacity → GrowsToFit greatest n old new → HaveSameCapacity new old
   capacity_stays greatest n old new enough (stays within capacity stack_capacity) = (capacity, stack_capacity)
   capacity_stays greatest n old new enough (grown less within_capacity) = absurd (omega (arith, enough, less))
@@ -83,27 +83,27 @@ module _ {Gen T : Type 0} where
       let beside : one.1 ≡ two.1 = cc in
       (refl, one.3.state ∙ (ap (λ (i : ℕ). relinked old (without_pair (link_map old) p.0 i)) beside ∙ sym two.3.state))
 
-  -- arenas that are the same but for touches are so but for capacity and touches
+  -- Arenas that are the same but for touches are so but for capacity and touches.
   same_but_capacity : (a b : Links Gen T) → AreSameButTouched a b → AreSameButCapacityAndTouched a b
   same_but_capacity a b is =
       let capacity = sym (ap (λ (x : Links Gen T). x.capacity) is) in
       let stack_capacity = sym (ap (λ (x : Links Gen T). x.stack_capacity) is) in
       is ∙ ap₂ (λ (c d : ℕ). touch a.touched (record b { capacity = c; stack_capacity = d })) capacity stack_capacity
 
-  -- arenas that are the same but for capacity and touches, with the same capacity, are so but for
-  -- touches
+  -- Arenas that are the same but for capacity and touches, with the same capacity, are so but for
+  -- touches.
   same_with_capacity : (a b : Links Gen T) → HaveSameCapacity a b → AreSameButCapacityAndTouched a b → AreSameButTouched a b
   same_with_capacity a b within_capacity is = is ∙ ap₂ (λ (c d : ℕ). touch a.touched (record b { capacity = c; stack_capacity = d })) within_capacity.0 within_capacity.1
 
-  -- arenas that differ from one in capacity alone are the same but for capacity and touches
+  -- Arenas that differ from one in capacity alone are the same but for capacity and touches.
   both_but_capacity : (base a b : Links Gen T) → a ≡ with_capacity_of base a → b ≡ with_capacity_of base b → AreSameButCapacityAndTouched a b
   both_but_capacity base a b is_a is_b = same_but_touched a (with_capacity_of b a) (is_a ∙ sym (ap (λ (x : Links Gen T). with_capacity_of x a) is_b))
 
-  -- arenas equal to one are the same but for capacity and touches
+  -- Arenas equal to one are the same but for capacity and touches.
   kept_both : (old a b : Links Gen T) → a ≡ old → b ≡ old → AreSameButCapacityAndTouched a b
   kept_both old a b is_a is_b = same_but_capacity a b (same_but_touched a b (same is_a is_b))
 
-  -- an arena that has grown is within the maximum
+  -- An arena that has grown is within the maximum.
   made_within : (greatest n : ℕ) (old base new : Links Gen T) → base.maximum ≡ old.maximum → new ≡ with_capacity_of base new → GrowsToFit greatest n old new
       → Refuses n old refused.BeyondMaxCapacity → ⊥
   made_within greatest n old base new maximum is (stays within capacity stack_capacity) past = omega (arith, within, past.0)
@@ -111,19 +111,19 @@ module _ {Gen T : Type 0} where
       let most : new.maximum ≡ old.maximum = ap (λ (x : Links Gen T). x.maximum) is ∙ maximum in
       not_beyond old.maximum n new.capacity within_capacity.0.fits (subst (λ (o : Option ℕ). IsWithinMaximum o new.capacity) most within_capacity.0.within_maximum) past.1
 
-  -- an arena that has grown is within the greatest index
+  -- An arena that has grown is within the greatest index.
   made_up_to : (greatest n : ℕ) (old new : Links Gen T) → GrowsToFit greatest n old new → Refuses n old refused.AllocError → n ≤ greatest
-  made_up_to greatest n old new (stays within capacity stack_capacity) lacks = absurd (omega (arith, within, lacks.0))
-  made_up_to greatest n old new (grown less roomy) lacks = omega (arith, roomy.0.fits, roomy.0.at_most_greatest)
+  made_up_to greatest n old new (stays within capacity stack_capacity) absent = absurd (omega (arith, within, absent.0))
+  made_up_to greatest n old new (grown less roomy) absent = omega (arith, roomy.0.fits, roomy.0.at_most_greatest)
 
-  -- an arena that has grown has more capacity than before
+  -- An arena that has grown has more capacity than before.
   made_more : (greatest n : ℕ) (old new other : Links Gen T) → GrowsToFit greatest n old new → Refuses n old refused.AllocError → other ≡ old → HaveSameCapacity new other → ⊥
-  made_more greatest n old new other (stays within capacity stack_capacity) lacks is within_capacity = omega (arith, within, lacks.0)
-  made_more greatest n old new other (grown less roomy) lacks is within_capacity =
+  made_more greatest n old new other (stays within capacity stack_capacity) absent is within_capacity = omega (arith, within, absent.0)
+  made_more greatest n old new other (grown less roomy) absent is within_capacity =
       let kept = ap (λ (x : Links Gen T). x.capacity) is in
       omega (arith, kept, roomy.0.fits, within_capacity.0, less)
 
--- a result is determined
+-- A result is determined.
 states_same : {X Y S : Type 0} {No : Type 0} (see : X → Y) (Done : X → S → Type 0) (overflow : Bool) (old a b : S) (r s : InvalidationResult X) → ((x : X) (c : S) → Done x c → No → ⊥)
     → ((x y : X) → Done x a → Done y b → Same (see x) (see y) a b) → ReportsOverflow (No × (a ≡ old)) overflow (λ x. Done x a) r → ReportsOverflow (No × (b ≡ old)) overflow (λ x. Done x b) s → AreSameResults see r s × (a ≡ b)
 states_same see Done overflow old a b (Success x) (Success y) apart once one two = once x y one.1 two.1
@@ -136,7 +136,7 @@ states_same see Done overflow old a b (GenerationOverflow x) InvalidPtr apart on
 states_same see Done overflow old a b InvalidPtr (Success y) apart once one two = absurd (apart y b two.1 one.0)
 states_same see Done overflow old a b InvalidPtr (GenerationOverflow y) apart once one two = absurd (apart y b two.1 one.0)
 
--- two results are the same if their whole values are
+-- Two results are the same if their whole values are.
 same_known : {X : Type 0} (r s : InvalidationResult X) → AreSameResults (λ x. x) r s → r ≡ s
 same_known (Success x) (Success y) is = ap Success is
 same_known (GenerationOverflow x) (GenerationOverflow y) is = ap GenerationOverflow is
@@ -153,7 +153,7 @@ states_itself see (Success x) = refl
 states_itself see (GenerationOverflow x) = refl
 states_itself see InvalidPtr = tt
 
--- a reply is the same as itself
+-- A reply is the same as itself.
 reports_itself : {P T I Gen W : Type 0} (packed : PackedOption I W → Option ℕ) (r : Reply P T I Gen W) → AreSameReplies packed r r
 reports_itself packed (reply.Inserted returned) = refl
 reports_itself packed (reply.Done returned) = refl
@@ -166,14 +166,14 @@ reports_itself packed (reply.Reserved returned) = refl
 reports_itself packed reply.Set = refl
 
 module _ {P T I Gen W : Type 0} (pointers : PointerKind P I Gen W) (same_key : (p q : P) → pointers.key p ≡ pointers.key q → p ≡ q) where
-  -- replies are the same, and so are arenas but for touches
+  -- Replies are the same, and so are arenas but for touches.
   abbrev SameButTouched : Reply P T I Gen W → Reply P T I Gen W → Links Gen T → Links Gen T → Type 0
   SameButTouched r s a b = AreSameReplies pointers.packed r s × AreSameButTouched a b
 
   reports_same : (r s : Reply P T I Gen W) → r ≡ s → AreSameReplies pointers.packed r s
   reports_same r s is = subst (AreSameReplies pointers.packed r) is (reports_itself pointers.packed r)
 
-  -- an entry determines its generation and its link
+  -- An entry determines its generation and its link.
   same_entry : (old : Links Gen T) (n : ℕ) (g h : Gen) (k l : LinkBody (PackedOption I W) T) → entry_at old n ≡ Some (g, link_view pointers.packed k) → entry_at old n ≡ Some (h, link_view pointers.packed l) → pair_view pointers.packed (g, k) ≡ pair_view pointers.packed (h, l)
   same_entry old n g h k l one two =
       let both : Some (g, link_view pointers.packed k) ≡ Some (h, link_view pointers.packed l) = sym one ∙ two in
@@ -202,7 +202,7 @@ module _ {P T I Gen W : Type 0} (pointers : PointerKind P I Gen W) (same_key : (
   inserts_within_same old a b kind t r (Err failed.BeyondMaxCapacity) one two = absurd two
   inserts_within_same old a b kind t r (Err failed.AllocError) one two = absurd two
 
-  -- a drain is determined, since a walk is
+  -- A drain is determined, since a walk is.
   drains_same : (old a b : Links Gen T) (p : ℕ × Gen) (take : ℕ) (r s : Option ℕ) → DrainChainStep pointers old p take r a → DrainChainStep pointers old p take s b → Same r s a b
   drains_same old a b p take None None one two = (refl, same one.1 two.1)
   drains_same old a b p take None (Some k) one two = absurd (one.0 two.valid)
@@ -211,11 +211,11 @@ module _ {P T I Gen W : Type 0} (pointers : PointerKind P I Gen W) (same_key : (
       let walks = no_other_walk (link_map old) p.0 one.walk two.walk one.is_walk two.is_walk in
       (ap Some (one.counted ∙ (ap (λ (w : List ℕ). min take (length w)) walks ∙ sym two.counted)), one.state ∙ (ap (without_each pointers.following old) walks ∙ sym two.state))
 
-  -- two replies with the same result are the same
+  -- Two replies with the same result are the same.
   responded_same : {A : Type 0} (known : A → Reply P T I Gen W) (r s : Reply P T I Gen W) (x y : A) (a b : Links Gen T) → r ≡ known x → s ≡ known y → Same x y a b → SameButTouched r s a b
   responded_same known r s x y a b is_r is_s both = (reports_same r s (is_r ∙ (ap known both.0 ∙ sym is_s)), same_but_touched a b both.1)
 
-  -- two replies are the same, and the arenas are the same but for capacity and touches. Or memory
+  -- Two replies are the same, and the arenas are the same but for capacity and touches. Or memory
   -- for n links, at most `pointers.greatest`, was refused to one alone, and so the capacities
   -- differ.
   abbrev AlikeOrApart : ℕ → Reply P T I Gen W → Reply P T I Gen W → Links Gen T → Links Gen T → Type 0
@@ -261,11 +261,11 @@ module _ {P T I Gen W : Type 0} (pointers : PointerKind P I Gen W) (same_key : (
   responded_apart : {A : Type 0} (n : ℕ) (known : A → Reply P T I Gen W) (r s : Reply P T I Gen W) (x y : A) (a b : Links Gen T) → r ≡ known x → s ≡ known y → AlikeOrApart n (known x) (known y) a b → AlikeOrApart n r s a b
   responded_apart n known r s x y a b is_r is_s both = subst (λ q. AlikeOrApart n q s a b) (sym is_r) (subst (λ q. AlikeOrApart n (known x) q a b) (sym is_s) both)
 
-  -- with the same capacities, replies and arenas are the same but for touches
+  -- With the same capacities, replies and arenas are the same but for touches.
   in_one_capacity : (n : ℕ) (r s : Reply P T I Gen W) (a b : Links Gen T) → HaveSameCapacity a b → AlikeOrApart n r s a b → SameButTouched r s a b
   in_one_capacity n r s a b within_capacity both = ⊎_elim (λ alike. (alike.0, same_with_capacity a b within_capacity alike.1)) (λ apart. absurd (apart.2 within_capacity)) both
 
-  -- the capacity sufficed already, and is unchanged
+  -- The capacity sufficed already, and is unchanged.
   inserts_in_capacity : (old new : Links Gen T) (kind : InsertKindBody P I) (t : T) (r : Result P ChainInsertionError) → entry_count old < old.capacity → InsertStep pointers old kind t r new → HaveSameCapacity new old
   inserts_in_capacity old new kind t (Ok p) within_capacity step = capacity_stays pointers.greatest (entry_count old + 1) old new (omega (arith, within_capacity)) step.2
   inserts_in_capacity old new kind t (Err failed.FailedLinkRequirement) within_capacity step = capacity_kept old new step.1
@@ -327,7 +327,7 @@ module _ {P T I Gen W : Type 0} (pointers : PointerKind P I Gen W) (same_key : (
       let rest = run_same one.0 calls replies others new (touch touches other) one.3 beside in
       ((step.0, rest.0), rest.1)
 
-  -- two steps are alike, or memory was refused to one alone
+  -- Two steps are alike, or an allocation failed to one alone.
   step_apart : (old : Links Gen T) (c : Call P T I Gen W) (r s : Reply P T I Gen W) (a b : Links Gen T) → Step pointers old c r a
       → Step pointers old c s b → AlikeOrApart (capacity_needed old c) r s a b
   step_apart old (call.Insert kind t) r s a b one two = responded_apart (entry_count old + 1) reply.Inserted r s one.0 two.0 a b one.1 two.1 (inserts_apart old a b kind t one.0 two.0 one.2 two.2)
@@ -337,7 +337,7 @@ module _ {P T I Gen W : Type 0} (pointers : PointerKind P I Gen W) (same_key : (
   pub step_alike : StepIsDetermined pointers T
   step_alike old c r s new other one two alike = ⊎_elim (λ both. both) (λ apart. absurd (apart.1 (alike apart.0))) (step_apart old c r s new other one two)
 
-  -- a run from a state with other touches
+  -- A run from a state with other touches.
   run_beside : (old before : Links Gen T) (calls : List (Call P T I Gen W)) (replies others : List (Reply P T I Gen W)) (new other : Links Gen T) → AreSameButTouched old before
       → RunWithSameCapacity pointers old before calls replies others new other → EndSame pointers replies others new other
   run_beside old before [] [] [] new other is runs = (tt, runs.0 ∙ (is ∙ ap₂ (λ (n : ℕ) (x : Links Gen T). touch n x) (ap (λ (x : Links Gen T). x.touched) (sym runs.0)) (sym runs.1)))

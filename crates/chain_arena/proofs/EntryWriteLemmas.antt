@@ -14,7 +14,7 @@ use Rattle.chain_links.proofs.LinkStateLemmas.{entry_at-links_view}
 use Rattle.chain_linking.proofs.UnlinkLemmas.{link_map-written, link_map-renewed}
 
 module _ {Gen T : Type 0} where
-  -- a link with another value is written
+  -- A link with another value is written.
   value-written : (a : Arena Gen (LinkView T)) (n : ℕ) (l : LinkView T) (w : T) → option_map (λ (e : Gen × LinkView T). e.1) (entry_at a n) ≡ Some l
       → with_value a n (with_link_value w l) ≡ with_value_at a n w
   value-written a n l w stored = ap (λ (o : Option (Gen × LinkView T)). let b : Arena Gen (LinkView T) = record a { slots = with_slot a.slots n o } in b) (by (entry_at a n) stored) where
@@ -59,14 +59,14 @@ module _ {Gen K T : Type 0} (number : K → Option ℕ) (following : Gen → Gen
   renewed-view_after = ap (λ (x : Arena Gen (LinkView T)). view_of (values_of x)) renewed-state
       ∙ (ap (λ (x : Arena Gen T). view_of x) (with_each-renewed_at link_value following (links_view number a) n) ∙ viewed_renewed following (values_of (links_view number a)) n)
 
-  -- the new pointer has the new generation
+  -- The new pointer has the new generation.
   pub renewed-known : {Q : Type 0} (X : Q → Type 0) (key : Q → ℕ × Gen) (o : Option Q) → IfSome o (λ q. ((key q).0 ≡ n) × X q) × IsSome o → IfSome o (λ q. (key q).1 ≡ following a.counter)
       → IfSome o (λ q. ((key q).0 ≡ n) × (view_of (values_of (links_view number b)) ≡ renewed (view_of (values_of (links_view number a))) (key q))) × IsSome o
   renewed-known X key None known generation = absurd (let h = known.1 in cc)
   renewed-known X key (Some q) known generation =
       ((known.0.0, renewed-view_after ∙ ap₂ (λ (i : ℕ) (g : Gen). renewed (view_of (values_of (links_view number a))) (i, g)) (sym known.0.0) (sym generation)), known.1)
 
--- the arena after a clear
+-- The arena after a clear.
 module _ {Gen K T : Type 0} (number : K → Option ℕ) (following : Gen → Gen) (a b : Arena Gen (LinkBody K T)) (is : b ≡ cleared following a) where
   pub cleared-view_after : view_of (values_of (links_view number b)) ≡ emptied following (view_of (values_of (links_view number a)))
   cleared-view_after = ap (λ (x : Arena Gen (LinkBody K T)). view_of (values_of (links_view number x))) is

@@ -6,7 +6,7 @@ use Rattle.arena_ptr.specs.declared.errors.ChainInsertionError.{ChainInsertionEr
 use Rattle.arena_ptr.specs.declared.errors.ChainInsertionError.TheVariants as failed
 use Rattle.chain_arena.specs.Growths.{growth_of}
 
--- what holds of an insertion's result holds of its growth's result
+-- What holds of an insertion's result holds of its growth's result.
 pub growth-if_ok : {P : Type 0} (F : P → Type 0) (r : Result P ChainInsertionError) → IfOk r F → IfOk (growth_of r) F
 growth-if_ok F (Ok p) known = known
 growth-if_ok F (Err failed.BeyondMaxCapacity) known = tt
@@ -39,7 +39,7 @@ growth-is_err (Err failed.FailedLinkRequirement) known = refl
 growth-is_err (Err failed.NotWithinCapacity) known = refl
 growth-is_err (Err failed.AllocError) known = refl
 
--- if the kind may be inserted, growth and insertion are beyond the maximum alike
+-- If the kind may be inserted, growth and insertion are beyond the maximum alike.
 pub growth-beyond : {P : Type 0} {May Needs : Type 0} (r : Result P ChainInsertionError) → May → (r ≡ Err failed.BeyondMaxCapacity) ↔ (May × Needs) → (growth_of r ≡ Err refused.BeyondMaxCapacity) ↔ Needs
 growth-beyond (Ok p) may known = ((λ is. absurd (let h = is in cc)), λ needs. absurd (let h = known.1 (may, needs) in cc))
 growth-beyond (Err failed.BeyondMaxCapacity) may known = ((λ is. (known.0 refl).1), λ needs. refl)

@@ -14,7 +14,7 @@ use Rattle.chain_links.proofs.MappedArenaLemmas.{with_each-insert_next, length-w
 use Rattle.chain_links.proofs.ArenaInsertionLemmas.{link_map-insert_lone, link_map-next, inserted_at, length-filled}
 use Rattle.chain_linking.proofs.LinkWriteLemmas.{FitsLinks, FitsLinks-link_map, FitsLinks-next_set, FitsLinks-prev_set, link_map-relinked, values_of-relinked}
 
--- the insertion position of a kind that may be inserted
+-- The insertion position of a kind that may be inserted.
 pub position_known : (interlinks : LinkMap) (kind : InsertKind ℕ) (q : ℕ) {u v : Option ℕ} → u ≡ link_before interlinks kind q → v ≡ link_after interlinks kind q
     → IsWellLinked interlinks → CanInsert interlinks kind → IsInsertPosition interlinks q u v
 position_known interlinks kind q before after agrees can = subst₂ (IsInsertPosition interlinks q) (sym before) (sym after) (kind_position interlinks kind q agrees can)
@@ -28,11 +28,11 @@ module _ {Gen T : Type 0} (a : Arena Gen (LinkView T)) (t : T) (listed : IsListe
       let links = (λ (m : LinkMap) (x y : Option ℕ) (fits : FitsLinks m base). FitsLinks-prev_set base _ y x (FitsLinks-next_set base m x y fits)) in
       links (with_neighbors (with_lone (link_map a) q) u (Some q)) (Some q) v (links (with_lone (link_map a) q) u (Some q) lone_fits)
 
-  -- the link map of the arena with a link between two others
+  -- The link map of the arena with a link between two others.
   pub link_map-insert_between : (u v : Option ℕ) → link_map (insert_between a t u v) ≡ with_insertion (link_map a) (next_index a) u v
   link_map-insert_between u v = link_map-relinked (insert_lone a t) (with_insertion (link_map a) (next_index a) u v) (fits_between u v)
 
-  -- the values of the arena with a link between two others
+  -- The values of the arena with a link between two others.
   pub values_of-insert_between : (u v : Option ℕ) → values_of (insert_between a t u v) ≡ insert_next (values_of a) t
   values_of-insert_between u v =
       values_of-relinked (insert_lone a t) (with_insertion (link_map a) (next_index a) u v) (fits_between u v) ∙ with_each-insert_next link_value a (lone t)
@@ -52,7 +52,7 @@ module _ {Gen T : Type 0} (a : Arena Gen (LinkView T)) (t : T) (listed : IsListe
     known_values = ap (λ (x : Arena Gen (LinkView T)). values_of x) is
         ∙ ap (λ (x : Arena Gen T). with_capacity_of x (values_of b)) (values_of-insert_between u v)
 
-    -- there is one more link
+    -- There is one more link.
     known_more : count (value_view b) ≡ count (value_view a) + 1
     known_more =
         ap (λ (x : Arena Gen T). length (entries x)) known_values
@@ -60,7 +60,7 @@ module _ {Gen T : Type 0} (a : Arena Gen (LinkView T)) (t : T) (listed : IsListe
         ∙ (count-filled a.freed (values_of a).slots (a.counter, t) (listed-with_each link_value a listed).free
         ∙ ap (λ (n : ℕ). n + 1) (sym (length-entries (values_of a)))))
 
-    -- an insertion between two links, from the state alone
+    -- An insertion between two links, from the state alone.
     pub known_between : (p : ℕ × Gen) → p ≡ (next_index a, a.counter) → IsWellLinked (link_map a) → IsInsertPosition (link_map a) (next_index a) u v
         → IsInsertionBetween u v (value_view a) (value_view b) (entry a) (entry b) (link_map a) (link_map b) p t
     known_between p at agrees position =
@@ -68,7 +68,7 @@ module _ {Gen T : Type 0} (a : Arena Gen (LinkView T)) (t : T) (listed : IsListe
         let free : link_map a q ≡ None = link_map-next a listed.free in
         subst (λ (x : ℕ × Gen). IsInsertionBetween u v (value_view a) (value_view b) (entry a) (entry b) (link_map a) (link_map b) x t) (sym at) (record {
           entries = inserted_at (values_of a) (values_of b) t (q, a.counter) (listed-with_each link_value a listed).free known_values (ap (λ (n : ℕ). (n, a.counter)) (sym next_index-values_of));
-          reports = known_reports;
+          links = known_reports;
           pairs = subst (λ (m : LinkMap). InsertsPairs (link_map a) m q u v) (sym known_reports) (inserted_in_pairs (link_map a) q u v agrees free position);
           chains = subst (λ (m : LinkMap). Inserts (link_map a) m q u v) (sym known_reports) (inserted_inserts (link_map a) q u v free);
           more = known_more;
@@ -81,7 +81,7 @@ module _ {Gen T : Type 0} (a : Arena Gen (LinkView T)) (t : T) (listed : IsListe
           maximum = ap (λ (x : Arena Gen (LinkView T)). x.maximum) is;
         })
 
-  -- an insertion of a kind, from the state alone
+  -- An insertion of a kind, from the state alone.
   pub insertion_known : (b : Arena Gen (LinkView T)) (kind : InsertKind ℕ) → b ≡ with_capacity_of (insert_as a kind t) b → (p : ℕ × Gen) → p ≡ (next_index a, a.counter)
       → IsWellLinked (link_map a) → CanInsert (link_map a) kind → IsInsertion kind (value_view a) (value_view b) (entry a) (entry b) (link_map a) (link_map b) p t
   insertion_known b kind is p at agrees can =

@@ -21,17 +21,17 @@ use Rattle.arena_base.proofs.FoldLemmas.{folds_viewed, folds_mapped}
 use Rattle.chain_links.proofs.MappedArenaLemmas.{slot_at-map, length-with_each}
 use Rattle.chain_compaction.proofs.ValueViewLemmas.{entry_views-all, held_entries-all}
 
--- a value made, with views of the source value and of the result
+-- A value made, with views of the source value and of the result.
 abbrev made_as : {P U T W X : Type 0} → (U → W) → (T → X) → Copied P U T → Copied P W X
-made_as before after c = record { pointer = c.pointer; reported = before c.reported; returned = after c.returned }
+made_as before after c = record { pointer = c.pointer; value = before c.value; returned = after c.returned }
 
 -- A part of what makes the values, with views of the values before and after.
 module _ {V F P U W T X : Type 0} (makes : V → P → U → T → V → Type 0) (others : F → P → W → X → F → Type 0) (see : V → F) (before : U → W) (after : T → X)
     (step : (v : V) (p : P) (u : U) (t : T) (next : V) → makes v p u t next → others (see v) p (before u) (after t) (see next)) where
   module _ {Gen : Type 0} (key : P → ℕ × Gen) where
-    viewed_before : (made : List (Copied P U T)) → map (λ c. (key c.pointer, c.reported)) (map (made_as before after) made) ≡ map (on_value before) (map (λ c. (key c.pointer, c.reported)) made)
+    viewed_before : (made : List (Copied P U T)) → map (λ c. (key c.pointer, c.value)) (map (made_as before after) made) ≡ map (on_value before) (map (λ c. (key c.pointer, c.value)) made)
     viewed_before [] = refl
-    viewed_before (c ∷ made) = ap (λ es. (key c.pointer, before c.reported) ∷ es) (viewed_before made)
+    viewed_before (c ∷ made) = ap (λ es. (key c.pointer, before c.value) ∷ es) (viewed_before made)
 
     viewed_after : (made : List (Copied P U T)) → map (λ c. (key c.pointer, c.returned)) (map (made_as before after) made) ≡ map (on_value after) (map (λ c. (key c.pointer, c.returned)) made)
     viewed_after [] = refl
@@ -42,7 +42,7 @@ module _ {V F P U W T X : Type 0} (makes : V → P → U → T → V → Type 0)
     copies_viewed f last source copy c = record {
       made = map (made_as before after) c.made;
       in_turn = folds_mapped (made_as before after) (Makes others) c.made (see f) (see last)
-          (folds_viewed see (Makes makes) (λ s m t. Makes others s (made_as before after m) t) (λ s m t. step s m.pointer m.reported m.returned t) c.made f last c.in_turn);
+          (folds_viewed see (Makes makes) (λ s m t. Makes others s (made_as before after m) t) (λ s m t. step s m.pointer m.value m.returned t) c.made f last c.in_turn);
       before = viewed_before c.made ∙ ap (map (on_value before)) c.before;
       after = viewed_after c.made ∙ ap (map (on_value after)) c.after;
     }
@@ -51,10 +51,10 @@ module _ {V F P U W T X : Type 0} (makes : V → P → U → T → V → Type 0)
 module _ {V P U T Z Gen : Type 0} (makes : V → P → U → T → V → Type 0) (f : U → Z) (g : T → Z)
     (same : (v : V) (p : P) (u : U) (t : T) (next : V) → makes v p u t next → g t ≡ f u) (key : P → ℕ × Gen) where
   made_alike : (made : List (Copied P U T)) (v last : V) → FoldsTo (Makes makes) v made last
-      → map (on_value g) (map (λ c. (key c.pointer, c.returned)) made) ≡ map (on_value f) (map (λ c. (key c.pointer, c.reported)) made)
+      → map (on_value g) (map (λ c. (key c.pointer, c.returned)) made) ≡ map (on_value f) (map (λ c. (key c.pointer, c.value)) made)
   made_alike [] v last folds = refl
   made_alike (c ∷ made) v last folds =
-      λ i. (key c.pointer, same v c.pointer c.reported c.returned folds.0 folds.1 i) ∷ made_alike made folds.0 last folds.2 i
+      λ i. (key c.pointer, same v c.pointer c.value c.returned folds.0 folds.1 i) ∷ made_alike made folds.0 last folds.2 i
 
   pub copies_alike : (v last : V) (source : List ((ℕ × Gen) × U)) (copy : List ((ℕ × Gen) × T)) → CopiesBy makes key v source copy last → map (on_value g) copy ≡ map (on_value f) source
   copies_alike v last source copy c = ap (map (on_value g)) (sym c.after) ∙ (made_alike c.made v last c.in_turn ∙ ap (map (on_value f)) c.before)
@@ -64,7 +64,7 @@ first_value z [] = z
 first_value z (e ∷ es) = e.1
 
 module _ {Gen U T Z : Type 0} (f : U → Z) (g : T → Z) where
-  -- slots whose entries have the same places and views have the same view
+  -- Slots whose entries have the same places and views have the same view.
   pub slots_alike : (i : ℕ) (a : List (Option (Gen × U))) (b : List (Option (Gen × T))) → generations b ≡ generations a → map (on_value g) (entries_from i b) ≡ map (on_value f) (entries_from i a)
       → map (option_map (on_value g)) b ≡ map (option_map (on_value f)) a
   slots_alike i [] [] places same = refl
@@ -86,7 +86,7 @@ module _ {Gen X Y : Type 0} (f : X → Y) where
   generations-map (Some e ∷ slots) = ap (λ gs. Some e.0 ∷ gs) (generations-map slots)
 
 module _ {P K U Gen : Type 0} (number : K → Option ℕ) (may_refuse : P → LinkBody K U → Type 0) (key : P → ℕ × Gen) (source : Arena Gen (LinkBody K U)) where
-  -- a link that may be refused, as contracts see it
+  -- A link that may be refused, as contracts see it.
   pub refusable_viewed : HasRefusable may_refuse key (entries source) → HasRefusable (RefusesOf (link_view number) may_refuse) key (entries (links_view number source))
   refusable_viewed has = record {
     pointer = has.pointer;
@@ -98,19 +98,19 @@ module _ {P K U Gen : Type 0} (number : K → Option ℕ) (may_refuse : P → Li
     refusable = (has.value, refl, has.refusable);
   }
 
--- an arena without links is well linked
+-- An arena without links is well linked.
 module _ (Gen T : Type 0) where
   nothing_at : (i : ℕ) → option_map (interlinks_of {Gen = Gen} {T = T}) (slot_at [] i) ≡ None
   nothing_at zero = refl
   nothing_at (suc k) = refl
 
-pub given_up_agrees : {Gen T : Type 0} (old new : Arena Gen (LinkView T)) → IsAbandonedCopy old new → IsWellLinked (link_map new)
-given_up_agrees {Gen} {T} old new is =
+pub copy_abandoned_agrees : {Gen T : Type 0} (old new : Arena Gen (LinkView T)) → IsAbandonedCopy old new → IsWellLinked (link_map new)
+copy_abandoned_agrees {Gen} {T} old new is =
     subst (λ (a : Arena Gen (LinkView T)). IsWellLinked (link_map a)) (sym is)
     (subst IsWellLinked (λ j i. sym (nothing_at Gen T i) j) (record { both = λ i j. (λ never. cc, λ never. cc) }))
 
 module _ {Gen K U T : Type 0} (number : K → Option ℕ) where
-  -- a copy of an arena of links, as contracts see it
+  -- A copy of an arena of links, as contracts see it.
   pub has_slots_viewed : (source : Arena Gen (LinkBody K U)) (old new : Arena Gen (LinkBody K T)) → HasSlotsOf source old new → HasSlotsOf (links_view number source) (links_view number old) (links_view number new)
   has_slots_viewed source old new has = record {
     state = ap (links_view number) has.state;
@@ -150,7 +150,7 @@ module _ {V F P K U T Gen : Type 0} (number : K → Option ℕ) (makes : F → P
   pub link_copied : IsLinkCopyBy makes key (see f) (links_view number source) (links_view number old) (links_view number new) (see last)
   link_copied = record {
     slots = has_slots_viewed number source old new has;
-    reports = interlinks_copied;
+    links = interlinks_copied;
     values = values_copied;
   }
 
@@ -168,31 +168,31 @@ module _ {F P K U T Gen : Type 0} (number : K → Option ℕ) (makes : F → P �
     entries = subst (λ es. CopiesBy (MakesOf (link_view number) makes) key f (entries (links_view number source)) es last) (as_it_is new.entries)
         (subst (λ es. CopiesBy (MakesOf (link_view number) makes) key f es (map (on_value (λ t. t)) new.entries) last) (entry_views-all number source)
         (copies_viewed makes (MakesOf (link_view number) makes) (λ h. h) (link_view number) (λ t. t)
-        (λ v p u t w made. record { reported = u; lookups = refl; made = made }) key f last (entries source) new.entries copy.entries));
+        (λ v p u t w made. record { passed = u; value_passed = refl; made = made }) key f last (entries source) new.entries copy.entries));
     counter = copy.counter;
     slots = copy.slots ∙ ap (λ n. option_map (λ (s : Slots). let t : Slots = record s { count = n; freed = source.freed } in t) old.slots) (sym (length-with_each (link_view number) source));
     maximum = copy.maximum;
   }
 
 -- What a closure makes, if it is a part of what makes the values.
-pub called_of : {V F P K U T : Type 0} (g : Mut F (P × (Bor (LinkBody K U) × Unit {0})) T) (see : V → F) (lookup : LinkBody K U → LinkView U) (v : V) (p : P) (u : LinkView U) (t : T) (w : V)
-    → MakesOf lookup (λ x p u t y. IsCopyCall g (see x) p u t (see y)) v p u t w → MakesOf lookup (IsCopyCall g) (see v) p u t (see w)
-called_of g see lookup v p u t w makes = record { reported = makes.reported; lookups = makes.lookups; made = makes.made }
+pub called_of : {V F P K U T : Type 0} (g : Mut F (P × (Bor (LinkBody K U) × Unit {0})) T) (see : V → F) (value_from : LinkBody K U → LinkView U) (v : V) (p : P) (u : LinkView U) (t : T) (w : V)
+    → MakesOf value_from (λ x p u t y. IsCopyCall g (see x) p u t (see y)) v p u t w → MakesOf value_from (IsCopyCall g) (see v) p u t (see w)
+called_of g see value_from v p u t w makes = record { passed = makes.passed; value_passed = makes.value_passed; made = makes.made }
 
--- what a closure makes in a copy of an arena of links
-pub called_copies : {V F P K U T Gen : Type 0} (g : Mut F (P × (Bor (LinkBody K U) × Unit {0})) T) (see : V → F) (lookup : LinkBody K U → LinkView U) (key : P → ℕ × Gen) (f last : V) (source : Arena Gen (LinkView U)) (old new : Arena Gen (LinkView T))
-    → IsLinkCopyBy (MakesOf lookup (λ x p u t y. IsCopyCall g (see x) p u t (see y))) key f source old new last → IsLinkCopyBy (MakesOf lookup (IsCopyCall g)) key (see f) source old new (see last)
-called_copies g see lookup key f last source old new copy = record {
+-- What a closure makes in a copy of an arena of links.
+pub called_copies : {V F P K U T Gen : Type 0} (g : Mut F (P × (Bor (LinkBody K U) × Unit {0})) T) (see : V → F) (value_from : LinkBody K U → LinkView U) (key : P → ℕ × Gen) (f last : V) (source : Arena Gen (LinkView U)) (old new : Arena Gen (LinkView T))
+    → IsLinkCopyBy (MakesOf value_from (λ x p u t y. IsCopyCall g (see x) p u t (see y))) key f source old new last → IsLinkCopyBy (MakesOf value_from (IsCopyCall g)) key (see f) source old new (see last)
+called_copies g see value_from key f last source old new copy = record {
   slots = copy.slots;
-  reports = copy.reports;
-  values = made_by (MakesOf lookup (λ x p u t y. IsCopyCall g (see x) p u t (see y))) (MakesOf lookup (IsCopyCall g)) see (called_of g see lookup) key f last (entries source) (entries (values_of new)) copy.values;
+  links = copy.links;
+  values = made_by (MakesOf value_from (λ x p u t y. IsCopyCall g (see x) p u t (see y))) (MakesOf value_from (IsCopyCall g)) see (called_of g see value_from) key f last (entries source) (entries (values_of new)) copy.values;
 }
 
--- what a closure makes in a copy of any arena
-pub called_copy : {V F P K U T Gen : Type 0} (g : Mut F (P × (Bor (LinkBody K U) × Unit {0})) T) (see : V → F) (lookup : LinkBody K U → LinkView U) (key : P → ℕ × Gen) (f last : V) (source : Arena Gen (LinkView U)) (old new : ArenaView Gen T)
-    → IsCopyBy (MakesOf lookup (λ x p u t y. IsCopyCall g (see x) p u t (see y))) key f source old new last → IsCopyBy (MakesOf lookup (IsCopyCall g)) key (see f) source old new (see last)
-called_copy g see lookup key f last source old new copy =
-    copy_by (MakesOf lookup (λ x p u t y. IsCopyCall g (see x) p u t (see y))) (MakesOf lookup (IsCopyCall g)) see (called_of g see lookup) key f last source old new copy
+-- What a closure makes in a copy of any arena.
+pub called_copy : {V F P K U T Gen : Type 0} (g : Mut F (P × (Bor (LinkBody K U) × Unit {0})) T) (see : V → F) (value_from : LinkBody K U → LinkView U) (key : P → ℕ × Gen) (f last : V) (source : Arena Gen (LinkView U)) (old new : ArenaView Gen T)
+    → IsCopyBy (MakesOf value_from (λ x p u t y. IsCopyCall g (see x) p u t (see y))) key f source old new last → IsCopyBy (MakesOf value_from (IsCopyCall g)) key (see f) source old new (see last)
+called_copy g see value_from key f last source old new copy =
+    copy_by (MakesOf value_from (λ x p u t y. IsCopyCall g (see x) p u t (see y))) (MakesOf value_from (IsCopyCall g)) see (called_of g see value_from) key f last source old new copy
 
 -- The links of a clone have the view of the source's links.
 module _ {F P K T Gen : Type 0} (number : K → Option ℕ) (is_clone : T → T → Type 0) (equal : (x y : T) → is_clone x y → y ≡ x) (key : P → ℕ × Gen) (f last : F) (source : Arena Gen (LinkBody K T)) (old new : Arena Gen (LinkBody K T))
@@ -222,7 +222,7 @@ none_before : {X Y : Type 0} (f : X → Y) (xs : List X) → map f xs ≡ [] →
 none_before f [] none = refl
 none_before f (x ∷ xs) none = absurd (let h = none in cc)
 
--- without slots the capacity suffices, and no value is refused
+-- Without slots the capacity suffices, and no value is refused.
 module _ {P K U Gen : Type 0} (number : K → Option ℕ) (may_refuse : P → LinkBody K U → Type 0) (key : P → ℕ × Gen) (source : Arena Gen (LinkBody K U)) where
   none_among : {X : Type 0} (before after : List X) (x : X) → [] ≡ before ++ x ∷ after → ⊥
   none_among [] after x same = cc
@@ -238,7 +238,7 @@ module _ {P K U Gen : Type 0} (number : K → Option ℕ) (may_refuse : P → Li
     by (inl ok) = false≢true (sym (ap is_ok is) ∙ ok)
     by (inr refused) = none_among refused.before refused.after (key refused.pointer, refused.value) (sym (ap (entries_from 1) (no_slots none)) ∙ refused.stored)
 
--- what follows from a success and from either sort of refusal
+-- What follows from a success and from either sort of refusal.
 pub either_way : {X E A B C D N : Type 0} (r : Result X E) → (A → B → C) → (D → C) → (N → C) → OnOk r A → OnOk r B → OnErr r (D ⊎ N) → C
 either_way (Ok x) done refused gave_up a b d = done a b
 either_way (Err e) done refused gave_up a b (inl d) = refused d

@@ -9,17 +9,17 @@ use Rattle.arena_ptr.specs.Invalidation.{value_in, is_overflow, value_within, is
 use Rattle.arena_ptr.specs.declared.invalidation.InvalidationOption.{InvalidationOption}
 use Rattle.arena_ptr.specs.declared.invalidation.InvalidationResult.{InvalidationResult}
 use Rattle.arena_base.specs.Arena.{Arena, IsValid, entry_at}
-use Rattle.arena_base.specs.Entries.{ArenaView, entries, index_of, found, without, first_key, RisesFrom}
+use Rattle.arena_base.specs.Entries.{ArenaView, entries, index_of, found, without, first_key, AscendsFrom}
 use Rattle.arena_base.specs.Entries.{entry_removed}
-use Rattle.arena_base.specs.EntryLaws.{entries_rise, found-entries}
+use Rattle.arena_base.specs.EntryLaws.{entries_ascend, found-entries}
 use Rattle.arena_base.specs.Advancers.{entries_at_or_above}
 use Rattle.chain_links.specs.ChainArena.{LinkView, values_of, value_view, remove_link}
-use Rattle.chain_traits.proofs.GenericArenaLemmas.{entries_at_or_above-rises}
+use Rattle.chain_traits.proofs.GenericArenaLemmas.{entries_at_or_above-ascends}
 use Rattle.chain_arena.specs.Drains.{entries_left, without_each, IsLinkDrainStep}
 use Rattle.chain_arena.proofs.ChainDrainLemmas.{is_overflow_result-made}
 use Rattle.chain_linking.proofs.UnlinkLemmas.{view_after-removed}
 
--- the value in a result with an overflow flag
+-- The value in a result with an overflow flag.
 value_in-made : {X : Type 0} (overflow : Bool) (x : X) → value_in (invalidation_option overflow x) ≡ x
 value_in-made true x = refl
 value_in-made false x = refl
@@ -29,14 +29,14 @@ is_overflow-made true x = refl
 is_overflow-made false x = refl
 
 module _ {Gen T : Type 0} where
-  -- there is no entry above the greatest index
+  -- There is no entry above the greatest index.
   entries_at_or_above-beyond : (greatest i : ℕ) (es : List ((ℕ × Gen) × T)) → greatest < i → All (λ e. IsWithin greatest (index_of e)) es → entries_at_or_above i es ≡ []
   entries_at_or_above-beyond greatest i [] beyond within = refl
   entries_at_or_above-beyond greatest i (e ∷ es) beyond within =
       let here : IsWithin greatest (index_of e) = All-head (λ (x : (ℕ × Gen) × T). IsWithin greatest (index_of x)) e es within in
       ap (λ b. cond b (e ∷ es) (entries_at_or_above i es)) (lt-leb i e.0.0 (omega (arith, beyond, here.1))) ∙ entries_at_or_above-beyond greatest i es beyond (All-tail (λ (x : (ℕ × Gen) × T). IsWithin greatest (index_of x)) e es within)
 
-  -- the first entry from an index on, and those left once it is removed
+  -- The first entry from an index on, and those left once it is removed.
   record IsFirst (i : ℕ) (p : ℕ × Gen) (es : List ((ℕ × Gen) × T)) : Type 0 where
     value : T
     stored : found p.0 es ≡ Some (p.1, value)
@@ -44,8 +44,8 @@ module _ {Gen T : Type 0} where
     behind : entries_at_or_above p.0 (without p.0 es) ≡ entries_at_or_above (suc p.0) (without p.0 es)
     from : i ≤ p.0
 
-  first_here : (i : ℕ) (p : ℕ × Gen) (e : (ℕ × Gen) × T) (es : List ((ℕ × Gen) × T)) → RisesFrom e.0.0 (e ∷ es) → leb i e.0.0 ≡ true → Some p ≡ first_key (entries_at_or_above i (e ∷ es)) → IsFirst i p (e ∷ es)
-  first_here i p e es rises here first =
+  first_here : (i : ℕ) (p : ℕ × Gen) (e : (ℕ × Gen) × T) (es : List ((ℕ × Gen) × T)) → AscendsFrom e.0.0 (e ∷ es) → leb i e.0.0 ≡ true → Some p ≡ first_key (entries_at_or_above i (e ∷ es)) → IsFirst i p (e ∷ es)
+  first_here i p e es ascends here first =
       let is : entries_at_or_above i (e ∷ es) ≡ e ∷ es = ap (λ b. cond b (e ∷ es) (entries_at_or_above i es)) here in
       let met : Some p ≡ Some e.0 = first ∙ ap first_key is in
       let key : p ≡ e.0 = cc in
@@ -56,10 +56,10 @@ module _ {Gen T : Type 0} where
         value = e.1;
         stored = ap (λ b. cond b (Some (e.0.1, e.1)) (found p.0 es)) same ∙ ap (λ (k : ℕ × Gen). let o : Option (Gen × T) = Some (k.1, e.1) in o) (sym key);
         left = is ∙ (ap (λ (k : ℕ × Gen). (k, e.1) ∷ es) (sym key)
-            ∙ ap (λ (l : List ((ℕ × Gen) × T)). (p, e.1) ∷ l) (sym (ap (λ b. entries_at_or_above p.0 (cond b es (e ∷ without p.0 es))) same ∙ entries_at_or_above-rises p.0 (suc e.0.0) es (omega (arith, index)) rises.1)));
+            ∙ ap (λ (l : List ((ℕ × Gen) × T)). (p, e.1) ∷ l) (sym (ap (λ b. entries_at_or_above p.0 (cond b es (e ∷ without p.0 es))) same ∙ entries_at_or_above-ascends p.0 (suc e.0.0) es (omega (arith, index)) ascends.1)));
         behind = ap (λ b. entries_at_or_above p.0 (cond b es (e ∷ without p.0 es))) same
-            ∙ (entries_at_or_above-rises p.0 (suc e.0.0) es (omega (arith, index)) rises.1
-            ∙ (sym (entries_at_or_above-rises (suc p.0) (suc e.0.0) es (omega (arith, index)) rises.1)
+            ∙ (entries_at_or_above-ascends p.0 (suc e.0.0) es (omega (arith, index)) ascends.1
+            ∙ (sym (entries_at_or_above-ascends (suc p.0) (suc e.0.0) es (omega (arith, index)) ascends.1)
             ∙ sym (ap (λ b. entries_at_or_above (suc p.0) (cond b es (e ∷ without p.0 es))) same)));
         from = omega (arith, least, index);
       }
@@ -84,27 +84,27 @@ module _ {Gen T : Type 0} where
         from = rest.from;
       }
 
-  first_in : (i m : ℕ) (p : ℕ × Gen) (es : List ((ℕ × Gen) × T)) → RisesFrom m es → Some p ≡ first_key (entries_at_or_above i es) → IsFirst i p es
-  first_in i m p [] rises first = absurd (cc)
-  first_in i m p (e ∷ es) rises first = by (leb i e.0.0) refl (first_in i (suc e.0.0) p es rises.1)
+  first_in : (i m : ℕ) (p : ℕ × Gen) (es : List ((ℕ × Gen) × T)) → AscendsFrom m es → Some p ≡ first_key (entries_at_or_above i es) → IsFirst i p es
+  first_in i m p [] ascends first = absurd (cc)
+  first_in i m p (e ∷ es) ascends first = by (leb i e.0.0) refl (first_in i (suc e.0.0) p es ascends.1)
     where
       by : (b : Bool) → leb i e.0.0 ≡ b → (Some p ≡ first_key (entries_at_or_above i es) → IsFirst i p es) → IsFirst i p (e ∷ es)
-      by true here rest = first_here i p e es (omega arith, rises.1) here first
+      by true here rest = first_here i p e es (omega arith, ascends.1) here first
       by false later rest = first_later i p e es later (rest (first ∙ ap (λ b. first_key (cond b (e ∷ es) (entries_at_or_above i es))) later))
 
-  -- the first remaining link of an arena
+  -- The first remaining link of an arena.
   pub first_left : (a : Arena Gen (LinkView T)) (at : ℕ) (p : ℕ × Gen) → Some p ≡ first_key (entries_left a at)
       → (t : T) × (entry_at (values_of a) p.0 ≡ Some (p.1, t)) × (entries_left a at ≡ (p, t) ∷ entries_at_or_above p.0 (without p.0 (entries (values_of a)))) × (1 ≤ p.0)
       × (entries_at_or_above p.0 (without p.0 (entries (values_of a))) ≡ entries_at_or_above (suc p.0) (without p.0 (entries (values_of a))))
   first_left a zero p first = absurd (cc)
   first_left a (suc k) p first =
-      let met = first_in (suc k) 1 p (entries (values_of a)) (entries_rise (values_of a)) first in
+      let met = first_in (suc k) 1 p (entries (values_of a)) (entries_ascend (values_of a)) first in
       (met.value, sym (found-entries (values_of a) p.0) ∙ met.stored, met.left, omega (arith, met.from), met.behind)
 
   pub first_valid : (a : Arena Gen (LinkView T)) (at : ℕ) (p : ℕ × Gen) → Some p ≡ first_key (entries_left a at) → IsValid (entry_at (values_of a)) p
   first_valid a at p first = let met = first_left a at p first in record { value = met.0; stored = met.1 }
 
-  -- nothing is left from a number on that is no index
+  -- Nothing is left from a number on that is no index.
   pub none_left : (greatest : ℕ) (a : Arena Gen (LinkView T)) (at : ℕ) → (IsWithin greatest at → ⊥) → All (λ e. IsWithin greatest (index_of e)) (entries (values_of a)) → entries_left a at ≡ []
   none_left greatest a zero beyond within = refl
   none_left greatest a (suc k) beyond within = entries_at_or_above-beyond greatest (suc k) (entries (values_of a)) (omega (arith, λ (le : suc k ≤ greatest). beyond (omega arith, le))) within
@@ -113,22 +113,22 @@ module _ {Gen T : Type 0} where
   entries_left-at a zero some = absurd (omega (arith, some))
   entries_left-at a (suc k) some = refl
 
-  -- all links are left from the first index on
+  -- All links are left from the first index on.
   pub all_left : (a : Arena Gen (LinkView T)) → entries_left a 1 ≡ entries (values_of a)
-  all_left a = entries_at_or_above-rises 1 1 (entries (values_of a)) (omega arith) (entries_rise (values_of a))
+  all_left a = entries_at_or_above-ascends 1 1 (entries (values_of a)) (omega arith) (entries_ascend (values_of a))
 
-  -- after the removal of all links, none is left
+  -- After the removal of all links, none is left.
   pub without_each-all : (following : Gen → Gen) (a : Arena Gen (LinkView T)) (es : List ((ℕ × Gen) × T)) → entries (values_of a) ≡ es → entries (values_of (without_each following a (map index_of es))) ≡ []
   without_each-all following a [] all = all
   without_each-all following a (e ∷ es) all = without_each-all following (remove_link following a e.0.0) es
       (ap (λ (s : ArenaView Gen T). s.entries) (view_after-removed following a (remove_link following a e.0.0) e.0.0 refl)
       ∙ (ap (without e.0.0) all ∙ ap (λ b. cond b es (e ∷ without e.0.0 es)) (eq-eqb e.0.0 e.0.0 refl)))
 
--- a result made from an overflow flag reports that flag
+-- A result made from an overflow flag reports that flag.
 pub overflow_known : {X : Type 0} (w : Bool) (r : InvalidationResult X) (x : X) → r ≡ invalidation_result w (value_within r) → value_within r ≡ Some x → is_overflow_result r ≡ w
 overflow_known w r x made has = ap is_overflow_result made ∙ (ap (λ (o : Option _). is_overflow_result (invalidation_result w o)) has ∙ is_overflow_result-made w x)
 
--- the index after another, unless there is no greater number
+-- The index after another, unless there is no greater number.
 abbrev pub IsBehind : ℕ → ℕ → Type 0
 IsBehind i next = (next ≡ i) ⊎ (next ≡ suc i)
 
@@ -140,7 +140,7 @@ is_behind most i next is within = by (leb (i + 1) most) refl
     by false beyond = inl (is ∙ omega (arith, leb-false (i + 1) most beyond, within))
 
 module _ {P Gen T : Type 0} (key : P → ℕ × Gen) (following : Gen → Gen) (wraps : Gen → Bool) where
-  -- the removal of the first remaining link is a step
+  -- The removal of the first remaining link is a step.
   module _ (old new : Arena Gen (LinkView T)) (at next : ℕ) (p : P) (first : Some (key p) ≡ first_key (entries_left old at)) (taken : Option T)
       (value : taken ≡ option_map (λ (e : Gen × T). e.1) (entry_at (values_of old) (key p).0)) where
     value_is : taken ≡ Some (first_left old at (key p) first).0
@@ -149,7 +149,7 @@ module _ {P Gen T : Type 0} (key : P → ℕ × Gen) (following : Gen → Gen) (
     pub drained_has : taken ≡ None → ⊥
     drained_has none = let both = sym none ∙ value_is in cc
 
-    -- the links left after the first one are left by the step
+    -- The links left after the first one are left by the step.
     left_behind : IsBehind (key p).0 next → entries (values_of new) ≡ without (key p).0 (entries (values_of old)) → entries_at_or_above (key p).0 (without (key p).0 (entries (values_of old))) ≡ entries_left new next
     left_behind index es =
         let met = first_left old at (key p) first in
@@ -181,14 +181,14 @@ module _ {P Gen T : Type 0} (key : P → ℕ × Gen) (following : Gen → Gen) (
           state = removal ∙ ap (λ (x : P × T). remove_link following old (key x.0).0) (sym item);
         }
 
-  -- a step keeps the arena that removing the remaining links gives
+  -- A step keeps the arena that removing the remaining links gives.
   pub without_each-first : (old new : Arena Gen (LinkView T)) (at next : ℕ) (gone : InvalidationOption (P × T)) → IsLinkDrainStep key following wraps old at gone new next
       → without_each following new (map index_of (entries_left new next)) ≡ without_each following old (map index_of (entries_left old at))
   without_each-first old new at next gone step =
       ap (λ (a : Arena Gen (LinkView T)). without_each following a (map index_of (entries_left new next))) step.state
       ∙ sym (ap (λ (es : List ((ℕ × Gen) × T)). without_each following old (map index_of es)) step.left)
 
-  -- a step leaves fewer links
+  -- A step leaves fewer links.
   pub entries_left-step : (old new : Arena Gen (LinkView T)) (at next : ℕ) (gone : InvalidationOption (P × T)) → IsLinkDrainStep key following wraps old at gone new next
       → length (entries_left new next) < length (entries_left old at)
   entries_left-step old new at next gone step = let longer = ap (length {A = (ℕ × Gen) × T}) step.left in omega (arith, longer)

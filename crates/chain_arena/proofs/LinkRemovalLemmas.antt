@@ -17,7 +17,7 @@ use Rattle.chain_linking.proofs.UnlinkLemmas.{passes_over, removed-agrees, remov
 use Rattle.chain_arena.specs.Effects.{Links}
 use Rattle.chain_arena.proofs.ChainDrainLemmas.{link_at-entry}
 
--- a result with a part of another's value has the same overflow flag
+-- A result with a part of another's value has the same overflow flag.
 pub same_overflow : {X Y : Type 0} (f : X → Y) (b : Bool) (r : InvalidationResult X) (s : InvalidationResult Y) → value_within s ≡ option_map f (value_within r) → is_overflow_result s ≡ is_overflow_result r
     → r ≡ invalidation_result b (value_within r) → s ≡ invalidation_result b (value_within s)
 same_overflow f b r InvalidPtr value overflow known = refl
@@ -30,16 +30,16 @@ same_overflow f true (Success x) (Success y) value overflow known = absurd (let 
 same_overflow f false (GenerationOverflow x) (GenerationOverflow y) value overflow known = absurd (let h = known in cc)
 same_overflow f true (GenerationOverflow x) (GenerationOverflow y) value overflow known = refl
 
--- a removal keeps the links well linked, if there is one or not
+-- A removal keeps the links well linked, if there is one or not.
 pub agreed_after : {Gen T K : Type 0} (following : Gen → Gen) (a b : Links Gen T) (n : ℕ) (taken : Option K) → (is_some taken ≡ true → b ≡ remove_link following a n) → (taken ≡ None → b ≡ a) → IsWellLinked (link_map a) → IsWellLinked (link_map b)
 agreed_after following a b n None valid invalid agrees = subst (λ x. IsWellLinked (link_map x)) (sym (invalid refl)) agrees
 agreed_after following a b n (Some e) valid invalid agrees = removed-agrees following a b n (valid refl) agrees
 
--- the effects of a removal, from the state
+-- The effects of a removal, from the state.
 pub removal_of : {Gen T : Type 0} (following : Gen → Gen) (a b : Links Gen T) (n : ℕ) → IsWellLinked (link_map a) → b ≡ remove_link following a n → IsRemoval following a n b
 removal_of following a b n agrees state = record {
   state = state;
-  reports = passes_over following a b n state;
+  links = passes_over following a b n state;
   chains = removed-chains following a b n state agrees;
   pairs = removed-pairs following a b n state agrees;
 }
@@ -52,11 +52,11 @@ module _ {Gen K T : Type 0} (packed : K → Option ℕ) (following : Gen → Gen
     twice None = refl
     twice (Some e) = refl
 
-  -- the link removed, with its generation
+  -- The link removed, with its generation.
   pub link_known : option_map (on_value (link_view packed)) taken ≡ link_at (entry a) (link_map a) n
   link_known = returned ∙ sym (link_at-entry a n)
 
-  -- the link removed, with a known generation
+  -- The link removed, with a known generation.
   pub link_alone_known : (g : Gen) (t : T) → entry a n ≡ Some (g, t) → option_map (λ (l : LinkBody K T). (g, link_view packed l)) (option_map (λ (e : Gen × LinkBody K T). e.1) taken) ≡ link_at (entry a) (link_map a) n
   link_alone_known g t stored = alone taken (value ∙ stored) ∙ link_known where
     alone : (o : Option (Gen × LinkBody K T)) → option_map (on_value held_in) o ≡ Some (g, t)
@@ -64,18 +64,18 @@ module _ {Gen K T : Type 0} (packed : K → Option ℕ) (following : Gen → Gen
     alone None is = absurd (let h = is in cc)
     alone (Some e) is = ap (λ (h : Gen). let o : Option (Gen × LinkView T) = Some (h, link_view packed e.1) in o) (sym (generation_is e.0 g _ _ is))
 
-  -- the value removed, with its generation
+  -- The value removed, with its generation.
   pub value_known : option_map (λ (e : Gen × LinkBody K T). (e.0, e.1.t)) taken ≡ entry a n
   value_known = value
 
-  -- the value removed, alone
+  -- The value removed, alone.
   pub value_alone_known : option_map (λ (e : Gen × LinkBody K T). e.1.t) taken ≡ option_map (λ (e : Gen × T). e.1) (entry a n)
   value_alone_known = alone taken ∙ ap (option_map (λ (e : Gen × T). e.1)) value where
     alone : (o : Option (Gen × LinkBody K T)) → option_map (λ (e : Gen × LinkBody K T). e.1.t) o ≡ option_map (λ (e : Gen × T). e.1) (option_map (on_value held_in) o)
     alone None = refl
     alone (Some e) = refl
 
-  -- if there is no entry, nothing was taken
+  -- If there is no entry, nothing was taken.
   pub none_taken : entry a n ≡ None → taken ≡ None
   none_taken none = by taken (value ∙ none) where
     by : (o : Option (Gen × LinkBody K T)) → option_map (on_value held_in) o ≡ None → o ≡ None
@@ -85,19 +85,19 @@ module _ {Gen K T : Type 0} (packed : K → Option ℕ) (following : Gen → Gen
   some_taken : is_some (entry a n) ≡ true → is_some taken ≡ true
   some_taken stored = sym (is_some-map (on_value held_in) taken) ∙ (ap is_some value ∙ stored)
 
-  -- if a valid pointer names the index, something was taken
+  -- If a valid pointer names the index, something was taken.
   pub taken_at : (p : ℕ × Gen) → n ≡ p.0 → IsValid (entry a) p → is_some taken ≡ true
   taken_at p at valid = some_taken (ap (λ i. is_some (entry a i)) at ∙ ap is_some valid.stored)
 
   module _ (removal : is_some taken ≡ true → IsRemoval following a n b) where
-    -- an existing link is removed
+    -- An existing link is removed.
     pub removal_there : is_some (entry a n) ≡ true → IsRemoval following a n b
     removal_there stored = removal (some_taken stored)
 
     pub viewed_there : is_some (entry a n) ≡ true → value_view b ≡ entry_removed following (value_view a) n
     viewed_there stored = view_after-removed following a b n (removal_there stored).state
 
-    -- the link of a valid pointer is removed
+    -- The link of a valid pointer is removed.
     pub removal_at : (p : ℕ × Gen) → n ≡ p.0 → IsValid (entry a) p → IsRemoval following a n b
     removal_at p at valid = removal_there (ap (λ i. is_some (entry a i)) at ∙ ap is_some valid.stored)
 

@@ -8,7 +8,7 @@ use Rattle.arena_ptr.specs.Invalidation.{value_in}
 use Rattle.arena_ptr.specs.declared.invalidation.InvalidationOption.{InvalidationOption}
 use Rattle.arena_base.specs.Arena.{Arena, slot_at}
 use Rattle.arena_base.specs.Entries.{entries, found}
-use Rattle.arena_base.specs.EntryLaws.{entries_rise, found-entries}
+use Rattle.arena_base.specs.EntryLaws.{entries_ascend, found-entries}
 use Rattle.chain_links.specs.ChainArena.{LinkView, on_value, link_value, interlinks_of, link_map, value_view, entry, values_of}
 use Rattle.chain_links.specs.CanonicalLayouts.{IsCanonicalLayout}
 use Rattle.chain_links.proofs.MappedArenaLemmas.{is_some-map, entry_at-with_each}
@@ -19,18 +19,18 @@ use Rattle.chain_arena.specs.Transfers.{Carried, old_index}
 use Rattle.chain_arena.specs.PointerTransfers.{IsMapped, TransferMovesPointers}
 
 module _ {P Gen T : Type 0} (key : P → ℕ × Gen) (first : Gen) (following : Gen → Gen) (reset : Bool) (old new : Arena Gen (LinkView T)) (moves : List (P × P)) where
-  -- there is a link exactly where there is an entry
+  -- There is a link exactly where there is an entry.
   links_stored : HasLinksWhere (link_map old) (entry old)
   links_stored i = is_some-map interlinks_of (slot_at old.slots i) ∙ sym (ap is_some (entry_at-with_each link_value old i) ∙ is_some-map (on_value link_value) (slot_at old.slots i))
 
-  -- the old and new pointers of all links are moves
+  -- The old and new pointers of all links are moves.
   pub arena_moves_pointers : IsCanonicalLayout first following reset (value_view old) (link_map old) (value_view new) (link_map new) → AreAllMoves key (value_view old) (link_map old) new.counter moves → ArePointerMoves key (entry old) (entry new) moves
   arena_moves_pointers layout all =
       compression_moves_pointers key first following reset (value_view old) (value_view new) (link_map old) (link_map new) (entry old) (entry new) moves (found-entries (values_of old)) (found-entries (values_of new)) links_stored layout
       (subst (λ (g : Gen). AreAllMoves key (value_view old) (link_map old) g moves) layout.is_counter all)
 
 module _ {Q P G Gen U T : Type 0} (key : Q → ℕ × G) (new_key : P → ℕ × Gen) (before : ℕ → Option (G × U)) (after : ℕ → Option (Gen × T)) where
-  -- the entries that the links have become, with their pointers
+  -- The entries that the links have become, with their pointers.
   abbrev arrived : List (Carried Q P U T) → List ((ℕ × Gen) × T)
   arrived carried = map (λ (c : Carried Q P U T). (new_key c.to, c.returned)) carried
 
@@ -38,26 +38,26 @@ module _ {Q P G Gen U T : Type 0} (key : Q → ℕ × G) (new_key : P → ℕ ×
   keys_arrived [] = refl
   keys_arrived (c ∷ carried) = ap (λ (ps : List (ℕ × Gen)). new_key c.to ∷ ps) (keys_arrived carried)
 
-  -- each link carried over is a move
-  each_goes : (es : List ((ℕ × G) × U)) (carried : List (Carried Q P U T)) → ((i : ℕ) → found i es ≡ before i)
+  -- Each link carried over is a move.
+  each_moved : (es : List ((ℕ × G) × U)) (carried : List (Carried Q P U T)) → ((i : ℕ) → found i es ≡ before i)
       → AllByRecursion (λ (c : Carried Q P U T). found (old_index key c) es ≡ Some ((key c.from).1, value_in c.value)) carried
       → AllByRecursion (λ (e : (ℕ × Gen) × T). after e.0.0 ≡ Some (e.0.1, e.1)) (arrived carried) → AllByRecursion (IsMove (λ (c : Carried Q P U T). key c.from) (λ (c : Carried Q P U T). new_key c.to) IsMapped before after) carried
-  each_goes es [] was_read was_stored are_stored = tt
-  each_goes es (c ∷ carried) was_read was_stored are_stored = (
+  each_moved es [] was_read was_stored are_stored = tt
+  each_moved es (c ∷ carried) was_read was_stored are_stored = (
     (
       record { value = value_in c.value; stored = sym (was_read (key c.from).0) ∙ was_stored.0 },
       record { value = c.returned; stored = are_stored.0 },
       (refl, refl),
     ),
-    each_goes es carried was_read was_stored.1 are_stored.1,
+    each_moved es carried was_read was_stored.1 are_stored.1,
   )
 
--- a transfer moves pointers
+-- A transfer moves pointers.
 pub transfer_moves_pointers : {Q P G Gen U T F : Type 0} (key : Q → ℕ × G) (new_key : P → ℕ × Gen) (following : G → G) (wraps : G → Bool) (call : Mut F (Q × (InvalidationOption U × (P × Unit {0}))) T)
     → TransferMovesPointers key new_key following wraps call
 transfer_moves_pointers {Q} {P} {G} {Gen} {U} {T} {F} key new_key following wraps call generation f source source_after links old new before was_read are_stored transfer =
     all_moved (λ (c : Carried Q P U T). key c.from) (λ (c : Carried Q P U T). new_key c.to) (λ c u t. IsMapped c u t) before (entry new) links (map (old_index key) transfer.carried) (entries (values_of new)) transfer.carried
-    transfer.order are_stored (entries_rise (values_of new)) (found-entries (values_of new)) refl (keys_arrived key new_key before (entry new) transfer.carried ∙ sym (ap (map (λ (e : (ℕ × Gen) × T). e.0)) transfer.values))
-    (each_goes key new_key before (entry new) source.entries transfer.carried was_read (recursion_from_All _ transfer.carried transfer.was_stored)
+    transfer.order are_stored (entries_ascend (values_of new)) (found-entries (values_of new)) refl (keys_arrived key new_key before (entry new) transfer.carried ∙ sym (ap (map (λ (e : (ℕ × Gen) × T). e.0)) transfer.values))
+    (each_moved key new_key before (entry new) source.entries transfer.carried was_read (recursion_from_All _ transfer.carried transfer.was_stored)
     (subst (AllByRecursion (λ (e : (ℕ × Gen) × T). entry new e.0.0 ≡ Some (e.0.1, e.1))) transfer.values
-    (each_found 1 (entries (values_of new)) (entry new) (entries_rise (values_of new)) (λ j below. sym (found-entries (values_of new) j)))))
+    (each_found 1 (entries (values_of new)) (entry new) (entries_ascend (values_of new)) (λ j below. sym (found-entries (values_of new) j)))))

@@ -5,18 +5,18 @@ use Rattle.std.specs.Option.{option_map}
 use Rattle.std.proofs.lemmas.List.{append-nil, map-append}
 use Rattle.std.proofs.lemmas.Bool.{lt-leb, eq-eqb, ne_eqb}
 use Rattle.arena_base.specs.Arena.{Arena, IsValid, slot_at, with_slot, entry_at}
-use Rattle.arena_base.specs.Entries.{found, replaced, first_key, RisesFrom}
-use Rattle.arena_base.specs.EntryLaws.{entries_rise, found-entries}
+use Rattle.arena_base.specs.Entries.{found, replaced, first_key, AscendsFrom}
+use Rattle.arena_base.specs.EntryLaws.{entries_ascend, found-entries}
 use Rattle.arena_base.specs.Advancers.{entries_at_or_above, ahead, cursor_after, IsAdvance}
 use Rattle.arena_base.specs.Compressions.{values_in}
 use Rattle.arena_base.specs.declared.cursor.Cursor.{Cursor}
 use Rattle.arena_base.specs.declared.cursor.Cursor.TheVariants.{Up}
 use Rattle.chain_links.specs.ChainArena.{LinkView, on_value, with_each, with_link_value, with_value_at, values_of, link_map, value_view, entry}
 use Rattle.chain_arena.specs.Recasts.{link_without_value, AreAllRecast, IsRecast, IsRecastAt}
-use Rattle.chain_traits.proofs.GenericArenaLemmas.{entries_at_or_above-rises}
+use Rattle.chain_traits.proofs.GenericArenaLemmas.{entries_at_or_above-ascends}
 use Rattle.chain_links.proofs.MappedArenaLemmas.{map-with_slot, slot_at-map}
 
--- writing back what a slot holds changes nothing
+-- Writing back what a slot holds changes nothing.
 with_slot-own : {X : Type 0} (slots : List (Option X)) (n : ℕ) → with_slot slots n (slot_at slots n) ≡ slots
 with_slot-own slots zero = refl
 with_slot-own {X} slots (suc k) = by slots k where
@@ -26,11 +26,11 @@ with_slot-own {X} slots (suc k) = by slots k where
   by (x ∷ xs) (suc j) = ap (λ rest. x ∷ rest) (by xs j)
 
 module _ {Gen T : Type 0} where
-  -- an entry without its value
+  -- An entry without its value.
   abbrev bare : Option (Gen × LinkView T) → Option (Gen × LinkView (Unit {0}))
   bare o = option_map (on_value link_without_value) o
 
-  -- a write of a value keeps everything else
+  -- A write of a value keeps everything else.
   pub value-written : (a : Arena Gen (LinkView T)) (i : ℕ) (t : T) → with_each link_without_value (with_value_at a i t) ≡ with_each link_without_value a
   value-written a i t = ap (λ (slots : List (Option (Gen × LinkView (Unit {0})))). let b : Arena Gen (LinkView (Unit {0})) = record (with_each link_without_value a) { slots = slots } in b)
       (map-with_slot bare a.slots i (option_map (on_value (with_link_value t)) (entry_at a i))
@@ -44,35 +44,35 @@ module _ {Gen T : Type 0} where
   value_or other None = other
   value_or other (Some e) = e.1
 
-  -- an entry after others
-  rises_to : (front : List ((ℕ × Gen) × T)) (e : (ℕ × Gen) × T) (rest : List ((ℕ × Gen) × T)) (m : ℕ) → RisesFrom m (front ++ e ∷ rest) → m ≤ e.0.0
-  rises_to [] e rest m rises = rises.0
-  rises_to (f ∷ front) e rest m rises = let later = rises_to front e rest (suc f.0.0) rises.1 in omega (arith, rises.0, later)
+  -- An entry after others.
+  ascends_to : (front : List ((ℕ × Gen) × T)) (e : (ℕ × Gen) × T) (rest : List ((ℕ × Gen) × T)) (m : ℕ) → AscendsFrom m (front ++ e ∷ rest) → m ≤ e.0.0
+  ascends_to [] e rest m ascends = ascends.0
+  ascends_to (f ∷ front) e rest m ascends = let later = ascends_to front e rest (suc f.0.0) ascends.1 in omega (arith, ascends.0, later)
 
-  found-behind : (front : List ((ℕ × Gen) × T)) (e : (ℕ × Gen) × T) (rest : List ((ℕ × Gen) × T)) (m : ℕ) → RisesFrom m (front ++ e ∷ rest) → found e.0.0 (front ++ e ∷ rest) ≡ Some (e.0.1, e.1)
-  found-behind [] e rest m rises = ap (λ b. cond b (Some (e.0.1, e.1)) (found e.0.0 rest)) (eq-eqb e.0.0 e.0.0 refl)
-  found-behind (f ∷ front) e rest m rises =
-      let below = rises_to front e rest (suc f.0.0) rises.1 in
+  found-behind : (front : List ((ℕ × Gen) × T)) (e : (ℕ × Gen) × T) (rest : List ((ℕ × Gen) × T)) (m : ℕ) → AscendsFrom m (front ++ e ∷ rest) → found e.0.0 (front ++ e ∷ rest) ≡ Some (e.0.1, e.1)
+  found-behind [] e rest m ascends = ap (λ b. cond b (Some (e.0.1, e.1)) (found e.0.0 rest)) (eq-eqb e.0.0 e.0.0 refl)
+  found-behind (f ∷ front) e rest m ascends =
+      let below = ascends_to front e rest (suc f.0.0) ascends.1 in
       ap (λ b. cond b (Some (f.0.1, f.1)) (found e.0.0 (front ++ e ∷ rest))) (ne_eqb f.0.0 e.0.0 (λ same. omega (arith, below, same)))
-      ∙ found-behind front e rest (suc f.0.0) rises.1
+      ∙ found-behind front e rest (suc f.0.0) ascends.1
 
-  replaced-behind : (u : T) (front : List ((ℕ × Gen) × T)) (e : (ℕ × Gen) × T) (rest : List ((ℕ × Gen) × T)) (m : ℕ) → RisesFrom m (front ++ e ∷ rest)
+  replaced-behind : (u : T) (front : List ((ℕ × Gen) × T)) (e : (ℕ × Gen) × T) (rest : List ((ℕ × Gen) × T)) (m : ℕ) → AscendsFrom m (front ++ e ∷ rest)
       → replaced e.0.0 (λ (x : Gen × T). (x.0, u)) (front ++ e ∷ rest) ≡ front ++ (e.0, u) ∷ rest
-  replaced-behind u [] e rest m rises =
+  replaced-behind u [] e rest m ascends =
       ap (λ b. cond b ((e.0, u) ∷ rest) (e ∷ replaced e.0.0 (λ (x : Gen × T). (x.0, u)) rest)) (eq-eqb e.0.0 e.0.0 refl)
-  replaced-behind u (f ∷ front) e rest m rises =
-      let below = rises_to front e rest (suc f.0.0) rises.1 in
+  replaced-behind u (f ∷ front) e rest m ascends =
+      let below = ascends_to front e rest (suc f.0.0) ascends.1 in
       let left = replaced e.0.0 (λ (x : Gen × T). (x.0, u)) (front ++ e ∷ rest) in
       ap (λ b. cond b (((e.0.0, f.0.1), u) ∷ front ++ e ∷ rest) (f ∷ left)) (ne_eqb f.0.0 e.0.0 (λ same. omega (arith, below, same)))
-      ∙ ap (λ es. f ∷ es) (replaced-behind u front e rest (suc f.0.0) rises.1)
+      ∙ ap (λ es. f ∷ es) (replaced-behind u front e rest (suc f.0.0) ascends.1)
 
-  entries_at_or_above-behind : (front : List ((ℕ × Gen) × T)) (e : (ℕ × Gen) × T) (rest : List ((ℕ × Gen) × T)) (m : ℕ) → RisesFrom m (front ++ e ∷ rest) → entries_at_or_above (e.0.0 + 1) (front ++ e ∷ rest) ≡ rest
-  entries_at_or_above-behind [] e rest m rises =
-      ap (λ b. cond b (e ∷ rest) (entries_at_or_above (e.0.0 + 1) rest)) (lt-leb (e.0.0 + 1) e.0.0 (omega arith)) ∙ entries_at_or_above-rises (e.0.0 + 1) (suc e.0.0) rest (omega arith) rises.1
-  entries_at_or_above-behind (f ∷ front) e rest m rises =
-      let below = rises_to front e rest (suc f.0.0) rises.1 in
+  entries_at_or_above-behind : (front : List ((ℕ × Gen) × T)) (e : (ℕ × Gen) × T) (rest : List ((ℕ × Gen) × T)) (m : ℕ) → AscendsFrom m (front ++ e ∷ rest) → entries_at_or_above (e.0.0 + 1) (front ++ e ∷ rest) ≡ rest
+  entries_at_or_above-behind [] e rest m ascends =
+      ap (λ b. cond b (e ∷ rest) (entries_at_or_above (e.0.0 + 1) rest)) (lt-leb (e.0.0 + 1) e.0.0 (omega arith)) ∙ entries_at_or_above-ascends (e.0.0 + 1) (suc e.0.0) rest (omega arith) ascends.1
+  entries_at_or_above-behind (f ∷ front) e rest m ascends =
+      let below = ascends_to front e rest (suc f.0.0) ascends.1 in
       ap (λ b. cond b (f ∷ front ++ e ∷ rest) (entries_at_or_above (e.0.0 + 1) (front ++ e ∷ rest))) (lt-leb (e.0.0 + 1) f.0.0 (omega (arith, below)))
-      ∙ entries_at_or_above-behind front e rest (suc f.0.0) rises.1
+      ∙ entries_at_or_above-behind front e rest (suc f.0.0) ascends.1
 
   values-push : (front : List ((ℕ × Gen) × T)) (e : (ℕ × Gen) × T) (rest : List ((ℕ × Gen) × T)) → values_in (front ++ e ∷ rest) ≡ values_in front ++ e.1 ∷ values_in rest
   values-push front e rest = map-append (λ (x : (ℕ × Gen) × T). x.1) front (e ∷ rest)
@@ -85,8 +85,8 @@ module _ {T I : Type 0} (recasts : T → T → Result (Unit {0}) I → Type 0) w
   all_pushed (x ∷ ts) [] t u all recast = absurd all
 
   module _ {Gen : Type 0} where
-    -- the values so far are recast, and the rest are ahead
-    pub record IsRecasting (old now : Arena Gen (LinkView T)) (lookup : Cursor) : Type 0 where
+    -- The values so far are recast, and the rest are ahead.
+    pub record IsRecasting (old now : Arena Gen (LinkView T)) (cursor : Cursor) : Type 0 where
       pub were : List T
       pub front : List ((ℕ × Gen) × T)
       pub left : List ((ℕ × Gen) × T)
@@ -94,13 +94,13 @@ module _ {T I : Type 0} (recasts : T → T → Result (Unit {0}) I → Type 0) w
       pub olds : values_in (value_view old).entries ≡ were ++ values_in left
       pub news : (value_view now).entries ≡ front ++ left
       pub all : AreAllRecast recasts were (values_in front)
-      pub lookups : lookup ≡ Up from
+      pub cursor_is : cursor ≡ Up from
       pub ahead : entries_at_or_above from (value_view now).entries ≡ left
       pub rest : with_each link_without_value now ≡ with_each link_without_value old
-      pub reports : link_map now ≡ link_map old
+      pub links : link_map now ≡ link_map old
 
-    pub recasting_begins : (old : Arena Gen (LinkView T)) (lookup : Cursor) → lookup ≡ Up 1 → IsRecasting old old lookup
-    recasting_begins old lookup up = record {
+    pub recasting_begins : (old : Arena Gen (LinkView T)) (cursor : Cursor) → cursor ≡ Up 1 → IsRecasting old old cursor
+    recasting_begins old cursor up = record {
       were = [];
       front = [];
       left = (value_view old).entries;
@@ -108,23 +108,23 @@ module _ {T I : Type 0} (recasts : T → T → Result (Unit {0}) I → Type 0) w
       olds = refl;
       news = refl;
       all = tt;
-      lookups = up;
-      ahead = entries_at_or_above-rises 1 1 (value_view old).entries (le_refl 1) (entries_rise (values_of old));
+      cursor_is = up;
+      ahead = entries_at_or_above-ascends 1 1 (value_view old).entries (le_refl 1) (entries_ascend (values_of old));
       rest = refl;
-      reports = refl;
+      links = refl;
     }
 
-    module _ (old now : Arena Gen (LinkView T)) (lookup : Cursor) (at : IsRecasting old now lookup) where
-      left_ahead : ahead lookup (value_view now).entries ≡ at.left
-      left_ahead = ap (λ (l : Cursor). ahead l (value_view now).entries) at.lookups ∙ at.ahead
+    module _ (old now : Arena Gen (LinkView T)) (cursor : Cursor) (at : IsRecasting old now cursor) where
+      left_ahead : ahead cursor (value_view now).entries ≡ at.left
+      left_ahead = ap (λ (l : Cursor). ahead l (value_view now).entries) at.cursor_is ∙ at.ahead
 
-      -- if nothing is ahead, all values are recast
-      pub recast_all : (after : Cursor) → IsAdvance (value_view now).entries lookup None after → IsRecast recasts old now (Ok tt)
+      -- If nothing is ahead, all values are recast.
+      pub recast_all : (after : Cursor) → IsAdvance (value_view now).entries cursor None after → IsRecast recasts old now (Ok tt)
       recast_all after none = by at.left refl where
         by : (left : List ((ℕ × Gen) × T)) → at.left ≡ left → IsRecast recasts old now (Ok tt)
         by [] empty = record {
           rest = at.rest;
-          reports = at.reports;
+          links = at.links;
           values =
               let olds = at.olds ∙ (ap (λ (l : List ((ℕ × Gen) × T)). at.were ++ values_in l) empty ∙ append-nil at.were) in
               let news = ap values_in (at.news ∙ (ap (λ (l : List ((ℕ × Gen) × T)). at.front ++ l) empty ∙ append-nil at.front)) in
@@ -132,13 +132,13 @@ module _ {T I : Type 0} (recasts : T → T → Result (Unit {0}) I → Type 0) w
         }
         by (e ∷ left) some = absurd (let met = none.first ∙ ap first_key (left_ahead ∙ some) in cc)
 
-      -- the next entry, the first of those that are left
+      -- The next entry, the first of those that are left.
       record IsNext (p : ℕ × Gen) : Type 0 where
         value : T
         later : List ((ℕ × Gen) × T)
         is : at.left ≡ (p, value) ∷ later
 
-      next_is : (p : ℕ × Gen) (after : Cursor) → IsAdvance (value_view now).entries lookup (Some p) after → IsNext p
+      next_is : (p : ℕ × Gen) (after : Cursor) → IsAdvance (value_view now).entries cursor (Some p) after → IsNext p
       next_is p after met = by at.left refl where
         by : (left : List ((ℕ × Gen) × T)) → at.left ≡ left → IsNext p
         by [] empty = absurd (let none = met.first ∙ ap first_key (left_ahead ∙ empty) in cc)
@@ -147,18 +147,18 @@ module _ {T I : Type 0} (recasts : T → T → Result (Unit {0}) I → Type 0) w
             let same : p ≡ e.0 = cc in
             record { value = e.1; later = left; is = some ∙ ap (λ (q : ℕ × Gen). let es : List ((ℕ × Gen) × T) = (q, e.1) ∷ left in es) (sym same) }
 
-      module _ (p : ℕ × Gen) (after : Cursor) (met : IsAdvance (value_view now).entries lookup (Some p) after) where
+      module _ (p : ℕ × Gen) (after : Cursor) (met : IsAdvance (value_view now).entries cursor (Some p) after) where
         abbrev next : IsNext p
         next = next_is p after met
 
         entries_are : (value_view now).entries ≡ at.front ++ (p, next.value) ∷ next.later
         entries_are = at.news ∙ ap (λ es. at.front ++ es) next.is
 
-        rises : RisesFrom 1 (at.front ++ (p, next.value) ∷ next.later)
-        rises = subst (RisesFrom 1) entries_are (entries_rise (values_of now))
+        ascends : AscendsFrom 1 (at.front ++ (p, next.value) ∷ next.later)
+        ascends = subst (AscendsFrom 1) entries_are (entries_ascend (values_of now))
 
         stored : entry now p.0 ≡ Some (p.1, next.value)
-        stored = sym (found-entries (values_of now) p.0) ∙ (ap (found p.0) entries_are ∙ found-behind at.front (p, next.value) next.later 1 rises)
+        stored = sym (found-entries (values_of now) p.0) ∙ (ap (found p.0) entries_are ∙ found-behind at.front (p, next.value) next.later 1 ascends)
 
         pub next_valid : IsValid (entry now) p
         next_valid = record { value = next.value; stored = stored }
@@ -168,7 +168,7 @@ module _ {T I : Type 0} (recasts : T → T → Result (Unit {0}) I → Type 0) w
           was_value = ap (value_or next.value) (sym is.was_stored ∙ stored)
 
           entries_then : (value_view new).entries ≡ at.front ++ (p, is.is) ∷ next.later
-          entries_then = is.entries ∙ (ap (replaced p.0 (λ (x : Gen × T). (x.0, is.is))) entries_are ∙ replaced-behind is.is at.front (p, next.value) next.later 1 rises)
+          entries_then = is.entries ∙ (ap (replaced p.0 (λ (x : Gen × T). (x.0, is.is))) entries_are ∙ replaced-behind is.is at.front (p, next.value) next.later 1 ascends)
 
           rest_then : with_each link_without_value new ≡ with_each link_without_value old
           rest_then = ap (with_each link_without_value) is.state ∙ (value-written now p.0 is.is ∙ at.rest)
@@ -177,20 +177,20 @@ module _ {T I : Type 0} (recasts : T → T → Result (Unit {0}) I → Type 0) w
           olds_then = at.olds ∙ (ap (λ (l : List ((ℕ × Gen) × T)). at.were ++ values_in l) next.is ∙ ap (λ t. at.were ++ t ∷ values_in next.later) (sym was_value))
 
           reports_then : link_map new ≡ link_map old
-          reports_then = is.reports ∙ at.reports
+          reports_then = is.links ∙ at.links
 
           left_then : ahead after (value_view new).entries ≡ next.later
           left_then =
-              let up : after ≡ Up (p.0 + 1) = met.moves ∙ ap (λ (l : Cursor). cursor_after l (Some p)) at.lookups in
+              let up : after ≡ Up (p.0 + 1) = met.moves ∙ ap (λ (l : Cursor). cursor_after l (Some p)) at.cursor_is in
               let es = at.front ++ (p, is.is) ∷ next.later in
               ap₂ (λ (l : Cursor) (xs : List ((ℕ × Gen) × T)). ahead l xs) up entries_then
-              ∙ entries_at_or_above-behind at.front (p, is.is) next.later 1 (subst (RisesFrom 1) entries_then (entries_rise (values_of new)))
+              ∙ entries_at_or_above-behind at.front (p, is.is) next.later 1 (subst (AscendsFrom 1) entries_then (entries_ascend (values_of new)))
 
-          -- fewer entries are left
-          pub fewer_left : length (ahead after (value_view new).entries) < length (ahead lookup (value_view now).entries)
+          -- Fewer entries are left.
+          pub fewer_left : length (ahead after (value_view new).entries) < length (ahead cursor (value_view now).entries)
           fewer_left = let few = ap (λ (l : List ((ℕ × Gen) × T)). length l) left_then in let many = ap (λ (l : List ((ℕ × Gen) × T)). length l) (left_ahead ∙ next.is) in omega (arith, few, many)
 
-          -- one more value is recast
+          -- One more value is recast.
           pub recast_next : returned ≡ Ok tt → IsRecasting old new after
           recast_next ok = record {
             were = at.were ++ is.was ∷ [];
@@ -201,17 +201,17 @@ module _ {T I : Type 0} (recasts : T → T → Result (Unit {0}) I → Type 0) w
             news = entries_then ∙ sym (append_assoc at.front ((p, is.is) ∷ []) next.later);
             all = subst (AreAllRecast recasts (at.were ++ is.was ∷ [])) (sym (values-push at.front (p, is.is) []))
                 (all_pushed at.were (values_in at.front) is.was is.is at.all (subst (recasts is.was is.is) ok is.recast));
-            lookups = met.moves ∙ ap (λ (l : Cursor). cursor_after l (Some p)) at.lookups;
-            ahead = sym (ap (λ (l : Cursor). ahead l (value_view new).entries) (met.moves ∙ ap (λ (l : Cursor). cursor_after l (Some p)) at.lookups)) ∙ left_then;
+            cursor_is = met.moves ∙ ap (λ (l : Cursor). cursor_after l (Some p)) at.cursor_is;
+            ahead = sym (ap (λ (l : Cursor). ahead l (value_view new).entries) (met.moves ∙ ap (λ (l : Cursor). cursor_after l (Some p)) at.cursor_is)) ∙ left_then;
             rest = rest_then;
-            reports = reports_then;
+            links = reports_then;
           }
 
-          -- one value refuses
+          -- One value refuses.
           pub recast_refused : (refusal : I) → returned ≡ Err refusal → IsRecast recasts old new (Err refusal)
           recast_refused refusal err = record {
             rest = rest_then;
-            reports = reports_then;
+            links = reports_then;
             values = record {
               before = at.were;
               recast = values_in at.front;

@@ -31,7 +31,7 @@ use Rattle.chain_links.specs.declared.kinds.InsertKindBody.{InsertKindBody}
 use Rattle.chain_arena.proofs.ChainDrainLemmas.{link_at-entry}
 use Rattle.chain_links.proofs.MappedArenaLemmas.{length-with_each}
 
--- two lists are the same if they are with each value wrapped in `Some`
+-- Two lists are the same if they are with each value wrapped in `Some`.
 same_values : {T : Type 0} (xs ys : List T) → map (λ t. let o : Option T = Some t in o) xs ≡ map (λ t. let o : Option T = Some t in o) ys → xs ≡ ys
 same_values {T} [] [] is = refl
 same_values {T} [] (y ∷ ys) is = absurd (let h = is in cc)
@@ -45,7 +45,7 @@ module _ {Gen T : Type 0} where
   abbrev HasGeneration : Gen → (ℕ × Gen) × T → Type 0
   HasGeneration g e = e.0.1 ≡ g
 
-  -- entries are determined by their indexes, their values and their one generation
+  -- Entries are determined by their indexes, their values and their one generation.
   same_entries : (g : Gen) (es fs : List ((ℕ × Gen) × T)) → map index_of es ≡ map index_of fs → values_in es ≡ values_in fs → All (HasGeneration g) es → All (HasGeneration g) fs → es ≡ fs
   same_entries g [] [] indexes values left right = refl
   same_entries g [] (f ∷ fs) indexes values left right = absurd (let h = indexes in cc)
@@ -59,12 +59,12 @@ module _ {Gen T : Type 0} where
       let one : e ≡ f = ap₂ (λ (k : ℕ × Gen) (t : T). (k, t)) key value in
       ap₂ (λ (x : (ℕ × Gen) × T) (xs : List ((ℕ × Gen) × T)). x ∷ xs) one (same_entries g es fs (cc) (cc) (All-tail (HasGeneration g) e es left) (All-tail (HasGeneration g) f fs right))
 
-  -- what is known of the slots of an arena
+  -- What is known of the slots of an arena.
   abbrev slots_known : Links Gen T → Slots
   slots_known a = record { count = length (values_of a).slots; freed = a.freed; placed = a.placed; touched = a.touched }
 
-  -- arenas are the same but for touches if entries, interlinks and capacities are, and slots are
-  -- filled alike
+  -- Arenas are the same but for touches if entries, interlinks and capacities are, and slots are
+  -- filled alike.
   same_known_alike : (a b : Links Gen T) (count most : ℕ) (old : Slots) → entries (values_of a) ≡ entries (values_of b) → link_map a ≡ link_map b
       → AreFilledAnew count most old (slots_known a) → AreFilledAnew count most old (slots_known b)
       → a.counter ≡ b.counter → a.capacity ≡ b.capacity → a.stack_capacity ≡ b.stack_capacity → a.maximum ≡ b.maximum → AreSameButTouched a b
@@ -93,7 +93,7 @@ module _ {Gen T : Type 0} where
   of_counter g counter es same all = subst (λ (h : Gen). All (HasGeneration h) es) same all
 
   module _ (first : Gen) (following : Gen → Gen) (reset : Bool) (old a b : Links Gen T) where
-    -- a compression is determined but for touches
+    -- A compression is determined but for touches.
     pub compression_same : IsCompression first following reset old a → IsCompression first following reset old b → AreSameButTouched a b
     compression_same one two =
         let both : Some a.counter ≡ Some b.counter = one.view_after.counter ∙ sym two.view_after.counter in
@@ -104,7 +104,7 @@ module _ {Gen T : Type 0} where
         (renaming_is_determined _ (link_map old) (link_map a) (link_map b) one.links.renamed two.links.renamed) one.view_after.slots two.view_after.slots counter
         (one.view_after.capacity ∙ sym two.view_after.capacity) (one.links.stack_capacity ∙ sym two.links.stack_capacity) (one.view_after.maximum ∙ sym two.view_after.maximum)
 
-    -- a canonical compression is determined but for touches
+    -- A canonical compression is determined but for touches.
     pub layout_same : IsCanonicalCompression first following reset old a → IsCanonicalCompression first following reset old b → AreSameButTouched a b
     layout_same one two =
         let x = one.layout in
@@ -120,13 +120,13 @@ module _ {Gen T : Type 0} where
         (renaming_is_determined _ (link_map old) (link_map a) (link_map b) (subst (λ (is : List ℕ). IsRenaming (place_in is) (link_map old) (link_map a)) order x.renamed) y.renamed) x.slots y.slots counter
         (x.capacity ∙ sym y.capacity) (one.stack_capacity ∙ sym two.stack_capacity) (x.maximum ∙ sym y.maximum)
 
--- what a result reports implies what follows from it
+-- What a result reports implies what follows from it.
 states_so : {X : Type 0} {No Not : Type 0} (Done Made : X → Type 0) (overflow : Bool) (r : InvalidationResult X) → (No → Not) → ((x : X) → Done x → Made x) → ReportsOverflow No overflow Done r → ReportsOverflow Not overflow Made r
 states_so Done Made overflow (Success x) not_made made known = (known.0, made x known.1)
 states_so Done Made overflow (GenerationOverflow x) not_made made known = (known.0, made x known.1)
 states_so Done Made overflow InvalidPtr not_made made known = not_made known
 
--- each step stays one with the touches set to n before and after
+-- Each step stays one with the touches set to n before and after.
 module _ (n : ℕ) where
   abbrev pub touch : {Gen T : Type 0} → Links Gen T → Links Gen T
   touch a = record a { touched = n }
@@ -137,16 +137,16 @@ module _ (n : ℕ) where
 
   module _ {Gen T : Type 0} (old new : Links Gen T) where
     join_touched : (i j : ℕ) → IsJoin old new i j → IsJoin (touch old) (touch new) i j
-    join_touched i j made = record { state = ap touch made.state; reports = made.reports; pair = made.pair; chains = made.chains }
+    join_touched i j made = record { state = ap touch made.state; links = made.links; pair = made.pair; chains = made.chains }
 
     cut_touched : (i j : ℕ) → IsCut old new i j → IsCut (touch old) (touch new) i j
-    cut_touched i j made = record { state = ap touch made.state; reports = made.reports; pair = made.pair; chains = made.chains }
+    cut_touched i j made = record { state = ap touch made.state; links = made.links; pair = made.pair; chains = made.chains }
 
     exchange_touched : (i j : ℕ) → IsExchange old new i j → IsExchange (touch old) (touch new) i j
-    exchange_touched i j made = record { state = ap touch made.state; reports = made.reports; pairs = made.pairs; chains = made.chains }
+    exchange_touched i j made = record { state = ap touch made.state; links = made.links; pairs = made.pairs; chains = made.chains }
 
     removal_touched : (following : Gen → Gen) (i : ℕ) → IsRemoval following old i new → IsRemoval following (touch old) i (touch new)
-    removal_touched following i made = record { state = ap touch made.state; reports = made.reports; chains = made.chains; pairs = made.pairs }
+    removal_touched following i made = record { state = ap touch made.state; links = made.links; chains = made.chains; pairs = made.pairs }
 
     connects_touched : (p q : ℕ × Gen) (r : Bool) → ConnectStep old p q r new → ConnectStep (touch old) p q r (touch new)
     connects_touched p q false step = (step.0, ap touch step.1)

@@ -15,7 +15,7 @@ use Rattle.chain_arena.specs.Drains.{after_times}
 use Rattle.chain_arena.specs.Transfers.{Carried, old_index, overflows}
 
 module _ {Gen : Type 0} (following : Gen → Gen) (wraps : Gen → Bool) where
-  -- the overflow of one more removal
+  -- The overflow of one more removal.
   overflows-append : (n : ℕ) (g : Gen) → overflows following wraps (n + 1) g ≡ overflows following wraps n g ++ wraps (after_times following n g) ∷ []
   overflows-append n g = ap (λ m. overflows following wraps m g) (let e : n + 1 ≡ suc n = omega arith in e) ∙ longer n g
     where
@@ -24,7 +24,7 @@ module _ {Gen : Type 0} (following : Gen → Gen) (wraps : Gen → Bool) where
       longer (suc n) g = ap (λ bs. wraps g ∷ bs) (longer n (following g))
 
 module _ {Q P G Gen U T F : Type 0} (key : Q → ℕ × G) (new_key : P → ℕ × Gen) (following : G → G) (wraps : G → Bool) (call : Mut F (Q × (InvalidationOption U × (P × Unit {0}))) T) where
-  -- the closure was called for the links at these indexes, in order
+  -- The closure was called for the links at these indexes, in order.
   pub record AreCalled (generation : Gen) (first : F) (source : ArenaView G U) (order : List ℕ) (f : F) (carried : List (Carried Q P U T)) : Type 0 where
     pub ordered : map (old_index key) carried ≡ order
     pub keys : map (λ c. new_key c.to) carried ≡ map (λ k. (k, generation)) (range_with_len 1 (length carried))
@@ -39,13 +39,13 @@ module _ {Q P G Gen U T F : Type 0} (key : Q → ℕ × G) (new_key : P → ℕ 
       none None = tt
       none (Some g) = refl
 
-  -- one more call
-  pub calls_go_on : (generation : Gen) (first : F) (source : ArenaView G U) (order : List ℕ) (f : F) (carried : List (Carried Q P U T)) → AreCalled generation first source order f carried
+  -- One more call.
+  pub calls_continue : (generation : Gen) (first : F) (source : ArenaView G U) (order : List ℕ) (f : F) (carried : List (Carried Q P U T)) → AreCalled generation first source order f carried
       → (c : Carried Q P U T) (next : F) → found (old_index key c) source.entries ≡ Some ((key c.from).1, value_in c.value) → new_key c.to ≡ (length carried + 1, generation)
       → Called call f (c.from, (c.value, (c.to, tt))) c.returned next
       → IfSome (option_map (after_times following (length carried)) source.counter) (λ g. is_overflow c.value ≡ wraps g)
       → AreCalled generation first source (order ++ old_index key c ∷ []) next (carried ++ c ∷ [])
-  calls_go_on generation first source order f carried are c next was_stored at called overflow = record {
+  calls_continue generation first source order f carried are c next was_stored at called overflow = record {
     ordered = map-append (old_index key) carried (c ∷ []) ∙ ap (λ (xs : List ℕ). xs ++ old_index key c ∷ []) are.ordered;
     keys = keyed;
     in_turn = FoldsTo-push _ first carried f c next are.in_turn called;

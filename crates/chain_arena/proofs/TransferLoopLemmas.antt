@@ -21,16 +21,16 @@ use Rattle.chain_laws.proofs.TransferLemmas.Source.{items_left}
 use Rattle.chain_laws.proofs.TransferLemmas.Target.{all_items-append, items_arranged, arranged-length, arranged_between}
 use Rattle.chain_laws.proofs.RenamingLemmas.ChainRuns.{runs_are_renumbered}
 use Rattle.arena_base.specs.Arena.{Arena, IsListed, entry_count, next_index}
-use Rattle.arena_base.specs.Entries.{ArenaView, found, entry_removed, RisesFrom}
+use Rattle.arena_base.specs.Entries.{ArenaView, found, entry_removed, AscendsFrom}
 use Rattle.arena_base.specs.declared.cursor.Cursor.{Cursor}
 use Rattle.arena_base.specs.declared.cursor.Cursor.TheVariants.{Up}
 use Rattle.chain_links.specs.ChainArena.{LinkView, link_map, insert_between}
 use Rattle.chain_arena.specs.Drains.{after_times}
 use Rattle.chain_arena.specs.Transfers.{Carried, old_index, entries_removed, AreEnds, IsTransfer}
 use Rattle.chain_traits.specs.DrainOrder.{IsNextChain}
-use Rattle.chain_arena.proofs.TransferTargetLemmas.{IsLanded, landing_begins, landing_goes_on, next_behind, position_at_end, count_landed}
-use Rattle.chain_arena.proofs.TransferSourceLemmas.{IsDeparting, StoredFound, rises_up, entries_left, departs_next, departs_on, first_found, all_departed, found-entries_removed, counter-entries_removed}
-use Rattle.chain_arena.proofs.TransferClosureLemmas.{AreCalled, calls_begin, calls_go_on}
+use Rattle.chain_arena.proofs.TransferTargetLemmas.{IsLanded, landing_begins, landing_continues, next_behind, position_at_end, count_landed}
+use Rattle.chain_arena.proofs.TransferSourceLemmas.{IsDeparting, StoredFound, ascends_up, entries_left, departs_next, departs_on, first_found, all_departed, found-entries_removed, counter-entries_removed}
+use Rattle.chain_arena.proofs.TransferClosureLemmas.{AreCalled, calls_begin, calls_continue}
 
 left_none : (left : List ℕ) → None ≡ first_or left None → left ≡ []
 left_none [] e = refl
@@ -40,7 +40,7 @@ left_some : (left : List ℕ) (i : ℕ) → Some i ≡ first_or left None → (x
 left_some [] i e = absurd (cc)
 left_some (x ∷ xs) i e = (xs, cc)
 
--- if no chain is left, no part of one is
+-- If no chain is left, no part of one is.
 none_left : (ring : Bool) (left : List ℕ) (rest : List Chain) → with_rest ring left rest ≡ [] → (left ≡ []) × (rest ≡ [])
 none_left ring [] rest e = (refl, e)
 none_left ring (x ∷ xs) rest e = absurd (cc)
@@ -50,8 +50,8 @@ module _ {Q P G Gen I U T F : Type 0} (key : Q → ℕ × G) (new_key : P → �
   abbrev entered : List (Carried Q P U T) → List ((ℕ × Gen) × T)
   entered carried = map (λ (c : Carried Q P U T). (new_key c.to, c.returned)) carried
 
-  -- k links are carried over: some whole chains, and a part of the next
-  pub record IsCarrying (k : ℕ) (view_after : ArenaView G U) (links : LinkMap) (lookups : Cursor) (on : Option ℕ) (ring : Bool) (ends : Option (I × I)) (f : F) (now : Arena Gen (LinkView T)) : Type 0 where
+  -- k links are carried over: some whole chains, and a part of the next.
+  pub record IsCarrying (k : ℕ) (view_after : ArenaView G U) (links : LinkMap) (cursor : Cursor) (on : Option ℕ) (ring : Bool) (ends : Option (I × I)) (f : F) (now : Arena Gen (LinkView T)) : Type 0 where
     pub chains : List Chain
     pub are : AreTheChains interlinks chains
     pub done : List Chain
@@ -59,7 +59,7 @@ module _ {Q P G Gen I U T F : Type 0} (key : Q → ℕ × G) (new_key : P → �
     pub left : List ℕ
     pub rest : List Chain
     pub parts : chains ≡ done ++ with_rest ring (taken ++ left) rest
-    pub departing : IsDeparting following source view_after links lookups ring left rest (all_items (with_appended done ring taken))
+    pub departing : IsDeparting following source view_after links cursor ring left rest (all_items (with_appended done ring taken))
     pub next : on ≡ first_or left None
     pub carried : List (Carried Q P U T)
     pub called : AreCalled key new_key following wraps call start.counter first source (all_items (with_appended done ring taken)) f carried
@@ -67,10 +67,10 @@ module _ {Q P G Gen I U T F : Type 0} (key : Q → ℕ × G) (new_key : P → �
     pub count : k ≡ length carried
     pub bounds : AreEnds number ends (length taken) (k + 1)
 
-  -- no link is carried over yet
-  pub carrying_begins : (greatest : ℕ) (lookups : Cursor) (ring : Bool) → IsWellLinked interlinks → HasLinksWithin interlinks greatest → start.slots ≡ [] → lookups ≡ Up 1
-      → IsCarrying 0 source interlinks lookups None ring None first start
-  carrying_begins greatest lookups ring agrees within none up =
+  -- No link is carried over yet.
+  pub carrying_begins : (greatest : ℕ) (cursor : Cursor) (ring : Bool) → IsWellLinked interlinks → HasLinksWithin interlinks greatest → start.slots ≡ [] → cursor ≡ Up 1
+      → IsCarrying 0 source interlinks cursor None ring None first start
+  carrying_begins greatest cursor ring agrees within none up =
       let all = the_chains interlinks greatest agrees within in
       record {
         chains = all.0;
@@ -97,15 +97,15 @@ module _ {Q P G Gen I U T F : Type 0} (key : Q → ℕ × G) (new_key : P → �
         bounds = refl;
       }
 
-  module _ (k : ℕ) (view_after : ArenaView G U) (links : LinkMap) (lookups : Cursor) (ring : Bool) (ends : Option (I × I)) (f : F) (now : Arena Gen (LinkView T)) (stored : StoredFound links view_after) where
-    -- the next chain begins
-    pub carries_next : IsCarrying k view_after links lookups None ring ends f now → (here : ℕ) (cyclic : Bool) (after : Cursor) → IsNextChain view_after links here cyclic after
+  module _ (k : ℕ) (view_after : ArenaView G U) (links : LinkMap) (cursor : Cursor) (ring : Bool) (ends : Option (I × I)) (f : F) (now : Arena Gen (LinkView T)) (stored : StoredFound links view_after) where
+    -- The next chain begins.
+    pub carries_next : IsCarrying k view_after links cursor None ring ends f now → (here : ℕ) (cyclic : Bool) (after : Cursor) → IsNextChain view_after links here cyclic after
         → IsCarrying k view_after links after (Some here) cyclic None f now
     carries_next c here cyclic after next =
         let none = left_none c.left c.next in
-        let departing : IsDeparting following source view_after links lookups ring [] c.rest (all_items (with_appended c.done ring c.taken)) =
-        subst (λ (l : List ℕ). IsDeparting following source view_after links lookups ring l c.rest (all_items (with_appended c.done ring c.taken))) none c.departing in
-        let w = departs_next following source view_after links lookups ring c.rest (all_items (with_appended c.done ring c.taken)) stored departing here cyclic after next in
+        let departing : IsDeparting following source view_after links cursor ring [] c.rest (all_items (with_appended c.done ring c.taken)) =
+        subst (λ (l : List ℕ). IsDeparting following source view_after links cursor ring l c.rest (all_items (with_appended c.done ring c.taken))) none c.departing in
+        let w = departs_next following source view_after links cursor ring c.rest (all_items (with_appended c.done ring c.taken)) stored departing here cyclic after next in
         record {
           chains = c.chains;
           are = c.are;
@@ -125,49 +125,49 @@ module _ {Q P G Gen I U T F : Type 0} (key : Q → ℕ × G) (new_key : P → �
           bounds = refl;
         }
 
-    -- the remaining links are well linked
-    pub agrees_left : (on : Option ℕ) → IsCarrying k view_after links lookups on ring ends f now → IsWellLinked links
+    -- The remaining links are well linked.
+    pub agrees_left : (on : Option ℕ) → IsCarrying k view_after links cursor on ring ends f now → IsWellLinked links
     agrees_left on c = agrees_from_chains links (with_rest ring c.left c.rest) c.departing.chains
 
-    -- between two chains, no remaining entry is below the advancer's index
-    pub lookups_up : (on : Option ℕ) → on ≡ None → IsCarrying k view_after links lookups on ring ends f now → RisesFrom 1 view_after.entries → (from : ℕ) × (lookups ≡ Up from) × RisesFrom from view_after.entries
-    lookups_up on none c rises =
-        let departing = subst (λ (l : List ℕ). IsDeparting following source view_after links lookups ring l c.rest (all_items (with_appended c.done ring c.taken))) (left_none c.left (sym none ∙ c.next)) c.departing in
-        (departing.from, departing.up, rises_up following source view_after links lookups ring c.rest (all_items (with_appended c.done ring c.taken)) stored departing rises)
+    -- Between two chains, no remaining entry is below the advancer's index.
+    pub cursor_up : (on : Option ℕ) → on ≡ None → IsCarrying k view_after links cursor on ring ends f now → AscendsFrom 1 view_after.entries → (from : ℕ) × (cursor ≡ Up from) × AscendsFrom from view_after.entries
+    cursor_up on none c ascends =
+        let departing = subst (λ (l : List ℕ). IsDeparting following source view_after links cursor ring l c.rest (all_items (with_appended c.done ring c.taken))) (left_none c.left (sym none ∙ c.next)) c.departing in
+        (departing.from, departing.up, ascends_up following source view_after links cursor ring c.rest (all_items (with_appended c.done ring c.taken)) stored departing ascends)
 
-    -- some entries are left unless all links are carried over
-    pub some_left : (on : Option ℕ) → IsCarrying k view_after links lookups on ring ends f now → k < length source.entries → view_after.entries ≢ []
+    -- Some entries are left unless all links are carried over.
+    pub some_left : (on : Option ℕ) → IsCarrying k view_after links cursor on ring ends f now → k < length source.entries → view_after.entries ≢ []
     some_left on c few =
-        entries_left following source view_after links lookups ring c.rest (all_items (with_appended c.done ring c.taken)) stored c.left c.departing
+        entries_left following source view_after links cursor ring c.rest (all_items (with_appended c.done ring c.taken)) stored c.left c.departing
         (subst (λ n. n < length source.entries) (c.count ∙ (sym (length-map c.carried (old_index key)) ∙ ap length c.called.ordered)) few)
 
-    -- the next link to take, in the current chain or in the next
-    pub carries_next_link : {J : Type 0} (index : J → ℕ) (on : Option J) (i : ℕ) (cyclic : Bool) (arranged : Option (I × I)) (after : Cursor) → IsCarrying k view_after links lookups (option_map index on) ring ends f now
-        → IfSome on (λ j. (i ≡ index j) × (cyclic ≡ ring) × (after ≡ lookups)) → IfNone on (IsNextChain view_after links i cyclic after) → arranged ≡ option_and on ends
+    -- The next link to take, in the current chain or in the next.
+    pub carries_next_link : {J : Type 0} (index : J → ℕ) (on : Option J) (i : ℕ) (cyclic : Bool) (arranged : Option (I × I)) (after : Cursor) → IsCarrying k view_after links cursor (option_map index on) ring ends f now
+        → IfSome on (λ j. (i ≡ index j) × (cyclic ≡ ring) × (after ≡ cursor)) → IfNone on (IsNextChain view_after links i cyclic after) → arranged ≡ option_and on ends
         → IsCarrying k view_after links after (Some i) cyclic arranged f now
-    carries_next_link index (Some j) i cyclic arranged after c goes begins is =
-        subst (λ (l : Cursor). IsCarrying k view_after links l (Some i) cyclic arranged f now) (sym goes.2)
-        (subst (λ (e : Option (I × I)). IsCarrying k view_after links lookups (Some i) cyclic e f now) (sym is)
-        (subst (λ (r : Bool). IsCarrying k view_after links lookups (Some i) r ends f now) (sym goes.1)
-        (subst (λ (n : ℕ). IsCarrying k view_after links lookups (Some n) ring ends f now) (sym goes.0) c)))
-    carries_next_link index None i cyclic arranged after c goes begins is =
+    carries_next_link index (Some j) i cyclic arranged after c advanced begins is =
+        subst (λ (l : Cursor). IsCarrying k view_after links l (Some i) cyclic arranged f now) (sym advanced.2)
+        (subst (λ (e : Option (I × I)). IsCarrying k view_after links cursor (Some i) cyclic e f now) (sym is)
+        (subst (λ (r : Bool). IsCarrying k view_after links cursor (Some i) r ends f now) (sym advanced.1)
+        (subst (λ (n : ℕ). IsCarrying k view_after links cursor (Some n) ring ends f now) (sym advanced.0) c)))
+    carries_next_link index None i cyclic arranged after c advanced begins is =
         subst (λ (e : Option (I × I)). IsCarrying k view_after links after (Some i) cyclic e f now) (sym is) (carries_next c i cyclic after begins)
 
-    module _ (i : ℕ) (c : IsCarrying k view_after links lookups (Some i) ring ends f now) where
-      -- the link to take exists
+    module _ (i : ℕ) (c : IsCarrying k view_after links cursor (Some i) ring ends f now) where
+      -- The link to take exists.
       abbrev xs : List ℕ
       xs = (left_some c.left i c.next).0
 
       is_left : c.left ≡ i ∷ xs
       is_left = (left_some c.left i c.next).1
 
-      departing : IsDeparting following source view_after links lookups ring (i ∷ xs) c.rest (all_items (with_appended c.done ring c.taken))
-      departing = subst (λ (l : List ℕ). IsDeparting following source view_after links lookups ring l c.rest (all_items (with_appended c.done ring c.taken))) is_left c.departing
+      departing : IsDeparting following source view_after links cursor ring (i ∷ xs) c.rest (all_items (with_appended c.done ring c.taken))
+      departing = subst (λ (l : List ℕ). IsDeparting following source view_after links cursor ring l c.rest (all_items (with_appended c.done ring c.taken))) is_left c.departing
 
       pub link_stored : is_some (found i view_after.entries) ≡ true
-      link_stored = first_found following source view_after links lookups ring c.rest (all_items (with_appended c.done ring c.taken)) stored i xs departing
+      link_stored = first_found following source view_after links cursor ring c.rest (all_items (with_appended c.done ring c.taken)) stored i xs departing
 
-      -- no link carried over had its index
+      -- No link carried over had its index.
       apart : IsMember (all_items (with_appended c.done ring c.taken)) i → ⊥
       apart h =
           let all : all_items c.chains ≡ all_items c.done ++ ((c.taken ++ i ∷ xs) ++ all_items c.rest) =
@@ -178,7 +178,7 @@ module _ {Q P G Gen I U T F : Type 0} (key : Q → ℕ × G) (new_key : P → �
           ∙ (sym (append_assoc (all_items c.done) c.taken (i ∷ xs ++ all_items c.rest)) ∙ ap (λ (zs : List ℕ). zs ++ (i ∷ xs ++ all_items c.rest)) (sym (items_arranged c.done ring c.taken))) in
           AreDistinct-apart (all_items (with_appended c.done ring c.taken)) (i ∷ xs ++ all_items c.rest) i (subst AreDistinct (all ∙ before) c.are.partition.once) h (inl refl)
 
-      -- its entry is as it was in the source
+      -- Its entry is as it was in the source.
       pub as_before : found i view_after.entries ≡ found i source.entries
       as_before = ap (λ (s : ArenaView G U). found i s.entries) c.departing.same ∙ found-entries_removed following source (all_items (with_appended c.done ring c.taken)) i apart
 
@@ -193,9 +193,9 @@ module _ {Q P G Gen I U T F : Type 0} (key : Q → ℕ × G) (new_key : P → �
       values_long : length (entered c.carried) ≡ length (all_items c.done) + length c.taken
       values_long = length-map c.carried (λ (d : Carried Q P U T). (new_key d.to, d.returned)) ∙ (sym long ∙ arranged-length c.done ring c.taken)
 
-      -- the number of links carried over
-      come : length (entered c.carried) ≡ k
-      come = length-map c.carried (λ (d : Carried Q P U T). (new_key d.to, d.returned)) ∙ sym c.count
+      -- The number of links carried over.
+      counted_next : length (entered c.carried) ≡ k
+      counted_next = length-map c.carried (λ (d : Carried Q P U T). (new_key d.to, d.returned)) ∙ sym c.count
 
       arranged_more : all_items (with_appended c.done ring (c.taken ++ i ∷ [])) ≡ all_items (with_appended c.done ring c.taken) ++ i ∷ []
       arranged_more =
@@ -205,23 +205,23 @@ module _ {Q P G Gen I U T F : Type 0} (key : Q → ℕ × G) (new_key : P → �
       parts_more : c.chains ≡ c.done ++ with_rest ring ((c.taken ++ i ∷ []) ++ xs) c.rest
       parts_more = c.parts ∙ ap (λ (l : List ℕ). c.done ++ with_rest ring l c.rest) (ap (λ (l : List ℕ). c.taken ++ l) is_left ∙ sym (append_assoc c.taken (i ∷ []) xs))
 
-      -- the index of the next link
-      pub comes_at : start.freed ≡ [] → next_index now ≡ k + 1
-      comes_at unfreed = next_behind start now c.done ring c.taken (entered c.carried) c.landed unfreed ∙ ap (λ n. n + 1) come
+      -- The index of the next link.
+      pub next_index_at : start.freed ≡ [] → next_index now ≡ k + 1
+      next_index_at unfreed = next_behind start now c.done ring c.taken (entered c.carried) c.landed unfreed ∙ ap (λ n. n + 1) counted_next
 
       pub bounds_at : start.freed ≡ [] → AreEnds number ends (length c.taken) (next_index now)
-      bounds_at unfreed = subst (AreEnds number ends (length c.taken)) (sym (comes_at unfreed)) c.bounds
+      bounds_at unfreed = subst (AreEnds number ends (length c.taken)) (sym (next_index_at unfreed)) c.bounds
 
       pub position_at : start.freed ≡ [] → (u v : Option ℕ) → u ≡ end_before ring (length c.taken) (next_index now) → v ≡ end_after ring (length c.taken) (next_index now) → IsInsertPosition (link_map now) (next_index now) u v
       position_at unfreed u v before after =
           subst₂ (IsInsertPosition (link_map now) (next_index now)) (sym before) (sym after) (position_at_end start now c.done ring c.taken (entered c.carried) c.landed unfreed values_long)
 
-      -- the target has capacity for it
+      -- The target has capacity for it.
       pub capacity_at : start.freed ≡ [] → (within_capacity : ℕ) → k < within_capacity → within_capacity ≤ start.capacity → entry_count now < now.capacity
       capacity_at unfreed within_capacity few fits =
           let have : entry_count now ≡ length (entered c.carried) = count_landed start now c.done ring c.taken (entered c.carried) c.landed unfreed in
           let same : now.capacity ≡ start.capacity = ap (λ (a : Arena Gen (LinkView T)). a.capacity) c.landed.state in
-          omega (arith, have, come, same, few, fits)
+          omega (arith, have, counted_next, same, few, fits)
 
       module _ (unfreed : start.freed ≡ []) (listed : IsListed now) (q : Q) (value : InvalidationOption U) (to : P) (t : T) (next : F)
           (was_stored : found i view_after.entries ≡ Some ((key q).1, value_in value)) (index : (key q).0 ≡ i) (at : new_key to ≡ (k + 1, start.counter))
@@ -235,14 +235,14 @@ module _ {Q P G Gen I U T F : Type 0} (key : Q → ℕ × G) (new_key : P → �
         entered_more : entered (c.carried ++ link ∷ []) ≡ entered c.carried ++ ((length (entered c.carried) + 1, start.counter), t) ∷ []
         entered_more =
             map-append (λ (d : Carried Q P U T). (new_key d.to, d.returned)) c.carried (link ∷ [])
-            ∙ ap (λ (p : ℕ × Gen). entered c.carried ++ (p, t) ∷ []) (at ∙ ap (λ n. let p : ℕ × Gen = (n + 1, start.counter) in p) (sym come))
+            ∙ ap (λ (p : ℕ × Gen). entered c.carried ++ (p, t) ∷ []) (at ∙ ap (λ n. let p : ℕ × Gen = (n + 1, start.counter) in p) (sym counted_next))
 
         called_more : IfSome view_after.counter (λ g. is_overflow value ≡ wraps g)
             → AreCalled key new_key following wraps call start.counter first source (all_items (with_appended c.done ring (c.taken ++ i ∷ []))) next (c.carried ++ link ∷ [])
         called_more overflow =
             subst (λ (order : List ℕ). AreCalled key new_key following wraps call start.counter first source order next (c.carried ++ link ∷ []))
             (ap (λ n. all_items (with_appended c.done ring c.taken) ++ n ∷ []) index ∙ sym arranged_more)
-            (calls_go_on key new_key following wraps call start.counter first source (all_items (with_appended c.done ring c.taken)) f c.carried c.called link next
+            (calls_continue key new_key following wraps call start.counter first source (all_items (with_appended c.done ring c.taken)) f c.carried c.called link next
             (ap (λ n. found n source.entries) index ∙ (sym as_before ∙ was_stored)) keyed called
             (subst (λ (o : Option G). IfSome o (λ g. is_overflow value ≡ wraps g)) counted overflow))
 
@@ -251,16 +251,16 @@ module _ {Q P G Gen I U T F : Type 0} (key : Q → ℕ × G) (new_key : P → �
         landed_more after is =
             subst (λ (es : List ((ℕ × Gen) × T)). IsLanded start after (with_appended c.done ring (c.taken ++ i ∷ [])) es) (sym entered_more)
             (subst (λ (a : Arena Gen (LinkView T)). IsLanded start a (with_appended c.done ring (c.taken ++ i ∷ [])) (entered c.carried ++ ((length (entered c.carried) + 1, start.counter), t) ∷ [])) (sym is)
-            (landing_goes_on start now c.done ring c.taken (entered c.carried) c.landed unfreed values_long t listed i))
+            (landing_continues start now c.done ring c.taken (entered c.carried) c.landed unfreed values_long t listed i))
 
-        -- the link is carried over
-        pub carries_link : IsWellLinked links → (after : ArenaView G U) (reports : LinkMap) (on : Option ℕ) (bounds : Option (I × I)) (then_now : Arena Gen (LinkView T))
-            → IfSome view_after.counter (λ g. is_overflow value ≡ wraps g) → on ≡ step_forward i (next_of links i) → after ≡ entry_removed following view_after i → reports ≡ with_removal links i
+        -- The link is carried over.
+        pub carries_link : IsWellLinked links → (after : ArenaView G U) (links_after : LinkMap) (on : Option ℕ) (bounds : Option (I × I)) (then_now : Arena Gen (LinkView T))
+            → IfSome view_after.counter (λ g. is_overflow value ≡ wraps g) → on ≡ step_forward i (next_of links i) → after ≡ entry_removed following view_after i → links_after ≡ with_removal links i
             → then_now ≡ insert_between now t (end_before ring (length c.taken) (next_index now)) (end_after ring (length c.taken) (next_index now))
             → AreEnds number bounds (length c.taken + 1) (k + 1 + 1)
-            → IsCarrying (k + 1) after reports lookups on ring bounds next then_now
-        carries_link agrees after reports on bounds then_now overflow goes is passed inserted ends_are =
-            let w = departs_on following source view_after links lookups ring c.rest (all_items (with_appended c.done ring c.taken)) stored i xs departing agrees after reports is passed in
+            → IsCarrying (k + 1) after links_after cursor on ring bounds next then_now
+        carries_link agrees after links_after on bounds then_now overflow advanced is passed inserted ends_are =
+            let w = departs_on following source view_after links cursor ring c.rest (all_items (with_appended c.done ring c.taken)) stored i xs departing agrees after links_after is passed in
             record {
               chains = c.chains;
               are = c.are;
@@ -269,8 +269,8 @@ module _ {Q P G Gen I U T F : Type 0} (key : Q → ℕ × G) (new_key : P → �
               left = xs;
               rest = c.rest;
               parts = parts_more;
-              departing = subst (λ (order : List ℕ). IsDeparting following source after reports lookups ring xs c.rest order) (sym arranged_more) w.0;
-              next = goes ∙ w.1;
+              departing = subst (λ (order : List ℕ). IsDeparting following source after links_after cursor ring xs c.rest order) (sym arranged_more) w.0;
+              next = advanced ∙ w.1;
               carried = c.carried ++ link ∷ [];
               called = called_more overflow;
               landed = landed_more then_now inserted;
@@ -278,17 +278,17 @@ module _ {Q P G Gen I U T F : Type 0} (key : Q → ℕ × G) (new_key : P → �
               bounds = subst (λ m. AreEnds number bounds m (k + 1 + 1)) (sym (length-append c.taken (i ∷ []))) ends_are;
             }
 
-    -- the next link of the current chain exists
-    pub stored_on : {J : Type 0} (index : J → ℕ) (on : Option J) → IsCarrying k view_after links lookups (option_map index on) ring ends f now → IfSome on (λ j. is_some (found (index j) view_after.entries) ≡ true)
+    -- The next link of the current chain exists.
+    pub stored_on : {J : Type 0} (index : J → ℕ) (on : Option J) → IsCarrying k view_after links cursor (option_map index on) ring ends f now → IfSome on (λ j. is_some (found (index j) view_after.entries) ≡ true)
     stored_on index None c = tt
     stored_on index (Some j) c = link_stored (index j) c
 
-    -- all links are carried over
-    pub carries_all : (on : Option ℕ) → IsCarrying k view_after links lookups on ring ends f now → start.freed ≡ [] → k ≡ length source.entries
+    -- All links are carried over.
+    pub carries_all : (on : Option ℕ) → IsCarrying k view_after links cursor on ring ends f now → start.freed ≡ [] → k ≡ length source.entries
         → IsTransfer key new_key following wraps call start.counter first source interlinks view_after start now
     carries_all on c unfreed all =
         let long : length (all_items (with_appended c.done ring c.taken)) ≡ length source.entries = ap length (sym c.called.ordered) ∙ (length-map c.carried (old_index key) ∙ (sym c.count ∙ all)) in
-        let gone = all_departed following source view_after links lookups ring c.rest (all_items (with_appended c.done ring c.taken)) stored c.left c.departing long in
+        let gone = all_departed following source view_after links cursor ring c.rest (all_items (with_appended c.done ring c.taken)) stored c.left c.departing long in
         let none = none_left ring c.left c.rest gone.1 in
         let arranged : c.chains ≡ with_appended c.done ring c.taken =
         c.parts
@@ -314,7 +314,7 @@ module _ {Q P G Gen I U T F : Type 0} (key : Q → ℕ × G) (new_key : P → �
           empty = gone.0;
         }
       where
-        state_of : (c : IsCarrying k view_after links lookups on ring ends f now) → now ≡ record start {
+        state_of : (c : IsCarrying k view_after links cursor on ring ends f now) → now ≡ record start {
           slots = now.slots;
           counter = start.counter;
           freed = [];

@@ -14,19 +14,19 @@ use Rattle.chain_laws.proofs.ListLemmas.Members.{filled-IsMember}
 use Rattle.chain_laws.proofs.ChainLemmas.Uniqueness.{chain_valid, chain_filled}
 use Rattle.chain_laws.proofs.TransferLemmas.Source.{items_of, least_is_next, first_is_taken}
 use Rattle.chain_laws.proofs.RemovalLemmas.Pairs.{HasLink-removed}
-use Rattle.arena_base.specs.Entries.{ArenaView, found, without, entry_removed, RisesFrom}
+use Rattle.arena_base.specs.Entries.{ArenaView, found, without, entry_removed, AscendsFrom}
 use Rattle.arena_base.specs.declared.cursor.Cursor.{Cursor}
 use Rattle.arena_base.specs.declared.cursor.Cursor.TheVariants.{Up}
 use Rattle.chain_arena.specs.Drains.{after_times}
 use Rattle.chain_arena.specs.Transfers.{entries_removed}
 use Rattle.chain_traits.specs.DrainOrder.{IsNextChain}
 
--- the chains after the first are in order too
+-- The chains after the first are in order too.
 tail_in_order : (c : Chain) (rest : List Chain) → IsInOrder (c ∷ rest) → IsInOrder rest
-tail_in_order c rest order = record { written = λ d h. order.written d (inr h); rises = order.rises.1 }
+tail_in_order c rest order = record { written = λ d h. order.written d (inr h); ascends = order.ascends.1 }
 
 module _ {Gen T : Type 0} where
-  -- a removal keeps all other entries
+  -- A removal keeps all other entries.
   found-without : (i j : ℕ) (es : List ((ℕ × Gen) × T)) → i ≢ j → found i (without j es) ≡ found i es
   found-without i j [] ne = refl
   found-without i j (e ∷ es) ne = by (e.0.0 == j) refl (found-without i j es ne) where
@@ -34,7 +34,7 @@ module _ {Gen T : Type 0} where
     by true same rest = sym (if_other e.0.0 i (Some (e.0.1, e.1)) (found i es) (λ own. ne (sym own ∙ eqb-true e.0.0 j same)))
     by false other rest = ap (λ o. cond (e.0.0 == i) (Some (e.0.1, e.1)) o) rest
 
-  -- one entry less is left
+  -- One entry less is left.
   length-without : (i : ℕ) (es : List ((ℕ × Gen) × T)) → is_some (found i es) ≡ true → length (without i es) + 1 ≡ length es
   length-without i [] some = absurd (let h = some in cc)
   length-without i (e ∷ es) some = by (e.0.0 == i) refl some (length-without i es) where
@@ -43,12 +43,12 @@ module _ {Gen T : Type 0} where
     by true same there rest = omega arith
     by false other there rest = omega (arith, rest there)
 
-  -- entries that are found only from an index on ascend from there
-  rises_from : (from low : ℕ) (es : List ((ℕ × Gen) × T)) → RisesFrom low es → ((j : ℕ) → is_some (found j es) ≡ true → from ≤ j) → RisesFrom from es
-  rises_from from low [] rises found_low = tt
-  rises_from from low (e ∷ es) rises found_low = (found_low e.0.0 (ap is_some (if_same e.0.0 e.0.0 (Some (e.0.1, e.1)) (found e.0.0 es) refl)), rises.1)
+  -- Entries that are found only from an index on ascend from there.
+  ascends_from : (from low : ℕ) (es : List ((ℕ × Gen) × T)) → AscendsFrom low es → ((j : ℕ) → is_some (found j es) ≡ true → from ≤ j) → AscendsFrom from es
+  ascends_from from low [] ascends found_low = tt
+  ascends_from from low (e ∷ es) ascends found_low = (found_low e.0.0 (ap is_some (if_same e.0.0 e.0.0 (Some (e.0.1, e.1)) (found e.0.0 es) refl)), ascends.1)
 
-  -- there is a link exactly where an entry is found
+  -- There is a link exactly where an entry is found.
   abbrev pub StoredFound : LinkMap → ArenaView Gen T → Type 0
   StoredFound links view_after = (i : ℕ) → is_some (links i) ≡ is_some (found i view_after.entries)
 
@@ -56,17 +56,17 @@ module _ {Gen T : Type 0} where
   found_valid links view_after stored i there = by (links i) refl (stored i ∙ there) where
     by : (o : Option Interlinks) → links i ≡ o → is_some (links i) ≡ true → HasLink links i
     by None is some = absurd (let none = ap is_some is in let both = sym some ∙ none in cc)
-    by (Some link) is some = record { link = link; reports = is }
+    by (Some link) is some = record { link = link; links = is }
 
   valid_found : (links : LinkMap) (view_after : ArenaView Gen T) → StoredFound links view_after → (i : ℕ) → HasLink links i → is_some (found i view_after.entries) ≡ true
-  valid_found links view_after stored i valid = sym (stored i) ∙ ap is_some valid.reports
+  valid_found links view_after stored i valid = sym (stored i) ∙ ap is_some valid.links
 
 module _ {Gen T : Type 0} (following : Gen → Gen) where
   entries_removed-append : (s : ArenaView Gen T) (xs : List ℕ) (i : ℕ) → entries_removed following s (xs ++ i ∷ []) ≡ entry_removed following (entries_removed following s xs) i
   entries_removed-append s [] i = refl
   entries_removed-append s (x ∷ xs) i = entries_removed-append (entry_removed following s x) xs i
 
-  -- each removal increments the counter
+  -- Each removal increments the counter.
   pub counter-entries_removed : (s : ArenaView Gen T) (xs : List ℕ) → (entries_removed following s xs).counter ≡ option_map (after_times following (length xs)) s.counter
   counter-entries_removed s [] = own s.counter
     where
@@ -79,38 +79,38 @@ module _ {Gen T : Type 0} (following : Gen → Gen) where
       once None = refl
       once (Some g) = refl
 
-  -- entries that were not removed are found as before
+  -- Entries that were not removed are found as before.
   pub found-entries_removed : (s : ArenaView Gen T) (xs : List ℕ) (i : ℕ) → (IsMember xs i → ⊥) → found i (entries_removed following s xs).entries ≡ found i s.entries
   found-entries_removed s [] i none = refl
   found-entries_removed s (x ∷ xs) i none =
       found-entries_removed (entry_removed following s x) xs i (λ h. none (inr h)) ∙ found-without i x s.entries (λ same. none (inl (sym same)))
 
-  -- links were taken out of a source: these chains are left, the first of them in part. Links
+  -- Links were taken out of a source: these chains are left, the first of them in part. Links
   -- outside that part are at or above the advancer's index.
-  pub record IsDeparting (source view_after : ArenaView Gen T) (links : LinkMap) (lookups : Cursor) (ring : Bool) (left : List ℕ) (rest : List Chain) (taken : List ℕ) : Type 0 where
+  pub record IsDeparting (source view_after : ArenaView Gen T) (links : LinkMap) (cursor : Cursor) (ring : Bool) (left : List ℕ) (rest : List Chain) (taken : List ℕ) : Type 0 where
     pub chains : AreChains links (with_rest ring left rest)
     pub order : IsInOrder rest
     pub same : view_after ≡ entries_removed following source taken
     pub size : length view_after.entries + length taken ≡ length source.entries
     pub from : ℕ
-    pub up : lookups ≡ Up from
+    pub up : cursor ≡ Up from
     pub low : (j : ℕ) → HasLink links j → (from ≤ j) ⊎ IsMember left j
 
-  module _ (source view_after : ArenaView Gen T) (links : LinkMap) (lookups : Cursor) (ring : Bool) (rest : List Chain) (taken : List ℕ) (stored : StoredFound links view_after) where
-    -- if no chain is left in part, the entries ascend from the advancer's index
-    pub rises_up : (d : IsDeparting source view_after links lookups ring [] rest taken) → RisesFrom 1 view_after.entries → RisesFrom d.from view_after.entries
-    rises_up d rises = rises_from d.from 1 view_after.entries rises (λ j there. above (d.low j (found_valid links view_after stored j there)))
+  module _ (source view_after : ArenaView Gen T) (links : LinkMap) (cursor : Cursor) (ring : Bool) (rest : List Chain) (taken : List ℕ) (stored : StoredFound links view_after) where
+    -- If no chain is left in part, the entries ascend from the advancer's index.
+    pub ascends_up : (d : IsDeparting source view_after links cursor ring [] rest taken) → AscendsFrom 1 view_after.entries → AscendsFrom d.from view_after.entries
+    ascends_up d ascends = ascends_from d.from 1 view_after.entries ascends (λ j there. above (d.low j (found_valid links view_after stored j there)))
       where
         above : {j : ℕ} → (d.from ≤ j) ⊎ IsMember [] j → d.from ≤ j
         above (inl le) = le
         above (inr h) = absurd h
 
-    -- some entries are left unless all were taken
-    pub entries_left : (left : List ℕ) → IsDeparting source view_after links lookups ring left rest taken → length taken < length source.entries → view_after.entries ≢ []
+    -- Some entries are left unless all were taken.
+    pub entries_left : (left : List ℕ) → IsDeparting source view_after links cursor ring left rest taken → length taken < length source.entries → view_after.entries ≢ []
     entries_left left d few none = let long : length view_after.entries ≡ 0 = ap length none in omega (arith, d.size, long)
 
-    -- the next chain is the first of those left
-    pub departs_next : IsDeparting source view_after links lookups ring [] rest taken → (here : ℕ) (cyclic : Bool) (after : Cursor) → IsNextChain view_after links here cyclic after
+    -- The next chain is the first of those left.
+    pub departs_next : IsDeparting source view_after links cursor ring [] rest taken → (here : ℕ) (cyclic : Bool) (after : Cursor) → IsNextChain view_after links here cyclic after
         → (xs : List ℕ) × (others : List Chain) × (rest ≡ chain_of cyclic (here ∷ xs) ∷ others) × IsDeparting source view_after links after cyclic (here ∷ xs) others taken
     departs_next d here cyclic after next =
         let valid = found_valid links view_after stored next.least next.stored in
@@ -125,7 +125,7 @@ module _ {Gen T : Type 0} (following : Gen → Gen) where
             same = d.same;
             size = d.size;
             from = next.least + 1;
-            up = next.lookups;
+            up = next.cursor;
             low = λ j v. above j (next.none_below j (valid_found links view_after stored j v)) (here ∷ w.0) w.3 (ℕ_discrete next.least j);
           },
         )
@@ -134,15 +134,15 @@ module _ {Gen T : Type 0} (following : Gen → Gen) where
         above j le left has (yes same) = inr (subst (IsMember left) same has)
         above j le left has (no ne) = inl (omega arith)
 
-    module _ (i : ℕ) (xs : List ℕ) (d : IsDeparting source view_after links lookups ring (i ∷ xs) rest taken) where
-      -- the first link of the chain exists
+    module _ (i : ℕ) (xs : List ℕ) (d : IsDeparting source view_after links cursor ring (i ∷ xs) rest taken) where
+      -- The first link of the chain exists.
       pub first_found : is_some (found i view_after.entries) ≡ true
       first_found = valid_found links view_after stored i (chain_valid links (chain_of ring (i ∷ xs)) i (d.chains.each (chain_of ring (i ∷ xs)) (inl refl)) (subst (λ (zs : List ℕ). IsMember zs i) (sym (items_of ring (i ∷ xs))) (inl refl)))
 
-      -- after it is taken, the rest of the chain is left
-      pub departs_on : IsWellLinked links → (after : ArenaView Gen T) (reports : LinkMap) → after ≡ entry_removed following view_after i → reports ≡ with_removal links i
-          → IsDeparting source after reports lookups ring xs rest (taken ++ i ∷ []) × (step_forward i (next_of links i) ≡ first_or xs None)
-      departs_on agrees after reports is passed =
+      -- After it is taken, the rest of the chain is left.
+      pub departs_on : IsWellLinked links → (after : ArenaView Gen T) (links_after : LinkMap) → after ≡ entry_removed following view_after i → links_after ≡ with_removal links i
+          → IsDeparting source after links_after cursor ring xs rest (taken ++ i ∷ []) × (step_forward i (next_of links i) ≡ first_or xs None)
+      departs_on agrees after links_after is passed =
           let w = first_is_taken links ring i xs rest agrees d.chains in (
             record {
               chains = subst (λ (m : LinkMap). AreChains m (with_rest ring xs rest)) (sym passed) w.0;
@@ -161,8 +161,8 @@ module _ {Gen T : Type 0} (following : Gen → Gen) where
           stays j ne (inr (inl same)) = absurd (ne (sym same))
           stays j ne (inr (inr h)) = inr h
 
-    -- after all were taken, none is left
-    pub all_departed : (left : List ℕ) → IsDeparting source view_after links lookups ring left rest taken → length taken ≡ length source.entries
+    -- After all were taken, none is left.
+    pub all_departed : (left : List ℕ) → IsDeparting source view_after links cursor ring left rest taken → length taken ≡ length source.entries
         → (view_after.entries ≡ []) × (with_rest ring left rest ≡ [])
     all_departed left d all = (gone, nothing (with_rest ring left rest) d.chains)
       where

@@ -16,7 +16,7 @@ use Rattle.chain_links.proofs.ArenaInsertionLemmas.{values-count}
 use Rattle.chain_arena.proofs.InsertionEffectLemmas.{link_map-insert_between, values_of-insert_between}
 
 module _ {Gen T : Type 0} where
-  -- the entries with one more at the end
+  -- The entries with one more at the end.
   entries_from-append : (i : ℕ) (slots : List (Option (Gen × T))) (e : Gen × T) → entries_from i (slots ++ Some e ∷ []) ≡ entries_from i slots ++ ((i + length slots, e.0), e.1) ∷ []
   entries_from-append i [] e = ap (λ n. let es : List ((ℕ × Gen) × T) = ((n, e.0), e.1) ∷ [] in es) (omega arith)
   entries_from-append i (None ∷ slots) e = entries_from-append (suc i) slots e ∙ ap (λ n. entries_from (suc i) slots ++ ((n, e.0), e.1) ∷ []) (omega arith)
@@ -24,7 +24,7 @@ module _ {Gen T : Type 0} where
       ap (λ es. ((i, x.0), x.1) ∷ es) (entries_from-append (suc i) slots e ∙ ap (λ n. entries_from (suc i) slots ++ ((n, e.0), e.1) ∷ []) (omega arith))
 
 module _ {Gen T : Type 0} where
-  -- the links carried over have these entries, in the runs of these chains. But for slots and
+  -- The links carried over have these entries, in the runs of these chains. But for slots and
   -- placements the arena is unchanged.
   pub record IsLanded (start now : Arena Gen (LinkView T)) (arranged : List Chain) (values : List ((ℕ × Gen) × T)) : Type 0 where
     pub chains : AreChains (link_map now) (in_runs 1 arranged)
@@ -32,13 +32,13 @@ module _ {Gen T : Type 0} where
     pub slots : length now.slots ≡ length values
     pub state : now ≡ record start { slots = now.slots; placed = start.placed + length values }
 
-  -- an arena without slots, to which no link was carried yet
+  -- An arena without slots, to which no link was carried yet.
   pub landing_begins : (start : Arena Gen (LinkView T)) → start.slots ≡ [] → IsLanded start start [] []
   landing_begins start none = record {
     chains = record {
       each = λ c h. absurd h;
       once = tt;
-      all = λ i v. absurd (nothing i v.link v.reports);
+      all = λ i v. absurd (nothing i v.link v.links);
     };
     entered = ap (λ (s : List (Option (Gen × LinkView T))). entries (values_of (record start { slots = s }))) none;
     slots = ap length none;
@@ -58,11 +58,11 @@ module _ {Gen T : Type 0} where
     pub now_unfreed : now.freed ≡ []
     now_unfreed = ap (λ (a : Arena Gen (LinkView T)). a.freed) landed.state ∙ unfreed
 
-    -- the index of the next link
+    -- The index of the next link.
     pub next_behind : next_index now ≡ length values + 1
     next_behind = ap₂ first_or_next now_unfreed landed.slots
 
-    -- there are as many links as were carried over
+    -- There are as many links as were carried over.
     pub count_landed : entry_count now ≡ length values
     count_landed = sym (values-count now) ∙ ap length landed.entered
 
@@ -70,7 +70,7 @@ module _ {Gen T : Type 0} where
       at_end : next_index now ≡ length (all_items done) + length xs + 1
       at_end = next_behind ∙ ap (λ n. n + 1) long
 
-      -- there is an insertion position after the last link
+      -- There is an insertion position after the last link.
       pub position_at_end : IsInsertPosition (link_map now) (next_index now) (end_before ring (length xs) (next_index now)) (end_after ring (length xs) (next_index now))
       position_at_end = (last_is_appended (link_map now) done ring xs 0 (next_index now) landed.chains at_end).1
 
@@ -104,9 +104,9 @@ module _ {Gen T : Type 0} where
             ∙ ap (λ n. made there.slots start.freed n)
             (let e : now.placed + 1 ≡ start.placed + length (values ++ ((length values + 1, start.counter), t) ∷ []) = omega (arith, ap (λ (a : Arena Gen (LinkView T)). a.placed) landed.state, length-append values (((length values + 1, start.counter), t) ∷ [])) in e))
 
-        -- a link is inserted after the last one
-        pub landing_goes_on : (x : ℕ) → IsLanded start there (with_appended done ring (xs ++ x ∷ [])) (values ++ ((length values + 1, start.counter), t) ∷ [])
-        landing_goes_on x = record {
+        -- A link is inserted after the last one.
+        pub landing_continues : (x : ℕ) → IsLanded start there (with_appended done ring (xs ++ x ∷ [])) (values ++ ((length values + 1, start.counter), t) ∷ [])
+        landing_continues x = record {
           chains = subst (λ (m : LinkMap). AreChains m (in_runs 1 (with_appended done ring (xs ++ x ∷ [])))) (sym reported_there) (last_is_appended (link_map now) done ring xs x (next_index now) landed.chains at_end).2;
           entered = values_there;
           slots = slots_there;

@@ -12,13 +12,13 @@ use Rattle.chain_linking.proofs.NeighborLemmas.{next_named, prev_named}
 use Rattle.chain_arena.specs.Iterators.{IsOnLinks}
 
 module _ {Gen T : Type 0} (i : ℕ) where
-  -- a lookup that reports a link reports the entry at the index
+  -- A lookup that reports a link reports the entry at the index.
   pub read_some : (k : ℕ) (e : Gen × LinkView T) (o : Option (Gen × LinkView T)) → Some (k, e) ≡ option_map (index_and_entry i) o → o ≡ Some e
   read_some k e None states = absurd (let h = states in cc)
   read_some k e (Some f) states = ap (λ (p : ℕ × (Gen × LinkView T)). let o : Option (Gen × LinkView T) = Some p.1 in o) (sym (one_some states))
 
 module _ {Gen T : Type 0} (a : Arena Gen (LinkView T)) where
-  -- from an existing link, going forwards, a walker reaches existing links
+  -- From an existing link, going forwards, a walker reaches existing links.
   pub onward_stored : (i : ℕ) (back : Option ℕ) (e : Gen × LinkView T) → entry_at a i ≡ Some e → IsWellLinked (link_map a) → IfSome back (HasLink (link_map a)) → IsOnLinks (link_map a) e.1.next back
   onward_stored i back e stored agrees behind = record {
     agrees = agrees;
@@ -26,7 +26,7 @@ module _ {Gen T : Type 0} (a : Arena Gen (LinkView T)) where
     behind = behind;
   }
 
-  -- from an existing link, going back, a walker reaches existing links
+  -- From an existing link, going back, a walker reaches existing links.
   pub behind_stored : (i : ℕ) (e : Gen × LinkView T) → entry_at a i ≡ Some e → IsWellLinked (link_map a) → IsOnLinks (link_map a) None e.1.prev
   behind_stored i e stored agrees = record {
     agrees = agrees;
@@ -34,13 +34,13 @@ module _ {Gen T : Type 0} (a : Arena Gen (LinkView T)) where
     behind = subst (λ (o : Option ℕ). IfSome o (HasLink (link_map a))) (ap (λ (o : Option (Gen × LinkView T)). prev_in (option_map interlinks_of o)) stored) (prev_named (link_map a) i agrees);
   }
 
-  -- a walker with no next link passes nothing
+  -- A walker with no next link passes nothing.
   nowhere : (left start : ℕ) → links_ahead a left start None None ≡ []
   nowhere zero start = refl
   nowhere (suc left) start = refl
 
   module _ (start i : ℕ) (back : Option ℕ) (e : Gen × LinkView T) (stored : entry_at a i ≡ Some e) where
-    -- a walker with steps left passes the current link
+    -- A walker with steps left passes the current link.
     passes_first : (left : ℕ) → (left ≡ 0 → ⊥) → links_ahead a left start (Some i) back ≡ (i, e) ∷ links_ahead a (left - 1) start (step_forward start e.1.next) (step_back start e.1.next back)
     passes_first zero some = absurd (some refl)
     passes_first (suc n) some =
@@ -49,7 +49,7 @@ module _ {Gen T : Type 0} (a : Arena Gen (LinkView T)) where
         ap (λ (o : Option (Gen × LinkView T)). elim o [ None ↦ [] | Some f ↦ (i, f) ∷ ahead (next_of (link_map a) i) n ]) stored
         ∙ ap₂ (λ (next : Option ℕ) (left : ℕ). (i, e) ∷ ahead next left) (ap (λ (o : Option (Gen × LinkView T)). next_in (option_map interlinks_of o)) stored) less
 
-    -- the current link is the last, before the start of a cyclic chain
+    -- The current link is the last, before the start of a cyclic chain.
     pub passes_last : (left : ℕ) (next : Option ℕ) → (left ≡ 0 → ⊥) → next ≡ e.1.next → next ≡ Some start → links_ahead a left start (Some i) back ≡ (i, e) ∷ links_ahead a 0 start next back
     passes_last left next some named once_around =
         let closed : e.1.next ≡ Some start = sym named ∙ once_around in
@@ -59,7 +59,7 @@ module _ {Gen T : Type 0} (a : Arena Gen (LinkView T)) where
         (ap (step_forward start) closed ∙ if_same start start None (Some start) refl) (ap (λ (n : Option ℕ). step_back start n back) closed ∙ if_same start start None back refl)
         ∙ nowhere (left - 1) start)
 
-    -- the walker goes on, since its next link is not the start
+    -- The walker goes on, since its next link is not the start.
     pub passes_on : (left : ℕ) (next : Option ℕ) → (left ≡ 0 → ⊥) → next ≡ e.1.next → (next ≡ Some start → ⊥) → links_ahead a left start (Some i) back ≡ (i, e) ∷ links_ahead a (left - 1) start next back
     passes_on left next some named apart =
         passes_first left some

@@ -28,7 +28,7 @@ module _ {Gen T : Type 0} where
     stays : n ≤ old.capacity → new.capacity ≡ old.capacity → new.stack_capacity ≡ old.stack_capacity → GrowsToFit greatest n old new
     grown : old.capacity < n → HasCapacityFor greatest n new → GrowsToFit greatest n old new
 
-  -- The error of such a growth: above the maximum; or memory is refused, or it is above the
+  -- The error of such a growth: above the maximum; or an allocation fails, or it is above the
   -- greatest index.
   abbrev pub Refuses : ℕ → Links Gen T → ReallocationError → Type 0
   Refuses n old refused.BeyondMaxCapacity = (old.capacity < n) × IsBeyond old.maximum n

@@ -16,14 +16,14 @@ pub record MakesLink {F P K U T : Type 0} (number : K → Option ℕ) (makes : F
   pub value : makes f p (link_view number u) t.t next
 
 -- `makes`, stated on the views of its arguments.
-pub record MakesOf {F P V U T : Type 0} (lookup : V → U) (makes : F → P → V → T → F → Type 0) (f : F) (p : P) (u : U) (t : T) (next : F) : Type 0 where
-  pub reported : V
-  pub lookups : lookup reported ≡ u
-  pub made : makes f p reported t next
+pub record MakesOf {F P V U T : Type 0} (value_from : V → U) (makes : F → P → V → T → F → Type 0) (f : F) (p : P) (u : U) (t : T) (next : F) : Type 0 where
+  pub passed : V
+  pub value_passed : value_from passed ≡ u
+  pub made : makes f p passed t next
 
 -- `may_refuse`, stated on such views.
 abbrev pub RefusesOf : {P V U : Type 0} → (V → U) → (P → V → Type 0) → P → U → Type 0
-RefusesOf {V = V} lookup may_refuse p u = (link_map : V) × (lookup link_map ≡ u) × may_refuse p link_map
+RefusesOf {V = V} value_from may_refuse p u = (passed : V) × (value_from passed ≡ u) × may_refuse p passed
 
 -- The value of a link of the source may be refused.
 abbrev pub HasRefusableLink : {P K U Gen : Type 0} → (K → Option ℕ) → (P → LinkBody K U → Type 0) → (P → ℕ × Gen) → Arena Gen (LinkView U) → Type 0
@@ -33,7 +33,7 @@ HasRefusableLink number may_refuse key source = HasRefusable (RefusesOf (link_vi
 pub record IsLinkCopyBy {F P U T Gen : Type 0} (makes : F → P → LinkView U → T → F → Type 0) (key : P → ℕ × Gen) (f : F) (source : Arena Gen (LinkView U)) (old new : Arena Gen (LinkView T)) (last : F) : Type 0 where
   -- The slots, except for the values, the counter and the freed list are those of the source.
   pub slots : HasSlotsOf source old new
-  pub reports : link_map new ≡ link_map source
+  pub links : link_map new ≡ link_map source
   -- The maker of values is passed each link of the source once, in ascending index order, and is
   -- `last` then.
   pub values : CopiesBy makes key f (entries source) (entries (values_of new)) last

@@ -21,7 +21,7 @@ use Rattle.chain_arena.specs.Effects.{Links, indexed_kind, MayInsertInto}
 
 module _ {Gen T : Type 0} where
   -- An arena has capacity for one more link, after a growth if it was full.
-  pub record HasGrown (may_reach : ℕ → Option ℕ → ℕ → ℕ → Type 0) (greatest : ℕ) (old new : Links Gen T) : Type 0 where
+  pub record HasCapacityForOne (may_reach : ℕ → Option ℕ → ℕ → ℕ → Type 0) (greatest : ℕ) (old new : Links Gen T) : Type 0 where
     -- The capacity suffices for the link, and a growth is within the stack's reach.
     pub grown : ReachesCapacity may_reach greatest (entry_count old + 1) old new
     -- Nothing but the capacity changes.
@@ -29,7 +29,7 @@ module _ {Gen T : Type 0} where
     -- Nothing changes if the capacity sufficed.
     pub stays : entry_count old < old.capacity → new ≡ old
 
-  -- The error of a full arena's growth: it exceeds the maximum; or memory is refused, or no index
+  -- The error of a full arena's growth: it exceeds the maximum; or an allocation fails, or no index
   -- is left.
   abbrev pub RefusesOneMore : Links Gen T → ReallocationError → Type 0
   RefusesOneMore old refused.BeyondMaxCapacity = (entry_count old ≡ old.capacity) × IsBeyond old.maximum (entry_count old + 1)
@@ -37,7 +37,7 @@ module _ {Gen T : Type 0} where
 
   -- A growth to capacity for one more link, if the arena is full.
   abbrev pub GrowsByOne : (ℕ → Option ℕ → ℕ → ℕ → Type 0) → ℕ → Links Gen T → Result Unit ReallocationError → Links Gen T → Type 0
-  GrowsByOne may_reach greatest old (Ok done) new = HasGrown may_reach greatest old new
+  GrowsByOne may_reach greatest old (Ok done) new = HasCapacityForOne may_reach greatest old new
   GrowsByOne may_reach greatest old (Err why) new = RefusesOneMore old why × (new ≡ old)
 
 -- A link is inserted at the next index, between two links where they exist.
@@ -72,7 +72,7 @@ module _ {P I Gen T : Type 0} (key : P → ℕ × Gen) (number : I → ℕ) wher
   -- The result of a search for the position of a kind, where a full arena grows, and the arena
   -- then.
   abbrev pub FindsPositionGrowing : (ℕ → Option ℕ → ℕ → ℕ → Type 0) → ℕ → Links Gen T → InsertKindBody P I → Result (InsertPosition I) ChainInsertionError → Links Gen T → Type 0
-  FindsPositionGrowing may_reach greatest old kind (Ok position) new = IsPositionFor old kind position × HasGrown may_reach greatest old new
+  FindsPositionGrowing may_reach greatest old kind (Ok position) new = IsPositionFor old kind position × HasCapacityForOne may_reach greatest old new
   FindsPositionGrowing may_reach greatest old kind (Err failed.FailedLinkRequirement) new = (MayInsertInto key number old kind → ⊥) × (new ≡ old)
   FindsPositionGrowing may_reach greatest old kind (Err failed.BeyondMaxCapacity) new = MayInsertInto key number old kind × RefusesOneMore old refused.BeyondMaxCapacity × (new ≡ old)
   FindsPositionGrowing may_reach greatest old kind (Err failed.AllocError) new = MayInsertInto key number old kind × RefusesOneMore old refused.AllocError × (new ≡ old)
@@ -105,7 +105,7 @@ module _ {P I Gen T : Type 0} (key : P → ℕ × Gen) (number : I → ℕ) (old
     pub link : (result ≡ Err failed.FailedLinkRequirement) ↔ (MayInsertInto key number old kind → ⊥)
     pub full : (result ≡ Err failed.NotWithinCapacity) ↔ (MayInsertInto key number old kind × IsFull (value_view old))
     pub error : IfErr result (λ e. (e ≡ failed.FailedLinkRequirement) ⊎ (e ≡ failed.NotWithinCapacity))
-    pub place : IfOk result (λ p. (key p).0 ≡ next_index old)
+    pub index : IfOk result (λ p. (key p).0 ≡ next_index old)
     pub state : OnOk result (new ≡ insert_as old (indexed_kind key number kind) t)
 
   -- The reach of a growth, and the greatest index.
@@ -122,7 +122,7 @@ module _ {P I Gen T : Type 0} (key : P → ℕ × Gen) (number : I → ℕ) (old
       pub grown : OnOk result (IsCapacityFor most (value_view new).maximum (count (value_view old) + 1) (value_view new).capacity)
       pub beyond : (result ≡ Err failed.BeyondMaxCapacity) ↔ (MayInsertInto key number old kind × NeedsBeyondMaximum (value_view old))
       pub greatest : count (value_view old) ≡ most → IsErr result
-      pub place : IfOk result (λ p. (key p).0 ≡ next_index old)
+      pub index : IfOk result (λ p. (key p).0 ≡ next_index old)
       pub state : OnOk result (new ≡ with_capacity_of (insert_as old (indexed_kind key number kind) t) new)
       pub state_within_capacity : MayInsertInto key number old kind → entry_count old < old.capacity → new ≡ insert_as old (indexed_kind key number kind) t
       pub state_grown : OnOk result (ReachesCapacity may_reach most (entry_count old + 1) old new)
@@ -136,7 +136,7 @@ module _ {P I Gen T : Type 0} (key : P → ℕ × Gen) (number : I → ℕ) (old
       pub grown : OnOk result (IsCapacityFor most (value_view new).maximum (count (value_view old) + 1) (value_view new).capacity)
       pub beyond : (result ≡ Err refused.BeyondMaxCapacity) ↔ NeedsBeyondMaximum (value_view old)
       pub greatest : count (value_view old) ≡ most → IsErr result
-      pub place : IfOk result (λ p. (key p).0 ≡ next_index old)
+      pub index : IfOk result (λ p. (key p).0 ≡ next_index old)
       pub state : OnOk result (new ≡ with_capacity_of (insert_as old (indexed_kind key number kind) t) new)
       pub state_within_capacity : entry_count old < old.capacity → new ≡ insert_as old (indexed_kind key number kind) t
       pub state_grown : OnOk result (ReachesCapacity may_reach most (entry_count old + 1) old new)

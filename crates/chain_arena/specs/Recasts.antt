@@ -41,7 +41,7 @@ module _ {T I : Type 0} (recasts : T → T → Result (Unit {0}) I → Type 0) w
     -- state stay.
     pub record IsRecast (old new : Arena Gen (LinkView T)) (returned : Result (Unit {0}) I) : Type 0 where
       pub rest : with_each link_without_value new ≡ with_each link_without_value old
-      pub reports : link_map new ≡ link_map old
+      pub links : link_map new ≡ link_map old
       pub values : AreRecast (values_in (value_view old).entries) (values_in (value_view new).entries) returned
 
     -- The value at a key is recast, and all else stays.
@@ -50,6 +50,6 @@ module _ {T I : Type 0} (recasts : T → T → Result (Unit {0}) I → Type 0) w
       pub is : T
       pub was_stored : entry old p.0 ≡ Some (p.1, was)
       pub state : new ≡ with_value_at old p.0 is
-      pub reports : link_map new ≡ link_map old
+      pub links : link_map new ≡ link_map old
       pub entries : (value_view new).entries ≡ replaced p.0 (λ e. (e.0, is)) (value_view old).entries
       pub recast : recasts was is returned

@@ -86,7 +86,7 @@ module _ {P I Gen W : Type 0} (pointers : PointerKind P I Gen W) where
   RunIsDetermined T = (old : Links Gen T) (calls : List (Call P T I Gen W)) (replies others : List (Reply P T I Gen W)) (new other : Links Gen T)
       → RunWithinCapacity old calls replies new → Run pointers old calls others other → EndSame replies others new other
 
-  -- Unless memory is refused to one run alone, a state and a call determine the reply, and the
+  -- Unless an allocation fails to one run alone, a state and a call determine the reply, and the
   -- state except for capacity and touches. If more links are needed than the greatest index, they
   -- always do.
   abbrev pub StepIsDetermined : Type 0 → Type 0

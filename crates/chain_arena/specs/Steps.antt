@@ -1,6 +1,6 @@
--- The chain machine: the reply to each call, and the arena after it. An error leaves the arena
--- unchanged, and is tested before the errors below it. Left open are only refusals of memory, how
--- far a growth goes, and how many slots a compression touches.
+-- The steps that calls make: the reply to each call, and the arena after it. An error leaves the
+-- arena unchanged, and is tested before the errors below it. Left open are only refusals of memory,
+-- how far a growth goes, and how many slots a compression touches.
 use Rattle.std.specs.Prelude.{◌≡◌, ℕ, ◌+◌, ◌<◌, ◌≤◌, Bool, true, false, List, [], ◌∷◌, Option, None, Some, Result, Ok, Err}
 use Rattle.arena_ptr.specs.Invalidation.{invalidation_option}
 use Rattle.arena_ptr.specs.declared.packed_option.PackedOption.{PackedOption}

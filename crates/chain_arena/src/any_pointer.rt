@@ -3,7 +3,7 @@ ghost use Rattle.chain_arena.specs.PointerKinds.{PointerKind};
 
 use arena_ptr::{GenKey, InxKey, PtrKey};
 
-/// A type of pointers, as the contracts of the chain machine name it.
+/// A type of pointers, for contracts that state the effect of any call.
 ///
 /// Its `kind` is what they need of a pointer, an index and a generation. Each `PtrKey` implements
 /// it.

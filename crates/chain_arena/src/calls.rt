@@ -238,13 +238,13 @@ fn replies_to<P: PtrKey, T: Drop, S: SlotStack<Item = ArenaSlot<P, LinkNoGen<P, 
     Ok(replies)
 }
 
-/// States that the chain machine leaves no more open than the calls do.
+/// States that calls are determined by the arena and the call, except for what memory refuses.
 ///
-/// - `runs_determined`: an arena and calls that need no growth determine the replies, and the arena except
-///   for its count of touched slots.
+/// - `runs_determined`: an arena and calls that need no growth determine the replies, and the arena
+///   except for its count of touched slots.
 /// - `by_capacity`: so they do with growth, if each call leaves the same capacity.
 /// - `step`: an arena and a call determine the reply, and the arena except for its capacity and
-///   touches. This holds if memory is refused to both runs or to neither, or if more links are
+///   touches. This holds if an allocation fails to both runs or to neither, or if more links are
 ///   needed than the greatest index.
 pub fn runs_are_determined<P: PtrKey, T: Drop>()
     ensures runs_determined { RunIsDetermined ⟦<P as AnyPointer>⟧.kind T }

@@ -17,14 +17,13 @@ ghost use Rattle.chain_links.specs.CanonicalLayouts.{IsCanonicalLayout};
 ghost use Rattle.chain_links.specs.Links.{pair_view};
 
 use crate::chain_iterators::ChainIter;
-use crate::visitors::{Listing, Showing};
+use crate::visitors::{MapVisitor, MoveLister};
 use arena_base::{Arena, ArenaSlot, ArenaTrait, Work};
 use arena_ptr::{
     AllocError, HeapStack, InvalidationOption, InvalidationResult, LimitStack,
     MaxCapacityReductionError, PtrKey, SetMaxCapacity, SlotStack,
 };
 use chain_compaction::canonical::arrange;
-use chain_compaction::compress::begin_generation;
 use chain_compaction::visitor::Visitor;
 use chain_linking::insert_position::{InsertPosition, position_of_kind};
 use chain_linking::link_writes::take_out;
@@ -94,7 +93,7 @@ impl<P: PtrKey, T: Drop, S: SlotStack<Item = ArenaSlot<P, LinkNoGen<P, T>>>> Cha
         ensures listed { IsListed self.now }
 
         // The capacity is the lesser of the stack's capacity and the greatest index.
-        ensures within_capacity { HasCapacityFor P.Inx.greatest (length self.now.slots) self.now }
+        ensures capacity { HasCapacityFor P.Inx.greatest (length self.now.slots) self.now }
     {
         // Naming the field opens the invariant of the type, that the interlinks agree.
         let _ = &self.arena;
@@ -179,7 +178,7 @@ impl<P: PtrKey, T: Drop, S: SlotStack<Item = ArenaSlot<P, LinkNoGen<P, T>>>> Cha
         ensures touched { self.new.touched ≡ self.old.touched + result.2.touched }
         ensures agreed { IsWellLinked (link_map self.old) }
     {
-        let overflow = begin_generation(&mut self.arena, reset);
+        let overflow = self.arena.begin_generation(reset);
         let (visitor, work) = arrange(&mut self.arena, visitor);
         (overflow, visitor, work)
     }
@@ -206,7 +205,7 @@ impl<P: PtrKey, T: Drop, S: SlotStack<Item = ArenaSlot<P, LinkNoGen<P, T>>>> Cha
             tt }
         ensures agreed { IsWellLinked (link_map self.old) }
     {
-        let (overflow, _, _) = self.compress_canonical_by(reset, Showing { map });
+        let (overflow, _, _) = self.compress_canonical_by(reset, MapVisitor { map });
         overflow
     }
 
@@ -238,7 +237,7 @@ impl<P: PtrKey, T: Drop, S: SlotStack<Item = ArenaSlot<P, LinkNoGen<P, T>>>> Cha
         ensures agreed { IsWellLinked (link_map self.old) }
     {
         let moves = Vec::with_capacity(alloc, self.len())?;
-        let (overflow, listing, _) = self.compress_canonical_by(reset, Listing { moves });
+        let (overflow, listing, _) = self.compress_canonical_by(reset, MoveLister { moves });
         Ok((overflow, listing.moves))
     }
 
@@ -260,7 +259,7 @@ impl<P: PtrKey, T: Drop, S: SlotStack<Item = ArenaSlot<P, LinkNoGen<P, T>>>> Cha
     {
         let (overflow, _, work) = self.compress_canonical_by(
             reset,
-            Showing {
+            MapVisitor {
                 map: |_p: P, _q: P| {},
             },
         );
@@ -275,7 +274,7 @@ impl<P: PtrKey, T: Drop, S: SlotStack<Item = ArenaSlot<P, LinkNoGen<P, T>>>> Cha
             (map entry_of (S.items result.now)) ≡ self.now.slots }
         ensures freed { ThreadsFreeList P.Inx.number (S.items result.now) self.now.freed }
         ensures capacity { S.capacity result.now ≡ self.now.stack_capacity }
-        ensures within_capacity { self.now.capacity ≡ min (S.capacity result.now) P.Inx.greatest }
+        ensures arena_capacity { self.now.capacity ≡ min (S.capacity result.now) P.Inx.greatest }
         ensures maximum { S.maximum result.now ≡ self.now.maximum }
     {
         self.arena.backing()

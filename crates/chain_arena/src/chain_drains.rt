@@ -17,7 +17,7 @@ use crate::insert_entry::number_or_zero;
 use arena_base::{ArenaSlot, ArenaTrait, invalidated};
 use arena_ptr::{HeapStack, InvalidationOption, InxKey, PtrKey, SlotStack};
 use chain_links::LinkNoGen;
-use chain_links::walk_direction::going_on;
+use chain_links::walk_direction::step_on;
 use chain_traits::ChainArenaTrait;
 
 /// A draining iterator over one chain, which removes each link as it yields it, in walk order.
@@ -126,24 +126,24 @@ fn yielded<P: PtrKey, T>(
     ensures overflow { is_overflow result.1 ≡ overflow }
 {
     let (generation, link) = entry;
-    let next = goes_on_to(i, link.prev(), link.next());
+    let next = next_after_removal(i, link.prev(), link.next());
     let p = P::_from_raw(i, generation);
     (number_or_zero(next), invalidated(overflow, (p, link)))
 }
 
 // Returns the next link of a walk whose first link is removed: the link after it, or else the link
 // before it.
-fn goes_on_to<I: InxKey>(i: I, prev: Option<I>, next: Option<I>) -> Option<I>
+fn next_after_removal<I: InxKey>(i: I, prev: Option<I>, next: Option<I>) -> Option<I>
     ensures { option_map I.number result ≡ rest_start (I.number i) (option_map I.number prev)
         (option_map I.number next) }
 {
     match next {
         Some(k) => if k.is_same(i) {
-            going_on(i, prev)
+            step_on(i, prev)
         } else {
             Some(k)
         },
-        None => going_on(i, prev),
+        None => step_on(i, prev),
     }
 }
 

@@ -252,7 +252,7 @@ impl<P: PtrKey, T: Clone, S: SlotStack<Item = ArenaSlot<P, LinkNoGen<P, T>>>> Ch
         ensures beyond { (result ≡ Err ReallocationError.BeyondMaxCapacity)
             ↔ IsBeyond S.initial_maximum (length self.now.slots) }
         ensures copied { IfOk result (IsClone P.Gen.first S.initial_maximum self.now) }
-        ensures within_capacity { IfOk result
+        ensures capacity { IfOk result
             (HasCapacityFor P.Inx.greatest (length self.now.slots)) }
         ensures reached { IfOk result (IsWithinReach S.may_reach (length self.now.slots)
             (new_arena P.Gen.first S.initial_maximum)) }

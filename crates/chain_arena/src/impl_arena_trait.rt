@@ -14,7 +14,7 @@ use arena_ptr::{
     AllocError, GenKey, InvalidationOption, InvalidationResult, InxKey, PtrKey, ReallocationError,
     SlotStack,
 };
-use chain_compaction::compress::{begin_generation, gather};
+use chain_compaction::compress::gather;
 use chain_links::link_access::value_of;
 use chain_links::{LinkBody, LinkNoGen, Vacant};
 use std::alloc::Global;
@@ -25,7 +25,7 @@ impl<P: PtrKey, T: Drop, S: SlotStack<Item = ArenaSlot<P, LinkNoGen<P, T>>>> Are
     ghost use Rattle.arena_base.specs.Arena.{entry_at, with_capacity_of, IsWithinReach, IsNewWithCapacity, renewed_at, cleared};
     ghost use Rattle.std.specs.Option.{option_map};
     ghost use Rattle.arena_base.specs.Entries.{view_of, entries};
-    ghost use Rattle.arena_base.specs.EntryLaws.{entries_rise, found-entries};
+    ghost use Rattle.arena_base.specs.EntryLaws.{entries_ascend, found-entries};
     ghost use Rattle.arena_base.specs.AdvancerLaws.{until_none};
     ghost use Rattle.chain_links.specs.ChainArena.{link_map, values_of, with_value_at, IsRemoval};
     ghost use Rattle.chain_compaction.specs.LinkCompressions.{ClosesHoles};
@@ -36,7 +36,7 @@ impl<P: PtrKey, T: Drop, S: SlotStack<Item = ArenaSlot<P, LinkNoGen<P, T>>>> Are
 
     ghost entry = { λ a. entry_at (values_of a) };
 
-    ghost cursor = { λ a. a.lookup };
+    ghost cursor = { λ a. a.cursor };
 
     ghost starts = { IsNewWithCapacity S.may_reach P.Gen.first S.initial_maximum };
 
@@ -53,12 +53,12 @@ impl<P: PtrKey, T: Drop, S: SlotStack<Item = ArenaSlot<P, LinkNoGen<P, T>>>> Are
 
     ghost compresses = { ClosesHoles };
 
-    ghost rises = { λ a. entries_rise (values_of a) };
+    ghost ascends = { λ a. entries_ascend (values_of a) };
 
     ghost finds = { λ a. found-entries (values_of a) };
 
-    ghost advances = { λ a b arena returned given. until_none (entries (values_of arena)) a.lookup
-        (option_map P.key returned) b.lookup given };
+    ghost advances = { λ a b arena returned given. until_none (entries (values_of arena)) a.cursor
+        (option_map P.key returned) b.cursor given };
 
     fn new(alloc: Global) -> Self {
         ChainArena {
@@ -98,7 +98,7 @@ impl<P: PtrKey, T: Drop, S: SlotStack<Item = ArenaSlot<P, LinkNoGen<P, T>>>> Are
 
         // The slots, the freed list and the capacity, in every arena.
         ensures listed { IsListed self.now }
-        ensures within_capacity { HasCapacityFor P.Inx.greatest (length self.now.slots) self.now }
+        ensures capacity { HasCapacityFor P.Inx.greatest (length self.now.slots) self.now }
     {
         self.arena.len()
     }
@@ -191,7 +191,7 @@ impl<P: PtrKey, T: Drop, S: SlotStack<Item = ArenaSlot<P, LinkNoGen<P, T>>>> Are
         reset: bool,
         map: F,
     ) -> InvalidationOption<()> {
-        let overflow = begin_generation(&mut self.arena, reset);
+        let overflow = self.arena.begin_generation(reset);
         gather(&mut self.arena, map);
         overflow
     }
@@ -213,13 +213,13 @@ impl<P: PtrKey, T: Drop, S: SlotStack<Item = ArenaSlot<P, LinkNoGen<P, T>>>> Adv
 
     type Item = P;
 
-    ghost gives = { λ a arena returned b. IsAdvance (entries (values_of arena)) a.lookup
-        (option_map P.key returned) b.lookup };
+    ghost gives = { λ a arena returned b. IsAdvance (entries (values_of arena)) a.cursor
+        (option_map P.key returned) b.cursor };
 
-    ghost is_spent = { λ a. a.lookup ≡ Nowhere };
+    ghost is_spent = { λ a. a.cursor ≡ Nowhere };
 
     ghost stays_spent = { λ a b arena returned spent given. nowhere_stays P.key
-        (entries (values_of arena)) a.lookup returned b.lookup spent given };
+        (entries (values_of arena)) a.cursor returned b.cursor spent given };
 
     fn advance(&mut self, collection: &ChainArena<P, T, S>) -> Option<P> {
         self.advance(&collection.arena)

@@ -51,7 +51,7 @@ impl<P: PtrKey, T: Drop, S: SlotStack<Item = ArenaSlot<P, LinkNoGen<P, T>>>> Cha
 
     ghost renewal_keeps = { λ a b i h. h.1 };
 
-    ghost removal_removes = { λ a b i h. h.reports };
+    ghost removal_removes = { λ a b i h. h.links };
 
     ghost compression_renames = { λ a b h. h.renamed };
 
@@ -70,8 +70,8 @@ impl<P: PtrKey, T: Drop, S: SlotStack<Item = ArenaSlot<P, LinkNoGen<P, T>>>> Cha
     ) -> Result<P, ChainInsertionError>
         ensures { InsertsWithinCapacity P.key P.Inx.number self.old kind t self.new result }
     {
-        let asked = self.position_within_capacity(kind);
-        self.insert_at(asked, t)
+        let checked = self.position_within_capacity(kind);
+        self.insert_at(checked, t)
     }
 
     #[inline(always)]
@@ -83,8 +83,8 @@ impl<P: PtrKey, T: Drop, S: SlotStack<Item = ArenaSlot<P, LinkNoGen<P, T>>>> Cha
         ensures { InsertsReallocating P.key P.Inx.number self.old kind t self.new S.may_reach
             P.Inx.greatest result }
     {
-        let asked = self.position_with_growth(kind);
-        self.insert_at(asked, t)
+        let checked = self.position_with_growth(kind);
+        self.insert_at(checked, t)
     }
 
     #[inline(always)]

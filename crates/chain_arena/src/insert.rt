@@ -34,7 +34,7 @@ impl<P: PtrKey, T: Drop, S: SlotStack<Item = ArenaSlot<P, LinkNoGen<P, T>>>> Cha
         &self,
         kind: LinkInsertKind<P>,
     ) -> Result<InsertPosition<P::Inx>, ChainInsertionError>
-        ensures place { FindsPositionWithin P.key P.Inx.number self.now kind result }
+        ensures position { FindsPositionWithin P.key P.Inx.number self.now kind result }
         ensures agree { IsWellLinked (link_map self.now) }
     {
         match self.position_for(kind) {
@@ -55,9 +55,8 @@ impl<P: PtrKey, T: Drop, S: SlotStack<Item = ArenaSlot<P, LinkNoGen<P, T>>>> Cha
         &mut self,
         kind: LinkInsertKind<P>,
     ) -> Result<InsertPosition<P::Inx>, ChainInsertionError>
-        ensures place { FindsPositionGrowing P.key P.Inx.number S.may_reach P.Inx.greatest self.old
-            kind
-            result self.new }
+        ensures position { FindsPositionGrowing P.key P.Inx.number S.may_reach
+            P.Inx.greatest self.old kind result self.new }
         ensures agreed { IsWellLinked (link_map self.old) }
     {
         match self.position_for(kind) {
@@ -73,7 +72,7 @@ impl<P: PtrKey, T: Drop, S: SlotStack<Item = ArenaSlot<P, LinkNoGen<P, T>>>> Cha
         requires position { IsInsertPosition (link_map self.old) (next_index self.old)
             (before_in P.Inx.number position (next_index self.old))
             (after_in P.Inx.number position (next_index self.old)) }
-        requires within_capacity { entry_count self.old < self.old.capacity }
+        requires capacity { entry_count self.old < self.old.capacity }
         ensures { IsInsertedIn P.key P.Inx.number self.old position t result self.new }
     {
         self.arena.invariants();
@@ -93,18 +92,18 @@ impl<P: PtrKey, T: Drop, S: SlotStack<Item = ArenaSlot<P, LinkNoGen<P, T>>>> Cha
     #[inline(always)]
     pub(crate) fn insert_at(
         &mut self,
-        asked: Result<InsertPosition<P::Inx>, ChainInsertionError>,
+        checked: Result<InsertPosition<P::Inx>, ChainInsertionError>,
         t: T,
     ) -> Result<P, ChainInsertionError>
-        requires position { ForOk asked (λ position. IsInsertPosition (link_map self.old)
+        requires position { ForOk checked (λ position. IsInsertPosition (link_map self.old)
             (next_index self.old)
             (before_in P.Inx.number position (next_index self.old))
             (after_in P.Inx.number position (next_index self.old))) }
-        requires within_capacity { ForOk asked
+        requires capacity { ForOk checked
             (λ position. entry_count self.old < self.old.capacity) }
-        ensures { InsertsAt P.key P.Inx.number self.old asked t result self.new }
+        ensures { InsertsAt P.key P.Inx.number self.old checked t result self.new }
     {
-        match asked {
+        match checked {
             Ok(position) => Ok(self.insert_at_position(position, t)),
             Err(why) => Err(why),
         }

@@ -35,7 +35,7 @@ pub struct ChainArenaInsertEntry<
     inx: usize,
     prev: usize,
     next: usize,
-    ghost within_capacity: { entry_count arena.now < arena.now.capacity },
+    ghost has_capacity: { entry_count arena.now < arena.now.capacity },
     ghost place: { inx ≡ next_index arena.now },
     ghost index: { IsWithin P.Inx.greatest inx },
     ghost indexes: { (prev ≤ P.Inx.greatest) × (next ≤ P.Inx.greatest) },
@@ -210,7 +210,7 @@ impl<P: PtrKey, T: Drop, S: SlotStack<Item = ArenaSlot<P, LinkNoGen<P, T>>>> Cha
     }
 
     fn entry_in(&mut self, position: InsertPosition<P::Inx>) -> ChainArenaInsertEntry<'_, P, T, S>
-        requires within_capacity { entry_count self.old < self.old.capacity }
+        requires capacity { entry_count self.old < self.old.capacity }
         requires position { IsInsertPosition (link_map self.old) (next_index self.old)
             (before_in P.Inx.number position (next_index self.old))
             (after_in P.Inx.number position (next_index self.old)) }

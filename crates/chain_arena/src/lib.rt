@@ -71,4 +71,4 @@ pub use link_drains::LinkDrain;
 pub use transfer::{
     compression_and_transfer_agree, compression_moves_pointers, transfer_moves_pointers,
 };
-pub use visitors::Showing;
+pub use visitors::MapVisitor;

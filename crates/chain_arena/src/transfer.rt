@@ -49,7 +49,7 @@ impl<P: PtrKey, T: Drop, S: SlotStack<Item = ArenaSlot<P, LinkNoGen<P, T>>>> Cha
         ensures transferred { OnOk result
             (IsTransfer Q.key P.key Q.Gen.following Q.Gen.wraps F.FnMut new_generation map
             (A.view source.old) (A.interlinks source.old) (A.view source.new) self.old self.new) }
-        ensures within_capacity { OnOk result
+        ensures capacity { OnOk result
             (HasCapacityFor P.Inx.greatest (count (A.view source.old)) self.new) }
         ensures reached { OnOk result
             (IsWithinReach S.may_reach (count (A.view source.old)) self.old self.new) }
@@ -81,7 +81,7 @@ impl<P: PtrKey, T: Drop, S: SlotStack<Item = ArenaSlot<P, LinkNoGen<P, T>>>> Cha
         ensures beyond { (result ≡ Err ReallocationError.BeyondMaxCapacity)
             ↔ ((n ≤ P.Inx.greatest) × IsBeyond self.old.maximum n) }
         ensures err { OnErr result (self.new ≡ self.old) }
-        ensures within_capacity { OnOk result (HasCapacityFor P.Inx.greatest n self.new) }
+        ensures capacity { OnOk result (HasCapacityFor P.Inx.greatest n self.new) }
         ensures reached { OnOk result (IsWithinReach S.may_reach n self.old self.new) }
         ensures after { self.new ≡ with_capacity_of self.old self.new }
     {
@@ -111,7 +111,7 @@ fn carry_all<
     requires callable { F.IsAlwaysCallable map }
     requires slots { target.old.slots ≡ [] }
     requires freed { target.old.freed ≡ [] }
-    requires within_capacity { count (A.view source.old) ≤ target.old.capacity }
+    requires capacity { count (A.view source.old) ≤ target.old.capacity }
     requires greatest { target.old.capacity ≤ P.Inx.greatest }
     ensures transferred { IsTransfer Q.key P.key Q.Gen.following Q.Gen.wraps F.FnMut
         target.old.counter map (A.view source.old) (A.interlinks source.old)
@@ -198,7 +198,7 @@ fn append_link<P: PtrKey, T: Drop, S: SlotStack<Item = ArenaSlot<P, LinkNoGen<P,
 ) -> Option<(P::Inx, P::Inx)>
     requires ends { (m : ℕ) × AreEnds P.Inx.number ends m (next_index target.old)
         × HasPositionAtEnd ring m target.old }
-    requires within_capacity { entry_count target.old < target.old.capacity }
+    requires capacity { entry_count target.old < target.old.capacity }
     requires index { (P.key to).0 ≡ next_index target.old }
     ensures arranged { (m : ℕ) → AreEnds P.Inx.number ends m (next_index target.old)
         → (target.new ≡ with_link_at_end ring m target.old t) × AreEnds P.Inx.number result (m + 1)
@@ -228,7 +228,7 @@ pub fn compression_and_transfer_agree<
 /// reports the pointers.
 pub fn compression_moves_pointers<P: PtrKey, T: Drop>()
     ensures moves { CompressionMovesPointers T P.key P.Gen.first P.Gen.following }
-    ensures unknown { CompressionHasMoves T P.Gen.first P.Gen.following }
+    ensures exists { CompressionHasMoves T P.Gen.first P.Gen.following }
 {}
 
 /// States that a transfer moves each link from a pointer that was valid in the source to one that

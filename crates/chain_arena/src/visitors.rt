@@ -6,12 +6,12 @@ use std::alloc::Allocator;
 
 /// A visitor that reports each link to a closure.
 #[derive(Drop)]
-pub struct Showing<F> {
+pub struct MapVisitor<F> {
     /// The closure.
     pub map: F,
 }
 
-impl<P: PtrKey, F: FnMut(P, P) + Drop> Visitor<P> for Showing<F> {
+impl<P: PtrKey, F: FnMut(P, P) + Drop> Visitor<P> for MapVisitor<F> {
     ghost use Rattle.std.specs.Fn.{Called};
 
     ghost is_ready = { λ v. F.IsAlwaysCallable v.map };
@@ -25,11 +25,11 @@ impl<P: PtrKey, F: FnMut(P, P) + Drop> Visitor<P> for Showing<F> {
 
 // A visitor that lists the links, up to its capacity.
 #[derive(Drop)]
-pub(crate) struct Listing<P, A: Allocator> {
+pub(crate) struct MoveLister<P, A: Allocator> {
     pub(crate) moves: Vec<(P, P), A>,
 }
 
-impl<P: PtrKey, A: Allocator> Visitor<P> for Listing<P, A> {
+impl<P: PtrKey, A: Allocator> Visitor<P> for MoveLister<P, A> {
     ghost use Rattle.std.specs.Prelude.{⊤};
     ghost use Rattle.chain_compaction.specs.Layouts.{IsPairListed};
 

@@ -14,7 +14,7 @@ use Rattle.chain_commands.specs.declared.command.Line.TheVariants as lines
 
 -- Keeping at most `n` bytes of a line, piece by piece, keeps its first `n` bytes.
 pub kept_more : (n m : ℕ) (kept rest more : List ℕ) → kept ≡ take n rest → m ≡ min (length more) (n - length kept) → kept ++ take m more ≡ take n (rest ++ more)
-kept_more n m kept rest more is within_capacity = by_length (leb n (length rest)) refl
+kept_more n m kept rest more is suffices = by_length (leb n (length rest)) refl
   where
     len : length kept ≡ min n (length rest)
     len = ap length is ∙ length-take n rest
@@ -22,13 +22,13 @@ kept_more n m kept rest more is within_capacity = by_length (leb n (length rest)
     by_length : (b : Bool) → leb n (length rest) ≡ b → kept ++ take m more ≡ take n (rest ++ more)
     by_length true e =
         let long = leb-true n (length rest) e in
-        let none : m ≡ 0 = omega (arith, len, within_capacity, long) in
+        let none : m ≡ 0 = omega (arith, len, suffices, long) in
         ap (λ k. kept ++ take k more) none ∙ append-nil kept ∙ is ∙ sym (take-append-le n rest more long)
     by_length false e =
         let short = leb-false n (length rest) e in
         let all : kept ≡ rest = is ∙ take_all n rest (omega (arith, short)) in
         let counted : n ≡ length rest + (n - length rest) = omega (arith, short) in
-        let same : take m more ≡ take (n - length rest) more = by_capacity (leb (length more) (n - length rest)) refl (within_capacity ∙ ap (λ l. min (length more) (n - length l)) all) in
+        let same : take m more ≡ take (n - length rest) more = by_capacity (leb (length more) (n - length rest)) refl (suffices ∙ ap (λ l. min (length more) (n - length l)) all) in
         ap (λ l. l ++ take m more) all ∙ ap (λ l. rest ++ l) same ∙ sym (ap (λ k. take k (rest ++ more)) counted ∙ take-append-add rest more (n - length rest))
       where
         by_capacity : (b : Bool) → leb (length more) (n - length rest) ≡ b → m ≡ min (length more) (n - length rest) → take m more ≡ take (n - length rest) more

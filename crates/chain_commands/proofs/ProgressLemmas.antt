@@ -34,58 +34,58 @@ of_kept old new kept rest text keeps responses = subst (λ l. RespondsToLine old
 pub step_of_kept : (old new : ToolLinks) (kept rest : List ℕ) → kept ≡ take 201 rest → LeavesStep old (line_of kept) new → LeavesStep old (line_of rest) new
 step_of_kept old new kept rest keeps step = subst (λ l. LeavesStep old l new) (ap line_of keeps ∙ line_of-take rest) step
 
-module _ (old mid new : ToolLinks) (read kept : List ℕ) (held held_mid held_after : Option (List ℕ)) (come : Progress old read mid kept held held_mid) where
-  ended : (more : List ℕ) → lines_of (read ++ 10 ∷ more) ≡ come.lines ++ come.rest ∷ lines_of more
-  ended more = lines_of-end read more ∙ ap (λ l. l ++ lines_of more) come.cut ∙ append_assoc come.lines (come.rest ∷ []) (lines_of more)
+module _ (old mid new : ToolLinks) (read kept : List ℕ) (held held_mid held_after : Option (List ℕ)) (so_far : Progress old read mid kept held held_mid) where
+  ended : (more : List ℕ) → lines_of (read ++ 10 ∷ more) ≡ so_far.lines ++ so_far.rest ∷ lines_of more
+  ended more = lines_of-end read more ∙ ap (λ l. l ++ lines_of more) so_far.cut ∙ append_assoc so_far.lines (so_far.rest ∷ []) (lines_of more)
 
   pub Progress-line : {A : Type 0} (x : A) → TranscribesOne (Ok x) mid new kept held_mid held_after → Progress old (read ++ 10 ∷ []) new [] held held_after
   Progress-line x responded = record {
-    lines = come.lines ++ come.rest ∷ [];
+    lines = so_far.lines ++ so_far.rest ∷ [];
     rest = [];
-    text = come.text ++ responded.0;
-    cut = ended [] ∙ sym (append_assoc come.lines (come.rest ∷ []) ([] ∷ []));
+    text = so_far.text ++ responded.0;
+    cut = ended [] ∙ sym (append_assoc so_far.lines (so_far.rest ∷ []) ([] ∷ []));
     keeps = refl;
-    responses = Transcribes-more old mid new come.lines come.rest come.text responded.0 come.responses (of_kept mid new kept come.rest responded.0 come.keeps responded.1);
-    writes = Appends-trans held held_mid held_after _ _ come.writes responded.2;
+    responses = Transcribes-more old mid new so_far.lines so_far.rest so_far.text responded.0 so_far.responses (of_kept mid new kept so_far.rest responded.0 so_far.keeps responded.1);
+    writes = Appends-trans held held_mid held_after _ _ so_far.writes responded.2;
   }
 
-  whole : (more : List ℕ) → whole_lines (read ++ 10 ∷ more) ≡ come.lines ++ come.rest ∷ whole_lines more
-  whole more = whole_lines-end read more come.lines come.rest come.cut
+  whole : (more : List ℕ) → whole_lines (read ++ 10 ∷ more) ≡ so_far.lines ++ so_far.rest ∷ whole_lines more
+  whole more = whole_lines-end read more so_far.lines so_far.rest so_far.cut
 
-  given_up : (more : List ℕ) → (new ≡ mid) ⊎ LeavesStep mid (line_of kept) new → TranscribesSome old new (come.lines ++ come.rest ∷ whole_lines more) come.text
-  given_up more (inl same) = before come.lines (come.rest ∷ whole_lines more) come.text (subst (λ m. Transcribes old come.lines come.text m) (sym same) come.responses)
-  given_up more (inr step) = after come.lines (whole_lines more) come.rest mid come.text come.responses (step_of_kept mid new kept come.rest come.keeps step)
+  left_unchanged : (more : List ℕ) → (new ≡ mid) ⊎ LeavesStep mid (line_of kept) new → TranscribesSome old new (so_far.lines ++ so_far.rest ∷ whole_lines more) so_far.text
+  left_unchanged more (inl same) = before so_far.lines (so_far.rest ∷ whole_lines more) so_far.text (subst (λ m. Transcribes old so_far.lines so_far.text m) (sym same) so_far.responses)
+  left_unchanged more (inr step) = after so_far.lines (whole_lines more) so_far.rest mid so_far.text so_far.responses (step_of_kept mid new kept so_far.rest so_far.keeps step)
 
   pub HasProgressed-stopped : (A B : Type 0) (error : ToolError) (more kept_after : List ℕ) → TranscribesOne {A = A} (Err error) mid new kept held_mid held_after
       → HasProgressed {A = B} (Err error) old (read ++ 10 ∷ more) new kept_after held held_after
   HasProgressed-stopped A B errors.Read more kept_after stopped = stopped
   HasProgressed-stopped A B errors.Write more kept_after stopped = (
-    come.text ++ stopped.0,
-    subst (λ l. IsCutShort old new l (come.text ++ stopped.0)) (sym (whole more))
-        (within come.lines (whole_lines more) come.rest mid come.text stopped.0 stopped.1 come.responses (of_kept mid new kept come.rest (stopped.0 ++ stopped.1) come.keeps stopped.2)),
-    Appends-trans held held_mid held_after _ _ come.writes stopped.3,
+    so_far.text ++ stopped.0,
+    subst (λ l. IsCutShort old new l (so_far.text ++ stopped.0)) (sym (whole more))
+        (within so_far.lines (whole_lines more) so_far.rest mid so_far.text stopped.0 stopped.1 so_far.responses (of_kept mid new kept so_far.rest (stopped.0 ++ stopped.1) so_far.keeps stopped.2)),
+    Appends-trans held held_mid held_after _ _ so_far.writes stopped.3,
   )
   HasProgressed-stopped A B errors.Memory more kept_after stopped =
-      (come.text, subst (λ l. TranscribesSome old new l come.text) (sym (whole more)) (given_up more stopped.1), Appends-kept held held_mid held_after _ come.writes stopped.0)
+      (so_far.text, subst (λ l. TranscribesSome old new l so_far.text) (sym (whole more)) (left_unchanged more stopped.1), Appends-kept held held_mid held_after _ so_far.writes stopped.0)
 
 -- A run stops between two lines.
-pub Progress-stopped : (old new : ToolLinks) (read kept more : List ℕ) (held held_after : Option (List ℕ)) (come : Progress old read new kept held held_after)
-    → TranscribesSome old new (whole_lines (read ++ more)) come.text
-Progress-stopped old new read kept more held held_after come =
-    let found = whole_lines-more more read come.lines come.rest come.cut in
-    subst (λ l. TranscribesSome old new l come.text) (sym found.1) (before come.lines found.0 come.text come.responses)
+pub Progress-stopped : (old new : ToolLinks) (read kept more : List ℕ) (held held_after : Option (List ℕ)) (so_far : Progress old read new kept held held_after)
+    → TranscribesSome old new (whole_lines (read ++ more)) so_far.text
+Progress-stopped old new read kept more held held_after so_far =
+    let found = whole_lines-more more read so_far.lines so_far.rest so_far.cut in
+    subst (λ l. TranscribesSome old new l so_far.text) (sym found.1) (before so_far.lines found.0 so_far.text so_far.responses)
 
 -- More of a line is read, and enough of it is kept.
-pub Progress-front : (old new : ToolLinks) (read kept kept_after front : List ℕ) (held held_after : Option (List ℕ)) (come : Progress old read new kept held held_after) → All IsNoEnd front
-    → kept_after ≡ take 201 (come.rest ++ front) → Progress old (read ++ front) new kept_after held held_after
-Progress-front old new read kept kept_after front held held_after come all keep = record {
-  lines = come.lines;
-  rest = come.rest ++ front;
-  text = come.text;
-  cut = cut-more front read come.lines come.rest all come.cut;
+pub Progress-front : (old new : ToolLinks) (read kept kept_after front : List ℕ) (held held_after : Option (List ℕ)) (so_far : Progress old read new kept held held_after) → All IsNoEnd front
+    → kept_after ≡ take 201 (so_far.rest ++ front) → Progress old (read ++ front) new kept_after held held_after
+Progress-front old new read kept kept_after front held held_after so_far all keep = record {
+  lines = so_far.lines;
+  rest = so_far.rest ++ front;
+  text = so_far.text;
+  cut = cut-more front read so_far.lines so_far.rest all so_far.cut;
   keeps = keep;
-  responses = come.responses;
-  writes = come.writes;
+  responses = so_far.responses;
+  writes = so_far.writes;
 }
 
 -- ---- a piece, line by line
@@ -115,10 +115,10 @@ responses-line (Err errors.Memory) old new kept line held held_after is responde
     step (inl same) = inl same
     step (inr leaves) = inr (step_of_kept old new kept line is leaves)
 
-module _ (old now : ToolLinks) (read done left kept : List ℕ) (held held_now : Option (List ℕ)) (come : Progress old (read ++ done) now kept held held_now) where
+module _ (old now : ToolLinks) (read done left kept : List ℕ) (held held_now : Option (List ℕ)) (so_far : Progress old (read ++ done) now kept held held_now) where
   -- Enough is kept of a part without a line feed.
-  come_front : (front : List ℕ) → All IsNoEnd front → Progress old ((read ++ done) ++ front) now (take 201 (come.rest ++ front)) held held_now
-  come_front front all = Progress-front old now (read ++ done) kept (take 201 (come.rest ++ front)) front held held_now come all refl
+  so_far_front : (front : List ℕ) → All IsNoEnd front → Progress old ((read ++ done) ++ front) now (take 201 (so_far.rest ++ front)) held held_now
+  so_far_front front all = Progress-front old now (read ++ done) kept (take 201 (so_far.rest ++ front)) front held held_now so_far all refl
 
   module _ (front back : List ℕ) (ends : EndsFirst front left back) where
     -- The line is executed.
@@ -126,8 +126,8 @@ module _ (old now : ToolLinks) (read done left kept : List ℕ) (held held_now :
         → ((rest : List ℕ) → kept ≡ take 201 rest → TranscribesOne (Ok x) now new (rest ++ front) held_now held_new) → kept_after ≡ []
         → Progress old (read ++ (done ++ (front ++ 10 ∷ []))) new kept_after held held_new
     feed-line new kept_after held_new x responded is_empty =
-        let kept_responded = returns_kept (Ok x) now new (come.rest ++ front) held_now held_new (responded come.rest come.keeps) in
-        let here = Progress-line old now new ((read ++ done) ++ front) (take 201 (come.rest ++ front)) held held_now held_new (come_front front ends.first) x kept_responded in
+        let kept_responded = returns_kept (Ok x) now new (so_far.rest ++ front) held_now held_new (responded so_far.rest so_far.keeps) in
+        let here = Progress-line old now new ((read ++ done) ++ front) (take 201 (so_far.rest ++ front)) held held_now held_new (so_far_front front ends.first) x kept_responded in
         subst (λ k. Progress old (read ++ (done ++ (front ++ 10 ∷ []))) new k held held_new) (sym is_empty)
         (subst (λ l. Progress old l new [] held held_new) (append_assoc (read ++ done) front (10 ∷ []) ∙ append_assoc read done (front ++ 10 ∷ [])) here)
 
@@ -136,8 +136,8 @@ module _ (old now : ToolLinks) (read done left kept : List ℕ) (held held_now :
         → ((rest : List ℕ) → kept ≡ take 201 rest → TranscribesOne {A = A} (Err error) now new (rest ++ front) held_now held_new) → r ≡ Err error
         → HasProgressed r old (read ++ piece) new kept_after held held_new
     feed-stopped A B error r piece new kept_after held_new parts stopped is =
-        let kept_stopped = returns_kept {A = A} (Err error) now new (come.rest ++ front) held_now held_new (stopped come.rest come.keeps) in
-        let here = HasProgressed-stopped old now new ((read ++ done) ++ front) (take 201 (come.rest ++ front)) held held_now held_new (come_front front ends.first) A B error back kept_after kept_stopped in
+        let kept_stopped = returns_kept {A = A} (Err error) now new (so_far.rest ++ front) held_now held_new (stopped so_far.rest so_far.keeps) in
+        let here = HasProgressed-stopped old now new ((read ++ done) ++ front) (take 201 (so_far.rest ++ front)) held held_now held_new (so_far_front front ends.first) A B error back kept_after kept_stopped in
         let whole : ((read ++ done) ++ front) ++ 10 ∷ back ≡ read ++ piece = append_assoc (read ++ done) front (10 ∷ back) ∙ (append_assoc read done (front ++ 10 ∷ back)
         ∙ ap (λ l. read ++ l) (ap (λ l. done ++ l) (sym ends.parts) ∙ sym parts)) in
         subst (λ q. HasProgressed q old (read ++ piece) new kept_after held held_new) (sym is)
@@ -148,9 +148,9 @@ module _ (old now : ToolLinks) (read done left kept : List ℕ) (held held_now :
       → OnOk r ((rest : List ℕ) → kept ≡ take 201 rest → kept_after ≡ take 201 (rest ++ left)) → IfErr r (λ e. e ≡ errors.Memory) → HasProgressed r old (read ++ piece) now kept_after held held_now
   feed-kept (Ok x) piece kept_after parts all keeps error =
       subst (λ l. Progress old l now kept_after held held_now) (append_assoc read done left ∙ ap (λ l. read ++ l) (sym parts))
-      (Progress-front old now (read ++ done) kept kept_after left held held_now come all (keeps come.rest come.keeps))
+      (Progress-front old now (read ++ done) kept kept_after left held held_now so_far all (keeps so_far.rest so_far.keeps))
   feed-kept (Err errors.Memory) piece kept_after parts all keeps error =
       let whole : (read ++ done) ++ left ≡ read ++ piece = append_assoc read done left ∙ ap (λ l. read ++ l) (sym parts) in
-      (come.text, subst (λ l. TranscribesSome old now (whole_lines l) come.text) whole (Progress-stopped old now (read ++ done) kept left held held_now come), come.writes)
+      (so_far.text, subst (λ l. TranscribesSome old now (whole_lines l) so_far.text) whole (Progress-stopped old now (read ++ done) kept left held held_now so_far), so_far.writes)
   feed-kept (Err errors.Read) piece kept_after parts all keeps error = absurd (cc)
   feed-kept (Err errors.Write) piece kept_after parts all keeps error = absurd (cc)

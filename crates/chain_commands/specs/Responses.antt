@@ -131,7 +131,7 @@ tool_pointers = record {
   wraps = is_greatest32;
 }
 
--- A call is a step of the chain machine, and its response is the text of the reply.
+-- A call is a step, and its response is the text of the reply.
 abbrev pub RespondsToCall : ToolLinks → LinkCall → List ℕ → ToolLinks → Type 0
 RespondsToCall old call text new = (reply : Reply ToolPtr ℕ Inx32 Gen32 ℕ) × Step tool_pointers old call reply new × (text ≡ reply_text reply)
 
@@ -160,7 +160,7 @@ moves_text moves known = codes "moved " ++ decimal (length moves) ++ concat (map
 abbrev pub HasCapacityForText : String Global → List ℕ → Type 0
 HasCapacityForText text more = length (string_bytes text) + length more ≤ string_capacity text
 
--- A canonical compression by a step of the chain machine, with the old and the new pointer of each
+-- A canonical compression as a step, with the old and the new pointer of each
 -- link, by increasing new index.
 pub record RespondsToMoves (old : ToolLinks) (reset : Bool) (text : List ℕ) (new : ToolLinks) : Type 0 where
   pub known : InvalidationOption Unit

@@ -28,10 +28,15 @@ pub fn respond<S: SlotStack<Item = ArenaSlot<ToolPtr, LinkNoGen<ToolPtr, u32>>>>
     ensures err { OnErr result ((arena.new ≡ arena.old)
         ⊎ LeavesStep arena.old (line_of line.now) arena.new) }
 {
-    text.clear();
     match parse(line) {
-        Line::Blank => Ok(()),
-        Line::Bad => text.push_str("bad line\n"),
+        Line::Blank => {
+            text.clear();
+            Ok(())
+        }
+        Line::Bad => {
+            text.clear();
+            text.push_str("bad line\n")
+        }
         Line::Good(command) => {
             carry_out(arena, command, text)?;
             text.push_str("\n")
@@ -48,7 +53,7 @@ fn carry_out<S: SlotStack<Item = ArenaSlot<ToolPtr, LinkNoGen<ToolPtr, u32>>>>(
 ) -> Result<(), AllocError>
     ensures ok { OnOk result
         (RespondsToCommand arena.old command (string_bytes text.new) arena.new) }
-    ensures within_capacity { OnOk result ((reset : Bool) → command ≡ Command.Moves reset
+    ensures capacity { OnOk result ((reset : Bool) → command ≡ Command.Moves reset
         → HasCapacityForText text.new (codes "\n")) }
     ensures err { OnErr result ((arena.new ≡ arena.old)
         ⊎ LeavesStep arena.old (Line.Good command) arena.new) }
@@ -117,7 +122,7 @@ fn moves<S: SlotStack<Item = ArenaSlot<ToolPtr, LinkNoGen<ToolPtr, u32>>>>(
     text: &mut String,
 ) -> Result<(), AllocError>
     ensures ok { OnOk result (RespondsToMoves arena.old reset (string_bytes text.new) arena.new) }
-    ensures within_capacity { OnOk result (HasCapacityForText text.new (codes "\n")) }
+    ensures capacity { OnOk result (HasCapacityForText text.new (codes "\n")) }
     ensures err { OnErr result (arena.new ≡ arena.old) }
 {
     text.clear();

@@ -29,7 +29,7 @@ fn write_words(text: &mut String, words: &str)
 /// Appends a digit, within the capacity.
 fn write_digit(text: &mut String, digit: usize)
     requires below { digit < 10 }
-    requires within_capacity { HasCapacityForText text.old ((48 + digit) ∷ []) }
+    requires capacity { HasCapacityForText text.old ((48 + digit) ∷ []) }
     ensures bytes { string_bytes text.new ≡ string_bytes text.old ++ (48 + digit) ∷ [] }
     ensures capacity { string_capacity text.old ≤ string_capacity text.new }
 {

@@ -15,7 +15,7 @@ use Rattle.chain_laws.proofs.RenamingLemmas.Positions.{place-within, place-has, 
 use Rattle.chain_laws.proofs.RenamingLemmas.ChainRuns.{canonical_arranges}
 use Rattle.chain_laws.proofs.RenamingLemmas.LeastIndexOrder.{least_index_order_is_canonical}
 use Rattle.arena_base.specs.Arena.{Arena, slot_at}
-use Rattle.arena_base.specs.DetachedSlots.{Held, IsPacked, trimmed, free_from, held_of, lent_out, returned}
+use Rattle.arena_base.specs.DetachedSlots.{DetachedView, IsPacked, trimmed, free_from, held_of, lent_out, returned}
 use Rattle.arena_base.specs.GatheredSlots.{with_totals, fronted}
 use Rattle.chain_links.specs.declared.links.LinkBody.{LinkBody}
 use Rattle.chain_links.specs.ChainArena.{LinkView, on_value, link_value, interlinks_of, link_map, values_of, entry, ptr_at}
@@ -23,7 +23,7 @@ use Rattle.chain_links.specs.Links.{pair_view, links_view}
 use Rattle.chain_compaction.specs.DetachedLinks.{body_interlinks, link_map_in, IsWork}
 use Rattle.chain_compaction.specs.WorkCounts.{HasCounted, CountsOn}
 use Rattle.chain_compaction.specs.Layouts.{ReportsMoves, AreArranged}
-use Rattle.chain_compaction.specs.Permutations.{Waits, HaveMoved, CanMoveAll, GoToFront, destination_of, Settles}
+use Rattle.chain_compaction.specs.Permutations.{Waits, HaveMoved, CanMoveAll, AreMovedToFront, destination_of, Settles}
 use Rattle.chain_compaction.specs.Destinations.{held_view, renamed_link, renamed_held, destination_at, AreAllNumbered}
 use Rattle.chain_links.proofs.MappedArenaLemmas.{slot_at-map}
 use Rattle.chain_links.proofs.ArenaInsertionLemmas.{some_entry, slots-within}
@@ -32,22 +32,22 @@ use Rattle.chain_compaction.proofs.CompactedLinkLemmas.{trimmed-map, slot_at-tri
 use Rattle.chain_compaction.proofs.CompactedFrontLemmas.{front-packed, front-length, front-none_free, moved_viewed}
 use Rattle.chain_compaction.proofs.ChainDestinationLemmas.{length-view_after}
 use Rattle.chain_compaction.proofs.WorkCountLemmas.{counted_none}
-use Rattle.chain_compaction.proofs.ArrangementLemmas.{count-stored, slots-filled, values-given}
+use Rattle.chain_compaction.proofs.ArrangementLemmas.{count-stored, slots-filled, values-filled}
 
 -- ---- links at their places
 
--- the link map of slots
+-- The link map of slots.
 abbrev pub reported_slots : {Gen T : Type 0} → List (Option (Gen × LinkView T)) → LinkMap
 reported_slots slots i = option_map interlinks_of (slot_at slots i)
 
 module _ {Gen T : Type 0} (g : Gen) (old new : List (Option (Gen × LinkView T))) (indexes : List ℕ) (arranges : IsArrangement (reported_slots old) indexes) (long : length new ≡ length indexes)
     (sent : (i d : ℕ) (x : Gen × LinkView T) → place_in indexes i ≡ Some d → slot_at old i ≡ Some x → slot_at new d ≡ Some (g, renamed_link (place_in indexes) x.1)) where
-  -- the entries with their values alone
+  -- The entries with their values alone.
   abbrev value_at : ℕ → Option (Gen × T)
   value_at i = slot_at (map (option_map (on_value link_value)) old) i
 
   stored : (i : ℕ) → IsMember indexes i → (x : Gen × LinkView T) × (slot_at old i ≡ Some x)
-  stored i h = let v = (arranges.valid i).1 h in some_entry interlinks_of (slot_at old i) v.link v.reports
+  stored i h = let v = (arranges.valid i).1 h in some_entry interlinks_of (slot_at old i) v.link v.links
 
   value_stored : (i : ℕ) → IsMember indexes i → (e : Gen × T) × (value_at i ≡ Some e)
   value_stored i h = let x = stored i h in (on_value link_value x.0, slot_at-map (on_value link_value) old i ∙ ap (option_map (on_value link_value)) x.1)
@@ -59,7 +59,7 @@ module _ {Gen T : Type 0} (g : Gen) (old new : List (Option (Gen × LinkView T))
       ∙ (ap (option_map (on_value link_value)) (sent i (suc k) x.0 e x.1)
       ∙ sym (ap (option_map (λ (e : Gen × T). (g, e.1))) (slot_at-map (on_value link_value) old i ∙ ap (option_map (on_value link_value)) x.1)))
 
-  -- the slots are the values in the order of the list
+  -- The slots are the values in the order of the list.
   arranged_slots : map (option_map (on_value link_value)) new ≡ map (λ i. option_map (λ (e : Gen × T). (g, e.1)) (value_at i)) indexes
   arranged_slots =
       slots-filled (λ i. option_map (λ (e : Gen × T). (g, e.1)) (value_at i)) indexes 0 (map (option_map (on_value link_value)) new) arranges.once (length-map new (option_map (on_value link_value)) ∙ long)
@@ -85,7 +85,7 @@ module _ {Gen T : Type 0} (g : Gen) (old new : List (Option (Gen × LinkView T))
 
 -- ---- the count
 
--- three passes after one another, counted from the beginning
+-- Three passes after one another, counted from the beginning.
 pub three_counted : {Gen T : Type 0} (a0 a1 a2 a3 : Arena Gen T) (p0 p1 p2 p3 t0 t1 t2 t3 : ℕ) → p0 ≡ 0 → t0 ≡ 0 → CountsOn a0 a1 p0 t0 p1 t1 → CountsOn a1 a2 p1 t1 p2 t2 → CountsOn a2 a3 p2 t2 p3 t3 → HasCounted a0 a3 p3 t3
 three_counted a0 a1 a2 a3 p0 p1 p2 p3 t0 t1 t2 t3 no_placement no_touch one two three =
     three.on a0 (two.on a0 (one.on a0 (subst₂ (λ (p t : ℕ). HasCounted a0 a0 p t) (sym no_placement) (sym no_touch) (counted_none a0))))
@@ -98,8 +98,8 @@ module _ {Gen K T : Type 0} (number : K → Option ℕ) (slots : List (Option (G
   waits_for i d at = by (slot_at slots i) refl (places i ∙ at)
     where
       by : (o : Option (Gen × LinkBody K T)) → slot_at slots i ≡ o → option_and_then (destination_of number) o ≡ Some d → (e : Gen × LinkBody K T) × Waits (destination_of number) (slot_at slots) i e d
-      by None is goes = absurd (let h = goes in cc)
-      by (Some e) is goes = (e, record { stored = is; to = goes })
+      by None is target = absurd (let h = target in cc)
+      by (Some e) is target = (e, record { stored = is; to = target })
 
   place_of : (i d : ℕ) (e : Gen × LinkBody K T) → Waits (destination_of number) (slot_at slots) i e d → place_in indexes i ≡ Some d
   place_of i d e w = sym (places i) ∙ (ap (option_and_then (destination_of number)) w.stored ∙ w.to)
@@ -113,7 +113,7 @@ module _ {Gen K T : Type 0} (number : K → Option ℕ) (slots : List (Option (G
   few_indexes : length indexes ≤ length slots
   few_indexes =
       length_bound indexes (length slots) once
-      (λ i h. let e = has_entry i h in (slots-within (body_interlinks number) slots).within i (record { link = body_interlinks number e.0; reports = ap (option_map (body_interlinks number)) e.1 }))
+      (λ i h. let e = has_entry i h in (slots-within (body_interlinks number) slots).within i (record { link = body_interlinks number e.0; links = ap (option_map (body_interlinks number)) e.1 }))
 
   can_move : CanMoveAll (destination_of number) slots
   can_move = record {
@@ -122,8 +122,8 @@ module _ {Gen K T : Type 0} (number : K → Option ℕ) (slots : List (Option (G
     each = λ i e s. let p = has-place 1 indexes i (each i e s) in (p.0, sym (ap (option_and_then (destination_of number)) s) ∙ (places i ∙ p.1));
   }
 
-  go_to_front : GoToFront (destination_of number) slots (length indexes)
-  go_to_front = record {
+  moved_to_front : AreMovedToFront (destination_of number) slots (length indexes)
+  moved_to_front = record {
     few = λ i d e w. let p = place-within 1 indexes i d (place_of i d e w) in omega (arith, p.1);
     each = λ d low high.
         let from = image_of (place_in indexes) indexes (range_with_len 1 (length indexes)) d (place-numbers 1 indexes once) (range-IsMember 1 (length indexes) d low (omega (arith, high))) in
@@ -134,23 +134,23 @@ module _ {Gen K T : Type 0} (number : K → Option ℕ) (slots : List (Option (G
 -- ---- the passes
 
 module _ {Gen K T : Type 0} (number : K → Option ℕ) where
-  -- the link map follows from the links as contracts see them
-  pub link_map-view_after : (held : Held Gen (LinkBody K T)) → link_map_in number held.slots ≡ reported_slots (held_view number held).slots
+  -- The link map follows from the links as contracts see them.
+  pub link_map-view_after : (held : DetachedView Gen (LinkBody K T)) → link_map_in number held.slots ≡ reported_slots (held_view number held).slots
   link_map-view_after held = fun_ext (λ i. twice (slot_at held.slots i) ∙ sym (ap (option_map interlinks_of) (slot_at-map (pair_view number) held.slots i)))
     where
       twice : (o : Option (Gen × LinkBody K T)) → option_map (body_interlinks number) o ≡ option_map interlinks_of (option_map (pair_view number) o)
       twice None = refl
       twice (Some e) = refl
 
-  -- renaming links keeps the number of slots
-  pub length-renamed : (to : ℕ → Option ℕ) (one other : Held Gen (LinkBody K T)) → held_view number one ≡ renamed_held to (held_view number other) → length one.slots ≡ length other.slots
+  -- Renaming links keeps the number of slots.
+  pub length-renamed : (to : ℕ → Option ℕ) (one other : DetachedView Gen (LinkBody K T)) → held_view number one ≡ renamed_held to (held_view number other) → length one.slots ≡ length other.slots
   length-renamed to one other renamed =
       sym (length-map one.slots (option_map (pair_view number)))
-      ∙ (ap (λ (h : Held Gen (LinkView T)). length h.slots) renamed
+      ∙ (ap (λ (h : DetachedView Gen (LinkView T)). length h.slots) renamed
       ∙ (length-map (held_view number other).slots (option_map (on_value (renamed_link to))) ∙ length-map other.slots (option_map (pair_view number))))
 
-  -- the pointers follow from the view
-  ptr-view_after : (held : Held Gen (LinkBody K T)) (i : ℕ) → ptr_at (slot_at held.slots) i ≡ ptr_at (slot_at (map (option_map (on_value link_value)) (held_view number held).slots)) i
+  -- The pointers follow from the view.
+  ptr-view_after : (held : DetachedView Gen (LinkBody K T)) (i : ℕ) → ptr_at (slot_at held.slots) i ≡ ptr_at (slot_at (map (option_map (on_value link_value)) (held_view number held).slots)) i
   ptr-view_after held i =
       twice (slot_at held.slots i)
       ∙ sym (ap (option_map (λ (e : Gen × T). (i, e.0))) (slot_at-map (on_value link_value) (held_view number held).slots i ∙ ap (option_map (on_value link_value)) (slot_at-map (pair_view number) held.slots i)))
@@ -159,19 +159,19 @@ module _ {Gen K T : Type 0} (number : K → Option ℕ) where
       twice None = refl
       twice (Some e) = refl
 
-  -- links with the same view are well linked alike
-  pub agree-view_after : (a : Arena Gen (LinkBody K T)) (before after : Held Gen (LinkBody K T)) → before ≡ held_of a → held_view number after ≡ held_view number before
+  -- Links with the same view are well linked alike.
+  pub agree-view_after : (a : Arena Gen (LinkBody K T)) (before after : DetachedView Gen (LinkBody K T)) → before ≡ held_of a → held_view number after ≡ held_view number before
       → IsWellLinked (link_map (links_view number a)) → IsWellLinked (link_map_in number after.slots)
   agree-view_after a before after is same agrees =
-      subst IsWellLinked (ap (λ (h : Held Gen (LinkView T)). reported_slots h.slots) (sym (same ∙ ap (held_view number) is)) ∙ sym (link_map-view_after after)) agrees
+      subst IsWellLinked (ap (λ (h : DetachedView Gen (LinkView T)). reported_slots h.slots) (sym (same ∙ ap (held_view number) is)) ∙ sym (link_map-view_after after)) agrees
 
-module _ {F P Gen K T : Type 0} (g : F → P → P → F → Type 0) (key : P → ℕ × Gen) (f last : F) (number : K → Option ℕ) (generation : Gen) (h1 h2 : Held Gen (LinkBody K T))
+module _ {F P Gen K T : Type 0} (g : F → P → P → F → Type 0) (key : P → ℕ × Gen) (f last : F) (number : K → Option ℕ) (generation : Gen) (h1 h2 : DetachedView Gen (LinkBody K T))
     (old a1 a2 : Arena Gen (LinkBody K T)) (total : ℕ) (emptied : held_view number h1 ≡ held_view number (held_of old)) (numbered : AreAllNumbered number g key generation f last h1 h2 a1 a2 total) where
   abbrev first_slots : List (Option (Gen × LinkView T))
   first_slots = (links_view number old).slots
 
   first_order : IsLeastIndexOrder (reported_slots first_slots) numbered.indexes
-  first_order = subst (λ (s : LinkMap). IsLeastIndexOrder s numbered.indexes) (link_map-view_after number h1 ∙ ap (λ (h : Held Gen (LinkView T)). reported_slots h.slots) emptied) numbered.order
+  first_order = subst (λ (s : LinkMap). IsLeastIndexOrder s numbered.indexes) (link_map-view_after number h1 ∙ ap (λ (h : DetachedView Gen (LinkView T)). reported_slots h.slots) emptied) numbered.order
 
   first_arranges : IsArrangement (reported_slots first_slots) numbered.indexes
   first_arranges = canonical_arranges (reported_slots first_slots) numbered.indexes (least_index_order_is_canonical (reported_slots first_slots) numbered.indexes first_order)
@@ -182,20 +182,20 @@ module _ {F P Gen K T : Type 0} (g : F → P → P → F → Type 0) (key : P �
   renamed_there : (i : ℕ) → option_map (pair_view number) (slot_at h2.slots i) ≡ option_map (on_value (renamed_link (place_in numbered.indexes))) (slot_at first_slots i)
   renamed_there i =
       sym (slot_at-map (pair_view number) h2.slots i)
-      ∙ (ap (λ (h : Held Gen (LinkView T)). slot_at h.slots i) all_renamed ∙ slot_at-map (on_value (renamed_link (place_in numbered.indexes))) first_slots i)
+      ∙ (ap (λ (h : DetachedView Gen (LinkView T)). slot_at h.slots i) all_renamed ∙ slot_at-map (on_value (renamed_link (place_in numbered.indexes))) first_slots i)
 
   each_placed : (i : ℕ) (e : Gen × LinkBody K T) → slot_at h2.slots i ≡ Some e → IsMember numbered.indexes i
   each_placed i e s = by (slot_at first_slots i) refl (sym (ap (option_map (pair_view number)) s) ∙ renamed_there i)
     where
       by : (o : Option (Gen × LinkView T)) → slot_at first_slots i ≡ o → Some (pair_view number e) ≡ option_map (on_value (renamed_link (place_in numbered.indexes))) o → IsMember numbered.indexes i
       by None is both = absurd (let h = both in cc)
-      by (Some x) is both = (first_arranges.valid i).0 (record { link = interlinks_of x; reports = ap (option_map interlinks_of) is })
+      by (Some x) is both = (first_arranges.valid i).0 (record { link = interlinks_of x; links = ap (option_map interlinks_of) is })
 
   pub links_can_move : CanMoveAll (destination_of number) h2.slots
   links_can_move = can_move number h2.slots numbered.indexes first_arranges.once numbered.places each_placed
 
-  links_to_front : GoToFront (destination_of number) h2.slots (length numbered.indexes)
-  links_to_front = go_to_front number h2.slots numbered.indexes first_arranges.once numbered.places each_placed
+  links_to_front : AreMovedToFront (destination_of number) h2.slots (length numbered.indexes)
+  links_to_front = moved_to_front number h2.slots numbered.indexes first_arranges.once numbered.places each_placed
 
   links_few : length numbered.indexes ≤ length h2.slots
   links_few = few_indexes number h2.slots numbered.indexes first_arranges.once numbered.places each_placed
@@ -203,22 +203,22 @@ module _ {F P Gen K T : Type 0} (g : F → P → P → F → Type 0) (key : P �
   links_counted : count_by is_some h2.slots ≡ length numbered.indexes
   links_counted = count-stored (record old { slots = h2.slots }) numbered.indexes first_arranges.once each_placed (has_entry number h2.slots numbered.indexes first_arranges.once numbered.places each_placed)
 
-  -- the number of slots is unchanged
+  -- The number of slots is unchanged.
   first-length : length h1.slots ≡ length old.slots
   first-length = length-view_after number h1 (held_of old) emptied
 
   second-length : length h2.slots ≡ length old.slots
   second-length = length-renamed number (place_in numbered.indexes) h2 (held_of old) all_renamed
 
-  -- after the links have moved
-  module _ (h3 : Held Gen (LinkBody K T)) (moved : HaveMoved (destination_of number) (Settles number generation) (slot_at h2.slots) (slot_at h3.slots)) where
+  -- After the links have moved.
+  module _ (h3 : DetachedView Gen (LinkBody K T)) (moved : HaveMoved (destination_of number) (Settles number generation) (slot_at h2.slots) (slot_at h3.slots)) where
     abbrev last_slots : List (Option (Gen × LinkView T))
     last_slots = map (option_map (pair_view number)) (trimmed h3.slots)
 
     pub last-length : length last_slots ≡ length numbered.indexes
     last-length = length-map (trimmed h3.slots) (option_map (pair_view number)) ∙ front-length (destination_of number) (Settles number generation) (length numbered.indexes) h2.slots h3.slots links_to_front moved
 
-    -- the links are in the first slots
+    -- The links are in the first slots.
     pub last_packed : IsPacked h3.slots total
     last_packed = subst (IsPacked h3.slots) (sym numbered.counted) (front-packed (destination_of number) (Settles number generation) (length numbered.indexes) h2.slots h3.slots links_to_front moved)
 
@@ -241,7 +241,7 @@ module _ {F P Gen K T : Type 0} (g : F → P → P → F → Type 0) (key : P �
         link_is : {e h : Gen × LinkView T} → ◌≡◌ {A = Option (Gen × LinkView T)} (Some e) (Some h) → e.1 ≡ h.1
         link_is {e} {h} both = ap (link_or e.1) both
 
-    -- after the slots are given back
+    -- After the slots are given back.
     module _ (greatest : ℕ) (maximum : Option ℕ) (a3 : Arena Gen (LinkBody K T)) (capacity : h3.stack_capacity ≡ h2.stack_capacity) (is_maximum : h3.maximum ≡ h2.maximum)
         (emptying : a1 ≡ with_totals (lent_out maximum old) 0 (length old.slots))
         (moving : a3 ≡ with_totals a2 (count_by is_some h2.slots) (count_by is_some h2.slots + length h2.slots)) where
@@ -260,7 +260,7 @@ module _ {F P Gen K T : Type 0} (g : F → P → P → F → Type 0) (key : P �
 
       pub links_arranged : old.capacity ≡ min old.stack_capacity greatest → generation ≡ old.counter → (new : Arena Gen (LinkBody K T)) → new ≡ returned greatest a3 h3
           → AreArranged g key f last (links_view number old) (links_view number new)
-      links_arranged within_capacity counter new is_new = record {
+      links_arranged same_capacity counter new is_new = record {
         indexes = numbered.indexes;
         order = first_order;
         renamed = subst (λ (a : Arena Gen (LinkBody K T)). IsRenaming (place_in numbered.indexes) (link_map (links_view number old)) (link_map (links_view number a))) (sym (is_arranged new is_new))
@@ -284,7 +284,7 @@ module _ {F P Gen K T : Type 0} (g : F → P → P → F → Type 0) (key : P �
           values : (values : List T) × (map (λ t. Some t) values ≡ map (λ i. option_map (λ (e : Gen × T). e.1) (entry (links_view number old) i)) numbered.indexes)
               × (map {B = Option (Gen × T)} (λ t. Some (generation, t)) values ≡ map {B = Option (Gen × T)} (λ i. option_map (λ (e : Gen × T). (generation, e.1)) (entry (links_view number old) i)) numbered.indexes)
               × (length values ≡ length numbered.indexes)
-          values = values-given generation (entry (links_view number old)) numbered.indexes (value_stored generation first_slots last_slots numbered.indexes first_arranges last-length all_sent)
+          values = values-filled generation (entry (links_view number old)) numbered.indexes (value_stored generation first_slots last_slots numbered.indexes first_arranges last-length all_sent)
 
           slots : map (option_map (on_value link_value)) last_slots ≡ fronted old.counter values.0 []
           slots =
@@ -292,21 +292,21 @@ module _ {F P Gen K T : Type 0} (g : F → P → P → F → Type 0) (key : P �
               ∙ (sym values.2 ∙ (ap (λ (h : Gen). map {B = Option (Gen × T)} (λ t. Some (h, t)) values.0) counter ∙ sym (append-nil (map {B = Option (Gen × T)} (λ t. Some (old.counter, t)) values.0))))
 
           stack_kept : h3.stack_capacity ≡ old.stack_capacity
-          stack_kept = capacity ∙ ap (λ (h : Held Gen (LinkView T)). h.stack_capacity) all_renamed
+          stack_kept = capacity ∙ ap (λ (h : DetachedView Gen (LinkView T)). h.stack_capacity) all_renamed
 
           maximum_kept : h3.maximum ≡ old.maximum
-          maximum_kept = is_maximum ∙ ap (λ (h : Held Gen (LinkView T)). h.maximum) all_renamed
+          maximum_kept = is_maximum ∙ ap (λ (h : DetachedView Gen (LinkView T)). h.maximum) all_renamed
 
           capacity_kept : min h3.stack_capacity greatest ≡ old.capacity
-          capacity_kept = ap (λ (n : ℕ). min n greatest) stack_kept ∙ sym within_capacity
+          capacity_kept = ap (λ (n : ℕ). min n greatest) stack_kept ∙ sym same_capacity
 
           count : length numbered.indexes ≡ length values.0
           count = sym values.3
 
           pointers : ptr_at (slot_at h1.slots) ≡ ptr_at (entry (links_view number old))
-          pointers = fun_ext (λ i. ptr-view_after number h1 i ∙ ap (λ (h : Held Gen (LinkView T)). ptr_at (slot_at (map (option_map (on_value link_value)) h.slots)) i) emptied)
+          pointers = fun_ext (λ i. ptr-view_after number h1 i ∙ ap (λ (h : DetachedView Gen (LinkView T)). ptr_at (slot_at (map (option_map (on_value link_value)) h.slots)) i) emptied)
 
-      -- what was counted is the work
+      -- What was counted is the work.
       pub work_known : (first : Arena Gen (LinkBody K T)) (p t : ℕ) → first ≡ lent_out maximum old → HasCounted first a3 p t → length old.slots ≤ greatest → greatest < 2 ^ 64
           → (a3.placed ≡ old.placed + p) × (a3.touched ≡ old.touched + t)
       work_known first p t is had fits bound =

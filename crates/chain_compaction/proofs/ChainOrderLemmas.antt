@@ -16,7 +16,7 @@ use Rattle.chain_laws.proofs.ChainLemmas.Partitions.{the_chains}
 use Rattle.chain_laws.proofs.TransferLemmas.Target.{all_items-append}
 use Rattle.chain_laws.proofs.RenamingLemmas.Positions.{has-place, place-none, place-front, place-append}
 use Rattle.arena_base.specs.Arena.{Arena, slot_at}
-use Rattle.arena_base.specs.DetachedSlots.{Held}
+use Rattle.arena_base.specs.DetachedSlots.{DetachedView}
 use Rattle.chain_links.specs.declared.links.LinkBody.{LinkBody}
 use Rattle.chain_links.specs.ChainArena.{on_value, ptr_at}
 use Rattle.chain_links.specs.Links.{pair_view}
@@ -27,13 +27,13 @@ use Rattle.chain_compaction.specs.Destinations.{HasChainFrom, renamed_link, dest
 use Rattle.chain_links.proofs.ArenaInsertionLemmas.{slots-within}
 use Rattle.chain_compaction.proofs.DetachedLinkLemmas.{work-none, work-more}
 use Rattle.chain_compaction.proofs.ChainDestinationLemmas.{reports_none, reports_then}
-use Rattle.chain_compaction.proofs.LinkRewriteLemmas.{viewed_as, retied_none, retied_as, retied_ptr, retied_then, all_retied}
+use Rattle.chain_compaction.proofs.LinkRewriteLemmas.{viewed_as, relinked_none, relinked_as, relinked_ptr, relinked_then, all_relinked}
 
 -- ---- chains in order
 
-rises-right : (cs ds : List Chain) → IsSortedByLeast (cs ++ ds) → IsSortedByLeast ds
-rises-right [] ds r = r
-rises-right (c ∷ cs) ds r = rises-right cs ds r.1
+ascends-right : (cs ds : List Chain) → IsSortedByLeast (cs ++ ds) → IsSortedByLeast ds
+ascends-right [] ds r = r
+ascends-right (c ∷ cs) ds r = ascends-right cs ds r.1
 
 has_chain-right : (cs ds : List Chain) (d : Chain) → HasChain ds d → HasChain (cs ++ ds) d
 has_chain-right [] ds d h = h
@@ -47,7 +47,7 @@ no_items : (xs : List ℕ) → ((y : ℕ) → IsMember xs y → ⊥) → xs ≡ 
 no_items [] none = refl
 no_items (x ∷ xs) none = absurd (none x (inl refl))
 
--- the first remaining chain, which has the least remaining index, i
+-- The first remaining chain, which has the least remaining index, i.
 record IsNext (rest : List Chain) (i : ℕ) : Type 0 where
   first : Chain
   others : List Chain
@@ -57,13 +57,13 @@ record IsNext (rest : List Chain) (i : ℕ) : Type 0 where
   least : (y : ℕ) → IsMember (items first) y → i ≤ y
 
 next_chain : (rest : List Chain) (k i : ℕ) → i ≡ k + 1 → IsSortedByLeast rest → ((y : ℕ) → IsMember (all_items rest) y → k < y) → IsMember (all_items rest) i → IsNext rest i
-next_chain [] k i is rises low h = absurd h
-next_chain (c ∷ cs) k i is rises low h = chosen (IsMember-parts (items c) (all_items cs) i h)
+next_chain [] k i is ascends low h = absurd h
+next_chain (c ∷ cs) k i is ascends low h = chosen (IsMember-parts (items c) (all_items cs) i h)
   where
     above : (y : ℕ) → IsMember (all_items cs) y → i < y
     above y h =
-        let m : rises.0.0 < y = rises.0.2 y h in
-        let l : k < rises.0.0 = low rises.0.0 (IsMember-left (items c) (all_items cs) rises.0.0 rises.0.1) in
+        let m : ascends.0.0 < y = ascends.0.2 y h in
+        let l : k < ascends.0.0 = low ascends.0.0 (IsMember-left (items c) (all_items cs) ascends.0.0 ascends.0.1) in
         omega arith
 
     chosen : IsMember (items c) i ⊎ IsMember (all_items cs) i → IsNext (c ∷ cs) i
@@ -100,7 +100,7 @@ module _ {Gen K T : Type 0} (number : K → Option ℕ) where
       by None e none = cc
       by (Some i) e none = cc
 
-  -- renamings that agree on the links of a chain rename them alike
+  -- Renamings that agree on the links of a chain rename them alike.
   renamed_alike : (to also : ℕ → Option ℕ) (slots : List (Option (Gen × LinkBody K T))) (c : Chain) → IsChain (link_map_in number slots) c → ((j : ℕ) → IsMember (items c) j → to j ≡ also j) → (i : ℕ) → IsMember (items c) i
       → option_map (on_value (renamed_link to)) (option_map (pair_view number) (slot_at slots i)) ≡ option_map (on_value (renamed_link also)) (option_map (pair_view number) (slot_at slots i))
   renamed_alike to also slots c h same i m = by (slot_at slots i) refl
@@ -121,8 +121,8 @@ module _ {Gen K T : Type 0} (number : K → Option ℕ) where
 
 -- ---- the loop over all slots
 
--- the chains with an index up to k are numbered, and the visitor has seen them in order
-pub record IsOrdering {Gen K T F P : Type 0} (number : K → Option ℕ) (g : F → P → P → F → Type 0) (key : P → ℕ × Gen) (generation : Gen) (f last : F) (old now : Held Gen (LinkBody K T))
+-- The chains with an index up to k are numbered, and the visitor has seen them in order.
+pub record IsOrdering {Gen K T F P : Type 0} (number : K → Option ℕ) (g : F → P → P → F → Type 0) (key : P → ℕ × Gen) (generation : Gen) (f last : F) (old now : DetachedView Gen (LinkBody K T))
     (before after : Arena Gen (LinkBody K T)) (count k : ℕ) : Type 0 where
   pub chains : List Chain
   pub are : AreTheChains (link_map_in number old.slots) chains
@@ -130,13 +130,13 @@ pub record IsOrdering {Gen K T F P : Type 0} (number : K → Option ℕ) (g : F 
   pub rest : List Chain
   pub parts : chains ≡ done ++ rest
   pub low : (y : ℕ) → IsMember (all_items rest) y → k < y
-  pub retied : AreRelinked number (λ _. renamed_link (place_in (all_items chains))) old now (all_items done)
+  pub relinked : AreRelinked number (λ _. renamed_link (place_in (all_items chains))) old now (all_items done)
   pub numbered : AreNumbered number now.slots count (all_items done)
   pub reports : ReportsMoves g key (ptr_at (slot_at old.slots)) generation 1 f (all_items done) last
   pub work : IsWork before after 0 (k + 4 * length (all_items done))
 
-module _ {Gen K T F P : Type 0} (number : K → Option ℕ) (g : F → P → P → F → Type 0) (key : P → ℕ × Gen) (generation : Gen) (f : F) (old : Held Gen (LinkBody K T)) (before : Arena Gen (LinkBody K T)) where
-  -- no slot is passed yet
+module _ {Gen K T F P : Type 0} (number : K → Option ℕ) (g : F → P → P → F → Type 0) (key : P → ℕ × Gen) (generation : Gen) (f : F) (old : DetachedView Gen (LinkBody K T)) (before : Arena Gen (LinkBody K T)) where
+  -- No slot is passed yet.
   pub order_begins : IsWellLinked (link_map_in number old.slots) → ((j : ℕ) → destination_at number old.slots j ≡ None) → IsOrdering number g key generation f f old old before before 0 0
   order_begins agrees none =
       let within = slots-within (body_interlinks number) old.slots in
@@ -148,16 +148,16 @@ module _ {Gen K T F P : Type 0} (number : K → Option ℕ) (g : F → P → P �
         rest = all.0;
         parts = refl;
         low = λ y h. (let w = within.within y ((all.1.partition.valid y).1 h) in let l : 1 ≤ y = w.0 in omega arith);
-        retied = retied_none number (λ _. renamed_link (place_in (all_items all.0))) old;
+        relinked = relinked_none number (λ _. renamed_link (place_in (all_items all.0))) old;
         numbered = record { places = none; counts = refl };
         reports = reports_none g key (ptr_at (slot_at old.slots)) generation 1 f;
         work = work-none before 0;
       }
 
-  module _ (last : F) (now : Held Gen (LinkBody K T)) (after : Arena Gen (LinkBody K T)) (count k : ℕ) (o : IsOrdering number g key generation f last old now before after count k) where
-    -- a link that is not numbered yet is unchanged
+  module _ (last : F) (now : DetachedView Gen (LinkBody K T)) (after : Arena Gen (LinkBody K T)) (count k : ℕ) (o : IsOrdering number g key generation f last old now before after count k) where
+    -- A link that is not numbered yet is unchanged.
     as_old : (j : ℕ) → (IsMember (all_items o.done) j → ⊥) → link_map_in number now.slots j ≡ link_map_in number old.slots j
-    as_old j out = ap (option_map (body_interlinks number)) (o.retied.stay j out)
+    as_old j out = ap (option_map (body_interlinks number)) (o.relinked.stay j out)
 
     are : AreChains (link_map_in number old.slots) o.chains
     are = chains_from_pairs (link_map_in number old.slots) o.chains o.are.partition o.are.interlinks
@@ -171,15 +171,15 @@ module _ {Gen K T F P : Type 0} (number : K → Option ℕ) (g : F → P → P �
     rest_valid : (j : ℕ) → IsMember (all_items o.rest) j → HasLink (link_map_in number old.slots) j
     rest_valid j h = (o.are.partition.valid j).1 (subst (λ (xs : List ℕ). IsMember xs j) (sym all_parts) (IsMember-right (all_items o.done) (all_items o.rest) j h))
 
-    -- all slots are passed
+    -- All slots are passed.
     pub order_ends : k ≡ length old.slots → AreAllNumbered number g key generation f last old now before after count
     order_ends all = record {
       indexes = all_items o.done;
       order = record { chains = o.chains; are = o.are; items = sym whole };
       counted = o.numbered.counts;
       places = o.numbered.places;
-      renamed = all_retied number (place_in (all_items o.done)) old now (all_items o.done)
-          (subst (λ (xs : List ℕ). AreRelinked number (λ _. renamed_link (place_in xs)) old now (all_items o.done)) whole o.retied) each;
+      renamed = all_relinked number (place_in (all_items o.done)) old now (all_items o.done)
+          (subst (λ (xs : List ℕ). AreRelinked number (λ _. renamed_link (place_in xs)) old now (all_items o.done)) whole o.relinked) each;
       reports = o.reports;
       work = subst (λ (n : ℕ). IsWork before after 0 (n + 4 * length (all_items o.done))) all o.work;
     }
@@ -195,11 +195,11 @@ module _ {Gen K T F P : Type 0} (number : K → Option ℕ) (g : F → P → P �
 
         each : (j : ℕ) (e : Gen × LinkBody K T) → slot_at old.slots j ≡ Some e → IsMember (all_items o.done) j
         each j e is =
-            subst (λ (xs : List ℕ). IsMember xs j) whole ((o.are.partition.valid j).0 (record { link = body_interlinks number e; reports = ap (option_map (body_interlinks number)) is }))
+            subst (λ (xs : List ℕ). IsMember xs j) whole ((o.are.partition.valid j).0 (record { link = body_interlinks number e; links = ap (option_map (body_interlinks number)) is }))
 
     module _ (i : ℕ) (is : i ≡ k + 1) where
-      -- the next slot holds no link without a destination
-      pub order_skips : (mid : Held Gen (LinkBody K T)) (was_read : Arena Gen (LinkBody K T)) → mid ≡ now → is_fresh number (slot_at now.slots i) ≡ false → IsWork after was_read 0 1
+      -- The next slot holds no link without a destination.
+      pub order_skips : (mid : DetachedView Gen (LinkBody K T)) (was_read : Arena Gen (LinkBody K T)) → mid ≡ now → is_fresh number (slot_at now.slots i) ≡ false → IsWork after was_read 0 1
           → IsOrdering number g key generation f last old mid before was_read count (k + 1)
       order_skips mid was_read same stale lookup = record {
         chains = o.chains;
@@ -208,8 +208,8 @@ module _ {Gen K T F P : Type 0} (number : K → Option ℕ) (g : F → P → P �
         rest = o.rest;
         parts = o.parts;
         low = λ y h. lower y h (ℕ_discrete y i);
-        retied = subst (λ (h : Held Gen (LinkBody K T)). AreRelinked number (λ _. renamed_link (place_in (all_items o.chains))) old h (all_items o.done)) (sym same) o.retied;
-        numbered = subst (λ (h : Held Gen (LinkBody K T)). AreNumbered number h.slots count (all_items o.done)) (sym same) o.numbered;
+        relinked = subst (λ (h : DetachedView Gen (LinkBody K T)). AreRelinked number (λ _. renamed_link (place_in (all_items o.chains))) old h (all_items o.done)) (sym same) o.relinked;
+        numbered = subst (λ (h : DetachedView Gen (LinkBody K T)). AreNumbered number h.slots count (all_items o.done)) (sym same) o.numbered;
         reports = o.reports;
         work = work-more o.work lookup 0 (k + 1 + 4 * length (all_items o.done)) refl (omega arith);
       }
@@ -218,13 +218,13 @@ module _ {Gen K T F P : Type 0} (number : K → Option ℕ) (g : F → P → P �
           not_here h =
               let v = rest_valid i h in
               let out = λ (m : IsMember (all_items o.done) i). AreDistinct-apart (all_items o.done) (all_items o.rest) i once m h in
-              stale_some number (slot_at now.slots i) v.link (as_old i out ∙ v.reports) stale (o.numbered.places i ∙ place-none 1 (all_items o.done) i out)
+              stale_some number (slot_at now.slots i) v.link (as_old i out ∙ v.links) stale (o.numbered.places i ∙ place-none 1 (all_items o.done) i out)
 
           lower : (y : ℕ) → IsMember (all_items o.rest) y → Dec (y ≡ i) → k + 1 < y
           lower y h (yes s) = absurd (not_here (subst (IsMember (all_items o.rest)) s h))
           lower y h (no ne) = let low : k < y = o.low y h in omega arith
 
-      -- the next slot holds the first link of the next chain
+      -- The next slot holds the first link of the next chain.
       module _ (fresh : is_fresh number (slot_at now.slots i) ≡ true) where
         not_done : IsMember (all_items o.done) i → ⊥
         not_done h =
@@ -233,7 +233,7 @@ module _ {Gen K T F P : Type 0} (number : K → Option ℕ) (g : F → P → P �
             absurd (cc)
 
         stored : HasLink (link_map_in number old.slots) i
-        stored = let s = fresh_reported number (slot_at now.slots i) fresh in record { link = s.0; reports = sym (as_old i not_done) ∙ s.1 }
+        stored = let s = fresh_reported number (slot_at now.slots i) fresh in record { link = s.0; links = sym (as_old i not_done) ∙ s.1 }
 
         in_rest : IsMember (all_items o.rest) i
         in_rest = by (IsMember-parts (all_items o.done) (all_items o.rest) i (subst (λ (xs : List ℕ). IsMember xs i) all_parts (are.all i stored)))
@@ -243,7 +243,7 @@ module _ {Gen K T F P : Type 0} (number : K → Option ℕ) (g : F → P → P �
             by (inl h) = absurd (not_done h)
 
         the_next : IsNext o.rest i
-        the_next = next_chain o.rest k i is (rises-right o.done o.rest (subst IsSortedByLeast o.parts o.are.order.rises)) o.low in_rest
+        the_next = next_chain o.rest k i is (ascends-right o.done o.rest (subst IsSortedByLeast o.parts o.are.order.ascends)) o.low in_rest
 
         first_here : HasChain o.chains the_next.first
         first_here = subst (λ (cs : List Chain). HasChain cs the_next.first) (sym o.parts)
@@ -259,7 +259,7 @@ module _ {Gen K T F P : Type 0} (number : K → Option ℕ) (g : F → P → P �
         first_written : StartsAtLeast the_next.first
         first_written = o.are.order.written the_next.first first_here
 
-        -- the chain is written from where the walk back ended
+        -- The chain is written from where the walk back ended.
         starts : (start : ℕ) → IsStart (link_map_in number now.slots) i start → first_or (items the_next.first) None ≡ Some start
         starts start from = by the_next.first first_chain first_written the_next.has the_next.least
           where
@@ -273,7 +273,7 @@ module _ {Gen K T F P : Type 0} (number : K → Option ℕ) (g : F → P → P �
                 let at : start ≡ i = from.in_cyclic xs (subst (λ (z : ℕ). IsChain (link_map_in number now.slots) (cyclic (z ∷ xs))) same h) in
                 ap (λ (z : ℕ). Some z) (same ∙ sym at)
 
-        -- the chain is found from i
+        -- The chain is found from i.
         found_from : HasChainFrom (link_map_in number now.slots) i
         found_from = by the_next.first first_chain first_written the_next.has the_next.least
           where
@@ -286,7 +286,7 @@ module _ {Gen K T F P : Type 0} (number : K → Option ℕ) (g : F → P → P �
                 let same : x ≡ i = omega arith in
                 (xs, inr (subst (λ (z : ℕ). IsChain (link_map_in number now.slots) (cyclic (z ∷ xs))) same h))
 
-        -- the walk back reads no more links than the chain has
+        -- The walk back reads no more links than the chain has.
         start_work : (a b : Arena Gen (LinkBody K T)) → ((xs : List ℕ) → IsChain (link_map_in number now.slots) (linear xs) → IsMember xs i → IsWork a b 0 (length xs))
             → ((xs : List ℕ) → IsChain (link_map_in number now.slots) (cyclic (i ∷ xs)) → IsWork a b 0 (length xs + 1)) → IsWork a b 0 (length (items the_next.first))
         start_work a b in_linear in_cyclic = by the_next.first first_chain first_written the_next.has the_next.least
@@ -304,9 +304,9 @@ module _ {Gen K T F P : Type 0} (number : K → Option ℕ) (g : F → P → P �
         with_first : all_items o.done ++ items the_next.first ≡ all_items (o.done ++ the_next.first ∷ [])
         with_first = sym (all_items-append o.done (the_next.first ∷ []) ∙ ap (λ (xs : List ℕ). all_items o.done ++ xs) (append-nil (items the_next.first)))
 
-        within_capacity : length (all_items o.done) + length (items the_next.first) ≤ length now.slots
-        within_capacity =
-            let long : length now.slots ≡ length old.slots = o.retied.long in
+        fits : length (all_items o.done) + length (items the_next.first) ≤ length now.slots
+        fits =
+            let long : length now.slots ≡ length old.slots = o.relinked.long in
             let bound : length (all_items o.chains) ≤ length old.slots = length_bound (all_items o.chains) (length old.slots) are.once
             (λ j h. (slots-within (body_interlinks number) old.slots).within j ((o.are.partition.valid j).1 h)) in
             let a : length (all_items o.chains) ≡ length (all_items o.done ++ all_items o.rest) = ap length all_parts in
@@ -315,41 +315,41 @@ module _ {Gen K T F P : Type 0} (number : K → Option ℕ) (g : F → P → P �
             let d : length (items the_next.first ++ all_items the_next.others) ≡ length (items the_next.first) + length (all_items the_next.others) = length-append (items the_next.first) (all_items the_next.others) in
             omega arith
 
-        -- the state after a read, which changed nothing
-        module _ (mid : Held Gen (LinkBody K T)) (lookup : mid ≡ now) where
+        -- The state after a read, which changed nothing.
+        module _ (mid : DetachedView Gen (LinkBody K T)) (lookup : mid ≡ now) where
           pub order_found : HasChainFrom (link_map_in number mid.slots) i
-          order_found = subst (λ (h : Held Gen (LinkBody K T)). HasChainFrom (link_map_in number h.slots) i) (sym lookup) found_from
+          order_found = subst (λ (h : DetachedView Gen (LinkBody K T)). HasChainFrom (link_map_in number h.slots) i) (sym lookup) found_from
 
-          -- the state after the walk back
-          module _ (was_stored : Held Gen (LinkBody K T)) (walked : was_stored ≡ mid) (start : ℕ) (from : IsStart (link_map_in number mid.slots) i start) where
+          -- The state after the walk back.
+          module _ (was_stored : DetachedView Gen (LinkBody K T)) (walked : was_stored ≡ mid) (start : ℕ) (from : IsStart (link_map_in number mid.slots) i start) where
             can_here : CanNumber number was_stored.slots start count (all_items o.done) the_next.first
-            can_here = subst (λ (h : Held Gen (LinkBody K T)). CanNumber number h.slots start count (all_items o.done) the_next.first) (sym (walked ∙ lookup)) (record {
+            can_here = subst (λ (h : DetachedView Gen (LinkBody K T)). CanNumber number h.slots start count (all_items o.done) the_next.first) (sym (walked ∙ lookup)) (record {
               numbered = o.numbered;
               chain = first_chain;
-              starts = starts start (subst (λ (h : Held Gen (LinkBody K T)). IsStart (link_map_in number h.slots) i start) lookup from);
+              starts = starts start (subst (λ (h : DetachedView Gen (LinkBody K T)). IsStart (link_map_in number h.slots) i start) lookup from);
               apart = apart;
-              within_capacity = within_capacity;
+              fits = fits;
             })
 
             pub order_can : (done : List ℕ) × (c : Chain) × CanNumber number was_stored.slots start count done c
             order_can = (all_items o.done, the_next.first, can_here)
 
-            -- the next chain is numbered
-            pub order_goes_on : (a b d : Arena Gen (LinkBody K T)) (next : F) (new : Held Gen (LinkBody K T)) (more : ℕ)
+            -- The next chain is numbered.
+            pub order_continues : (a b d : Arena Gen (LinkBody K T)) (next : F) (new : DetachedView Gen (LinkBody K T)) (more : ℕ)
                 → IsWork after a 0 1
                 → ((xs : List ℕ) → IsChain (link_map_in number mid.slots) (linear xs) → IsMember xs i → IsWork a b 0 (length xs))
                 → ((xs : List ℕ) → IsChain (link_map_in number mid.slots) (cyclic (i ∷ xs)) → IsWork a b 0 (length xs + 1))
                 → ((done : List ℕ) (c : Chain) → CanNumber number was_stored.slots start count done c → IsChainNumbered number g key generation last next was_stored new b d more done c)
                 → IsOrdering number g key generation f next old new before d more (k + 1)
-            order_goes_on a b d next new more was_read in_linear in_cyclic numbers = record {
+            order_continues a b d next new more was_read in_linear in_cyclic numbers = record {
               chains = o.chains;
               are = o.are;
               done = o.done ++ the_next.first ∷ [];
               rest = the_next.others;
               parts = o.parts ∙ (ap (λ (cs : List Chain). o.done ++ cs) the_next.rest_is ∙ sym (chains_assoc o.done the_next.first the_next.others));
               low = λ y h. (let low : i < y = the_next.above y h in omega arith);
-              retied = subst (AreRelinked number (λ _. renamed_link (place_in (all_items o.chains))) old new) with_first
-                  (retied_then number (λ _. renamed_link (place_in (all_items o.chains))) old now (all_items o.done) o.retied new (items the_next.first) first_retied apart);
+              relinked = subst (AreRelinked number (λ _. renamed_link (place_in (all_items o.chains))) old new) with_first
+                  (relinked_then number (λ _. renamed_link (place_in (all_items o.chains))) old now (all_items o.done) o.relinked new (items the_next.first) first_relinked apart);
               numbered = subst (AreNumbered number new.slots more) with_first chain.numbered;
               reports = subst (λ (xs : List ℕ). ReportsMoves g key (ptr_at (slot_at old.slots)) generation 1 f xs next) with_first
                   (reports_then g key (ptr_at (slot_at old.slots)) generation 1 f last next (all_items o.done) (items the_next.first) o.reports
@@ -364,13 +364,13 @@ module _ {Gen K T F P : Type 0} (number : K → Option ℕ) (g : F → P → P �
 
                 pointers : ptr_at (slot_at was_stored.slots) ≡ ptr_at (slot_at old.slots)
                 pointers =
-                    ap (λ (h : Held Gen (LinkBody K T)). ptr_at (slot_at h.slots)) (walked ∙ lookup)
-                    ∙ retied_ptr number (λ _. renamed_link (place_in (all_items o.chains))) old now (all_items o.done) o.retied
+                    ap (λ (h : DetachedView Gen (LinkBody K T)). ptr_at (slot_at h.slots)) (walked ∙ lookup)
+                    ∙ relinked_ptr number (λ _. renamed_link (place_in (all_items o.chains))) old now (all_items o.done) o.relinked
 
                 place : length (all_items o.done) + 1 ≡ 1 + length (all_items o.done)
                 place = omega arith
 
-                -- the place of a link in its chain is its place among all links
+                -- The place of a link in its chain is its place among all links.
                 in_all : (j : ℕ) → IsMember (items the_next.first) j → place_from (length (all_items o.done) + 1) (items the_next.first) j ≡ place_in (all_items o.chains) j
                 in_all j h =
                     ap (λ (n : ℕ). place_from n (items the_next.first) j) place
@@ -378,12 +378,12 @@ module _ {Gen K T F P : Type 0} (number : K → Option ℕ) (g : F → P → P �
                     ∙ (sym (place-append 1 (all_items o.done) (items the_next.first ++ all_items the_next.others) j (apart j h))
                     ∙ ap (λ (xs : List ℕ). place_in xs j) (ap (λ (cs : List Chain). all_items o.done ++ all_items cs) (sym the_next.rest_is) ∙ sym all_parts)))
 
-                now_retied : AreRelinked number (λ _. renamed_link (place_from (length (all_items o.done) + 1) (items the_next.first))) now new (items the_next.first)
-                now_retied = subst (λ (h : Held Gen (LinkBody K T)). AreRelinked number (λ _. renamed_link (place_from (length (all_items o.done) + 1) (items the_next.first))) h new (items the_next.first)) (walked ∙ lookup) chain.retied
+                now_relinked : AreRelinked number (λ _. renamed_link (place_from (length (all_items o.done) + 1) (items the_next.first))) now new (items the_next.first)
+                now_relinked = subst (λ (h : DetachedView Gen (LinkBody K T)). AreRelinked number (λ _. renamed_link (place_from (length (all_items o.done) + 1) (items the_next.first))) h new (items the_next.first)) (walked ∙ lookup) chain.relinked
 
-                first_retied : AreRelinked number (λ _. renamed_link (place_in (all_items o.chains))) now new (items the_next.first)
-                first_retied =
-                    retied_as number (λ _. renamed_link (place_from (length (all_items o.done) + 1) (items the_next.first))) now new (items the_next.first) now_retied
+                first_relinked : AreRelinked number (λ _. renamed_link (place_in (all_items o.chains))) now new (items the_next.first)
+                first_relinked =
+                    relinked_as number (λ _. renamed_link (place_from (length (all_items o.done) + 1) (items the_next.first))) now new (items the_next.first) now_relinked
                     (λ _. renamed_link (place_in (all_items o.chains))) (λ j h. renamed_alike number (place_from (length (all_items o.done) + 1) (items the_next.first)) (place_in (all_items o.chains)) now.slots the_next.first first_chain in_all j h)
 
                 long : length (all_items (o.done ++ the_next.first ∷ [])) ≡ length (all_items o.done) + length (items the_next.first)
@@ -391,5 +391,5 @@ module _ {Gen K T F P : Type 0} (number : K → Option ℕ) (g : F → P → P �
 
                 walk : IsWork a b 0 (length (items the_next.first))
                 walk = start_work a b
-                    (subst (λ (h : Held Gen (LinkBody K T)). (xs : List ℕ) → IsChain (link_map_in number h.slots) (linear xs) → IsMember xs i → IsWork a b 0 (length xs)) lookup in_linear)
-                    (subst (λ (h : Held Gen (LinkBody K T)). (xs : List ℕ) → IsChain (link_map_in number h.slots) (cyclic (i ∷ xs)) → IsWork a b 0 (length xs + 1)) lookup in_cyclic)
+                    (subst (λ (h : DetachedView Gen (LinkBody K T)). (xs : List ℕ) → IsChain (link_map_in number h.slots) (linear xs) → IsMember xs i → IsWork a b 0 (length xs)) lookup in_linear)
+                    (subst (λ (h : DetachedView Gen (LinkBody K T)). (xs : List ℕ) → IsChain (link_map_in number h.slots) (cyclic (i ∷ xs)) → IsWork a b 0 (length xs + 1)) lookup in_cyclic)

@@ -7,12 +7,12 @@ use Rattle.arena_base.specs.DetachedSlots.{IsPacked, before_cut, trimmed, free_f
 use Rattle.chain_links.specs.declared.links.LinkBody.{LinkBody}
 use Rattle.chain_links.specs.ChainArena.{LinkView}
 use Rattle.chain_links.specs.Links.{link_view, pair_view}
-use Rattle.chain_compaction.specs.Permutations.{Waits, HaveMoved, GoToFront, destination_of, Settles}
+use Rattle.chain_compaction.specs.Permutations.{Waits, HaveMoved, AreMovedToFront, destination_of, Settles}
 use Rattle.arena_base.proofs.PackedSlotLemmas.{all_cut}
 use Rattle.chain_links.proofs.MappedArenaLemmas.{slot_at-map}
 
 module _ {X : Type 0} where
-  -- slots with n entries at the front and none after them
+  -- Slots with n entries at the front and none after them.
   trimmed-front : (n : ℕ) (xs : List (Option X)) → ((k : ℕ) → k < n → (x : X) × (slice_index_or xs k None ≡ Some x)) → ((k : ℕ) → n ≤ k → slice_index_or xs k None ≡ None)
       → (length (trimmed xs) ≡ n) × ((i : ℕ) → free_from i (trimmed xs) ≡ [])
   trimmed-front zero xs front behind =
@@ -27,8 +27,8 @@ module _ {X : Type 0} where
       (ap (λ (ys : List (Option X)). length ys) cut ∙ ap suc rest.0, λ i. ap (free_from i) cut ∙ rest.1 (suc i))
 
 module _ {E : Type 0} (goal : E → Option ℕ) (Settles : E → E → Type 0) (n : ℕ) (old new : List (Option E))
-    (front : GoToFront goal old n) (moved : HaveMoved goal Settles (slot_at old) (slot_at new)) where
-  -- there is an entry at each index up to n, and at none above
+    (front : AreMovedToFront goal old n) (moved : HaveMoved goal Settles (slot_at old) (slot_at new)) where
+  -- There is an entry at each index up to n, and at none above.
   stored_in_front : (k : ℕ) → k < n → (e : E) × (slice_index_or new k None ≡ Some e)
   stored_in_front k below =
       let from = front.each (suc k) (omega arith) (omega arith) in
@@ -41,11 +41,11 @@ module _ {E : Type 0} (goal : E → Option ℕ) (Settles : E → E → Type 0) (
       by : (o : Option E) → slice_index_or new k None ≡ o → o ≡ None
       by None is = refl
       by (Some e) is =
-          let come = moved.back (suc k) e is in
-          let few : suc k ≤ n = front.few come.from (suc k) come.entry come.waited in
+          let originals = moved.back (suc k) e is in
+          let few : suc k ≤ n = front.few originals.from (suc k) originals.entry originals.waited in
           absurd (omega arith)
 
-  -- the entries are packed
+  -- The entries are packed.
   pub front-packed : IsPacked new n
   front-packed = record { taken = taken; free = free }
     where
@@ -57,7 +57,7 @@ module _ {E : Type 0} (goal : E → Option ℕ) (Settles : E → E → Type 0) (
       free zero above = refl
       free (suc k) above = free_behind k (omega (arith, above))
 
-  -- trimming leaves exactly n slots, none of them free
+  -- Trimming leaves exactly n slots, none of them free.
   pub front-length : length (trimmed new) ≡ n
   front-length = (trimmed-front n new stored_in_front free_behind).0
 
@@ -65,11 +65,11 @@ module _ {E : Type 0} (goal : E → Option ℕ) (Settles : E → E → Type 0) (
   front-none_free = (trimmed-front n new stored_in_front free_behind).1 1
 
 module _ {Gen K T : Type 0} (number : K → Option ℕ) (g : Gen) where
-  -- what is seen of an entry that is settled
+  -- What is seen of an entry that is settled.
   pub settled_viewed : (e f : Gen × LinkBody K T) → Settles number g e f → pair_view number f ≡ (g, link_view number e.1)
   settled_viewed e f s = ap₂ (λ (h : Gen) (l : LinkView T). (h, l)) s.generation (ap (link_view number) s.rest)
 
-  -- an entry at its destination is seen as before, but for the generation
+  -- An entry at its destination is seen as before, but for the generation.
   pub moved_viewed : (old new : List (Option (Gen × LinkBody K T))) → HaveMoved (destination_of number) (Settles number g) (slot_at old) (slot_at new) → (i d : ℕ) (e : Gen × LinkBody K T)
       → Waits (destination_of number) (slot_at old) i e d → slot_at (map (option_map (pair_view number)) new) d ≡ Some (g, link_view number e.1)
   moved_viewed old new moved i d e w =

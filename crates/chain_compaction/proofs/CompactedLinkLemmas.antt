@@ -11,7 +11,7 @@ use Rattle.chain_laws.specs.Renamings.{IsRenaming}
 use Rattle.chain_laws.specs.Arrangements.{place_in}
 use Rattle.arena_base.specs.Arena.{Arena, slot_at}
 use Rattle.arena_base.specs.Entries.{entries_from, entries, index_of}
-use Rattle.arena_base.specs.DetachedSlots.{Held, before_cut, trimmed, free_from, held_of, lent_out, returned}
+use Rattle.arena_base.specs.DetachedSlots.{DetachedView, before_cut, trimmed, free_from, held_of, lent_out, returned}
 use Rattle.arena_base.specs.Compressions.{VisitsAll}
 use Rattle.arena_base.specs.GatheredSlots.{AreClosed, IsGathered, gathered, with_totals}
 use Rattle.arena_base.proofs.CompactedArenaLemmas.{gathers, few_entries}
@@ -23,7 +23,7 @@ use Rattle.chain_compaction.specs.LinkCompressions.{AreGathered}
 use Rattle.chain_links.proofs.LinkStateLemmas.{entry_at-links_view}
 use Rattle.chain_compaction.proofs.ValueViewLemmas.{values_of-links_view}
 
--- trimming free slots commutes with mapping
+-- Trimming free slots commutes with mapping.
 module _ {X Y : Type 0} (f : X → Y) where
   cut-map : (o : Option X) (slots : List (Option X)) → map (option_map f) (before_cut o slots) ≡ before_cut (option_map f o) (map (option_map f) slots)
   cut-map None [] = refl
@@ -39,7 +39,7 @@ module _ {X Y : Type 0} (f : X → Y) where
   free_from-map (None ∷ slots) i = ap (λ ns. i ∷ ns) (free_from-map slots (suc i))
   free_from-map (Some x ∷ slots) i = free_from-map slots (suc i)
 
--- trimming keeps what is at each index
+-- Trimming keeps what is at each index.
 module _ {X : Type 0} where
   cut-at : (o : Option X) (slots : List (Option X)) (k : ℕ) → slice_index_or (before_cut o slots) k None ≡ slice_index_or (o ∷ slots) k None
   cut-at None [] zero = refl
@@ -57,7 +57,7 @@ module _ {X : Type 0} where
   slot_at-trimmed slots (suc k) = trimmed-at slots k
 
 module _ {Gen K T : Type 0} (number : K → Option ℕ) where
-  -- the link map of an arena is the link map of its slots
+  -- The link map of an arena is the link map of its slots.
   pub link_map-slots : (a : Arena Gen (LinkBody K T)) → link_map (links_view number a) ≡ link_map_in number a.slots
   link_map-slots a = fun_ext (λ i. ap (option_map interlinks_of) (entry_at-links_view number a i) ∙ twice (slot_at a.slots i))
     where
@@ -68,20 +68,20 @@ module _ {Gen K T : Type 0} (number : K → Option ℕ) where
   link_map-trimmed : (slots : List (Option (Gen × LinkBody K T))) → link_map_in number (trimmed slots) ≡ link_map_in number slots
   link_map-trimmed slots = fun_ext (λ i. ap (option_map (body_interlinks number)) (slot_at-trimmed slots i))
 
--- the values of an arena whose slots are given back
-values-returned : {Gen K T : Type 0} (greatest : ℕ) (a : Arena Gen (LinkBody K T)) (held : Held Gen (LinkBody K T)) → with_each held_in (returned greatest a held) ≡ returned greatest (with_each held_in a) (held_values held)
+-- The values of an arena whose slots are given back.
+values-returned : {Gen K T : Type 0} (greatest : ℕ) (a : Arena Gen (LinkBody K T)) (held : DetachedView Gen (LinkBody K T)) → with_each held_in (returned greatest a held) ≡ returned greatest (with_each held_in a) (held_values held)
 values-returned greatest a held =
     let slots = trimmed-map (on_value held_in) held.slots in
     let freed = free_from-map (on_value held_in) (trimmed held.slots) 1 ∙ ap (free_from 1) slots in
     λ i. record (returned greatest (with_each held_in a) (held_values held)) { slots = slots i; freed = freed i }
 
 module _ {F P T Gen K : Type 0} (g : Mut F (P × (MutBor T × (P × Unit {0}))) (Unit {0} × (MutBor T × Unit {0}))) (key : P → ℕ × Gen) (f : F) (number : K → Option ℕ) where
-  -- the links were taken out, moved to the front, and given back
-  module _ (greatest : ℕ) (maximum : Option ℕ) (generation : Gen) (old start finish new : Arena Gen (LinkBody K T)) (before after : Held Gen (LinkBody K T))
+  -- The links were taken out, moved to the front, and given back.
+  module _ (greatest : ℕ) (maximum : Option ℕ) (generation : Gen) (old start finish new : Arena Gen (LinkBody K T)) (before after : DetachedView Gen (LinkBody K T))
       (is_start : start ≡ lent_out maximum old) (is_before : before ≡ held_of old) (is_new : new ≡ returned greatest finish after)
       (closed : AreClosed generation (held_values before) (held_values after)) (visits : VisitsAll g key f (entries_from 1 (held_values before).slots) (entries_from 1 (held_values after).slots))
       (work : IsWork start finish (length (entries_from 1 (held_values before).slots)) (length before.slots + 3 * length (entries_from 1 (held_values before).slots))) where
-    -- the old values alone
+    -- The old values alone.
     abbrev old_values : Arena Gen T
     old_values = with_each held_in old
 
@@ -92,11 +92,11 @@ module _ {F P T Gen K : Type 0} (g : Mut F (P × (MutBor T × (P × Unit {0}))) 
     like = returned greatest (with_totals (with_each held_in start) moved_count (length (held_values before).slots + moved_count)) (held_values after)
 
     like_gathered : old.capacity ≡ min old.stack_capacity greatest → generation ≡ old.counter → IsGathered g key f old_values like
-    like_gathered within_capacity counter =
+    like_gathered same_capacity counter =
         gathers g key f greatest maximum generation old_values (with_each held_in start) (with_totals (with_each held_in start) moved_count (length (held_values before).slots + moved_count)) like
-        (held_values before) (held_values after) (ap (λ (a : Arena Gen (LinkBody K T)). with_each held_in a) is_start) (ap (λ (h : Held Gen (LinkBody K T)). held_values h) is_before) within_capacity counter closed visits refl refl
+        (held_values before) (held_values after) (ap (λ (a : Arena Gen (LinkBody K T)). with_each held_in a) is_start) (ap (λ (h : DetachedView Gen (LinkBody K T)). held_values h) is_before) same_capacity counter closed visits refl refl
 
-    -- the new values are as without interlinks, but for the touches
+    -- The new values are as without interlinks, but for the touches.
     values_now : with_each held_in new ≡ record like { touched = old.touched + work.touches }
     values_now =
         ap (λ (a : Arena Gen (LinkBody K T)). with_each held_in a) (is_new ∙ ap (λ (a : Arena Gen (LinkBody K T)). returned greatest a after) work.arena)
@@ -104,22 +104,22 @@ module _ {F P T Gen K : Type 0} (g : Mut F (P × (MutBor T × (P × Unit {0}))) 
 
     few_touches : work.touches ≤ 4 * length old.slots
     few_touches =
-        let few : moved_count ≤ length old_values.slots = subst (λ (h : Held Gen (LinkBody K T)). length (entries_from 1 (held_values h).slots) ≤ length old_values.slots) (sym is_before) (few_entries old_values) in
+        let few : moved_count ≤ length old_values.slots = subst (λ (h : DetachedView Gen (LinkBody K T)). length (entries_from 1 (held_values h).slots) ≤ length old_values.slots) (sym is_before) (few_entries old_values) in
         let long : length old_values.slots ≡ length old.slots = length-map old.slots (option_map (on_value held_in)) in
-        let held : length before.slots ≡ length old.slots = ap (λ (h : Held Gen (LinkBody K T)). length h.slots) is_before in
+        let held : length before.slots ≡ length old.slots = ap (λ (h : DetachedView Gen (LinkBody K T)). length h.slots) is_before in
         omega (arith, work.few, few, long, held)
 
     pub links_gathered : old.capacity ≡ min old.stack_capacity greatest → generation ≡ old.counter → IsRenaming (place_in (indexes_in (held_values before).slots)) (link_map_in number before.slots) (link_map_in number after.slots)
         → AreGathered g key f (links_view number old) (links_view number new)
-    links_gathered within_capacity counter renamed =
-        let like = like_gathered within_capacity counter in
+    links_gathered same_capacity counter renamed =
+        let like = like_gathered same_capacity counter in
         let old_same = values_of-links_view number old in
         let new_same = values_of-links_view number new in
-        let reported_old : link_map_in number before.slots ≡ link_map (links_view number old) = ap (λ (h : Held Gen (LinkBody K T)). link_map_in number h.slots) is_before ∙ sym (link_map-slots number old) in
+        let reported_old : link_map_in number before.slots ≡ link_map (links_view number old) = ap (λ (h : DetachedView Gen (LinkBody K T)). link_map_in number h.slots) is_before ∙ sym (link_map-slots number old) in
         let reported_new : link_map_in number after.slots ≡ link_map (links_view number new) =
         sym (link_map-slots number new ∙ (ap (λ (a : Arena Gen (LinkBody K T)). link_map_in number a.slots) is_new ∙ link_map-trimmed number after.slots)) in
         let indexes : indexes_in (held_values before).slots ≡ map index_of (entries (values_of (links_view number old))) =
-        ap (λ (h : Held Gen (LinkBody K T)). indexes_in (held_values h).slots) is_before ∙ ap (λ (a : Arena Gen T). map index_of (entries a)) old_same in
+        ap (λ (h : DetachedView Gen (LinkBody K T)). indexes_in (held_values h).slots) is_before ∙ ap (λ (a : Arena Gen T). map index_of (entries a)) old_same in
         record {
           values = like.values;
           touches = work.touches;

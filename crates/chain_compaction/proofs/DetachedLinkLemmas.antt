@@ -9,9 +9,9 @@ use Rattle.chain_laws.specs.Chains.{LinkMap, Interlinks, IsWellLinked, prev_of, 
 use Rattle.chain_laws.specs.Joins.{next_set, prev_set, with_next, with_prev}
 use Rattle.chain_laws.specs.Moves.{moved_index, moved, put, CanMove}
 use Rattle.chain_laws.proofs.InterlinkLemmas.Inverses.{if_same, if_other, one_some}
-use Rattle.chain_laws.proofs.RenamingLemmas.Moves.{neighbors_tell_a_move}
+use Rattle.chain_laws.proofs.RenamingLemmas.Moves.{neighbors_determine_a_move}
 use Rattle.arena_base.specs.Arena.{Arena, slot_at, with_slot}
-use Rattle.arena_base.specs.DetachedSlots.{Held, with_placed_entry, held_with_value, with_touch, with_placement}
+use Rattle.arena_base.specs.DetachedSlots.{DetachedView, with_placed_entry, held_with_value, with_touch, with_placement}
 use Rattle.arena_base.specs.GatheredSlots.{with_totals}
 use Rattle.arena_base.proofs.SlotLemmas.{length-with_slot}
 use Rattle.chain_links.specs.declared.links.LinkBody.{LinkBody}
@@ -22,7 +22,7 @@ use Rattle.chain_links.proofs.MappedArenaLemmas.{map-with_slot, slot_at-map}
 use Rattle.chain_links.proofs.LinkStateLemmas.{slot_at-changed}
 use Rattle.chain_links.proofs.ArenaInsertionLemmas.{slot_at-written}
 
--- a write of one entry that leaves what `f` sees of it
+-- A write of one entry that leaves what `f` sees of it.
 module _ {Gen X Y : Type 0} (f : Gen × X → Y) (slots : List (Option (Gen × X))) (n : ℕ) (l w : X)
     (stored : Some l ≡ option_map (λ (e : Gen × X). e.1) (slot_at slots n)) (same : (g : Gen) → f (g, w) ≡ f (g, l)) where
   kept_there : (o : Option (Gen × X)) → Some l ≡ option_map (λ (e : Gen × X). e.1) o → option_map f (option_map (λ (e : Gen × X). (e.0, w)) o) ≡ option_map f o
@@ -37,39 +37,39 @@ module _ {Gen X Y : Type 0} (f : Gen × X → Y) (slots : List (Option (Gen × X
       by zero is = refl
       by (suc k) is = map-set_same (option_map f) slots k (option_map (λ (e : Gen × X). (e.0, w)) (slot_at slots (suc k))) None (kept_there (slot_at slots (suc k)) is)
 
--- an occupied slot was written
-module _ {Gen K T : Type 0} (held new : Held Gen (LinkBody K T)) (n : ℕ) (l w : LinkBody K T)
+-- An occupied slot was written.
+module _ {Gen K T : Type 0} (held new : DetachedView Gen (LinkBody K T)) (n : ℕ) (l w : LinkBody K T)
     (stored : Some l ≡ option_map (λ (e : Gen × LinkBody K T). e.1) (slot_at held.slots n)) (wrote : new ≡ held_with_value held n w) where
-  -- a write that keeps the value keeps all values
+  -- A write that keeps the value keeps all values.
   pub values-kept : w.t ≡ l.t → held_values new ≡ held_values held
   values-kept same =
       let slots = kept_map (on_value held_in) held.slots n l w stored (λ g i. (g, same i)) in
-      ap (λ (h : Held Gen (LinkBody K T)). held_values h) wrote ∙ (λ i. record (held_values held) { slots = slots i })
+      ap (λ (h : DetachedView Gen (LinkBody K T)). held_values h) wrote ∙ (λ i. record (held_values held) { slots = slots i })
 
-  -- a write that keeps the interlinks keeps the link map
-  pub reported-kept : (number : K → Option ℕ) → interlinks_in (link_view number w) ≡ interlinks_in (link_view number l)
+  -- A write that keeps the interlinks keeps the link map.
+  pub links-kept : (number : K → Option ℕ) → interlinks_in (link_view number w) ≡ interlinks_in (link_view number l)
       → link_map_in number new.slots ≡ link_map_in number held.slots
-  reported-kept number same = ap (λ (h : Held Gen (LinkBody K T)). link_map_in number h.slots) wrote ∙ fun_ext (λ i.
+  links-kept number same = ap (λ (h : DetachedView Gen (LinkBody K T)). link_map_in number h.slots) wrote ∙ fun_ext (λ i.
       sym (slot_at-map (body_interlinks number) (held_with_value held n w).slots i)
       ∙ (ap (λ slots. slot_at slots i) (kept_map (body_interlinks number) held.slots n l w stored (λ g. same)) ∙ slot_at-map (body_interlinks number) held.slots i))
 
-  -- a write of a value is a write among the values
+  -- A write of a value is a write among the values.
   pub values-written : held_values new ≡ held_with_value (held_values held) n w.t
   values-written =
       let slots =
       map-with_slot (option_map (on_value held_in)) held.slots n (option_map (λ (e : Gen × LinkBody K T). (e.0, w)) (slot_at held.slots n))
       ∙ ap (with_slot (held_values held).slots n) (at (slot_at held.slots n) ∙ ap (option_map (λ (e : Gen × T). (e.0, w.t))) (sym (slot_at-map (on_value held_in) held.slots n))) in
-      ap (λ (h : Held Gen (LinkBody K T)). held_values h) wrote ∙ (λ i. record (held_values held) { slots = slots i })
+      ap (λ (h : DetachedView Gen (LinkBody K T)). held_values h) wrote ∙ (λ i. record (held_values held) { slots = slots i })
     where
       at : (o : Option (Gen × LinkBody K T)) → option_map (on_value held_in) (option_map (λ (e : Gen × LinkBody K T). (e.0, w)) o)
           ≡ option_map (λ (e : Gen × T). (e.0, w.t)) (option_map (on_value held_in) o)
       at None = refl
       at (Some e) = refl
 
-  -- the link map after a write of interlinks
-  reported-changed : (number : K → Option ℕ) (change : Interlinks → Interlinks) → interlinks_in (link_view number w) ≡ change (interlinks_in (link_view number l))
+  -- The link map after a write of interlinks.
+  links-changed : (number : K → Option ℕ) (change : Interlinks → Interlinks) → interlinks_in (link_view number w) ≡ change (interlinks_in (link_view number l))
       → (i : ℕ) → link_map_in number (held_with_value held n w).slots i ≡ (if i == n then option_map change (link_map_in number held.slots i) else link_map_in number held.slots i)
-  reported-changed number change is i = by (ℕ_discrete i n)
+  links-changed number change is i = by (ℕ_discrete i n)
     where
       at : (o : Option (Gen × LinkBody K T)) → Some l ≡ option_map (λ (e : Gen × LinkBody K T). e.1) o
           → option_map (body_interlinks number) (option_map (λ (e : Gen × LinkBody K T). (e.0, w)) o) ≡ option_map change (option_map (body_interlinks number) o)
@@ -83,19 +83,19 @@ module _ {Gen K T : Type 0} (held new : Held Gen (LinkBody K T)) (n : ℕ) (l w 
       by (no differs) =
           ap (option_map (body_interlinks number)) (slot_at-changed held.slots n i (option_map (λ (e : Gen × LinkBody K T). (e.0, w))) refl ∙ if_other i n _ _ differs) ∙ sym (if_other i n _ _ differs)
 
-  -- `next` of the link was set
-  pub reported-next_set : (number : K → Option ℕ) (next : Option ℕ) → w ≡ record l { next = w.next } → number w.next ≡ next
+  -- `next` of the link was set.
+  pub links-next_set : (number : K → Option ℕ) (next : Option ℕ) → w ≡ record l { next = w.next } → number w.next ≡ next
       → link_map_in number new.slots ≡ next_set (link_map_in number held.slots) (Some n) next
-  reported-next_set number next rest named =
-      ap (λ (h : Held Gen (LinkBody K T)). link_map_in number h.slots) wrote ∙ fun_ext (reported-changed number (with_next next) (λ i. record { prev = number (rest i).prev; next = named i }))
+  links-next_set number next rest named =
+      ap (λ (h : DetachedView Gen (LinkBody K T)). link_map_in number h.slots) wrote ∙ fun_ext (links-changed number (with_next next) (λ i. record { prev = number (rest i).prev; next = named i }))
 
-  -- `prev` of the link was set
-  pub reported-prev_set : (number : K → Option ℕ) (prev : Option ℕ) → w ≡ record l { prev = w.prev } → number w.prev ≡ prev
+  -- `prev` of the link was set.
+  pub links-prev_set : (number : K → Option ℕ) (prev : Option ℕ) → w ≡ record l { prev = w.prev } → number w.prev ≡ prev
       → link_map_in number new.slots ≡ prev_set (link_map_in number held.slots) (Some n) prev
-  reported-prev_set number prev rest named =
-      ap (λ (h : Held Gen (LinkBody K T)). link_map_in number h.slots) wrote ∙ fun_ext (reported-changed number (with_prev prev) (λ i. record { prev = named i; next = number (rest i).next }))
+  links-prev_set number prev rest named =
+      ap (λ (h : DetachedView Gen (LinkBody K T)). link_map_in number h.slots) wrote ∙ fun_ext (links-changed number (with_prev prev) (λ i. record { prev = named i; next = number (rest i).next }))
 
--- setting the interlinks of a free slot changes nothing
+-- Setting the interlinks of a free slot changes nothing.
 module _ {Gen K T : Type 0} (number : K → Option ℕ) (slots : List (Option (Gen × LinkBody K T))) (n : ℕ)
     (none : None ≡ option_map (λ (e : Gen × LinkBody K T). e.1) (slot_at slots n)) where
   nothing_reported : link_map_in number slots n ≡ None
@@ -120,8 +120,8 @@ module _ {Gen K T : Type 0} (number : K → Option ℕ) (slots : List (Option (G
   pub prev_set-unknown : (prev : Option ℕ) → link_map_in number slots ≡ prev_set (link_map_in number slots) (Some n) prev
   prev_set-unknown prev = fun_ext (unknown (with_prev prev))
 
-module _ {Gen K T : Type 0} (held : Held Gen (LinkBody K T)) (from to : ℕ) (generation : Gen) where
-  -- a placement places the value
+module _ {Gen K T : Type 0} (held : DetachedView Gen (LinkBody K T)) (from to : ℕ) (generation : Gen) where
+  -- A placement places the value.
   pub values-with_placed_entry : held_values (with_placed_entry held from to generation) ≡ with_placed_entry (held_values held) from to generation
   values-with_placed_entry =
       let slots =
@@ -139,10 +139,10 @@ module _ {Gen K T : Type 0} (held : Held Gen (LinkBody K T)) (from to : ℕ) (ge
       at None = refl
       at (Some e) = refl
 
-  -- a placement in a free slot, or its own, moves a link without updating its neighbors
-  pub reported-with_placed_entry : (number : K → Option ℕ) → 1 ≤ from → from ≤ length held.slots → 1 ≤ to → to ≤ length held.slots
+  -- A placement in a free slot, or its own, moves a link without updating its neighbors.
+  pub links-with_placed_entry : (number : K → Option ℕ) → 1 ≤ from → from ≤ length held.slots → 1 ≤ to → to ≤ length held.slots
       → (to ≡ from) ⊎ (link_map_in number held.slots to ≡ None) → link_map_in number (with_placed_entry held from to generation).slots ≡ put (link_map_in number held.slots) from to
-  reported-with_placed_entry number first within first_to within_to free = fun_ext (λ j. by j (ℕ_discrete j to) (ℕ_discrete j from))
+  links-with_placed_entry number first within first_to within_to free = fun_ext (λ j. by j (ℕ_discrete j to) (ℕ_discrete j from))
     where
       middle : List (Option (Gen × LinkBody K T))
       middle = with_slot held.slots from (slot_at held.slots to)
@@ -176,33 +176,33 @@ module _ {Gen K T : Type 0} (held : Held Gen (LinkBody K T)) (from to : ℕ) (ge
           ap (option_map (body_interlinks number)) (at_to j ∙ (if_other j to _ _ c ∙ (at_from j ∙ if_other j from _ _ d)))
           ∙ sym (if_other j to _ _ c ∙ if_other j from _ _ d)
 
--- a link is read, placed, and its neighbors are updated
-module _ {Gen K T : Type 0} (number : K → Option ℕ) (old was_read brought known new : Held Gen (LinkBody K T)) (from to : ℕ) (generation : Gen)
+-- A link is read, placed, and its neighbors are updated.
+module _ {Gen K T : Type 0} (number : K → Option ℕ) (old was_read brought known new : DetachedView Gen (LinkBody K T)) (from to : ℕ) (generation : Gen)
     (is_read : was_read ≡ old) (is_brought : brought ≡ with_placed_entry was_read from to generation) where
   pub move-values : held_values known ≡ held_values brought → held_values new ≡ held_values known → held_values new ≡ with_placed_entry (held_values old) from to generation
   move-values first second =
-      second ∙ (first ∙ (ap (λ (h : Held Gen (LinkBody K T)). held_values h) (is_brought ∙ ap (λ (h : Held Gen (LinkBody K T)). with_placed_entry h from to generation) is_read)
+      second ∙ (first ∙ (ap (λ (h : DetachedView Gen (LinkBody K T)). held_values h) (is_brought ∙ ap (λ (h : DetachedView Gen (LinkBody K T)). with_placed_entry h from to generation) is_read)
       ∙ values-with_placed_entry old from to generation))
 
-  pub move-reported : (before after prev next : Option ℕ) → 1 ≤ from → from ≤ length old.slots → 1 ≤ to → to ≤ length old.slots
+  pub move-links : (before after prev next : Option ℕ) → 1 ≤ from → from ≤ length old.slots → 1 ≤ to → to ≤ length old.slots
       → prev ≡ prev_of (link_map_in number old.slots) from → next ≡ next_of (link_map_in number old.slots) from → before ≡ option_map (moved_index from to) prev → after ≡ option_map (moved_index from to) next
       → link_map_in number known.slots ≡ next_set (link_map_in number brought.slots) before (Some to) → link_map_in number new.slots ≡ prev_set (link_map_in number known.slots) after (Some to)
       → IsWellLinked (link_map_in number old.slots) → CanMove (link_map_in number old.slots) from to → link_map_in number new.slots ≡ moved (link_map_in number old.slots) from to
-  move-reported before after prev next first within first_to within_to is_prev is_next is_before is_after first_known second_known agrees can =
+  move-links before after prev next first within first_to within_to is_prev is_next is_before is_after first_known second_known agrees can =
       let link_map : LinkMap = link_map_in number old.slots in
       let is_put : link_map_in number brought.slots ≡ put link_map from to =
-      ap (λ (h : Held Gen (LinkBody K T)). link_map_in number h.slots) (is_brought ∙ ap (λ (h : Held Gen (LinkBody K T)). with_placed_entry h from to generation) is_read)
-      ∙ reported-with_placed_entry old from to generation number first within first_to within_to can.free in
+      ap (λ (h : DetachedView Gen (LinkBody K T)). link_map_in number h.slots) (is_brought ∙ ap (λ (h : DetachedView Gen (LinkBody K T)). with_placed_entry h from to generation) is_read)
+      ∙ links-with_placed_entry old from to generation number first within first_to within_to can.free in
       let names_before : before ≡ option_map (moved_index from to) (prev_of link_map from) = is_before ∙ ap (option_map (moved_index from to)) is_prev in
       let names_after : after ≡ option_map (moved_index from to) (next_of link_map from) = is_after ∙ ap (option_map (moved_index from to)) is_next in
       second_known
       ∙ (ap₂ (λ (m : LinkMap) (o : Option ℕ). prev_set m o (Some to)) (first_known ∙ ap₂ (λ (m : LinkMap) (o : Option ℕ). next_set m o (Some to)) is_put names_before) names_after
-      ∙ neighbors_tell_a_move link_map from to agrees can)
+      ∙ neighbors_determine_a_move link_map from to agrees can)
 
--- a read that reports a generation found an entry
-pub entry-view_after : {Gen X : Type 0} (old was_read : Held Gen X) (n : ℕ) (r : Option Gen) (was : Gen) → was_read ≡ old → r ≡ Some was → r ≡ option_map (λ (e : Gen × X). e.0) (slot_at old.slots n)
+-- A read that reports a generation found an entry.
+pub entry-view_after : {Gen X : Type 0} (old was_read : DetachedView Gen X) (n : ℕ) (r : Option Gen) (was : Gen) → was_read ≡ old → r ≡ Some was → r ≡ option_map (λ (e : Gen × X). e.0) (slot_at old.slots n)
     → is_some (slot_at was_read.slots n) ≡ true
-entry-view_after {Gen} {X} old was_read n r was same some known = ap (λ (h : Held Gen X). is_some (slot_at h.slots n)) same ∙ by (slot_at old.slots n) (sym some ∙ known)
+entry-view_after {Gen} {X} old was_read n r was same some known = ap (λ (h : DetachedView Gen X). is_some (slot_at h.slots n)) same ∙ by (slot_at old.slots n) (sym some ∙ known)
   where
     by : (o : Option (Gen × X)) → Some was ≡ option_map (λ (e : Gen × X). e.0) o → is_some o ≡ true
     by None is = absurd (let both = is in cc)
@@ -211,7 +211,7 @@ entry-view_after {Gen} {X} old was_read n r was same some known = ap (λ (h : He
 -- ---- the work
 
 module _ {Gen T : Type 0} where
-  -- no work
+  -- No work.
   pub work-none : (a : Arena Gen T) (most : ℕ) → IsWork a a 0 most
   work-none a most = record {
     touches = 0;
@@ -223,7 +223,7 @@ module _ {Gen T : Type 0} where
         );
   }
 
-  -- the work of one touch
+  -- The work of one touch.
   pub work-touched : (a b : Arena Gen T) → b ≡ with_touch a → IsWork a b 0 1
   work-touched a b is = record {
     touches = 1;
@@ -231,7 +231,7 @@ module _ {Gen T : Type 0} where
     arena = (let placements : a.placed ≡ a.placed + 0 = omega arith in is ∙ (λ i. record a { placed = placements i; touched = a.touched + 1 }));
   }
 
-  -- the work of one placement
+  -- The work of one placement.
   pub work-with_placed_entry : (a b : Arena Gen T) → b ≡ with_placement a → IsWork a b 1 0
   work-with_placed_entry a b is = record {
     touches = 0;
@@ -239,7 +239,7 @@ module _ {Gen T : Type 0} where
     arena = (let touches : a.touched ≡ a.touched + 0 = omega arith in is ∙ (λ i. record a { placed = a.placed + 1; touched = touches i }));
   }
 
-  -- the work of two parts together
+  -- The work of two parts together.
   pub work-more : {a b c : Arena Gen T} {p q m n : ℕ} → IsWork a b p m → IsWork b c q n → (o r : ℕ) → p + q ≡ o → m + n ≤ r → IsWork a c o r
   work-more {a} {b} {c} {p} {q} {m} {n} first second o r placements most = record {
     touches = first.touches + second.touches;
@@ -251,11 +251,11 @@ module _ {Gen T : Type 0} where
         );
   }
 
-  -- the work of a read, a placement, and two neighbors updated
+  -- The work of a read, a placement, and two neighbors updated.
   pub work-moved : {a b c d e : Arena Gen T} → b ≡ with_touch a → c ≡ with_placement b → IsWork c d 0 1 → IsWork d e 0 1 → IsWork a e 1 3
   work-moved {a} {b} {c} was_read with_placed_entry first second =
       work-more (work-more (work-more (work-touched a b was_read) (work-with_placed_entry b c with_placed_entry) 1 1 refl (omega arith)) first 1 2 refl (omega arith)) second 1 3 refl (omega arith)
 
-  -- the work of two touches
+  -- The work of two touches.
   pub work-twice : (a b c : Arena Gen T) → b ≡ with_touch a → c ≡ with_touch b → IsWork a c 0 2
   work-twice a b c one two = work-more (work-touched a b one) (work-touched b c two) 0 2 refl (omega arith)

@@ -19,7 +19,6 @@ pub mod ArrangementLemmas
 pub mod CanonicalLayoutLemmas
 pub mod SlotReadLemmas
 pub mod MovedNeighborLemmas
-pub mod CounterLemmas
 pub mod LinkLoanLemmas
 pub mod CompressionStepLemmas
 pub mod NeighborUpdateLemmas

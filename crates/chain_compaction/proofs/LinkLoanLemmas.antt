@@ -6,25 +6,25 @@ use denote.Ref.{MutBor}
 use Rattle.arena_base.specs.Arena.{slot_at}
 use Rattle.arena_base.specs.DetachedSlots.{held_with_value, with_touch, one_more}
 use Rattle.arena_base.specs.declared.compactor.Compactor.{Compactor}
-use Rattle.chain_compaction.specs.WorkCounts.{CountsOn}
+use Rattle.chain_compaction.specs.WorkCounts.{CountsWork}
 use Rattle.chain_compaction.proofs.WorkCountLemmas.{counts_touch, counts_then}
 
 module _ {P T S Inx Gen Word : Type 0} (old new : Compactor P T S Inx Gen Word) (i : ℕ) where
-  -- the value l at i was overwritten by w
+  -- The value l at i was overwritten by w.
   pub record IsOverwritten (l w : T) : Type 0 where
     pub same_reference : new.arena.ghost_name ≡ old.arena.ghost_name
     pub stored : Some l ≡ option_map (λ e. e.1) (slot_at old.held.slots i)
     pub held : new.held ≡ held_with_value old.held i w
     pub arena : new.arena.now ≡ with_touch old.arena.now
-    pub counts : CountsOn old.arena.now new.arena.now old.placed old.touched new.placed new.touched
+    pub counts : CountsWork old new
 
-  -- there was no value at i
+  -- There was no value at i.
   pub record IsUntouched : Type 0 where
     pub same_reference : new.arena.ghost_name ≡ old.arena.ghost_name
     pub none : None ≡ option_map (λ e. e.1) (slot_at old.held.slots i)
     pub held : new.held ≡ old.held
     pub arena : new.arena.now ≡ with_touch old.arena.now
-    pub counts : CountsOn old.arena.now new.arena.now old.placed old.touched new.placed new.touched
+    pub counts : CountsWork old new
 
   abbrev Touched : Type 0
   Touched = (new.arena.ghost_name ≡ old.arena.ghost_name) × (new.arena.now ≡ with_touch old.arena.now) × (new.placed ≡ old.placed) × (new.touched ≡ one_more old.touched)
@@ -55,13 +55,12 @@ module _ {P T S Inx Gen Word : Type 0} (old new : Compactor P T S Inx Gen Word) 
     counts = counts_touch old.arena.now new.arena.now old.placed new.placed old.touched new.touched kept.1.1 kept.1.2 kept.1.3;
   }
 
--- two calls after one another
+-- Two calls after one another.
 module _ {P T S Inx Gen Word : Type 0} (a b c : Compactor P T S Inx Gen Word) where
   pub same_then : b.arena.ghost_name ≡ a.arena.ghost_name → c.arena.ghost_name ≡ b.arena.ghost_name → c.arena.ghost_name ≡ a.arena.ghost_name
   same_then one two = two ∙ one
 
-  pub counts_on : CountsOn a.arena.now b.arena.now a.placed a.touched b.placed b.touched → CountsOn b.arena.now c.arena.now b.placed b.touched c.placed c.touched
-      → CountsOn a.arena.now c.arena.now a.placed a.touched c.placed c.touched
+  pub counts_on : CountsWork a b → CountsWork b c → CountsWork a c
   counts_on one two = counts_then a.arena.now b.arena.now c.arena.now a.placed b.placed c.placed a.touched b.touched c.touched one two
 
   pub held_then : b.held ≡ a.held → c.held ≡ b.held → c.held ≡ a.held

@@ -9,7 +9,7 @@ use Rattle.chain_laws.specs.Chains.{IsMember}
 use Rattle.chain_laws.proofs.ListLemmas.Members.{IsMember-left, IsMember-right, IsMember-parts, IsMember-or_not}
 use Rattle.chain_laws.proofs.InterlinkLemmas.Inverses.{if_same, if_other}
 use Rattle.arena_base.specs.Arena.{slot_at}
-use Rattle.arena_base.specs.DetachedSlots.{Held, held_with_value}
+use Rattle.arena_base.specs.DetachedSlots.{DetachedView, held_with_value}
 use Rattle.arena_base.proofs.SlotLemmas.{length-with_slot}
 use Rattle.chain_links.specs.declared.links.LinkBody.{LinkBody}
 use Rattle.chain_links.specs.ChainArena.{LinkView, on_value, ptr_at}
@@ -19,59 +19,59 @@ use Rattle.chain_compaction.specs.Destinations.{renamed_link, renamed_held, held
 use Rattle.chain_links.proofs.MappedArenaLemmas.{slot_at-map}
 use Rattle.chain_links.proofs.LinkStateLemmas.{slot_at-changed}
 
--- an entry as seen, with another link
+-- An entry as seen, with another link.
 abbrev pub viewed_as : {Gen T : Type 0} → Gen → LinkView T → Option (Gen × LinkView T)
 viewed_as g l = Some (g, l)
 
--- a link was overwritten
-module _ {Gen K T : Type 0} (now new : Held Gen (LinkBody K T)) (i : ℕ) (e : Gen × LinkBody K T) (w : LinkBody K T) (stored : slot_at now.slots i ≡ Some e) (wrote : new ≡ held_with_value now i w) where
+-- A link was overwritten.
+module _ {Gen K T : Type 0} (now new : DetachedView Gen (LinkBody K T)) (i : ℕ) (e : Gen × LinkBody K T) (w : LinkBody K T) (stored : slot_at now.slots i ≡ Some e) (wrote : new ≡ held_with_value now i w) where
   abbrev written : Option (Gen × LinkBody K T) → Option (Gen × LinkBody K T)
   written o = option_map (λ (e : Gen × LinkBody K T). (e.0, w)) o
 
   written_at : (j : ℕ) → slot_at new.slots j ≡ (if j == i then written (slot_at now.slots j) else slot_at now.slots j)
-  written_at j = ap (λ (h : Held Gen (LinkBody K T)). slot_at h.slots j) wrote ∙ slot_at-changed now.slots i j written refl
+  written_at j = ap (λ (h : DetachedView Gen (LinkBody K T)). slot_at h.slots j) wrote ∙ slot_at-changed now.slots i j written refl
 
-  -- the new link is at i
+  -- The new link is at i.
   pub written_there : slot_at new.slots i ≡ Some (e.0, w)
   written_there = written_at i ∙ (if_same i i _ _ refl ∙ ap written stored)
 
-  -- all other slots are unchanged
+  -- All other slots are unchanged.
   pub written_other : (j : ℕ) → j ≢ i → slot_at new.slots j ≡ slot_at now.slots j
   written_other j differs = written_at j ∙ if_other j i _ _ differs
 
   pub written_long : length new.slots ≡ length now.slots
-  written_long = ap (λ (h : Held Gen (LinkBody K T)). length h.slots) wrote ∙ length-with_slot now.slots i _
+  written_long = ap (λ (h : DetachedView Gen (LinkBody K T)). length h.slots) wrote ∙ length-with_slot now.slots i _
 
   pub written_capacity : new.stack_capacity ≡ now.stack_capacity
-  written_capacity = ap (λ (h : Held Gen (LinkBody K T)). h.stack_capacity) wrote
+  written_capacity = ap (λ (h : DetachedView Gen (LinkBody K T)). h.stack_capacity) wrote
 
   pub written_maximum : new.maximum ≡ now.maximum
-  written_maximum = ap (λ (h : Held Gen (LinkBody K T)). h.maximum) wrote
+  written_maximum = ap (λ (h : DetachedView Gen (LinkBody K T)). h.maximum) wrote
 
-  -- the destinations of all other links are unchanged
-  pub written_given : (number : K → Option ℕ) (j : ℕ) → j ≢ i → destination_at number new.slots j ≡ destination_at number now.slots j
-  written_given number j differs = ap (option_and_then (destination_of number)) (written_other j differs)
+  -- The destinations of all other links are unchanged.
+  pub destination_written : (number : K → Option ℕ) (j : ℕ) → j ≢ i → destination_at number new.slots j ≡ destination_at number now.slots j
+  destination_written number j differs = ap (option_and_then (destination_of number)) (written_other j differs)
 
   pub written_own : (number : K → Option ℕ) → destination_at number new.slots i ≡ number w.destination
   written_own number = ap (option_and_then (destination_of number)) written_there
 
 module _ {Gen K T : Type 0} (number : K → Option ℕ) where
-  -- the view of the entry at an index
-  abbrev pub viewed_at : Held Gen (LinkBody K T) → ℕ → Option (Gen × LinkView T)
+  -- The view of the entry at an index.
+  abbrev pub viewed_at : DetachedView Gen (LinkBody K T) → ℕ → Option (Gen × LinkView T)
   viewed_at h j = option_map (pair_view number) (slot_at h.slots j)
 
-  -- no link is overwritten yet
-  pub retied_none : (becomes : ℕ → LinkView T → LinkView T) (h : Held Gen (LinkBody K T)) → AreRelinked number becomes h h []
-  retied_none becomes h = record { there = λ j has. absurd has; stay = λ j out. refl; long = refl; capacity = refl; maximum = refl }
+  -- No link is overwritten yet.
+  pub relinked_none : (becomes : ℕ → LinkView T → LinkView T) (h : DetachedView Gen (LinkBody K T)) → AreRelinked number becomes h h []
+  relinked_none becomes h = record { there = λ j has. absurd has; stay = λ j out. refl; long = refl; capacity = refl; maximum = refl }
 
-  module _ (becomes : ℕ → LinkView T → LinkView T) (old now : Held Gen (LinkBody K T)) (xs : List ℕ) (was : AreRelinked number becomes old now xs) where
-    -- the links are unchanged, or changed alike
-    pub retied_as : (instead : ℕ → LinkView T → LinkView T) → ((j : ℕ) → IsMember xs j → option_map (on_value (becomes j)) (viewed_at old j) ≡ option_map (on_value (instead j)) (viewed_at old j)) → AreRelinked number instead old now xs
-    retied_as instead same = record { there = λ j h. was.there j h ∙ same j h; stay = was.stay; long = was.long; capacity = was.capacity; maximum = was.maximum }
+  module _ (becomes : ℕ → LinkView T → LinkView T) (old now : DetachedView Gen (LinkBody K T)) (xs : List ℕ) (was : AreRelinked number becomes old now xs) where
+    -- The links are unchanged, or changed alike.
+    pub relinked_as : (instead : ℕ → LinkView T → LinkView T) → ((j : ℕ) → IsMember xs j → option_map (on_value (becomes j)) (viewed_at old j) ≡ option_map (on_value (instead j)) (viewed_at old j)) → AreRelinked number instead old now xs
+    relinked_as instead same = record { there = λ j h. was.there j h ∙ same j h; stay = was.stay; long = was.long; capacity = was.capacity; maximum = was.maximum }
 
-    -- all pointers are unchanged
-    pub retied_ptr : ptr_at (slot_at now.slots) ≡ ptr_at (slot_at old.slots)
-    retied_ptr = fun_ext (λ i. by i (IsMember-or_not xs i))
+    -- All pointers are unchanged.
+    pub relinked_ptr : ptr_at (slot_at now.slots) ≡ ptr_at (slot_at old.slots)
+    relinked_ptr = fun_ext (λ i. by i (IsMember-or_not xs i))
       where
         view_after : (i : ℕ) (s : Option (Gen × LinkBody K T)) → option_map {U = ℕ × Gen} (λ (e : Gen × LinkBody K T). (i, e.0)) s ≡ option_map {U = ℕ × Gen} (λ (e : Gen × LinkView T). (i, e.0)) (option_map (pair_view number) s)
         view_after i None = refl
@@ -86,10 +86,10 @@ module _ {Gen K T : Type 0} (number : K → Option ℕ) where
             view_after i (slot_at now.slots i) ∙ (ap (option_map {U = ℕ × Gen} (λ (e : Gen × LinkView T). (i, e.0))) (was.there i h) ∙ (valued i (becomes i) (viewed_at old i) ∙ sym (view_after i (slot_at old.slots i))))
         by i (inr out) = ap (option_map {U = ℕ × Gen} (λ (e : Gen × LinkBody K T). (i, e.0))) (was.stay i out)
 
-    module _ (new : Held Gen (LinkBody K T)) (i : ℕ) (e : Gen × LinkBody K T) (w : LinkBody K T) (stored : slot_at now.slots i ≡ Some e) (wrote : new ≡ held_with_value now i w) where
-      -- one more link is overwritten
-      pub retied_more : (IsMember xs i → ⊥) → link_view number w ≡ becomes i (link_view number e.1) → AreRelinked number becomes old new (xs ++ i ∷ [])
-      retied_more fresh same = record {
+    module _ (new : DetachedView Gen (LinkBody K T)) (i : ℕ) (e : Gen × LinkBody K T) (w : LinkBody K T) (stored : slot_at now.slots i ≡ Some e) (wrote : new ≡ held_with_value now i w) where
+      -- One more link is overwritten.
+      pub relinked_more : (IsMember xs i → ⊥) → link_view number w ≡ becomes i (link_view number e.1) → AreRelinked number becomes old new (xs ++ i ∷ [])
+      relinked_more fresh same = record {
         there = λ j h. there j h (ℕ_discrete j i);
         stay = λ j out. written_other now new i e w stored wrote j (λ s. out (subst (IsMember (xs ++ i ∷ [])) (sym s) (IsMember-right xs (i ∷ []) i (inl refl)))) ∙ was.stay j (λ h. out (IsMember-left xs (i ∷ []) j h));
         long = written_long now new i e w stored wrote ∙ was.long;
@@ -111,9 +111,9 @@ module _ {Gen K T : Type 0} (number : K → Option ℕ) where
           there j h (yes s) = subst (λ (n : ℕ). viewed_at new n ≡ option_map (on_value (becomes n)) (viewed_at old n)) (sym s) here
           there j h (no differs) = ap (option_map (pair_view number)) (written_other now new i e w stored wrote j differs) ∙ was.there j (before j differs (IsMember-parts xs (i ∷ []) j h))
 
-      -- one of the links is overwritten again
-      pub retied_over : IsMember xs i → (instead : ℕ → LinkView T → LinkView T) → ((j : ℕ) → j ≢ i → becomes j ≡ instead j) → viewed_as e.0 (link_view number w) ≡ option_map (on_value (instead i)) (viewed_at old i) → AreRelinked number instead old new xs
-      retied_over has instead others here = record {
+      -- One of the links is overwritten again.
+      pub relinked_over : IsMember xs i → (instead : ℕ → LinkView T → LinkView T) → ((j : ℕ) → j ≢ i → becomes j ≡ instead j) → viewed_as e.0 (link_view number w) ≡ option_map (on_value (instead i)) (viewed_at old i) → AreRelinked number instead old new xs
+      relinked_over has instead others here = record {
         there = λ j h. there j h (ℕ_discrete j i);
         stay = λ j out. written_other now new i e w stored wrote j (λ s. out (subst (IsMember xs) (sym s) has)) ∙ was.stay j out;
         long = written_long now new i e w stored wrote ∙ was.long;
@@ -127,9 +127,9 @@ module _ {Gen K T : Type 0} (number : K → Option ℕ) where
               ap (option_map (pair_view number)) (written_other now new i e w stored wrote j differs)
               ∙ (was.there j h ∙ ap (λ (f : LinkView T → LinkView T). option_map (on_value f) (viewed_at old j)) (others j differs))
 
-    -- other links are overwritten after these
-    pub retied_then : (new : Held Gen (LinkBody K T)) (ys : List ℕ) → AreRelinked number becomes now new ys → ((j : ℕ) → IsMember ys j → IsMember xs j → ⊥) → AreRelinked number becomes old new (xs ++ ys)
-    retied_then new ys more apart = record {
+    -- Other links are overwritten after these.
+    pub relinked_then : (new : DetachedView Gen (LinkBody K T)) (ys : List ℕ) → AreRelinked number becomes now new ys → ((j : ℕ) → IsMember ys j → IsMember xs j → ⊥) → AreRelinked number becomes old new (xs ++ ys)
+    relinked_then new ys more apart = record {
       there = λ j h. there j (IsMember-parts xs ys j h);
       stay = λ j out. more.stay j (λ h. out (IsMember-right xs ys j h)) ∙ was.stay j (λ h. out (IsMember-left xs ys j h));
       long = more.long ∙ was.long;
@@ -141,10 +141,10 @@ module _ {Gen K T : Type 0} (number : K → Option ℕ) where
         there j (inl h) = ap (option_map (pair_view number)) (more.stay j (λ m. apart j m h)) ∙ was.there j h
         there j (inr h) = more.there j h ∙ ap (λ (o : Option (Gen × LinkBody K T)). option_map (on_value (becomes j)) (option_map (pair_view number) o)) (was.stay j (λ m. apart j h m))
 
-  -- if all links are renamed, so is the whole view
-  pub all_retied : (to : ℕ → Option ℕ) (old now : Held Gen (LinkBody K T)) (xs : List ℕ) → AreRelinked number (λ _. renamed_link to) old now xs → ((j : ℕ) (e : Gen × LinkBody K T) → slot_at old.slots j ≡ Some e → IsMember xs j)
+  -- If all links are renamed, so is the whole view.
+  pub all_relinked : (to : ℕ → Option ℕ) (old now : DetachedView Gen (LinkBody K T)) (xs : List ℕ) → AreRelinked number (λ _. renamed_link to) old now xs → ((j : ℕ) (e : Gen × LinkBody K T) → slot_at old.slots j ≡ Some e → IsMember xs j)
       → held_view number now ≡ renamed_held to (held_view number old)
-  all_retied to old now xs was each = λ j. record { slots = slots j; stack_capacity = was.capacity j; maximum = was.maximum j }
+  all_relinked to old now xs was each = λ j. record { slots = slots j; stack_capacity = was.capacity j; maximum = was.maximum j }
     where
       free : (j : ℕ) → (IsMember xs j → ⊥) → (o : Option (Gen × LinkBody K T)) → slot_at old.slots j ≡ o → option_map (pair_view number) o ≡ option_map (on_value (renamed_link to)) (option_map (pair_view number) o)
       free j out None is = refl

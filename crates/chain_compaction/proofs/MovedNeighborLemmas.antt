@@ -4,11 +4,11 @@ use Rattle.std.specs.Option.{option_map}
 use Rattle.chain_laws.specs.Moves.{moved_index}
 use Rattle.chain_laws.proofs.InterlinkLemmas.Inverses.{if_same, if_other}
 
--- two indexes that a comparison finds different are different
+-- Two indexes that a comparison finds different are different.
 pub differ : (known is : Bool) → known ≡ is → known ≡ false → is ≡ true → ⊥
 differ known is by off on = cc
 
--- two indexes that a comparison finds the same are the same
+-- Two indexes that a comparison finds the same are the same.
 pub found_same : (known is : Bool) → known ≡ is → known ≡ true → is ≡ true
 found_same known is by on = sym by ∙ on
 
@@ -23,7 +23,7 @@ module _ {I : Type 0} (number : I → ℕ) (same_number : (i j : I) → number i
       let at : moved_index (number from) (number to) (number k) ≡ number k = if_other (number k) (number from) (number to) (number k) (λ e. differs (same_number k from e)) in
       sym (ap (λ (o : Option I). option_map (moved_index (number from) (number to)) (option_map number o)) is ∙ ap (λ (n : ℕ). Some n) at)
 
--- no link is named
+-- No link is named.
 module _ {I : Type 0} (number : I → ℕ) (named : Option I) (is : named ≡ None) where
   pub none_moved : (from to : I) → None ≡ option_map (moved_index (number from) (number to)) (option_map number named)
   none_moved from to = sym (ap (λ (o : Option I). option_map (moved_index (number from) (number to)) (option_map number o)) is)

@@ -3,44 +3,44 @@ use Rattle.std.proofs.Common.{◌≡◌, ℕ, Bool, true, false, Option, None, S
 use Rattle.std.specs.Option.{option_map}
 use Rattle.chain_laws.specs.Chains.{LinkMap}
 use Rattle.arena_base.specs.Arena.{slot_at}
-use Rattle.arena_base.specs.DetachedSlots.{Held, held_with_value}
+use Rattle.arena_base.specs.DetachedSlots.{DetachedView, held_with_value}
 use Rattle.chain_links.specs.declared.links.LinkBody.{LinkBody}
 use Rattle.chain_compaction.specs.DetachedLinks.{held_values, link_map_in, with_neighbor}
-use Rattle.chain_compaction.proofs.DetachedLinkLemmas.{values-kept, reported-next_set, reported-prev_set, next_set-unknown, prev_set-unknown}
+use Rattle.chain_compaction.proofs.DetachedLinkLemmas.{values-kept, links-next_set, links-prev_set, next_set-unknown, prev_set-unknown}
 
--- no index is given
-pub states_none : {I : Type 0} (index : I → ℕ) (link_map : LinkMap) (before : Bool) (named : Option I) (goes : Option ℕ) → named ≡ None → link_map ≡ with_neighbor before link_map (option_map index named) goes
-states_none {I} index link_map before named goes is = by before ∙ (λ j. with_neighbor before link_map (option_map index (sym is j)) goes)
+-- No index is given.
+pub states_none : {I : Type 0} (index : I → ℕ) (link_map : LinkMap) (before : Bool) (named : Option I) (target : Option ℕ) → named ≡ None → link_map ≡ with_neighbor before link_map (option_map index named) target
+states_none {I} index link_map before named target is = by before ∙ (λ j. with_neighbor before link_map (option_map index (sym is j)) target)
   where
-    by : (b : Bool) → link_map ≡ with_neighbor b link_map None goes
+    by : (b : Bool) → link_map ≡ with_neighbor b link_map None target
     by true = refl
     by false = refl
 
-module _ {I Gen K T : Type 0} (index : I → ℕ) (number : K → Option ℕ) (old new : Held Gen (LinkBody K T)) (before : Bool) (named : Option I) (goes : Option ℕ) (i : I) (is : named ≡ Some i) where
-  -- there is no link at the index
+module _ {I Gen K T : Type 0} (index : I → ℕ) (number : K → Option ℕ) (old new : DetachedView Gen (LinkBody K T)) (before : Bool) (named : Option I) (target : Option ℕ) (i : I) (is : named ≡ Some i) where
+  -- There is no link at the index.
   module _ (same : new ≡ old) where
     pub kept_values : held_values new ≡ held_values old
     kept_values = λ j. held_values (same j)
 
-    pub states_nowhere : None ≡ option_map (λ (e : Gen × LinkBody K T). e.1) (slot_at old.slots (index i)) → link_map_in number new.slots ≡ with_neighbor before (link_map_in number old.slots) (option_map index named) goes
-    states_nowhere none = (λ j. link_map_in number (same j).slots) ∙ (by before ∙ (λ j. with_neighbor before (link_map_in number old.slots) (option_map index (sym is j)) goes))
+    pub states_nowhere : None ≡ option_map (λ (e : Gen × LinkBody K T). e.1) (slot_at old.slots (index i)) → link_map_in number new.slots ≡ with_neighbor before (link_map_in number old.slots) (option_map index named) target
+    states_nowhere none = (λ j. link_map_in number (same j).slots) ∙ (by before ∙ (λ j. with_neighbor before (link_map_in number old.slots) (option_map index (sym is j)) target))
       where
-        by : (b : Bool) → link_map_in number old.slots ≡ with_neighbor b (link_map_in number old.slots) (Some (index i)) goes
-        by true = prev_set-unknown number old.slots (index i) none goes
-        by false = next_set-unknown number old.slots (index i) none goes
+        by : (b : Bool) → link_map_in number old.slots ≡ with_neighbor b (link_map_in number old.slots) (Some (index i)) target
+        by true = prev_set-unknown number old.slots (index i) none target
+        by false = next_set-unknown number old.slots (index i) none target
 
-  -- a link was written
+  -- A link was written.
   module _ (l w : LinkBody K T) (stored : Some l ≡ option_map (λ (e : Gen × LinkBody K T). e.1) (slot_at old.slots (index i))) (wrote : new ≡ held_with_value old (index i) w) where
     module _ (on : before ≡ true) (rest : w ≡ record l { prev = w.prev }) where
       pub prev_values : held_values new ≡ held_values old
       prev_values = values-kept old new (index i) l w stored wrote (λ j. (rest j).t)
 
-      pub states_prev : number w.prev ≡ goes → link_map_in number new.slots ≡ with_neighbor before (link_map_in number old.slots) (option_map index named) goes
-      states_prev to = reported-prev_set old new (index i) l w stored wrote number goes rest to ∙ (λ j. with_neighbor (sym on j) (link_map_in number old.slots) (option_map index (sym is j)) goes)
+      pub states_prev : number w.prev ≡ target → link_map_in number new.slots ≡ with_neighbor before (link_map_in number old.slots) (option_map index named) target
+      states_prev to = links-prev_set old new (index i) l w stored wrote number target rest to ∙ (λ j. with_neighbor (sym on j) (link_map_in number old.slots) (option_map index (sym is j)) target)
 
     module _ (off : before ≡ false) (rest : w ≡ record l { next = w.next }) where
       pub next_values : held_values new ≡ held_values old
       next_values = values-kept old new (index i) l w stored wrote (λ j. (rest j).t)
 
-      pub states_next : number w.next ≡ goes → link_map_in number new.slots ≡ with_neighbor before (link_map_in number old.slots) (option_map index named) goes
-      states_next to = reported-next_set old new (index i) l w stored wrote number goes rest to ∙ (λ j. with_neighbor (sym off j) (link_map_in number old.slots) (option_map index (sym is j)) goes)
+      pub states_next : number w.next ≡ target → link_map_in number new.slots ≡ with_neighbor before (link_map_in number old.slots) (option_map index named) target
+      states_next to = links-next_set old new (index i) l w stored wrote number target rest to ∙ (λ j. with_neighbor (sym off j) (link_map_in number old.slots) (option_map index (sym is j)) target)

@@ -22,9 +22,9 @@ module _ {E : Type 0} (goal : E → Option ℕ) (Settles : E → E → Type 0) (
       first zero d e low w = let none : None ≡ Some e = w.stored in cc
       first (suc k) d e low w = omega arith
 
-  pub passing_goes_on : (old now next : List (Option E)) (k i : ℕ) → ArePassed goal Settles old now k → i ≡ k + 1 → IsSettling goal Settles i now next
+  pub passing_continues : (old now next : List (Option E)) (k i : ℕ) → ArePassed goal Settles old now k → i ≡ k + 1 → IsSettling goal Settles i now next
       → ((d : ℕ) (e : E) → Waits goal (slot_at next) i e d → ⊥) → ArePassed goal Settles old next (k + 1)
-  passing_goes_on old now next k i p at s none = record {
+  passing_continues old now next k i p at s none = record {
     moves = s.moves (slot_at old) p.moves;
     within = s.within p.within;
     length = s.length ∙ p.length;
@@ -45,7 +45,7 @@ module _ {E : Type 0} (goal : E → Option ℕ) (Settles : E → E → Type 0) (
   passing_leaves_none old now p = waiting-none goal now (nowhere old now p)
 
 module _ {Gen T : Type 0} where
-  -- no work so far
+  -- No work so far.
   pub work_on-begins : (a : Arena Gen T) (wait : ℕ) → IsWorkOn a a wait wait 0
   work_on-begins a wait = record {
     moved = 0;
@@ -53,7 +53,7 @@ module _ {Gen T : Type 0} where
     count = omega arith;
   }
 
-  -- one touch and one placement, after which one entry less waits
+  -- One touch and one placement, after which one entry less waits.
   pub work_on-more : (old now was_read next : Arena Gen T) (waited wait less lookups : ℕ) → IsWorkOn old now waited wait lookups → was_read ≡ with_touch now → next ≡ with_placement was_read → less + 1 ≡ wait
       → IsWorkOn old next waited less lookups
   work_on-more old now was_read next waited wait less lookups work touched is fewer = record {
@@ -63,7 +63,7 @@ module _ {Gen T : Type 0} where
     count = (let c : wait + work.moved ≡ waited = work.count in omega arith);
   }
 
-  -- one touch that found no destination
+  -- One touch that found no destination.
   pub work_on-was_read : (old now next : Arena Gen T) (waited wait lookups : ℕ) → IsWorkOn old now waited wait lookups → next ≡ with_touch now → IsWorkOn old next waited wait (lookups + 1)
   work_on-was_read old now next waited wait lookups work is = record {
     moved = work.moved;
@@ -72,7 +72,7 @@ module _ {Gen T : Type 0} where
     count = work.count;
   }
 
-  -- the work of two parts together
+  -- The work of two parts together.
   pub work_on-after : (old now next : Arena Gen T) (waited wait less lookups more : ℕ) → IsWorkOn old now waited wait lookups → IsWorkOn now next wait less more → IsWorkOn old next waited less (lookups + more)
   work_on-after old now next waited wait less lookups more work further = record {
     moved = work.moved + further.moved;
@@ -82,7 +82,7 @@ module _ {Gen T : Type 0} where
     count = (let a : wait + work.moved ≡ waited = work.count in let b : less + further.moved ≡ wait = further.count in omega arith);
   }
 
-  -- the total work, when no entry waits
+  -- The total work, when no entry waits.
   pub work_on-ends : (old now : Arena Gen T) (waited wait all lookups : ℕ) → IsWorkOn old now waited wait lookups → wait ≡ 0 → waited ≡ all → now ≡ with_totals old all (all + lookups)
   work_on-ends old now waited wait all lookups work none each =
       let m : work.moved ≡ all = (let a : wait + work.moved ≡ waited = work.count in omega arith) in

@@ -5,19 +5,19 @@ use Rattle.std.specs.Prelude.{is_some, OnSome, IfNone}
 use Rattle.std.specs.Option.{option_map, option_and_then}
 use Rattle.std.proofs.Math.Decide.{ℕ_discrete}
 use Rattle.arena_base.specs.Arena.{slot_at, with_slot}
-use Rattle.arena_base.specs.DetachedSlots.{Held, with_placed_entry, held_with_value}
+use Rattle.arena_base.specs.DetachedSlots.{DetachedView, with_placed_entry, held_with_value}
 use Rattle.arena_base.proofs.SlotLemmas.{length-with_slot}
 use Rattle.chain_links.specs.declared.links.LinkBody.{LinkBody}
 use Rattle.chain_compaction.specs.Permutations.{Waits, IsSettledAt, WaitsWithin, IsSettling, waiting, waits, destination_of, Settles, with_destination, with_destination_at, IsTakenOut}
 use Rattle.chain_compaction.proofs.SlotCountLemmas.{slot_at-same, slot_at-other, stored-within, with_slot-own, count-with_slot, mark, one_if}
-use Rattle.chain_compaction.proofs.SlotSwapLemmas.{moving_goes_on, came_from, waited_there}
+use Rattle.chain_compaction.proofs.SlotSwapLemmas.{moving_continues, arrived_from, waited_there}
 
--- a settled entry has no destination
+-- A settled entry has no destination.
 pub settled_rests : {Gen K T : Type 0} (number : K → Option ℕ) (g : Gen) (e f : Gen × LinkBody K T) → Settles number g e f → destination_of number f ≡ None
 settled_rests number g e f s = s.empty
 
--- the destination of a link was taken out
-module _ {Gen K T : Type 0} (number : K → Option ℕ) (held new : Held Gen (LinkBody K T)) (i : ℕ) (l w : LinkBody K T)
+-- The destination of a link was taken out.
+module _ {Gen K T : Type 0} (number : K → Option ℕ) (held new : DetachedView Gen (LinkBody K T)) (i : ℕ) (l w : LinkBody K T)
     (stored : Some l ≡ option_map (λ (e : Gen × LinkBody K T). e.1) (slot_at held.slots i)) (wrote : new ≡ held_with_value held i w)
     (empty : number w.destination ≡ None) (rest : w ≡ record l { destination = w.destination }) where
   slot_taken : (o : Option (Gen × LinkBody K T)) → Some l ≡ option_map (λ (e : Gen × LinkBody K T). e.1) o → option_map (λ (e : Gen × LinkBody K T). (e.0, w)) o ≡ option_map (with_destination w.destination) o
@@ -33,12 +33,12 @@ module _ {Gen K T : Type 0} (number : K → Option ℕ) (held new : Held Gen (Li
     held = wrote ∙ ap (λ (o : Option (Gen × LinkBody K T)). record held { slots = with_slot held.slots i o }) (slot_taken (slot_at held.slots i) stored);
   }
 
-  -- the destination was taken out, whatever was returned
+  -- The destination was taken out, whatever was returned.
   pub takes : {X : Type 0} (returned : Option X) → OnSome returned (IsTakenOut number i held new)
   takes (Some x) = taken_out
   takes None = tt
 
-  -- if there was no destination, nothing has changed
+  -- If there was no destination, nothing has changed.
   slot_kept : w ≡ l → (o : Option (Gen × LinkBody K T)) → Some l ≡ option_map (λ (e : Gen × LinkBody K T). e.1) o → option_map (λ (e : Gen × LinkBody K T). (e.0, w)) o ≡ o
   slot_kept same None is = refl
   slot_kept same (Some e) is =
@@ -53,7 +53,7 @@ module _ {Gen K T : Type 0} (number : K → Option ℕ) (held new : Held Gen (Li
       wrote ∙ ap (λ (s : List (Option (Gen × LinkBody K T))). record held { slots = s })
       (ap (with_slot held.slots i) (slot_kept same (slot_at held.slots i) stored) ∙ with_slot-own held.slots i)
 
--- the destination of the entry at the index is returned
+-- The destination of the entry at the index is returned.
 module _ {Gen K T : Type 0} (number : K → Option ℕ) where
   pub states_goal : (slot : Option (Gen × LinkBody K T)) (l : LinkBody K T) (returned : Option ℕ) → Some l ≡ option_map (λ (e : Gen × LinkBody K T). e.1) slot
       → returned ≡ number l.destination → returned ≡ option_and_then (destination_of number) slot
@@ -69,11 +69,11 @@ module _ {Gen K T : Type 0} (number : K → Option ℕ) (g : Gen) (k : K) (empty
   abbrev Entry : Type 0
   Entry = Gen × LinkBody K T
 
-  -- an entry with the generation
+  -- An entry with the generation.
   abbrev renewed : Entry → Entry
   renewed x = (g, x.1)
 
-  -- the slots without the destination, after one write of the exchange, and after both
+  -- The slots without the destination, after one write of the exchange, and after both.
   abbrev one : List (Option Entry)
   one = with_destination_at k slots i
 
@@ -136,7 +136,7 @@ module _ {Gen K T : Type 0} (number : K → Option ℕ) (g : Gen) (k : K) (empty
       slot_at-other mid d j (option_map renewed (slot_at one i)) low within_mid m
       ∙ (mid_other j n ∙ one_other j n)
 
-  -- an entry without a destination does not wait
+  -- An entry without a destination does not wait.
   marks_none : (x : Option Entry) → x ≡ Some (with_destination k e) → mark (destination_of number) x ≡ 0
   marks_none x is = ap (mark (destination_of number)) is ∙ ap (λ (o : Option ℕ). one_if (is_some o)) empty
 
@@ -157,7 +157,7 @@ module _ {Gen K T : Type 0} (number : K → Option ℕ) (g : Gen) (k : K) (empty
 
   pub settles_on : (old : List (Option Entry)) → IsSettling (destination_of number) (Settles number g) i old slots → IsSettling (destination_of number) (Settles number g) i old two
   settles_on old s = record {
-    moves = λ first m. moving_goes_on (destination_of number) (Settles number g) (settled_rests number g) (slot_at slots) (slot_at two) i d e settled_at_d two_at_i two_other first (s.moves first m) w;
+    moves = λ first m. moving_continues (destination_of number) (Settles number g) (settled_rests number g) (slot_at slots) (slot_at two) i d e settled_at_d two_at_i two_other first (s.moves first m) w;
     within = λ b. record { within = bound (s.within b) };
     length = length-two ∙ s.length;
     stays = λ j h f ne v. s.stays j h f ne (waited_there (destination_of number) (Settles number g) (settled_rests number g) (slot_at slots) (slot_at two) i d e settled_at_d two_at_i two_other j f h ne v);
@@ -165,26 +165,26 @@ module _ {Gen K T : Type 0} (number : K → Option ℕ) (g : Gen) (k : K) (empty
     where
       bound : WaitsWithin (destination_of number) slots → (j h : ℕ) (f : Entry) → Waits (destination_of number) (slot_at two) j f h → (1 ≤ h) × (h ≤ length two)
       bound b j h f v =
-          let u = came_from (destination_of number) (Settles number g) (settled_rests number g) (slot_at slots) (slot_at two) i d e settled_at_d two_at_i two_other j f h v in
+          let u = arrived_from (destination_of number) (Settles number g) (settled_rests number g) (slot_at slots) (slot_at two) i d e settled_at_d two_at_i two_other j f h v in
           let at = b.within u.0 h f u.1 in
           let first : 1 ≤ h = at.0 in
           let last : h ≤ length slots = at.1 in
           let same : length two ≡ length slots = length-two in
           (first, omega arith)
 
--- no step yet
+-- No step yet.
 pub settling_begins : {E : Type 0} (goal : E → Option ℕ) (Settled : E → E → Type 0) (i : ℕ) (old : List (Option E)) → IsSettling goal Settled i old old
 settling_begins goal Settled i old = record { moves = λ first m. m; within = λ b. b; length = refl; stays = λ j k f ne v. v }
 
--- no entry waits if there is no destination
+-- No entry waits if there is no destination.
 pub none_waits : {E : Type 0} (goal : E → Option ℕ) (slots : List (Option E)) (i : ℕ) → None ≡ option_and_then goal (slot_at slots i) → (d : ℕ) (e : E) → Waits goal (slot_at slots) i e d → ⊥
 none_waits goal slots i is d e w =
     let none : None ≡ goal e = is ∙ ap (option_and_then goal) w.stored in
     let some : goal e ≡ Some d = w.to in
     cc
 
--- one step, over the slots before it, without the destination, and after it
-module _ {Gen K T : Type 0} (number : K → Option ℕ) (g : Gen) (i d : ℕ) (before taken after : Held Gen (LinkBody K T))
+-- One step, over the slots before it, without the destination, and after it.
+module _ {Gen K T : Type 0} (number : K → Option ℕ) (g : Gen) (i d : ℕ) (before taken after : DetachedView Gen (LinkBody K T))
     (is : Some d ≡ option_and_then (destination_of number) (slot_at before.slots i)) (out : IsTakenOut number i before taken) (all : WaitsWithin (destination_of number) before.slots) where
   abbrev Entries : Type 0
   Entries = List (Option (Gen × LinkBody K T))
@@ -200,9 +200,9 @@ module _ {Gen K T : Type 0} (number : K → Option ℕ) (g : Gen) (i d : ℕ) (b
   bounds = all.within i d who.0 who.1
 
   length-taken : length taken.slots ≡ length before.slots
-  length-taken = ap (λ (h : Held Gen (LinkBody K T)). length h.slots) out.held ∙ length-with_slot before.slots i (option_map (with_destination out.destination) (slot_at before.slots i))
+  length-taken = ap (λ (h : DetachedView Gen (LinkBody K T)). length h.slots) out.held ∙ length-with_slot before.slots i (option_map (with_destination out.destination) (slot_at before.slots i))
 
-  -- both slots exist, and the first is occupied
+  -- Both slots exist, and the first is occupied.
   pub from_within : i ≤ length taken.slots
   from_within = let l : length taken.slots ≡ length before.slots = length-taken in let h : i ≤ length before.slots = (stored-within before.slots i who.0 who.1.stored).1 in omega arith
 
@@ -212,19 +212,19 @@ module _ {Gen K T : Type 0} (number : K → Option ℕ) (g : Gen) (i d : ℕ) (b
   pub entry_there : is_some (slot_at taken.slots i) ≡ true
   entry_there =
       let at = stored-within before.slots i who.0 who.1.stored in
-      ap (λ (h : Held Gen (LinkBody K T)). is_some (slot_at h.slots i)) out.held
+      ap (λ (h : DetachedView Gen (LinkBody K T)). is_some (slot_at h.slots i)) out.held
       ∙ (ap (λ (o : Option (Gen × LinkBody K T)). is_some o) (slot_at-same before.slots i (option_map (with_destination out.destination) (slot_at before.slots i)) at.0 at.1)
       ∙ ap (λ (o : Option (Gen × LinkBody K T)). is_some (option_map (with_destination out.destination) o)) who.1.stored)
 
   module _ (moved : after ≡ with_placed_entry taken i d g) where
     pub capacity_after : after.stack_capacity ≡ before.stack_capacity
-    capacity_after = ap (λ (h : Held Gen (LinkBody K T)). h.stack_capacity) moved ∙ ap (λ (h : Held Gen (LinkBody K T)). h.stack_capacity) out.held
+    capacity_after = ap (λ (h : DetachedView Gen (LinkBody K T)). h.stack_capacity) moved ∙ ap (λ (h : DetachedView Gen (LinkBody K T)). h.stack_capacity) out.held
 
     pub maximum_after : after.maximum ≡ before.maximum
-    maximum_after = ap (λ (h : Held Gen (LinkBody K T)). h.maximum) moved ∙ ap (λ (h : Held Gen (LinkBody K T)). h.maximum) out.held
+    maximum_after = ap (λ (h : DetachedView Gen (LinkBody K T)). h.maximum) moved ∙ ap (λ (h : DetachedView Gen (LinkBody K T)). h.maximum) out.held
 
     slots_after : two number g out.destination out.empty before.slots i d who.0 who.1 bounds.0 bounds.1 ≡ after.slots
-    slots_after = sym (ap (λ (h : Held Gen (LinkBody K T)). h.slots) moved ∙ ap (λ (h : Held Gen (LinkBody K T)). (with_placed_entry h i d g).slots) out.held)
+    slots_after = sym (ap (λ (h : DetachedView Gen (LinkBody K T)). h.slots) moved ∙ ap (λ (h : DetachedView Gen (LinkBody K T)). (with_placed_entry h i d g).slots) out.held)
 
     pub one_less_after : waiting (destination_of number) after.slots + 1 ≡ waiting (destination_of number) before.slots
     one_less_after = subst (λ (s : Entries). waiting (destination_of number) s + 1 ≡ waiting (destination_of number) before.slots) slots_after

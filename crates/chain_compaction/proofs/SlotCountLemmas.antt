@@ -17,18 +17,18 @@ module _ {X : Type 0} where
   pub slot_at-other : (xs : List (Option X)) (i j : ℕ) (x : Option X) → 1 ≤ i → i ≤ length xs → j ≢ i → slot_at (with_slot xs i x) j ≡ slot_at xs j
   slot_at-other xs i j x low high differs = slot_at-written xs i j x low high ∙ if_other j i _ _ differs
 
-  -- the index of an entry is within the slots
+  -- The index of an entry is within the slots.
   pub stored-within : (xs : List (Option X)) (i : ℕ) (x : X) → slot_at xs i ≡ Some x → (1 ≤ i) × (i ≤ length xs)
   stored-within xs i x is =
       let lone : X → Interlinks = λ _. record { prev = None; next = None } in
-      (slots-within lone xs).within i (record { link = lone x; reports = ap (option_map lone) is })
+      (slots-within lone xs).within i (record { link = lone x; links = ap (option_map lone) is })
 
-  -- writing back what a slot holds changes nothing
+  -- Writing back what a slot holds changes nothing.
   pub with_slot-own : (xs : List (Option X)) (i : ℕ) → with_slot xs i (slot_at xs i) ≡ xs
   with_slot-own xs zero = refl
   with_slot-own xs (suc k) = set-get_or xs k None
 
-  -- a count after a write
+  -- A count after a write.
   pub count-with_slot : (p : Option X → Bool) (xs : List (Option X)) (i : ℕ) (x : Option X) → 1 ≤ i → i ≤ length xs
       → count_by p (with_slot xs i x) + cond (p (slot_at xs i)) 1 0 ≡ count_by p xs + cond (p x) 1 0
   count-with_slot p xs zero x low high = absurd (omega arith)
@@ -37,12 +37,12 @@ module _ {X : Type 0} where
 abbrev pub one_if : Bool → ℕ
 one_if b = cond b 1 0
 
--- 1 for a slot whose entry waits
+-- 1 for a slot whose entry waits.
 abbrev pub mark : {E : Type 0} → (E → Option ℕ) → Option E → ℕ
 mark goal slot = one_if (waits goal slot)
 
 module _ {E : Type 0} (goal : E → Option ℕ) where
-  -- with a slot added in front, each entry waits at the next index
+  -- With a slot added in front, each entry waits at the next index.
   waits-behind : (x : Option E) (xs : List (Option E)) (i : ℕ) (e : E) (d : ℕ) → Waits goal (slot_at xs) i e d → Waits goal (slot_at (x ∷ xs)) (suc i) e d
   waits-behind x xs zero e d w = let none : None ≡ Some e = w.stored in absurd (cc)
   waits-behind x xs (suc k) e d w = record { stored = w.stored; to = w.to }
@@ -63,7 +63,7 @@ module _ {E : Type 0} (goal : E → Option ℕ) where
   mark-all None all = refl
   mark-all (Some e) all = let a = all e refl in ap (λ (o : Option ℕ). one_if (is_some o)) a.1
 
-  -- if no entry waits, the count is 0
+  -- If no entry waits, the count is 0.
   pub waiting-none : (xs : List (Option E)) → ((i d : ℕ) (e : E) → Waits goal (slot_at xs) i e d → ⊥) → waiting goal xs ≡ 0
   waiting-none [] not = refl
   waiting-none (x ∷ xs) not =
@@ -71,7 +71,7 @@ module _ {E : Type 0} (goal : E → Option ℕ) where
       let first : mark goal x ≡ 0 = mark-none x (λ e d is to. not 1 d e (record { stored = is; to = to })) in
       sum_by-cons (mark goal) x xs ∙ ap₂ (λ (a b : ℕ). a + b) first rest
 
-  -- if each entry waits, the count is the number of entries
+  -- If each entry waits, the count is the number of entries.
   pub waiting-all : (xs : List (Option E)) → ((i : ℕ) (e : E) → slot_at xs i ≡ Some e → (d : ℕ) × (goal e ≡ Some d)) → waiting goal xs ≡ count_by is_some xs
   waiting-all [] all = refl
   waiting-all (x ∷ xs) all =
@@ -79,6 +79,6 @@ module _ {E : Type 0} (goal : E → Option ℕ) where
       let first : mark goal x ≡ one_if (is_some x) = mark-all x (λ e s. all 1 e s) in
       sum_by-cons (mark goal) x xs ∙ (ap₂ (λ (a b : ℕ). a + b) first rest ∙ sym (sum_by-cons (λ (y : Option E). one_if (is_some y)) x xs))
 
--- a loop index that has reached its end
+-- A loop index that has reached its end.
 pub at_end : (k end all : ℕ) → end ≡ all → k ≤ end → end ≤ k → k ≡ all
 at_end k end all is high low = omega (arith, is, high, low)

@@ -13,14 +13,14 @@ use Rattle.chain_compaction.specs.Destinations.{is_fresh}
 use Rattle.chain_compaction.proofs.WorkCountLemmas.{counts_touch}
 
 module _ {P T S Inx Gen Word : Type 0} where
-  -- a read is one touch, and keeps the slots
+  -- A read is one touch, and keeps the slots.
   pub has_read : (old new : Compactor P T S Inx Gen Word)
       → (new.held ≡ old.held) × ((new.arena.ghost_name ≡ old.arena.ghost_name) × (new.arena.now ≡ with_touch old.arena.now) × (new.placed ≡ old.placed) × (new.touched ≡ one_more old.touched))
       → HasReadSlot old new
   has_read old new h = record { same_reference = h.1.0; held = h.0; arena = h.1.1; counts = counts_touch _ _ _ _ _ _ h.1.1 h.1.2 h.1.3 }
 
 module _ {Gen K T : Type 0} (packed : K → Option ℕ) where
-  -- an entry has its generation, its interlinks and its destination
+  -- An entry has its generation, its interlinks and its destination.
   pub entry_reported : (e : Gen × LinkBody K T) (o : Option (Gen × LinkBody K T)) → Some e ≡ o
       → (Some e.0 ≡ option_map (λ (x : Gen × LinkBody K T). x.0) o) × (packed e.1.prev ≡ prev_in (option_map (body_interlinks packed) o))
       × (packed e.1.next ≡ next_in (option_map (body_interlinks packed) o)) × (packed e.1.destination ≡ option_and_then (destination_of packed) o)
@@ -31,7 +31,7 @@ module _ {Gen K T : Type 0} (packed : K → Option ℕ) where
     ap (option_and_then (destination_of packed)) is,
   )
 
-  -- a free slot has no generation, interlinks or destination
+  -- A free slot has no generation, interlinks or destination.
   pub nothing_reported : (o : Option (Gen × LinkBody K T)) → None ≡ o
       → (None ≡ option_map (λ (x : Gen × LinkBody K T). x.0) o) × (None ≡ prev_in (option_map (body_interlinks packed) o))
       × (None ≡ next_in (option_map (body_interlinks packed) o)) × (None ≡ option_and_then (destination_of packed) o)
@@ -42,7 +42,7 @@ module _ {Gen K T : Type 0} (packed : K → Option ℕ) where
     ap (option_and_then (destination_of packed)) is,
   )
 
-  -- whether a slot holds a fresh link, by what a read returns
+  -- Whether a slot holds a fresh link, by what a read returns.
   fresh_there : {I : Type 0} (number : I → ℕ) (o : Option (Gen × LinkBody K T)) (r : Option Gen) (g : Gen) (d : Option I) (b : Bool) → r ≡ Some g
       → r ≡ option_map (λ (x : Gen × LinkBody K T). x.0) o → option_map number d ≡ option_and_then (destination_of packed) o → is_some d ≡ not b → b ≡ is_fresh packed o
   fresh_there number None r g d b is stored to none = cc
@@ -55,16 +55,16 @@ module _ {Gen K T : Type 0} (packed : K → Option ℕ) where
   none_fresh None r is stored = refl
   none_fresh (Some e) r is stored = cc
 
-  -- a link read with no destination is fresh
+  -- A link read with no destination is fresh.
   pub known_fresh : {I : Type 0} (number : I → ℕ) (o : Option (Gen × LinkBody K T)) (r : Option Gen) (g : Gen) (d : Option I) → r ≡ Some g → r ≡ option_map (λ (x : Gen × LinkBody K T). x.0) o
       → option_map number d ≡ option_and_then (destination_of packed) o → d ≡ None → is_fresh packed o ≡ true
   known_fresh number o r g d is stored to none = sym (fresh_there number o r g d true is stored to (ap is_some none))
 
-  -- a link read with a destination is not fresh
+  -- A link read with a destination is not fresh.
   pub known_directed : {I : Type 0} (number : I → ℕ) (o : Option (Gen × LinkBody K T)) (r : Option Gen) (g : Gen) (d : Option I) (i : I) → r ≡ Some g → r ≡ option_map (λ (x : Gen × LinkBody K T). x.0) o
       → option_map number d ≡ option_and_then (destination_of packed) o → d ≡ Some i → is_fresh packed o ≡ false
   known_directed number o r g d i is stored to some = sym (fresh_there number o r g d false is stored to (ap is_some some))
 
-  -- a free slot holds no fresh link
+  -- A free slot holds no fresh link.
   pub known_none : (o : Option (Gen × LinkBody K T)) (r : Option Gen) → r ≡ None → r ≡ option_map (λ (x : Gen × LinkBody K T). x.0) o → is_fresh packed o ≡ false
   known_none o r is stored = sym (none_fresh o r is stored)

@@ -4,7 +4,7 @@ use Rattle.std.proofs.Math.Decide.{ℕ_discrete}
 use Rattle.chain_compaction.specs.Permutations.{Waits, IsSettledAt, StillWaits, HasArrived, IsMoving, HaveMoved}
 
 module _ {E : Type 0} (goal : E → Option ℕ) (Settles : E → E → Type 0) (done : (e f : E) → Settles e f → goal f ≡ None) where
-  -- the invariant before the first exchange
+  -- The invariant before the first exchange.
   pub moving_begins : (old : ℕ → Option E)
       → ((i j d : ℕ) (e f : E) → Waits goal old i e d → Waits goal old j f d → i ≡ j)
       → ((i : ℕ) (e : E) → old i ≡ Some e → (d : ℕ) × (goal e ≡ Some d)) → IsMoving goal Settles old old
@@ -21,15 +21,15 @@ module _ {E : Type 0} (goal : E → Option ℕ) (Settles : E → E → Type 0) (
       waits_as_ever : (j : ℕ) (e : E) (d : ℕ) → old j ≡ Some e → goal e ≡ Some d → StillWaits goal old old j e
       waits_as_ever j e d s to = record { from = j; to = d; waited = record { stored = s; to = to }; waits = record { stored = s; to = to } }
 
-  -- the entry e at i is exchanged with the slot at d, and settled there
+  -- The entry e at i is exchanged with the slot at d, and settled there.
   module _ (now next : ℕ → Option E) (i d : ℕ) (e : E)
       (at_d : IsSettledAt Settles next d e) (at_i : (i ≢ d) → next i ≡ now d) (elsewhere : (j : ℕ) → (j ≢ i) → (j ≢ d) → next j ≡ now j) where
-    -- an entry that waits afterwards waited there, or moved from d to i
+    -- An entry that waits afterwards waited there, or moved from d to i.
     data Before (j : ℕ) (f : E) (k : ℕ) : Type 0 where
       stayed : (j ≢ i) → (j ≢ d) → Waits goal now j f k → Before j f k
-      came : j ≡ i → (i ≢ d) → Waits goal now d f k → Before j f k
+      arrived : j ≡ i → (i ≢ d) → Waits goal now d f k → Before j f k
 
-    -- no entry waits at d
+    -- No entry waits at d.
     none_at_d : (f : E) (k : ℕ) → next d ≡ Some f → goal f ≡ Some k → ⊥
     none_at_d f k s to =
         let there : next d ≡ Some at_d.entry = at_d.stored in
@@ -44,24 +44,24 @@ module _ {E : Type 0} (goal : E → Option ℕ) (Settles : E → E → Type 0) (
         by (yes s) other = absurd (none_at_d f k (ap next (sym s) ∙ v.stored) v.to)
         by (no n) (yes s) =
             let differs : i ≢ d = λ t. n (s ∙ t) in
-            came s differs (record { stored = sym (at_i differs) ∙ (ap next (sym s) ∙ v.stored); to = v.to })
+            arrived s differs (record { stored = sym (at_i differs) ∙ (ap next (sym s) ∙ v.stored); to = v.to })
         by (no n) (no m) = stayed m n (record { stored = sym (elsewhere j m n) ∙ v.stored; to = v.to })
 
-    -- an entry that waits afterwards waited before
-    pub came_from : (j : ℕ) (f : E) (k : ℕ) → Waits goal next j f k → (l : ℕ) × Waits goal now l f k
-    came_from j f k v = by (before j f k v)
+    -- An entry that waits afterwards waited before.
+    pub arrived_from : (j : ℕ) (f : E) (k : ℕ) → Waits goal next j f k → (l : ℕ) × Waits goal now l f k
+    arrived_from j f k v = by (before j f k v)
       where
         by : Before j f k → (l : ℕ) × Waits goal now l f k
         by (stayed a b u) = (j, u)
-        by (came s n u) = (d, u)
+        by (arrived s n u) = (d, u)
 
-    -- an entry that waits at an index other than i waited there
+    -- An entry that waits at an index other than i waited there.
     pub waited_there : (j : ℕ) (f : E) (k : ℕ) → (j ≢ i) → Waits goal next j f k → Waits goal now j f k
     waited_there j f k ne v = by (before j f k v)
       where
         by : Before j f k → Waits goal now j f k
         by (stayed a b u) = u
-        by (came s n u) = absurd (ne s)
+        by (arrived s n u) = absurd (ne s)
 
     module _ (old : ℕ → Option E) (moving : IsMoving goal Settles old now) (w : Waits goal now i e d) where
       apart_after : (j l k : ℕ) (f g : E) → Waits goal next j f k → Waits goal next l g k → j ≡ l
@@ -69,14 +69,14 @@ module _ {E : Type 0} (goal : E → Option ℕ) (Settles : E → E → Type 0) (
         where
           by : Before j f k → Before l g k → j ≡ l
           by (stayed a b v) (stayed c b' u) = moving.apart j l k f g v u
-          by (stayed a b v) (came s n u) = absurd (b (moving.apart j d k f g v u))
-          by (came s n v) (stayed c b' u) = absurd (b' (moving.apart l d k g f u v))
-          by (came s n v) (came t m u) = s ∙ sym t
+          by (stayed a b v) (arrived s n u) = absurd (b (moving.apart j d k f g v u))
+          by (arrived s n v) (stayed c b' u) = absurd (b' (moving.apart l d k g f u v))
+          by (arrived s n v) (arrived t m u) = s ∙ sym t
 
-      -- no entry that waits afterwards waits for d
+      -- No entry that waits afterwards waits for d.
       for_other : (j : ℕ) (f : E) (k : ℕ) → Before j f k → k ≢ d
       for_other j f k (stayed a b v) s = a (moving.apart j i d f e (subst (Waits goal now j f) s v) w)
-      for_other j f k (came s n v) t = n (moving.apart i d d e f w (subst (Waits goal now d f) t v))
+      for_other j f k (arrived s n v) t = n (moving.apart i d d e f w (subst (Waits goal now d f) t v))
 
       unsettled_after : (j k : ℕ) (f g : E) → Waits goal next j f k → next k ≡ Some g → goal g ≢ None
       unsettled_after j k f g v s n = by (before j f k v) (ℕ_discrete k i)
@@ -84,7 +84,7 @@ module _ {E : Type 0} (goal : E → Option ℕ) (Settles : E → E → Type 0) (
           other : k ≢ d
           other = for_other j f k (before j f k v)
 
-          -- slot i holds what was at d, which was not settled, since e waited for d
+          -- Slot i holds what was at d, which was not settled, since e waited for d.
           at_first : k ≡ i → (m : ℕ) → Waits goal now m f k → ⊥
           at_first t m u =
               let differs : i ≢ d = λ r. other (t ∙ r) in
@@ -96,10 +96,10 @@ module _ {E : Type 0} (goal : E → Option ℕ) (Settles : E → E → Type 0) (
           by : Before j f k → Dec (k ≡ i) → ⊥
           by (stayed a b u) (yes t) = at_first t j u
           by (stayed a b u) (no ne) = at_others ne j u
-          by (came t m u) (yes r) = at_first r d u
-          by (came t m u) (no ne) = at_others ne d u
+          by (arrived t m u) (yes r) = at_first r d u
+          by (arrived t m u) (no ne) = at_others ne d u
 
-      -- an entry still waits, or is settled at k
+      -- An entry still waits, or is settled at k.
       abbrev Outcome : (k : ℕ) → E → Type 0
       Outcome k f = ((l : ℕ) × Waits goal next l f k) ⊎ IsSettledAt Settles next k f
 
@@ -135,7 +135,7 @@ module _ {E : Type 0} (goal : E → Option ℕ) (Settles : E → E → Type 0) (
           by (inl u) = waited u.0 u.1 (ℕ_discrete u.0 i) (ℕ_discrete u.0 d)
           by (inr s) = placed s (ℕ_discrete k i) (ℕ_discrete k d)
 
-      -- where an entry at j comes from
+      -- Where an entry at j comes from.
       abbrev Origin : ℕ → E → Type 0
       Origin j f = StillWaits goal old next j f ⊎ HasArrived goal Settles old j f
 
@@ -147,7 +147,7 @@ module _ {E : Type 0} (goal : E → Option ℕ) (Settles : E → E → Type 0) (
           moved m carry same (inl o) = inl (record { from = o.from; to = o.to; waited = o.waited; waits = carry o.to o.waits })
           moved m carry same (inr o) = inr (record { from = o.from; entry = o.entry; waited = subst (Waits goal old o.from o.entry) (same o.entry o.settled) o.waited; settled = o.settled })
 
-          -- the entry that was settled now is e, which waited
+          -- The entry that was settled now is e, which waited.
           own : StillWaits goal old now i e ⊎ HasArrived goal Settles old i e → j ≡ d → Settles e f → Origin j f
           own (inl o) here settled =
               let to : goal e ≡ Some d = w.to in
@@ -171,10 +171,10 @@ module _ {E : Type 0} (goal : E → Option ℕ) (Settles : E → E → Type 0) (
               moved d (λ k v. record { stored = s; to = v.to }) (λ g r. absurd (moving.unsettled i d e f w was_stored (done g f r))) (moving.back d f was_stored)
           by (no n) (no m) = moved j (λ k v. record { stored = s; to = v.to }) (λ g r. refl) (moving.back j f (sym (elsewhere j m n) ∙ s))
 
-      pub moving_goes_on : IsMoving goal Settles old next
-      moving_goes_on = record { apart = apart_after; unsettled = unsettled_after; there = there_after; back = back_after }
+      pub moving_continues : IsMoving goal Settles old next
+      moving_continues = record { apart = apart_after; unsettled = unsettled_after; there = there_after; back = back_after }
 
-  -- if no entry waits, all have moved
+  -- If no entry waits, all have moved.
   pub moving_ends : (old new : ℕ → Option E) → IsMoving goal Settles old new → ((i d : ℕ) (e : E) → Waits goal new i e d → ⊥) → HaveMoved goal Settles old new
   moving_ends old new moving none = record { there = λ i d e w. by_there i d e (moving.there i d e w); back = λ j e s. by_back j e (moving.back j e s) }
     where

@@ -13,7 +13,7 @@ use Rattle.chain_links.specs.declared.links.LinkBody.{LinkBody}
 use Rattle.chain_links.specs.Links.{link_view, held_in, held_entries, links_view, pair_view, entry_views}
 
 module _ {Gen X Y : Type 0} (f : X → Y) where
-  -- an entry with `f` applied to its value
+  -- An entry with `f` applied to its value.
   abbrev on_entry : (ℕ × Gen) × X → (ℕ × Gen) × Y
   on_entry e = on_value f e
 
@@ -72,7 +72,7 @@ module _ {Gen X Y : Type 0} (f : X → Y) where
   }
 
 module _ {Gen K T : Type 0} (number : K → Option ℕ) where
-  -- the values of the links
+  -- The values of the links.
   pub values_of-links_view : (a : Arena Gen (LinkBody K T)) → with_each held_in a ≡ values_of (links_view number a)
   values_of-links_view a = ap (λ (slots : List (Option (Gen × T))). let b : Arena Gen T = record (with_each held_in a) { slots = slots } in b) (twice a.slots) where
     twice : (slots : List (Option (Gen × LinkBody K T))) → map (option_map (on_value held_in)) slots ≡ map (option_map (on_value link_value)) (map (option_map (pair_view number)) slots)
@@ -80,7 +80,7 @@ module _ {Gen K T : Type 0} (number : K → Option ℕ) where
     twice (None ∷ slots) = ap (λ rest. None ∷ rest) (twice slots)
     twice (Some e ∷ slots) = ap (λ rest. Some (e.0, e.1.t) ∷ rest) (twice slots)
 
-  -- the entries of an arena of links, as views and as values
+  -- The entries of an arena of links, as views and as values.
   pub entry_views-all : (a : Arena Gen (LinkBody K T)) → entry_views number (entries a) ≡ entries (links_view number a)
   entry_views-all a = sym (entries-with_each (link_view number) a)
 

@@ -4,24 +4,24 @@ use Rattle.arena_base.specs.Arena.{Arena}
 use Rattle.arena_base.specs.DetachedSlots.{one_more, with_touch, with_placement}
 use Rattle.chain_compaction.specs.WorkCounts.{counted, HasCounted, CountsOn}
 
--- one more is counted, up to the greatest count
+-- One more is counted, up to the greatest count.
 counted_more : (n : ℕ) → one_more (counted n) ≡ counted (n + 1)
 counted_more n = omega arith
 
 module _ {Gen T : Type 0} where
-  -- arenas with the same totals are the same
+  -- Arenas with the same totals are the same.
   pub same_totals : (a : Arena Gen T) (p q t u : ℕ) → p ≡ q → t ≡ u → ◌≡◌ {A = Arena Gen T} (record a { placed = p; touched = t }) (record a { placed = q; touched = u })
   same_totals a p q t u e f = λ j. record a { placed = e j; touched = f j }
 
-  -- counts after no work
+  -- Counts after no work.
   pub counts_none : (a : Arena Gen T) (p t : ℕ) → CountsOn a a p t p t
   counts_none a p t = record { on = λ first had. had }
 
-  -- counts after two parts of the work
+  -- Counts after two parts of the work.
   pub counts_then : (a b c : Arena Gen T) (p q r t u v : ℕ) → CountsOn a b p t q u → CountsOn b c q u r v → CountsOn a c p t r v
   counts_then a b c p q r t u v one two = record { on = λ first had. two.on first (one.on first had) }
 
-  -- counts after a touch
+  -- Counts after a touch.
   pub counts_touch : (a b : Arena Gen T) (p q t u : ℕ) → b ≡ with_touch a → q ≡ p → u ≡ one_more t → CountsOn a b p t q u
   counts_touch a b p q t u is same more = record {
     on = λ first had. record {
@@ -33,7 +33,7 @@ module _ {Gen T : Type 0} where
     };
   }
 
-  -- counts after a placement
+  -- Counts after a placement.
   pub counts_place : (a b : Arena Gen T) (p q t u : ℕ) → b ≡ with_placement a → q ≡ one_more p → u ≡ t → CountsOn a b p t q u
   counts_place a b p q t u is more same = record {
     on = λ first had. record {
@@ -45,7 +45,7 @@ module _ {Gen T : Type 0} where
     };
   }
 
-  -- a new compactor has counted nothing
+  -- A new compactor has counted nothing.
   pub counted_none : (a : Arena Gen T) → HasCounted a a 0 0
   counted_none a = record {
     placements = 0;

@@ -4,7 +4,7 @@ use Rattle.std.specs.Option.{option_map, option_and_then}
 use Rattle.chain_laws.specs.Chains.{LinkMap, Chain, linear, cyclic, items, IsMember, IsChain, first_or}
 use Rattle.chain_laws.specs.Arrangements.{place_from, place_in, IsLeastIndexOrder}
 use Rattle.arena_base.specs.Arena.{Arena, slot_at}
-use Rattle.arena_base.specs.DetachedSlots.{Held, held_with_value}
+use Rattle.arena_base.specs.DetachedSlots.{DetachedView, held_with_value}
 use Rattle.arena_base.specs.declared.compactor.Compactor.{Compactor}
 use Rattle.chain_links.specs.ChainArena.{LinkView, on_value, ptr_at}
 use Rattle.chain_links.specs.Links.{link_view, pair_view}
@@ -13,19 +13,19 @@ use Rattle.chain_compaction.specs.Layouts.{ReportsMoves}
 use Rattle.chain_compaction.specs.Permutations.{destination_of}
 use Rattle.chain_links.specs.declared.links.LinkBody.{LinkBody}
 
--- i is in a linear chain, or a cyclic one is written from it
+-- i is in a linear chain, or a cyclic one is written from it.
 abbrev pub HasChainFrom : LinkMap → ℕ → Type 0
-HasChainFrom reported i = (xs : List ℕ) × ((IsChain reported (linear xs) × IsMember xs i) ⊎ IsChain reported (cyclic (i ∷ xs)))
+HasChainFrom link_map i = (xs : List ℕ) × ((IsChain link_map (linear xs) × IsMember xs i) ⊎ IsChain link_map (cyclic (i ∷ xs)))
 
--- the link with its interlinks renumbered by `to`
+-- The link with its interlinks renumbered by `to`.
 abbrev pub renamed_link : {T : Type 0} → (ℕ → Option ℕ) → LinkView T → LinkView T
 renamed_link to link = record link { prev = option_and_then to link.prev; next = option_and_then to link.next }
 
--- the slots with the interlinks of each link renumbered by `to`
-abbrev pub renamed_held : {Gen T : Type 0} → (ℕ → Option ℕ) → Held Gen (LinkView T) → Held Gen (LinkView T)
+-- The slots with the interlinks of each link renumbered by `to`.
+abbrev pub renamed_held : {Gen T : Type 0} → (ℕ → Option ℕ) → DetachedView Gen (LinkView T) → DetachedView Gen (LinkView T)
 renamed_held to held = record held { slots = map (option_map (on_value (renamed_link to))) held.slots }
 
--- the destination of the link after the one just numbered, where `before` links precede the chain
+-- The destination of the link after the one just numbered, where `before` links precede the chain
 -- and `count` are numbered. After the last link of a cyclic chain it is the destination of the
 -- first.
 abbrev pub number_after : Option ℕ → Option ℕ → ℕ → ℕ → Option ℕ
@@ -34,76 +34,76 @@ number_after None (Some first) before count = Some (before + 1)
 number_after None None before count = None
 
 module _ {Gen K T : Type 0} (number : K → Option ℕ) where
-  -- the slots with each link as contracts see it
-  abbrev pub held_view : Held Gen (LinkBody K T) → Held Gen (LinkView T)
+  -- The slots with each link as contracts see it.
+  abbrev pub held_view : DetachedView Gen (LinkBody K T) → DetachedView Gen (LinkView T)
   held_view held = record { slots = map (option_map (pair_view number)) held.slots; stack_capacity = held.stack_capacity; maximum = held.maximum }
 
-  -- the destination of the link at an index
+  -- The destination of the link at an index.
   abbrev pub destination_at : List (Option (Gen × LinkBody K T)) → ℕ → Option ℕ
   destination_at slots i = option_and_then (destination_of number) (slot_at slots i)
 
-  -- whether a slot holds a link without a destination
+  -- Whether a slot holds a link without a destination.
   abbrev pub is_fresh : Option (Gen × LinkBody K T) → Bool
   is_fresh None = false
   is_fresh (Some e) = is_none (destination_of number e)
 
-  -- `count` links have destinations: their places in `done`
+  -- `count` links have destinations: their places in `done`.
   pub record AreNumbered (slots : List (Option (Gen × LinkBody K T))) (count : ℕ) (done : List ℕ) : Type 0 where
     pub places : (j : ℕ) → destination_at slots j ≡ place_in done j
     pub counts : count ≡ length done
 
-  -- the destination of the link at i, if any, was set or removed, and nothing else changed
-  pub record IsDirectedAt (i : ℕ) (goes : Option ℕ) (old new : Held Gen (LinkBody K T)) : Type 0 where
+  -- The destination of the link at i, if any, was set or removed, and nothing else changed.
+  pub record IsDirectedAt (i : ℕ) (destination : Option ℕ) (old new : DetachedView Gen (LinkBody K T)) : Type 0 where
     pub there : (l : LinkBody K T) → Some l ≡ option_map (λ e. e.1) (slot_at old.slots i)
-        → (w : LinkBody K T) × (number w.destination ≡ goes) × (w ≡ record l { destination = w.destination }) × (new ≡ held_with_value old i w)
+        → (w : LinkBody K T) × (number w.destination ≡ destination) × (w ≡ record l { destination = w.destination }) × (new ≡ held_with_value old i w)
     pub none : None ≡ option_map (λ e. e.1) (slot_at old.slots i) → new ≡ old
 
-  -- the interlinks and the destination of the link at i, if any, were set, and nothing else changed
-  pub record IsRelinkedAt (i : ℕ) (prev next goes : Option ℕ) (old new : Held Gen (LinkBody K T)) : Type 0 where
+  -- The interlinks and the destination of the link at i, if any, were set, and nothing else changed
+  pub record IsRelinkedAt (i : ℕ) (prev next destination : Option ℕ) (old new : DetachedView Gen (LinkBody K T)) : Type 0 where
     pub there : (l : LinkBody K T) → Some l ≡ option_map (λ e. e.1) (slot_at old.slots i)
-        → (w : LinkBody K T) × (link_view number w ≡ record { prev = prev; next = next; value = l.t }) × (number w.destination ≡ goes) × (new ≡ held_with_value old i w)
+        → (w : LinkBody K T) × (link_view number w ≡ record { prev = prev; next = next; value = l.t }) × (number w.destination ≡ destination) × (new ≡ held_with_value old i w)
     pub none : None ≡ option_map (λ e. e.1) (slot_at old.slots i) → new ≡ old
 
-  -- if a last link names a first one, the link at i now names the last, and nothing else changed
-  pub record IsRingClosed (i : ℕ) (first last : Option ℕ) (old new : Held Gen (LinkBody K T)) : Type 0 where
+  -- If a last link names a first one, the link at i now names the last, and nothing else changed.
+  pub record IsRingClosed (i : ℕ) (first last : Option ℕ) (old new : DetachedView Gen (LinkBody K T)) : Type 0 where
     pub ring : (k : ℕ) (l : LinkBody K T) → first ≡ Some k → Some l ≡ option_map (λ e. e.1) (slot_at old.slots i)
         → (w : LinkBody K T) × (number w.prev ≡ last) × (w ≡ record l { prev = w.prev }) × (new ≡ held_with_value old i w)
     pub linear : first ≡ None → new ≡ old
 
-  -- each link in the list is seen as what it `becomes`, and nothing else changed
-  pub record AreRelinked (becomes : ℕ → LinkView T → LinkView T) (old now : Held Gen (LinkBody K T)) (xs : List ℕ) : Type 0 where
+  -- Each link in the list is seen as what it `becomes`, and nothing else changed.
+  pub record AreRelinked (becomes : ℕ → LinkView T → LinkView T) (old now : DetachedView Gen (LinkBody K T)) (xs : List ℕ) : Type 0 where
     pub there : (j : ℕ) → IsMember xs j → option_map (pair_view number) (slot_at now.slots j) ≡ option_map (on_value (becomes j)) (option_map (pair_view number) (slot_at old.slots j))
     pub stay : (j : ℕ) → (IsMember xs j → ⊥) → slot_at now.slots j ≡ slot_at old.slots j
     pub long : length now.slots ≡ length old.slots
     pub capacity : now.stack_capacity ≡ old.stack_capacity
     pub maximum : now.maximum ≡ old.maximum
 
-  -- the chain may be numbered from `start`: its links have no destinations yet
+  -- The chain may be numbered from `start`: its links have no destinations yet.
   pub record CanNumber (slots : List (Option (Gen × LinkBody K T))) (start count : ℕ) (done : List ℕ) (c : Chain) : Type 0 where
     pub numbered : AreNumbered slots count done
     pub chain : IsChain (link_map_in number slots) c
     pub starts : first_or (items c) None ≡ Some start
     pub apart : (j : ℕ) → IsMember (items c) j → IsMember done j → ⊥
-    pub within_capacity : length done + length (items c) ≤ length slots
+    pub fits : length done + length (items c) ≤ length slots
 
   module _ {F P : Type 0} (g : F → P → P → F → Type 0) (key : P → ℕ × Gen) where
-    -- the chain is numbered after `done`, its interlinks name destinations, and the visitor has
-    -- seen its links
-    pub record IsChainNumbered (generation : Gen) (f last : F) (old new : Held Gen (LinkBody K T)) (before after : Arena Gen (LinkBody K T)) (count : ℕ) (done : List ℕ) (c : Chain) : Type 0 where
+    -- The chain is numbered after `done`, its interlinks name destinations, and the visitor has
+    -- seen its links.
+    pub record IsChainNumbered (generation : Gen) (f last : F) (old new : DetachedView Gen (LinkBody K T)) (before after : Arena Gen (LinkBody K T)) (count : ℕ) (done : List ℕ) (c : Chain) : Type 0 where
       pub numbered : AreNumbered new.slots count (done ++ items c)
-      pub retied : AreRelinked (λ _. renamed_link (place_from (length done + 1) (items c))) old new (items c)
+      pub relinked : AreRelinked (λ _. renamed_link (place_from (length done + 1) (items c))) old new (items c)
       pub reports : ReportsMoves g key (ptr_at (slot_at old.slots)) generation (length done + 1) f (items c) last
       pub work : IsWork before after 0 (3 * length (items c))
 
-    -- a chain that may be numbered from `start`, after `before` links, is numbered, and `count`
-    -- links are then
+    -- A chain that may be numbered from `start`, after `before` links, is numbered, and `count`
+    -- links are then.
     abbrev pub NumbersFrom : {V S I W : Type 0} → Gen → ℕ → F → F → (old new : Compactor V (LinkBody K T) S I Gen W) → ℕ → ℕ → Type 0
     NumbersFrom generation start f last old new before count = (done : List ℕ) (c : Chain) → CanNumber old.held.slots start before done c
         → IsChainNumbered generation f last old.held new.held old.arena.now new.arena.now count done c
 
-    -- all `count` links are numbered, in the least-index order of their chains. Their interlinks
+    -- All `count` links are numbered, in the least-index order of their chains. Their interlinks
     -- name destinations, and the visitor has seen them in that order.
-    pub record AreAllNumbered (generation : Gen) (f last : F) (old new : Held Gen (LinkBody K T)) (before after : Arena Gen (LinkBody K T)) (count : ℕ) : Type 0 where
+    pub record AreAllNumbered (generation : Gen) (f last : F) (old new : DetachedView Gen (LinkBody K T)) (before after : Arena Gen (LinkBody K T)) (count : ℕ) : Type 0 where
       pub indexes : List ℕ
       pub order : IsLeastIndexOrder (link_map_in number old.slots) indexes
       pub counted : count ≡ length indexes

@@ -5,39 +5,39 @@ use Rattle.chain_laws.specs.Chains.{LinkMap, Interlinks}
 use Rattle.chain_laws.specs.Joins.{next_set, prev_set}
 use Rattle.arena_base.specs.Arena.{Arena, slot_at}
 use Rattle.arena_base.specs.Entries.{entries_from, index_of}
-use Rattle.arena_base.specs.DetachedSlots.{Held}
+use Rattle.arena_base.specs.DetachedSlots.{DetachedView}
 use Rattle.arena_base.specs.GatheredSlots.{with_totals}
 use Rattle.chain_links.specs.declared.links.LinkBody.{LinkBody}
 use Rattle.chain_links.specs.ChainArena.{on_value, interlinks_in}
 use Rattle.chain_links.specs.Links.{link_view, held_in}
 
 module _ {Gen K T : Type 0} where
-  -- the slots with the value of each link alone
+  -- The slots with the value of each link alone.
   abbrev pub slot_values : List (Option (Gen × LinkBody K T)) → List (Option (Gen × T))
   slot_values slots = map (option_map (on_value held_in)) slots
 
-  -- the same for the slots that a compactor holds
-  abbrev pub held_values : Held Gen (LinkBody K T) → Held Gen T
+  -- The same for the slots that a compactor holds.
+  abbrev pub held_values : DetachedView Gen (LinkBody K T) → DetachedView Gen T
   held_values held = record { slots = slot_values held.slots; stack_capacity = held.stack_capacity; maximum = held.maximum }
 
-  -- the interlinks of an entry
+  -- The interlinks of an entry.
   abbrev pub body_interlinks : (K → Option ℕ) → Gen × LinkBody K T → Interlinks
   body_interlinks number e = interlinks_in (link_view number e.1)
 
-  -- the interlinks at each index of the slots
+  -- The interlinks at each index of the slots.
   abbrev pub link_map_in : (K → Option ℕ) → List (Option (Gen × LinkBody K T)) → LinkMap
   link_map_in number slots i = option_map (body_interlinks number) (slot_at slots i)
 
--- the link map after `prev` (`true`) or `next` (`false`) of the link at an index, if any, is set
+-- The link map after `prev` (`true`) or `next` (`false`) of the link at an index, if any, is set.
 abbrev pub with_neighbor : Bool → LinkMap → Option ℕ → Option ℕ → LinkMap
-with_neighbor true reported i named = prev_set reported i named
-with_neighbor false reported i named = next_set reported i named
+with_neighbor true link_map i named = prev_set link_map i named
+with_neighbor false link_map i named = next_set link_map i named
 
--- the indexes of the entries in slots, in ascending order
+-- The indexes of the entries in slots, in ascending order.
 abbrev pub indexes_in : {Gen T : Type 0} → List (Option (Gen × T)) → List ℕ
 indexes_in slots = map index_of (entries_from 1 slots)
 
--- exactly `placements` placements and at most `most` touches were counted
+-- Exactly `placements` placements and at most `most` touches were counted.
 pub record IsWork {Gen T : Type 0} (old new : Arena Gen T) (placements most : ℕ) : Type 0 where
   pub touches : ℕ
   pub few : touches ≤ most

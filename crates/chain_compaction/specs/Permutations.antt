@@ -2,119 +2,119 @@
 use Rattle.std.specs.Prelude.{◌≡◌, ◌≢◌, ℕ, ◌+◌, ◌⊎◌, ◌≤◌, Bool, List, length, Option, None, Some, count_by, is_some}
 use Rattle.std.specs.Option.{option_map, option_and_then}
 use Rattle.arena_base.specs.Arena.{Arena, slot_at, with_slot}
-use Rattle.arena_base.specs.DetachedSlots.{Held}
+use Rattle.arena_base.specs.DetachedSlots.{DetachedView}
 use Rattle.arena_base.specs.GatheredSlots.{with_totals}
 use Rattle.chain_links.specs.declared.links.LinkBody.{LinkBody}
 
 -- Any entries, some with a destination, their `goal`. A relation states what an entry becomes
 -- there.
 module _ {E : Type 0} where
-  -- the entry e is at i, and waits for d
+  -- The entry e is at i, and waits for d.
   pub record Waits (goal : E → Option ℕ) (now : ℕ → Option E) (i : ℕ) (e : E) (d : ℕ) : Type 0 where
     pub stored : now i ≡ Some e
     pub to : goal e ≡ Some d
 
-  -- what the entry e has become is at d
+  -- What the entry e has become is at d.
   pub record IsSettledAt (Settles : E → E → Type 0) (now : ℕ → Option E) (d : ℕ) (e : E) : Type 0 where
     pub entry : E
     pub stored : now d ≡ Some entry
     pub settled : Settles e entry
 
-  -- the entry e, now at j, waits for the slot that it waited for at first
+  -- The entry e, now at j, waits for the slot that it waited for at first.
   pub record StillWaits (goal : E → Option ℕ) (old now : ℕ → Option E) (j : ℕ) (e : E) : Type 0 where
     pub from : ℕ
     pub to : ℕ
     pub waited : Waits goal old from e to
     pub waits : Waits goal now j e to
 
-  -- e is what an entry has become that waited for j
+  -- e is what an entry has become that waited for j.
   pub record HasArrived (goal : E → Option ℕ) (Settles : E → E → Type 0) (old : ℕ → Option E) (j : ℕ) (e : E) : Type 0 where
     pub from : ℕ
     pub entry : E
     pub waited : Waits goal old from entry j
     pub settled : Settles entry e
 
-  -- while entries move, each still waits or is settled at its destination
+  -- While entries move, each still waits or is settled at its destination.
   pub record IsMoving (goal : E → Option ℕ) (Settles : E → E → Type 0) (old now : ℕ → Option E) : Type 0 where
-    -- no two entries wait for one slot
+    -- No two entries wait for one slot.
     pub apart : (i j d : ℕ) (e f : E) → Waits goal now i e d → Waits goal now j f d → i ≡ j
-    -- no entry in a slot that is waited for is settled
+    -- No entry in a slot that is waited for is settled.
     pub unsettled : (i d : ℕ) (e f : E) → Waits goal now i e d → now d ≡ Some f → goal f ≢ None
     pub there : (i d : ℕ) (e : E) → Waits goal old i e d → ((j : ℕ) × Waits goal now j e d) ⊎ IsSettledAt Settles now d e
     pub back : (j : ℕ) (e : E) → now j ≡ Some e → StillWaits goal old now j e ⊎ HasArrived goal Settles old j e
 
-  -- all have moved: each destination holds its entry, settled, and there is no other entry
+  -- All have moved: each destination holds its entry, settled, and there is no other entry.
   pub record HaveMoved (goal : E → Option ℕ) (Settles : E → E → Type 0) (old new : ℕ → Option E) : Type 0 where
     pub there : (i d : ℕ) (e : E) → Waits goal old i e d → IsSettledAt Settles new d e
     pub back : (j : ℕ) (e : E) → new j ≡ Some e → HasArrived goal Settles old j e
 
-  -- whether the entry in a slot waits
+  -- Whether the entry in a slot waits.
   abbrev pub waits : (E → Option ℕ) → Option E → Bool
   waits goal slot = is_some (option_and_then goal slot)
 
-  -- the number of entries that wait
+  -- The number of entries that wait.
   abbrev pub waiting : (E → Option ℕ) → List (Option E) → ℕ
   waiting goal slots = count_by (waits goal) slots
 
-  -- each entry that waits does so for an existing slot
+  -- Each entry that waits does so for an existing slot.
   pub record WaitsWithin (goal : E → Option ℕ) (slots : List (Option E)) : Type 0 where
     pub within : (i d : ℕ) (e : E) → Waits goal (slot_at slots) i e d → (1 ≤ d) × (d ≤ length slots)
 
-  -- how the slots change while entries from slot i on move
+  -- How the slots change while entries from slot i on move.
   pub record IsSettling (goal : E → Option ℕ) (Settles : E → E → Type 0) (i : ℕ) (old now : List (Option E)) : Type 0 where
     pub moves : (first : ℕ → Option E) → IsMoving goal Settles first (slot_at old) → IsMoving goal Settles first (slot_at now)
     pub within : WaitsWithin goal old → WaitsWithin goal now
     pub length : length now ≡ length old
-    -- an entry that waits at an index other than i waited there before
+    -- An entry that waits at an index other than i waited there before.
     pub stays : (j d : ℕ) (e : E) → (j ≢ i) → Waits goal (slot_at now) j e d → Waits goal (slot_at old) j e d
 
-  -- the slots after those up to k were processed: no entry waits there
+  -- The slots after those up to k were processed: no entry waits there.
   pub record ArePassed (goal : E → Option ℕ) (Settles : E → E → Type 0) (old now : List (Option E)) (k : ℕ) : Type 0 where
     pub moves : IsMoving goal Settles (slot_at old) (slot_at now)
     pub within : WaitsWithin goal now
     pub length : length now ≡ length old
     pub passed : (j d : ℕ) (e : E) → j ≤ k → Waits goal (slot_at now) j e d → ⊥
 
-  -- all entries may move: each waits for an existing slot, and no two for the same one
+  -- All entries may move: each waits for an existing slot, and no two for the same one.
   pub record CanMoveAll (goal : E → Option ℕ) (old : List (Option E)) : Type 0 where
     pub apart : (i j d : ℕ) (e f : E) → Waits goal (slot_at old) i e d → Waits goal (slot_at old) j f d → i ≡ j
     pub within : WaitsWithin goal old
     pub each : (i : ℕ) (e : E) → slot_at old i ≡ Some e → (d : ℕ) × (goal e ≡ Some d)
 
-  -- every destination is at most n, and each index from 1 to n is one
-  pub record GoToFront (goal : E → Option ℕ) (old : List (Option E)) (n : ℕ) : Type 0 where
+  -- Every destination is at most n, and each index from 1 to n is one.
+  pub record AreMovedToFront (goal : E → Option ℕ) (old : List (Option E)) (n : ℕ) : Type 0 where
     pub few : (i d : ℕ) (e : E) → Waits goal (slot_at old) i e d → d ≤ n
     pub each : (d : ℕ) → 1 ≤ d → d ≤ n → (i : ℕ) × (e : E) × Waits goal (slot_at old) i e d
 
 module _ {Gen K T : Type 0} where
-  -- the destination of an entry
+  -- The destination of an entry.
   abbrev pub destination_of : (K → Option ℕ) → Gen × LinkBody K T → Option ℕ
   destination_of number e = number e.1.destination
 
-  -- what an entry becomes at its destination: it has the generation and no destination, and nothing
-  -- else changed
+  -- What an entry becomes at its destination: it has the generation and no destination, and nothing
+  -- else changed.
   pub record Settles (number : K → Option ℕ) (g : Gen) (e f : Gen × LinkBody K T) : Type 0 where
     pub generation : f.0 ≡ g
     pub empty : number f.1.destination ≡ None
     pub rest : f.1 ≡ record e.1 { destination = f.1.destination }
 
-  -- the entry with another destination
+  -- The entry with another destination.
   abbrev pub with_destination : K → Gen × LinkBody K T → Gen × LinkBody K T
   with_destination k e = (e.0, record e.1 { destination = k })
 
-  -- the slots with another destination in the entry at an index
+  -- The slots with another destination in the entry at an index.
   abbrev pub with_destination_at : K → List (Option (Gen × LinkBody K T)) → ℕ → List (Option (Gen × LinkBody K T))
   with_destination_at k slots i = with_slot slots i (option_map (with_destination k) (slot_at slots i))
 
-  -- the destination of the entry at an index was taken out
-  pub record IsTakenOut (number : K → Option ℕ) (i : ℕ) (old new : Held Gen (LinkBody K T)) : Type 0 where
+  -- The destination of the entry at an index was taken out.
+  pub record IsTakenOut (number : K → Option ℕ) (i : ℕ) (old new : DetachedView Gen (LinkBody K T)) : Type 0 where
     pub destination : K
     pub empty : number destination ≡ None
     pub held : new ≡ record old { slots = with_destination_at destination old.slots i }
 
 module _ {Gen T : Type 0} where
-  -- the work: one placement and one touch for each entry that no longer waits, and some more
-  -- touches
+  -- The work: one placement and one touch for each entry that no longer waits, and some more
+  -- touches.
   pub record IsWorkOn (old new : Arena Gen T) (waited wait lookups : ℕ) : Type 0 where
     pub moved : ℕ
     pub arena : new ≡ with_totals old moved (moved + lookups)

@@ -5,14 +5,14 @@ ghost use Rattle.std.specs.Option.{option_map};
 ghost use Rattle.chain_laws.specs.Chains.{Chain, linear, cyclic, IsMember, IsChain, IsWellLinked};
 ghost use Rattle.chain_laws.specs.ChainStart.{IsStart};
 ghost use Rattle.chain_compaction.specs.DetachedLinks.{link_map_in, IsWork};
-ghost use Rattle.chain_compaction.specs.WorkCounts.{CountsOn};
+ghost use Rattle.chain_compaction.specs.WorkCounts.{CountsWork};
 ghost use Rattle.chain_compaction.specs.Destinations.{HasChainFrom, number_after, destination_at, IsRingClosed, CanNumber, NumbersFrom, AreAllNumbered};
 
 use crate::slot_access::{read_link, relink_at};
 use crate::visitor::Visitor;
 use arena_base::{ArenaSlot, Compactor, SlotAccess, inx_at, proved_unreachable};
 use arena_ptr::{InxKey, PtrKey, SlotStack};
-use chain_links::walk_direction::going_on;
+use chain_links::walk_direction::step_on;
 use chain_links::{LinkNoGen, link_access};
 
 // Returns where the chain of `i` is numbered from: its start if linear, `i` if cyclic. Reads at
@@ -36,8 +36,7 @@ fn start_at<P: PtrKey, T: Drop, S: SlotStack<Item = ArenaSlot<P, LinkNoGen<P, T>
         → IsChain (link_map_in P.Inx.packed_number compactor.old.held.slots)
         (cyclic (P.Inx.number i ∷ xs))
         → IsWork compactor.old.arena.now compactor.new.arena.now 0 (length xs + 1) }
-    ensures counts { CountsOn compactor.old.arena.now compactor.new.arena.now compactor.old.placed
-        compactor.old.touched compactor.new.placed compactor.new.touched }
+    ensures counts { CountsWork compactor.old compactor.new }
 {
     let mut at = i;
     for step in 0..compactor.slots() {
@@ -91,8 +90,7 @@ fn close_ring<P: PtrKey, T: Drop, S: SlotStack<Item = ArenaSlot<P, LinkNoGen<P, 
         (option_map P.Inx.number named) (option_map P.Inx.number last) compactor.old.held
         compactor.new.held }
     ensures work { IsWork compactor.old.arena.now compactor.new.arena.now 0 1 }
-    ensures counts { CountsOn compactor.old.arena.now compactor.new.arena.now compactor.old.placed
-        compactor.old.touched compactor.new.placed compactor.new.touched }
+    ensures counts { CountsWork compactor.old compactor.new }
 {
     match named {
         Some(_) => {}
@@ -128,8 +126,7 @@ fn number_chain<
     ensures ready { V.is_ready result.0 }
     ensures numbered { NumbersFrom P.Inx.packed_number V.sees P.key generation
         (P.Inx.number start) visitor result.0 compactor.old compactor.new before result.1 }
-    ensures counts { CountsOn compactor.old.arena.now compactor.new.arena.now compactor.old.placed
-        compactor.old.touched compactor.new.placed compactor.new.touched }
+    ensures counts { CountsWork compactor.old compactor.new }
 {
     let mut count = before;
     let mut prev = None;
@@ -140,7 +137,7 @@ fn number_chain<
         count += 1;
         let (was, _, next, _) = read_link(compactor, i);
         named = next;
-        on = going_on(start, next);
+        on = step_on(start, next);
         let after = after_it::<P>(on, next, before, count);
         relink_at(compactor, i, prev, after, destination);
         prev = Some(destination);
@@ -178,8 +175,7 @@ pub fn number_all<
     ensures numbered { AreAllNumbered P.Inx.packed_number V.sees P.key generation visitor result.0
         compactor.old.held compactor.new.held compactor.old.arena.now compactor.new.arena.now
         result.1 }
-    ensures counts { CountsOn compactor.old.arena.now compactor.new.arena.now compactor.old.placed
-        compactor.old.touched compactor.new.placed compactor.new.touched }
+    ensures counts { CountsWork compactor.old compactor.new }
 {
     let mut count = 0;
     for k in 0..compactor.slots() {
@@ -194,8 +190,8 @@ pub fn number_all<
             None => {}
         }
         let start = start_at(compactor, i);
-        let (reported, numbered) = number_chain(compactor, start, count, generation, visitor);
-        visitor = reported;
+        let (visited, numbered) = number_chain(compactor, start, count, generation, visitor);
+        visitor = visited;
         count = numbered;
     }
     (visitor, count)

@@ -5,7 +5,7 @@ ghost use Rattle.chain_laws.specs.Chains.{IsWellLinked};
 ghost use Rattle.arena_base.specs.GatheredSlots.{with_totals};
 ghost use Rattle.chain_links.specs.ChainArena.{link_map};
 ghost use Rattle.chain_links.specs.Links.{links_view};
-ghost use Rattle.chain_compaction.specs.WorkCounts.{CountsOn};
+ghost use Rattle.chain_compaction.specs.WorkCounts.{CountsWork};
 ghost use Rattle.chain_compaction.specs.Layouts.{AreArranged};
 ghost use Rattle.chain_compaction.specs.Destinations.{held_view, destination_at};
 
@@ -29,8 +29,7 @@ pub fn empty_all<P: PtrKey, T: Drop, S: SlotStack<Item = ArenaSlot<P, LinkNoGen<
     ensures empty { (j : ℕ) → destination_at P.Inx.packed_number compactor.new.held.slots j ≡ None }
     ensures totals { compactor.new.arena.now ≡ with_totals compactor.old.arena.now 0
         (length compactor.old.held.slots) }
-    ensures counts { CountsOn compactor.old.arena.now compactor.new.arena.now compactor.old.placed
-        compactor.old.touched compactor.new.placed compactor.new.touched }
+    ensures counts { CountsWork compactor.old compactor.new }
 {
     for k in 0..compactor.slots() {
         direct_at(compactor, inx_at::<P>(k), None);

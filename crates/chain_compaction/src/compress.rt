@@ -1,15 +1,14 @@
 // Compression of links to the indexes from 1 on, in the order of their indexes.
 ghost use Rattle.std.specs.Prelude.{◌≡◌, ◌≢◌, ◌≤◌, length, None, Some, OnSome, IfNone};
 ghost use Rattle.std.specs.Option.{option_map};
-ghost use Rattle.arena_ptr.specs.Invalidation.{invalidation_option};
 ghost use Rattle.chain_laws.specs.Chains.{IsWellLinked};
 ghost use Rattle.chain_laws.specs.Renamings.{IsRenaming};
 ghost use Rattle.chain_laws.specs.Arrangements.{place_in};
 ghost use Rattle.chain_laws.specs.Moves.{moved_index};
-ghost use Rattle.arena_base.specs.Arena.{slot_at, with_counter};
-ghost use Rattle.arena_base.specs.Entries.{entries, entries_from};
+ghost use Rattle.arena_base.specs.Arena.{slot_at};
+ghost use Rattle.arena_base.specs.Entries.{entries_from};
 ghost use Rattle.arena_base.specs.DetachedSlots.{with_placed_entry, IsPacked, with_touch};
-ghost use Rattle.arena_base.specs.Compressions.{VisitsAll, counter_after_compression, overflows_after_compression};
+ghost use Rattle.arena_base.specs.Compressions.{VisitsAll};
 ghost use Rattle.arena_base.specs.GatheredSlots.{AreClosed};
 ghost use Rattle.chain_links.specs.ChainArena.{link_map};
 ghost use Rattle.chain_links.specs.Links.{links_view};
@@ -18,8 +17,8 @@ ghost use Rattle.chain_compaction.specs.CompressionSteps.{IsLinkMove, IsClosingW
 ghost use Rattle.chain_compaction.specs.LinkCompressions.{AreGathered};
 
 use crate::slot_access::read_link;
-use arena_base::{Arena, ArenaSlot, ArenaTrait, Compactor, SlotAccess, inx_at, proved_unreachable};
-use arena_ptr::{GenKey, InvalidationOption, InxKey, PtrKey, SlotStack};
+use arena_base::{Arena, ArenaSlot, Compactor, SlotAccess, inx_at, proved_unreachable};
+use arena_ptr::{InxKey, PtrKey, SlotStack};
 use chain_links::{LinkNoGen, link_access};
 
 /// Returns the index of the link at `named` after the link at `from` is moved to `to`.
@@ -42,7 +41,7 @@ fn set_neighbor<P: PtrKey, T: Drop, S: SlotStack<Item = ArenaSlot<P, LinkNoGen<P
 )
     ensures same_reference { compactor.new.arena.ghost_name ≡ compactor.old.arena.ghost_name }
     ensures values { held_values compactor.new.held ≡ held_values compactor.old.held }
-    ensures reports { link_map_in P.Inx.packed_number compactor.new.held.slots
+    ensures links { link_map_in P.Inx.packed_number compactor.new.held.slots
         ≡ with_neighbor before (link_map_in P.Inx.packed_number compactor.old.held.slots)
         (option_map P.Inx.number i) (Some (P.Inx.number named)) }
     ensures work { IsWork compactor.old.arena.now compactor.new.arena.now 0 1 }
@@ -140,29 +139,6 @@ fn compact_links<
         }
     }
     count
-}
-
-/// Sets the counter for a compression, and reports whether it overflowed.
-///
-/// With `reset` the counter restarts; otherwise it is incremented if there are links.
-pub fn begin_generation<P: PtrKey, T: Drop, S: SlotStack<Item = ArenaSlot<P, T>>>(
-    arena: &mut Arena<P, T, S>,
-    reset: bool,
-) -> InvalidationOption<()>
-    ensures after { arena.new ≡ with_counter arena.old
-        (counter_after_compression P.Gen.first P.Gen.following reset (length (entries arena.old))
-        arena.old.counter) }
-    ensures overflow { result ≡ invalidation_option (overflows_after_compression P.Gen.wraps reset
-        (length (entries arena.old)) arena.old.counter) tt }
-{
-    if reset {
-        arena.set_generation(P::Gen::two());
-        return InvalidationOption::Success(());
-    }
-    if arena.len() == 0 {
-        return InvalidationOption::Success(());
-    }
-    arena.inc_generation()
 }
 
 /// Moves the links to the front, gives each the counter as its generation, and updates its

@@ -4,7 +4,7 @@ ghost use Rattle.std.specs.Option.{option_map, option_and_then};
 ghost use Rattle.arena_base.specs.Arena.{slot_at};
 ghost use Rattle.arena_base.specs.DetachedSlots.{with_touch};
 ghost use Rattle.arena_base.specs.GatheredSlots.{with_totals};
-ghost use Rattle.chain_compaction.specs.WorkCounts.{CountsOn};
+ghost use Rattle.chain_compaction.specs.WorkCounts.{CountsWork};
 ghost use Rattle.chain_compaction.specs.Permutations.{Waits, WaitsWithin, IsSettling, HaveMoved, CanMoveAll, waiting, destination_of, Settles, IsTakenOut, IsWorkOn};
 
 use arena_base::{ArenaSlot, Compactor, SlotAccess, inx_at};
@@ -24,8 +24,7 @@ fn take_at<P: PtrKey, T: Drop, S: SlotStack<Item = ArenaSlot<P, LinkNoGen<P, T>>
         (IsTakenOut P.Inx.packed_number (P.Inx.number i) compactor.old.held compactor.new.held) }
     ensures none { IfNone result (compactor.new.held ≡ compactor.old.held) }
     ensures arena { compactor.new.arena.now ≡ with_touch compactor.old.arena.now }
-    ensures counts { CountsOn compactor.old.arena.now compactor.new.arena.now compactor.old.placed
-        compactor.old.touched compactor.new.placed compactor.new.touched }
+    ensures counts { CountsWork compactor.old compactor.new }
 {
     match compactor.value_mut(i) {
         Some(link) => link_access::take_destination(link),
@@ -54,8 +53,7 @@ fn settle<P: PtrKey, T: Drop, S: SlotStack<Item = ArenaSlot<P, LinkNoGen<P, T>>>
     ensures work { IsWorkOn compactor.old.arena.now compactor.new.arena.now
         (waiting (destination_of P.Inx.packed_number) compactor.old.held.slots)
         (waiting (destination_of P.Inx.packed_number) compactor.new.held.slots) 1 }
-    ensures counts { CountsOn compactor.old.arena.now compactor.new.arena.now compactor.old.placed
-        compactor.old.touched compactor.new.placed compactor.new.touched }
+    ensures counts { CountsWork compactor.old compactor.new }
 {
     while let Some(to) = take_at(compactor, i) {
         compactor.place(i, to, generation);
@@ -81,8 +79,7 @@ pub fn move_all<P: PtrKey, T: Drop, S: SlotStack<Item = ArenaSlot<P, LinkNoGen<P
     ensures totals { compactor.new.arena.now ≡ with_totals compactor.old.arena.now
         (count_by is_some compactor.old.held.slots)
         (count_by is_some compactor.old.held.slots + length compactor.old.held.slots) }
-    ensures counts { CountsOn compactor.old.arena.now compactor.new.arena.now compactor.old.placed
-        compactor.old.touched compactor.new.placed compactor.new.touched }
+    ensures counts { CountsWork compactor.old compactor.new }
 {
     for k in 0..compactor.slots() {
         settle(compactor, inx_at::<P>(k), generation);

@@ -4,7 +4,7 @@ ghost use Rattle.std.specs.Option.{option_map};
 ghost use Rattle.chain_laws.specs.Chains.{prev_of, next_of};
 ghost use Rattle.arena_base.specs.Arena.{slot_at};
 ghost use Rattle.arena_base.specs.DetachedSlots.{with_touch};
-ghost use Rattle.chain_compaction.specs.WorkCounts.{CountsOn};
+ghost use Rattle.chain_compaction.specs.WorkCounts.{CountsWork};
 ghost use Rattle.chain_compaction.specs.DetachedLinks.{link_map_in};
 ghost use Rattle.chain_compaction.specs.SlotReads.{HasReadSlot};
 ghost use Rattle.chain_compaction.specs.Destinations.{destination_at, IsDirectedAt, IsRelinkedAt};
@@ -54,8 +54,7 @@ pub(crate) fn direct_at<P: PtrKey, T: Drop, S: SlotStack<Item = ArenaSlot<P, Lin
     ensures directed { IsDirectedAt P.Inx.packed_number (P.Inx.number i)
         (option_map P.Inx.number destination) compactor.old.held compactor.new.held }
     ensures arena { compactor.new.arena.now ≡ with_touch compactor.old.arena.now }
-    ensures counts { CountsOn compactor.old.arena.now compactor.new.arena.now compactor.old.placed
-        compactor.old.touched compactor.new.placed compactor.new.touched }
+    ensures counts { CountsWork compactor.old compactor.new }
 {
     match compactor.value_mut(i) {
         Some(link) => link_access::set_destination(link, destination),
@@ -77,8 +76,7 @@ pub(crate) fn relink_at<P: PtrKey, T: Drop, S: SlotStack<Item = ArenaSlot<P, Lin
         (option_map P.Inx.number next) (Some (P.Inx.number destination))
         compactor.old.held compactor.new.held }
     ensures arena { compactor.new.arena.now ≡ with_touch compactor.old.arena.now }
-    ensures counts { CountsOn compactor.old.arena.now compactor.new.arena.now compactor.old.placed
-        compactor.old.touched compactor.new.placed compactor.new.touched }
+    ensures counts { CountsWork compactor.old compactor.new }
 {
     match compactor.value_mut(i) {
         Some(link) => {

@@ -3,7 +3,7 @@ use Rattle.std.proofs.Common.{◌≡◌, ◌↔◌, ℕ, Bool, true, false, if�
 use Rattle.arena_base.specs.Arena.{slot_at, IsValid}
 use Rattle.chain_compaction.specs.PointerMoves.{ArePointerMoves}
 use Rattle.chain_examples.specs.Renumbering.{IsFollowed, AreFollowed}
-use Rattle.chain_examples.specs.MoveTables.{target_from, finds}
+use Rattle.chain_examples.specs.MoveTables.{target_from, new_pointer_of}
 use Rattle.chain_examples.proofs.MappedListLemmas.{map_has, map_has_of}
 use Rattle.chain_examples.proofs.PointerPairLemmas.{keys_of, move_keeps}
 use Rattle.chain_examples.proofs.MoveTableLemmas.{IsTable}
@@ -40,7 +40,7 @@ module _ {P Gen T : Type 0} (key : P → ℕ × Gen) (eq : P → P → Bool) (sa
     )
 
   -- All bookmarks are followed.
-  pub all_followed : (bookmarks : List (Option P)) → AreFollowed before (map (keys_of key) moves) (map (option_map key) bookmarks) (map (option_map key) (map (option_and_then (finds key eq table)) bookmarks))
+  pub all_followed : (bookmarks : List (Option P)) → AreFollowed before (map (keys_of key) moves) (map (option_map key) bookmarks) (map (option_map key) (map (option_and_then (new_pointer_of key eq table)) bookmarks))
   all_followed [] = tt
   all_followed (None ∷ bookmarks) = (refl, all_followed bookmarks)
   all_followed (Some p ∷ bookmarks) = (follows p (slot_at table (key p).0) refl, all_followed bookmarks)

@@ -74,8 +74,8 @@ module _ {A Gen T : Type 0} (entry : A → ℕ → Option (Gen × T)) (links : A
         key_of [] s = refl
         key_of (e ∷ es) s = ap (option_map (λ (x : Gen × T). (e.0.0, x.0))) s.0
 
-    pub comes_from : option_and_then (ptr_at (entry a)) (prev_of (links a) p.0) ≡ last_key before
-    comes_from = ap (λ o. option_and_then (ptr_at (entry a)) (prev_in o)) place ∙ key_of before (are_stored-left (entry a) before ((p, t) ∷ after) is.are_stored)
+    pub previous_key : option_and_then (ptr_at (entry a)) (prev_of (links a) p.0) ≡ last_key before
+    previous_key = ap (λ o. option_and_then (ptr_at (entry a)) (prev_in o)) place ∙ key_of before (are_stored-left (entry a) before ((p, t) ∷ after) is.are_stored)
       where
         at_end : (es : List (Item Gen T)) (e : Item Gen T) → AreEntries (entry a) (es ++ e ∷ []) → option_and_then (ptr_at (entry a)) (last_or (indexes (es ++ e ∷ [])) None) ≡ last_key (es ++ e ∷ [])
         at_end es e s =
@@ -107,8 +107,8 @@ module _ {A Gen T : Type 0} (entry : A → ℕ → Option (Gen × T)) (links : A
       (beside a p (prev_of (links a) p.0) (λ j prev xs text. (neighbors_share_a_chain (links a) (linear (indexes xs)) j p.0 agrees ((agrees.both j p.0).1 prev) text.chain).0))
 
   -- Any item but the first has a previous one.
-  comes_before : (a : A) (p : ℕ × Gen) (t : T) (e : Item Gen T) (es after : List (Item Gen T)) → IsText entry links a ((e ∷ es) ++ (p, t) ∷ after) → (k : ℕ) × (prev_of (links a) p.0 ≡ Some k)
-  comes_before a p t e es after is =
+  has_previous : (a : A) (p : ℕ × Gen) (t : T) (e : Item Gen T) (es after : List (Item Gen T)) → IsText entry links a ((e ∷ es) ++ (p, t) ∷ after) → (k : ℕ) × (prev_of (links a) p.0 ≡ Some k)
+  has_previous a p t e es after is =
       let l = last_apart e es in
       (l.1.0.0, ap prev_in (place a p t (e ∷ es) after is) ∙ (ap (λ (xs : List (Item Gen T)). last_or (indexes xs) None) l.2 ∙ last_index l.0 l.1))
 
@@ -141,14 +141,14 @@ module _ {A Gen T : Type 0} (entry : A → ℕ → Option (Gen × T)) (links : A
 
     -- A break after `p` keeps every text without `p`.
     pub keeps_ended : IsWellLinked (links old) → Breaks old new p (next_of (links old) p.0) (λ b. Cuts (links old) (links new) p.0 b) → KeepsWithout entry links linear old new (p ∷ [])
-    keeps_ended agrees (unbroken none stay) xs lacks is = subst (λ (a : A). IsText entry links a xs) (sym stay) is
-    keeps_ended agrees (broken b next cuts same) xs lacks is =
-        stays entry links linear (λ xs. refl) old new same xs is.are_stored (cut_keeps_others (links old) (links new) p.0 b agrees next cuts (linear (indexes xs)) (inl lacks.0) is.chain)
+    keeps_ended agrees (unbroken none stay) xs absent is = subst (λ (a : A). IsText entry links a xs) (sym stay) is
+    keeps_ended agrees (broken b next cuts same) xs absent is =
+        stays entry links linear (λ xs. refl) old new same xs is.are_stored (cut_keeps_others (links old) (links new) p.0 b agrees next cuts (linear (indexes xs)) (inl absent.0) is.chain)
 
     -- A break before `p` makes its text begin with `p`.
     pub begins_with : Breaks old new p (prev_of (links old) p.0) (λ a. Cuts (links old) (links new) a p.0) → BeginsWith entry links old new p
     begins_with (unbroken none stay) t [] after is = (subst (λ (a : A). IsText entry links a ((p, t) ∷ after)) (sym stay) is, λ something. absurd (something refl))
-    begins_with (unbroken none stay) t (e ∷ es) after is = absurd (let one = comes_before old p t e es after is in let no = none (in_a_text old p t (e ∷ es) after is) in let both = sym one.1 ∙ no in cc)
+    begins_with (unbroken none stay) t (e ∷ es) after is = absurd (let one = has_previous old p t e es after is in let no = none (in_a_text old p t (e ∷ es) after is) in let both = sym one.1 ∙ no in cc)
     begins_with (broken a prev cuts same) t [] after is = absurd (let no = ap prev_in (place old p t [] after is) in let both = sym prev ∙ no in cc)
     begins_with (broken a prev cuts same) t (e ∷ es) after is =
         let l = last_apart e es in
@@ -168,9 +168,9 @@ module _ {A Gen T : Type 0} (entry : A → ℕ → Option (Gen × T)) (links : A
 
     -- A break before `p` keeps every text without `p`.
     pub keeps_begun : IsWellLinked (links old) → Breaks old new p (prev_of (links old) p.0) (λ a. Cuts (links old) (links new) a p.0) → KeepsWithout entry links linear old new (p ∷ [])
-    keeps_begun agrees (unbroken none stay) xs lacks is = subst (λ (a : A). IsText entry links a xs) (sym stay) is
-    keeps_begun agrees (broken a prev cuts same) xs lacks is = stays entry links linear (λ xs. refl) old new same xs is.are_stored
-        (cut_keeps_others (links old) (links new) a p.0 agrees ((agrees.both a p.0).1 prev) cuts (linear (indexes xs)) (inr lacks.0) is.chain)
+    keeps_begun agrees (unbroken none stay) xs absent is = subst (λ (a : A). IsText entry links a xs) (sym stay) is
+    keeps_begun agrees (broken a prev cuts same) xs absent is = stays entry links linear (λ xs. refl) old new same xs is.are_stored
+        (cut_keeps_others (links old) (links new) a p.0 agrees ((agrees.both a p.0).1 prev) cuts (linear (indexes xs)) (inr absent.0) is.chain)
 
   module _ (old new : A) (p q : ℕ × Gen) where
     -- A text that ends in `p` and one that begins with `q` can be joined.
@@ -199,8 +199,8 @@ module _ {A Gen T : Type 0} (entry : A → ℕ → Option (Gen × T)) (links : A
 
       -- A join keeps every text without `p` and `q`.
       pub keeps_joined : KeepsWithout entry links linear old new (p ∷ q ∷ [])
-      keeps_joined xs lacks is = by r connects same none
+      keeps_joined xs absent is = by r connects same none
         where
           by : (o : Option R) → OnSome o (Connects (links old) (links new) p.0 q.0) → OnSome o (entry new ≡ entry old) → IfNone o (new ≡ old) → IsText entry links new xs
           by None connects same none = subst (λ (a : A). IsText entry links a xs) (sym none) is
-          by (Some x) connects same none = stays entry links linear (λ xs. refl) old new same xs is.are_stored ((connects.rest (linear (indexes xs)) lacks.0 lacks.1.0).0 is.chain)
+          by (Some x) connects same none = stays entry links linear (λ xs. refl) old new same xs is.are_stored ((connects.rest (linear (indexes xs)) absent.0 absent.1.0).0 is.chain)

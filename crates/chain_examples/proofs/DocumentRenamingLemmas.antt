@@ -20,23 +20,23 @@ module _ {Gen T : Type 0} (entry : ℕ → Option (Gen × T)) (to : ℕ → Opti
   index_there p i (Some e) is = let same : p ≡ (i, e.0) = cc in ap (λ (q : ℕ × Gen). q.0) same
 
   -- Moves from indexes to their images agree with the renaming.
-  pub moves_go : (moves : List (Move Gen)) (is ks : List ℕ) → map (λ (m : Move Gen). Some m.0) moves ≡ map (ptr_at entry) is → map (λ (m : Move Gen). m.1) moves ≡ map (λ k. (k, g)) ks → AreImages to is ks
+  pub moves_follow : (moves : List (Move Gen)) (is ks : List ℕ) → map (λ (m : Move Gen). Some m.0) moves ≡ map (ptr_at entry) is → map (λ (m : Move Gen). m.1) moves ≡ map (λ k. (k, g)) ks → AreImages to is ks
       → AllByRecursion (λ (m : Move Gen). to m.0.0 ≡ Some m.1.0) moves
-  moves_go [] is ks from goes images = tt
-  moves_go (m ∷ moves) [] ks from goes images = absurd (cc)
-  moves_go (m ∷ moves) (i ∷ is) [] from goes images = absurd images
-  moves_go (m ∷ moves) (i ∷ is) (k ∷ ks) from goes images =
+  moves_follow [] is ks from targets images = tt
+  moves_follow (m ∷ moves) [] ks from targets images = absurd (cc)
+  moves_follow (m ∷ moves) (i ∷ is) [] from targets images = absurd images
+  moves_follow (m ∷ moves) (i ∷ is) (k ∷ ks) from targets images =
       let first : Some m.0 ≡ ptr_at entry i = cc in
       let rest : map (λ (n : Move Gen). Some n.0) moves ≡ map (ptr_at entry) is = cc in
       let goal : m.1 ≡ (k, g) = cc in
       let goals : map (λ (n : Move Gen). n.1) moves ≡ map (λ k. (k, g)) ks = cc in
-      (ap to (index_there m.0 i (entry i) first) ∙ (images.0 ∙ ap (λ (q : ℕ × Gen). Some q.0) (sym goal)), moves_go moves is ks rest goals images.1)
+      (ap to (index_there m.0 i (entry i) first) ∙ (images.0 ∙ ap (λ (q : ℕ × Gen). Some q.0) (sym goal)), moves_follow moves is ks rest goals images.1)
 
   -- All moves end at generation `g`.
   pub moves_end_at : (moves : List (Move Gen)) (ks : List ℕ) → map (λ (m : Move Gen). m.1) moves ≡ map (λ k. (k, g)) ks → AllByRecursion (λ (m : Move Gen). m.1.1 ≡ g) moves
-  moves_end_at [] ks goes = tt
-  moves_end_at (m ∷ moves) [] goes = absurd (cc)
-  moves_end_at (m ∷ moves) (k ∷ ks) goes =
+  moves_end_at [] ks targets = tt
+  moves_end_at (m ∷ moves) [] targets = absurd (cc)
+  moves_end_at (m ∷ moves) (k ∷ ks) targets =
       let goal : m.1 ≡ (k, g) = cc in
       let goals : map (λ (n : Move Gen). n.1) moves ≡ map (λ k. (k, g)) ks = cc in
       (ap (λ (q : ℕ × Gen). q.1) goal, moves_end_at moves ks goals)

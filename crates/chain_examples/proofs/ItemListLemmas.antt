@@ -4,7 +4,7 @@ use Rattle.std.specs.Prelude.{is_some, Bool, true, false, cond, ◌==◌}
 use Rattle.std.proofs.lemmas.List.{map-append}
 use Rattle.chain_laws.specs.Chains.{IsMember, AreDistinct}
 use Rattle.chain_laws.proofs.ListLemmas.Members.{IsMember-left, IsMember-right}
-use Rattle.arena_base.specs.Entries.{index_of, found, RisesFrom}
+use Rattle.arena_base.specs.Entries.{index_of, found, AscendsFrom}
 use Rattle.chain_examples.specs.Lists.{Item, AreEntries, indexes}
 
 module _ {Gen T : Type 0} where
@@ -45,14 +45,14 @@ module _ {Gen T : Type 0} where
       not_among has = let some = are_stored-some entry xs p.0 s has in let none = ap is_some free in let both = sym some ∙ none in cc
 
   -- Entries sorted by index have distinct indexes.
-  rises_low : (from i : ℕ) (es : List (Item Gen T)) → RisesFrom from es → IsMember (indexes es) i → from ≤ i
-  rises_low from i [] rises has = absurd has
-  rises_low from i (e ∷ es) rises (inl is) = omega (arith, rises.0, is)
-  rises_low from i (e ∷ es) rises (inr has) = omega (arith, rises.0, rises_low (suc e.0.0) i es rises.1 has)
+  ascends_low : (from i : ℕ) (es : List (Item Gen T)) → AscendsFrom from es → IsMember (indexes es) i → from ≤ i
+  ascends_low from i [] ascends has = absurd has
+  ascends_low from i (e ∷ es) ascends (inl is) = omega (arith, ascends.0, is)
+  ascends_low from i (e ∷ es) ascends (inr has) = omega (arith, ascends.0, ascends_low (suc e.0.0) i es ascends.1 has)
 
-  pub rises_once : (from : ℕ) (es : List (Item Gen T)) → RisesFrom from es → AreDistinct (indexes es)
-  rises_once from [] rises = tt
-  rises_once from (e ∷ es) rises = (λ has. absurd (omega (arith, rises_low (suc e.0.0) e.0.0 es rises.1 has)), rises_once (suc e.0.0) es rises.1)
+  pub ascends_once : (from : ℕ) (es : List (Item Gen T)) → AscendsFrom from es → AreDistinct (indexes es)
+  ascends_once from [] ascends = tt
+  ascends_once from (e ∷ es) ascends = (λ has. absurd (omega (arith, ascends_low (suc e.0.0) e.0.0 es ascends.1 has)), ascends_once (suc e.0.0) es ascends.1)
 
   pub has_found : (i : ℕ) (es : List (Item Gen T)) → IsMember (indexes es) i → is_some (found i es) ≡ true
   has_found i [] has = absurd has

@@ -42,7 +42,7 @@ module _ {A Gen T : Type 0} (entry : A → ℕ → Option (Gen × T)) (links : A
   module _ (old new : A) where
     -- A join of both pointers closes the texts.
     pub closes_both : (p q : ℕ × Gen) → AreJoined entry links old new p q → KeepsWithout entry links linear old new (p ∷ q ∷ []) → IsClosed entry links old new (Some p) (Some q)
-    closes_both p q joined kept = record { texts = texts; others = λ xs lacks_p lacks_q is. kept xs (lacks_p, (lacks_q, tt)) is }
+    closes_both p q joined kept = record { texts = texts; others = λ xs absent_p absent_q is. kept xs (absent_p, (absent_q, tt)) is }
       where
         texts : (before after : List (Item Gen T)) → Some p ≡ last_key before → Some q ≡ first_key after → (before ≢ [] → IsText entry links old before) → (after ≢ [] → IsText entry links old after)
             → AreDistinct (indexes (before ++ after)) → before ++ after ≢ [] → IsText entry links new (before ++ after)
@@ -59,7 +59,7 @@ module _ {A Gen T : Type 0} (entry : A → ℕ → Option (Gen × T)) (links : A
 
     -- If either pointer is missing, an unchanged arena is closed.
     pub closes_left : (u : Option (ℕ × Gen)) → new ≡ old → IsClosed entry links old new u None
-    closes_left u stay = record { texts = texts; others = λ xs lacks_u lacks_v is. subst (λ (a : A). IsText entry links a xs) (sym stay) is }
+    closes_left u stay = record { texts = texts; others = λ xs absent_u absent_v is. subst (λ (a : A). IsText entry links a xs) (sym stay) is }
       where
         texts : (before after : List (Item Gen T)) → u ≡ last_key before → None ≡ first_key after → (before ≢ [] → IsText entry links old before) → (after ≢ [] → IsText entry links old after)
             → AreDistinct (indexes (before ++ after)) → before ++ after ≢ [] → IsText entry links new (before ++ after)
@@ -69,7 +69,7 @@ module _ {A Gen T : Type 0} (entry : A → ℕ → Option (Gen × T)) (links : A
         texts before (f ∷ fs) last first left right once something = absurd (cc)
 
     pub closes_right : (v : Option (ℕ × Gen)) → new ≡ old → IsClosed entry links old new None v
-    closes_right v stay = record { texts = texts; others = λ xs lacks_u lacks_v is. subst (λ (a : A). IsText entry links a xs) (sym stay) is }
+    closes_right v stay = record { texts = texts; others = λ xs absent_u absent_v is. subst (λ (a : A). IsText entry links a xs) (sym stay) is }
       where
         texts : (before after : List (Item Gen T)) → None ≡ last_key before → v ≡ first_key after → (before ≢ [] → IsText entry links old before) → (after ≢ [] → IsText entry links old after)
             → AreDistinct (indexes (before ++ after)) → before ++ after ≢ [] → IsText entry links new (before ++ after)
@@ -78,8 +78,8 @@ module _ {A Gen T : Type 0} (entry : A → ℕ → Option (Gen × T)) (links : A
 
   -- A neighbor of `p` is in no text without `p`.
   apart_from : (a : A) (p : ℕ × Gen) (o : Option (ℕ × Gen)) (xs : List (Item Gen T)) → StoredWith entry links a p o → IsText entry links a xs → (IsMember (indexes xs) p.0 → ⊥) → IfSome o (λ k. ¬ IsMember (indexes xs) k.0)
-  apart_from a p None xs with is lacks = tt
-  apart_from a p (Some k) xs with is lacks = λ has. lacks (with xs is has)
+  apart_from a p None xs with is absent = tt
+  apart_from a p (Some k) xs with is absent = λ has. absent (with xs is has)
 
   module _ (old begun ended new : A) (p : ℕ × Gen) (u v : Option (ℕ × Gen)) where
     -- Breaks on both sides of `p` and a join of its neighbors make `p` a text of its own.
@@ -105,8 +105,8 @@ module _ {A Gen T : Type 0} (entry : A → ℕ → Option (Gen × T)) (links : A
     -- Separating `p` keeps every text without `p`.
     pub keeps_alone : KeepsWithout entry links linear old begun (p ∷ []) → KeepsWithout entry links linear begun ended (p ∷ []) → IsClosed entry links ended new u v
         → StoredWith entry links old p u → StoredWith entry links old p v → KeepsWithout entry links linear old new (p ∷ [])
-    keeps_alone begin end closed with_u with_v xs lacks is =
-        closed.others xs (apart_from old p u xs with_u is lacks.0) (apart_from old p v xs with_v is lacks.0) (end xs lacks (begin xs lacks is))
+    keeps_alone begin end closed with_u with_v xs absent is =
+        closed.others xs (apart_from old p u xs with_u is absent.0) (apart_from old p v xs with_v is absent.0) (end xs absent (begin xs absent is))
 
   module _ (old ended joined new : A) (p q : ℕ × Gen) (v : Option (ℕ × Gen)) where
     -- A break after `q` and joins on both sides of `p`, which is alone, put `p` after `q`.
@@ -132,7 +132,7 @@ module _ {A Gen T : Type 0} (entry : A → ℕ → Option (Gen × T)) (links : A
     -- Putting `p` after `q` keeps every text without `p` and `q`.
     pub keeps_put : KeepsWithout entry links linear old ended (q ∷ []) → KeepsWithout entry links linear ended joined (q ∷ p ∷ []) → IsClosed entry links joined new (Some p) v
         → StoredWith entry links old q v → KeepsWithout entry links linear old new (p ∷ q ∷ [])
-    keeps_put end join closed with_v xs lacks is = closed.others xs lacks.0 (apart_from old q v xs with_v is lacks.1.0) (join xs (lacks.1.0, (lacks.0, tt)) (end xs (lacks.1.0, tt) is))
+    keeps_put end join closed with_v xs absent is = closed.others xs absent.0 (apart_from old q v xs with_v is absent.1.0) (join xs (absent.1.0, (absent.0, tt)) (end xs (absent.1.0, tt) is))
 
   module _ (old alone new : A) (p q : ℕ × Gen) (stored : IsSeparated entry links old alone p) (others : KeepsWithout entry links linear old alone (p ∷ [])) (put : IsPutAfter entry links alone new p q)
       (rest : KeepsWithout entry links linear alone new (p ∷ q ∷ [])) where
@@ -156,4 +156,4 @@ module _ {A Gen T : Type 0} (entry : A → ℕ → Option (Gen × T)) (links : A
     }
 
     pub keeps_moved : KeepsWithout entry links linear old new (p ∷ q ∷ [])
-    keeps_moved xs lacks is = rest xs lacks (others xs (lacks.0, tt) is)
+    keeps_moved xs absent is = rest xs absent (others xs (absent.0, tt) is)

@@ -46,36 +46,36 @@ module _ {A Gen T : Type 0} (entry : A → ℕ → Option (Gen × T)) (links : A
 
   module _ (old new : A) where
     -- An item was inserted.
-    module _ (q : ℕ × Gen) (t : T) (came : IsInserted (entry old) (entry new) q t) where
+    module _ (q : ℕ × Gen) (t : T) (gained : IsInserted (entry old) (entry new) q t) where
       kept : (xs : List (Item Gen T)) → AreEntries (entry old) xs → AreEntries (entry new) xs
-      kept = stored_kept (entry old) (entry new) q came.free came.rest
+      kept = stored_kept (entry old) (entry new) q gained.free gained.rest
 
       -- An item inserted after `p` comes directly after it in its list.
-      pub comes_after : (p : ℕ × Gen) → ((x y : List ℕ) → IsChain (links old) (shape (x ++ p.0 ∷ y)) → IsChain (links new) (shape (x ++ p.0 ∷ q.0 ∷ y)))
+      pub added_after : (p : ℕ × Gen) → ((x y : List ℕ) → IsChain (links old) (shape (x ++ p.0 ∷ y)) → IsChain (links new) (shape (x ++ p.0 ∷ q.0 ∷ y)))
           → InsertsAfter entry links shape old new p (q, t)
-      comes_after p grows s before after is =
+      added_after p grows s before after is =
           let right = are_stored-right (entry old) before ((p, s) ∷ after) is.are_stored in
           record {
             chain = whole new before ((p, s) ∷ (q, t) ∷ after) (grows (indexes before) (indexes after) (parts old before ((p, s) ∷ after) is.chain));
             are_stored = are_stored-append (entry new) before ((p, s) ∷ (q, t) ∷ after) (kept before (are_stored-left (entry old) before ((p, s) ∷ after) is.are_stored))
-                ((kept ((p, s) ∷ []) (right.0, tt)).0, (came.stored, kept after right.1));
+                ((kept ((p, s) ∷ []) (right.0, tt)).0, (gained.stored, kept after right.1));
           }
 
       -- An item inserted before `p` comes directly before it in its list.
-      pub comes_before : (p : ℕ × Gen) → ((x y : List ℕ) → IsChain (links old) (shape (x ++ p.0 ∷ y)) → IsChain (links new) (shape (x ++ q.0 ∷ p.0 ∷ y)))
+      pub added_before : (p : ℕ × Gen) → ((x y : List ℕ) → IsChain (links old) (shape (x ++ p.0 ∷ y)) → IsChain (links new) (shape (x ++ q.0 ∷ p.0 ∷ y)))
           → InsertsBefore entry links shape old new p (q, t)
-      comes_before p grows s before after is = record {
+      added_before p grows s before after is = record {
         chain = whole new before ((q, t) ∷ (p, s) ∷ after) (grows (indexes before) (indexes after) (parts old before ((p, s) ∷ after) is.chain));
         are_stored = are_stored-append (entry new) before ((q, t) ∷ (p, s) ∷ after) (kept before (are_stored-left (entry old) before ((p, s) ∷ after) is.are_stored))
-            (came.stored, kept ((p, s) ∷ after) (are_stored-right (entry old) before ((p, s) ∷ after) is.are_stored));
+            (gained.stored, kept ((p, s) ∷ after) (are_stored-right (entry old) before ((p, s) ∷ after) is.are_stored));
       }
 
       -- An insertion keeps every list without the named neighbors.
       pub keeps_others : (kind : InsertKind ℕ) → IsWellLinked (links old) → is_some (links old q.0) ≡ is_some (entry old q.0)
           → Inserts (links old) (links new) q.0 (link_before (links old) kind q.0) (link_after (links old) kind q.0)
           → (xs : List (Item Gen T)) → IsDisjointFrom (shape (indexes xs)) (indexes_of_kind kind) → IsListOf entry links shape old xs → IsListOf entry links shape new xs
-      keeps_others kind agrees alike inserts xs lacks is = record {
-        chain = insertion_keeps_others (links old) (links new) kind q.0 agrees (unlinked (entry old) (links old) q.0 alike came.free) inserts (shape (indexes xs)) lacks is.chain;
+      keeps_others kind agrees alike inserts xs absent is = record {
+        chain = insertion_keeps_others (links old) (links new) kind q.0 agrees (unlinked (entry old) (links old) q.0 alike gained.free) inserts (shape (indexes xs)) absent is.chain;
         are_stored = kept xs is.are_stored;
       }
 
@@ -95,9 +95,9 @@ module _ {A Gen T : Type 0} (entry : A → ℕ → Option (Gen × T)) (links : A
     -- A removal keeps every list without the removed item.
     pub keeps_left : (p : ℕ × Gen) → ((i : ℕ) → i ≢ p.0 → entry new i ≡ entry old i)
         → ((c : Chain) → (IsMember (items c) p.0 → ⊥) → IsChain (links old) c → IsChain (links new) c) → KeepsWithout entry links shape old new (p ∷ [])
-    keeps_left p same rest xs lacks is = record {
-      chain = rest (shape (indexes xs)) lacks.0 is.chain;
-      are_stored = are_stored-frame (entry old) (entry new) xs (λ i has. same i (λ is_p. lacks.0 (of_chain (indexes xs) p.0 (subst (IsMember (indexes xs)) is_p has)))) is.are_stored;
+    keeps_left p same rest xs absent is = record {
+      chain = rest (shape (indexes xs)) absent.0 is.chain;
+      are_stored = are_stored-frame (entry old) (entry new) xs (λ i has. same i (λ is_p. absent.0 (of_chain (indexes xs) p.0 (subst (IsMember (indexes xs)) is_p has)))) is.are_stored;
     }
 
     -- If all entries are kept, items form a list if their indexes form a chain.

@@ -6,8 +6,8 @@ use Rattle.chain_laws.specs.Chains.{LinkMap, Interlinks, linear, last_or, HasLin
 use Rattle.chain_laws.specs.Insertions.{InsertsPairs}
 use Rattle.chain_laws.specs.Removals.{RemovesPairs, with_removal}
 use Rattle.chain_laws.proofs.ChainLemmas.Existence.{ChainOf, stored_in, has_chain}
-use Rattle.chain_laws.proofs.ChainLemmas.Rotations.{turned_to}
-use Rattle.chain_laws.proofs.ChainLemmas.MemberLaws.{lines_end, rings_go_round, members_are_links}
+use Rattle.chain_laws.proofs.ChainLemmas.Rotations.{rotated_to}
+use Rattle.chain_laws.proofs.ChainLemmas.MemberLaws.{lines_end, rings_are_cyclic, members_are_links}
 use Rattle.chain_laws.proofs.InterlinkLemmas.Inverses.{one_some}
 use Rattle.chain_laws.proofs.RemovalLemmas.Pairs.{removed_in_pairs}
 use Rattle.chain_examples.specs.Rings.{AllCyclic}
@@ -18,8 +18,8 @@ some_item None some = absurd (cc)
 some_item (Some x) some = (x, refl)
 
 -- Inserting a link between two keeps all chains cyclic.
-pub round_inserted : (old new : LinkMap) (q a b : ℕ) → InsertsPairs old new q (Some a) (Some b) → ((i : ℕ) → i ≢ q → HasLink old i → is_some (next_of old i) ≡ true) → AllCyclic new
-round_inserted old new q a b inserts all_cyclic i has = ⊎_elim
+pub cyclic_inserted : (old new : LinkMap) (q a b : ℕ) → InsertsPairs old new q (Some a) (Some b) → ((i : ℕ) → i ≢ q → HasLink old i → is_some (next_of old i) ≡ true) → AllCyclic new
+cyclic_inserted old new q a b inserts all_cyclic i has = ⊎_elim
     (λ is_a. ap is_some ((inserts.pairs i q).1 (inr (inl (ap Some (sym is_a), refl)))))
     (λ not_a. ⊎_elim (λ is_q. ap is_some ((inserts.pairs i b).1 (inr (inr (is_q, refl))))) (λ not_q. stays not_a not_q ((inserts.links i).0 has)) (cases_eq i q))
     (cases_eq i a)
@@ -29,14 +29,14 @@ round_inserted old new q a b inserts all_cyclic i has = ⊎_elim
     stays not_a not_q (inr is_q) = absurd (not_q is_q)
 
 -- Inserting a link after another keeps all chains cyclic.
-pub round_after : (old new : LinkMap) (q a : ℕ) → InsertsPairs old new q (Some a) (next_of old a) → HasLink old a → AllCyclic old → AllCyclic new
-round_after old new q a inserts has all_cyclic =
+pub cyclic_after : (old new : LinkMap) (q a : ℕ) → InsertsPairs old new q (Some a) (next_of old a) → HasLink old a → AllCyclic old → AllCyclic new
+cyclic_after old new q a inserts has all_cyclic =
     let next = some_item (next_of old a) (all_cyclic a has) in
-    round_inserted old new q a next.0 (subst (InsertsPairs old new q (Some a)) next.1 inserts) (λ i other at. all_cyclic i at)
+    cyclic_inserted old new q a next.0 (subst (InsertsPairs old new q (Some a)) next.1 inserts) (λ i other at. all_cyclic i at)
 
 -- Removing a link keeps all chains cyclic.
-pub round_removed : (link_map : LinkMap) (q : ℕ) → IsWellLinked link_map → AllCyclic link_map → AllCyclic (with_removal link_map q)
-round_removed link_map q agrees all_cyclic i has = continues (some_item (next_of link_map i) (all_cyclic i was.0))
+pub cyclic_removed : (link_map : LinkMap) (q : ℕ) → IsWellLinked link_map → AllCyclic link_map → AllCyclic (with_removal link_map q)
+cyclic_removed link_map q agrees all_cyclic i has = continues (some_item (next_of link_map i) (all_cyclic i was.0))
   where
     removes : RemovesPairs link_map (with_removal link_map q) q
     removes = removed_in_pairs link_map q agrees
@@ -46,13 +46,13 @@ round_removed link_map q agrees all_cyclic i has = continues (some_item (next_of
 
     linked_back : (o : Option Interlinks) → link_map q ≡ o → prev_in o ≡ Some i → HasLink link_map q
     linked_back None is prev = absurd (cc)
-    linked_back (Some link) is prev = record { link = link; reports = is }
+    linked_back (Some link) is prev = record { link = link; links = is }
 
-    goes_over : prev_of link_map q ≡ Some i → (on : (k : ℕ) × (next_of link_map q ≡ Some k)) → is_some (next_of (with_removal link_map q) i) ≡ true
-    goes_over prev (k, on) = ap is_some ((removes.pairs i k).1 (inr (prev, on, was.1, λ back. was.1 (one_some (sym prev ∙ (agrees.both q q).0 (on ∙ ap Some back))))))
+    skips_over : prev_of link_map q ≡ Some i → (on : (k : ℕ) × (next_of link_map q ≡ Some k)) → is_some (next_of (with_removal link_map q) i) ≡ true
+    skips_over prev (k, on) = ap is_some ((removes.pairs i k).1 (inr (prev, on, was.1, λ back. was.1 (one_some (sym prev ∙ (agrees.both q q).0 (on ∙ ap Some back))))))
 
     over : (j : ℕ) → next_of link_map i ≡ Some j → j ≡ q → is_some (next_of (with_removal link_map q) i) ≡ true
-    over j next is_q = let prev = (agrees.both i q).0 (next ∙ ap Some is_q) in goes_over prev (some_item (next_of link_map q) (all_cyclic q (linked_back (link_map q) refl prev)))
+    over j next is_q = let prev = (agrees.both i q).0 (next ∙ ap Some is_q) in skips_over prev (some_item (next_of link_map q) (all_cyclic q (linked_back (link_map q) refl prev)))
 
     continues : (j : ℕ) × (next_of link_map i ≡ Some j) → is_some (next_of (with_removal link_map q) i) ≡ true
     continues (j, next) = ⊎_elim (over j next) (λ other. ap is_some ((removes.pairs i j).1 (inl (next, was.1, other)))) (cases_eq j q)
@@ -77,11 +77,11 @@ ring_from links greatest i agrees within all_cyclic has = by (has_chain links gr
   where
     by : ChainOf links i → (rest : List ℕ) × IsChain links (cyclic (i ∷ rest))
     by (stored_in (linear xs) is at) = absurd (no_line links xs all_cyclic is)
-    by (stored_in (cyclic xs) is at) = let ring = turned_to links xs i is at in (ring.0, ring.1)
+    by (stored_in (cyclic xs) is at) = let ring = rotated_to links xs i is at in (ring.0, ring.1)
 
 -- Inserting a link before another keeps all chains cyclic.
-pub round_before : (old new : LinkMap) (greatest q b : ℕ) → InsertsPairs old new q (prev_of old b) (Some b) → IsWellLinked old → HasLinksWithin old greatest → HasLink old b → AllCyclic old → AllCyclic new
-round_before old new greatest q b inserts agrees within has all_cyclic =
+pub cyclic_before : (old new : LinkMap) (greatest q b : ℕ) → InsertsPairs old new q (prev_of old b) (Some b) → IsWellLinked old → HasLinksWithin old greatest → HasLink old b → AllCyclic old → AllCyclic new
+cyclic_before old new greatest q b inserts agrees within has all_cyclic =
     let ring = ring_from old greatest b agrees within all_cyclic has in
-    let prev = (rings_go_round old (b ∷ ring.0) b ring.1 (inl refl)).1 in
-    round_inserted old new q prev.0 b (subst (λ (u : Option ℕ). InsertsPairs old new q u (Some b)) prev.1 inserts) (λ i other at. all_cyclic i at)
+    let prev = (rings_are_cyclic old (b ∷ ring.0) b ring.1 (inl refl)).1 in
+    cyclic_inserted old new q prev.0 b (subst (λ (u : Option ℕ). InsertsPairs old new q u (Some b)) prev.1 inserts) (λ i other at. all_cyclic i at)

@@ -59,9 +59,9 @@ module _ {P Gen : Type 0} (key : P → ℕ × Gen) where
 
     -- An index that no move is from keeps its content.
     keeps : (table : List (Option (P × P))) (moves : List (P × P)) (i : ℕ) → length table ≡ n → HasPlaces n moves → (IsMember (map from_index moves) i → ⊥) → slot_at (noted key table moves) i ≡ slot_at table i
-    keeps table [] i long within lacks = refl
-    keeps table (m ∷ moves) i long within lacks =
-        keeps (with_move key table m) moves i (stays table m long) within.1 (λ has. lacks (inr has)) ∙ elsewhere table m i long within.0 (λ is. lacks (inl (sym is)))
+    keeps table [] i long within absent = refl
+    keeps table (m ∷ moves) i long within absent =
+        keeps (with_move key table m) moves i (stays table m long) within.1 (λ has. absent (inr has)) ∙ elsewhere table m i long within.0 (λ is. absent (inl (sym is)))
 
     -- Each written move is found at its index.
     noted_has : (table : List (Option (P × P))) (moves : List (P × P)) (m : P × P) (k : ℕ) → length table ≡ n → HasPlaces n moves → AreDistinct (map from_index moves)

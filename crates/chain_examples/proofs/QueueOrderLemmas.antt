@@ -8,10 +8,10 @@ use Rattle.std.proofs.lemmas.List.{map-append, length-map}
 use Rattle.std.proofs.lemmas.Bool.{cases_eq}
 use Rattle.chain_laws.specs.Chains.{LinkMap, cyclic, IsChain, IsMember, AreDistinct, next_of, next_in, first_or, Interlinks, AreLinked}
 use Rattle.chain_laws.specs.Removals.{Removes}
-use Rattle.chain_laws.proofs.ChainLemmas.Rotations.{turned}
-use Rattle.chain_laws.proofs.ListLemmas.Members.{IsMember-parts, IsMember-turned, AreDistinct-turned}
+use Rattle.chain_laws.proofs.ChainLemmas.Rotations.{rotated}
+use Rattle.chain_laws.proofs.ListLemmas.Members.{IsMember-parts, IsMember-rotated, AreDistinct-rotated}
 use Rattle.arena_base.specs.Arena.{IsValid}
-use Rattle.arena_base.specs.Entries.{ArenaView, count, HasFreeCapacity, index_of, first_key, found, RisesFrom}
+use Rattle.arena_base.specs.Entries.{ArenaView, count, HasFreeCapacity, index_of, first_key, found, AscendsFrom}
 use Rattle.chain_laws.specs.Insertions.{single_link_cyclic, prev_to}
 use Rattle.chain_links.specs.CallEffects.{GainsLink}
 use Rattle.chain_laws.proofs.WalkLemmas.WalkBack.{length_among}
@@ -19,18 +19,18 @@ use Rattle.chain_traits.proofs.GenericArenaLemmas.{found_has}
 use Rattle.chain_examples.specs.Lists.{Item, AreEntries, indexes, IsQueueOrder}
 use Rattle.chain_examples.specs.QueueOrder.{Queue, IsAmong, IsCancelled, items_from, with_entry_first, queue_order, rotation}
 use Rattle.chain_traits.proofs.GenericRemovalLemmas.{HasGone}
-use Rattle.chain_examples.proofs.ItemListLemmas.{are_stored-append, are_stored-left, are_stored-right, are_stored-frame, among-left, among-right, stored_kept, are_stored-some, rises_once, has_found}
+use Rattle.chain_examples.proofs.ItemListLemmas.{are_stored-append, are_stored-left, are_stored-right, are_stored-frame, among-left, among-right, stored_kept, are_stored-some, ascends_once, has_found}
 
 module _ {Gen T : Type 0} where
   -- A task was appended.
   module _ (entry after : ℕ → Option (Gen × T)) (links changed : LinkMap) (p : ℕ × Gen) (t : T) (free : entry p.0 ≡ None) (stored : after p.0 ≡ Some (p.1, t)) (rest : (i : ℕ) → i ≢ p.0 → after i ≡ entry i) where
-    all_with : (turn : List (Item Gen T)) → ((i : ℕ) → is_some (entry i) ≡ true → IsMember (indexes turn) i) → (i : ℕ) → is_some (after i) ≡ true → IsMember (indexes (turn ++ (p, t) ∷ [])) i
-    all_with turn all i some = ⊎_elim
-        (λ is. among-right turn ((p, t) ∷ []) i (inl (sym is)))
-        (λ other. among-left turn ((p, t) ∷ []) i (all i (ap is_some (sym (rest i other)) ∙ some)))
+    all_with : (order : List (Item Gen T)) → ((i : ℕ) → is_some (entry i) ≡ true → IsMember (indexes order) i) → (i : ℕ) → is_some (after i) ≡ true → IsMember (indexes (order ++ (p, t) ∷ [])) i
+    all_with order all i some = ⊎_elim
+        (λ is. among-right order ((p, t) ∷ []) i (inl (sym is)))
+        (λ other. among-left order ((p, t) ∷ []) i (all i (ap is_some (sym (rest i other)) ∙ some)))
         (cases_eq i p.0)
 
-    pub spawned_first : IsChain changed (cyclic (p.0 ∷ [])) → (turn : List (Item Gen T)) → IsQueueOrder entry links None turn → IsQueueOrder after changed (Some p) (turn ++ (p, t) ∷ [])
+    pub spawned_first : IsChain changed (cyclic (p.0 ∷ [])) → (order : List (Item Gen T)) → IsQueueOrder entry links None order → IsQueueOrder after changed (Some p) (order ++ (p, t) ∷ [])
     spawned_first ring [] is = record {
       first = refl;
       ring = λ filled. ring;
@@ -39,14 +39,14 @@ module _ {Gen T : Type 0} where
     }
     spawned_first ring (e ∷ es) is = let h = is.first in absurd (cc)
 
-    pub spawned_last : (c : ℕ × Gen) → ((y : List ℕ) → IsChain links (cyclic (c.0 ∷ y)) → IsChain changed (cyclic (p.0 ∷ c.0 ∷ y))) → (turn : List (Item Gen T))
-        → IsQueueOrder entry links (Some c) turn → IsQueueOrder after changed (Some c) (turn ++ (p, t) ∷ [])
+    pub spawned_last : (c : ℕ × Gen) → ((y : List ℕ) → IsChain links (cyclic (c.0 ∷ y)) → IsChain changed (cyclic (p.0 ∷ c.0 ∷ y))) → (order : List (Item Gen T))
+        → IsQueueOrder entry links (Some c) order → IsQueueOrder after changed (Some c) (order ++ (p, t) ∷ [])
     spawned_last c inserts [] is = let h = is.first in absurd (cc)
     spawned_last c inserts (e ∷ es) is =
         let same : e.0 ≡ c = let h = is.first in cc in
         let old : IsChain links (cyclic (c.0 ∷ indexes es)) = subst (λ (k : ℕ × Gen). IsChain links (cyclic (k.0 ∷ indexes es))) same (is.ring (λ h. cc)) in
         let new : IsChain changed (cyclic (p.0 ∷ e.0.0 ∷ indexes es)) = subst (λ (k : ℕ × Gen). IsChain changed (cyclic (p.0 ∷ k.0 ∷ indexes es))) (sym same) (inserts (indexes es) old) in
-        let ring : IsChain changed (cyclic (indexes (e ∷ es) ++ p.0 ∷ [])) = turned changed (p.0 ∷ []) (indexes (e ∷ es)) new in
+        let ring : IsChain changed (cyclic (indexes (e ∷ es) ++ p.0 ∷ [])) = rotated changed (p.0 ∷ []) (indexes (e ∷ es)) new in
         record {
           first = is.first;
           ring = λ filled. subst (λ (l : List ℕ). IsChain changed (cyclic l)) (sym (map-append index_of (e ∷ es) ((p, t) ∷ []))) ring;
@@ -56,12 +56,12 @@ module _ {Gen T : Type 0} where
 
   -- The next task becomes current.
   module _ (entry : ℕ → Option (Gen × T)) (links : LinkMap) where
-    pub turn_on : (current : Option (ℕ × Gen)) (e : Item Gen T) (es : List (Item Gen T)) → IsQueueOrder entry links current (e ∷ es) → IsQueueOrder entry links (first_key (es ++ e ∷ [])) (es ++ e ∷ [])
-    turn_on current e es is = record {
+    pub order_on : (current : Option (ℕ × Gen)) (e : Item Gen T) (es : List (Item Gen T)) → IsQueueOrder entry links current (e ∷ es) → IsQueueOrder entry links (first_key (es ++ e ∷ [])) (es ++ e ∷ [])
+    order_on current e es is = record {
       first = refl;
-      ring = λ filled. subst (λ (l : List ℕ). IsChain links (cyclic l)) (sym (map-append index_of es (e ∷ []))) (turned links (e.0.0 ∷ []) (indexes es) (is.ring (λ h. cc)));
+      ring = λ filled. subst (λ (l : List ℕ). IsChain links (cyclic l)) (sym (map-append index_of es (e ∷ []))) (rotated links (e.0.0 ∷ []) (indexes es) (is.ring (λ h. cc)));
       are_stored = are_stored-append entry es (e ∷ []) is.are_stored.1 (is.are_stored.0, tt);
-      all = λ i some. subst (λ (l : List ℕ). IsMember l i) (sym (map-append index_of es (e ∷ []))) (IsMember-turned (e.0.0 ∷ []) (indexes es) i (is.all i some));
+      all = λ i some. subst (λ (l : List ℕ). IsMember l i) (sym (map-append index_of es (e ∷ []))) (IsMember-rotated (e.0.0 ∷ []) (indexes es) i (is.all i some));
     }
 
     -- The link after the current one is the second in turn.
@@ -80,7 +80,7 @@ module _ {Gen T : Type 0} where
     stored_once current xs ys e is has =
         let filled : xs ++ e ∷ ys ≢ [] = not_empty xs e ys in
         let once : AreDistinct (indexes xs ++ e.0.0 ∷ indexes ys) = subst AreDistinct (map-append index_of xs (e ∷ ys)) (is.ring filled).1 in
-        (AreDistinct-turned (indexes xs) (e.0.0 ∷ indexes ys) once).0 (IsMember-turned (indexes xs) (indexes ys) e.0.0 (subst (λ (l : List ℕ). IsMember l e.0.0) (map-append index_of xs ys) has))
+        (AreDistinct-rotated (indexes xs) (e.0.0 ∷ indexes ys) once).0 (IsMember-rotated (indexes xs) (indexes ys) e.0.0 (subst (λ (l : List ℕ). IsMember l e.0.0) (map-append index_of xs ys) has))
       where
         not_empty : (left : List (Item Gen T)) (b : Item Gen T) (right : List (Item Gen T)) → left ++ b ∷ right ≢ []
         not_empty [] b right h = cc
@@ -147,11 +147,11 @@ module _ {Gen T : Type 0} where
     some_second e (f ∷ fs) none = cc
 
     -- There are as many tasks as entries.
-    pub turn_length : (current : Option (ℕ × Gen)) (turn es : List (Item Gen T)) → IsQueueOrder entry links current turn → RisesFrom 1 es → ((i : ℕ) → found i es ≡ entry i) → length es ≡ length turn
-    turn_length current turn es is rises was_read =
-        let fewer = length_among (indexes es) (indexes turn) (rises_once 1 es rises) (λ i has. is.all i (ap is_some (sym (was_read i)) ∙ has_found i es has)) in
-        let more = length_among (indexes turn) (indexes es) (once turn is.ring) (λ i has. found_has i es (ap is_some (was_read i) ∙ are_stored-some entry turn i is.are_stored has)) in
-        omega (arith, fewer, more, length-map es index_of, length-map turn index_of)
+    pub order_length : (current : Option (ℕ × Gen)) (order es : List (Item Gen T)) → IsQueueOrder entry links current order → AscendsFrom 1 es → ((i : ℕ) → found i es ≡ entry i) → length es ≡ length order
+    order_length current order es is ascends was_read =
+        let fewer = length_among (indexes es) (indexes order) (ascends_once 1 es ascends) (λ i has. is.all i (ap is_some (sym (was_read i)) ∙ has_found i es has)) in
+        let more = length_among (indexes order) (indexes es) (once order is.ring) (λ i has. found_has i es (ap is_some (was_read i) ∙ are_stored-some entry order i is.are_stored has)) in
+        omega (arith, fewer, more, length-map es index_of, length-map order index_of)
       where
         once : (xs : List (Item Gen T)) → (xs ≢ [] → IsChain links (cyclic (indexes xs))) → AreDistinct (indexes xs)
         once [] ring = tt
@@ -166,20 +166,20 @@ module _ {Gen T : Type 0} where
         ap (λ (e : Option (Gen × T)). with_entry_first x.0.0 e (items_from entry links (length xs) (next_of links x.0.0))) are_stored.0
         ∙ ap (λ (others : List (Item Gen T)). x ∷ others) (ap (λ (l : Option Interlinks). items_from entry links (length xs) (next_in l)) chain.0 ∙ from_items (Some x.0.0) after xs chain.1 are_stored.1)
 
-    turn_found : (current : Option (ℕ × Gen)) (turn : List (Item Gen T)) → IsQueueOrder entry links current turn → queue_order entry links (length turn) current ≡ turn
+    order_found : (current : Option (ℕ × Gen)) (order : List (Item Gen T)) → IsQueueOrder entry links current order → queue_order entry links (length order) current ≡ order
     unfolding items_from
-    turn_found current [] is = refl
-    turn_found current (e ∷ es) is =
+    order_found current [] is = refl
+    order_found current (e ∷ es) is =
         ap (λ (c : Option (ℕ × Gen)). queue_order entry links (length (e ∷ es)) c) is.first ∙ from_items _ _ (e ∷ es) (is.ring (λ h. cc)).2 is.are_stored
 
     -- A turn is what is found from the current task on.
-    pub settles : (current : Option (ℕ × Gen)) (turn es : List (Item Gen T)) → IsQueueOrder entry links current turn → RisesFrom 1 es → ((i : ℕ) → found i es ≡ entry i)
-        → queue_order entry links (length es) current ≡ turn
-    settles current turn es is rises was_read = ap (λ (n : ℕ). queue_order entry links n current) (turn_length current turn es is rises was_read) ∙ turn_found current turn is
+    pub settles : (current : Option (ℕ × Gen)) (order es : List (Item Gen T)) → IsQueueOrder entry links current order → AscendsFrom 1 es → ((i : ℕ) → found i es ≡ entry i)
+        → queue_order entry links (length es) current ≡ order
+    settles current order es is ascends was_read = ap (λ (n : ℕ). queue_order entry links n current) (order_length current order es is ascends was_read) ∙ order_found current order is
 
-    pub settled : (current : Option (ℕ × Gen)) (turn es : List (Item Gen T)) → IsQueueOrder entry links current turn → RisesFrom 1 es → ((i : ℕ) → found i es ≡ entry i)
+    pub settled : (current : Option (ℕ × Gen)) (order es : List (Item Gen T)) → IsQueueOrder entry links current order → AscendsFrom 1 es → ((i : ℕ) → found i es ≡ entry i)
         → IsQueueOrder entry links current (queue_order entry links (length es) current)
-    settled current turn es is rises was_read = subst (IsQueueOrder entry links current) (sym (settles current turn es is rises was_read)) is
+    settled current order es is ascends was_read = subst (IsQueueOrder entry links current) (sym (settles current order es is ascends was_read)) is
 
     -- An arena without entries is an empty queue.
     pub begins : (es : List (Item Gen T)) → es ≡ [] → ((i : ℕ) → found i es ≡ entry i) → IsQueueOrder entry links None []
@@ -191,18 +191,18 @@ module _ {Gen T : Type 0} where
     }
 
     -- The pointer of an item of the turn is valid.
-    pub among_stored : (turn : List (Item Gen T)) (p : ℕ × Gen) → AreEntries entry turn → IsAmong p turn → IsValid entry p
+    pub among_stored : (order : List (Item Gen T)) (p : ℕ × Gen) → AreEntries entry order → IsAmong p order → IsValid entry p
     among_stored [] p are_stored among = absurd among
     among_stored (e ∷ es) p are_stored (inl same) = subst (IsValid entry) same (record { value = e.1; stored = are_stored.0 })
     among_stored (e ∷ es) p are_stored (inr among) = among_stored es p are_stored.1 among
 
-    pub no_task : (current : Option (ℕ × Gen)) (turn : List (Item Gen T)) (p : ℕ × Gen) → IsQueueOrder entry links current turn → (IsValid entry p → ⊥) → IsAmong p turn → ⊥
-    no_task current turn p is invalid among = invalid (among_stored turn p is.are_stored among)
+    pub no_task : (current : Option (ℕ × Gen)) (order : List (Item Gen T)) (p : ℕ × Gen) → IsQueueOrder entry links current order → (IsValid entry p → ⊥) → IsAmong p order → ⊥
+    no_task current order p is invalid among = invalid (among_stored order p is.are_stored among)
 
     -- A valid pointer belongs to a task of the turn.
-    pub valid_task : (current : Option (ℕ × Gen)) (turn : List (Item Gen T)) (p : ℕ × Gen) → IsQueueOrder entry links current turn → (valid : IsValid entry p)
-        → (before : List (Item Gen T)) × (after : List (Item Gen T)) × (turn ≡ before ++ (p, valid.value) ∷ after)
-    valid_task current turn p is valid = found_at turn is.are_stored (is.all p.0 (ap is_some valid.stored))
+    pub valid_task : (current : Option (ℕ × Gen)) (order : List (Item Gen T)) (p : ℕ × Gen) → IsQueueOrder entry links current order → (valid : IsValid entry p)
+        → (before : List (Item Gen T)) × (after : List (Item Gen T)) × (order ≡ before ++ (p, valid.value) ∷ after)
+    valid_task current order p is valid = found_at order is.are_stored (is.all p.0 (ap is_some valid.stored))
       where
         found_at : (xs : List (Item Gen T)) → AreEntries entry xs → IsMember (indexes xs) p.0 → (before : List (Item Gen T)) × (after : List (Item Gen T)) × (xs ≡ before ++ (p, valid.value) ∷ after)
         found_at [] are_stored has = absurd has
@@ -217,10 +217,10 @@ module _ {Gen T : Type 0} where
             (x ∷ there.0, there.1, ap (λ (l : List (Item Gen T)). x ∷ l) there.2)
 
     -- The turn advances from any current task.
-    pub continues : (k : ℕ × Gen) (next : Option (ℕ × Gen)) (turn : List (Item Gen T)) → IsQueueOrder entry links (Some k) turn
-        → ((task : Item Gen T) (rest : List (Item Gen T)) → IsQueueOrder entry links (Some k) (task ∷ rest) → next ≡ first_key (rest ++ task ∷ [])) → IsQueueOrder entry links next (rotation turn)
+    pub continues : (k : ℕ × Gen) (next : Option (ℕ × Gen)) (order : List (Item Gen T)) → IsQueueOrder entry links (Some k) order
+        → ((task : Item Gen T) (rest : List (Item Gen T)) → IsQueueOrder entry links (Some k) (task ∷ rest) → next ≡ first_key (rest ++ task ∷ [])) → IsQueueOrder entry links next (rotation order)
     continues k next [] is second = let first = is.first in absurd (cc)
-    continues k next (e ∷ es) is second = subst (λ (o : Option (ℕ × Gen)). IsQueueOrder entry links o (es ++ e ∷ [])) (sym (second e es is)) (turn_on (Some k) e es is)
+    continues k next (e ∷ es) is second = subst (λ (o : Option (ℕ × Gen)). IsQueueOrder entry links o (es ++ e ∷ [])) (sym (second e es is)) (order_on (Some k) e es is)
 
     -- A cancelled task is not among the others.
     pub not_among : (current : Option (ℕ × Gen)) (xs ys : List (Item Gen T)) (e : Item Gen T) → IsQueueOrder entry links current (xs ++ e ∷ ys) → IsAmong e.0 (xs ++ ys) → ⊥
@@ -232,8 +232,8 @@ module _ {Gen T : Type 0} where
         has_index (z ∷ zs) (inr h) = inr (has_index zs h)
 
     -- The pointer of the current task is valid.
-    pub valid_current : {P : Type 0} (key : P → ℕ × Gen) (current : Option P) (turn : List (Item Gen T)) → IsQueueOrder entry links (option_map key current) turn → IfSome current (λ p. IsValid entry (key p))
-    valid_current key None turn is = tt
+    pub valid_current : {P : Type 0} (key : P → ℕ × Gen) (current : Option P) (order : List (Item Gen T)) → IsQueueOrder entry links (option_map key current) order → IfSome current (λ p. IsValid entry (key p))
+    valid_current key None order is = tt
     valid_current key (Some p) [] is = let first = is.first in absurd (cc)
     valid_current key (Some p) (e ∷ es) is =
         let same : e.0 ≡ key p = let first = is.first in cc in
@@ -251,54 +251,54 @@ first_cancelled p task old new first is = by is.before is.was_stored is.left
         absurd (is.gone (subst (IsAmong p) (sym left) (inl key)))
 
 -- The turn of a queue, as found in an arena.
-module _ {A Gen T : Type 0} (view_of : A → ArenaView Gen T) (entry : A → ℕ → Option (Gen × T)) (links : A → LinkMap) (rises : (a : A) → RisesFrom 1 (view_of a).entries) (was_read : (a : A) (i : ℕ) → found i (view_of a).entries ≡ entry a i) where
-  abbrev pub turn_in : A → Option (ℕ × Gen) → List (Item Gen T)
-  turn_in a current = queue_order (entry a) (links a) (count (view_of a)) current
+module _ {A Gen T : Type 0} (view : A → ArenaView Gen T) (entry : A → ℕ → Option (Gen × T)) (links : A → LinkMap) (ascends : (a : A) → AscendsFrom 1 (view a).entries) (was_read : (a : A) (i : ℕ) → found i (view a).entries ≡ entry a i) where
+  abbrev pub order_in : A → Option (ℕ × Gen) → List (Item Gen T)
+  order_in a current = queue_order (entry a) (links a) (count (view a)) current
 
   -- The turn found in the arena, which is in queue order.
-  pub record IsSettled (a : A) (current : Option (ℕ × Gen)) (turn : List (Item Gen T)) : Type 0 where
-    pub is_found : turn_in a current ≡ turn
-    pub holds : IsQueueOrder (entry a) (links a) current (turn_in a current)
+  pub record IsSettled (a : A) (current : Option (ℕ × Gen)) (order : List (Item Gen T)) : Type 0 where
+    pub is_found : order_in a current ≡ order
+    pub holds : IsQueueOrder (entry a) (links a) current (order_in a current)
 
-  pub settle : (a : A) (current : Option (ℕ × Gen)) (turn : List (Item Gen T)) → IsQueueOrder (entry a) (links a) current turn → IsSettled a current turn
-  settle a current turn is = record {
-    is_found = settles (entry a) (links a) current turn (view_of a).entries is (rises a) (was_read a);
-    holds = settled (entry a) (links a) current turn (view_of a).entries is (rises a) (was_read a);
+  pub settle : (a : A) (current : Option (ℕ × Gen)) (order : List (Item Gen T)) → IsQueueOrder (entry a) (links a) current order → IsSettled a current order
+  settle a current order is = record {
+    is_found = settles (entry a) (links a) current order (view a).entries is (ascends a) (was_read a);
+    holds = settled (entry a) (links a) current order (view a).entries is (ascends a) (was_read a);
   }
 
   -- The queue found in an arena.
   abbrev pub queue_in : A → Option (ℕ × Gen) → Queue Gen T
-  queue_in a current = record { turn = turn_in a current; capacity = (view_of a).capacity; maximum = (view_of a).maximum }
+  queue_in a current = record { order = order_in a current; capacity = (view a).capacity; maximum = (view a).maximum }
 
   -- If the queue has free capacity, so has its arena.
-  pub has_capacity : (a : A) (current : Option (ℕ × Gen)) (q : Queue Gen T) → IsQueueOrder (entry a) (links a) current (turn_in a current) → queue_in a current ≡ q → length q.turn < q.capacity → HasFreeCapacity (view_of a)
+  pub has_capacity : (a : A) (current : Option (ℕ × Gen)) (q : Queue Gen T) → IsQueueOrder (entry a) (links a) current (order_in a current) → queue_in a current ≡ q → length q.order < q.capacity → HasFreeCapacity (view a)
   has_capacity a current q is same less =
-      let many = turn_length (entry a) (links a) current (turn_in a current) (view_of a).entries is (rises a) (was_read a) in
-      let turn = ap (λ (s : Queue Gen T). length s.turn) same in
+      let many = order_length (entry a) (links a) current (order_in a current) (view a).entries is (ascends a) (was_read a) in
+      let order = ap (λ (s : Queue Gen T). length s.order) same in
       let within_capacity = ap (λ (s : Queue Gen T). s.capacity) same in
       omega arith
 
   -- Inserting a task before the current one, or into an empty queue, appends it.
   module _ (a b : A) (p : ℕ × Gen) (t : T) where
-    pub first_comes : GainsLink view_of entry links single_link_cyclic t a p b → (turn : List (Item Gen T)) → IsQueueOrder (entry a) (links a) None turn → IsQueueOrder (entry b) (links b) (Some p) (turn ++ (p, t) ∷ [])
-    first_comes came = spawned_first (entry a) (entry b) (links a) (links b) p t came.entries.free came.entries.stored came.entries.rest (came.chains.ring refl refl)
+    pub first_added : GainsLink view entry links single_link_cyclic t a p b → (order : List (Item Gen T)) → IsQueueOrder (entry a) (links a) None order → IsQueueOrder (entry b) (links b) (Some p) (order ++ (p, t) ∷ [])
+    first_added gained = spawned_first (entry a) (entry b) (links a) (links b) p t gained.entries.free gained.entries.stored gained.entries.rest (gained.chains.ring refl refl)
 
-    pub last_comes : (k : ℕ × Gen) → GainsLink view_of entry links (prev_to (k.0, Some k.1)) t a p b → (turn : List (Item Gen T)) → IsQueueOrder (entry a) (links a) (Some k) turn → IsQueueOrder (entry b) (links b) (Some k) (turn ++ (p, t) ∷ [])
-    last_comes k came = spawned_last (entry a) (entry b) (links a) (links b) p t came.entries.free came.entries.stored came.entries.rest k (λ y. (came.chains.before k.0 refl refl [] y).1)
+    pub last_added : (k : ℕ × Gen) → GainsLink view entry links (prev_to (k.0, Some k.1)) t a p b → (order : List (Item Gen T)) → IsQueueOrder (entry a) (links a) (Some k) order → IsQueueOrder (entry b) (links b) (Some k) (order ++ (p, t) ∷ [])
+    last_added k gained = spawned_last (entry a) (entry b) (links a) (links b) p t gained.entries.free gained.entries.stored gained.entries.rest k (λ y. (gained.chains.before k.0 refl refl [] y).1)
 
   -- A call that adds a task appends it, or fails and keeps the queue.
   module _ {P E : Type 0} (key : P → ℕ × Gen) (a b : A) (current : Option P) (t : T) where
     pub record IsTaskAdded (result : Result P E) (next : Option P) : Type 0 where
-      pub holds : IsQueueOrder (entry b) (links b) (option_map key next) (turn_in b (option_map key next))
-      pub last : IfOk result (λ p. turn_in b (option_map key next) ≡ turn_in a (option_map key current) ++ (key p, t) ∷ [])
+      pub holds : IsQueueOrder (entry b) (links b) (option_map key next) (order_in b (option_map key next))
+      pub last : IfOk result (λ p. order_in b (option_map key next) ≡ order_in a (option_map key current) ++ (key p, t) ∷ [])
       pub err : OnErr result (queue_in b (option_map key next) ≡ queue_in a (option_map key current))
 
-    pub task_added : (result : Result P E) → IsQueueOrder (entry a) (links a) (option_map key current) (turn_in a (option_map key current))
-        → IfOk result (λ p. (turn : List (Item Gen T)) → IsQueueOrder (entry a) (links a) (option_map key current) turn → IsQueueOrder (entry b) (links b) (option_map key (option_or current (Some p))) (turn ++ (key p, t) ∷ []))
+    pub task_added : (result : Result P E) → IsQueueOrder (entry a) (links a) (option_map key current) (order_in a (option_map key current))
+        → IfOk result (λ p. (order : List (Item Gen T)) → IsQueueOrder (entry a) (links a) (option_map key current) order → IsQueueOrder (entry b) (links b) (option_map key (option_or current (Some p))) (order ++ (key p, t) ∷ []))
         → OnErr result (b ≡ a) → IsTaskAdded result (option_or current (result_ok result))
-    task_added (Ok p) is comes same = let now = settle b (option_map key (option_or current (Some p))) _ (comes _ is) in record { holds = now.holds; last = now.is_found; err = tt }
-    task_added (Err e) is comes same = subst (IsTaskAdded (Err e)) (sym (as_it_was current)) (record {
-      holds = subst (λ (x : A). IsQueueOrder (entry x) (links x) (option_map key current) (turn_in x (option_map key current))) (sym same) is;
+    task_added (Ok p) is added same = let now = settle b (option_map key (option_or current (Some p))) _ (added _ is) in record { holds = now.holds; last = now.is_found; err = tt }
+    task_added (Err e) is added same = subst (IsTaskAdded (Err e)) (sym (as_it_was current)) (record {
+      holds = subst (λ (x : A). IsQueueOrder (entry x) (links x) (option_map key current) (order_in x (option_map key current))) (sym same) is;
       last = tt;
       err = ap (λ (x : A). queue_in x (option_map key current)) same;
     })
@@ -308,22 +308,22 @@ module _ {A Gen T : Type 0} (view_of : A → ArenaView Gen T) (entry : A → ℕ
         as_it_was (Some p) = refl
 
   -- The next task becomes current.
-  pub goes_on_in : (a : A) (current next : Option (ℕ × Gen)) (k : ℕ × Gen) → current ≡ Some k → IsQueueOrder (entry a) (links a) current (turn_in a current)
-      → ((task : Item Gen T) (rest : List (Item Gen T)) → IsQueueOrder (entry a) (links a) (Some k) (task ∷ rest) → next ≡ first_key (rest ++ task ∷ [])) → IsSettled a next (rotation (turn_in a current))
-  goes_on_in a current next k known is second =
-      settle a next (rotation (turn_in a current)) (continues (entry a) (links a) k next (turn_in a current) (subst (λ (o : Option (ℕ × Gen)). IsQueueOrder (entry a) (links a) o (turn_in a current)) known is) second)
+  pub advances_in : (a : A) (current next : Option (ℕ × Gen)) (k : ℕ × Gen) → current ≡ Some k → IsQueueOrder (entry a) (links a) current (order_in a current)
+      → ((task : Item Gen T) (rest : List (Item Gen T)) → IsQueueOrder (entry a) (links a) (Some k) (task ∷ rest) → next ≡ first_key (rest ++ task ∷ [])) → IsSettled a next (rotation (order_in a current))
+  advances_in a current next k known is second =
+      settle a next (rotation (order_in a current)) (continues (entry a) (links a) k next (order_in a current) (subst (λ (o : Option (ℕ × Gen)). IsQueueOrder (entry a) (links a) o (order_in a current)) known is) second)
 
   -- A task is cancelled, and the turn is what remains.
   pub record IsLeft (a b : A) (current next : Option (ℕ × Gen)) (p : ℕ × Gen) (t : T) : Type 0 where
-    pub cancelled : IsCancelled p t (turn_in a current) (turn_in b next)
-    pub holds : IsQueueOrder (entry b) (links b) next (turn_in b next)
+    pub cancelled : IsCancelled p t (order_in a current) (order_in b next)
+    pub holds : IsQueueOrder (entry b) (links b) next (order_in b next)
 
-  pub task_goes : (a b : A) (current next : Option (ℕ × Gen)) (k p : ℕ × Gen) → current ≡ Some k → IsQueueOrder (entry a) (links a) current (turn_in a current) → (gone : HasGone view_of entry links a b p)
+  pub task_removed : (a b : A) (current next : Option (ℕ × Gen)) (k p : ℕ × Gen) → current ≡ Some k → IsQueueOrder (entry a) (links a) current (order_in a current) → (gone : HasGone view entry links a b p)
       → ((before after : List (Item Gen T)) (task : T) → IsQueueOrder (entry a) (links a) (Some k) (before ++ (p, task) ∷ after) → next ≡ first_key (before ++ after)) → IsLeft a b current next p gone.was_stored.value
-  task_goes a b current next k p known is gone follows =
-      let turn = subst (λ (o : Option (ℕ × Gen)). IsQueueOrder (entry a) (links a) o (turn_in a current)) known is in
-      let split = valid_task (entry a) (links a) (Some k) (turn_in a current) p turn gone.was_stored in
-      let was_stored = subst (IsQueueOrder (entry a) (links a) (Some k)) split.2 turn in
+  task_removed a b current next k p known is gone follows =
+      let order = subst (λ (o : Option (ℕ × Gen)). IsQueueOrder (entry a) (links a) o (order_in a current)) known is in
+      let split = valid_task (entry a) (links a) (Some k) (order_in a current) p order gone.was_stored in
+      let was_stored = subst (IsQueueOrder (entry a) (links a) (Some k)) split.2 order in
       let left = cancelled (entry a) (links a) (entry b) (links b) (Some k) next split.0 split.1 (p, gone.was_stored.value) was_stored (follows split.0 split.1 gone.was_stored.value was_stored) gone.gone gone.kept gone.chains in
       let now = settle b next (split.0 ++ split.1) left in
       record {

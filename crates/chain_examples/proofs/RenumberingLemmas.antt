@@ -19,11 +19,11 @@ use Rattle.chain_compaction.specs.Layouts.{AreAllMoves}
 use Rattle.chain_compaction.specs.PointerMoves.{ArePointerMoves}
 use Rattle.chain_arena.proofs.PointerTransferLemmas.{arena_moves_pointers}
 use Rattle.chain_examples.specs.Renumbering.{Move, IsRenumbered}
-use Rattle.chain_examples.specs.MoveTables.{noted, finds}
+use Rattle.chain_examples.specs.MoveTables.{noted, new_pointer_of}
 use Rattle.chain_examples.proofs.MoveTableLemmas.{HasPlaces, noted_table}
 use Rattle.chain_examples.proofs.PointerPairLemmas.{keys_of}
 use Rattle.chain_examples.proofs.BookmarkLemmas.{all_followed}
-use Rattle.chain_examples.proofs.DocumentRenamingLemmas.{moves_go, moves_end_at, texts_move}
+use Rattle.chain_examples.proofs.DocumentRenamingLemmas.{moves_follow, moves_end_at, texts_move}
 
 abbrev no_neighbors : Interlinks
 no_neighbors = record { prev = None; next = None }
@@ -32,7 +32,7 @@ module _ {P Gen T : Type 0} (key : P → ℕ × Gen) (old new : Arena Gen (LinkV
   -- A valid pointer has the index of a slot.
   within : (p : ℕ × Gen) → IsValid (entry old) p → (1 ≤ p.0) × (p.0 ≤ length old.slots)
   within p valid =
-      let inside = (slots-within (λ e. no_neighbors) (values_of old).slots).within p.0 (record { link = no_neighbors; reports = ap (option_map (λ e. no_neighbors)) valid.stored }) in
+      let inside = (slots-within (λ e. no_neighbors) (values_of old).slots).within p.0 (record { link = no_neighbors; links = ap (option_map (λ e. no_neighbors)) valid.stored }) in
       (inside.0, omega (arith, inside.1, length-with_each link_value old))
 
   -- A table with an entry for each slot has one for each move.
@@ -50,9 +50,9 @@ module _ {P Gen T : Type 0} (key : P → ℕ × Gen) (old new : Arena Gen (LinkV
     all_keys = record { indexes = all.indexes; order = all.order; from = map-map (λ (m : Move Gen). Some m.0) (keys_of key) moves ∙ all.from; to = map-map (λ (m : Move Gen). m.1) (keys_of key) moves ∙ all.to }
 
     -- The moves agree with the renaming of indexes.
-    all_go : All (λ (m : Move Gen). place_in all.indexes m.0.0 ≡ Some m.1.0) (map (keys_of key) moves)
-    all_go =
-        All-from_recursion _ (map (keys_of key) moves) (moves_go (λ i. found i (value_view old).entries) (place_in all.indexes) new.counter (map (keys_of key) moves) all.indexes (range_with_len 1 (length all.indexes)) all_keys.from all_keys.to
+    all_moved : All (λ (m : Move Gen). place_in all.indexes m.0.0 ≡ Some m.1.0) (map (keys_of key) moves)
+    all_moved =
+        All-from_recursion _ (map (keys_of key) moves) (moves_follow (λ i. found i (value_view old).entries) (place_in all.indexes) new.counter (map (keys_of key) moves) all.indexes (range_with_len 1 (length all.indexes)) all_keys.from all_keys.to
         (place-numbers 1 all.indexes (subst AreDistinct (sym all.order.items) all.order.are.partition.once)))
 
     -- The layout and the moves have the same least-index order.
@@ -66,12 +66,12 @@ module _ {P Gen T : Type 0} (key : P → ℕ × Gen) (old new : Arena Gen (LinkV
     all_placed : All (λ (m : Move Gen). (place_in layout.indexes m.0.0 ≡ Some m.1.0) × (m.1.1 ≡ layout.generation)) (map (keys_of key) moves)
     all_placed =
         let at = All-from_recursion _ (map (keys_of key) moves) (moves_end_at (λ i. found i (value_view old).entries) (place_in all.indexes) new.counter (map (keys_of key) moves) (range_with_len 1 (length all.indexes)) all_keys.to) in
-        let go = subst (λ (is : List ℕ). All (λ (m : Move Gen). place_in is m.0.0 ≡ Some m.1.0) (map (keys_of key) moves)) (sym same_order) all_go in
+        let go = subst (λ (is : List ℕ). All (λ (m : Move Gen). place_in is m.0.0 ≡ Some m.1.0) (map (keys_of key) moves)) (sym same_order) all_moved in
         λ k d below. (go k d below, at k d below ∙ layout.is_counter)
 
     -- The links are renumbered, and the bookmarks follow their items.
     pub renumbered : (eq : P → P → Bool) → ((p q : P) → key p ≡ key q → p ≡ q) → ((p q : P) → (eq p q ≡ true) ↔ (p ≡ q)) → ArePointerMoves key (entry old) (entry new) moves → (bookmarks : List (Option P))
-        → IsRenumbered first following value_view entry link_map old new (map (option_map key) bookmarks) (map (option_map key) (map (option_and_then (finds key eq (noted key (replicate (length old.slots) None) moves))) bookmarks))
+        → IsRenumbered first following value_view entry link_map old new (map (option_map key) bookmarks) (map (option_map key) (map (option_and_then (new_pointer_of key eq (noted key (replicate (length old.slots) None) moves))) bookmarks))
     renumbered eq same_key eq_is_same moved bookmarks =
         let moved_keys = arena_moves_pointers (λ (p : ℕ × Gen). p) first following false old new (map (keys_of key) moves) layout all_keys in
         record {
@@ -79,6 +79,6 @@ module _ {P Gen T : Type 0} (key : P → ℕ × Gen) (old new : Arena Gen (LinkV
           moves = map (keys_of key) moves;
           moved = moved_keys;
           placed = all_placed;
-          texts = texts_move entry link_map old new (map (keys_of key) moves) (place_in all.indexes) moved_keys all_go renaming;
+          texts = texts_move entry link_map old new (map (keys_of key) moves) (place_in all.indexes) moved_keys all_moved renaming;
           bookmarks = all_followed key eq same_key eq_is_same (entry old) (entry new) moves moved (noted key (replicate (length old.slots) None) moves) (noted_table key (length old.slots) moves (has_places moved) moved.old_apart) bookmarks;
         }

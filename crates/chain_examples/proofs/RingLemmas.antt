@@ -5,7 +5,7 @@ use Rattle.std.specs.Option.{option_map, option_and_then}
 use Rattle.std.proofs.lemmas.List.{map-append}
 use Rattle.chain_laws.specs.Chains.{LinkMap, cyclic, IsChain, IsMember, AreDistinct, HasLink, IsWellLinked, next_of, next_in, first_or}
 use Rattle.chain_laws.specs.Exchanges.{Exchanges, with_exchange}
-use Rattle.chain_laws.proofs.ChainLemmas.Rotations.{turned}
+use Rattle.chain_laws.proofs.ChainLemmas.Rotations.{rotated}
 use Rattle.chain_laws.proofs.ListLemmas.Members.{IsMember-right}
 use Rattle.chain_laws.proofs.ListLemmas.MemberLaws.{once_in_middle}
 use Rattle.chain_laws.proofs.InterlinkLemmas.Inverses.{one_some}
@@ -31,18 +31,18 @@ items_at entry (k ∷ ks) some =
     (((k, e.0.0), e.0.1) ∷ more.0, ap (λ (l : List ℕ). k ∷ l) more.1, (e.1, more.2))
 
 -- Two insertions, at `c` and then at `d`, use two free indexes.
-module _ {Gen T : Type 0} (entry mid after : ℕ → Option (Gen × T)) (c d : ℕ × Gen) (a b : T) (came : IsInserted entry mid c a) (also : IsInserted mid after d b) where
-  pub come_apart : c.0 ≢ d.0
-  come_apart same = let some = ap is_some came.stored in let none = ap is_some (ap mid same ∙ also.free) in let both = sym some ∙ none in cc
+module _ {Gen T : Type 0} (entry mid after : ℕ → Option (Gen × T)) (c d : ℕ × Gen) (a b : T) (gained : IsInserted entry mid c a) (also : IsInserted mid after d b) where
+  pub copies_differ : c.0 ≢ d.0
+  copies_differ same = let some = ap is_some gained.stored in let none = ap is_some (ap mid same ∙ also.free) in let both = sym some ∙ none in cc
 
-  pub copies_come : (p q : ℕ × Gen) → entry p.0 ≡ Some (p.1, a) → entry q.0 ≡ Some (q.1, b) → AreCopied entry after p q c d
-  copies_come p q at_p at_q = record {
-    first_free = came.free;
-    second_free = sym (came.rest d.0 (λ same. come_apart (sym same))) ∙ also.free;
-    distinct = come_apart;
-    first = λ s at. also.rest c.0 come_apart ∙ (came.stored ∙ ap (λ (t : T). Some (c.1, t)) (ap (λ (e : Gen × T). e.1) (one_some (sym at_p ∙ at))));
+  pub copies_added : (p q : ℕ × Gen) → entry p.0 ≡ Some (p.1, a) → entry q.0 ≡ Some (q.1, b) → AreCopied entry after p q c d
+  copies_added p q at_p at_q = record {
+    first_free = gained.free;
+    second_free = sym (gained.rest d.0 (λ same. copies_differ (sym same))) ∙ also.free;
+    distinct = copies_differ;
+    first = λ s at. also.rest c.0 copies_differ ∙ (gained.stored ∙ ap (λ (t : T). Some (c.1, t)) (ap (λ (e : Gen × T). e.1) (one_some (sym at_p ∙ at))));
     second = λ t at. also.stored ∙ ap (λ (t : T). Some (d.1, t)) (ap (λ (e : Gen × T). e.1) (one_some (sym at_q ∙ at)));
-    rest = λ i not_c not_d. also.rest i not_d ∙ came.rest i not_c;
+    rest = λ i not_c not_d. also.rest i not_d ∙ gained.rest i not_c;
   }
 
 module _ {A Gen T : Type 0} (entry : A → ℕ → Option (Gen × T)) (links : A → LinkMap) where
@@ -51,17 +51,17 @@ module _ {A Gen T : Type 0} (entry : A → ℕ → Option (Gen × T)) (links : A
     pub in_a_ring : IsValid (entry a) p
     in_a_ring = record { value = t; stored = is.are_stored.0 }
 
-    pub ring_goes_on : option_and_then (ptr_at (entry a)) (next_of (links a) p.0) ≡ first_key (others ++ (p, t) ∷ [])
-    ring_goes_on = ap (λ o. option_and_then (ptr_at (entry a)) (next_in o)) is.chain.2.0 ∙ key_of others is.are_stored.1
+    pub ring_continues : option_and_then (ptr_at (entry a)) (next_of (links a) p.0) ≡ first_key (others ++ (p, t) ∷ [])
+    ring_continues = ap (λ o. option_and_then (ptr_at (entry a)) (next_in o)) is.chain.2.0 ∙ key_of others is.are_stored.1
       where
         key_of : (es : List (Item Gen T)) → AreEntries (entry a) es → option_and_then (ptr_at (entry a)) (first_or (indexes es) (Some p.0)) ≡ first_key (es ++ (p, t) ∷ [])
         key_of [] s = ap (option_map (λ (x : Gen × T). (p.0, x.0))) is.are_stored.0
         key_of (e ∷ es) s = ap (option_map (λ (x : Gen × T). (e.0.0, x.0))) s.0
 
   -- A ring can be listed from any of its corners.
-  ring_turned : (a : A) (xs ys : List (Item Gen T)) → IsRing entry links a (xs ++ ys) → IsRing entry links a (ys ++ xs)
-  ring_turned a xs ys is = record {
-    chain = whole entry links cyclic (λ l. refl) a ys xs (turned (links a) (indexes xs) (indexes ys) (parts entry links cyclic (λ l. refl) a xs ys is.chain));
+  ring_rotated : (a : A) (xs ys : List (Item Gen T)) → IsRing entry links a (xs ++ ys) → IsRing entry links a (ys ++ xs)
+  ring_rotated a xs ys is = record {
+    chain = whole entry links cyclic (λ l. refl) a ys xs (rotated (links a) (indexes xs) (indexes ys) (parts entry links cyclic (λ l. refl) a xs ys is.chain));
     are_stored = are_stored-append (entry a) ys xs (are_stored-right (entry a) xs ys is.are_stored) (are_stored-left (entry a) xs ys is.are_stored);
   }
 
@@ -104,11 +104,11 @@ module _ {A Gen T : Type 0} (entry : A → ℕ → Option (Gen × T)) (links : A
 
     -- An exchange keeps the other rings.
     pub keeps_exchanged : IfNone r (new ≡ old) → KeepsWithout entry links cyclic old new (p ∷ q ∷ [])
-    keeps_exchanged none xs lacks is = by r exchanges none
+    keeps_exchanged none xs absent is = by r exchanges none
       where
         by : (o : Option R) → OnSome o (Exchanges (links old) (links new) p.0 q.0) → IfNone o (new ≡ old) → IsRing entry links new xs
         by None exchanges none = subst (λ (a : A). IsRing entry links a xs) (sym none) is
-        by (Some x) exchanges none = stays entry links cyclic (λ l. refl) old new same xs is.are_stored ((exchanges.rest (cyclic (indexes xs)) lacks.0 lacks.1.0).0 is.chain)
+        by (Some x) exchanges none = stays entry links cyclic (λ l. refl) old new same xs is.are_stored ((exchanges.rest (cyclic (indexes xs)) absent.0 absent.1.0).0 is.chain)
 
   -- Exchanging a corner with itself changes nothing.
   pub exchanged_itself : (old new : A) → ((i : ℕ) → is_some (entry old i) ≡ true → HasLink (links old) i) → (p q : ℕ × Gen) → IsValid (entry old) p → IsWellLinked (links old) → p ≡ q
@@ -127,7 +127,7 @@ module _ {A Gen T : Type 0} (entry : A → ℕ → Option (Gen × T)) (links : A
     splits at_u at_v before after cut s t x y is =
         let one = before s [] (x ++ (v, t) ∷ y) is in
         let two = after t ((c, a) ∷ (u, s) ∷ x) y one in
-        let parts = cut t a ((d, b) ∷ y) ((u, s) ∷ x) (ring_turned second ((c, a) ∷ (u, s) ∷ x) ((v, t) ∷ (d, b) ∷ y) two) in
+        let parts = cut t a ((d, b) ∷ y) ((u, s) ∷ x) (ring_rotated second ((c, a) ∷ (u, s) ∷ x) ((v, t) ∷ (d, b) ∷ y) two) in
         let same_u : a ≡ s = ap (λ (e : Gen × T). e.1) (one_some (sym at_u ∙ is.are_stored.0)) in
         let same_v : b ≡ t = ap (λ (e : Gen × T). e.1) (one_some (sym at_v ∙ (are_stored-right (entry old) x ((v, t) ∷ y) is.are_stored.1).0)) in
         (parts.0, subst (λ (w : T). IsRing entry links new ((c, s) ∷ (d, w) ∷ y)) same_v (subst (λ (w : T). IsRing entry links new ((c, w) ∷ (d, b) ∷ y)) same_u parts.1))
@@ -137,20 +137,20 @@ module _ {A Gen T : Type 0} (entry : A → ℕ → Option (Gen × T)) (links : A
         → InsertsBefore entry links cyclic old first u (c, a) → KeepsWithout entry links cyclic old first (u ∷ [])
         → InsertsAfter entry links cyclic first second v (d, b) → KeepsWithout entry links cyclic first second (v ∷ [])
         → AreMerged entry links second new v c → IsBridged entry links old new u v c d
-    bridges at_u at_v came also before kept after kept_too merged s t x y one two apart =
+    bridges at_u at_v gained also before kept after kept_too merged s t x y one two apart =
         let same_u : a ≡ s = ap (λ (e : Gen × T). e.1) (one_some (sym at_u ∙ one.are_stored.0)) in
         let same_v : b ≡ t = ap (λ (e : Gen × T). e.1) (one_some (sym at_v ∙ two.are_stored.0)) in
         let grown = kept_too ((c, a) ∷ (u, s) ∷ x) (not_among, tt) (before s [] x one) in
-        let other = after t [] y (kept ((v, t) ∷ y) (other_lacks, tt) two) in
+        let other = after t [] y (kept ((v, t) ∷ y) (other_excludes, tt) two) in
         let ring = merged t a ((d, b) ∷ y) ((u, s) ∷ x) other grown new_among in
         subst (λ (w : T). IsRing entry links new ((v, t) ∷ (u, s) ∷ x ++ (c, s) ∷ (d, w) ∷ y)) same_v
         (subst (λ (w : T). IsRing entry links new ((v, t) ∷ (u, s) ∷ x ++ (c, w) ∷ (d, b) ∷ y)) same_u ring)
       where
         free : (xs : List (Item Gen T)) → AreEntries (entry old) xs → IsMember (indexes xs) c.0 → ⊥
-        free xs are_stored has = let some = are_stored-some (entry old) xs c.0 are_stored has in let none = ap is_some came.free in let both = sym some ∙ none in cc
+        free xs are_stored has = let some = are_stored-some (entry old) xs c.0 are_stored has in let none = ap is_some gained.free in let both = sym some ∙ none in cc
 
-        other_lacks : IsMember (indexes ((v, t) ∷ y)) u.0 → ⊥
-        other_lacks has = apart ((chains_share_each (links old) (cyclic (indexes ((u, s) ∷ x))) (cyclic (indexes ((v, t) ∷ y))) u.0 v.0 one.chain two.chain (inl refl) has).1 (inl refl))
+        other_excludes : IsMember (indexes ((v, t) ∷ y)) u.0 → ⊥
+        other_excludes has = apart ((chains_share_each (links old) (cyclic (indexes ((u, s) ∷ x))) (cyclic (indexes ((v, t) ∷ y))) u.0 v.0 one.chain two.chain (inl refl) has).1 (inl refl))
 
         not_among : IsMember (indexes ((c, a) ∷ (u, s) ∷ x)) v.0 → ⊥
         not_among (inl is) = free ((v, t) ∷ y) two.are_stored (inl (sym is))
@@ -158,14 +158,14 @@ module _ {A Gen T : Type 0} (entry : A → ℕ → Option (Gen × T)) (links : A
 
         new_among : IsMember (indexes ((v, t) ∷ (d, b) ∷ y)) c.0 → ⊥
         new_among (inl is) = free ((v, t) ∷ y) two.are_stored (inl is)
-        new_among (inr (inl is)) = come_apart (entry old) (entry first) (entry second) c d a b came also (sym is)
+        new_among (inr (inl is)) = copies_differ (entry old) (entry first) (entry second) c d a b gained also (sym is)
         new_among (inr (inr has)) = free ((v, t) ∷ y) two.are_stored (inr has)
 
     -- A split keeps the other rings, which contain no copy.
     pub keeps_split : entry old c.0 ≡ None → KeepsWithout entry links cyclic old first (u ∷ []) → KeepsWithout entry links cyclic first second (v ∷ []) → KeepsWithout entry links cyclic second new (v ∷ c ∷ [])
         → KeepsWithout entry links cyclic old new (u ∷ v ∷ [])
-    keeps_split free came also cut xs lacks is =
-        cut xs (lacks.1.0, ((λ has. let some = are_stored-some (entry old) xs c.0 is.are_stored has in let none = ap is_some free in let both = sym some ∙ none in cc), tt)) (also xs (lacks.1.0, tt) (came xs (lacks.0, tt) is))
+    keeps_split free gained also cut xs absent is =
+        cut xs (absent.1.0, ((λ has. let some = are_stored-some (entry old) xs c.0 is.are_stored has in let none = ap is_some free in let both = sym some ∙ none in cc), tt)) (also xs (absent.1.0, tt) (gained xs (absent.0, tt) is))
 
   -- Each entry is in a ring.
   pub all_in_rings : (a : A) (es : List (Item Gen T)) → ((i : ℕ) → found i es ≡ entry a i) → ((i : ℕ) → is_some (links a i) ≡ is_some (entry a i)) → (greatest : ℕ)

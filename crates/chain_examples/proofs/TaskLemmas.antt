@@ -4,48 +4,48 @@ use Rattle.std.specs.Prelude.{is_some, IfSome}
 use Rattle.std.specs.Option.{option_map}
 use Rattle.chain_laws.specs.Chains.{LinkMap, cyclic, IsChain, IsMember, AreDistinct}
 use Rattle.arena_base.specs.Arena.{IsValid}
-use Rattle.arena_base.specs.Entries.{ArenaView, count, found, replaced, written, RisesFrom}
+use Rattle.arena_base.specs.Entries.{ArenaView, count, found, replaced, written, AscendsFrom}
 use Rattle.chain_examples.specs.Lists.{Item, indexes, IsQueueOrder}
 use Rattle.chain_examples.specs.QueueOrder.{Queue, IsAmong, with_task}
 use Rattle.chain_examples.proofs.ItemListLemmas.{are_stored-some}
 use Rattle.chain_examples.proofs.ValueWriteLemmas.{valued, found-stored, indexes-written, first_key-written, are_stored-written, some-written, value_there, values_elsewhere}
-use Rattle.chain_examples.proofs.QueueOrderLemmas.{settle, turn_length, among_stored, valid_task, turn_in, queue_in}
+use Rattle.chain_examples.proofs.QueueOrderLemmas.{settle, order_length, among_stored, valid_task, order_in, queue_in}
 
 module _ {Gen T : Type 0} where
   among_parts : (before after : List (Item Gen T)) (e : Item Gen T) → IsAmong e.0 (before ++ e ∷ after)
   among_parts [] after e = inl refl
   among_parts (x ∷ before) after e = inr (among_parts before after e)
 
-  module _ (entry : ℕ → Option (Gen × T)) (links : LinkMap) (current : Option (ℕ × Gen)) (turn : List (Item Gen T)) (is : IsQueueOrder entry links current turn) where
+  module _ (entry : ℕ → Option (Gen × T)) (links : LinkMap) (current : Option (ℕ × Gen)) (order : List (Item Gen T)) (is : IsQueueOrder entry links current order) where
     -- A pointer is valid exactly if it belongs to a task.
-    pub among_if_valid : (p : ℕ × Gen) → IsValid entry p → IsAmong p turn
+    pub among_if_valid : (p : ℕ × Gen) → IsValid entry p → IsAmong p order
     among_if_valid p valid =
-        let split = valid_task entry links current turn p is valid in
+        let split = valid_task entry links current order p is valid in
         subst (IsAmong p) (sym split.2) (among_parts split.0 split.1 (p, valid.value))
 
-    pub valid_if_among : (p : ℕ × Gen) → IsAmong p turn → IsValid entry p
-    valid_if_among p among = among_stored entry links turn p is.are_stored among
+    pub valid_if_among : (p : ℕ × Gen) → IsAmong p order → IsValid entry p
+    valid_if_among p among = among_stored entry links order p is.are_stored among
 
     -- The entry at the index of a task is that task.
-    pub task_found : (p : ℕ × Gen) (t : T) → entry p.0 ≡ Some (p.1, t) → found p.0 turn ≡ Some (p.1, t)
-    task_found p t stored = found-stored entry p.0 turn is.are_stored (is.all p.0 (ap is_some stored)) ∙ stored
+    pub task_found : (p : ℕ × Gen) (t : T) → entry p.0 ≡ Some (p.1, t) → found p.0 order ≡ Some (p.1, t)
+    task_found p t stored = found-stored entry p.0 order is.are_stored (is.all p.0 (ap is_some stored)) ∙ stored
 
-    pub task_reported : {R : Type 0} (p : ℕ × Gen) (value : R → T) (o : Option R) → IfSome o (λ r. entry p.0 ≡ Some (p.1, value r)) → IfSome o (λ r. found p.0 turn ≡ Some (p.1, value r))
+    pub task_reported : {R : Type 0} (p : ℕ × Gen) (value : R → T) (o : Option R) → IfSome o (λ r. entry p.0 ≡ Some (p.1, value r)) → IfSome o (λ r. found p.0 order ≡ Some (p.1, value r))
     task_reported p value None stored = tt
     task_reported p value (Some r) stored = task_found p (value r) stored
 
     -- A free index belongs to no task.
-    pub free_index : (i : ℕ) → entry i ≡ None → IsMember (indexes turn) i → ⊥
-    free_index i free has = let some = are_stored-some entry turn i is.are_stored has in let none = ap is_some free in let both = sym some ∙ none in cc
+    pub free_index : (i : ℕ) → entry i ≡ None → IsMember (indexes order) i → ⊥
+    free_index i free has = let some = are_stored-some entry order i is.are_stored has in let none = ap is_some free in let both = sym some ∙ none in cc
 
     -- A value is written at an index.
-    pub turn-written : (new : ℕ → Option (Gen × T)) (changed : LinkMap) (i : ℕ) (t : T) → new i ≡ option_map (valued t) (entry i) → ((k : ℕ) → k ≢ i → new k ≡ entry k) → changed ≡ links
-        → IsQueueOrder new changed current (replaced i (valued t) turn)
-    turn-written new changed i t there rest same = record {
-      first = is.first ∙ sym (first_key-written i t turn);
-      ring = λ filled. subst (λ (l : List ℕ). IsChain changed (cyclic l)) (sym (indexes-written i t turn)) (subst (λ (l : LinkMap). IsChain l (cyclic (indexes turn))) (sym same) (is.ring (λ none. filled (ap (replaced i (valued t)) none))));
-      are_stored = are_stored-written entry new i t there rest turn (once turn is.ring) is.are_stored;
-      all = λ k some. subst (λ (l : List ℕ). IsMember l k) (sym (indexes-written i t turn)) (is.all k (sym (some-written entry new i t there rest k) ∙ some));
+    pub order-written : (new : ℕ → Option (Gen × T)) (changed : LinkMap) (i : ℕ) (t : T) → new i ≡ option_map (valued t) (entry i) → ((k : ℕ) → k ≢ i → new k ≡ entry k) → changed ≡ links
+        → IsQueueOrder new changed current (replaced i (valued t) order)
+    order-written new changed i t there rest same = record {
+      first = is.first ∙ sym (first_key-written i t order);
+      ring = λ filled. subst (λ (l : List ℕ). IsChain changed (cyclic l)) (sym (indexes-written i t order)) (subst (λ (l : LinkMap). IsChain l (cyclic (indexes order))) (sym same) (is.ring (λ none. filled (ap (replaced i (valued t)) none))));
+      are_stored = are_stored-written entry new i t there rest order (once order is.ring) is.are_stored;
+      all = λ k some. subst (λ (l : List ℕ). IsMember l k) (sym (indexes-written i t order)) (is.all k (sym (some-written entry new i t there rest k) ∙ some));
     }
       where
         once : (xs : List (Item Gen T)) → (xs ≢ [] → IsChain links (cyclic (indexes xs))) → AreDistinct (indexes xs)
@@ -54,27 +54,27 @@ module _ {Gen T : Type 0} where
 
 -- A queue has the size, the capacity and the maximum of its arena.
 pub record HasSize {Gen T : Type 0} (s : ArenaView Gen T) (q : Queue Gen T) : Type 0 where
-  pub tasks : count s ≡ length q.turn
+  pub tasks : count s ≡ length q.order
   pub capacity : s.capacity ≡ q.capacity
   pub maximum : s.maximum ≡ q.maximum
 
-pub has_size : {A Gen T : Type 0} (view_of : A → ArenaView Gen T) (entry : A → ℕ → Option (Gen × T)) (links : A → LinkMap) (rises : (a : A) → RisesFrom 1 (view_of a).entries) (was_read : (a : A) (i : ℕ) → found i (view_of a).entries ≡ entry a i)
-    (a : A) (current : Option (ℕ × Gen)) (q : Queue Gen T) → IsQueueOrder (entry a) (links a) current (turn_in view_of entry links rises was_read a current) → queue_in view_of entry links rises was_read a current ≡ q → HasSize (view_of a) q
-has_size {Gen = Gen} {T = T} view_of entry links rises was_read a current q is reports = record {
-  tasks = turn_length (entry a) (links a) current (turn_in view_of entry links rises was_read a current) (view_of a).entries is (rises a) (was_read a) ∙ ap (λ (r : Queue Gen T). length r.turn) reports;
-  capacity = ap (λ (r : Queue Gen T). r.capacity) reports;
-  maximum = ap (λ (r : Queue Gen T). r.maximum) reports;
+pub has_size : {A Gen T : Type 0} (view : A → ArenaView Gen T) (entry : A → ℕ → Option (Gen × T)) (links : A → LinkMap) (ascends : (a : A) → AscendsFrom 1 (view a).entries) (was_read : (a : A) (i : ℕ) → found i (view a).entries ≡ entry a i)
+    (a : A) (current : Option (ℕ × Gen)) (q : Queue Gen T) → IsQueueOrder (entry a) (links a) current (order_in view entry links ascends was_read a current) → queue_in view entry links ascends was_read a current ≡ q → HasSize (view a) q
+has_size {Gen = Gen} {T = T} view entry links ascends was_read a current q is queue_is = record {
+  tasks = order_length (entry a) (links a) current (order_in view entry links ascends was_read a current) (view a).entries is (ascends a) (was_read a) ∙ ap (λ (r : Queue Gen T). length r.order) queue_is;
+  capacity = ap (λ (r : Queue Gen T). r.capacity) queue_is;
+  maximum = ap (λ (r : Queue Gen T). r.maximum) queue_is;
 }
 
 -- The queue found in an arena.
-module _ {A Gen T : Type 0} (view_of : A → ArenaView Gen T) (entry : A → ℕ → Option (Gen × T)) (links : A → LinkMap) (rises : (a : A) → RisesFrom 1 (view_of a).entries) (was_read : (a : A) (i : ℕ) → found i (view_of a).entries ≡ entry a i)
-    (a b : A) (current : Option (ℕ × Gen)) (is : IsQueueOrder (entry a) (links a) current (turn_in view_of entry links rises was_read a current)) where
+module _ {A Gen T : Type 0} (view : A → ArenaView Gen T) (entry : A → ℕ → Option (Gen × T)) (links : A → LinkMap) (ascends : (a : A) → AscendsFrom 1 (view a).entries) (was_read : (a : A) (i : ℕ) → found i (view a).entries ≡ entry a i)
+    (a b : A) (current : Option (ℕ × Gen)) (is : IsQueueOrder (entry a) (links a) current (order_in view entry links ascends was_read a current)) where
   -- The queue found in the second arena is `q`.
   pub record IsQueue (q : Queue Gen T) : Type 0 where
-    pub holds : IsQueueOrder (entry b) (links b) current (turn_in view_of entry links rises was_read b current)
-    pub reports : queue_in view_of entry links rises was_read b current ≡ q
+    pub holds : IsQueueOrder (entry b) (links b) current (order_in view entry links ascends was_read b current)
+    pub queue_is : queue_in view entry links ascends was_read b current ≡ q
 
-  pub task_written : (i : ℕ) (t : T) → view_of b ≡ written (view_of a) i t → links b ≡ links a → IsQueue (with_task (queue_in view_of entry links rises was_read a current) i t)
+  pub task_written : (i : ℕ) (t : T) → view b ≡ written (view a) i t → links b ≡ links a → IsQueue (with_task (queue_in view entry links ascends was_read a current) i t)
   task_written i t was same =
-      let now = settle view_of entry links rises was_read b current _ (turn-written (entry a) (links a) current _ is (entry b) (links b) i t (value_there view_of entry links was_read a b i t was) (values_elsewhere view_of entry links was_read a b i t was) same) in
-      record { holds = now.holds; reports = λ k. record { turn = now.is_found k; capacity = (ap (λ (s : ArenaView Gen T). s.capacity) was) k; maximum = (ap (λ (s : ArenaView Gen T). s.maximum) was) k } }
+      let now = settle view entry links ascends was_read b current _ (order-written (entry a) (links a) current _ is (entry b) (links b) i t (value_there view entry links was_read a b i t was) (values_elsewhere view entry links was_read a b i t was) same) in
+      record { holds = now.holds; queue_is = λ k. record { order = now.is_found k; capacity = (ap (λ (s : ArenaView Gen T). s.capacity) was) k; maximum = (ap (λ (s : ArenaView Gen T). s.maximum) was) k } }

@@ -96,16 +96,16 @@ module _ {Gen T : Type 0} where
         (cases_eq k i)
 
 -- A value written in an arena.
-module _ {A Gen T : Type 0} (view_of : A → ArenaView Gen T) (entry : A → ℕ → Option (Gen × T)) (links : A → LinkMap) (was_read : (a : A) (i : ℕ) → found i (view_of a).entries ≡ entry a i)
-    (a b : A) (i : ℕ) (t : T) (was : view_of b ≡ written (view_of a) i t) where
+module _ {A Gen T : Type 0} (view : A → ArenaView Gen T) (entry : A → ℕ → Option (Gen × T)) (links : A → LinkMap) (was_read : (a : A) (i : ℕ) → found i (view a).entries ≡ entry a i)
+    (a b : A) (i : ℕ) (t : T) (was : view b ≡ written (view a) i t) where
   pub value_there : entry b i ≡ option_map (valued t) (entry a i)
-  value_there = sym (was_read b i) ∙ (ap (λ (s : ArenaView Gen T). found i s.entries) was ∙ (found-written i t (view_of a).entries ∙ ap (option_map (valued t)) (was_read a i)))
+  value_there = sym (was_read b i) ∙ (ap (λ (s : ArenaView Gen T). found i s.entries) was ∙ (found-written i t (view a).entries ∙ ap (option_map (valued t)) (was_read a i)))
 
   pub values_elsewhere : (k : ℕ) → k ≢ i → entry b k ≡ entry a k
-  values_elsewhere k other = sym (was_read b k) ∙ (ap (λ (s : ArenaView Gen T). found k s.entries) was ∙ (found-unwritten k i t (view_of a).entries other ∙ was_read a k))
+  values_elsewhere k other = sym (was_read b k) ∙ (ap (λ (s : ArenaView Gen T). found k s.entries) was ∙ (found-unwritten k i t (view a).entries other ∙ was_read a k))
 
   -- The item of a text has the new value, and the others keep theirs.
-  pub has_new_value : (g : Gen) → links b ≡ links a → HasNewValue view_of entry links a b (i, g) t
+  pub has_new_value : (g : Gen) → links b ≡ links a → HasNewValue view entry links a b (i, g) t
   has_new_value g same = record {
     text = λ s before after is.
         let right = are_stored-right (entry a) before (((i, g), s) ∷ after) is.are_stored in
@@ -117,9 +117,9 @@ module _ {A Gen T : Type 0} (view_of : A → ArenaView Gen T) (entry : A → ℕ
               (are_stored-frame (entry a) (entry b) before (λ k has. values_elsewhere k (λ is_i. other (has_left before after i (subst (IsMember (indexes before)) is_i has)))) (are_stored-left (entry a) before (((i, g), s) ∷ after) is.are_stored))
               (value_there ∙ ap (option_map (valued t)) right.0, are_stored-frame (entry a) (entry b) after (λ k has. values_elsewhere k (λ is_i. other (has_right before after i (subst (IsMember (indexes after)) is_i has)))) right.1);
         };
-    others = λ items lacks is. record {
+    others = λ items absent is. record {
       chain = subst (λ (l : LinkMap). IsChain l (linear (indexes items))) (sym same) is.chain;
-      are_stored = are_stored-frame (entry a) (entry b) items (λ k has. values_elsewhere k (λ is_i. lacks.0 (subst (IsMember (indexes items)) is_i has))) is.are_stored;
+      are_stored = are_stored-frame (entry a) (entry b) items (λ k has. values_elsewhere k (λ is_i. absent.0 (subst (IsMember (indexes items)) is_i has))) is.are_stored;
     };
     state = was;
     order = same;

@@ -18,12 +18,12 @@ module _ {Gen T : Type 0} where
   AreEntries entry (e ∷ items) = (entry e.0.0 ≡ Some (e.0.1, e.1)) × AreEntries entry items
 
 module _ {Gen T : Type 0} (entry : ℕ → Option (Gen × T)) (links : LinkMap) where
-  -- `turn` lists all entries of the arena, which form one ring, from the current one on.
-  pub record IsQueueOrder (current : Option (ℕ × Gen)) (turn : List (Item Gen T)) : Type 0 where
-    pub first : current ≡ first_key turn
-    pub ring : turn ≢ [] → IsChain links (cyclic (indexes turn))
-    pub are_stored : AreEntries entry turn
-    pub all : (i : ℕ) → is_some (entry i) ≡ true → IsMember (indexes turn) i
+  -- `order` lists all entries of the arena, which form one ring, from the current one on.
+  pub record IsQueueOrder (current : Option (ℕ × Gen)) (order : List (Item Gen T)) : Type 0 where
+    pub first : current ≡ first_key order
+    pub ring : order ≢ [] → IsChain links (cyclic (indexes order))
+    pub are_stored : AreEntries entry order
+    pub all : (i : ℕ) → is_some (entry i) ≡ true → IsMember (indexes order) i
 
 -- `entry` gives the entry at each index of an arena, `links` the interlinks.
 module _ {A Gen T : Type 0} (entry : A → ℕ → Option (Gen × T)) (links : A → LinkMap) where

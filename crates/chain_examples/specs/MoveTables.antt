@@ -17,5 +17,5 @@ target_from eq p None = None
 target_from eq p (Some m) = if eq m.0 p then Some m.1 else None
 
 -- The new pointer that the table has for `p`, if there is one.
-abbrev pub finds : {P Gen : Type 0} → (P → ℕ × Gen) → (P → P → Bool) → List (Option (P × P)) → P → Option P
-finds key eq table p = target_from eq p (slot_at table (key p).0)
+abbrev pub new_pointer_of : {P Gen : Type 0} → (P → ℕ × Gen) → (P → P → Bool) → List (Option (P × P)) → P → Option P
+new_pointer_of key eq table p = target_from eq p (slot_at table (key p).0)

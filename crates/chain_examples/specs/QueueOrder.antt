@@ -8,13 +8,13 @@ use Rattle.chain_examples.specs.Lists.{Item, IsQueueOrder}
 -- A run queue: its tasks in turn, the current one first, its capacity, and the limit of that, if
 -- any.
 pub record Queue (Gen T : Type 0) : Type 0 where
-  pub turn : List (Item Gen T)
+  pub order : List (Item Gen T)
   pub capacity : ℕ
   pub maximum : Option ℕ
 
 -- The queue with the task at an index replaced.
 abbrev pub with_task : {Gen T : Type 0} → Queue Gen T → ℕ → T → Queue Gen T
-with_task q i t = record q { turn = replaced i (λ e. (e.0, t)) q.turn }
+with_task q i t = record q { order = replaced i (λ e. (e.0, t)) q.order }
 
 -- The list with its first item moved to the end.
 abbrev pub rotation : {X : Type 0} → List X → List X
@@ -52,7 +52,7 @@ module _ {Gen T : Type 0} (entry : ℕ → Option (Gen × T)) (links : LinkMap) 
 module _ {A Gen T : Type 0} (entry : A → ℕ → Option (Gen × T)) (links : A → LinkMap) where
   -- Task `e` is appended to the turn; `was` and `is` are the current pointers before and after.
   abbrev pub AppendsTask : (old new : A) → (was is : Option (ℕ × Gen)) → Item Gen T → Type 0
-  AppendsTask old new was is e = (turn : List (Item Gen T)) → IsQueueOrder (entry old) (links old) was turn → IsQueueOrder (entry new) (links new) is (turn ++ e ∷ [])
+  AppendsTask old new was is e = (order : List (Item Gen T)) → IsQueueOrder (entry old) (links old) was order → IsQueueOrder (entry new) (links new) is (order ++ e ∷ [])
 
   -- `first` is the pointer of the first task in turn once `p` is removed.
   abbrev pub IsFirstWithout : (arena : A) → (p current : ℕ × Gen) → Option (ℕ × Gen) → Type 0

@@ -34,9 +34,9 @@ module _ {Gen T : Type 0} (entry : ℕ → Option (Gen × T)) (moves : List (Mov
   AreFollowed (p ∷ before) (q ∷ after) = IsFollowed p q × AreFollowed before after
 
 -- The items are arranged canonically, and the bookmarks follow them.
-pub record IsRenumbered {A Gen T : Type 0} (first : Gen) (following : Gen → Gen) (view_of : A → ArenaView Gen T)
+pub record IsRenumbered {A Gen T : Type 0} (first : Gen) (following : Gen → Gen) (view : A → ArenaView Gen T)
     (entry : A → ℕ → Option (Gen × T)) (links : A → LinkMap) (old new : A) (before after : List (Option (ℕ × Gen))) : Type 0 where
-  pub layout : IsCanonicalLayout first following false (view_of old) (links old) (view_of new) (links new)
+  pub layout : IsCanonicalLayout first following false (view old) (links old) (view new) (links new)
   pub moves : List (Move Gen)
   -- The moves map the old valid pointers one to one onto the new ones, with their values.
   pub moved : ArePointerMoves (λ (p : ℕ × Gen). p) (entry old) (entry new) moves

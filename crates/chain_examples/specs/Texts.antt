@@ -55,10 +55,10 @@ module _ {A Gen T : Type 0} (entry : A → ℕ → Option (Gen × T)) (links : A
     pub others : (items : List (Item Gen T)) → IfSome u (λ p. ¬ IsMember (indexes items) p.0) → IfSome v (λ q. ¬ IsMember (indexes items) q.0) → IsText entry links old items → IsText entry links new items
 
 -- The item of `p` has the value `t`; all pointers and the order of each text are unchanged.
-pub record HasNewValue {A Gen T : Type 0} (view_of : A → ArenaView Gen T) (entry : A → ℕ → Option (Gen × T)) (links : A → LinkMap) (old new : A)
+pub record HasNewValue {A Gen T : Type 0} (view : A → ArenaView Gen T) (entry : A → ℕ → Option (Gen × T)) (links : A → LinkMap) (old new : A)
     (p : ℕ × Gen) (t : T) : Type 0 where
   pub text : (s : T) (before after : List (Item Gen T)) → IsText entry links old (before ++ (p, s) ∷ after)
       → IsText entry links new (before ++ (p, t) ∷ after)
   pub others : KeepsWithout entry links linear old new (p ∷ [])
-  pub state : view_of new ≡ written (view_of old) p.0 t
+  pub state : view new ≡ written (view old) p.0 t
   pub order : links new ≡ links old

@@ -5,7 +5,7 @@ ghost use Rattle.std.specs.Option.{option_map, option_and_then};
 ghost use Rattle.chain_links.specs.ChainArena.{entry, value_view, link_map};
 ghost use Rattle.chain_links.specs.CanonicalLayouts.{IsCanonicalLayout};
 ghost use Rattle.chain_examples.specs.Renumbering.{IsRenumbered};
-ghost use Rattle.chain_examples.specs.MoveTables.{noted, finds};
+ghost use Rattle.chain_examples.specs.MoveTables.{noted, new_pointer_of};
 
 use arena_base::{ArenaSlot, ArenaTrait};
 use arena_ptr::{InxKey, PtrKey, SlotStack};
@@ -83,7 +83,7 @@ fn note<P: PtrKey>(table: &mut [Option<(P, P)>], moves: &[(P, P)])
 /// Returns the new pointer of a bookmark, or `None` if it is `None` or the table has no move from
 /// it.
 fn find<P: PtrKey>(table: &[Option<(P, P)>], bookmark: Option<P>) -> Option<P>
-    ensures { result ≡ option_and_then (finds P.key P.same table.now) bookmark }
+    ensures { result ≡ option_and_then (new_pointer_of P.key P.same table.now) bookmark }
 {
     let p = bookmark?;
     match table.get(place_of(p)) {
@@ -94,7 +94,7 @@ fn find<P: PtrKey>(table: &[Option<(P, P)>], bookmark: Option<P>) -> Option<P>
 
 /// Replaces each bookmark with its new pointer, or with `None` if the table has no move from it.
 fn follow<P: PtrKey>(table: &[Option<(P, P)>], bookmarks: &mut [Option<P>])
-    ensures { bookmarks.new ≡ map (option_and_then (finds P.key P.same table.now))
+    ensures { bookmarks.new ≡ map (option_and_then (new_pointer_of P.key P.same table.now))
         bookmarks.old }
 {
     for bookmark in bookmarks.iter_mut() {

@@ -457,7 +457,8 @@ impl<P: PtrKey, T: Drop, S: SlotStack<Item = ArenaSlot<P, LinkNoGen<P, T>>>> Doc
     ///
     /// The documents are arranged one after another from index 1, each in one run of indexes. Each
     /// bookmark becomes the new pointer of its paragraph, even if paragraphs have equal values. A
-    /// bookmark whose paragraph was removed becomes `None`. All other old pointers become invalid.
+    /// bookmark whose paragraph was removed becomes `None`. No other old pointer may be used again:
+    /// it may point to another paragraph once the generation counter wraps.
     ///
     /// Takes time linear in the slots and bookmarks; no clause states this.
     ///

@@ -345,7 +345,7 @@ impl<P: PtrKey, T: Copy + Drop, A: ChainArenaTrait<P, T> + Drop> Mesh<P, T, A> {
 
     // Splits as `split` does, within the capacity. `both` holds the points of `u` and `v`.
     fn split_within_capacity(&mut self, u: P, v: P, both: (T, T)) -> (P, P)
-        requires within_capacity { count (A.view self.old) + 2 ≤ (A.view self.old).capacity }
+        requires capacity { count (A.view self.old) + 2 ≤ (A.view self.old).capacity }
         requires first { A.entry self.old (P.key u).0 ≡ Some ((P.key u).1, both.0) }
         requires second { A.entry self.old (P.key v).0 ≡ Some ((P.key v).1, both.1) }
         ensures rings { IsSplit A.entry A.interlinks self.old self.new
@@ -388,7 +388,7 @@ impl<P: PtrKey, T: Copy + Drop, A: ChainArenaTrait<P, T> + Drop> Mesh<P, T, A> {
 // Inserts a corner directly before another, within the capacity.
 fn add_before<P: PtrKey, T: Drop, A: ChainArenaTrait<P, T>>(corners: &mut A, u: P, t: T) -> P
     requires valid { IsValid (A.entry corners.old) (P.key u) }
-    requires within_capacity { HasFreeCapacity (A.view corners.old) }
+    requires capacity { HasFreeCapacity (A.view corners.old) }
     ensures ring { InsertsBefore A.entry A.interlinks cyclic corners.old corners.new (P.key u)
         (P.key result, t) }
     ensures corner { IsInserted (A.entry corners.old) (A.entry corners.new) (P.key result) t }
@@ -410,7 +410,7 @@ fn add_before<P: PtrKey, T: Drop, A: ChainArenaTrait<P, T>>(corners: &mut A, u: 
 // Inserts a corner directly after another, within the capacity.
 fn add_after<P: PtrKey, T: Drop, A: ChainArenaTrait<P, T>>(corners: &mut A, v: P, t: T) -> P
     requires valid { IsValid (A.entry corners.old) (P.key v) }
-    requires within_capacity { HasFreeCapacity (A.view corners.old) }
+    requires capacity { HasFreeCapacity (A.view corners.old) }
     ensures ring { InsertsAfter A.entry A.interlinks cyclic corners.old corners.new (P.key v)
         (P.key result, t) }
     ensures corner { IsInserted (A.entry corners.old) (A.entry corners.new) (P.key result) t }

@@ -22,9 +22,9 @@ use std::marker::{Model, PhantomData};
 ///
 /// `spawn` returns the pointer of a task, which identifies the task until it is cancelled.
 ///
-/// Contracts see the queue as a record `Queue`. Its `turn` lists the tasks in order, the current
-/// one first, each with its pointer's index and generation. `room` is the capacity, and `maximum`
-/// the limit of the capacity, if there is one.
+/// Contracts see the queue as a record `Queue`. Its `order` lists the tasks from the
+/// current one on, each with its pointer's index and generation. `capacity` is the capacity, and
+/// `maximum` its limit, if there is one.
 #[derive(Drop)]
 pub struct RunQueue<P: PtrKey, T: Drop, A: ChainArenaTrait<P, T> + Drop> {
     tasks: A,
@@ -41,7 +41,7 @@ impl<P: PtrKey, T: Drop, A: ChainArenaTrait<P, T> + Drop> Model for RunQueue<P, 
     ghost Value = { Queue P.Gen T };
 
     ghost view = { λ q. record {
-      turn = queue_order (A.entry q.tasks) (A.interlinks q.tasks) (count (A.view q.tasks))
+      order = queue_order (A.entry q.tasks) (A.interlinks q.tasks) (count (A.view q.tasks))
           (option_map P.key q.current);
       capacity = (A.view q.tasks).capacity;
       maximum = (A.view q.tasks).maximum;
@@ -58,8 +58,8 @@ impl<P: PtrKey, T: Drop, A: ChainArenaTrait<P, T> + Drop> RunQueue<P, T, A> {
 
     /// Creates an empty queue. It does not allocate.
     pub fn new(alloc: Global) -> Self
-        ensures turn { result.turn ≡ [] }
-        ensures within_capacity { result.capacity ≡ 0 }
+        ensures order { result.order ≡ [] }
+        ensures capacity { result.capacity ≡ 0 }
     {
         RunQueue {
             tasks: A::new(alloc),
@@ -70,7 +70,7 @@ impl<P: PtrKey, T: Drop, A: ChainArenaTrait<P, T> + Drop> RunQueue<P, T, A> {
 
     /// Returns the number of tasks, which is at most the capacity.
     pub fn len(&self) -> usize
-        ensures count { result ≡ length self.now.turn }
+        ensures count { result ≡ length self.now.order }
         ensures fits { result ≤ self.now.capacity }
     {
         self.tasks.len()
@@ -78,7 +78,7 @@ impl<P: PtrKey, T: Drop, A: ChainArenaTrait<P, T> + Drop> RunQueue<P, T, A> {
 
     /// Returns `true` if the queue has no tasks.
     pub fn is_empty(&self) -> bool
-        ensures { IsTrue result ↔ (self.now.turn ≡ []) }
+        ensures { IsTrue result ↔ (self.now.order ≡ []) }
     {
         self.current.is_none()
     }
@@ -110,14 +110,14 @@ impl<P: PtrKey, T: Drop, A: ChainArenaTrait<P, T> + Drop> RunQueue<P, T, A> {
     ///
     /// On error, nothing changes.
     pub fn reserve(&mut self, additional: usize) -> Result<(), ReallocationError>
-        ensures within { length self.old.turn + additional ≤ self.old.capacity
+        ensures within { length self.old.order + additional ≤ self.old.capacity
             → IsOk result × (self.new ≡ self.old) }
         ensures beyond { (result ≡ Err ReallocationError.BeyondMaxCapacity)
-            ↔ IsBeyond self.old.maximum (length self.old.turn + additional) }
-        ensures greatest { P.Inx.greatest < length self.old.turn + additional → IsErr result }
+            ↔ IsBeyond self.old.maximum (length self.old.order + additional) }
+        ensures greatest { P.Inx.greatest < length self.old.order + additional → IsErr result }
         ensures ok { OnOk result (IsCapacityFor P.Inx.greatest self.new.maximum
-            (length self.old.turn + additional) self.new.capacity) }
-        ensures turn { self.new.turn ≡ self.old.turn }
+            (length self.old.order + additional) self.new.capacity) }
+        ensures order { self.new.order ≡ self.old.order }
         ensures maximum { self.new.maximum ≡ self.old.maximum }
         ensures never_less { self.old.capacity ≤ self.new.capacity }
         ensures err { OnErr result (self.new ≡ self.old) }
@@ -127,15 +127,15 @@ impl<P: PtrKey, T: Drop, A: ChainArenaTrait<P, T> + Drop> RunQueue<P, T, A> {
 
     /// Returns the pointer of the current task, or `None` if the queue is empty.
     pub fn current(&self) -> Option<P>
-        ensures { option_map P.key result ≡ first_key self.now.turn }
+        ensures { option_map P.key result ≡ first_key self.now.order }
     {
         self.current
     }
 
     /// Returns a reference to the task at `p`, or `None` if `p` points to no task.
     pub fn get(&self, p: P) -> Option<&T>
-        ensures some { IsSome result ↔ IsAmong (P.key p) self.now.turn }
-        ensures task { IfSome result (λ t. found (P.key p).0 self.now.turn
+        ensures some { IsSome result ↔ IsAmong (P.key p) self.now.order }
+        ensures task { IfSome result (λ t. found (P.key p).0 self.now.order
             ≡ Some ((P.key p).1, t.now)) }
     {
         self.tasks.get(p)
@@ -160,8 +160,8 @@ impl<P: PtrKey, T: Drop, A: ChainArenaTrait<P, T> + Drop> RunQueue<P, T, A> {
             T.row self.entry result
             (λ new t. OnSome result (new ≡ with_task self.old (P.key p).0 t))
             (λ new. new ≡ self.old)) }
-        ensures some { IsSome result ↔ IsAmong (P.key p) self.old.turn }
-        ensures task { IfSome result (λ t. found (P.key p).0 self.old.turn
+        ensures some { IsSome result ↔ IsAmong (P.key p) self.old.order }
+        ensures task { IfSome result (λ t. found (P.key p).0 self.old.order
             ≡ Some ((P.key p).1, t.now)) }
     {
         match self.tasks.get_mut(p) {
@@ -182,20 +182,20 @@ impl<P: PtrKey, T: Drop, A: ChainArenaTrait<P, T> + Drop> RunQueue<P, T, A> {
     ///
     /// On error, nothing changes and the task is dropped.
     pub fn spawn(&mut self, task: T) -> Result<P, ReallocationError>
-        ensures last { IfOk result (λ p. self.new.turn ≡ self.old.turn ++ (P.key p, task) ∷ []) }
-        ensures fresh { IfOk result (λ p. ¬ IsMember (indexes self.old.turn) (P.key p).0) }
-        ensures within_capacity { length self.old.turn < self.old.capacity
+        ensures last { IfOk result (λ p. self.new.order ≡ self.old.order ++ (P.key p, task) ∷ []) }
+        ensures fresh { IfOk result (λ p. ¬ IsMember (indexes self.old.order) (P.key p).0) }
+        ensures within_capacity { length self.old.order < self.old.capacity
             → IsOk result × (self.new.capacity ≡ self.old.capacity) }
         ensures grown { OnOk result (IsCapacityFor P.Inx.greatest self.new.maximum
-            (length self.old.turn + 1) self.new.capacity) }
+            (length self.old.order + 1) self.new.capacity) }
         ensures beyond { (result ≡ Err ReallocationError.BeyondMaxCapacity)
-            ↔ ((length self.old.turn ≡ self.old.capacity)
-            × IsBeyond self.old.maximum (length self.old.turn + 1)) }
-        ensures greatest { length self.old.turn ≡ P.Inx.greatest → IsErr result }
+            ↔ ((length self.old.order ≡ self.old.capacity)
+            × IsBeyond self.old.maximum (length self.old.order + 1)) }
+        ensures greatest { length self.old.order ≡ P.Inx.greatest → IsErr result }
         ensures maximum { self.new.maximum ≡ self.old.maximum }
         ensures err { OnErr result (self.new ≡ self.old) }
     {
-        let added = come_last(&mut self.tasks, self.current, task);
+        let added = insert_last(&mut self.tasks, self.current, task);
         self.current = self.current.or(added.ok());
         added
     }
@@ -204,9 +204,9 @@ impl<P: PtrKey, T: Drop, A: ChainArenaTrait<P, T> + Drop> RunQueue<P, T, A> {
     ///
     /// The previously current task becomes the last in turn. Returns `None` if the queue is empty.
     pub fn next(&mut self) -> Option<P>
-        ensures turned { self.new.turn ≡ rotation self.old.turn }
-        ensures current { option_map P.key result ≡ first_key self.new.turn }
-        ensures within_capacity { self.new.capacity ≡ self.old.capacity }
+        ensures rotated { self.new.order ≡ rotation self.old.order }
+        ensures current { option_map P.key result ≡ first_key self.new.order }
+        ensures capacity { self.new.capacity ≡ self.old.capacity }
         ensures maximum { self.new.maximum ≡ self.old.maximum }
     {
         let current = self.current?;
@@ -222,9 +222,9 @@ impl<P: PtrKey, T: Drop, A: ChainArenaTrait<P, T> + Drop> RunQueue<P, T, A> {
     /// no task in the queue.
     pub fn cancel(&mut self, p: P) -> Option<T>
         ensures some { IfSome result
-            (λ task. IsCancelled (P.key p) task self.old.turn self.new.turn) }
-        ensures none { IfNone result ((self.new ≡ self.old) × ¬ IsAmong (P.key p) self.old.turn) }
-        ensures within_capacity { self.new.capacity ≡ self.old.capacity }
+            (λ task. IsCancelled (P.key p) task self.old.order self.new.order) }
+        ensures none { IfNone result ((self.new ≡ self.old) × ¬ IsAmong (P.key p) self.old.order) }
+        ensures capacity { self.new.capacity ≡ self.old.capacity }
         ensures maximum { self.new.maximum ≡ self.old.maximum }
     {
         let current = self.current?;
@@ -238,9 +238,9 @@ impl<P: PtrKey, T: Drop, A: ChainArenaTrait<P, T> + Drop> RunQueue<P, T, A> {
     // Removes the current task and returns it. The next task becomes current.
     fn take_current(&mut self) -> Option<T>
         ensures some { IfSome result (λ task. (p : ℕ × P.Gen)
-            × (self.old.turn ≡ (p, task) ∷ self.new.turn)) }
-        ensures none { IfNone result ((self.old.turn ≡ []) × (self.new ≡ self.old)) }
-        ensures within_capacity { self.new.capacity ≡ self.old.capacity }
+            × (self.old.order ≡ (p, task) ∷ self.new.order)) }
+        ensures none { IfNone result ((self.old.order ≡ []) × (self.new ≡ self.old)) }
+        ensures capacity { self.new.capacity ≡ self.old.capacity }
         ensures maximum { self.new.maximum ≡ self.old.maximum }
     {
         let p = self.current()?;
@@ -253,9 +253,9 @@ impl<P: PtrKey, T: Drop, A: ChainArenaTrait<P, T> + Drop> RunQueue<P, T, A> {
     ///
     /// - `AllocError`: the allocation of the result failed. The queue is unchanged.
     pub fn drain_all<B: Allocator>(&mut self, alloc: B) -> Result<Vec<T, B>, AllocError>
-        ensures drained { IfOk result (λ tasks. (tasks.items ≡ map (λ e. e.1) self.old.turn)
-            × (self.new.turn ≡ [])) }
-        ensures within_capacity { self.new.capacity ≡ self.old.capacity }
+        ensures drained { IfOk result (λ tasks. (tasks.items ≡ map (λ e. e.1) self.old.order)
+            × (self.new.order ≡ [])) }
+        ensures capacity { self.new.capacity ≡ self.old.capacity }
         ensures maximum { self.new.maximum ≡ self.old.maximum }
         ensures err { OnErr result (self.new ≡ self.old) }
     {
@@ -275,7 +275,7 @@ impl<P: PtrKey, T: Drop, A: ChainArenaTrait<P, T> + Drop> RunQueue<P, T, A> {
 }
 
 // Inserts a task as the last in turn: before the current one, or as a new ring if there is none.
-fn come_last<P: PtrKey, T: Drop, A: ChainArenaTrait<P, T>>(
+fn insert_last<P: PtrKey, T: Drop, A: ChainArenaTrait<P, T>>(
     tasks: &mut A,
     current: Option<P>,
     task: T,

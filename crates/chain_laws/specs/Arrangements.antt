@@ -5,85 +5,85 @@ use Rattle.chain_laws.specs.Chains.{LinkMap, Chain, linear, cyclic, all_items, I
 use Rattle.chain_laws.specs.Neighbors.{AreTheChains, HasOneSetOfChains}
 use Rattle.chain_laws.specs.Renamings.{IsRenaming, AreImages}
 
--- a list of each valid index once, and nothing else
+-- A list of each valid index once, and nothing else.
 pub record IsArrangement (link_map : LinkMap) (indexes : List ℕ) : Type 0 where
   pub once : AreDistinct indexes
   pub valid : (i : ℕ) → HasLink link_map i ↔ IsMember indexes i
 
--- the position of an index in a list, counted from n
+-- The position of an index in a list, counted from n.
 abbrev pub place_from : ℕ → List ℕ → ℕ → Option ℕ
 place_from n [] i = None
 place_from n (x ∷ xs) i = if x == i then Some n else place_from (suc n) xs i
 
--- the renumbering by a list: the k-th item moves to k
+-- The renumbering by a list: the k-th item moves to k.
 abbrev pub place_in : List ℕ → ℕ → Option ℕ
 place_in indexes i = place_from 1 indexes i
 
--- the chains one after another, cyclic ones from any of their links
+-- The chains one after another, cyclic ones from any of their links.
 pub record IsCanonical (link_map : LinkMap) (indexes : List ℕ) : Type 0 where
   pub chains : List Chain
   pub are : AreChains link_map chains
   pub items : indexes ≡ all_items chains
 
--- the chains one after another by least index, cyclic ones from their least index
+-- The chains one after another by least index, cyclic ones from their least index.
 pub record IsLeastIndexOrder (link_map : LinkMap) (indexes : List ℕ) : Type 0 where
   pub chains : List Chain
   pub are : AreTheChains link_map chains
   pub items : indexes ≡ all_items chains
 
--- the least-index order, from the one set of chains
+-- The least-index order, from the one set of chains.
 abbrev pub ordered : {link_map : LinkMap} → HasOneSetOfChains link_map → List ℕ
 ordered one = all_items one.chains
 
--- the chains as runs of consecutive indexes from k on
+-- The chains as runs of consecutive indexes from k on.
 abbrev pub in_runs : ℕ → List Chain → List Chain
 in_runs k [] = []
 in_runs k (linear xs ∷ chains) = linear (range_with_len k (length xs)) ∷ in_runs (k + length xs) chains
 in_runs k (cyclic xs ∷ chains) = cyclic (range_with_len k (length xs)) ∷ in_runs (k + length xs) chains
 
--- an arrangement moves the k-th link to index k, up to the number of links
+-- An arrangement moves the k-th link to index k, up to the number of links.
 abbrev pub ArrangementNumbers : Type 0
 ArrangementNumbers = (link_map : LinkMap) (indexes : List ℕ) → IsArrangement link_map indexes → AreImages (place_in indexes) indexes (range_with_len 1 (length indexes))
 
--- no two items move to one index
+-- No two items move to one index.
 abbrev pub PlacesAreApart : Type 0
 PlacesAreApart = (indexes : List ℕ) (i j k : ℕ) → place_in indexes i ≡ Some k → place_in indexes j ≡ Some k → i ≡ j
 
--- the chains one after another are an arrangement
+-- The chains one after another are an arrangement.
 abbrev pub CanonicalArranges : Type 0
 CanonicalArranges = (link_map : LinkMap) (indexes : List ℕ) → IsCanonical link_map indexes → IsArrangement link_map indexes
 
--- renumbering by the chains moves each to a run, in their order, from index 1 on
+-- Renumbering by the chains moves each to a run, in their order, from index 1 on.
 abbrev pub PlacesChainsInRuns : Type 0
 PlacesChainsInRuns = (old new : LinkMap) (chains : List Chain) → AreChains old chains → IsRenaming (place_in (all_items chains)) old new
     → AreChains new (in_runs 1 chains) × (all_items (in_runs 1 chains) ≡ range_with_len 1 (length (all_items chains)))
 
--- only renumbering by the chains gives these runs
+-- Only renumbering by the chains gives these runs.
 abbrev pub RunsAreRenumbered : Type 0
 RunsAreRenumbered = (old new : LinkMap) (chains : List Chain) → AreChains old chains → AreChains new (in_runs 1 chains)
     → IsRenaming (place_in (all_items chains)) old new
 
--- a well-linked arena has a least-index order
+-- A well-linked arena has a least-index order.
 abbrev pub HasLeastIndexOrder : Type 0
 HasLeastIndexOrder = (link_map : LinkMap) (slots : ℕ) → IsWellLinked link_map → HasLinksWithin link_map slots → (indexes : List ℕ) × IsLeastIndexOrder link_map indexes
 
--- the least-index order is `ordered`
+-- The least-index order is `ordered`.
 abbrev pub LeastIndexOrderIsOrdered : Type 0
 LeastIndexOrderIsOrdered = (link_map : LinkMap) (one : HasOneSetOfChains link_map) (indexes : List ℕ) → IsLeastIndexOrder link_map indexes ↔ (indexes ≡ ordered one)
 
--- the least-index order is canonical
+-- The least-index order is canonical.
 abbrev pub LeastIndexOrderIsCanonical : Type 0
 LeastIndexOrderIsCanonical = (link_map : LinkMap) (indexes : List ℕ) → IsLeastIndexOrder link_map indexes → IsCanonical link_map indexes
 
--- if the indexes from 1 to n are canonical, they are the least-index order
+-- If the indexes from 1 to n are canonical, they are the least-index order.
 abbrev pub LeastIndexOrderRests : Type 0
 LeastIndexOrderRests = (link_map : LinkMap) (n : ℕ) → IsCanonical link_map (range_with_len 1 n) → IsLeastIndexOrder link_map (range_with_len 1 n)
 
--- after arranging by the least-index order, that order is the indexes from 1 on
+-- After arranging by the least-index order, that order is the indexes from 1 on.
 abbrev pub LayoutRests : Type 0
 LayoutRests = (old new : LinkMap) (indexes : List ℕ) → IsLeastIndexOrder old indexes → IsRenaming (place_in indexes) old new
     → IsLeastIndexOrder new (range_with_len 1 (length indexes))
 
--- the list from 1 to n moves no index
+-- The list from 1 to n moves no index.
 abbrev pub PlacesRest : Type 0
 PlacesRest = (n i : ℕ) → 1 ≤ i → i ≤ n → place_in (range_with_len 1 n) i ≡ Some i

@@ -1,12 +1,12 @@
 -- The definition of chains, with numbers as indexes and a link map as the arena.
 use Rattle.std.specs.Prelude.{◌≡◌, ◌≢◌, ◌↔◌, ℕ, ◌<◌, ◌≤◌, ◌⊎◌, List, [], ◌∷◌, ◌++◌, Option, None, Some}
 
--- the previous and the next index of a link
+-- The previous and the next index of a link.
 pub record Interlinks : Type 0 where
   pub prev : Option ℕ
   pub next : Option ℕ
 
--- an arena: the interlinks at each index, if it has a link
+-- An arena: the interlinks at each index, if it has a link.
 abbrev pub LinkMap : Type 0
 LinkMap = ℕ → Option Interlinks
 
@@ -24,21 +24,21 @@ prev_of link_map i = prev_in (link_map i)
 abbrev pub next_of : LinkMap → ℕ → Option ℕ
 next_of link_map i = next_in (link_map i)
 
--- index i has a link
+-- Index i has a link.
 pub record HasLink (link_map : LinkMap) (i : ℕ) : Type 0 where
   pub link : Interlinks
-  pub reports : link_map i ≡ Some link
+  pub links : link_map i ≡ Some link
 
 -- i names j as next exactly if j names i as prev. So each index named is valid, since an invalid
 -- one names nothing.
 pub record IsWellLinked (link_map : LinkMap) : Type 0 where
   pub both : (i j : ℕ) → (next_of link_map i ≡ Some j) ↔ (prev_of link_map j ≡ Some i)
 
--- only indexes from 1 to the number of slots have links
+-- Only indexes from 1 to the number of slots have links.
 pub record HasLinksWithin (link_map : LinkMap) (slots : ℕ) : Type 0 where
   pub within : (i : ℕ) → HasLink link_map i → (1 ≤ i) × (i ≤ slots)
 
--- y is among the items
+-- y is among the items.
 abbrev pub IsMember : List ℕ → ℕ → Type 0
 IsMember [] y = ⊥
 IsMember (x ∷ xs) y = (x ≡ y) ⊎ IsMember xs y
@@ -47,7 +47,7 @@ abbrev pub AreDistinct : List ℕ → Type 0
 AreDistinct [] = Unit {0}
 AreDistinct (x ∷ xs) = (IsMember xs x → ⊥) × AreDistinct xs
 
--- a linear chain from start to end, or a cyclic one from any link, once around
+-- A linear chain from start to end, or a cyclic one from any link, once around.
 pub data Chain : Type 0 where
   linear : List ℕ → Chain
   cyclic : List ℕ → Chain
@@ -56,23 +56,23 @@ abbrev pub items : Chain → List ℕ
 items (linear xs) = xs
 items (cyclic xs) = xs
 
--- the first item, or `after` if there is none
+-- The first item, or `after` if there is none.
 abbrev pub first_or : List ℕ → Option ℕ → Option ℕ
 first_or [] after = after
 first_or (x ∷ xs) after = Some x
 
--- the last item, or `before` if there is none
+-- The last item, or `before` if there is none.
 abbrev pub last_or : List ℕ → Option ℕ → Option ℕ
 last_or [] before = before
 last_or (x ∷ xs) before = last_or xs (Some x)
 
--- each item names the items before and after it; `before` and `after` enclose the list
+-- Each item names the items before and after it; `before` and `after` enclose the list.
 abbrev pub AreLinked : LinkMap → Option ℕ → List ℕ → Option ℕ → Type 0
 AreLinked link_map before [] after = Unit {0}
 AreLinked link_map before (x ∷ xs) after =
     (link_map x ≡ Some (record { prev = before; next = first_or xs after })) × AreLinked link_map (Some x) xs after
 
--- a chain of the arena; a cyclic one may be written from any of its links
+-- A chain of the arena; a cyclic one may be written from any of its links.
 abbrev pub IsChain : LinkMap → Chain → Type 0
 IsChain link_map (linear xs) = (xs ≢ []) × AreDistinct xs × AreLinked link_map None xs None
 IsChain link_map (cyclic xs) = (xs ≢ []) × AreDistinct xs × AreLinked link_map (last_or xs None) xs (first_or xs None)
@@ -81,12 +81,12 @@ abbrev pub HasChain : List Chain → Chain → Type 0
 HasChain [] c = ⊥
 HasChain (d ∷ chains) c = (d ≡ c) ⊎ HasChain chains c
 
--- the items of all chains, one chain after another
+-- The items of all chains, one chain after another.
 abbrev pub all_items : List Chain → List ℕ
 all_items [] = []
 all_items (c ∷ chains) = items c ++ all_items chains
 
--- the chains of the arena, in some order
+-- The chains of the arena, in some order.
 pub record AreChains (link_map : LinkMap) (chains : List Chain) : Type 0 where
   pub each : (c : Chain) → HasChain chains c → IsChain link_map c
   pub once : AreDistinct (all_items chains)
@@ -96,18 +96,18 @@ abbrev pub IsAtMostEach : ℕ → List ℕ → Type 0
 IsAtMostEach x [] = Unit {0}
 IsAtMostEach x (y ∷ ys) = (x ≤ y) × IsAtMostEach x ys
 
--- a cyclic chain is written from its least index
+-- A cyclic chain is written from its least index.
 abbrev pub StartsAtLeast : Chain → Type 0
 StartsAtLeast (linear xs) = Unit {0}
 StartsAtLeast (cyclic []) = Unit {0}
 StartsAtLeast (cyclic (x ∷ xs)) = IsAtMostEach x xs
 
--- each chain has an index below all those of later chains
+-- Each chain has an index below all those of later chains.
 abbrev pub IsSortedByLeast : List Chain → Type 0
 IsSortedByLeast [] = Unit {0}
 IsSortedByLeast (c ∷ chains) = ((m : ℕ) × IsMember (items c) m × ((y : ℕ) → IsMember (all_items chains) y → m < y)) × IsSortedByLeast chains
 
--- in order: sorted by least index, cyclic chains written from their least index
+-- In order: sorted by least index, cyclic chains written from their least index.
 pub record IsInOrder (chains : List Chain) : Type 0 where
   pub written : (c : Chain) → HasChain chains c → StartsAtLeast c
-  pub rises : IsSortedByLeast chains
+  pub ascends : IsSortedByLeast chains

@@ -4,84 +4,84 @@ use Rattle.chain_laws.specs.Chains.{LinkMap, linear, cyclic, IsMember, IsChain, 
 use Rattle.chain_laws.specs.Neighbors.{AreNeighbors, IsRotation}
 use Rattle.chain_laws.specs.Joins.{with_neighbors, KeepsChainsWithout, HaveSameChains}
 
--- p and q trade what follows them, which may be nothing; p may be q
+-- p and q trade what follows them, which may be nothing; p may be q.
 abbrev pub with_exchange : LinkMap → ℕ → ℕ → LinkMap
 with_exchange link_map p q = with_neighbors (with_neighbors link_map (Some p) (next_of link_map q)) (Some q) (next_of link_map p)
 
--- by pairs: (p, a) and (q, b) become (p, b) and (q, a); others stay
+-- By pairs: (p, a) and (q, b) become (p, b) and (q, a); others stay.
 pub record ExchangesPairs (old new : LinkMap) (p q : ℕ) : Type 0 where
   pub pairs : (i j : ℕ) → AreNeighbors new i j
       ↔ ((AreNeighbors old i j × (i ≢ p) × (i ≢ q)) ⊎ ((i ≡ p) × AreNeighbors old q j) ⊎ ((i ≡ q) × AreNeighbors old p j))
   pub links : (i : ℕ) → HasLink new i ↔ HasLink old i
 
--- the cases not symmetric in p and q; a cyclic chain is written with q last
+-- The cases not symmetric in p and q; a cyclic chain is written with q last.
 pub record ExchangesInOrder (old new : LinkMap) (p q : ℕ) : Type 0 where
-  -- p before q in a linear chain: the links after p up to q become cyclic
+  -- p before q in a linear chain: the links after p up to q become cyclic.
   pub taken_out : (x m y : List ℕ) → IsChain old (linear (x ++ p ∷ m ++ q ∷ y))
       → IsChain new (linear (x ++ p ∷ y)) × IsChain new (cyclic (m ++ q ∷ []))
-  -- the inverse: the cyclic chain of q goes into the linear chain of p, after p
+  -- The inverse: the cyclic chain of q goes into the linear chain of p, after p.
   pub taken_in : (x y z : List ℕ) → IsChain old (linear (x ++ p ∷ y)) → IsChain old (cyclic (z ++ q ∷ []))
       → IsChain new (linear (x ++ p ∷ z ++ q ∷ y))
 
--- by chains: p and q trade what follows them
+-- By chains: p and q trade what follows them.
 pub record Exchanges (old new : LinkMap) (p q : ℕ) : Type 0 where
   pub in_order : ExchangesInOrder old new p q
   pub in_other_order : ExchangesInOrder old new q p
-  -- two linear chains trade what follows p and q
+  -- Two linear chains trade what follows p and q.
   pub two_linear : (x y z w : List ℕ) → IsChain old (linear (x ++ p ∷ y)) → IsChain old (linear (z ++ q ∷ w)) → (IsMember (x ++ p ∷ y) q → ⊥)
       → IsChain new (linear (x ++ p ∷ w)) × IsChain new (linear (z ++ q ∷ y))
-  -- two cyclic chains become one
+  -- Two cyclic chains become one.
   pub two_cyclic : (x y : List ℕ) → IsChain old (cyclic (p ∷ x)) → IsChain old (cyclic (q ∷ y)) → (IsMember (p ∷ x) q → ⊥)
       → IsChain new (cyclic (p ∷ y ++ q ∷ x))
-  -- one cyclic chain becomes two
+  -- One cyclic chain becomes two.
   pub one_cyclic : (x y : List ℕ) → IsChain old (cyclic (p ∷ x ++ q ∷ y)) → IsChain new (cyclic (p ∷ y)) × IsChain new (cyclic (q ∷ x))
-  -- p is q: all chains stay
+  -- p is q: all chains stay.
   pub itself : p ≡ q → HaveSameChains old new
   pub rest : KeepsChainsWithout old new p q
 
--- an exchange keeps the arena well linked
+-- An exchange keeps the arena well linked.
 abbrev pub ExchangeAgrees : Type 0
 ExchangeAgrees = (link_map : LinkMap) (p q : ℕ) → IsWellLinked link_map → HasLink link_map p → HasLink link_map q → IsWellLinked (with_exchange link_map p q)
 
--- an exchange changes pairs as `ExchangesPairs` states
+-- An exchange changes pairs as `ExchangesPairs` states.
 abbrev pub ExchangeInPairs : Type 0
 ExchangeInPairs = (link_map : LinkMap) (p q : ℕ) → IsWellLinked link_map → HasLink link_map p → HasLink link_map q → ExchangesPairs link_map (with_exchange link_map p q) p q
 
--- an exchange changes chains as `Exchanges` states
+-- An exchange changes chains as `Exchanges` states.
 abbrev pub ExchangeExchanges : Type 0
 ExchangeExchanges = (link_map : LinkMap) (p q : ℕ) → IsWellLinked link_map → HasLink link_map p → HasLink link_map q → Exchanges link_map (with_exchange link_map p q) p q
 
--- `Exchanges` gives exactly the chains of the exchange
+-- `Exchanges` gives exactly the chains of the exchange.
 abbrev pub ExchangeIsDetermined : Type 0
 ExchangeIsDetermined = (old new : LinkMap) (slots p q : ℕ) → IsWellLinked old → HasLinksWithin old slots → HasLink old p → HasLink old q
     → Exchanges old new p q → HaveSameChains new (with_exchange old p q)
 
--- `ExchangesPairs` with a well-linked result gives exactly the exchange
+-- `ExchangesPairs` with a well-linked result gives exactly the exchange.
 abbrev pub ExchangeIsDeterminedByPairs : Type 0
 ExchangeIsDeterminedByPairs = (old new : LinkMap) (p q : ℕ) → IsWellLinked old → IsWellLinked new → HasLink old p → HasLink old q
     → ExchangesPairs old new p q → new ≡ with_exchange old p q
 
--- an exchange done twice restores the arena
+-- An exchange done twice restores the arena.
 abbrev pub ExchangeTwiceRestores : Type 0
 ExchangeTwiceRestores = (link_map : LinkMap) (p q : ℕ) → IsWellLinked link_map → HasLink link_map p → HasLink link_map q
     → with_exchange (with_exchange link_map p q) p q ≡ link_map
 
--- an exchange of a link with itself changes nothing
+-- An exchange of a link with itself changes nothing.
 abbrev pub ExchangeWithItselfKeeps : Type 0
 ExchangeWithItselfKeeps = (link_map : LinkMap) (p : ℕ) → IsWellLinked link_map → HasLink link_map p → with_exchange link_map p p ≡ link_map
 
--- an exchange is symmetric in the two links
+-- An exchange is symmetric in the two links.
 abbrev pub ExchangeIsMutual : Type 0
 ExchangeIsMutual = (link_map : LinkMap) (p q : ℕ) → IsWellLinked link_map → HasLink link_map p → HasLink link_map q → with_exchange link_map p q ≡ with_exchange link_map q p
 
--- an exchange of two links of one cyclic chain, written from any link, splits it into two with its
--- links
+-- An exchange of two links of one cyclic chain, written from any link, splits it into two with its
+-- links.
 abbrev pub ExchangeSplitsACycle : Type 0
 ExchangeSplitsACycle = (link_map : LinkMap) (p q : ℕ) (xs : List ℕ) → IsWellLinked link_map → p ≢ q → IsChain link_map (cyclic xs) → IsMember xs p → IsMember xs q
     → (x : List ℕ) × (y : List ℕ) × IsRotation (cyclic xs) (cyclic (p ∷ x ++ q ∷ y))
     × IsChain (with_exchange link_map p q) (cyclic (p ∷ y)) × IsChain (with_exchange link_map p q) (cyclic (q ∷ x))
 
--- an exchange merges the cyclic chains of two links; the result has the links of both
+-- An exchange merges the cyclic chains of two links; the result has the links of both.
 abbrev pub ExchangeMergesCycles : Type 0
 ExchangeMergesCycles = (link_map : LinkMap) (p q : ℕ) (xs ys : List ℕ) → IsWellLinked link_map → IsChain link_map (cyclic xs) → IsChain link_map (cyclic ys)
     → IsMember xs p → IsMember ys q → (IsMember xs q → ⊥)

@@ -11,12 +11,12 @@ use Rattle.chain_laws.specs.Removals.{with_removal}
 use Rattle.chain_laws.specs.Insertions.{InsertKind, disconnected, single_link_cyclic, chain_end, chain_start, next_to, prev_to, at_interlink, bridge}
 use Rattle.chain_laws.specs.Insertions.{HasIndex, IsInsertPosition, Inserts, link_before, link_after, with_insertion}
 
--- the chain has none of these
+-- The chain has none of these.
 abbrev pub IsDisjointFrom : Chain → List ℕ → Type 0
 IsDisjointFrom c [] = Unit {0}
 IsDisjointFrom c (x ∷ xs) = (IsMember (items c) x → ⊥) × IsDisjointFrom c xs
 
--- the links that a kind names
+-- The links that a kind names.
 abbrev pub indexes_of_kind : InsertKind ℕ → List ℕ
 indexes_of_kind disconnected = []
 indexes_of_kind single_link_cyclic = []
@@ -27,35 +27,35 @@ indexes_of_kind (prev_to b) = b ∷ []
 indexes_of_kind (at_interlink a b) = a ∷ b ∷ []
 indexes_of_kind (bridge a b) = a ∷ b ∷ []
 
--- a chain stays if its links keep their interlinks
+-- A chain stays if its links keep their interlinks.
 abbrev pub SameLinksKeepAChain : Type 0
 SameLinksKeepAChain = (old new : LinkMap) (c : Chain) → ((i : ℕ) → IsMember (items c) i → new i ≡ old i) → IsChain old c → IsChain new c
 
--- an insertion keeps a chain without the links that its kind names
+-- An insertion keeps a chain without the links that its kind names.
 abbrev pub InsertionKeepsOthers : Type 0
 InsertionKeepsOthers = (old new : LinkMap) (kind : InsertKind ℕ) (q : ℕ) → IsWellLinked old → old q ≡ None → Inserts old new q (link_before old kind q) (link_after old kind q)
     → (c : Chain) → IsDisjointFrom c (indexes_of_kind kind) → IsChain old c → IsChain new c
 
--- after an insertion, a chain without the new link existed before
+-- After an insertion, a chain without the new link existed before.
 abbrev pub InsertionMakesNoOthers : Type 0
 InsertionMakesNoOthers = (link_map : LinkMap) (q : ℕ) (u v : Option ℕ) → IsWellLinked link_map → link_map q ≡ None → IsInsertPosition link_map q u v
     → (c : Chain) → (IsMember (items c) q → ⊥) → IsChain (with_insertion link_map q u v) c → IsChain link_map c
 
--- a new lone link keeps every chain
+-- A new lone link keeps every chain.
 abbrev pub LoneKeepsEach : Type 0
 LoneKeepsEach = (old new : LinkMap) (q : ℕ) → old q ≡ None → AddsLone old new q → (c : Chain) → IsChain old c → IsChain new c
 
--- a cut keeps a chain without one of the two neighbors
+-- A cut keeps a chain without one of the two neighbors.
 abbrev pub CutKeepsOthers : Type 0
 CutKeepsOthers = (old new : LinkMap) (a b : ℕ) → IsWellLinked old → AreNeighbors old a b → Cuts old new a b
     → (c : Chain) → (IsMember (items c) a → ⊥) ⊎ (IsMember (items c) b → ⊥) → IsChain old c → IsChain new c
 
--- after a join, a chain without one of the two links existed before
+-- After a join, a chain without one of the two links existed before.
 abbrev pub JoinMakesNoOthers : Type 0
 JoinMakesNoOthers = (link_map : LinkMap) (a b : ℕ) → IsWellLinked link_map → AreEndAndStart link_map a b
     → (c : Chain) → (IsMember (items c) a → ⊥) ⊎ (IsMember (items c) b → ⊥) → IsChain (with_join link_map a b) c → IsChain link_map c
 
--- after a removal, a chain without the links that the removed one named existed before
+-- After a removal, a chain without the links that the removed one named existed before.
 abbrev pub RemovalMakesNoOthers : Type 0
 RemovalMakesNoOthers = (link_map : LinkMap) (i : ℕ) → (c : Chain) → (HasIndex c (prev_of link_map i) → ⊥) → (HasIndex c (next_of link_map i) → ⊥)
     → IsChain (with_removal link_map i) c → IsChain link_map c

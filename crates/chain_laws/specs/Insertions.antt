@@ -5,7 +5,7 @@ use Rattle.chain_laws.specs.Neighbors.{AreNeighbors}
 use Rattle.chain_laws.specs.Joins.{with_neighbors, with_lone, AreEndAndStart, HaveSameChains}
 use Rattle.chain_laws.specs.Removals.{with_removal}
 
--- the kinds of insertion, with the names of the links beside the new one
+-- The kinds of insertion, with the names of the links beside the new one.
 pub data InsertKind (N : Type 0) : Type 0 where
   disconnected : InsertKind N
   single_link_cyclic : InsertKind N
@@ -16,7 +16,7 @@ pub data InsertKind (N : Type 0) : Type 0 where
   at_interlink : N → N → InsertKind N
   bridge : N → N → InsertKind N
 
--- what a kind requires of the links that it names
+-- What a kind requires of the links that it names.
 abbrev pub CanInsert : LinkMap → InsertKind ℕ → Type 0
 CanInsert link_map disconnected = Unit {0}
 CanInsert link_map single_link_cyclic = Unit {0}
@@ -27,7 +27,7 @@ CanInsert link_map (prev_to b) = HasLink link_map b
 CanInsert link_map (at_interlink a b) = HasLink link_map a × HasLink link_map b × AreNeighbors link_map a b
 CanInsert link_map (bridge a b) = AreEndAndStart link_map a b
 
--- the link before the new link at q
+-- The link before the new link at q.
 abbrev pub link_before : LinkMap → InsertKind ℕ → ℕ → Option ℕ
 link_before link_map disconnected q = None
 link_before link_map single_link_cyclic q = Some q
@@ -38,7 +38,7 @@ link_before link_map (prev_to b) q = prev_of link_map b
 link_before link_map (at_interlink a b) q = Some a
 link_before link_map (bridge a b) q = Some a
 
--- the link after the new link at q
+-- The link after the new link at q.
 abbrev pub link_after : LinkMap → InsertKind ℕ → ℕ → Option ℕ
 link_after link_map disconnected q = None
 link_after link_map single_link_cyclic q = Some q
@@ -49,83 +49,83 @@ link_after link_map (prev_to b) q = Some b
 link_after link_map (at_interlink a b) q = Some b
 link_after link_map (bridge a b) q = Some b
 
--- q comes after u and before v; either may be none
+-- q comes after u and before v; either may be none.
 abbrev pub with_insertion : LinkMap → ℕ → Option ℕ → Option ℕ → LinkMap
 with_insertion link_map q u v = with_neighbors (with_neighbors (with_lone link_map q) u (Some q)) (Some q) v
 
--- a new link at q, by its kind
+-- A new link at q, by its kind.
 abbrev pub with_insertion_as : LinkMap → InsertKind ℕ → ℕ → LinkMap
 with_insertion_as link_map kind q = with_insertion link_map q (link_before link_map kind q) (link_after link_map kind q)
 
--- u and v are neighbors, or an end and a start (one or both may be missing), or both q
+-- u and v are neighbors, or an end and a start (one or both may be missing), or both q.
 abbrev pub IsInsertPosition : LinkMap → ℕ → Option ℕ → Option ℕ → Type 0
 IsInsertPosition link_map q None None = Unit {0}
 IsInsertPosition link_map q (Some a) None = HasLink link_map a × (next_of link_map a ≡ None)
 IsInsertPosition link_map q None (Some b) = HasLink link_map b × (prev_of link_map b ≡ None)
 IsInsertPosition link_map q (Some a) (Some b) = AreNeighbors link_map a b ⊎ AreEndAndStart link_map a b ⊎ ((a ≡ q) × (b ≡ q))
 
--- by pairs: q comes between u and v, and their own pair goes, if any
+-- By pairs: q comes between u and v, and their own pair goes, if any.
 pub record InsertsPairs (old new : LinkMap) (q : ℕ) (u v : Option ℕ) : Type 0 where
   pub pairs : (i j : ℕ) → AreNeighbors new i j
       ↔ ((AreNeighbors old i j × ((u ≡ Some i) × (v ≡ Some j) → ⊥)) ⊎ ((u ≡ Some i) × (j ≡ q)) ⊎ ((i ≡ q) × (v ≡ Some j)))
   pub links : (i : ℕ) → HasLink new i ↔ (HasLink old i ⊎ (i ≡ q))
 
--- the chain has this index; none is in no chain
+-- The chain has this index; none is in no chain.
 abbrev pub HasIndex : Chain → Option ℕ → Type 0
 HasIndex c None = ⊥
 HasIndex c (Some i) = IsMember (items c) i
 
--- by chains: q comes between u and v
+-- By chains: q comes between u and v.
 pub record Inserts (old new : LinkMap) (q : ℕ) (u v : Option ℕ) : Type 0 where
   pub alone : u ≡ None → v ≡ None → IsChain new (linear (q ∷ []))
   pub ring : u ≡ Some q → v ≡ Some q → IsChain new (cyclic (q ∷ []))
-  -- after a: q goes into its chain, which stays linear or cyclic
+  -- After a: q goes into its chain, which stays linear or cyclic.
   pub after : (a : ℕ) → u ≡ Some a → v ≡ next_of old a → (x y : List ℕ)
       → (IsChain old (linear (x ++ a ∷ y)) → IsChain new (linear (x ++ a ∷ q ∷ y)))
       × (IsChain old (cyclic (x ++ a ∷ y)) → IsChain new (cyclic (x ++ a ∷ q ∷ y)))
-  -- before b: q goes into its chain, which stays linear or cyclic
+  -- Before b: q goes into its chain, which stays linear or cyclic.
   pub before : (b : ℕ) → v ≡ Some b → u ≡ prev_of old b → (x y : List ℕ)
       → (IsChain old (linear (x ++ b ∷ y)) → IsChain new (linear (x ++ q ∷ b ∷ y)))
       × (IsChain old (cyclic (x ++ b ∷ y)) → IsChain new (cyclic (x ++ q ∷ b ∷ y)))
-  -- between two chains: both and q become one
+  -- Between two chains: both and q become one.
   pub two : (a b : ℕ) → u ≡ Some a → v ≡ Some b → (x y : List ℕ) → IsChain old (linear (x ++ a ∷ [])) → IsChain old (linear (b ∷ y))
       → (IsMember (x ++ a ∷ []) b → ⊥) → IsChain new (linear ((x ++ a ∷ q ∷ []) ++ b ∷ y))
-  -- between the end and the start of one chain: it becomes cyclic
+  -- Between the end and the start of one chain: it becomes cyclic.
   pub one : (a b : ℕ) → u ≡ Some a → v ≡ Some b → (xs : List ℕ) → IsChain old (linear xs) → first_or xs None ≡ Some b → last_or xs None ≡ Some a
       → IsChain new (cyclic (xs ++ q ∷ []))
-  -- every other chain stays, item for item
+  -- Every other chain stays, item for item.
   pub rest : (c : Chain) → (IsMember (items c) q → ⊥) → (HasIndex c u → ⊥) → (HasIndex c v → ⊥) → IsChain old c ↔ IsChain new c
   pub links : (i : ℕ) → HasLink new i ↔ (HasLink old i ⊎ (i ≡ q))
 
--- a kind whose requirements hold gives an insertion position
+-- A kind whose requirements hold gives an insertion position.
 abbrev pub KindGivesAPosition : Type 0
 KindGivesAPosition = (link_map : LinkMap) (kind : InsertKind ℕ) (q : ℕ) → IsWellLinked link_map → CanInsert link_map kind
     → IsInsertPosition link_map q (link_before link_map kind q) (link_after link_map kind q)
 
--- an insertion keeps the arena well linked
+-- An insertion keeps the arena well linked.
 abbrev pub InsertionAgrees : Type 0
 InsertionAgrees = (link_map : LinkMap) (q : ℕ) (u v : Option ℕ) → IsWellLinked link_map → link_map q ≡ None → IsInsertPosition link_map q u v → IsWellLinked (with_insertion link_map q u v)
 
--- an insertion changes pairs as `InsertsPairs` states
+-- An insertion changes pairs as `InsertsPairs` states.
 abbrev pub InsertionInPairs : Type 0
 InsertionInPairs = (link_map : LinkMap) (q : ℕ) (u v : Option ℕ) → IsWellLinked link_map → link_map q ≡ None → IsInsertPosition link_map q u v
     → InsertsPairs link_map (with_insertion link_map q u v) q u v
 
--- an insertion changes chains as `Inserts` states
+-- An insertion changes chains as `Inserts` states.
 abbrev pub InsertionInserts : Type 0
 InsertionInserts = (link_map : LinkMap) (q : ℕ) (u v : Option ℕ) → link_map q ≡ None → Inserts link_map (with_insertion link_map q u v) q u v
 
--- `Inserts` gives exactly the chains of the insertion
+-- `Inserts` gives exactly the chains of the insertion.
 abbrev pub InsertionIsDetermined : Type 0
 InsertionIsDetermined = (old new : LinkMap) (slots q : ℕ) (u v : Option ℕ) → IsWellLinked old → HasLinksWithin old slots → old q ≡ None → IsInsertPosition old q u v
     → Inserts old new q u v → HaveSameChains new (with_insertion old q u v)
 
--- `InsertsPairs` with a well-linked result gives exactly the insertion
+-- `InsertsPairs` with a well-linked result gives exactly the insertion.
 abbrev pub InsertionIsDeterminedByPairs : Type 0
 InsertionIsDeterminedByPairs = (old new : LinkMap) (q : ℕ) (u v : Option ℕ) → IsWellLinked old → IsWellLinked new → old q ≡ None → IsInsertPosition old q u v
     → InsertsPairs old new q u v → new ≡ with_insertion old q u v
 
--- removing a link just inserted beside another one restores the arena
+-- Removing a link just inserted beside another one restores the arena.
 abbrev pub RemovalOfInsertedRestores : Type 0
 RemovalOfInsertedRestores = (link_map : LinkMap) (a q : ℕ) → IsWellLinked link_map → HasLink link_map a → link_map q ≡ None
     → (with_removal (with_insertion_as link_map (next_to a) q) q ≡ link_map) × (with_removal (with_insertion_as link_map (prev_to a) q) q ≡ link_map)

@@ -5,103 +5,103 @@ use Rattle.chain_laws.specs.Neighbors.{AreNeighbors, AreNeighborsIn, IsRotation}
 
 -- ---- in a chain
 
--- each index of a chain has a link
+-- Each index of a chain has a link.
 abbrev pub MembersAreLinks : Type 0
 MembersAreLinks = (link_map : LinkMap) (c : Chain) (i : ℕ) → IsChain link_map c → IsMember (items c) i → HasLink link_map i
 
--- a free index is in no chain
+-- A free index is in no chain.
 abbrev pub FreeIsInNoChain : Type 0
 FreeIsInNoChain = (link_map : LinkMap) (c : Chain) (q : ℕ) → link_map q ≡ None → IsChain link_map c → IsMember (items c) q → ⊥
 
--- a chain has each of its indexes once
+-- A chain has each of its indexes once.
 abbrev pub MembersOccurOnce : Type 0
 MembersOccurOnce = (link_map : LinkMap) (c : Chain) → IsChain link_map c → AreDistinct (items c)
 
--- a link of a chain names its neighbors there and no others
+-- A link of a chain names its neighbors there and no others.
 abbrev pub MembersNameNeighbors : Type 0
 MembersNameNeighbors = (link_map : LinkMap) (c : Chain) (i j : ℕ) → IsChain link_map c → IsMember (items c) i
     → ((next_of link_map i ≡ Some j) ↔ AreNeighborsIn c i j) × ((prev_of link_map i ≡ Some j) ↔ AreNeighborsIn c j i)
 
--- a link of a linear chain names the items beside it, and nothing at the ends
+-- A link of a linear chain names the items beside it, and nothing at the ends.
 abbrev pub PlacesInALine : Type 0
 PlacesInALine = (link_map : LinkMap) (x y : List ℕ) (i : ℕ) → IsChain link_map (linear (x ++ i ∷ y))
     → link_map i ≡ Some (record { prev = last_or x None; next = first_or y None })
 
--- a link of a cyclic chain names the items beside it; last and first are neighbors
+-- A link of a cyclic chain names the items beside it; last and first are neighbors.
 abbrev pub PlacesInARing : Type 0
 PlacesInARing = (link_map : LinkMap) (x y : List ℕ) (i : ℕ) → IsChain link_map (cyclic (x ++ i ∷ y))
     → link_map i ≡ Some (record { prev = last_or x (last_or y (Some i)); next = first_or y (first_or x (Some i)) })
 
--- in a linear chain, only the end has no next link, and only the start no previous one
+-- In a linear chain, only the end has no next link, and only the start no previous one.
 abbrev pub LinesEnd : Type 0
 LinesEnd = (link_map : LinkMap) (xs : List ℕ) (i : ℕ) → IsChain link_map (linear xs) → IsMember xs i
     → ((next_of link_map i ≡ None) ↔ (last_or xs None ≡ Some i)) × ((prev_of link_map i ≡ None) ↔ (first_or xs None ≡ Some i))
 
--- in a cyclic chain, each link has a next and a previous link in it
+-- In a cyclic chain, each link has a next and a previous link in it.
 abbrev pub RingsAreCyclic : Type 0
 RingsAreCyclic = (link_map : LinkMap) (xs : List ℕ) (i : ℕ) → IsChain link_map (cyclic xs) → IsMember xs i
     → ((j : ℕ) × (next_of link_map i ≡ Some j) × IsMember xs j) × ((j : ℕ) × (prev_of link_map i ≡ Some j) × IsMember xs j)
 
--- a chain that has one of two neighbors has the other
+-- A chain that has one of two neighbors has the other.
 abbrev pub NeighborsShareAChain : Type 0
 NeighborsShareAChain = (link_map : LinkMap) (c : Chain) (a b : ℕ) → IsWellLinked link_map → AreNeighbors link_map a b → IsChain link_map c → IsMember (items c) a ↔ IsMember (items c) b
 
--- chains with a common index have the same indexes
+-- Chains with a common index have the same indexes.
 abbrev pub ChainsShareEach : Type 0
 ChainsShareEach = (link_map : LinkMap) (c other : Chain) (i j : ℕ) → IsChain link_map c → IsChain link_map other → IsMember (items c) i → IsMember (items other) i
     → IsMember (items c) j ↔ IsMember (items other) j
 
--- a rotation of a chain has the same items
+-- A rotation of a chain has the same items.
 abbrev pub RotationsHaveTheSame : Type 0
 RotationsHaveTheSame = (c other : Chain) (i : ℕ) → IsRotation c other → IsMember (items c) i ↔ IsMember (items other) i
 
--- the items of all chains are the items of each of them
+-- The items of all chains are the items of each of them.
 abbrev pub HasInAll : Type 0
 HasInAll = (chains : List Chain) (i : ℕ) → IsMember (all_items chains) i ↔ ((c : Chain) × HasChain chains c × IsMember (items c) i)
 
 -- ---- in a list
 
--- a concatenation has the items of both lists
+-- A concatenation has the items of both lists.
 abbrev pub HasInJoin : Type 0
 HasInJoin = (xs ys : List ℕ) (i : ℕ) → IsMember (xs ++ ys) i ↔ (IsMember xs i ⊎ IsMember ys i)
 
--- the order of two lists does not change their items
+-- The order of two lists does not change their items.
 abbrev pub HasInRotation : Type 0
 HasInRotation = (xs ys : List ℕ) (i : ℕ) → IsMember (xs ++ ys) i ↔ IsMember (ys ++ xs) i
 
--- x in the middle adds only x to the items
+-- x in the middle adds only x to the items.
 abbrev pub HasInMiddle : Type 0
 HasInMiddle = (xs ys : List ℕ) (x i : ℕ) → IsMember (xs ++ x ∷ ys) i ↔ ((i ≡ x) ⊎ IsMember (xs ++ ys) i)
 
--- a list has i exactly if it is some items, i, and some items
+-- A list has i exactly if it is some items, i, and some items.
 abbrev pub MembersSplitAList : Type 0
 MembersSplitAList = (xs : List ℕ) (i : ℕ) → IsMember xs i ↔ ((before : List ℕ) × (after : List ℕ) × (xs ≡ before ++ i ∷ after))
 
--- a list has i or does not have it
+-- A list has i or does not have it.
 abbrev pub HasIsDecided : Type 0
 HasIsDecided = (xs : List ℕ) (i : ℕ) → IsMember xs i ⊎ (IsMember xs i → ⊥)
 
--- a list is not empty exactly if it has an item
+-- A list is not empty exactly if it has an item.
 abbrev pub HasIsFilled : Type 0
 HasIsFilled = (xs : List ℕ) → (xs ≢ []) ↔ ((i : ℕ) × IsMember xs i)
 
--- a concatenation has no repetition exactly if neither list has any and they share nothing
+-- A concatenation has no repetition exactly if neither list has any and they share nothing.
 abbrev pub OnceInJoin : Type 0
 OnceInJoin = (xs ys : List ℕ) → AreDistinct (xs ++ ys) ↔ (AreDistinct xs × AreDistinct ys × ((i : ℕ) → IsMember xs i → IsMember ys i → ⊥))
 
--- the order of two lists does not change whether there is repetition
+-- The order of two lists does not change whether there is repetition.
 abbrev pub OnceInRotation : Type 0
 OnceInRotation = (xs ys : List ℕ) → AreDistinct (xs ++ ys) ↔ AreDistinct (ys ++ xs)
 
--- with x in the middle, there is no repetition exactly if there was none and x is new
+-- With x in the middle, there is no repetition exactly if there was none and x is new.
 abbrev pub OnceInMiddle : Type 0
 OnceInMiddle = (xs ys : List ℕ) (x : ℕ) → AreDistinct (xs ++ x ∷ ys) ↔ ((IsMember (xs ++ ys) x → ⊥) × AreDistinct (xs ++ ys))
 
--- without repetition, an item has one position
+-- Without repetition, an item has one position.
 abbrev pub OnceAtOnePlace : Type 0
 OnceAtOnePlace = (before after others rest : List ℕ) (i : ℕ) → AreDistinct (before ++ i ∷ after) → before ++ i ∷ after ≡ others ++ i ∷ rest
     → (before ≡ others) × (after ≡ rest)
 
--- a list without repetition is no longer than one with all its items
+-- A list without repetition is no longer than one with all its items.
 abbrev pub OnceIsNoLonger : Type 0
 OnceIsNoLonger = (xs ys : List ℕ) → AreDistinct xs → ((i : ℕ) → IsMember xs i → IsMember ys i) → length xs ≤ length ys

@@ -6,68 +6,68 @@ use Rattle.chain_laws.specs.Joins.{next_set, prev_set}
 use Rattle.chain_laws.specs.Renamings.{IsRenaming}
 use Rattle.chain_laws.specs.Arrangements.{place_in}
 
--- where the link at j is after the link at i moves to k
+-- Where the link at j is after the link at i moves to k.
 abbrev pub moved_index : ℕ → ℕ → ℕ → ℕ
 moved_index i k j = if j == i then k else j
 
 abbrev pub with_moved : ℕ → ℕ → Interlinks → Interlinks
 with_moved i k link = record { prev = option_map (moved_index i k) link.prev; next = option_map (moved_index i k) link.next }
 
--- the link at i moves to k, and links that named i name k
+-- The link at i moves to k, and links that named i name k.
 abbrev pub moved : LinkMap → ℕ → ℕ → LinkMap
 moved link_map i k j = if j == k then option_map (with_moved i k) (link_map i) else if j == i then None else option_map (with_moved i k) (link_map j)
 
--- the link at i moves to k, and no interlinks are rewritten
+-- The link at i moves to k, and no interlinks are rewritten.
 abbrev pub put : LinkMap → ℕ → ℕ → LinkMap
 put link_map i k j = if j == k then link_map i else if j == i then None else link_map j
 
--- there is a link at i, and k is i or free
+-- There is a link at i, and k is i or free.
 pub record CanMove (link_map : LinkMap) (i k : ℕ) : Type 0 where
   pub valid : HasLink link_map i
   pub free : (k ≡ i) ⊎ (link_map k ≡ None)
 
--- where each link is after the move
+-- Where each link is after the move.
 abbrev pub moving : LinkMap → ℕ → ℕ → ℕ → Option ℕ
 moving link_map i k j = option_map (λ _. moved_index i k j) (link_map j)
 
--- a move is a renaming
+-- A move is a renaming.
 abbrev pub MoveRenames : Type 0
 MoveRenames = (link_map : LinkMap) (i k : ℕ) → IsWellLinked link_map → CanMove link_map i k → IsRenaming (moving link_map i k) link_map (moved link_map i k)
 
--- a move rewrites only the neighbors of the link
+-- A move rewrites only the neighbors of the link.
 abbrev pub NeighborsDetermineAMove : Type 0
 NeighborsDetermineAMove = (link_map : LinkMap) (i k : ℕ) → IsWellLinked link_map → CanMove link_map i k
     → prev_set (next_set (put link_map i k) (option_map (moved_index i k) (prev_of link_map i)) (Some k)) (option_map (moved_index i k) (next_of link_map i)) (Some k) ≡ moved link_map i k
 
--- one renaming after another is a renaming
+-- One renaming after another is a renaming.
 abbrev pub RenamingsCompose : Type 0
 RenamingsCompose = (first second : ℕ → Option ℕ) (old between new : LinkMap) → IsRenaming first old between → IsRenaming second between new
     → IsRenaming (λ i. option_and_then second (first i)) old new
 
--- where each link is once those up to k have moved, in list order, to indexes from 1 on
+-- Where each link is once those up to k have moved, in list order, to indexes from 1 on.
 abbrev pub gathered_place : LinkMap → List ℕ → ℕ → ℕ → Option ℕ
 gathered_place link_map done k i = if leb i k then place_in done i else option_map (λ _. i) (link_map i)
 
--- a gathering in progress: the links up to k, listed by index, have moved to indexes from 1 on
+-- A gathering in progress: the links up to k, listed by index, have moved to indexes from 1 on.
 pub record IsGathering (old now : LinkMap) (done : List ℕ) (k : ℕ) : Type 0 where
   pub renamed : IsRenaming (gathered_place old done k) old now
   pub once : AreDistinct done
   pub holds : (i : ℕ) → IsMember done i ↔ (HasLink old i × (i ≤ k))
   pub below : length done ≤ k
 
--- at first, no link has moved
+-- At first, no link has moved.
 abbrev pub GatheringBegins : Type 0
 GatheringBegins = (link_map : LinkMap) (slots : ℕ) → IsWellLinked link_map → HasLinksWithin link_map slots → IsGathering link_map link_map [] 0
 
--- a free slot is skipped
+-- A free slot is skipped.
 abbrev pub GatheringSkips : Type 0
 GatheringSkips = (old now : LinkMap) (done : List ℕ) (k : ℕ) → IsGathering old now done k → old (k + 1) ≡ None → IsGathering old now done (k + 1)
 
--- the next link is still at its index, may move, and moves
+-- The next link is still at its index, may move, and moves.
 abbrev pub GatheringContinues : Type 0
 GatheringContinues = (old now : LinkMap) (done : List ℕ) (k : ℕ) → IsWellLinked old → IsGathering old now done k → HasLink old (k + 1)
     → IsWellLinked now × CanMove now (k + 1) (length done + 1) × IsGathering old (moved now (k + 1) (length done + 1)) (done ++ (k + 1) ∷ []) (k + 1)
 
--- in the end, all links are renumbered by their order
+-- In the end, all links are renumbered by their order.
 abbrev pub GatheringEnds : Type 0
 GatheringEnds = (old now : LinkMap) (done : List ℕ) (slots : ℕ) → HasLinksWithin old slots → IsGathering old now done slots → IsRenaming (place_in done) old now

@@ -4,33 +4,33 @@ use Rattle.std.specs.Option.{option_or}
 use Rattle.chain_laws.specs.Chains.{LinkMap, Chain, linear, cyclic, items, IsMember, AreDistinct, IsChain, HasLink, HasLinksWithin, IsWellLinked, first_or, prev_of, next_of}
 use Rattle.chain_laws.specs.Removals.{with_removal}
 
--- linear: from i to the end, then from the link before i back to the start; cyclic: once around
+-- Linear: from i to the end, then from the link before i back to the start; cyclic: once around.
 pub data IsWalk (link_map : LinkMap) (i : ℕ) : List ℕ → Type 0 where
   there_and_back : (before after : List ℕ) → IsChain link_map (linear (before ++ i ∷ after)) → IsWalk link_map i (i ∷ after ++ reverse before)
   once_around : (after : List ℕ) → IsChain link_map (cyclic (i ∷ after)) → IsWalk link_map i (i ∷ after)
 
--- the next link, unless that is `start`
+-- The next link, unless that is `start`.
 abbrev pub step_forward : ℕ → Option ℕ → Option ℕ
 step_forward start None = None
 step_forward start (Some k) = if k == start then None else Some k
 
--- `back`, unless the next link is `start`
+-- `back`, unless the next link is `start`.
 abbrev pub step_back : ℕ → Option ℕ → Option ℕ → Option ℕ
 step_back start None back = back
 step_back start (Some k) back = if k == start then None else back
 
--- a walker: how many steps are left at most, where it began, and where it goes, forth and back
+-- A walker: how many steps are left at most, where it began, and where it goes, forth and back.
 pub record Walker : Type 0 where
   pub left : ℕ
   pub start : ℕ
   pub forth : Option ℕ
   pub back : Option ℕ
 
--- a walker about to pass the link at i
+-- A walker about to pass the link at i.
 abbrev pub walker_at : LinkMap → ℕ → ℕ → Walker
 walker_at link_map left i = record { left = left; start = i; forth = Some i; back = prev_of link_map i }
 
--- the link passed next, if any, and the walker after it
+-- The link passed next, if any, and the walker after it.
 abbrev pub next_step : ℕ → LinkMap → ℕ → Option ℕ → Option ℕ → Option (ℕ × Walker)
 next_step zero link_map start forth back = None
 next_step (suc left) link_map start (Some j) back =
@@ -41,7 +41,7 @@ next_step (suc left) link_map start None None = None
 abbrev pub step_of : LinkMap → Walker → Option (ℕ × Walker)
 step_of link_map w = next_step w.left link_map w.start w.forth w.back
 
--- what a walker passes if nothing changes: from `forth` on by next, then from `back` by prev
+-- What a walker passes if nothing changes: from `forth` on by next, then from `back` by prev.
 abbrev pub walk_ahead : ℕ → LinkMap → ℕ → Option ℕ → Option ℕ → List ℕ
 walk_ahead zero link_map start forth back = []
 walk_ahead (suc left) link_map start forth back =
@@ -50,62 +50,62 @@ walk_ahead (suc left) link_map start forth back =
 abbrev pub passes_ahead : LinkMap → Walker → List ℕ
 passes_ahead link_map w = walk_ahead w.left link_map w.start w.forth w.back
 
--- the link of a step, and what the walker passes after it
+-- The link of a step, and what the walker passes after it.
 abbrev pub passed_by : LinkMap → Option (ℕ × Walker) → List ℕ
 passed_by link_map None = []
 passed_by link_map (Some step) = step.0 ∷ passes_ahead link_map step.1
 
--- a walker passes what its steps pass
+-- A walker passes what its steps pass.
 abbrev pub StepsPass : Type 0
 StepsPass = (link_map : LinkMap) (w : Walker) → passes_ahead link_map w ≡ passed_by link_map (step_of link_map w)
 
--- a walker passes a walk
+-- A walker passes a walk.
 abbrev pub WalksAhead : Type 0
 WalksAhead = (link_map : LinkMap) (slots i : ℕ) → IsWellLinked link_map → HasLinksWithin link_map slots → HasLink link_map i
     → IsWalk link_map i (walk_ahead slots link_map i (Some i) (prev_of link_map i))
 
--- the walk from a link is unique
+-- The walk from a link is unique.
 abbrev pub HasNoOtherWalk : Type 0
 HasNoOtherWalk = (link_map : LinkMap) (i : ℕ) (walk other : List ℕ) → IsWalk link_map i walk → IsWalk link_map i other → walk ≡ other
 
--- a walk passes no link twice
+-- A walk passes no link twice.
 abbrev pub PassesEachOnce : Type 0
 PassesEachOnce = (link_map : LinkMap) (i : ℕ) (walk : List ℕ) → IsWalk link_map i walk → AreDistinct walk
 
--- a walk passes the links of its chain and no others
+-- A walk passes the links of its chain and no others.
 abbrev pub PassesTheChain : Type 0
 PassesTheChain = (link_map : LinkMap) (i : ℕ) (walk : List ℕ) (c : Chain) → IsWalk link_map i walk → IsChain link_map c → IsMember (items c) i
     → (j : ℕ) → IsMember walk j ↔ IsMember (items c) j
 
--- where the rest of a walk begins: at the next link, or else the previous one, or nowhere
+-- Where the rest of a walk begins: at the next link, or else the previous one, or nowhere.
 abbrev pub rest_start : ℕ → Option ℕ → Option ℕ → Option ℕ
 rest_start i before after = option_or (step_forward i after) (step_forward i before)
 
 abbrev pub rest_start_of : LinkMap → ℕ → Option ℕ
 rest_start_of link_map i = rest_start i (prev_of link_map i) (next_of link_map i)
 
--- if its first link is removed, the rest of a walk is the walk from `rest_start_of`
+-- If its first link is removed, the rest of a walk is the walk from `rest_start_of`.
 abbrev pub RemovalLeavesTheWalk : Type 0
 RemovalLeavesTheWalk = (link_map : LinkMap) (i : ℕ) (rest : List ℕ) → IsWalk link_map i (i ∷ rest)
     → (first_or rest None ≡ rest_start_of link_map i) × ((k : ℕ) → first_or rest None ≡ Some k → IsWalk (with_removal link_map i) k rest)
 
--- the walk from i, or nothing if i is none or free
+-- The walk from i, or nothing if i is none or free.
 abbrev pub walk_from : ℕ → LinkMap → Option ℕ → List ℕ
 walk_from slots link_map None = []
 walk_from slots link_map (Some i) = if is_some (link_map i) then walk_ahead slots link_map i (Some i) (prev_of link_map i) else []
 
--- the links at these indexes are removed, one after another
+-- The links at these indexes are removed, one after another.
 abbrev pub removed_each : LinkMap → List ℕ → LinkMap
 removed_each link_map [] = link_map
 removed_each link_map (i ∷ rest) = removed_each (with_removal link_map i) rest
 
--- the links of a walk are gone, and nothing else has changed
+-- The links of a walk are gone, and nothing else has changed.
 pub record TakesWalk (old new : LinkMap) (walk : List ℕ) : Type 0 where
   pub gone : (j : ℕ) → IsMember walk j → new j ≡ None
   pub rest : (j : ℕ) → (IsMember walk j → ⊥) → new j ≡ old j
-  -- the old chains without links of the walk, item for item
+  -- The old chains without links of the walk, item for item.
   pub chains : (c : Chain) → IsChain new c ↔ (IsChain old c × ((j : ℕ) → IsMember walk j → IsMember (items c) j → ⊥))
 
--- removing the links of a walk, in its order, takes the walk
+-- Removing the links of a walk, in its order, takes the walk.
 abbrev pub WalkIsTaken : Type 0
 WalkIsTaken = (link_map : LinkMap) (i : ℕ) (walk : List ℕ) → IsWalk link_map i walk → TakesWalk link_map (removed_each link_map walk) walk

@@ -28,7 +28,7 @@ pub fn members_name_neighbors()
 pub fn neighbors_share_a_chain()
     ensures together { NeighborsShareAChain }
     ensures each { ChainsShareEach }
-    ensures turned { RotationsHaveTheSame }
+    ensures rotated { RotationsHaveTheSame }
     ensures in_all { HasInAll }
 {}
 

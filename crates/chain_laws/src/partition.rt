@@ -29,12 +29,12 @@ pub fn one_chain_each()
 /// States that all lists of the chains of an arena have the same chains, up to rotation.
 pub fn same_chains_in_any_order()
     ensures written { AreSameInAnyOrder }
-    ensures turned { AreRotationsInAnyOrder }
+    ensures rotated { AreRotationsInAnyOrder }
 {}
 
 /// States that a rotation of a chain is a chain, and that chains with a common index are rotations
 /// of each other.
-pub fn cycles_turn()
-    ensures turns { RotationsAreChains }
+pub fn cycles_rotate()
+    ensures rotations { RotationsAreChains }
     ensures one { SharesOnlyRotations }
 {}

@@ -1,6 +1,6 @@
 //! Laws of removals.
 
-ghost use Rattle.chain_laws.specs.Removals.{RemovalAgrees, RemovalRemoves, RemovalInPairs, RemovalIsDetermined, RemovalLeavesEachWithout, RemovalIsDeterminedByPairs, RemovalOfLoneRestores};
+ghost use Rattle.chain_laws.specs.Removals.{RemovalAgrees, RemovalRelinks, RemovalInPairs, RemovalIsDetermined, RemovalLeavesEachWithout, RemovalIsDeterminedByPairs, RemovalOfLoneRestores};
 
 /// States that a removal keeps the arena well linked.
 pub fn removal_agrees()
@@ -10,8 +10,8 @@ pub fn removal_agrees()
 /// States that an index leaves its chain, which stays linear or cyclic; other chains stay.
 ///
 /// A chain of that index alone is gone.
-pub fn removal_removes()
-    ensures { RemovalRemoves }
+pub fn removal_relinks()
+    ensures { RemovalRelinks }
 {}
 
 /// States that a removal drops all pairs with the index, and pairs the links on its two sides.

@@ -9,7 +9,7 @@ pub fn walker_passes_the_walk()
 {}
 
 /// States that a walker passes what its steps pass.
-pub fn walker_goes_by_steps()
+pub fn walker_moves_by_steps()
     ensures { StepsPass }
 {}
 

@@ -9,21 +9,21 @@ use Rattle.chain_links.specs.ChainArena.{LinkView, link_map, entry, link_value, 
 use Rattle.chain_links.specs.Walkers.{index_and_entry, IsPassing}
 use Rattle.chain_links.proofs.MappedArenaLemmas.{entry_at-with_each}
 
--- a lookup that returns `None` finds no link
+-- A lookup that returns `None` finds no link.
 module _ {Gen T : Type 0} (i : ℕ) where
   pub read_none : (o : Option (Gen × LinkView T)) → None ≡ option_map (index_and_entry i) o → o ≡ None
   read_none None states = refl
   read_none (Some e) states = absurd (let h = states in cc)
 
 module _ {Gen T : Type 0} (a : Arena Gen (LinkView T)) where
-  -- the pointer to a link is valid
+  -- The pointer to a link is valid.
   pub valid_there : (i : ℕ) (p : ℕ × Gen) (link : LinkView T) → entry_at a i ≡ Some (p.1, link) → p.0 ≡ i → IsValid (entry a) p
   valid_there i p link stored at = record {
     value = link.value;
     stored = ap (entry a) at ∙ entry_at-with_each link_value a i ∙ ap (option_map (on_value link_value)) stored;
   }
 
-  -- the next index of the advancer has no link
+  -- The next index of the advancer has no link.
   module _ (start i : ℕ) (none : entry_at a i ≡ None) where
     no_entry : entry a i ≡ None
     no_entry = entry_at-with_each link_value a i ∙ ap (option_map (on_value link_value)) none
@@ -36,7 +36,7 @@ module _ {Gen T : Type 0} (a : Arena Gen (LinkView T)) where
     ends_back zero = tt
     ends_back (suc left) = no_entry
 
--- one call, by its step
+-- One call, by its step.
 module _ {Gen T : Type 0} (entry : ℕ → Option (Gen × T)) (interlinks : LinkMap) (start : ℕ) (forth back : Option ℕ) where
   pub is_passed : (left : ℕ) (p : ℕ × Gen) (forth_then back_then : Option ℕ) → (left ≡ 0 → ⊥) → IsValid entry p
       → ((n : ℕ) → next_step (suc n) interlinks start forth back ≡ Some (p.0, record { left = n; start = start; forth = forth_then; back = back_then }))
@@ -53,7 +53,7 @@ module _ {Gen T : Type 0} (entry : ℕ → Option (Gen × T)) (interlinks : Link
       → IsPassing entry interlinks (record { left = left; start = start; forth = forth; back = back }) None (record { left = 0; start = start; forth = forth; back = back })
   is_ended left ends = record { passed = tt; spent = refl; end = ends left }
 
--- walkers with equal parts are equal
+-- Walkers with equal parts are equal.
 pub same_walkers : {l m s t : ℕ} {f e b d : Option ℕ} → l ≡ m → s ≡ t → f ≡ e → b ≡ d
     → ◌≡◌ {A = Walker} (record { left = l; start = s; forth = f; back = b }) (record { left = m; start = t; forth = e; back = d })
 same_walkers {l} {m} {s} {t} {f} {e} {b} {d} left start forth back =

@@ -27,14 +27,14 @@ truth_of_not true h = refl
 truth_of_not false h = absurd (let k = h in cc)
 
 module _ {Gen K T : Type 0} (number : K → Option ℕ) where
-  -- the neighbors of a link in the link map
+  -- The neighbors of a link in the link map.
   pub next_of-view_after : (a : Arena Gen (LinkBody K T)) (p : ℕ × Gen) (link : LinkBody K T) → entry_at a p.0 ≡ Some (p.1, link) → next_of (link_map (links_view number a)) p.0 ≡ number link.next
   next_of-view_after a p link stored = ap (λ (o : Option (Gen × LinkView T)). next_in (option_map interlinks_of o)) (entry_at-links_view number a p.0 ∙ ap (option_map (pair_view number)) stored)
 
   pub prev_of-view_after : (a : Arena Gen (LinkBody K T)) (p : ℕ × Gen) (link : LinkBody K T) → entry_at a p.0 ≡ Some (p.1, link) → prev_of (link_map (links_view number a)) p.0 ≡ number link.prev
   prev_of-view_after a p link stored = ap (λ (o : Option (Gen × LinkView T)). prev_in (option_map interlinks_of o)) (entry_at-links_view number a p.0 ∙ ap (option_map (pair_view number)) stored)
 
-  -- the same pointers are valid for links and for values
+  -- The same pointers are valid for links and for values.
   pub same_valid : (a : Arena Gen (LinkBody K T)) (p : ℕ × Gen) → IsValidPtr a p ↔ IsValidPtr (values_of (links_view number a)) p
   same_valid a p =
       let first = IsValidPtr-with_each (link_view number) a p in
@@ -44,11 +44,11 @@ module _ {Gen K T : Type 0} (number : K → Option ℕ) where
   valid-view_after : (a : Arena Gen (LinkBody K T)) (p : ℕ × Gen) (link : LinkBody K T) → entry_at a p.0 ≡ Some (p.1, link) → IsValidPtr (values_of (links_view number a)) p
   valid-view_after a p link stored = (same_valid a p).0 (record { value = link; stored = stored })
 
-  -- a valid pointer has a link
+  -- A valid pointer has a link.
   pub valid_at : (a : Arena Gen (LinkBody K T)) (p : ℕ × Gen) (link : LinkBody K T) → entry_at a p.0 ≡ Some (p.1, link) → HasLink (link_map (links_view number a)) p.0
-  valid_at a p link stored = record { link = interlinks_of (p.1, link_view number link); reports = ap (option_map interlinks_of) (entry_at-links_view number a p.0 ∙ ap (option_map (pair_view number)) stored) }
+  valid_at a p link stored = record { link = interlinks_of (p.1, link_view number link); links = ap (option_map interlinks_of) (entry_at-links_view number a p.0 ∙ ap (option_map (pair_view number)) stored) }
 
-  -- a link is an end exactly if it has no next
+  -- A link is an end exactly if it has no next.
   pub ends : (a : Arena Gen (LinkBody K T)) (p : ℕ × Gen) (link : LinkBody K T) (b : Bool) → entry_at a p.0 ≡ Some (p.1, link) → is_some (number link.next) ≡ not b
       → IsTrue b ↔ IsValidEnd (entry_at (values_of (links_view number a))) (link_map (links_view number a)) p
   ends a p link b at states = (
@@ -56,7 +56,7 @@ module _ {Gen K T : Type 0} (number : K → Option ℕ) where
     (λ is. truth_of_not b (sym (ap is_some (sym (next_of-view_after a p link at) ∙ is.end)) ∙ states)),
   )
 
-  -- a link is a start exactly if it has no prev
+  -- A link is a start exactly if it has no prev.
   pub starts : (a : Arena Gen (LinkBody K T)) (p : ℕ × Gen) (link : LinkBody K T) (b : Bool) → entry_at a p.0 ≡ Some (p.1, link) → is_some (number link.prev) ≡ not b
       → IsTrue b ↔ IsValidStart (entry_at (values_of (links_view number a))) (link_map (links_view number a)) p
   starts a p link b at states = (
@@ -64,7 +64,7 @@ module _ {Gen K T : Type 0} (number : K → Option ℕ) where
     (λ is. truth_of_not b (sym (ap is_some (sym (prev_of-view_after a p link at) ∙ is.start)) ∙ states)),
   )
 
-  -- an invalid pointer is neither an end nor a start
+  -- An invalid pointer is neither an end nor a start.
   pub not_valid : (a : Arena Gen (LinkBody K T)) (p : ℕ × Gen) → (IsValidPtr a p → ⊥) → IsValidPtr (values_of (links_view number a)) p → ⊥
   not_valid a p invalid valid = invalid ((same_valid a p).1 valid)
 
@@ -75,28 +75,28 @@ module _ {Gen T : Type 0} where
   link_map-joined : (a : Arena Gen (LinkView T)) (i j : ℕ) → link_map (relinked a (with_join (link_map a) i j)) ≡ with_join (link_map a) i j
   link_map-joined a i j = link_map-relinked a (with_join (link_map a) i j) (FitsLinks-linked a (Some i) (Some j))
 
-  -- the join of two links that may be joined
+  -- The join of two links that may be joined.
   module _ (a b : Arena Gen (LinkView T)) (p q : ℕ × Gen) (can : CanConnect (entry_at (values_of a)) (link_map a) p q) (is_joined : b ≡ relinked a (with_join (link_map a) p.0 q.0)) where
-    pub reports : link_map b ≡ with_join (link_map a) p.0 q.0
-    reports = ap (λ (x : Arena Gen (LinkView T)). link_map x) is_joined ∙ link_map-joined a p.0 q.0
+    pub links : link_map b ≡ with_join (link_map a) p.0 q.0
+    links = ap (λ (x : Arena Gen (LinkView T)). link_map x) is_joined ∙ link_map-joined a p.0 q.0
 
-    -- values are unchanged
+    -- Values are unchanged.
     pub joined-values : values_of b ≡ values_of a
     joined-values = ap (λ (x : Arena Gen (LinkView T)). values_of x) is_joined ∙ values_of-relinked a (with_join (link_map a) p.0 q.0) (FitsLinks-linked a (Some p.0) (Some q.0))
 
-    -- the interlinks stay consistent
+    -- The interlinks stay consistent.
     pub joined-agrees : IsWellLinked (link_map a) → IsWellLinked (link_map b)
-    joined-agrees agrees = subst IsWellLinked (sym reports) (joined_agrees (link_map a) p.0 q.0 agrees (end_and_start a p q can))
+    joined-agrees agrees = subst IsWellLinked (sym links) (joined_agrees (link_map a) p.0 q.0 agrees (end_and_start a p q can))
 
-    -- one pair is added
+    -- One pair is added.
     pub joined-pair : AddsPair (link_map a) (link_map b) p.0 q.0
-    joined-pair = subst (λ (new : LinkMap). AddsPair (link_map a) new p.0 q.0) (sym reports) (joined_adds_a_pair (link_map a) p.0 q.0 (end_and_start a p q can))
+    joined-pair = subst (λ (new : LinkMap). AddsPair (link_map a) new p.0 q.0) (sym links) (joined_adds_a_pair (link_map a) p.0 q.0 (end_and_start a p q can))
 
-    -- the chains are connected
+    -- The chains are connected.
     pub joined-chains : Connects (link_map a) (link_map b) p.0 q.0
-    joined-chains = subst (λ (new : LinkMap). Connects (link_map a) new p.0 q.0) (sym reports) (joined_connects (link_map a) p.0 q.0)
+    joined-chains = subst (λ (new : LinkMap). Connects (link_map a) new p.0 q.0) (sym links) (joined_connects (link_map a) p.0 q.0)
 
--- clearing a new `next` restores a link without one
+-- Clearing a new `next` restores a link without one.
 cleared : (l : Option Interlinks) (v : Option ℕ) → next_in l ≡ None → option_map (with_next None) (option_map (with_next v) l) ≡ l
 cleared None v none = refl
 cleared (Some l) v none = ap (λ (o : Option ℕ). let x : Option Interlinks = Some (with_next o l) in x) (sym none)
@@ -110,13 +110,13 @@ undone m i v none = fun_ext (λ j. ⊎_elim (at j) (off j) (cases_eq j i))
     off : (j : ℕ) → (j ≡ i → ⊥) → next_set (next_set m (Some i) v) (Some i) None j ≡ m j
     off j other = if_other j i _ _ other ∙ if_other j i _ _ other
 
--- a write to `next` leaves `prev` unchanged
+-- A write to `next` leaves `prev` unchanged.
 prev_kept : (b : Bool) (l : Option Interlinks) (v : Option ℕ) → prev_in (if b then option_map (with_next v) l else l) ≡ prev_in l
 prev_kept true None v = refl
 prev_kept true (Some l) v = refl
 prev_kept false l v = refl
 
--- p names q, before q is checked
+-- p names q, before q is checked.
 module _ {Gen T : Type 0} (a b : Arena Gen (LinkView T)) (p q : ℕ × Gen) (named : b ≡ relinked a (next_set (link_map a) (Some p.0) (Some q.0))) where
   abbrev names : LinkMap
   names = next_set (link_map a) (Some p.0) (Some q.0)
@@ -133,7 +133,7 @@ module _ {Gen T : Type 0} (a b : Arena Gen (LinkView T)) (p q : ℕ × Gen) (nam
   same_prev : prev_of (link_map b) q.0 ≡ prev_of (link_map a) q.0
   same_prev = ap (λ (m : LinkMap). prev_of m q.0) reports_names ∙ prev_kept (q.0 == p.0) (link_map a q.0) (Some q.0)
 
-  -- p and q may be connected if q is then a start
+  -- p and q may be connected if q is then a start.
   pub named_may : IsValidEnd (entry_at (values_of a)) (link_map a) p → IsValidStart (entry_at (values_of b)) (link_map b) q → CanConnect (entry_at (values_of a)) (link_map a) p q
   named_may first second = record {
     first_valid = first.valid;
@@ -142,11 +142,11 @@ module _ {Gen T : Type 0} (a b : Arena Gen (LinkView T)) (p q : ℕ × Gen) (nam
     no_prev = sym same_prev ∙ second.start;
   }
 
-  -- p and q may not be connected if q is then no start
+  -- p and q may not be connected if q is then no start.
   pub named_may_not : (IsValidStart (entry_at (values_of b)) (link_map b) q → ⊥) → CanConnect (entry_at (values_of a)) (link_map a) p q → ⊥
   named_may_not fails can = fails (record { valid = subst (λ (v : Arena Gen T). IsValidPtr v q) (sym same_values) can.second_valid; start = same_prev ∙ can.no_prev })
 
-  -- clearing `next` of p again restores the arena
+  -- Clearing `next` of p again restores the arena.
   pub taken_back : (c : Arena Gen (LinkView T)) → next_of (link_map a) p.0 ≡ None → c ≡ relinked b (next_set (link_map b) (Some p.0) None) → c ≡ a
   taken_back c none back =
       back ∙ (ap (λ (m : LinkMap). relinked b (next_set m (Some p.0) None)) reports_names
@@ -155,18 +155,18 @@ module _ {Gen T : Type 0} (a b : Arena Gen (LinkView T)) (p q : ℕ × Gen) (nam
       ∙ (ap (relinked a) (undone (link_map a) p.0 (Some q.0) none) ∙ sym (relinked-own a)))))
 
 module _ {Gen K T : Type 0} (number : K → Option ℕ) where
-  -- the value of the link at an index
+  -- The value of the link at an index.
   pub value_at : (a : Arena Gen (LinkBody K T)) (i : ℕ) → entry_at (values_of (links_view number a)) i ≡ option_map (on_value (λ l. l.t)) (entry_at a i)
   value_at a i = entry_at-with_each link_value (links_view number a) i ∙ (ap (option_map (on_value link_value)) (entry_at-links_view number a i) ∙ twice (entry_at a i)) where
     twice : (o : Option (Gen × LinkBody K T)) → option_map (on_value link_value) (option_map (pair_view number) o) ≡ option_map (on_value (λ l. l.t)) o
     twice None = refl
     twice (Some e) = refl
 
-  -- the current pointer to a link
+  -- The current pointer to a link.
   pub ptr_at-some : (a : Arena Gen (LinkBody K T)) (i : ℕ) (g : Gen) (link : LinkBody K T) → entry_at a i ≡ Some (g, link) → ptr_at (entry_at (values_of (links_view number a))) i ≡ Some (i, g)
   ptr_at-some a i g link stored = ap (λ (o : Option (Gen × T)). let p : Option (ℕ × Gen) = option_map (λ e. (i, e.0)) o in p) (value_at a i ∙ ap (option_map (on_value (λ l. l.t))) stored)
 
-  -- the link of a pointer, with current pointers to its neighbors
+  -- The link of a pointer, with current pointers to its neighbors.
   pub link_at_ptr : (a : Arena Gen (LinkBody K T)) (p : ℕ × Gen) (link : LinkBody K T) (prev next : Option (ℕ × Gen)) → entry_at a p.0 ≡ Some (p.1, link)
       → prev ≡ option_and_then (ptr_at (entry_at (values_of (links_view number a)))) (number link.prev)
       → next ≡ option_and_then (ptr_at (entry_at (values_of (links_view number a)))) (number link.next)

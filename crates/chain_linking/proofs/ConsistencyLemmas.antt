@@ -4,7 +4,7 @@ use Rattle.std.specs.Prelude.{IsTrue}
 use Rattle.chain_laws.specs.Chains.{LinkMap, Interlinks, IsWellLinked, HasLinksWithin, prev_in, next_in}
 use Rattle.chain_linking.specs.Consistency.{IsWellLinkedAt}
 
--- reading the link that an interlink names decides consistency
+-- Reading the link that an interlink names decides consistency.
 pub is_responded : (named naming : ℕ → Option ℕ) (i j : ℕ) (lookup : Option ℕ) (returned : Bool) → Some j ≡ named i → lookup ≡ naming j → (IsTrue returned ↔ (lookup ≡ Some i))
     → IsTrue returned ↔ ((k : ℕ) → named i ≡ Some k → naming k ≡ Some i)
 is_responded named naming i j lookup returned names was_read test = (
@@ -13,14 +13,14 @@ is_responded named naming i j lookup returned names was_read test = (
 )
 
 module _ (link_map : LinkMap) where
-  -- an index without a link is consistent
+  -- An index without a link is consistent.
   nothing_there : (i : ℕ) → link_map i ≡ None → IsWellLinkedAt link_map i
   nothing_there i none = record {
     forth = λ j at. absurd (let both = sym (ap next_in none) ∙ at in cc);
     back = λ j at. absurd (let both = sym (ap prev_in none) ∙ at in cc);
   }
 
-  -- interlinks that are consistent within the slots are consistent
+  -- Interlinks that are consistent within the slots are consistent.
   pub agrees_all : (slots : ℕ) → HasLinksWithin link_map slots → ((k : ℕ) → k < slots → IsWellLinkedAt link_map (k + 1)) → IsWellLinked link_map
   agrees_all slots within each = record { both = λ i j. ((at i).forth j, (at j).back i) } where
     there : (i : ℕ) → (1 ≤ i) × (i ≤ slots) → IsWellLinkedAt link_map i
@@ -29,7 +29,7 @@ module _ (link_map : LinkMap) where
 
     by : (i : ℕ) (o : Option Interlinks) → link_map i ≡ o → IsWellLinkedAt link_map i
     by i None is = nothing_there i is
-    by i (Some link) is = there i (within.within i (record { link = link; reports = is }))
+    by i (Some link) is = there i (within.within i (record { link = link; links = is }))
 
     at : (i : ℕ) → IsWellLinkedAt link_map i
     at i = by i (link_map i) refl

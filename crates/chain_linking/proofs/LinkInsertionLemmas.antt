@@ -24,7 +24,7 @@ use Rattle.chain_linking.proofs.LinkWriteLemmas.{relink-own, FitsLinks, FitsLink
 use Rattle.chain_links.proofs.MappedArenaLemmas.{is_some-map}
 
 module _ {Gen T : Type 0} where
-  -- two writes make u and v name q
+  -- Two writes make u and v name q.
   pub named_by_writes : (a b c : Arena Gen (LinkView T)) (u v : Option ℕ) (q : ℕ) → b ≡ relinked a (next_set (link_map a) u (Some q)) → c ≡ relinked b (prev_set (link_map b) v (Some q)) → c ≡ named_by a u v q
   named_by_writes a b c u v q first second =
       let followed = next_set (link_map a) u (Some q) in
@@ -34,7 +34,7 @@ module _ {Gen T : Type 0} where
       ∙ relinked-again a followed (prev_set followed v (Some q)) fits))
 
 module _ {Gen T : Type 0} (a : Arena Gen (LinkView T)) (free : AreFree a.slots a.freed) (t : T) where
-  -- a link that names others is a lone link with interlinks written, at each index
+  -- A link that names others is a lone link with interlinks written, at each index.
   named_at : (b : Bool) (u v : Option ℕ) (e : Option (Gen × LinkView T)) → (if b then Some (a.counter, new_link t u v) else e)
       ≡ relink (if b then Some (link u v) else option_map interlinks_of e) (if b then Some (a.counter, lone t) else e)
   named_at true u v e = refl
@@ -53,7 +53,7 @@ module _ {Gen T : Type 0} (a : Arena Gen (LinkView T)) (free : AreFree a.slots a
   FitsLinks-with_link : (u v : Option ℕ) → FitsLinks (with_link (link_map a) (next_index a) u v) (insert_lone a t)
   FitsLinks-with_link u v i = fits_at (i == next_index a) u v (entry_at a i) ∙ ap is_some (sym (slot_at-filled a.freed a.slots (a.counter, lone t) i free))
 
-  -- a link that names u and v and is named by them is inserted between them
+  -- A link that names u and v and is named by them is inserted between them.
   pub placed : (u v : Option ℕ) → (u ≡ Some (next_index a) → v ≡ Some (next_index a)) → named_by (insert_next a (new_link t u v)) u v (next_index a) ≡ insert_between a t u v
   placed u v itself =
       let base = insert_lone a t in
@@ -64,21 +64,21 @@ module _ {Gen T : Type 0} (a : Arena Gen (LinkView T)) (free : AreFree a.slots a
       ∙ (ap (λ (m : LinkMap). relinked (relinked base named) (prev_set (next_set m u (Some q)) v (Some q))) (link_map-relinked base named fits)
       ∙ (relinked-again base named (prev_set (next_set named u (Some q)) v (Some q)) fits ∙ ap (relinked base) (inserted_by_writes (link_map a) q u v itself)))
 
-  -- a lone link that is then named by itself is a ring
+  -- A lone link that is then named by itself is a ring.
   pub ringed : named_by (insert_lone a t) (Some (next_index a)) (Some (next_index a)) (next_index a) ≡ insert_between a t (Some (next_index a)) (Some (next_index a))
   ringed =
       let q = next_index a in
       ap (λ (m : LinkMap). relinked (insert_lone a t) (with_neighbors m (Some q) (Some q))) (link_map-insert_lone a t free)
       ∙ ap (relinked (insert_lone a t)) (ringed_by_writes (link_map a) q)
 
-  -- a new link that the links of its position name is inserted there
+  -- A new link that the links of its position name is inserted there.
   pub placed_in : {I : Type 0} (number : I → ℕ) (position : InsertPosition I) → (before_in number position (next_index a) ≡ Some (next_index a) → after_in number position (next_index a) ≡ Some (next_index a))
       → named_by (insert_next a (new_link t (named_before number position) (named_after number position))) (before_in number position (next_index a)) (after_in number position (next_index a)) (next_index a)
       ≡ insert_between a t (before_in number position (next_index a)) (after_in number position (next_index a))
   placed_in number Itself itself = ringed
   placed_in number (Between u v) itself = placed (option_map number u) (option_map number v) itself
 
--- an insertion in the stored arena of links
+-- An insertion in the stored arena of links.
 module _ {Gen K T I : Type 0} (packed : K → Option ℕ) (number : I → ℕ) (a b : Arena Gen (LinkBody K T)) (d : Arena Gen (LinkView T)) (position : InsertPosition I) (t : T) (link : LinkBody K T)
     (listed : IsListed a) (link_is : link_view packed link ≡ new_link t (named_before number position) (named_after number position))
     (itself : before_in number position (next_index (links_view packed a)) ≡ Some (next_index (links_view packed a)) → after_in number position (next_index (links_view packed a)) ≡ Some (next_index (links_view packed a)))
@@ -99,7 +99,7 @@ module _ {Gen K T I : Type 0} (packed : K → Option ℕ) (number : I → ℕ) (
   pub placed_in_capacity : b ≡ insert_next a link → d ≡ in_position
   placed_in_capacity is = linked_next ∙ (ap (λ (x : Arena Gen (LinkBody K T)). linked_at_next (links_view packed x)) is ∙ named_next)
 
--- the entries after the insertion of a link
+-- The entries after the insertion of a link.
 module _ {Gen T : Type 0} (a : Arena Gen (LinkView T)) (free : AreFree a.slots a.freed) (l : LinkView T) where
   abbrev entry_after : ℕ → Option (Gen × LinkView T)
   entry_after i = if i == next_index a then Some (a.counter, l) else entry_at a i
@@ -108,12 +108,12 @@ module _ {Gen T : Type 0} (a : Arena Gen (LinkView T)) (free : AreFree a.slots a
   reports_after i = ap (option_map interlinks_of) (slot_at-filled a.freed a.slots (a.counter, l) i free)
 
   new_stored : (i : ℕ) → i ≡ next_index a → HasLink (link_map (insert_next a l)) i
-  new_stored i same = record { link = interlinks_of (a.counter, l); reports = reports_after i ∙ ap (option_map interlinks_of) (if_same i (next_index a) _ _ same) }
+  new_stored i same = record { link = interlinks_of (a.counter, l); links = reports_after i ∙ ap (option_map interlinks_of) (if_same i (next_index a) _ _ same) }
 
   old_stored : (i : ℕ) → HasLink (link_map a) i → HasLink (link_map (insert_next a l)) i
-  old_stored i has = ⊎_elim (new_stored i) (λ other. record { link = has.link; reports = reports_after i ∙ (ap (option_map interlinks_of) (if_other i (next_index a) _ _ other) ∙ has.reports) }) (cases_eq i (next_index a))
+  old_stored i has = ⊎_elim (new_stored i) (λ other. record { link = has.link; links = reports_after i ∙ (ap (option_map interlinks_of) (if_other i (next_index a) _ _ other) ∙ has.links) }) (cases_eq i (next_index a))
 
-  -- the links of the position exist
+  -- The links of the position exist.
   position_stored : (u v : Option ℕ) → IsWellLinked (link_map a) → IsInsertPosition (link_map a) (next_index a) u v → IfSome u (HasLink (link_map (insert_next a l))) × IfSome v (HasLink (link_map (insert_next a l)))
   position_stored u v agrees position =
       let between = position_between (link_map a) (next_index a) u v agrees (link_map-next a free) position in (
@@ -121,7 +121,7 @@ module _ {Gen T : Type 0} (a : Arena Gen (LinkView T)) (free : AreFree a.slots a
         if_each v (HasLink (link_map (insert_next a l))) (λ i is. ⊎_elim (old_stored i) (new_stored i) (between.valid_after i is)),
       )
 
--- the links of a position exist in the stored arena of links after the insertion
+-- The links of a position exist in the stored arena of links after the insertion.
 module _ {Gen K T I : Type 0} (packed : K → Option ℕ) (number : I → ℕ) (a b : Arena Gen (LinkBody K T)) (position : InsertPosition I) (link : LinkBody K T) (listed : IsListed a) (agrees : IsWellLinked (link_map (links_view packed a)))
     (is_position : IsInsertPosition (link_map (links_view packed a)) (next_index (links_view packed a)) (before_in number position (next_index (links_view packed a))) (after_in number position (next_index (links_view packed a))))
     (i : ℕ) (at : i ≡ next_index a) (is : b ≡ insert_next a link) where

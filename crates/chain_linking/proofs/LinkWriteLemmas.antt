@@ -20,16 +20,16 @@ is_some-if true change l = is_some-map change l
 is_some-if false change l = refl
 
 module _ {Gen T : Type 0} where
-  -- an entry with its own interlinks is itself
+  -- An entry with its own interlinks is itself.
   pub relink-own : (o : Option (Gen × LinkView T)) → o ≡ relink (option_map interlinks_of o) o
   relink-own None = refl
   relink-own (Some e) = refl
 
-  -- an arena with its own interlinks is itself
+  -- An arena with its own interlinks is itself.
   pub relinked-own : (a : Arena Gen (LinkView T)) → a ≡ relinked a (link_map a)
   relinked-own a = is_relinked a a (link_map a) refl refl (λ i. relink-own (entry_at a i))
 
-  -- interlinks for exactly the links of the arena
+  -- Interlinks for exactly the links of the arena.
   abbrev pub FitsLinks : LinkMap → Arena Gen (LinkView T) → Type 0
   FitsLinks interlinks a = (i : ℕ) → is_some (interlinks i) ≡ is_some (entry_at a i)
 
@@ -45,11 +45,11 @@ module _ {Gen T : Type 0} where
   relink-again (Some l) None (Some e) same = refl
   relink-again (Some l) (Some m) (Some e) same = refl
 
-  -- the link map is the interlinks that were written
+  -- The link map is the interlinks that were written.
   pub link_map-relinked : (a : Arena Gen (LinkView T)) (interlinks : LinkMap) → FitsLinks interlinks a → link_map (relinked a interlinks) ≡ interlinks
   link_map-relinked a interlinks fits = fun_ext (λ i. ap (option_map interlinks_of) (entry_at-relinked a interlinks i) ∙ interlinks-relink (interlinks i) (entry_at a i) (fits i))
 
-  -- of two writes of all interlinks the second counts
+  -- Of two writes of all interlinks the second counts.
   pub relinked-again : (a : Arena Gen (LinkView T)) (first second : LinkMap) → FitsLinks first a → relinked (relinked a first) second ≡ relinked a second
   relinked-again a first second fits = is_relinked a (relinked (relinked a first) second) second
       (length-relinked (relinked a first) second ∙ length-relinked a first) refl
@@ -71,7 +71,7 @@ module _ {Gen T : Type 0} where
   value-relink None (Some e) same = absurd (let h = same in cc)
   value-relink (Some l) (Some e) same = refl
 
-  -- values are unchanged
+  -- Values are unchanged.
   pub values_of-relinked : (a : Arena Gen (LinkView T)) (interlinks : LinkMap) → FitsLinks interlinks a → values_of (relinked a interlinks) ≡ values_of a
   values_of-relinked a interlinks fits =
       ap (λ (slots : List (Option (Gen × T))). let b : Arena Gen T = record (values_of a) { slots = slots } in b)
@@ -84,7 +84,7 @@ module _ {Gen T : Type 0} where
   pub FitsLinks-linked : (a : Arena Gen (LinkView T)) (u v : Option ℕ) → FitsLinks (with_neighbors (link_map a) u v) a
   FitsLinks-linked a u v = FitsLinks-prev_set a (next_set (link_map a) u v) v u (FitsLinks-next_set a (link_map a) u v (FitsLinks-link_map a))
 
-  -- writes to `next` and `prev` link a pair
+  -- Writes to `next` and `prev` link a pair.
   pub linked_by_writes : (a b c : Arena Gen (LinkView T)) (u v : Option ℕ) → b ≡ relinked a (next_set (link_map a) u v) → c ≡ relinked b (prev_set (link_map b) v u)
       → c ≡ relinked a (with_neighbors (link_map a) u v)
   linked_by_writes a b c u v first second =
@@ -94,7 +94,7 @@ module _ {Gen T : Type 0} where
       ∙ (ap (λ (m : LinkMap). relinked (relinked a (next_set (link_map a) u v)) (prev_set m v u)) (link_map-relinked a (next_set (link_map a) u v) fits)
       ∙ relinked-again a (next_set (link_map a) u v) (with_neighbors (link_map a) u v) fits))
 
-  -- two pairs are linked one after another
+  -- Two pairs are linked one after another.
   pub linked_twice : (a b c : Arena Gen (LinkView T)) (u v w x : Option ℕ) → b ≡ relinked a (with_neighbors (link_map a) u v) → c ≡ relinked b (with_neighbors (link_map b) w x)
       → c ≡ relinked a (with_neighbors (with_neighbors (link_map a) u v) w x)
   linked_twice a b c u v w x first second =
@@ -106,7 +106,7 @@ module _ {Gen T : Type 0} where
   pub FitsLinks-twice : (a : Arena Gen (LinkView T)) (u v w x : Option ℕ) → FitsLinks (with_neighbors (with_neighbors (link_map a) u v) w x) a
   FitsLinks-twice a u v w x = FitsLinks-prev_set a (next_set (with_neighbors (link_map a) u v) w x) x w (FitsLinks-next_set a (with_neighbors (link_map a) u v) w x (FitsLinks-linked a u v))
 
--- as contracts see links, `write` changes their interlinks by `change`
+-- As contracts see links, `write` changes their interlinks by `change`.
 abbrev pub IsWrite : {K T : Type 0} → (K → Option ℕ) → (LinkBody K T → LinkBody K T) → (Interlinks → Interlinks) → Type 0
 IsWrite {K} {T} number write change = (l : LinkBody K T) → link_view number (write l) ≡ with_interlinks (change (interlinks_in (link_view number l))) (link_view number l)
 
@@ -119,7 +119,7 @@ module _ {Gen K T : Type 0} (number : K → Option ℕ) where
   view_after-write (Some e) link write change is stored =
       ap (λ (l : LinkBody K T). let o : Option (Gen × LinkView T) = Some (e.0, link_view number (write l)) in o) (sym (one_some stored)) ∙ ap (λ (l : LinkView T). let o : Option (Gen × LinkView T) = Some (e.0, l) in o) (is e.1)
 
-  -- a write to a link, in an arena of links
+  -- A write to a link, in an arena of links.
   pub links_view-write : (a : Arena Gen (LinkBody K T)) (n : ℕ) (link : LinkBody K T) (write : LinkBody K T → LinkBody K T) (change : Interlinks → Interlinks) (interlinks : LinkMap) → IsWrite number write change
       → option_map (λ (e : Gen × LinkBody K T). e.1) (entry_at a n) ≡ Some link
       → ((i : ℕ) → interlinks i ≡ (if i == n then option_map change (link_map (links_view number a) i) else link_map (links_view number a) i))

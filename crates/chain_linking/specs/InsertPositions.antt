@@ -10,7 +10,7 @@ use Rattle.chain_linking.specs.declared.insert_position.InsertPosition.{InsertPo
 use Rattle.chain_linking.specs.declared.insert_position.InsertPosition.TheVariants.{Itself, Between}
 
 module _ {I : Type 0} (number : I → ℕ) where
-  -- the two links beside a new one at q
+  -- The two links beside a new one at q.
   abbrev pub before_in : InsertPosition I → ℕ → Option ℕ
   before_in Itself q = Some q
   before_in (Between u v) q = option_map number u
@@ -19,7 +19,7 @@ module _ {I : Type 0} (number : I → ℕ) where
   after_in Itself q = Some q
   after_in (Between u v) q = option_map number v
 
-  -- the links that the new one names before its index is known
+  -- The links that the new one names before its index is known.
   abbrev pub named_before : InsertPosition I → Option ℕ
   named_before Itself = None
   named_before (Between u v) = option_map number u
@@ -28,21 +28,21 @@ module _ {I : Type 0} (number : I → ℕ) where
   named_after Itself = None
   named_after (Between u v) = option_map number v
 
-  -- the result is the position of the kind, or `None` if it may not be inserted
+  -- The result is the position of the kind, or `None` if it may not be inserted.
   pub record IsPositionOf {Gen T : Type 0} (entry : ℕ → Option (Gen × T)) (interlinks : LinkMap) (kind : InsertKind (LinkName Gen)) (returned : Option (InsertPosition I)) : Type 0 where
     pub some : IsSome returned ↔ MayInsert entry interlinks kind
     pub before : IfSome returned (λ position. (q : ℕ) → before_in position q ≡ link_before interlinks (by_index kind) q)
     pub after : IfSome returned (λ position. (q : ℕ) → after_in position q ≡ link_after interlinks (by_index kind) q)
 
   module _ {Gen T : Type 0} where
-    -- the position of a kind in an arena of links
+    -- The position of a kind in an arena of links.
     abbrev pub IsPositionIn : Arena Gen (LinkView T) → InsertKind (LinkName Gen) → Option (InsertPosition I) → Type 0
     IsPositionIn a kind returned = IsPositionOf (entry a) (link_map a) kind returned
 
-    -- the index after the link with the name, if there is such a link
+    -- The index after the link with the name, if there is such a link.
     abbrev pub IsNextOf : Arena Gen (LinkView T) → LinkName Gen → Option I → Type 0
     IsNextOf a name returned = HasName (entry a) name → option_map number returned ≡ next_of (link_map a) name.0
 
-    -- the index before the link with the name, if there is such a link
+    -- The index before the link with the name, if there is such a link.
     abbrev pub IsPrevOf : Arena Gen (LinkView T) → LinkName Gen → Option I → Type 0
     IsPrevOf a name returned = HasName (entry a) name → option_map number returned ≡ prev_of (link_map a) name.0

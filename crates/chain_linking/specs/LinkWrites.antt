@@ -6,40 +6,40 @@ use Rattle.chain_laws.specs.Joins.{next_set, prev_set, with_neighbors}
 use Rattle.arena_base.specs.Arena.{Arena, IsValid}
 use Rattle.chain_links.specs.ChainArena.{LinkView, link_map, relinked}
 
--- two optional indexes as numbers
+-- Two optional indexes as numbers.
 abbrev pub numbers : {I : Type 0} → (I → ℕ) → Option I × Option I → Option ℕ × Option ℕ
 numbers number p = (option_map number p.0, option_map number p.1)
 
 module _ {Gen T : Type 0} where
-  -- the `next` of the link at i is written
+  -- The `next` of the link at i is written.
   abbrev pub next_written : Arena Gen (LinkView T) → Option ℕ → Option ℕ → Arena Gen (LinkView T)
   next_written a i next = relinked a (next_set (link_map a) i next)
 
-  -- the `prev` of the link at i is written
+  -- The `prev` of the link at i is written.
   abbrev pub prev_written : Arena Gen (LinkView T) → Option ℕ → Option ℕ → Arena Gen (LinkView T)
   prev_written a i prev = relinked a (prev_set (link_map a) i prev)
 
-  -- v comes after u
+  -- v comes after u.
   abbrev pub linked_up : Arena Gen (LinkView T) → Option ℕ → Option ℕ → Arena Gen (LinkView T)
   linked_up a u v = relinked a (with_neighbors (link_map a) u v)
 
-  -- the pair p is linked, then the pair q
+  -- The pair p is linked, then the pair q.
   abbrev pub linked_twice : Arena Gen (LinkView T) → Option ℕ × Option ℕ → Option ℕ × Option ℕ → Arena Gen (LinkView T)
   linked_twice a p q = relinked a (with_neighbors (with_neighbors (link_map a) p.0 p.1) q.0 q.1)
 
 module _ {Gen T : Type 0} (entry : ℕ → Option (Gen × T)) (interlinks : LinkMap) (p : ℕ × Gen) where
-  -- p is valid, and no link comes after it
+  -- p is valid, and no link comes after it.
   pub record IsValidEnd : Type 0 where
     pub valid : IsValid entry p
     pub end : next_of interlinks p.0 ≡ None
 
-  -- p is valid, and no link comes before it
+  -- p is valid, and no link comes before it.
   pub record IsValidStart : Type 0 where
     pub valid : IsValid entry p
     pub start : prev_of interlinks p.0 ≡ None
 
 -- u and v were beside the link removed from i: they have links, or both are i, which was alone
--- in a ring
+-- in a ring.
 pub record WereBeside (link_map : LinkMap) (i : ℕ) (u v : Option ℕ) : Type 0 where
   pub gone : link_map i ≡ None
   pub before : u ≢ Some i → IfSome u (HasLink link_map)

@@ -10,7 +10,7 @@ ghost use Rattle.chain_linking.specs.WalkSteps.{Passes, PassesNothing};
 use arena_base::{Arena, ArenaSlot, ArenaTrait};
 use arena_ptr::{PtrKey, SlotStack};
 use chain_links::LinkNoGen;
-use chain_links::walk_direction::going;
+use chain_links::walk_direction::step_both;
 
 /// Returns the pointer and the link at an index, if there is one.
 pub fn lookup<P: PtrKey, T: Drop, S: SlotStack<Item = ArenaSlot<P, LinkNoGen<P, T>>>>(
@@ -49,7 +49,7 @@ pub fn step<P: PtrKey, T: Drop, S: SlotStack<Item = ArenaSlot<P, LinkNoGen<P, T>
     match forth {
         Some(i) => match lookup(arena, i) {
             Some((p, link)) => {
-                let (forth, back) = going(start, link.next(), back);
+                let (forth, back) = step_both(start, link.next(), back);
                 Some((p, forth, back))
             }
             None => None,

@@ -13,11 +13,11 @@ use Rattle.chain_links.specs.Links.{link_view, pair_view, links_view}
 use Rattle.arena_base.specs.Arena.{Arena, slot_at, with_slot, entry_at, with_value}
 use Rattle.chain_links.specs.ChainArena.{LinkView, relink, relink_from, relinked}
 
--- numbers are equal exactly if their successors are
+-- Numbers are equal exactly if their successors are.
 pub if_suc : {A : Type 0} (j k : ℕ) (x y : A) → (if j == k then x else y) ≡ (if suc j == suc k then x else y)
 if_suc j k x y = ap (λ b. if b then x else y) (sym (eqb-suc-suc j k))
 
--- lookup in a list with one item changed
+-- Lookup in a list with one item changed.
 slice_index_or-slice_set : {X : Type 0} (xs : List (Option X)) (k j : ℕ) (f : Option X → Option X) → f None ≡ None
     → slice_index_or (slice_set xs k (f (slice_index_or xs k None))) j None ≡ (if j == k then f (slice_index_or xs j None) else slice_index_or xs j None)
 slice_index_or-slice_set {X} [] k j f none = elim (j == k) as (λ b. let o : Option X = None in o ≡ (if b then f None else None)) [ true ↦ sym none | false ↦ refl ]
@@ -26,7 +26,7 @@ slice_index_or-slice_set (y ∷ xs) zero (suc j) f none = sym (if_other (suc j) 
 slice_index_or-slice_set (y ∷ xs) (suc k) zero f none = sym (if_other 0 (suc k) _ _ (λ is. absurd (omega (arith, is))))
 slice_index_or-slice_set (y ∷ xs) (suc k) (suc j) f none = slice_index_or-slice_set xs k j f none ∙ if_suc j k _ _
 
--- the slot at each index, with one slot changed
+-- The slot at each index, with one slot changed.
 pub slot_at-changed : {X : Type 0} (slots : List (Option X)) (n i : ℕ) (f : Option X → Option X) → f None ≡ None
     → slot_at (with_slot slots n (f (slot_at slots n))) i ≡ (if i == n then f (slot_at slots i) else slot_at slots i)
 slot_at-changed {X} slots zero zero f none = sym (if_same 0 0 (f None) None refl ∙ none)
@@ -35,7 +35,7 @@ slot_at-changed slots (suc k) zero f none = sym (if_other 0 (suc k) _ _ (λ is. 
 slot_at-changed slots (suc k) (suc j) f none = slice_index_or-slice_set slots k j f none ∙ if_suc j k _ _
 
 module _ {Gen T : Type 0} where
-  -- the entries of an arena with one value written
+  -- The entries of an arena with one value written.
   pub entry_at-with_value : (a : Arena Gen T) (n : ℕ) (t : T) (i : ℕ)
       → entry_at (with_value a n t) i ≡ (if i == n then option_map (λ (e : Gen × T). (e.0, t)) (entry_at a i) else entry_at a i)
   entry_at-with_value a n t i = slot_at-changed a.slots n i (option_map (λ (e : Gen × T). (e.0, t))) refl
@@ -54,7 +54,7 @@ module _ {Gen T : Type 0} where
   slice_index_or-relink_from interlinks k x zero (e ∷ slots) at = ap (λ i. relink (interlinks i) e) (let same : k ≡ x = omega (arith, at) in same)
   slice_index_or-relink_from interlinks k x (suc j) (e ∷ slots) at = slice_index_or-relink_from interlinks (suc k) x j slots (omega (arith, at))
 
-  -- the entries of an arena with other interlinks
+  -- The entries of an arena with other interlinks.
   pub entry_at-relinked : (a : Arena Gen (LinkView T)) (interlinks : LinkMap) (i : ℕ) → entry_at (relinked a interlinks) i ≡ relink (interlinks i) (entry_at a i)
   entry_at-relinked a interlinks zero = refl
   entry_at-relinked a interlinks (suc j) = slice_index_or-relink_from interlinks 1 (suc j) j a.slots (omega arith)
@@ -66,7 +66,7 @@ module _ {Gen T : Type 0} where
   pub length-relinked : (a : Arena Gen (LinkView T)) (interlinks : LinkMap) → length (relinked a interlinks).slots ≡ length a.slots
   length-relinked a interlinks = length-relink_from interlinks 1 a.slots
 
-  -- an arena that differs only in interlinks is `relinked`
+  -- An arena that differs only in interlinks is `relinked`.
   pub is_relinked : (a b : Arena Gen (LinkView T)) (interlinks : LinkMap) → length b.slots ≡ length a.slots → b ≡ record a { slots = b.slots }
       → ((i : ℕ) → entry_at b i ≡ relink (interlinks i) (entry_at a i)) → b ≡ relinked a interlinks
   is_relinked a b interlinks long rest entries =
@@ -74,7 +74,7 @@ module _ {Gen T : Type 0} where
       (ext_get_or None b.slots (relink_from interlinks 1 a.slots) (long ∙ sym (length-relink_from interlinks 1 a.slots))
       (λ k inside. entries (suc k) ∙ sym (entry_at-relinked a interlinks (suc k))))
 
--- links as contracts see them
+-- Links as contracts see them.
 module _ {Gen K T : Type 0} (number : K → Option ℕ) where
   pub entry_at-links_view : (a : Arena Gen (LinkBody K T)) (i : ℕ) → entry_at (links_view number a) i ≡ option_map (pair_view number) (entry_at a i)
   entry_at-links_view a i = entry_at-with_each (link_view number) a i

@@ -12,25 +12,25 @@ use Rattle.chain_links.specs.Links.{link_view}
 use Rattle.chain_links.specs.declared.links.LinkBody.{LinkBody}
 
 module _ {Gen T : Type 0} where
-  -- there are as many entries as the capacity
+  -- There are as many entries as the capacity.
   abbrev pub IsFull : ArenaView Gen T → Type 0
   IsFull s = count s ≡ s.capacity
 
-  -- with capacity for one more entry, the call succeeds and keeps the capacity
+  -- With capacity for one more entry, the call succeeds and keeps the capacity.
   abbrev pub SucceedsWithinCapacity : {X E : Type 0} → ArenaView Gen T → Result X E → ArenaView Gen T → Type 0
   SucceedsWithinCapacity old result new = HasFreeCapacity old → IsOk result × (new.capacity ≡ old.capacity)
 
-module _ {A Gen T : Type 0} (view_of : A → ArenaView Gen T) (interlinks : A → LinkMap) where
-  -- the link at i is removed, its neighbors are linked, and the counter advances
+module _ {A Gen T : Type 0} (view : A → ArenaView Gen T) (interlinks : A → LinkMap) where
+  -- The link at i is removed, its neighbors are linked, and the counter advances.
   abbrev pub LosesLink : (Gen → Gen) → ℕ → A → A → Type 0
-  LosesLink following i old new = (view_of new ≡ entry_removed following (view_of old) i) × (interlinks new ≡ with_removal (interlinks old) i)
+  LosesLink following i old new = (view new ≡ entry_removed following (view old) i) × (interlinks new ≡ with_removal (interlinks old) i)
 
-module _ {A Gen T : Type 0} (view_of : A → ArenaView Gen T) (entry : A → ℕ → Option (Gen × T)) (interlinks : A → LinkMap) where
-  -- a link of a kind, with a value, is inserted at p
+module _ {A Gen T : Type 0} (view : A → ArenaView Gen T) (entry : A → ℕ → Option (Gen × T)) (interlinks : A → LinkMap) where
+  -- A link of a kind, with a value, is inserted at p.
   abbrev pub GainsLink : InsertKind (LinkName Gen) → T → A → ℕ × Gen → A → Type 0
-  GainsLink kind t old p new = IsInsertion (by_index kind) (view_of old) (view_of new) (entry old) (entry new) (interlinks old) (interlinks new) p t
+  GainsLink kind t old p new = IsInsertion (by_index kind) (view old) (view new) (entry old) (entry new) (interlinks old) (interlinks new) p t
 
-  -- the link of a pointer is removed, and returned as it was
+  -- The link of a pointer is removed, and returned as it was.
   abbrev pub YieldsLink : {K : Type 0} → (K → Option ℕ) → (Gen → Gen) → ℕ × Gen → A → Option (LinkBody K T) → A → Type 0
   YieldsLink packed following p old returned new =
-      (option_map (λ link. (p.1, link_view packed link)) returned ≡ link_at (entry old) (interlinks old) p.0) × LosesLink view_of interlinks following p.0 old new
+      (option_map (λ link. (p.1, link_view packed link)) returned ≡ link_at (entry old) (interlinks old) p.0) × LosesLink view interlinks following p.0 old new

@@ -17,13 +17,13 @@ AreCompactedCanonically count = IfKnown (λ old. AreFilledAnew count (4 * old.co
 -- `next` order, a linear one from its start. Links keep their value and neighbors. All have one
 -- generation, the counter if that is known.
 pub record IsCanonicalLayout {Gen T : Type 0} (first : Gen) (following : Gen → Gen) (reset : Bool) (old : ArenaView Gen T) (links : LinkMap) (new : ArenaView Gen T) (new_links : LinkMap) : Type 0 where
-  -- the links in their new order: chains by least index, linear from the start, cyclic from the
-  -- least index
+  -- The links in their new order: chains by least index, linear from the start, cyclic from the
+  -- least index.
   pub indexes : List ℕ
   pub order : IsLeastIndexOrder links indexes
-  -- the k-th is moved to index k, and names the new indexes of its neighbors
+  -- The k-th is moved to index k, and names the new indexes of its neighbors.
   pub renamed : IsRenaming (place_in indexes) links new_links
-  -- the chains are in runs, one after another
+  -- The chains are in runs, one after another.
   pub runs : AreChains new_links (in_runs 1 order.chains)
   pub keys : map index_of new.entries ≡ range_with_len 1 (length old.entries)
   pub values : map (λ t. Some t) (values_in new.entries) ≡ map (λ i. option_map (λ e. e.1) (found i old.entries)) indexes

@@ -11,11 +11,11 @@ use Rattle.chain_laws.specs.Insertions.{InsertKind, with_insertion, with_inserti
 use Rattle.arena_base.specs.Arena.{Arena, with_slot, entry_at, next_index, insert_next, remove_at, IsValid}
 use Rattle.arena_base.specs.Entries.{ArenaView, view_of}
 
--- a generation and a value, with a function applied to the value
+-- A generation and a value, with a function applied to the value.
 abbrev pub on_value : {Gen X Y : Type 0} → (X → Y) → Gen × X → Gen × Y
 on_value f e = (e.0, f e.1)
 
--- an arena with a function applied to each value
+-- An arena with a function applied to each value.
 abbrev pub with_each : {Gen X Y : Type 0} → (X → Y) → Arena Gen X → Arena Gen Y
 with_each f a = record {
   slots = map (option_map (on_value f)) a.slots;
@@ -28,17 +28,17 @@ with_each f a = record {
   touched = a.touched;
 }
 
--- a link: the indexes of its neighbors, and its value
+-- A link: the indexes of its neighbors, and its value.
 pub record LinkView (T : Type 0) : Type 0 where
   pub prev : Option ℕ
   pub next : Option ℕ
   pub value : T
 
--- a link with these neighbors
+-- A link with these neighbors.
 abbrev pub new_link : {T : Type 0} → T → Option ℕ → Option ℕ → LinkView T
 new_link t u v = record { prev = u; next = v; value = t }
 
--- a link without neighbors
+-- A link without neighbors.
 abbrev pub lone : {T : Type 0} → T → LinkView T
 lone t = record { prev = None; next = None; value = t }
 
@@ -46,14 +46,14 @@ module _ {T : Type 0} where
   abbrev pub link_value : LinkView T → T
   link_value link = link.value
 
-  -- the link with another value
+  -- The link with another value.
   abbrev pub with_link_value : T → LinkView T → LinkView T
   with_link_value t link = record link { value = t }
 
   abbrev pub interlinks_in : LinkView T → Interlinks
   interlinks_in link = record { prev = link.prev; next = link.next }
 
-  -- the link with other interlinks
+  -- The link with other interlinks.
   abbrev pub with_interlinks : Interlinks → LinkView T → LinkView T
   with_interlinks interlinks link = record link { prev = interlinks.prev; next = interlinks.next }
 
@@ -61,89 +61,89 @@ module _ {Gen T : Type 0} where
   abbrev pub interlinks_of : Gen × LinkView T → Interlinks
   interlinks_of e = interlinks_in e.1
 
-  -- the interlinks of the links of the arena
+  -- The interlinks of the links of the arena.
   abbrev pub link_map : Arena Gen (LinkView T) → LinkMap
   link_map a i = option_map interlinks_of (entry_at a i)
 
-  -- the arena of the values alone
+  -- The arena of the values alone.
   abbrev pub values_of : Arena Gen (LinkView T) → Arena Gen T
   values_of a = with_each link_value a
 
-  -- the values as generic code sees them, and the entry at each index
+  -- The values as generic code sees them, and the entry at each index.
   abbrev pub value_view : Arena Gen (LinkView T) → ArenaView Gen T
   value_view a = view_of (values_of a)
 
   abbrev pub entry : Arena Gen (LinkView T) → ℕ → Option (Gen × T)
   entry a i = entry_at (values_of a) i
 
-  -- the entry with other interlinks
+  -- The entry with other interlinks.
   abbrev pub relink : Option Interlinks → Option (Gen × LinkView T) → Option (Gen × LinkView T)
   relink interlinks None = None
   relink None (Some e) = None
   relink (Some l) (Some e) = Some (e.0, with_interlinks l e.1)
 
-  -- the entries from an index on, with other interlinks
+  -- The entries from an index on, with other interlinks.
   abbrev pub relink_from : LinkMap → ℕ → List (Option (Gen × LinkView T)) → List (Option (Gen × LinkView T))
   relink_from interlinks i [] = []
   relink_from interlinks i (e ∷ es) = relink (interlinks i) e ∷ relink_from interlinks (suc i) es
 
-  -- the arena with other interlinks and nothing else changed
+  -- The arena with other interlinks and nothing else changed.
   abbrev pub relinked : Arena Gen (LinkView T) → LinkMap → Arena Gen (LinkView T)
   relinked a interlinks = record a { slots = relink_from interlinks 1 a.slots }
 
-  -- a link without neighbors is inserted
+  -- A link without neighbors is inserted.
   abbrev pub insert_lone : Arena Gen (LinkView T) → T → Arena Gen (LinkView T)
   insert_lone a t = insert_next a (lone t)
 
-  -- q is the next link of u and the previous one of v
+  -- q is the next link of u and the previous one of v.
   abbrev pub named_by : Arena Gen (LinkView T) → Option ℕ → Option ℕ → ℕ → Arena Gen (LinkView T)
   named_by a u v q = relinked a (prev_set (next_set (link_map a) u (Some q)) v (Some q))
 
-  -- a link is inserted between u and v
+  -- A link is inserted between u and v.
   abbrev pub insert_between : Arena Gen (LinkView T) → T → Option ℕ → Option ℕ → Arena Gen (LinkView T)
   insert_between a t u v = relinked (insert_lone a t) (with_insertion (link_map a) (next_index a) u v)
 
-  -- a link of a kind is inserted
+  -- A link of a kind is inserted.
   abbrev pub insert_as : Arena Gen (LinkView T) → InsertKind ℕ → T → Arena Gen (LinkView T)
   insert_as a kind t = relinked (insert_lone a t) (with_insertion_as (link_map a) kind (next_index a))
 
-  -- the link at i, if there is one, with another value
+  -- The link at i, if there is one, with another value.
   abbrev pub with_value_at : Arena Gen (LinkView T) → ℕ → T → Arena Gen (LinkView T)
   with_value_at a i t = record a { slots = with_slot a.slots i (option_map (on_value (with_link_value t)) (entry_at a i)) }
 
-  -- the link at i is removed and its neighbors are linked
+  -- The link at i is removed and its neighbors are linked.
   abbrev pub remove_link : (Gen → Gen) → Arena Gen (LinkView T) → ℕ → Arena Gen (LinkView T)
   remove_link following a i = relinked (remove_at following a i) (with_removal (link_map a) i)
 
-  -- the link at i was removed, by state, link map, chains and pairs
+  -- The link at i was removed, by state, link map, chains and pairs.
   pub record IsRemoval (following : Gen → Gen) (old : Arena Gen (LinkView T)) (i : ℕ) (new : Arena Gen (LinkView T)) : Type 0 where
     pub state : new ≡ remove_link following old i
-    pub reports : link_map new ≡ with_removal (link_map old) i
+    pub links : link_map new ≡ with_removal (link_map old) i
     pub chains : Removes (link_map old) (link_map new) i
     pub pairs : RemovesPairs (link_map old) (link_map new) i
 
-  -- the start b was joined to the end a, by state, link map, pairs and chains
+  -- The start b was joined to the end a, by state, link map, pairs and chains.
   pub record IsJoin (old new : Arena Gen (LinkView T)) (a b : ℕ) : Type 0 where
     pub state : new ≡ relinked old (with_join (link_map old) a b)
-    pub reports : link_map new ≡ with_join (link_map old) a b
+    pub links : link_map new ≡ with_join (link_map old) a b
     pub pair : AddsPair (link_map old) (link_map new) a b
     pub chains : Connects (link_map old) (link_map new) a b
 
-  -- the neighbors a and b were cut, by state, link map, pairs and chains
+  -- The neighbors a and b were cut, by state, link map, pairs and chains.
   pub record IsCut (old new : Arena Gen (LinkView T)) (a b : ℕ) : Type 0 where
     pub state : new ≡ relinked old (without_pair (link_map old) a b)
-    pub reports : link_map new ≡ without_pair (link_map old) a b
+    pub links : link_map new ≡ without_pair (link_map old) a b
     pub pair : TakesPair (link_map old) (link_map new) a b
     pub chains : Cuts (link_map old) (link_map new) a b
 
-  -- the links after p and q were exchanged, by state, link map, pairs and chains
+  -- The links after p and q were exchanged, by state, link map, pairs and chains.
   pub record IsExchange (old new : Arena Gen (LinkView T)) (p q : ℕ) : Type 0 where
     pub state : new ≡ relinked old (with_exchange (link_map old) p q)
-    pub reports : link_map new ≡ with_exchange (link_map old) p q
+    pub links : link_map new ≡ with_exchange (link_map old) p q
     pub pairs : ExchangesPairs (link_map old) (link_map new) p q
     pub chains : Exchanges (link_map old) (link_map new) p q
 
-  -- the links of the walk from i, with indexes and generations
+  -- The links of the walk from i, with indexes and generations.
   pub record IsWalkOf (a : Arena Gen (LinkView T)) (i : ℕ) (links : List (ℕ × (Gen × LinkView T))) : Type 0 where
     pub walk : IsWalk (link_map a) i (map (λ e. e.0) links)
     pub stored : All (λ e. entry_at a e.0 ≡ Some e.1) links
@@ -156,36 +156,36 @@ module _ {Gen T : Type 0} where
   link_of (Some e) (Some l) = Some (e.0, record { prev = l.prev; next = l.next; value = e.1 })
 
 module _ {Gen T : Type 0} (entry : ℕ → Option (Gen × T)) where
-  -- the current pointer to the link at an index
+  -- The current pointer to the link at an index.
   abbrev pub ptr_at : ℕ → Option (ℕ × Gen)
   ptr_at i = option_map (λ e. (i, e.0)) (entry i)
 
-  -- the free index p has the value t, and every other entry is unchanged
+  -- The free index p has the value t, and every other entry is unchanged.
   pub record IsInserted (after : ℕ → Option (Gen × T)) (p : ℕ × Gen) (t : T) : Type 0 where
     pub free : entry p.0 ≡ None
     pub stored : after p.0 ≡ Some (p.1, t)
     pub rest : (i : ℕ) → i ≢ p.0 → after i ≡ entry i
 
 module _ {Gen T : Type 0} (entry : ℕ → Option (Gen × T)) (interlinks : LinkMap) where
-  -- the link at an index
+  -- The link at an index.
   abbrev pub link_at : ℕ → Option (Gen × LinkView T)
   link_at i = link_of (entry i) (interlinks i)
 
-  -- q may be linked after p: both are valid, p has no next and q no prev
+  -- q may be linked after p: both are valid, p has no next and q no prev.
   pub record CanConnect (p q : ℕ × Gen) : Type 0 where
     pub first_valid : IsValid entry p
     pub second_valid : IsValid entry q
     pub no_next : next_of interlinks p.0 ≡ None
     pub no_prev : prev_of interlinks q.0 ≡ None
 
-  -- the links after p and q may be exchanged: both are valid and have a next
+  -- The links after p and q may be exchanged: both are valid and have a next.
   pub record CanExchange (p q : ℕ × Gen) : Type 0 where
     pub first_valid : IsValid entry p
     pub second_valid : IsValid entry q
     pub first_next : IsSome (next_of interlinks p.0)
     pub second_next : IsSome (next_of interlinks q.0)
 
-  -- the link of a pointer, with current pointers to its neighbors
+  -- The link of a pointer, with current pointers to its neighbors.
   pub record IsLinkAt (p : ℕ × Gen) (prev next : Option (ℕ × Gen)) (t : T) : Type 0 where
     pub stored : entry p.0 ≡ Some (p.1, t)
     pub before : prev ≡ option_and_then (ptr_at entry) (prev_of interlinks p.0)

@@ -6,15 +6,15 @@ use Rattle.chain_laws.specs.Insertions.{InsertKind, link_before, link_after, wit
 use Rattle.arena_base.specs.Entries.{ArenaView, next_slot, with_next_filled}
 use Rattle.chain_links.specs.ChainArena.{IsInserted}
 
--- a number as an optional index, 0 for none
+-- A number as an optional index, 0 for none.
 abbrev pub nonzero_index : ℕ → Option ℕ
 nonzero_index zero = None
 nonzero_index (suc n) = Some (suc n)
 
--- a link was inserted at p between u and v, by entries, link map, pairs and chains
+-- A link was inserted at p between u and v, by entries, link map, pairs and chains.
 pub record IsInsertionBetween {Gen T : Type 0} (u v : Option ℕ) (old new : ArenaView Gen T) (entry after : ℕ → Option (Gen × T)) (interlinks changed : LinkMap) (p : ℕ × Gen) (t : T) : Type 0 where
   pub entries : IsInserted entry after p t
-  pub reports : changed ≡ with_insertion interlinks p.0 u v
+  pub links : changed ≡ with_insertion interlinks p.0 u v
   pub pairs : InsertsPairs interlinks changed p.0 u v
   pub chains : Inserts interlinks changed p.0 u v
   -- One more entry, with the counter as its generation and at the next slot, if these are known.
@@ -26,7 +26,7 @@ pub record IsInsertionBetween {Gen T : Type 0} (u v : Option ℕ) (old new : Are
   pub counter : new.counter ≡ old.counter
   pub maximum : new.maximum ≡ old.maximum
 
--- a link was inserted at p between the links that the kind gives
+-- A link was inserted at p between the links that the kind gives.
 abbrev pub IsInsertion : {Gen T : Type 0} → InsertKind ℕ → ArenaView Gen T → ArenaView Gen T → (ℕ → Option (Gen × T)) → (ℕ → Option (Gen × T)) → LinkMap → LinkMap → ℕ × Gen → T → Type 0
 IsInsertion kind old new entry after interlinks changed p t =
     IsInsertionBetween (link_before interlinks kind p.0) (link_after interlinks kind p.0) old new entry after interlinks changed p t

@@ -11,11 +11,11 @@ use Rattle.chain_links.specs.declared.kinds.NamedKind.TheVariants as named
 use Rattle.chain_links.specs.declared.kinds.Name.{Name}
 use Rattle.chain_links.specs.declared.kinds.Name.TheVariants.{Pointer, Index}
 
--- the name of a link: its index, and for a pointer its generation
+-- The name of a link: its index, and for a pointer its generation.
 abbrev pub LinkName : Type 0 → Type 0
 LinkName Gen = ℕ × Option Gen
 
--- the names in a kind
+-- The names in a kind.
 module _ {P I Gen : Type 0} (key : P → ℕ × Gen) (number : I → ℕ) where
   abbrev pub pointed : P → LinkName Gen
   pointed p = ((key p).0, Some (key p).1)
@@ -40,7 +40,7 @@ module _ {P I Gen : Type 0} (key : P → ℕ × Gen) (number : I → ℕ) where
   names_in (kinds.BridgeInx i j) = bridge (indexed i) (indexed j)
 
 module _ {Gen : Type 0} where
-  -- the kind by indexes
+  -- The kind by indexes.
   abbrev pub by_index : InsertKind (LinkName Gen) → InsertKind ℕ
   by_index disconnected = disconnected
   by_index single_link_cyclic = single_link_cyclic
@@ -52,12 +52,12 @@ module _ {Gen : Type 0} where
   by_index (bridge a b) = bridge a.0 b.0
 
 module _ {Gen T : Type 0} (entry : ℕ → Option (Gen × T)) where
-  -- a link is at the index, with the generation if the name has one
+  -- A link is at the index, with the generation if the name has one.
   abbrev pub HasName : LinkName Gen → Type 0
   HasName (i, None) = IsSome (entry i)
   HasName (i, Some g) = IsValid entry (i, g)
 
-  -- each name in a kind is the name of a link
+  -- Each name in a kind is the name of a link.
   abbrev pub HasNames : InsertKind (LinkName Gen) → Type 0
   HasNames disconnected = Unit {0}
   HasNames single_link_cyclic = Unit {0}
@@ -68,11 +68,11 @@ module _ {Gen T : Type 0} (entry : ℕ → Option (Gen × T)) where
   HasNames (at_interlink a b) = HasName a × HasName b
   HasNames (bridge a b) = HasName a × HasName b
 
-  -- a link of the kind may be inserted
+  -- A link of the kind may be inserted.
   abbrev pub MayInsert : LinkMap → InsertKind (LinkName Gen) → Type 0
   MayInsert interlinks kind = HasNames kind × CanInsert interlinks (by_index kind)
 
--- names and kinds in the forms of the code
+-- Names and kinds in the forms of the code.
 module _ {P I Gen : Type 0} (key : P → ℕ × Gen) (number : I → ℕ) where
   abbrev pub name_of : Name P I → LinkName Gen
   name_of (Pointer p) = pointed key number p

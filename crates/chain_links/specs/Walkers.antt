@@ -10,13 +10,13 @@ use Rattle.chain_links.specs.ChainArena.{LinkView, link_map}
 use Rattle.chain_links.specs.Links.{link_view}
 
 module _ {Gen T : Type 0} where
-  -- the links at these indexes, up to the first without one
+  -- The links at these indexes, up to the first without one.
   abbrev pub links_at : Arena Gen (LinkView T) → List ℕ → List (ℕ × (Gen × LinkView T))
   links_at a [] = []
   links_at a (i ∷ indexes) = elim (entry_at a i) [ None ↦ [] | Some e ↦ (i, e) ∷ links_at a indexes ]
 
-  -- the links ahead of a walker that began at `start`, goes on at `forth` and `back`, and makes at
-  -- most `left` steps
+  -- The links ahead of a walker that began at `start`, goes on at `forth` and `back`, and makes at
+  -- most `left` steps.
   abbrev pub links_ahead : Arena Gen (LinkView T) → ℕ → ℕ → Option ℕ → Option ℕ → List (ℕ × (Gen × LinkView T))
   links_ahead a left start forth back = links_at a (walk_ahead left (link_map a) start forth back)
 
@@ -25,17 +25,17 @@ module _ {Gen T : Type 0} where
   index_and_entry i e = (i, e)
 
 module _ {P Gen K T : Type 0} where
-  -- a yielded pointer and link, as contracts see them
+  -- A yielded pointer and link, as contracts see them.
   abbrev pub item_view : (P → ℕ × Gen) → (K → Option ℕ) → P × Bor (LinkBody K T) → ℕ × (Gen × LinkView T)
   item_view key number item = ((key item.0).0, ((key item.0).1, link_view number item.1.now))
 
--- one call of an advancer: it passes the link at its next step and takes the step; without such a
--- link it has no steps left
+-- One call of an advancer: it passes the link at its next step and takes the step; without such a
+-- link it has no steps left.
 pub record IsPassing {Gen T : Type 0} (entry : ℕ → Option (Gen × T)) (interlinks : LinkMap) (old : Walker) (returned : Option (ℕ × Gen)) (new : Walker) : Type 0 where
   pub passed : IfSome returned (λ p. IsValid entry p × (step_of interlinks old ≡ Some (p.0, new)))
   pub spent : IfNone returned (new.left ≡ 0)
   pub end : IfNone returned (IfSome (step_of interlinks old) (λ step. entry step.0 ≡ None))
 
--- the walker of an advancer, with its indexes as numbers
+-- The walker of an advancer, with its indexes as numbers.
 abbrev pub walker_of : {I : Type 0} → (I → ℕ) → ℕ → I → Option I → Option I → Walker
 walker_of number left start forth back = record { left = left; start = number start; forth = option_map number forth; back = option_map number back }

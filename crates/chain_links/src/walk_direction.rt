@@ -6,7 +6,7 @@ ghost use Rattle.chain_laws.specs.Walks.{step_forward, step_back};
 use arena_ptr::InxKey;
 
 /// Returns where a walk goes from a link: to the next link, unless the walk started there.
-pub fn going_on<I: InxKey>(start: I, next: Option<I>) -> Option<I>
+pub fn step_on<I: InxKey>(start: I, next: Option<I>) -> Option<I>
     ensures { option_map I.number result ≡ step_forward (I.number start)
         (option_map I.number next) }
 {
@@ -20,7 +20,7 @@ pub fn going_on<I: InxKey>(start: I, next: Option<I>) -> Option<I>
 ///
 /// Both are `None` if the next link is the start of the walk. Each case has its own branch, so that
 /// walks take predicted branches and no conditional moves.
-pub fn going<I: InxKey>(start: I, next: Option<I>, back: Option<I>) -> (Option<I>, Option<I>)
+pub fn step_both<I: InxKey>(start: I, next: Option<I>, back: Option<I>) -> (Option<I>, Option<I>)
     ensures on { option_map I.number result.0 ≡ step_forward (I.number start)
         (option_map I.number next) }
     ensures back { option_map I.number result.1 ≡ step_back (I.number start)

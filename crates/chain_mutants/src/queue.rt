@@ -15,16 +15,16 @@ pub fn spawn<P: PtrKey, T: Drop, A: ChainArenaTrait<P, T> + Drop>(
     queue: &mut RunQueue<P, T, A>,
     task: T,
 ) -> Result<P, ReallocationError>
-    ensures last { IfOk result (λ p. queue.new.turn ≡ queue.old.turn ++ (P.key p, task) ∷ []) }
-    ensures fresh { IfOk result (λ p. ¬ IsMember (indexes queue.old.turn) (P.key p).0) }
-    ensures within_capacity { length queue.old.turn < queue.old.capacity
+    ensures last { IfOk result (λ p. queue.new.order ≡ queue.old.order ++ (P.key p, task) ∷ []) }
+    ensures fresh { IfOk result (λ p. ¬ IsMember (indexes queue.old.order) (P.key p).0) }
+    ensures within_capacity { length queue.old.order < queue.old.capacity
         → IsOk result × (queue.new.capacity ≡ queue.old.capacity) }
     ensures grown { OnOk result (IsCapacityFor P.Inx.greatest queue.new.maximum
-        (length queue.old.turn + 1) queue.new.capacity) }
+        (length queue.old.order + 1) queue.new.capacity) }
     ensures beyond { (result ≡ Err ReallocationError.BeyondMaxCapacity)
-        ↔ ((length queue.old.turn ≡ queue.old.capacity)
-        × IsBeyond queue.old.maximum (length queue.old.turn + 1)) }
-    ensures greatest { length queue.old.turn ≡ P.Inx.greatest → IsErr result }
+        ↔ ((length queue.old.order ≡ queue.old.capacity)
+        × IsBeyond queue.old.maximum (length queue.old.order + 1)) }
+    ensures greatest { length queue.old.order ≡ P.Inx.greatest → IsErr result }
     ensures maximum { queue.new.maximum ≡ queue.old.maximum }
     ensures err { OnErr result (queue.new ≡ queue.old) }
 {
@@ -36,7 +36,7 @@ pub fn cancel<P: PtrKey, T: Drop, A: ChainArenaTrait<P, T> + Drop>(
     queue: &mut RunQueue<P, T, A>,
     p: P,
 ) -> Option<T>
-    ensures { IfSome result (λ task. IsCancelled (P.key p) task queue.old.turn queue.new.turn) }
+    ensures { IfSome result (λ task. IsCancelled (P.key p) task queue.old.order queue.new.order) }
 {
     queue.cancel(p)
 }

@@ -47,9 +47,9 @@ fn same<T: PartialEq + Debug + Drop>(rt: &impl Abort, what: &str, got: T, want: 
 // Returns a result as `Debug` writes it, on a second attempt if the first allocation fails. After
 // both it is empty, which no test expects. So it needs no `Abort`, which each of its steps would
 // name.
-fn text<T: Debug + Drop>(alloc: Global, answer: T) -> String {
+fn text<T: Debug + Drop>(alloc: Global, outcome: T) -> String {
     for _ in 0..2 {
-        if let Ok(text) = format!(in alloc; "{answer:?}") {
+        if let Ok(text) = format!(in alloc; "{outcome:?}") {
             return text;
         }
     }

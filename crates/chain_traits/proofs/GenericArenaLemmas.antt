@@ -11,16 +11,16 @@ use Rattle.chain_laws.specs.Chains.{LinkMap, Interlinks, IsWellLinked, IsMember}
 use Rattle.chain_laws.specs.ChainStart.{IsBack}
 use Rattle.chain_laws.proofs.WalkLemmas.WalkBack.{back_is_short}
 use Rattle.arena_base.specs.Arena.{IsValid}
-use Rattle.arena_base.specs.Entries.{found, first_key, index_of, RisesFrom}
+use Rattle.arena_base.specs.Entries.{found, first_key, index_of, AscendsFrom}
 use Rattle.arena_base.specs.Advancers.{entries_at_or_above, IsAdvanceUntilNone}
 use Rattle.arena_base.specs.declared.cursor.Cursor.{Cursor}
 use Rattle.arena_base.specs.declared.cursor.Cursor.TheVariants.{Up}
 
 module _ {Gen T : Type 0} where
   -- Entries that rise from an index are at or above it.
-  pub entries_at_or_above-rises : (i j : ℕ) (es : List ((ℕ × Gen) × T)) → i ≤ j → RisesFrom j es → entries_at_or_above i es ≡ es
-  entries_at_or_above-rises i j [] below rises = refl
-  entries_at_or_above-rises i j (e ∷ es) below rises = ap (λ b. cond b (e ∷ es) (entries_at_or_above i es)) (le-leb i e.0.0 (omega (arith, below, rises.0)))
+  pub entries_at_or_above-ascends : (i j : ℕ) (es : List ((ℕ × Gen) × T)) → i ≤ j → AscendsFrom j es → entries_at_or_above i es ≡ es
+  entries_at_or_above-ascends i j [] below ascends = refl
+  entries_at_or_above-ascends i j (e ∷ es) below ascends = ap (λ b. cond b (e ∷ es) (entries_at_or_above i es)) (le-leb i e.0.0 (omega (arith, below, ascends.0)))
 
   -- A found index is that of an entry.
   pub found_has : (i : ℕ) (es : List ((ℕ × Gen) × T)) → is_some (found i es) ≡ true → IsMember (map index_of es) i
@@ -36,42 +36,42 @@ module _ {Gen T : Type 0} where
   has_within greatest i (e ∷ es) within (inr has) = has_within greatest i es within.1 has
 
   -- No entry is found below where the entries begin.
-  pub found_from : (from j : ℕ) (es : List ((ℕ × Gen) × T)) → RisesFrom from es → is_some (found j es) ≡ true → from ≤ j
-  found_from from j [] rises some = absurd (let h = some in cc)
-  found_from from j (e ∷ es) rises some = by (e.0.0 == j) refl some (found_from (suc e.0.0) j es rises.1) where
+  pub found_from : (from j : ℕ) (es : List ((ℕ × Gen) × T)) → AscendsFrom from es → is_some (found j es) ≡ true → from ≤ j
+  found_from from j [] ascends some = absurd (let h = some in cc)
+  found_from from j (e ∷ es) ascends some = by (e.0.0 == j) refl some (found_from (suc e.0.0) j es ascends.1) where
     by : (b : Bool) → (e.0.0 == j) ≡ b → is_some (cond b (Some (e.0.1, e.1)) (found j es)) ≡ true → (is_some (found j es) ≡ true → suc e.0.0 ≤ j) → from ≤ j
-    by true same some rest = omega (arith, rises.0, eqb-true e.0.0 j same)
-    by false other some rest = omega (arith, rises.0, rest some)
+    by true same some rest = omega (arith, ascends.0, eqb-true e.0.0 j same)
+    by false other some rest = omega (arith, ascends.0, rest some)
 
   -- An entry of the least index.
   pub record IsLeast (es : List ((ℕ × Gen) × T)) (i : ℕ) : Type 0 where
     pub stored : is_some (found i es) ≡ true
     pub low : (j : ℕ) → is_some (found j es) ≡ true → i ≤ j
 
-  first_least : (from : ℕ) (p : ℕ × Gen) (es : List ((ℕ × Gen) × T)) → RisesFrom from es → Some p ≡ first_key es → IsLeast es p.0
-  first_least from p [] rises first = absurd (cc)
-  first_least from p (e ∷ es) rises first =
+  first_least : (from : ℕ) (p : ℕ × Gen) (es : List ((ℕ × Gen) × T)) → AscendsFrom from es → Some p ≡ first_key es → IsLeast es p.0
+  first_least from p [] ascends first = absurd (cc)
+  first_least from p (e ∷ es) ascends first =
       let same : p ≡ e.0 = cc in
       subst (λ (q : ℕ × Gen). IsLeast (e ∷ es) q.0) (sym same) (record {
         stored = ap (λ b. is_some (cond b (Some (e.0.1, e.1)) (found e.0.0 es))) (eq-eqb e.0.0 e.0.0 refl);
-        low = λ j some. found_from e.0.0 j (e ∷ es) (le_refl e.0.0, rises.1) some;
+        low = λ j some. found_from e.0.0 j (e ∷ es) (le_refl e.0.0, ascends.1) some;
       })
 
   -- An advancer from where the entries begin returns the first.
-  pub next_is : (es : List ((ℕ × Gen) × T)) (lookup after : Cursor) (from : ℕ) (p : ℕ × Gen) → lookup ≡ Up from → RisesFrom from es → IsAdvanceUntilNone es lookup (Some p) after
+  pub next_is : (es : List ((ℕ × Gen) × T)) (lookup after : Cursor) (from : ℕ) (p : ℕ × Gen) → lookup ≡ Up from → AscendsFrom from es → IsAdvanceUntilNone es lookup (Some p) after
       → IsLeast es p.0 × (after ≡ Up (p.0 + 1))
-  next_is es lookup after from p up rises given =
+  next_is es lookup after from p up ascends given =
       let at = subst (λ (l : Cursor). IsAdvanceUntilNone es l (Some p) after) up given in
-      (first_least from p es rises (at.first ∙ ap first_key (entries_at_or_above-rises from from es (le_refl from) rises)), at.moves)
+      (first_least from p es ascends (at.first ∙ ap first_key (entries_at_or_above-ascends from from es (le_refl from) ascends)), at.moves)
 
-  pub none_is : (es : List ((ℕ × Gen) × T)) (lookup after : Cursor) (from : ℕ) → lookup ≡ Up from → RisesFrom from es → IsAdvanceUntilNone es lookup None after → es ≡ []
-  none_is es lookup after from up rises given =
-      sym (entries_at_or_above-rises from from es (le_refl from) rises) ∙ subst (λ (l : Cursor). IsAdvanceUntilNone es l None after) up given
+  pub none_is : (es : List ((ℕ × Gen) × T)) (lookup after : Cursor) (from : ℕ) → lookup ≡ Up from → AscendsFrom from es → IsAdvanceUntilNone es lookup None after → es ≡ []
+  none_is es lookup after from up ascends given =
+      sym (entries_at_or_above-ascends from from es (le_refl from) ascends) ∙ subst (λ (l : Cursor). IsAdvanceUntilNone es l None after) up given
 
 module _ {Gen T : Type 0} (interlinks : LinkMap) (entry : ℕ → Option (Gen × T)) (es : List ((ℕ × Gen) × T)) (stored : (i : ℕ) → is_some (interlinks i) ≡ is_some (entry i))
     (was_read : (i : ℕ) → found i es ≡ entry i) where
   pub valid_some : (i : ℕ) → chains.HasLink interlinks i → is_some (entry i) ≡ true
-  valid_some i valid = sym (stored i) ∙ ap is_some valid.reports
+  valid_some i valid = sym (stored i) ∙ ap is_some valid.links
 
   pub valid_has : (i : ℕ) → chains.HasLink interlinks i → IsMember (map index_of es) i
   valid_has i valid = found_has i es (ap is_some (was_read i) ∙ valid_some i valid)
@@ -81,7 +81,7 @@ module _ {Gen T : Type 0} (interlinks : LinkMap) (entry : ℕ → Option (Gen ×
   some_valid i there = by (interlinks i) refl (stored i ∙ there) where
     by : (o : Option Interlinks) → interlinks i ≡ o → is_some (interlinks i) ≡ true → chains.HasLink interlinks i
     by None is some = absurd (let none = ap is_some is in let both = sym some ∙ none in cc)
-    by (Some link) is some = record { link = link; reports = is }
+    by (Some link) is some = record { link = link; links = is }
 
   pub entry_valid : (i : ℕ) (e : Gen × T) → entry i ≡ Some e → chains.HasLink interlinks i
   entry_valid i e there = some_valid i (ap is_some there)

@@ -6,14 +6,14 @@ use Rattle.chain_laws.specs.Chains.{LinkMap, IsWellLinked}
 use Rattle.chain_laws.specs.Removals.{with_removal, Removes}
 use Rattle.chain_laws.proofs.RemovalLemmas.Chains.{removed_removes}
 use Rattle.arena_base.specs.Arena.{IsValid}
-use Rattle.arena_base.specs.Entries.{ArenaView, count, found, without, RisesFrom, entry_removed}
+use Rattle.arena_base.specs.Entries.{ArenaView, count, found, without, AscendsFrom, entry_removed}
 use Rattle.arena_base.proofs.EntrySearchLemmas.{found-gone, found-kept}
 
 module _ {Gen T : Type 0} where
   -- A removal empties its index and changes no other entry.
-  module _ (entry after : ℕ → Option (Gen × T)) (es fs : List ((ℕ × Gen) × T)) (n : ℕ) (rises : RisesFrom 1 es) (was : (i : ℕ) → found i es ≡ entry i) (finds : (i : ℕ) → found i fs ≡ after i) (gone : fs ≡ without n es) where
+  module _ (entry after : ℕ → Option (Gen × T)) (es fs : List ((ℕ × Gen) × T)) (n : ℕ) (ascends : AscendsFrom 1 es) (was : (i : ℕ) → found i es ≡ entry i) (finds : (i : ℕ) → found i fs ≡ after i) (gone : fs ≡ without n es) where
     pub entry_gone : after n ≡ None
-    entry_gone = sym (finds n) ∙ (ap (found n) gone ∙ found-gone n 1 es rises)
+    entry_gone = sym (finds n) ∙ (ap (found n) gone ∙ found-gone n 1 es ascends)
 
     pub entry_kept : (i : ℕ) → i ≢ n → after i ≡ entry i
     entry_kept i other = sym (finds i) ∙ (ap (found i) gone ∙ (found-kept i n es other ∙ was i))
@@ -32,15 +32,15 @@ module _ {Gen T : Type 0} where
 pub same_entry : {A Gen T : Type 0} (entries : A → List ((ℕ × Gen) × T)) (entry : A → ℕ → Option (Gen × T)) → ((a : A) (i : ℕ) → found i (entries a) ≡ entry a i) → (a b : A) → entries b ≡ entries a → entry b ≡ entry a
 same_entry entries entry was_read a b same = λ k i. (sym (was_read b i) ∙ (ap (found i) same ∙ was_read a i)) k
 
-module _ {A Gen T : Type 0} (view_of : A → ArenaView Gen T) (entry : A → ℕ → Option (Gen × T)) (links : A → LinkMap) where
+module _ {A Gen T : Type 0} (view : A → ArenaView Gen T) (entry : A → ℕ → Option (Gen × T)) (links : A → LinkMap) where
   -- The entry of a pointer existed and is gone.
   pub record HasGone (old new : A) (p : ℕ × Gen) : Type 0 where
     pub was_stored : IsValid (entry old) p
     pub gone : entry new p.0 ≡ None
     pub kept : (i : ℕ) → i ≢ p.0 → entry new i ≡ entry old i
-    pub reports : links new ≡ with_removal (links old) p.0
+    pub relinked : links new ≡ with_removal (links old) p.0
     pub chains : Removes (links old) (links new) p.0
-    pub less : count (view_of old) ≡ count (view_of new) + 1
+    pub less : count (view old) ≡ count (view new) + 1
 
   -- A removal returns a pointer's value and removes its entry, or changes nothing.
   pub record TakesEntry (old new : A) (p : ℕ × Gen) (o : Option T) : Type 0 where
@@ -49,10 +49,10 @@ module _ {A Gen T : Type 0} (view_of : A → ArenaView Gen T) (entry : A → ℕ
     pub some : is_some o ≡ true → HasGone old new p
     pub same : o ≡ None → new ≡ old
 
-  pub removal : ((a : A) → RisesFrom 1 (view_of a).entries) → ((a : A) (i : ℕ) → found i (view_of a).entries ≡ entry a i) → (old new : A) (p : ℕ × Gen) (following : Gen → Gen) (o : Option T)
-      → IsSome o ↔ IsValid (entry old) p → (IsValid (entry old) p → (o ≡ option_map (λ e. e.1) (entry old p.0)) × (view_of new ≡ entry_removed following (view_of old) p.0))
+  pub removal : ((a : A) → AscendsFrom 1 (view a).entries) → ((a : A) (i : ℕ) → found i (view a).entries ≡ entry a i) → (old new : A) (p : ℕ × Gen) (following : Gen → Gen) (o : Option T)
+      → IsSome o ↔ IsValid (entry old) p → (IsValid (entry old) p → (o ≡ option_map (λ e. e.1) (entry old p.0)) × (view new ≡ entry_removed following (view old) p.0))
       → ((IsValid (entry old) p → ⊥) → (o ≡ None) × (new ≡ old)) → (IsValid (entry old) p → links new ≡ with_removal (links old) p.0) → IsWellLinked (links old) → TakesEntry old new p o
-  removal rises was_read old new p following o some valid invalid passed agrees = record {
+  removal ascends was_read old new p following o some valid invalid passed agrees = record {
     valid = some.1;
     value = λ v. (valid v).0 ∙ ap (option_map (λ (e : Gen × T). e.1)) v.stored;
     some = λ is. has_gone (some.0 is);
@@ -64,11 +64,11 @@ module _ {A Gen T : Type 0} (view_of : A → ArenaView Gen T) (entry : A → ℕ
           let entries = ap (λ (s : ArenaView Gen T). s.entries) (valid v).1 in
           record {
             was_stored = v;
-            gone = entry_gone (entry old) (entry new) (view_of old).entries (view_of new).entries p.0 (rises old) (was_read old) (was_read new) entries;
-            kept = entry_kept (entry old) (entry new) (view_of old).entries (view_of new).entries p.0 (rises old) (was_read old) (was_read new) entries;
-            reports = passed v;
+            gone = entry_gone (entry old) (entry new) (view old).entries (view new).entries p.0 (ascends old) (was_read old) (was_read new) entries;
+            kept = entry_kept (entry old) (entry new) (view old).entries (view new).entries p.0 (ascends old) (was_read old) (was_read new) entries;
+            relinked = passed v;
             chains = subst (λ (l : LinkMap). Removes (links old) l p.0) (sym (passed v)) (removed_removes (links old) p.0 agrees);
-            less = let one = one_less p.0 (view_of old).entries (ap is_some (was_read old p.0) ∙ ap is_some v.stored) in let many = ap length entries in omega arith;
+            less = let one = one_less p.0 (view old).entries (ap is_some (was_read old p.0) ∙ ap is_some v.stored) in let many = ap length entries in omega arith;
           }
 
   -- Consequences of a removal, whichever it returns.
@@ -84,7 +84,7 @@ module _ {A Gen T : Type 0} (view_of : A → ArenaView Gen T) (entry : A → ℕ
     gone_of None r = tt
     gone_of (Some t) r = (r.some refl).gone
 
-    pub less_of : (o : Option T) → TakesEntry old new p o → OnSome o (count (view_of old) ≡ count (view_of new) + 1)
+    pub less_of : (o : Option T) → TakesEntry old new p o → OnSome o (count (view old) ≡ count (view new) + 1)
     less_of None r = tt
     less_of (Some t) r = (r.some refl).less
 

@@ -15,4 +15,4 @@ pub record IsNextChain {Gen T : Type 0} (source : ArenaView Gen T) (interlinks :
   pub none_below : (j : ℕ) → IsSome (found j source.entries) → least ≤ j
   pub start : IsStart interlinks least here
   pub cyclic : ring ≡ is_some (prev_of interlinks here)
-  pub lookups : after ≡ Up (least + 1)
+  pub cursor : after ≡ Up (least + 1)

@@ -45,15 +45,18 @@ pub trait ChainArenaTrait<P: PtrKey, T: Drop>: ArenaTrait<P, T> {
     // The position of an advancer along a chain, and the most steps that it still makes.
     ghost walker: { Self.ChainPtrAdvancer → Walker };
 
-    // What an implementation knows besides, after a call on the first arena. In turn: `connect`, given
-    // the two indexes; `break_prev` or `break_next`, given the index of the link that loses its next
-    // link and of that next link; `exchange_next`, given the two indexes; `compress_canonical`.
+    // What an implementation knows besides of the arenas before and after `connect`, given the two
+    // indexes.
     ghost connects: { Self → ℕ → ℕ → Self → Type 0 } = { λ _ _ _ _. ⊤ };
 
+    // What it knows besides after `break_prev` or `break_next`, given the indexes of the link that
+    // loses its next link and of that next link.
     ghost breaks: { Self → ℕ → ℕ → Self → Type 0 } = { λ _ _ _ _. ⊤ };
 
+    // What it knows besides after `exchange_next`, given the two indexes.
     ghost exchanges: { Self → ℕ → ℕ → Self → Type 0 } = { λ _ _ _ _. ⊤ };
 
+    // What it knows besides after `compress_canonical`.
     ghost compresses_canonically: { Self → Self → Type 0 } = { λ _ _. ⊤ };
 
     /// States that the interlinks agree: j follows i exactly if i precedes j.

@@ -6,14 +6,14 @@ ghost use Rattle.chain_laws.specs.Chains.{IsWellLinked, prev_of, next_of};
 ghost use Rattle.chain_laws.specs.Removals.{with_removal};
 ghost use Rattle.chain_laws.specs.Walks.{step_forward};
 ghost use Rattle.chain_laws.specs.ChainStart.{IsStart};
-ghost use Rattle.arena_base.specs.Entries.{entry_removed, RisesFrom};
+ghost use Rattle.arena_base.specs.Entries.{entry_removed, AscendsFrom};
 ghost use Rattle.arena_base.specs.declared.cursor.Cursor.{Cursor};
 ghost use Rattle.chain_traits.specs.DrainOrder.{IsNextChain};
 
 use crate::chain_traits::ChainArenaTrait;
 use arena_base::{Advancer, invalidated, proved_unreachable};
 use arena_ptr::{InvalidationOption, InxKey, PtrKey};
-use chain_links::walk_direction::going_on;
+use chain_links::walk_direction::step_on;
 
 // Returns the index of the link before the link at `i`.
 fn before<Q: PtrKey, U: Drop, A: ChainArenaTrait<Q, U>>(source: &A, i: Q::Inx) -> Option<Q::Inx>
@@ -54,7 +54,7 @@ fn next_chain<Q: PtrKey, U: Drop, A: ChainArenaTrait<Q, U>>(
 ) -> (Q::Inx, bool)
     requires agree { IsWellLinked (A.interlinks source.now) }
     requires low { (from : ℕ) × (A.cursor advancer.old ≡ Cursor.Up from)
-        × RisesFrom from (A.view source.now).entries }
+        × AscendsFrom from (A.view source.now).entries }
     requires some { (A.view source.now).entries ≢ [] }
     ensures next { IsNextChain (A.view source.now) (A.interlinks source.now)
         (Q.Inx.number result.0) result.1 (A.cursor advancer.new) }
@@ -76,7 +76,8 @@ pub struct Taken<Q: PtrKey, U: Drop> {
     pub ptr: Q,
     /// Its value. `GenerationOverflow`: the removal overflowed the counter of the source.
     pub value: InvalidationOption<U>,
-    /// The index of the next link in its chain, or `None` if there is none or it is the link itself.
+    /// The index of the next link in its chain, or `None` if there is none or it is the link
+    /// itself.
     pub next: Option<Q::Inx>,
     /// Whether its chain is cyclic.
     pub is_cyclic: bool,
@@ -93,7 +94,7 @@ fn next_link<Q: PtrKey, U: Drop, A: ChainArenaTrait<Q, U>>(
 ) -> (Q::Inx, bool)
     requires agree { IsWellLinked (A.interlinks source.now) }
     requires low { on ≡ None → (from : ℕ) × (A.cursor advancer.old ≡ Cursor.Up from)
-        × RisesFrom from (A.view source.now).entries }
+        × AscendsFrom from (A.view source.now).entries }
     requires some { on ≡ None → (A.view source.now).entries ≢ [] }
     requires stored { IfSome on (λ i. IsSome (A.entry source.now (Q.Inx.number i))) }
     ensures continues { IfSome on (λ i. (result ≡ (i, ring))
@@ -110,8 +111,8 @@ fn next_link<Q: PtrKey, U: Drop, A: ChainArenaTrait<Q, U>>(
 
 /// Removes the next link from a source.
 ///
-/// This is the link at `on`, whose chain is cyclic if `ring`. If `on` is `None`, it is the first link
-/// of the next chain.
+/// This is the link at `on`, whose chain is cyclic if `ring`. If `on` is `None`, it is the first
+/// link of the next chain.
 pub fn take_next<Q: PtrKey, U: Drop, A: ChainArenaTrait<Q, U>>(
     source: &mut A,
     advancer: &mut A::PtrAdvancer,
@@ -120,7 +121,7 @@ pub fn take_next<Q: PtrKey, U: Drop, A: ChainArenaTrait<Q, U>>(
 ) -> Taken<Q, U>
     requires agree { IsWellLinked (A.interlinks source.old) }
     requires low { on ≡ None → (from : ℕ) × (A.cursor advancer.old ≡ Cursor.Up from)
-        × RisesFrom from (A.view source.old).entries }
+        × AscendsFrom from (A.view source.old).entries }
     requires some { on ≡ None → (A.view source.old).entries ≢ [] }
     requires stored { IfSome on (λ i. IsSome (A.entry source.old (Q.Inx.number i))) }
     ensures continues { IfSome on (λ i. ((Q.key result.ptr).0 ≡ Q.Inx.number i)
@@ -171,7 +172,7 @@ fn take_link<Q: PtrKey, U: Drop, A: ChainArenaTrait<Q, U>>(
     let (entry, overflow) = source.remove_inx_link_no_gen(i).overflowing();
     match entry {
         Some((generation, link)) => {
-            let next = going_on(i, link.next());
+            let next = step_on(i, link.next());
             (
                 Q::_from_raw(i, generation),
                 invalidated(overflow, link.t),

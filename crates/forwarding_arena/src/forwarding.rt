@@ -112,7 +112,7 @@ impl<P: PtrKey, T: Drop, A: ArenaTrait<P, T>> ArenaTrait<P, T> for ForwardingAre
 
     ghost compresses = { λ v w. A.compresses v.inner w.inner };
 
-    ghost rises = { λ w. A.rises w.inner };
+    ghost ascends = { λ w. A.ascends w.inner };
 
     ghost finds = { λ w. A.finds w.inner };
 
@@ -250,7 +250,8 @@ impl<P: PtrKey, T: Drop, A: ChainArenaTrait<P, T>> ChainArenaTrait<P, T> for For
 
     ghost compresses_canonically = { λ v w. A.compresses_canonically v.inner w.inner };
 
-    ghost passes = { λ v w arena returned given. A.passes v.inner w.inner arena.inner returned given };
+    ghost passes = { λ v w arena returned given. A.passes v.inner w.inner arena.inner
+        returned given };
 
     ghost links_are_entries = { λ w i. A.links_are_entries w.inner i };
 
@@ -262,7 +263,8 @@ impl<P: PtrKey, T: Drop, A: ChainArenaTrait<P, T>> ChainArenaTrait<P, T> for For
 
     ghost removal_removes = { λ v w i removes. A.removal_removes v.inner w.inner i removes };
 
-    ghost compression_renames = { λ v w compresses. A.compression_renames v.inner w.inner compresses };
+    ghost compression_renames = { λ v w compresses. A.compression_renames v.inner w.inner
+        compresses };
 
     fn can_insert(&self, kind: LinkInsertKind<P>) -> bool
         ensures { IsTrue result ↔ MayInsert (A.entry self.now.inner) (A.interlinks self.now.inner)

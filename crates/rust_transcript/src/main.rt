@@ -1,4 +1,4 @@
-//! The program over lines. Its input is a script, and its output has to be what the Rust answers (README.md).
+//! Runs the program on a script. The expected output is the Rust crate's (README.md).
 #![tactic(auto)]
 
 use chain_commands::run;
@@ -7,10 +7,10 @@ use std::process::ExitCode;
 
 fn main(rt: HostRuntime) -> ExitCode {
     let alloc = rt.alloc();
-    let Ok(mut answers) = BufWriter::new(alloc, writer(&rt)) else {
+    let Ok(mut responses) = BufWriter::new(alloc, writer(&rt)) else {
         return ExitCode::FAILURE;
     };
-    match run(alloc, &mut rt.reader(), &mut answers) {
+    match run(alloc, &mut rt.reader(), &mut responses) {
         Ok(()) => ExitCode::SUCCESS,
         Err(_) => ExitCode::FAILURE,
     }

@@ -103,8 +103,8 @@ fn same<T: PartialEq + Debug + Drop>(rt: &impl Abort, what: &str, got: T, want: 
     assert_eq!(rt; got, want, "{what}");
 }
 
-fn text<T: Debug + Drop>(alloc: Global, answer: T) -> Option<String> {
-    format!(in alloc; "{answer:?}").ok()
+fn text<T: Debug + Drop>(alloc: Global, outcome: T) -> Option<String> {
+    format!(in alloc; "{outcome:?}").ok()
 }
 
 // Returns the index of a number, or the invalid pointer's if there is none.
@@ -196,7 +196,7 @@ fn row_of<P: Numbered, A: ChainArenaTrait<P, u32>>(arena: &A, p: P) -> Option<Ro
     Some(row)
 }
 
-// Returns all links by rising index. `NOTHING` is a wrong result of the advancer.
+// Returns all links by ascending index. `NOTHING` is a wrong result of the advancer.
 fn rows_of<P: Numbered, A: ChainArenaTrait<P, u32>>(alloc: Global, arena: &A) -> Vec<Row> {
     let mut rows = Vec::new(alloc);
     let mut all = arena.advancer();

@@ -23,11 +23,11 @@ pub(super) fn copied_hole<P: Numbered, R: SlotStack<Item = Slot<P>>, A: ArenaClo
 ) -> (Result<(), ReallocationError>, usize, u32) {
     let source: Arena<P, u32, R> = with_a_hole(alloc);
     let mut calls = 0u32;
-    let answer = arena.clone_from_with(&source, |_p: P, t: &u32| {
+    let outcome = arena.clone_from_with(&source, |_p: P, t: &u32| {
         calls = calls.saturating_add(1);
         t.saturating_mul(10).saturating_add(calls)
     });
-    (answer, arena.len(), calls)
+    (outcome, arena.len(), calls)
 }
 
 // Returns the table, which no other body names.

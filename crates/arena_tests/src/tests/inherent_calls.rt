@@ -93,8 +93,8 @@ fn compacted<P: Numbered, S: SlotStack<Item = Slot<P>>>(
 ) -> ((usize, Option<u32>), Work) {
     let (from, to) = (index::<P>(from), index::<P>(to));
     let mut compactor = arena.compactor();
-    let seen = moved(&mut compactor, from, to, P::generation_of(g), value);
-    (seen, compactor.finish())
+    let visited = moved(&mut compactor, from, to, P::generation_of(g), value);
+    (visited, compactor.finish())
 }
 
 fn compactor_idle<P: PtrKey, S: SlotStack<Item = Slot<P>>>(

@@ -104,7 +104,7 @@ fn check_values<P: PtrKey, S: LimitStack<Item = Shared<P>>>(rt: &impl Abort, all
     );
 }
 
-// The first request for memory is refused, then every other one. A refused call has made one
+// The first request for an allocation fails, then every other one. A refused call has made one
 // request.
 static EVERY_OTHER: [Row; 25] = [
     (Call::New, "every other request is refused"),
@@ -132,7 +132,7 @@ static EVERY_OTHER: [Row; 25] = [
     (Call::Reserve(9), "Err(AllocError)"),
     (Call::Capacity, "4"),
     (Call::Slots, "4"),
-    (Call::Held, "[(2.2, 3), (4.2, 6)]"),
+    (Call::DetachedView, "[(2.2, 3), (4.2, 6)]"),
     (Call::Insert(7), "Ok(3.4)"),
     (Call::Insert(8), "Ok(1.4)"),
     (Call::Counter, "Some(4)"),

@@ -22,7 +22,10 @@ static NEXTS: [Row; 61] = [
     (Call::Insert(60), "Ok(4.4)"),
     (Call::Get(3, 2), "Some(30)"),
     (Call::Get(1, 2), "None"),
-    (Call::Held, "[(1.4, 40), (2.4, 50), (3.2, 30), (4.4, 60)]"),
+    (
+        Call::DetachedView,
+        "[(1.4, 40), (2.4, 50), (3.2, 30), (4.4, 60)]",
+    ),
     (Call::New, "advancers both ways"),
     (Call::Insert(10), "Ok(1.2)"),
     (Call::Insert(20), "Ok(2.2)"),
@@ -31,7 +34,7 @@ static NEXTS: [Row; 61] = [
     (Call::AdvanceFrom(2, false), "(Some(3.2), None, None)"),
     (Call::AdvanceFrom(2, true), "(Some(1.2), None, None)"),
     (Call::AdvanceFrom(3, true), "(Some(3.2), Some(1.2), None)"),
-    (Call::New, "all entries by rising index"),
+    (Call::New, "all entries by ascending index"),
     (Call::InsertMany(5), "5"),
     (Call::Ends, "(Some(1.2), Some(5.2))"),
     (Call::Remove(1, 2), "Success(0)"),
@@ -48,7 +51,7 @@ static NEXTS: [Row; 61] = [
     (Call::Len, "255"),
     // Capacity up to the greatest index can be reserved, though proportional growth would exceed
     // it. A new arena follows each drain.
-    (Call::New, "room up to the greatest index"),
+    (Call::New, "capacity up to the greatest index"),
     (Call::Reserve(255), "Ok(())"),
     (Call::Capacity, "255"),
     (Call::Drain, "[]"),

@@ -98,7 +98,7 @@ fn tool_ptr(rt: &impl Abort, inx: u32, generation: u32) -> ToolPtr {
 }
 
 #[test]
-fn indexes_go_from_one_to_their_greatest(rt: HostRuntime) {
+fn indexes_range_from_one_to_the_greatest(rt: HostRuntime) {
     let greatest = [Inx8::greatest(), Inx32::greatest(), Inx64::greatest()];
     let want = [255, 4_294_967_295, 18_446_744_073_709_551_615];
     equal(&rt, "greatest", greatest, want);

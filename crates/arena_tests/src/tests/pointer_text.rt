@@ -18,8 +18,8 @@ impl<I: PtrInx, G: PtrGen> fmt::Display for Printed<I, G> {
 
 // Checks the text written plain, with `#` and with a width.
 fn reads<I: PtrInx, G: PtrGen>(rt: &impl Abort, alloc: Global, inx: I, generation: G, want: &str) {
-    let shown = Printed(inx, generation);
-    let texts = format!(in alloc; "{shown} {shown:#} {shown:>12}").expect(rt, "memory");
+    let printed = Printed(inx, generation);
+    let texts = format!(in alloc; "{printed} {printed:#} {printed:>12}").expect(rt, "memory");
     same(rt, "whatever the format", texts.as_str(), want);
 }
 

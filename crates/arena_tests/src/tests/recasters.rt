@@ -10,7 +10,7 @@ struct AddTen;
 impl Recaster for AddTen {
     type Item = u32;
 
-    ghost recasts = { λ _ old new answer. OnErr answer ((answer ≡ Err old) × (new ≡ old)) };
+    ghost recasts = { λ _ old new outcome. OnErr outcome ((outcome ≡ Err old) × (new ≡ old)) };
 
     fn recast_item(&self, item: &mut u32) -> Result<(), u32> {
         if *item == 2 {
@@ -25,7 +25,7 @@ impl Recaster for AddTen {
 struct Number(u32);
 
 impl Recast<u32> for Number {
-    ghost recast_by = { λ recasts old new answer. recasts old.0 new.0 answer };
+    ghost recast_by = { λ recasts old new outcome. recasts old.0 new.0 outcome };
 
     fn recast<R: Recaster<Item = u32>>(&mut self, recaster: &R) -> Result<(), u32> {
         recaster.recast_item(&mut self.0)
@@ -40,9 +40,9 @@ struct Two<T> {
 
 impl<I, T: Recast<I>> Recast<I> for Two<T> {
     // The first is recast and then the second, or the first is refused and the second is unchanged.
-    ghost recast_by = { λ recasts old new answer. (T.recast_by recasts old.first new.first (Ok tt)
-        × T.recast_by recasts old.second new.second answer)
-        ⊎ (IsErr answer × T.recast_by recasts old.first new.first answer
+    ghost recast_by = { λ recasts old new outcome. (T.recast_by recasts old.first new.first (Ok tt)
+        × T.recast_by recasts old.second new.second outcome)
+        ⊎ (IsErr outcome × T.recast_by recasts old.first new.first outcome
         × (new.second ≡ old.second)) };
 
     fn recast<R: Recaster<Item = I>>(&mut self, recaster: &R) -> Result<(), I> {
@@ -57,7 +57,7 @@ fn a_recaster_refuses(rt: HostRuntime) {
         first: Number(1),
         second: Number(2),
     };
-    equal(&rt, "the answer", two.recast(&AddTen), Err(2));
+    equal(&rt, "the result", two.recast(&AddTen), Err(2));
     equal(&rt, "the numbers", (two.first.0, two.second.0), (11, 2));
     equal(&rt, "again", two.recast(&AddTen), Err(2));
     equal(&rt, "the numbers", (two.first.0, two.second.0), (21, 2));

@@ -8,51 +8,53 @@ fn is_above_three(n: i32) -> bool {
 }
 
 // Returns the value, the value with the overflow flag, and whether it is above three, as a result.
-fn each_of_option(answer: InvalidationOption<i32>) -> (i32, (i32, bool), InvalidationOption<bool>) {
+fn each_of_option(
+    outcome: InvalidationOption<i32>,
+) -> (i32, (i32, bool), InvalidationOption<bool>) {
     (
-        answer.allow(),
-        answer.overflowing(),
-        answer.map(is_above_three),
+        outcome.allow(),
+        outcome.overflowing(),
+        outcome.map(is_above_three),
     )
 }
 
 fn each_of_result(
-    answer: InvalidationResult<i32>,
+    outcome: InvalidationResult<i32>,
 ) -> (Option<i32>, (Option<i32>, bool), InvalidationResult<bool>) {
     (
-        answer.allow(),
-        answer.overflowing(),
-        answer.map(is_above_three),
+        outcome.allow(),
+        outcome.overflowing(),
+        outcome.map(is_above_three),
     )
 }
 
 #[test]
 fn a_result_has_its_value_and_reports_overflow(rt: HostRuntime) {
-    let told = each_of_option(InvalidationOption::Success(3));
+    let reply = each_of_option(InvalidationOption::Success(3));
     equal(
         &rt,
         "a value",
-        told,
+        reply,
         (3, (3, false), InvalidationOption::Success(false)),
     );
-    let told = each_of_option(InvalidationOption::GenerationOverflow(4));
+    let reply = each_of_option(InvalidationOption::GenerationOverflow(4));
     let want = InvalidationOption::GenerationOverflow(true);
-    equal(&rt, "an overflow", told, (4, (4, true), want));
+    equal(&rt, "an overflow", reply, (4, (4, true), want));
 }
 
 #[test]
 fn a_result_may_have_no_value(rt: HostRuntime) {
-    let told = each_of_result(InvalidationResult::Success(3));
+    let reply = each_of_result(InvalidationResult::Success(3));
     let want = InvalidationResult::Success(false);
-    equal(&rt, "a value", told, (Some(3), (Some(3), false), want));
-    let told = each_of_result(InvalidationResult::GenerationOverflow(4));
+    equal(&rt, "a value", reply, (Some(3), (Some(3), false), want));
+    let reply = each_of_result(InvalidationResult::GenerationOverflow(4));
     let want = InvalidationResult::GenerationOverflow(true);
-    equal(&rt, "an overflow", told, (Some(4), (Some(4), true), want));
-    let told = each_of_result(InvalidationResult::InvalidPtr);
+    equal(&rt, "an overflow", reply, (Some(4), (Some(4), true), want));
+    let reply = each_of_result(InvalidationResult::InvalidPtr);
     equal(
         &rt,
         "none",
-        told,
+        reply,
         (None, (None, false), InvalidationResult::InvalidPtr),
     );
 }
@@ -60,9 +62,9 @@ fn a_result_may_have_no_value(rt: HostRuntime) {
 #[test]
 fn a_result_may_own_its_value(rt: HostRuntime) {
     let owned = Vec::from_array(rt.alloc(), [5]).expect(&rt, "memory");
-    let answer = InvalidationResult::GenerationOverflow(owned);
+    let outcome = InvalidationResult::GenerationOverflow(owned);
     let want = InvalidationResult::GenerationOverflow(1);
-    equal(&rt, "the length", answer.map(|v| v.len()), want);
+    equal(&rt, "the length", outcome.map(|v| v.len()), want);
 }
 
 #[test]

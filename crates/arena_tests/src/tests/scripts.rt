@@ -32,7 +32,7 @@ pub(super) enum Call {
     AdvanceFrom(u8, bool),
     AdvanceEmpty,
     // The pointers and values found by index.
-    Held,
+    DetachedView,
     // Changes through the trait.
     Write(u8, u8, u32),
     WriteInx(u8, u32),
@@ -116,7 +116,7 @@ fn thrice<P: PtrKey, C, A: Advancer<C, Item = P>>(mut advancer: A, collection: &
     )
 }
 
-// Runs an advancer by rising index, one from an index on, or an empty one.
+// Runs an advancer by ascending index, one from an index on, or an empty one.
 fn advanced<P: PtrKey, A: ArenaTrait<P, u32>>(arena: &A, call: Call, i: P::Inx) -> Three<P> {
     match call {
         Call::AdvanceFrom(_, rev) => thrice(arena.advancer_inx(i, rev), arena),
@@ -132,14 +132,14 @@ fn compressed<P: PtrKey, A: ArenaTrait<P, u32>>(
     arena: &mut A,
     reset: bool,
 ) -> (InvalidationOption<()>, Vec<(P, u32, P)>) {
-    let mut seen = Vec::new(alloc);
+    let mut visited = Vec::new(alloc);
     let mut calls = 0u32;
-    let answer = arena.compress_with(reset, |from: P, t: &mut u32, to: P| {
-        let _ = seen.push((from, *t, to));
+    let outcome = arena.compress_with(reset, |from: P, t: &mut u32, to: P| {
+        let _ = visited.push((from, *t, to));
         calls = calls.saturating_add(1);
         *t = t.saturating_add(calls);
     });
-    (answer, seen)
+    (outcome, visited)
 }
 
 // Returns the pointer that a call names, as two numbers. An index alone, or none, has generation 2.
@@ -184,7 +184,7 @@ fn run_walk<P: Numbered, A: ArenaTrait<P, u32>>(
             let ends = (arena.find_first_inx_ptr(), arena.find_last_inx_ptr());
             text(alloc, ends)
         }
-        Call::Held => text(alloc, listed(alloc, arena)),
+        Call::DetachedView => text(alloc, listed(alloc, arena)),
         _ => text(alloc, advanced(arena, call, p.inx())),
     }
 }
@@ -201,9 +201,9 @@ fn cleared<P: PtrKey, A: ArenaTrait<P, u32>>(
     arena: &mut A,
 ) -> (InvalidationOption<()>, Result<(), ReallocationError>, bool) {
     let capacity = arena.capacity();
-    let answer = arena.clear();
+    let outcome = arena.clear();
     let again = arena.reallocate_min_capacity(capacity);
-    (answer, again, arena.capacity() == capacity)
+    (outcome, again, arena.capacity() == capacity)
 }
 
 fn run_change<P: Numbered, A: ArenaTrait<P, u32> + Drop>(

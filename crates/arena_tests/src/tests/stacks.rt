@@ -174,8 +174,8 @@ fn reply_to<S: SlotStack<Item = u32>>(
 
 // Returns the text of a call's result, and the length, capacity, maximum and items then.
 fn state_text<S: SlotStack<Item = u32>>(alloc: Global, stack: &mut S, call: Call) -> String {
-    let answer = reply_to(stack, call);
-    text(alloc, (answer, shape(stack), held(alloc, stack)))
+    let outcome = reply_to(stack, call);
+    text(alloc, (outcome, shape(stack), held(alloc, stack)))
 }
 
 // Checks the text of each call.
@@ -393,7 +393,7 @@ fn check_edits<S: SlotStack<Item = u32>>(rt: &impl Abort, alloc: Global, few: u6
     edits(rt, &mut stack);
     let left = text(alloc, held(alloc, &stack));
     same(rt, "what is left", left.as_str(), "[999, 70, 2, 80]");
-    equal(rt, "as much room", shape(&stack), (4, capacity, None));
+    equal(rt, "the same capacity", shape(&stack), (4, capacity, None));
     stack.truncate(0);
     equal(rt, "as much still", shape(&stack), (0, capacity, None));
 }
@@ -408,7 +408,7 @@ fn has_grown<S: SlotStack<Item = u32>>(stack: &mut S, n: usize) -> bool {
 fn check_growth<S: SlotStack<Item = u32>>(rt: &impl Abort, alloc: Global, one: usize) {
     let mut stack = S::new(alloc);
     fill(&mut stack, 1);
-    equal(rt, "room for one", shape(&stack), (1, one, None));
+    equal(rt, "capacity for one", shape(&stack), (1, one, None));
     equal(rt, "far", has_grown(&mut stack, 100), true);
     equal(rt, "no growth", fill(&mut stack, 2), 0);
     let before = shape(&stack);

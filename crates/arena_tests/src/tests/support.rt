@@ -21,8 +21,8 @@ pub(super) fn equal<T: PartialEq + Drop>(rt: &impl Abort, what: &str, got: T, wa
 
 // Returns a result as `Debug` writes it. After an allocation failure it is empty, which no test
 // expects. So it needs no `Abort`, which each of its steps would name.
-pub(super) fn text<T: Debug + Drop>(alloc: Global, answer: T) -> String {
-    match format!(in alloc; "{answer:?}") {
+pub(super) fn text<T: Debug + Drop>(alloc: Global, outcome: T) -> String {
+    match format!(in alloc; "{outcome:?}") {
         Ok(text) => text,
         Err(_) => String::new(alloc),
     }

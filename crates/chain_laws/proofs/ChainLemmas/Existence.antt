@@ -5,41 +5,41 @@ use Rattle.chain_laws.specs.Chains.{LinkMap, Interlinks, HasLink, HasLinksWithin
 use Rattle.chain_laws.proofs.ListLemmas.Members.{IsMember-left, IsMember-right, IsMember-parts, IsMember-filled, IsMember-or_not, AreDistinct-append, last_or-filled, length_bound}
 use Rattle.chain_laws.proofs.ChainLemmas.LinkedLists.{link, reports_valid, reports_both, next_valid, prev_valid, AreLinked-append, AreLinked-valid, AreLinked-last, apart_no_repetition, last_no_repetition}
 use Rattle.chain_laws.proofs.ChainLemmas.Uniqueness.{chain_valid, chain_once, chains_share, IsMember-at_most}
-use Rattle.chain_laws.proofs.ChainLemmas.Rotations.{turned_to}
+use Rattle.chain_laws.proofs.ChainLemmas.Rotations.{rotated_to}
 use Rattle.chain_laws.proofs.ChainLemmas.ChainLists.{IsMember-all_items, chain_at, all_items_valid}
 
--- the links after k: they end, or return to k
+-- The links after k: they end, or return to k.
 data Ending (link_map : LinkMap) (before : Option ℕ) (k : ℕ) : Type 0 where
   ends : (after : List ℕ) → AreLinked link_map before (k ∷ after) None → Ending link_map before k
   is_cyclic : (after : List ℕ) → AreLinked link_map before (k ∷ after) (Some k) → (IsMember after k → ⊥) → Ending link_map before k
 
--- a linked list with k, and nothing before or after it
+-- A linked list with k, and nothing before or after it.
 data Beginning (link_map : LinkMap) (k : ℕ) : Type 0 where
   begins : (xs : List ℕ) → AreLinked link_map None xs None → IsMember xs k → Beginning link_map k
 
--- a chain with k in it
+-- A chain with k in it.
 pub data ChainOf (link_map : LinkMap) (k : ℕ) : Type 0 where
   stored_in : (c : Chain) → IsChain link_map c → IsMember (items c) k → ChainOf link_map k
 
 module _ (link_map : LinkMap) (slots : ℕ) (agrees : IsWellLinked link_map) (within : HasLinksWithin link_map slots) where
-  -- there are no more distinct valid indexes than slots
-  within_capacity : (xs : List ℕ) → AreDistinct xs → ((i : ℕ) → IsMember xs i → HasLink link_map i) → slots < length xs → ⊥
-  within_capacity xs once valid more =
+  -- There are no more distinct valid indexes than slots.
+  bounded : (xs : List ℕ) → AreDistinct xs → ((i : ℕ) → IsMember xs i → HasLink link_map i) → slots < length xs → ⊥
+  bounded xs once valid more =
       let bound : length xs ≤ slots = length_bound xs slots once (λ i h. within.within i (valid i h)) in
       omega arith
 
-  -- what follows a list names its last item as prev
+  -- What follows a list names its last item as prev.
   names_last : (before : Option ℕ) (k : ℕ) (xs : List ℕ) (j : ℕ) → AreLinked link_map before (k ∷ xs) (Some j) → prev_of link_map j ≡ last_or (k ∷ xs) None
   names_last before k xs j s =
       let last = last_or-filled (k ∷ xs) k (inl refl) in
       let on : next_of link_map last.0 ≡ Some j = AreLinked-last link_map before (k ∷ xs) (Some j) last.0 s (IsMember-filled (k ∷ xs) k (inl refl)) (last.1 None) in
       (agrees.both last.0 j).0 on ∙ sym (last.1 None)
 
-  -- follows next from k, with xs passed and j to come, for at most `left` steps
+  -- Follows next from k, with xs passed and j to come, for at most `left` steps.
   onward : (left : ℕ) (before : Option ℕ) (k : ℕ) (xs : List ℕ) (j : ℕ) → AreLinked link_map before (k ∷ xs) (Some j) → (IsMember xs k → ⊥) → (j ≢ k)
       → slots < left + length (k ∷ xs) → Ending link_map before k
   onward zero before k xs j s apart differs more =
-      absurd (within_capacity (k ∷ xs) (apart_no_repetition link_map before k xs (Some j) s apart) (λ i h. AreLinked-valid link_map before (k ∷ xs) (Some j) i s h) (omega arith))
+      absurd (bounded (k ∷ xs) (apart_no_repetition link_map before k xs (Some j) s apart) (λ i h. AreLinked-valid link_map before (k ∷ xs) (Some j) i s h) (omega arith))
   onward (suc left) before k xs j s apart differs more = by_next (next_of link_map j) refl (λ m t a d. onward left before k (xs ++ j ∷ []) m t a d longer)
     where
       named : prev_of link_map j ≡ last_or (k ∷ xs) before
@@ -67,7 +67,7 @@ module _ (link_map : LinkMap) (slots : ℕ) (agrees : IsWellLinked link_map) (wi
       by_next None n on = ends (xs ++ j ∷ []) (stored None n)
       by_next (Some m) n on = by_test m n (ℕ_discrete m k) on
 
-  -- follows next from a valid index
+  -- Follows next from a valid index.
   on_from : (k : ℕ) → HasLink link_map k → Ending link_map (prev_of link_map k) k
   on_from k valid = by_next (next_of link_map k) refl
     where
@@ -82,11 +82,11 @@ module _ (link_map : LinkMap) (slots : ℕ) (agrees : IsWellLinked link_map) (wi
       by_next None n = ends [] (stored None n)
       by_next (Some m) n = by_test m n (ℕ_discrete m k)
 
-  -- follows prev from a list with nothing after it, for at most `left` steps
+  -- Follows prev from a list with nothing after it, for at most `left` steps.
   backward : (left : ℕ) (before : Option ℕ) (x : ℕ) (xs : List ℕ) (k : ℕ) → AreLinked link_map before (x ∷ xs) None → IsMember (x ∷ xs) k → slots < left + length (x ∷ xs) → Beginning link_map k
   backward left None x xs k s h more = begins (x ∷ xs) s h
   backward zero (Some j) x xs k s h more =
-      absurd (within_capacity (x ∷ xs) (last_no_repetition link_map (Some j) (x ∷ xs) s) (λ i m. AreLinked-valid link_map (Some j) (x ∷ xs) None i s m) (omega arith))
+      absurd (bounded (x ∷ xs) (last_no_repetition link_map (Some j) (x ∷ xs) s) (λ i m. AreLinked-valid link_map (Some j) (x ∷ xs) None i s m) (omega arith))
   backward (suc left) (Some j) x xs k s h more = backward left (prev_of link_map j) j (x ∷ xs) k (before, s) (inr h) (omega arith)
     where
       on : next_of link_map j ≡ Some x
@@ -95,7 +95,7 @@ module _ (link_map : LinkMap) (slots : ℕ) (agrees : IsWellLinked link_map) (wi
       before : link_map j ≡ Some (link (prev_of link_map j) (Some x))
       before = reports_both link_map j (prev_of link_map j) (Some x) (next_valid link_map j x on) refl on
 
-  -- each valid index is in a chain
+  -- Each valid index is in a chain.
   pub has_chain : (k : ℕ) → HasLink link_map k → ChainOf link_map k
   has_chain k valid = by_ending (on_from k valid)
     where
@@ -112,18 +112,18 @@ module _ (link_map : LinkMap) (slots : ℕ) (agrees : IsWellLinked link_map) (wi
           (IsMember-filled (k ∷ after) k (inl refl), apart_no_repetition link_map (prev_of link_map k) k after (Some k) s apart, ring after s)
           (inl refl)
 
-  -- a chain with k, from its least index if cyclic
+  -- A chain with k, from its least index if cyclic.
   data WrittenFrom (k : ℕ) : Type 0 where
     written_from : (c : Chain) → IsChain link_map c → IsMember (items c) k → StartsAtLeast c → WrittenFrom k
 
-  -- the chain with least index k, written from k if cyclic
+  -- The chain with least index k, written from k if cyclic.
   from_least : (k : ℕ) → ChainOf link_map k → ((c : Chain) (y : ℕ) → IsChain link_map c → IsMember (items c) k → IsMember (items c) y → k ≤ y) → WrittenFrom k
   from_least k (stored_in (linear xs) h m) least = written_from (linear xs) h m tt
   from_least k (stored_in (cyclic xs) h m) least =
-      let t = turned_to link_map xs k h m in
+      let t = rotated_to link_map xs k h m in
       written_from (cyclic (k ∷ t.0)) t.1 (inl refl) (IsMember-at_most k t.0 (λ y n. least (cyclic (k ∷ t.0)) y t.1 (inl refl) (inr n)))
 
-  -- the chains not among those done, by least index
+  -- The chains not among those done, by least index.
   record Others (done : List Chain) : Type 0 where
     chains : List Chain
     each : (c : Chain) → HasChain chains c → IsChain link_map c
@@ -131,9 +131,9 @@ module _ (link_map : LinkMap) (slots : ℕ) (agrees : IsWellLinked link_map) (wi
     once : AreDistinct (all_items chains)
     apart : (i : ℕ) → IsMember (all_items chains) i → IsMember (all_items done) i → ⊥
     all : (i : ℕ) → HasLink link_map i → IsMember (all_items done) i ⊎ IsMember (all_items chains) i
-    rises : IsSortedByLeast chains
+    ascends : IsSortedByLeast chains
 
-  -- adds a chain before the others
+  -- Adds a chain before the others.
   with_chain : (k : ℕ) (done : List Chain) (c : Chain) → IsChain link_map c → IsMember (items c) k → StartsAtLeast c
       → ((i : ℕ) → HasLink link_map i → i < k → IsMember (all_items done) i) → ((y : ℕ) → IsMember (items c) y → IsMember (all_items done) y → ⊥)
       → Others (c ∷ done) → Others done
@@ -144,7 +144,7 @@ module _ (link_map : LinkMap) (slots : ℕ) (agrees : IsWellLinked link_map) (wi
     once = AreDistinct-append (items c) (all_items more.chains) (chain_once link_map c h) more.once (λ y n o. more.apart y o (IsMember-left (items c) (all_items done) y n));
     apart = λ i n o. ⊎_elim (λ (p : IsMember (items c) i). apart i p o) (λ (p : IsMember (all_items more.chains) i). more.apart i p (IsMember-right (items c) (all_items done) i o)) (IsMember-parts (items c) (all_items more.chains) i n);
     all = λ i v. by_more i (more.all i v);
-    rises = ((k, m, above), more.rises);
+    ascends = ((k, m, above), more.ascends);
   }
     where
       chains_each : (d : Chain) → HasChain (c ∷ more.chains) d → IsChain link_map d
@@ -169,7 +169,7 @@ module _ (link_map : LinkMap) (slots : ℕ) (agrees : IsWellLinked link_map) (wi
           let other : (k ≡ y) → ⊥ = λ (e : k ≡ y). more.apart y n (IsMember-left (items c) (all_items done) y (subst (IsMember (items c)) e m)) in
           omega arith
 
-  -- the chains of indexes from k on, not among those done
+  -- The chains of indexes from k on, not among those done.
   others : (left k : ℕ) (done : List Chain) → k + left ≡ suc slots → ((c : Chain) → HasChain done c → IsChain link_map c)
       → ((i : ℕ) → HasLink link_map i → i < k → IsMember (all_items done) i) → Others done
   others zero k done e each below = record {
@@ -179,7 +179,7 @@ module _ (link_map : LinkMap) (slots : ℕ) (agrees : IsWellLinked link_map) (wi
     once = tt;
     apart = λ i n o. n;
     all = λ i v. inl (below i v (let w = within.within i v in let high : i ≤ slots = w.1 in omega arith));
-    rises = tt;
+    ascends = tt;
   }
   others (suc left) k done e each below =
       by_valid (link_map k) refl (λ below_more. others left (suc k) done next each below_more)
@@ -224,16 +224,16 @@ module _ (link_map : LinkMap) (slots : ℕ) (agrees : IsWellLinked link_map) (wi
       by_valid : (o : Option Interlinks) → link_map k ≡ o
           → (((i : ℕ) → HasLink link_map i → i < suc k → IsMember (all_items done) i) → Others done)
           → ((c : Chain) → IsChain link_map c → ((i : ℕ) → HasLink link_map i → i < suc k → IsMember (all_items (c ∷ done)) i) → Others (c ∷ done)) → Others done
-      by_valid None is same more = same (split (IsMember (all_items done)) below (λ (v : HasLink link_map k). let f = v.reports in absurd (cc)))
+      by_valid None is same more = same (split (IsMember (all_items done)) below (λ (v : HasLink link_map k). let f = v.links in absurd (cc)))
       by_valid (Some l) is same more = by_done (reports_valid link_map k l is) (IsMember-or_not (all_items done) k) same more
 
-  -- the arena has chains, in order
+  -- The arena has chains, in order.
   pub has_chains : (chains : List Chain) × AreChains link_map chains × IsInOrder chains
   has_chains =
       let all = others slots 1 [] (omega arith) (λ c n. absurd n) none_before in (
         all.chains,
         record { each = all.each; once = all.once; all = λ i v. ⊎_elim (λ (n : ⊥). absurd n) (λ (n : IsMember (all_items all.chains) i). n) (all.all i v) },
-        record { written = all.written; rises = all.rises },
+        record { written = all.written; ascends = all.ascends },
       )
     where
       none_before : (i : ℕ) → HasLink link_map i → i < 1 → ⊥

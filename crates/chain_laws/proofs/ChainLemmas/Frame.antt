@@ -17,46 +17,46 @@ use Rattle.chain_laws.proofs.InsertionLemmas.Pairs.{inserted_agrees, inserted_in
 use Rattle.chain_laws.proofs.InsertionLemmas.Chains.{HasIndex-apart, inserted_inserts}
 use Rattle.chain_laws.proofs.ChainLemmas.MemberLaws.{free_is_in_no_chain, neighbors_share_a_chain}
 
--- a chain stays if its links keep their interlinks
+-- A chain stays if its links keep their interlinks.
 pub same_links_keep_a_chain : SameLinksKeepAChain
 same_links_keep_a_chain old new c same is = IsChain-frame old new c (λ i has. sym (same i has)) is
 
--- a chain without a lacks what follows a
-lacks_next : (link_map : LinkMap) (c : Chain) (a : ℕ) → IsWellLinked link_map → IsChain link_map c → (IsMember (items c) a → ⊥) → HasIndex c (next_of link_map a) → ⊥
-lacks_next link_map c a agrees is lacks = at (next_of link_map a) refl
+-- A chain without a lacks what follows a.
+absent_next : (link_map : LinkMap) (c : Chain) (a : ℕ) → IsWellLinked link_map → IsChain link_map c → (IsMember (items c) a → ⊥) → HasIndex c (next_of link_map a) → ⊥
+absent_next link_map c a agrees is absent = at (next_of link_map a) refl
   where
     at : (o : Option ℕ) → next_of link_map a ≡ o → HasIndex c o → ⊥
     at None next has = has
-    at (Some j) next has = lacks ((neighbors_share_a_chain link_map c a j agrees next is).1 has)
+    at (Some j) next has = absent ((neighbors_share_a_chain link_map c a j agrees next is).1 has)
 
--- a chain without b lacks what precedes b
-lacks_prev : (link_map : LinkMap) (c : Chain) (b : ℕ) → IsWellLinked link_map → IsChain link_map c → (IsMember (items c) b → ⊥) → HasIndex c (prev_of link_map b) → ⊥
-lacks_prev link_map c b agrees is lacks = at (prev_of link_map b) refl
+-- A chain without b lacks what precedes b.
+absent_prev : (link_map : LinkMap) (c : Chain) (b : ℕ) → IsWellLinked link_map → IsChain link_map c → (IsMember (items c) b → ⊥) → HasIndex c (prev_of link_map b) → ⊥
+absent_prev link_map c b agrees is absent = at (prev_of link_map b) refl
   where
     at : (o : Option ℕ) → prev_of link_map b ≡ o → HasIndex c o → ⊥
     at None prev has = has
-    at (Some j) prev has = lacks ((neighbors_share_a_chain link_map c j b agrees ((agrees.both j b).1 prev) is).0 has)
+    at (Some j) prev has = absent ((neighbors_share_a_chain link_map c j b agrees ((agrees.both j b).1 prev) is).0 has)
 
--- a chain without the links of a kind lacks both links beside the new one
-lacks_beside : (link_map : LinkMap) (kind : InsertKind ℕ) (q : ℕ) (c : Chain) → IsWellLinked link_map → IsChain link_map c → (IsMember (items c) q → ⊥) → IsDisjointFrom c (indexes_of_kind kind)
+-- A chain without the links of a kind lacks both links beside the new one.
+absent_beside : (link_map : LinkMap) (kind : InsertKind ℕ) (q : ℕ) (c : Chain) → IsWellLinked link_map → IsChain link_map c → (IsMember (items c) q → ⊥) → IsDisjointFrom c (indexes_of_kind kind)
     → (HasIndex c (link_before link_map kind q) → ⊥) × (HasIndex c (link_after link_map kind q) → ⊥)
-lacks_beside link_map disconnected q c agrees is off lacks = (λ h. h, λ h. h)
-lacks_beside link_map single_link_cyclic q c agrees is off lacks = (off, off)
-lacks_beside link_map (chain_end a) q c agrees is off lacks = (lacks.0, λ h. h)
-lacks_beside link_map (chain_start b) q c agrees is off lacks = (λ h. h, lacks.0)
-lacks_beside link_map (next_to a) q c agrees is off lacks = (lacks.0, lacks_next link_map c a agrees is lacks.0)
-lacks_beside link_map (prev_to b) q c agrees is off lacks = (lacks_prev link_map c b agrees is lacks.0, lacks.0)
-lacks_beside link_map (at_interlink a b) q c agrees is off lacks = (lacks.0, lacks.1.0)
-lacks_beside link_map (bridge a b) q c agrees is off lacks = (lacks.0, lacks.1.0)
+absent_beside link_map disconnected q c agrees is off absent = (λ h. h, λ h. h)
+absent_beside link_map single_link_cyclic q c agrees is off absent = (off, off)
+absent_beside link_map (chain_end a) q c agrees is off absent = (absent.0, λ h. h)
+absent_beside link_map (chain_start b) q c agrees is off absent = (λ h. h, absent.0)
+absent_beside link_map (next_to a) q c agrees is off absent = (absent.0, absent_next link_map c a agrees is absent.0)
+absent_beside link_map (prev_to b) q c agrees is off absent = (absent_prev link_map c b agrees is absent.0, absent.0)
+absent_beside link_map (at_interlink a b) q c agrees is off absent = (absent.0, absent.1.0)
+absent_beside link_map (bridge a b) q c agrees is off absent = (absent.0, absent.1.0)
 
--- an insertion keeps a chain without the links that its kind names
+-- An insertion keeps a chain without the links that its kind names.
 pub insertion_keeps_others : InsertionKeepsOthers
-insertion_keeps_others old new kind q agrees free inserts c lacks is =
+insertion_keeps_others old new kind q agrees free inserts c absent is =
     let off = free_is_in_no_chain old c q free is in
-    let beside = lacks_beside old kind q c agrees is off lacks in
+    let beside = absent_beside old kind q c agrees is off absent in
     (inserts.rest c off beside.0 beside.1).0 is
 
--- a chain without the new link lacks its neighbors, so it existed before
+-- A chain without the new link lacks its neighbors, so it existed before.
 pub insertion_makes_no_others : InsertionMakesNoOthers
 insertion_makes_no_others link_map q u v agrees free position c off is =
     ((inserted_inserts link_map q u v free).rest c off (before u refl) (after v refl)).1 is
@@ -75,24 +75,24 @@ insertion_makes_no_others link_map q u v agrees free position c off is =
     after None at_v has = has
     after (Some j) at_v has = off ((neighbors_share_a_chain (with_insertion link_map q u v) c q j agree ((inserts.pairs q j).1 (inr (inr (refl, at_v)))) is).1 has)
 
--- a new lone link keeps every chain, since chains have no free index
+-- A new lone link keeps every chain, since chains have no free index.
 pub lone_keeps_each : LoneKeepsEach
 lone_keeps_each old new q free adds c is = (adds.rest c (free_is_in_no_chain old c q free is)).0 is
 
--- a cut keeps a chain without one of the two neighbors
+-- A cut keeps a chain without one of the two neighbors.
 pub cut_keeps_others : CutKeepsOthers
-cut_keeps_others old new a b agrees pair cuts c lacks is =
+cut_keeps_others old new a b agrees pair cuts c absent is =
     let both = neighbors_share_a_chain old c a b agrees pair is in
-    ⊎_elim (λ no_a. (cuts.rest c no_a (λ h. no_a (both.1 h))).0 is) (λ no_b. (cuts.rest c (λ h. no_b (both.0 h)) no_b).0 is) lacks
+    ⊎_elim (λ no_a. (cuts.rest c no_a (λ h. no_a (both.1 h))).0 is) (λ no_b. (cuts.rest c (λ h. no_b (both.0 h)) no_b).0 is) absent
 
--- a chain without one of two joined links existed before, as a cut shows
+-- A chain without one of two joined links existed before, as a cut shows.
 pub join_makes_no_others : JoinMakesNoOthers
-join_makes_no_others link_map a b agrees ends c lacks is =
+join_makes_no_others link_map a b agrees ends c absent is =
     let restored = cut_of_join link_map a b agrees ends in
     subst (λ (s : LinkMap). IsChain s c) restored.1
-    (cut_keeps_others (with_join link_map a b) (without_pair (with_join link_map a b) a b) a b (joined_agrees link_map a b agrees ends) restored.0 (cut_cuts (with_join link_map a b) a b) c lacks is)
+    (cut_keeps_others (with_join link_map a b) (without_pair (with_join link_map a b) a b) a b (joined_agrees link_map a b agrees ends) restored.0 (cut_cuts (with_join link_map a b) a b) c absent is)
 
--- a chain without the links that a removed link named existed before
+-- A chain without the links that a removed link named existed before.
 pub removal_makes_no_others : RemovalMakesNoOthers
 removal_makes_no_others link_map i c no_prev no_next is =
     let left = (IsChain-linked (without_link link_map i) (prev_of link_map i) (next_of link_map i) c (HasIndex-apart c (prev_of link_map i) no_prev) (HasIndex-apart c (next_of link_map i) no_next)).1 is in

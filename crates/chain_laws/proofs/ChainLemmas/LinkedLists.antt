@@ -3,50 +3,50 @@ use Rattle.std.proofs.Common.{◌≡◌, ◌≢◌, ℕ, ◌+◌, ◌⊎◌, inl
 use Rattle.chain_laws.specs.Chains.{LinkMap, Interlinks, Chain, linear, cyclic, items, IsChain, HasLink, IsMember, AreDistinct, first_or, last_or, prev_in, next_in, prev_of, next_of, AreLinked}
 use Rattle.chain_laws.proofs.ListLemmas.Members.{IsMember-written, first_or-append, first_or-IsMember}
 
--- interlinks with the given prev and next
+-- Interlinks with the given prev and next.
 abbrev pub link : Option ℕ → Option ℕ → Interlinks
 link before after = record { prev = before; next = after }
 
--- an index with interlinks is valid
+-- An index with interlinks is valid.
 pub reports_valid : (link_map : LinkMap) (i : ℕ) (l : Interlinks) → link_map i ≡ Some l → HasLink link_map i
-reports_valid link_map i l e = record { link = l; reports = e }
+reports_valid link_map i l e = record { link = l; links = e }
 
--- the next link of an index with given interlinks
+-- The next link of an index with given interlinks.
 pub reports_next : (link_map : LinkMap) (i : ℕ) (before after : Option ℕ) → link_map i ≡ Some (link before after) → next_of link_map i ≡ after
 reports_next link_map i before after e = ap next_in e
 
--- the previous link of an index with given interlinks
+-- The previous link of an index with given interlinks.
 pub reports_prev : (link_map : LinkMap) (i : ℕ) (before after : Option ℕ) → link_map i ≡ Some (link before after) → prev_of link_map i ≡ before
 reports_prev link_map i before after e = ap prev_in e
 
--- an index with a next link is valid
+-- An index with a next link is valid.
 pub next_valid : (link_map : LinkMap) (i j : ℕ) → next_of link_map i ≡ Some j → HasLink link_map i
 next_valid link_map i j e = by_link (link_map i) refl e
   where
     by_link : (o : Option Interlinks) → link_map i ≡ o → next_in o ≡ Some j → HasLink link_map i
     by_link None is n = absurd (cc)
-    by_link (Some l) is n = record { link = l; reports = is }
+    by_link (Some l) is n = record { link = l; links = is }
 
--- an index with a previous link is valid
+-- An index with a previous link is valid.
 pub prev_valid : (link_map : LinkMap) (i j : ℕ) → prev_of link_map i ≡ Some j → HasLink link_map i
 prev_valid link_map i j e = by_link (link_map i) refl e
   where
     by_link : (o : Option Interlinks) → link_map i ≡ o → prev_in o ≡ Some j → HasLink link_map i
     by_link None is n = absurd (cc)
-    by_link (Some l) is n = record { link = l; reports = is }
+    by_link (Some l) is n = record { link = l; links = is }
 
--- prev and next determine the interlinks of a valid index
+-- Prev and next determine the interlinks of a valid index.
 pub reports_both : (link_map : LinkMap) (i : ℕ) (before after : Option ℕ) → HasLink link_map i → prev_of link_map i ≡ before → next_of link_map i ≡ after → link_map i ≡ Some (link before after)
 reports_both link_map i before after v p n =
     let l : Interlinks = v.link in
-    let q : l.prev ≡ before = sym (ap prev_in v.reports) ∙ p in
-    let m : l.next ≡ after = sym (ap next_in v.reports) ∙ n in
-    v.reports ∙ ap (λ (r : Interlinks). Some r) (both l before after q m)
+    let q : l.prev ≡ before = sym (ap prev_in v.links) ∙ p in
+    let m : l.next ≡ after = sym (ap next_in v.links) ∙ n in
+    v.links ∙ ap (λ (r : Interlinks). Some r) (both l before after q m)
   where
     both : (l : Interlinks) (before after : Option ℕ) → l.prev ≡ before → l.next ≡ after → l ≡ link before after
     both l before after q m = λ i. record { prev = q i; next = m i }
 
--- two linked lists in succession are one
+-- Two linked lists in succession are one.
 pub AreLinked-append : (link_map : LinkMap) (before : Option ℕ) (xs ys : List ℕ) (after : Option ℕ)
     → AreLinked link_map before xs (first_or ys after) → AreLinked link_map (last_or xs before) ys after → AreLinked link_map before (xs ++ ys) after
 AreLinked-append link_map before [] ys after s t = t
@@ -55,7 +55,7 @@ AreLinked-append link_map before (x ∷ xs) ys after s t = (
   AreLinked-append link_map (Some x) xs ys after s.1 t,
 )
 
--- the left part of a linked list
+-- The left part of a linked list.
 pub AreLinked-left : (link_map : LinkMap) (before : Option ℕ) (xs ys : List ℕ) (after : Option ℕ)
     → AreLinked link_map before (xs ++ ys) after → AreLinked link_map before xs (first_or ys after)
 AreLinked-left link_map before [] ys after s = tt
@@ -64,18 +64,18 @@ AreLinked-left link_map before (x ∷ xs) ys after s = (
   AreLinked-left link_map (Some x) xs ys after s.1,
 )
 
--- the right part of a linked list
+-- The right part of a linked list.
 pub AreLinked-right : (link_map : LinkMap) (before : Option ℕ) (xs ys : List ℕ) (after : Option ℕ)
     → AreLinked link_map before (xs ++ ys) after → AreLinked link_map (last_or xs before) ys after
 AreLinked-right link_map before [] ys after s = s
 AreLinked-right link_map before (x ∷ xs) ys after s = AreLinked-right link_map (Some x) xs ys after s.1
 
--- the interlinks of an item of a linked list
+-- The interlinks of an item of a linked list.
 pub AreLinked-at : (link_map : LinkMap) (before : Option ℕ) (xs ys : List ℕ) (after : Option ℕ) (i : ℕ)
     → AreLinked link_map before (xs ++ i ∷ ys) after → link_map i ≡ Some (link (last_or xs before) (first_or ys after))
 AreLinked-at link_map before xs ys after i s = (AreLinked-right link_map before xs (i ∷ ys) after s).0
 
--- a list is linked if each item names the items beside it
+-- A list is linked if each item names the items beside it.
 pub AreLinked-each : (link_map : LinkMap) (before : Option ℕ) (xs : List ℕ) (after : Option ℕ)
     → ((left right : List ℕ) (i : ℕ) → xs ≡ left ++ i ∷ right → link_map i ≡ Some (link (last_or left before) (first_or right after))) → AreLinked link_map before xs after
 AreLinked-each link_map before [] after each = tt
@@ -84,26 +84,26 @@ AreLinked-each link_map before (x ∷ xs) after each = (
   AreLinked-each link_map (Some x) xs after (λ left right i e. each (x ∷ left) right i (ap (λ (zs : List ℕ). x ∷ zs) e)),
 )
 
--- a list stays linked if its items keep their interlinks
+-- A list stays linked if its items keep their interlinks.
 pub AreLinked-frame : (old new : LinkMap) (before : Option ℕ) (xs : List ℕ) (after : Option ℕ)
     → ((i : ℕ) → IsMember xs i → old i ≡ new i) → AreLinked old before xs after → AreLinked new before xs after
 AreLinked-frame old new before [] after same s = tt
 AreLinked-frame old new before (x ∷ xs) after same s =
     (sym (same x (inl refl)) ∙ s.0, AreLinked-frame old new (Some x) xs after (λ i h. same i (inr h)) s.1)
 
--- a chain stays if its links keep their interlinks
+-- A chain stays if its links keep their interlinks.
 pub IsChain-frame : (old new : LinkMap) (c : Chain) → ((i : ℕ) → IsMember (items c) i → old i ≡ new i) → IsChain old c → IsChain new c
 IsChain-frame old new (linear xs) same c = (c.0, c.1, AreLinked-frame old new None xs None same c.2)
 IsChain-frame old new (cyclic xs) same c = (c.0, c.1, AreLinked-frame old new (last_or xs None) xs (first_or xs None) same c.2)
 
--- items of a linked list are valid
+-- Items of a linked list are valid.
 pub AreLinked-valid : (link_map : LinkMap) (before : Option ℕ) (xs : List ℕ) (after : Option ℕ) (i : ℕ)
     → AreLinked link_map before xs after → IsMember xs i → HasLink link_map i
 AreLinked-valid link_map before [] after i s h = elim h [ ]
 AreLinked-valid link_map before (x ∷ xs) after i s (inl e) = subst (HasLink link_map) e (reports_valid link_map x _ s.0)
 AreLinked-valid link_map before (x ∷ xs) after i s (inr h) = AreLinked-valid link_map (Some x) xs after i s.1 h
 
--- what follows an item of a linked list is an item, or follows the list
+-- What follows an item of a linked list is an item, or follows the list.
 pub AreLinked-next : (link_map : LinkMap) (before : Option ℕ) (xs : List ℕ) (after : Option ℕ) (i j : ℕ)
     → AreLinked link_map before xs after → IsMember xs i → next_of link_map i ≡ Some j → IsMember xs j ⊎ (after ≡ Some j)
 AreLinked-next link_map before [] after i j s h n = elim h [ ]
@@ -116,7 +116,7 @@ AreLinked-next link_map before (x ∷ xs) after i j s (inr h) n = widen (AreLink
     widen (inl k) = inl (inr k)
     widen (inr a) = inr a
 
--- what precedes an item of a linked list is an item, or precedes the list
+-- What precedes an item of a linked list is an item, or precedes the list.
 pub AreLinked-prev : (link_map : LinkMap) (before : Option ℕ) (xs : List ℕ) (after : Option ℕ) (i j : ℕ)
     → AreLinked link_map before xs after → IsMember xs i → prev_of link_map i ≡ Some j → IsMember xs j ⊎ (before ≡ Some j)
 AreLinked-prev link_map before [] after i j s h p = elim h [ ]
@@ -127,14 +127,14 @@ AreLinked-prev link_map before (x ∷ xs) after i j s (inr h) p = widen (AreLink
     widen (inl k) = inl (inr k)
     widen (inr a) = inl (inl (cc))
 
--- with something before the list, each item has a previous link
+-- With something before the list, each item has a previous link.
 pub AreLinked-prev_some : (link_map : LinkMap) (b : ℕ) (xs : List ℕ) (after : Option ℕ) (i : ℕ)
     → AreLinked link_map (Some b) xs after → IsMember xs i → (j : ℕ) × (prev_of link_map i ≡ Some j)
 AreLinked-prev_some link_map b [] after i s h = elim h [ ]
 AreLinked-prev_some link_map b (x ∷ xs) after i s (inl e) = (b, sym (ap (prev_of link_map) e) ∙ ap prev_in s.0)
 AreLinked-prev_some link_map b (x ∷ xs) after i s (inr h) = AreLinked-prev_some link_map x xs after i s.1 h
 
--- the last item names what follows the list
+-- The last item names what follows the list.
 pub AreLinked-last : (link_map : LinkMap) (before : Option ℕ) (xs : List ℕ) (after : Option ℕ) (a : ℕ)
     → AreLinked link_map before xs after → (xs ≢ []) → last_or xs None ≡ Some a → next_of link_map a ≡ after
 AreLinked-last link_map before [] after a s filled e = absurd (filled refl)
@@ -143,7 +143,7 @@ AreLinked-last link_map before (x ∷ []) after a s filled e =
     subst (λ (z : ℕ). next_of link_map z ≡ after) same (ap next_in s.0)
 AreLinked-last link_map before (x ∷ z ∷ xs) after a s filled e = AreLinked-last link_map (Some x) (z ∷ xs) after a s.1 (λ r. cc) e
 
--- with nothing before the list, only the first item has no previous link
+-- With nothing before the list, only the first item has no previous link.
 pub AreLinked-first : (link_map : LinkMap) (xs : List ℕ) (after : Option ℕ) (i : ℕ)
     → AreLinked link_map None xs after → IsMember xs i → prev_of link_map i ≡ None → (others : Option ℕ) → first_or xs others ≡ Some i
 AreLinked-first link_map [] after i s h p others = elim h [ ]
@@ -157,7 +157,7 @@ AreLinked-first link_map (x ∷ xs) after i s (inr h) p others =
 
 -- ---- no repetition, from links alone
 
--- a linked list whose first item is not in the rest has no repetition
+-- A linked list whose first item is not in the rest has no repetition.
 pub apart_no_repetition : (link_map : LinkMap) (before : Option ℕ) (x : ℕ) (xs : List ℕ) (after : Option ℕ)
     → AreLinked link_map before (x ∷ xs) after → (IsMember xs x → ⊥) → AreDistinct (x ∷ xs)
 apart_no_repetition link_map before x [] after s apart = (apart, tt)
@@ -170,7 +170,7 @@ apart_no_repetition link_map before x (y ∷ ys) after s apart =
     again : IsMember ys y → ⊥
     again h = ⊎_elim (λ (k : IsMember ys x). apart (inr k)) (λ (e : Some y ≡ Some x). apart (inl (cc))) (AreLinked-prev link_map (Some y) ys after y x s.1.1 h named)
 
--- a linked list with nothing before it has no repetition
+-- A linked list with nothing before it has no repetition.
 pub first_no_repetition : (link_map : LinkMap) (xs : List ℕ) (after : Option ℕ) → AreLinked link_map None xs after → AreDistinct xs
 first_no_repetition link_map [] after s = tt
 first_no_repetition link_map (x ∷ xs) after s = apart_no_repetition link_map None x xs after s again
@@ -181,7 +181,7 @@ first_no_repetition link_map (x ∷ xs) after s = apart_no_repetition link_map N
     again : IsMember xs x → ⊥
     again h = let more = AreLinked-prev_some link_map x xs after x s.1 h in clash more.0 more.1
 
--- linked lists with the same first item and nothing after them are equal
+-- Linked lists with the same first item and nothing after them are equal.
 pub one_onward : (link_map : LinkMap) (before left : Option ℕ) (xs ys : List ℕ)
     → AreLinked link_map before xs None → AreLinked link_map left ys None → first_or xs None ≡ first_or ys None → xs ≡ ys
 one_onward link_map before left [] [] s t e = refl
@@ -193,27 +193,27 @@ one_onward link_map before left (x ∷ xs) (y ∷ ys) s t e =
     let rest = one_onward link_map (Some x) (Some y) xs ys s.1 t.1 n in
     cc (same, rest)
 
--- linked lists without i, with the same first item and i after them, are equal
-pub one_round : (link_map : LinkMap) (before left : Option ℕ) (xs ys : List ℕ) (i : ℕ)
+-- Linked lists without i, with the same first item and i after them, are equal.
+pub lists_are_one : (link_map : LinkMap) (before left : Option ℕ) (xs ys : List ℕ) (i : ℕ)
     → AreLinked link_map before xs (Some i) → AreLinked link_map left ys (Some i) → (IsMember xs i → ⊥) → (IsMember ys i → ⊥)
     → first_or xs (Some i) ≡ first_or ys (Some i) → xs ≡ ys
-one_round link_map before left [] [] i s t a b e = refl
-one_round link_map before left [] (y ∷ ys) i s t a b e = absurd (b (inl (cc)))
-one_round link_map before left (x ∷ xs) [] i s t a b e = absurd (a (inl (cc)))
-one_round link_map before left (x ∷ xs) (y ∷ ys) i s t a b e =
+lists_are_one link_map before left [] [] i s t a b e = refl
+lists_are_one link_map before left [] (y ∷ ys) i s t a b e = absurd (b (inl (cc)))
+lists_are_one link_map before left (x ∷ xs) [] i s t a b e = absurd (a (inl (cc)))
+lists_are_one link_map before left (x ∷ xs) (y ∷ ys) i s t a b e =
     let same : x ≡ y = cc in
     let n : first_or xs (Some i) ≡ first_or ys (Some i) = sym (ap next_in s.0) ∙ (ap (next_of link_map) same ∙ ap next_in t.0) in
-    let rest = one_round link_map (Some x) (Some y) xs ys i s.1 t.1 (λ h. a (inr h)) (λ h. b (inr h)) n in
+    let rest = lists_are_one link_map (Some x) (Some y) xs ys i s.1 t.1 (λ h. a (inr h)) (λ h. b (inr h)) n in
     cc (same, rest)
 
--- no list equals a proper end of itself
+-- No list equals a proper end of itself.
 pub no_longer : (left : List ℕ) (x : ℕ) (right : List ℕ) → left ++ x ∷ right ≡ right → ⊥
 no_longer left x right e =
     let l : length (left ++ x ∷ right) ≡ length left + length (x ∷ right) = length-append left (x ∷ right) in
     let m : length (left ++ x ∷ right) ≡ length right = ap (length {A = ℕ}) e in
     omega arith
 
--- a linked list with nothing after it has no repetition
+-- A linked list with nothing after it has no repetition.
 pub last_no_repetition : (link_map : LinkMap) (before : Option ℕ) (xs : List ℕ) → AreLinked link_map before xs None → AreDistinct xs
 last_no_repetition link_map before [] s = tt
 last_no_repetition link_map before (x ∷ xs) s = (again, last_no_repetition link_map (Some x) xs s.1)

@@ -9,29 +9,29 @@ use Rattle.chain_laws.proofs.ListLemmas.Members.{IsMember-left, IsMember-right, 
 use Rattle.chain_laws.proofs.ListLemmas.Members.{AreDistinct-left, AreDistinct-right, AreDistinct-apart, AreDistinct-append}
 use Rattle.chain_laws.proofs.ChainLemmas.LinkedLists.{AreLinked-left, AreLinked-right, AreLinked-at, AreLinked-last, reports_next, reports_prev}
 use Rattle.chain_laws.proofs.ChainLemmas.Uniqueness.{chain_closed, chain_valid, reaches_first}
-use Rattle.chain_laws.proofs.ChainLemmas.Rotations.{turned}
+use Rattle.chain_laws.proofs.ChainLemmas.Rotations.{rotated}
 use Rattle.chain_laws.proofs.JoinLemmas.Lists.{IsOutside, IsOutside-Some, AreLinked-linked, AreLinked-glued, AreLinked-ringed, IsChain-linked}
 use Rattle.chain_laws.proofs.JoinLemmas.LoneLinks.{with_lone-at, AreLinked-with_lone, with_lone_adds}
 use Rattle.chain_laws.proofs.InsertionLemmas.Pairs.{free_invalid, appended, HasLink-inserted}
 
--- the last item of a list is not in a disjoint list
+-- The last item of a list is not in a disjoint list.
 last_apart : (xs ys : List ℕ) → ((k : ℕ) → IsMember xs k → IsMember ys k → ⊥) → IsOutside (last_or xs None) ys
 last_apart xs ys apart k named h = ⊎_elim (λ g. apart k g h) (λ e. absurd (cc)) (last_or-IsMember xs None k named)
 
--- the first item of a list is not in a disjoint list
+-- The first item of a list is not in a disjoint list.
 first_apart : (xs ys : List ℕ) → ((k : ℕ) → IsMember xs k → IsMember ys k → ⊥) → IsOutside (first_or ys None) xs
 first_apart xs ys apart k named h = ⊎_elim (λ g. apart k h g) (λ e. absurd (cc)) (first_or-IsMember ys None k named)
 
--- a list is disjoint from an item that it lacks
+-- A list is disjoint from an item that it lacks.
 one_apart : (xs : List ℕ) (q : ℕ) → (IsMember xs q → ⊥) → (k : ℕ) → IsMember xs k → IsMember (q ∷ []) k → ⊥
 one_apart xs q none k h (inl e) = none (subst (IsMember xs) (sym e) h)
 one_apart xs q none k h (inr g) = g
 
--- a distinct list stays distinct with a new item appended
+-- A distinct list stays distinct with a new item appended.
 once_appended : (xs : List ℕ) (q : ℕ) → AreDistinct xs → (IsMember xs q → ⊥) → AreDistinct (xs ++ q ∷ [])
 once_appended xs q once none = AreDistinct-append xs (q ∷ []) once (λ h. h, tt) (one_apart xs q none)
 
--- a new link after the last item of a list, if any, is appended
+-- A new link after the last item of a list, if any, is appended.
 AreLinked-appended : (link_map : LinkMap) (q : ℕ) (before : Option ℕ) (xs : List ℕ) (after : Option ℕ) → last_or xs before ≡ last_or xs None
     → AreDistinct xs → (IsMember xs q → ⊥) → AreLinked link_map before xs after → AreLinked (appended link_map q (last_or xs None)) before (xs ++ q ∷ []) None
 AreLinked-appended link_map q before xs after ends once none stored =
@@ -42,7 +42,7 @@ AreLinked-appended link_map q before xs after ends once none stored =
     ((AreLinked-with_lone link_map q before xs after none).0 stored)
     (with_lone-at link_map q q refl, tt))
 
--- a new link after the end of one list and before the start of another, either maybe empty
+-- A new link after the end of one list and before the start of another, either maybe empty.
 pub inserted_between : (link_map : LinkMap) (q : ℕ) (xs : List ℕ) (xs_after ys_before : Option ℕ) (ys : List ℕ) → AreDistinct (xs ++ ys)
     → (IsMember (xs ++ ys) q → ⊥) → AreLinked link_map None xs xs_after → AreLinked link_map ys_before ys None
     → IsChain (with_insertion link_map q (last_or xs None) (first_or ys None)) (linear (xs ++ q ∷ ys))
@@ -81,11 +81,11 @@ inserted_between link_map q xs xs_after ys_before ys once none xs_stored ys_stor
         by (inl m) = apart k m g
         by (inr m) = one_apart ys q not_right k g m
 
--- a new link after the end and before the start of a list
-pub inserted_round : (link_map : LinkMap) (q : ℕ) (before : Option ℕ) (xs : List ℕ) (after : Option ℕ) → xs ≢ [] → AreDistinct xs → (IsMember xs q → ⊥)
+-- A new link after the end and before the start of a list.
+pub inserted_cyclic : (link_map : LinkMap) (q : ℕ) (before : Option ℕ) (xs : List ℕ) (after : Option ℕ) → xs ≢ [] → AreDistinct xs → (IsMember xs q → ⊥)
     → AreLinked link_map before xs after → IsChain (with_insertion link_map q (last_or xs None) (first_or xs None)) (cyclic (xs ++ q ∷ []))
-inserted_round link_map q before [] after filled once none stored = absurd (filled refl)
-inserted_round link_map q before (x ∷ xs) after filled once none stored =
+inserted_cyclic link_map q before [] after filled once none stored = absurd (filled refl)
+inserted_cyclic link_map q before (x ∷ xs) after filled once none stored =
     let u = last_or xs (Some x) in
     let longer = x ∷ xs ++ q ∷ [] in
     let longer_once : AreDistinct longer = once_appended (x ∷ xs) q once none in
@@ -97,31 +97,31 @@ inserted_round link_map q before (x ∷ xs) after filled once none stored =
           (last_or-append (x ∷ xs) (q ∷ []) None) ringed,
     )
 
--- no chain has a free index
-chain_lacks_free : (link_map : LinkMap) (q : ℕ) (c : Chain) → link_map q ≡ None → IsChain link_map c → IsMember (items c) q → ⊥
-chain_lacks_free link_map q c free chain h = free_invalid link_map q free (chain_valid link_map c q chain h)
+-- No chain has a free index.
+chain_excludes_free : (link_map : LinkMap) (q : ℕ) (c : Chain) → link_map q ≡ None → IsChain link_map c → IsMember (items c) q → ⊥
+chain_excludes_free link_map q c free chain h = free_invalid link_map q free (chain_valid link_map c q chain h)
 
--- a new link between two parts of a linear chain
+-- A new link between two parts of a linear chain.
 inserted_in_linear : (link_map : LinkMap) (q : ℕ) (xs ys : List ℕ) → link_map q ≡ None → IsChain link_map (linear (xs ++ ys))
     → IsChain (with_insertion link_map q (last_or xs None) (first_or ys None)) (linear (xs ++ q ∷ ys))
 inserted_in_linear link_map q xs ys free chain =
-    inserted_between link_map q xs (first_or ys None) (last_or xs None) ys chain.1 (chain_lacks_free link_map q (linear (xs ++ ys)) free chain)
+    inserted_between link_map q xs (first_or ys None) (last_or xs None) ys chain.1 (chain_excludes_free link_map q (linear (xs ++ ys)) free chain)
     (AreLinked-left link_map None xs ys None chain.2) (AreLinked-right link_map None xs ys None chain.2)
 
--- a new link between two parts of a cyclic chain
+-- A new link between two parts of a cyclic chain.
 inserted_in_cyclic : (link_map : LinkMap) (q : ℕ) (xs ys : List ℕ) → link_map q ≡ None → IsChain link_map (cyclic (xs ++ ys))
     → IsChain (with_insertion link_map q (last_or (ys ++ xs) None) (first_or (ys ++ xs) None)) (cyclic (xs ++ q ∷ ys))
 inserted_in_cyclic link_map q xs ys free chain =
     let new = with_insertion link_map q (last_or (ys ++ xs) None) (first_or (ys ++ xs) None) in
-    let ring : IsChain link_map (cyclic (ys ++ xs)) = turned link_map xs ys chain in
+    let ring : IsChain link_map (cyclic (ys ++ xs)) = rotated link_map xs ys chain in
     let longer : IsChain new (cyclic ((ys ++ xs) ++ q ∷ [])) =
-    inserted_round link_map q (last_or (ys ++ xs) None) (ys ++ xs) (first_or (ys ++ xs) None) ring.0 ring.1
-    (chain_lacks_free link_map q (cyclic (ys ++ xs)) free ring) ring.2 in
-    let turned_back : IsChain new (cyclic ((xs ++ q ∷ []) ++ ys)) =
-    turned new ys (xs ++ q ∷ []) (subst (λ (zs : List ℕ). IsChain new (cyclic zs)) (append_assoc ys xs (q ∷ [])) longer) in
-    subst (λ (zs : List ℕ). IsChain new (cyclic zs)) (append_assoc xs (q ∷ []) ys) turned_back
+    inserted_cyclic link_map q (last_or (ys ++ xs) None) (ys ++ xs) (first_or (ys ++ xs) None) ring.0 ring.1
+    (chain_excludes_free link_map q (cyclic (ys ++ xs)) free ring) ring.2 in
+    let rotated_back : IsChain new (cyclic ((xs ++ q ∷ []) ++ ys)) =
+    rotated new ys (xs ++ q ∷ []) (subst (λ (zs : List ℕ). IsChain new (cyclic zs)) (append_assoc ys xs (q ∷ [])) longer) in
+    subst (λ (zs : List ℕ). IsChain new (cyclic zs)) (append_assoc xs (q ∷ []) ys) rotated_back
 
--- insertion after an item of a linear chain
+-- Insertion after an item of a linear chain.
 inserted_after_in_linear : (link_map : LinkMap) (a q : ℕ) (x y : List ℕ) → link_map q ≡ None → IsChain link_map (linear (x ++ a ∷ y))
     → IsChain (with_insertion link_map q (Some a) (next_of link_map a)) (linear (x ++ a ∷ q ∷ y))
 inserted_after_in_linear link_map a q x y free chain =
@@ -132,62 +132,62 @@ inserted_after_in_linear link_map a q x y free chain =
     (subst₂ (λ (u v : Option ℕ). IsChain (with_insertion link_map q u v) (linear ((x ++ a ∷ []) ++ q ∷ y))) ends follows
     (inserted_in_linear link_map q (x ++ a ∷ []) y free split))
 
--- insertion after an item of a cyclic chain
+-- Insertion after an item of a cyclic chain.
 inserted_after_in_cyclic : (link_map : LinkMap) (a q : ℕ) (x y : List ℕ) → link_map q ≡ None → IsChain link_map (cyclic (x ++ a ∷ y))
     → IsChain (with_insertion link_map q (Some a) (next_of link_map a)) (cyclic (x ++ a ∷ q ∷ y))
 inserted_after_in_cyclic link_map a q x y free chain =
     let once_around = y ++ (x ++ a ∷ []) in
     let split : IsChain link_map (cyclic ((x ++ a ∷ []) ++ y)) = subst (λ (zs : List ℕ). IsChain link_map (cyclic zs)) (sym (append_assoc x (a ∷ []) y)) chain in
-    let ring : IsChain link_map (cyclic once_around) = turned link_map (x ++ a ∷ []) y split in
+    let ring : IsChain link_map (cyclic once_around) = rotated link_map (x ++ a ∷ []) y split in
     let ends : last_or once_around None ≡ Some a = last_or-append y (x ++ a ∷ []) None ∙ last_or-append x (a ∷ []) (last_or y None) in
     let follows : first_or once_around None ≡ next_of link_map a = sym (AreLinked-last link_map _ once_around _ a ring.2 ring.0 ends) in
     subst (λ (zs : List ℕ). IsChain (with_insertion link_map q (Some a) (next_of link_map a)) (cyclic zs)) (append_assoc x (a ∷ []) (q ∷ y))
     (subst₂ (λ (u v : Option ℕ). IsChain (with_insertion link_map q u v) (cyclic ((x ++ a ∷ []) ++ q ∷ y))) ends follows
     (inserted_in_cyclic link_map q (x ++ a ∷ []) y free split))
 
--- insertion before an item of a linear chain
+-- Insertion before an item of a linear chain.
 inserted_before_in_linear : (link_map : LinkMap) (b q : ℕ) (x y : List ℕ) → link_map q ≡ None → IsChain link_map (linear (x ++ b ∷ y))
     → IsChain (with_insertion link_map q (prev_of link_map b) (Some b)) (linear (x ++ q ∷ b ∷ y))
 inserted_before_in_linear link_map b q x y free chain =
     let precedes : last_or x None ≡ prev_of link_map b = sym (reports_prev link_map b _ _ (AreLinked-at link_map None x y None b chain.2)) in
     subst (λ (u : Option ℕ). IsChain (with_insertion link_map q u (Some b)) (linear (x ++ q ∷ b ∷ y))) precedes (inserted_in_linear link_map q x (b ∷ y) free chain)
 
--- insertion before an item of a cyclic chain
+-- Insertion before an item of a cyclic chain.
 inserted_before_in_cyclic : (link_map : LinkMap) (b q : ℕ) (x y : List ℕ) → link_map q ≡ None → IsChain link_map (cyclic (x ++ b ∷ y))
     → IsChain (with_insertion link_map q (prev_of link_map b) (Some b)) (cyclic (x ++ q ∷ b ∷ y))
 inserted_before_in_cyclic link_map b q x y free chain =
-    let ring : IsChain link_map (cyclic (b ∷ y ++ x)) = turned link_map x (b ∷ y) chain in
+    let ring : IsChain link_map (cyclic (b ∷ y ++ x)) = rotated link_map x (b ∷ y) chain in
     let precedes : last_or (b ∷ y ++ x) None ≡ prev_of link_map b = sym (reports_prev link_map b _ _ ring.2.0) in
     subst (λ (u : Option ℕ). IsChain (with_insertion link_map q u (Some b)) (cyclic (x ++ q ∷ b ∷ y))) precedes (inserted_in_cyclic link_map q x (b ∷ y) free chain)
 
--- insertion between the end of a chain and the start of another
+-- Insertion between the end of a chain and the start of another.
 inserted_two : (link_map : LinkMap) (a b q : ℕ) (x y : List ℕ) → link_map q ≡ None → IsChain link_map (linear (x ++ a ∷ [])) → IsChain link_map (linear (b ∷ y))
     → (IsMember (x ++ a ∷ []) b → ⊥) → IsChain (with_insertion link_map q (Some a) (Some b)) (linear ((x ++ a ∷ q ∷ []) ++ b ∷ y))
 inserted_two link_map a b q x y free left right none =
     let longer : IsChain (with_insertion link_map q (last_or (x ++ a ∷ []) None) (Some b)) (linear ((x ++ a ∷ []) ++ q ∷ b ∷ y)) =
-    inserted_between link_map q (x ++ a ∷ []) None None (b ∷ y) (AreDistinct-append (x ++ a ∷ []) (b ∷ y) left.1 right.1 apart) lacks left.2 right.2 in
+    inserted_between link_map q (x ++ a ∷ []) None None (b ∷ y) (AreDistinct-append (x ++ a ∷ []) (b ∷ y) left.1 right.1 apart) absent left.2 right.2 in
     subst₂ (λ (u : Option ℕ) (zs : List ℕ). IsChain (with_insertion link_map q u (Some b)) (linear zs)) (last_or-append x (a ∷ []) None) written longer
   where
     apart : (k : ℕ) → IsMember (x ++ a ∷ []) k → IsMember (b ∷ y) k → ⊥
     apart k h g = none (reaches_first link_map (IsMember (x ++ a ∷ [])) None b y None k (chain_closed link_map (linear (x ++ a ∷ [])) left) right.2 g h)
 
-    lacks : IsMember ((x ++ a ∷ []) ++ b ∷ y) q → ⊥
-    lacks h = ⊎_elim
-        (chain_lacks_free link_map q (linear (x ++ a ∷ [])) free left)
-        (chain_lacks_free link_map q (linear (b ∷ y)) free right)
+    absent : IsMember ((x ++ a ∷ []) ++ b ∷ y) q → ⊥
+    absent h = ⊎_elim
+        (chain_excludes_free link_map q (linear (x ++ a ∷ [])) free left)
+        (chain_excludes_free link_map q (linear (b ∷ y)) free right)
         (IsMember-parts (x ++ a ∷ []) (b ∷ y) q h)
 
     written : (x ++ a ∷ []) ++ q ∷ b ∷ y ≡ (x ++ a ∷ q ∷ []) ++ b ∷ y
     written = append_assoc x (a ∷ []) (q ∷ b ∷ y) ∙ sym (append_assoc x (a ∷ q ∷ []) (b ∷ y))
 
--- insertion between the end and the start of the same chain
+-- Insertion between the end and the start of the same chain.
 inserted_one : (link_map : LinkMap) (a b q : ℕ) (xs : List ℕ) → link_map q ≡ None → IsChain link_map (linear xs)
     → first_or xs None ≡ Some b → last_or xs None ≡ Some a → IsChain (with_insertion link_map q (Some a) (Some b)) (cyclic (xs ++ q ∷ []))
 inserted_one link_map a b q xs free chain starts ends =
     subst₂ (λ (u v : Option ℕ). IsChain (with_insertion link_map q u v) (cyclic (xs ++ q ∷ []))) ends starts
-    (inserted_round link_map q None xs None chain.0 chain.1 (chain_lacks_free link_map q (linear xs) free chain) chain.2)
+    (inserted_cyclic link_map q None xs None chain.0 chain.1 (chain_excludes_free link_map q (linear xs) free chain) chain.2)
 
--- a new link that names itself
+-- A new link that names itself.
 inserted_ring : (link_map : LinkMap) (q : ℕ) → IsChain (with_insertion link_map q (Some q) (Some q)) (cyclic (q ∷ []))
 inserted_ring link_map q =
     let once : AreDistinct (q ∷ []) = (λ h. h, tt) in
@@ -195,12 +195,12 @@ inserted_ring link_map q =
     AreLinked-ringed (with_lone link_map q) None (q ∷ []) None once (with_lone-at link_map q q refl, tt) in
     (IsMember-filled (q ∷ []) q (inl refl), once, AreLinked-ringed (appended link_map q (Some q)) (Some q) (q ∷ []) (Some q) once closed)
 
--- an index that a chain lacks is outside its items
+-- An index that a chain lacks is outside its items.
 pub HasIndex-apart : (c : Chain) (u : Option ℕ) → (HasIndex c u → ⊥) → IsOutside u (items c)
 HasIndex-apart c None none k e h = cc
 HasIndex-apart c (Some i) none k e h = IsOutside-Some i (items c) none k e h
 
--- a chain with none of the indexes is unchanged
+-- A chain with none of the indexes is unchanged.
 inserted_rest : (link_map : LinkMap) (q : ℕ) (u v : Option ℕ) → link_map q ≡ None → (c : Chain)
     → (IsMember (items c) q → ⊥) → (HasIndex c u → ⊥) → (HasIndex c v → ⊥) → IsChain link_map c ↔ IsChain (with_insertion link_map q u v) c
 inserted_rest link_map q u v free c none_q none_u none_v =
@@ -209,7 +209,7 @@ inserted_rest link_map q u v free c none_q none_u none_v =
     let outer = IsChain-linked (appended link_map q u) (Some q) v c (IsOutside-Some q (items c) none_q) (HasIndex-apart c v none_v) in
     (λ h. outer.0 (inner.0 (alone.0 h)), λ h. alone.1 (inner.1 (outer.1 h)))
 
--- an insertion inserts the new link between u and v
+-- An insertion inserts the new link between u and v.
 pub inserted_inserts : InsertionInserts
 inserted_inserts link_map q u v free =
     record {

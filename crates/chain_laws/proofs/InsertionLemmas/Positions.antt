@@ -6,17 +6,17 @@ use Rattle.chain_laws.specs.Chains.{LinkMap, Interlinks, HasLink, prev_of, next_
 use Rattle.chain_laws.specs.Joins.{AreEndAndStart}
 use Rattle.chain_laws.specs.Insertions.{IsInsertPosition}
 
--- double negations of `HasLink` and of `None` can be removed
+-- Double negations of `HasLink` and of `None` can be removed.
 stored_had : (link_map : LinkMap) (i : ℕ) (link : Option Interlinks) → link_map i ≡ link → ((HasLink link_map i → ⊥) → ⊥) → HasLink link_map i
-stored_had link_map i None none some = absurd (some (λ v. let no = sym none ∙ v.reports in cc))
-stored_had link_map i (Some l) is some = record { link = l; reports = is }
+stored_had link_map i None none some = absurd (some (λ v. let no = sym none ∙ v.links in cc))
+stored_had link_map i (Some l) is some = record { link = l; links = is }
 
 none_had : (o p : Option ℕ) → o ≡ p → ((o ≡ None → ⊥) → ⊥) → o ≡ None
 none_had o None is none = is
 none_had o (Some n) is none = absurd (none (λ no. let both = sym is ∙ no in cc))
 
 module _ (link_map : LinkMap) (q a b : ℕ) (h : (IsInsertPosition link_map q (Some a) (Some b) → ⊥) → ⊥) where
-  -- neither neighbors nor the new link: an end and a start
+  -- Neither neighbors nor the new link: an end and a start.
   only_ends : next_of link_map a ≡ None → ((a ≡ q) × (b ≡ q) → ⊥) → (AreEndAndStart link_map a b → ⊥) → ⊥
   only_ends none other not = h (λ position. elim position [
     | inl pair ↦ (let both = sym none ∙ pair in cc)

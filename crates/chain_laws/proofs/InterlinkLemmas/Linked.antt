@@ -7,56 +7,56 @@ use Rattle.chain_laws.specs.Chains.{LinkMap, Interlinks, prev_in, next_in, prev_
 use Rattle.chain_laws.specs.Joins.{with_prev, with_next, prev_set, next_set, with_neighbors}
 use Rattle.chain_laws.proofs.InterlinkLemmas.Inverses.{altered, if_same, if_other, altered-same, altered-other, one_some}
 
--- the optional index is not j
+-- The optional index is not j.
 abbrev pub IsOff : Option ℕ → ℕ → Type 0
 IsOff u j = (i : ℕ) → u ≡ Some i → j ≢ i
 
--- the optional index is valid, if it is an index
+-- The optional index is valid, if it is an index.
 abbrev pub IsValidAt : LinkMap → Option ℕ → Type 0
 IsValidAt link_map u = (i : ℕ) → u ≡ Some i → HasLink link_map i
 
--- a valid index, as an optional one
+-- A valid index, as an optional one.
 pub IsValidAt-Some : (link_map : LinkMap) (i : ℕ) → HasLink link_map i → IsValidAt link_map (Some i)
 IsValidAt-Some link_map i valid k e = subst (HasLink link_map) (one_some e) valid
 
--- f, with o at u, if u is an index
+-- f, with o at u, if u is an index.
 abbrev pub put_at : (ℕ → Option ℕ) → Option ℕ → Option ℕ → ℕ → Option ℕ
 put_at f None o j = f j
 put_at f (Some i) o j = altered f i o j
 
--- a write of `next` leaves other indexes unchanged
+-- A write of `next` leaves other indexes unchanged.
 pub next_set-off : (link_map : LinkMap) (u v : Option ℕ) (j : ℕ) → IsOff u j → next_set link_map u v j ≡ link_map j
 next_set-off link_map None v j off = refl
 next_set-off link_map (Some i) v j off = if_other j i _ _ (off i refl)
 
--- a write of `prev` leaves other indexes unchanged
+-- A write of `prev` leaves other indexes unchanged.
 pub prev_set-off : (link_map : LinkMap) (u v : Option ℕ) (j : ℕ) → IsOff u j → prev_set link_map u v j ≡ link_map j
 prev_set-off link_map None v j off = refl
 prev_set-off link_map (Some i) v j off = if_other j i _ _ (off i refl)
 
--- linking u and v leaves other indexes unchanged
+-- Linking u and v leaves other indexes unchanged.
 pub linked-off : (link_map : LinkMap) (u v : Option ℕ) (j : ℕ) → IsOff u j → IsOff v j → with_neighbors link_map u v j ≡ link_map j
 linked-off link_map u v j off_u off_v = prev_set-off (next_set link_map u v) v u j off_v ∙ next_set-off link_map u v j off_u
 
--- the link whose `next` is written
+-- The link whose `next` is written.
 pub next_set-at : (link_map : LinkMap) (i : ℕ) (v : Option ℕ) (link : Interlinks) → link_map i ≡ Some link → next_set link_map (Some i) v i ≡ Some (with_next v link)
 next_set-at link_map i v link e = if_same i i _ _ refl ∙ ap (option_map (with_next v)) e
 
--- the link whose `prev` is written
+-- The link whose `prev` is written.
 pub prev_set-at : (link_map : LinkMap) (i : ℕ) (u : Option ℕ) (link : Interlinks) → link_map i ≡ Some link → prev_set link_map (Some i) u i ≡ Some (with_prev u link)
 prev_set-at link_map i u link e = if_same i i _ _ refl ∙ ap (option_map (with_prev u)) e
 
--- a link keeps its `prev` when its `next` is written
+-- A link keeps its `prev` when its `next` is written.
 prev_in-with_next : (v : Option ℕ) (o : Option Interlinks) → prev_in (option_map (with_next v) o) ≡ prev_in o
 prev_in-with_next v None = refl
 prev_in-with_next v (Some link) = refl
 
--- a link keeps its `next` when its `prev` is written
+-- A link keeps its `next` when its `prev` is written.
 next_in-with_prev : (u : Option ℕ) (o : Option Interlinks) → next_in (option_map (with_prev u) o) ≡ next_in o
 next_in-with_prev u None = refl
 next_in-with_prev u (Some link) = refl
 
--- a write of `next` leaves each `prev` unchanged
+-- A write of `next` leaves each `prev` unchanged.
 pub prev_of-next_set : (link_map : LinkMap) (u v : Option ℕ) (j : ℕ) → prev_of (next_set link_map u v) j ≡ prev_of link_map j
 prev_of-next_set link_map None v j = refl
 prev_of-next_set link_map (Some i) v j = ⊎_elim
@@ -64,7 +64,7 @@ prev_of-next_set link_map (Some i) v j = ⊎_elim
     (λ ne. ap prev_in (if_other j i _ _ ne))
     (cases_eq j i)
 
--- a write of `prev` leaves each `next` unchanged
+-- A write of `prev` leaves each `next` unchanged.
 pub next_of-prev_set : (link_map : LinkMap) (u v : Option ℕ) (j : ℕ) → next_of (prev_set link_map u v) j ≡ next_of link_map j
 next_of-prev_set link_map None v j = refl
 next_of-prev_set link_map (Some i) v j = ⊎_elim
@@ -72,39 +72,39 @@ next_of-prev_set link_map (Some i) v j = ⊎_elim
     (λ ne. ap next_in (if_other j i _ _ ne))
     (cases_eq j i)
 
--- each `next` after a write at a valid index
+-- Each `next` after a write at a valid index.
 pub next_of-next_set : (link_map : LinkMap) (u v : Option ℕ) (j : ℕ) → IsValidAt link_map u → next_of (next_set link_map u v) j ≡ put_at (next_of link_map) u v j
 next_of-next_set link_map None v j valid = refl
 next_of-next_set link_map (Some i) v j valid = ⊎_elim
     (λ e. let at_i = valid i refl in
-    subst (λ k. next_of (next_set link_map (Some i) v) k ≡ v) (sym e) (ap next_in (next_set-at link_map i v at_i.link at_i.reports)) ∙ sym (altered-same (next_of link_map) i v j e))
+    subst (λ k. next_of (next_set link_map (Some i) v) k ≡ v) (sym e) (ap next_in (next_set-at link_map i v at_i.link at_i.links)) ∙ sym (altered-same (next_of link_map) i v j e))
     (λ ne. ap next_in (if_other j i _ _ ne) ∙ sym (altered-other (next_of link_map) i v j ne))
     (cases_eq j i)
 
--- each `prev` after a write at a valid index
+-- Each `prev` after a write at a valid index.
 pub prev_of-prev_set : (link_map : LinkMap) (u v : Option ℕ) (j : ℕ) → IsValidAt link_map u → prev_of (prev_set link_map u v) j ≡ put_at (prev_of link_map) u v j
 prev_of-prev_set link_map None v j valid = refl
 prev_of-prev_set link_map (Some i) v j valid = ⊎_elim
     (λ e. let at_i = valid i refl in
-    subst (λ k. prev_of (prev_set link_map (Some i) v) k ≡ v) (sym e) (ap prev_in (prev_set-at link_map i v at_i.link at_i.reports)) ∙ sym (altered-same (prev_of link_map) i v j e))
+    subst (λ k. prev_of (prev_set link_map (Some i) v) k ≡ v) (sym e) (ap prev_in (prev_set-at link_map i v at_i.link at_i.links)) ∙ sym (altered-same (prev_of link_map) i v j e))
     (λ ne. ap prev_in (if_other j i _ _ ne) ∙ sym (altered-other (prev_of link_map) i v j ne))
     (cases_eq j i)
 
--- equal interlinks are valid alike
+-- Equal interlinks are valid alike.
 pub HasLink-same : (left right : LinkMap) (j : ℕ) → left j ≡ right j → HasLink left j ↔ HasLink right j
 HasLink-same left right j e =
-    (λ h. record { link = h.link; reports = sym e ∙ h.reports }, λ h. record { link = h.link; reports = e ∙ h.reports })
+    (λ h. record { link = h.link; links = sym e ∙ h.links }, λ h. record { link = h.link; links = e ∙ h.links })
 
--- a link whose interlinks are changed is a link
+-- A link whose interlinks are changed is a link.
 pub HasLink-changed : (left right : LinkMap) (change : Interlinks → Interlinks) (j : ℕ) → left j ≡ option_map change (right j) → HasLink left j ↔ HasLink right j
 HasLink-changed left right change j e =
-    (λ h. by (right j) refl (sym e ∙ h.reports), λ h. record { link = change h.link; reports = e ∙ ap (option_map change) h.reports })
+    (λ h. by (right j) refl (sym e ∙ h.links), λ h. record { link = change h.link; links = e ∙ ap (option_map change) h.links })
   where
     by : {link : Interlinks} (o : Option Interlinks) → right j ≡ o → option_map change o ≡ Some link → HasLink right j
-    by None reports h = absurd (cc)
-    by (Some l) reports h = record { link = l; reports = reports }
+    by None links h = absurd (cc)
+    by (Some l) links h = record { link = l; links = links }
 
--- a write of `next` leaves the valid indexes unchanged
+-- A write of `next` leaves the valid indexes unchanged.
 pub HasLink-next_set : (link_map : LinkMap) (u v : Option ℕ) (j : ℕ) → HasLink (next_set link_map u v) j ↔ HasLink link_map j
 HasLink-next_set link_map None v j = (λ h. h, λ h. h)
 HasLink-next_set link_map (Some i) v j = ⊎_elim
@@ -112,7 +112,7 @@ HasLink-next_set link_map (Some i) v j = ⊎_elim
     (λ ne. HasLink-same (next_set link_map (Some i) v) link_map j (if_other j i _ _ ne))
     (cases_eq j i)
 
--- a write of `prev` leaves the valid indexes unchanged
+-- A write of `prev` leaves the valid indexes unchanged.
 pub HasLink-prev_set : (link_map : LinkMap) (u v : Option ℕ) (j : ℕ) → HasLink (prev_set link_map u v) j ↔ HasLink link_map j
 HasLink-prev_set link_map None v j = (λ h. h, λ h. h)
 HasLink-prev_set link_map (Some i) v j = ⊎_elim
@@ -120,18 +120,18 @@ HasLink-prev_set link_map (Some i) v j = ⊎_elim
     (λ ne. HasLink-same (prev_set link_map (Some i) v) link_map j (if_other j i _ _ ne))
     (cases_eq j i)
 
--- linking leaves the valid indexes unchanged
+-- Linking leaves the valid indexes unchanged.
 pub HasLink-linked : (link_map : LinkMap) (u v : Option ℕ) (j : ℕ) → HasLink (with_neighbors link_map u v) j ↔ HasLink link_map j
 HasLink-linked link_map u v j =
     let outer = HasLink-prev_set (next_set link_map u v) v u j in
     let inner = HasLink-next_set link_map u v j in
     (λ h. inner.0 (outer.0 h), λ h. outer.1 (inner.1 h))
 
--- each `next` once v comes after u
+-- Each `next` once v comes after u.
 pub next_of-linked : (link_map : LinkMap) (u v : Option ℕ) (j : ℕ) → IsValidAt link_map u → next_of (with_neighbors link_map u v) j ≡ put_at (next_of link_map) u v j
 next_of-linked link_map u v j valid = next_of-prev_set (next_set link_map u v) v u j ∙ next_of-next_set link_map u v j valid
 
--- each `prev` once v comes after u
+-- Each `prev` once v comes after u.
 pub prev_of-linked : (link_map : LinkMap) (u v : Option ℕ) (j : ℕ) → IsValidAt link_map v → prev_of (with_neighbors link_map u v) j ≡ put_at (prev_of link_map) v u j
 prev_of-linked link_map u v j valid =
     prev_of-prev_set (next_set link_map u v) v u j (λ i e. (HasLink-next_set link_map u v i).1 (valid i e)) ∙ same v

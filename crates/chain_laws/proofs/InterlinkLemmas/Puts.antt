@@ -5,26 +5,26 @@ use Rattle.std.proofs.lemmas.Bool.{cases_eq}
 use Rattle.chain_laws.proofs.InterlinkLemmas.Inverses.{Undoes, one_some, not_both_ways}
 use Rattle.chain_laws.proofs.InterlinkLemmas.Skips.{names_or_not, undoes_back}
 
--- h is f, but maps q to v and u to q
+-- h is f, but maps q to v and u to q.
 pub record Puts (f h : ℕ → Option ℕ) (q : ℕ) (u v : Option ℕ) : Type 0 where
   pub here : h q ≡ v
   pub named : (j : ℕ) → j ≢ q → u ≡ Some j → h j ≡ Some q
   pub off : (j : ℕ) → j ≢ q → u ≢ Some j → h j ≡ f j
 
--- q may be put between u and v: f maps q to nothing, and u at most to v
+-- q may be put between u and v: f maps q to nothing, and u at most to v.
 pub record IsOpenPlace (f : ℕ → Option ℕ) (q : ℕ) (u v : Option ℕ) : Type 0 where
   pub free : f q ≡ None
   pub only : (i j : ℕ) → u ≡ Some i → f i ≡ Some j → v ≡ Some j
   pub itself : u ≡ Some q → v ≡ Some q
 
--- (i, j) is a pair of f other than (u, v), or is (u, q) or (q, v)
+-- (i, j) is a pair of f other than (u, v), or is (u, q) or (q, v).
 abbrev pub IsPairAround : (ℕ → Option ℕ) → ℕ → Option ℕ → Option ℕ → ℕ → ℕ → Type 0
 IsPairAround f q u v i j = ((f i ≡ Some j) × ((u ≡ Some i) × (v ≡ Some j) → ⊥)) ⊎ ((u ≡ Some i) × (j ≡ q)) ⊎ ((i ≡ q) × (v ≡ Some j))
 
--- the pairs with q between u and v
+-- The pairs with q between u and v.
 pub puts_pairs : (f h : ℕ → Option ℕ) (q : ℕ) (u v : Option ℕ) → IsOpenPlace f q u v → Puts f h q u v
     → (i j : ℕ) → (h i ≡ Some j) ↔ IsPairAround f q u v i j
-puts_pairs f h q u v within_capacity puts i j = (λ e. by e (cases_eq i q) (names_or_not u i), λ p. back p (cases_eq i q))
+puts_pairs f h q u v can puts i j = (λ e. by e (cases_eq i q) (names_or_not u i), λ p. back p (cases_eq i q))
   where
     by : h i ≡ Some j → (i ≡ q) ⊎ (i ≢ q) → (u ≡ Some i) ⊎ (u ≢ Some i) → IsPairAround f q u v i j
     by e (inl s) _ = inr (inr (s, sym puts.here ∙ sym (ap h s) ∙ e))
@@ -32,19 +32,19 @@ puts_pairs f h q u v within_capacity puts i j = (λ e. by e (cases_eq i q) (name
     by e (inr ne) (inr not_u) = inl (sym (puts.off i ne not_u) ∙ e, λ p. not_u p.0)
 
     back : IsPairAround f q u v i j → (i ≡ q) ⊎ (i ≢ q) → h i ≡ Some j
-    back (inl p) (inl s) = absurd (not_both_ways (f i) j (ap f s ∙ within_capacity.free) p.0)
-    back (inl p) (inr ne) = puts.off i ne (λ at_u. p.1 (at_u, within_capacity.only i j at_u p.0)) ∙ p.0
-    back (inr (inl p)) (inl s) = ap h s ∙ puts.here ∙ within_capacity.itself (p.0 ∙ ap Some s) ∙ sym (ap Some p.1)
+    back (inl p) (inl s) = absurd (not_both_ways (f i) j (ap f s ∙ can.free) p.0)
+    back (inl p) (inr ne) = puts.off i ne (λ at_u. p.1 (at_u, can.only i j at_u p.0)) ∙ p.0
+    back (inr (inl p)) (inl s) = ap h s ∙ puts.here ∙ can.itself (p.0 ∙ ap Some s) ∙ sym (ap Some p.1)
     back (inr (inl p)) (inr ne) = puts.named i ne p.0 ∙ sym (ap Some p.1)
     back (inr (inr p)) _ = ap h p.0 ∙ puts.here ∙ p.1
 
--- the same pair in the other direction
+-- The same pair in the other direction.
 pair_around_back : (f g : ℕ → Option ℕ) (q : ℕ) (u v : Option ℕ) (i j : ℕ) → Undoes f g → IsPairAround f q u v i j → IsPairAround g q v u j i
 pair_around_back f g q u v i j each (inl p) = inl ((each i j).0 p.0, λ s. p.1 (s.1, s.0))
 pair_around_back f g q u v i j each (inr (inl p)) = inr (inr (p.1, p.0))
 pair_around_back f g q u v i j each (inr (inr p)) = inr (inl (p.1, p.0))
 
--- inverse functions stay inverse with q put between
+-- Inverse functions stay inverse with q put between.
 pub puts_undo : (f g h k : ℕ → Option ℕ) (q : ℕ) (u v : Option ℕ) → Undoes f g → IsOpenPlace f q u v → IsOpenPlace g q v u
     → Puts f h q u v → Puts g k q v u → Undoes h k
 puts_undo f g h k q u v each capacity_after capacity_before forth back i j =

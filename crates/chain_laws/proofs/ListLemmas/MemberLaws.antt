@@ -2,18 +2,18 @@
 use Rattle.std.proofs.Common.{ℕ, inl, inr, ⊎_elim, List, [], ◌∷◌, sym, subst}
 use Rattle.chain_laws.specs.Chains.{IsMember}
 use Rattle.chain_laws.specs.Members.{HasInJoin, HasInRotation, HasInMiddle, MembersSplitAList, HasIsFilled, OnceInJoin, OnceInRotation, OnceInMiddle}
-use Rattle.chain_laws.proofs.ListLemmas.Members.{IsMember-left, IsMember-right, IsMember-parts, IsMember-middle, IsMember-turned, IsMember-written, IsMember-filled, filled-IsMember}
-use Rattle.chain_laws.proofs.ListLemmas.Members.{AreDistinct-left, AreDistinct-right, AreDistinct-apart, AreDistinct-append, AreDistinct-turned}
+use Rattle.chain_laws.proofs.ListLemmas.Members.{IsMember-left, IsMember-right, IsMember-parts, IsMember-middle, IsMember-rotated, IsMember-written, IsMember-filled, filled-IsMember}
+use Rattle.chain_laws.proofs.ListLemmas.Members.{AreDistinct-left, AreDistinct-right, AreDistinct-apart, AreDistinct-append, AreDistinct-rotated}
 
--- the members of two lists written as one
+-- The members of two lists written as one.
 pub has_in_join : HasInJoin
 has_in_join xs ys i = (IsMember-parts xs ys i, ⊎_elim (IsMember-left xs ys i) (IsMember-right xs ys i))
 
--- the members of two lists in either order
+-- The members of two lists in either order.
 pub has_in_turn : HasInRotation
-has_in_turn xs ys i = (IsMember-turned xs ys i, IsMember-turned ys xs i)
+has_in_turn xs ys i = (IsMember-rotated xs ys i, IsMember-rotated ys xs i)
 
--- an item between two lists
+-- An item between two lists.
 pub has_in_middle : HasInMiddle
 has_in_middle [] ys x i = (⊎_elim (λ e. inl (sym e)) (λ h. inr h), ⊎_elim (λ e. inl (sym e)) (λ h. inr h))
 has_in_middle (y ∷ xs) ys x i =
@@ -22,28 +22,28 @@ has_in_middle (y ∷ xs) ys x i =
       ⊎_elim (λ e. inr (rest.1 (inl e))) (⊎_elim (λ e. inl e) (λ h. inr (rest.1 (inr h)))),
     )
 
--- the members of a list are the items it is written around
+-- The members of a list are the items it is written around.
 pub has_is_written : MembersSplitAList
 has_is_written xs i = (IsMember-written xs i, λ w. subst (λ (zs : List ℕ). IsMember zs i) (sym w.2) (IsMember-middle w.0 w.1 i))
 
--- non-empty lists are those with a member
+-- Non-empty lists are those with a member.
 pub has_is_filled : HasIsFilled
 has_is_filled xs = (filled-IsMember xs, λ w. IsMember-filled xs w.0 w.1)
 
--- two lists written as one are distinct exactly if each is and they are disjoint
+-- Two lists written as one are distinct exactly if each is and they are disjoint.
 pub once_in_join : OnceInJoin
 once_in_join xs ys = (
   λ once. (AreDistinct-left xs ys once, AreDistinct-right xs ys once, λ i. AreDistinct-apart xs ys i once),
   λ parts. AreDistinct-append xs ys parts.0 parts.1 parts.2,
 )
 
--- two lists are distinct in either order
+-- Two lists are distinct in either order.
 pub once_in_turn : OnceInRotation
-once_in_turn xs ys = (AreDistinct-turned xs ys, AreDistinct-turned ys xs)
+once_in_turn xs ys = (AreDistinct-rotated xs ys, AreDistinct-rotated ys xs)
 
--- a distinct list with x in its middle: the rest is distinct and lacks x
+-- A distinct list with x in its middle: the rest is distinct and lacks x.
 pub once_in_middle : OnceInMiddle
 once_in_middle xs ys x = (
-  λ once. let front = AreDistinct-turned xs (x ∷ ys) once in (λ h. front.0 (IsMember-turned xs ys x h), AreDistinct-turned ys xs front.1),
-  λ parts. AreDistinct-turned (x ∷ ys) xs (λ h. parts.0 (IsMember-turned ys xs x h), AreDistinct-turned xs ys parts.1),
+  λ once. let front = AreDistinct-rotated xs (x ∷ ys) once in (λ h. front.0 (IsMember-rotated xs ys x h), AreDistinct-rotated ys xs front.1),
+  λ parts. AreDistinct-rotated (x ∷ ys) xs (λ h. parts.0 (IsMember-rotated ys xs x h), AreDistinct-rotated xs ys parts.1),
 )

@@ -13,15 +13,15 @@ use Rattle.chain_laws.proofs.InterlinkLemmas.Linked.{IsOff, IsValidAt-Some, next
 use Rattle.chain_laws.proofs.JoinLemmas.LoneLinks.{with_lone-at, with_lone-off}
 use Rattle.chain_laws.proofs.InterlinkLemmas.Skips.{Skips, skips_pairs, skips_undo}
 
--- the vacated index has no link
+-- The vacated index has no link.
 pub vacated-at : (link_map : LinkMap) (q j : ℕ) → j ≡ q → without_link link_map q j ≡ None
 vacated-at link_map q j e = if_same j q None (link_map j) e
 
--- another index is unchanged
+-- Another index is unchanged.
 pub vacated-off : (link_map : LinkMap) (q j : ℕ) → j ≢ q → without_link link_map q j ≡ link_map j
 vacated-off link_map q j ne = if_other j q None (link_map j) ne
 
--- a write of `next` makes no link
+-- A write of `next` makes no link.
 pub next_set-none : (link_map : LinkMap) (u v : Option ℕ) (j : ℕ) → link_map j ≡ None → next_set link_map u v j ≡ None
 next_set-none link_map None v j e = e
 next_set-none link_map (Some i) v j e = ⊎_elim
@@ -29,7 +29,7 @@ next_set-none link_map (Some i) v j e = ⊎_elim
     (λ ne. if_other j i _ _ ne ∙ e)
     (cases_eq j i)
 
--- a write of `prev` makes no link
+-- A write of `prev` makes no link.
 pub prev_set-none : (link_map : LinkMap) (u v : Option ℕ) (j : ℕ) → link_map j ≡ None → prev_set link_map u v j ≡ None
 prev_set-none link_map None v j e = e
 prev_set-none link_map (Some i) v j e = ⊎_elim
@@ -37,29 +37,29 @@ prev_set-none link_map (Some i) v j e = ⊎_elim
     (λ ne. if_other j i _ _ ne ∙ e)
     (cases_eq j i)
 
--- a removed index has no link
+-- A removed index has no link.
 pub removed-at : (link_map : LinkMap) (q : ℕ) → with_removal link_map q q ≡ None
 removed-at link_map q =
     let u = prev_of link_map q in
     let v = next_of link_map q in
     prev_set-none (next_set (without_link link_map q) u v) v u q (next_set-none (without_link link_map q) u v q (vacated-at link_map q q refl))
 
--- the valid indexes are the old ones without q
+-- The valid indexes are the old ones without q.
 pub HasLink-vacated : (link_map : LinkMap) (q j : ℕ) → HasLink (without_link link_map q) j ↔ (HasLink link_map j × (j ≢ q))
 HasLink-vacated link_map q j = (λ v. by v (cases_eq j q), λ p. (HasLink-same (without_link link_map q) link_map j (vacated-off link_map q j p.1)).1 p.0)
   where
     by : HasLink (without_link link_map q) j → (j ≡ q) ⊎ (j ≢ q) → HasLink link_map j × (j ≢ q)
-    by v (inl e) = let none = sym (vacated-at link_map q j e) ∙ v.reports in absurd (cc)
+    by v (inl e) = let none = sym (vacated-at link_map q j e) ∙ v.links in absurd (cc)
     by v (inr ne) = ((HasLink-same (without_link link_map q) link_map j (vacated-off link_map q j ne)).0 v, ne)
 
--- the valid indexes once the neighbors of q are linked
+-- The valid indexes once the neighbors of q are linked.
 pub HasLink-removed : (link_map : LinkMap) (q j : ℕ) → HasLink (with_removal link_map q) j ↔ (HasLink link_map j × (j ≢ q))
 HasLink-removed link_map q j =
     let linking = HasLink-linked (without_link link_map q) (prev_of link_map q) (next_of link_map q) j in
     let rest = HasLink-vacated link_map q j in
     (λ v. rest.0 (linking.0 v), λ p. linking.1 (rest.1 p))
 
--- `next` after the removal skips q
+-- `next` after the removal skips q.
 pub next_skips : (link_map : LinkMap) (q : ℕ) → IsWellLinked link_map → Skips (next_of link_map) (next_of (with_removal link_map q)) q
 next_skips link_map q agrees = record { gone = ap next_in (removed-at link_map q); past = past; off = off }
   where
@@ -83,7 +83,7 @@ next_skips link_map q agrees = record { gone = ap next_in (removed-at link_map q
         ∙ ap next_in (next_set-off (without_link link_map q) u v j unnamed)
         ∙ ap next_in (vacated-off link_map q j ne)
 
--- `prev` after the removal skips q
+-- `prev` after the removal skips q.
 pub prev_skips : (link_map : LinkMap) (q : ℕ) → IsWellLinked link_map → Skips (prev_of link_map) (prev_of (with_removal link_map q)) q
 prev_skips link_map q agrees = record { gone = ap prev_in (removed-at link_map q); past = past; off = off }
   where
@@ -107,7 +107,7 @@ prev_skips link_map q agrees = record { gone = ap prev_in (removed-at link_map q
         ∙ prev_of-next_set (without_link link_map q) u v j
         ∙ ap prev_in (vacated-off link_map q j ne)
 
--- a removal keeps the interlinks consistent
+-- A removal keeps the interlinks consistent.
 pub removed_agrees : (link_map : LinkMap) (q : ℕ) → IsWellLinked link_map → IsWellLinked (with_removal link_map q)
 removed_agrees link_map q agrees =
     record {
@@ -115,7 +115,7 @@ removed_agrees link_map q agrees =
           agrees.both (next_skips link_map q agrees) (prev_skips link_map q agrees);
     }
 
--- the pairs and links after a removal
+-- The pairs and links after a removal.
 pub removed_in_pairs : (link_map : LinkMap) (q : ℕ) → IsWellLinked link_map → RemovesPairs link_map (with_removal link_map q) q
 removed_in_pairs link_map q agrees =
     record {
@@ -123,18 +123,18 @@ removed_in_pairs link_map q agrees =
       links = HasLink-removed link_map q;
     }
 
--- no link names a removed index
+-- No link names a removed index.
 pub removed_unnamed : (link_map : LinkMap) (q : ℕ) → IsWellLinked link_map → (j : ℕ) → (next_of (with_removal link_map q) j ≢ Some q) × (prev_of (with_removal link_map q) j ≢ Some q)
 removed_unnamed link_map q agrees j =
     let valid_q : HasLink (with_removal link_map q) q → ⊥ = λ v. ((HasLink-removed link_map q q).0 v).1 refl in
     let both = (removed_agrees link_map q agrees).both in
     (λ e. valid_q (prev_valid (with_removal link_map q) q j ((both j q).0 e)), λ e. valid_q (next_valid (with_removal link_map q) q j ((both q j).1 e)))
 
--- the removal of a link without neighbors links nothing
+-- The removal of a link without neighbors links nothing.
 pub removed_lone : (link_map : LinkMap) (q : ℕ) → prev_of link_map q ≡ None → next_of link_map q ≡ None → with_removal link_map q ≡ without_link link_map q
 removed_lone link_map q start end = ap₂ (with_neighbors (without_link link_map q)) start end
 
--- the removal of a new lone link
+-- The removal of a new lone link.
 pub removed_of_lone : (link_map : LinkMap) (q : ℕ) → link_map q ≡ None → with_removal (with_lone link_map q) q ≡ link_map
 removed_of_lone link_map q free =
     removed_lone (with_lone link_map q) q (ap prev_in (with_lone-at link_map q q refl)) (ap next_in (with_lone-at link_map q q refl)) ∙ fun_ext (λ j. by j (cases_eq j q))

@@ -14,9 +14,9 @@ use Rattle.chain_laws.proofs.WalkLemmas.Walker.{step_forward-other}
 use Rattle.chain_laws.proofs.RemovalLemmas.Pairs.{HasLink-removed}
 use Rattle.chain_laws.proofs.RemovalLemmas.Chains.{removed_from_linear, removed_first_of_cyclic, removed_rest}
 
--- a chain written from `here` is cyclic exactly if `here` has a prev
+-- A chain written from `here` is cyclic exactly if `here` has a prev.
 module _ (link_map : LinkMap) (here : ℕ) where
-  -- the first link of a linear chain has none before it
+  -- The first link of a linear chain has none before it.
   linear_first : (xs : List ℕ) → IsChain link_map (linear xs) → first_or xs None ≡ Some here
       → (ys : List ℕ) × (linear xs ≡ chain_of (is_some (prev_of link_map here)) (here ∷ ys)) × (xs ≡ here ∷ ys)
   linear_first [] h e = absurd (cc)
@@ -25,7 +25,7 @@ module _ (link_map : LinkMap) (here : ℕ) where
       let none : prev_of link_map here ≡ None = ap (prev_of link_map) (sym same) ∙ ap prev_in h.2.0 in
       (ys, ap (λ (zs : List ℕ). linear zs) (ap (λ (z : ℕ). z ∷ ys) same) ∙ sym (ap (λ (o : Option ℕ). chain_of (is_some o) (here ∷ ys)) none), ap (λ (z : ℕ). z ∷ ys) same)
 
-  -- the first link of a cyclic chain has one before it
+  -- The first link of a cyclic chain has one before it.
   cyclic_first : (x : ℕ) (xs : List ℕ) → IsChain link_map (cyclic (x ∷ xs)) → here ≡ x
       → (ys : List ℕ) × (cyclic (x ∷ xs) ≡ chain_of (is_some (prev_of link_map here)) (here ∷ ys)) × (x ∷ xs ≡ here ∷ ys)
   cyclic_first x xs h e =
@@ -33,7 +33,7 @@ module _ (link_map : LinkMap) (here : ℕ) where
       let some : prev_of link_map here ≡ Some l.0 = ap (prev_of link_map) e ∙ (ap prev_in h.2.0 ∙ l.1 None) in
       (xs, ap (λ (z : ℕ). cyclic (z ∷ xs)) (sym e) ∙ sym (ap (λ (o : Option ℕ). chain_of (is_some o) (here ∷ xs)) some), ap (λ (z : ℕ). z ∷ xs) (sym e))
 
-  -- the chain of the least index of all, written from its start
+  -- The chain of the least index of all, written from its start.
   from_start : (c : Chain) (i : ℕ) → IsChain link_map c → StartsAtLeast c → IsMember (items c) i → ((j : ℕ) → HasLink link_map j → i ≤ j) → IsStart link_map i here
       → (ys : List ℕ) × (c ≡ chain_of (is_some (prev_of link_map here)) (here ∷ ys)) × (items c ≡ here ∷ ys)
   from_start (linear xs) i h w m least start = linear_first xs h (start.in_linear xs h m)
@@ -47,7 +47,7 @@ module _ (link_map : LinkMap) (here : ℕ) where
 pub least_is_next : LeastIsNext
 least_is_next link_map [] i here are order valid least start = absurd (are.all i valid)
 least_is_next link_map (c ∷ rest) i here are order valid least start =
-    let m = order.rises.0 in
+    let m = order.ascends.0 in
     let own = in_first (IsMember-parts (items c) (all_items rest) i (are.all i valid)) in
     let w = from_start link_map here c i (are.each c (inl refl)) (order.written c (inl refl)) own least start in
     (w.0, rest, ap (λ (d : Chain). d ∷ rest) w.1, subst (λ (zs : List ℕ). IsMember zs i) w.2 own)
@@ -55,16 +55,16 @@ least_is_next link_map (c ∷ rest) i here are order valid least start =
     in_first : IsMember (items c) i ⊎ IsMember (all_items rest) i → IsMember (items c) i
     in_first (inl h) = h
     in_first (inr h) =
-        let low = order.rises.0.2 i h in
-        let high = least order.rises.0.0 (chain_valid link_map c order.rises.0.0 (are.each c (inl refl)) order.rises.0.1) in
+        let low = order.ascends.0.2 i h in
+        let high = least order.ascends.0.0 (chain_valid link_map c order.ascends.0.0 (are.each c (inl refl)) order.ascends.0.1) in
         absurd (omega arith)
 
--- the rest of the chain, if it is not empty
+-- The rest of the chain, if it is not empty.
 left_chain : (link_map : LinkMap) (ring : Bool) (x : ℕ) (xs : List ℕ) → IsChain link_map (chain_of ring (x ∷ xs)) → xs ≢ [] → IsChain (with_removal link_map x) (chain_of ring xs)
 left_chain link_map false x xs h filled = removed_from_linear link_map x [] xs h filled
 left_chain link_map true x xs h filled = removed_first_of_cyclic link_map x xs h filled
 
--- the next link is the first of the rest
+-- The next link is the first of the rest.
 next_left : (link_map : LinkMap) (ring : Bool) (x : ℕ) (xs : List ℕ) → IsChain link_map (chain_of ring (x ∷ xs)) → step_forward x (next_of link_map x) ≡ first_or xs None
 next_left link_map false x [] h = ap (λ (o : Option _). step_forward x (next_in o)) h.2.0
 next_left link_map false x (y ∷ xs) h = ap (λ (o : Option _). step_forward x (next_in o)) h.2.0 ∙ step_forward-other x y (λ e. h.1.0 (inl e))

@@ -7,9 +7,9 @@ use Rattle.chain_laws.proofs.ListLemmas.Members.{IsMember-left, IsMember-right, 
 use Rattle.chain_laws.proofs.ChainLemmas.LinkedLists.{AreLinked-at}
 use Rattle.chain_laws.proofs.ChainLemmas.Uniqueness.{chain_valid, chain_once}
 use Rattle.chain_laws.proofs.ChainLemmas.Partitions.{chain_of_each}
-use Rattle.chain_laws.proofs.ChainLemmas.Rotations.{turned_to}
+use Rattle.chain_laws.proofs.ChainLemmas.Rotations.{rotated_to}
 
--- a list is empty, or has a last item
+-- A list is empty, or has a last item.
 pub data IsEmptyOrEnds : List ℕ → Type 0 where
   is_empty : IsEmptyOrEnds []
   ends_in : (xs : List ℕ) (x : ℕ) → IsEmptyOrEnds (xs ++ x ∷ [])
@@ -18,11 +18,11 @@ pub ending : (xs : List ℕ) → IsEmptyOrEnds xs
 ending [] = is_empty
 ending (x ∷ xs) = let l = last_apart x xs in subst IsEmptyOrEnds (sym l.2) (ends_in l.0 l.1)
 
--- in a linear chain, the previous link is the last one written before
+-- In a linear chain, the previous link is the last one written before.
 prev_linear : (link_map : LinkMap) (before : List ℕ) (here : ℕ) (after : List ℕ) → IsChain link_map (linear (before ++ here ∷ after)) → prev_of link_map here ≡ last_or before None
 prev_linear link_map before here after h = ap prev_in (AreLinked-at link_map None before after None here h.2)
 
--- in a cyclic chain, the previous link is the last one still ahead of the walker
+-- In a cyclic chain, the previous link is the last one still ahead of the walker.
 prev_cyclic : (link_map : LinkMap) (i : ℕ) (before after : List ℕ) (here : ℕ) → IsChain link_map (cyclic (i ∷ before ++ after)) → first_or after (Some i) ≡ Some here → prev_of link_map here ≡ last_or before (Some i)
 prev_cyclic link_map i before [] here h e =
     let same : i ≡ here = cc in
@@ -37,7 +37,7 @@ back_begins link_map i = record {
   in_cyclic = λ xs h. (xs, [], sym (append-nil xs), refl, omega arith);
 }
 
--- the place of a walker in a linear and in a cyclic chain
+-- The place of a walker in a linear and in a cyclic chain.
 module _ (i steps here : ℕ) where
   record InLinear (xs : List ℕ) : Type 0 where
     before : List ℕ
@@ -60,7 +60,7 @@ module _ (link_map : LinkMap) (i steps here : ℕ) (back : IsBack link_map i ste
   cyclic_at : (xs : List ℕ) → IsChain link_map (cyclic (i ∷ xs)) → InCyclic i steps here xs
   cyclic_at xs h = let b = back.in_cyclic xs h in record { before = b.0; after = b.1; parts = b.2; first = b.3; few = b.4 }
 
-  -- the link before the walker, in either kind of chain
+  -- The link before the walker, in either kind of chain.
   before_linear : (xs : List ℕ) (h : IsChain link_map (linear xs)) (m : IsMember xs i) → prev_of link_map here ≡ last_or (linear_at xs h m).before None
   before_linear xs h m =
       let at = linear_at xs h m in
@@ -71,7 +71,7 @@ module _ (link_map : LinkMap) (i steps here : ℕ) (back : IsBack link_map i ste
       let at = cyclic_at xs h in
       prev_cyclic link_map i at.before at.after here (subst (λ (ys : List ℕ). IsChain link_map (cyclic (i ∷ ys))) at.parts h) at.first
 
--- a walker without a previous link is at the start of a linear chain, not in a ring
+-- A walker without a previous link is at the start of a linear chain, not in a ring.
 nothing_before : (before : List ℕ) → IsEmptyOrEnds before → last_or before None ≡ None → before ≡ []
 nothing_before _ is_empty e = refl
 nothing_before _ (ends_in ys y) e = let l : last_or (ys ++ y ∷ []) None ≡ Some y = last_or-append ys (y ∷ []) None in absurd (cc)
@@ -94,23 +94,23 @@ back_ends link_map i steps here back none = record { in_linear = from_start; in_
         let at = cyclic_at link_map i steps here back xs h in
         something_before at.before i (ending at.before) (sym (before_cyclic link_map i steps here back xs h) ∙ none)
 
--- if i is the previous link, the chain is not linear
-comes_before : (i here : ℕ) (before after : List ℕ) → IsEmptyOrEnds before → AreDistinct (before ++ here ∷ after) → IsMember (here ∷ after) i → last_or before None ≡ Some i → ⊥
-comes_before i here _ after is_empty once has e = cc
-comes_before i here _ after (ends_in ys y) once has e =
+-- If i is the previous link, the chain is not linear.
+is_before : (i here : ℕ) (before after : List ℕ) → IsEmptyOrEnds before → AreDistinct (before ++ here ∷ after) → IsMember (here ∷ after) i → last_or before None ≡ Some i → ⊥
+is_before i here _ after is_empty once has e = cc
+is_before i here _ after (ends_in ys y) once has e =
     let l : last_or (ys ++ y ∷ []) None ≡ Some y = last_or-append ys (y ∷ []) None in
     let same : y ≡ i = cc in
     AreDistinct-apart (ys ++ y ∷ []) (here ∷ after) i once (IsMember-right ys (y ∷ []) i (inl same)) has
 
-pub back_comes_round : WalkBackIsCyclic
-back_comes_round link_map i steps here back e = record { in_linear = λ xs h m. absurd (straight xs h m); in_cyclic = λ xs h. refl }
+pub back_wraps_around : WalkBackIsCyclic
+back_wraps_around link_map i steps here back e = record { in_linear = λ xs h m. absurd (straight xs h m); in_cyclic = λ xs h. refl }
   where
     straight : (xs : List ℕ) → IsChain link_map (linear xs) → IsMember xs i → ⊥
     straight xs h m =
         let at = linear_at link_map i steps here back xs h m in
-        comes_before i here at.before at.after (ending at.before) (subst AreDistinct at.parts h.1) at.has (sym (before_linear link_map i steps here back xs h m) ∙ e)
+        is_before i here at.before at.after (ending at.before) (subst AreDistinct at.parts h.1) at.has (sym (before_linear link_map i steps here back xs h m) ∙ e)
 
--- one step back in a linear chain
+-- One step back in a linear chain.
 step_linear : (i steps here k : ℕ) (before after : List ℕ) → IsEmptyOrEnds before → last_or before None ≡ Some k → steps ≤ length after → IsMember (here ∷ after) i → (xs : List ℕ) → xs ≡ before ++ here ∷ after
     → (b : List ℕ) × (a : List ℕ) × (xs ≡ b ++ k ∷ a) × IsMember (k ∷ a) i × (steps + 1 ≤ length a)
 step_linear i steps here k _ after is_empty l few has xs parts = absurd (cc)
@@ -119,7 +119,7 @@ step_linear i steps here k _ after (ends_in ys y) l few has xs parts =
     let same : y ≡ k = cc in
     (ys, here ∷ after, parts ∙ (append_assoc ys (y ∷ []) (here ∷ after) ∙ ap (λ (z : ℕ). ys ++ z ∷ here ∷ after) same), inr has, omega arith)
 
--- one step back in a cyclic chain
+-- One step back in a cyclic chain.
 step_cyclic : (i steps k : ℕ) (before after : List ℕ) → IsEmptyOrEnds before → k ≢ i → last_or before (Some i) ≡ Some k → steps ≤ length after → (xs : List ℕ) → xs ≡ before ++ after
     → (b : List ℕ) × (a : List ℕ) × (xs ≡ b ++ a) × (first_or a (Some i) ≡ Some k) × (steps + 1 ≤ length a)
 step_cyclic i steps k _ after is_empty ne l few xs parts = let same : k ≡ i = cc in absurd (ne same)
@@ -128,8 +128,8 @@ step_cyclic i steps k _ after (ends_in ys y) ne l few xs parts =
     let same : Some y ≡ Some k = cc in
     (ys, y ∷ after, parts ∙ append_assoc ys (y ∷ []) after, same, omega arith)
 
-pub back_goes_on : WalkBackContinues
-back_goes_on link_map i steps here k back e ne = record { in_linear = in_linear; in_cyclic = in_cyclic }
+pub back_continues : WalkBackContinues
+back_continues link_map i steps here k back e ne = record { in_linear = in_linear; in_cyclic = in_cyclic }
   where
     in_linear : (xs : List ℕ) → IsChain link_map (linear xs) → IsMember xs i → (b : List ℕ) × (a : List ℕ) × (xs ≡ b ++ k ∷ a) × IsMember (k ∷ a) i × (steps + 1 ≤ length a)
     in_linear xs h m =
@@ -141,7 +141,7 @@ back_goes_on link_map i steps here k back e ne = record { in_linear = in_linear;
         let at = cyclic_at link_map i steps here back xs h in
         step_cyclic i steps k at.before at.after (ending at.before) ne (sym (before_cyclic link_map i steps here back xs h) ∙ e) at.few xs at.parts
 
--- a distinct list is no longer than a list that has all its members
+-- A distinct list is no longer than a list that has all its members.
 pub length_among : (xs ys : List ℕ) → AreDistinct xs → ((i : ℕ) → IsMember xs i → IsMember ys i) → length xs ≤ length ys
 length_among [] ys once among = omega arith
 length_among (x ∷ xs) ys once among = shorter (IsMember-written ys x (among x (inl refl))) (length_among xs)
@@ -176,7 +176,7 @@ back_is_short link_map slots i steps here links agrees within valid all back = o
         let few : steps ≤ length at.after = at.few in
         omega arith
     of_chain (cyclic xs) h m =
-        let w = turned_to link_map xs i h m in
+        let w = rotated_to link_map xs i h m in
         let at = cyclic_at link_map i steps here back w.0 w.1 in
         let bound : length (i ∷ w.0) ≤ length links = among (cyclic (i ∷ w.0)) w.1 in
         let long : length w.0 ≡ length at.before + length at.after = ap length at.parts ∙ length-append at.before at.after in

@@ -7,64 +7,64 @@ use Rattle.chain_laws.specs.Removals.{with_removal}
 use Rattle.chain_laws.specs.Insertions.{disconnected, single_link_cyclic, chain_end, chain_start, next_to, prev_to, at_interlink, bridge, with_insertion, with_insertion_as}
 use Rattle.chain_laws.proofs.ChainLemmas.LinkedLists.{link}
 
--- the empty arena
+-- The empty arena.
 abbrev bare : LinkMap
 bare i = None
 
--- the lone links 1, 2 and 3
+-- The lone links 1, 2 and 3.
 abbrev lone : LinkMap
 lone = with_lone (with_lone (with_lone bare 1) 2) 3
 
--- the linear chain 1 2, and the lone link 3
+-- The linear chain 1 2, and the lone link 3.
 abbrev two_and_lone : LinkMap
 two_and_lone = with_join lone 1 2
 
--- the linear chain 1 2 3
+-- The linear chain 1 2 3.
 abbrev three : LinkMap
 three = with_join two_and_lone 2 3
 
--- the cyclic chain 1 2 3
+-- The cyclic chain 1 2 3.
 abbrev ring : LinkMap
 ring = with_join three 3 1
 
--- the cyclic chain 1 2, and the lone link 3
+-- The cyclic chain 1 2, and the lone link 3.
 abbrev ring_of_two : LinkMap
 ring_of_two = with_join two_and_lone 2 1
 
--- the cyclic chain 2, and the lone links 1 and 3
+-- The cyclic chain 2, and the lone links 1 and 3.
 abbrev ring_of_one : LinkMap
 ring_of_one = with_join lone 2 2
 
--- an insertion is a lone link and four writes
+-- An insertion is a lone link and four writes.
 inserted_in_four_writes : (link_map : LinkMap)
     → with_insertion link_map 7 (Some 1) (Some 2)
     ≡ prev_set (next_set (prev_set (next_set (with_lone link_map 7) (Some 1) (Some 7)) (Some 7) (Some 1)) (Some 7) (Some 2)) (Some 2) (Some 7)
 inserted_in_four_writes link_map = refl
 
--- a new lone link
+-- A new lone link.
 alone_new : with_insertion_as three disconnected 7 7 ≡ Some (link None None)
 alone_new = refl
 
 alone_other : with_insertion_as three disconnected 7 3 ≡ Some (link (Some 2) None)
 alone_other = refl
 
--- a new cyclic chain of one
+-- A new cyclic chain of one.
 ring_new : with_insertion_as three single_link_cyclic 7 7 ≡ Some (link (Some 7) (Some 7))
 ring_new = refl
 
 ring_other : with_insertion_as three single_link_cyclic 7 1 ≡ Some (link None (Some 2))
 ring_other = refl
 
--- after a lone link
+-- After a lone link.
 lone_end_start : with_insertion_as lone (chain_end 2) 7 2 ≡ Some (link None (Some 7))
 lone_end_start = refl
 
 lone_end_new : with_insertion_as lone (chain_end 2) 7 7 ≡ Some (link (Some 2) None)
 lone_end_new = refl
 
--- after the end of a chain
-end_goes_on : with_insertion_as three (chain_end 3) 7 3 ≡ Some (link (Some 2) (Some 7))
-end_goes_on = refl
+-- After the end of a chain.
+end_continues : with_insertion_as three (chain_end 3) 7 3 ≡ Some (link (Some 2) (Some 7))
+end_continues = refl
 
 end_new : with_insertion_as three (chain_end 3) 7 7 ≡ Some (link (Some 3) None)
 end_new = refl
@@ -72,21 +72,21 @@ end_new = refl
 end_start : with_insertion_as three (chain_end 3) 7 1 ≡ Some (link None (Some 2))
 end_start = refl
 
--- before a lone link
+-- Before a lone link.
 lone_start_new : with_insertion_as lone (chain_start 2) 7 7 ≡ Some (link None (Some 2))
 lone_start_new = refl
 
 lone_start_end : with_insertion_as lone (chain_start 2) 7 2 ≡ Some (link (Some 7) None)
 lone_start_end = refl
 
--- before the start of a chain
+-- Before the start of a chain.
 start_new : with_insertion_as three (chain_start 1) 7 7 ≡ Some (link None (Some 1))
 start_new = refl
 
 start_second : with_insertion_as three (chain_start 1) 7 1 ≡ Some (link (Some 7) (Some 2))
 start_second = refl
 
--- after the start
+-- After the start.
 next_to_start : with_insertion_as three (next_to 1) 7 1 ≡ Some (link None (Some 7))
 next_to_start = refl
 
@@ -96,26 +96,26 @@ next_to_start_new = refl
 next_to_start_second : with_insertion_as three (next_to 1) 7 2 ≡ Some (link (Some 7) (Some 3))
 next_to_start_second = refl
 
--- after the middle
+-- After the middle.
 next_to_middle : with_insertion_as three (next_to 2) 7 7 ≡ Some (link (Some 2) (Some 3))
 next_to_middle = refl
 
--- after the end
+-- After the end.
 next_to_end : with_insertion_as three (next_to 3) 7 7 ≡ Some (link (Some 3) None)
 next_to_end = refl
 
--- after a lone link
+-- After a lone link.
 next_to_lone : with_insertion_as lone (next_to 2) 7 7 ≡ Some (link (Some 2) None)
 next_to_lone = refl
 
--- after the last link of a cyclic chain
+-- After the last link of a cyclic chain.
 next_to_last : with_insertion_as ring (next_to 3) 7 7 ≡ Some (link (Some 3) (Some 1))
 next_to_last = refl
 
 next_to_last_first : with_insertion_as ring (next_to 3) 7 1 ≡ Some (link (Some 7) (Some 2))
 next_to_last_first = refl
 
--- after a link of a cyclic chain of two
+-- After a link of a cyclic chain of two.
 next_to_of_two : with_insertion_as ring_of_two (next_to 1) 7 7 ≡ Some (link (Some 1) (Some 2))
 next_to_of_two = refl
 
@@ -125,14 +125,14 @@ next_to_of_two_one = refl
 next_to_of_two_other : with_insertion_as ring_of_two (next_to 1) 7 2 ≡ Some (link (Some 7) (Some 1))
 next_to_of_two_other = refl
 
--- after a link that names itself: both name each other
+-- After a link that names itself: both name each other.
 next_to_itself_new : with_insertion_as ring_of_one (next_to 2) 7 7 ≡ Some (link (Some 2) (Some 2))
 next_to_itself_new = refl
 
 next_to_itself : with_insertion_as ring_of_one (next_to 2) 7 2 ≡ Some (link (Some 7) (Some 7))
 next_to_itself = refl
 
--- before the middle
+-- Before the middle.
 prev_to_middle : with_insertion_as three (prev_to 2) 7 7 ≡ Some (link (Some 1) (Some 2))
 prev_to_middle = refl
 
@@ -142,22 +142,22 @@ prev_to_middle_second = refl
 prev_to_middle_start : with_insertion_as three (prev_to 2) 7 1 ≡ Some (link None (Some 7))
 prev_to_middle_start = refl
 
--- before the start
+-- Before the start.
 prev_to_start : with_insertion_as three (prev_to 1) 7 7 ≡ Some (link None (Some 1))
 prev_to_start = refl
 
--- before the first link of a cyclic chain
+-- Before the first link of a cyclic chain.
 prev_to_first : with_insertion_as ring (prev_to 1) 7 7 ≡ Some (link (Some 3) (Some 1))
 prev_to_first = refl
 
--- before a link that names itself: both name each other
+-- Before a link that names itself: both name each other.
 prev_to_itself_new : with_insertion_as ring_of_one (prev_to 2) 7 7 ≡ Some (link (Some 2) (Some 2))
 prev_to_itself_new = refl
 
 prev_to_itself : with_insertion_as ring_of_one (prev_to 2) 7 2 ≡ Some (link (Some 7) (Some 7))
 prev_to_itself = refl
 
--- between neighbors
+-- Between neighbors.
 between_first : with_insertion_as three (at_interlink 2 3) 7 2 ≡ Some (link (Some 1) (Some 7))
 between_first = refl
 
@@ -167,15 +167,15 @@ between_new = refl
 between_second : with_insertion_as three (at_interlink 2 3) 7 3 ≡ Some (link (Some 7) None)
 between_second = refl
 
--- between the last and first link of a cyclic chain
-between_round : with_insertion_as ring (at_interlink 3 1) 7 7 ≡ Some (link (Some 3) (Some 1))
-between_round = refl
+-- Between the last and first link of a cyclic chain.
+between_cyclic : with_insertion_as ring (at_interlink 3 1) 7 7 ≡ Some (link (Some 3) (Some 1))
+between_cyclic = refl
 
--- between a link and itself
+-- Between a link and itself.
 between_itself : with_insertion_as ring_of_one (at_interlink 2 2) 7 7 ≡ Some (link (Some 2) (Some 2))
 between_itself = refl
 
--- between two chains
+-- Between two chains.
 bridge_end : with_insertion_as two_and_lone (bridge 2 3) 7 2 ≡ Some (link (Some 1) (Some 7))
 bridge_end = refl
 
@@ -185,7 +185,7 @@ bridge_new = refl
 bridge_start : with_insertion_as two_and_lone (bridge 2 3) 7 3 ≡ Some (link (Some 7) None)
 bridge_start = refl
 
--- between the end and start of a chain, which becomes cyclic
+-- Between the end and start of a chain, which becomes cyclic.
 close_end : with_insertion_as three (bridge 3 1) 7 3 ≡ Some (link (Some 2) (Some 7))
 close_end = refl
 
@@ -195,14 +195,14 @@ close_new = refl
 close_start : with_insertion_as three (bridge 3 1) 7 1 ≡ Some (link (Some 7) (Some 2))
 close_start = refl
 
--- between a lone link and itself
+-- Between a lone link and itself.
 close_lone_new : with_insertion_as lone (bridge 2 2) 7 7 ≡ Some (link (Some 2) (Some 2))
 close_lone_new = refl
 
 close_lone : with_insertion_as lone (bridge 2 2) 7 2 ≡ Some (link (Some 7) (Some 7))
 close_lone = refl
 
--- a link inserted beside another and removed
+-- A link inserted beside another and removed.
 inserted_and_removed : with_removal (with_insertion_as three (next_to 2) 7) 7 2 ≡ Some (link (Some 1) (Some 3))
 inserted_and_removed = refl
 

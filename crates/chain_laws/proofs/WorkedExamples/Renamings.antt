@@ -9,36 +9,36 @@ use Rattle.chain_laws.specs.Arrangements.{place_in, in_runs}
 use Rattle.chain_laws.specs.Moves.{moved_index, moved, put, gathered_place}
 use Rattle.chain_laws.proofs.ChainLemmas.LinkedLists.{link}
 
--- the empty arena
+-- The empty arena.
 abbrev bare : LinkMap
 bare i = None
 
--- the linear chain 1 4, and the cyclic chain 2 3
+-- The linear chain 1 4, and the cyclic chain 2 3.
 abbrev two_chains : LinkMap
 two_chains = with_join (with_join (with_join (with_lone (with_lone (with_lone (with_lone bare 1) 2) 3) 4) 1 4) 2 3) 3 2
 
--- the cyclic chain 2
+-- The cyclic chain 2.
 abbrev ring_of_one : LinkMap
 ring_of_one = with_join (with_lone bare 2) 2 2
 
--- the linear chain 3 4
+-- The linear chain 3 4.
 abbrev pair : LinkMap
 pair = with_join (with_lone (with_lone bare 3) 4) 3 4
 
 -- ---- an order of all links
 
--- links of the two chains
+-- Links of the two chains.
 two_chains_end : two_chains 4 ≡ Some (link (Some 1) None)
 two_chains_end = refl
 
 two_chains_ring : two_chains 2 ≡ Some (link (Some 3) (Some 3))
 two_chains_ring = refl
 
--- the chains one after another
+-- The chains one after another.
 order_row : all_items (linear (1 ∷ 4 ∷ []) ∷ cyclic (2 ∷ 3 ∷ []) ∷ []) ≡ 1 ∷ 4 ∷ 2 ∷ 3 ∷ []
 order_row = refl
 
--- the k-th index in the order moves to k; others do not move
+-- The k-th index in the order moves to k; others do not move.
 first_place : place_in (1 ∷ 4 ∷ 2 ∷ 3 ∷ []) 1 ≡ Some 1
 first_place = refl
 
@@ -54,20 +54,20 @@ fourth_place = refl
 no_place : place_in (1 ∷ 4 ∷ 2 ∷ 3 ∷ []) 5 ≡ None
 no_place = refl
 
--- the runs of the two chains, in either order
+-- The runs of the two chains, in either order.
 runs_row : in_runs 1 (linear (1 ∷ 4 ∷ []) ∷ cyclic (2 ∷ 3 ∷ []) ∷ []) ≡ linear (1 ∷ 2 ∷ []) ∷ cyclic (3 ∷ 4 ∷ []) ∷ []
 runs_row = refl
 
 runs_row_swapped : in_runs 1 (cyclic (2 ∷ 3 ∷ []) ∷ linear (1 ∷ 4 ∷ []) ∷ []) ≡ cyclic (1 ∷ 2 ∷ []) ∷ linear (3 ∷ 4 ∷ []) ∷ []
 runs_row_swapped = refl
 
--- the items of the runs
+-- The items of the runs.
 numbers_row : range_with_len 1 4 ≡ 1 ∷ 2 ∷ 3 ∷ 4 ∷ []
 numbers_row = refl
 
 -- ---- a link that moves
 
--- a link that names itself moves from 2 to 1, as its own neighbor
+-- A link that names itself moves from 2 to 1, as its own neighbor.
 ring_moves : moved ring_of_one 2 1 1 ≡ Some (link (Some 1) (Some 1))
 ring_moves = refl
 
@@ -81,7 +81,7 @@ ring_known : prev_set (next_set (put ring_of_one 2 1) (option_map (moved_index 2
     ≡ Some (link (Some 1) (Some 1))
 ring_known = refl
 
--- the start of the chain 3 4 moves to 2; only the end is rewritten
+-- The start of the chain 3 4 moves to 2; only the end is rewritten.
 start_moves : moved pair 3 2 2 ≡ Some (link None (Some 4))
 start_moves = refl
 
@@ -95,21 +95,21 @@ end_known : prev_set (next_set (put pair 3 2) (option_map (moved_index 3 2) (pre
     ≡ Some (link (Some 2) None)
 end_known = refl
 
--- a link of a cyclic chain of two moves
+-- A link of a cyclic chain of two moves.
 ring_of_two_moves : moved two_chains 2 7 3 ≡ Some (link (Some 7) (Some 7))
 ring_of_two_moves = refl
 
--- a link of another chain stays
+-- A link of another chain stays.
 other_chain_stays : moved two_chains 2 7 4 ≡ Some (link (Some 1) None)
 other_chain_stays = refl
 
--- a link that moves to its own index changes nothing
+-- A link that moves to its own index changes nothing.
 moves_nowhere : moved two_chains 4 4 1 ≡ Some (link None (Some 4))
 moves_nowhere = refl
 
 -- ---- closed holes
 
--- gathering the chain 3 4: none moved, 3 moved, both moved
+-- Gathering the chain 3 4: none moved, 3 moved, both moved.
 none_gone : gathered_place pair [] 2 3 ≡ Some 3
 none_gone = refl
 
@@ -122,7 +122,7 @@ one_waits = refl
 both_gone : gathered_place pair (3 ∷ 4 ∷ []) 4 4 ≡ Some 2
 both_gone = refl
 
--- the gathered chain
+-- The gathered chain.
 closed_start : moved (moved pair 3 1) 4 2 1 ≡ Some (link None (Some 2))
 closed_start = refl
 

@@ -9,8 +9,8 @@ use std::alloc::Global;
 use std::fmt::Debug;
 use std::process::Abort;
 
-fn sharp_text<T: Debug + Drop>(alloc: Global, answer: T) -> String {
-    match format!(in alloc; "{answer:#?}") {
+fn sharp_text<T: Debug + Drop>(alloc: Global, outcome: T) -> String {
+    match format!(in alloc; "{outcome:#?}") {
         Ok(text) => text,
         Err(_) => String::new(alloc),
     }

@@ -59,14 +59,14 @@ fn calls_of(alloc: Global, lines: &[Line]) -> Vec<Call<ToolPtr, u32>> {
 
 pub(super) fn reply_text(alloc: Global, reply: Reply<ToolPtr, u32>) -> String {
     match reply {
-        Reply::Inserted(answer) => text(alloc, answer),
+        Reply::Inserted(outcome) => text(alloc, outcome),
         Reply::Done(done) => text(alloc, done),
-        Reply::Removed(answer) => text(alloc, answer),
-        Reply::RemovedInx(answer) => text(alloc, answer),
-        Reply::Renewed(answer) => text(alloc, answer),
+        Reply::Removed(outcome) => text(alloc, outcome),
+        Reply::RemovedInx(outcome) => text(alloc, outcome),
+        Reply::Renewed(outcome) => text(alloc, outcome),
         Reply::Drained(count) => text(alloc, count),
-        Reply::Counted(answer) => text(alloc, answer),
-        Reply::Reserved(answer) => text(alloc, answer),
+        Reply::Counted(outcome) => text(alloc, outcome),
+        Reply::Reserved(outcome) => text(alloc, outcome),
         Reply::Set => text(alloc, ()),
     }
 }
@@ -151,7 +151,7 @@ static RUN: [List; 1] = [(
 )];
 
 static RENUMBERED: [List; 1] = [(
-    "a cycle of one and a chain of two come to the indexes from 1 on, in the order of their indexes",
+    "a cycle of one and a chain of two are moved to the indexes from 1 on, in index order",
     &[
         (Do::Insert(Kind::Disconnected, 10), "Ok(P0[1](2))"),
         (Do::Insert(Kind::SingleLinkCyclic, 20), "Ok(P0[2](2))"),
@@ -189,7 +189,7 @@ static BEHIND_HOLES: [List; 1] = [(
 )];
 
 static OVERFLOWS: [List; 1] = [(
-    "each call that overflows, at the greatest generation; and room above the greatest index",
+    "each call that overflows, at the greatest generation; and a capacity above the greatest index",
     &[
         (Do::SetGeneration(u32::MAX), "()"),
         (Do::IncGeneration, "GenerationOverflow(())"),

@@ -20,8 +20,8 @@ pub(super) fn placed<S: SlotStack<Item = Slot>>(
     arena: &mut ChainsOver<S>,
     reset: bool,
 ) -> (InvalidationOption<()>, u128) {
-    let (told, work) = counted(arena, reset);
-    (told, work.placed)
+    let (reply, work) = counted(arena, reset);
+    (reply, work.placed)
 }
 
 // The old and the new pointer of each link.
@@ -34,10 +34,10 @@ pub(super) fn moves_visited<S: SlotStack<Item = Slot>>(
     reset: bool,
 ) -> (InvalidationOption<()>, Moves) {
     let mut moves = Vec::new(alloc);
-    let told = arena.compress_canonical_with(reset, |p, q| {
+    let reply = arena.compress_canonical_with(reset, |p, q| {
         let _ = moves.push((p, q));
     });
-    (told, moves)
+    (reply, moves)
 }
 
 // Returns the moves that a compression lists.
@@ -71,10 +71,10 @@ pub(super) fn both_arranged<S: SlotStack<Item = Slot>>(
     compressed.compress_canonical(false);
     let mut carried: ChainsOver<S> = fresh(alloc);
     let now = compressed.generation();
-    let answer = carry_over(&mut source, &mut carried, now);
-    let shown = text(alloc, &carried);
-    let is_same = text(alloc, &compressed).as_str() == shown.as_str();
-    (answer.is_ok() && is_same, shown)
+    let outcome = carry_over(&mut source, &mut carried, now);
+    let listing = text(alloc, &carried);
+    let is_same = text(alloc, &compressed).as_str() == listing.as_str();
+    (outcome.is_ok() && is_same, listing)
 }
 
 // Transfers lone links to an arena with generation 7. Returns the result and the source then.
@@ -84,8 +84,8 @@ pub(super) fn carried_in<S: SlotStack<Item = Slot>>(
     count: u32,
 ) -> String {
     let mut source: ChainsOver<S> = lone_links(alloc, count);
-    let answer = carry_over(&mut source, target, generation(7));
-    text(alloc, (answer, &source))
+    let outcome = carry_over(&mut source, target, generation(7));
+    text(alloc, (outcome, &source))
 }
 
 // A chain of 2, 4 and 1, of which 1 was inserted last, and a lone link 3.

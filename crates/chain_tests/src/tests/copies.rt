@@ -44,14 +44,14 @@ pub(super) fn copied_over<S: SlotStack<Item = Slot>>(
     count: u32,
 ) -> String {
     let source: ChainsOver<S> = with_a_hole(alloc, count);
-    let mut seen: Visited = Vec::new(alloc);
+    let mut visited: Visited = Vec::new(alloc);
     let mut calls = 0u32;
-    let answer = target.clone_from_with(&source, |p, link: &LinkNoGen<ToolPtr, u32>| {
-        let _ = seen.push((p, *link));
+    let outcome = target.clone_from_with(&source, |p, link: &LinkNoGen<ToolPtr, u32>| {
+        let _ = visited.push((p, *link));
         calls = calls.saturating_add(10);
         link.t.saturating_add(calls)
     });
-    text(alloc, (answer, seen))
+    text(alloc, (outcome, visited))
 }
 
 // Copies an arena to a plain one by the same closure.
@@ -60,14 +60,14 @@ fn copied_plain<R: SlotStack<Item = Slot>, S: SlotStack<Item = ArenaSlot<ToolPtr
     source: &ChainsOver<R>,
     target: &mut Arena<ToolPtr, u32, S>,
 ) -> (Result<(), ReallocationError>, Visited) {
-    let mut seen = Vec::new(alloc);
+    let mut visited = Vec::new(alloc);
     let mut calls = 0u32;
-    let answer = source.clone_to_arena(target, |p, link: &LinkNoGen<ToolPtr, u32>| {
-        let _ = seen.push((p, *link));
+    let outcome = source.clone_to_arena(target, |p, link: &LinkNoGen<ToolPtr, u32>| {
+        let _ = visited.push((p, *link));
         calls = calls.saturating_add(10);
         link.t.saturating_add(calls)
     });
-    (answer, seen)
+    (outcome, visited)
 }
 
 fn value_of<S: SlotStack<Item = ArenaSlot<ToolPtr, u32>>>(
@@ -142,11 +142,11 @@ pub(super) fn check_refused_copy<
     R: SlotStack<Item = ArenaSlot<ToolPtr, u32>>,
 >(rt: &impl Abort, alloc: Global) {
     let mut target: Arena<ToolPtr, u32, FailingStack<R>> = fresh_plain(alloc);
-    let told = copied_twice::<S, FailingStack<R>>(alloc, &mut target);
+    let reply = copied_twice::<S, FailingStack<R>>(alloc, &mut target);
     let want = "(((Err(AllocError), []), (0, 0, Gen32 { number: 2 }), \
         (Ok(()), [(P0[1](2), {(start), 3} 1), (P0[3](2), {1, (end)} 3)])), \
         (Ok(P0[2](3)), (Some(11), Some(23))))";
-    same(rt, "refused, and copied", told.as_str(), want);
+    same(rt, "refused, and copied", reply.as_str(), want);
 }
 
 // Returns the length, capacity, counter and slots of a plain arena.
@@ -186,8 +186,8 @@ pub(super) fn check_refused_beside_holes<
     let source: ChainsOver<S> = with_a_hole(alloc, 70);
     let mut target: Arena<ToolPtr, u32, FailingStack<R>> = plain_with_holes(alloc);
     let before = plain_texts(alloc, &target);
-    let (answer, seen) = copied_plain(alloc, &source, &mut target);
-    let refused = (answer, seen.len());
+    let (outcome, visited) = copied_plain(alloc, &source, &mut target);
+    let refused = (outcome, visited.len());
     same(
         rt,
         "refused",
@@ -212,9 +212,9 @@ pub(super) fn check_plain<S: SlotStack<Item = Slot>, R: LimitStack<Item = ArenaS
     let mut target: Arena<ToolPtr, u32, R> = fresh_plain(alloc);
     let limit = target.set_max_capacity(2);
     same(rt, "a maximum of two", limit, Ok(()));
-    let told = copied_twice::<S, R>(alloc, &mut target);
+    let reply = copied_twice::<S, R>(alloc, &mut target);
     let want =
         "(((Err(BeyondMaxCapacity), []), (0, 0, Gen32 { number: 2 }), (Err(BeyondMaxCapacity), [])), \
         (Ok(P0[1](2)), (Some(9), None)))";
-    same(rt, "refused twice", told.as_str(), want);
+    same(rt, "refused twice", reply.as_str(), want);
 }

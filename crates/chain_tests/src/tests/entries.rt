@@ -41,7 +41,7 @@ pub(super) fn insert_by_entry<S: SlotStack<Item = Slot>>(
 }
 
 // Drops a vacant entry, and returns its pointer.
-pub(super) fn give_up<S: SlotStack<Item = Slot>>(
+pub(super) fn drop_entry<S: SlotStack<Item = Slot>>(
     arena: &mut ChainsOver<S>,
     kind: LinkInsertKind<ToolPtr>,
 ) -> Result<ToolPtr, ChainInsertionError>
@@ -69,7 +69,7 @@ pub(super) fn forget<S: SlotStack<Item = Slot>>(
 }
 
 // Inserts a link, if `can_insert` allows its kind.
-pub(super) fn insert_asked<S: SlotStack<Item = Slot>>(
+pub(super) fn insert_if_allowed<S: SlotStack<Item = Slot>>(
     arena: &mut ChainsOver<S>,
     kind: LinkInsertKind<ToolPtr>,
     t: u32,
@@ -101,11 +101,11 @@ pub(super) fn insert_by_any_entry<S: SlotStack<Item = Slot>>(
 }
 
 // Returns the errors of a vacant entry by growth and within the capacity.
-pub(super) fn place_refusals<S: SlotStack<Item = Slot>>(
+pub(super) fn entry_refusals<S: SlotStack<Item = Slot>>(
     arena: &mut ChainsOver<S>,
     kind: LinkInsertKind<ToolPtr>,
 ) -> [Option<ChainInsertionError>; 2] {
-    let growing = give_up(arena, kind).err();
+    let growing = drop_entry(arena, kind).err();
     let within = match arena.entry_insert_within_capacity(kind) {
         Ok(_) => None,
         Err(refusal) => Some(refusal),
@@ -141,11 +141,11 @@ static FULL: [Line; 14] = [
     ),
     (Do::Reserve(3), "Err(BeyondMaxCapacity)"),
     (
-        Do::PlaceRefusals(Kind::Disconnected),
+        Do::EntryRefusals(Kind::Disconnected),
         "[Some(BeyondMaxCapacity), Some(NotWithinCapacity)]",
     ),
     (
-        Do::PlaceRefusals(Kind::ChainEnd((9, 9))),
+        Do::EntryRefusals(Kind::ChainEnd((9, 9))),
         "[Some(FailedLinkRequirement), Some(FailedLinkRequirement)]",
     ),
 ];

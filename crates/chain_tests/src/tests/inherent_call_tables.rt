@@ -88,7 +88,7 @@ static FURTHER_WALKS: [Script; 3] = [
         ],
     ),
     (
-        "the second of four links in a row goes",
+        "the second of four linked links is removed",
         4,
         &FOUR,
         &[
@@ -281,7 +281,7 @@ static FURTHER_CHAIN_DRAINS: [Script; 3] = [
 // Drains of all links.
 static DRAINS: [Script; 3] = [
     (
-        "all links drained by rising index",
+        "all links drained by ascending index",
         4,
         &[(4, 1), (1, 3)],
         &[
@@ -333,7 +333,7 @@ static FURTHER_DRAINS: [Script; 3] = [
         ],
     ),
     (
-        ".. forgotten, it leaves them, tied to each other",
+        "a forgotten drain leaves the other links, connected to each other",
         3,
         &THREE,
         &[
@@ -346,7 +346,7 @@ static FURTHER_DRAINS: [Script; 3] = [
         ],
     ),
     (
-        "drains tell an overflow",
+        "drains report an overflow",
         3,
         &[(1, 2)],
         &[
@@ -360,13 +360,13 @@ static FURTHER_DRAINS: [Script; 3] = [
 ];
 
 // Vacant entries, and the first link of a new arena by each call that takes any kind.
-static PLACES: [Script; 6] = [
+static VACANT_ENTRIES: [Script; 6] = [
     (
-        "a place that is given up is there again, and a link comes to it",
+        "an insertion position that is dropped is found again, and a link is inserted there",
         0,
         &[],
         &[
-            (Do::GiveUp(Kind::Disconnected), "Ok(P0[1](2))"),
+            (Do::DropEntry(Kind::Disconnected), "Ok(P0[1](2))"),
             (Do::Len, "0"),
             (Do::Generation, "2"),
             (Do::Get((1, 2)), "None"),
@@ -389,10 +389,13 @@ static PLACES: [Script; 6] = [
         ],
     ),
     (
-        "the first link, asked before",
+        "the first link, after can_insert",
         0,
         &[],
-        &[(Do::InsertAsked(Kind::Disconnected, 1), "Some(Ok(P0[1](2)))")],
+        &[(
+            Do::InsertIfAllowed(Kind::Disconnected, 1),
+            "Some(Ok(P0[1](2)))",
+        )],
     ),
     (
         "the first link",
@@ -401,7 +404,7 @@ static PLACES: [Script; 6] = [
         &[(Do::Insert(Kind::Disconnected, 1), "Ok(P0[1](2))")],
     ),
     (
-        "the first link in a place, asked before",
+        "the first link by a vacant entry, after can_insert",
         0,
         &[],
         &[(
@@ -425,7 +428,7 @@ pub(super) fn tables() -> [&'static [Script]; 9] {
         &FURTHER_WALKS,
         &LOOPS,
         &FURTHER_LOOPS,
-        &PLACES,
+        &VACANT_ENTRIES,
         &CHAIN_DRAINS,
         &FURTHER_CHAIN_DRAINS,
         &DRAINS,

@@ -4,7 +4,7 @@ use super::call_lists::{kind, two_calls};
 use super::canonical::{both_arranged, carried_in, counted, moves_listed, moves_visited, placed};
 use super::drains::{Ends, drained, drained_chain, remove_all};
 use super::entries::{
-    forget, give_up, insert_asked, insert_by_any_entry, insert_by_entry, place_refusals,
+    drop_entry, entry_refusals, forget, insert_by_any_entry, insert_by_entry, insert_if_allowed,
 };
 use super::fallible_insertion::{dig, fill};
 use super::indexing::{value_at, write_at, write_at_index};
@@ -98,12 +98,12 @@ fn run_placement<S: SlotStack<Item = Slot>>(
     row: Do,
 ) -> String {
     match row {
-        Do::GiveUp(k) => text(alloc, give_up(arena, kind(k))),
+        Do::DropEntry(k) => text(alloc, drop_entry(arena, kind(k))),
         Do::Forget(k) => text(alloc, forget(arena, kind(k))),
-        Do::PlaceRefusals(k) => text(alloc, place_refusals(arena, kind(k))),
+        Do::EntryRefusals(k) => text(alloc, entry_refusals(arena, kind(k))),
         Do::InsertByEntry(k, t) => text(alloc, insert_by_entry(arena, kind(k), t)),
         Do::InsertByAnyEntry(k, t) => text(alloc, insert_by_any_entry(arena, kind(k), t)),
-        Do::InsertAsked(k, t) => text(alloc, insert_asked(arena, kind(k), t)),
+        Do::InsertIfAllowed(k, t) => text(alloc, insert_if_allowed(arena, kind(k), t)),
         other => run_call(alloc, arena, other),
     }
 }

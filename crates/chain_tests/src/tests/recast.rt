@@ -1,4 +1,4 @@
-//! Tests of values recast in place, by rising index, up to one that refuses.
+//! Tests of values recast in place, by ascending index, up to one that refuses.
 ghost use Rattle.std.specs.Prelude.{◌≡◌, OnErr, Err};
 
 use super::scripts::{Do, Kind};
@@ -15,7 +15,7 @@ struct AddTen;
 impl Recaster for AddTen {
     type Item = u32;
 
-    ghost recasts = { λ _ old new answer. OnErr answer ((answer ≡ Err old) × (new ≡ old)) };
+    ghost recasts = { λ _ old new outcome. OnErr outcome ((outcome ≡ Err old) × (new ≡ old)) };
 
     fn recast_item(&self, item: &mut u32) -> Result<(), u32> {
         if *item == 2 {
@@ -31,7 +31,7 @@ impl Recaster for AddTen {
 struct Number(u32, u32);
 
 impl Recast<u32> for Number {
-    ghost recast_by = { λ recasts old new answer. recasts old.0 new.0 answer };
+    ghost recast_by = { λ recasts old new outcome. recasts old.0 new.0 outcome };
 
     fn recast<R: Recaster<Item = u32>>(&mut self, recaster: &R) -> Result<(), u32> {
         self.1 = self.1.saturating_add(1);
@@ -117,14 +117,14 @@ fn rows() -> &'static [(&'static [Do], &'static str)] {
 
 fn recast<S: SlotStack<Item = SlotOf<Number>>>(alloc: Global, calls: &[Do]) -> String {
     let mut arena: ChainArena<ToolPtr, Number, S> = after(alloc, calls);
-    let answer = arena.recast(&AddTen);
-    text(alloc, (answer, &arena, arena.generation()))
+    let outcome = arena.recast(&AddTen);
+    text(alloc, (outcome, &arena, arena.generation()))
 }
 
 fn check_recasts<S: SlotStack<Item = SlotOf<Number>>>(rt: &impl Abort, alloc: Global) {
     for row in rows() {
-        let told = recast::<S>(alloc, row.0);
-        same(rt, "recast", told.as_str(), row.1);
+        let reply = recast::<S>(alloc, row.0);
+        same(rt, "recast", reply.as_str(), row.1);
     }
 }
 

@@ -76,12 +76,12 @@ pub(super) enum Do {
     RemoveAll,
     // Vacant entries: dropped, forgotten, refused by growth and within the capacity, and filled. An
     // insertion after `can_insert`.
-    GiveUp(Kind),
+    DropEntry(Kind),
     Forget(Kind),
-    PlaceRefusals(Kind),
+    EntryRefusals(Kind),
     InsertByEntry(Kind, u32),
     InsertByAnyEntry(Kind, u32),
-    InsertAsked(Kind, u32),
+    InsertIfAllowed(Kind, u32),
     // Canonical compressions: placed links, all work, moves by a closure and as a list, and beside
     // a transfer.
     Placed(bool),
@@ -146,8 +146,8 @@ pub(super) fn lookup<S: SlotStack<Item = Slot>>(
         Do::Debug => text(alloc, &*arena),
         Do::Generation => text(alloc, arena.generation().get()),
         Do::Capacities => {
-            let room = (arena.capacity(), arena.max_capacity());
-            text(alloc, (arena.generation(), room))
+            let capacities = (arena.capacity(), arena.max_capacity());
+            text(alloc, (arena.generation(), capacities))
         }
         Do::Slots => text(alloc, arena.backing().len()),
         Do::SlotsListed => slots_of(alloc, arena.backing()),
@@ -184,8 +184,8 @@ fn begins<A: RunsCalls>(rt: &impl Abort, alloc: Global, arena: &mut A, count: u3
         arena.run_call(alloc, Do::Insert(Kind::Disconnected, k));
     }
     for (i, j) in pairs {
-        let tied = arena.run_call(alloc, Do::Connect((*i, 2), (*j, 2)));
-        same(rt, "tied", tied.as_str(), "true");
+        let connected = arena.run_call(alloc, Do::Connect((*i, 2), (*j, 2)));
+        same(rt, "connected", connected.as_str(), "true");
     }
 }
 

@@ -60,8 +60,8 @@ fn last_kept<S: SlotStack<Item = Slot>>(alloc: Global) -> String {
         count: 0,
         last: None,
     };
-    let (told, visitor, work) = arena.compress_canonical_by(false, begun);
-    text(alloc, (told, visitor, work.placed))
+    let (reply, visitor, work) = arena.compress_canonical_by(false, begun);
+    text(alloc, (reply, visitor, work.placed))
 }
 
 // Copies lone links into an arena. Returns the result, the value map, and the arena.
@@ -71,8 +71,8 @@ fn counted_over<S: SlotStack<Item = Slot>>(
     target: &mut ChainsOver<S>,
 ) -> String {
     let source: ChainsOver<S> = lone_links(alloc, count);
-    let (answer, map) = target.clone_from_by(&source, Counting { calls: 0 });
-    text(alloc, (answer, map, &*target))
+    let (outcome, map) = target.clone_from_by(&source, Counting { calls: 0 });
+    text(alloc, (outcome, map, &*target))
 }
 
 // The error of a copy, the calls of the value map, and the number of entries then.
@@ -85,14 +85,14 @@ fn counted_to_plain<S: SlotStack<Item = Slot>, R: SlotStack<Item = ArenaSlot<Too
 ) -> Report {
     let mut target: Arena<ToolPtr, u32, R> = fresh_plain(alloc);
     let source: ChainsOver<S> = lone_links(alloc, count);
-    let (answer, map) = source.clone_to_arena_by(&mut target, Counting { calls: 0 });
-    (answer.err(), map.calls, target.len())
+    let (outcome, map) = source.clone_to_arena_by(&mut target, Counting { calls: 0 });
+    (outcome.err(), map.calls, target.len())
 }
 
 pub(super) fn check_kept<S: SlotStack<Item = Slot>>(rt: &impl Abort, alloc: Global) {
-    let told = last_kept::<S>(alloc);
+    let reply = last_kept::<S>(alloc);
     let want = "(Success(()), Kept { count: 2, last: Some((P0[3](2), P0[2](4))) }, 2)";
-    same(rt, "two links", told.as_str(), want);
+    same(rt, "two links", reply.as_str(), want);
 }
 
 // Numbers of links, and the results of copies over one link and to a plain arena.
@@ -117,17 +117,17 @@ pub(super) fn check_counted<
     for row in &COUNTED {
         let (count, want, plain) = *row;
         let mut target: ChainsOver<S> = lone_links(alloc, 1);
-        let told = counted_over(alloc, count, &mut target);
-        same(rt, "over one link", told.as_str(), want);
-        let told = counted_to_plain::<S, R>(alloc, count);
-        same(rt, "to a plain arena", told, plain);
+        let reply = counted_over(alloc, count, &mut target);
+        same(rt, "over one link", reply.as_str(), want);
+        let reply = counted_to_plain::<S, R>(alloc, count);
+        same(rt, "to a plain arena", reply, plain);
     }
 }
 
 // A copy of two links over an arena of at most one slot calls no value map.
 pub(super) fn check_beyond_one<S: LimitStack<Item = Slot>>(rt: &impl Abort, alloc: Global) {
     let mut target: ChainsOver<S> = limited(rt, alloc, 1);
-    let told = counted_over(alloc, 2, &mut target);
+    let reply = counted_over(alloc, 2, &mut target);
     let want = "(Err(BeyondMaxCapacity), Counting { calls: 0 }, {})";
-    same(rt, "one slot at most", told.as_str(), want);
+    same(rt, "one slot at most", reply.as_str(), want);
 }

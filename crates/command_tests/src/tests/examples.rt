@@ -138,9 +138,9 @@ fn each_growth_is_refused_once(rt: HostRuntime) {
 
 #[test]
 fn one_corner_is_not_split_and_capacity_is_reserved(rt: HostRuntime) {
-    let answers = (
+    let checks = (
         mesh::one_corner_is_not_split(rt.alloc()),
         mesh::capacity_is_reserved(rt.alloc()),
     );
-    same(&rt, "mesh", answers, (true, true));
+    same(&rt, "mesh", checks, (true, true));
 }

@@ -123,7 +123,7 @@ fn a_reader_of_single_bytes(rt: HostRuntime) {
 struct FailingWriter {
     held: Vec<u8>,
     step: usize,
-    room: usize,
+    limit: usize,
     is_interrupted: bool,
     fails_with: Option<ErrorKind>,
     flushes: usize,
@@ -135,9 +135,9 @@ impl Write for FailingWriter {
         if self.is_interrupted {
             return Err(io::Error::from(ErrorKind::Interrupted));
         }
-        let n = self.step.min(buf.len()).min(self.room);
+        let n = self.step.min(buf.len()).min(self.limit);
         if n == 0 {
-            self.room = 1000;
+            self.limit = 1000;
             return match self.fails_with {
                 Some(kind) => Err(io::Error::from(kind)),
                 None => Ok(0),
@@ -145,7 +145,7 @@ impl Write for FailingWriter {
         }
         let (now, _) = buf.split_at(n);
         self.held.extend_from_slice(now)?;
-        self.room -= n;
+        self.limit -= n;
         Ok(n)
     }
 
@@ -162,13 +162,13 @@ impl Write for FailingWriter {
 fn failing_writer(
     alloc: Global,
     step: usize,
-    room: usize,
+    limit: usize,
     fails_with: Option<ErrorKind>,
 ) -> FailingWriter {
     FailingWriter {
         held: Vec::new(alloc),
         step,
-        room,
+        limit,
         is_interrupted: false,
         fails_with,
         flushes: 1000,
@@ -187,9 +187,9 @@ fn run_to<S: SlotStack<Item = Slot>>(
 }
 
 /// Returns whether the writer has what it could take of the lines, and no more.
-fn is_taken(held: &[u8], room: usize) -> bool {
+fn is_taken(held: &[u8], limit: usize) -> bool {
     let output = "at 1.2\nat 2.2\nat 3.2\n".as_bytes();
-    held == &output[..room.min(output.len())]
+    held == &output[..limit.min(output.len())]
 }
 
 /// Runs the program on a writer that fails once at its limit. Returns whether the run ends for
@@ -199,15 +199,15 @@ fn ends_at_the_limit<S: SlotStack<Item = Slot>>(
     alloc: Global,
     fails_with: Option<ErrorKind>,
     step: usize,
-    room: usize,
+    limit: usize,
 ) -> (bool, bool, bool) {
-    let mut writer = failing_writer(alloc, step, room, fails_with);
+    let mut writer = failing_writer(alloc, step, limit, fails_with);
     let (result, links) = run_to::<S>(alloc, &mut writer);
-    let is_taken = is_taken(writer.held.as_slice(), room);
+    let is_taken = is_taken(writer.held.as_slice(), limit);
     (
         result == Err(ToolError::Write),
         is_taken,
-        links == room / 7 + 1,
+        links == limit / 7 + 1,
     )
 }
 
@@ -215,8 +215,8 @@ fn ends_at_the_limit<S: SlotStack<Item = Slot>>(
 pub(super) fn check_writers<S: SlotStack<Item = Slot>>(rt: &impl Abort, alloc: Global) {
     for fails_with in [None, Some(ErrorKind::Other), Some(ErrorKind::WriteZero)] {
         for step in [1, 3, 100] {
-            for room in 0..21 {
-                let ended = ends_at_the_limit::<S>(alloc, fails_with, step, room);
+            for limit in 0..21 {
+                let ended = ends_at_the_limit::<S>(alloc, fails_with, step, limit);
                 assert!(rt; ended == (true, true, true));
             }
         }
@@ -265,12 +265,12 @@ fn moves_or_keeps<S: SlotStack<Item = Slot>>(alloc: Global) -> bool {
         &mut "moves keep\n".as_bytes(),
         &mut written,
     );
-    let answer = if result.is_ok() {
+    let outcome = if result.is_ok() {
         "moved 1 1.2>1.3\n"
     } else {
         ""
     };
-    written.as_slice() == answer.as_bytes() && arena.contains(p) == result.is_err()
+    written.as_slice() == outcome.as_bytes() && arena.contains(p) == result.is_err()
 }
 
 #[test]
@@ -303,20 +303,20 @@ fn is_sample(ended: Result<(), ToolError>, unread: usize, answered: &[u8]) -> bo
     is_so && is_beginning(answered, output)
 }
 
-fn written_of(room: usize, left: usize) -> usize
-    ensures { result ≤ room }
+fn written_of(size: usize, left: usize) -> usize
+    ensures { result ≤ size }
 {
-    room.saturating_sub(left)
+    size.saturating_sub(left)
 }
 
 fn sample_on<S: SlotStack<Item = Slot>>(alloc: Global) -> bool {
     let (input, _) = SAMPLE;
     let mut reader = input.as_bytes();
     let mut written = [0u8; 200];
-    let mut room = written.as_mut_slice();
+    let mut buffer = written.as_mut_slice();
     let mut arena = LinksOver::<S>::new(alloc);
-    let result = run_on(alloc, &mut arena, &mut reader, &mut room);
-    let count = written_of(200, room.len());
+    let result = run_on(alloc, &mut arena, &mut reader, &mut buffer);
+    let count = written_of(200, buffer.len());
     is_sample(result, reader.len(), &written[..count])
 }
 
@@ -324,9 +324,9 @@ fn sample(alloc: Global) -> bool {
     let (input, _) = SAMPLE;
     let mut reader = input.as_bytes();
     let mut written = [0u8; 200];
-    let mut room = written.as_mut_slice();
-    let result = run(alloc, &mut reader, &mut room);
-    let count = written_of(200, room.len());
+    let mut buffer = written.as_mut_slice();
+    let result = run(alloc, &mut reader, &mut buffer);
+    let count = written_of(200, buffer.len());
     is_sample(result, reader.len(), &written[..count])
 }
 

@@ -28,7 +28,7 @@ impl<P: Numbered, A: ChainArenaTrait<P, u32> + CompactArenaTrait<P, u32> + Drop>
 
     fn run_call(&mut self, alloc: Global, call: &str) -> Option<String> {
         match parse_call::<P>(call) {
-            Some(asked) => run_call(alloc, &mut self.arena, asked),
+            Some(parsed) => run_call(alloc, &mut self.arena, parsed),
             None => None,
         }
     }

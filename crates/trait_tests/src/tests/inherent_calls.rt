@@ -30,12 +30,12 @@ fn drained_two<P: PtrKey, S: SlotStack<Item = Slot<P>>>(
 fn run_own_call<P: Numbered, S: SlotStack<Item = Slot<P>>>(
     alloc: Global,
     arena: &mut ChainArena<P, u32, S>,
-    asked: ParsedCall<P>,
+    parsed: ParsedCall<P>,
 ) -> Option<String> {
-    match asked.call {
-        Do::SetGeneration => text(alloc, arena.set_generation(P::generation_of(asked.n))),
-        Do::DrainTwo => text(alloc, drained_two(arena, asked.p)),
-        _ => run_trait_call(alloc, arena, asked),
+    match parsed.call {
+        Do::SetGeneration => text(alloc, arena.set_generation(P::generation_of(parsed.n))),
+        Do::DrainTwo => text(alloc, drained_two(arena, parsed.p)),
+        _ => run_trait_call(alloc, arena, parsed),
     }
 }
 
@@ -43,9 +43,9 @@ fn run_own_call<P: Numbered, S: SlotStack<Item = Slot<P>>>(
 fn run_trait_call<P: Numbered, S: SlotStack<Item = Slot<P>>>(
     alloc: Global,
     arena: &mut ChainArena<P, u32, S>,
-    asked: ParsedCall<P>,
+    parsed: ParsedCall<P>,
 ) -> Option<String> {
-    run_call(alloc, arena, asked)
+    run_call(alloc, arena, parsed)
 }
 
 impl<P: Numbered, S: SlotStack<Item = Slot<P>>> RunsCalls for ChainArena<P, u32, S> {
@@ -55,7 +55,7 @@ impl<P: Numbered, S: SlotStack<Item = Slot<P>>> RunsCalls for ChainArena<P, u32,
 
     fn run_call(&mut self, alloc: Global, call: &str) -> Option<String> {
         match parse_call::<P>(call) {
-            Some(asked) => run_own_call(alloc, self, asked),
+            Some(parsed) => run_own_call(alloc, self, parsed),
             None => None,
         }
     }

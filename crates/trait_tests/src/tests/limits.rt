@@ -14,21 +14,21 @@ use std::rc::Rc;
 const INDEXES: &str = "\
 # 255 links fill it
 InsertMany 255 = 255
-Room = (255, 255)
+Capacities = (255, 255)
 Insert Disconnected 256 = Err(AllocError)
 Reserve 256 = Err(AllocError)
-Room = (255, 255)
-# room up to the greatest index is to be had, though in proportion it would be more, and at birth
+Capacities = (255, 255)
+# capacity up to the greatest index, where doubling would be more, and in a new arena
 Reserve 255 = Ok(())
-Room = (0, 255)
-Birth 200 = Ok((true, true))
-Birth 255 = Ok((true, true))
-Birth 256 = Err(AllocError)
-# .. beside a link
+Capacities = (0, 255)
+WithMinCapacity 200 = Ok((true, true))
+WithMinCapacity 255 = Ok((true, true))
+WithMinCapacity 256 = Err(AllocError)
+# the same beside a link
 InsertMany 1 = 1
 Reserve 255 = Ok(())
-Room = (1, 255)
-# a ring of two loses a link, and the pointer to a new one at the freed index equals that of the lost one
+Capacities = (1, 255)
+# a link of a ring of two is removed; the next one has its index and an equal pointer
 Insert Disconnected 1 = Ok(Pair { inx: Inx8 { number: 1 }, generation: () })
 Insert Disconnected 2 = Ok(Pair { inx: Inx8 { number: 2 }, generation: () })
 Connect 1 0 2 0 = Some(())
@@ -61,14 +61,14 @@ SetGeneration 255 = ()
 Clear = GenerationOverflow(())
 Clear = Success(())
 Counter = Some(2)
-# .. and by a compression, after which each link has the counter
+# the counter overflows by a compression, after which each link has the counter
 SetGeneration 255 = ()
 Insert Disconnected 1 = Ok(Pair { inx: Inx8 { number: 1 }, generation: Gen8 { number: 255 } })
 Insert Disconnected 2 = Ok(Pair { inx: Inx8 { number: 2 }, generation: Gen8 { number: 255 } })
 Canonical 0 = GenerationOverflow(())
 Counter = Some(2)
 All = [((1, 2), 1, (0, 0), (0, 0)), ((2, 2), 2, (0, 0), (0, 0))]
-# .. and by the second link of a drained chain
+# the counter overflows by the second link of a drained chain
 SetGeneration 254 = ()
 InsertMany 2 = 2
 Connect 1 254 2 254 = Some(())
@@ -92,7 +92,7 @@ Insert Disconnected 256 = Err(BeyondMaxCapacity)
 // An 8-bit index under a maximum of two. The maximum is tested first, but a new arena has none.
 const UNDER_TWO: &str = "\
 Reserve 256 = Err(BeyondMaxCapacity)
-Birth 256 = Err(AllocError)
+WithMinCapacity 256 = Err(AllocError)
 ";
 
 // Wide indexes: a chain of 3 and 1, and a lone link between them.
@@ -106,8 +106,8 @@ Counter = Some(5)
 ";
 
 const TWO_INDEXES: &str = "\
-# two links stand, are tied to a ring, and a third one is refused for want of an index
-Room = (0, 0)
+# two links form a ring, and a third one is refused since no index is left
+Capacities = (0, 0)
 Insert Disconnected 1 = Ok(Pair { inx: TinyInx { is_two: false }, generation: () })
 Insert Disconnected 2 = Ok(Pair { inx: TinyInx { is_two: true }, generation: () })
 Connect 1 0 2 0 = Some(())

@@ -9,8 +9,8 @@ use std::hash::{DefaultHasher, Hash, Hasher};
 // The indexes of a link's neighbors, 0 for none, and its value.
 type Parts = (u32, u32, u32);
 
-// Links in rising order.
-const RISING: [Parts; 8] = [
+// Links in ascending order.
+const ASCENDING: [Parts; 8] = [
     (0, 0, 1),
     (0, 0, 2),
     (0, 2, 9),
@@ -55,7 +55,7 @@ fn hash_of<T: Hash>(t: &T) -> u64 {
 }
 
 // Returns whether a link is below another, with and without generations.
-fn rises(low: Parts, high: Parts) -> bool {
+fn ascends(low: Parts, high: Parts) -> bool {
     is_below(&bare(low), &bare(high)) && is_below(&with_pointers(low), &with_pointers(high))
 }
 
@@ -69,11 +69,11 @@ fn equals(parts: Parts) -> bool {
 }
 
 #[test]
-fn links_go_by_their_neighbors_then_by_their_values(rt: HostRuntime) {
+fn links_order_by_neighbors_then_values(rt: HostRuntime) {
     let mut last: Option<Parts> = None;
-    for parts in RISING {
+    for parts in ASCENDING {
         if let Some(low) = last {
-            assert!(rt; rises(low, parts));
+            assert!(rt; ascends(low, parts));
         }
         assert!(rt; equals(parts));
         last = Some(parts);

@@ -8,8 +8,8 @@ use std::alloc::AllocError;
 #[derive(Clone, Copy)]
 pub(super) enum Do {
     // Reads of the trait of arenas. `Advance` steps as often as its number, `AdvanceFrom` twice.
-    // `Birth` makes an arena with a minimum capacity: whether it is empty and has that. `Room` is
-    // length and capacity.
+    // `WithMinCapacity` reports whether a new arena is empty and has that capacity. `Capacities` is
+    // the length and the capacity.
     Len,
     IsEmpty,
     HasCapacity,
@@ -20,7 +20,7 @@ pub(super) enum Do {
     GetInx,
     Ends,
     Advance,
-    Birth,
+    WithMinCapacity,
     Capacities,
     AdvanceFrom,
     AdvanceEmpty,
@@ -49,8 +49,8 @@ pub(super) enum Do {
     Canonical,
     AddBehind,
     TakeNext,
-    // Changes of any arena. `ClearAndReserve` reports whether the capacity is kept, `CompressWith` the
-    // closure's arguments.
+    // Changes of any arena. `ClearAndReserve` reports whether the capacity is kept, `CompressWith`
+    // the closure's arguments.
     Write,
     WriteInx,
     Remove,
@@ -142,8 +142,8 @@ const LOOKUPS: [(&str, Do); 14] = [
     ("GetInx", Do::GetInx),
     ("Ends", Do::Ends),
     ("Advance", Do::Advance),
-    ("Birth", Do::Birth),
-    ("Room", Do::Capacities),
+    ("WithMinCapacity", Do::WithMinCapacity),
+    ("Capacities", Do::Capacities),
     ("AdvanceFrom", Do::AdvanceFrom),
     ("AdvanceEmpty", Do::AdvanceEmpty),
 ];

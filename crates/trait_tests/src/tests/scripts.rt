@@ -20,19 +20,22 @@ pub(super) fn overwritten(slot: Option<&mut u32>, value: u32) -> Option<u32> {
     }
 }
 
-fn born<P: PtrKey, A: ChainArenaTrait<P, u32> + Drop>(
+fn new_with_capacity<P: PtrKey, A: ChainArenaTrait<P, u32> + Drop>(
     alloc: Global,
     n: usize,
 ) -> Result<(bool, bool), AllocError> {
-    let born = A::with_min_capacity(alloc, n)?;
-    Ok((born.is_empty(), born.capacity() >= n))
+    let new_with_capacity = A::with_min_capacity(alloc, n)?;
+    Ok((
+        new_with_capacity.is_empty(),
+        new_with_capacity.capacity() >= n,
+    ))
 }
 
 // Clears an arena, and returns whether its capacity is kept.
 fn cleared<P: PtrKey, A: ArenaTrait<P, u32>>(arena: &mut A) -> (InvalidationOption<()>, bool) {
     let capacity = arena.capacity();
-    let answer = arena.clear();
-    (answer, arena.capacity() == capacity)
+    let outcome = arena.clear();
+    (outcome, arena.capacity() == capacity)
 }
 
 // Compresses, adds ten times the number of the closure's call to each value, and lists what the
@@ -42,14 +45,14 @@ fn compressed<P: PtrKey, A: ArenaTrait<P, u32>>(
     arena: &mut A,
     reset: bool,
 ) -> (InvalidationOption<()>, Vec<(P, u32, P)>) {
-    let mut seen = Vec::new(alloc);
+    let mut visited = Vec::new(alloc);
     let mut calls = 0u32;
-    let answer = arena.compress_with(reset, |p: P, t: &mut u32, q: P| {
-        let _ = seen.push((p, *t, q));
+    let outcome = arena.compress_with(reset, |p: P, t: &mut u32, q: P| {
+        let _ = visited.push((p, *t, q));
         calls = calls.saturating_add(10);
         *t = t.saturating_add(calls);
     });
-    (answer, seen)
+    (outcome, visited)
 }
 
 fn counted<P: Numbered>(generation: Option<P::Gen>) -> Option<u32> {
@@ -101,9 +104,9 @@ fn bare_at<P: Numbered, A: ChainArenaTrait<P, u32>>(
 }
 
 fn removed<P: PtrKey>(
-    answer: InvalidationResult<LinkNoGen<P, u32>>,
+    outcome: InvalidationResult<LinkNoGen<P, u32>>,
 ) -> InvalidationResult<(u32, u32, u32)> {
-    match answer {
+    match outcome {
         InvalidationResult::Success(link) => InvalidationResult::Success(bare::<P>(&link)),
         InvalidationResult::GenerationOverflow(link) => {
             InvalidationResult::GenerationOverflow(bare::<P>(&link))
@@ -115,68 +118,68 @@ fn removed<P: PtrKey>(
 fn lookup<P: Numbered, A: ChainArenaTrait<P, u32> + Drop>(
     alloc: Global,
     arena: &A,
-    asked: ParsedCall<P>,
+    parsed: ParsedCall<P>,
 ) -> Option<String> {
-    match asked.call {
+    match parsed.call {
         Do::Len => text(alloc, arena.len()),
         Do::IsEmpty => text(alloc, arena.is_empty()),
-        Do::HasCapacity => text(alloc, arena.capacity() >= asked.n as usize),
+        Do::HasCapacity => text(alloc, arena.capacity() >= parsed.n as usize),
         Do::Maximum => text(alloc, arena.max_capacity()),
         Do::Counter => text(alloc, counted::<P>(arena.singular_generation())),
-        Do::Contains => text(alloc, arena.contains(asked.p)),
-        Do::Get => text(alloc, arena.get(asked.p)),
-        Do::GetInx => text(alloc, entry_value::<P, &u32>(arena.get_inx(asked.i))),
-        _ => walk_reply(alloc, arena, asked),
+        Do::Contains => text(alloc, arena.contains(parsed.p)),
+        Do::Get => text(alloc, arena.get(parsed.p)),
+        Do::GetInx => text(alloc, entry_value::<P, &u32>(arena.get_inx(parsed.i))),
+        _ => walk_reply(alloc, arena, parsed),
     }
 }
 
 fn walk_reply<P: Numbered, A: ChainArenaTrait<P, u32> + Drop>(
     alloc: Global,
     arena: &A,
-    asked: ParsedCall<P>,
+    parsed: ParsedCall<P>,
 ) -> Option<String> {
-    match asked.call {
+    match parsed.call {
         Do::Ends => {
             let ends = (arena.find_first_inx_ptr(), arena.find_last_inx_ptr());
             text(alloc, ends)
         }
-        Do::Advance => text(alloc, met(arena.advancer(), arena, asked.n)),
+        Do::Advance => text(alloc, met(arena.advancer(), arena, parsed.n)),
         Do::AdvanceFrom => {
-            let advancer = arena.advancer_inx(asked.i, asked.t > 0);
+            let advancer = arena.advancer_inx(parsed.i, parsed.t > 0);
             text(alloc, met(advancer, arena, 2))
         }
         Do::AdvanceEmpty => text(alloc, A::PtrAdvancer::empty().advance(arena)),
-        Do::Birth => text(alloc, born::<P, A>(alloc, asked.n as usize)),
+        Do::WithMinCapacity => text(alloc, new_with_capacity::<P, A>(alloc, parsed.n as usize)),
         Do::Capacities => text(alloc, (arena.len(), arena.capacity())),
         Do::Changes => text(alloc, changes_met::<P, A>(alloc)),
-        _ => link_reply(alloc, arena, asked),
+        _ => link_reply(alloc, arena, parsed),
     }
 }
 
 fn link_reply<P: Numbered, A: ChainArenaTrait<P, u32>>(
     alloc: Global,
     arena: &A,
-    asked: ParsedCall<P>,
+    parsed: ParsedCall<P>,
 ) -> Option<String> {
-    match asked.call {
-        Do::CanInsert => text(alloc, arena.can_insert(asked.kind)),
-        Do::Neighbors => text(alloc, arena.are_neighbors(asked.p, asked.q)),
-        Do::NeighborsInx => text(alloc, arena.are_neighbors_inx(asked.i, asked.j)),
-        Do::Link => text(alloc, with_pointers(arena.get_link(asked.p))),
-        Do::LinkNoGen => text(alloc, arena.get_link_no_gen(asked.p).is_some()),
-        Do::LinkNoGenInx => text(alloc, bare_at(arena, asked.i)),
-        _ => link_walk_reply(alloc, arena, asked),
+    match parsed.call {
+        Do::CanInsert => text(alloc, arena.can_insert(parsed.kind)),
+        Do::Neighbors => text(alloc, arena.are_neighbors(parsed.p, parsed.q)),
+        Do::NeighborsInx => text(alloc, arena.are_neighbors_inx(parsed.i, parsed.j)),
+        Do::Link => text(alloc, with_pointers(arena.get_link(parsed.p))),
+        Do::LinkNoGen => text(alloc, arena.get_link_no_gen(parsed.p).is_some()),
+        Do::LinkNoGenInx => text(alloc, bare_at(arena, parsed.i)),
+        _ => link_walk_reply(alloc, arena, parsed),
     }
 }
 
 fn link_walk_reply<P: Numbered, A: ChainArenaTrait<P, u32>>(
     alloc: Global,
     arena: &A,
-    asked: ParsedCall<P>,
+    parsed: ParsedCall<P>,
 ) -> Option<String> {
-    match asked.call {
-        Do::Along => text(alloc, met_along(arena, asked.p)),
-        Do::AlongAll => text(alloc, walk(arena, alloc, asked.p)),
+    match parsed.call {
+        Do::Along => text(alloc, met_along(arena, parsed.p)),
+        Do::AlongAll => text(alloc, walk(arena, alloc, parsed.p)),
         Do::CountOfLinks => text(alloc, count_of_links(arena)),
         Do::All => text(alloc, rows_of(alloc, arena)),
         _ => None,
@@ -187,66 +190,66 @@ fn link_walk_reply<P: Numbered, A: ChainArenaTrait<P, u32>>(
 pub(super) fn run_call<P: Numbered, A: ChainArenaTrait<P, u32> + CompactArenaTrait<P, u32> + Drop>(
     alloc: Global,
     arena: &mut A,
-    asked: ParsedCall<P>,
+    parsed: ParsedCall<P>,
 ) -> Option<String> {
-    match asked.call {
-        Do::Insert => text(alloc, arena.insert_reallocating(asked.kind, asked.t)),
-        Do::InsertMany => text(alloc, add_lone(arena, asked.n)),
-        Do::InsertWithin => text(alloc, arena.insert_within_capacity(asked.kind, asked.t)),
-        Do::Connect => text(alloc, arena.connect(asked.p, asked.q)),
-        Do::BreakPrev => text(alloc, arena.break_prev(asked.p)),
-        Do::BreakNext => text(alloc, arena.break_next(asked.p)),
-        Do::Exchange => text(alloc, arena.exchange_next(asked.p, asked.q)),
-        _ => change_links(alloc, arena, asked),
+    match parsed.call {
+        Do::Insert => text(alloc, arena.insert_reallocating(parsed.kind, parsed.t)),
+        Do::InsertMany => text(alloc, add_lone(arena, parsed.n)),
+        Do::InsertWithin => text(alloc, arena.insert_within_capacity(parsed.kind, parsed.t)),
+        Do::Connect => text(alloc, arena.connect(parsed.p, parsed.q)),
+        Do::BreakPrev => text(alloc, arena.break_prev(parsed.p)),
+        Do::BreakNext => text(alloc, arena.break_next(parsed.p)),
+        Do::Exchange => text(alloc, arena.exchange_next(parsed.p, parsed.q)),
+        _ => change_links(alloc, arena, parsed),
     }
 }
 
 fn change_links<P: Numbered, A: ChainArenaTrait<P, u32> + CompactArenaTrait<P, u32> + Drop>(
     alloc: Global,
     arena: &mut A,
-    asked: ParsedCall<P>,
+    parsed: ParsedCall<P>,
 ) -> Option<String> {
-    match asked.call {
-        Do::RemoveLink => text(alloc, removed::<P>(arena.remove_link_no_gen(asked.p))),
-        Do::Canonical => text(alloc, arena.compress_canonical(asked.n > 0)),
-        Do::AddBehind => text(alloc, add_behind(arena, asked.p, asked.t)),
-        Do::TakeNext => text(alloc, index_number(remove_and_step(arena, asked.i))),
+    match parsed.call {
+        Do::RemoveLink => text(alloc, removed::<P>(arena.remove_link_no_gen(parsed.p))),
+        Do::Canonical => text(alloc, arena.compress_canonical(parsed.n > 0)),
+        Do::AddBehind => text(alloc, add_behind(arena, parsed.p, parsed.t)),
+        Do::TakeNext => text(alloc, index_number(remove_and_step(arena, parsed.i))),
         Do::CarryOut | Do::CarryAsFive | Do::CarryToFull | Do::CarryToBare => {
-            carried(alloc, arena, asked.call, asked.n)
+            carried(alloc, arena, parsed.call, parsed.n)
         }
-        _ => change(alloc, arena, asked),
+        _ => change(alloc, arena, parsed),
     }
 }
 
 fn change<P: Numbered, A: ChainArenaTrait<P, u32> + Drop>(
     alloc: Global,
     arena: &mut A,
-    asked: ParsedCall<P>,
+    parsed: ParsedCall<P>,
 ) -> Option<String> {
-    match asked.call {
-        Do::Write => text(alloc, overwritten(arena.get_mut(asked.p), asked.t)),
-        Do::WriteInx => text(alloc, overwritten(arena.get_inx_mut(asked.i), asked.t)),
-        Do::Remove => text(alloc, arena.remove(asked.p)),
+    match parsed.call {
+        Do::Write => text(alloc, overwritten(arena.get_mut(parsed.p), parsed.t)),
+        Do::WriteInx => text(alloc, overwritten(arena.get_inx_mut(parsed.i), parsed.t)),
+        Do::Remove => text(alloc, arena.remove(parsed.p)),
         Do::RemoveInx => {
-            let removed = arena.remove_inx(asked.i).allow();
+            let removed = arena.remove_inx(parsed.i).allow();
             text(alloc, entry_value::<P, u32>(removed))
         }
-        Do::Invalidate => text(alloc, arena.invalidate(asked.p)),
-        _ => change_whole(alloc, arena, asked),
+        Do::Invalidate => text(alloc, arena.invalidate(parsed.p)),
+        _ => change_whole(alloc, arena, parsed),
     }
 }
 
 fn change_whole<P: Numbered, A: ChainArenaTrait<P, u32> + Drop>(
     alloc: Global,
     arena: &mut A,
-    asked: ParsedCall<P>,
+    parsed: ParsedCall<P>,
 ) -> Option<String> {
-    match asked.call {
+    match parsed.call {
         Do::Clear => text(alloc, arena.clear()),
         Do::ClearAndReserve => text(alloc, cleared(arena)),
-        Do::Reserve => text(alloc, arena.reallocate_min_capacity(asked.n as usize)),
-        Do::CompressWith => text(alloc, compressed(alloc, arena, asked.n > 0)),
-        _ => lookup(alloc, arena, asked),
+        Do::Reserve => text(alloc, arena.reallocate_min_capacity(parsed.n as usize)),
+        Do::CompressWith => text(alloc, compressed(alloc, arena, parsed.n > 0)),
+        _ => lookup(alloc, arena, parsed),
     }
 }
 
@@ -263,7 +266,7 @@ pub(super) trait RunsCalls {
 fn plays_line<A: RunsCalls>(rt: &impl Abort, alloc: Global, arena: &mut A, line: &str) {
     match line.split_once(" = ") {
         Some((call, want)) => {
-            let got = arena.run_call(alloc, call).expect(rt, "an answer");
+            let got = arena.run_call(alloc, call).expect(rt, "a reply");
             same(rt, line, got.as_str(), want);
         }
         None => {

@@ -5,7 +5,7 @@
 
 pub(super) const ROWS: &str = "\
 # What connects and what is refused.
-# two lone links, each of which then names the other
+# two lone links are connected both ways
 InsertMany 2 = 2
 All = [((1, 2), 1, (0, 0), (0, 0)), ((2, 2), 2, (0, 0), (0, 0))]
 Connect 1 2 2 2 = Some(())
@@ -16,7 +16,7 @@ Connect 1 2 2 2 = Some(())
 Connect 1 2 3 2 = None
 Connect 3 2 2 2 = None
 All = [((1, 2), 1, (0, 0), (2, 2)), ((2, 2), 2, (1, 2), (0, 0)), ((3, 2), 3, (0, 0), (0, 0))]
-# a link tied to itself once, and a ring of two beside it
+# a link connected to itself, and a ring of two beside it
 InsertMany 3 = 3
 Connect 1 2 1 2 = Some(())
 Connect 1 2 1 2 = None
@@ -50,8 +50,8 @@ RemoveLink 2 2 = InvalidPtr
 Remove 2 2 = InvalidPtr
 Invalidate 2 2 = InvalidPtr
 All = [((1, 2), 1, (0, 0), (0, 0))]
-# What removals answer, and what they leave.
-# three in a row by a body that knows the traits alone
+# What removals return and leave.
+# a list of three, by generic code
 Insert Disconnected 10 = Ok(P0[1](2))
 AddBehind 1 2 20 = Ok(Some(P0[2](2)))
 AddBehind 2 2 30 = Ok(Some(P0[3](2)))
@@ -63,14 +63,14 @@ AddBehind 2 2 50 = Ok(None)
 AddBehind 3 2 60 = Ok(Some(P0[2](4)))
 All = [((1, 2), 10, (0, 0), (3, 2)), ((2, 4), 60, (3, 2), (0, 0)), ((3, 2), 30, (1, 2), (2, 4))]
 CountOfLinks = 3
-# the first goes from a cycle of two: the other names itself
+# the first link of a cycle of two is removed: the other one is its own neighbor
 InsertMany 2 = 2
 Connect 1 2 2 2 = Some(())
 Connect 2 2 1 2 = Some(())
 RemoveLink 1 2 = Success((2, 2, 1))
 Contains 1 2 = false
 All = [((2, 2), 2, (2, 2), (2, 2))]
-# the second goes, and the freed index is used again, with the counter of then
+# the second is removed, and the freed index is reused with the new counter
 InsertMany 2 = 2
 Connect 1 2 2 2 = Some(())
 Connect 2 2 1 2 = Some(())
@@ -78,7 +78,7 @@ Remove 2 2 = Success(2)
 All = [((1, 2), 1, (1, 2), (1, 2))]
 Insert Disconnected 9 = Ok(P0[2](3))
 All = [((1, 2), 1, (1, 2), (1, 2)), ((2, 3), 9, (0, 0), (0, 0))]
-# of four in a row the second goes, the start, the end, and the last one left
+# of a list of four, the second, the start, the end and the rest are removed
 InsertMany 4 = 4
 Connect 1 2 2 2 = Some(())
 Connect 2 2 3 2 = Some(())
@@ -111,7 +111,7 @@ Neighbors 1 3 2 2 = true
 NeighborsInx 1 2 = true
 All = [((1, 3), 1, (0, 0), (2, 2)), ((2, 2), 2, (1, 3), (0, 0))]
 # The kinds of insertion.
-# a lone link: nothing comes between it and itself, a bridge makes a cycle, which grows by indexes
+# a lone link: nothing is inserted between it and itself; a bridge makes a cycle
 InsertMany 1 = 1
 CanInsert AtInterlink 1 2 1 2 = false
 Insert AtInterlink 1 2 1 2 0 = Err(FailedLinkRequirement)
@@ -121,7 +121,7 @@ Insert Bridge 1 2 1 2 2 = Ok(P0[2](2))
 Insert PrevToInx 1 3 = Ok(P0[3](2))
 Insert AtInterlinkInx 3 1 4 = Ok(P0[4](2))
 All = [((1, 2), 1, (4, 2), (2, 2)), ((2, 2), 2, (1, 2), (3, 2)), ((3, 2), 3, (2, 2), (4, 2)), ((4, 2), 4, (3, 2), (1, 2))]
-# a lone link is tied to itself, and another comes between
+# a lone link is connected to itself, and another is inserted between
 InsertMany 1 = 1
 Connect 1 2 1 2 = Some(())
 All = [((1, 2), 1, (1, 2), (1, 2))]
@@ -137,7 +137,7 @@ CanInsert ChainEnd 1 2 = false
 Insert ChainEnd 1 2 0 = Err(FailedLinkRequirement)
 InsertWithin ChainEnd 1 2 0 = Err(FailedLinkRequirement)
 All = [((1, 2), 1, (2, 2), (2, 2)), ((2, 2), 2, (1, 2), (1, 2))]
-# two tied links: the first is no end, a link comes to the end, and another between that and the second
+# two connected links: the first is no end; links are inserted at the end and before it
 InsertMany 2 = 2
 Connect 1 2 2 2 = Some(())
 Neighbors 1 2 2 2 = true
@@ -167,7 +167,7 @@ Insert ChainEndInx 1 3 = Ok(P0[3](3))
 Insert BridgeInx 3 2 4 = Ok(P0[4](3))
 NeighborsInx 3 4 = true
 NeighborsInx 4 2 = true
-# no kind and no call takes a stale pointer, in either place; its index is that of the link there now
+# every kind and call refuses a stale pointer in either argument; its index still names a link
 InsertMany 2 = 2
 Remove 1 2 = Success(1)
 Insert Disconnected 3 = Ok(P0[1](3))
@@ -201,8 +201,8 @@ Remove 1 2 = InvalidPtr
 Invalidate 1 2 = InvalidPtr
 Insert NextToInx 1 4 = Ok(P0[3](3))
 All = [((1, 3), 3, (2, 2), (3, 3)), ((2, 2), 2, (3, 3), (1, 3)), ((3, 3), 4, (1, 3), (2, 2))]
-# Links cut apart, and what comes after two links exchanged and exchanged back.
-# a lone link is tied to itself, untied, and tied again, and then one comes between
+# Links disconnected, and next links exchanged twice.
+# a lone link is connected to itself, disconnected and connected again; one is inserted between
 InsertMany 1 = 1
 Connect 1 2 1 2 = Some(())
 BreakNext 1 2 = Some(())
@@ -212,7 +212,7 @@ BreakPrev 1 2 = None
 Connect 1 2 1 2 = Some(())
 Insert AtInterlink 1 2 1 2 2 = Ok(P0[2](2))
 All = [((1, 2), 1, (2, 2), (2, 2)), ((2, 2), 2, (1, 2), (1, 2))]
-# a ring of three is cut before 2, and then after 3
+# a ring of three is disconnected before 2, and then after 3
 InsertMany 3 = 3
 Connect 1 2 2 2 = Some(())
 Connect 2 2 3 2 = Some(())
@@ -236,7 +236,7 @@ All = [((1, 2), 1, (6, 2), (2, 2)), ((2, 2), 2, (1, 2), (6, 2)), ((3, 2), 3, (5,
 Exchange 5 2 2 2 = Some(())
 Neighbors 2 2 3 2 = true
 All = [((1, 2), 1, (6, 2), (2, 2)), ((2, 2), 2, (1, 2), (3, 2)), ((3, 2), 3, (2, 2), (4, 2)), ((4, 2), 4, (3, 2), (5, 2)), ((5, 2), 5, (4, 2), (6, 2)), ((6, 2), 6, (5, 2), (1, 2))]
-# a cycle of two comes into a linear chain, and out again
+# a cycle of two is spliced into a linear chain, and out again
 InsertMany 5 = 5
 Connect 1 2 2 2 = Some(())
 Connect 2 2 3 2 = Some(())
@@ -248,7 +248,7 @@ Exchange 1 2 1 2 = Some(())
 All = [((1, 2), 1, (0, 0), (5, 2)), ((2, 2), 2, (4, 2), (3, 2)), ((3, 2), 3, (2, 2), (0, 0)), ((4, 2), 4, (5, 2), (2, 2)), ((5, 2), 5, (1, 2), (4, 2))]
 Exchange 4 2 1 2 = Some(())
 All = [((1, 2), 1, (0, 0), (2, 2)), ((2, 2), 2, (1, 2), (3, 2)), ((3, 2), 3, (2, 2), (0, 0)), ((4, 2), 4, (5, 2), (5, 2)), ((5, 2), 5, (4, 2), (4, 2))]
-# a link comes out of a linear chain, into a cycle of its own, and back
+# a link is spliced out of a linear chain, into its own cycle, and back
 InsertMany 3 = 3
 Connect 1 2 2 2 = Some(())
 Connect 2 2 3 2 = Some(())
@@ -258,14 +258,14 @@ Exchange 1 2 1 2 = Some(())
 All = [((1, 2), 1, (0, 0), (3, 2)), ((2, 2), 2, (2, 2), (2, 2)), ((3, 2), 3, (1, 2), (0, 0))]
 Exchange 2 2 1 2 = Some(())
 All = [((1, 2), 1, (0, 0), (2, 2)), ((2, 2), 2, (1, 2), (3, 2)), ((3, 2), 3, (2, 2), (0, 0))]
-# Looks, advancers, room and the counter.
+# Lookups, advancers, capacity and the counter.
 # on to the end and back to the start
 InsertMany 4 = 4
 Connect 1 2 2 2 = Some(())
 Connect 2 2 3 2 = Some(())
 Connect 3 2 4 2 = Some(())
 Along 2 2 = Some([(2, 2), (3, 2), (4, 2), (1, 2), (0, 0)])
-# once round, and then nothing; of no link nothing
+# once around a ring, then `None`; `None` for no link
 InsertMany 3 = 3
 Connect 1 2 2 2 = Some(())
 Connect 2 2 3 2 = Some(())
@@ -273,7 +273,7 @@ Connect 3 2 1 2 = Some(())
 Along 2 2 = Some([(2, 2), (3, 2), (1, 2), (0, 0), (0, 0)])
 AlongAll 3 2 = Ok(Some([P0[3](2), P0[1](2), P0[2](2)]))
 Along 9 2 = None
-# looks at values, and writes
+# values read and written
 InsertMany 3 = 3
 Connect 1 2 2 2 = Some(())
 Connect 2 2 3 2 = Some(())
@@ -284,7 +284,7 @@ LinkNoGenInx 2 = Some((2, (1, 3, 2)))
 Write 2 2 7 = Some(2)
 WriteInx 3 8 = Some(3)
 All = [((1, 2), 1, (0, 0), (2, 2)), ((2, 2), 7, (1, 2), (3, 2)), ((3, 2), 8, (2, 2), (0, 0))]
-# pointers by index: 1 and 3 stand, 2 is freed
+# pointers by index: 1 and 3 are valid, 2 is freed
 InsertMany 3 = 3
 Connect 1 2 2 2 = Some(())
 Connect 2 2 3 2 = Some(())
@@ -293,7 +293,7 @@ Ends = (Some(P0[1](2)), Some(P0[3](2)))
 Advance 3 = [(1, 2), (3, 2), (0, 0), (0, 0), (0, 0)]
 AdvanceFrom 2 0 = [(3, 2), (0, 0), (0, 0), (0, 0), (0, 0)]
 AdvanceFrom 2 1 = [(1, 2), (0, 0), (0, 0), (0, 0), (0, 0)]
-# room, and the counter after a clear of all links
+# the capacity, and the counter after a clear of all links
 InsertMany 2 = 2
 Connect 1 2 2 2 = Some(())
 Connect 2 2 1 2 = Some(())
@@ -304,12 +304,12 @@ ClearAndReserve = (Success(()), true)
 IsEmpty = true
 Contains 1 2 = false
 Counter = Some(3)
-# Room at birth, and what advancers along chains answer over arenas that change.
-# a link that is gone ends a walk, and so does the number of steps
-Birth 3 = Ok((true, true))
+# Capacity of new arenas, and advancers along chains of arenas that change.
+# a removed link ends a walk, and so does the number of steps
+WithMinCapacity 3 = Ok((true, true))
 AdvanceEmpty = None
 Changes = ((1, 2), [[(0, 0), (0, 0), (0, 0), (0, 0), (0, 0)], [(1, 2), (0, 0), (0, 0), (0, 0), (0, 0)], [(3, 2), (2, 2), (0, 0), (0, 0), (0, 0)], [(0, 0), (0, 0), (0, 0), (0, 0), (0, 0)]])
-# Chains laid one after another, and gaps closed, with what the closure of a compression sees.
+# Canonical compressions, and compressions with the arguments of the closure.
 # a ring and a chain behind a hole
 Insert Disconnected 1 = Ok(P0[1](2))
 Insert SingleLinkCyclic 2 = Ok(P0[2](2))

@@ -10,51 +10,51 @@ use std::alloc::Global;
 use std::fmt::Debug;
 
 // The target of a transfer: its maximum, and links of these values, rings of one or lone ones. The
-// closure returns `answered` for each value, if there is one.
+// closure returns `returned` for each value, if there is one.
 #[derive(Drop)]
-struct Place {
+struct TargetSetup {
     most: usize,
     is_ring: bool,
     values: &'static [u32],
-    answered: Option<u32>,
+    returned: Option<u32>,
 }
 
 // Returns the target of a call. `CarryToBare` has 8-bit indexes, two rings and a maximum of `n`.
 // `CarryToFull` has two links and a maximum of two. `CarryAsFive` is empty, and makes each value 5.
 // Any other has two links.
-fn place_of(call: Do, n: u32) -> Place {
-    let (most, is_ring, values, answered): (usize, bool, &'static [u32], Option<u32>) = match call {
+fn setup_of(call: Do, n: u32) -> TargetSetup {
+    let (most, is_ring, values, returned): (usize, bool, &'static [u32], Option<u32>) = match call {
         Do::CarryToBare => (n as usize, true, &[5, 6], None),
         Do::CarryToFull => (2, false, &[1, 2], None),
         Do::CarryAsFive => (1000, false, &[], Some(5)),
         _ => (1000, false, &[1, 2], None),
     };
-    Place {
+    TargetSetup {
         most,
         is_ring,
         values,
-        answered,
+        returned,
     }
 }
 
-fn arena_at<P: PtrKey, S: LimitStack<Item = Slot<P>>>(
+fn arena_as<P: PtrKey, S: LimitStack<Item = Slot<P>>>(
     alloc: Global,
-    place: &Place,
+    setup: &TargetSetup,
 ) -> ChainArena<P, u32, S> {
-    let mut arena: ChainArena<P, u32, S> = limited(alloc, place.most);
-    let kind = if place.is_ring {
+    let mut arena: ChainArena<P, u32, S> = limited(alloc, setup.most);
+    let kind = if setup.is_ring {
         LinkInsertKind::SingleLinkCyclic
     } else {
         LinkInsertKind::Disconnected
     };
-    for value in place.values {
+    for value in setup.values {
         let _ = arena.insert_reallocating(kind, *value);
     }
     arena
 }
 
 // Transfers all links of a source. The closure adds ten times the number of its call to each value,
-// or returns `answered`.
+// or returns `returned`.
 // Returns the result, and for each call of the closure the old pointer, the value, whether its
 // removal overflowed, and the new pointer.
 fn carry<
@@ -67,17 +67,17 @@ fn carry<
     source: &mut A,
     generation: Q::Gen,
     target: &mut ChainArena<Q, u32, S>,
-    answered: Option<u32>,
+    returned: Option<u32>,
 ) -> Option<String> {
-    let mut seen: Vec<(P, u32, bool, Q)> = Vec::new(alloc);
+    let mut visited: Vec<(P, u32, bool, Q)> = Vec::new(alloc);
     let mut calls = 0u32;
-    let answer = target.transfer_canonical_reallocating(generation, source, |p, value, q| {
+    let outcome = target.transfer_canonical_reallocating(generation, source, |p, value, q| {
         let (t, overflow) = value.overflowing();
-        let _ = seen.push((p, t, overflow, q));
+        let _ = visited.push((p, t, overflow, q));
         calls = calls.saturating_add(10);
-        answered.unwrap_or(t.saturating_add(calls))
+        returned.unwrap_or(t.saturating_add(calls))
     });
-    text(alloc, (answer, seen))
+    text(alloc, (outcome, visited))
 }
 
 // Returns the links, counter and maximum, and whether the capacity is at most 64.
@@ -90,9 +90,9 @@ fn contents<Q: Ptr, S: SlotStack<Item = Slot<Q>>>(
     text(alloc, (arena, counter, arena.max_capacity(), is_little))
 }
 
-fn joined(alloc: Global, told: Option<String>, shown: Option<String>) -> Option<String> {
-    match (told, shown) {
-        (Some(told), Some(shown)) => format!(in alloc; "{told} {shown}").ok(),
+fn joined(alloc: Global, reply: Option<String>, listing: Option<String>) -> Option<String> {
+    match (reply, listing) {
+        (Some(reply), Some(listing)) => format!(in alloc; "{reply} {listing}").ok(),
         _ => None,
     }
 }
@@ -104,10 +104,10 @@ fn carried_to<
     Q: Ptr,
     A: ChainArenaTrait<P, u32> + CompactArenaTrait<P, u32>,
     S: LimitStack<Item = Slot<Q>>,
->(alloc: Global, source: &mut A, generation: Q::Gen, place: &Place) -> Option<String> {
-    let mut target: ChainArena<Q, u32, S> = arena_at(alloc, place);
-    let told = carry(alloc, source, generation, &mut target, place.answered);
-    joined(alloc, told, contents(alloc, &target))
+>(alloc: Global, source: &mut A, generation: Q::Gen, setup: &TargetSetup) -> Option<String> {
+    let mut target: ChainArena<Q, u32, S> = arena_as(alloc, setup);
+    let reply = carry(alloc, source, generation, &mut target, setup.returned);
+    joined(alloc, reply, contents(alloc, &target))
 }
 
 pub(super) fn carried<P: PtrKey + Debug, A: ChainArenaTrait<P, u32> + CompactArenaTrait<P, u32>>(
@@ -116,11 +116,11 @@ pub(super) fn carried<P: PtrKey + Debug, A: ChainArenaTrait<P, u32> + CompactAre
     call: Do,
     n: u32,
 ) -> Option<String> {
-    let place = place_of(call, n);
-    if place.is_ring {
-        return carried_to::<P, BarePtr, A, LimitedStack<Slot<BarePtr>>>(alloc, source, (), &place);
+    let setup = setup_of(call, n);
+    if setup.is_ring {
+        return carried_to::<P, BarePtr, A, LimitedStack<Slot<BarePtr>>>(alloc, source, (), &setup);
     }
-    carried_to::<P, ToolPtr, A, LimitedStack<Slot<ToolPtr>>>(alloc, source, Gen32::of(n), &place)
+    carried_to::<P, ToolPtr, A, LimitedStack<Slot<ToolPtr>>>(alloc, source, Gen32::of(n), &setup)
 }
 
 // Transfers of a chain of 3 and 1 with a lone link between, and of others. Some have the generation
@@ -191,7 +191,7 @@ CarryToFull 7 = (Err(BeyondMaxCapacity), []) ({P0[1](2): {(start), (end)} 1, P0[
 HasCapacity 100 = true
 All = [((1, 2), 1, (3, 2), (0, 0)), ((2, 2), 2, (0, 0), (0, 0)), ((3, 2), 3, (0, 0), (1, 2))]
 Counter = Some(2)
-# .. and beyond the index type, which is tested before the maximum: nothing grows, and the source keeps all that it has
+# the index type is checked before the maximum; on the error both arenas are unchanged
 InsertMany 256 = 256
 Connect 3 2 1 2 = Some(())
 Reserve 300 = Ok(())

@@ -56,9 +56,9 @@ loop-k-preserved g c =
             maximum = ap (λ h. h.maximum) lent.0 ∙ (ap (λ h. h.maximum) placed.0 ∙ at.maximum);
             closing = closing_brings g.F.FnMut g.P.PtrKey.key c.args.generation c.args.map old.held.slots c.loop-k.k c.loop-k.count c.loop-k.map c.loop-k.compactor.held.slots at.closing (omega arith)
                 (number c.inx_at-from.result) (number c.inx_at-to.result) w.in-Some.was c.move_entry.new.compactor.held.slots c.inx_at-from.ensures c.inx_at-to.ensures w.in-Some.ensures.returned (ap (λ h. h.slots) placed.0)
-                (record { from = w._from_raw.result; reported = w.in-Some-value_mut.t.now; to = w._from_raw-in-Some-value_mut.result; left = w.map.new.arg3 }) w.map.new.self _
+                (record { from = w._from_raw.result; value = w.in-Some-value_mut.t.now; to = w._from_raw-in-Some-value_mut.result; left = w.map.new.arg3 }) w.map.new.self _
                 (sym (ap option_copied_mut w.in-Some-value_mut.is) ∙ w.value_mut.ensures.value) (ap (λ h. h.slots) lent.0) w._from_raw.ensures w._from_raw-in-Some-value_mut.ensures
-                (record { lent = _; reports = refl; back = _; called = w.map.ensures; leaves = refl });
+                (record { lent = _; lends = refl; back = _; called = w.map.ensures; leaves = refl });
             totals = totals_brought old.arena.now c.loop-k.compactor.arena.now _ c.loop-k.k c.loop-k.count c.move_entry.new.compactor.arena.now at.totals placed.1 lent.1.1;
           })
       | in_default w ↦

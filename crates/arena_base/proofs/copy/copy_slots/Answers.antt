@@ -7,7 +7,7 @@ use Rattle.arena_base.proofs.copy.copy_slots.Goals as goal
 pub loop-k-init : goal.loop-k-init
 loop-k-init g c = record {
   ready = c.requires.ready;
-  within_capacity = refl;
+  capacity = refl;
   most = refl;
   copying = copying_begins g.M.ValueMap.makes g.P.PtrKey.key c.args.values (g.S1.SlotStack.items c.args.source.now) (g.S.SlotStack.items c.args.slots.now) c.requires.empty;
 }
@@ -20,15 +20,15 @@ loop-k-preserved g c =
     elim c.match-slot.branch [
       | in-Allocated+in-Ok w ↦ rw (w.slots-is, w.values-is) (record {
         ready = w.in-Ok.ensures.ready;
-        within_capacity = w.push_within.ensures.capacity ∙ at.within_capacity;
+        capacity = w.push_within.ensures.capacity ∙ at.capacity;
         most = w.push_within.ensures.maximum ∙ at.most;
         copying = copying_returns g.M.ValueMap.makes g.P.PtrKey.key c.args.values old c.loop-k.k c.loop-k.values slots at.copying w.in-Allocated.generation w.in-Allocated.u
-            (record { pointer = w._from_raw.result; reported = w.in-Allocated.u; returned = w.in-Ok.t }) w.map_value.new.self _
+            (record { pointer = w._from_raw.result; value = w.in-Allocated.u; returned = w.in-Ok.t }) w.map_value.new.self _
             (sym c.in-Some.ensures ∙ ap (λ s. Some s) w.in-Allocated.is) refl (w._from_raw.ensures ∙ ap (λ n. (n, w.in-Allocated.generation)) w.inx_at.ensures) w.in-Ok.ensures.made w.push_within.ensures.items;
       })
       | in-Free w ↦ rw (w.slots-is, w.values-is) (record {
         ready = at.ready;
-        within_capacity = w.push_within-in-Free.ensures.capacity ∙ at.within_capacity;
+        capacity = w.push_within-in-Free.ensures.capacity ∙ at.capacity;
         most = w.push_within-in-Free.ensures.maximum ∙ at.most;
         copying = copying_frees g.M.ValueMap.makes g.P.PtrKey.key c.args.values old c.loop-k.k c.loop-k.values slots at.copying w.in-Free.next _
             (sym c.in-Some.ensures ∙ ap (λ s. Some s) w.in-Free.is) w.push_within-in-Free.ensures.items;
@@ -44,7 +44,7 @@ returns g c =
       alike = copied_alike g.M.ValueMap.makes g.P.PtrKey.key c.args.values old c.loop-k.k c.loop-k.values slots at.copying (omega arith);
       copies = copied_all g.M.ValueMap.makes g.P.PtrKey.key c.args.values old c.loop-k.k c.loop-k.values slots at.copying (omega arith);
       ready = at.ready;
-      capacity = at.within_capacity;
+      capacity = at.capacity;
       maximum = at.most;
       refused = tt;
     }
@@ -56,7 +56,7 @@ returns-in-Err g c =
       alike = tt;
       copies = tt;
       ready = tt;
-      capacity = at.within_capacity;
+      capacity = at.capacity;
       maximum = at.most;
       refused =
           copying_refused g.M.ValueMap.makes g.P.PtrKey.key c.args.values (g.S1.SlotStack.items c.args.source.now) c.loop-k.k c.loop-k.values (g.S.SlotStack.items c.loop-k.slots) at.copying c.in-Allocated.generation c.in-Allocated.u c._from_raw.result g.M.ValueMap.may_refuse

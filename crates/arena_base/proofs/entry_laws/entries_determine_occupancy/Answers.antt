@@ -11,7 +11,7 @@ returns-clause-same g c a b i is =
 
 pub returns-clause-gone : goal.returns-clause-gone
 returns-clause-gone g c a b i is =
-    sym (g.met.A.ArenaTrait.finds b i) ∙ (ap (found i) is ∙ found-gone i 1 (g.A.ArenaTrait.view a).entries (g.met.A.ArenaTrait.rises a))
+    sym (g.met.A.ArenaTrait.finds b i) ∙ (ap (found i) is ∙ found-gone i 1 (g.A.ArenaTrait.view a).entries (g.met.A.ArenaTrait.ascends a))
 
 pub returns-clause-kept : goal.returns-clause-kept
 returns-clause-kept g c a b i j is other =

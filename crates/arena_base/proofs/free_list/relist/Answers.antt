@@ -12,7 +12,7 @@ loop-k-preserved-then-is_free_at g c =
     record {
       long = ap length c.list_at-head.ensures.items ∙ (length-set items k _ ∙ at.long);
       few = omega (arith, at.few);
-      within_capacity = c.list_at-head.ensures.capacity ∙ at.within_capacity;
+      capacity = c.list_at-head.ensures.capacity ∙ at.capacity;
       most = c.list_at-head.ensures.maximum ∙ at.most;
       listing = listing_frees g.P.Inx.InxKey.number at.listing k c.list_at-head.result (omega arith) (omega (arith, at.few, at.long)) (sym c.is_free_at.ensures ∙ c.if-is_free_at.true) c.list_at-head.ensures.some c.list_at-head.ensures.index c.list_at-head.ensures.items;
     }
@@ -24,7 +24,7 @@ loop-k-preserved g c =
     record {
       long = at.long;
       few = omega (arith, at.few);
-      within_capacity = at.within_capacity;
+      capacity = at.capacity;
       most = at.most;
       listing = listing_takes g.P.Inx.InxKey.number at.listing k (omega arith) (omega (arith, at.few, at.long)) (sym c.is_free_at.ensures ∙ c.if-is_free_at.false);
     }
@@ -36,6 +36,6 @@ returns g c =
     record {
       entries = at.listing.same;
       sound = listing_ends g.P.Inx.InxKey.number (rw none at at.listing) (omega (arith, at.long, c.requires));
-      capacity = at.within_capacity;
+      capacity = at.capacity;
       maximum = at.most;
     }

@@ -12,4 +12,4 @@ returns g c =
     let made = c.insert_within_capacity.ensures in
     inserts_within (kind_by g.P.PtrKey g.P.Inx.InxKey g.P.Gen.GenKey) old c.insert_within_capacity.new.self c.args.kind c.args.t
     (stable-insertion _ g.met.P.Gen.GenKey.same_is_equal old (names_in g.P.PtrKey.key g.P.Inx.InxKey.number c.args.kind)) _ refl c.invariants.ensures.fits
-    c.insert_within_capacity.result made.inserted made.err made.link made.full made.error made.place made.state
+    c.insert_within_capacity.result made.inserted made.err made.link made.full made.error made.index made.state

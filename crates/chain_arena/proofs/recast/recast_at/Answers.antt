@@ -11,7 +11,7 @@ returns-in-Some g c = λ valid.
       is = c.recast.new.self;
       was_stored = c.in-Some.ensures.value;
       state = held.1.0;
-      reports = held.1.1;
+      links = held.1.1;
       entries = ap (λ (s : ArenaView _ _). s.entries) held.0;
       recast = c.recast.ensures;
     }

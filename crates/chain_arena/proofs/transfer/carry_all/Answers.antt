@@ -6,16 +6,16 @@ use Rattle.arena_base.specs.Arena.{Arena, next_index}
 use Rattle.arena_base.specs.Entries.{found}
 use Rattle.chain_arena.specs.Transfers.{AreEnds}
 use Rattle.chain_traits.proofs.GenericArenaLemmas.{links_within}
-use Rattle.chain_arena.proofs.TransferLoopLemmas.{IsCarrying, carrying_begins, agrees_left, lookups_up, some_left, stored_on, carries_next_link, comes_at, bounds_at, position_at, capacity_at, carries_link, carries_all}
+use Rattle.chain_arena.proofs.TransferLoopLemmas.{IsCarrying, carrying_begins, agrees_left, cursor_up, some_left, stored_on, carries_next_link, next_index_at, bounds_at, position_at, capacity_at, carries_link, carries_all}
 use Rattle.chain_arena.proofs.transfer.carry_all.Given.{Over}
 use Rattle.chain_arena.proofs.transfer.carry_all.Goals.{After-take_next-value}
 use Rattle.chain_arena.proofs.transfer.carry_all.Goals as goal
 
--- there is a link where an entry is found
+-- There is a link where an entry is found.
 stored : (g : Over) (a : g.row.A.Denot) (i : ℕ) → is_some (g.A.ChainArenaTrait.interlinks a i) ≡ is_some (found i (g.A.ArenaTrait.view a).entries)
 stored g a i = g.met.A.ChainArenaTrait.links_are_entries a i ∙ ap is_some (sym (g.met.A.ArenaTrait.finds a i))
 
--- an entry found at an index, if one is given, is there
+-- An entry found at an index, if one is given, is there.
 stored_entry : (g : Over) (a : g.row.A.Denot) (on : Option g.row.Q-Inx.Denot) → IfSome on (λ j. is_some (found (g.Q.Inx.InxKey.number j) (g.A.ArenaTrait.view a).entries) ≡ true)
     → IfSome on (λ j. is_some (g.A.ArenaTrait.entry a (g.Q.Inx.InxKey.number j)) ≡ true)
 stored_entry g a None there = tt
@@ -37,7 +37,7 @@ take_next-value-requires-clause-agree g c = agrees_left _ _ _ _ _ _ _ _ _ _ _ _ 
 
 pub take_next-value-requires-clause-low : goal.take_next-value-requires-clause-low
 take_next-value-requires-clause-low g c none =
-    lookups_up _ _ _ _ _ _ _ _ _ _ _ _ _ _ _ _ _ _ (stored g c.loop-k.source) _ (ap (option_map g.Q.Inx.InxKey.number) none) c.loop-k.invariant.carrying (g.met.A.ArenaTrait.rises c.loop-k.source)
+    cursor_up _ _ _ _ _ _ _ _ _ _ _ _ _ _ _ _ _ _ (stored g c.loop-k.source) _ (ap (option_map g.Q.Inx.InxKey.number) none) c.loop-k.invariant.carrying (g.met.A.ArenaTrait.ascends c.loop-k.source)
 
 pub take_next-value-requires-clause-some : goal.take_next-value-requires-clause-some
 take_next-value-requires-clause-some g c none =
@@ -46,7 +46,7 @@ take_next-value-requires-clause-some g c none =
 pub take_next-value-requires-clause-stored : goal.take_next-value-requires-clause-stored
 take_next-value-requires-clause-stored g c = stored_entry g c.loop-k.source c.loop-k.on (stored_on _ _ _ _ _ _ _ _ _ _ _ _ _ _ _ _ _ _ (stored g c.loop-k.source) g.Q.Inx.InxKey.number c.loop-k.on c.loop-k.invariant.carrying)
 
--- the state after the link was taken
+-- The state after the link was taken.
 carrying_it : (g : Over) (c : After-take_next-value g) → IsCarrying g.Q.PtrKey.key g.P.PtrKey.key g.Q.Gen.GenKey.following g.Q.Gen.GenKey.wraps g.F.FnMut g.P.Inx.InxKey.number
     (g.A.ArenaTrait.view c.args.source.now) (g.A.ChainArenaTrait.interlinks c.args.source.now) c.args.map c.args.target.now
     c.loop-k.k (g.A.ArenaTrait.view c.loop-k.source) (g.A.ChainArenaTrait.interlinks c.loop-k.source) (g.A.ArenaTrait.cursor c.take_next-value.new.advancer)
@@ -57,9 +57,9 @@ carrying_it g c =
 pub map-t-requires : goal.map-t-requires
 map-t-requires g c = search of_calls
 
--- the next index is the one after the last link
+-- The next index is the one after the last link.
 the_place : (g : Over) (c : After-take_next-value g) → next_index c.loop-k.target ≡ c.loop-k.k + 1
-the_place g c = comes_at _ _ _ _ _ _ _ _ _ _ _ _ _ _ _ _ _ _ (stored g c.loop-k.source) _ (carrying_it g c) c.requires.freed
+the_place g c = next_index_at _ _ _ _ _ _ _ _ _ _ _ _ _ _ _ _ _ _ (stored g c.loop-k.source) _ (carrying_it g c) c.requires.freed
 
 pub append_link-ends-requires-clause-ends : goal.append_link-ends-requires-clause-ends
 append_link-ends-requires-clause-ends g c =
@@ -70,11 +70,11 @@ append_link-ends-requires-clause-ends g c =
       position_at _ _ _ _ _ _ _ _ _ _ _ _ _ _ _ _ _ _ (stored g at.loop-k.source) _ it at.requires.freed _ _ refl refl,
     )
 
-pub append_link-ends-requires-clause-within_capacity : goal.append_link-ends-requires-clause-within_capacity
-append_link-ends-requires-clause-within_capacity g c =
-    let at = (goal.at.append_link-ends-requires-clause-within_capacity g c).After-take_next-value in
+pub append_link-ends-requires-clause-capacity : goal.append_link-ends-requires-clause-capacity
+append_link-ends-requires-clause-capacity g c =
+    let at = (goal.at.append_link-ends-requires-clause-capacity g c).After-take_next-value in
     capacity_at _ _ _ _ _ _ _ _ _ _ _ _ _ _ _ _ _ _ (stored g at.loop-k.source) _ (carrying_it g at) at.requires.freed c.len-k-end.result c.loop-k-test.true
-    (omega (arith, c.len-k-end.ensures.count, at.requires.within_capacity))
+    (omega (arith, c.len-k-end.ensures.count, at.requires.capacity))
 
 pub append_link-ends-requires-clause-index : goal.append_link-ends-requires-clause-index
 append_link-ends-requires-clause-index g c =

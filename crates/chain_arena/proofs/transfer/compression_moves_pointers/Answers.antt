@@ -6,4 +6,4 @@ pub returns : goal.returns
 returns g c =
     let first = g.P.Gen.GenKey.first in
     let following = g.P.Gen.GenKey.following in
-    record { moves = of_compression g.P.PtrKey.key first following; unknown = compression_has_moves first following }
+    record { moves = of_compression g.P.PtrKey.key first following; exists = compression_has_moves first following }

@@ -8,16 +8,16 @@ use Rattle.chain_compaction.proofs.VisitorLemmas.{moves_count}
 use Rattle.chain_commands.proofs.execute.moves.Goals as goal
 
 -- A cleared text has capacity for what was reserved.
-fits_into : (before added : List ℕ) (n len within_capacity : ℕ) → before ≡ [] → length added < n → len + n ≤ within_capacity → length before + length added ≤ within_capacity
-fits_into before added n len within_capacity none less fits = omega (arith, ap length none, less, fits)
+fits_into : (before added : List ℕ) (n len new_capacity : ℕ) → before ≡ [] → length added < n → len + n ≤ new_capacity → length before + length added ≤ new_capacity
+fits_into before added n len new_capacity none less fits = omega (arith, ap length none, less, fits)
 
 -- After the response there is capacity for one more byte.
-capacity_after : (before text added : List ℕ) (n len within_capacity capacity_now : ℕ) → before ≡ [] → text ≡ before ++ added → length added < n → len + n ≤ within_capacity → within_capacity ≤ capacity_now → length text + 1 ≤ capacity_now
-capacity_after before text added n len within_capacity capacity_now none is less fits more =
+capacity_after : (before text added : List ℕ) (n len new_capacity capacity_now : ℕ) → before ≡ [] → text ≡ before ++ added → length added < n → len + n ≤ new_capacity → new_capacity ≤ capacity_now → length text + 1 ≤ capacity_now
+capacity_after before text added n len new_capacity capacity_now none is less fits more =
     omega (arith, ap length none, ap length is, length-append before added, less, fits, more)
 
 pub moves_text_capacity-requires : goal.moves_text_capacity-requires
-moves_text_capacity-requires g c = let len = c.len.ensures in omega (arith, len.fits, len.within_capacity.1)
+moves_text_capacity-requires g c = let len = c.len.ensures in omega (arith, len.fits, len.capacity.1)
 
 pub write_moves-requires : goal.write_moves-requires
 write_moves-requires g c =
@@ -40,6 +40,6 @@ returns-in-Ok g c =
         all = made.moves;
         words = c.write_moves.ensures.bytes ∙ (ap (λ b. b ++ moves_text c.as_slice.result.now c.in-Ok.known) none ∙ ap (λ items. moves_text items c.in-Ok.known) c.as_slice.ensures.value);
       };
-      within_capacity = capacity_after (string_bytes c.reserve.new.self) _ _ _ _ _ _ none c.write_moves.ensures.bytes less c.in_ok-reserve.ensures.ok c.write_moves.ensures.capacity;
+      capacity = capacity_after (string_bytes c.reserve.new.self) _ _ _ _ _ _ none c.write_moves.ensures.bytes less c.in_ok-reserve.ensures.ok c.write_moves.ensures.capacity;
       err = tt;
     }

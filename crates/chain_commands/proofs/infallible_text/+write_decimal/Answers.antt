@@ -3,8 +3,8 @@ use Rattle.std.proofs.Common.{◌∙◌, ◌++◌, ◌∷◌, [], ◌/◌, ◌%�
 use Rattle.std.proofs.lemmas.Fmt.{decimal_step, decimal_digit}
 use Rattle.chain_commands.proofs.infallible_text.+write_decimal.Goals as goal
 
-pub write_digit-requires-clause-within_capacity : goal.write_digit-requires-clause-within_capacity
-write_digit-requires-clause-within_capacity t c = omega (arith, c.requires, ap length (decimal_digit c.args.n c.if-n-lt10.true))
+pub write_digit-requires-clause-capacity : goal.write_digit-requires-clause-capacity
+write_digit-requires-clause-capacity t c = omega (arith, c.requires, ap length (decimal_digit c.args.n c.if-n-lt10.true))
 
 pub write_decimal-requires : goal.write_decimal-requires
 write_decimal-requires t c =
@@ -12,8 +12,8 @@ write_decimal-requires t c =
     let long = ap length step ∙ length-append (decimal (c.args.n / 10)) ((48 + c.args.n % 10) ∷ []) in
     (omega arith, omega (arith, long, c.requires))
 
-pub write_digit-requires-else-n-lt10-clause-within_capacity : goal.write_digit-requires-else-n-lt10-clause-within_capacity
-write_digit-requires-else-n-lt10-clause-within_capacity t c =
+pub write_digit-requires-else-n-lt10-clause-capacity : goal.write_digit-requires-else-n-lt10-clause-capacity
+write_digit-requires-else-n-lt10-clause-capacity t c =
     let step = decimal_step c.args.n c.if-n-lt10.false (omega arith) in
     let long = ap length step ∙ length-append (decimal (c.args.n / 10)) ((48 + c.args.n % 10) ∷ []) in
     let front = ap length c.write_decimal.ensures.bytes ∙ length-append (string_bytes c.args.text.now) (decimal (c.args.n / 10)) in

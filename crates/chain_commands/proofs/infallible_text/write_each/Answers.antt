@@ -14,4 +14,4 @@ first_capacity text all start rest others m old new is whole fits more =
 
 pub write_move-requires : goal.write_move-requires
 write_move-requires c =
-    first_capacity (string_bytes c.loop-link.text) (concat (map move_text c.args.moves.now)) (string_bytes c.args.text.now) c.loop-link.rest.now c.in-Some.others.now c.in-Some.link.now _ _ c.in-Some.ensures.cases.0 c.loop-link.invariant.whole c.requires c.loop-link.invariant.within_capacity
+    first_capacity (string_bytes c.loop-link.text) (concat (map move_text c.args.moves.now)) (string_bytes c.args.text.now) c.loop-link.rest.now c.in-Some.others.now c.in-Some.link.now _ _ c.in-Some.ensures.cases.0 c.loop-link.invariant.whole c.requires c.loop-link.invariant.capacity

@@ -8,7 +8,7 @@ use Rattle.chain_commands.proofs.infallible_text.write_each.Given as goal
 abbrev pub invariant-loop-link : goal.invariant-loop-link
 invariant-loop-link l = record {
   whole : string_bytes l.text ++ concat (map move_text l.rest) ≡ string_bytes l.fn.text ++ concat (map move_text l.moves);
-  within_capacity : string_capacity l.fn.text ≤ string_capacity l.text;
+  capacity : string_capacity l.fn.text ≤ string_capacity l.text;
 }
 
 abbrev pub decreases-loop-link : goal.decreases-loop-link

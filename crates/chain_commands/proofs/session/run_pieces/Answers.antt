@@ -33,12 +33,12 @@ pub returns-in_err-feed : goal.returns-in_err-feed
 returns-in_err-feed g c =
     let p = err_from_is_err_and c.from_residual-in_err-feed.result c.from_residual-in_err-feed.ensures.1 in
     let has = HasRead-flushed _ _ _ _ _ _ _ c.loop.invariant _ c.in_ok-flush.ensures.kept in
-    Ends-fed _ _ _ _ _ _ _ has (Unit {0}) (Unit {0}) c.in_err-feed.field-0.0 c.from_residual-in_err-feed.result _ _ _ _ _ c.in_ok-n.ensures.bytes (c.in_err-feed.ensures _ has.read _ has.come) (p.1 ∙ ap Err p.2)
+    Ends-fed _ _ _ _ _ _ _ has (Unit {0}) (Unit {0}) c.in_err-feed.field-0.0 c.from_residual-in_err-feed.result _ _ _ _ _ c.in_ok-n.ensures.bytes (c.in_err-feed.ensures _ has.read _ has.so_far) (p.1 ∙ ap Err p.2)
 
 pub loop-preserved : goal.loop-preserved
 loop-preserved g c =
     let has = HasRead-flushed _ _ _ _ _ _ _ c.loop.invariant _ c.in_ok-flush.ensures.kept in
-    HasRead-fed _ _ _ _ _ _ _ has c.in_ok-feed.field-0 _ _ _ _ _ c.in_ok-n.ensures.bytes (c.in_ok-feed.ensures _ has.read _ has.come)
+    HasRead-fed _ _ _ _ _ _ _ has c.in_ok-feed.field-0 _ _ _ _ _ c.in_ok-n.ensures.bytes (c.in_ok-feed.ensures _ has.read _ has.so_far)
 
 pub returns : goal.returns
 returns g c = Ends-unread _ _ _ _ _ _ _ c.loop.invariant (Unit {0}) (Err errors.Read) _ (Keeps-refl _) refl

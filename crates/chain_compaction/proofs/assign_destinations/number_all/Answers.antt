@@ -5,7 +5,7 @@ use Rattle.chain_compaction.proofs.SlotCountLemmas.{at_end}
 use Rattle.chain_compaction.proofs.DetachedLinkLemmas.{work-touched}
 use Rattle.chain_compaction.proofs.LinkLoanLemmas.{same_then, counts_on}
 use Rattle.chain_compaction.proofs.SlotReadLemmas.{known_fresh, known_directed, known_none}
-use Rattle.chain_compaction.proofs.ChainOrderLemmas.{order_begins, order_ends, order_skips, order_found, order_can, order_goes_on}
+use Rattle.chain_compaction.proofs.ChainOrderLemmas.{order_begins, order_ends, order_skips, order_found, order_can, order_continues}
 use Rattle.chain_compaction.proofs.WorkCountLemmas.{counts_none}
 use Rattle.chain_compaction.proofs.assign_destinations.number_all.Goals as goal
 
@@ -28,15 +28,15 @@ start_at-start-requires g c =
     c.loop-k.invariant.order (g.P.Inx.InxKey.number c.inx_at-i.result) c.inx_at-i.ensures (known_fresh g.P.Inx.InxKey.packed_number g.P.Inx.InxKey.number (slot_at now.held.slots (g.P.Inx.InxKey.number c.inx_at-i.result)) c.read_link-was.result.0 c.in-Some.field-0 c.read_link-was.result.3 c.in-Some.is lookup.generation lookup.destination c.in-None-destination.is)
     c.read_link-was.new.compactor.held lookup.was_read.held
 
-pub number_chain-reported-requires-clause-ready : goal.number_chain-reported-requires-clause-ready
-number_chain-reported-requires-clause-ready g c = c.loop-k.invariant.ready
+pub number_chain-visited-requires-clause-ready : goal.number_chain-visited-requires-clause-ready
+number_chain-visited-requires-clause-ready g c = c.loop-k.invariant.ready
 
-pub number_chain-reported-requires-clause-fits : goal.number_chain-reported-requires-clause-fits
-number_chain-reported-requires-clause-fits g c =
-    omega (arith, c.loop-k.invariant.order.retied.long, ap (λ h. length h.slots) c.read_link-was.ensures.was_read.held, ap (λ h. length h.slots) c.start_at-start.ensures.held, c.requires.fits)
+pub number_chain-visited-requires-clause-fits : goal.number_chain-visited-requires-clause-fits
+number_chain-visited-requires-clause-fits g c =
+    omega (arith, c.loop-k.invariant.order.relinked.long, ap (λ h. length h.slots) c.read_link-was.ensures.was_read.held, ap (λ h. length h.slots) c.start_at-start.ensures.held, c.requires.fits)
 
-pub number_chain-reported-requires-clause-can : goal.number_chain-reported-requires-clause-can
-number_chain-reported-requires-clause-can g c =
+pub number_chain-visited-requires-clause-can : goal.number_chain-visited-requires-clause-can
+number_chain-visited-requires-clause-can g c =
     let old = c.args.compactor.now in
     let now = c.loop-k.compactor in
     let lookup = c.read_link-was.ensures in
@@ -82,20 +82,20 @@ loop-k-preserved g c =
     let at = c.loop-k.invariant in
     let lookup = c.read_link-was.ensures in
     let start = c.start_at-start.ensures in
-    let chain = c.number_chain-reported.ensures in
+    let chain = c.number_chain-visited.ensures in
     let old = c.args.compactor.now in
     let now = c.loop-k.compactor in
     let mid = c.read_link-was.new.compactor in
     let was_stored = c.start_at-start.new.compactor in
-    let new = c.number_chain-reported.new.compactor in
+    let new = c.number_chain-visited.new.compactor in
     record {
       ready = chain.ready;
       same_reference = same_then old now new at.same_reference (same_then now mid new lookup.was_read.same_reference (same_then mid was_stored new start.same_reference chain.same_reference));
-      order = order_goes_on g.P.Inx.InxKey.packed_number g.V.Visitor.sees g.P.PtrKey.key c.args.generation c.args.visitor old.held old.arena.now c.loop-k.visitor now.held now.arena.now c.loop-k.count c.loop-k.k
+      order = order_continues g.P.Inx.InxKey.packed_number g.V.Visitor.sees g.P.PtrKey.key c.args.generation c.args.visitor old.held old.arena.now c.loop-k.visitor now.held now.arena.now c.loop-k.count c.loop-k.k
           at.order (g.P.Inx.InxKey.number c.inx_at-i.result) c.inx_at-i.ensures
           (known_fresh g.P.Inx.InxKey.packed_number g.P.Inx.InxKey.number (slot_at now.held.slots (g.P.Inx.InxKey.number c.inx_at-i.result)) c.read_link-was.result.0 c.in-Some.field-0 c.read_link-was.result.3 c.in-Some.is lookup.generation lookup.destination c.in-None-destination.is)
           mid.held lookup.was_read.held was_stored.held start.held (g.P.Inx.InxKey.number c.start_at-start.result) start.start mid.arena.now was_stored.arena.now new.arena.now
-          c.number_chain-reported.result.0 new.held c.number_chain-reported.result.1
+          c.number_chain-visited.result.0 new.held c.number_chain-visited.result.1
           (work-touched now.arena.now mid.arena.now lookup.was_read.arena) start.linear start.cyclic chain.numbered;
       counts = counts_on old now new at.counts (counts_on now mid new lookup.was_read.counts (counts_on mid was_stored new start.counts chain.counts));
     }

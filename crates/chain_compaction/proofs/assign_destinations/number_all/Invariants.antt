@@ -1,6 +1,6 @@
 -- The chains with an index up to k have destinations, and the visitor has seen their links.
 use Rattle.std.proofs.Common.{◌≡◌}
-use Rattle.chain_compaction.specs.WorkCounts.{CountsOn}
+use Rattle.chain_compaction.specs.WorkCounts.{CountsWork}
 use Rattle.chain_compaction.proofs.ChainOrderLemmas.{IsOrdering}
 use Rattle.chain_compaction.proofs.assign_destinations.number_all.Given as goal
 
@@ -9,5 +9,5 @@ invariant-loop-k g l = record {
   ready : g.V.Visitor.is_ready l.visitor;
   same_reference : l.compactor.arena.ghost_name ≡ l.fn.compactor.arena.ghost_name;
   order : IsOrdering g.P.Inx.InxKey.packed_number g.V.Visitor.sees g.P.PtrKey.key l.fn.generation l.fn.visitor l.visitor l.fn.compactor.held l.compactor.held l.fn.compactor.arena.now l.compactor.arena.now l.count l.k;
-  counts : CountsOn l.fn.compactor.arena.now l.compactor.arena.now l.fn.compactor.placed l.fn.compactor.touched l.compactor.placed l.compactor.touched;
+  counts : CountsWork l.fn.compactor l.compactor;
 }

@@ -8,12 +8,12 @@ use Rattle.chain_compaction.proofs.DestinationWriteLemmas.{linked_long, linked_r
 use Rattle.chain_compaction.proofs.DetachedLinkLemmas.{work-twice}
 use Rattle.chain_compaction.proofs.LinkLoanLemmas.{same_then, counts_on}
 use Rattle.chain_compaction.proofs.WorkCountLemmas.{counts_none}
-use Rattle.chain_compaction.proofs.ChainDestinationLemmas.{IsWalking, walk_begins, walk_first, walk_ends, walk_capacity, walk_more, walk_returns, walk_goes_on}
+use Rattle.chain_compaction.proofs.ChainDestinationLemmas.{IsWalking, walk_begins, walk_first, walk_ends, walk_capacity, walk_more, walk_returns, walk_continues}
 use Rattle.chain_compaction.proofs.assign_destinations.number_chain.Goals.{In-Some, After-relink_at}
 use Rattle.chain_compaction.proofs.assign_destinations.number_chain.Given.{Over}
 use Rattle.chain_compaction.proofs.assign_destinations.number_chain.Goals as goal
 
--- the walk is at its next link
+-- The walk is at its next link.
 walk_at : (g : Over) (c : In-Some g) (done : List ℕ) (l : Chain) → CanNumber g.P.Inx.InxKey.packed_number c.args.compactor.now.held.slots (g.P.Inx.InxKey.number c.args.start) c.args.before done l
     → IsWalking g.P.Inx.InxKey.packed_number g.V.Visitor.sees g.P.PtrKey.key c.args.generation c.args.visitor c.loop-on.visitor c.args.compactor.now.held c.loop-on.compactor.held
     c.args.compactor.now.arena.now c.loop-on.compactor.arena.now c.loop-on.count (g.P.Inx.InxKey.number c.args.start) (Some (g.P.Inx.InxKey.number c.in-Some.i)) (option_map g.P.Inx.InxKey.number c.loop-on.named) (option_map g.P.Inx.InxKey.number c.loop-on.prev) done l
@@ -22,7 +22,7 @@ walk_at g c done l can =
     c.args.compactor.now.arena.now c.loop-on.compactor.arena.now c.loop-on.count (g.P.Inx.InxKey.number c.args.start) (option_map g.P.Inx.InxKey.number o) (option_map g.P.Inx.InxKey.number c.loop-on.named) (option_map g.P.Inx.InxKey.number c.loop-on.prev) done l)
     c.in-Some.is (c.loop-on.invariant.walks done l can)
 
--- fewer links are numbered than there are slots
+-- Fewer links are numbered than there are slots.
 capacity_at : (g : Over) (c : In-Some g) → c.loop-on.count < length c.args.compactor.now.held.slots
 capacity_at g c =
     let can = c.requires.can in
@@ -46,23 +46,23 @@ inx_at-destination-requires g c = omega (arith, capacity_at g c, c.requires.fits
 pub after_it-after-requires-clause-first : goal.after_it-after-requires-clause-first
 after_it-after-requires-clause-first g c =
     let can = c.requires.can in
-    let within_capacity = walk_first g.P.Inx.InxKey.packed_number g.V.Visitor.sees g.P.PtrKey.key c.args.generation c.args.visitor c.args.compactor.now.held c.args.compactor.now.arena.now (g.P.Inx.InxKey.number c.args.start) c.args.before can.0 can.1 can.2 in
-    omega (arith, within_capacity, c.requires.fits)
+    let enough = walk_first g.P.Inx.InxKey.packed_number g.V.Visitor.sees g.P.PtrKey.key c.args.generation c.args.visitor c.args.compactor.now.held c.args.compactor.now.arena.now (g.P.Inx.InxKey.number c.args.start) c.args.before can.0 can.1 can.2 in
+    omega (arith, enough, c.requires.fits)
 
 some_there : {X : Type 0} (o : Option X) → IsSome o → (x : X) × (o ≡ Some x)
 some_there None some = let both : false ≡ true = some in absurd (cc)
 some_there (Some x) some = (x, refl)
 
--- if the walk goes on, the next link has a free number too
+-- If the walk goes on, the next link has a free number too.
 pub after_it-after-requires-clause-next : goal.after_it-after-requires-clause-next
 after_it-after-requires-clause-next g c some =
     let next = (goal.at.after_it-after-requires-clause-next g c).In-Some in
     let can = c.requires.can in
-    let on = some_there c.going_on-on.result some in
-    let within_capacity = walk_more g.P.Inx.InxKey.packed_number g.V.Visitor.sees g.P.PtrKey.key c.args.generation c.args.visitor c.args.compactor.now.held c.args.compactor.now.arena.now (g.P.Inx.InxKey.number c.args.start) c.args.before can.0 can.1 can.2 c.loop-on.visitor c.loop-on.compactor.held c.loop-on.compactor.arena.now c.loop-on.count
+    let on = some_there c.step_on-on.result some in
+    let enough = walk_more g.P.Inx.InxKey.packed_number g.V.Visitor.sees g.P.PtrKey.key c.args.generation c.args.visitor c.args.compactor.now.held c.args.compactor.now.arena.now (g.P.Inx.InxKey.number c.args.start) c.args.before can.0 can.1 can.2 c.loop-on.visitor c.loop-on.compactor.held c.loop-on.compactor.arena.now c.loop-on.count
     (option_map g.P.Inx.InxKey.number c.loop-on.named) (option_map g.P.Inx.InxKey.number c.loop-on.prev) (g.P.Inx.InxKey.number c.in-Some.i) (walk_at g next can.0 can.1 can.2)
-    (option_map g.P.Inx.InxKey.number c.read_link.result.2) (option_map g.P.Inx.InxKey.number c.going_on-on.result) c.read_link.ensures.next c.going_on-on.ensures (g.P.Inx.InxKey.number on.0) (ap (option_map g.P.Inx.InxKey.number) on.1) in
-    omega (arith, within_capacity, c.requires.fits)
+    (option_map g.P.Inx.InxKey.number c.read_link.result.2) (option_map g.P.Inx.InxKey.number c.step_on-on.result) c.read_link.ensures.next c.step_on-on.ensures (g.P.Inx.InxKey.number on.0) (ap (option_map g.P.Inx.InxKey.number) on.1) in
+    omega (arith, enough, c.requires.fits)
 
 pub proved_unreachable-assume_proved-requires : goal.proved_unreachable-assume_proved-requires
 proved_unreachable-assume_proved-requires g c = absurd (
@@ -72,9 +72,9 @@ proved_unreachable-assume_proved-requires g c = absurd (
     (option_map g.P.Inx.InxKey.number c.loop-on.named) (option_map g.P.Inx.InxKey.number c.loop-on.prev) (g.P.Inx.InxKey.number c.in-Some.i) (walk_at g next can.0 can.1 can.2)
     (sym c.in-None.is ∙ c.read_link.ensures.generation))
 
--- the slots after the write
+-- The slots after the write.
 linked_now : (g : Over) (c : After-relink_at g) → IsRelinkedAt g.P.Inx.InxKey.packed_number (g.P.Inx.InxKey.number c.in-Some.i) (option_map g.P.Inx.InxKey.number c.loop-on.prev)
-    (number_after (option_map g.P.Inx.InxKey.number c.going_on-on.result) (option_map g.P.Inx.InxKey.number c.read_link.result.2) c.args.before (c.loop-on.count + 1)) (Some (g.P.Inx.InxKey.number c.inx_at-destination.result))
+    (number_after (option_map g.P.Inx.InxKey.number c.step_on-on.result) (option_map g.P.Inx.InxKey.number c.read_link.result.2) c.args.before (c.loop-on.count + 1)) (Some (g.P.Inx.InxKey.number c.inx_at-destination.result))
     c.loop-on.compactor.held c.relink_at.new.compactor.held
 linked_now g c =
     linked_read g.P.Inx.InxKey.packed_number (g.P.Inx.InxKey.number c.in-Some.i) (option_map g.P.Inx.InxKey.number c.loop-on.prev) _ _ (Some (g.P.Inx.InxKey.number c.inx_at-destination.result))
@@ -103,9 +103,9 @@ loop-on-preserved g c =
       same_reference = same_then c.args.compactor.now now new at.same_reference (same_then now c.read_link.new.compactor new lookup.was_read.same_reference links_both.same_reference);
       long = long_now g wrote;
       walks = λ done l can.
-          walk_goes_on g.P.Inx.InxKey.packed_number g.V.Visitor.sees g.P.PtrKey.key c.args.generation c.args.visitor c.args.compactor.now.held c.args.compactor.now.arena.now (g.P.Inx.InxKey.number c.args.start) c.args.before done l can c.loop-on.visitor c.loop-on.compactor.held c.loop-on.compactor.arena.now c.loop-on.count
+          walk_continues g.P.Inx.InxKey.packed_number g.V.Visitor.sees g.P.PtrKey.key c.args.generation c.args.visitor c.args.compactor.now.held c.args.compactor.now.arena.now (g.P.Inx.InxKey.number c.args.start) c.args.before done l can c.loop-on.visitor c.loop-on.compactor.held c.loop-on.compactor.arena.now c.loop-on.count
           (option_map g.P.Inx.InxKey.number c.loop-on.named) (option_map g.P.Inx.InxKey.number c.loop-on.prev) (g.P.Inx.InxKey.number c.in-Some.i) (walk_at g next done l can)
-          (option_map g.P.Inx.InxKey.number c.read_link.result.2) (option_map g.P.Inx.InxKey.number c.going_on-on.result) lookup.next c.going_on-on.ensures
+          (option_map g.P.Inx.InxKey.number c.read_link.result.2) (option_map g.P.Inx.InxKey.number c.step_on-on.result) lookup.next c.step_on-on.ensures
           (g.P.Inx.InxKey.number c.inx_at-destination.result) new.held new.arena.now c.in-Some-was.was c._from_raw.result c._from_raw-in-Some-was.result c.visit.new.self
           (linked_now g wrote) c.inx_at-destination.ensures (work-twice now.arena.now c.read_link.new.compactor.arena.now new.arena.now lookup.was_read.arena links_both.arena)
           (sym c.in-Some-was.is ∙ lookup.generation) c._from_raw.ensures c._from_raw-in-Some-was.ensures c.visit.ensures.view_after;

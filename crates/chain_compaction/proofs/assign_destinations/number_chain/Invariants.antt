@@ -3,7 +3,7 @@
 use Rattle.std.proofs.Common.{◌≡◌, ◌-◌, ℕ, List, length}
 use Rattle.std.specs.Option.{option_map}
 use Rattle.chain_laws.specs.Chains.{Chain}
-use Rattle.chain_compaction.specs.WorkCounts.{CountsOn}
+use Rattle.chain_compaction.specs.WorkCounts.{CountsWork}
 use Rattle.chain_compaction.specs.Destinations.{CanNumber}
 use Rattle.chain_compaction.proofs.ChainDestinationLemmas.{IsWalking}
 use Rattle.chain_compaction.proofs.assign_destinations.number_chain.Given as goal
@@ -18,7 +18,7 @@ invariant-loop-on g l =
       walks : (done : List ℕ) (c : Chain) → CanNumber number l.fn.compactor.held.slots (g.P.Inx.InxKey.number l.fn.start) l.fn.before done c
           → IsWalking number g.V.Visitor.sees g.P.PtrKey.key l.fn.generation l.fn.visitor l.visitor l.fn.compactor.held l.compactor.held l.fn.compactor.arena.now l.compactor.arena.now
           l.count (g.P.Inx.InxKey.number l.fn.start) (option_map g.P.Inx.InxKey.number l.on) (option_map g.P.Inx.InxKey.number l.named) (option_map g.P.Inx.InxKey.number l.prev) done c;
-      counts : CountsOn l.fn.compactor.arena.now l.compactor.arena.now l.fn.compactor.placed l.fn.compactor.touched l.compactor.placed l.compactor.touched;
+      counts : CountsWork l.fn.compactor l.compactor;
     }
 
 abbrev pub decreases-loop-on : goal.decreases-loop-on

@@ -2,7 +2,7 @@
 use Rattle.std.proofs.Common.{◌≡◌, Bool, true, false, Some, refl, sym, ap, ◌∙◌, arith}
 use Rattle.std.specs.Option.{option_map}
 use Rattle.chain_laws.specs.Chains.{prev_of}
-use Rattle.chain_laws.proofs.WalkLemmas.WalkBack.{back_begins, back_goes_on, back_ends, back_comes_round}
+use Rattle.chain_laws.proofs.WalkLemmas.WalkBack.{back_begins, back_continues, back_ends, back_wraps_around}
 use Rattle.chain_compaction.specs.DetachedLinks.{link_map_in}
 use Rattle.chain_compaction.proofs.WalkBackLemmas.{lookups_linear, lookups_cyclic, back_within}
 use Rattle.chain_compaction.proofs.DetachedLinkLemmas.{work-none, work-touched, work-more}
@@ -33,13 +33,13 @@ returns-then-is_same g c =
     let now = c.loop-step.compactor in
     let new = c.read_link-before.new.compactor in
     let reported = link_map_in g.P.Inx.InxKey.packed_number c.args.compactor.now.held.slots in
-    let came = ap (λ h. prev_of (link_map_in g.P.Inx.InxKey.packed_number h.slots) (number c.loop-step.at)) at.held in
+    let arrived = ap (λ h. prev_of (link_map_in g.P.Inx.InxKey.packed_number h.slots) (number c.loop-step.at)) at.held in
     let known = c.is_same.ensures in
     let same = (g.met.P.Inx.InxKey.same_is_equal c.in-Some.k c.args.i).0 (sym known ∙ c.if-is_same.true) in
     record {
       same_reference = same_then old now new at.same_reference lookup.was_read.same_reference;
-      start = back_comes_round reported (number c.args.i) c.loop-step.step (number c.loop-step.at) at.back
-          (sym came ∙ (sym lookup.prev ∙ ap (option_map number) c.in-Some.is ∙ ap (λ k. Some (number k)) same));
+      start = back_wraps_around reported (number c.args.i) c.loop-step.step (number c.loop-step.at) at.back
+          (sym arrived ∙ (sym lookup.prev ∙ ap (option_map number) c.in-Some.is ∙ ap (λ k. Some (number k)) same));
       held = held_then old now new at.held lookup.was_read.held;
       linear = λ xs h m. work-more at.work (work-touched now.arena.now new.arena.now lookup.was_read.arena) 0 _ refl (lookups_linear reported (number c.args.i) c.loop-step.step (number c.loop-step.at) at.back xs h m);
       cyclic = λ xs h. work-more at.work (work-touched now.arena.now new.arena.now lookup.was_read.arena) 0 _ refl (lookups_cyclic reported (number c.args.i) c.loop-step.step (number c.loop-step.at) at.back xs h);
@@ -55,10 +55,10 @@ returns-in-None g c =
     let now = c.loop-step.compactor in
     let new = c.read_link-before.new.compactor in
     let reported = link_map_in g.P.Inx.InxKey.packed_number c.args.compactor.now.held.slots in
-    let came = ap (λ h. prev_of (link_map_in g.P.Inx.InxKey.packed_number h.slots) (number c.loop-step.at)) at.held in
+    let arrived = ap (λ h. prev_of (link_map_in g.P.Inx.InxKey.packed_number h.slots) (number c.loop-step.at)) at.held in
     record {
       same_reference = same_then old now new at.same_reference lookup.was_read.same_reference;
-      start = back_ends reported (number c.args.i) c.loop-step.step (number c.loop-step.at) at.back (sym came ∙ (sym lookup.prev ∙ ap (option_map number) c.in-None.is));
+      start = back_ends reported (number c.args.i) c.loop-step.step (number c.loop-step.at) at.back (sym arrived ∙ (sym lookup.prev ∙ ap (option_map number) c.in-None.is));
       held = held_then old now new at.held lookup.was_read.held;
       linear = λ xs h m. work-more at.work (work-touched now.arena.now new.arena.now lookup.was_read.arena) 0 _ refl (lookups_linear reported (number c.args.i) c.loop-step.step (number c.loop-step.at) at.back xs h m);
       cyclic = λ xs h. work-more at.work (work-touched now.arena.now new.arena.now lookup.was_read.arena) 0 _ refl (lookups_cyclic reported (number c.args.i) c.loop-step.step (number c.loop-step.at) at.back xs h);
@@ -78,7 +78,7 @@ loop-step-preserved g c =
     record {
       same_reference = same_then old now new at.same_reference lookup.was_read.same_reference;
       held = held_then old now new at.held lookup.was_read.held;
-      back = back_goes_on (link_map_in packed_number c.args.compactor.now.held.slots) (number c.args.i) c.loop-step.step (number c.loop-step.at) (number c.in-Some.k) at.back
+      back = back_continues (link_map_in packed_number c.args.compactor.now.held.slots) (number c.args.i) c.loop-step.step (number c.loop-step.at) (number c.in-Some.k) at.back
           (sym (ap (λ h. prev_of (link_map_in packed_number h.slots) (number c.loop-step.at)) at.held) ∙ sym c.read_link-before.ensures.prev ∙ ap (option_map number) c.in-Some.is)
           (λ e. not_both _ ((g.met.P.Inx.InxKey.same_is_equal c.in-Some.k c.args.i).1 (g.met.P.Inx.InxKey.same_number c.in-Some.k c.args.i e)) (sym known ∙ c.if-is_same.false));
       work = work-more at.work (work-touched now.arena.now new.arena.now lookup.was_read.arena) 0 _ refl (omega arith);

@@ -1,7 +1,7 @@
 -- The number of steps back, which bounds the reads.
 use Rattle.std.proofs.Common.{◌≡◌}
 use Rattle.chain_laws.specs.ChainStart.{IsBack}
-use Rattle.chain_compaction.specs.WorkCounts.{CountsOn}
+use Rattle.chain_compaction.specs.WorkCounts.{CountsWork}
 use Rattle.chain_compaction.specs.DetachedLinks.{link_map_in, IsWork}
 use Rattle.chain_compaction.proofs.assign_destinations.start_at.Given as goal
 
@@ -13,5 +13,5 @@ invariant-loop-step g l =
       held : l.compactor.held ≡ l.fn.compactor.held;
       back : IsBack (link_map_in g.P.Inx.InxKey.packed_number l.fn.compactor.held.slots) (number l.i) l.step (number l.at);
       work : IsWork l.fn.compactor.arena.now l.compactor.arena.now 0 l.step;
-      counts : CountsOn l.fn.compactor.arena.now l.compactor.arena.now l.fn.compactor.placed l.fn.compactor.touched l.compactor.placed l.compactor.touched;
+      counts : CountsWork l.fn.compactor l.compactor;
     }

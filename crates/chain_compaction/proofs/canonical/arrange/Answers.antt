@@ -68,7 +68,7 @@ returns g c =
           links_arranged g.V.Visitor.sees g.P.PtrKey.key c.args.visitor visitor number generation empty.held numbered.held c.args.arena.now empty.arena.now numbered.arena.now c.number_all-visitor.result.1
           view_after c.number_all-visitor.ensures.numbered moved.held c.move_all.ensures.moved
           g.P.Inx.InxKey.greatest g.S.SlotStack.initial_maximum moved.arena.now c.move_all.ensures.capacity c.move_all.ensures.maximum emptying
-          c.move_all.ensures.totals c.invariants.ensures.within_capacity.1 c.generation-generation.ensures _ (search rules);
+          c.move_all.ensures.totals c.invariants.ensures.capacity.1 c.generation-generation.ensures _ (search rules);
       placed = search rules;
       touched = search rules;
     }

@@ -2,7 +2,7 @@
 use Rattle.std.proofs.Common.{◌≡◌, length, refl, ap, ◌∙◌, arith}
 use Rattle.arena_base.specs.GatheredSlots.{with_totals}
 use Rattle.chain_compaction.specs.Destinations.{held_view}
-use Rattle.chain_compaction.proofs.DestinationResetLemmas.{emptied, emptying_begins, emptying_goes_on, emptying_ends, touches_none, touches_more}
+use Rattle.chain_compaction.proofs.DestinationResetLemmas.{emptied, emptying_begins, emptying_continues, emptying_ends, touches_none, touches_more}
 use Rattle.chain_compaction.proofs.LinkLoanLemmas.{same_then, counts_on}
 use Rattle.chain_compaction.proofs.WorkCountLemmas.{counts_none}
 use Rattle.chain_compaction.proofs.canonical.empty_all.Goals as goal
@@ -29,7 +29,7 @@ loop-k-preserved g c =
     record {
       same_reference = same_then old now next inv.same_reference after.same_reference;
       view_after = known.0 ∙ inv.view_after;
-      empty = emptying_goes_on g.P.Inx.InxKey.packed_number c.loop-k.compactor.held.slots c.direct_at.new.compactor.held.slots c.loop-k.k (g.P.Inx.InxKey.number c.inx_at.result) c.inx_at.ensures
+      empty = emptying_continues g.P.Inx.InxKey.packed_number c.loop-k.compactor.held.slots c.direct_at.new.compactor.held.slots c.loop-k.k (g.P.Inx.InxKey.number c.inx_at.result) c.inx_at.ensures
           inv.empty known.1 known.2;
       totals = touches_more c.args.compactor.now.arena.now c.loop-k.compactor.arena.now c.direct_at.new.compactor.arena.now c.loop-k.k inv.totals after.arena;
       counts = counts_on old now next inv.counts after.counts;

@@ -1,7 +1,7 @@
 -- The links up to k have no destination.
 use Rattle.std.proofs.Common.{◌≡◌, ℕ, ◌≤◌, None}
 use Rattle.arena_base.specs.GatheredSlots.{with_totals}
-use Rattle.chain_compaction.specs.WorkCounts.{CountsOn}
+use Rattle.chain_compaction.specs.WorkCounts.{CountsWork}
 use Rattle.chain_compaction.specs.Destinations.{held_view, destination_at}
 use Rattle.chain_compaction.proofs.canonical.empty_all.Given as goal
 
@@ -13,5 +13,5 @@ invariant-loop-k g l =
       view_after : held_view packed_number l.compactor.held ≡ held_view packed_number l.fn.compactor.held;
       empty : (j : ℕ) → j ≤ l.k → destination_at packed_number l.compactor.held.slots j ≡ None;
       totals : l.compactor.arena.now ≡ with_totals l.fn.compactor.arena.now 0 l.k;
-      counts : CountsOn l.fn.compactor.arena.now l.compactor.arena.now l.fn.compactor.placed l.fn.compactor.touched l.compactor.placed l.compactor.touched;
+      counts : CountsWork l.fn.compactor l.compactor;
     }

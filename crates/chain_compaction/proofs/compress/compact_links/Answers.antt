@@ -1,12 +1,12 @@
--- `close_gaps` moves each link to the end of the front, and calls the closure with its value.
+-- `compact_links` moves each link to the end of the front, and calls the closure with its value.
 use Rattle.std.proofs.Common.{refl, ◌∙◌, of_calls}
 use Rattle.arena_base.proofs.HoleClosingLemmas.{closing_begins}
 use Rattle.chain_links.proofs.ArenaInsertionLemmas.{slots-within}
 use Rattle.chain_compaction.specs.DetachedLinks.{slot_values, body_interlinks}
 use Rattle.chain_compaction.proofs.DetachedLinkLemmas.{work-none}
-use Rattle.chain_compaction.proofs.LinkCompressionLemmas.{coming_begins}
+use Rattle.chain_compaction.proofs.LinkCompressionLemmas.{gathered_begins}
 use Rattle.chain_compaction.proofs.LinkLoanLemmas.{lent, lent_none}
-use Rattle.chain_compaction.proofs.CompressionStepLemmas.{free_to, passes, skips, capacity_kept, maximum_kept, stored_there, brings, comes, capacity_on, maximum_on, ends_closed, ends_packed, ends_visits, ends_renamed, ends_work, work_skips, work_brings}
+use Rattle.chain_compaction.proofs.CompressionStepLemmas.{free_to, passes, skips, capacity_kept, maximum_kept, stored_there, brings, arrives, capacity_on, maximum_on, ends_closed, ends_packed, ends_visits, ends_renamed, ends_work, work_skips, work_brings}
 use Rattle.chain_compaction.proofs.compress.compact_links.Goals as goal
 
 pub loop-k-init : goal.loop-k-init
@@ -19,20 +19,20 @@ loop-k-init g c =
       capacity = refl;
       maximum = refl;
       closing = closing_begins g.F.FnMut g.P.PtrKey.key c.args.generation c.args.map (slot_values old.held.slots);
-      coming = coming_begins number old.held.slots c.requires.agree (slots-within (body_interlinks number) old.held.slots);
+      gathered = gathered_begins number old.held.slots c.requires.agree (slots-within (body_interlinks number) old.held.slots);
       work = work-none old.arena.now 0;
     }
 
 pub move_link-requires-clause-free : goal.move_link-requires-clause-free
 move_link-requires-clause-free g c differs =
     free_to g.F.FnMut g.P.PtrKey.key c.args.generation g.P.Inx.InxKey.packed_number c.args.map c.loop-k.map c.args.compactor.now.held c.loop-k.compactor.held c.requires.agree c.loop-k.k c.loop-k.count
-    c.loop-k.invariant.closing c.loop-k.invariant.coming c.slots-k-end.result c.slots-k-end.ensures c.loop-k-test.true (g.P.Inx.InxKey.number c.inx_at-from.result) c.inx_at-from.ensures (g.P.Inx.InxKey.number c.inx_at-to.result) c.inx_at-to.ensures differs
+    c.loop-k.invariant.closing c.loop-k.invariant.gathered c.slots-k-end.result c.slots-k-end.ensures c.loop-k-test.true (g.P.Inx.InxKey.number c.inx_at-from.result) c.inx_at-from.ensures (g.P.Inx.InxKey.number c.inx_at-to.result) c.inx_at-to.ensures differs
 
 pub proved_unreachable-assume_proved-requires : goal.proved_unreachable-assume_proved-requires
 proved_unreachable-assume_proved-requires g c = absurd (
     let mid = c.move_link.new.compactor.held in
     stored_there g.F.FnMut g.P.PtrKey.key c.args.generation g.P.Inx.InxKey.packed_number c.args.map c.loop-k.map c.args.compactor.now.held c.loop-k.compactor.held c.requires.agree c.loop-k.k c.loop-k.count
-    c.loop-k.invariant.closing c.loop-k.invariant.coming c.slots-k-end.result c.slots-k-end.ensures c.loop-k-test.true (g.P.Inx.InxKey.number c.inx_at-from.result) c.inx_at-from.ensures (g.P.Inx.InxKey.number c.inx_at-to.result) c.inx_at-to.ensures c.in-Some.was
+    c.loop-k.invariant.closing c.loop-k.invariant.gathered c.slots-k-end.result c.slots-k-end.ensures c.loop-k-test.true (g.P.Inx.InxKey.number c.inx_at-from.result) c.inx_at-from.ensures (g.P.Inx.InxKey.number c.inx_at-to.result) c.inx_at-to.ensures c.in-Some.was
     c.in-Some.ensures.returned mid c.in-Some.ensures.values
     (lent_none c.move_link.new.compactor c.value_mut.follows.lender-at-none (g.P.Inx.InxKey.number c.inx_at-to.result) c.value_mut.result c.in-None-value_mut.is c.value_mut.ensures.value c.value_mut.follows.holds-at-none).none)
 
@@ -49,13 +49,13 @@ loop-k-preserved-in-None g c =
     record {
       callable = at.callable;
       same_reference = made.same_reference ∙ at.same_reference;
-      capacity = capacity_kept g.F.FnMut key c.args.generation number c.args.map c.loop-k.map old.held now.held c.requires.agree c.loop-k.k c.loop-k.count at.closing at.coming c.slots-k-end.result c.slots-k-end.ensures c.loop-k-test.true from c.inx_at-from.ensures
+      capacity = capacity_kept g.F.FnMut key c.args.generation number c.args.map c.loop-k.map old.held now.held c.requires.agree c.loop-k.k c.loop-k.count at.closing at.gathered c.slots-k-end.result c.slots-k-end.ensures c.loop-k-test.true from c.inx_at-from.ensures
           c.move_link.result c.in-None.is made.returned mid.held c.in-None.ensures.none.0 at.capacity;
-      maximum = maximum_kept g.F.FnMut key c.args.generation number c.args.map c.loop-k.map old.held now.held c.requires.agree c.loop-k.k c.loop-k.count at.closing at.coming c.slots-k-end.result c.slots-k-end.ensures c.loop-k-test.true from c.inx_at-from.ensures
+      maximum = maximum_kept g.F.FnMut key c.args.generation number c.args.map c.loop-k.map old.held now.held c.requires.agree c.loop-k.k c.loop-k.count at.closing at.gathered c.slots-k-end.result c.slots-k-end.ensures c.loop-k-test.true from c.inx_at-from.ensures
           c.move_link.result c.in-None.is made.returned mid.held c.in-None.ensures.none.0 at.maximum;
-      closing = passes g.F.FnMut key c.args.generation number c.args.map c.loop-k.map old.held now.held c.requires.agree c.loop-k.k c.loop-k.count at.closing at.coming c.slots-k-end.result c.slots-k-end.ensures c.loop-k-test.true from c.inx_at-from.ensures
+      closing = passes g.F.FnMut key c.args.generation number c.args.map c.loop-k.map old.held now.held c.requires.agree c.loop-k.k c.loop-k.count at.closing at.gathered c.slots-k-end.result c.slots-k-end.ensures c.loop-k-test.true from c.inx_at-from.ensures
           c.move_link.result c.in-None.is made.returned mid.held c.in-None.ensures.none.0;
-      coming = skips g.F.FnMut key c.args.generation number c.args.map c.loop-k.map old.held now.held c.requires.agree c.loop-k.k c.loop-k.count at.closing at.coming c.slots-k-end.result c.slots-k-end.ensures c.loop-k-test.true from c.inx_at-from.ensures
+      gathered = skips g.F.FnMut key c.args.generation number c.args.map c.loop-k.map old.held now.held c.requires.agree c.loop-k.k c.loop-k.count at.closing at.gathered c.slots-k-end.result c.slots-k-end.ensures c.loop-k-test.true from c.inx_at-from.ensures
           c.move_link.result c.in-None.is made.returned mid.held c.in-None.ensures.none.0;
       work = work_skips old.arena.now now.arena.now mid.arena.now c.loop-k.k c.loop-k.count at.work c.in-None.ensures.none.1;
     }
@@ -79,15 +79,15 @@ loop-k-preserved g c =
     record {
       callable = search of_calls;
       same_reference = wrote.same_reference ∙ (moves.same_reference ∙ at.same_reference);
-      capacity = capacity_on g.F.FnMut key c.args.generation number c.args.map c.loop-k.map old.held now.held c.requires.agree c.loop-k.k c.loop-k.count at.closing at.coming c.slots-k-end.result c.slots-k-end.ensures c.loop-k-test.true from c.inx_at-from.ensures
+      capacity = capacity_on g.F.FnMut key c.args.generation number c.args.map c.loop-k.map old.held now.held c.requires.agree c.loop-k.k c.loop-k.count at.closing at.gathered c.slots-k-end.result c.slots-k-end.ensures c.loop-k-test.true from c.inx_at-from.ensures
           to c.inx_at-to.ensures c.in-Some.was moves.returned mid.held moves.values new.held link value wrote.stored wrote.held at.capacity;
-      maximum = maximum_on g.F.FnMut key c.args.generation number c.args.map c.loop-k.map old.held now.held c.requires.agree c.loop-k.k c.loop-k.count at.closing at.coming c.slots-k-end.result c.slots-k-end.ensures c.loop-k-test.true from c.inx_at-from.ensures
+      maximum = maximum_on g.F.FnMut key c.args.generation number c.args.map c.loop-k.map old.held now.held c.requires.agree c.loop-k.k c.loop-k.count at.closing at.gathered c.slots-k-end.result c.slots-k-end.ensures c.loop-k-test.true from c.inx_at-from.ensures
           to c.inx_at-to.ensures c.in-Some.was moves.returned mid.held moves.values new.held link value wrote.stored wrote.held at.maximum;
-      closing = brings g.F.FnMut key c.args.generation number c.args.map c.loop-k.map old.held now.held c.requires.agree c.loop-k.k c.loop-k.count at.closing at.coming c.slots-k-end.result c.slots-k-end.ensures c.loop-k-test.true from c.inx_at-from.ensures
+      closing = brings g.F.FnMut key c.args.generation number c.args.map c.loop-k.map old.held now.held c.requires.agree c.loop-k.k c.loop-k.count at.closing at.gathered c.slots-k-end.result c.slots-k-end.ensures c.loop-k-test.true from c.inx_at-from.ensures
           to c.inx_at-to.ensures c.in-Some.was moves.returned mid.held moves.values new.held link value wrote.stored wrote.held
           c._from_raw.result c._from_raw-in-Some-value_mut.result c.map.new.self c._from_raw.ensures c._from_raw-in-Some-value_mut.ensures
-          (record { lent = _; reports = refl; back = _; called = c.map.ensures; leaves = refl });
-      coming = comes g.F.FnMut key c.args.generation number c.args.map c.loop-k.map old.held now.held c.requires.agree c.loop-k.k c.loop-k.count at.closing at.coming c.slots-k-end.result c.slots-k-end.ensures c.loop-k-test.true from c.inx_at-from.ensures
+          (record { lent = _; lends = refl; back = _; called = c.map.ensures; leaves = refl });
+      gathered = arrives g.F.FnMut key c.args.generation number c.args.map c.loop-k.map old.held now.held c.requires.agree c.loop-k.k c.loop-k.count at.closing at.gathered c.slots-k-end.result c.slots-k-end.ensures c.loop-k-test.true from c.inx_at-from.ensures
           to c.inx_at-to.ensures c.in-Some.was moves.returned mid.held moves.values new.held link value wrote.stored wrote.held moves.moves;
       work = work_brings old.arena.now now.arena.now mid.arena.now c.loop-k.k c.loop-k.count at.work new.arena.now moves.work wrote.arena;
     }
@@ -101,9 +101,9 @@ returns g c =
     let inv = c.loop-k.invariant in
     record {
       same_reference = inv.same_reference;
-      closed = ends_closed g.F.FnMut key c.args.generation number c.args.map c.loop-k.map old.held now.held c.requires.agree c.loop-k.k c.loop-k.count inv.closing inv.coming c.slots-k-end.result c.slots-k-end.ensures c.loop-k.auto.k-end c.loop-k-test.false inv.capacity inv.maximum;
-      packed = ends_packed g.F.FnMut key c.args.generation number c.args.map c.loop-k.map old.held now.held c.requires.agree c.loop-k.k c.loop-k.count inv.closing inv.coming c.slots-k-end.result c.slots-k-end.ensures c.loop-k.auto.k-end c.loop-k-test.false;
-      visits = ends_visits g.F.FnMut key c.args.generation number c.args.map c.loop-k.map old.held now.held c.requires.agree c.loop-k.k c.loop-k.count inv.closing inv.coming c.slots-k-end.result c.slots-k-end.ensures c.loop-k.auto.k-end c.loop-k-test.false;
-      renamed = ends_renamed g.F.FnMut key c.args.generation number c.args.map c.loop-k.map old.held now.held c.requires.agree c.loop-k.k c.loop-k.count inv.closing inv.coming c.slots-k-end.result c.slots-k-end.ensures c.loop-k.auto.k-end c.loop-k-test.false;
-      work = ends_work g.F.FnMut key c.args.generation number c.args.map c.loop-k.map old.held now.held c.requires.agree c.loop-k.k c.loop-k.count inv.closing inv.coming c.slots-k-end.result c.slots-k-end.ensures c.loop-k.auto.k-end c.loop-k-test.false old.arena.now now.arena.now inv.work;
+      closed = ends_closed g.F.FnMut key c.args.generation number c.args.map c.loop-k.map old.held now.held c.requires.agree c.loop-k.k c.loop-k.count inv.closing inv.gathered c.slots-k-end.result c.slots-k-end.ensures c.loop-k.auto.k-end c.loop-k-test.false inv.capacity inv.maximum;
+      packed = ends_packed g.F.FnMut key c.args.generation number c.args.map c.loop-k.map old.held now.held c.requires.agree c.loop-k.k c.loop-k.count inv.closing inv.gathered c.slots-k-end.result c.slots-k-end.ensures c.loop-k.auto.k-end c.loop-k-test.false;
+      visits = ends_visits g.F.FnMut key c.args.generation number c.args.map c.loop-k.map old.held now.held c.requires.agree c.loop-k.k c.loop-k.count inv.closing inv.gathered c.slots-k-end.result c.slots-k-end.ensures c.loop-k.auto.k-end c.loop-k-test.false;
+      renamed = ends_renamed g.F.FnMut key c.args.generation number c.args.map c.loop-k.map old.held now.held c.requires.agree c.loop-k.k c.loop-k.count inv.closing inv.gathered c.slots-k-end.result c.slots-k-end.ensures c.loop-k.auto.k-end c.loop-k-test.false;
+      work = ends_work g.F.FnMut key c.args.generation number c.args.map c.loop-k.map old.held now.held c.requires.agree c.loop-k.k c.loop-k.count inv.closing inv.gathered c.slots-k-end.result c.slots-k-end.ensures c.loop-k.auto.k-end c.loop-k-test.false old.arena.now now.arena.now inv.work;
     }

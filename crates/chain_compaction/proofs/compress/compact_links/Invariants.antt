@@ -3,7 +3,7 @@ use Rattle.std.proofs.Common.{◌≡◌, ◌+◌, ◌*◌}
 use denote.Param.Always.{always_mut}
 use Rattle.arena_base.proofs.HoleClosingLemmas.{IsClosing}
 use Rattle.chain_compaction.specs.DetachedLinks.{slot_values, IsWork}
-use Rattle.chain_compaction.proofs.LinkCompressionLemmas.{AreComing}
+use Rattle.chain_compaction.proofs.LinkCompressionLemmas.{AreGathered}
 use Rattle.chain_compaction.proofs.compress.compact_links.Given as goal
 
 abbrev pub invariant-loop-k : goal.invariant-loop-k
@@ -13,6 +13,6 @@ invariant-loop-k g l = record {
   capacity : l.compactor.held.stack_capacity ≡ l.fn.compactor.held.stack_capacity;
   maximum : l.compactor.held.maximum ≡ l.fn.compactor.held.maximum;
   closing : IsClosing g.F.FnMut g.P.PtrKey.key l.generation l.fn.map (slot_values l.fn.compactor.held.slots) l.k l.count l.map (slot_values l.compactor.held.slots);
-  coming : AreComing g.P.Inx.InxKey.packed_number l.fn.compactor.held.slots l.compactor.held.slots l.k l.count;
+  gathered : AreGathered g.P.Inx.InxKey.packed_number l.fn.compactor.held.slots l.compactor.held.slots l.k l.count;
   work : IsWork l.fn.compactor.arena.now l.compactor.arena.now l.count (l.k + 3 * l.count);
 }

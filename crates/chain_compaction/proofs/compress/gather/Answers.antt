@@ -12,4 +12,4 @@ pub returns : goal.returns
 returns g c =
     links_gathered g.F.FnMut g.P.PtrKey.key c.args.map g.P.Inx.InxKey.packed_number g.P.Inx.InxKey.greatest g.S.SlotStack.initial_maximum c.generation-generation.result c.args.arena.now c.compactor-compactor.result.arena.now
     c.compact_links-count.new.compactor.arena.now _ c.compactor-compactor.result.held c.compact_links-count.new.compactor.held c.compactor-compactor.ensures.arena c.compactor-compactor.ensures.held (search rules)
-    c.compact_links-count.ensures.closed c.compact_links-count.ensures.visits c.compact_links-count.ensures.work c.invariants.ensures.within_capacity.1 c.generation-generation.ensures c.compact_links-count.ensures.renamed
+    c.compact_links-count.ensures.closed c.compact_links-count.ensures.visits c.compact_links-count.ensures.work c.invariants.ensures.capacity.1 c.generation-generation.ensures c.compact_links-count.ensures.renamed

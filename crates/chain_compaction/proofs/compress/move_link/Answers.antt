@@ -1,7 +1,7 @@
 -- `move_link` places the link and updates its neighbors.
 use Rattle.std.proofs.Common.{sym, ◌∙◌}
 use Rattle.std.specs.Option.{option_map}
-use Rattle.chain_compaction.proofs.DetachedLinkLemmas.{entry-view_after, move-values, move-reported, work-moved}
+use Rattle.chain_compaction.proofs.DetachedLinkLemmas.{entry-view_after, move-values, move-links, work-moved}
 use Rattle.chain_compaction.proofs.compress.move_link.Goals as goal
 
 pub bring-requires-clause-entry : goal.bring-requires-clause-entry
@@ -28,10 +28,10 @@ returns g c =
       same_reference = prev.same_reference ∙ (next.same_reference ∙ (places.same_reference ∙ lookup.was_read.same_reference));
       returned = sym c.in-Some.is ∙ lookup.generation;
       values = move-values packed_number old was_read brought known new from to c.args.generation lookup.was_read.held places.held next.values prev.values;
-      moves = move-reported packed_number old was_read brought known new from to c.args.generation lookup.was_read.held places.held
+      moves = move-links packed_number old was_read brought known new from to c.args.generation lookup.was_read.held places.held
           (option_map number c.index_now.result) (option_map number c.index_now-2.result) (option_map number c.read_link-was.result.1) (option_map number c.read_link-was.result.2)
           (g.met.P.Inx.InxKey.at_least_one c.args.from) c.requires.from (g.met.P.Inx.InxKey.at_least_one c.args.to) c.requires.to
-          lookup.prev lookup.next c.index_now.ensures c.index_now-2.ensures next.reports prev.reports;
+          lookup.prev lookup.next c.index_now.ensures c.index_now-2.ensures next.links prev.links;
       work = work-moved lookup.was_read.arena places.arena next.work prev.work;
       none = tt;
     }

@@ -12,15 +12,15 @@ returns-then-before g c =
     let packed = g.P.Inx.InxKey.packed_number in
     let i = number c.in-Some.i in
     let old = c.args.compactor.now in
-    let goes = Some (number c.args.named) in
+    let target = Some (number c.args.named) in
     let link = c.in-Some-value_mut.link.now in
     let left = c.set_prev.new.link in
     let new = c.value_mut.follows.lender left in
     let wrote = lent old new i c.value_mut.result c.in-Some-value_mut.link left c.in-Some-value_mut.is c.value_mut.ensures.value (c.value_mut.follows.holds left) in
     record {
       same_reference = wrote.same_reference;
-      values = prev_values number packed old.held new.held c.args.before c.args.i goes c.in-Some.i c.in-Some.is link left wrote.stored wrote.held c.if-before.true c.set_prev.ensures.rest;
-      reports = states_prev number packed old.held new.held c.args.before c.args.i goes c.in-Some.i c.in-Some.is link left wrote.stored wrote.held c.if-before.true c.set_prev.ensures.rest c.set_prev.ensures.prev;
+      values = prev_values number packed old.held new.held c.args.before c.args.i target c.in-Some.i c.in-Some.is link left wrote.stored wrote.held c.if-before.true c.set_prev.ensures.rest;
+      links = states_prev number packed old.held new.held c.args.before c.args.i target c.in-Some.i c.in-Some.is link left wrote.stored wrote.held c.if-before.true c.set_prev.ensures.rest c.set_prev.ensures.prev;
       work = work-touched old.arena.now new.arena.now wrote.arena;
     }
 
@@ -30,15 +30,15 @@ returns-else-before g c =
     let packed = g.P.Inx.InxKey.packed_number in
     let i = number c.in-Some.i in
     let old = c.args.compactor.now in
-    let goes = Some (number c.args.named) in
+    let target = Some (number c.args.named) in
     let link = c.in-Some-value_mut.link.now in
     let left = c.set_next.new.link in
     let new = c.value_mut.follows.lender left in
     let wrote = lent old new i c.value_mut.result c.in-Some-value_mut.link left c.in-Some-value_mut.is c.value_mut.ensures.value (c.value_mut.follows.holds left) in
     record {
       same_reference = wrote.same_reference;
-      values = next_values number packed old.held new.held c.args.before c.args.i goes c.in-Some.i c.in-Some.is link left wrote.stored wrote.held c.if-before.false c.set_next.ensures.rest;
-      reports = states_next number packed old.held new.held c.args.before c.args.i goes c.in-Some.i c.in-Some.is link left wrote.stored wrote.held c.if-before.false c.set_next.ensures.rest c.set_next.ensures.next;
+      values = next_values number packed old.held new.held c.args.before c.args.i target c.in-Some.i c.in-Some.is link left wrote.stored wrote.held c.if-before.false c.set_next.ensures.rest;
+      links = states_next number packed old.held new.held c.args.before c.args.i target c.in-Some.i c.in-Some.is link left wrote.stored wrote.held c.if-before.false c.set_next.ensures.rest c.set_next.ensures.next;
       work = work-touched old.arena.now new.arena.now wrote.arena;
     }
 
@@ -53,7 +53,7 @@ returns-in-None-value_mut g c =
     record {
       same_reference = kept.same_reference;
       values = kept_values number packed old.held new.held c.args.before c.args.i (Some (number c.args.named)) c.in-Some.i c.in-Some.is kept.held;
-      reports = states_nowhere number packed old.held new.held c.args.before c.args.i (Some (number c.args.named)) c.in-Some.i c.in-Some.is kept.held kept.none;
+      links = states_nowhere number packed old.held new.held c.args.before c.args.i (Some (number c.args.named)) c.in-Some.i c.in-Some.is kept.held kept.none;
       work = work-touched old.arena.now new.arena.now kept.arena;
     }
 
@@ -64,6 +64,6 @@ returns-in-None g c =
     record {
       same_reference = refl;
       values = refl;
-      reports = states_none number (link_map_in g.P.Inx.InxKey.packed_number old.held.slots) c.args.before c.args.i (Some (number c.args.named)) c.in-None.is;
+      links = states_none number (link_map_in g.P.Inx.InxKey.packed_number old.held.slots) c.args.before c.args.i (Some (number c.args.named)) c.in-None.is;
       work = work-none old.arena.now 1;
     }

@@ -3,7 +3,7 @@ use Rattle.std.proofs.Common.{◌≡◌, length, refl, subst, arith}
 use Rattle.chain_compaction.specs.Permutations.{ArePassed, waiting, destination_of, Settles, IsWorkOn}
 use Rattle.chain_compaction.proofs.SlotCountLemmas.{waiting-all}
 use Rattle.chain_compaction.proofs.PermutationStepLemmas.{settled_rests}
-use Rattle.chain_compaction.proofs.PermutationLoopLemmas.{passing_begins, passing_goes_on, passing_ends, passing_leaves_none, work_on-begins, work_on-after, work_on-ends}
+use Rattle.chain_compaction.proofs.PermutationLoopLemmas.{passing_begins, passing_continues, passing_ends, passing_leaves_none, work_on-begins, work_on-after, work_on-ends}
 use Rattle.chain_compaction.proofs.LinkLoanLemmas.{same_then, counts_on, capacity_then, maximum_then}
 use Rattle.chain_compaction.proofs.WorkCountLemmas.{counts_none}
 use Rattle.chain_compaction.proofs.permute.move_all.Goals as goal
@@ -37,7 +37,7 @@ loop-k-preserved g c =
     let next = c.settle.new.compactor in
     record {
       same_reference = same_then old now next inv.same_reference after.same_reference;
-      passed = passing_goes_on (destination_of packed_number) (Settles packed_number c.args.generation) (settled_rests packed_number c.args.generation) old.held.slots now.held.slots next.held.slots
+      passed = passing_continues (destination_of packed_number) (Settles packed_number c.args.generation) (settled_rests packed_number c.args.generation) old.held.slots now.held.slots next.held.slots
           c.loop-k.k (g.P.Inx.InxKey.number c.inx_at.result) inv.passed c.inx_at.ensures after.settles after.none;
       capacity = capacity_then old now next inv.capacity after.capacity;
       maximum = maximum_then old now next inv.maximum after.maximum;
@@ -50,19 +50,19 @@ pub returns : goal.returns
 returns g c =
     let old = c.args.compactor.now in
     let all : c.loop-k.k ≡ length old.held.slots = omega arith in
-    let goes = destination_of g.P.Inx.InxKey.packed_number in
+    let target = destination_of g.P.Inx.InxKey.packed_number in
     let settles = Settles g.P.Inx.InxKey.packed_number c.args.generation in
     let rests = settled_rests g.P.Inx.InxKey.packed_number c.args.generation in
     let now = c.loop-k.compactor in
     let inv = c.loop-k.invariant in
-    let passed = subst (ArePassed goes settles old.held.slots now.held.slots) all inv.passed in
+    let passed = subst (ArePassed target settles old.held.slots now.held.slots) all inv.passed in
     record {
       same_reference = inv.same_reference;
-      moved = passing_ends goes settles rests old.held.slots now.held.slots passed;
+      moved = passing_ends target settles rests old.held.slots now.held.slots passed;
       length = inv.passed.length;
       capacity = inv.capacity;
       maximum = inv.maximum;
-      totals = work_on-ends old.arena.now now.arena.now _ _ _ (length old.held.slots) (subst (IsWorkOn old.arena.now now.arena.now (waiting goes old.held.slots) (waiting goes now.held.slots)) all inv.work)
-          (passing_leaves_none goes settles rests old.held.slots now.held.slots passed) (waiting-all goes old.held.slots c.requires.can.each);
+      totals = work_on-ends old.arena.now now.arena.now _ _ _ (length old.held.slots) (subst (IsWorkOn old.arena.now now.arena.now (waiting target old.held.slots) (waiting target now.held.slots)) all inv.work)
+          (passing_leaves_none target settles rests old.held.slots now.held.slots passed) (waiting-all target old.held.slots c.requires.can.each);
       counts = inv.counts;
     }

@@ -1,6 +1,6 @@
 -- The slots up to k are settled.
 use Rattle.std.proofs.Common.{◌≡◌}
-use Rattle.chain_compaction.specs.WorkCounts.{CountsOn}
+use Rattle.chain_compaction.specs.WorkCounts.{CountsWork}
 use Rattle.chain_compaction.specs.Permutations.{ArePassed, waiting, destination_of, Settles, IsWorkOn}
 use Rattle.chain_compaction.proofs.permute.move_all.Given as goal
 
@@ -13,5 +13,5 @@ invariant-loop-k g l =
       capacity : l.compactor.held.stack_capacity ≡ l.fn.compactor.held.stack_capacity;
       maximum : l.compactor.held.maximum ≡ l.fn.compactor.held.maximum;
       work : IsWorkOn l.fn.compactor.arena.now l.compactor.arena.now (waiting (destination_of packed_number) l.fn.compactor.held.slots) (waiting (destination_of packed_number) l.compactor.held.slots) l.k;
-      counts : CountsOn l.fn.compactor.arena.now l.compactor.arena.now l.fn.compactor.placed l.fn.compactor.touched l.compactor.placed l.compactor.touched;
+      counts : CountsWork l.fn.compactor l.compactor;
     }

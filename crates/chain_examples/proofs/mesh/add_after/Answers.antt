@@ -3,21 +3,21 @@ use Rattle.std.proofs.Common.{refl}
 use Rattle.chain_laws.specs.Chains.{cyclic}
 use Rattle.chain_laws.specs.Insertions.{next_to}
 use Rattle.chain_traits.proofs.GenericArenaLemmas.{valid_link}
-use Rattle.chain_examples.proofs.MeshInvariantLemmas.{round_after}
-use Rattle.chain_examples.proofs.ListChangeLemmas.{comes_after, keeps_others}
+use Rattle.chain_examples.proofs.MeshInvariantLemmas.{cyclic_after}
+use Rattle.chain_examples.proofs.ListChangeLemmas.{added_after, keeps_others}
 use Rattle.chain_examples.proofs.mesh.add_after.Goals as goal
 
 pub returns-clause-ring : goal.returns-clause-ring
 returns-clause-ring g c =
-    let came = c.in-Ok.ensures.inserted in
-    comes_after g.A.ArenaTrait.entry g.A.ChainArenaTrait.interlinks cyclic (λ l. refl) c.args.corners.now c.insert.new.self (g.P.PtrKey.key c.in-Ok.p) c.args.t came.entries (g.P.PtrKey.key c.args.v)
-    (λ x y. (came.chains.after (g.P.PtrKey.key c.args.v).0 refl refl x y).1)
+    let gained = c.in-Ok.ensures.inserted in
+    added_after g.A.ArenaTrait.entry g.A.ChainArenaTrait.interlinks cyclic (λ l. refl) c.args.corners.now c.insert.new.self (g.P.PtrKey.key c.in-Ok.p) c.args.t gained.entries (g.P.PtrKey.key c.args.v)
+    (λ x y. (gained.chains.after (g.P.PtrKey.key c.args.v).0 refl refl x y).1)
 
 pub returns-clause-others : goal.returns-clause-others
 returns-clause-others g c =
-    let came = c.in-Ok.ensures.inserted in
-    keeps_others g.A.ArenaTrait.entry g.A.ChainArenaTrait.interlinks cyclic (λ l. refl) c.args.corners.now c.insert.new.self (g.P.PtrKey.key c.in-Ok.p) c.args.t came.entries (next_to (g.P.PtrKey.key c.args.v).0)
-    c.insert.ensures.agreed (g.met.A.ChainArenaTrait.links_are_entries c.args.corners.now (g.P.PtrKey.key c.in-Ok.p).0) came.chains
+    let gained = c.in-Ok.ensures.inserted in
+    keeps_others g.A.ArenaTrait.entry g.A.ChainArenaTrait.interlinks cyclic (λ l. refl) c.args.corners.now c.insert.new.self (g.P.PtrKey.key c.in-Ok.p) c.args.t gained.entries (next_to (g.P.PtrKey.key c.args.v).0)
+    c.insert.ensures.agreed (g.met.A.ChainArenaTrait.links_are_entries c.args.corners.now (g.P.PtrKey.key c.in-Ok.p).0) gained.chains
 
 pub returns-clause-corner : goal.returns-clause-corner
 returns-clause-corner g c = c.in-Ok.ensures.inserted.entries
@@ -26,13 +26,13 @@ pub returns-clause-size : goal.returns-clause-size
 returns-clause-size g c = c.in-Ok.ensures.inserted.more
 
 pub returns-clause-capacity : goal.returns-clause-capacity
-returns-clause-capacity g c = (c.in-Ok.ensures.within_capacity c.requires.within_capacity).1
+returns-clause-capacity g c = (c.in-Ok.ensures.within_capacity c.requires.capacity).1
 
 pub returns-clause-all_cyclic : goal.returns-clause-all_cyclic
 returns-clause-all_cyclic g c =
     let a = c.args.corners.now in
     let v = g.P.PtrKey.key c.args.v in
-    round_after (g.A.ChainArenaTrait.interlinks a) (g.A.ChainArenaTrait.interlinks c.insert.new.self) (g.P.PtrKey.key c.in-Ok.p).0 v.0 c.in-Ok.ensures.inserted.pairs (valid_link (g.A.ChainArenaTrait.interlinks a) (g.A.ArenaTrait.entry a) (g.A.ArenaTrait.view a).entries (g.met.A.ChainArenaTrait.links_are_entries a) (g.met.A.ArenaTrait.finds a) v c.requires.valid)
+    cyclic_after (g.A.ChainArenaTrait.interlinks a) (g.A.ChainArenaTrait.interlinks c.insert.new.self) (g.P.PtrKey.key c.in-Ok.p).0 v.0 c.in-Ok.ensures.inserted.pairs (valid_link (g.A.ChainArenaTrait.interlinks a) (g.A.ArenaTrait.entry a) (g.A.ArenaTrait.view a).entries (g.met.A.ChainArenaTrait.links_are_entries a) (g.met.A.ArenaTrait.finds a) v c.requires.valid)
 
 pub unreachable-requires : goal.unreachable-requires
-unreachable-requires g c = absurd (let succeeds = (c.in-Err.ensures.within_capacity c.requires.within_capacity).0 in cc)
+unreachable-requires g c = absurd (let succeeds = (c.in-Err.ensures.within_capacity c.requires.capacity).0 in cc)

@@ -20,4 +20,4 @@ returns-in-Some-clause-none c valid none =
     let links = link_map c.args.arena.now in
     let i = (key_of c.args.p).0 in
     none_read key_of (entry c.args.arena.now) c.in-Some.link.next (next_of links i) c.in-Some.ensures.link.after
-    (λ j is. sym (links_exist c.args.arena.now j) ∙ ap is_some (prev_valid links j i ((c.in-Some.ensures.agree.both i j).0 is)).reports) (sym c.next.ensures ∙ none)
+    (λ j is. sym (links_exist c.args.arena.now j) ∙ ap is_some (prev_valid links j i ((c.in-Some.ensures.agree.both i j).0 is)).links) (sym c.next.ensures ∙ none)

@@ -2,4 +2,4 @@
 use Rattle.chain_examples.proofs.named_type.remove_value.Goals as goal
 
 pub returns-clause-links : goal.returns-clause-links
-returns-clause-links c = λ valid. (c.remove.ensures.more valid).reports
+returns-clause-links c = λ valid. (c.remove.ensures.more valid).links

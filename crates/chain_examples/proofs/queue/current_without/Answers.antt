@@ -11,9 +11,9 @@ returns-then-is_same g c = λ before after task is.
     let links = g.A.ChainArenaTrait.interlinks c.args.tasks.now in
     let p = g.P.PtrKey.key c.args.p in
     let same : c.args.current ≡ c.args.p = (g.met.P.PtrKey.same_is_equal c.args.current c.args.p).0 (sym c.is_same.ensures ∙ c.if-is_same.true) in
-    let turn = subst (λ (q : g.row.P.Denot). IsQueueOrder entry links (Some (g.P.PtrKey.key q)) (before ++ (p, task) ∷ after)) same is in
-    let empty = is_first entry links p task before after turn in
-    c.other_after.ensures (p, task) after (subst (λ (xs : List (Item g.row.P-Gen.Denot g.row.T.Denot)). IsQueueOrder entry links (Some p) (xs ++ (p, task) ∷ after)) empty turn)
+    let order = subst (λ (q : g.row.P.Denot). IsQueueOrder entry links (Some (g.P.PtrKey.key q)) (before ++ (p, task) ∷ after)) same is in
+    let empty = is_first entry links p task before after order in
+    c.other_after.ensures (p, task) after (subst (λ (xs : List (Item g.row.P-Gen.Denot g.row.T.Denot)). IsQueueOrder entry links (Some p) (xs ++ (p, task) ∷ after)) empty order)
     ∙ ap (λ (xs : List (Item g.row.P-Gen.Denot g.row.T.Denot)). first_key (xs ++ after)) (sym empty)
 
 pub returns : goal.returns

@@ -26,5 +26,5 @@ returns-in-Some-clause-some g c =
     let same = both_some (λ q. IsValid entry (g.P.PtrKey.key q)) (λ q. (g.P.PtrKey.key q).0) c.in-Some.link.next (next_of links i)
     (was_read g.P.PtrKey.key entry c.in-Some.link.next _ c.in-Some.ensures.link.after)
     (none_read g.P.PtrKey.key entry c.in-Some.link.next (next_of links i) c.in-Some.ensures.link.after
-    (λ j is. sym (g.met.A.ChainArenaTrait.links_are_entries c.args.arena.now j) ∙ ap is_some (prev_valid links j i ((c.in-Some.ensures.agree.both i j).0 is)).reports)) in
+    (λ j is. sym (g.met.A.ChainArenaTrait.links_are_entries c.args.arena.now j) ∙ ap is_some (prev_valid links j i ((c.in-Some.ensures.agree.both i j).0 is)).links)) in
     (λ some. (c.in-Some.ensures.some.0 refl, sym same ∙ (ap is_some (sym c.next.ensures) ∙ some)), λ both. ap is_some c.next.ensures ∙ (same ∙ both.1))

@@ -5,14 +5,14 @@ use Rattle.chain_laws.specs.Chains.{next_in}
 use Rattle.chain_links.specs.ChainArena.{link_map, entry}
 use Rattle.chain_links.specs.Links.{links_view}
 use Rattle.chain_links.specs.Kinds.{name_of}
-use Rattle.chain_linking.proofs.InsertPositionLemmas.{may_come_after, no_position}
+use Rattle.chain_linking.proofs.InsertPositionLemmas.{may_insert_after, no_position}
 use Rattle.chain_linking.proofs.insert_position.after.Goals as goal
 
 pub returns-in-Some : goal.returns-in-Some
 returns-in-Some g c =
     let view_after = links_view g.P.Inx.InxKey.packed_number c.args.arena.now in
     record {
-      some = (λ _. may_come_after (entry view_after) (link_map view_after) (name_of g.P.PtrKey.key g.P.Inx.InxKey.number c.args.a) _ (c.in-Some.ensures.some.0 refl) c.in-Some.ensures.link, λ _. refl);
+      some = (λ _. may_insert_after (entry view_after) (link_map view_after) (name_of g.P.PtrKey.key g.P.Inx.InxKey.number c.args.a) _ (c.in-Some.ensures.some.0 refl) c.in-Some.ensures.link, λ _. refl);
       before = λ q. ap Some c.index_of.ensures;
       after = λ q. c.next.ensures ∙ sym (ap next_in c.in-Some.ensures.link);
     }

@@ -4,7 +4,7 @@ use Rattle.std.proofs.lemmas.Bool.{false≢true}
 use Rattle.chain_links.specs.ChainArena.{link_map, entry, interlinks_in}
 use Rattle.chain_links.specs.Links.{links_view, link_view}
 use Rattle.chain_links.specs.Kinds.{name_of}
-use Rattle.chain_linking.proofs.InsertPositionLemmas.{may_come_between, found_valid, no_position}
+use Rattle.chain_linking.proofs.InsertPositionLemmas.{may_insert_between, found_valid, no_position}
 use Rattle.chain_linking.proofs.insert_position.between.Goals as goal
 
 pub returns-then-is_some : goal.returns-then-is_some
@@ -15,7 +15,7 @@ returns-then-is_some g c =
     let found = sym c.is_some.ensures ∙ c.if-is_some.true in
     record {
       some = (
-        λ _. may_come_between (entry view_after) (link_map view_after) (name c.args.a) (name c.args.b) _ (c.in-Some.ensures.some.0 refl) (c.find-then-is_index.ensures.some.0 found) c.in-Some.ensures.link
+        λ _. may_insert_between (entry view_after) (link_map view_after) (name c.args.a) (name c.args.b) _ (c.in-Some.ensures.some.0 refl) (c.find-then-is_index.ensures.some.0 found) c.in-Some.ensures.link
             (found_valid (link_map view_after) (name c.args.b).0 (λ link. interlinks_in (link_view g.P.Inx.InxKey.packed_number link.now)) c.find-then-is_index.result found c.find-then-is_index.ensures.link)
             (sym c.next.ensures ∙ (next ∙ ap Some c.index_of.ensures)),
         λ _. refl,

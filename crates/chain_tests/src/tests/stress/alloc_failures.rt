@@ -18,7 +18,7 @@ use std::process::Abort;
 // Calls that need more capacity than a full arena has.
 const GROWTHS: [Do; 7] = [
     Do::Reserve(100),
-    Do::InsertAsked(Kind::NextTo((1, 2)), 7),
+    Do::InsertIfAllowed(Kind::NextTo((1, 2)), 7),
     Do::Insert(Kind::NextTo((1, 2)), 7),
     Do::InsertByAnyEntry(Kind::NextTo((1, 2)), 7),
     Do::InsertByEntry(Kind::NextTo((1, 2)), 7),
@@ -77,8 +77,8 @@ fn refused() -> &'static [Script] {
 
 // Returns whether a result reports an error or `false`.
 fn is_refused<A: RunsCalls>(alloc: Global, arena: &mut A, call: Do) -> bool {
-    let answer = arena.run_call(alloc, call);
-    answer.contains("Err") || answer.contains("false")
+    let outcome = arena.run_call(alloc, call);
+    outcome.contains("Err") || outcome.contains("false")
 }
 
 // Returns a full arena, or one with holes.
@@ -93,8 +93,8 @@ type Texts = (String, String, String);
 
 fn arena_texts<A: RunsCalls>(alloc: Global, arena: &mut A) -> Texts {
     let links = arena.run_call(alloc, Do::Debug);
-    let room = arena.run_call(alloc, Do::Capacities);
-    (links, room, arena.run_call(alloc, Do::SlotsListed))
+    let capacities = arena.run_call(alloc, Do::Capacities);
+    (links, capacities, arena.run_call(alloc, Do::SlotsListed))
 }
 
 // Returns whether a call is refused at first, and the arena and the next pointer after it. Checks
@@ -128,7 +128,7 @@ fn next_is_refused<A: RunsCalls + Drop>(rt: &impl Abort, alloc: Global) -> bool 
     let mut arena: A = begun(alloc, Do::Fill);
     for call in NO_GROWTHS {
         let refused = is_refused(alloc, &mut arena, call);
-        same(rt, "no memory is asked for", refused, false);
+        same(rt, "allocates nothing", refused, false);
     }
     is_refused(alloc, &mut arena, Do::Reserve(100))
 }
@@ -141,9 +141,9 @@ fn check_grown<A: RunsCalls + Drop, B: RunsCalls + Drop>(
     calls: &[Do],
 ) {
     for call in calls {
-        let (_, shown, next) = grown::<B>(rt, alloc, begin, *call);
+        let (_, listing, next) = grown::<B>(rt, alloc, begin, *call);
         let got = grown::<A>(rt, alloc, begin, *call);
-        same(rt, "refused at first", got, (true, shown, next));
+        same(rt, "refused at first", got, (true, listing, next));
     }
 }
 
@@ -223,8 +223,8 @@ fn check_bearing_copies<S: SlotStack<Item = Slot>, R: SlotStack<Item = Bare>>(
 ) {
     check_bearing_links::<S>(rt, alloc);
     let mut target: Arena<ToolPtr, u32, R> = fresh_plain(alloc);
-    let told = copied_twice::<S, R>(alloc, &mut target);
-    same(rt, "a copy", told.contains("(Ok(())"), true);
+    let reply = copied_twice::<S, R>(alloc, &mut target);
+    same(rt, "a copy", reply.contains("(Ok(())"), true);
 }
 
 #[test]
@@ -235,6 +235,6 @@ fn a_request_may_be_refused(rt: HostRuntime) {
 }
 
 #[test]
-fn what_asks_for_no_memory(rt: HostRuntime) {
+fn calls_without_allocation(rt: HostRuntime) {
     let _ = next_is_refused::<ChainsOver<HeapStack<Slot>>>(&rt, rt.alloc());
 }

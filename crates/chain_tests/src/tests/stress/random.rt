@@ -191,20 +191,20 @@ fn follow(rt: &impl Abort, lists: &mut Lists, step: Step, named: Named, t: u32) 
     }
 }
 
-fn is_valid<T>(answer: &InvalidationResult<T>) -> bool {
-    !matches!(answer, InvalidationResult::InvalidPtr)
+fn is_valid<T>(outcome: &InvalidationResult<T>) -> bool {
+    !matches!(outcome, InvalidationResult::InvalidPtr)
 }
 
-// Returns whether a reply reports the call as done, or `None` if capacity or memory was refused.
+// Returns whether a reply reports the call as done, or `None` if capacity or an allocation failed.
 fn is_done(reply: &Reply<ToolPtr, u32>) -> Option<bool> {
     match reply {
         Reply::Inserted(Ok(_)) => Some(true),
         Reply::Inserted(Err(ChainInsertionError::FailedLinkRequirement)) => Some(false),
         Reply::Inserted(Err(_)) | Reply::Reserved(Err(_)) => None,
         Reply::Done(done) => Some(*done),
-        Reply::Removed(answer) => Some(is_valid(answer)),
-        Reply::RemovedInx(answer) => Some(is_valid(answer)),
-        Reply::Renewed(answer) => Some(is_valid(answer)),
+        Reply::Removed(outcome) => Some(is_valid(outcome)),
+        Reply::RemovedInx(outcome) => Some(is_valid(outcome)),
+        Reply::Renewed(outcome) => Some(is_valid(outcome)),
         Reply::Drained(count) => Some(count.is_some()),
         Reply::Counted(_) | Reply::Reserved(Ok(())) | Reply::Set => Some(true),
     }
@@ -404,7 +404,12 @@ fn no_counts() -> Counts {
 fn check_counts(rt: &impl Abort, counts: Counts, refused: u32) {
     same(rt, "calls that were done", counts.done > 250, true);
     same(rt, "calls that were not", counts.undone > 250, true);
-    same(rt, "calls without room", counts.refused >= refused, true);
+    same(
+        rt,
+        "calls without capacity",
+        counts.refused >= refused,
+        true,
+    );
     same(rt, "the counter began anew", counts.counter_fell > 10, true);
 }
 

@@ -34,5 +34,5 @@ returns-clause-next g c =
       none_below = first.0.low;
       start = subst (λ i. IsStart links i (g.Q.Inx.InxKey.number c.start_of-start.result)) c.inx.ensures c.start_of-start.ensures.start;
       cyclic = c.is_some.ensures ∙ (sym (is_some-map g.Q.Inx.InxKey.number c.before-in-Some.result) ∙ ap is_some c.before-in-Some.ensures);
-      lookups = first.1;
+      cursor = first.1;
     }

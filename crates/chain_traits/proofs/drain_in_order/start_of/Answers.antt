@@ -1,6 +1,6 @@
 -- One more step back, a linear chain's start, and a cyclic chain once around.
 use Rattle.std.proofs.Common.{◌≡◌, Bool, true, false, Some, sym, ap, ◌∙◌, arith, of_calls}
-use Rattle.chain_laws.proofs.WalkLemmas.WalkBack.{back_begins, back_goes_on, back_ends, back_comes_round}
+use Rattle.chain_laws.proofs.WalkLemmas.WalkBack.{back_begins, back_continues, back_ends, back_wraps_around}
 use Rattle.chain_laws.proofs.ChainLemmas.LinkedLists.{next_valid}
 use Rattle.chain_traits.proofs.GenericArenaLemmas.{few_back, valid_some}
 use Rattle.chain_traits.proofs.drain_in_order.start_of.Goals as goal
@@ -16,7 +16,7 @@ returns-then-is_same-clause-start g c =
     let number = g.Q.Inx.InxKey.number in
     let known : c.is_same.result ≡ g.Q.Inx.InxKey.same c.in-Some.k c.args.i = search of_calls in
     let same = (g.met.Q.Inx.InxKey.same_is_equal c.in-Some.k c.args.i).0 (sym known ∙ c.if-is_same.true) in
-    back_comes_round (g.A.ChainArenaTrait.interlinks c.args.source.now) (number c.args.i) c.loop-step.step (number c.loop-step.at) c.loop-step.invariant.back
+    back_wraps_around (g.A.ChainArenaTrait.interlinks c.args.source.now) (number c.args.i) c.loop-step.step (number c.loop-step.at) c.loop-step.invariant.back
     (sym c.in-Some.ensures ∙ ap (λ k. Some (number k)) same)
 
 pub returns-in-None-clause-start : goal.returns-in-None-clause-start
@@ -32,7 +32,7 @@ loop-step-preserved g c =
     let known : c.is_same.result ≡ g.Q.Inx.InxKey.same c.in-Some.k c.args.i = search of_calls in
     let before = sym c.in-Some.ensures in
     record {
-      back = back_goes_on links (number c.args.i) c.loop-step.step (number c.loop-step.at) (number c.in-Some.k) c.loop-step.invariant.back before
+      back = back_continues links (number c.args.i) c.loop-step.step (number c.loop-step.at) (number c.in-Some.k) c.loop-step.invariant.back before
           (λ e. not_both _ ((g.met.Q.Inx.InxKey.same_is_equal c.in-Some.k c.args.i).1 (g.met.Q.Inx.InxKey.same_number c.in-Some.k c.args.i e)) (sym known ∙ c.if-is_same.false));
       some = valid_some links (g.A.ArenaTrait.entry source) (g.A.ArenaTrait.view source).entries (g.met.A.ChainArenaTrait.links_are_entries source) (g.met.A.ArenaTrait.finds source) (number c.in-Some.k)
           (next_valid links (number c.in-Some.k) (number c.loop-step.at) ((c.requires.agree.both (number c.in-Some.k) (number c.loop-step.at)).1 before));

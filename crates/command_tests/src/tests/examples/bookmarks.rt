@@ -103,8 +103,8 @@ fn are_same<P: PtrKey>(marks: &[Option<P>], others: &[Option<P>]) -> bool {
     true
 }
 
-// Renumbers, again if memory is refused, and returns whether it is done. A refusal changes neither
-// texts nor bookmarks.
+// Renumbers, again if an allocation fails, and returns whether it is done. A refusal changes
+// neither texts nor bookmarks.
 fn renumbered<P: PtrKey, A: Renumbers<P>>(
     alloc: Global,
     texts: &mut Documents<P, u32, A>,

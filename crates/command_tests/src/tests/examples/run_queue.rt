@@ -9,7 +9,7 @@ use std::mem;
 
 // A call on a queue, which yields a number. Tasks are numbered in the order of their insertion.
 #[derive(Clone, Copy)]
-enum Turn {
+enum Operation {
     // The new task's number, or 0 if it is refused.
     Spawn(u32),
     // The number of the current task, after a step or now.
@@ -33,42 +33,42 @@ enum Turn {
 
 // The first task is current. The third is canceled while another is current, and the fifth while it
 // is itself.
-const ROWS: [(Turn, u32); 35] = [
-    (Turn::Next, 0),
-    (Turn::IsEmpty, 1),
-    (Turn::Reserve(3), 1),
-    (Turn::Reserve(usize::MAX), 0),
-    (Turn::Spawn(4), 1),
-    (Turn::Spawn(5), 2),
-    (Turn::Spawn(6), 3),
-    (Turn::Spawn(7), 4),
-    (Turn::Spawn(8), 5),
-    (Turn::Current, 1),
-    (Turn::Next, 2),
-    (Turn::Next, 3),
-    (Turn::Next, 4),
-    (Turn::Next, 5),
-    (Turn::Next, 1),
-    (Turn::Cancel(3), 6),
-    (Turn::Cancel(3), 0),
-    (Turn::Next, 2),
-    (Turn::Next, 4),
-    (Turn::Next, 5),
-    (Turn::Cancel(5), 8),
-    (Turn::Current, 1),
-    (Turn::Count, 3),
-    (Turn::IsEmpty, 0),
-    (Turn::HasCapacity, 1),
-    (Turn::Read(2), 5),
-    (Turn::Read(3), 0),
-    (Turn::Write(2, 9), 5),
-    (Turn::Write(3, 9), 0),
-    (Turn::Read(2), 9),
-    (Turn::Reserve(7), 1),
-    (Turn::Next, 2),
-    (Turn::Drain, 974),
-    (Turn::Count, 0),
-    (Turn::IsEmpty, 1),
+const ROWS: [(Operation, u32); 35] = [
+    (Operation::Next, 0),
+    (Operation::IsEmpty, 1),
+    (Operation::Reserve(3), 1),
+    (Operation::Reserve(usize::MAX), 0),
+    (Operation::Spawn(4), 1),
+    (Operation::Spawn(5), 2),
+    (Operation::Spawn(6), 3),
+    (Operation::Spawn(7), 4),
+    (Operation::Spawn(8), 5),
+    (Operation::Current, 1),
+    (Operation::Next, 2),
+    (Operation::Next, 3),
+    (Operation::Next, 4),
+    (Operation::Next, 5),
+    (Operation::Next, 1),
+    (Operation::Cancel(3), 6),
+    (Operation::Cancel(3), 0),
+    (Operation::Next, 2),
+    (Operation::Next, 4),
+    (Operation::Next, 5),
+    (Operation::Cancel(5), 8),
+    (Operation::Current, 1),
+    (Operation::Count, 3),
+    (Operation::IsEmpty, 0),
+    (Operation::HasCapacity, 1),
+    (Operation::Read(2), 5),
+    (Operation::Read(3), 0),
+    (Operation::Write(2, 9), 5),
+    (Operation::Write(3, 9), 0),
+    (Operation::Read(2), 9),
+    (Operation::Reserve(7), 1),
+    (Operation::Next, 2),
+    (Operation::Drain, 974),
+    (Operation::Count, 0),
+    (Operation::IsEmpty, 1),
 ];
 
 fn spawned<P: PtrKey, A: ChainArenaTrait<P, u32> + Drop>(
@@ -119,29 +119,29 @@ fn done<P: PtrKey, A: ChainArenaTrait<P, u32> + Drop>(
     alloc: Global,
     queue: &mut RunQueue<P, u32, A>,
     names: &mut Vec<P>,
-    turn: Turn,
+    operation: Operation,
 ) -> u32 {
-    match turn {
-        Turn::Spawn(task) => spawned(queue, names, task),
-        Turn::Next => number(names, queue.next()),
-        Turn::Cancel(n) => queue.cancel(name(names, n)).unwrap_or(0),
-        Turn::Write(n, task) => written(queue, name(names, n), task),
-        Turn::Reserve(n) => reserved(queue, n),
-        Turn::Drain => drained(alloc, queue),
-        look => lookups_agree(queue, names, look),
+    match operation {
+        Operation::Spawn(task) => spawned(queue, names, task),
+        Operation::Next => number(names, queue.next()),
+        Operation::Cancel(n) => queue.cancel(name(names, n)).unwrap_or(0),
+        Operation::Write(n, task) => written(queue, name(names, n), task),
+        Operation::Reserve(n) => reserved(queue, n),
+        Operation::Drain => drained(alloc, queue),
+        lookup => lookups_agree(queue, names, lookup),
     }
 }
 
 fn lookups_agree<P: PtrKey, A: ChainArenaTrait<P, u32> + Drop>(
     queue: &RunQueue<P, u32, A>,
     names: &[P],
-    turn: Turn,
+    operation: Operation,
 ) -> u32 {
-    match turn {
-        Turn::Current => number(names, queue.current()),
-        Turn::Read(n) => queue.get(name(names, n)).copied().unwrap_or(0),
-        Turn::IsEmpty => u32::from(queue.is_empty()),
-        Turn::HasCapacity => {
+    match operation {
+        Operation::Current => number(names, queue.current()),
+        Operation::Read(n) => queue.get(name(names, n)).copied().unwrap_or(0),
+        Operation::IsEmpty => u32::from(queue.is_empty()),
+        Operation::HasCapacity => {
             u32::from(queue.capacity() >= queue.len() && queue.max_capacity().is_none())
         }
         _ => u32::try_from(queue.len()).unwrap_or(u32::MAX),
@@ -168,14 +168,14 @@ fn holds<P: PtrKey, A: ChainArenaTrait<P, u32> + Drop>(
     alloc: Global,
     queue: &mut RunQueue<P, u32, A>,
     names: &mut Vec<P>,
-    row: &(Turn, u32),
+    row: &(Operation, u32),
 ) -> bool {
-    let (turn, want) = *row;
+    let (operation, want) = *row;
     let before = contents(queue, names);
-    if done(alloc, queue, names, turn) == want {
+    if done(alloc, queue, names, operation) == want {
         return true;
     }
-    contents(queue, names) == before && done(alloc, queue, names, turn) == want
+    contents(queue, names) == before && done(alloc, queue, names, operation) == want
 }
 
 pub(super) fn differing<P: PtrKey, A: ChainArenaTrait<P, u32> + Drop>(alloc: Global) -> Differing {

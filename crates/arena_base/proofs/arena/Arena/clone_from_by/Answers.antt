@@ -4,7 +4,7 @@ use Rattle.std.proofs.lemmas.List.{length-map}
 use Rattle.arena_base.specs.Slots.{entry_of}
 use Rattle.arena_base.proofs.SoundnessLemmas.{closed, none_sound}
 use Rattle.arena_base.proofs.SlotShapeLemmas.{sound_too}
-use Rattle.arena_base.proofs.SlotCopyLemmas.{has_slots_of, given_up, on_err_is, on_ok_is, equal_capacity}
+use Rattle.arena_base.proofs.SlotCopyLemmas.{has_slots_of, copy_abandoned, on_err_is, on_ok_is, equal_capacity}
 use Rattle.arena_base.proofs.ArenaGrowthLemmas.{same_reach, stays_within_reach}
 use Rattle.arena_base.proofs.arena.Arena.clone_from_by.Goals as goal
 
@@ -63,7 +63,7 @@ returns-in-Err-copied g c =
       reached = same_reach g.S.SlotStack.may_reach (length c.args.source.now.slots) c.args.self.now c.reallocate_min_capacity.new.self (stays ∙ ap (λ a. a.stack_capacity) c.self.view_is) (rw (← count) grown.more.1);
       err = inr (
         rw (← c.source.view_is) (on_err_is c.copy_slots-copied.result.0 _ c.in-Err-copied.is c.copy_slots-copied.ensures.refused),
-        given_up g.P.Inx.InxKey.number (g.S.SlotStack.items c.truncate-in-Err-copied.new.self) (g.S.SlotStack.items self.slots) _ self.counter greatest (g.S.SlotStack.capacity c.truncate-in-Err-copied.new.self) (g.S.SlotStack.capacity self.slots) (g.S.SlotStack.maximum c.truncate-in-Err-copied.new.self) (g.S.SlotStack.maximum self.slots)
+        copy_abandoned g.P.Inx.InxKey.number (g.S.SlotStack.items c.truncate-in-Err-copied.new.self) (g.S.SlotStack.items self.slots) _ self.counter greatest (g.S.SlotStack.capacity c.truncate-in-Err-copied.new.self) (g.S.SlotStack.capacity self.slots) (g.S.SlotStack.maximum c.truncate-in-Err-copied.new.self) (g.S.SlotStack.maximum self.slots)
             self.placed.count self.touched.count c.args.self.now c.reallocate_min_capacity.new.self c.truncate-in-Err-copied.ensures.items stays limit c.self.view_is grown.more.0,
       );
     }

@@ -20,7 +20,7 @@ returns g c =
       beyond = grown.beyond;
       greatest = λ above. absurd (omega (arith, above, c.greatest.ensures.value));
       ok = on_ok c.reserve_to.result (λ fits. record {
-        within_capacity = (capacity_for greatest c.args.n (g.S.SlotStack.capacity new) (g.S.SlotStack.maximum inside.slots) fits (omega (arith, c.greatest.ensures.value)) within, refl, within);
+        capacity = (capacity_for greatest c.args.n (g.S.SlotStack.capacity new) (g.S.SlotStack.maximum inside.slots) fits (omega (arith, c.greatest.ensures.value)) within, refl, within);
         reached = reached;
       }) grown.grown;
       reached = reached;

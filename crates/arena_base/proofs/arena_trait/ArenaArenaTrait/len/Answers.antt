@@ -28,5 +28,5 @@ returns g c =
       filled = they_fill _ are_listed _ _;
       entries = sound.counted;
       listed = are_listed;
-      within_capacity = (capacity_for greatest _ capacity (g.S.SlotStack.maximum slots) (omega (arith, many, within)) (omega (arith, many, sound.fits)) (g.met.S.SlotStack.within_maximum slots), refl, g.met.S.SlotStack.within_maximum slots);
+      capacity = (capacity_for greatest _ capacity (g.S.SlotStack.maximum slots) (omega (arith, many, within)) (omega (arith, many, sound.fits)) (g.met.S.SlotStack.within_maximum slots), refl, g.met.S.SlotStack.within_maximum slots);
     })

@@ -1,5 +1,5 @@
 -- The view of the copy.
-use Rattle.arena_base.proofs.SlotCopyLemmas.{copy_viewed, given_up_viewed, on_err_either, on_ok, on_ok_both}
+use Rattle.arena_base.proofs.SlotCopyLemmas.{copy_viewed, copy_abandoned_viewed, on_err_either, on_ok, on_ok_both}
 use Rattle.arena_base.proofs.copy.ArenaArenaCloneFromWith.clone_from_by.Goals as goal
 
 pub returns-clause-copied : goal.returns-clause-copied
@@ -11,7 +11,7 @@ returns-clause-copied g c =
 pub returns-clause-err : goal.returns-clause-err
 returns-clause-err g c =
     let called = c.clone_from_by in
-    on_err_either called.result.0 (λ same. same) (λ gave_up. (gave_up.0, given_up_viewed c.args.self.now called.new.self gave_up.1)) called.ensures.err
+    on_err_either called.result.0 (λ same. same) (λ gave_up. (gave_up.0, copy_abandoned_viewed c.args.self.now called.new.self gave_up.1)) called.ensures.err
 
 pub returns-clause-more : goal.returns-clause-more
 returns-clause-more g c = on_ok c.clone_from_by.result.0 (λ slots. (slots, c.clone_from_by.ensures.reached)) c.clone_from_by.ensures.slots

@@ -5,5 +5,5 @@ use Rattle.arena_ptr.proofs.chunk_stack.ChunkStack.add_block.Goals as goal
 
 pub invariant_of-self : goal.invariant_of-self
 invariant_of-self g c =
-    let more = more_blocks c.args.self.now c.in_ok-block.block (is_ok c.push.result) c.push.new.self.items c.push.ensures.items c.in_ok-block.ensures.items c.in_ok-block.ensures.within_capacity c.requires in
+    let more = more_blocks c.args.self.now c.in_ok-block.block (is_ok c.push.result) c.push.new.self.items c.push.ensures.items c.in_ok-block.ensures.items c.in_ok-block.ensures.capacity c.requires in
     record { filled = more.0; fits = more.1 }

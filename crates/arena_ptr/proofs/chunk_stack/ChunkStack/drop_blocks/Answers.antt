@@ -10,9 +10,9 @@ invariant_of-self g c =
     let is = c.truncate.ensures.items in
     let long = ap length is ∙ length-take c.args.count s.blocks.items in
     record {
-      filled = subst (λ bs. AreFilled bs s.len) (sym is) (fewer_in s.blocks.items s.len c.args.count c.requires.within_capacity s.filled).1;
+      filled = subst (λ bs. AreFilled bs s.len) (sym is) (fewer_in s.blocks.items s.len c.args.count c.requires.capacity s.filled).1;
       fits = omega (arith, long, s.fits);
     }
 
 pub returns-clause-items : goal.returns-clause-items
-returns-clause-items g c = let s = c.args.self.now in ap items_in c.truncate.ensures.items ∙ (fewer_in s.blocks.items s.len c.args.count c.requires.within_capacity s.filled).0
+returns-clause-items g c = let s = c.args.self.now in ap items_in c.truncate.ensures.items ∙ (fewer_in s.blocks.items s.len c.args.count c.requires.capacity s.filled).0

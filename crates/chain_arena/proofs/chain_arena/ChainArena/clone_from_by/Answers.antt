@@ -7,7 +7,7 @@ use Rattle.chain_links.specs.ChainArena.{link_map}
 use Rattle.chain_links.specs.Links.{link_view, links_view}
 use Rattle.chain_links.proofs.MappedArenaLemmas.{length-with_each}
 use Rattle.chain_arena.specs.LinkCopies.{MakesOf}
-use Rattle.chain_arena.proofs.LinkCopyLemmas.{agrees_copied, either_way, given_up_agrees, link_copied, refusable_viewed}
+use Rattle.chain_arena.proofs.LinkCopyLemmas.{agrees_copied, either_way, copy_abandoned_agrees, link_copied, refusable_viewed}
 use Rattle.chain_arena.proofs.chain_arena.ChainArena.clone_from_by.Goals as goal
 
 pub invariant_of-self : goal.invariant_of-self
@@ -19,7 +19,7 @@ invariant_of-self g c =
     let new = called.new.self in
     either_way called.result.0 (λ made has. agrees_copied number (MakesOf (link_view number) g.M.ValueMap.makes) (λ m. m.values) g.P.PtrKey.key _ called.result.1 source old new made has c.source.invariant)
     (λ same. subst (λ a. IsWellLinked (link_map (links_view number a))) (sym same.0) c.self.invariant)
-    (λ gave_up. given_up_agrees (links_view number old) (links_view number new) (ap (links_view number) gave_up.1)) called.ensures.copied called.ensures.slots called.ensures.err
+    (λ gave_up. copy_abandoned_agrees (links_view number old) (links_view number new) (ap (links_view number) gave_up.1)) called.ensures.copied called.ensures.slots called.ensures.err
 
 pub returns-clause-within : goal.returns-clause-within
 returns-clause-within g c =

@@ -12,7 +12,7 @@ use Rattle.chain_arena.proofs.chain_arena.ChainArena.compress_canonical_by.Goals
 pub invariant_of-self : goal.invariant_of-self
 invariant_of-self g c =
     let view_after = links_view g.P.Inx.InxKey.packed_number in
-    arranged_agree g.V.Visitor.sees g.P.PtrKey.key c.args.visitor c.arrange-visitor.result.0 _ (view_after c.self.inside.arena) (view_after c.begin_generation-overflow.new.arena) (view_after c.arrange-visitor.new.arena)
+    arranged_agree g.V.Visitor.sees g.P.PtrKey.key c.args.visitor c.arrange-visitor.result.0 _ (view_after c.self.inside.arena) (view_after c.begin_generation-overflow.new.self) (view_after c.arrange-visitor.new.arena)
     (ap view_after c.begin_generation-overflow.ensures.after) c.arrange-visitor.ensures.arranged c.self.invariant
 
 pub returns : goal.returns
@@ -20,7 +20,7 @@ returns g c =
     let number = g.P.Inx.InxKey.packed_number in
     let a = c.self.inside.arena in
     let old = links_view number a in
-    let mid = links_view number c.begin_generation-overflow.new.arena in
+    let mid = links_view number c.begin_generation-overflow.new.self in
     let new = links_view number c.arrange-visitor.new.arena in
     let begun = ap (links_view number) c.begin_generation-overflow.ensures.after in
     let made = c.arrange-visitor.ensures in

@@ -6,4 +6,4 @@ pub returns : goal.returns
 returns g c =
     let made = c.reallocate_min_capacity-grown.ensures in
     grows_by_one g.S.SlotStack.may_reach g.P.Inx.InxKey.greatest c.len-n.result c.args.self.now c.reallocate_min_capacity-grown.new.self c.reallocate_min_capacity-grown.result c.len-n.ensures.links c.len-n.ensures.fits
-    made.within made.beyond made.ok made.err made.more.0 made.more.2 c.invariants.ensures.within_capacity
+    made.within made.beyond made.ok made.err made.more.0 made.more.2 c.invariants.ensures.capacity

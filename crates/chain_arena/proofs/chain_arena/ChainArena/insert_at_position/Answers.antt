@@ -15,12 +15,12 @@ use Rattle.chain_arena.proofs.chain_arena.ChainArena.insert_at_position.Given.{O
 use Rattle.chain_arena.proofs.chain_arena.ChainArena.insert_at_position.Goals.{After-update_neighbors}
 use Rattle.chain_arena.proofs.chain_arena.ChainArena.insert_at_position.Goals as goal
 
--- the insertion position, in the links of the arena
+-- The insertion position, in the links of the arena.
 position : (g : Over) (c : After-update_neighbors g) → let s = links_view g.P.Inx.InxKey.packed_number c.self.inside.arena in
     IsInsertPosition (link_map s) (next_index s) (before_in g.P.Inx.InxKey.number c.args.position (next_index s)) (after_in g.P.Inx.InxKey.number c.args.position (next_index s))
 position g c = rw (← c.self.view_is) at c.requires.position
 
--- the arena after the insertion
+-- The arena after the insertion.
 inserted : (g : Over) (c : After-update_neighbors g) → let s = links_view g.P.Inx.InxKey.packed_number c.self.inside.arena in let d = links_view g.P.Inx.InxKey.packed_number c.update_neighbors.new.arena in
     d ≡ insert_between s c.args.t (before_in g.P.Inx.InxKey.number c.args.position (next_index s)) (after_in g.P.Inx.InxKey.number c.args.position (next_index s))
 inserted g c =
@@ -37,7 +37,7 @@ pub proved_unreachable-assume_proved-requires : goal.proved_unreachable-assume_p
 proved_unreachable-assume_proved-requires g c =
     let packed = g.P.Inx.InxKey.packed_number in
     let a = c.self.inside.arena in
-    let within_capacity : entry_count (links_view packed a) < a.capacity = rw (← c.self.view_is) at c.requires.within_capacity in
+    let within_capacity : entry_count (links_view packed a) < a.capacity = rw (← c.self.view_is) at c.requires.capacity in
     let full : entry_count a ≡ a.capacity = c.in-Err.ensures.refused.0 refl in
     absurd (omega (arith, within_capacity, full, entry_count-links_view packed a))
 

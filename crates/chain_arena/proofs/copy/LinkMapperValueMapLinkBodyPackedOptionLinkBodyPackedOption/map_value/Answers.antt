@@ -7,9 +7,9 @@ use Rattle.chain_arena.proofs.copy.LinkMapperValueMapLinkBodyPackedOptionLinkBod
 
 pub returns-in-Ok-clause-made : goal.returns-in-Ok-clause-made
 returns-in-Ok-clause-made g c =
-    let lookup = link_view g.I.InxKey.packed_number in
+    let value_from = link_view g.I.InxKey.packed_number in
     record {
       interlinks = ap interlinks_in c.new.ensures ∙ (λ i. record { prev = c.prev_next.ensures.prev i; next = c.prev_next.ensures.next i });
-      value = subst (λ t. MakesOf lookup g.M.ValueMap.makes c.args.self.now.values c.args.p (lookup c.args.u.now) t c.map_value.new.self) (sym (ap link_value c.new.ensures))
-          (record { reported = c.args.u.now; lookups = refl; made = c.in-Ok.ensures.made });
+      value = subst (λ t. MakesOf value_from g.M.ValueMap.makes c.args.self.now.values c.args.p (value_from c.args.u.now) t c.map_value.new.self) (sym (ap link_value c.new.ensures))
+          (record { passed = c.args.u.now; value_passed = refl; made = c.in-Ok.ensures.made });
     }

@@ -12,7 +12,7 @@ use Rattle.chain_arena.proofs.impl_arena_trait.ChainArenaArenaTrait.compress_wit
 pub invariant_of-self : goal.invariant_of-self
 invariant_of-self g c =
     let view_after = links_view g.P.Inx.InxKey.packed_number in
-    links_agree g.F.FnMut g.P.PtrKey.key c.args.map _ (view_after c.self.inside.arena) (view_after c.begin_generation-overflow.new.arena) (view_after c.gather.new.arena)
+    links_agree g.F.FnMut g.P.PtrKey.key c.args.map _ (view_after c.self.inside.arena) (view_after c.begin_generation-overflow.new.self) (view_after c.gather.new.arena)
     (ap view_after c.begin_generation-overflow.ensures.after) c.gather.ensures c.self.invariant
 
 pub returns : goal.returns
@@ -20,7 +20,7 @@ returns g c =
     let number = g.P.Inx.InxKey.packed_number in
     let a = c.self.inside.arena in
     let old = links_view number a in
-    let mid = links_view number c.begin_generation-overflow.new.arena in
+    let mid = links_view number c.begin_generation-overflow.new.self in
     let new = links_view number c.gather.new.arena in
     let begun = ap (links_view number) c.begin_generation-overflow.ensures.after in
     let counted = length-entries a ∙ sym (count-values number a) in

@@ -21,10 +21,10 @@ returns g c =
       count = counted;
       fits = known.fits;
       one_more = known.one_more;
-      indexes = entries_within (values_of links).slots greatest (subst (λ n. n ≤ greatest) (sym (length-values number a)) (omega (arith, known.within_capacity.0.fits, known.within_capacity.0.at_most_greatest)));
+      indexes = entries_within (values_of links).slots greatest (subst (λ n. n ≤ greatest) (sym (length-values number a)) (omega (arith, known.capacity.0.fits, known.capacity.0.at_most_greatest)));
       filled = they_fill (values_of links) (listed-values number a known.listed) a.placed a.touched;
       links = known.entries ∙ sym (entry_count-links_view number a);
       chains = one_set (link_map links) _ c.self.invariant (link_map-within links);
       listed = listed-links_view number a known.listed;
-      within_capacity = subst (λ n. HasCapacityFor greatest n links) (sym (length-links_view number a)) known.within_capacity;
+      capacity = subst (λ n. HasCapacityFor greatest n links) (sym (length-links_view number a)) known.capacity;
     })

@@ -15,21 +15,21 @@ use Rattle.chain_arena.proofs.impl_chain_arena_trait.ChainArenaChainArenaTrait.b
 use Rattle.chain_arena.proofs.impl_chain_arena_trait.ChainArenaChainArenaTrait.break_next.Goals.{After-link_twice}
 use Rattle.chain_arena.proofs.impl_chain_arena_trait.ChainArenaChainArenaTrait.break_next.Goals as goal
 
--- the links before the cut, and after it
+-- The links before the cut, and after it.
 abbrev links : (g : Over) → After-link_twice g → Arena g.row.P-Gen.Denot (LinkView g.row.T.Denot)
 links g c = links_view g.P.Inx.InxKey.packed_number c.self.inside.arena
 
 abbrev cut_links : (g : Over) → After-link_twice g → Arena g.row.P-Gen.Denot (LinkView g.row.T.Denot)
 cut_links g c = links_view g.P.Inx.InxKey.packed_number c.link_twice.new.arena
 
--- the neighbor
+-- The neighbor.
 known : (g : Over) (c : After-link_twice g) → next_of (link_map (links g c)) (g.P.PtrKey.key c.args.p).0 ≡ Some (g.P.Inx.InxKey.number c.in-Some.after)
 known g c = sym (c.in-Some.ensures.named (c.in-Some.ensures.some refl))
 
 pair : (g : Over) (c : After-link_twice g) → AreNeighbors (link_map (links g c)) (g.P.PtrKey.key c.args.p).0 (g.P.Inx.InxKey.number c.in-Some.after)
 pair g c = known g c
 
--- the links written are the cut
+-- The links written are the cut.
 is_cut : (g : Over) (c : After-link_twice g) → cut_links g c ≡ relinked (links g c) (without_pair (link_map (links g c)) (g.P.PtrKey.key c.args.p).0 (g.P.Inx.InxKey.number c.in-Some.after))
 is_cut g c = c.link_twice.ensures ∙ ap (λ (i : ℕ). relinked (links g c) (without_pair (link_map (links g c)) i (g.P.Inx.InxKey.number c.in-Some.after))) c.inx.ensures
 

@@ -7,7 +7,7 @@ use Rattle.arena_base.specs.Arena.{entry_at}
 use Rattle.arena_base.specs.Entries.{view_of}
 use Rattle.chain_links.specs.Links.{links_view}
 use Rattle.chain_links.specs.ChainArena.{values_of, CanConnect, relinked, link_map}
-use Rattle.chain_linking.proofs.ConnectionLemmas.{reports, joined-values, joined-agrees, joined-pair, joined-chains}
+use Rattle.chain_linking.proofs.ConnectionLemmas.{links, joined-values, joined-agrees, joined-pair, joined-chains}
 use Rattle.chain_arena.specs.Effects.{Links}
 use Rattle.chain_arena.proofs.impl_chain_arena_trait.ChainArenaChainArenaTrait.connect.Goals as goal
 
@@ -16,7 +16,7 @@ module _ {X Gen T : Type 0} (a b : Links Gen T) (p q : ℕ × Gen) where
   agrees_after None may is none agrees = subst (λ (x : Links Gen T). IsWellLinked (link_map x)) (sym none) agrees
   agrees_after (Some x) may is none agrees = joined-agrees a b p q (may.0 refl) is agrees
 
-  -- if they may be joined, the consequences of the join hold
+  -- If they may be joined, the consequences of the join hold.
   known : {Y : Type 0} (o : Option X) → IsSome o ↔ CanConnect (entry_at (values_of a)) (link_map a) p q → OnSome o (b ≡ relinked a (with_join (link_map a) p.0 q.0))
       → (CanConnect (entry_at (values_of a)) (link_map a) p q → b ≡ relinked a (with_join (link_map a) p.0 q.0) → Y) → OnSome o Y
   known None may is states = tt
@@ -36,10 +36,10 @@ returns g c =
     let o = c.join.result in
     rw (← c.self.view_is) (record {
       some = may;
-      joined = known a b p q o may is (λ may is. reports a b p q may is);
+      joined = known a b p q o may is (λ may is. links a b p q may is);
       view_after = known a b p q o may is (λ may is. ap (λ x. view_of x) (joined-values a b p q may is));
       none = c.join.ensures.none;
       agreed = c.self.invariant;
       chains = known a b p q o may is (λ may is. joined-chains a b p q may is);
-      more = known a b p q o may is (λ may is. record { state = is; reports = reports a b p q may is; pair = joined-pair a b p q may is; chains = joined-chains a b p q may is });
+      more = known a b p q o may is (λ may is. record { state = is; links = links a b p q may is; pair = joined-pair a b p q may is; chains = joined-chains a b p q may is });
     })

@@ -15,14 +15,14 @@ use Rattle.chain_arena.proofs.impl_chain_arena_trait.ChainArenaChainArenaTrait.e
 use Rattle.chain_arena.proofs.impl_chain_arena_trait.ChainArenaChainArenaTrait.exchange_next.Goals.{After-link_twice}
 use Rattle.chain_arena.proofs.impl_chain_arena_trait.ChainArenaChainArenaTrait.exchange_next.Goals as goal
 
--- the links before the exchange, and after it
+-- The links before the exchange, and after it.
 abbrev links : (g : Over) → After-link_twice g → Arena g.row.P-Gen.Denot (LinkView g.row.T.Denot)
 links g c = links_view g.P.Inx.InxKey.packed_number c.self.inside.arena
 
 abbrev exchanged_links : (g : Over) → After-link_twice g → Arena g.row.P-Gen.Denot (LinkView g.row.T.Denot)
 exchanged_links g c = links_view g.P.Inx.InxKey.packed_number c.link_twice.new.arena
 
--- the next links of the two
+-- The next links of the two.
 after_p : (g : Over) (c : After-link_twice g) → Some (g.P.Inx.InxKey.number c.in-Some.after_p) ≡ next_of (link_map (links g c)) (g.P.PtrKey.key c.args.p).0
 after_p g c = c.in-Some.ensures.named (c.in-Some.ensures.some refl)
 
@@ -35,7 +35,7 @@ valid_p g c = next_valid (link_map (links g c)) _ _ (sym (after_p g c))
 valid_q : (g : Over) (c : After-link_twice g) → HasLink (link_map (links g c)) (g.P.PtrKey.key c.args.q).0
 valid_q g c = next_valid (link_map (links g c)) _ _ (sym (after_q g c))
 
--- the links written are the exchange
+-- The links written are the exchange.
 is_exchanged : (g : Over) (c : After-link_twice g) → exchanged_links g c ≡ relinked (links g c) (with_exchange (link_map (links g c)) (g.P.PtrKey.key c.args.p).0 (g.P.PtrKey.key c.args.q).0)
 is_exchanged g c =
     let s = links g c in

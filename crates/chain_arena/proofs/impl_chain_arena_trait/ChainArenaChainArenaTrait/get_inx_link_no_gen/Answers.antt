@@ -10,7 +10,7 @@ use Rattle.chain_links.proofs.MappedArenaLemmas.{entry_at-with_each}
 use Rattle.chain_arena.proofs.ChainDrainLemmas.{link_at-entry}
 use Rattle.chain_arena.proofs.impl_chain_arena_trait.ChainArenaChainArenaTrait.get_inx_link_no_gen.Goals as goal
 
--- the link borrowed from the arena of links
+-- The link borrowed from the arena of links.
 lent : {K Gen T : Type 0} (number : K → Option ℕ) (a : Arena Gen (LinkBody K T)) (i : ℕ) (r : Option (Gen × Bor (LinkBody K T))) → option_map borrowed_entry r ≡ entry_at a i
     → option_map (borrowed_link number) r ≡ link_at (entry (links_view number a)) (link_map (links_view number a)) i
 lent {K} {Gen} {T} number a i r stored =

@@ -12,7 +12,7 @@ use Rattle.chain_linking.proofs.ConnectionLemmas.{same_valid}
 use Rattle.chain_arena.proofs.ChainDrainLemmas.{link_at-entry}
 use Rattle.chain_arena.proofs.impl_chain_arena_trait.ChainArenaChainArenaTrait.get_link_no_gen.Goals as goal
 
--- the link borrowed from the arena of links
+-- The link borrowed from the arena of links.
 lent : {K Gen T : Type 0} (number : K → Option ℕ) (a : Arena Gen (LinkBody K T)) (p : ℕ × Gen) (r : Option (Bor (LinkBody K T))) → IfSome r (λ link. entry_at a p.0 ≡ Some (p.1, link.now))
     → IfSome r (λ link. link_at (entry (links_view number a)) (link_map (links_view number a)) p.0 ≡ Some (p.1, link_view number link.now))
 lent number a p None stored = tt

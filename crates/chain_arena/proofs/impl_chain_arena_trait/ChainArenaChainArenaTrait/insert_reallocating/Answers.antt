@@ -6,26 +6,26 @@ use Rattle.chain_arena.proofs.impl_chain_arena_trait.ChainArenaChainArenaTrait.i
 
 pub insert_at-requires-clause-position : goal.insert_at-requires-clause-position
 insert_at-requires-clause-position g c =
-    let asked = c.position_with_growth-asked in
-    growing_fits g.P.PtrKey.key g.P.Inx.InxKey.number g.S.SlotStack.may_reach g.P.Inx.InxKey.greatest c.args.self.now asked.new.self c.args.kind asked.result asked.ensures.agreed asked.ensures.place
+    let checked = c.position_with_growth-checked in
+    growing_fits g.P.PtrKey.key g.P.Inx.InxKey.number g.S.SlotStack.may_reach g.P.Inx.InxKey.greatest c.args.self.now checked.new.self c.args.kind checked.result checked.ensures.agreed checked.ensures.position
 
-pub insert_at-requires-clause-within_capacity : goal.insert_at-requires-clause-within_capacity
-insert_at-requires-clause-within_capacity g c =
-    let asked = c.position_with_growth-asked in
-    growing_capacity g.P.PtrKey.key g.P.Inx.InxKey.number g.S.SlotStack.may_reach g.P.Inx.InxKey.greatest c.args.self.now asked.new.self c.args.kind asked.result asked.ensures.place
+pub insert_at-requires-clause-capacity : goal.insert_at-requires-clause-capacity
+insert_at-requires-clause-capacity g c =
+    let checked = c.position_with_growth-checked in
+    growing_capacity g.P.PtrKey.key g.P.Inx.InxKey.number g.S.SlotStack.may_reach g.P.Inx.InxKey.greatest c.args.self.now checked.new.self c.args.kind checked.result checked.ensures.position
 
 known : (g : Over) (c : After-insert_at g) → StatesGrowing g.P.PtrKey.key g.P.Inx.InxKey.number c.args.self.now c.args.kind c.args.t c.insert_at.new.self g.S.SlotStack.may_reach g.P.Inx.InxKey.greatest c.insert_at.result
 known g c =
-    let asked = c.position_with_growth-asked in
-    states_growing g.P.PtrKey.key g.P.Inx.InxKey.number c.args.self.now c.args.kind c.args.t c.insert_at.new.self asked.new.self g.S.SlotStack.may_reach g.P.Inx.InxKey.greatest asked.ensures.agreed asked.result c.insert_at.result
-    asked.ensures.place c.insert_at.ensures
+    let checked = c.position_with_growth-checked in
+    states_growing g.P.PtrKey.key g.P.Inx.InxKey.number c.args.self.now c.args.kind c.args.t c.insert_at.new.self checked.new.self g.S.SlotStack.may_reach g.P.Inx.InxKey.greatest checked.ensures.agreed checked.result c.insert_at.result
+    checked.ensures.position c.insert_at.ensures
 
 pub returns : goal.returns
 returns g c =
     let t = known g c in record {
       may = t.may;
       inserted = t.inserted;
-      agreed = c.position_with_growth-asked.ensures.agreed;
+      agreed = c.position_with_growth-checked.ensures.agreed;
       err = t.err;
       link = t.link;
       error = t.error;
@@ -33,7 +33,7 @@ returns g c =
       grown = t.grown;
       beyond = t.beyond;
       greatest = t.at_greatest;
-      place = t.place;
+      index = t.index;
       state = t.state;
       state_within_capacity = t.state_within_capacity;
       state_grown = t.state_grown;

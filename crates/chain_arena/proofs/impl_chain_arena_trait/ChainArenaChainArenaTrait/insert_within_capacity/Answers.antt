@@ -6,30 +6,30 @@ use Rattle.chain_arena.proofs.impl_chain_arena_trait.ChainArenaChainArenaTrait.i
 
 pub insert_at-requires-clause-position : goal.insert_at-requires-clause-position
 insert_at-requires-clause-position g c =
-    let asked = c.position_within_capacity-asked in
-    within_fits g.P.PtrKey.key g.P.Inx.InxKey.number c.args.self.now c.args.kind asked.result asked.ensures.agree asked.ensures.place
+    let checked = c.position_within_capacity-checked in
+    within_fits g.P.PtrKey.key g.P.Inx.InxKey.number c.args.self.now c.args.kind checked.result checked.ensures.agree checked.ensures.position
 
-pub insert_at-requires-clause-within_capacity : goal.insert_at-requires-clause-within_capacity
-insert_at-requires-clause-within_capacity g c =
-    let asked = c.position_within_capacity-asked in
-    fits_capacity g.P.PtrKey.key g.P.Inx.InxKey.number c.args.self.now c.args.kind asked.result asked.ensures.place
+pub insert_at-requires-clause-capacity : goal.insert_at-requires-clause-capacity
+insert_at-requires-clause-capacity g c =
+    let checked = c.position_within_capacity-checked in
+    fits_capacity g.P.PtrKey.key g.P.Inx.InxKey.number c.args.self.now c.args.kind checked.result checked.ensures.position
 
 known : (g : Over) (c : After-insert_at g) → StatesWithin g.P.PtrKey.key g.P.Inx.InxKey.number c.args.self.now c.args.kind c.args.t c.insert_at.new.self c.insert_at.result
 known g c =
-    let asked = c.position_within_capacity-asked in
-    states_within g.P.PtrKey.key g.P.Inx.InxKey.number c.args.self.now c.args.kind c.args.t c.insert_at.new.self asked.ensures.agree asked.result c.insert_at.result asked.ensures.place c.insert_at.ensures
+    let checked = c.position_within_capacity-checked in
+    states_within g.P.PtrKey.key g.P.Inx.InxKey.number c.args.self.now c.args.kind c.args.t c.insert_at.new.self checked.ensures.agree checked.result c.insert_at.result checked.ensures.position c.insert_at.ensures
 
 pub returns : goal.returns
 returns g c =
     let t = known g c in record {
       may = t.may;
       inserted = t.inserted;
-      agreed = c.position_within_capacity-asked.ensures.agree;
+      agreed = c.position_within_capacity-checked.ensures.agree;
       capacity = t.capacity;
       err = t.err;
       link = t.link;
       full = t.full;
       error = t.error;
-      place = t.place;
+      index = t.index;
       state = t.state;
     }

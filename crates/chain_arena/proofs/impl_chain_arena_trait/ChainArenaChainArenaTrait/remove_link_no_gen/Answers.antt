@@ -29,7 +29,7 @@ returns-then-contains g c =
       valid = λ _. (
         ap (option_map (λ link. (p.1, link_view packed link))) alone.value
             ∙ link_alone_known packed following a b i taken made.returned p.1 was_stored.value (ap (entry a) c.inx.ensures ∙ was_stored.stored),
-        (viewed_at packed following a b i taken made.returned made.removal p c.inx.ensures was_stored, removal.reports),
+        (viewed_at packed following a b i taken made.returned made.removal p c.inx.ensures was_stored, removal.links),
       );
       overflow = same_overflow (λ e. e.1) (g.P.Gen.GenKey.wraps a.counter) c.unlink.result c.link_alone.result alone.value alone.overflow made.overflow;
       invalid = λ invalid. absurd (invalid was_stored);

@@ -7,6 +7,6 @@ use Rattle.chain_examples.proofs.ListChangeLemmas.{keeps_others}
 use Rattle.chain_examples.proofs.documents.Documents.begin.Goals as goal
 
 pub returns-clause-others : goal.returns-clause-others
-returns-clause-others g c = rw (← c.self.view_is) (if_ok c.insert.result c.insert.ensures.inserted (λ q came.
-    keeps_others g.A.ArenaTrait.entry g.A.ChainArenaTrait.interlinks linear (λ l. refl) c.self.inside.paragraphs c.insert.new.self (g.P.PtrKey.key q) c.args.paragraph came.entries disconnected c.insert.ensures.agreed
-    (g.met.A.ChainArenaTrait.links_are_entries c.self.inside.paragraphs (g.P.PtrKey.key q).0) came.chains))
+returns-clause-others g c = rw (← c.self.view_is) (if_ok c.insert.result c.insert.ensures.inserted (λ q gained.
+    keeps_others g.A.ArenaTrait.entry g.A.ChainArenaTrait.interlinks linear (λ l. refl) c.self.inside.paragraphs c.insert.new.self (g.P.PtrKey.key q) c.args.paragraph gained.entries disconnected c.insert.ensures.agreed
+    (g.met.A.ChainArenaTrait.links_are_entries c.self.inside.paragraphs (g.P.PtrKey.key q).0) gained.chains))

@@ -13,7 +13,7 @@ it g c =
     let new = c.remove.new.self in
     let p = g.P.PtrKey.key c.args.p in
     subst (TakesEntry g.A.ArenaTrait.view g.A.ArenaTrait.entry g.A.ChainArenaTrait.interlinks old new p) (sym c.allow.ensures)
-    (removal g.A.ArenaTrait.view g.A.ArenaTrait.entry g.A.ChainArenaTrait.interlinks g.met.A.ArenaTrait.rises g.met.A.ArenaTrait.finds old new p _ _ c.remove.ensures.some c.remove.ensures.valid c.remove.ensures.invalid
+    (removal g.A.ArenaTrait.view g.A.ArenaTrait.entry g.A.ChainArenaTrait.interlinks g.met.A.ArenaTrait.ascends g.met.A.ArenaTrait.finds old new p _ _ c.remove.ensures.some c.remove.ensures.valid c.remove.ensures.invalid
     (λ valid. g.met.A.ChainArenaTrait.removal_removes old new p.0 (c.remove.ensures.more valid)) c.agrees.ensures)
 
 pub returns : goal.returns

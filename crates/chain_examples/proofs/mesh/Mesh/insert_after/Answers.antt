@@ -4,18 +4,18 @@ use Rattle.chain_laws.specs.Chains.{cyclic}
 use Rattle.chain_laws.specs.Insertions.{next_to}
 use Rattle.chain_traits.proofs.GenericArenaLemmas.{valid_link}
 use Rattle.chain_traits.proofs.OutcomeLemmas.{if_ok, either_ok}
-use Rattle.chain_examples.proofs.ListChangeLemmas.{comes_after, keeps_others}
+use Rattle.chain_examples.proofs.ListChangeLemmas.{added_after, keeps_others}
 use Rattle.chain_examples.proofs.mesh.Mesh.insert_after.Goals as goal
 
 pub returns-clause-ring : goal.returns-clause-ring
-returns-clause-ring g c = rw (← c.self.view_is) (if_ok c.insert_reallocating.result c.insert_reallocating.ensures.inserted (λ q came.
-    comes_after g.A.ArenaTrait.entry g.A.ChainArenaTrait.interlinks cyclic (λ l. refl) c.self.inside.corners c.insert_reallocating.new.self (g.P.PtrKey.key q) c.args.point came.entries (g.P.PtrKey.key c.args.corner)
-    (λ x y. (came.chains.after (g.P.PtrKey.key c.args.corner).0 refl refl x y).1)))
+returns-clause-ring g c = rw (← c.self.view_is) (if_ok c.insert_reallocating.result c.insert_reallocating.ensures.inserted (λ q gained.
+    added_after g.A.ArenaTrait.entry g.A.ChainArenaTrait.interlinks cyclic (λ l. refl) c.self.inside.corners c.insert_reallocating.new.self (g.P.PtrKey.key q) c.args.point gained.entries (g.P.PtrKey.key c.args.corner)
+    (λ x y. (gained.chains.after (g.P.PtrKey.key c.args.corner).0 refl refl x y).1)))
 
 pub returns-clause-others : goal.returns-clause-others
-returns-clause-others g c = rw (← c.self.view_is) (if_ok c.insert_reallocating.result c.insert_reallocating.ensures.inserted (λ q came.
-    keeps_others g.A.ArenaTrait.entry g.A.ChainArenaTrait.interlinks cyclic (λ l. refl) c.self.inside.corners c.insert_reallocating.new.self (g.P.PtrKey.key q) c.args.point came.entries (next_to (g.P.PtrKey.key c.args.corner).0)
-    c.insert_reallocating.ensures.agreed (g.met.A.ChainArenaTrait.links_are_entries c.self.inside.corners (g.P.PtrKey.key q).0) came.chains))
+returns-clause-others g c = rw (← c.self.view_is) (if_ok c.insert_reallocating.result c.insert_reallocating.ensures.inserted (λ q gained.
+    keeps_others g.A.ArenaTrait.entry g.A.ChainArenaTrait.interlinks cyclic (λ l. refl) c.self.inside.corners c.insert_reallocating.new.self (g.P.PtrKey.key q) c.args.point gained.entries (next_to (g.P.PtrKey.key c.args.corner).0)
+    c.insert_reallocating.ensures.agreed (g.met.A.ChainArenaTrait.links_are_entries c.self.inside.corners (g.P.PtrKey.key q).0) gained.chains))
 
 pub returns-clause-within_capacity : goal.returns-clause-within_capacity
 returns-clause-within_capacity g c =
@@ -23,10 +23,10 @@ returns-clause-within_capacity g c =
     rw (← c.self.view_is) (λ valid. c.insert_reallocating.ensures.within_capacity (valid, valid_link (g.A.ChainArenaTrait.interlinks a) (g.A.ArenaTrait.entry a) (g.A.ArenaTrait.view a).entries (g.met.A.ChainArenaTrait.links_are_entries a) (g.met.A.ArenaTrait.finds a) (g.P.PtrKey.key c.args.corner) valid))
 
 pub returns-clause-corner : goal.returns-clause-corner
-returns-clause-corner g c = rw (← c.self.view_is) (if_ok c.insert_reallocating.result c.insert_reallocating.ensures.inserted (λ q came. came.entries))
+returns-clause-corner g c = rw (← c.self.view_is) (if_ok c.insert_reallocating.result c.insert_reallocating.ensures.inserted (λ q gained. gained.entries))
 
 pub returns-clause-size : goal.returns-clause-size
-returns-clause-size g c = rw (← c.self.view_is) (if_ok c.insert_reallocating.result c.insert_reallocating.ensures.inserted (λ q came. came.more))
+returns-clause-size g c = rw (← c.self.view_is) (if_ok c.insert_reallocating.result c.insert_reallocating.ensures.inserted (λ q gained. gained.more))
 
 pub returns-clause-err : goal.returns-clause-err
 returns-clause-err g c = rw (← c.self.view_is) c.insert_reallocating.ensures.err
@@ -36,7 +36,7 @@ returns-clause-grown g c = rw (← c.self.view_is) c.insert_reallocating.ensures
 
 pub returns-clause-maximum : goal.returns-clause-maximum
 returns-clause-maximum g c = rw (← c.self.view_is) (either_ok c.insert_reallocating.result c.insert_reallocating.ensures.inserted c.insert_reallocating.ensures.grown c.insert_reallocating.ensures.err
-    (λ q came grown. came.maximum) (λ same. ap (λ a. (g.A.ArenaTrait.view a).maximum) same))
+    (λ q gained grown. gained.maximum) (λ same. ap (λ a. (g.A.ArenaTrait.view a).maximum) same))
 
 pub returns-clause-beyond : goal.returns-clause-beyond
 returns-clause-beyond g c =

@@ -3,7 +3,7 @@ use Rattle.std.proofs.Common.{◌≡◌, Option, None, Some, refl, sym, subst}
 use Rattle.std.specs.Prelude.{is_some, true, OnSome}
 use Rattle.chain_laws.specs.Chains.{cyclic}
 use Rattle.chain_traits.proofs.GenericRemovalLemmas.{TakesEntry, removal, value_known, gone_of, less_of, same_of, kept_of}
-use Rattle.chain_examples.proofs.ItemRemovalLemmas.{leaves_of, keeps_of, round_of}
+use Rattle.chain_examples.proofs.ItemRemovalLemmas.{leaves_of, keeps_of, cyclic_of}
 use Rattle.chain_examples.proofs.mesh.Mesh.remove.Given.{Over}
 use Rattle.chain_examples.proofs.mesh.Mesh.remove.Goals.{After-allow}
 use Rattle.chain_examples.proofs.mesh.Mesh.remove.Goals as goal
@@ -19,11 +19,11 @@ it g c =
     let new = c.remove.new.self in
     let p = g.P.PtrKey.key c.args.corner in
     subst (TakesEntry g.A.ArenaTrait.view g.A.ArenaTrait.entry g.A.ChainArenaTrait.interlinks old new p) (sym c.allow.ensures)
-    (removal g.A.ArenaTrait.view g.A.ArenaTrait.entry g.A.ChainArenaTrait.interlinks g.met.A.ArenaTrait.rises g.met.A.ArenaTrait.finds old new p _ _ c.remove.ensures.some c.remove.ensures.valid c.remove.ensures.invalid
+    (removal g.A.ArenaTrait.view g.A.ArenaTrait.entry g.A.ChainArenaTrait.interlinks g.met.A.ArenaTrait.ascends g.met.A.ArenaTrait.finds old new p _ _ c.remove.ensures.some c.remove.ensures.valid c.remove.ensures.invalid
     (λ valid. g.met.A.ChainArenaTrait.removal_removes old new p.0 (c.remove.ensures.more valid)) c.agrees.ensures)
 
 pub invariant_of-self : goal.invariant_of-self
-invariant_of-self g c = round_of g.A.ArenaTrait.view g.A.ArenaTrait.entry g.A.ChainArenaTrait.interlinks _ _ _ c.allow.result (it g c) c.agrees.ensures c.self.invariant
+invariant_of-self g c = cyclic_of g.A.ArenaTrait.view g.A.ArenaTrait.entry g.A.ChainArenaTrait.interlinks _ _ _ c.allow.result (it g c) c.agrees.ensures c.self.invariant
 
 pub returns : goal.returns
 returns g c = record {

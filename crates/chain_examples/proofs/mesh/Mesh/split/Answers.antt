@@ -22,4 +22,4 @@ pub returns-in_ok-reserve-in-Some-clause-bridged : goal.returns-in_ok-reserve-in
 returns-in_ok-reserve-in-Some-clause-bridged g c = λ s t x y one two apart. c.split_within_capacity.ensures.bridged s t x y (view_after g c _ one) (view_after g c _ two) apart
 
 pub returns-in_ok-reserve-in-Some-clause-others : goal.returns-in_ok-reserve-in-Some-clause-others
-returns-in_ok-reserve-in-Some-clause-others g c = λ items lacks is. c.split_within_capacity.ensures.others items lacks (view_after g c items is)
+returns-in_ok-reserve-in-Some-clause-others g c = λ items absent is. c.split_within_capacity.ensures.others items absent (view_after g c items is)

@@ -3,14 +3,14 @@ use Rattle.std.proofs.Common.{◌+◌, ◌∙◌, ap, sym, subst, ◌∷◌, [],
 use Rattle.arena_base.specs.Entries.{count}
 use Rattle.chain_examples.specs.Rings.{AreCopied}
 use Rattle.chain_examples.proofs.ItemListLemmas.{stored_kept}
-use Rattle.chain_examples.proofs.RingLemmas.{splits, bridges, copies_come, keeps_split}
+use Rattle.chain_examples.proofs.RingLemmas.{splits, bridges, copies_added, keeps_split}
 use Rattle.chain_examples.proofs.mesh.Mesh.split_within_capacity.Goals as goal
 
 pub add_before-first-requires-clause-valid : goal.add_before-first-requires-clause-valid
 add_before-first-requires-clause-valid g c = rw c.self.view_is (record { value = c.args.both.0; stored = c.requires.first })
 
-pub add_before-first-requires-clause-within_capacity : goal.add_before-first-requires-clause-within_capacity
-add_before-first-requires-clause-within_capacity g c = rw c.self.view_is (let within_capacity = c.requires.within_capacity in omega arith)
+pub add_before-first-requires-clause-capacity : goal.add_before-first-requires-clause-capacity
+add_before-first-requires-clause-capacity g c = rw c.self.view_is (let within_capacity = c.requires.capacity in omega arith)
 
 pub add_after-second-requires-clause-valid : goal.add_after-second-requires-clause-valid
 add_after-second-requires-clause-valid g c =
@@ -19,11 +19,11 @@ add_after-second-requires-clause-valid g c =
     ((v, c.args.both.1) ∷ []) (rw c.self.view_is (c.requires.second, tt)) in
     record { value = c.args.both.1; stored = stored.0 }
 
-pub add_after-second-requires-clause-within_capacity : goal.add_after-second-requires-clause-within_capacity
-add_after-second-requires-clause-within_capacity g c =
+pub add_after-second-requires-clause-capacity : goal.add_after-second-requires-clause-capacity
+add_after-second-requires-clause-capacity g c =
     let size = c.add_before-first.ensures.size ∙ ap (λ (a : g.row.A.Denot). count (g.A.ArenaTrait.view a) + 1) c.self.view_is in
     let capacity = c.add_before-first.ensures.capacity ∙ ap (λ (a : g.row.A.Denot). (g.A.ArenaTrait.view a).capacity) c.self.view_is in
-    let within_capacity = c.requires.within_capacity in
+    let within_capacity = c.requires.capacity in
     omega arith
 
 pub invariant_of-self : goal.invariant_of-self
@@ -49,7 +49,7 @@ returns g c =
       bridged = rw (← c.self.view_is) (bridges g.A.ArenaTrait.entry g.A.ChainArenaTrait.interlinks old first second new u v p q c.args.both.0 c.args.both.1 at_u at_v before.corner after.corner
           before.ring before.others after.ring after.others change.merged);
       corners = rw (← c.self.view_is) (subst (λ e. AreCopied (g.A.ArenaTrait.entry old) e u v p q) (sym change.corners)
-          (copies_come (g.A.ArenaTrait.entry old) (g.A.ArenaTrait.entry first) (g.A.ArenaTrait.entry second) p q c.args.both.0 c.args.both.1 before.corner after.corner u v at_u at_v));
+          (copies_added (g.A.ArenaTrait.entry old) (g.A.ArenaTrait.entry first) (g.A.ArenaTrait.entry second) p q c.args.both.0 c.args.both.1 before.corner after.corner u v at_u at_v));
       others = rw (← c.self.view_is) (keeps_split g.A.ArenaTrait.entry g.A.ChainArenaTrait.interlinks old first second new u v p q c.args.both.0 c.args.both.1 before.corner.free before.others after.others change.others);
       size = rw (← c.self.view_is) (let view_after = ap (λ s. count s) change.view_after in let one = before.size in let two = after.size in omega arith);
       capacity = rw (← c.self.view_is) (ap (λ s. s.capacity) change.view_after ∙ (after.capacity ∙ before.capacity));

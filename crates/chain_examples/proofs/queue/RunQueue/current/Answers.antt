@@ -5,4 +5,4 @@ use Rattle.chain_examples.specs.QueueOrder.{Queue}
 use Rattle.chain_examples.proofs.queue.RunQueue.current.Goals as goal
 
 pub returns : goal.returns
-returns g c = c.self.invariant.first ∙ ap (λ (q : Queue g.row.P-Gen.Denot g.row.T.Denot). first_key q.turn) c.self.view_is
+returns g c = c.self.invariant.first ∙ ap (λ (q : Queue g.row.P-Gen.Denot g.row.T.Denot). first_key q.order) c.self.view_is

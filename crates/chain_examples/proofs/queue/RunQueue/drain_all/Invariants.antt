@@ -5,8 +5,8 @@ use Rattle.chain_examples.proofs.queue.RunQueue.drain_all.Given as goal
 
 abbrev pub invariant-loop-k : goal.invariant-loop-k
 invariant-loop-k g l = record {
-  tasks : l.drained.items ++ map (λ (e : Item g.row.P-Gen.Denot g.row.T.Denot). e.1) l.self.turn ≡ map (λ (e : Item g.row.P-Gen.Denot g.row.T.Denot). e.1) l.fn.self.turn;
-  left : l.k + length l.self.turn ≡ l.count;
+  tasks : l.drained.items ++ map (λ (e : Item g.row.P-Gen.Denot g.row.T.Denot). e.1) l.self.order ≡ map (λ (e : Item g.row.P-Gen.Denot g.row.T.Denot). e.1) l.fn.self.order;
+  left : l.k + length l.self.order ≡ l.count;
   len : vec_len l.drained ≡ l.k;
   fits : l.count ≤ vec_capacity l.drained;
   capacity : l.self.capacity ≡ l.fn.self.capacity;

@@ -8,12 +8,12 @@ use Rattle.chain_examples.proofs.queue.RunQueue.reserve.Goals.{After-reserve}
 use Rattle.chain_examples.proofs.queue.RunQueue.reserve.Goals as goal
 
 size : (g : Over) (c : After-reserve g) → HasSize (g.A.ArenaTrait.view c.self.inside.tasks) c.args.self.now
-size g c = has_size g.A.ArenaTrait.view g.A.ArenaTrait.entry g.A.ChainArenaTrait.interlinks g.met.A.ArenaTrait.rises g.met.A.ArenaTrait.finds c.self.inside.tasks (option_map g.P.PtrKey.key c.self.inside.current) c.args.self.now c.self.invariant c.self.view_is
+size g c = has_size g.A.ArenaTrait.view g.A.ArenaTrait.entry g.A.ChainArenaTrait.interlinks g.met.A.ArenaTrait.ascends g.met.A.ArenaTrait.finds c.self.inside.tasks (option_map g.P.PtrKey.key c.self.inside.current) c.args.self.now c.self.invariant c.self.view_is
 
 pub returns-clause-within : goal.returns-clause-within
 returns-clause-within g c =
     let within = rw ((size g c).tasks, (size g c).capacity) at c.reserve.ensures.within in
-    λ fits. ((within fits).0, ap (λ b. queue_in g.A.ArenaTrait.view g.A.ArenaTrait.entry g.A.ChainArenaTrait.interlinks g.met.A.ArenaTrait.rises g.met.A.ArenaTrait.finds b (option_map g.P.PtrKey.key c.self.inside.current)) (within fits).1 ∙ c.self.view_is)
+    λ fits. ((within fits).0, ap (λ b. queue_in g.A.ArenaTrait.view g.A.ArenaTrait.entry g.A.ChainArenaTrait.interlinks g.met.A.ArenaTrait.ascends g.met.A.ArenaTrait.finds b (option_map g.P.PtrKey.key c.self.inside.current)) (within fits).1 ∙ c.self.view_is)
 
 pub returns-clause-beyond : goal.returns-clause-beyond
 returns-clause-beyond g c = rw (← (size g c).tasks, ← (size g c).maximum) c.reserve.ensures.beyond

@@ -9,12 +9,12 @@ use Rattle.chain_examples.proofs.queue.RunQueue.spawn.Given.{Over}
 use Rattle.chain_examples.proofs.queue.RunQueue.spawn.Goals.{After-or-self-inside}
 use Rattle.chain_examples.proofs.queue.RunQueue.spawn.Goals as goal
 
-pub come_last-added-requires : goal.come_last-added-requires
-come_last-added-requires g c = valid_current (g.A.ArenaTrait.entry c.self.inside.tasks) (g.A.ChainArenaTrait.interlinks c.self.inside.tasks) g.P.PtrKey.key c.self.inside.current _ c.self.invariant
+pub insert_last-added-requires : goal.insert_last-added-requires
+insert_last-added-requires g c = valid_current (g.A.ArenaTrait.entry c.self.inside.tasks) (g.A.ChainArenaTrait.interlinks c.self.inside.tasks) g.P.PtrKey.key c.self.inside.current _ c.self.invariant
 
-it : (g : Over) (c : After-or-self-inside g) → IsTaskAdded g.A.ArenaTrait.view g.A.ArenaTrait.entry g.A.ChainArenaTrait.interlinks g.met.A.ArenaTrait.rises g.met.A.ArenaTrait.finds g.P.PtrKey.key c.self.inside.tasks c.come_last-added.new.tasks c.self.inside.current c.args.task c.come_last-added.result c.or-self-inside.result
-it g c = rw (c.or-self-inside.ensures, c.ok.ensures.value) (task_added g.A.ArenaTrait.view g.A.ArenaTrait.entry g.A.ChainArenaTrait.interlinks g.met.A.ArenaTrait.rises g.met.A.ArenaTrait.finds g.P.PtrKey.key c.self.inside.tasks c.come_last-added.new.tasks c.self.inside.current c.args.task
-    c.come_last-added.result c.self.invariant c.come_last-added.ensures.last c.come_last-added.ensures.err)
+it : (g : Over) (c : After-or-self-inside g) → IsTaskAdded g.A.ArenaTrait.view g.A.ArenaTrait.entry g.A.ChainArenaTrait.interlinks g.met.A.ArenaTrait.ascends g.met.A.ArenaTrait.finds g.P.PtrKey.key c.self.inside.tasks c.insert_last-added.new.tasks c.self.inside.current c.args.task c.insert_last-added.result c.or-self-inside.result
+it g c = rw (c.or-self-inside.ensures, c.ok.ensures.value) (task_added g.A.ArenaTrait.view g.A.ArenaTrait.entry g.A.ChainArenaTrait.interlinks g.met.A.ArenaTrait.ascends g.met.A.ArenaTrait.finds g.P.PtrKey.key c.self.inside.tasks c.insert_last-added.new.tasks c.self.inside.current c.args.task
+    c.insert_last-added.result c.self.invariant c.insert_last-added.ensures.last c.insert_last-added.ensures.err)
 
 pub invariant_of-self : goal.invariant_of-self
 invariant_of-self g c = (it g c.before).holds
@@ -24,24 +24,24 @@ returns-clause-last g c = rw (← c.self.view_is) (it g c.before).last
 
 -- There are as many tasks as entries.
 size : (g : Over) (c : After-or-self-inside g) → HasSize (g.A.ArenaTrait.view c.self.inside.tasks) c.args.self.now
-size g c = has_size g.A.ArenaTrait.view g.A.ArenaTrait.entry g.A.ChainArenaTrait.interlinks g.met.A.ArenaTrait.rises g.met.A.ArenaTrait.finds c.self.inside.tasks (option_map g.P.PtrKey.key c.self.inside.current) c.args.self.now c.self.invariant c.self.view_is
+size g c = has_size g.A.ArenaTrait.view g.A.ArenaTrait.entry g.A.ChainArenaTrait.interlinks g.met.A.ArenaTrait.ascends g.met.A.ArenaTrait.finds c.self.inside.tasks (option_map g.P.PtrKey.key c.self.inside.current) c.args.self.now c.self.invariant c.self.view_is
 
 -- A free index belongs to no task.
 pub returns-clause-fresh : goal.returns-clause-fresh
-returns-clause-fresh g c = rw (← c.self.view_is) (if_ok c.come_last-added.result c.come_last-added.ensures.fresh (λ p.
+returns-clause-fresh g c = rw (← c.self.view_is) (if_ok c.insert_last-added.result c.insert_last-added.ensures.fresh (λ p.
     free_index (g.A.ArenaTrait.entry c.self.inside.tasks) (g.A.ChainArenaTrait.interlinks c.self.inside.tasks) (option_map g.P.PtrKey.key c.self.inside.current) _ c.self.invariant (g.P.PtrKey.key p).0))
 
 pub returns-clause-grown : goal.returns-clause-grown
-returns-clause-grown g c = rw (← (size g c.before).tasks) c.come_last-added.ensures.grown
+returns-clause-grown g c = rw (← (size g c.before).tasks) c.insert_last-added.ensures.grown
 
 pub returns-clause-beyond : goal.returns-clause-beyond
-returns-clause-beyond g c = rw (← (size g c.before).tasks, ← (size g c.before).capacity, ← (size g c.before).maximum) c.come_last-added.ensures.beyond
+returns-clause-beyond g c = rw (← (size g c.before).tasks, ← (size g c.before).capacity, ← (size g c.before).maximum) c.insert_last-added.ensures.beyond
 
 pub returns-clause-greatest : goal.returns-clause-greatest
-returns-clause-greatest g c = rw (← (size g c.before).tasks) c.come_last-added.ensures.greatest
+returns-clause-greatest g c = rw (← (size g c.before).tasks) c.insert_last-added.ensures.greatest
 
 -- If the queue has free capacity, so has the arena, and the call succeeds.
 pub returns-clause-within_capacity : goal.returns-clause-within_capacity
 returns-clause-within_capacity g c = λ less.
-    let kept = c.come_last-added.ensures.within_capacity (has_capacity g.A.ArenaTrait.view g.A.ArenaTrait.entry g.A.ChainArenaTrait.interlinks g.met.A.ArenaTrait.rises g.met.A.ArenaTrait.finds c.self.inside.tasks (option_map g.P.PtrKey.key c.self.inside.current) c.args.self.now c.self.invariant c.self.view_is less) in
+    let kept = c.insert_last-added.ensures.within_capacity (has_capacity g.A.ArenaTrait.view g.A.ArenaTrait.entry g.A.ChainArenaTrait.interlinks g.met.A.ArenaTrait.ascends g.met.A.ArenaTrait.finds c.self.inside.tasks (option_map g.P.PtrKey.key c.self.inside.current) c.args.self.now c.self.invariant c.self.view_is less) in
     (kept.0, kept.1 ∙ ap (λ (q : Queue g.row.P-Gen.Denot g.row.T.Denot). q.capacity) c.self.view_is)

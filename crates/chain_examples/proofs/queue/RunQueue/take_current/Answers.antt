@@ -12,4 +12,4 @@ taken p None old new first is = tt
 taken p (Some task) old new first is = (p, first task is)
 
 pub returns-clause-some : goal.returns-clause-some
-returns-clause-some g c = taken (g.P.PtrKey.key c.in_ok-p.p) c.cancel.result c.args.self.now.turn c.cancel.new.self.turn (λ task. first_cancelled (g.P.PtrKey.key c.in_ok-p.p) task c.args.self.now.turn c.cancel.new.self.turn c.in_ok-p.ensures) c.cancel.ensures.some
+returns-clause-some g c = taken (g.P.PtrKey.key c.in_ok-p.p) c.cancel.result c.args.self.now.order c.cancel.new.self.order (λ task. first_cancelled (g.P.PtrKey.key c.in_ok-p.p) task c.args.self.now.order c.cancel.new.self.order c.in_ok-p.ensures) c.cancel.ensures.some

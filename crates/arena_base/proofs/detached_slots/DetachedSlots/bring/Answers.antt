@@ -2,7 +2,7 @@
 use Rattle.std.proofs.Common.{sym, ap, ◌∙◌}
 use Rattle.arena_base.proofs.DetachedSlotLemmas.{held_brought, brought_there, brought_free}
 use Rattle.arena_base.proofs.SlotLemmas.{slice_index_or-map}
-use Rattle.arena_base.proofs.detached_slots.HeldSlots.bring.Goals as goal
+use Rattle.arena_base.proofs.detached_slots.DetachedSlots.bring.Goals as goal
 
 pub assume_proved-requires : goal.assume_proved-requires
 assume_proved-requires g c = absurd (

@@ -1,7 +1,7 @@
 -- The pair is pushed, if there is spare capacity.
 use Rattle.std.proofs.Common.{is_ok}
 use Rattle.chain_compaction.proofs.VisitorLemmas.{listed_by_push}
-use Rattle.chain_arena.proofs.visitors.ListingVisitor.visit.Goals as goal
+use Rattle.chain_arena.proofs.visitors.MoveListerVisitor.visit.Goals as goal
 
 pub returns-clause-view_after : goal.returns-clause-view_after
 returns-clause-view_after g c =

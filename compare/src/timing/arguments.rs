@@ -2,7 +2,7 @@
 
 use super::cases::Case;
 
-/// How many links, in chains of how many, and how many rounds.
+/// The number of links, of links in a chain, and of rounds.
 #[derive(Clone, Copy, Debug)]
 pub struct Plan {
     pub links: u32,
@@ -11,40 +11,40 @@ pub struct Plan {
 }
 
 impl Plan {
-    /// Returns the number of chains.
+    /// Returns the number of whole chains.
     pub fn chains(self) -> u32 {
         self.links.checked_div(self.chain).unwrap_or(0)
     }
 }
 
-/// What is done with the arenas of a case.
+/// The part of a case to run.
 #[derive(Clone, Copy, Debug, PartialEq, Eq)]
 pub enum Part {
-    /// They are made.
+    /// Makes the arenas.
     Setup,
-    /// The rounds are carried out too.
+    /// Makes the arenas and runs the rounds.
     All,
-    /// The rounds are carried out and timed.
+    /// Makes the arenas, and runs and times the rounds.
     Timed,
-    /// Lone links are inserted in place of the rounds, each timed by itself.
+    /// Makes the arenas, and inserts lone links, each timed by itself.
     Longest,
 }
 
-/// A case, its numbers, and what is done.
+/// A case, its numbers, and the part of it to run.
 #[derive(Clone, Copy, Debug)]
-pub struct Order {
+pub struct Arguments {
     pub case: Case,
     pub plan: Plan,
     pub part: Part,
 }
 
-impl Order {
-    /// Returns the order of the arguments `CASE LINKS CHAIN ROUNDS PART`.
-    pub fn of(words: &[String]) -> Option<Order> {
+impl Arguments {
+    /// Parses the arguments `CASE LINKS CHAIN ROUNDS PART`.
+    pub fn parse(words: &[String]) -> Option<Arguments> {
         let [case, links, chain, rounds, part] = words else {
             return None;
         };
-        Some(Order {
+        Some(Arguments {
             case: Case::of(case)?,
             plan: Plan {
                 links: links.parse().ok()?,

@@ -1,6 +1,6 @@
-//! Answers the lines of standard input, as docs/CLI.md has them, over the crate `triple_arena`.
+//! Executes the lines of standard input, as docs/CLI.md describes them, over the crate `triple_arena`.
 //!
-//! `--by-transfer` carries out `canonical F` by the crate's transfer in place of its `compress_canonical`.
+//! With `--by-transfer`, the crate's transfer executes `canonical F`, in place of its `compress_canonical`.
 
 use compare::execute::{Canonical, Session};
 use std::io::{self, BufRead, BufReader, Write};
@@ -10,28 +10,28 @@ fn main() -> io::Result<()> {
         None => Canonical::InPlace,
         Some("--by-transfer") => Canonical::ByTransfer,
         Some(other) => {
-            eprintln!("answers: {other} is no option; --by-transfer is the only one");
+            eprintln!("responses: {other} is no option; --by-transfer is the only one");
             std::process::exit(2);
         }
     };
     run(&mut Session::new(canonical))
 }
 
-/// Answers each line. What is answered is written before more of the input is waited for.
+/// Executes each line. Writes all pending responses before it waits for more input.
 fn run(session: &mut Session) -> io::Result<()> {
     let mut input = BufReader::with_capacity(1 << 16, io::stdin().lock());
     let mut output = io::stdout().lock();
     let mut line = Vec::new();
     loop {
         if input.buffer().is_empty() {
-            output.write_all(session.text.as_bytes())?;
+            output.write_all(session.output.as_bytes())?;
             output.flush()?;
-            session.text.clear();
+            session.output.clear();
         }
         line.clear();
         if input.read_until(b'\n', &mut line)? == 0 {
             return Ok(());
         }
-        session.answer(line.strip_suffix(b"\n").unwrap_or(&line));
+        session.execute_line(line.strip_suffix(b"\n").unwrap_or(&line));
     }
 }

@@ -1,6 +1,6 @@
 -- The entry at an index is in the slot at its position.
 use Rattle.arena_base.proofs.SlotLemmas.{entry_at-position}
-use Rattle.arena_base.proofs.detached_slots.HeldSlots.lookup.Goals as goal
+use Rattle.arena_base.proofs.detached_slots.DetachedSlots.lookup.Goals as goal
 
 pub returns-in-Some-Allocated : goal.returns-in-Some-Allocated
 returns-in-Some-Allocated g c =

@@ -6,7 +6,7 @@ use Rattle.arena_base.specs.Slots.{entry_in, with_value_in}
 use Rattle.arena_base.proofs.SlotLemmas.{entry_at-position, slice_set-itself}
 use Rattle.arena_base.proofs.DetachedSlotLemmas.{held_lent}
 use Rattle.arena_ptr.proofs.OptionLemmas.{on_some}
-use Rattle.arena_base.proofs.detached_slots.HeldSlotsLendsValue.value_mut.Goals as goal
+use Rattle.arena_base.proofs.detached_slots.DetachedSlotsLendsValue.value_mut.Goals as goal
 
 pub returns-in-Some : goal.returns-in-Some
 returns-in-Some g c =

@@ -3,7 +3,7 @@ use Rattle.std.proofs.Common.{length, ap, arith}
 use Rattle.std.proofs.lemmas.List.{length-map}
 use Rattle.arena_base.specs.Slots.{entry_of, with_generation_at}
 use Rattle.arena_base.proofs.DetachedSlotLemmas.{held_placed, length-swap, length-with_generation_at}
-use Rattle.arena_base.proofs.detached_slots.HeldSlots.place.Goals as goal
+use Rattle.arena_base.proofs.detached_slots.DetachedSlots.place.Goals as goal
 
 pub swap-requires : goal.swap-requires
 swap-requires g c =
@@ -19,8 +19,8 @@ pub invariant_of-self : goal.invariant_of-self
 invariant_of-self g c =
     let items = g.S.SlotStack.items c.self.inside.slots in
     let i = c.position_of-from.result in
-    let given = with_generation_at items i c.args.generation in
-    rw (c.swap.ensures.items, c.regenerate_at.ensures.items) (omega (arith, c.self.invariant, length-swap given i c.position_of.result, length-with_generation_at items i c.args.generation))
+    let with_generation = with_generation_at items i c.args.generation in
+    rw (c.swap.ensures.items, c.regenerate_at.ensures.items) (omega (arith, c.self.invariant, length-swap with_generation i c.position_of.result, length-with_generation_at items i c.args.generation))
 
 pub returns : goal.returns
 returns g c =
