@@ -9,6 +9,7 @@ pub mod SlotSwapLemmas
 pub mod CompactedFrontLemmas
 pub mod PermutationLoopLemmas
 pub mod PermutationStepLemmas
+pub mod BlockTurnLemmas
 pub mod WorkCountLemmas
 pub mod VisitorLemmas
 pub mod DestinationWriteLemmas

@@ -1,10 +1,10 @@
 -- The loop that moves entries: its beginning, its step, its end, and its work.
-use Rattle.std.proofs.Common.{◌≡◌, ℕ, zero, suc, ◌+◌, ◌≤◌, List, length, Option, None, Some, refl, ap, ◌∙◌, subst, arith}
-use Rattle.std.proofs.Math.Decide.{ℕ_discrete}
+use Rattle.std.proofs.Common.{◌≡◌, ℕ, zero, suc, ◌+◌, ◌⊎◌, inl, inr, ◌<◌, ◌≤◌, List, length, Option, None, Some, true, false, leb, refl, ap, ◌∙◌, arith}
+use Rattle.std.proofs.lemmas.Bool.Decides.{leb_tells}
 use Rattle.arena_base.specs.Arena.{Arena, slot_at}
 use Rattle.arena_base.specs.DetachedSlots.{with_touch, with_placement}
 use Rattle.arena_base.specs.GatheredSlots.{with_totals}
-use Rattle.chain_compaction.specs.Permutations.{Waits, HaveMoved, CanMoveAll, IsSettling, ArePassed, waiting, IsWorkOn}
+use Rattle.chain_compaction.specs.Permutations.{Waits, HaveMoved, CanMoveAll, IsInBlock, IsSettling, ArePassed, waiting, IsWorkOn}
 use Rattle.chain_compaction.proofs.SlotSwapLemmas.{moving_begins, moving_ends}
 use Rattle.chain_compaction.proofs.SlotCountLemmas.{stored-within, waiting-none}
 use Rattle.chain_compaction.proofs.WorkCountLemmas.{same_totals}
@@ -22,18 +22,18 @@ module _ {E : Type 0} (goal : E → Option ℕ) (Settles : E → E → Type 0) (
       first zero d e low w = let none : None ≡ Some e = w.stored in cc
       first (suc k) d e low w = omega arith
 
-  pub passing_continues : (old now next : List (Option E)) (k i : ℕ) → ArePassed goal Settles old now k → i ≡ k + 1 → IsSettling goal Settles i now next
-      → ((d : ℕ) (e : E) → Waits goal (slot_at next) i e d → ⊥) → ArePassed goal Settles old next (k + 1)
-  passing_continues old now next k i p at s none = record {
+  pub passing_continues : (old now next : List (Option E)) (k count : ℕ) → ArePassed goal Settles old now k → IsSettling goal Settles (IsInBlock k count) now next
+      → ((j d : ℕ) (e : E) → IsInBlock k count j → Waits goal (slot_at next) j e d → ⊥) → ArePassed goal Settles old next (k + count)
+  passing_continues old now next k count p s none = record {
     moves = s.moves (slot_at old) p.moves;
     within = s.within p.within;
     length = s.length ∙ p.length;
-    passed = λ j d e low w. by j d e low w (ℕ_discrete j i);
+    passed = λ j d e low w. by j d e low w (leb_tells j k);
   }
     where
-      by : (j d : ℕ) (e : E) → j ≤ k + 1 → Waits goal (slot_at next) j e d → Dec (j ≡ i) → ⊥
-      by j d e low w (yes t) = none d e (subst (λ (x : ℕ). Waits goal (slot_at next) x e d) t w)
-      by j d e low w (no n) = p.passed j d e (omega arith) (s.stays j d e n w)
+      by : (j d : ℕ) (e : E) → j ≤ k + count → Waits goal (slot_at next) j e d → ((leb j k ≡ true) × (j ≤ k)) ⊎ ((leb j k ≡ false) × (k < j)) → ⊥
+      by j d e low w (inl before) = let first : j ≤ k = before.1 in p.passed j d e first (s.stays j d e (λ b. let after : k < j = b.0 in omega arith) w)
+      by j d e low w (inr after) = none j d e (after.1, low) w
 
   nowhere : (old now : List (Option E)) → ArePassed goal Settles old now (length old) → (i d : ℕ) (e : E) → Waits goal (slot_at now) i e d → ⊥
   nowhere old now p i d e w = p.passed i d e (let b : i ≤ length now = (stored-within now i e w.stored).1 in let l : length now ≡ length old = p.length in omega arith) w
@@ -73,12 +73,13 @@ module _ {Gen T : Type 0} where
   }
 
   -- The work of two parts together.
-  pub work_on-after : (old now next : Arena Gen T) (waited wait less lookups more : ℕ) → IsWorkOn old now waited wait lookups → IsWorkOn now next wait less more → IsWorkOn old next waited less (lookups + more)
-  work_on-after old now next waited wait less lookups more work further = record {
+  pub work_on-after : (old now next : Arena Gen T) (waited wait less lookups more all : ℕ) → IsWorkOn old now waited wait lookups → IsWorkOn now next wait less more → lookups + more ≡ all
+      → IsWorkOn old next waited less all
+  work_on-after old now next waited wait less lookups more all work further is = record {
     moved = work.moved + further.moved;
     arena = further.arena ∙ (ap (λ (a : Arena Gen T). with_totals a further.moved (further.moved + more)) work.arena
         ∙ same_totals old ((old.placed + work.moved) + further.moved) (old.placed + (work.moved + further.moved))
-        ((old.touched + (work.moved + lookups)) + (further.moved + more)) (old.touched + ((work.moved + further.moved) + (lookups + more))) (omega arith) (omega arith));
+        ((old.touched + (work.moved + lookups)) + (further.moved + more)) (old.touched + ((work.moved + further.moved) + all)) (omega arith) (omega arith));
     count = (let a : wait + work.moved ≡ waited = work.count in let b : less + further.moved ≡ wait = further.count in omega arith);
   }
 

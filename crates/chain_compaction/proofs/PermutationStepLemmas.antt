@@ -155,12 +155,12 @@ module _ {Gen K T : Type 0} (number : K → Option ℕ) (g : Gen) (k : K) (empty
       let m5 : mark (destination_of number) (option_map renewed (slot_at one i)) ≡ 0 = ap (λ (x : Option Entry). mark (destination_of number) (option_map renewed x)) one_at ∙ ap (λ (o : Option ℕ). one_if (is_some o)) empty in
       omega arith
 
-  pub settles_on : (old : List (Option Entry)) → IsSettling (destination_of number) (Settles number g) i old slots → IsSettling (destination_of number) (Settles number g) i old two
-  settles_on old s = record {
-    moves = λ first m. moving_continues (destination_of number) (Settles number g) (settled_rests number g) (slot_at slots) (slot_at two) i d e settled_at_d two_at_i two_other first (s.moves first m) w;
-    within = λ b. record { within = bound (s.within b) };
-    length = length-two ∙ s.length;
-    stays = λ j h f ne v. s.stays j h f ne (waited_there (destination_of number) (Settles number g) (settled_rests number g) (slot_at slots) (slot_at two) i d e settled_at_d two_at_i two_other j f h ne v);
+  pub settles_on : IsSettling (destination_of number) (Settles number g) (λ (j : ℕ). j ≡ i) slots two
+  settles_on = record {
+    moves = λ first m. moving_continues (destination_of number) (Settles number g) (settled_rests number g) (slot_at slots) (slot_at two) i d e settled_at_d two_at_i two_other first m w;
+    within = λ b. record { within = bound b };
+    length = length-two;
+    stays = λ j h f ne v. waited_there (destination_of number) (Settles number g) (settled_rests number g) (slot_at slots) (slot_at two) i d e settled_at_d two_at_i two_other j f h ne v;
   }
     where
       bound : WaitsWithin (destination_of number) slots → (j h : ℕ) (f : Entry) → Waits (destination_of number) (slot_at two) j f h → (1 ≤ h) × (h ≤ length two)
@@ -173,8 +173,18 @@ module _ {Gen K T : Type 0} (number : K → Option ℕ) (g : Gen) (k : K) (empty
           (first, omega arith)
 
 -- No step yet.
-pub settling_begins : {E : Type 0} (goal : E → Option ℕ) (Settled : E → E → Type 0) (i : ℕ) (old : List (Option E)) → IsSettling goal Settled i old old
-settling_begins goal Settled i old = record { moves = λ first m. m; within = λ b. b; length = refl; stays = λ j k f ne v. v }
+pub settling_begins : {E : Type 0} (goal : E → Option ℕ) (Settled : E → E → Type 0) (block : ℕ → Type 0) (old : List (Option E)) → IsSettling goal Settled block old old
+settling_begins goal Settled block old = record { moves = λ first m. m; within = λ b. b; length = refl; stays = λ j k f out v. v }
+
+-- One more step, from a slot of the block.
+pub settling_continues : {E : Type 0} (goal : E → Option ℕ) (Settled : E → E → Type 0) (block : ℕ → Type 0) (i : ℕ) (old now next : List (Option E)) → block i
+    → IsSettling goal Settled block old now → IsSettling goal Settled (λ (j : ℕ). j ≡ i) now next → IsSettling goal Settled block old next
+settling_continues goal Settled block i old now next inside before step = record {
+  moves = λ first m. step.moves first (before.moves first m);
+  within = λ b. step.within (before.within b);
+  length = step.length ∙ before.length;
+  stays = λ j d e out w. before.stays j d e out (step.stays j d e (λ s. out (subst block (sym s) inside)) w);
+}
 
 -- No entry waits if there is no destination.
 pub none_waits : {E : Type 0} (goal : E → Option ℕ) (slots : List (Option E)) (i : ℕ) → None ≡ option_and_then goal (slot_at slots i) → (d : ℕ) (e : E) → Waits goal (slot_at slots) i e d → ⊥
@@ -230,6 +240,6 @@ module _ {Gen K T : Type 0} (number : K → Option ℕ) (g : Gen) (i d : ℕ) (b
     one_less_after = subst (λ (s : Entries). waiting (destination_of number) s + 1 ≡ waiting (destination_of number) before.slots) slots_after
         (one_less number g out.destination out.empty before.slots i d who.0 who.1 bounds.0 bounds.1)
 
-    pub settles_after : (old : Entries) → IsSettling (destination_of number) (Settles number g) i old before.slots → IsSettling (destination_of number) (Settles number g) i old after.slots
-    settles_after old s = subst (IsSettling (destination_of number) (Settles number g) i old) slots_after
-        (settles_on number g out.destination out.empty before.slots i d who.0 who.1 bounds.0 bounds.1 old s)
+    pub settles_after : IsSettling (destination_of number) (Settles number g) (λ (j : ℕ). j ≡ i) before.slots after.slots
+    settles_after = subst (IsSettling (destination_of number) (Settles number g) (λ (j : ℕ). j ≡ i) before.slots) slots_after
+        (settles_on number g out.destination out.empty before.slots i d who.0 who.1 bounds.0 bounds.1)

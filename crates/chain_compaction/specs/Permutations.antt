@@ -1,10 +1,14 @@
 -- Entries moved to their destinations by exchanges of slots.
-use Rattle.std.specs.Prelude.{◌≡◌, ◌≢◌, ℕ, ◌+◌, ◌⊎◌, ◌≤◌, Bool, List, length, Option, None, Some, count_by, is_some}
+use Rattle.std.specs.Prelude.{◌≡◌, ◌≢◌, ℕ, ◌+◌, ◌⊎◌, ◌<◌, ◌≤◌, Bool, List, length, Option, None, Some, count_by, is_some}
 use Rattle.std.specs.Option.{option_map, option_and_then}
 use Rattle.arena_base.specs.Arena.{Arena, slot_at, with_slot}
 use Rattle.arena_base.specs.DetachedSlots.{DetachedView}
 use Rattle.arena_base.specs.GatheredSlots.{with_totals}
 use Rattle.chain_links.specs.declared.links.LinkBody.{LinkBody}
+
+-- The index j is one of the `count` indexes after start.
+abbrev pub IsInBlock : ℕ → ℕ → ℕ → Type 0
+IsInBlock start count j = (start < j) × (j ≤ start + count)
 
 -- Any entries, some with a destination, their `goal`. A relation states what an entry becomes
 -- there.
@@ -60,13 +64,13 @@ module _ {E : Type 0} where
   pub record WaitsWithin (goal : E → Option ℕ) (slots : List (Option E)) : Type 0 where
     pub within : (i d : ℕ) (e : E) → Waits goal (slot_at slots) i e d → (1 ≤ d) × (d ≤ length slots)
 
-  -- How the slots change while entries from slot i on move.
-  pub record IsSettling (goal : E → Option ℕ) (Settles : E → E → Type 0) (i : ℕ) (old now : List (Option E)) : Type 0 where
+  -- How the slots change while entries from the slots of a block move.
+  pub record IsSettling (goal : E → Option ℕ) (Settles : E → E → Type 0) (block : ℕ → Type 0) (old now : List (Option E)) : Type 0 where
     pub moves : (first : ℕ → Option E) → IsMoving goal Settles first (slot_at old) → IsMoving goal Settles first (slot_at now)
     pub within : WaitsWithin goal old → WaitsWithin goal now
     pub length : length now ≡ length old
-    -- An entry that waits at an index other than i waited there before.
-    pub stays : (j d : ℕ) (e : E) → (j ≢ i) → Waits goal (slot_at now) j e d → Waits goal (slot_at old) j e d
+    -- An entry that waits outside the block waited there before.
+    pub stays : (j d : ℕ) (e : E) → (block j → ⊥) → Waits goal (slot_at now) j e d → Waits goal (slot_at old) j e d
 
   -- The slots after those up to k were processed: no entry waits there.
   pub record ArePassed (goal : E → Option ℕ) (Settles : E → E → Type 0) (old now : List (Option E)) (k : ℕ) : Type 0 where

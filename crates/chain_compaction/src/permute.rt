@@ -1,11 +1,12 @@
 // Moves of links to their destinations along the cycles of the permutation, each link placed once.
-ghost use Rattle.std.specs.Prelude.{◌≡◌, ◌≤◌, ◌+◌, ℕ, length, count_by, is_some, OnSome, IfNone};
+ghost use Rattle.std.specs.Prelude.{◌≡◌, ◌<◌, ◌≤◌, ◌+◌, ◌^◌, ℕ, length, slice_index, count_by, is_some, OnSome, IfNone, if◌then◌else◌};
+ghost use Rattle.std.specs.Bool.{OnTrue, OnFalse};
 ghost use Rattle.std.specs.Option.{option_map, option_and_then};
 ghost use Rattle.arena_base.specs.Arena.{slot_at};
 ghost use Rattle.arena_base.specs.DetachedSlots.{with_touch};
 ghost use Rattle.arena_base.specs.GatheredSlots.{with_totals};
 ghost use Rattle.chain_compaction.specs.WorkCounts.{CountsWork};
-ghost use Rattle.chain_compaction.specs.Permutations.{Waits, WaitsWithin, IsSettling, HaveMoved, CanMoveAll, waiting, destination_of, Settles, IsTakenOut, IsWorkOn};
+ghost use Rattle.chain_compaction.specs.Permutations.{Waits, WaitsWithin, IsInBlock, IsSettling, HaveMoved, CanMoveAll, waiting, destination_of, Settles, IsTakenOut, IsWorkOn};
 
 use arena_base::{ArenaSlot, Compactor, SlotAccess, inx_at};
 use arena_ptr::{InxKey, PtrKey, SlotStack};
@@ -32,31 +33,101 @@ fn take_at<P: PtrKey, T: Drop, S: SlotStack<Item = ArenaSlot<P, LinkNoGen<P, T>>
     }
 }
 
-// Exchanges the link at `i` with the slot at its destination, until no link with a destination is
-// at `i`.
-fn settle<P: PtrKey, T: Drop, S: SlotStack<Item = ArenaSlot<P, LinkNoGen<P, T>>>>(
+// Moves the link at `i` to its destination by an exchange of slots, and returns whether it had one.
+#[inline(always)]
+fn settle_once<P: PtrKey, T: Drop, S: SlotStack<Item = ArenaSlot<P, LinkNoGen<P, T>>>>(
     compactor: &mut Compactor<'_, P, LinkNoGen<P, T>, S>,
     i: P::Inx,
     generation: P::Gen,
-)
-    requires index { P.Inx.number i ≤ length compactor.old.held.slots }
-    requires within { WaitsWithin (destination_of P.Inx.packed_number) compactor.old.held.slots }
+) -> bool
+    requires { WaitsWithin (destination_of P.Inx.packed_number) compactor.old.held.slots }
     ensures same_reference { compactor.new.arena.ghost_name ≡ compactor.old.arena.ghost_name }
     ensures settles { IsSettling (destination_of P.Inx.packed_number)
-        (Settles P.Inx.packed_number generation) (P.Inx.number i) compactor.old.held.slots
-        compactor.new.held.slots }
-    ensures none { (d : ℕ) (e : _)
+        (Settles P.Inx.packed_number generation) (λ j. j ≡ P.Inx.number i)
+        compactor.old.held.slots compactor.new.held.slots }
+    ensures none { OnFalse result ((d : ℕ) (e : _)
         → Waits (destination_of P.Inx.packed_number) (slot_at compactor.new.held.slots)
-        (P.Inx.number i) e d → ⊥ }
+        (P.Inx.number i) e d → ⊥) }
+    ensures fewer { OnTrue result
+        (waiting (destination_of P.Inx.packed_number) compactor.new.held.slots + 1
+        ≡ waiting (destination_of P.Inx.packed_number) compactor.old.held.slots) }
     ensures capacity { compactor.new.held.stack_capacity ≡ compactor.old.held.stack_capacity }
     ensures maximum { compactor.new.held.maximum ≡ compactor.old.held.maximum }
     ensures work { IsWorkOn compactor.old.arena.now compactor.new.arena.now
         (waiting (destination_of P.Inx.packed_number) compactor.old.held.slots)
-        (waiting (destination_of P.Inx.packed_number) compactor.new.held.slots) 1 }
+        (waiting (destination_of P.Inx.packed_number) compactor.new.held.slots)
+        (if result then 0 else 1) }
     ensures counts { CountsWork compactor.old compactor.new }
 {
-    while let Some(to) = take_at(compactor, i) {
-        compactor.place(i, to, generation);
+    match take_at(compactor, i) {
+        Some(to) => {
+            compactor.place(i, to, generation);
+            true
+        }
+        None => false,
+    }
+}
+
+// Lists the positions of the `count` slots from position `start` on.
+fn positions_from(start: usize, count: usize) -> [usize; 64]
+    requires count { count ≤ 64 }
+    requires fits { start + count < 2 ^ 64 }
+    ensures { (k : ℕ) → k < count → slice_index result k ≡ start + k }
+{
+    let mut positions = [0; 64];
+    for k in 0..count {
+        positions[k] = start + k;
+    }
+    positions
+}
+
+// Returns `at`, or 0 if the list of `left` positions ends there.
+fn wrapped_index(at: usize, left: usize) -> usize
+    requires { 0 < left }
+    ensures { result < left }
+{
+    if at < left { at } else { 0 }
+}
+
+// Moves the links of a block of slots, one placement at each slot in turn, until none with a
+// destination is in the block.
+//
+// Successive placements follow different cycles, so their memory accesses overlap.
+fn settle_block<P: PtrKey, T: Drop, S: SlotStack<Item = ArenaSlot<P, LinkNoGen<P, T>>>>(
+    compactor: &mut Compactor<'_, P, LinkNoGen<P, T>, S>,
+    start: usize,
+    count: usize,
+    generation: P::Gen,
+)
+    requires count { count ≤ 64 }
+    requires block { start + count ≤ length compactor.old.held.slots }
+    requires fits { length compactor.old.held.slots ≤ P.Inx.greatest }
+    requires within { WaitsWithin (destination_of P.Inx.packed_number) compactor.old.held.slots }
+    ensures same_reference { compactor.new.arena.ghost_name ≡ compactor.old.arena.ghost_name }
+    ensures settles { IsSettling (destination_of P.Inx.packed_number)
+        (Settles P.Inx.packed_number generation) (IsInBlock start count)
+        compactor.old.held.slots compactor.new.held.slots }
+    ensures none { (j d : ℕ) (e : _) → IsInBlock start count j
+        → Waits (destination_of P.Inx.packed_number) (slot_at compactor.new.held.slots) j e d → ⊥ }
+    ensures capacity { compactor.new.held.stack_capacity ≡ compactor.old.held.stack_capacity }
+    ensures maximum { compactor.new.held.maximum ≡ compactor.old.held.maximum }
+    ensures work { IsWorkOn compactor.old.arena.now compactor.new.arena.now
+        (waiting (destination_of P.Inx.packed_number) compactor.old.held.slots)
+        (waiting (destination_of P.Inx.packed_number) compactor.new.held.slots) count }
+    ensures counts { CountsWork compactor.old compactor.new }
+{
+    let mut positions = positions_from(start, count);
+    let mut left = count;
+    let mut at = 0;
+    while left > 0 {
+        let turn = wrapped_index(at, left);
+        if settle_once(compactor, inx_at::<P>(positions[turn]), generation) {
+            at = turn + 1;
+        } else {
+            left -= 1;
+            positions[turn] = positions[left];
+            at = turn;
+        }
     }
 }
 
@@ -81,7 +152,11 @@ pub fn move_all<P: PtrKey, T: Drop, S: SlotStack<Item = ArenaSlot<P, LinkNoGen<P
         (count_by is_some compactor.old.held.slots + length compactor.old.held.slots) }
     ensures counts { CountsWork compactor.old compactor.new }
 {
-    for k in 0..compactor.slots() {
-        settle(compactor, inx_at::<P>(k), generation);
+    let slots = compactor.slots();
+    let mut start = 0;
+    while start < slots {
+        let count = (slots - start).min(64);
+        settle_block(compactor, start, count, generation);
+        start += count;
     }
 }

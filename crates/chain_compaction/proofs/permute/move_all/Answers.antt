@@ -1,5 +1,5 @@
--- `move_all` settles one more slot, and all in the end.
-use Rattle.std.proofs.Common.{◌≡◌, length, refl, subst, arith}
+-- `move_all` settles one more block, and all in the end.
+use Rattle.std.proofs.Common.{◌≡◌, ◌+◌, ◌≤◌, length, refl, subst, arith}
 use Rattle.chain_compaction.specs.Permutations.{ArePassed, waiting, destination_of, Settles, IsWorkOn}
 use Rattle.chain_compaction.proofs.SlotCountLemmas.{waiting-all}
 use Rattle.chain_compaction.proofs.PermutationStepLemmas.{settled_rests}
@@ -8,11 +8,12 @@ use Rattle.chain_compaction.proofs.LinkLoanLemmas.{same_then, counts_on, capacit
 use Rattle.chain_compaction.proofs.WorkCountLemmas.{counts_none}
 use Rattle.chain_compaction.proofs.permute.move_all.Goals as goal
 
-pub loop-k-init : goal.loop-k-init
-loop-k-init g c =
+pub loop-start-init : goal.loop-start-init
+loop-start-init g c =
     let packed_number = g.P.Inx.InxKey.packed_number in
     let old = c.args.compactor.now in
     record {
+      reached = omega arith;
       same_reference = refl;
       passed = passing_begins (destination_of packed_number) (Settles packed_number c.args.generation) (settled_rests packed_number c.args.generation) old.held.slots c.requires.can;
       capacity = refl;
@@ -21,40 +22,51 @@ loop-k-init g c =
       counts = counts_none old.arena.now old.placed old.touched;
     }
 
-pub settle-requires-clause-within : goal.settle-requires-clause-within
-settle-requires-clause-within g c = c.loop-k.invariant.passed.within
-
-pub settle-requires-clause-index : goal.settle-requires-clause-index
-settle-requires-clause-index g c = omega (arith, c.loop-k.invariant.passed.length, c.inx_at.ensures)
-
-pub loop-k-preserved : goal.loop-k-preserved
-loop-k-preserved g c =
-    let packed_number = g.P.Inx.InxKey.packed_number in
-    let inv = c.loop-k.invariant in
-    let after = c.settle.ensures in
-    let old = c.args.compactor.now in
-    let now = c.loop-k.compactor in
-    let next = c.settle.new.compactor in
+pub settle_block-requires : goal.settle_block-requires
+settle_block-requires g c =
+    let same = c.loop-start.invariant.passed.length in
+    let reached : c.loop-start.start ≤ c.slots-slots.result = c.loop-start.invariant.reached in
     record {
+      count = omega (arith, c.min-count.ensures);
+      block = omega (arith, c.min-count.ensures, same, reached, c.slots-slots.ensures);
+      fits = omega (arith, same, c.requires.fits);
+      within = c.loop-start.invariant.passed.within;
+    }
+
+pub loop-start-preserved : goal.loop-start-preserved
+loop-start-preserved g c =
+    let packed_number = g.P.Inx.InxKey.packed_number in
+    let inv = c.loop-start.invariant in
+    let after = c.settle_block.ensures in
+    let old = c.args.compactor.now in
+    let now = c.loop-start.compactor in
+    let next = c.settle_block.new.compactor in
+    let start = c.loop-start.start in
+    let count = c.min-count.result in
+    record {
+      reached = omega (arith, c.min-count.ensures, inv.reached);
       same_reference = same_then old now next inv.same_reference after.same_reference;
       passed = passing_continues (destination_of packed_number) (Settles packed_number c.args.generation) (settled_rests packed_number c.args.generation) old.held.slots now.held.slots next.held.slots
-          c.loop-k.k (g.P.Inx.InxKey.number c.inx_at.result) inv.passed c.inx_at.ensures after.settles after.none;
+          start count inv.passed after.settles after.none;
       capacity = capacity_then old now next inv.capacity after.capacity;
       maximum = maximum_then old now next inv.maximum after.maximum;
       work = work_on-after old.arena.now now.arena.now next.arena.now (waiting (destination_of packed_number) old.held.slots) (waiting (destination_of packed_number) now.held.slots)
-          (waiting (destination_of packed_number) next.held.slots) c.loop-k.k 1 inv.work after.work;
+          (waiting (destination_of packed_number) next.held.slots) start count (start + count) inv.work after.work refl;
       counts = counts_on old now next inv.counts after.counts;
     }
+
+pub loop-start-smaller : goal.loop-start-smaller
+loop-start-smaller g c = omega (arith, c.min-count.ensures, c.loop-start-test.true)
 
 pub returns : goal.returns
 returns g c =
     let old = c.args.compactor.now in
-    let all : c.loop-k.k ≡ length old.held.slots = omega arith in
+    let all : c.loop-start.start ≡ length old.held.slots = omega (arith, c.loop-start.invariant.reached, c.slots-slots.ensures) in
     let target = destination_of g.P.Inx.InxKey.packed_number in
     let settles = Settles g.P.Inx.InxKey.packed_number c.args.generation in
     let rests = settled_rests g.P.Inx.InxKey.packed_number c.args.generation in
-    let now = c.loop-k.compactor in
-    let inv = c.loop-k.invariant in
+    let now = c.loop-start.compactor in
+    let inv = c.loop-start.invariant in
     let passed = subst (ArePassed target settles old.held.slots now.held.slots) all inv.passed in
     record {
       same_reference = inv.same_reference;

@@ -1,17 +1,21 @@
--- The slots up to k are settled.
-use Rattle.std.proofs.Common.{◌≡◌}
+-- The slots up to start are settled.
+use Rattle.std.proofs.Common.{◌≡◌, ◌≤◌, ◌-◌}
 use Rattle.chain_compaction.specs.WorkCounts.{CountsWork}
 use Rattle.chain_compaction.specs.Permutations.{ArePassed, waiting, destination_of, Settles, IsWorkOn}
 use Rattle.chain_compaction.proofs.permute.move_all.Given as goal
 
-abbrev pub invariant-loop-k : goal.invariant-loop-k
-invariant-loop-k g l =
+abbrev pub invariant-loop-start : goal.invariant-loop-start
+invariant-loop-start g l =
     let packed_number = g.P.Inx.InxKey.packed_number in
     record {
+      reached : l.start ≤ l.slots;
       same_reference : l.compactor.arena.ghost_name ≡ l.fn.compactor.arena.ghost_name;
-      passed : ArePassed (destination_of packed_number) (Settles packed_number l.generation) l.fn.compactor.held.slots l.compactor.held.slots l.k;
+      passed : ArePassed (destination_of packed_number) (Settles packed_number l.generation) l.fn.compactor.held.slots l.compactor.held.slots l.start;
       capacity : l.compactor.held.stack_capacity ≡ l.fn.compactor.held.stack_capacity;
       maximum : l.compactor.held.maximum ≡ l.fn.compactor.held.maximum;
-      work : IsWorkOn l.fn.compactor.arena.now l.compactor.arena.now (waiting (destination_of packed_number) l.fn.compactor.held.slots) (waiting (destination_of packed_number) l.compactor.held.slots) l.k;
+      work : IsWorkOn l.fn.compactor.arena.now l.compactor.arena.now (waiting (destination_of packed_number) l.fn.compactor.held.slots) (waiting (destination_of packed_number) l.compactor.held.slots) l.start;
       counts : CountsWork l.fn.compactor l.compactor;
     }
+
+abbrev pub decreases-loop-start : goal.decreases-loop-start
+decreases-loop-start g l = l.slots - l.start

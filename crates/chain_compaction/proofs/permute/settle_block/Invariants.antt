@@ -1,0 +1,23 @@
+-- The moves so far, the positions that are left, and the work.
+use Rattle.std.proofs.Common.{◌≡◌, ◌+◌, ◌-◌}
+use Rattle.arena_base.specs.Arena.{slot_at}
+use Rattle.chain_compaction.specs.WorkCounts.{CountsWork}
+use Rattle.chain_compaction.specs.Permutations.{IsInBlock, IsSettling, waiting, destination_of, Settles, IsWorkOn}
+use Rattle.chain_compaction.proofs.BlockTurnLemmas.{ListsWaiting}
+use Rattle.chain_compaction.proofs.permute.settle_block.Given as goal
+
+abbrev pub invariant-loop-left : goal.invariant-loop-left
+invariant-loop-left g l =
+    let packed_number = g.P.Inx.InxKey.packed_number in
+    record {
+      same_reference : l.compactor.arena.ghost_name ≡ l.fn.compactor.arena.ghost_name;
+      settles : IsSettling (destination_of packed_number) (Settles packed_number l.generation) (IsInBlock l.start l.count) l.fn.compactor.held.slots l.compactor.held.slots;
+      lists : ListsWaiting (destination_of packed_number) l.start l.count l.positions l.left (slot_at l.compactor.held.slots);
+      capacity : l.compactor.held.stack_capacity ≡ l.fn.compactor.held.stack_capacity;
+      maximum : l.compactor.held.maximum ≡ l.fn.compactor.held.maximum;
+      work : IsWorkOn l.fn.compactor.arena.now l.compactor.arena.now (waiting (destination_of packed_number) l.fn.compactor.held.slots) (waiting (destination_of packed_number) l.compactor.held.slots) (l.count - l.left);
+      counts : CountsWork l.fn.compactor l.compactor;
+    }
+
+abbrev pub decreases-loop-left : goal.decreases-loop-left
+decreases-loop-left g l = waiting (destination_of g.P.Inx.InxKey.packed_number) l.compactor.held.slots + l.left
