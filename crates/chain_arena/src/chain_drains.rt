@@ -76,6 +76,8 @@ impl<P: PtrKey, T: Drop, S: SlotStack<Item = ArenaSlot<P, LinkNoGen<P, T>>>> Cha
     }
 
     // Removes the link at a number, and returns it after the number of its walk's next link.
+    // Inlined, so the result need not go through memory.
+    #[inline(always)]
     fn drain_at(&mut self, at: usize) -> Option<(usize, InvalidationOption<(P, LinkNoGen<P, T>)>)>
         ensures none { IfNone result ((walk_left self.old at ≡ []) × (self.new ≡ self.old)) }
         ensures some { IfSome result
@@ -96,6 +98,8 @@ impl<P: PtrKey, T: Drop, S: SlotStack<Item = ArenaSlot<P, LinkNoGen<P, T>>>> Cha
         }
     }
 
+    #[cold]
+    #[inline(never)]
     fn drain_from(&mut self, from: usize)
         ensures state { self.new ≡ without_each P.Gen.following self.old (walk_left self.old from) }
         ensures taken { TakesWalk (link_map self.old) (link_map self.new)
