@@ -1,37 +1,73 @@
--- The list of the positions of a block whose slots are still processed.
-use Rattle.std.proofs.Common.{◌≡◌, ◌≢◌, ℕ, ◌+◌, ◌-◌, ◌<◌, ◌≤◌, List, length, slice_index, slice_set, Option, sym, ap, ◌∙◌, subst, arith}
+-- The list of the positions of a block at which a link may still wait.
+use Rattle.std.proofs.Common.{◌≡◌, ◌≢◌, ℕ, ◌+◌, ◌-◌, ◌<◌, ◌≤◌, ◌⊎◌, inl, inr, true, false, leb, List, length, slice_index, slice_set, Option, sym, ap, ◌∙◌, subst, arith}
+use Rattle.std.proofs.lemmas.Bool.Decides.{leb_tells}
 use Rattle.std.proofs.Math.Decide.{ℕ_discrete}
 use Rattle.std.proofs.lemmas.List.{get_or-set_same, get_or-set_other}
 use Rattle.std.proofs.Math.ListN.{length-set}
-use Rattle.chain_compaction.specs.Permutations.{Waits, IsInBlock}
+use Rattle.chain_compaction.specs.Permutations.{Waits, IsInBlock, ListsWaiting}
 
+-- The list grows while the slots of a block are processed for the first time.
+module _ {E : Type 0} (goal : E → Option ℕ) (start : ℕ) where
+  module _ (positions : List ℕ) (k left i : ℕ) (now next : ℕ → Option E) (lists : ListsWaiting goal start k positions left now) (at : i ≡ (start + k) + 1)
+      (stays : (j d : ℕ) (e : E) → (j ≢ i) → Waits goal next j e d → Waits goal now j e d) where
+    -- The other slots were in the block before.
+    before : (j : ℕ) → IsInBlock start (k + 1) j → j ≢ i → IsInBlock start k j
+    before j in_block ne = let low : start < j = in_block.0 in let high : j ≤ start + (k + 1) = in_block.1 in (low, by (leb_tells j (start + k)))
+      where
+        by : ((leb j (start + k) ≡ true) × (j ≤ start + k)) ⊎ ((leb j (start + k) ≡ false) × (start + k < j)) → j ≤ start + k
+        by (inl below) = below.1
+        by (inr above) = let beyond : start + k < j = above.1 in let high : j ≤ start + (k + 1) = in_block.1 in let last : j ≡ i = omega arith in absurd (ne last)
+
+    within_more : (p : ℕ) → p < left → (start ≤ slice_index positions p) × (slice_index positions p < start + (k + 1))
+    within_more p low =
+        let w = lists.within p low in
+        let first : start ≤ slice_index positions p = w.0 in
+        let last : slice_index positions p < start + k = w.1 in
+        (first, omega arith)
+
+    -- No entry waits at the next slot.
+    pub listing_skips : ((d : ℕ) (e : E) → Waits goal next i e d → ⊥) → ListsWaiting goal start (k + 1) positions left next
+    listing_skips none = record {
+      length = lists.length;
+      few = (let few : left ≤ k = lists.few in omega arith);
+      within = within_more;
+      listed = λ j d e in_block w. by j d e in_block w (ℕ_discrete j i);
+    }
+      where
+        by : (j d : ℕ) (e : E) → IsInBlock start (k + 1) j → Waits goal next j e d → Dec (j ≡ i) → (p : ℕ) × (p < left) × (j ≡ slice_index positions p + 1)
+        by j d e in_block w (yes t) = absurd (none d e (subst (λ (x : ℕ). Waits goal next x e d) t w))
+        by j d e in_block w (no n) = lists.listed j d e (before j in_block n) (stays j d e n w)
+
+    -- The next slot is added to the list.
+    module _ (fits : k < 64) where
+      abbrev added : List ℕ
+      added = slice_set positions left (start + k)
+
+      added_at : slice_index added left ≡ start + k
+      added_at = get_or-set_same positions left (start + k) 0 (let l : length positions ≡ 64 = lists.length in let few : left ≤ k = lists.few in omega arith)
+
+      added_other : (p : ℕ) → p < left → slice_index added p ≡ slice_index positions p
+      added_other p low = get_or-set_other positions left p (start + k) 0 (λ same. let equal : p ≡ left = same in omega arith)
+
+      pub listing_grows : ListsWaiting goal start (k + 1) added (left + 1) next
+      listing_grows = record {
+        length = length-set positions left (start + k) ∙ lists.length;
+        few = (let few : left ≤ k = lists.few in omega arith);
+        within = λ p less. kept p less (ℕ_discrete p left);
+        listed = λ j d e in_block w. by j d e in_block w (ℕ_discrete j i);
+      }
+        where
+          kept : (p : ℕ) → p < left + 1 → Dec (p ≡ left) → (start ≤ slice_index added p) × (slice_index added p < start + (k + 1))
+          kept p less (yes t) = let is : slice_index added p ≡ start + k = ap (slice_index added) t ∙ added_at in (omega arith, omega arith)
+          kept p less (no n) = subst (λ (x : ℕ). (start ≤ x) × (x < start + (k + 1))) (sym (added_other p (omega arith))) (within_more p (omega arith))
+
+          by : (j d : ℕ) (e : E) → IsInBlock start (k + 1) j → Waits goal next j e d → Dec (j ≡ i) → (p : ℕ) × (p < left + 1) × (j ≡ slice_index added p + 1)
+          by j d e in_block w (yes t) = (left, omega arith, t ∙ (at ∙ ap (λ (x : ℕ). x + 1) (sym added_at)))
+          by j d e in_block w (no n) = let was = lists.listed j d e (before j in_block n) (stays j d e n w) in (was.0, omega (arith, was.1), was.2 ∙ ap (λ (x : ℕ). x + 1) (sym (added_other was.0 was.1)))
+
+-- The list shrinks in the turns after the first.
 module _ {E : Type 0} (goal : E → Option ℕ) (start count : ℕ) where
-  -- The first `left` positions are in the block, and include each at which an entry waits.
-  pub record ListsWaiting (positions : List ℕ) (left : ℕ) (now : ℕ → Option E) : Type 0 where
-    pub length : length positions ≡ 64
-    pub few : left ≤ count
-    pub within : (p : ℕ) → p < left → (start ≤ slice_index positions p) × (slice_index positions p < start + count)
-    pub listed : (j d : ℕ) (e : E) → IsInBlock start count j → Waits goal now j e d → (p : ℕ) × (p < left) × (j ≡ slice_index positions p + 1)
-
-  -- A list of the whole block.
-  pub listing_begins : (positions : List ℕ) (now : ℕ → Option E) → length positions ≡ 64 → ((k : ℕ) → k < count → slice_index positions k ≡ start + k) → ListsWaiting positions count now
-  listing_begins positions now len at = record {
-    length = len;
-    few = omega arith;
-    within = λ p low. let is : slice_index positions p ≡ start + p = at p low in (omega arith, omega arith);
-    listed = λ j d e in_block w. listed j in_block;
-  }
-    where
-      listed : (j : ℕ) → IsInBlock start count j → (p : ℕ) × (p < count) × (j ≡ slice_index positions p + 1)
-      listed j in_block =
-          let low : start < j = in_block.0 in
-          let high : j ≤ start + count = in_block.1 in
-          let p : ℕ = j - (start + 1) in
-          let few : p < count = omega arith in
-          let is : slice_index positions p ≡ start + p = at p few in
-          (p, few, omega arith)
-
-  module _ (positions : List ℕ) (left turn i : ℕ) (now next : ℕ → Option E) (lists : ListsWaiting positions left now) (low : turn < left) (at : i ≡ slice_index positions turn + 1)
+  module _ (positions : List ℕ) (left turn i : ℕ) (now next : ℕ → Option E) (lists : ListsWaiting goal start count positions left now) (low : turn < left) (at : i ≡ slice_index positions turn + 1)
       (stays : (j d : ℕ) (e : E) → (j ≢ i) → Waits goal next j e d → Waits goal now j e d) where
     -- A listed slot is in the block.
     pub turn_in_block : IsInBlock start count i
@@ -42,7 +78,7 @@ module _ {E : Type 0} (goal : E → Option ℕ) (start count : ℕ) where
         (omega arith, omega arith)
 
     -- After a move from the slot the list is the same.
-    pub listing_stays : ListsWaiting positions left next
+    pub listing_stays : ListsWaiting goal start count positions left next
     listing_stays = record { length = lists.length; few = lists.few; within = lists.within; listed = λ j d e in_block w. by j d e in_block w (ℕ_discrete j i) }
       where
         by : (j d : ℕ) (e : E) → IsInBlock start count j → Waits goal next j e d → Dec (j ≡ i) → (p : ℕ) × (p < left) × (j ≡ slice_index positions p + 1)
@@ -63,7 +99,7 @@ module _ {E : Type 0} (goal : E → Option ℕ) (start count : ℕ) where
       replaced_other : (p : ℕ) → p ≢ turn → slice_index replaced p ≡ slice_index positions p
       replaced_other p ne = get_or-set_other positions turn p (slice_index positions fewer) 0 ne
 
-      pub listing_shrinks : ListsWaiting replaced fewer next
+      pub listing_shrinks : ListsWaiting goal start count replaced fewer next
       listing_shrinks = record {
         length = length-set positions turn (slice_index positions fewer) ∙ lists.length;
         few = (let few : left ≤ count = lists.few in omega arith);
@@ -87,7 +123,7 @@ module _ {E : Type 0} (goal : E → Option ℕ) (start count : ℕ) where
           by j d e in_block w (no n) = let was = lists.listed j d e in_block (stays j d e n w) in found j was.0 n was.1 was.2 (ℕ_discrete was.0 fewer) (ℕ_discrete was.0 turn)
 
   -- If the list is empty, no entry waits in the block.
-  pub listing_ends : (positions : List ℕ) (left : ℕ) (now : ℕ → Option E) → ListsWaiting positions left now → left ≡ 0 → (j d : ℕ) (e : E) → IsInBlock start count j → Waits goal now j e d → ⊥
+  pub listing_ends : (positions : List ℕ) (left : ℕ) (now : ℕ → Option E) → ListsWaiting goal start count positions left now → left ≡ 0 → (j d : ℕ) (e : E) → IsInBlock start count j → Waits goal now j e d → ⊥
   listing_ends positions left now lists none j d e in_block w = let was = lists.listed j d e in_block w in let low : was.0 < left = was.1 in omega arith
 
 -- The number of entries that wait plus the number of listed positions decreases.
@@ -97,18 +133,21 @@ sum_decreases-moved wait less left is = omega arith
 pub sum_decreases-shortened : (wait less moved left : ℕ) → less + moved ≡ wait → 0 < left → less + (left - 1) < wait + left
 sum_decreases-shortened wait less moved left is some = omega arith
 
--- The lookups that found no destination: one for each position that left the list.
-pub lookups_begin : (count : ℕ) → 0 ≡ count - count
-lookups_begin count = omega arith
+-- The touches beside those of the moves: at most one for each slot that is not in the list.
+pub touches_add : (k left : ℕ) → (k - left) + 0 ≡ (k + 1) - (left + 1)
+touches_add k left = omega arith
 
-pub lookups_stay : (count left : ℕ) → (count - left) + 0 ≡ count - left
-lookups_stay count left = omega arith
+pub touches_skip : (k left : ℕ) → left ≤ k → (k - left) + 1 ≡ (k + 1) - left
+touches_skip k left few = omega arith
 
-pub lookups_continue : (count left : ℕ) → 0 < left → left ≤ count → (count - left) + 1 ≡ count - (left - 1)
-lookups_continue count left some few = omega arith
+pub touches_stay : (count left : ℕ) → (count - left) + 0 ≡ count - left
+touches_stay count left = omega arith
 
-pub lookups_end : (count left : ℕ) → left ≤ 0 → count - left ≡ count
-lookups_end count left none = omega arith
+pub touches_continue : (count left : ℕ) → 0 < left → left ≤ count → (count - left) + 1 ≡ count - (left - 1)
+touches_continue count left some few = omega arith
+
+pub touches_end : (count left : ℕ) → left ≤ 0 → count - left ≡ count
+touches_end count left none = omega arith
 
 -- The number of positions in the list after one leaves it, and at the end.
 pub one_less_left : (left : ℕ) → 0 < left → (left - 1) + 1 ≡ left
@@ -123,3 +162,10 @@ below_bound position end len greatest low fits high = omega arith
 
 pub turn_within : (turn left count : ℕ) → turn < left → left ≤ count → count ≤ 64 → turn < 64
 turn_within turn left count low few all = omega arith
+
+-- The next slot is in the block, and the list has a place for it.
+pub next_in_block : (start count k i : ℕ) → i ≡ (start + k) + 1 → k < count → IsInBlock start count i
+next_in_block start count k i at low = (omega (arith, at), omega (arith, at, low))
+
+pub below_64 : (k count : ℕ) → k < count → count ≤ 64 → k < 64
+below_64 k count low all = omega (arith, low, all)

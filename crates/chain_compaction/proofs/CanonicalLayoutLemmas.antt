@@ -244,13 +244,12 @@ module _ {F P Gen K T : Type 0} (g : F → P → P → F → Type 0) (key : P �
     -- After the slots are given back.
     module _ (greatest : ℕ) (maximum : Option ℕ) (a3 : Arena Gen (LinkBody K T)) (capacity : h3.stack_capacity ≡ h2.stack_capacity) (is_maximum : h3.maximum ≡ h2.maximum)
         (emptying : a1 ≡ with_totals (lent_out maximum old) 0 (length old.slots))
-        (moving : a3 ≡ with_totals a2 (count_by is_some h2.slots) (count_by is_some h2.slots + length h2.slots)) where
+        (moving : IsWork a2 a3 (count_by is_some h2.slots) (count_by is_some h2.slots + length h2.slots)) where
       whole_work : IsWork (lent_out maximum old) a3 (length numbered.indexes) (4 * length old.slots + 12 * length numbered.indexes)
       whole_work =
           let first : IsWork (lent_out maximum old) a1 0 (length old.slots) = record { touches = length old.slots; few = omega arith; arena = emptying } in
-          let last : IsWork a2 a3 (count_by is_some h2.slots) (count_by is_some h2.slots + length h2.slots) = record { touches = count_by is_some h2.slots + length h2.slots; few = omega arith; arena = moving } in
-          work-more (work-more first numbered.work 0 (2 * length old.slots + 4 * length numbered.indexes) refl (omega (arith, first-length)))
-          last (length numbered.indexes) (4 * length old.slots + 12 * length numbered.indexes) (omega (arith, links_counted)) (omega (arith, links_counted, second-length))
+          work-more (work-more first numbered.work 0 (3 * length old.slots + 5 * length numbered.indexes) refl (omega (arith, first-length)))
+          moving (length numbered.indexes) (4 * length old.slots + 12 * length numbered.indexes) (omega (arith, links_counted)) (omega (arith, links_counted, second-length))
 
       abbrev arranged_arena : Arena Gen (LinkBody K T)
       arranged_arena = returned greatest (with_totals (lent_out maximum old) (length numbered.indexes) whole_work.touches) h3

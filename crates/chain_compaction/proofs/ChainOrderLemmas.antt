@@ -1,5 +1,5 @@
 -- Numbering of chains by their least index: the beginning, one more slot, and the end.
-use Rattle.std.proofs.Common.{◌≡◌, ℕ, ◌+◌, ◌*◌, ◌<◌, ◌≤◌, ◌⊎◌, inl, inr, List, [], ◌∷◌, ◌++◌, length, Option, None, Some, true, false, refl, sym, ap, ◌∙◌, subst, arith}
+use Rattle.std.proofs.Common.{◌≡◌, ℕ, ◌+◌, ◌-◌, ◌*◌, ◌<◌, ◌≤◌, ◌⊎◌, inl, inr, List, [], ◌∷◌, ◌++◌, length, Option, None, Some, true, false, refl, sym, ap, ◌∙◌, subst, arith}
 use Rattle.std.specs.Prelude.{is_none}
 use Rattle.std.specs.Option.{option_map, option_and_then}
 use Rattle.std.proofs.lemmas.List.{length-append, append-nil}
@@ -25,7 +25,7 @@ use Rattle.chain_compaction.specs.Layouts.{ReportsMoves}
 use Rattle.chain_compaction.specs.Permutations.{destination_of}
 use Rattle.chain_compaction.specs.Destinations.{HasChainFrom, renamed_link, destination_at, is_fresh, AreNumbered, AreRelinked, CanNumber, IsChainNumbered, AreAllNumbered}
 use Rattle.chain_links.proofs.ArenaInsertionLemmas.{slots-within}
-use Rattle.chain_compaction.proofs.DetachedLinkLemmas.{work-none, work-more}
+use Rattle.chain_compaction.proofs.DetachedLinkLemmas.{work-none, work-more, work-few}
 use Rattle.chain_compaction.proofs.ChainDestinationLemmas.{reports_none, reports_then}
 use Rattle.chain_compaction.proofs.LinkRewriteLemmas.{viewed_as, relinked_none, relinked_as, relinked_ptr, relinked_then, all_relinked}
 
@@ -121,9 +121,10 @@ module _ {Gen K T : Type 0} (number : K → Option ℕ) where
 
 -- ---- the loop over all slots
 
--- The chains with an index up to k are numbered, and the visitor has seen them in order.
+-- The chains with an index up to k are numbered, and the visitor has seen them in order. Reads ahead
+-- have cost some touches, and `credit` more are allowed.
 pub record IsOrdering {Gen K T F P : Type 0} (number : K → Option ℕ) (g : F → P → P → F → Type 0) (key : P → ℕ × Gen) (generation : Gen) (f last : F) (old now : DetachedView Gen (LinkBody K T))
-    (before after : Arena Gen (LinkBody K T)) (count k : ℕ) : Type 0 where
+    (before after : Arena Gen (LinkBody K T)) (count k credit : ℕ) : Type 0 where
   pub chains : List Chain
   pub are : AreTheChains (link_map_in number old.slots) chains
   pub done : List Chain
@@ -133,12 +134,15 @@ pub record IsOrdering {Gen K T F P : Type 0} (number : K → Option ℕ) (g : F 
   pub relinked : AreRelinked number (λ _. renamed_link (place_in (all_items chains))) old now (all_items done)
   pub numbered : AreNumbered number now.slots count (all_items done)
   pub reports : ReportsMoves g key (ptr_at (slot_at old.slots)) generation 1 f (all_items done) last
-  pub work : IsWork before after 0 (k + 4 * length (all_items done))
+  pub ahead : ℕ
+  pub allowed : ahead + credit ≤ length old.slots + count
+  pub work : IsWork before after 0 (ahead + (k + 4 * length (all_items done)))
 
 module _ {Gen K T F P : Type 0} (number : K → Option ℕ) (g : F → P → P → F → Type 0) (key : P → ℕ × Gen) (generation : Gen) (f : F) (old : DetachedView Gen (LinkBody K T)) (before : Arena Gen (LinkBody K T)) where
   -- No slot is passed yet.
-  pub order_begins : IsWellLinked (link_map_in number old.slots) → ((j : ℕ) → destination_at number old.slots j ≡ None) → IsOrdering number g key generation f f old old before before 0 0
-  order_begins agrees none =
+  pub order_begins : IsWellLinked (link_map_in number old.slots) → ((j : ℕ) → destination_at number old.slots j ≡ None) → (credit : ℕ) → credit ≤ length old.slots
+      → IsOrdering number g key generation f f old old before before 0 0 credit
+  order_begins agrees none credit few =
       let within = slots-within (body_interlinks number) old.slots in
       let all = the_chains (link_map_in number old.slots) (length old.slots) agrees within in
       record {
@@ -151,10 +155,12 @@ module _ {Gen K T F P : Type 0} (number : K → Option ℕ) (g : F → P → P �
         relinked = relinked_none number (λ _. renamed_link (place_in (all_items all.0))) old;
         numbered = record { places = none; counts = refl };
         reports = reports_none g key (ptr_at (slot_at old.slots)) generation 1 f;
+        ahead = 0;
+        allowed = omega (arith, few);
         work = work-none before 0;
       }
 
-  module _ (last : F) (now : DetachedView Gen (LinkBody K T)) (after : Arena Gen (LinkBody K T)) (count k : ℕ) (o : IsOrdering number g key generation f last old now before after count k) where
+  module _ (last : F) (now : DetachedView Gen (LinkBody K T)) (after : Arena Gen (LinkBody K T)) (count k credit : ℕ) (o : IsOrdering number g key generation f last old now before after count k credit) where
     -- A link that is not numbered yet is unchanged.
     as_old : (j : ℕ) → (IsMember (all_items o.done) j → ⊥) → link_map_in number now.slots j ≡ link_map_in number old.slots j
     as_old j out = ap (option_map (body_interlinks number)) (o.relinked.stay j out)
@@ -181,7 +187,7 @@ module _ {Gen K T F P : Type 0} (number : K → Option ℕ) (g : F → P → P �
       renamed = all_relinked number (place_in (all_items o.done)) old now (all_items o.done)
           (subst (λ (xs : List ℕ). AreRelinked number (λ _. renamed_link (place_in xs)) old now (all_items o.done)) whole o.relinked) each;
       reports = o.reports;
-      work = subst (λ (n : ℕ). IsWork before after 0 (n + 4 * length (all_items o.done))) all o.work;
+      work = work-few o.work (2 * length old.slots + 5 * length (all_items o.done)) (omega (arith, all, o.allowed, o.numbered.counts));
     }
       where
         none : (y : ℕ) → IsMember (all_items o.rest) y → ⊥
@@ -200,7 +206,7 @@ module _ {Gen K T F P : Type 0} (number : K → Option ℕ) (g : F → P → P �
     module _ (i : ℕ) (is : i ≡ k + 1) where
       -- The next slot holds no link without a destination.
       pub order_skips : (mid : DetachedView Gen (LinkBody K T)) (was_read : Arena Gen (LinkBody K T)) → mid ≡ now → is_fresh number (slot_at now.slots i) ≡ false → IsWork after was_read 0 1
-          → IsOrdering number g key generation f last old mid before was_read count (k + 1)
+          → IsOrdering number g key generation f last old mid before was_read count (k + 1) credit
       order_skips mid was_read same stale lookup = record {
         chains = o.chains;
         are = o.are;
@@ -211,7 +217,9 @@ module _ {Gen K T F P : Type 0} (number : K → Option ℕ) (g : F → P → P �
         relinked = subst (λ (h : DetachedView Gen (LinkBody K T)). AreRelinked number (λ _. renamed_link (place_in (all_items o.chains))) old h (all_items o.done)) (sym same) o.relinked;
         numbered = subst (λ (h : DetachedView Gen (LinkBody K T)). AreNumbered number h.slots count (all_items o.done)) (sym same) o.numbered;
         reports = o.reports;
-        work = work-more o.work lookup 0 (k + 1 + 4 * length (all_items o.done)) refl (omega arith);
+        ahead = o.ahead;
+        allowed = o.allowed;
+        work = work-more o.work lookup 0 (o.ahead + (k + 1 + 4 * length (all_items o.done))) refl (omega arith);
       }
         where
           not_here : IsMember (all_items o.rest) i → ⊥
@@ -334,14 +342,15 @@ module _ {Gen K T F P : Type 0} (number : K → Option ℕ) (g : F → P → P �
             pub order_can : (done : List ℕ) × (c : Chain) × CanNumber number was_stored.slots start count done c
             order_can = (all_items o.done, the_next.first, can_here)
 
-            -- The next chain is numbered.
-            pub order_continues : (a b d : Arena Gen (LinkBody K T)) (next : F) (new : DetachedView Gen (LinkBody K T)) (more : ℕ)
-                → IsWork after a 0 1
+            -- The next chain is numbered, after some reads ahead.
+            pub order_continues : (a b d : Arena Gen (LinkBody K T)) (next : F) (new : DetachedView Gen (LinkBody K T)) (more reads left : ℕ)
+                → IsWork after a 0 (1 + reads)
+                → left + reads ≤ credit + (more - count)
                 → ((xs : List ℕ) → IsChain (link_map_in number mid.slots) (linear xs) → IsMember xs i → IsWork a b 0 (length xs))
                 → ((xs : List ℕ) → IsChain (link_map_in number mid.slots) (cyclic (i ∷ xs)) → IsWork a b 0 (length xs + 1))
                 → ((done : List ℕ) (c : Chain) → CanNumber number was_stored.slots start count done c → IsChainNumbered number g key generation last next was_stored new b d more done c)
-                → IsOrdering number g key generation f next old new before d more (k + 1)
-            order_continues a b d next new more was_read in_linear in_cyclic numbers = record {
+                → IsOrdering number g key generation f next old new before d more (k + 1) left
+            order_continues a b d next new more reads left was_read paid in_linear in_cyclic numbers = record {
               chains = o.chains;
               are = o.are;
               done = o.done ++ the_next.first ∷ [];
@@ -355,8 +364,11 @@ module _ {Gen K T F P : Type 0} (number : K → Option ℕ) (g : F → P → P �
                   (reports_then g key (ptr_at (slot_at old.slots)) generation 1 f last next (all_items o.done) (items the_next.first) o.reports
                   (subst (λ (n : ℕ). ReportsMoves g key (ptr_at (slot_at old.slots)) generation n last (items the_next.first) next) place
                   (subst (λ (pointer : ℕ → Option (ℕ × Gen)). ReportsMoves g key pointer generation (length (all_items o.done) + 1) last (items the_next.first) next) pointers chain.reports)));
-              work = work-more (work-more (work-more o.work was_read 0 (k + 1 + 4 * length (all_items o.done)) refl (omega arith)) walk 0 (k + 1 + 4 * length (all_items o.done) + length (items the_next.first)) refl (omega arith))
-                  chain.work 0 (k + 1 + 4 * length (all_items (o.done ++ the_next.first ∷ []))) refl (omega (arith, long));
+              ahead = o.ahead + reads;
+              allowed = omega (arith, o.allowed, paid, o.numbered.counts, chain.numbered.counts, length-append (all_items o.done) (items the_next.first));
+              work = work-more (work-more (work-more o.work was_read 0 (o.ahead + reads + (k + 1 + 4 * length (all_items o.done))) refl (omega arith))
+                  walk 0 (o.ahead + reads + (k + 1 + 4 * length (all_items o.done) + length (items the_next.first))) refl (omega arith))
+                  chain.work 0 (o.ahead + reads + (k + 1 + 4 * length (all_items (o.done ++ the_next.first ∷ [])))) refl (omega (arith, long));
             }
               where
                 chain : IsChainNumbered number g key generation last next was_stored new b d more (all_items o.done) the_next.first

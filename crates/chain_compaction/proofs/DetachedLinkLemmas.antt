@@ -251,6 +251,10 @@ module _ {Gen T : Type 0} where
         );
   }
 
+  -- A higher bound on the touches.
+  pub work-few : {a b : Arena Gen T} {p m : ℕ} → IsWork a b p m → (n : ℕ) → m ≤ n → IsWork a b p n
+  work-few work n most = record { touches = work.touches; few = omega (arith, work.few, most); arena = work.arena }
+
   -- The work of a read, a placement, and two neighbors updated.
   pub work-moved : {a b c d e : Arena Gen T} → b ≡ with_touch a → c ≡ with_placement b → IsWork c d 0 1 → IsWork d e 0 1 → IsWork a e 1 3
   work-moved {a} {b} {c} was_read with_placed_entry first second =

@@ -1,13 +1,14 @@
 -- The loop that moves entries: its beginning, its step, its end, and its work.
-use Rattle.std.proofs.Common.{◌≡◌, ℕ, zero, suc, ◌+◌, ◌⊎◌, inl, inr, ◌<◌, ◌≤◌, List, length, Option, None, Some, true, false, leb, refl, ap, ◌∙◌, arith}
+use Rattle.std.proofs.Common.{◌≡◌, ℕ, zero, suc, ◌+◌, ◌⊎◌, inl, inr, ◌<◌, ◌≤◌, List, length, Option, None, Some, Bool, true, false, leb, refl, ◌∙◌, subst, arith}
+use Rattle.std.specs.Prelude.{if◌then◌else◌}
 use Rattle.std.proofs.lemmas.Bool.Decides.{leb_tells}
 use Rattle.arena_base.specs.Arena.{Arena, slot_at}
 use Rattle.arena_base.specs.DetachedSlots.{with_touch, with_placement}
-use Rattle.arena_base.specs.GatheredSlots.{with_totals}
+use Rattle.chain_compaction.specs.DetachedLinks.{IsWork}
 use Rattle.chain_compaction.specs.Permutations.{Waits, HaveMoved, CanMoveAll, IsInBlock, IsSettling, ArePassed, waiting, IsWorkOn}
 use Rattle.chain_compaction.proofs.SlotSwapLemmas.{moving_begins, moving_ends}
 use Rattle.chain_compaction.proofs.SlotCountLemmas.{stored-within, waiting-none}
-use Rattle.chain_compaction.proofs.WorkCountLemmas.{same_totals}
+use Rattle.chain_compaction.proofs.DetachedLinkLemmas.{work-none, work-touched, work-with_placed_entry, work-more}
 
 module _ {E : Type 0} (goal : E → Option ℕ) (Settles : E → E → Type 0) (done : (e f : E) → Settles e f → goal f ≡ None) where
   pub passing_begins : (old : List (Option E)) → CanMoveAll goal old → ArePassed goal Settles old old 0
@@ -47,44 +48,40 @@ module _ {E : Type 0} (goal : E → Option ℕ) (Settles : E → E → Type 0) (
 module _ {Gen T : Type 0} where
   -- No work so far.
   pub work_on-begins : (a : Arena Gen T) (wait : ℕ) → IsWorkOn a a wait wait 0
-  work_on-begins a wait = record {
-    moved = 0;
-    arena = same_totals a a.placed (a.placed + 0) a.touched (a.touched + (0 + 0)) (omega arith) (omega arith);
-    count = omega arith;
-  }
+  work_on-begins a wait = record { moved = 0; work = work-none a 0; count = omega arith }
 
   -- One touch and one placement, after which one entry less waits.
-  pub work_on-more : (old now was_read next : Arena Gen T) (waited wait less lookups : ℕ) → IsWorkOn old now waited wait lookups → was_read ≡ with_touch now → next ≡ with_placement was_read → less + 1 ≡ wait
-      → IsWorkOn old next waited less lookups
-  work_on-more old now was_read next waited wait less lookups work touched is fewer = record {
-    moved = work.moved + 1;
-    arena = is ∙ (ap with_placement touched ∙ (ap (λ (a : Arena Gen T). with_placement (with_touch a)) work.arena
-        ∙ same_totals old ((old.placed + work.moved) + 1) (old.placed + (work.moved + 1)) ((old.touched + (work.moved + lookups)) + 1) (old.touched + ((work.moved + 1) + lookups)) (omega arith) (omega arith)));
-    count = (let c : wait + work.moved ≡ waited = work.count in omega arith);
+  pub work_on-moves : (old was_read next : Arena Gen T) (wait less : ℕ) → was_read ≡ with_touch old → next ≡ with_placement was_read → less + 1 ≡ wait → IsWorkOn old next wait less 0
+  work_on-moves old was_read next wait less touched is fewer = record {
+    moved = 1;
+    work = work-more (work-touched old was_read touched) (work-with_placed_entry was_read next is) 1 (1 + 0) refl (omega arith);
+    count = fewer;
   }
 
   -- One touch that found no destination.
-  pub work_on-was_read : (old now next : Arena Gen T) (waited wait lookups : ℕ) → IsWorkOn old now waited wait lookups → next ≡ with_touch now → IsWorkOn old next waited wait (lookups + 1)
-  work_on-was_read old now next waited wait lookups work is = record {
+  pub work_on-reads : (old next : Arena Gen T) (wait : ℕ) → next ≡ with_touch old → IsWorkOn old next wait wait 1
+  work_on-reads old next wait is = record { moved = 0; work = work-touched old next is; count = omega arith }
+
+  -- The work of a step, by whether an entry may still wait.
+  pub work_on-either : (old next : Arena Gen T) (waited wait : ℕ) (b : Bool) → IsWorkOn old next waited wait 0 → IsWorkOn old next waited wait (if b then 0 else 1)
+  work_on-either old next waited wait true work = work
+  work_on-either old next waited wait false work = record {
     moved = work.moved;
-    arena = is ∙ (ap with_touch work.arena
-        ∙ same_totals old (old.placed + work.moved) (old.placed + work.moved) ((old.touched + (work.moved + lookups)) + 1) (old.touched + (work.moved + (lookups + 1))) refl (omega arith));
+    work = record { touches = work.work.touches; few = (let few : work.work.touches ≤ work.moved + 0 = work.work.few in omega arith); arena = work.work.arena };
     count = work.count;
   }
 
   -- The work of two parts together.
-  pub work_on-after : (old now next : Arena Gen T) (waited wait less lookups more all : ℕ) → IsWorkOn old now waited wait lookups → IsWorkOn now next wait less more → lookups + more ≡ all
+  pub work_on-after : (old now next : Arena Gen T) (waited wait less some more all : ℕ) → IsWorkOn old now waited wait some → IsWorkOn now next wait less more → some + more ≡ all
       → IsWorkOn old next waited less all
-  work_on-after old now next waited wait less lookups more all work further is = record {
+  work_on-after old now next waited wait less some more all work further is = record {
     moved = work.moved + further.moved;
-    arena = further.arena ∙ (ap (λ (a : Arena Gen T). with_totals a further.moved (further.moved + more)) work.arena
-        ∙ same_totals old ((old.placed + work.moved) + further.moved) (old.placed + (work.moved + further.moved))
-        ((old.touched + (work.moved + lookups)) + (further.moved + more)) (old.touched + ((work.moved + further.moved) + all)) (omega arith) (omega arith));
+    work = work-more work.work further.work (work.moved + further.moved) ((work.moved + further.moved) + all) refl (omega arith);
     count = (let a : wait + work.moved ≡ waited = work.count in let b : less + further.moved ≡ wait = further.count in omega arith);
   }
 
   -- The total work, when no entry waits.
-  pub work_on-ends : (old now : Arena Gen T) (waited wait all lookups : ℕ) → IsWorkOn old now waited wait lookups → wait ≡ 0 → waited ≡ all → now ≡ with_totals old all (all + lookups)
-  work_on-ends old now waited wait all lookups work none each =
+  pub work_on-ends : (old now : Arena Gen T) (waited wait all more : ℕ) → IsWorkOn old now waited wait more → wait ≡ 0 → waited ≡ all → IsWork old now all (all + more)
+  work_on-ends old now waited wait all more work none each =
       let m : work.moved ≡ all = (let a : wait + work.moved ≡ waited = work.count in omega arith) in
-      work.arena ∙ ap (λ (n : ℕ). with_totals old n (n + lookups)) m
+      subst (λ (n : ℕ). IsWork old now n (n + more)) m work.work

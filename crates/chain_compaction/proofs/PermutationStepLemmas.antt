@@ -1,7 +1,8 @@
 -- One step of settling: the entry at i loses its destination d and is exchanged with slot d, and
 -- one entry less waits.
-use Rattle.std.proofs.Common.{◌≡◌, ◌≢◌, ℕ, ◌+◌, ◌≤◌, List, length, true, Option, None, Some, refl, sym, ap, ◌∙◌, subst, arith}
+use Rattle.std.proofs.Common.{◌≡◌, ◌≢◌, ℕ, ◌+◌, ◌≤◌, List, length, Bool, true, false, Option, None, Some, refl, sym, ap, ◌∙◌, subst, arith}
 use Rattle.std.specs.Prelude.{is_some, OnSome, IfNone}
+use Rattle.std.specs.Bool.{OnTrue, OnFalse}
 use Rattle.std.specs.Option.{option_map, option_and_then}
 use Rattle.std.proofs.Math.Decide.{ℕ_discrete}
 use Rattle.arena_base.specs.Arena.{slot_at, with_slot}
@@ -15,6 +16,15 @@ use Rattle.chain_compaction.proofs.SlotSwapLemmas.{moving_continues, arrived_fro
 -- A settled entry has no destination.
 pub settled_rests : {Gen K T : Type 0} (number : K → Option ℕ) (g : Gen) (e f : Gen × LinkBody K T) → Settles number g e f → destination_of number f ≡ None
 settled_rests number g e f s = s.empty
+
+-- A settled entry does not wait.
+pub settled_waits_not : {E : Type 0} (goal : E → Option ℕ) (Settled : E → E → Type 0) (now : ℕ → Option E) (d : ℕ) (e : E) → ((e f : E) → Settled e f → goal f ≡ None) → IsSettledAt Settled now d e
+    → (h : ℕ) (f : E) → Waits goal now d f h → ⊥
+settled_waits_not goal Settled now d e done s h f w =
+    let both : Some s.entry ≡ Some f = sym s.stored ∙ w.stored in
+    let none : goal s.entry ≡ None = done e s.entry s.settled in
+    let some : goal f ≡ Some h = w.to in
+    cc
 
 -- The destination of a link was taken out.
 module _ {Gen K T : Type 0} (number : K → Option ℕ) (held new : DetachedView Gen (LinkBody K T)) (i : ℕ) (l w : LinkBody K T)
@@ -155,6 +165,10 @@ module _ {Gen K T : Type 0} (number : K → Option ℕ) (g : Gen) (k : K) (empty
       let m5 : mark (destination_of number) (option_map renewed (slot_at one i)) ≡ 0 = ap (λ (x : Option Entry). mark (destination_of number) (option_map renewed x)) one_at ∙ ap (λ (o : Option ℕ). one_if (is_some o)) empty in
       omega arith
 
+  -- If the destination is the slot itself, no entry waits there.
+  pub own_settles : d ≡ i → (h : ℕ) (f : Entry) → Waits (destination_of number) (slot_at two) i f h → ⊥
+  own_settles own h f v = settled_waits_not (destination_of number) (Settles number g) (slot_at two) d e (settled_rests number g) settled_at_d h f (subst (λ (x : ℕ). Waits (destination_of number) (slot_at two) x f h) (sym own) v)
+
   pub settles_on : IsSettling (destination_of number) (Settles number g) (λ (j : ℕ). j ≡ i) slots two
   settles_on = record {
     moves = λ first m. moving_continues (destination_of number) (Settles number g) (settled_rests number g) (slot_at slots) (slot_at two) i d e settled_at_d two_at_i two_other first m w;
@@ -239,6 +253,16 @@ module _ {Gen K T : Type 0} (number : K → Option ℕ) (g : Gen) (i d : ℕ) (b
     pub one_less_after : waiting (destination_of number) after.slots + 1 ≡ waiting (destination_of number) before.slots
     one_less_after = subst (λ (s : Entries). waiting (destination_of number) s + 1 ≡ waiting (destination_of number) before.slots) slots_after
         (one_less number g out.destination out.empty before.slots i d who.0 who.1 bounds.0 bounds.1)
+
+    -- No entry waits there, unless one `may`.
+    pub none_after : (may : Bool) → (may ≡ false → d ≡ i) → OnFalse may ((h : ℕ) (f : Gen × LinkBody K T) → Waits (destination_of number) (slot_at after.slots) i f h → ⊥)
+    none_after true own = tt
+    none_after false own = subst (λ (s : Entries). (h : ℕ) (f : Gen × LinkBody K T) → Waits (destination_of number) (slot_at s) i f h → ⊥) slots_after
+        (own_settles number g out.destination out.empty before.slots i d who.0 who.1 bounds.0 bounds.1 (own refl))
+
+    pub fewer_after : (may : Bool) → OnTrue may (waiting (destination_of number) after.slots + 1 ≡ waiting (destination_of number) before.slots)
+    fewer_after true = one_less_after
+    fewer_after false = tt
 
     pub settles_after : IsSettling (destination_of number) (Settles number g) (λ (j : ℕ). j ≡ i) before.slots after.slots
     settles_after = subst (IsSettling (destination_of number) (Settles number g) (λ (j : ℕ). j ≡ i) before.slots) slots_after

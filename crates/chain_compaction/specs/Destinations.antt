@@ -110,4 +110,4 @@ module _ {Gen K T : Type 0} (number : K → Option ℕ) where
       pub places : (j : ℕ) → destination_at new.slots j ≡ place_in indexes j
       pub renamed : held_view new ≡ renamed_held (place_in indexes) (held_view old)
       pub reports : ReportsMoves g key (ptr_at (slot_at old.slots)) generation 1 f indexes last
-      pub work : IsWork before after 0 (length old.slots + 4 * length indexes)
+      pub work : IsWork before after 0 (2 * length old.slots + 5 * length indexes)

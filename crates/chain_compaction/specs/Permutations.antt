@@ -1,10 +1,10 @@
 -- Entries moved to their destinations by exchanges of slots.
-use Rattle.std.specs.Prelude.{◌≡◌, ◌≢◌, ℕ, ◌+◌, ◌⊎◌, ◌<◌, ◌≤◌, Bool, List, length, Option, None, Some, count_by, is_some}
+use Rattle.std.specs.Prelude.{◌≡◌, ◌≢◌, ℕ, ◌+◌, ◌⊎◌, ◌<◌, ◌≤◌, Bool, List, length, slice_index, Option, None, Some, count_by, is_some}
 use Rattle.std.specs.Option.{option_map, option_and_then}
 use Rattle.arena_base.specs.Arena.{Arena, slot_at, with_slot}
 use Rattle.arena_base.specs.DetachedSlots.{DetachedView}
-use Rattle.arena_base.specs.GatheredSlots.{with_totals}
 use Rattle.chain_links.specs.declared.links.LinkBody.{LinkBody}
+use Rattle.chain_compaction.specs.DetachedLinks.{IsWork}
 
 -- The index j is one of the `count` indexes after start.
 abbrev pub IsInBlock : ℕ → ℕ → ℕ → Type 0
@@ -72,6 +72,14 @@ module _ {E : Type 0} where
     -- An entry that waits outside the block waited there before.
     pub stays : (j d : ℕ) (e : E) → (block j → ⊥) → Waits goal (slot_at now) j e d → Waits goal (slot_at old) j e d
 
+  -- The first `left` positions are in the block of `count` slots after start, and include each at
+  -- which an entry waits. Position p is that of index p + 1.
+  pub record ListsWaiting (goal : E → Option ℕ) (start count : ℕ) (positions : List ℕ) (left : ℕ) (now : ℕ → Option E) : Type 0 where
+    pub length : length positions ≡ 64
+    pub few : left ≤ count
+    pub within : (p : ℕ) → p < left → (start ≤ slice_index positions p) × (slice_index positions p < start + count)
+    pub listed : (j d : ℕ) (e : E) → IsInBlock start count j → Waits goal now j e d → (p : ℕ) × (p < left) × (j ≡ slice_index positions p + 1)
+
   -- The slots after those up to k were processed: no entry waits there.
   pub record ArePassed (goal : E → Option ℕ) (Settles : E → E → Type 0) (old now : List (Option E)) (k : ℕ) : Type 0 where
     pub moves : IsMoving goal Settles (slot_at old) (slot_at now)
@@ -117,9 +125,9 @@ module _ {Gen K T : Type 0} where
     pub held : new ≡ record old { slots = with_destination_at destination old.slots i }
 
 module _ {Gen T : Type 0} where
-  -- The work: one placement and one touch for each entry that no longer waits, and some more
-  -- touches.
-  pub record IsWorkOn (old new : Arena Gen T) (waited wait lookups : ℕ) : Type 0 where
+  -- The work: a placement for each entry that no longer waits, at most a touch for each, and at
+  -- most some more touches.
+  pub record IsWorkOn (old new : Arena Gen T) (waited wait more : ℕ) : Type 0 where
     pub moved : ℕ
-    pub arena : new ≡ with_totals old moved (moved + lookups)
+    pub work : IsWork old new moved (moved + more)
     pub count : wait + moved ≡ waited

@@ -1,7 +1,8 @@
--- Reads of one slot.
-use Rattle.std.specs.Prelude.{◌≡◌}
+-- Reads of slots.
+use Rattle.std.specs.Prelude.{◌≡◌, ℕ}
 use Rattle.arena_base.specs.DetachedSlots.{with_touch}
 use Rattle.arena_base.specs.declared.compactor.Compactor.{Compactor}
+use Rattle.chain_compaction.specs.DetachedLinks.{IsWork}
 use Rattle.chain_compaction.specs.WorkCounts.{CountsWork}
 
 module _ {P T S Inx Gen Word : Type 0} where
@@ -10,4 +11,12 @@ module _ {P T S Inx Gen Word : Type 0} where
     pub same_reference : new.arena.ghost_name ≡ old.arena.ghost_name
     pub held : new.held ≡ old.held
     pub arena : new.arena.now ≡ with_touch old.arena.now
+    pub counts : CountsWork old new
+
+  -- A compactor has read slots: arena and slots are the same, and at most so many touches were
+  -- counted.
+  pub record HasReadSlots (old new : Compactor P T S Inx Gen Word) (most : ℕ) : Type 0 where
+    pub same_reference : new.arena.ghost_name ≡ old.arena.ghost_name
+    pub held : new.held ≡ old.held
+    pub work : IsWork old.arena.now new.arena.now 0 most
     pub counts : CountsWork old new

@@ -8,6 +8,7 @@ ghost use Rattle.chain_compaction.specs.DetachedLinks.{link_map_in, IsWork};
 ghost use Rattle.chain_compaction.specs.WorkCounts.{CountsWork};
 ghost use Rattle.chain_compaction.specs.Destinations.{HasChainFrom, number_after, destination_at, IsRingClosed, CanNumber, NumbersFrom, AreAllNumbered};
 
+use crate::read_ahead::{ReadAhead, read_ahead};
 use crate::slot_access::{read_link, relink_at};
 use crate::visitor::Visitor;
 use arena_base::{ArenaSlot, Compactor, SlotAccess, inx_at, proved_unreachable};
@@ -178,9 +179,10 @@ pub fn number_all<
     ensures counts { CountsWork compactor.old compactor.new }
 {
     let mut count = 0;
+    let mut ahead = ReadAhead::new(compactor.slots());
     for k in 0..compactor.slots() {
         let i = inx_at::<P>(k);
-        let (was, _, _, destination) = read_link(compactor, i);
+        let (was, prev, next, destination) = read_link(compactor, i);
         match was {
             Some(_) => {}
             None => continue,
@@ -189,9 +191,11 @@ pub fn number_all<
             Some(_) => continue,
             None => {}
         }
+        ahead = read_ahead(compactor, k, prev, next, ahead);
         let start = start_at(compactor, i);
         let (visited, numbered) = number_chain(compactor, start, count, generation, visitor);
         visitor = visited;
+        ahead = ahead.with_numbered(numbered.saturating_sub(count));
         count = numbered;
     }
     (visitor, count)

@@ -6,5 +6,6 @@ mod assign_destinations;
 pub mod canonical;
 pub mod compress;
 mod permute;
+mod read_ahead;
 mod slot_access;
 pub mod visitor;

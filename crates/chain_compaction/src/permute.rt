@@ -1,12 +1,12 @@
 // Moves of links to their destinations along the cycles of the permutation, each link placed once.
-ghost use Rattle.std.specs.Prelude.{◌≡◌, ◌<◌, ◌≤◌, ◌+◌, ◌^◌, ℕ, length, slice_index, count_by, is_some, OnSome, IfNone, if◌then◌else◌};
+ghost use Rattle.std.specs.Prelude.{◌≡◌, ◌<◌, ◌≤◌, ◌+◌, ◌-◌, ℕ, length, count_by, is_some, OnSome, IfNone, if◌then◌else◌};
 ghost use Rattle.std.specs.Bool.{OnTrue, OnFalse};
 ghost use Rattle.std.specs.Option.{option_map, option_and_then};
 ghost use Rattle.arena_base.specs.Arena.{slot_at};
 ghost use Rattle.arena_base.specs.DetachedSlots.{with_touch};
-ghost use Rattle.arena_base.specs.GatheredSlots.{with_totals};
+ghost use Rattle.chain_compaction.specs.DetachedLinks.{IsWork};
 ghost use Rattle.chain_compaction.specs.WorkCounts.{CountsWork};
-ghost use Rattle.chain_compaction.specs.Permutations.{Waits, WaitsWithin, IsInBlock, IsSettling, HaveMoved, CanMoveAll, waiting, destination_of, Settles, IsTakenOut, IsWorkOn};
+ghost use Rattle.chain_compaction.specs.Permutations.{Waits, WaitsWithin, IsInBlock, IsSettling, ListsWaiting, HaveMoved, CanMoveAll, waiting, destination_of, Settles, IsTakenOut, IsWorkOn};
 
 use arena_base::{ArenaSlot, Compactor, SlotAccess, inx_at};
 use arena_ptr::{InxKey, PtrKey, SlotStack};
@@ -33,7 +33,8 @@ fn take_at<P: PtrKey, T: Drop, S: SlotStack<Item = ArenaSlot<P, LinkNoGen<P, T>>
     }
 }
 
-// Moves the link at `i` to its destination by an exchange of slots, and returns whether it had one.
+// Moves the link at `i` to its destination, if it has one, by an exchange of slots, and returns
+// whether another may now wait at `i`: none does if the destination is `i` itself.
 #[inline(always)]
 fn settle_once<P: PtrKey, T: Drop, S: SlotStack<Item = ArenaSlot<P, LinkNoGen<P, T>>>>(
     compactor: &mut Compactor<'_, P, LinkNoGen<P, T>, S>,
@@ -62,27 +63,53 @@ fn settle_once<P: PtrKey, T: Drop, S: SlotStack<Item = ArenaSlot<P, LinkNoGen<P,
     match take_at(compactor, i) {
         Some(to) => {
             compactor.place(i, to, generation);
-            true
+            !to.is_same(i)
         }
         None => false,
     }
 }
 
-// Lists the positions of the `count` slots from position `start` on.
-fn positions_from(start: usize, count: usize) -> [usize; 64]
+// Moves the link at each slot of a block once, if it has a destination. Returns a list of positions
+// and its length: those of the slots at which a link may still wait.
+#[inline(always)]
+fn settle_each<P: PtrKey, T: Drop, S: SlotStack<Item = ArenaSlot<P, LinkNoGen<P, T>>>>(
+    compactor: &mut Compactor<'_, P, LinkNoGen<P, T>, S>,
+    start: usize,
+    count: usize,
+    generation: P::Gen,
+) -> ([usize; 64], usize)
     requires count { count ≤ 64 }
-    requires fits { start + count < 2 ^ 64 }
-    ensures { (k : ℕ) → k < count → slice_index result k ≡ start + k }
+    requires block { start + count ≤ length compactor.old.held.slots }
+    requires fits { length compactor.old.held.slots ≤ P.Inx.greatest }
+    requires within { WaitsWithin (destination_of P.Inx.packed_number) compactor.old.held.slots }
+    ensures same_reference { compactor.new.arena.ghost_name ≡ compactor.old.arena.ghost_name }
+    ensures settles { IsSettling (destination_of P.Inx.packed_number)
+        (Settles P.Inx.packed_number generation) (IsInBlock start count)
+        compactor.old.held.slots compactor.new.held.slots }
+    ensures lists { ListsWaiting (destination_of P.Inx.packed_number) start count result.0 result.1
+        (slot_at compactor.new.held.slots) }
+    ensures capacity { compactor.new.held.stack_capacity ≡ compactor.old.held.stack_capacity }
+    ensures maximum { compactor.new.held.maximum ≡ compactor.old.held.maximum }
+    ensures work { IsWorkOn compactor.old.arena.now compactor.new.arena.now
+        (waiting (destination_of P.Inx.packed_number) compactor.old.held.slots)
+        (waiting (destination_of P.Inx.packed_number) compactor.new.held.slots)
+        (count - result.1) }
+    ensures counts { CountsWork compactor.old compactor.new }
 {
     let mut positions = [0; 64];
+    let mut left = 0;
     for k in 0..count {
-        positions[k] = start + k;
+        let position = start + k;
+        if settle_once(compactor, inx_at::<P>(position), generation) {
+            positions[left] = position;
+            left += 1;
+        }
     }
-    positions
+    (positions, left)
 }
 
 // Returns `at`, or 0 if the list of `left` positions ends there.
-fn wrapped_index(at: usize, left: usize) -> usize
+pub(crate) fn wrapped_index(at: usize, left: usize) -> usize
     requires { 0 < left }
     ensures { result < left }
 {
@@ -92,7 +119,8 @@ fn wrapped_index(at: usize, left: usize) -> usize
 // Moves the links of a block of slots, one placement at each slot in turn, until none with a
 // destination is in the block.
 //
-// Successive placements follow different cycles, so their memory accesses overlap.
+// Successive placements follow different cycles, so their memory accesses overlap. A link that is
+// at its destination is placed there in the first turn, and its slot is not read again.
 fn settle_block<P: PtrKey, T: Drop, S: SlotStack<Item = ArenaSlot<P, LinkNoGen<P, T>>>>(
     compactor: &mut Compactor<'_, P, LinkNoGen<P, T>, S>,
     start: usize,
@@ -116,8 +144,7 @@ fn settle_block<P: PtrKey, T: Drop, S: SlotStack<Item = ArenaSlot<P, LinkNoGen<P
         (waiting (destination_of P.Inx.packed_number) compactor.new.held.slots) count }
     ensures counts { CountsWork compactor.old compactor.new }
 {
-    let mut positions = positions_from(start, count);
-    let mut left = count;
+    let (mut positions, mut left) = settle_each(compactor, start, count, generation);
     let mut at = 0;
     while left > 0 {
         let turn = wrapped_index(at, left);
@@ -147,7 +174,7 @@ pub fn move_all<P: PtrKey, T: Drop, S: SlotStack<Item = ArenaSlot<P, LinkNoGen<P
     ensures length { length compactor.new.held.slots ≡ length compactor.old.held.slots }
     ensures capacity { compactor.new.held.stack_capacity ≡ compactor.old.held.stack_capacity }
     ensures maximum { compactor.new.held.maximum ≡ compactor.old.held.maximum }
-    ensures totals { compactor.new.arena.now ≡ with_totals compactor.old.arena.now
+    ensures work { IsWork compactor.old.arena.now compactor.new.arena.now
         (count_by is_some compactor.old.held.slots)
         (count_by is_some compactor.old.held.slots + length compactor.old.held.slots) }
     ensures counts { CountsWork compactor.old compactor.new }

@@ -1,8 +1,8 @@
 -- `number_all` numbers the next chain, or passes a slot where none begins.
-use Rattle.std.proofs.Common.{length, refl, ap, arith}
+use Rattle.std.proofs.Common.{◌+◌, ◌-◌, ◌∙◌, length, refl, ap, arith}
 use Rattle.arena_base.specs.Arena.{slot_at}
 use Rattle.chain_compaction.proofs.SlotCountLemmas.{at_end}
-use Rattle.chain_compaction.proofs.DetachedLinkLemmas.{work-touched}
+use Rattle.chain_compaction.proofs.DetachedLinkLemmas.{work-touched, work-more}
 use Rattle.chain_compaction.proofs.LinkLoanLemmas.{same_then, counts_on}
 use Rattle.chain_compaction.proofs.SlotReadLemmas.{known_fresh, known_directed, known_none}
 use Rattle.chain_compaction.proofs.ChainOrderLemmas.{order_begins, order_ends, order_skips, order_found, order_can, order_continues}
@@ -15,7 +15,7 @@ loop-k-init g c =
     record {
       ready = c.requires.ready;
       same_reference = refl {a = now.arena.ghost_name};
-      order = order_begins g.P.Inx.InxKey.packed_number g.V.Visitor.sees g.P.PtrKey.key c.args.generation c.args.visitor now.held now.arena.now c.requires.agree c.requires.empty;
+      order = order_begins g.P.Inx.InxKey.packed_number g.V.Visitor.sees g.P.PtrKey.key c.args.generation c.args.visitor now.held now.arena.now c.requires.agree c.requires.empty c.new-ahead.result.credit (omega (arith, c.new-ahead.ensures, c.slots.ensures));
       counts = counts_none now.arena.now now.placed now.touched;
     }
 
@@ -24,16 +24,23 @@ start_at-start-requires g c =
     let old = c.args.compactor.now in
     let now = c.loop-k.compactor in
     let lookup = c.read_link-was.ensures in
-    order_found g.P.Inx.InxKey.packed_number g.V.Visitor.sees g.P.PtrKey.key c.args.generation c.args.visitor old.held old.arena.now c.loop-k.visitor now.held now.arena.now c.loop-k.count c.loop-k.k
+    order_found g.P.Inx.InxKey.packed_number g.V.Visitor.sees g.P.PtrKey.key c.args.generation c.args.visitor old.held old.arena.now c.loop-k.visitor now.held now.arena.now c.loop-k.count c.loop-k.k c.loop-k.ahead.credit
     c.loop-k.invariant.order (g.P.Inx.InxKey.number c.inx_at-i.result) c.inx_at-i.ensures (known_fresh g.P.Inx.InxKey.packed_number g.P.Inx.InxKey.number (slot_at now.held.slots (g.P.Inx.InxKey.number c.inx_at-i.result)) c.read_link-was.result.0 c.in-Some.field-0 c.read_link-was.result.3 c.in-Some.is lookup.generation lookup.destination c.in-None-destination.is)
-    c.read_link-was.new.compactor.held lookup.was_read.held
+    c.read_ahead-ahead.new.compactor.held (c.read_ahead-ahead.ensures.read.held ∙ lookup.was_read.held)
 
 pub number_chain-visited-requires-clause-ready : goal.number_chain-visited-requires-clause-ready
 number_chain-visited-requires-clause-ready g c = c.loop-k.invariant.ready
 
 pub number_chain-visited-requires-clause-fits : goal.number_chain-visited-requires-clause-fits
 number_chain-visited-requires-clause-fits g c =
-    omega (arith, c.loop-k.invariant.order.relinked.long, ap (λ h. length h.slots) c.read_link-was.ensures.was_read.held, ap (λ h. length h.slots) c.start_at-start.ensures.held, c.requires.fits)
+    omega (
+      arith,
+      c.loop-k.invariant.order.relinked.long,
+      ap (λ h. length h.slots) c.read_link-was.ensures.was_read.held,
+      ap (λ h. length h.slots) c.read_ahead-ahead.ensures.read.held,
+      ap (λ h. length h.slots) c.start_at-start.ensures.held,
+      c.requires.fits,
+    )
 
 pub number_chain-visited-requires-clause-can : goal.number_chain-visited-requires-clause-can
 number_chain-visited-requires-clause-can g c =
@@ -41,9 +48,9 @@ number_chain-visited-requires-clause-can g c =
     let now = c.loop-k.compactor in
     let lookup = c.read_link-was.ensures in
     let start = c.start_at-start.ensures in
-    order_can g.P.Inx.InxKey.packed_number g.V.Visitor.sees g.P.PtrKey.key c.args.generation c.args.visitor old.held old.arena.now c.loop-k.visitor now.held now.arena.now c.loop-k.count c.loop-k.k
+    order_can g.P.Inx.InxKey.packed_number g.V.Visitor.sees g.P.PtrKey.key c.args.generation c.args.visitor old.held old.arena.now c.loop-k.visitor now.held now.arena.now c.loop-k.count c.loop-k.k c.loop-k.ahead.credit
     c.loop-k.invariant.order (g.P.Inx.InxKey.number c.inx_at-i.result) c.inx_at-i.ensures (known_fresh g.P.Inx.InxKey.packed_number g.P.Inx.InxKey.number (slot_at now.held.slots (g.P.Inx.InxKey.number c.inx_at-i.result)) c.read_link-was.result.0 c.in-Some.field-0 c.read_link-was.result.3 c.in-Some.is lookup.generation lookup.destination c.in-None-destination.is)
-    c.read_link-was.new.compactor.held lookup.was_read.held c.start_at-start.new.compactor.held start.held (g.P.Inx.InxKey.number c.start_at-start.result) start.start
+    c.read_ahead-ahead.new.compactor.held (c.read_ahead-ahead.ensures.read.held ∙ lookup.was_read.held) c.start_at-start.new.compactor.held start.held (g.P.Inx.InxKey.number c.start_at-start.result) start.start
 
 pub loop-k-preserved-in-None : goal.loop-k-preserved-in-None
 loop-k-preserved-in-None g c =
@@ -55,7 +62,7 @@ loop-k-preserved-in-None g c =
     record {
       ready = at.ready;
       same_reference = same_then old now mid at.same_reference lookup.was_read.same_reference;
-      order = order_skips g.P.Inx.InxKey.packed_number g.V.Visitor.sees g.P.PtrKey.key c.args.generation c.args.visitor old.held old.arena.now c.loop-k.visitor now.held now.arena.now c.loop-k.count c.loop-k.k
+      order = order_skips g.P.Inx.InxKey.packed_number g.V.Visitor.sees g.P.PtrKey.key c.args.generation c.args.visitor old.held old.arena.now c.loop-k.visitor now.held now.arena.now c.loop-k.count c.loop-k.k c.loop-k.ahead.credit
           at.order (g.P.Inx.InxKey.number c.inx_at-i.result) c.inx_at-i.ensures mid.held mid.arena.now lookup.was_read.held
           (known_none g.P.Inx.InxKey.packed_number (slot_at now.held.slots (g.P.Inx.InxKey.number c.inx_at-i.result)) c.read_link-was.result.0 c.in-None.is lookup.generation) (work-touched now.arena.now mid.arena.now lookup.was_read.arena);
       counts = counts_on old now mid at.counts lookup.was_read.counts;
@@ -71,7 +78,7 @@ loop-k-preserved-in-Some-destination g c =
     record {
       ready = at.ready;
       same_reference = same_then old now mid at.same_reference lookup.was_read.same_reference;
-      order = order_skips g.P.Inx.InxKey.packed_number g.V.Visitor.sees g.P.PtrKey.key c.args.generation c.args.visitor old.held old.arena.now c.loop-k.visitor now.held now.arena.now c.loop-k.count c.loop-k.k
+      order = order_skips g.P.Inx.InxKey.packed_number g.V.Visitor.sees g.P.PtrKey.key c.args.generation c.args.visitor old.held old.arena.now c.loop-k.visitor now.held now.arena.now c.loop-k.count c.loop-k.k c.loop-k.ahead.credit
           at.order (g.P.Inx.InxKey.number c.inx_at-i.result) c.inx_at-i.ensures mid.held mid.arena.now lookup.was_read.held
           (known_directed g.P.Inx.InxKey.packed_number g.P.Inx.InxKey.number (slot_at now.held.slots (g.P.Inx.InxKey.number c.inx_at-i.result)) c.read_link-was.result.0 c.in-Some.field-0 c.read_link-was.result.3 c.in-Some-destination.field-0 c.in-Some.is lookup.generation lookup.destination c.in-Some-destination.is) (work-touched now.arena.now mid.arena.now lookup.was_read.arena);
       counts = counts_on old now mid at.counts lookup.was_read.counts;
@@ -86,18 +93,23 @@ loop-k-preserved g c =
     let old = c.args.compactor.now in
     let now = c.loop-k.compactor in
     let mid = c.read_link-was.new.compactor in
+    let ahead = c.read_ahead-ahead.ensures in
+    let behind = c.read_ahead-ahead.new.compactor in
+    let reads = c.loop-k.ahead.credit - c.read_ahead-ahead.result.credit in
     let was_stored = c.start_at-start.new.compactor in
     let new = c.number_chain-visited.new.compactor in
     record {
       ready = chain.ready;
-      same_reference = same_then old now new at.same_reference (same_then now mid new lookup.was_read.same_reference (same_then mid was_stored new start.same_reference chain.same_reference));
-      order = order_continues g.P.Inx.InxKey.packed_number g.V.Visitor.sees g.P.PtrKey.key c.args.generation c.args.visitor old.held old.arena.now c.loop-k.visitor now.held now.arena.now c.loop-k.count c.loop-k.k
+      same_reference = same_then old now new at.same_reference (same_then now mid new lookup.was_read.same_reference
+          (same_then mid behind new ahead.read.same_reference (same_then behind was_stored new start.same_reference chain.same_reference)));
+      order = order_continues g.P.Inx.InxKey.packed_number g.V.Visitor.sees g.P.PtrKey.key c.args.generation c.args.visitor old.held old.arena.now c.loop-k.visitor now.held now.arena.now c.loop-k.count c.loop-k.k c.loop-k.ahead.credit
           at.order (g.P.Inx.InxKey.number c.inx_at-i.result) c.inx_at-i.ensures
           (known_fresh g.P.Inx.InxKey.packed_number g.P.Inx.InxKey.number (slot_at now.held.slots (g.P.Inx.InxKey.number c.inx_at-i.result)) c.read_link-was.result.0 c.in-Some.field-0 c.read_link-was.result.3 c.in-Some.is lookup.generation lookup.destination c.in-None-destination.is)
-          mid.held lookup.was_read.held was_stored.held start.held (g.P.Inx.InxKey.number c.start_at-start.result) start.start mid.arena.now was_stored.arena.now new.arena.now
-          c.number_chain-visited.result.0 new.held c.number_chain-visited.result.1
-          (work-touched now.arena.now mid.arena.now lookup.was_read.arena) start.linear start.cyclic chain.numbered;
-      counts = counts_on old now new at.counts (counts_on now mid new lookup.was_read.counts (counts_on mid was_stored new start.counts chain.counts));
+          behind.held (ahead.read.held ∙ lookup.was_read.held) was_stored.held start.held (g.P.Inx.InxKey.number c.start_at-start.result) start.start behind.arena.now was_stored.arena.now new.arena.now
+          c.number_chain-visited.result.0 new.held c.number_chain-visited.result.1 reads c.with_numbered-ahead.result.credit
+          (work-more (work-touched now.arena.now mid.arena.now lookup.was_read.arena) ahead.read.work 0 (1 + reads) refl (omega arith))
+          (omega (arith, ahead.fewer, c.with_numbered-ahead.ensures, c.saturating_sub.ensures)) start.linear start.cyclic chain.numbered;
+      counts = counts_on old now new at.counts (counts_on now mid new lookup.was_read.counts (counts_on mid behind new ahead.read.counts (counts_on behind was_stored new start.counts chain.counts)));
     }
 
 pub returns : goal.returns
@@ -108,7 +120,7 @@ returns g c =
     record {
       ready = at.ready;
       same_reference = at.same_reference;
-      numbered = order_ends g.P.Inx.InxKey.packed_number g.V.Visitor.sees g.P.PtrKey.key c.args.generation c.args.visitor old.held old.arena.now c.loop-k.visitor now.held now.arena.now c.loop-k.count c.loop-k.k
+      numbered = order_ends g.P.Inx.InxKey.packed_number g.V.Visitor.sees g.P.PtrKey.key c.args.generation c.args.visitor old.held old.arena.now c.loop-k.visitor now.held now.arena.now c.loop-k.count c.loop-k.k c.loop-k.ahead.credit
           at.order (at_end c.loop-k.k c.slots-k-end.result (length old.held.slots) c.slots-k-end.ensures c.loop-k.auto.k-end c.loop-k-test.false);
       counts = at.counts;
     }

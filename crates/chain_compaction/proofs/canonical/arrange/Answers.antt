@@ -55,7 +55,7 @@ returns g c =
     work_known g.V.Visitor.sees g.P.PtrKey.key c.args.visitor visitor number generation empty.held numbered.held c.args.arena.now empty.arena.now numbered.arena.now c.number_all-visitor.result.1
     view_after c.number_all-visitor.ensures.numbered moved.held c.move_all.ensures.moved
     g.P.Inx.InxKey.greatest g.S.SlotStack.initial_maximum moved.arena.now c.move_all.ensures.capacity c.move_all.ensures.maximum emptying
-    c.move_all.ensures.totals first.result.arena.now moved.placed moved.touched first.ensures.arena
+    c.move_all.ensures.work first.result.arena.now moved.placed moved.touched first.ensures.arena
     (three_counted first.result.arena.now empty.arena.now numbered.arena.now moved.arena.now first.result.placed empty.placed numbered.placed moved.placed
     first.result.touched empty.touched numbered.touched moved.touched first.ensures.placed first.ensures.touched
     c.empty_all.ensures.counts c.number_all-visitor.ensures.counts c.move_all.ensures.counts)
@@ -68,7 +68,7 @@ returns g c =
           links_arranged g.V.Visitor.sees g.P.PtrKey.key c.args.visitor visitor number generation empty.held numbered.held c.args.arena.now empty.arena.now numbered.arena.now c.number_all-visitor.result.1
           view_after c.number_all-visitor.ensures.numbered moved.held c.move_all.ensures.moved
           g.P.Inx.InxKey.greatest g.S.SlotStack.initial_maximum moved.arena.now c.move_all.ensures.capacity c.move_all.ensures.maximum emptying
-          c.move_all.ensures.totals c.invariants.ensures.capacity.1 c.generation-generation.ensures _ (search rules);
+          c.move_all.ensures.work c.invariants.ensures.capacity.1 c.generation-generation.ensures _ (search rules);
       placed = search rules;
       touched = search rules;
     }

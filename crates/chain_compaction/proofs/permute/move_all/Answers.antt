@@ -74,7 +74,7 @@ returns g c =
       length = inv.passed.length;
       capacity = inv.capacity;
       maximum = inv.maximum;
-      totals = work_on-ends old.arena.now now.arena.now _ _ _ (length old.held.slots) (subst (IsWorkOn old.arena.now now.arena.now (waiting target old.held.slots) (waiting target now.held.slots)) all inv.work)
+      work = work_on-ends old.arena.now now.arena.now _ _ _ (length old.held.slots) (subst (IsWorkOn old.arena.now now.arena.now (waiting target old.held.slots) (waiting target now.held.slots)) all inv.work)
           (passing_leaves_none target settles rests old.held.slots now.held.slots passed) (waiting-all target old.held.slots c.requires.can.each);
       counts = inv.counts;
     }

@@ -1,31 +1,24 @@
 -- `settle_block` moves one more link of the block, or shortens the list of its positions.
-use Rattle.std.proofs.Common.{◌≡◌, ◌+◌, ◌-◌, length, slice_index, refl, subst, arith, rules}
+use Rattle.std.proofs.Common.{◌+◌, ◌-◌, length, slice_index, subst}
 use Rattle.arena_base.specs.Arena.{slot_at}
 use Rattle.chain_compaction.specs.Permutations.{IsInBlock, waiting, destination_of, Settles, IsWorkOn}
-use Rattle.chain_compaction.proofs.BlockTurnLemmas.{listing_begins, turn_in_block, listing_stays, listing_shrinks, listing_ends, sum_decreases-moved, sum_decreases-shortened, lookups_begin, lookups_stay, lookups_continue, lookups_end, one_less_left, none_left, below_bound, turn_within}
-use Rattle.chain_compaction.proofs.PermutationStepLemmas.{settling_begins, settling_continues}
-use Rattle.chain_compaction.proofs.PermutationLoopLemmas.{work_on-begins, work_on-after}
+use Rattle.chain_compaction.proofs.BlockTurnLemmas.{turn_in_block, listing_stays, listing_shrinks, listing_ends, sum_decreases-moved, sum_decreases-shortened, touches_stay, touches_continue, touches_end, one_less_left, none_left, below_bound, turn_within}
+use Rattle.chain_compaction.proofs.PermutationStepLemmas.{settling_continues}
+use Rattle.chain_compaction.proofs.PermutationLoopLemmas.{work_on-after}
 use Rattle.chain_compaction.proofs.LinkLoanLemmas.{same_then, counts_on, capacity_then, maximum_then}
-use Rattle.chain_compaction.proofs.WorkCountLemmas.{counts_none}
 use Rattle.chain_compaction.proofs.permute.settle_block.Goals as goal
-
-pub positions_from-positions-requires-clause-fits : goal.positions_from-positions-requires-clause-fits
-positions_from-positions-requires-clause-fits g c = omega (arith, c.requires.block, c.requires.fits, g.met.P.Inx.InxKey.greatest_fits)
 
 pub loop-left-init : goal.loop-left-init
 loop-left-init g c =
-    let packed_number = g.P.Inx.InxKey.packed_number in
-    let old = c.args.compactor.now in
-    let long : length c.positions_from-positions.result ≡ 64 = search rules in
+    let first = c.settle_each-left.ensures in
     record {
-      same_reference = refl;
-      settles = settling_begins (destination_of packed_number) (Settles packed_number c.args.generation) (IsInBlock c.args.start c.args.count) old.held.slots;
-      lists = listing_begins (destination_of packed_number) c.args.start c.args.count c.positions_from-positions.result (slot_at old.held.slots) long c.positions_from-positions.ensures;
-      capacity = refl;
-      maximum = refl;
-      work = subst (IsWorkOn old.arena.now old.arena.now (waiting (destination_of packed_number) old.held.slots) (waiting (destination_of packed_number) old.held.slots)) (lookups_begin c.args.count)
-          (work_on-begins old.arena.now (waiting (destination_of packed_number) old.held.slots));
-      counts = counts_none old.arena.now old.placed old.touched;
+      same_reference = first.same_reference;
+      settles = first.settles;
+      lists = first.lists;
+      capacity = first.capacity;
+      maximum = first.maximum;
+      work = first.work;
+      counts = first.counts;
     }
 
 pub bounds-positions-turn : goal.bounds-positions-turn
@@ -59,7 +52,7 @@ loop-left-preserved-then-settle_once g c =
       capacity = capacity_then old now next inv.capacity step.capacity;
       maximum = maximum_then old now next inv.maximum step.maximum;
       work = work_on-after old.arena.now now.arena.now next.arena.now (waiting target old.held.slots) (waiting target now.held.slots) (waiting target next.held.slots)
-          (c.args.count - left) 0 (c.args.count - left) inv.work step.work (lookups_stay c.args.count left);
+          (c.args.count - left) 0 (c.args.count - left) inv.work step.work (touches_stay c.args.count left);
       counts = counts_on old now next inv.counts step.counts;
     }
 
@@ -84,7 +77,7 @@ loop-left-preserved g c =
       capacity = capacity_then old now next inv.capacity step.capacity;
       maximum = maximum_then old now next inv.maximum step.maximum;
       work = work_on-after old.arena.now now.arena.now next.arena.now (waiting target old.held.slots) (waiting target now.held.slots) (waiting target next.held.slots)
-          (c.args.count - left) 1 (c.args.count - (left - 1)) inv.work step.work (lookups_continue c.args.count left c.loop-left-test.true inv.lists.few);
+          (c.args.count - left) 1 (c.args.count - (left - 1)) inv.work step.work (touches_continue c.args.count left c.loop-left-test.true inv.lists.few);
       counts = counts_on old now next inv.counts step.counts;
     }
 
@@ -111,6 +104,6 @@ returns g c =
       none = listing_ends target c.args.start c.args.count c.loop-left.positions c.loop-left.left (slot_at now.held.slots) inv.lists (none_left c.loop-left.left c.loop-left-test.false);
       capacity = inv.capacity;
       maximum = inv.maximum;
-      work = subst (IsWorkOn old.arena.now now.arena.now (waiting target old.held.slots) (waiting target now.held.slots)) (lookups_end c.args.count c.loop-left.left c.loop-left-test.false) inv.work;
+      work = subst (IsWorkOn old.arena.now now.arena.now (waiting target old.held.slots) (waiting target now.held.slots)) (touches_end c.args.count c.loop-left.left c.loop-left-test.false) inv.work;
       counts = inv.counts;
     }

@@ -2,8 +2,7 @@
 use Rattle.std.proofs.Common.{◌≡◌, ◌+◌, ◌-◌}
 use Rattle.arena_base.specs.Arena.{slot_at}
 use Rattle.chain_compaction.specs.WorkCounts.{CountsWork}
-use Rattle.chain_compaction.specs.Permutations.{IsInBlock, IsSettling, waiting, destination_of, Settles, IsWorkOn}
-use Rattle.chain_compaction.proofs.BlockTurnLemmas.{ListsWaiting}
+use Rattle.chain_compaction.specs.Permutations.{IsInBlock, IsSettling, ListsWaiting, waiting, destination_of, Settles, IsWorkOn}
 use Rattle.chain_compaction.proofs.permute.settle_block.Given as goal
 
 abbrev pub invariant-loop-left : goal.invariant-loop-left

@@ -1,0 +1,53 @@
+-- `settle_each` moves the link at one more slot, and lists the slot if a link may still wait there.
+use Rattle.std.proofs.Common.{◌≡◌, ◌∙◌, ◌+◌, ◌-◌, ℕ, false, List, sym, ap, subst, arith}
+use Rattle.arena_base.specs.Arena.{slot_at}
+use Rattle.chain_compaction.specs.Permutations.{IsInBlock, ListsWaiting, waiting, destination_of, Settles, IsWorkOn}
+use Rattle.chain_compaction.proofs.BlockTurnLemmas.{listing_skips, listing_grows, touches_add, touches_skip, next_in_block, below_64}
+use Rattle.chain_compaction.proofs.PermutationStepLemmas.{settling_continues}
+use Rattle.chain_compaction.proofs.PermutationLoopLemmas.{work_on-after}
+use Rattle.chain_compaction.proofs.LinkLoanLemmas.{same_then, counts_on, capacity_then, maximum_then}
+use Rattle.chain_compaction.proofs.permute.settle_each.Goals as goal
+use Rattle.chain_compaction.proofs.permute.settle_each.Goals.{then-settle_once, else-settle_once}
+
+pub loop-k-preserved : goal.loop-k-preserved
+loop-k-preserved g c =
+    let packed_number = g.P.Inx.InxKey.packed_number in
+    let target = destination_of packed_number in
+    let i = g.P.Inx.InxKey.number c.inx_at.result in
+    let k = c.loop-k.k in
+    let left = c.loop-k.left in
+    let positions = c.loop-k.positions in
+    let inv = c.loop-k.invariant in
+    let step = c.settle_once.ensures in
+    let old = c.args.compactor.now in
+    let now = c.loop-k.compactor in
+    let next = c.settle_once.new.compactor in
+    let inside = next_in_block c.args.start c.args.count k i c.inx_at.ensures c.loop-k-test.true in
+    let low = below_64 k c.args.count c.loop-k-test.true c.requires.count in
+    let worked = λ (more all : ℕ) (further : IsWorkOn now.arena.now next.arena.now (waiting target now.held.slots) (waiting target next.held.slots) more). work_on-after old.arena.now now.arena.now next.arena.now
+    (waiting target old.held.slots) (waiting target now.held.slots) (waiting target next.held.slots) (k - left) more all inv.work further in
+    let skips = λ (is : c.settle_once.result ≡ false). listing_skips target c.args.start positions k left i (slot_at now.held.slots) (slot_at next.held.slots) inv.lists c.inx_at.ensures step.settles.stays
+    (rw is at step.none) in
+    let grows = listing_grows target c.args.start positions k left i (slot_at now.held.slots) (slot_at next.held.slots) inv.lists c.inx_at.ensures step.settles.stays low in
+    record {
+      same_reference = same_then old now next inv.same_reference step.same_reference;
+      settles = settling_continues target (Settles packed_number c.args.generation) (IsInBlock c.args.start c.args.count) i old.held.slots now.held.slots next.held.slots inside inv.settles step.settles;
+      lists = elim c.if-settle_once.branch [
+        | then-settle_once w ↦ subst (λ (l : ℕ). ListsWaiting target c.args.start (k + 1) c.if-settle_once.positions l (slot_at next.held.slots)) (sym w.left-is)
+            (subst (λ (p : List ℕ). ListsWaiting target c.args.start (k + 1) p (left + 1) (slot_at next.held.slots)) (sym w.positions-is) grows)
+        | else-settle_once w ↦ subst (λ (l : ℕ). ListsWaiting target c.args.start (k + 1) c.if-settle_once.positions l (slot_at next.held.slots)) (sym w.left-is)
+            (subst (λ (p : List ℕ). ListsWaiting target c.args.start (k + 1) p left (slot_at next.held.slots)) (sym w.positions-is) (skips w.if-settle_once.false))
+      ];
+      capacity = capacity_then old now next inv.capacity step.capacity;
+      maximum = maximum_then old now next inv.maximum step.maximum;
+      work = elim c.if-settle_once.branch [
+        | then-settle_once w ↦ worked 0 ((k + 1) - c.if-settle_once.left) (rw w.if-settle_once.true at step.work) (touches_add k left ∙ ap (λ (l : ℕ). (k + 1) - l) (sym w.left-is))
+        | else-settle_once w ↦ worked 1 ((k + 1) - c.if-settle_once.left) (rw w.if-settle_once.false at step.work) (touches_skip k left inv.lists.few ∙ ap (λ (l : ℕ). (k + 1) - l) (sym w.left-is))
+      ];
+      counts = counts_on old now next inv.counts step.counts;
+    }
+
+pub returns-clause-lists : goal.returns-clause-lists
+returns-clause-lists g c =
+    let all : c.loop-k.k ≡ c.args.count = omega arith in
+    subst (λ (n : ℕ). ListsWaiting (destination_of g.P.Inx.InxKey.packed_number) c.args.start n c.loop-k.positions c.loop-k.left (slot_at c.loop-k.compactor.held.slots)) all c.loop-k.invariant.lists

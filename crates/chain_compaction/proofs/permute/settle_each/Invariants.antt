@@ -1,0 +1,19 @@
+-- The moves so far, the list of the slots at which a link may still wait, and the work.
+use Rattle.std.proofs.Common.{◌≡◌, ◌-◌}
+use Rattle.arena_base.specs.Arena.{slot_at}
+use Rattle.chain_compaction.specs.WorkCounts.{CountsWork}
+use Rattle.chain_compaction.specs.Permutations.{IsInBlock, IsSettling, ListsWaiting, waiting, destination_of, Settles, IsWorkOn}
+use Rattle.chain_compaction.proofs.permute.settle_each.Given as goal
+
+abbrev pub invariant-loop-k : goal.invariant-loop-k
+invariant-loop-k g l =
+    let packed_number = g.P.Inx.InxKey.packed_number in
+    record {
+      same_reference : l.compactor.arena.ghost_name ≡ l.fn.compactor.arena.ghost_name;
+      settles : IsSettling (destination_of packed_number) (Settles packed_number l.generation) (IsInBlock l.start l.count) l.fn.compactor.held.slots l.compactor.held.slots;
+      lists : ListsWaiting (destination_of packed_number) l.start l.k l.positions l.left (slot_at l.compactor.held.slots);
+      capacity : l.compactor.held.stack_capacity ≡ l.fn.compactor.held.stack_capacity;
+      maximum : l.compactor.held.maximum ≡ l.fn.compactor.held.maximum;
+      work : IsWorkOn l.fn.compactor.arena.now l.compactor.arena.now (waiting (destination_of packed_number) l.fn.compactor.held.slots) (waiting (destination_of packed_number) l.compactor.held.slots) (l.k - l.left);
+      counts : CountsWork l.fn.compactor l.compactor;
+    }

@@ -1,0 +1,181 @@
+// Reads of links before their chains are numbered, which change nothing.
+//
+// The walk along a chain waits for each link, since the link names the next one. Here several
+// chains are walked in turn, so that these waits overlap, and their links are then in the cache.
+ghost use Rattle.std.specs.Prelude.{◌≤◌, ◌<◌, ◌+◌, ◌-◌, length};
+ghost use Rattle.chain_compaction.specs.SlotReads.{HasReadSlot, HasReadSlots};
+
+use crate::permute::wrapped_index;
+use crate::slot_access::read_link;
+use arena_base::{ArenaSlot, Compactor, SlotAccess, inx_at, proved_unreachable};
+use arena_ptr::{InxKey, PtrKey, SlotStack};
+use chain_links::LinkNoGen;
+
+/// How far links have been read ahead, and how many more reads are allowed.
+#[derive(Clone, Copy)]
+pub(crate) struct ReadAhead {
+    /// The position from which on links were not read ahead.
+    pub(crate) position: usize,
+    /// The number of reads that are allowed.
+    pub(crate) credit: usize,
+}
+
+impl ReadAhead {
+    /// Allows as many reads as there are slots.
+    ///
+    /// Fewer than 65,536 slots are never read ahead, since they fit in the cache.
+    pub(crate) fn new(slots: usize) -> ReadAhead
+        ensures { result.credit ≤ slots }
+    {
+        let position = if slots < 65_536 { slots } else { 0 };
+        ReadAhead {
+            position,
+            credit: slots,
+        }
+    }
+
+    /// Allows as many more reads as links were numbered.
+    pub(crate) fn with_numbered(self, links: usize) -> ReadAhead
+        ensures { result.credit ≤ self.credit + links }
+    {
+        ReadAhead {
+            position: self.position,
+            credit: self.credit.saturating_add(links),
+        }
+    }
+}
+
+// Returns whether a neighbor is more than 64 slots away from the link at position `k`.
+fn is_far<P: PtrKey>(k: usize, neighbor: Option<P::Inx>) -> bool {
+    match neighbor {
+        Some(i) => match i.try_into_usize() {
+            Some(n) => n.abs_diff(k) > 64,
+            None => proved_unreachable!(),
+        },
+        None => false,
+    }
+}
+
+// Returns whether the link at `i` has no destination yet.
+fn is_fresh_at<P: PtrKey, T: Drop, S: SlotStack<Item = ArenaSlot<P, LinkNoGen<P, T>>>>(
+    compactor: &mut Compactor<'_, P, LinkNoGen<P, T>, S>,
+    i: P::Inx,
+) -> bool
+    ensures { HasReadSlot compactor.old compactor.new }
+{
+    let (was, _, _, destination) = read_link(compactor, i);
+    was.is_some() && destination.is_none()
+}
+
+// Returns the number of the neighbor of the link with number `n`, or `None` if there is none or it is
+// `start`, where the walk began.
+fn step_at<P: PtrKey, T: Drop, S: SlotStack<Item = ArenaSlot<P, LinkNoGen<P, T>>>>(
+    compactor: &mut Compactor<'_, P, LinkNoGen<P, T>, S>,
+    n: usize,
+    start: usize,
+    is_forward: bool,
+) -> Option<usize>
+    ensures { HasReadSlots compactor.old compactor.new 1 }
+{
+    let i = P::Inx::try_from_usize(n)?;
+    let (_, prev, next, _) = read_link(compactor, i);
+    let neighbor = if is_forward { next } else { prev };
+    match neighbor?.try_into_usize() {
+        Some(number) => if number == start { None } else { Some(number) },
+        None => None,
+    }
+}
+
+// Lists the numbers of up to 16 links without destinations, of the 64 slots from position `k` on.
+// Returns the list, its length, and the number of slots that were read.
+fn fresh_links<P: PtrKey, T: Drop, S: SlotStack<Item = ArenaSlot<P, LinkNoGen<P, T>>>>(
+    compactor: &mut Compactor<'_, P, LinkNoGen<P, T>, S>,
+    k: usize,
+) -> ([usize; 16], usize, usize)
+    requires at { k < length compactor.old.held.slots }
+    requires fits { length compactor.old.held.slots ≤ P.Inx.greatest }
+    ensures count { result.1 ≤ 16 }
+    ensures few { result.2 ≤ 64 }
+    ensures read { HasReadSlots compactor.old compactor.new result.2 }
+{
+    let mut links = [0; 16];
+    let mut count = 0;
+    let slots = (compactor.slots() - k).min(64);
+    for j in 0..slots {
+        if count == 16 {
+            return (links, count, j);
+        }
+        if is_fresh_at(compactor, inx_at::<P>(k + j)) {
+            links[count] = k + j + 1;
+            count += 1;
+        }
+    }
+    (links, count, slots)
+}
+
+// Walks along the chains of `count` links in turn, by `next` or by `prev`, until each walk ends or
+// `limit` links were read. Returns the number of links that were read.
+fn read_along<P: PtrKey, T: Drop, S: SlotStack<Item = ArenaSlot<P, LinkNoGen<P, T>>>>(
+    compactor: &mut Compactor<'_, P, LinkNoGen<P, T>, S>,
+    links: [usize; 16],
+    count: usize,
+    is_forward: bool,
+    limit: usize,
+) -> usize
+    requires { count ≤ 16 }
+    ensures few { result ≤ limit }
+    ensures read { HasReadSlots compactor.old compactor.new result }
+{
+    let mut starts = links;
+    let mut now = links;
+    let mut left = count;
+    let mut at = 0;
+    for reads in 0..limit {
+        if left == 0 {
+            return reads;
+        }
+        let turn = wrapped_index(at, left);
+        match step_at(compactor, now[turn], starts[turn], is_forward) {
+            Some(number) => {
+                now[turn] = number;
+                at = turn + 1;
+            }
+            None => {
+                left -= 1;
+                now[turn] = now[left];
+                starts[turn] = starts[left];
+                at = turn;
+            }
+        }
+    }
+    limit
+}
+
+/// Reads along the chains of up to 16 links from position `k` on, if `prev` or `next` of the link
+/// there is far away, and it was not read ahead yet.
+pub(crate) fn read_ahead<P: PtrKey, T: Drop, S: SlotStack<Item = ArenaSlot<P, LinkNoGen<P, T>>>>(
+    compactor: &mut Compactor<'_, P, LinkNoGen<P, T>, S>,
+    k: usize,
+    prev: Option<P::Inx>,
+    next: Option<P::Inx>,
+    ahead: ReadAhead,
+) -> ReadAhead
+    requires at { k < length compactor.old.held.slots }
+    requires fits { length compactor.old.held.slots ≤ P.Inx.greatest }
+    ensures fewer { result.credit ≤ ahead.credit }
+    ensures read { HasReadSlots compactor.old compactor.new (ahead.credit - result.credit) }
+{
+    if k < ahead.position || ahead.credit < 16_064 {
+        return ahead;
+    }
+    if !is_far::<P>(k, prev) && !is_far::<P>(k, next) {
+        return ahead;
+    }
+    let (links, count, slots) = fresh_links(compactor, k);
+    let forward = read_along(compactor, links, count, true, 8_000);
+    let backward = read_along(compactor, links, count, false, 8_000);
+    ReadAhead {
+        position: k.saturating_add(slots),
+        credit: ahead.credit - (slots + forward + backward),
+    }
+}
