@@ -67,8 +67,18 @@ fn is_fresh_at<P: PtrKey, T: Drop, S: SlotStack<Item = ArenaSlot<P, LinkNoGen<P,
     was.is_some() && destination.is_none()
 }
 
-// Returns the number of the neighbor of the link with number `n`, or `None` if there is none or it is
-// `start`, where the walk began.
+// Returns the number of a neighbor, or `None` if there is none or it is `start`, where the walk began.
+fn number_on_walk<P: PtrKey>(neighbor: Option<P::Inx>, start: usize) -> Option<usize> {
+    match neighbor {
+        Some(i) => match i.try_into_usize() {
+            Some(number) => if number == start { None } else { Some(number) },
+            None => None,
+        },
+        None => None,
+    }
+}
+
+// Returns the number of the link after the one with number `n` on a walk, if the walk goes on.
 fn step_at<P: PtrKey, T: Drop, S: SlotStack<Item = ArenaSlot<P, LinkNoGen<P, T>>>>(
     compactor: &mut Compactor<'_, P, LinkNoGen<P, T>, S>,
     n: usize,
@@ -77,11 +87,11 @@ fn step_at<P: PtrKey, T: Drop, S: SlotStack<Item = ArenaSlot<P, LinkNoGen<P, T>>
 ) -> Option<usize>
     ensures { HasReadSlots compactor.old compactor.new 1 }
 {
-    let i = P::Inx::try_from_usize(n)?;
-    let (_, prev, next, _) = read_link(compactor, i);
-    let neighbor = if is_forward { next } else { prev };
-    match neighbor?.try_into_usize() {
-        Some(number) => if number == start { None } else { Some(number) },
+    match P::Inx::try_from_usize(n) {
+        Some(i) => {
+            let (_, prev, next, _) = read_link(compactor, i);
+            number_on_walk::<P>(if is_forward { next } else { prev }, start)
+        }
         None => None,
     }
 }
