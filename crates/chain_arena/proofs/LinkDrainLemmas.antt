@@ -1,15 +1,15 @@
 -- A drain of all links removes them step by step, in ascending order of index.
 use Rattle.std.proofs.Common.{◌≡◌, ℕ, zero, suc, ◌≤◌, ◌<◌, arith, Bool, true, false, List, [], ◌∷◌, map, length, ◌+◌, ◌⊎◌, inl, inr, ⊎_elim, Option, None, Some, refl, ap, sym, ◌∙◌}
-use Rattle.std.specs.Prelude.{cond, leb, min, ◌==◌, All}
+use Rattle.std.specs.Prelude.{cond, leb, min, ◌==◌, All, slice_index_or}
 use Rattle.std.specs.Option.{option_map}
-use Rattle.std.proofs.lemmas.Bool.{leb-true, leb-false, lt-leb, eq-eqb, ne_eqb}
+use Rattle.std.proofs.lemmas.Bool.{leb-true, leb-false, le-leb, lt-leb, eq-eqb, ne_eqb}
 use Rattle.std.proofs.lemmas.List.Elements.{All-head, All-tail}
 use Rattle.arena_ptr.specs.Numbers.{IsWithin}
 use Rattle.arena_ptr.specs.Invalidation.{value_in, is_overflow, value_within, is_overflow_result, invalidation_result, invalidation_option}
 use Rattle.arena_ptr.specs.declared.invalidation.InvalidationOption.{InvalidationOption}
 use Rattle.arena_ptr.specs.declared.invalidation.InvalidationResult.{InvalidationResult}
 use Rattle.arena_base.specs.Arena.{Arena, IsValid, entry_at}
-use Rattle.arena_base.specs.Entries.{ArenaView, entries, index_of, found, without, first_key, AscendsFrom}
+use Rattle.arena_base.specs.Entries.{ArenaView, entries, entries_from, index_of, found, without, first_key, AscendsFrom}
 use Rattle.arena_base.specs.Entries.{entry_removed}
 use Rattle.arena_base.specs.EntryLaws.{entries_ascend, found-entries}
 use Rattle.arena_base.specs.Advancers.{entries_at_or_above}
@@ -112,6 +112,25 @@ module _ {Gen T : Type 0} where
   entries_left-at : (a : Arena Gen (LinkView T)) (n : ℕ) → 1 ≤ n → entries_left a n ≡ entries_at_or_above n (entries (values_of a))
   entries_left-at a zero some = absurd (omega (arith, some))
   entries_left-at a (suc k) some = refl
+
+  first_at : (i j k : ℕ) (e : Gen × T) (slots : List (Option (Gen × T))) → j + k ≡ i → slice_index_or slots k None ≡ Some e → first_key (entries_at_or_above i (entries_from j slots)) ≡ Some (i, e.0)
+  first_at i j k e [] at stored = absurd (let h = stored in cc)
+  first_at i j zero e (None ∷ slots) at stored = absurd (let h = stored in cc)
+  first_at i j (suc k) e (None ∷ slots) at stored = first_at i (suc j) k e slots (omega (arith, at)) stored
+  first_at i j zero e (Some x ∷ slots) at stored =
+      let later = entries_from (suc j) slots in
+      let same : x ≡ e = cc in
+      ap (λ b. first_key (cond b (((j, x.0), x.1) ∷ later) (entries_at_or_above i later))) (le-leb i j (omega (arith, at)))
+      ∙ (ap (λ (n : ℕ). let o : Option (ℕ × Gen) = Some (n, x.0) in o) (omega (arith, at)) ∙ ap (λ (y : Gen × T). let o : Option (ℕ × Gen) = Some (i, y.0) in o) same)
+  first_at i j (suc k) e (Some x ∷ slots) at stored =
+      let later = entries_from (suc j) slots in
+      ap (λ b. first_key (cond b (((j, x.0), x.1) ∷ later) (entries_at_or_above i later))) (lt-leb i j (omega (arith, at))) ∙ first_at i (suc j) k e slots (omega (arith, at)) stored
+
+  -- A link at an index is the first link from it on.
+  pub stored_first : (a : Arena Gen (LinkView T)) (at : ℕ) (p : ℕ × Gen) (t : T) → p.0 ≡ at → entry_at (values_of a) at ≡ Some (p.1, t) → Some p ≡ first_key (entries_left a at)
+  stored_first a zero p t is stored = absurd (let h = stored in cc)
+  stored_first a (suc k) p t is stored =
+      sym (first_at (suc k) 1 k (p.1, t) (values_of a).slots (omega arith) stored ∙ ap (λ (n : ℕ). let o : Option (ℕ × Gen) = Some (n, p.1) in o) (sym is))
 
   -- All links are left from the first index on.
   pub all_left : (a : Arena Gen (LinkView T)) → entries_left a 1 ≡ entries (values_of a)

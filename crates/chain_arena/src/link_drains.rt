@@ -8,7 +8,9 @@ ghost use Rattle.chain_arena.specs.Drains.{entries_left, without_each, IsLinkDra
 
 use crate::chain_arena::ChainArena;
 use crate::insert_entry::number_or_zero;
-use arena_base::{Advancer, ArenaSlot, ArenaTrait, invalidated, proved_unreachable};
+use arena_base::{
+    Advancer, ArenaSlot, ArenaTrait, assume_proved, invalidated, inx_at, proved_unreachable,
+};
 use arena_ptr::{HeapStack, InvalidationOption, InxKey, PtrKey, SlotStack};
 use chain_links::LinkNoGen;
 
@@ -43,6 +45,9 @@ impl<P: PtrKey, T: Drop, S: SlotStack<Item = ArenaSlot<P, LinkNoGen<P, T>>>> Cha
         LinkDrain { arena: self, at: 1 }
     }
 
+    // Returns the pointer of the first link from an index on. Inlined, so the result need not go
+    // through memory.
+    #[inline(always)]
     fn first_from(&self, at: usize) -> Option<P>
         ensures { option_map P.key result ≡ first_key (entries_left self.now at) }
     {
@@ -54,10 +59,48 @@ impl<P: PtrKey, T: Drop, S: SlotStack<Item = ArenaSlot<P, LinkNoGen<P, T>>>> Cha
         }
     }
 
+    // Removes the link at an index, if there is one, and returns it after the next index. Inlined,
+    // so the result need not go through memory.
+    #[inline(always)]
+    fn drain_link_at(&mut self, at: usize) -> Option<(usize, InvalidationOption<(P, T)>)>
+        ensures none { IfNone result (self.new ≡ self.old) }
+        ensures some { IfSome result
+            (λ e. IsLinkDrainStep P.key P.Gen.following P.Gen.wraps self.old at e.1 self.new e.0) }
+    {
+        // No slot has an index above the greatest.
+        self.invariants();
+        if at == 0 || at > self.backing().len() {
+            return None;
+        }
+        assume_proved(at <= P::Inx::greatest());
+        let i = inx_at::<P>(at - 1);
+        let (entry, overflow) = self.unlink(i).overflowing();
+        match entry {
+            Some((generation, link)) => {
+                let p = P::_from_raw(i, generation);
+                Some((at.saturating_add(1), invalidated(overflow, (p, link.t))))
+            }
+            None => None,
+        }
+    }
+
     // Removes the first link from an index on, and returns it after the index that follows its own.
-    // Inlined, so the result need not go through memory.
+    // In an arena without free slots it is at the index itself, so that slot is tested first.
     #[inline(always)]
     fn drain_first(&mut self, at: usize) -> Option<(usize, InvalidationOption<(P, T)>)>
+        ensures none { IfNone result ((entries_left self.old at ≡ []) × (self.new ≡ self.old)) }
+        ensures some { IfSome result
+            (λ e. IsLinkDrainStep P.key P.Gen.following P.Gen.wraps self.old at e.1 self.new e.0) }
+    {
+        match self.drain_link_at(at) {
+            Some(drained) => Some(drained),
+            None => self.drain_by_search(at),
+        }
+    }
+
+    // Searches for the first link from an index on, and removes it as `drain_first` does.
+    #[inline(always)]
+    fn drain_by_search(&mut self, at: usize) -> Option<(usize, InvalidationOption<(P, T)>)>
         ensures none { IfNone result ((entries_left self.old at ≡ []) × (self.new ≡ self.old)) }
         ensures some { IfSome result
             (λ e. IsLinkDrainStep P.key P.Gen.following P.Gen.wraps self.old at e.1 self.new e.0) }
@@ -77,6 +120,8 @@ impl<P: PtrKey, T: Drop, S: SlotStack<Item = ArenaSlot<P, LinkNoGen<P, T>>>> Cha
         }
     }
 
+    #[cold]
+    #[inline(never)]
     fn drain_rest(&mut self, from: usize)
         ensures state { self.new ≡ without_each P.Gen.following self.old
             (map index_of (entries_left self.old from)) }
@@ -102,6 +147,7 @@ impl<'a, P: PtrKey, T: Drop, S: SlotStack<Item = ArenaSlot<P, LinkNoGen<P, T>>>>
 
     ghost remaining = { item_count (λ d. entries_left d.arena.now d.at) };
 
+    #[inline(always)]
     fn next(&mut self) -> Option<InvalidationOption<(P, T)>> {
         match self.arena.drain_first(self.at) {
             Some((next, gone)) => {

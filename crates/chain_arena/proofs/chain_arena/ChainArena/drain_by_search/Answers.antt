@@ -1,4 +1,4 @@
--- `drain_first` removes the first remaining link.
+-- `drain_by_search` removes the first remaining link.
 use Rattle.std.proofs.Common.{◌≡◌, ℕ, ap, sym, ◌∙◌, subst, arith}
 use Rattle.std.specs.Option.{option_map}
 use Rattle.arena_ptr.specs.Invalidation.{value_within}
@@ -8,7 +8,7 @@ use Rattle.chain_links.specs.ChainArena.{value_view, values_of, remove_link}
 use Rattle.chain_arena.proofs.ChainDrainLemmas.{nonzero_index-is}
 use Rattle.chain_arena.proofs.LinkRemovalLemmas.{value_alone_known, viewed_at, removal_at}
 use Rattle.chain_arena.proofs.LinkDrainLemmas.{drained_has, drained_first, first_valid, overflow_known, IsBehind, is_behind}
-use Rattle.chain_arena.proofs.chain_arena.ChainArena.drain_first.Goals as goal
+use Rattle.chain_arena.proofs.chain_arena.ChainArena.drain_by_search.Goals as goal
 
 pub proved_unreachable-assume_proved-requires : goal.proved_unreachable-assume_proved-requires
 proved_unreachable-assume_proved-requires g c = absurd (
