@@ -69,11 +69,13 @@ impl<P: PtrKey, T: Drop, S: SlotStack<Item = ArenaSlot<P, LinkNoGen<P, T>>>> Cha
     {
         // No slot has an index above the greatest.
         self.invariants();
-        if at == 0 || at > self.backing().len() {
+        if at == 0 || at - 1 >= self.backing().len() {
             return None;
         }
-        assume_proved(at <= P::Inx::greatest());
         let i = inx_at::<P>(at - 1);
+
+        // With this fact LLVM tests the index against the number of slots only once.
+        assume_proved(number_or_zero(Some(i)) == at);
         let (entry, overflow) = self.unlink(i).overflowing();
         match entry {
             Some((generation, link)) => {

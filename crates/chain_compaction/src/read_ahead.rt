@@ -14,7 +14,7 @@ use chain_links::LinkNoGen;
 /// How far links have been read ahead, and how many more reads are allowed.
 #[derive(Clone, Copy)]
 pub(crate) struct ReadAhead {
-    /// The position from which on links were not read ahead.
+    /// The position of the first slot that was not read ahead.
     pub(crate) position: usize,
     /// The number of reads that are allowed.
     pub(crate) credit: usize,
@@ -175,6 +175,7 @@ pub(crate) fn read_ahead<P: PtrKey, T: Drop, S: SlotStack<Item = ArenaSlot<P, Li
     ensures fewer { result.credit ≤ ahead.credit }
     ensures read { HasReadSlots compactor.old compactor.new (ahead.credit - result.credit) }
 {
+    // At most 64 + 2 * 8,000 slots are read.
     if k < ahead.position || ahead.credit < 16_064 {
         return ahead;
     }
