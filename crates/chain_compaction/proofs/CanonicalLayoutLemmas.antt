@@ -244,7 +244,7 @@ module _ {F P Gen K T : Type 0} (g : F → P → P → F → Type 0) (key : P �
     -- After the slots are given back.
     module _ (greatest : ℕ) (maximum : Option ℕ) (a3 : Arena Gen (LinkBody K T)) (capacity : h3.stack_capacity ≡ h2.stack_capacity) (is_maximum : h3.maximum ≡ h2.maximum)
         (emptying : a1 ≡ with_totals (lent_out maximum old) 0 (length old.slots))
-        (moving : IsWork a2 a3 (count_by is_some h2.slots) (count_by is_some h2.slots + length h2.slots)) where
+        (moving : IsWork a2 a3 (count_by is_some h2.slots) (2 * count_by is_some h2.slots + length h2.slots)) where
       whole_work : IsWork (lent_out maximum old) a3 (length numbered.indexes) (4 * length old.slots + 12 * length numbered.indexes)
       whole_work =
           let first : IsWork (lent_out maximum old) a1 0 (length old.slots) = record { touches = length old.slots; few = omega arith; arena = emptying } in

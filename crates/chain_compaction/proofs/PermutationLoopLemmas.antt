@@ -1,5 +1,5 @@
 -- The loop that moves entries: its beginning, its step, its end, and its work.
-use Rattle.std.proofs.Common.{◌≡◌, ℕ, zero, suc, ◌+◌, ◌⊎◌, inl, inr, ◌<◌, ◌≤◌, List, length, Option, None, Some, Bool, true, false, leb, refl, ◌∙◌, subst, arith}
+use Rattle.std.proofs.Common.{◌≡◌, ℕ, zero, suc, ◌+◌, ◌*◌, ◌⊎◌, inl, inr, ◌<◌, ◌≤◌, List, length, Option, None, Some, Bool, true, false, leb, refl, ◌∙◌, subst, arith}
 use Rattle.std.specs.Prelude.{if◌then◌else◌}
 use Rattle.std.proofs.lemmas.Bool.Decides.{leb_tells}
 use Rattle.arena_base.specs.Arena.{Arena, slot_at}
@@ -50,11 +50,12 @@ module _ {Gen T : Type 0} where
   pub work_on-begins : (a : Arena Gen T) (wait : ℕ) → IsWorkOn a a wait wait 0
   work_on-begins a wait = record { moved = 0; work = work-none a 0; count = omega arith }
 
-  -- One touch and one placement, after which one entry less waits.
-  pub work_on-moves : (old was_read next : Arena Gen T) (wait less : ℕ) → was_read ≡ with_touch old → next ≡ with_placement was_read → less + 1 ≡ wait → IsWorkOn old next wait less 0
-  work_on-moves old was_read next wait less touched is fewer = record {
+  -- A read, a placement and a write, after which one entry less waits.
+  pub work_on-moves : (old was_read placed next : Arena Gen T) (wait less : ℕ) → was_read ≡ with_touch old → placed ≡ with_placement was_read → next ≡ with_touch placed → less + 1 ≡ wait
+      → IsWorkOn old next wait less 0
+  work_on-moves old was_read placed next wait less touched is written fewer = record {
     moved = 1;
-    work = work-more (work-touched old was_read touched) (work-with_placed_entry was_read next is) 1 (1 + 0) refl (omega arith);
+    work = work-more (work-more (work-touched old was_read touched) (work-with_placed_entry was_read placed is) 1 1 refl (omega arith)) (work-touched placed next written) 1 (2 * 1 + 0) refl (omega arith);
     count = fewer;
   }
 
@@ -67,7 +68,7 @@ module _ {Gen T : Type 0} where
   work_on-either old next waited wait true work = work
   work_on-either old next waited wait false work = record {
     moved = work.moved;
-    work = record { touches = work.work.touches; few = (let few : work.work.touches ≤ work.moved + 0 = work.work.few in omega arith); arena = work.work.arena };
+    work = record { touches = work.work.touches; few = (let few : work.work.touches ≤ 2 * work.moved + 0 = work.work.few in omega arith); arena = work.work.arena };
     count = work.count;
   }
 
@@ -76,12 +77,12 @@ module _ {Gen T : Type 0} where
       → IsWorkOn old next waited less all
   work_on-after old now next waited wait less some more all work further is = record {
     moved = work.moved + further.moved;
-    work = work-more work.work further.work (work.moved + further.moved) ((work.moved + further.moved) + all) refl (omega arith);
+    work = work-more work.work further.work (work.moved + further.moved) (2 * (work.moved + further.moved) + all) refl (omega arith);
     count = (let a : wait + work.moved ≡ waited = work.count in let b : less + further.moved ≡ wait = further.count in omega arith);
   }
 
   -- The total work, when no entry waits.
-  pub work_on-ends : (old now : Arena Gen T) (waited wait all more : ℕ) → IsWorkOn old now waited wait more → wait ≡ 0 → waited ≡ all → IsWork old now all (all + more)
+  pub work_on-ends : (old now : Arena Gen T) (waited wait all more : ℕ) → IsWorkOn old now waited wait more → wait ≡ 0 → waited ≡ all → IsWork old now all (2 * all + more)
   work_on-ends old now waited wait all more work none each =
       let m : work.moved ≡ all = (let a : wait + work.moved ≡ waited = work.count in omega arith) in
-      subst (λ (n : ℕ). IsWork old now n (n + more)) m work.work
+      subst (λ (n : ℕ). IsWork old now n (2 * n + more)) m work.work

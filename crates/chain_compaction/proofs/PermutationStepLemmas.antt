@@ -1,7 +1,7 @@
--- One step of settling: the entry at i loses its destination d and is exchanged with slot d, and
+-- One step of settling: the entry at i is exchanged with slot d and loses its destination d, and
 -- one entry less waits.
 use Rattle.std.proofs.Common.{◌≡◌, ◌≢◌, ℕ, ◌+◌, ◌≤◌, List, length, Bool, true, false, Option, None, Some, refl, sym, ap, ◌∙◌, subst, arith}
-use Rattle.std.specs.Prelude.{is_some, OnSome, IfNone}
+use Rattle.std.specs.Prelude.{is_some}
 use Rattle.std.specs.Bool.{OnTrue, OnFalse}
 use Rattle.std.specs.Option.{option_map, option_and_then}
 use Rattle.std.proofs.Math.Decide.{ℕ_discrete}
@@ -9,8 +9,9 @@ use Rattle.arena_base.specs.Arena.{slot_at, with_slot}
 use Rattle.arena_base.specs.DetachedSlots.{DetachedView, with_placed_entry, held_with_value}
 use Rattle.arena_base.proofs.SlotLemmas.{length-with_slot}
 use Rattle.chain_links.specs.declared.links.LinkBody.{LinkBody}
-use Rattle.chain_compaction.specs.Permutations.{Waits, IsSettledAt, WaitsWithin, IsSettling, waiting, waits, destination_of, Settles, with_destination, with_destination_at, IsTakenOut}
-use Rattle.chain_compaction.proofs.SlotCountLemmas.{slot_at-same, slot_at-other, stored-within, with_slot-own, count-with_slot, mark, one_if}
+use Rattle.chain_compaction.specs.Permutations.{Waits, IsSettledAt, WaitsWithin, IsSettling, waiting, waits, destination_of, Settles}
+use Rattle.chain_compaction.specs.Destinations.{destination_at, IsDirectedAt}
+use Rattle.chain_compaction.proofs.SlotCountLemmas.{slot_at-same, slot_at-other, stored-within, count-with_slot, mark, one_if}
 use Rattle.chain_compaction.proofs.SlotSwapLemmas.{moving_continues, arrived_from, waited_there}
 
 -- A settled entry has no destination.
@@ -26,55 +27,18 @@ settled_waits_not goal Settled now d e done s h f w =
     let some : goal f ≡ Some h = w.to in
     cc
 
--- The destination of a link was taken out.
-module _ {Gen K T : Type 0} (number : K → Option ℕ) (held new : DetachedView Gen (LinkBody K T)) (i : ℕ) (l w : LinkBody K T)
-    (stored : Some l ≡ option_map (λ (e : Gen × LinkBody K T). e.1) (slot_at held.slots i)) (wrote : new ≡ held_with_value held i w)
-    (empty : number w.destination ≡ None) (rest : w ≡ record l { destination = w.destination }) where
-  slot_taken : (o : Option (Gen × LinkBody K T)) → Some l ≡ option_map (λ (e : Gen × LinkBody K T). e.1) o → option_map (λ (e : Gen × LinkBody K T). (e.0, w)) o ≡ option_map (with_destination w.destination) o
-  slot_taken None is = refl
-  slot_taken (Some e) is =
-      let same : l ≡ e.1 = cc in
-      ap (λ (k : LinkBody K T). let r : Option (Gen × LinkBody K T) = Some (e.0, k) in r) (rest ∙ ap (λ (k : LinkBody K T). let r : LinkBody K T = record k { destination = w.destination } in r) same)
+-- After the exchange, the slot at d holds the entry with the generation.
+exchanged_entry : {Gen K T : Type 0} (number : K → Option ℕ) (g : Gen) (slots : List (Option (Gen × LinkBody K T))) (i d : ℕ) (e : Gen × LinkBody K T)
+    → Waits (destination_of number) (slot_at slots) i e d → 1 ≤ d → d ≤ length slots
+    → slot_at (with_slot (with_slot slots i (slot_at slots d)) d (option_map (λ (x : Gen × LinkBody K T). (g, x.1)) (slot_at slots i))) d ≡ Some (g, e.1)
+exchanged_entry {Gen} {K} {T} number g slots i d e w low high =
+    let same : length (with_slot slots i (slot_at slots d)) ≡ length slots = length-with_slot slots i (slot_at slots d) in
+    let within : d ≤ length (with_slot slots i (slot_at slots d)) = omega arith in
+    slot_at-same (with_slot slots i (slot_at slots d)) d (option_map (λ (x : Gen × LinkBody K T). (g, x.1)) (slot_at slots i)) low within
+    ∙ ap (option_map (λ (x : Gen × LinkBody K T). (g, x.1))) w.stored
 
-  taken_out : IsTakenOut number i held new
-  taken_out = record {
-    destination = w.destination;
-    empty = empty;
-    held = wrote ∙ ap (λ (o : Option (Gen × LinkBody K T)). record held { slots = with_slot held.slots i o }) (slot_taken (slot_at held.slots i) stored);
-  }
-
-  -- The destination was taken out, whatever was returned.
-  pub takes : {X : Type 0} (returned : Option X) → OnSome returned (IsTakenOut number i held new)
-  takes (Some x) = taken_out
-  takes None = tt
-
-  -- If there was no destination, nothing has changed.
-  slot_kept : w ≡ l → (o : Option (Gen × LinkBody K T)) → Some l ≡ option_map (λ (e : Gen × LinkBody K T). e.1) o → option_map (λ (e : Gen × LinkBody K T). (e.0, w)) o ≡ o
-  slot_kept same None is = refl
-  slot_kept same (Some e) is =
-      let own : l ≡ e.1 = cc in
-      ap (λ (k : LinkBody K T). let r : Option (Gen × LinkBody K T) = Some (e.0, k) in r) (same ∙ own)
-
-  pub takes_none : {I : Type 0} (index : I → ℕ) → ((o p : K) → number o ≡ number p → o ≡ p) → (returned : Option I) → option_map index returned ≡ number l.destination → IfNone returned (new ≡ held)
-  takes_none index same_packed (Some x) responses = tt
-  takes_none index same_packed None responses =
-      let kept : w.destination ≡ l.destination = same_packed w.destination l.destination (empty ∙ responses) in
-      let same : w ≡ l = rest ∙ ap (λ (k : K). let r : LinkBody K T = record l { destination = k } in r) kept in
-      wrote ∙ ap (λ (s : List (Option (Gen × LinkBody K T))). record held { slots = s })
-      (ap (with_slot held.slots i) (slot_kept same (slot_at held.slots i) stored) ∙ with_slot-own held.slots i)
-
--- The destination of the entry at the index is returned.
-module _ {Gen K T : Type 0} (number : K → Option ℕ) where
-  pub states_goal : (slot : Option (Gen × LinkBody K T)) (l : LinkBody K T) (returned : Option ℕ) → Some l ≡ option_map (λ (e : Gen × LinkBody K T). e.1) slot
-      → returned ≡ number l.destination → returned ≡ option_and_then (destination_of number) slot
-  states_goal None l returned is known = absurd (cc)
-  states_goal (Some e) l returned is known = let same : l ≡ e.1 = cc in known ∙ ap (λ (k : LinkBody K T). number k.destination) same
-
-  pub states_no_goal : (slot : Option (Gen × LinkBody K T)) → None ≡ option_map (λ (e : Gen × LinkBody K T). e.1) slot → None ≡ option_and_then (destination_of number) slot
-  states_no_goal None is = refl
-  states_no_goal (Some e) is = absurd (cc)
-
-module _ {Gen K T : Type 0} (number : K → Option ℕ) (g : Gen) (k : K) (empty : number k ≡ None) (slots : List (Option (Gen × LinkBody K T))) (i d : ℕ) (e : Gen × LinkBody K T)
+module _ {Gen K T : Type 0} (number : K → Option ℕ) (g : Gen) (slots : List (Option (Gen × LinkBody K T))) (i d : ℕ) (e : Gen × LinkBody K T)
+    (link : LinkBody K T) (empty : number link.destination ≡ None) (rest : link ≡ record e.1 { destination = link.destination })
     (w : Waits (destination_of number) (slot_at slots) i e d) (low : 1 ≤ d) (high : d ≤ length slots) where
   abbrev Entry : Type 0
   Entry = Gen × LinkBody K T
@@ -83,86 +47,83 @@ module _ {Gen K T : Type 0} (number : K → Option ℕ) (g : Gen) (k : K) (empty
   abbrev renewed : Entry → Entry
   renewed x = (g, x.1)
 
-  -- The slots without the destination, after one write of the exchange, and after both.
-  abbrev one : List (Option Entry)
-  one = with_destination_at k slots i
-
+  -- The slots after one write of the exchange, after both, and without the destination.
   abbrev mid : List (Option Entry)
-  mid = with_slot one i (slot_at one d)
+  mid = with_slot slots i (slot_at slots d)
+
+  abbrev exchanged : List (Option Entry)
+  exchanged = with_slot mid d (option_map renewed (slot_at slots i))
 
   abbrev pub two : List (Option Entry)
-  two = with_slot mid d (option_map renewed (slot_at one i))
+  two = with_slot exchanged d (option_map (λ (x : Entry). (x.0, link)) (slot_at exchanged d))
 
   here : (1 ≤ i) × (i ≤ length slots)
   here = stored-within slots i e w.stored
 
-  length-one : length one ≡ length slots
-  length-one = length-with_slot slots i (option_map (with_destination k) (slot_at slots i))
-
   length-mid : length mid ≡ length slots
-  length-mid = length-with_slot one i (slot_at one d) ∙ length-one
+  length-mid = length-with_slot slots i (slot_at slots d)
+
+  length-exchanged : length exchanged ≡ length slots
+  length-exchanged = length-with_slot mid d (option_map renewed (slot_at slots i)) ∙ length-mid
 
   pub length-two : length two ≡ length slots
-  length-two = length-with_slot mid d (option_map renewed (slot_at one i)) ∙ length-mid
-
-  within_one : i ≤ length one
-  within_one = let h : i ≤ length slots = here.1 in let l : length one ≡ length slots = length-one in omega arith
+  length-two = length-with_slot exchanged d (option_map (λ (x : Entry). (x.0, link)) (slot_at exchanged d)) ∙ length-exchanged
 
   within_mid : d ≤ length mid
   within_mid = let l : length mid ≡ length slots = length-mid in omega arith
 
-  one_at : slot_at one i ≡ Some (with_destination k e)
-  one_at = slot_at-same slots i (option_map (with_destination k) (slot_at slots i)) here.0 here.1 ∙ ap (option_map (with_destination k)) w.stored
+  within_exchanged : d ≤ length exchanged
+  within_exchanged = let l : length exchanged ≡ length slots = length-exchanged in omega arith
 
-  one_other : (j : ℕ) → (j ≢ i) → slot_at one j ≡ slot_at slots j
-  one_other j ne = slot_at-other slots i j (option_map (with_destination k) (slot_at slots i)) here.0 here.1 ne
+  mid_same : slot_at mid i ≡ slot_at slots d
+  mid_same = slot_at-same slots i (slot_at slots d) here.0 here.1
 
-  mid_same : slot_at mid i ≡ slot_at one d
-  mid_same = slot_at-same one i (slot_at one d) here.0 within_one
+  mid_other : (j : ℕ) → (j ≢ i) → slot_at mid j ≡ slot_at slots j
+  mid_other j ne = slot_at-other slots i j (slot_at slots d) here.0 here.1 ne
 
-  mid_other : (j : ℕ) → (j ≢ i) → slot_at mid j ≡ slot_at one j
-  mid_other j ne = slot_at-other one i j (slot_at one d) here.0 within_one ne
-
-  mid_at_d : slot_at mid d ≡ slot_at one d
+  mid_at_d : slot_at mid d ≡ slot_at slots d
   mid_at_d = by (ℕ_discrete d i)
     where
-      by : Dec (d ≡ i) → slot_at mid d ≡ slot_at one d
+      by : Dec (d ≡ i) → slot_at mid d ≡ slot_at slots d
       by (yes s) = ap (slot_at mid) s ∙ mid_same
       by (no n) = mid_other d n
 
-  two_at_d : slot_at two d ≡ Some (renewed (with_destination k e))
-  two_at_d = slot_at-same mid d (option_map renewed (slot_at one i)) low within_mid ∙ ap (option_map renewed) one_at
+  exchanged_at_d : slot_at exchanged d ≡ Some (renewed e)
+  exchanged_at_d = exchanged_entry number g slots i d e w low high
+
+  two_at_d : slot_at two d ≡ Some (g, link)
+  two_at_d = slot_at-same exchanged d (option_map (λ (x : Entry). (x.0, link)) (slot_at exchanged d)) low within_exchanged
+      ∙ ap (option_map (λ (x : Entry). (x.0, link))) exchanged_at_d
 
   settled_at_d : IsSettledAt (Settles number g) (slot_at two) d e
-  settled_at_d = record { entry = renewed (with_destination k e); stored = two_at_d; settled = record { generation = refl; empty = empty; rest = refl } }
+  settled_at_d = record { entry = (g, link); stored = two_at_d; settled = record { generation = refl; empty = empty; rest = rest } }
+
+  two_beside : (j : ℕ) → (j ≢ d) → slot_at two j ≡ slot_at mid j
+  two_beside j ne =
+      slot_at-other exchanged d j (option_map (λ (x : Entry). (x.0, link)) (slot_at exchanged d)) low within_exchanged ne
+      ∙ slot_at-other mid d j (option_map renewed (slot_at slots i)) low within_mid ne
 
   two_at_i : (i ≢ d) → slot_at two i ≡ slot_at slots d
-  two_at_i ne =
-      slot_at-other mid d i (option_map renewed (slot_at one i)) low within_mid ne
-      ∙ (mid_same ∙ one_other d (λ s. ne (sym s)))
+  two_at_i ne = two_beside i ne ∙ mid_same
 
   two_other : (j : ℕ) → (j ≢ i) → (j ≢ d) → slot_at two j ≡ slot_at slots j
-  two_other j n m =
-      slot_at-other mid d j (option_map renewed (slot_at one i)) low within_mid m
-      ∙ (mid_other j n ∙ one_other j n)
-
-  -- An entry without a destination does not wait.
-  marks_none : (x : Option Entry) → x ≡ Some (with_destination k e) → mark (destination_of number) x ≡ 0
-  marks_none x is = ap (mark (destination_of number)) is ∙ ap (λ (o : Option ℕ). one_if (is_some o)) empty
+  two_other j n m = two_beside j m ∙ mid_other j n
 
   pub one_less : waiting (destination_of number) two + 1 ≡ waiting (destination_of number) slots
   one_less =
-      let a : waiting (destination_of number) one + mark (destination_of number) (slot_at slots i) ≡ waiting (destination_of number) slots + mark (destination_of number) (option_map (with_destination k) (slot_at slots i))
-      = count-with_slot (waits (destination_of number)) slots i (option_map (with_destination k) (slot_at slots i)) here.0 here.1 in
-      let b : waiting (destination_of number) mid + mark (destination_of number) (slot_at one i) ≡ waiting (destination_of number) one + mark (destination_of number) (slot_at one d)
-      = count-with_slot (waits (destination_of number)) one i (slot_at one d) here.0 within_one in
-      let c : waiting (destination_of number) two + mark (destination_of number) (slot_at mid d) ≡ waiting (destination_of number) mid + mark (destination_of number) (option_map renewed (slot_at one i))
-      = count-with_slot (waits (destination_of number)) mid d (option_map renewed (slot_at one i)) low within_mid in
-      let m1 : mark (destination_of number) (slot_at slots i) ≡ 1 = ap (mark (destination_of number)) w.stored ∙ ap (λ (o : Option ℕ). one_if (is_some o)) w.to in
-      let m2 : mark (destination_of number) (option_map (with_destination k) (slot_at slots i)) ≡ 0 = marks_none (option_map (with_destination k) (slot_at slots i)) (ap (option_map (with_destination k)) w.stored) in
-      let m3 : mark (destination_of number) (slot_at one i) ≡ 0 = marks_none (slot_at one i) one_at in
-      let m4 : mark (destination_of number) (slot_at mid d) ≡ mark (destination_of number) (slot_at one d) = ap (mark (destination_of number)) mid_at_d in
-      let m5 : mark (destination_of number) (option_map renewed (slot_at one i)) ≡ 0 = ap (λ (x : Option Entry). mark (destination_of number) (option_map renewed x)) one_at ∙ ap (λ (o : Option ℕ). one_if (is_some o)) empty in
+      let a : waiting (destination_of number) mid + mark (destination_of number) (slot_at slots i) ≡ waiting (destination_of number) slots + mark (destination_of number) (slot_at slots d)
+      = count-with_slot (waits (destination_of number)) slots i (slot_at slots d) here.0 here.1 in
+      let b : waiting (destination_of number) exchanged + mark (destination_of number) (slot_at mid d) ≡ waiting (destination_of number) mid + mark (destination_of number) (option_map renewed (slot_at slots i))
+      = count-with_slot (waits (destination_of number)) mid d (option_map renewed (slot_at slots i)) low within_mid in
+      let c : waiting (destination_of number) two + mark (destination_of number) (slot_at exchanged d) ≡ waiting (destination_of number) exchanged + mark (destination_of number) (option_map (λ (x : Entry). (x.0, link)) (slot_at exchanged d))
+      = count-with_slot (waits (destination_of number)) exchanged d (option_map (λ (x : Entry). (x.0, link)) (slot_at exchanged d)) low within_exchanged in
+      let waited : ◌≡◌ {A = ℕ} (one_if (is_some (destination_of number e))) 1 = ap (λ (o : Option ℕ). one_if (is_some o)) w.to in
+      let m1 : mark (destination_of number) (slot_at slots i) ≡ 1 = ap (mark (destination_of number)) w.stored ∙ waited in
+      let m2 : mark (destination_of number) (slot_at mid d) ≡ mark (destination_of number) (slot_at slots d) = ap (mark (destination_of number)) mid_at_d in
+      let m3 : mark (destination_of number) (option_map renewed (slot_at slots i)) ≡ 1 = ap (λ (x : Option Entry). mark (destination_of number) (option_map renewed x)) w.stored ∙ waited in
+      let m4 : mark (destination_of number) (slot_at exchanged d) ≡ 1 = ap (mark (destination_of number)) exchanged_at_d ∙ waited in
+      let m5 : mark (destination_of number) (option_map (λ (x : Entry). (x.0, link)) (slot_at exchanged d)) ≡ 0
+      = ap (λ (x : Option Entry). mark (destination_of number) (option_map (λ (y : Entry). (y.0, link)) x)) exchanged_at_d ∙ ap (λ (o : Option ℕ). one_if (is_some o)) empty in
       omega arith
 
   -- If the destination is the slot itself, no entry waits there.
@@ -207,9 +168,9 @@ none_waits goal slots i is d e w =
     let some : goal e ≡ Some d = w.to in
     cc
 
--- One step, over the slots before it, without the destination, and after it.
-module _ {Gen K T : Type 0} (number : K → Option ℕ) (g : Gen) (i d : ℕ) (before taken after : DetachedView Gen (LinkBody K T))
-    (is : Some d ≡ option_and_then (destination_of number) (slot_at before.slots i)) (out : IsTakenOut number i before taken) (all : WaitsWithin (destination_of number) before.slots) where
+-- One step, over the slots before it, after the exchange, and without the destination.
+module _ {Gen K T : Type 0} (number : K → Option ℕ) (g : Gen) (i d : ℕ) (before exchanged after : DetachedView Gen (LinkBody K T))
+    (is : Some d ≡ destination_at number before.slots i) (all : WaitsWithin (destination_of number) before.slots) where
   abbrev Entries : Type 0
   Entries = List (Option (Gen × LinkBody K T))
 
@@ -223,42 +184,43 @@ module _ {Gen K T : Type 0} (number : K → Option ℕ) (g : Gen) (i d : ℕ) (b
   bounds : (1 ≤ d) × (d ≤ length before.slots)
   bounds = all.within i d who.0 who.1
 
-  length-taken : length taken.slots ≡ length before.slots
-  length-taken = ap (λ (h : DetachedView Gen (LinkBody K T)). length h.slots) out.held ∙ length-with_slot before.slots i (option_map (with_destination out.destination) (slot_at before.slots i))
-
   -- Both slots exist, and the first is occupied.
-  pub from_within : i ≤ length taken.slots
-  from_within = let l : length taken.slots ≡ length before.slots = length-taken in let h : i ≤ length before.slots = (stored-within before.slots i who.0 who.1.stored).1 in omega arith
+  pub from_within : i ≤ length before.slots
+  from_within = (stored-within before.slots i who.0 who.1.stored).1
 
-  pub to_within : d ≤ length taken.slots
-  to_within = let l : length taken.slots ≡ length before.slots = length-taken in let h : d ≤ length before.slots = bounds.1 in omega arith
+  pub to_within : d ≤ length before.slots
+  to_within = bounds.1
 
-  pub entry_there : is_some (slot_at taken.slots i) ≡ true
-  entry_there =
-      let at = stored-within before.slots i who.0 who.1.stored in
-      ap (λ (h : DetachedView Gen (LinkBody K T)). is_some (slot_at h.slots i)) out.held
-      ∙ (ap (λ (o : Option (Gen × LinkBody K T)). is_some o) (slot_at-same before.slots i (option_map (with_destination out.destination) (slot_at before.slots i)) at.0 at.1)
-      ∙ ap (λ (o : Option (Gen × LinkBody K T)). is_some (option_map (with_destination out.destination) o)) who.1.stored)
+  pub entry_there : is_some (slot_at before.slots i) ≡ true
+  entry_there = ap (λ (o : Option (Gen × LinkBody K T)). is_some o) who.1.stored
 
-  module _ (moved : after ≡ with_placed_entry taken i d g) where
+  module _ (moved : exchanged ≡ with_placed_entry before i d g) (emptied : IsDirectedAt number d None exchanged after) where
+    stored_link : Some who.0.1 ≡ option_map (λ (e : Gen × LinkBody K T). e.1) (slot_at exchanged.slots d)
+    stored_link = sym (ap (λ (h : DetachedView Gen (LinkBody K T)). option_map (λ (e : Gen × LinkBody K T). e.1) (slot_at h.slots d)) moved
+        ∙ ap (option_map (λ (e : Gen × LinkBody K T). e.1)) (exchanged_entry number g before.slots i d who.0 who.1 bounds.0 bounds.1))
+
+    -- The link without its destination.
+    left : (w : LinkBody K T) × (number w.destination ≡ None) × (w ≡ record who.0.1 { destination = w.destination }) × (after ≡ held_with_value exchanged d w)
+    left = emptied.there who.0.1 stored_link
+
     pub capacity_after : after.stack_capacity ≡ before.stack_capacity
-    capacity_after = ap (λ (h : DetachedView Gen (LinkBody K T)). h.stack_capacity) moved ∙ ap (λ (h : DetachedView Gen (LinkBody K T)). h.stack_capacity) out.held
+    capacity_after = ap (λ (h : DetachedView Gen (LinkBody K T)). h.stack_capacity) left.3 ∙ ap (λ (h : DetachedView Gen (LinkBody K T)). h.stack_capacity) moved
 
     pub maximum_after : after.maximum ≡ before.maximum
-    maximum_after = ap (λ (h : DetachedView Gen (LinkBody K T)). h.maximum) moved ∙ ap (λ (h : DetachedView Gen (LinkBody K T)). h.maximum) out.held
+    maximum_after = ap (λ (h : DetachedView Gen (LinkBody K T)). h.maximum) left.3 ∙ ap (λ (h : DetachedView Gen (LinkBody K T)). h.maximum) moved
 
-    slots_after : two number g out.destination out.empty before.slots i d who.0 who.1 bounds.0 bounds.1 ≡ after.slots
-    slots_after = sym (ap (λ (h : DetachedView Gen (LinkBody K T)). h.slots) moved ∙ ap (λ (h : DetachedView Gen (LinkBody K T)). (with_placed_entry h i d g).slots) out.held)
+    slots_after : two number g before.slots i d who.0 left.0 left.1 left.2 who.1 bounds.0 bounds.1 ≡ after.slots
+    slots_after = sym (ap (λ (h : DetachedView Gen (LinkBody K T)). h.slots) left.3 ∙ ap (λ (h : DetachedView Gen (LinkBody K T)). (held_with_value h d left.0).slots) moved)
 
     pub one_less_after : waiting (destination_of number) after.slots + 1 ≡ waiting (destination_of number) before.slots
     one_less_after = subst (λ (s : Entries). waiting (destination_of number) s + 1 ≡ waiting (destination_of number) before.slots) slots_after
-        (one_less number g out.destination out.empty before.slots i d who.0 who.1 bounds.0 bounds.1)
+        (one_less number g before.slots i d who.0 left.0 left.1 left.2 who.1 bounds.0 bounds.1)
 
     -- No entry waits there, unless one `may`.
     pub none_after : (may : Bool) → (may ≡ false → d ≡ i) → OnFalse may ((h : ℕ) (f : Gen × LinkBody K T) → Waits (destination_of number) (slot_at after.slots) i f h → ⊥)
     none_after true own = tt
     none_after false own = subst (λ (s : Entries). (h : ℕ) (f : Gen × LinkBody K T) → Waits (destination_of number) (slot_at s) i f h → ⊥) slots_after
-        (own_settles number g out.destination out.empty before.slots i d who.0 who.1 bounds.0 bounds.1 (own refl))
+        (own_settles number g before.slots i d who.0 left.0 left.1 left.2 who.1 bounds.0 bounds.1 (own refl))
 
     pub fewer_after : (may : Bool) → OnTrue may (waiting (destination_of number) after.slots + 1 ≡ waiting (destination_of number) before.slots)
     fewer_after true = one_less_after
@@ -266,4 +228,4 @@ module _ {Gen K T : Type 0} (number : K → Option ℕ) (g : Gen) (i d : ℕ) (b
 
     pub settles_after : IsSettling (destination_of number) (Settles number g) (λ (j : ℕ). j ≡ i) before.slots after.slots
     settles_after = subst (IsSettling (destination_of number) (Settles number g) (λ (j : ℕ). j ≡ i) before.slots) slots_after
-        (settles_on number g out.destination out.empty before.slots i d who.0 who.1 bounds.0 bounds.1)
+        (settles_on number g before.slots i d who.0 left.0 left.1 left.2 who.1 bounds.0 bounds.1)

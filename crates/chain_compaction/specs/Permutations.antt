@@ -1,8 +1,7 @@
 -- Entries moved to their destinations by exchanges of slots.
-use Rattle.std.specs.Prelude.{◌≡◌, ◌≢◌, ℕ, ◌+◌, ◌⊎◌, ◌<◌, ◌≤◌, Bool, List, length, slice_index, Option, None, Some, count_by, is_some}
-use Rattle.std.specs.Option.{option_map, option_and_then}
-use Rattle.arena_base.specs.Arena.{Arena, slot_at, with_slot}
-use Rattle.arena_base.specs.DetachedSlots.{DetachedView}
+use Rattle.std.specs.Prelude.{◌≡◌, ◌≢◌, ℕ, ◌+◌, ◌*◌, ◌⊎◌, ◌<◌, ◌≤◌, Bool, List, length, slice_index, Option, None, Some, count_by, is_some}
+use Rattle.std.specs.Option.{option_and_then}
+use Rattle.arena_base.specs.Arena.{Arena, slot_at}
 use Rattle.chain_links.specs.declared.links.LinkBody.{LinkBody}
 use Rattle.chain_compaction.specs.DetachedLinks.{IsWork}
 
@@ -110,24 +109,10 @@ module _ {Gen K T : Type 0} where
     pub empty : number f.1.destination ≡ None
     pub rest : f.1 ≡ record e.1 { destination = f.1.destination }
 
-  -- The entry with another destination.
-  abbrev pub with_destination : K → Gen × LinkBody K T → Gen × LinkBody K T
-  with_destination k e = (e.0, record e.1 { destination = k })
-
-  -- The slots with another destination in the entry at an index.
-  abbrev pub with_destination_at : K → List (Option (Gen × LinkBody K T)) → ℕ → List (Option (Gen × LinkBody K T))
-  with_destination_at k slots i = with_slot slots i (option_map (with_destination k) (slot_at slots i))
-
-  -- The destination of the entry at an index was taken out.
-  pub record IsTakenOut (number : K → Option ℕ) (i : ℕ) (old new : DetachedView Gen (LinkBody K T)) : Type 0 where
-    pub destination : K
-    pub empty : number destination ≡ None
-    pub held : new ≡ record old { slots = with_destination_at destination old.slots i }
-
 module _ {Gen T : Type 0} where
-  -- The work: a placement for each entry that no longer waits, at most a touch for each, and at
+  -- The work: a placement for each entry that no longer waits, at most two touches for each, and at
   -- most some more touches.
   pub record IsWorkOn (old new : Arena Gen T) (waited wait more : ℕ) : Type 0 where
     pub moved : ℕ
-    pub work : IsWork old new moved (moved + more)
+    pub work : IsWork old new moved (2 * moved + more)
     pub count : wait + moved ≡ waited

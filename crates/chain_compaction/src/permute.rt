@@ -1,40 +1,20 @@
 // Moves of links to their destinations along the cycles of the permutation, each link placed once.
-ghost use Rattle.std.specs.Prelude.{◌≡◌, ◌<◌, ◌≤◌, ◌+◌, ◌-◌, ℕ, length, count_by, is_some, OnSome, IfNone, if◌then◌else◌};
+ghost use Rattle.std.specs.Prelude.{◌≡◌, ◌<◌, ◌≤◌, ◌+◌, ◌*◌, ◌-◌, ℕ, length, count_by, is_some, if◌then◌else◌};
 ghost use Rattle.std.specs.Bool.{OnTrue, OnFalse};
-ghost use Rattle.std.specs.Option.{option_map, option_and_then};
 ghost use Rattle.arena_base.specs.Arena.{slot_at};
-ghost use Rattle.arena_base.specs.DetachedSlots.{with_touch};
 ghost use Rattle.chain_compaction.specs.DetachedLinks.{IsWork};
 ghost use Rattle.chain_compaction.specs.WorkCounts.{CountsWork};
-ghost use Rattle.chain_compaction.specs.Permutations.{Waits, WaitsWithin, IsInBlock, IsSettling, ListsWaiting, HaveMoved, CanMoveAll, waiting, destination_of, Settles, IsTakenOut, IsWorkOn};
+ghost use Rattle.chain_compaction.specs.Permutations.{Waits, WaitsWithin, IsInBlock, IsSettling, ListsWaiting, HaveMoved, CanMoveAll, waiting, destination_of, Settles, IsWorkOn};
 
-use arena_base::{ArenaSlot, Compactor, SlotAccess, inx_at};
+use crate::slot_access::{direct_at, read_link};
+use arena_base::{ArenaSlot, Compactor, inx_at};
 use arena_ptr::{InxKey, PtrKey, SlotStack};
-use chain_links::{LinkNoGen, link_access};
-
-// Takes the destination of the link at `i`, if any, leaving `None`.
-fn take_at<P: PtrKey, T: Drop, S: SlotStack<Item = ArenaSlot<P, LinkNoGen<P, T>>>>(
-    compactor: &mut Compactor<'_, P, LinkNoGen<P, T>, S>,
-    i: P::Inx,
-) -> Option<P::Inx>
-    ensures same_reference { compactor.new.arena.ghost_name ≡ compactor.old.arena.ghost_name }
-    ensures returned { option_map P.Inx.number result ≡ option_and_then
-        (destination_of P.Inx.packed_number)
-        (slot_at compactor.old.held.slots (P.Inx.number i)) }
-    ensures taken { OnSome result
-        (IsTakenOut P.Inx.packed_number (P.Inx.number i) compactor.old.held compactor.new.held) }
-    ensures none { IfNone result (compactor.new.held ≡ compactor.old.held) }
-    ensures arena { compactor.new.arena.now ≡ with_touch compactor.old.arena.now }
-    ensures counts { CountsWork compactor.old compactor.new }
-{
-    match compactor.value_mut(i) {
-        Some(link) => link_access::take_destination(link),
-        None => None,
-    }
-}
+use chain_links::LinkNoGen;
 
 // Moves the link at `i` to its destination, if it has one, by an exchange of slots, and returns
 // whether another may now wait at `i`: none does if the destination is `i` itself.
+//
+// The destination is removed after the exchange: a write just before it would delay its reads.
 #[inline(always)]
 fn settle_once<P: PtrKey, T: Drop, S: SlotStack<Item = ArenaSlot<P, LinkNoGen<P, T>>>>(
     compactor: &mut Compactor<'_, P, LinkNoGen<P, T>, S>,
@@ -60,9 +40,11 @@ fn settle_once<P: PtrKey, T: Drop, S: SlotStack<Item = ArenaSlot<P, LinkNoGen<P,
         (if result then 0 else 1) }
     ensures counts { CountsWork compactor.old compactor.new }
 {
-    match take_at(compactor, i) {
+    let (_, _, _, destination) = read_link(compactor, i);
+    match destination {
         Some(to) => {
             compactor.place(i, to, generation);
+            direct_at(compactor, to, None);
             !to.is_same(i)
         }
         None => false,
@@ -176,7 +158,7 @@ pub fn move_all<P: PtrKey, T: Drop, S: SlotStack<Item = ArenaSlot<P, LinkNoGen<P
     ensures maximum { compactor.new.held.maximum ≡ compactor.old.held.maximum }
     ensures work { IsWork compactor.old.arena.now compactor.new.arena.now
         (count_by is_some compactor.old.held.slots)
-        (count_by is_some compactor.old.held.slots + length compactor.old.held.slots) }
+        (2 * count_by is_some compactor.old.held.slots + length compactor.old.held.slots) }
     ensures counts { CountsWork compactor.old compactor.new }
 {
     let slots = compactor.slots();
