@@ -2,7 +2,6 @@
 use Rattle.std.proofs.Common.{◌≡◌, ◌≢◌, ℕ, zero, suc, ◌+◌, ◌≤◌, List, [], ◌∷◌, length, Bool, cond, Option, None, Some, refl, sym, ap, ap₂, ◌∙◌, arith}
 use Rattle.std.specs.Prelude.{count_by, is_some}
 use Rattle.std.specs.Option.{option_map}
-use Rattle.std.proofs.lemmas.List.{set-get_or}
 use Rattle.std.proofs.lemmas.List.Sums.{sum_by-set, sum_by-cons}
 use Rattle.chain_laws.specs.Chains.{Interlinks}
 use Rattle.chain_laws.proofs.InterlinkLemmas.Inverses.{if_same, if_other}
@@ -22,11 +21,6 @@ module _ {X : Type 0} where
   stored-within xs i x is =
       let lone : X → Interlinks = λ _. record { prev = None; next = None } in
       (slots-within lone xs).within i (record { link = lone x; links = ap (option_map lone) is })
-
-  -- Writing back what a slot holds changes nothing.
-  pub with_slot-own : (xs : List (Option X)) (i : ℕ) → with_slot xs i (slot_at xs i) ≡ xs
-  with_slot-own xs zero = refl
-  with_slot-own xs (suc k) = set-get_or xs k None
 
   -- A count after a write.
   pub count-with_slot : (p : Option X → Bool) (xs : List (Option X)) (i : ℕ) (x : Option X) → 1 ≤ i → i ≤ length xs

@@ -55,16 +55,3 @@ pub fn set_destination<W: Copy, I: InxKey<Word = W>, T>(
 {
     link.destination = I::pack(destination);
 }
-
-/// Takes the index that a link is to be moved to, leaving `None`, as `Option::take` does.
-pub fn take_destination<W: Copy, I: InxKey<Word = W>, T>(
-    link: &mut LinkBody<PackedOption<I, W>, T>,
-) -> Option<I>
-    ensures returned { option_map I.number result ≡ I.packed_number link.old.destination }
-    ensures empty { I.packed_number link.new.destination ≡ None }
-    ensures rest { link.new ≡ record link.old { destination = link.new.destination } }
-{
-    let destination = destination_of(link);
-    set_destination(link, None);
-    destination
-}
