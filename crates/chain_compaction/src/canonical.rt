@@ -7,13 +7,16 @@ ghost use Rattle.chain_links.specs.ChainArena.{link_map};
 ghost use Rattle.chain_links.specs.Links.{links_view};
 ghost use Rattle.chain_compaction.specs.WorkCounts.{CountsWork};
 ghost use Rattle.chain_compaction.specs.Layouts.{AreArranged};
+ghost use Rattle.chain_compaction.specs.DetachedLinks.{link_map_in};
 ghost use Rattle.chain_compaction.specs.Destinations.{held_view, destination_at};
+ghost use Rattle.chain_compaction.specs.OrderedLinks.{AreAllPlaced};
 
 use crate::assign_destinations::number_all;
+use crate::in_order::{is_in_order, renew_all};
 use crate::permute::move_all;
 use crate::slot_access::direct_at;
 use crate::visitor::Visitor;
-use arena_base::{Arena, ArenaSlot, Compactor, Work, inx_at};
+use arena_base::{Arena, ArenaSlot, ArenaTrait, Compactor, Work, inx_at};
 use arena_ptr::{PtrKey, SlotStack};
 use chain_links::LinkNoGen;
 
@@ -36,11 +39,40 @@ pub fn empty_all<P: PtrKey, T: Drop, S: SlotStack<Item = ArenaSlot<P, LinkNoGen<
     }
 }
 
+// Assigns each link its destination and moves it there. Returns the visitor and the number of
+// links.
+fn arrange_by_moves<
+    P: PtrKey,
+    T: Drop,
+    S: SlotStack<Item = ArenaSlot<P, LinkNoGen<P, T>>>,
+    V: Visitor<P>,
+>(
+    compactor: &mut Compactor<'_, P, LinkNoGen<P, T>, S>,
+    generation: P::Gen,
+    visitor: V,
+) -> (V, usize)
+    requires ready { V.is_ready visitor }
+    requires fits { length compactor.old.held.slots ≤ P.Inx.greatest }
+    requires agree { IsWellLinked (link_map_in P.Inx.packed_number compactor.old.held.slots) }
+    ensures ready { V.is_ready result.0 }
+    ensures same_reference { compactor.new.arena.ghost_name ≡ compactor.old.arena.ghost_name }
+    ensures placed { AreAllPlaced P.Inx.packed_number V.sees P.key generation visitor result.0
+        compactor.old.held compactor.new.held compactor.old.arena.now compactor.new.arena.now
+        result.1 }
+    ensures counts { CountsWork compactor.old compactor.new }
+{
+    empty_all(compactor);
+    let (visitor, count) = number_all(compactor, generation, visitor);
+    move_all(compactor, generation);
+    (visitor, count)
+}
+
 /// Arranges the links canonically, and returns the visitor and the work done.
 ///
 /// Each link is moved to its destination, names the destinations of its neighbors, and gets the
 /// counter as its generation. The visitor sees each link's old and new pointer, and is then ready
-/// for others. Afterwards every slot is occupied.
+/// for others. Afterwards every slot is occupied. Links that are arranged canonically already stay
+/// in their slots, and only their generations are set.
 pub fn arrange<
     P: PtrKey,
     T: Drop,
@@ -57,9 +89,12 @@ pub fn arrange<
 {
     arena.invariants();
     let generation = arena.generation();
+    let links = arena.len();
     let mut compactor = arena.compactor();
-    empty_all(&mut compactor);
-    let (visitor, count) = number_all(&mut compactor, generation, visitor);
-    move_all(&mut compactor, generation);
+    let (visitor, count) = if is_in_order(&mut compactor, links) {
+        renew_all(&mut compactor, generation, visitor)
+    } else {
+        arrange_by_moves(&mut compactor, generation, visitor)
+    };
     (visitor, compactor.finish_packed(count))
 }
