@@ -3,9 +3,10 @@ use Rattle.std.proofs.Common.{◌≡◌, ℕ, suc, ◌+◌, ◌*◌, ◌^◌, �
 use Rattle.std.specs.Prelude.{count_by, is_some, slice_index_or, min}
 use Rattle.std.specs.Option.{option_map, option_and_then}
 use Rattle.std.specs.List.{range_with_len}
+use Rattle.std.proofs.Math.Nat.{mul-le-mul_right}
 use Rattle.std.proofs.lemmas.List.{length-map, append-nil}
 use mathlib.Core.Path.{fun_ext}
-use Rattle.chain_laws.specs.Chains.{LinkMap, Interlinks, HasLink, IsMember, AreDistinct, IsWellLinked}
+use Rattle.chain_laws.specs.Chains.{LinkMap, Interlinks, IsMember, AreDistinct, IsWellLinked}
 use Rattle.chain_laws.specs.Renamings.{IsRenaming}
 use Rattle.chain_laws.specs.Arrangements.{place_in, IsArrangement, IsLeastIndexOrder}
 use Rattle.chain_laws.proofs.ListLemmas.Members.{length_bound}
@@ -14,7 +15,7 @@ use Rattle.chain_laws.proofs.ListLemmas.Ranges.{range-IsMember}
 use Rattle.chain_laws.proofs.RenamingLemmas.Positions.{place-within, place-has, has-place, place-numbers, places_are_apart}
 use Rattle.chain_laws.proofs.RenamingLemmas.ChainRuns.{canonical_arranges}
 use Rattle.chain_laws.proofs.RenamingLemmas.LeastIndexOrder.{least_index_order_is_canonical}
-use Rattle.arena_base.specs.Arena.{Arena, slot_at, entry_count}
+use Rattle.arena_base.specs.Arena.{Arena, slot_at}
 use Rattle.arena_base.specs.DetachedSlots.{DetachedView, IsPacked, trimmed, held_of, lent_out, returned}
 use Rattle.arena_base.specs.GatheredSlots.{with_totals, fronted}
 use Rattle.chain_links.specs.declared.links.LinkBody.{LinkBody}
@@ -29,7 +30,7 @@ use Rattle.chain_compaction.specs.Destinations.{held_view, renamed_link, renamed
 use Rattle.chain_links.proofs.MappedArenaLemmas.{slot_at-map}
 use Rattle.chain_links.proofs.ArenaInsertionLemmas.{some_entry, slots-within}
 use Rattle.arena_base.proofs.PackedSlotLemmas.{packed-none_free}
-use Rattle.chain_compaction.proofs.DetachedLinkLemmas.{work-more}
+use Rattle.chain_compaction.proofs.DetachedLinkLemmas.{work-more, work-few}
 use Rattle.chain_compaction.proofs.CompactedLinkLemmas.{trimmed-map, slot_at-trimmed}
 use Rattle.chain_compaction.proofs.CompactedFrontLemmas.{front-packed, packed-length, moved_viewed}
 use Rattle.chain_compaction.proofs.ChainDestinationLemmas.{length-view_after, stored_at}
@@ -233,7 +234,7 @@ module _ {F P Gen K T : Type 0} (g : F → P → P → F → Type 0) (key : P �
 
     -- All links are placed.
     pub links_placed : (a0 a3 : Arena Gen (LinkBody K T)) → h3.stack_capacity ≡ h2.stack_capacity → h3.maximum ≡ h2.maximum → a1 ≡ with_totals a0 0 (length h0.slots)
-        → IsWork a2 a3 (count_by is_some h2.slots) (count_by is_some h2.slots + length h2.slots) → AreAllPlaced number g key generation f last h0 h3 a0 a3 total
+        → IsWork a2 a3 (count_by is_some h2.slots) (count_by is_some h2.slots + length h2.slots) → AreAllPlaced number g key generation f last h0 h3 a0 a3 total 6
     links_placed a0 a3 capacity maximum emptying moving = record {
       indexes = numbered.indexes;
       order = first_order;
@@ -252,10 +253,46 @@ module _ {F P Gen K T : Type 0} (g : F → P → P → F → Type 0) (key : P �
         pointers : ptr_at (slot_at h1.slots) ≡ ptr_at (slot_at h0.slots)
         pointers = fun_ext (λ i. ptr-view_after number h1 i ∙ (ap (λ (h : DetachedView Gen (LinkView T)). ptr_at (slot_at (map (option_map (on_value link_value)) h.slots)) i) emptied ∙ sym (ptr-view_after number h0 i)))
 
+-- ---- links that were read before
+
+module _ {F P Gen K T : Type 0} (g : F → P → P → F → Type 0) (key : P → ℕ × Gen) (f last : F) (number : K → Option ℕ) (generation : Gen) (h0 h1 h3 : DetachedView Gen (LinkBody K T))
+    (same : h1 ≡ h0) (a0 a1 a3 : Arena Gen (LinkBody K T)) (total most links : ℕ) (counts : links ≡ count_by is_some h0.slots) (reading : IsWork a0 a1 0 links)
+    (done : AreAllPlaced number g key generation f last h1 h3 a1 a3 total most) where
+  read_arranges : IsArrangement (link_map_in number h1.slots) done.indexes
+  read_arranges = canonical_arranges (link_map_in number h1.slots) done.indexes (least_index_order_is_canonical (link_map_in number h1.slots) done.indexes done.order)
+
+  read_counted : count_by is_some h1.slots ≡ length done.indexes
+  read_counted =
+      count-stored (record a1 { slots = h1.slots }) done.indexes read_arranges.once
+      (λ i e s. (read_arranges.valid i).0 (record { link = body_interlinks number e; links = ap (option_map (body_interlinks number)) s }))
+      (λ i h. stored_at number h1.slots i ((read_arranges.valid i).1 h))
+
+  -- All links are placed, with at most one more touch per link.
+  pub placed_after_reads : (more : ℕ) → most + 1 ≤ more → AreAllPlaced number g key generation f last h0 h3 a0 a3 total more
+  placed_after_reads more few = subst (λ (h : DetachedView Gen (LinkBody K T)). AreAllPlaced number g key generation f last h h3 a0 a3 total more) same (record {
+    indexes = done.indexes;
+    order = done.order;
+    counted = done.counted;
+    placed = done.placed;
+    packed = done.packed;
+    capacity = done.capacity;
+    maximum = done.maximum;
+    reports = done.reports;
+    work = work-more reading done.work (length done.indexes) (4 * length h1.slots + more * length done.indexes) (omega arith) enough;
+  })
+    where
+      count : links ≡ length done.indexes
+      count = counts ∙ (ap (λ (h : DetachedView Gen (LinkBody K T)). count_by is_some h.slots) (sym same) ∙ read_counted)
+
+      enough : links + (4 * length h1.slots + most * length done.indexes) ≤ 4 * length h1.slots + more * length done.indexes
+      enough =
+          let times : (most + 1) * length done.indexes ≤ more * length done.indexes = mul-le-mul_right (length done.indexes) few in
+          omega (arith, count, times)
+
 -- ---- after the slots are given back
 
 module _ {F P Gen K T : Type 0} (g : F → P → P → F → Type 0) (key : P → ℕ × Gen) (f last : F) (number : K → Option ℕ) (generation : Gen) (old : Arena Gen (LinkBody K T)) (h0 h3 : DetachedView Gen (LinkBody K T))
-    (is_held : h0 ≡ held_of old) (a1 a3 : Arena Gen (LinkBody K T)) (total : ℕ) (done : AreAllPlaced number g key generation f last h0 h3 a1 a3 total) where
+    (is_held : h0 ≡ held_of old) (a1 a3 : Arena Gen (LinkBody K T)) (total : ℕ) (done : AreAllPlaced number g key generation f last h0 h3 a1 a3 total 7) where
   abbrev old_slots : List (Option (Gen × LinkView T))
   old_slots = (links_view number old).slots
 
@@ -264,16 +301,6 @@ module _ {F P Gen K T : Type 0} (g : F → P → P → F → Type 0) (key : P �
 
   old_arranges : IsArrangement (reported_slots old_slots) done.indexes
   old_arranges = canonical_arranges (reported_slots old_slots) done.indexes (least_index_order_is_canonical (reported_slots old_slots) done.indexes old_order)
-
-  -- As many indexes as links.
-  old_counted : entry_count old ≡ length done.indexes
-  old_counted = count-stored old done.indexes old_arranges.once each all
-    where
-      each : (i : ℕ) (e : Gen × LinkBody K T) → slot_at old.slots i ≡ Some e → IsMember done.indexes i
-      each i e s = (old_arranges.valid i).0 (record { link = interlinks_of (pair_view number e); links = ap (option_map interlinks_of) (slot_at-map (pair_view number) old.slots i ∙ ap (option_map (pair_view number)) s) })
-
-      all : (i : ℕ) → IsMember done.indexes i → (e : Gen × LinkBody K T) × (slot_at old.slots i ≡ Some e)
-      all i h = stored_at number old.slots i (subst (λ (s : LinkMap). HasLink s i) (sym (link_map-view_after number (held_of old))) ((old_arranges.valid i).1 h))
 
   old_few : length done.indexes ≤ length old.slots
   old_few =
@@ -291,11 +318,11 @@ module _ {F P Gen K T : Type 0} (g : F → P → P → F → Type 0) (key : P �
       ap (λ (s : List (Option (Gen × LinkView T))). slot_at s d) (trimmed-map (pair_view number) h3.slots)
       ∙ (slot_at-trimmed (map (option_map (pair_view number)) h3.slots) d ∙ done.placed i d x at (ap (λ (h : DetachedView Gen (LinkBody K T)). slot_at (held_view number h).slots i) is_held ∙ is))
 
-  module _ (greatest : ℕ) (maximum : Option ℕ) (links : ℕ) (counts : links ≡ entry_count old) (checking : IsWork (lent_out maximum old) a1 0 links) where
+  module _ (greatest : ℕ) (maximum : Option ℕ) (lent : a1 ≡ lent_out maximum old) where
     whole_work : IsWork (lent_out maximum old) a3 (length done.indexes) (4 * length old.slots + 12 * length done.indexes)
     whole_work =
         let same : length h0.slots ≡ length old.slots = ap (λ (h : DetachedView Gen (LinkBody K T)). length h.slots) is_held in
-        work-more checking done.work (length done.indexes) (4 * length old.slots + 12 * length done.indexes) (omega arith) (omega (arith, same, counts, old_counted))
+        subst (λ (a : Arena Gen (LinkBody K T)). IsWork a a3 (length done.indexes) (4 * length old.slots + 12 * length done.indexes)) lent (work-few done.work _ (omega (arith, same)))
 
     abbrev arranged_arena : Arena Gen (LinkBody K T)
     arranged_arena = returned greatest (with_totals (lent_out maximum old) (length done.indexes) whole_work.touches) h3
@@ -352,11 +379,10 @@ module _ {F P Gen K T : Type 0} (g : F → P → P → F → Type 0) (key : P �
         pointers = fun_ext (λ i. ap (λ (h : DetachedView Gen (LinkBody K T)). ptr_at (slot_at h.slots) i) is_held ∙ ptr-view_after number (held_of old) i)
 
     -- What was counted is the work.
-    pub work_known : (first : Arena Gen (LinkBody K T)) (p t : ℕ) → first ≡ lent_out maximum old → HasCounted first a3 p t → length old.slots ≤ greatest → greatest < 2 ^ 64
-        → (a3.placed ≡ old.placed + p) × (a3.touched ≡ old.touched + t)
-    work_known first p t is had fits bound =
-        let placed : old.placed + had.placements ≡ a3.placed = ap (λ (a : Arena Gen (LinkBody K T)). a.placed + had.placements) (sym is) ∙ sym (ap (λ (a : Arena Gen (LinkBody K T)). a.placed) had.arena) in
-        let touched : old.touched + had.touches ≡ a3.touched = ap (λ (a : Arena Gen (LinkBody K T)). a.touched + had.touches) (sym is) ∙ sym (ap (λ (a : Arena Gen (LinkBody K T)). a.touched) had.arena) in
+    pub work_known : (p t : ℕ) → HasCounted a1 a3 p t → length old.slots ≤ greatest → greatest < 2 ^ 64 → (a3.placed ≡ old.placed + p) × (a3.touched ≡ old.touched + t)
+    work_known p t had fits bound =
+        let placed : old.placed + had.placements ≡ a3.placed = ap (λ (a : Arena Gen (LinkBody K T)). a.placed + had.placements) (sym lent) ∙ sym (ap (λ (a : Arena Gen (LinkBody K T)). a.placed) had.arena) in
+        let touched : old.touched + had.touches ≡ a3.touched = ap (λ (a : Arena Gen (LinkBody K T)). a.touched + had.touches) (sym lent) ∙ sym (ap (λ (a : Arena Gen (LinkBody K T)). a.touched) had.arena) in
         let now_placed : a3.placed ≡ old.placed + length done.indexes = ap (λ (a : Arena Gen (LinkBody K T)). a.placed) whole_work.arena in
         let now_touched : a3.touched ≡ old.touched + whole_work.touches = ap (λ (a : Arena Gen (LinkBody K T)). a.touched) whole_work.arena in (
           omega (arith, placed, now_placed, had.placements_counted, old_few, fits, bound),

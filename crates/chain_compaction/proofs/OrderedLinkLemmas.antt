@@ -186,7 +186,7 @@ module _ {F P Gen K T : Type 0} (number : K → Option ℕ) (g : F → P → P �
           by None is = refl
           by (Some e) is = absurd (let inside = stored-within new.slots i e is in let long = renewed.long in omega (arith, inside.1, long, above))
 
-  placed_all : ReportsMoves g key (ptr_at (slot_at old.slots)) generation 1 f (range_with_len 1 slots) last → IsWork before after slots slots → AreAllPlaced number g key generation f last old new before after slots
+  placed_all : ReportsMoves g key (ptr_at (slot_at old.slots)) generation 1 f (range_with_len 1 slots) last → IsWork before after slots slots → AreAllPlaced number g key generation f last old new before after slots 2
   placed_all reports work =
       let long = length-range_with_len 1 slots in
       record {
@@ -198,14 +198,14 @@ module _ {F P Gen K T : Type 0} (number : K → Option ℕ) (g : F → P → P �
         capacity = renewed.capacity;
         maximum = renewed.maximum;
         reports = reports;
-        work = subst (λ (n : ℕ). IsWork before after n (4 * slots + 6 * length (range_with_len 1 slots))) (sym long) (work-few work _ (omega arith));
+        work = subst (λ (n : ℕ). IsWork before after n (4 * slots + 2 * length (range_with_len 1 slots))) (sym long) (work-few work _ (omega arith));
       }
 
 -- After the loop all links are placed.
 pub all_renewed : {F P Gen K T : Type 0} (number : K → Option ℕ) (g : F → P → P → F → Type 0) (key : P → ℕ × Gen) (generation : Gen) (f last : F) (old new : DetachedView Gen (LinkBody K T)) (before after : Arena Gen (LinkBody K T))
     → IsWellLinked (link_map_in number old.slots) → IsCanonical (link_map_in number old.slots) (range_with_len 1 (length old.slots)) → (k count : ℕ) → k ≡ length old.slots → count ≡ length old.slots → AreRenewed generation old new k
-    → ReportsMoves g key (ptr_at (slot_at old.slots)) generation 1 f (range_with_len 1 k) last → IsWork before after k k → AreAllPlaced number g key generation f last old new before after count
+    → ReportsMoves g key (ptr_at (slot_at old.slots)) generation 1 f (range_with_len 1 k) last → IsWork before after k k → AreAllPlaced number g key generation f last old new before after count 2
 all_renewed number g key generation f last old new before after agree canonical k count all counts renewed reports work =
-    subst (AreAllPlaced number g key generation f last old new before after) (sym counts)
+    subst (λ (n : ℕ). AreAllPlaced number g key generation f last old new before after n 2) (sym counts)
     (placed_all number g key generation f last old new before after agree canonical (subst (AreRenewed generation old new) all renewed)
     (subst (λ (n : ℕ). ReportsMoves g key (ptr_at (slot_at old.slots)) generation 1 f (range_with_len 1 n) last) all reports) (subst (λ (n : ℕ). IsWork before after n n) all work))

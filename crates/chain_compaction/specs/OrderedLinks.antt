@@ -18,8 +18,9 @@ IsStartAfter start is_ring k next after =
 
 module _ {F P Gen K T : Type 0} (number : K → Option ℕ) (g : F → P → P → F → Type 0) (key : P → ℕ × Gen) where
   -- All `count` links are in the first slots, in their least-index order. Their interlinks are
-  -- renumbered, they have one generation, and the visitor has seen them in that order.
-  pub record AreAllPlaced (generation : Gen) (f last : F) (old new : DetachedView Gen (LinkBody K T)) (before after : Arena Gen (LinkBody K T)) (count : ℕ) : Type 0 where
+  -- renumbered, they have one generation, and the visitor has seen them in that order. There were at
+  -- most four touches per slot and `most` per link.
+  pub record AreAllPlaced (generation : Gen) (f last : F) (old new : DetachedView Gen (LinkBody K T)) (before after : Arena Gen (LinkBody K T)) (count most : ℕ) : Type 0 where
     pub indexes : List ℕ
     pub order : IsLeastIndexOrder (link_map_in number old.slots) indexes
     pub counted : count ≡ length indexes
@@ -29,4 +30,4 @@ module _ {F P Gen K T : Type 0} (number : K → Option ℕ) (g : F → P → P �
     pub capacity : new.stack_capacity ≡ old.stack_capacity
     pub maximum : new.maximum ≡ old.maximum
     pub reports : ReportsMoves g key (ptr_at (slot_at old.slots)) generation 1 f indexes last
-    pub work : IsWork before after (length indexes) (4 * length old.slots + 6 * length indexes)
+    pub work : IsWork before after (length indexes) (4 * length old.slots + most * length indexes)

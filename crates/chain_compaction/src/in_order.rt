@@ -115,7 +115,7 @@ pub(crate) fn renew_all<
     ensures same_reference { compactor.new.arena.ghost_name ≡ compactor.old.arena.ghost_name }
     ensures placed { AreAllPlaced P.Inx.packed_number V.sees P.key generation visitor result.0
         compactor.old.held compactor.new.held compactor.old.arena.now compactor.new.arena.now
-        result.1 }
+        result.1 2 }
     ensures counts { CountsWork compactor.old compactor.new }
 {
     let slots = compactor.slots();
