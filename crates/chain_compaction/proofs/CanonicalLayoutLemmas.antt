@@ -3,6 +3,7 @@ use Rattle.std.proofs.Common.{◌≡◌, ℕ, suc, ◌+◌, ◌*◌, ◌^◌, �
 use Rattle.std.specs.Prelude.{count_by, is_some, slice_index_or, min}
 use Rattle.std.specs.Option.{option_map, option_and_then}
 use Rattle.std.specs.List.{range_with_len}
+use Rattle.std.proofs.Math.Nat.{mul-le-mul_right}
 use Rattle.std.proofs.lemmas.List.{length-map, append-nil}
 use mathlib.Core.Path.{fun_ext}
 use Rattle.chain_laws.specs.Chains.{LinkMap, Interlinks, IsMember, AreDistinct, IsWellLinked}
@@ -15,22 +16,24 @@ use Rattle.chain_laws.proofs.RenamingLemmas.Positions.{place-within, place-has, 
 use Rattle.chain_laws.proofs.RenamingLemmas.ChainRuns.{canonical_arranges}
 use Rattle.chain_laws.proofs.RenamingLemmas.LeastIndexOrder.{least_index_order_is_canonical}
 use Rattle.arena_base.specs.Arena.{Arena, slot_at}
-use Rattle.arena_base.specs.DetachedSlots.{DetachedView, IsPacked, trimmed, free_from, held_of, lent_out, returned}
+use Rattle.arena_base.specs.DetachedSlots.{DetachedView, IsPacked, trimmed, held_of, lent_out, returned}
 use Rattle.arena_base.specs.GatheredSlots.{with_totals, fronted}
 use Rattle.chain_links.specs.declared.links.LinkBody.{LinkBody}
 use Rattle.chain_links.specs.ChainArena.{LinkView, on_value, link_value, interlinks_of, link_map, values_of, entry, ptr_at}
 use Rattle.chain_links.specs.Links.{pair_view, links_view}
 use Rattle.chain_compaction.specs.DetachedLinks.{body_interlinks, link_map_in, IsWork}
-use Rattle.chain_compaction.specs.WorkCounts.{HasCounted, CountsOn}
+use Rattle.chain_compaction.specs.WorkCounts.{HasCounted}
 use Rattle.chain_compaction.specs.Layouts.{ReportsMoves, AreArranged}
 use Rattle.chain_compaction.specs.Permutations.{Waits, HaveMoved, CanMoveAll, AreMovedToFront, destination_of, Settles}
+use Rattle.chain_compaction.specs.OrderedLinks.{AreAllPlaced}
 use Rattle.chain_compaction.specs.Destinations.{held_view, renamed_link, renamed_held, destination_at, AreAllNumbered}
 use Rattle.chain_links.proofs.MappedArenaLemmas.{slot_at-map}
 use Rattle.chain_links.proofs.ArenaInsertionLemmas.{some_entry, slots-within}
-use Rattle.chain_compaction.proofs.DetachedLinkLemmas.{work-more}
+use Rattle.arena_base.proofs.PackedSlotLemmas.{packed-none_free}
+use Rattle.chain_compaction.proofs.DetachedLinkLemmas.{work-more, work-few}
 use Rattle.chain_compaction.proofs.CompactedLinkLemmas.{trimmed-map, slot_at-trimmed}
-use Rattle.chain_compaction.proofs.CompactedFrontLemmas.{front-packed, front-length, front-none_free, moved_viewed}
-use Rattle.chain_compaction.proofs.ChainDestinationLemmas.{length-view_after}
+use Rattle.chain_compaction.proofs.CompactedFrontLemmas.{front-packed, packed-length, moved_viewed}
+use Rattle.chain_compaction.proofs.ChainDestinationLemmas.{length-view_after, stored_at}
 use Rattle.chain_compaction.proofs.WorkCountLemmas.{counted_none}
 use Rattle.chain_compaction.proofs.ArrangementLemmas.{count-stored, slots-filled, values-filled}
 
@@ -85,10 +88,10 @@ module _ {Gen T : Type 0} (g : Gen) (old new : List (Option (Gen × LinkView T))
 
 -- ---- the count
 
--- Three passes after one another, counted from the beginning.
-pub three_counted : {Gen T : Type 0} (a0 a1 a2 a3 : Arena Gen T) (p0 p1 p2 p3 t0 t1 t2 t3 : ℕ) → p0 ≡ 0 → t0 ≡ 0 → CountsOn a0 a1 p0 t0 p1 t1 → CountsOn a1 a2 p1 t1 p2 t2 → CountsOn a2 a3 p2 t2 p3 t3 → HasCounted a0 a3 p3 t3
-three_counted a0 a1 a2 a3 p0 p1 p2 p3 t0 t1 t2 t3 no_placement no_touch one two three =
-    three.on a0 (two.on a0 (one.on a0 (subst₂ (λ (p t : ℕ). HasCounted a0 a0 p t) (sym no_placement) (sym no_touch) (counted_none a0))))
+module _ {Gen T : Type 0} where
+  -- A new compactor has counted no work.
+  pub counted_first : (a : Arena Gen T) (p t : ℕ) → p ≡ 0 → t ≡ 0 → HasCounted a a p t
+  counted_first a p t no_placement no_touch = subst₂ (λ (p t : ℕ). HasCounted a a p t) (sym no_placement) (sym no_touch) (counted_none a)
 
 -- ---- links that are to move
 
@@ -160,23 +163,29 @@ module _ {Gen K T : Type 0} (number : K → Option ℕ) where
       twice (Some e) = refl
 
   -- Links with the same view are well linked alike.
-  pub agree-view_after : (a : Arena Gen (LinkBody K T)) (before after : DetachedView Gen (LinkBody K T)) → before ≡ held_of a → held_view number after ≡ held_view number before
-      → IsWellLinked (link_map (links_view number a)) → IsWellLinked (link_map_in number after.slots)
-  agree-view_after a before after is same agrees =
-      subst IsWellLinked (ap (λ (h : DetachedView Gen (LinkView T)). reported_slots h.slots) (sym (same ∙ ap (held_view number) is)) ∙ sym (link_map-view_after after)) agrees
+  pub agree-view_after : (before after : DetachedView Gen (LinkBody K T)) → held_view number after ≡ held_view number before → IsWellLinked (link_map_in number before.slots) → IsWellLinked (link_map_in number after.slots)
+  agree-view_after before after same agrees =
+      subst IsWellLinked (link_map-view_after before ∙ (ap (λ (h : DetachedView Gen (LinkView T)). reported_slots h.slots) (sym same) ∙ sym (link_map-view_after after))) agrees
 
-module _ {F P Gen K T : Type 0} (g : F → P → P → F → Type 0) (key : P → ℕ × Gen) (f last : F) (number : K → Option ℕ) (generation : Gen) (h1 h2 : DetachedView Gen (LinkBody K T))
-    (old a1 a2 : Arena Gen (LinkBody K T)) (total : ℕ) (emptied : held_view number h1 ≡ held_view number (held_of old)) (numbered : AreAllNumbered number g key generation f last h1 h2 a1 a2 total) where
+  -- Links that were taken out of an arena are well linked as they were there.
+  pub agree-held : (a : Arena Gen (LinkBody K T)) (held : DetachedView Gen (LinkBody K T)) → held ≡ held_of a → IsWellLinked (link_map (links_view number a)) → IsWellLinked (link_map_in number held.slots)
+  agree-held a held is agrees = subst IsWellLinked (sym (ap (λ (h : DetachedView Gen (LinkBody K T)). link_map_in number h.slots) is ∙ link_map-view_after (held_of a))) agrees
+
+module _ {F P Gen K T : Type 0} (g : F → P → P → F → Type 0) (key : P → ℕ × Gen) (f last : F) (number : K → Option ℕ) (generation : Gen) (h0 h1 h2 : DetachedView Gen (LinkBody K T))
+    (a1 a2 : Arena Gen (LinkBody K T)) (total : ℕ) (emptied : held_view number h1 ≡ held_view number h0) (numbered : AreAllNumbered number g key generation f last h1 h2 a1 a2 total) where
   abbrev first_slots : List (Option (Gen × LinkView T))
-  first_slots = (links_view number old).slots
+  first_slots = (held_view number h0).slots
 
-  first_order : IsLeastIndexOrder (reported_slots first_slots) numbered.indexes
-  first_order = subst (λ (s : LinkMap). IsLeastIndexOrder s numbered.indexes) (link_map-view_after number h1 ∙ ap (λ (h : DetachedView Gen (LinkView T)). reported_slots h.slots) emptied) numbered.order
+  first_order : IsLeastIndexOrder (link_map_in number h0.slots) numbered.indexes
+  first_order =
+      subst (λ (s : LinkMap). IsLeastIndexOrder s numbered.indexes) (link_map-view_after number h1 ∙ (ap (λ (h : DetachedView Gen (LinkView T)). reported_slots h.slots) emptied ∙ sym (link_map-view_after number h0))) numbered.order
 
   first_arranges : IsArrangement (reported_slots first_slots) numbered.indexes
-  first_arranges = canonical_arranges (reported_slots first_slots) numbered.indexes (least_index_order_is_canonical (reported_slots first_slots) numbered.indexes first_order)
+  first_arranges =
+      subst (λ (s : LinkMap). IsArrangement s numbered.indexes) (link_map-view_after number h0)
+      (canonical_arranges (link_map_in number h0.slots) numbered.indexes (least_index_order_is_canonical (link_map_in number h0.slots) numbered.indexes first_order))
 
-  all_renamed : held_view number h2 ≡ renamed_held (place_in numbered.indexes) (held_view number (held_of old))
+  all_renamed : held_view number h2 ≡ renamed_held (place_in numbered.indexes) (held_view number h0)
   all_renamed = numbered.renamed ∙ ap (renamed_held (place_in numbered.indexes)) emptied
 
   renamed_there : (i : ℕ) → option_map (pair_view number) (slot_at h2.slots i) ≡ option_map (on_value (renamed_link (place_in numbered.indexes))) (slot_at first_slots i)
@@ -197,42 +206,24 @@ module _ {F P Gen K T : Type 0} (g : F → P → P → F → Type 0) (key : P �
   links_to_front : AreMovedToFront (destination_of number) h2.slots (length numbered.indexes)
   links_to_front = moved_to_front number h2.slots numbered.indexes first_arranges.once numbered.places each_placed
 
-  links_few : length numbered.indexes ≤ length h2.slots
-  links_few = few_indexes number h2.slots numbered.indexes first_arranges.once numbered.places each_placed
-
   links_counted : count_by is_some h2.slots ≡ length numbered.indexes
-  links_counted = count-stored (record old { slots = h2.slots }) numbered.indexes first_arranges.once each_placed (has_entry number h2.slots numbered.indexes first_arranges.once numbered.places each_placed)
+  links_counted = count-stored (record a1 { slots = h2.slots }) numbered.indexes first_arranges.once each_placed (has_entry number h2.slots numbered.indexes first_arranges.once numbered.places each_placed)
 
   -- The number of slots is unchanged.
-  first-length : length h1.slots ≡ length old.slots
-  first-length = length-view_after number h1 (held_of old) emptied
+  first-length : length h1.slots ≡ length h0.slots
+  first-length = length-view_after number h1 h0 emptied
 
-  second-length : length h2.slots ≡ length old.slots
-  second-length = length-renamed number (place_in numbered.indexes) h2 (held_of old) all_renamed
+  second-length : length h2.slots ≡ length h0.slots
+  second-length = length-renamed number (place_in numbered.indexes) h2 h0 all_renamed
 
   -- After the links have moved.
   module _ (h3 : DetachedView Gen (LinkBody K T)) (moved : HaveMoved (destination_of number) (Settles number generation) (slot_at h2.slots) (slot_at h3.slots)) where
-    abbrev last_slots : List (Option (Gen × LinkView T))
-    last_slots = map (option_map (pair_view number)) (trimmed h3.slots)
-
-    pub last-length : length last_slots ≡ length numbered.indexes
-    last-length = length-map (trimmed h3.slots) (option_map (pair_view number)) ∙ front-length (destination_of number) (Settles number generation) (length numbered.indexes) h2.slots h3.slots links_to_front moved
-
-    -- The links are in the first slots.
-    pub last_packed : IsPacked h3.slots total
-    last_packed = subst (IsPacked h3.slots) (sym numbered.counted) (front-packed (destination_of number) (Settles number generation) (length numbered.indexes) h2.slots h3.slots links_to_front moved)
-
-    pub last-none_free : free_from 1 (trimmed h3.slots) ≡ []
-    last-none_free = front-none_free (destination_of number) (Settles number generation) (length numbered.indexes) h2.slots h3.slots links_to_front moved
-
-    pub all_sent : (i d : ℕ) (x : Gen × LinkView T) → place_in numbered.indexes i ≡ Some d → slot_at first_slots i ≡ Some x → slot_at last_slots d ≡ Some (generation, renamed_link (place_in numbered.indexes) x.1)
+    all_sent : (i d : ℕ) (x : Gen × LinkView T) → place_in numbered.indexes i ≡ Some d → slot_at first_slots i ≡ Some x → slot_at (held_view number h3).slots d ≡ Some (generation, renamed_link (place_in numbered.indexes) x.1)
     all_sent i d x at is =
         let w = waits_for number h2.slots numbered.indexes first_arranges.once numbered.places each_placed i d at in
         let both : ◌≡◌ {A = Option (Gen × LinkView T)} (Some (pair_view number w.0)) (Some (x.0, renamed_link (place_in numbered.indexes) x.1)) =
         sym (ap (option_map (pair_view number)) w.1.stored) ∙ (renamed_there i ∙ ap (option_map (on_value (renamed_link (place_in numbered.indexes)))) is) in
-        ap (λ (s : List (Option (Gen × LinkView T))). slot_at s d) (trimmed-map (pair_view number) h3.slots)
-        ∙ (slot_at-trimmed (map (option_map (pair_view number)) h3.slots) d
-        ∙ (moved_viewed number generation h2.slots h3.slots moved i d w.0 w.1 ∙ ap (λ (l : LinkView T). let o : Option (Gen × LinkView T) = Some (generation, l) in o) (link_is both)))
+        moved_viewed number generation h2.slots h3.slots moved i d w.0 w.1 ∙ ap (λ (l : LinkView T). let o : Option (Gen × LinkView T) = Some (generation, l) in o) (link_is both)
       where
         link_or : LinkView T → Option (Gen × LinkView T) → LinkView T
         link_or l None = l
@@ -241,78 +232,159 @@ module _ {F P Gen K T : Type 0} (g : F → P → P → F → Type 0) (key : P �
         link_is : {e h : Gen × LinkView T} → ◌≡◌ {A = Option (Gen × LinkView T)} (Some e) (Some h) → e.1 ≡ h.1
         link_is {e} {h} both = ap (link_or e.1) both
 
-    -- After the slots are given back.
-    module _ (greatest : ℕ) (maximum : Option ℕ) (a3 : Arena Gen (LinkBody K T)) (capacity : h3.stack_capacity ≡ h2.stack_capacity) (is_maximum : h3.maximum ≡ h2.maximum)
-        (emptying : a1 ≡ with_totals (lent_out maximum old) 0 (length old.slots))
-        (moving : IsWork a2 a3 (count_by is_some h2.slots) (2 * count_by is_some h2.slots + length h2.slots)) where
-      whole_work : IsWork (lent_out maximum old) a3 (length numbered.indexes) (4 * length old.slots + 12 * length numbered.indexes)
-      whole_work =
-          let first : IsWork (lent_out maximum old) a1 0 (length old.slots) = record { touches = length old.slots; few = omega arith; arena = emptying } in
-          work-more (work-more first numbered.work 0 (3 * length old.slots + 5 * length numbered.indexes) refl (omega (arith, first-length)))
-          moving (length numbered.indexes) (4 * length old.slots + 12 * length numbered.indexes) (omega (arith, links_counted)) (omega (arith, links_counted, second-length))
+    -- All links are placed.
+    pub links_placed : (a0 a3 : Arena Gen (LinkBody K T)) → h3.stack_capacity ≡ h2.stack_capacity → h3.maximum ≡ h2.maximum → a1 ≡ with_totals a0 0 (length h0.slots)
+        → IsWork a2 a3 (count_by is_some h2.slots) (2 * count_by is_some h2.slots + length h2.slots) → AreAllPlaced number g key generation f last h0 h3 a0 a3 total 7
+    links_placed a0 a3 capacity maximum emptying moving = record {
+      indexes = numbered.indexes;
+      order = first_order;
+      counted = numbered.counted;
+      placed = all_sent;
+      packed = subst (IsPacked h3.slots) (sym numbered.counted) (front-packed (destination_of number) (Settles number generation) (length numbered.indexes) h2.slots h3.slots links_to_front moved);
+      capacity = capacity ∙ ap (λ (h : DetachedView Gen (LinkView T)). h.stack_capacity) all_renamed;
+      maximum = maximum ∙ ap (λ (h : DetachedView Gen (LinkView T)). h.maximum) all_renamed;
+      reports = subst (λ (p : ℕ → Option (ℕ × Gen)). ReportsMoves g key p generation 1 f numbered.indexes last) pointers numbered.reports;
+      work =
+          let first : IsWork a0 a1 0 (length h0.slots) = record { touches = length h0.slots; few = omega arith; arena = emptying } in
+          work-more (work-more first numbered.work 0 (3 * length h0.slots + 5 * length numbered.indexes) refl (omega (arith, first-length)))
+          moving (length numbered.indexes) (4 * length h0.slots + 7 * length numbered.indexes) (omega (arith, links_counted)) (omega (arith, links_counted, second-length));
+    }
+      where
+        pointers : ptr_at (slot_at h1.slots) ≡ ptr_at (slot_at h0.slots)
+        pointers = fun_ext (λ i. ptr-view_after number h1 i ∙ (ap (λ (h : DetachedView Gen (LinkView T)). ptr_at (slot_at (map (option_map (on_value link_value)) h.slots)) i) emptied ∙ sym (ptr-view_after number h0 i)))
 
-      abbrev arranged_arena : Arena Gen (LinkBody K T)
-      arranged_arena = returned greatest (with_totals (lent_out maximum old) (length numbered.indexes) whole_work.touches) h3
+-- ---- links that were read before
 
-      is_arranged : (new : Arena Gen (LinkBody K T)) → new ≡ returned greatest a3 h3 → new ≡ arranged_arena
-      is_arranged new is_new = is_new ∙ ap (λ (a : Arena Gen (LinkBody K T)). returned greatest a h3) whole_work.arena
+module _ {F P Gen K T : Type 0} (g : F → P → P → F → Type 0) (key : P → ℕ × Gen) (f last : F) (number : K → Option ℕ) (generation : Gen) (h0 h1 h3 : DetachedView Gen (LinkBody K T))
+    (same : h1 ≡ h0) (a0 a1 a3 : Arena Gen (LinkBody K T)) (total most links : ℕ) (counts : links ≡ count_by is_some h0.slots) (reading : IsWork a0 a1 0 links)
+    (done : AreAllPlaced number g key generation f last h1 h3 a1 a3 total most) where
+  read_arranges : IsArrangement (link_map_in number h1.slots) done.indexes
+  read_arranges = canonical_arranges (link_map_in number h1.slots) done.indexes (least_index_order_is_canonical (link_map_in number h1.slots) done.indexes done.order)
 
-      pub links_arranged : old.capacity ≡ min old.stack_capacity greatest → generation ≡ old.counter → (new : Arena Gen (LinkBody K T)) → new ≡ returned greatest a3 h3
-          → AreArranged g key f last (links_view number old) (links_view number new)
-      links_arranged same_capacity counter new is_new = record {
-        indexes = numbered.indexes;
-        order = first_order;
-        renamed = subst (λ (a : Arena Gen (LinkBody K T)). IsRenaming (place_in numbered.indexes) (link_map (links_view number old)) (link_map (links_view number a))) (sym (is_arranged new is_new))
-            (arranged_renamed generation first_slots last_slots numbered.indexes first_arranges last-length all_sent);
-        values = values.0;
-        was_stored = values.1;
-        touches = whole_work.touches;
-        few = omega (arith, whole_work.few, length-map old.slots (option_map (pair_view number)));
-        arena = ap (λ (a : Arena Gen (LinkBody K T)). values_of (links_view number a)) (is_arranged new is_new) ∙ (λ i. record (values_of (links_view number old)) {
-          slots = slots i;
-          freed = last-none_free i;
-          capacity = capacity_kept i;
-          stack_capacity = stack_kept i;
-          maximum = maximum_kept i;
-          placed = old.placed + count i;
-          touched = old.touched + whole_work.touches;
-        });
-        reports = subst (λ (p : (ℕ → Option (ℕ × Gen)) × Gen). ReportsMoves g key p.0 p.1 1 f numbered.indexes last) (λ i. (pointers i, counter i)) numbered.reports;
-      }
-        where
-          values : (values : List T) × (map (λ t. Some t) values ≡ map (λ i. option_map (λ (e : Gen × T). e.1) (entry (links_view number old) i)) numbered.indexes)
-              × (map {B = Option (Gen × T)} (λ t. Some (generation, t)) values ≡ map {B = Option (Gen × T)} (λ i. option_map (λ (e : Gen × T). (generation, e.1)) (entry (links_view number old) i)) numbered.indexes)
-              × (length values ≡ length numbered.indexes)
-          values = values-filled generation (entry (links_view number old)) numbered.indexes (value_stored generation first_slots last_slots numbered.indexes first_arranges last-length all_sent)
+  read_counted : count_by is_some h1.slots ≡ length done.indexes
+  read_counted =
+      count-stored (record a1 { slots = h1.slots }) done.indexes read_arranges.once
+      (λ i e s. (read_arranges.valid i).0 (record { link = body_interlinks number e; links = ap (option_map (body_interlinks number)) s }))
+      (λ i h. stored_at number h1.slots i ((read_arranges.valid i).1 h))
 
-          slots : map (option_map (on_value link_value)) last_slots ≡ fronted old.counter values.0 []
-          slots =
-              arranged_slots generation first_slots last_slots numbered.indexes first_arranges last-length all_sent
-              ∙ (sym values.2 ∙ (ap (λ (h : Gen). map {B = Option (Gen × T)} (λ t. Some (h, t)) values.0) counter ∙ sym (append-nil (map {B = Option (Gen × T)} (λ t. Some (old.counter, t)) values.0))))
+  -- All links are placed, with at most one more touch per link.
+  pub placed_after_reads : (more : ℕ) → most + 1 ≤ more → AreAllPlaced number g key generation f last h0 h3 a0 a3 total more
+  placed_after_reads more few = subst (λ (h : DetachedView Gen (LinkBody K T)). AreAllPlaced number g key generation f last h h3 a0 a3 total more) same (record {
+    indexes = done.indexes;
+    order = done.order;
+    counted = done.counted;
+    placed = done.placed;
+    packed = done.packed;
+    capacity = done.capacity;
+    maximum = done.maximum;
+    reports = done.reports;
+    work = work-more reading done.work (length done.indexes) (4 * length h1.slots + more * length done.indexes) (omega arith) enough;
+  })
+    where
+      count : links ≡ length done.indexes
+      count = counts ∙ (ap (λ (h : DetachedView Gen (LinkBody K T)). count_by is_some h.slots) (sym same) ∙ read_counted)
 
-          stack_kept : h3.stack_capacity ≡ old.stack_capacity
-          stack_kept = capacity ∙ ap (λ (h : DetachedView Gen (LinkView T)). h.stack_capacity) all_renamed
+      enough : links + (4 * length h1.slots + most * length done.indexes) ≤ 4 * length h1.slots + more * length done.indexes
+      enough =
+          let times : (most + 1) * length done.indexes ≤ more * length done.indexes = mul-le-mul_right (length done.indexes) few in
+          omega (arith, count, times)
 
-          maximum_kept : h3.maximum ≡ old.maximum
-          maximum_kept = is_maximum ∙ ap (λ (h : DetachedView Gen (LinkView T)). h.maximum) all_renamed
+-- ---- after the slots are given back
 
-          capacity_kept : min h3.stack_capacity greatest ≡ old.capacity
-          capacity_kept = ap (λ (n : ℕ). min n greatest) stack_kept ∙ sym same_capacity
+module _ {F P Gen K T : Type 0} (g : F → P → P → F → Type 0) (key : P → ℕ × Gen) (f last : F) (number : K → Option ℕ) (generation : Gen) (old : Arena Gen (LinkBody K T)) (h0 h3 : DetachedView Gen (LinkBody K T))
+    (is_held : h0 ≡ held_of old) (a1 a3 : Arena Gen (LinkBody K T)) (total : ℕ) (done : AreAllPlaced number g key generation f last h0 h3 a1 a3 total 8) where
+  abbrev old_slots : List (Option (Gen × LinkView T))
+  old_slots = (links_view number old).slots
 
-          count : length numbered.indexes ≡ length values.0
-          count = sym values.3
+  old_order : IsLeastIndexOrder (reported_slots old_slots) done.indexes
+  old_order = subst (λ (s : LinkMap). IsLeastIndexOrder s done.indexes) (ap (λ (h : DetachedView Gen (LinkBody K T)). link_map_in number h.slots) is_held ∙ link_map-view_after number (held_of old)) done.order
 
-          pointers : ptr_at (slot_at h1.slots) ≡ ptr_at (entry (links_view number old))
-          pointers = fun_ext (λ i. ptr-view_after number h1 i ∙ ap (λ (h : DetachedView Gen (LinkView T)). ptr_at (slot_at (map (option_map (on_value link_value)) h.slots)) i) emptied)
+  old_arranges : IsArrangement (reported_slots old_slots) done.indexes
+  old_arranges = canonical_arranges (reported_slots old_slots) done.indexes (least_index_order_is_canonical (reported_slots old_slots) done.indexes old_order)
 
-      -- What was counted is the work.
-      pub work_known : (first : Arena Gen (LinkBody K T)) (p t : ℕ) → first ≡ lent_out maximum old → HasCounted first a3 p t → length old.slots ≤ greatest → greatest < 2 ^ 64
-          → (a3.placed ≡ old.placed + p) × (a3.touched ≡ old.touched + t)
-      work_known first p t is had fits bound =
-          let placed : old.placed + had.placements ≡ a3.placed = ap (λ (a : Arena Gen (LinkBody K T)). a.placed + had.placements) (sym is) ∙ sym (ap (λ (a : Arena Gen (LinkBody K T)). a.placed) had.arena) in
-          let touched : old.touched + had.touches ≡ a3.touched = ap (λ (a : Arena Gen (LinkBody K T)). a.touched + had.touches) (sym is) ∙ sym (ap (λ (a : Arena Gen (LinkBody K T)). a.touched) had.arena) in
-          let now_placed : a3.placed ≡ old.placed + length numbered.indexes = ap (λ (a : Arena Gen (LinkBody K T)). a.placed) whole_work.arena in
-          let now_touched : a3.touched ≡ old.touched + whole_work.touches = ap (λ (a : Arena Gen (LinkBody K T)). a.touched) whole_work.arena in (
-            omega (arith, placed, now_placed, had.placements_counted, links_few, second-length, fits, bound),
-            omega (arith, touched, now_touched, had.touches_counted, links_few, second-length, fits, bound, whole_work.few),
-          )
+  old_few : length done.indexes ≤ length old.slots
+  old_few =
+      length_bound done.indexes (length old.slots) old_arranges.once
+      (λ i h. let w = (slots-within interlinks_of old_slots).within i ((old_arranges.valid i).1 h) in (w.0, omega (arith, w.1, length-map old.slots (option_map (pair_view number)))))
+
+  abbrev last_slots : List (Option (Gen × LinkView T))
+  last_slots = map (option_map (pair_view number)) (trimmed h3.slots)
+
+  last-length : length last_slots ≡ length done.indexes
+  last-length = length-map (trimmed h3.slots) (option_map (pair_view number)) ∙ (packed-length total h3.slots done.packed ∙ done.counted)
+
+  last_sent : (i d : ℕ) (x : Gen × LinkView T) → place_in done.indexes i ≡ Some d → slot_at old_slots i ≡ Some x → slot_at last_slots d ≡ Some (generation, renamed_link (place_in done.indexes) x.1)
+  last_sent i d x at is =
+      ap (λ (s : List (Option (Gen × LinkView T))). slot_at s d) (trimmed-map (pair_view number) h3.slots)
+      ∙ (slot_at-trimmed (map (option_map (pair_view number)) h3.slots) d ∙ done.placed i d x at (ap (λ (h : DetachedView Gen (LinkBody K T)). slot_at (held_view number h).slots i) is_held ∙ is))
+
+  module _ (greatest : ℕ) (maximum : Option ℕ) (lent : a1 ≡ lent_out maximum old) where
+    whole_work : IsWork (lent_out maximum old) a3 (length done.indexes) (4 * length old.slots + 12 * length done.indexes)
+    whole_work =
+        let same : length h0.slots ≡ length old.slots = ap (λ (h : DetachedView Gen (LinkBody K T)). length h.slots) is_held in
+        subst (λ (a : Arena Gen (LinkBody K T)). IsWork a a3 (length done.indexes) (4 * length old.slots + 12 * length done.indexes)) lent (work-few done.work _ (omega (arith, same)))
+
+    abbrev arranged_arena : Arena Gen (LinkBody K T)
+    arranged_arena = returned greatest (with_totals (lent_out maximum old) (length done.indexes) whole_work.touches) h3
+
+    is_arranged : (new : Arena Gen (LinkBody K T)) → new ≡ returned greatest a3 h3 → new ≡ arranged_arena
+    is_arranged new is_new = is_new ∙ ap (λ (a : Arena Gen (LinkBody K T)). returned greatest a h3) whole_work.arena
+
+    pub links_arranged : old.capacity ≡ min old.stack_capacity greatest → generation ≡ old.counter → (new : Arena Gen (LinkBody K T)) → new ≡ returned greatest a3 h3
+        → AreArranged g key f last (links_view number old) (links_view number new)
+    links_arranged same_capacity counter new is_new = record {
+      indexes = done.indexes;
+      order = old_order;
+      renamed = subst (λ (a : Arena Gen (LinkBody K T)). IsRenaming (place_in done.indexes) (link_map (links_view number old)) (link_map (links_view number a))) (sym (is_arranged new is_new))
+          (arranged_renamed generation old_slots last_slots done.indexes old_arranges last-length last_sent);
+      values = values.0;
+      was_stored = values.1;
+      touches = whole_work.touches;
+      few = omega (arith, whole_work.few, length-map old.slots (option_map (pair_view number)));
+      arena = ap (λ (a : Arena Gen (LinkBody K T)). values_of (links_view number a)) (is_arranged new is_new) ∙ (λ i. record (values_of (links_view number old)) {
+        slots = slots i;
+        freed = packed-none_free total h3.slots done.packed i;
+        capacity = capacity_kept i;
+        stack_capacity = stack_kept i;
+        maximum = maximum_kept i;
+        placed = old.placed + count i;
+        touched = old.touched + whole_work.touches;
+      });
+      reports = subst (λ (p : (ℕ → Option (ℕ × Gen)) × Gen). ReportsMoves g key p.0 p.1 1 f done.indexes last) (λ i. (pointers i, counter i)) done.reports;
+    }
+      where
+        values : (values : List T) × (map (λ t. Some t) values ≡ map (λ i. option_map (λ (e : Gen × T). e.1) (entry (links_view number old) i)) done.indexes)
+            × (map {B = Option (Gen × T)} (λ t. Some (generation, t)) values ≡ map {B = Option (Gen × T)} (λ i. option_map (λ (e : Gen × T). (generation, e.1)) (entry (links_view number old) i)) done.indexes)
+            × (length values ≡ length done.indexes)
+        values = values-filled generation (entry (links_view number old)) done.indexes (value_stored generation old_slots last_slots done.indexes old_arranges last-length last_sent)
+
+        slots : map (option_map (on_value link_value)) last_slots ≡ fronted old.counter values.0 []
+        slots =
+            arranged_slots generation old_slots last_slots done.indexes old_arranges last-length last_sent
+            ∙ (sym values.2 ∙ (ap (λ (h : Gen). map {B = Option (Gen × T)} (λ t. Some (h, t)) values.0) counter ∙ sym (append-nil (map {B = Option (Gen × T)} (λ t. Some (old.counter, t)) values.0))))
+
+        stack_kept : h3.stack_capacity ≡ old.stack_capacity
+        stack_kept = done.capacity ∙ ap (λ (h : DetachedView Gen (LinkBody K T)). h.stack_capacity) is_held
+
+        maximum_kept : h3.maximum ≡ old.maximum
+        maximum_kept = done.maximum ∙ ap (λ (h : DetachedView Gen (LinkBody K T)). h.maximum) is_held
+
+        capacity_kept : min h3.stack_capacity greatest ≡ old.capacity
+        capacity_kept = ap (λ (n : ℕ). min n greatest) stack_kept ∙ sym same_capacity
+
+        count : length done.indexes ≡ length values.0
+        count = sym values.3
+
+        pointers : ptr_at (slot_at h0.slots) ≡ ptr_at (entry (links_view number old))
+        pointers = fun_ext (λ i. ap (λ (h : DetachedView Gen (LinkBody K T)). ptr_at (slot_at h.slots) i) is_held ∙ ptr-view_after number (held_of old) i)
+
+    -- What was counted is the work.
+    pub work_known : (p t : ℕ) → HasCounted a1 a3 p t → length old.slots ≤ greatest → greatest < 2 ^ 64 → (a3.placed ≡ old.placed + p) × (a3.touched ≡ old.touched + t)
+    work_known p t had fits bound =
+        let placed : old.placed + had.placements ≡ a3.placed = ap (λ (a : Arena Gen (LinkBody K T)). a.placed + had.placements) (sym lent) ∙ sym (ap (λ (a : Arena Gen (LinkBody K T)). a.placed) had.arena) in
+        let touched : old.touched + had.touches ≡ a3.touched = ap (λ (a : Arena Gen (LinkBody K T)). a.touched + had.touches) (sym lent) ∙ sym (ap (λ (a : Arena Gen (LinkBody K T)). a.touched) had.arena) in
+        let now_placed : a3.placed ≡ old.placed + length done.indexes = ap (λ (a : Arena Gen (LinkBody K T)). a.placed) whole_work.arena in
+        let now_touched : a3.touched ≡ old.touched + whole_work.touches = ap (λ (a : Arena Gen (LinkBody K T)). a.touched) whole_work.arena in (
+          omega (arith, placed, now_placed, had.placements_counted, old_few, fits, bound),
+          omega (arith, touched, now_touched, had.touches_counted, old_few, fits, bound, whole_work.few),
+        )

@@ -1,30 +1,26 @@
 -- Entries that have moved to the front, and the free slots that trimming removes.
-use Rattle.std.proofs.Common.{◌≡◌, ℕ, zero, suc, ◌<◌, ◌≤◌, List, [], ◌∷◌, length, map, Option, None, Some, refl, ap, ap₂, ◌∙◌, arith}
+use Rattle.std.proofs.Common.{◌≡◌, ℕ, zero, suc, ◌<◌, ◌≤◌, List, [], ◌∷◌, length, map, Option, None, Some, true, false, refl, ap, ap₂, ◌∙◌, arith}
 use Rattle.std.specs.Prelude.{slice_index_or, IsSome, is_some}
 use Rattle.std.specs.Option.{option_map}
 use Rattle.arena_base.specs.Arena.{slot_at}
-use Rattle.arena_base.specs.DetachedSlots.{IsPacked, before_cut, trimmed, free_from}
+use Rattle.arena_base.specs.DetachedSlots.{IsPacked, trimmed}
 use Rattle.chain_links.specs.declared.links.LinkBody.{LinkBody}
 use Rattle.chain_links.specs.ChainArena.{LinkView}
 use Rattle.chain_links.specs.Links.{link_view, pair_view}
 use Rattle.chain_compaction.specs.Permutations.{Waits, HaveMoved, AreMovedToFront, destination_of, Settles}
-use Rattle.arena_base.proofs.PackedSlotLemmas.{all_cut}
+use Rattle.std.proofs.lemmas.List.{length-take-le}
+use Rattle.arena_base.proofs.PackedSlotLemmas.{packed-trimmed}
 use Rattle.chain_links.proofs.MappedArenaLemmas.{slot_at-map}
 
 module _ {X : Type 0} where
-  -- Slots with n entries at the front and none after them.
-  trimmed-front : (n : ℕ) (xs : List (Option X)) → ((k : ℕ) → k < n → (x : X) × (slice_index_or xs k None ≡ Some x)) → ((k : ℕ) → n ≤ k → slice_index_or xs k None ≡ None)
-      → (length (trimmed xs) ≡ n) × ((i : ℕ) → free_from i (trimmed xs) ≡ [])
-  trimmed-front zero xs front behind =
-      let none : trimmed xs ≡ [] = all_cut xs (λ k. behind k (omega arith)) in
-      (ap (λ (ys : List (Option X)). length ys) none, λ i. ap (free_from i) none)
-  trimmed-front (suc n) [] front behind = let first : None ≡ Some (front 0 (omega arith)).0 = (front 0 (omega arith)).1 in absurd (cc)
-  trimmed-front (suc n) (x ∷ xs) front behind =
-      let first = front 0 (omega arith) in
-      let is : x ≡ Some first.0 = first.1 in
-      let rest = trimmed-front n xs (λ k below. front (suc k) (omega arith)) (λ k above. behind (suc k) (omega arith)) in
-      let cut : trimmed (x ∷ xs) ≡ Some first.0 ∷ trimmed xs = ap (λ (o : Option X). before_cut o (trimmed xs)) is in
-      (ap (λ (ys : List (Option X)). length ys) cut ∙ ap suc rest.0, λ i. ap (free_from i) cut ∙ rest.1 (suc i))
+  length-front : (n : ℕ) (xs : List (Option X)) → ((k : ℕ) → k < n → IsSome (slice_index_or xs k None)) → n ≤ length xs
+  length-front zero xs front = omega arith
+  length-front (suc n) [] front = let none : false ≡ true = front 0 (omega arith) in absurd (cc)
+  length-front (suc n) (x ∷ xs) front = let rest = length-front n xs (λ k below. front (suc k) (omega (arith, below))) in omega (arith, rest)
+
+  -- Trimming leaves exactly n slots.
+  pub packed-length : (n : ℕ) (xs : List (Option X)) → IsPacked xs n → length (trimmed xs) ≡ n
+  packed-length n xs packed = ap length (packed-trimmed n xs packed) ∙ length-take-le n xs (length-front n xs (λ k below. packed.taken (suc k) (omega arith) (omega (arith, below))))
 
 module _ {E : Type 0} (goal : E → Option ℕ) (Settles : E → E → Type 0) (n : ℕ) (old new : List (Option E))
     (front : AreMovedToFront goal old n) (moved : HaveMoved goal Settles (slot_at old) (slot_at new)) where
@@ -56,13 +52,6 @@ module _ {E : Type 0} (goal : E → Option ℕ) (Settles : E → E → Type 0) (
       free : (i : ℕ) → n < i → slot_at new i ≡ None
       free zero above = refl
       free (suc k) above = free_behind k (omega (arith, above))
-
-  -- Trimming leaves exactly n slots, none of them free.
-  pub front-length : length (trimmed new) ≡ n
-  front-length = (trimmed-front n new stored_in_front free_behind).0
-
-  pub front-none_free : free_from 1 (trimmed new) ≡ []
-  front-none_free = (trimmed-front n new stored_in_front free_behind).1 1
 
 module _ {Gen K T : Type 0} (number : K → Option ℕ) (g : Gen) where
   -- What is seen of an entry that is settled.

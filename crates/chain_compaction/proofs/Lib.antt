@@ -25,3 +25,5 @@ pub mod LinkLoanLemmas
 pub mod CompressionStepLemmas
 pub mod NeighborUpdateLemmas
 pub mod PointerMoveLemmas
+pub mod OrderedRunLemmas
+pub mod OrderedLinkLemmas

@@ -2,8 +2,9 @@
 use Rattle.std.proofs.Common.{ℕ, ◌+◌, ◌≤◌, refl, arith}
 use Rattle.arena_base.specs.declared.compactor.Compactor.{Compactor}
 use Rattle.chain_compaction.specs.SlotReads.{HasReadSlot, HasReadSlots}
-use Rattle.chain_compaction.proofs.DetachedLinkLemmas.{work-touched, work-more}
+use Rattle.chain_compaction.proofs.DetachedLinkLemmas.{work-none, work-touched, work-more, work-few}
 use Rattle.chain_compaction.proofs.LinkLoanLemmas.{same_then, held_then, counts_on}
+use Rattle.chain_compaction.proofs.WorkCountLemmas.{counts_none}
 
 module _ {P T S Inx Gen Word : Type 0} where
   -- The reads of two parts together.
@@ -23,3 +24,16 @@ module _ {P T S Inx Gen Word : Type 0} where
     work = work-more one.work (work-touched b.arena.now c.arena.now read.arena) 0 (m + 1) refl (omega arith);
     counts = counts_on a b c one.counts read.counts;
   }
+
+  -- No read.
+  pub reads_none : (a : Compactor P T S Inx Gen Word) → HasReadSlots a a 0
+  reads_none a = record {
+    same_reference = refl;
+    held = refl;
+    work = work-none a.arena.now 0;
+    counts = counts_none a.arena.now a.placed a.touched;
+  }
+
+  -- A higher bound on the reads.
+  pub reads_few : (a b : Compactor P T S Inx Gen Word) (m n : ℕ) → HasReadSlots a b m → m ≤ n → HasReadSlots a b n
+  reads_few a b m n read few = record { same_reference = read.same_reference; held = read.held; work = work-few read.work n few; counts = read.counts }

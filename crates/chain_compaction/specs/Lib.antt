@@ -7,3 +7,4 @@ pub mod WorkCounts
 pub mod Permutations
 pub mod Destinations
 pub mod PointerMoves
+pub mod OrderedLinks

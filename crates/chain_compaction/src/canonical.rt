@@ -1,19 +1,22 @@
 // Canonical compression in place: each chain at consecutive indexes, one chain after another from
 // index 1 on.
-ghost use Rattle.std.specs.Prelude.{◌≡◌, ◌≤◌, ◌+◌, ℕ, None, length};
+ghost use Rattle.std.specs.Prelude.{◌≡◌, ◌≤◌, ◌+◌, ℕ, None, length, count_by, is_some};
 ghost use Rattle.chain_laws.specs.Chains.{IsWellLinked};
 ghost use Rattle.arena_base.specs.GatheredSlots.{with_totals};
 ghost use Rattle.chain_links.specs.ChainArena.{link_map};
 ghost use Rattle.chain_links.specs.Links.{links_view};
 ghost use Rattle.chain_compaction.specs.WorkCounts.{CountsWork};
 ghost use Rattle.chain_compaction.specs.Layouts.{AreArranged};
+ghost use Rattle.chain_compaction.specs.DetachedLinks.{link_map_in};
 ghost use Rattle.chain_compaction.specs.Destinations.{held_view, destination_at};
+ghost use Rattle.chain_compaction.specs.OrderedLinks.{AreAllPlaced};
 
 use crate::assign_destinations::number_all;
+use crate::in_order::{is_in_order, renew_all};
 use crate::permute::move_all;
 use crate::slot_access::direct_at;
 use crate::visitor::Visitor;
-use arena_base::{Arena, ArenaSlot, Compactor, Work, inx_at};
+use arena_base::{Arena, ArenaSlot, ArenaTrait, Compactor, Work, inx_at};
 use arena_ptr::{PtrKey, SlotStack};
 use chain_links::LinkNoGen;
 
@@ -36,11 +39,66 @@ pub fn empty_all<P: PtrKey, T: Drop, S: SlotStack<Item = ArenaSlot<P, LinkNoGen<
     }
 }
 
+// Assigns each link its destination and moves it there. Returns the visitor and the number of
+// links.
+fn arrange_by_moves<
+    P: PtrKey,
+    T: Drop,
+    S: SlotStack<Item = ArenaSlot<P, LinkNoGen<P, T>>>,
+    V: Visitor<P>,
+>(
+    compactor: &mut Compactor<'_, P, LinkNoGen<P, T>, S>,
+    generation: P::Gen,
+    visitor: V,
+) -> (V, usize)
+    requires ready { V.is_ready visitor }
+    requires fits { length compactor.old.held.slots ≤ P.Inx.greatest }
+    requires agree { IsWellLinked (link_map_in P.Inx.packed_number compactor.old.held.slots) }
+    ensures ready { V.is_ready result.0 }
+    ensures same_reference { compactor.new.arena.ghost_name ≡ compactor.old.arena.ghost_name }
+    ensures placed { AreAllPlaced P.Inx.packed_number V.sees P.key generation visitor result.0
+        compactor.old.held compactor.new.held compactor.old.arena.now compactor.new.arena.now
+        result.1 7 }
+    ensures counts { CountsWork compactor.old compactor.new }
+{
+    empty_all(compactor);
+    let (visitor, count) = number_all(compactor, generation, visitor);
+    move_all(compactor, generation);
+    (visitor, count)
+}
+
+// Places all links, of which there are `links`: each in its own slot if they are arranged
+// canonically already. Returns the visitor and the number of links.
+fn place_all<P: PtrKey, T: Drop, S: SlotStack<Item = ArenaSlot<P, LinkNoGen<P, T>>>, V: Visitor<P>>(
+    compactor: &mut Compactor<'_, P, LinkNoGen<P, T>, S>,
+    links: usize,
+    generation: P::Gen,
+    visitor: V,
+) -> (V, usize)
+    requires ready { V.is_ready visitor }
+    requires links { links ≡ count_by is_some compactor.old.held.slots }
+    requires fits { length compactor.old.held.slots ≤ P.Inx.greatest }
+    requires agree { IsWellLinked (link_map_in P.Inx.packed_number compactor.old.held.slots) }
+    ensures ready { V.is_ready result.0 }
+    ensures same_reference { compactor.new.arena.ghost_name ≡ compactor.old.arena.ghost_name }
+    ensures placed { AreAllPlaced P.Inx.packed_number V.sees P.key generation visitor result.0
+        compactor.old.held compactor.new.held compactor.old.arena.now compactor.new.arena.now
+        result.1 8 }
+    ensures counts { CountsWork compactor.old compactor.new }
+{
+    if is_in_order(compactor, links) {
+        renew_all(compactor, generation, visitor)
+    } else {
+        arrange_by_moves(compactor, generation, visitor)
+    }
+}
+
 /// Arranges the links canonically, and returns the visitor and the work done.
 ///
 /// Each link is moved to its destination, names the destinations of its neighbors, and gets the
 /// counter as its generation. The visitor sees each link's old and new pointer, and is then ready
-/// for others. Afterwards every slot is occupied.
+/// for others. Afterwards every slot is occupied. Links that are arranged canonically already stay
+/// in their slots, and only their generations are set.
 pub fn arrange<
     P: PtrKey,
     T: Drop,
@@ -55,11 +113,9 @@ pub fn arrange<
     ensures placed { arena.new.placed ≡ arena.old.placed + result.1.placed }
     ensures touched { arena.new.touched ≡ arena.old.touched + result.1.touched }
 {
-    arena.invariants();
     let generation = arena.generation();
+    let links = arena.len();
     let mut compactor = arena.compactor();
-    empty_all(&mut compactor);
-    let (visitor, count) = number_all(&mut compactor, generation, visitor);
-    move_all(&mut compactor, generation);
+    let (visitor, count) = place_all(&mut compactor, links, generation, visitor);
     (visitor, compactor.finish_packed(count))
 }

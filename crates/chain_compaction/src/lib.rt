@@ -5,6 +5,7 @@
 mod assign_destinations;
 pub mod canonical;
 pub mod compress;
+mod in_order;
 mod permute;
 mod read_ahead;
 mod slot_access;

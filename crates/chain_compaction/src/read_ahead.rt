@@ -23,7 +23,8 @@ pub(crate) struct ReadAhead {
 impl ReadAhead {
     /// Allows as many reads as there are slots.
     ///
-    /// Fewer than 65,536 slots are never read ahead, since they fit in the cache.
+    /// Fewer than 65,536 slots are never read ahead, since reading ahead costs more than it saves
+    /// there.
     pub(crate) fn new(slots: usize) -> ReadAhead
         ensures { result.credit ≤ slots }
     {
@@ -67,7 +68,8 @@ fn is_fresh_at<P: PtrKey, T: Drop, S: SlotStack<Item = ArenaSlot<P, LinkNoGen<P,
     was.is_some() && destination.is_none()
 }
 
-// Returns the number of a neighbor, or `None` if there is none or it is `start`, where the walk began.
+// Returns the number of a neighbor, or `None` if there is none or it is `start`, where the walk
+// began.
 fn number_on_walk<P: PtrKey>(neighbor: Option<P::Inx>, start: usize) -> Option<usize> {
     match neighbor {
         Some(i) => match i.try_into_usize() {

@@ -1,0 +1,37 @@
+-- `place_all` renews the links or moves them, after a test that reads each link at most once.
+use Rattle.std.proofs.Common.{arith}
+use Rattle.chain_compaction.proofs.CanonicalLayoutLemmas.{placed_after_reads}
+use Rattle.chain_compaction.proofs.LinkLoanLemmas.{same_then, counts_on}
+use Rattle.chain_compaction.proofs.canonical.place_all.Goals as goal
+
+pub returns-then-is_in_order : goal.returns-then-is_in_order
+returns-then-is_in_order g c =
+    let old = c.args.compactor.now in
+    let test = c.is_in_order.new.compactor in
+    let new = c.renew_all.new.compactor in
+    let read = c.is_in_order.ensures.read in
+    let done = c.renew_all.ensures in
+    record {
+      ready = done.ready;
+      same_reference = same_then old test new read.same_reference done.same_reference;
+      placed =
+          placed_after_reads g.V.Visitor.sees g.P.PtrKey.key c.args.visitor c.renew_all.result.0 g.P.Inx.InxKey.packed_number c.args.generation old.held test.held new.held read.held
+          old.arena.now test.arena.now new.arena.now c.renew_all.result.1 2 c.args.links c.requires.links read.work done.placed 8 (omega arith);
+      counts = counts_on old test new read.counts done.counts;
+    }
+
+pub returns-else-is_in_order : goal.returns-else-is_in_order
+returns-else-is_in_order g c =
+    let old = c.args.compactor.now in
+    let test = c.is_in_order.new.compactor in
+    let new = c.arrange_by_moves.new.compactor in
+    let read = c.is_in_order.ensures.read in
+    let done = c.arrange_by_moves.ensures in
+    record {
+      ready = done.ready;
+      same_reference = same_then old test new read.same_reference done.same_reference;
+      placed =
+          placed_after_reads g.V.Visitor.sees g.P.PtrKey.key c.args.visitor c.arrange_by_moves.result.0 g.P.Inx.InxKey.packed_number c.args.generation old.held test.held new.held read.held
+          old.arena.now test.arena.now new.arena.now c.arrange_by_moves.result.1 7 c.args.links c.requires.links read.work done.placed 8 (omega arith);
+      counts = counts_on old test new read.counts done.counts;
+    }

@@ -1,0 +1,33 @@
+-- Links arranged canonically in the slots that a compactor holds.
+use Rattle.std.specs.Prelude.{◌≡◌, ℕ, ◌+◌, ◌*◌, ◌⊎◌, Bool, if◌then◌else◌, List, length, Option, None, Some}
+use Rattle.chain_laws.specs.Arrangements.{place_in, IsLeastIndexOrder}
+use Rattle.arena_base.specs.Arena.{Arena, slot_at}
+use Rattle.arena_base.specs.DetachedSlots.{DetachedView, IsPacked}
+use Rattle.chain_links.specs.ChainArena.{LinkView, ptr_at}
+use Rattle.chain_links.specs.declared.links.LinkBody.{LinkBody}
+use Rattle.chain_compaction.specs.DetachedLinks.{link_map_in, IsWork}
+use Rattle.chain_compaction.specs.Layouts.{ReportsMoves}
+use Rattle.chain_compaction.specs.Destinations.{held_view, renamed_link}
+
+-- In a run of links from position `start` on, the link at position k names the one at position
+-- k + 1, or it is the last one: then the next run starts at `after`.
+abbrev pub IsStartAfter : ℕ → Bool → ℕ → Option ℕ → ℕ → Type 0
+IsStartAfter start is_ring k next after =
+    ((after ≡ start) × (next ≡ Some (k + 2)))
+    ⊎ ((after ≡ k + 1) × (next ≡ (if is_ring then Some (start + 1) else None)))
+
+module _ {F P Gen K T : Type 0} (number : K → Option ℕ) (g : F → P → P → F → Type 0) (key : P → ℕ × Gen) where
+  -- All `count` links are in the first slots, in their least-index order. Their interlinks are
+  -- renumbered, they have one generation, and the visitor has seen them in that order. There were at
+  -- most four touches per slot and `most` per link.
+  pub record AreAllPlaced (generation : Gen) (f last : F) (old new : DetachedView Gen (LinkBody K T)) (before after : Arena Gen (LinkBody K T)) (count most : ℕ) : Type 0 where
+    pub indexes : List ℕ
+    pub order : IsLeastIndexOrder (link_map_in number old.slots) indexes
+    pub counted : count ≡ length indexes
+    pub placed : (i d : ℕ) (x : Gen × LinkView T) → place_in indexes i ≡ Some d → slot_at (held_view number old).slots i ≡ Some x
+        → slot_at (held_view number new).slots d ≡ Some (generation, renamed_link (place_in indexes) x.1)
+    pub packed : IsPacked new.slots count
+    pub capacity : new.stack_capacity ≡ old.stack_capacity
+    pub maximum : new.maximum ≡ old.maximum
+    pub reports : ReportsMoves g key (ptr_at (slot_at old.slots)) generation 1 f indexes last
+    pub work : IsWork before after (length indexes) (4 * length old.slots + most * length indexes)

@@ -1,0 +1,134 @@
+// Links that are arranged canonically already: the check for it, and their renewal in place.
+ghost use Rattle.std.specs.Prelude.{◌≡◌, ◌≤◌, ◌<◌, ◌+◌, length, is_some, IfSome, if◌then◌else◌};
+ghost use Rattle.std.specs.Bool.{OnTrue};
+ghost use Rattle.std.specs.List.{range_with_len};
+ghost use Rattle.std.specs.Option.{option_map};
+ghost use Rattle.chain_laws.specs.Chains.{IsWellLinked};
+ghost use Rattle.chain_laws.specs.Arrangements.{IsCanonical};
+ghost use Rattle.chain_compaction.specs.DetachedLinks.{link_map_in};
+ghost use Rattle.chain_compaction.specs.OrderedLinks.{IsStartAfter, AreAllPlaced};
+ghost use Rattle.chain_compaction.specs.SlotReads.{HasReadSlots};
+ghost use Rattle.chain_compaction.specs.WorkCounts.{CountsWork};
+
+use crate::slot_access::read_link;
+use crate::visitor::Visitor;
+use arena_base::{ArenaSlot, Compactor, SlotAccess, inx_at, proved_unreachable};
+use arena_ptr::{InxKey, PtrKey, SlotStack};
+use chain_links::LinkNoGen;
+
+// Returns whether the run from position `start` on is cyclic, by `prev` of its first link. After
+// the first link that is `is_ring`.
+fn is_ring_at<I: Copy>(start: usize, is_ring: bool, k: usize, prev: Option<I>) -> bool
+    ensures first { k ≡ start → result ≡ is_some prev }
+    ensures later { start < k → result ≡ is_ring }
+{
+    if k == start { prev.is_some() } else { is_ring }
+}
+
+// Returns the start of the run that position `k + 1` is in: `start` if the link at position `k`
+// names the one there, and `k + 1` if it ends the run. Returns `None` if it does neither.
+fn start_after<P: PtrKey>(
+    start: usize,
+    is_ring: bool,
+    k: usize,
+    next: Option<P::Inx>,
+) -> Option<usize>
+    requires start { start ≤ k }
+    requires fits { k < P.Inx.greatest }
+    ensures { IfSome result (IsStartAfter start is_ring k (option_map P.Inx.number next)) }
+{
+    match next {
+        Some(i) => match i.try_into_usize() {
+            Some(number) => {
+                let position = number - 1;
+                if position == k + 1 {
+                    Some(start)
+                } else if is_ring && position == start {
+                    Some(k + 1)
+                } else {
+                    None
+                }
+            }
+            None => None,
+        },
+        None => if is_ring { None } else { Some(k + 1) },
+    }
+}
+
+/// Returns whether all slots hold links that are arranged canonically already.
+///
+/// No slot is read if one is free, which `links`, the number of links, shows.
+pub(crate) fn is_in_order<P: PtrKey, T: Drop, S: SlotStack<Item = ArenaSlot<P, LinkNoGen<P, T>>>>(
+    compactor: &mut Compactor<'_, P, LinkNoGen<P, T>, S>,
+    links: usize,
+) -> bool
+    requires fits { length compactor.old.held.slots ≤ P.Inx.greatest }
+    requires agree { IsWellLinked (link_map_in P.Inx.packed_number compactor.old.held.slots) }
+    ensures read { HasReadSlots compactor.old compactor.new links }
+    ensures canonical { OnTrue result (IsCanonical
+        (link_map_in P.Inx.packed_number compactor.old.held.slots)
+        (range_with_len 1 (length compactor.old.held.slots))) }
+{
+    let slots = compactor.slots();
+    if links != slots {
+        return false;
+    }
+    let mut start = 0;
+    let mut is_ring = false;
+    for k in 0..slots {
+        let (was, prev, next, _) = read_link(compactor, inx_at::<P>(k));
+        match was {
+            Some(_) => {}
+            None => return false,
+        }
+        is_ring = is_ring_at(start, is_ring, k, prev);
+        match start_after::<P>(start, is_ring, k, next) {
+            Some(after) => start = after,
+            None => return false,
+        }
+    }
+    start == slots
+}
+
+/// Sets the generation of each link, each in its own slot, and returns the visitor and the number
+/// of links.
+///
+/// The links are arranged canonically already. Each is placed once, and the visitor sees its old
+/// and new pointer, in ascending order of index. Destinations stay, as `empty_all` removes them
+/// before any is read.
+pub(crate) fn renew_all<
+    P: PtrKey,
+    T: Drop,
+    S: SlotStack<Item = ArenaSlot<P, LinkNoGen<P, T>>>,
+    V: Visitor<P>,
+>(
+    compactor: &mut Compactor<'_, P, LinkNoGen<P, T>, S>,
+    generation: P::Gen,
+    mut visitor: V,
+) -> (V, usize)
+    requires ready { V.is_ready visitor }
+    requires fits { length compactor.old.held.slots ≤ P.Inx.greatest }
+    requires agree { IsWellLinked (link_map_in P.Inx.packed_number compactor.old.held.slots) }
+    requires canonical { IsCanonical (link_map_in P.Inx.packed_number compactor.old.held.slots)
+        (range_with_len 1 (length compactor.old.held.slots)) }
+    ensures ready { V.is_ready result.0 }
+    ensures same_reference { compactor.new.arena.ghost_name ≡ compactor.old.arena.ghost_name }
+    ensures placed { AreAllPlaced P.Inx.packed_number V.sees P.key generation visitor result.0
+        compactor.old.held compactor.new.held compactor.old.arena.now compactor.new.arena.now
+        result.1 2 }
+    ensures counts { CountsWork compactor.old compactor.new }
+{
+    let slots = compactor.slots();
+    for k in 0..slots {
+        let i = inx_at::<P>(k);
+        let (was, _, _, _) = read_link(compactor, i);
+        match was {
+            Some(was) => {
+                compactor.place(i, i, generation);
+                visitor.visit(P::_from_raw(i, was), P::_from_raw(i, generation));
+            }
+            None => proved_unreachable!(),
+        }
+    }
+    (visitor, slots)
+}
