@@ -10,7 +10,7 @@ ghost use Rattle.chain_compaction.specs.OrderedLinks.{IsStartAfter, AreAllPlaced
 ghost use Rattle.chain_compaction.specs.SlotReads.{HasReadSlots};
 ghost use Rattle.chain_compaction.specs.WorkCounts.{CountsWork};
 
-use crate::slot_access::read_link;
+use crate::slot_access::{direct_at, read_link};
 use crate::visitor::Visitor;
 use arena_base::{ArenaSlot, Compactor, SlotAccess, inx_at, proved_unreachable};
 use arena_ptr::{InxKey, PtrKey, SlotStack};
@@ -90,12 +90,11 @@ pub(crate) fn is_in_order<P: PtrKey, T: Drop, S: SlotStack<Item = ArenaSlot<P, L
     start == slots
 }
 
-/// Sets the generation of each link, each in its own slot, and returns the visitor and the number
-/// of links.
+/// Sets the generation of each link and removes its destination, each in its own slot. Returns the
+/// visitor and the number of links.
 ///
 /// The links are arranged canonically already. Each is placed once, and the visitor sees its old
-/// and new pointer, in ascending order of index. Destinations stay, as `empty_all` removes them
-/// before any is read.
+/// and new pointer, in ascending order of index.
 pub(crate) fn renew_all<
     P: PtrKey,
     T: Drop,
@@ -125,6 +124,7 @@ pub(crate) fn renew_all<
         match was {
             Some(was) => {
                 compactor.place(i, i, generation);
+                direct_at(compactor, i, None);
                 visitor.visit(P::_from_raw(i, was), P::_from_raw(i, generation));
             }
             None => proved_unreachable!(),

@@ -1,5 +1,5 @@
 -- The links up to k have the generation, and the visitor has seen them.
-use Rattle.std.proofs.Common.{◌≡◌}
+use Rattle.std.proofs.Common.{◌≡◌, ◌*◌}
 use Rattle.std.specs.List.{range_with_len}
 use Rattle.arena_base.specs.Arena.{slot_at}
 use Rattle.chain_links.specs.ChainArena.{ptr_at}
@@ -15,6 +15,6 @@ invariant-loop-k g l = record {
   same_reference : l.compactor.arena.ghost_name ≡ l.fn.compactor.arena.ghost_name;
   renewed : AreRenewed l.fn.generation l.fn.compactor.held l.compactor.held l.k;
   reports : ReportsMoves g.V.Visitor.sees g.P.PtrKey.key (ptr_at (slot_at l.fn.compactor.held.slots)) l.fn.generation 1 l.fn.visitor (range_with_len 1 l.k) l.visitor;
-  work : IsWork l.fn.compactor.arena.now l.compactor.arena.now l.k l.k;
+  work : IsWork l.fn.compactor.arena.now l.compactor.arena.now l.k (2 * l.k);
   counts : CountsWork l.fn.compactor l.compactor;
 }
