@@ -18,8 +18,8 @@ IsStartAfter start is_ring k next after =
 
 module _ {F P Gen K T : Type 0} (number : K → Option ℕ) (g : F → P → P → F → Type 0) (key : P → ℕ × Gen) where
   -- All `count` links are in the first slots, in their least-index order. Their interlinks are
-  -- renumbered, they have one generation, and the visitor has seen them in that order. There were at
-  -- most four touches per slot and `most` per link.
+  -- renumbered, they have one generation, and the visitor has seen them in that order. At most four
+  -- touches per slot and `most` per link were counted.
   pub record AreAllPlaced (generation : Gen) (f last : F) (old new : DetachedView Gen (LinkBody K T)) (before after : Arena Gen (LinkBody K T)) (count most : ℕ) : Type 0 where
     pub indexes : List ℕ
     pub order : IsLeastIndexOrder (link_map_in number old.slots) indexes
