@@ -121,13 +121,26 @@ fn are_refused<P: PtrKey, A: ChainArenaTrait<P, u32> + Drop>(alloc: Global) -> [
     ]
 }
 
-// Runs all rows where each growth is refused once. A refused call changes nothing, and then
-// succeeds.
+// What is refused where each growth is refused once: the first calls, and a growth beside a hole. A
+// refused call changes nothing, and then succeeds.
+type Refused = ([bool; 6], (bool, [Option<usize>; 2]));
+
+fn all_refused<P: PtrKey, A: ChainArenaTrait<P, u32> + Drop>(alloc: Global) -> Refused {
+    (
+        are_refused::<P, A>(alloc),
+        mesh::split_beside_a_hole::<P, A>(alloc),
+    )
+}
+
+// Runs all rows where each growth is refused once.
 fn are_all_refused<P: PtrKey, S: SlotStack<Item = Slot<P>>>(rt: &impl Abort, alloc: Global) {
-    let refused = are_refused::<P, ChainArena<P, u32, FailingStack<S>>>(alloc);
-    same(rt, "refused", refused, [true; 6]);
-    let split = mesh::split_beside_a_hole::<P, ChainArena<P, u32, FailingStack<S>>>(alloc);
-    same(rt, "split beside a hole", split, (true, [Some(2), Some(5)]));
+    let refused = all_refused::<P, ChainArena<P, u32, FailingStack<S>>>(alloc);
+    same(
+        rt,
+        "refused",
+        refused,
+        ([true; 6], (true, [Some(2), Some(5)])),
+    );
     are_all_played::<P, FailingStack<S>>(rt, alloc);
 }
 
@@ -136,11 +149,13 @@ fn each_growth_is_refused_once(rt: HostRuntime) {
     are_all_refused::<ToolPtr, HeapStack<Slot<ToolPtr>>>(&rt, rt.alloc());
 }
 
+// Runs the tests of a small mesh at a chain arena.
+fn check_small_mesh<P: PtrKey, S: SlotStack<Item = Slot<P>>>(rt: &impl Abort, alloc: Global) {
+    let checks = mesh::small_mesh_holds::<P, ChainArena<P, u32, S>>(alloc);
+    same(rt, "mesh", checks, (true, true));
+}
+
 #[test]
 fn one_corner_is_not_split_and_capacity_is_reserved(rt: HostRuntime) {
-    let checks = (
-        mesh::one_corner_is_not_split(rt.alloc()),
-        mesh::capacity_is_reserved(rt.alloc()),
-    );
-    same(&rt, "mesh", checks, (true, true));
+    check_small_mesh::<ToolPtr, HeapStack<Slot<ToolPtr>>>(&rt, rt.alloc());
 }

@@ -1,8 +1,8 @@
 //! Tests of a mesh: a square is triangulated and merged again.
 
-use super::{Differing, Slot, name, names_of, noted, number, with_digit, with_pair};
-use arena_ptr::{HeapStack, InxKey, PtrKey, ToolPtr};
-use chain_arena::{ChainArena, ChainArenaTrait};
+use super::{Differing, name, names_of, noted, number, with_digit, with_pair};
+use arena_ptr::{InxKey, PtrKey};
+use chain_arena::ChainArenaTrait;
 use chain_examples::Mesh;
 use std::alloc::Global;
 
@@ -195,11 +195,9 @@ pub(super) fn differing<P: PtrKey, A: ChainArenaTrait<P, u32> + Drop>(alloc: Glo
     None
 }
 
-type ToolMesh = Mesh<ToolPtr, u32, ChainArena<ToolPtr, u32, HeapStack<Slot<ToolPtr>>>>;
-
 // Returns whether a split at one corner returns `Ok(None)` and changes nothing.
-pub(super) fn one_corner_is_not_split(alloc: Global) -> bool {
-    let mut mesh = ToolMesh::new(alloc);
+fn one_corner_is_not_split<P: PtrKey, A: ChainArenaTrait<P, u32> + Drop>(alloc: Global) -> bool {
+    let mut mesh = Mesh::<P, u32, A>::new(alloc);
     let Ok(p) = mesh.start(1) else {
         return false;
     };
@@ -208,11 +206,21 @@ pub(super) fn one_corner_is_not_split(alloc: Global) -> bool {
 }
 
 // Returns whether a mesh has the reserved capacity, and keeps it when a corner is added.
-pub(super) fn capacity_is_reserved(alloc: Global) -> bool {
-    let mut mesh = ToolMesh::new(alloc);
+fn capacity_is_reserved<P: PtrKey, A: ChainArenaTrait<P, u32> + Drop>(alloc: Global) -> bool {
+    let mut mesh = Mesh::<P, u32, A>::new(alloc);
     let was_empty = mesh.is_empty() && mesh.capacity() == 0;
     let is_reserved = mesh.reserve(3).is_ok() && mesh.capacity() >= 3;
     let capacity = mesh.capacity();
     let is_started = mesh.start(1).is_ok() && !mesh.is_empty() && mesh.len() == 1;
     was_empty && is_reserved && is_started && mesh.capacity() == capacity
+}
+
+// Returns whether both tests of a small mesh hold.
+pub(super) fn small_mesh_holds<P: PtrKey, A: ChainArenaTrait<P, u32> + Drop>(
+    alloc: Global,
+) -> (bool, bool) {
+    (
+        one_corner_is_not_split::<P, A>(alloc),
+        capacity_is_reserved::<P, A>(alloc),
+    )
 }
