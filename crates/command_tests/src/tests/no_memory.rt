@@ -2,6 +2,7 @@
 
 ghost use Rattle.std.specs.Borrow.{ffalse};
 
+use super::examples::{Part, check_over};
 use super::{LinksOver, Slot, carried_out, same};
 use arena_base::ArenaTrait;
 use arena_ptr::{HeapStack, PtrKey, SlotStack, ToolPtr};
@@ -81,12 +82,15 @@ fn refused_drain<P: PtrKey, A: ChainArenaTrait<P, u32> + Drop>(
     (spawned, drained, queue.len())
 }
 
-fn check_refused_drain<S: SlotStack<Item = Slot>>(rt: &impl Abort, alloc: Global) {
-    let drained = refused_drain::<ToolPtr, LinksOver<S>>(alloc);
+pub(super) fn check_refused_drain<P: PtrKey, A: ChainArenaTrait<P, u32> + Drop>(
+    rt: &impl Abort,
+    alloc: Global,
+) {
+    let drained = refused_drain::<P, A>(alloc);
     same(rt, "drained", drained, (true, true, 2));
 }
 
 #[test]
 fn a_refused_drain_takes_no_task(rt: HostRuntime) {
-    check_refused_drain::<HeapStack<Slot>>(&rt, rt.alloc());
+    check_over::<ToolPtr, HeapStack<Slot>>(&rt, rt.alloc(), Part::RefusedDrain);
 }
