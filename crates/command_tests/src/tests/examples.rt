@@ -123,7 +123,7 @@ fn check_part<P: PtrKey, A: Renumbers<P>>(rt: &impl Abort, alloc: Global, part: 
 
 // Runs a part at a chain arena. Only this body names it, since naming it is the cost. Over any stack
 // it costs less than over one.
-pub(super) fn check_over<P: PtrKey, S: SlotStack<Item = Slot<P>>>(
+pub(super) fn check_examples<P: PtrKey, S: SlotStack<Item = Slot<P>>>(
     rt: &impl Abort,
     alloc: Global,
     part: Part,
@@ -133,8 +133,8 @@ pub(super) fn check_over<P: PtrKey, S: SlotStack<Item = Slot<P>>>(
 
 #[test]
 fn over_one_piece_of_memory_and_in_blocks(rt: HostRuntime) {
-    check_over::<ToolPtr, HeapStack<Slot<ToolPtr>>>(&rt, rt.alloc(), Part::Rows);
-    check_over::<ToolPtr, ChunkStack<Slot<ToolPtr>>>(&rt, rt.alloc(), Part::Rows);
+    check_examples::<ToolPtr, HeapStack<Slot<ToolPtr>>>(&rt, rt.alloc(), Part::Rows);
+    check_examples::<ToolPtr, ChunkStack<Slot<ToolPtr>>>(&rt, rt.alloc(), Part::Rows);
 }
 
 // Returns whether the first insertion and the first reservation of each are refused.
@@ -162,7 +162,7 @@ fn check_refusals<P: PtrKey, A: ChainArenaTrait<P, u32> + Drop>(rt: &impl Abort,
 // nothing, and then succeeds.
 fn check_refusing<P: PtrKey, S: SlotStack<Item = Slot<P>>>(rt: &impl Abort, alloc: Global) {
     for part in [Part::Refusals, Part::Rows] {
-        check_over::<P, FailingStack<S>>(rt, alloc, part);
+        check_examples::<P, FailingStack<S>>(rt, alloc, part);
     }
 }
 
@@ -173,5 +173,5 @@ fn each_growth_is_refused_once(rt: HostRuntime) {
 
 #[test]
 fn one_corner_is_not_split_and_capacity_is_reserved(rt: HostRuntime) {
-    check_over::<ToolPtr, HeapStack<Slot<ToolPtr>>>(&rt, rt.alloc(), Part::SmallMesh);
+    check_examples::<ToolPtr, HeapStack<Slot<ToolPtr>>>(&rt, rt.alloc(), Part::SmallMesh);
 }

@@ -2,7 +2,7 @@
 
 ghost use Rattle.std.specs.Borrow.{ffalse};
 
-use super::examples::{Part, check_over};
+use super::examples::{Part, check_examples};
 use super::{LinksOver, Slot, carried_out, same};
 use arena_base::ArenaTrait;
 use arena_ptr::{HeapStack, PtrKey, SlotStack, ToolPtr};
@@ -92,5 +92,5 @@ pub(super) fn check_refused_drain<P: PtrKey, A: ChainArenaTrait<P, u32> + Drop>(
 
 #[test]
 fn a_refused_drain_takes_no_task(rt: HostRuntime) {
-    check_over::<ToolPtr, HeapStack<Slot>>(&rt, rt.alloc(), Part::RefusedDrain);
+    check_examples::<ToolPtr, HeapStack<Slot>>(&rt, rt.alloc(), Part::RefusedDrain);
 }
