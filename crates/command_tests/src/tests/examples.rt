@@ -6,7 +6,7 @@ mod failing_stack;
 mod mesh;
 mod run_queue;
 
-use super::same;
+use super::{no_memory, same};
 use arena_base::ArenaSlot;
 use arena_ptr::{ChunkStack, HeapStack, PtrKey, SlotStack, ToolPtr};
 use bookmarks::Renumbers;
@@ -97,16 +97,44 @@ fn all_played<P: PtrKey, A: Renumbers<P>>(alloc: Global) -> ([[Differing; 3]; 2]
     (both, bookmarks::differing::<P, A>(alloc))
 }
 
-// Runs all at a chain arena. Naming it here, over any stack, costs less than at one.
-fn are_all_played<P: PtrKey, S: SlotStack<Item = Slot<P>>>(rt: &impl Abort, alloc: Global) {
-    let differing = all_played::<P, ChainArena<P, u32, S>>(alloc);
+// What is run at an arena.
+#[derive(Clone, Copy)]
+pub(super) enum Part {
+    Rows,
+    // The calls that are refused where each growth is refused once.
+    Refusals,
+    SmallMesh,
+    RefusedDrain,
+}
+
+fn check_rows<P: PtrKey, A: Renumbers<P>>(rt: &impl Abort, alloc: Global) {
+    let differing = all_played::<P, A>(alloc);
     same(rt, "rows", differing, ([[None; 3]; 2], None));
+}
+
+fn check_part<P: PtrKey, A: Renumbers<P>>(rt: &impl Abort, alloc: Global, part: Part) {
+    match part {
+        Part::Rows => check_rows::<P, A>(rt, alloc),
+        Part::Refusals => check_refusals::<P, A>(rt, alloc),
+        Part::SmallMesh => mesh::check_small_mesh::<P, A>(rt, alloc),
+        Part::RefusedDrain => no_memory::check_refused_drain::<P, A>(rt, alloc),
+    }
+}
+
+// Runs a part at a chain arena. Only this body names it, since naming it is the cost. Over any stack
+// it costs less than over one.
+pub(super) fn check_examples<P: PtrKey, S: SlotStack<Item = Slot<P>>>(
+    rt: &impl Abort,
+    alloc: Global,
+    part: Part,
+) {
+    check_part::<P, ChainArena<P, u32, S>>(rt, alloc, part);
 }
 
 #[test]
 fn over_one_piece_of_memory_and_in_blocks(rt: HostRuntime) {
-    are_all_played::<ToolPtr, HeapStack<Slot<ToolPtr>>>(&rt, rt.alloc());
-    are_all_played::<ToolPtr, ChunkStack<Slot<ToolPtr>>>(&rt, rt.alloc());
+    check_examples::<ToolPtr, HeapStack<Slot<ToolPtr>>>(&rt, rt.alloc(), Part::Rows);
+    check_examples::<ToolPtr, ChunkStack<Slot<ToolPtr>>>(&rt, rt.alloc(), Part::Rows);
 }
 
 // Returns whether the first insertion and the first reservation of each are refused.
@@ -121,26 +149,29 @@ fn are_refused<P: PtrKey, A: ChainArenaTrait<P, u32> + Drop>(alloc: Global) -> [
     ]
 }
 
-// Runs all rows where each growth is refused once. A refused call changes nothing, and then
-// succeeds.
-fn are_all_refused<P: PtrKey, S: SlotStack<Item = Slot<P>>>(rt: &impl Abort, alloc: Global) {
-    let refused = are_refused::<P, ChainArena<P, u32, FailingStack<S>>>(alloc);
+// Checks that the first calls are refused, and the indexes of a split beside a hole, whose growth is
+// refused once.
+fn check_refusals<P: PtrKey, A: ChainArenaTrait<P, u32> + Drop>(rt: &impl Abort, alloc: Global) {
+    let refused = are_refused::<P, A>(alloc);
     same(rt, "refused", refused, [true; 6]);
-    let split = mesh::split_beside_a_hole::<P, ChainArena<P, u32, FailingStack<S>>>(alloc);
+    let split = mesh::split_beside_a_hole::<P, A>(alloc);
     same(rt, "split beside a hole", split, (true, [Some(2), Some(5)]));
-    are_all_played::<P, FailingStack<S>>(rt, alloc);
+}
+
+// Runs the refusals, and all rows, where each growth is refused once. A refused call changes
+// nothing, and then succeeds.
+fn check_refusing<P: PtrKey, S: SlotStack<Item = Slot<P>>>(rt: &impl Abort, alloc: Global) {
+    for part in [Part::Refusals, Part::Rows] {
+        check_examples::<P, FailingStack<S>>(rt, alloc, part);
+    }
 }
 
 #[test]
 fn each_growth_is_refused_once(rt: HostRuntime) {
-    are_all_refused::<ToolPtr, HeapStack<Slot<ToolPtr>>>(&rt, rt.alloc());
+    check_refusing::<ToolPtr, HeapStack<Slot<ToolPtr>>>(&rt, rt.alloc());
 }
 
 #[test]
 fn one_corner_is_not_split_and_capacity_is_reserved(rt: HostRuntime) {
-    let checks = (
-        mesh::one_corner_is_not_split(rt.alloc()),
-        mesh::capacity_is_reserved(rt.alloc()),
-    );
-    same(&rt, "mesh", checks, (true, true));
+    check_examples::<ToolPtr, HeapStack<Slot<ToolPtr>>>(&rt, rt.alloc(), Part::SmallMesh);
 }

@@ -2,12 +2,15 @@
 
 ghost use Rattle.std.specs.Borrow.{ffalse};
 
+use super::examples::{Part, check_examples};
 use super::{LinksOver, Slot, carried_out, same};
 use arena_base::ArenaTrait;
-use arena_ptr::{HeapStack, ToolPtr};
+use arena_ptr::{HeapStack, PtrKey, SlotStack, ToolPtr};
+use chain_arena::ChainArenaTrait;
 use chain_arena::calls::{Call, run_calls};
 use chain_examples::RunQueue;
 use std::alloc::{AllocError, Allocator, Global};
+use std::process::Abort;
 
 /// An allocator that refuses every request.
 #[derive(Clone, Copy)]
@@ -23,14 +26,15 @@ unsafe impl Allocator for NoMemory {
     unsafe fn deallocate(&self, _ptr: *mut u8, _size: usize, _align: usize) {}
 }
 
-type Links = LinksOver<HeapStack<Slot>>;
-
 /// A list of three links beside a free slot, and a lone link.
 const LINKS: &str =
     "add alone 1\nadd end 1.2 2\nadd end 2.2 3\nadd end 3.2 4\nadd alone 5\nremove 2.2\n";
 
 /// Returns the text of an arena with its counter, and its capacity.
-fn state(alloc: Global, arena: &Links) -> Option<(String, usize)> {
+fn state<S: SlotStack<Item = Slot>>(
+    alloc: Global,
+    arena: &LinksOver<S>,
+) -> Option<(String, usize)> {
     match format!(in alloc; "{arena:?} {:?}", arena.generation()) {
         Ok(text) => Some((text, arena.capacity())),
         Err(_) => None,
@@ -38,7 +42,7 @@ fn state(alloc: Global, arena: &Links) -> Option<(String, usize)> {
 }
 
 /// Returns whether the replies to several calls are refused.
-fn replies_are_refused(alloc: Global, arena: &mut Links) -> bool {
+fn replies_are_refused<S: SlotStack<Item = Slot>>(alloc: Global, arena: &mut LinksOver<S>) -> bool {
     let calls: [Call<ToolPtr, u32>; 3] = [
         Call::IncGeneration,
         Call::Compress(false),
@@ -50,32 +54,43 @@ fn replies_are_refused(alloc: Global, arena: &mut Links) -> bool {
     }
 }
 
+fn check_refused_calls<S: SlotStack<Item = Slot>>(rt: &impl Abort, alloc: Global) {
+    let mut arena = LinksOver::<S>::new(alloc);
+    let made = carried_out(alloc, &mut arena, LINKS);
+    same(rt, "links", made.0, Ok(()));
+    let before = state(alloc, &arena);
+    let replies = replies_are_refused(alloc, &mut arena);
+    same(rt, "replies", replies, true);
+    let moves = arena.compress_canonical_moves(NoMemory, false);
+    same(rt, "moves", moves.is_err(), true);
+    same(rt, "state", state(alloc, &arena), before);
+}
+
 #[test]
 fn refused_replies_and_moves_change_nothing(rt: HostRuntime) {
-    let mut arena: Links = ArenaTrait::new(rt.alloc());
-    let made = carried_out(rt.alloc(), &mut arena, LINKS);
-    same(&rt, "links", made.0, Ok(()));
-    let before = state(rt.alloc(), &arena);
-    same(
-        &rt,
-        "replies",
-        replies_are_refused(rt.alloc(), &mut arena),
-        true,
-    );
-    let moves = arena.compress_canonical_moves(NoMemory, false);
-    same(&rt, "moves", moves.is_err(), true);
-    same(&rt, "state", state(rt.alloc(), &arena), before);
+    check_refused_calls::<HeapStack<Slot>>(&rt, rt.alloc());
+}
+
+/// Spawns two tasks and drains the queue into refused memory. Returns whether both are spawned,
+/// whether the drain is refused, and the number of tasks left.
+fn refused_drain<P: PtrKey, A: ChainArenaTrait<P, u32> + Drop>(
+    alloc: Global,
+) -> (bool, bool, usize) {
+    let mut queue = RunQueue::<P, u32, A>::new(alloc);
+    let spawned = queue.spawn(1).is_ok() && queue.spawn(2).is_ok();
+    let drained = queue.drain_all(NoMemory).is_err();
+    (spawned, drained, queue.len())
+}
+
+pub(super) fn check_refused_drain<P: PtrKey, A: ChainArenaTrait<P, u32> + Drop>(
+    rt: &impl Abort,
+    alloc: Global,
+) {
+    let drained = refused_drain::<P, A>(alloc);
+    same(rt, "drained", drained, (true, true, 2));
 }
 
 #[test]
 fn a_refused_drain_takes_no_task(rt: HostRuntime) {
-    let mut queue: RunQueue<ToolPtr, u32, Links> = RunQueue::new(rt.alloc());
-    let spawned = queue.spawn(1).is_ok() && queue.spawn(2).is_ok();
-    let drained = queue.drain_all(NoMemory).is_err();
-    same(
-        &rt,
-        "drained",
-        (spawned, drained, queue.len()),
-        (true, true, 2),
-    );
+    check_examples::<ToolPtr, HeapStack<Slot>>(&rt, rt.alloc(), Part::RefusedDrain);
 }

@@ -1,10 +1,11 @@
 //! Tests of a mesh: a square is triangulated and merged again.
 
-use super::{Differing, Slot, name, names_of, noted, number, with_digit, with_pair};
-use arena_ptr::{HeapStack, InxKey, PtrKey, ToolPtr};
-use chain_arena::{ChainArena, ChainArenaTrait};
+use super::{Differing, name, names_of, noted, number, same, with_digit, with_pair};
+use arena_ptr::{InxKey, PtrKey};
+use chain_arena::ChainArenaTrait;
 use chain_examples::Mesh;
 use std::alloc::Global;
+use std::process::Abort;
 
 // A change of polygons. Corners are numbered in the order of their insertion.
 #[derive(Clone, Copy)]
@@ -195,11 +196,9 @@ pub(super) fn differing<P: PtrKey, A: ChainArenaTrait<P, u32> + Drop>(alloc: Glo
     None
 }
 
-type ToolMesh = Mesh<ToolPtr, u32, ChainArena<ToolPtr, u32, HeapStack<Slot<ToolPtr>>>>;
-
 // Returns whether a split at one corner returns `Ok(None)` and changes nothing.
-pub(super) fn one_corner_is_not_split(alloc: Global) -> bool {
-    let mut mesh = ToolMesh::new(alloc);
+fn one_corner_is_not_split<P: PtrKey, A: ChainArenaTrait<P, u32> + Drop>(alloc: Global) -> bool {
+    let mut mesh = Mesh::<P, u32, A>::new(alloc);
     let Ok(p) = mesh.start(1) else {
         return false;
     };
@@ -207,12 +206,32 @@ pub(super) fn one_corner_is_not_split(alloc: Global) -> bool {
     is_refused && mesh.len() == 1 && points_around(&mesh, p) == 1
 }
 
-// Returns whether a mesh has the reserved capacity, and keeps it when a corner is added.
-pub(super) fn capacity_is_reserved(alloc: Global) -> bool {
-    let mut mesh = ToolMesh::new(alloc);
-    let was_empty = mesh.is_empty() && mesh.capacity() == 0;
-    let is_reserved = mesh.reserve(3).is_ok() && mesh.capacity() >= 3;
+fn has_size<P: PtrKey, A: ChainArenaTrait<P, u32> + Drop>(
+    mesh: &Mesh<P, u32, A>,
+    len: usize,
+    capacity: usize,
+) -> bool {
+    mesh.len() == len && mesh.is_empty() == (len == 0) && mesh.capacity() == capacity
+}
+
+// Returns whether a new mesh is empty, capacity for three corners is reserved and reported, and a
+// corner is added within it.
+fn capacity_is_reserved<P: PtrKey, A: ChainArenaTrait<P, u32> + Drop>(alloc: Global) -> [bool; 5] {
+    let mut mesh = Mesh::<P, u32, A>::new(alloc);
+    let is_empty = has_size(&mesh, 0, 0);
+    let is_reserved = mesh.reserve(3).is_ok();
     let capacity = mesh.capacity();
-    let is_started = mesh.start(1).is_ok() && !mesh.is_empty() && mesh.len() == 1;
-    was_empty && is_reserved && is_started && mesh.capacity() == capacity
+    let is_started = mesh.start(1).is_ok();
+    let is_kept = has_size(&mesh, 1, capacity);
+    [is_empty, is_reserved, capacity >= 3, is_started, is_kept]
+}
+
+pub(super) fn check_small_mesh<P: PtrKey, A: ChainArenaTrait<P, u32> + Drop>(
+    rt: &impl Abort,
+    alloc: Global,
+) {
+    let is_kept = one_corner_is_not_split::<P, A>(alloc);
+    same(rt, "a split at one corner", is_kept, true);
+    let reserved = capacity_is_reserved::<P, A>(alloc);
+    same(rt, "capacity", reserved, [true; 5]);
 }
