@@ -23,12 +23,12 @@ pub(crate) struct ReadAhead {
 impl ReadAhead {
     /// Allows as many reads as there are slots.
     ///
-    /// Fewer than 65,536 slots are never read ahead, since reading ahead costs more than it saves
+    /// Fewer than 32,768 slots are never read ahead, since reading ahead costs more than it saves
     /// there.
     pub(crate) fn new(slots: usize) -> ReadAhead
         ensures { result.credit ≤ slots }
     {
-        let position = if slots < 65_536 { slots } else { 0 };
+        let position = if slots < 32_768 { slots } else { 0 };
         ReadAhead {
             position,
             credit: slots,
