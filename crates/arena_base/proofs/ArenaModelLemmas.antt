@@ -2,7 +2,7 @@
 use Rattle.std.proofs.Common.{◌≡◌, ℕ, ◌+◌, ◌-◌, ◌<◌, List, [], ◌∷◌, ◌++◌, map, Option, None, Some, refl, ap, sym, ◌∙◌, subst, arith}
 use Rattle.std.specs.Prelude.{slice_get, slice_set, count_by, is_some}
 use Rattle.std.proofs.lemmas.List.{map-set}
-use Rattle.arena_base.specs.Arena.{Arena, slot_at, with_slot, insert_next, remove_at, with_value, renewed_at, cleared, counter_after_clear, with_capacity_of, ReachesCapacity}
+use Rattle.arena_base.specs.Arena.{Arena, slot_at, with_slot, insert_next, remove_at, with_value, renewed_at, arena_after_clear, counter_after_clear, with_capacity_of, ReachesCapacity}
 use Rattle.std.specs.Option.{option_map}
 use Rattle.arena_base.specs.Slots.{entry_of, entry_in, with_value_in, allocated_slot, free_slot, arena_of, freed_of, IsSound}
 use Rattle.arena_base.specs.declared.slot.ArenaSlot.{ArenaSlot}
@@ -81,7 +81,7 @@ module _ {P T Inx Gen Word : Type 0} (number : Inx → ℕ) where
   -- The arena after its slots are dropped.
   pub cleared_view : (slots items : List (ArenaSlot P T Inx Gen Word)) (ns : List ℕ) (counter after : Gen) (greatest capacity new_capacity : ℕ) (maximum most : Option ℕ) (placed touched len : ℕ) (following : Gen → Gen)
       → items ≡ [] → new_capacity ≡ capacity → most ≡ maximum → len ≡ count_by is_some (map entry_of slots) → after ≡ counter_after_clear following len counter
-      → arena_of items (freed_of number items None) after greatest new_capacity most placed touched ≡ cleared following (arena_of slots ns counter greatest capacity maximum placed touched)
+      → arena_of items (freed_of number items None) after greatest new_capacity most placed touched ≡ arena_after_clear following (arena_of slots ns counter greatest capacity maximum placed touched)
   cleared_view slots items ns counter after greatest capacity new_capacity maximum most placed touched len following none equal_capacity same_most counted same_after = rw (none, equal_capacity, same_most, same_after, counted)
 
   -- The arena after a slot is written back unchanged.

@@ -5,8 +5,8 @@ use Rattle.std.specs.Option.{option_map}
 use Rattle.std.proofs.lemmas.Bool.{eq-eqb, ne_eqb}
 use Rattle.std.proofs.lemmas.List.Sums.{sum_by-cons, sum_by-set}
 use Rattle.arena_ptr.specs.Invalidation.{value_within, invalidation_result}
-use Rattle.arena_base.specs.Arena.{Arena, IsMember, filled, entry_count, slot_at, with_slot, remove_at, renewed_at, with_value, cleared, counter_after_clear}
-use Rattle.arena_base.specs.Entries.{ArenaView, entries_from, entries, view_of, without, replaced, entry_removed, renewed, written, emptied}
+use Rattle.arena_base.specs.Arena.{Arena, IsMember, slots_after_insertion, entry_count, slot_at, with_slot, remove_at, renewed_at, with_value, arena_after_clear, counter_after_clear}
+use Rattle.arena_base.specs.Entries.{ArenaView, entries_from, entries, view_of, without_index, with_replacement, entry_removed, view_after_invalidation, view_with_value, view_after_clear}
 use Rattle.arena_base.proofs.SlotLemmas.{length-with_slot}
 
 module _ {Gen T : Type 0} where
@@ -22,7 +22,7 @@ module _ {Gen T : Type 0} where
   count-push (s ∷ slots) e = omega (arith, sum_by-cons (λ (o : Option (Gen × T)). cond (is_some o) 1 0) s slots, sum_by-cons (λ (o : Option (Gen × T)). cond (is_some o) 1 0) s (slots ++ Some e ∷ []), count-push slots e)
 
   pub count-filled : (freed : List ℕ) (slots : List (Option (Gen × T))) (e : Gen × T) → ((i : ℕ) → IsMember freed i → (slot_at slots i ≡ None) × (1 ≤ i) × (i ≤ length slots))
-      → count_by is_some (filled freed slots e) ≡ count_by is_some slots + 1
+      → count_by is_some (slots_after_insertion freed slots e) ≡ count_by is_some slots + 1
   count-filled [] slots e free = count-push slots e
   count-filled (zero ∷ freed) slots e free = absurd (omega (arith, (free zero (inl refl)).1))
   count-filled (suc k ∷ freed) slots e free =
@@ -40,53 +40,53 @@ module _ {Gen T : Type 0} where
       empty [] is = refl
       empty (e ∷ es) is = absurd (omega (arith, is))
 
-  without-below : (i j : ℕ) (slots : List (Option (Gen × T))) → i < j → without i (entries_from j slots) ≡ entries_from j slots
+  without-below : (i j : ℕ) (slots : List (Option (Gen × T))) → i < j → without_index i (entries_from j slots) ≡ entries_from j slots
   without-below i j [] less = refl
   without-below i j (None ∷ slots) less = without-below i (suc j) slots (omega (arith, less))
   without-below i j (Some e ∷ slots) less =
       let rest = entries_from (suc j) slots in
-      ap (λ b. cond b rest (((j, e.0), e.1) ∷ without i rest)) (ne_eqb j i (λ is. omega (arith, less, is))) ∙ ap (λ es. ((j, e.0), e.1) ∷ es) (without-below i (suc j) slots (omega (arith, less)))
+      ap (λ b. cond b rest (((j, e.0), e.1) ∷ without_index i rest)) (ne_eqb j i (λ is. omega (arith, less, is))) ∙ ap (λ es. ((j, e.0), e.1) ∷ es) (without-below i (suc j) slots (omega (arith, less)))
 
-  entries_from-freed : (i j k : ℕ) (slots : List (Option (Gen × T))) → j + k ≡ i → entries_from j (slice_set slots k None) ≡ without i (entries_from j slots)
+  entries_from-freed : (i j k : ℕ) (slots : List (Option (Gen × T))) → j + k ≡ i → entries_from j (slice_set slots k None) ≡ without_index i (entries_from j slots)
   entries_from-freed i j k [] at = refl
   entries_from-freed i j zero (None ∷ slots) at = sym (without-below i (suc j) slots (omega (arith, at)))
   entries_from-freed i j zero (Some e ∷ slots) at =
       let rest = entries_from (suc j) slots in
-      sym (ap (λ b. cond b rest (((j, e.0), e.1) ∷ without i rest)) (eq-eqb j i (omega (arith, at))))
+      sym (ap (λ b. cond b rest (((j, e.0), e.1) ∷ without_index i rest)) (eq-eqb j i (omega (arith, at))))
   entries_from-freed i j (suc k) (None ∷ slots) at = entries_from-freed i (suc j) k slots (omega (arith, at))
   entries_from-freed i j (suc k) (Some e ∷ slots) at =
       let rest = entries_from (suc j) slots in
       ap (λ es. ((j, e.0), e.1) ∷ es) (entries_from-freed i (suc j) k slots (omega (arith, at)))
-      ∙ sym (ap (λ b. cond b rest (((j, e.0), e.1) ∷ without i rest)) (ne_eqb j i (λ is. omega (arith, at, is))))
+      ∙ sym (ap (λ b. cond b rest (((j, e.0), e.1) ∷ without_index i rest)) (ne_eqb j i (λ is. omega (arith, at, is))))
 
-  replaced-below : (f : Gen × T → Gen × T) (i j : ℕ) (slots : List (Option (Gen × T))) → i < j → replaced i f (entries_from j slots) ≡ entries_from j slots
+  replaced-below : (f : Gen × T → Gen × T) (i j : ℕ) (slots : List (Option (Gen × T))) → i < j → with_replacement i f (entries_from j slots) ≡ entries_from j slots
   replaced-below f i j [] less = refl
   replaced-below f i j (None ∷ slots) less = replaced-below f i (suc j) slots (omega (arith, less))
   replaced-below f i j (Some e ∷ slots) less =
       let rest = entries_from (suc j) slots in
-      ap (λ b. cond b (((i, (f (e.0, e.1)).0), (f (e.0, e.1)).1) ∷ rest) (((j, e.0), e.1) ∷ replaced i f rest)) (ne_eqb j i (λ is. omega (arith, less, is)))
+      ap (λ b. cond b (((i, (f (e.0, e.1)).0), (f (e.0, e.1)).1) ∷ rest) (((j, e.0), e.1) ∷ with_replacement i f rest)) (ne_eqb j i (λ is. omega (arith, less, is)))
       ∙ ap (λ es. ((j, e.0), e.1) ∷ es) (replaced-below f i (suc j) slots (omega (arith, less)))
 
   entries_from-replaced : (f : Gen × T → Gen × T) (i j k : ℕ) (slots : List (Option (Gen × T))) → j + k ≡ i
-      → entries_from j (slice_set slots k (option_map f (slice_index_or slots k None))) ≡ replaced i f (entries_from j slots)
+      → entries_from j (slice_set slots k (option_map f (slice_index_or slots k None))) ≡ with_replacement i f (entries_from j slots)
   entries_from-replaced f i j k [] at = refl
   entries_from-replaced f i j zero (None ∷ slots) at = sym (replaced-below f i (suc j) slots (omega (arith, at)))
   entries_from-replaced f i j zero (Some e ∷ slots) at =
       let rest = entries_from (suc j) slots in
       let same : j ≡ i = omega (arith, at) in
       ap (λ n. ((n, (f (e.0, e.1)).0), (f (e.0, e.1)).1) ∷ rest) same
-      ∙ sym (ap (λ b. cond b (((i, (f (e.0, e.1)).0), (f (e.0, e.1)).1) ∷ rest) (((j, e.0), e.1) ∷ replaced i f rest)) (eq-eqb j i same))
+      ∙ sym (ap (λ b. cond b (((i, (f (e.0, e.1)).0), (f (e.0, e.1)).1) ∷ rest) (((j, e.0), e.1) ∷ with_replacement i f rest)) (eq-eqb j i same))
   entries_from-replaced f i j (suc k) (None ∷ slots) at = entries_from-replaced f i (suc j) k slots (omega (arith, at))
   entries_from-replaced f i j (suc k) (Some e ∷ slots) at =
       let rest = entries_from (suc j) slots in
       ap (λ es. ((j, e.0), e.1) ∷ es) (entries_from-replaced f i (suc j) k slots (omega (arith, at)))
-      ∙ sym (ap (λ b. cond b (((i, (f (e.0, e.1)).0), (f (e.0, e.1)).1) ∷ rest) (((j, e.0), e.1) ∷ replaced i f rest)) (ne_eqb j i (λ is. omega (arith, at, is))))
+      ∙ sym (ap (λ b. cond b (((i, (f (e.0, e.1)).0), (f (e.0, e.1)).1) ∷ rest) (((j, e.0), e.1) ∷ with_replacement i f rest)) (ne_eqb j i (λ is. omega (arith, at, is))))
 
-  entries-freed : (slots : List (Option (Gen × T))) (n : ℕ) → entries_from 1 (with_slot slots n None) ≡ without n (entries_from 1 slots)
+  entries-freed : (slots : List (Option (Gen × T))) (n : ℕ) → entries_from 1 (with_slot slots n None) ≡ without_index n (entries_from 1 slots)
   entries-freed slots zero = sym (without-below 0 1 slots (omega arith))
   entries-freed slots (suc k) = entries_from-freed (suc k) 1 k slots (omega arith)
 
-  entries-replaced : (f : Gen × T → Gen × T) (slots : List (Option (Gen × T))) (n : ℕ) → entries_from 1 (with_slot slots n (option_map f (slot_at slots n))) ≡ replaced n f (entries_from 1 slots)
+  entries-replaced : (f : Gen × T → Gen × T) (slots : List (Option (Gen × T))) (n : ℕ) → entries_from 1 (with_slot slots n (option_map f (slot_at slots n))) ≡ with_replacement n f (entries_from 1 slots)
   entries-replaced f slots zero = sym (replaced-below f 0 1 slots (omega arith))
   entries-replaced f slots (suc k) = entries_from-replaced f (suc k) 1 k slots (omega arith)
 
@@ -101,17 +101,17 @@ module _ {Gen T : Type 0} where
   pub viewed_removed : (following : Gen → Gen) (a : Arena Gen T) (n : ℕ) → view_of (remove_at following a n) ≡ entry_removed following (view_of a) n
   viewed_removed following a n = λ i. shape a (entries-freed a.slots n i) (length-with_slot a.slots n None i) (n ∷ a.freed) (following a.counter) (a.placed + 1)
 
-  pub viewed_written : (a : Arena Gen T) (n : ℕ) (t : T) → view_of (with_value a n t) ≡ written (view_of a) n t
+  pub viewed_written : (a : Arena Gen T) (n : ℕ) (t : T) → view_of (with_value a n t) ≡ view_with_value (view_of a) n t
   viewed_written a n t =
       let f : Gen × T → Gen × T = λ e. (e.0, t) in
       λ i. shape a (entries-replaced f a.slots n i) (length-with_slot a.slots n (option_map f (slot_at a.slots n)) i) a.freed a.counter a.placed
 
-  pub viewed_renewed : (following : Gen → Gen) (a : Arena Gen T) (n : ℕ) → view_of (renewed_at following a n) ≡ renewed (view_of a) (n, following a.counter)
+  pub viewed_renewed : (following : Gen → Gen) (a : Arena Gen T) (n : ℕ) → view_of (renewed_at following a n) ≡ view_after_invalidation (view_of a) (n, following a.counter)
   viewed_renewed following a n =
       let f : Gen × T → Gen × T = λ e. (following a.counter, e.1) in
       λ i. shape a (entries-replaced f a.slots n i) (length-with_slot a.slots n (option_map f (slot_at a.slots n)) i) a.freed (following a.counter) a.placed
 
-  pub viewed_cleared : (following : Gen → Gen) (a : Arena Gen T) → view_of (cleared following a) ≡ emptied following (view_of a)
+  pub viewed_cleared : (following : Gen → Gen) (a : Arena Gen T) → view_of (arena_after_clear following a) ≡ view_after_clear following (view_of a)
   viewed_cleared following a = ap (λ count. shape a [] 0 [] (counter_after_clear following count a.counter) a.placed) (sym (length-entries a))
 
 -- A result contains the value it is made from.
@@ -123,7 +123,7 @@ value_within-made true (Some x) = refl
 module _ {Gen T : Type 0} where
   -- The pointer of an entry that got the next generation.
   pub renewed_key : (following : Gen → Gen) (a b : Arena Gen T) (key : ℕ × Gen) (m made n : ℕ) (g : Gen)
-      → key ≡ (made, g) → made ≡ n → m ≡ n → g ≡ following a.counter → b ≡ renewed_at following a m → (key.0 ≡ n) × (view_of b ≡ renewed (view_of a) key)
+      → key ≡ (made, g) → made ≡ n → m ≡ n → g ≡ following a.counter → b ≡ renewed_at following a m → (key.0 ≡ n) × (view_of b ≡ view_after_invalidation (view_of a) key)
   renewed_key following a b key m made n g is at index next after =
       let same : key ≡ (m, following a.counter) = is ∙ (ap (λ i. let k : ℕ × Gen = (i, g) in k) (at ∙ sym index) ∙ ap (λ (h : Gen). let k : ℕ × Gen = (m, h) in k) next) in
-      (ap (λ (k : ℕ × Gen). k.0) is ∙ at, ap view_of after ∙ (viewed_renewed following a m ∙ ap (renewed (view_of a)) (sym same)))
+      (ap (λ (k : ℕ × Gen). k.0) is ∙ at, ap view_of after ∙ (viewed_renewed following a m ∙ ap (view_after_invalidation (view_of a)) (sym same)))

@@ -12,7 +12,7 @@ use Rattle.arena_base.specs.Arena.{Arena, slot_at, with_slot}
 use Rattle.arena_base.specs.Entries.{entries_from}
 use Rattle.arena_base.specs.DetachedSlots.{DetachedView, IsPacked, with_touch, with_placement}
 use Rattle.arena_base.specs.Compressions.{Visit, IsVisit, VisitsAll}
-use Rattle.arena_base.specs.GatheredSlots.{fronted, AreClosed, with_totals}
+use Rattle.arena_base.specs.GatheredSlots.{with_front, AreClosed, with_totals}
 use Rattle.arena_base.proofs.TrimLemmas.{drop-at}
 
 module _ {X : Type 0} where
@@ -30,7 +30,7 @@ module _ {X : Type 0} where
 
 module _ {Gen T : Type 0} (g : Gen) where
   -- The next slot to pass.
-  next_slot_there : (values : List T) (n k : ℕ) (slot : Option (Gen × T)) (rest : List (Option (Gen × T))) → length values + n ≡ k → slice_index_or (fronted g values (replicate n None ++ slot ∷ rest)) k None ≡ slot
+  next_slot_there : (values : List T) (n k : ℕ) (slot : Option (Gen × T)) (rest : List (Option (Gen × T))) → length values + n ≡ k → slice_index_or (with_front g values (replicate n None ++ slot ∷ rest)) k None ≡ slot
   next_slot_there [] zero zero slot rest at = refl
   next_slot_there [] zero (suc k) slot rest at = absurd (omega (arith, at))
   next_slot_there [] (suc n) zero slot rest at = absurd (omega (arith, at))
@@ -39,20 +39,20 @@ module _ {Gen T : Type 0} (g : Gen) where
   next_slot_there (v ∷ values) n (suc k) slot rest at = next_slot_there values n k slot rest (omega (arith, at))
 
   -- A free slot after the front.
-  free_behind : (values : List T) (n : ℕ) (rest : List (Option (Gen × T))) → 1 ≤ n → slice_index_or (fronted g values (replicate n None ++ rest)) (length values) None ≡ None
+  free_behind : (values : List T) (n : ℕ) (rest : List (Option (Gen × T))) → 1 ≤ n → slice_index_or (with_front g values (replicate n None ++ rest)) (length values) None ≡ None
   free_behind [] zero rest some = absurd (omega (arith, some))
   free_behind [] (suc n) rest some = refl
   free_behind (v ∷ values) n rest some = free_behind values n rest some
 
   -- The first slot after the front.
-  slot_behind : (values : List T) (slot : Option (Gen × T)) (rest : List (Option (Gen × T))) → slice_index_or (fronted g values (slot ∷ rest)) (length values) None ≡ slot
+  slot_behind : (values : List T) (slot : Option (Gen × T)) (rest : List (Option (Gen × T))) → slice_index_or (with_front g values (slot ∷ rest)) (length values) None ≡ slot
   slot_behind [] slot rest = refl
   slot_behind (v ∷ values) slot rest = slot_behind values slot rest
 
   -- The next slot is swapped with the first one after the front, which is then written.
   brought : (values : List T) (n k : ℕ) (slot x : Option (Gen × T)) (rest : List (Option (Gen × T))) → length values + n ≡ k
-      → slice_set (slice_set (fronted g values (replicate n None ++ slot ∷ rest)) k (slice_index_or (fronted g values (replicate n None ++ slot ∷ rest)) (length values) None)) (length values) x
-      ≡ fronted g values (x ∷ (replicate n None ++ rest))
+      → slice_set (slice_set (with_front g values (replicate n None ++ slot ∷ rest)) k (slice_index_or (with_front g values (replicate n None ++ slot ∷ rest)) (length values) None)) (length values) x
+      ≡ with_front g values (x ∷ (replicate n None ++ rest))
   brought [] zero zero slot x rest at = refl
   brought [] zero (suc k) slot x rest at = absurd (omega (arith, at))
   brought [] (suc n) zero slot x rest at = absurd (omega (arith, at))
@@ -61,50 +61,50 @@ module _ {Gen T : Type 0} (g : Gen) where
   brought (v ∷ values) n (suc k) slot x rest at = ap (λ (es : List (Option (Gen × T))). Some (g, v) ∷ es) (brought values n k slot x rest (omega (arith, at)))
 
   -- One more value is at the front.
-  joined : (values : List T) (t w : T) (rest : List (Option (Gen × T))) → slice_set (fronted g values (Some (g, t) ∷ rest)) (length values) (Some (g, w)) ≡ fronted g (values ++ w ∷ []) rest
+  joined : (values : List T) (t w : T) (rest : List (Option (Gen × T))) → slice_set (with_front g values (Some (g, t) ∷ rest)) (length values) (Some (g, w)) ≡ with_front g (values ++ w ∷ []) rest
   joined [] t w rest = refl
   joined (v ∷ values) t w rest = ap (λ (es : List (Option (Gen × T))). Some (g, v) ∷ es) (joined values t w rest)
 
   -- Placing the next entry puts it at the end of the front.
-  placed_fronted : (values : List T) (n k from to : ℕ) (slots rest : List (Option (Gen × T))) (e : Gen × T) → slots ≡ fronted g values (replicate n None ++ Some e ∷ rest) → length values + n ≡ k → suc k ≡ from → suc (length values) ≡ to
-      → with_slot (with_slot slots from (slot_at slots to)) to (option_map (λ (x : Gen × T). (g, x.1)) (slot_at slots from)) ≡ fronted g values (Some (g, e.1) ∷ (replicate n None ++ rest))
+  placed_fronted : (values : List T) (n k from to : ℕ) (slots rest : List (Option (Gen × T))) (e : Gen × T) → slots ≡ with_front g values (replicate n None ++ Some e ∷ rest) → length values + n ≡ k → suc k ≡ from → suc (length values) ≡ to
+      → with_slot (with_slot slots from (slot_at slots to)) to (option_map (λ (x : Gen × T). (g, x.1)) (slot_at slots from)) ≡ with_front g values (Some (g, e.1) ∷ (replicate n None ++ rest))
   placed_fronted values n k from to slots rest e is at at_from at_to =
       let moved = λ (i j : ℕ) (s : List (Option (Gen × T))). with_slot (with_slot s i (slot_at s j)) j (option_map (λ (x : Gen × T). (g, x.1)) (slot_at s i)) in
-      let old = fronted g values (replicate n None ++ Some e ∷ rest) in
+      let old = with_front g values (replicate n None ++ Some e ∷ rest) in
       ap (moved from to) is ∙ (ap (λ i. moved i to old) (sym at_from) ∙ (ap (λ j. moved (suc k) j old) (sym at_to)
       ∙ (ap (λ o. slice_set (slice_set old k (slice_index_or old (length values) None)) (length values) (option_map (λ (x : Gen × T). (g, x.1)) o)) (next_slot_there values n k (Some e) rest at)
       ∙ brought values n k (Some e) (Some (g, e.1)) rest at)))
 
   -- Writing its value then replaces the value there.
-  written_fronted : (values : List T) (to : ℕ) (slots rest : List (Option (Gen × T))) (t w : T) → slots ≡ fronted g values (Some (g, t) ∷ rest) → suc (length values) ≡ to
-      → with_slot slots to (option_map (λ (x : Gen × T). (x.0, w)) (slot_at slots to)) ≡ fronted g (values ++ w ∷ []) rest
+  written_fronted : (values : List T) (to : ℕ) (slots rest : List (Option (Gen × T))) (t w : T) → slots ≡ with_front g values (Some (g, t) ∷ rest) → suc (length values) ≡ to
+      → with_slot slots to (option_map (λ (x : Gen × T). (x.0, w)) (slot_at slots to)) ≡ with_front g (values ++ w ∷ []) rest
   written_fronted values to slots rest t w is at =
       let written = λ (j : ℕ) (s : List (Option (Gen × T))). with_slot s j (option_map (λ (x : Gen × T). (x.0, w)) (slot_at s j)) in
-      let old = fronted g values (Some (g, t) ∷ rest) in
+      let old = with_front g values (Some (g, t) ∷ rest) in
       ap (written to) is ∙ (ap (λ j. written j old) (sym at)
       ∙ (ap (λ o. slice_set old (length values) (option_map (λ (x : Gen × T). (x.0, w)) o)) (slot_behind values (Some (g, t)) rest) ∙ joined values t w rest))
 
   -- That value's entry is the last.
-  entries-joined : (values : List T) (i j : ℕ) (w : T) → i + length values ≡ j → entries_from i (fronted g (values ++ w ∷ []) []) ≡ entries_from i (fronted g values []) ++ ((j, g), w) ∷ []
+  entries-joined : (values : List T) (i j : ℕ) (w : T) → i + length values ≡ j → entries_from i (with_front g (values ++ w ∷ []) []) ≡ entries_from i (with_front g values []) ++ ((j, g), w) ∷ []
   entries-joined [] i j w at = let same : i ≡ j = omega (arith, at) in ap (λ n. ((n, g), w) ∷ []) same
   entries-joined (v ∷ values) i j w at = ap (λ es. ((i, g), v) ∷ es) (entries-joined values (suc i) j w (omega (arith, at)))
 
   -- Each value has an entry.
-  pub length-fronted : (values : List T) (i : ℕ) → length (entries_from i (fronted g values [])) ≡ length values
-  length-fronted [] i = refl
-  length-fronted (v ∷ values) i = ap suc (length-fronted values (suc i))
+  pub length-with_front : (values : List T) (i : ℕ) → length (entries_from i (with_front g values [])) ≡ length values
+  length-with_front [] i = refl
+  length-with_front (v ∷ values) i = ap suc (length-with_front values (suc i))
 
   -- Free slots have no entries.
-  pub entries-closed : (values : List T) (n i : ℕ) → entries_from i (fronted g values (replicate n None)) ≡ entries_from i (fronted g values [])
+  pub entries-closed : (values : List T) (n i : ℕ) → entries_from i (with_front g values (replicate n None)) ≡ entries_from i (with_front g values [])
   entries-closed [] zero i = refl
   entries-closed [] (suc n) i = entries-closed [] n (suc i)
   entries-closed (v ∷ values) n i = ap (λ es. ((i, g), v) ∷ es) (entries-closed values n (suc i))
 
   -- Values followed by free slots are packed.
-  packed-fronted : (values : List T) (n : ℕ) → IsPacked (fronted g values (replicate n None)) (length values)
-  packed-fronted values n = record { taken = λ i low high. taken values i low high; free = λ i above. free values i above }
+  packed-with_front : (values : List T) (n : ℕ) → IsPacked (with_front g values (replicate n None)) (length values)
+  packed-with_front values n = record { taken = λ i low high. taken values i low high; free = λ i above. free values i above }
     where
-      taken_at : (values : List T) (k : ℕ) → k < length values → IsSome (slice_index_or (fronted g values (replicate n None)) k None)
+      taken_at : (values : List T) (k : ℕ) → k < length values → IsSome (slice_index_or (with_front g values (replicate n None)) k None)
       taken_at [] k below = absurd (omega (arith, below))
       taken_at (v ∷ values) zero below = refl
       taken_at (v ∷ values) (suc k) below = taken_at values k (omega (arith, below))
@@ -114,16 +114,16 @@ module _ {Gen T : Type 0} (g : Gen) where
       none_at (suc n) zero = refl
       none_at (suc n) (suc k) = none_at n k
 
-      free_at : (values : List T) (k : ℕ) → length values ≤ k → slice_index_or (fronted g values (replicate n None)) k None ≡ None
+      free_at : (values : List T) (k : ℕ) → length values ≤ k → slice_index_or (with_front g values (replicate n None)) k None ≡ None
       free_at [] k above = none_at n k
       free_at (v ∷ values) zero above = absurd (omega (arith, above))
       free_at (v ∷ values) (suc k) above = free_at values k (omega (arith, above))
 
-      taken : (values : List T) (i : ℕ) → 1 ≤ i → i ≤ length values → IsSome (slot_at (fronted g values (replicate n None)) i)
+      taken : (values : List T) (i : ℕ) → 1 ≤ i → i ≤ length values → IsSome (slot_at (with_front g values (replicate n None)) i)
       taken values zero low high = absurd (omega (arith, low))
       taken values (suc k) low high = taken_at values k (omega (arith, high))
 
-      free : (values : List T) (i : ℕ) → length values < i → slot_at (fronted g values (replicate n None)) i ≡ None
+      free : (values : List T) (i : ℕ) → length values < i → slot_at (with_front g values (replicate n None)) i ≡ None
       free values zero above = refl
       free values (suc k) above = free_at values k (omega (arith, above))
 
@@ -154,8 +154,8 @@ pub record IsClosing {F P T Gen : Type 0} (g : Mut F (P × (MutBor T × (P × Un
   pub free : ℕ
   pub in_turn : FoldsTo (IsVisit g) first visits f
   pub before : map (before_visit key) visits ++ entries_from (suc k) (drop k old) ≡ entries_from 1 old
-  pub after : map (after_visit key) visits ≡ entries_from 1 (fronted generation values [])
-  pub now : slots ≡ fronted generation values (replicate free None ++ drop k old)
+  pub after : map (after_visit key) visits ≡ entries_from 1 (with_front generation values [])
+  pub now : slots ≡ with_front generation values (replicate free None ++ drop k old)
   pub counted : length values ≡ count
   pub passed : count + free ≡ k
 
@@ -182,8 +182,8 @@ module _ {F P T Gen : Type 0} (g : Mut F (P × (MutBor T × (P × Unit {0}))) (U
       by (suc n) is = omega (arith, is)
 
   module _ (k count : ℕ) (f : F) (slots : List (Option (Gen × T))) (c : IsClosing g key generation first old k count f slots) (below : k < length old) where
-    split_slots : (slot : Option (Gen × T)) (is : drop k old ≡ slot ∷ drop (suc k) old) → slots ≡ fronted generation c.values (replicate c.free None ++ slot ∷ drop (suc k) old)
-    split_slots slot is = c.now ∙ ap (λ es. fronted generation c.values (replicate c.free None ++ es)) is
+    split_slots : (slot : Option (Gen × T)) (is : drop k old ≡ slot ∷ drop (suc k) old) → slots ≡ with_front generation c.values (replicate c.free None ++ slot ∷ drop (suc k) old)
+    split_slots slot is = c.now ∙ ap (λ es. with_front generation c.values (replicate c.free None ++ es)) is
 
     -- The next slot is the old one.
     pub next_slot : (n : ℕ) → n ≡ k + 1 → slot_at slots n ≡ slice_index_or old k None
@@ -205,7 +205,7 @@ module _ {F P T Gen : Type 0} (g : Mut F (P × (MutBor T × (P × Unit {0}))) (U
           in_turn = c.in_turn;
           before = ap (λ es. map (before_visit key) c.visits ++ entries_from (suc k) es) (sym is) ∙ c.before;
           after = c.after;
-          now = split_slots None is ∙ ap (fronted generation c.values) (free_passed c.free (drop (suc k) old));
+          now = split_slots None is ∙ ap (with_front generation c.values) (free_passed c.free (drop (suc k) old));
           counted = c.counted;
           passed = omega (arith, c.passed);
         })
@@ -228,12 +228,12 @@ module _ {F P T Gen : Type 0} (g : Mut F (P × (MutBor T × (P × Unit {0}))) (U
       split : drop k old ≡ Some moved_entry.0 ∷ later
       split = drop-at old k below ∙ ap (λ o. o ∷ later) (sym (next_slot from at_from) ∙ moved_entry.1)
 
-      is_mid : mid ≡ fronted generation c.values (Some (generation, moved_entry.0.1) ∷ (replicate c.free None ++ later))
+      is_mid : mid ≡ with_front generation c.values (Some (generation, moved_entry.0.1) ∷ (replicate c.free None ++ later))
       is_mid = placed ∙ placed_fronted generation c.values c.free k from to slots later moved_entry.0 (split_slots (Some moved_entry.0) split) (omega (arith, c.counted, c.passed)) from_number to_number
 
       stored : slot_at mid to ≡ Some (generation, moved_entry.0.1)
       stored =
-          let now = fronted generation c.values (Some (generation, moved_entry.0.1) ∷ (replicate c.free None ++ later)) in
+          let now = with_front generation c.values (Some (generation, moved_entry.0.1) ∷ (replicate c.free None ++ later)) in
           ap (λ es. slot_at es to) is_mid ∙ (sym (ap (slot_at now) to_number) ∙ slot_behind generation c.values (Some (generation, moved_entry.0.1)) (replicate c.free None ++ later))
 
       -- The entry is in its new slot.
@@ -259,7 +259,7 @@ module _ {F P T Gen : Type 0} (g : Mut F (P × (MutBor T × (P × Unit {0}))) (U
                 ∙ (ap (λ b. map (before_visit key) c.visits ++ b ∷ entries_from (suc (suc k)) later) before
                 ∙ (ap (λ es. map (before_visit key) c.visits ++ entries_from (suc k) es) (sym split) ∙ c.before)));
             after = map-append (after_visit key) c.visits (v ∷ [])
-                ∙ (ap (λ es. es ++ after_visit key v ∷ []) c.after ∙ (ap (λ b. entries_from 1 (fronted generation c.values []) ++ b ∷ []) left ∙ sym (entries-joined generation c.values 1 to v.left (omega (arith, at_to, c.counted)))));
+                ∙ (ap (λ es. es ++ after_visit key v ∷ []) c.after ∙ (ap (λ b. entries_from 1 (with_front generation c.values []) ++ b ∷ []) left ∙ sym (entries-joined generation c.values 1 to v.left (omega (arith, at_to, c.counted)))));
             now = written ∙ written_fronted generation c.values to mid (replicate c.free None ++ later) moved_entry.0.1 v.left is_mid to_number;
             counted = length-append c.values (v.left ∷ []) ∙ omega (arith, c.counted);
             passed = omega (arith, c.passed);
@@ -270,8 +270,8 @@ module _ {F P T Gen : Type 0} (g : Mut F (P × (MutBor T × (P × Unit {0}))) (U
     nothing_left : drop k old ≡ []
     nothing_left = drop_all k old (omega (arith, all))
 
-    closed_now : slots ≡ fronted generation c.values (replicate c.free None)
-    closed_now = c.now ∙ (ap (λ es. fronted generation c.values (replicate c.free None ++ es)) nothing_left ∙ ap (fronted generation c.values) (append-nil (replicate c.free None)))
+    closed_now : slots ≡ with_front generation c.values (replicate c.free None)
+    closed_now = c.now ∙ (ap (λ es. with_front generation c.values (replicate c.free None ++ es)) nothing_left ∙ ap (with_front generation c.values) (append-nil (replicate c.free None)))
 
     before_all : map (before_visit key) c.visits ≡ entries_from 1 old
     before_all = sym (append-nil (map (before_visit key) c.visits)) ∙ (ap (λ es. map (before_visit key) c.visits ++ entries_from (suc k) es) (sym nothing_left) ∙ c.before)
@@ -281,14 +281,14 @@ module _ {F P T Gen : Type 0} (g : Mut F (P × (MutBor T × (P × Unit {0}))) (U
 
     -- When all slots are passed, the entries are packed.
     pub closing_packs : IsPacked slots count
-    closing_packs = subst (λ (p : List (Option (Gen × T)) × ℕ). IsPacked p.0 p.1) (λ i. (sym closed_now i, c.counted i)) (packed-fronted generation c.values c.free)
+    closing_packs = subst (λ (p : List (Option (Gen × T)) × ℕ). IsPacked p.0 p.1) (λ i. (sym closed_now i, c.counted i)) (packed-with_front generation c.values c.free)
 
     pub closing_visits : VisitsAll g key first (entries_from 1 old) (entries_from 1 slots)
     closing_visits = record { visits = c.visits; last = f; in_turn = c.in_turn; before = before_all; after = after_all }
 
     pub closing_counts : count ≡ length (entries_from 1 old)
     closing_counts =
-        sym c.counted ∙ (sym (length-fronted generation c.values 1) ∙ (ap length (sym c.after)
+        sym c.counted ∙ (sym (length-with_front generation c.values 1) ∙ (ap length (sym c.after)
         ∙ (length-map c.visits (after_visit key) ∙ (sym (length-map c.visits (before_visit key)) ∙ ap length before_all))))
 
     pub closing_closes : (before after : DetachedView Gen T) → before.slots ≡ old → after.slots ≡ slots → after.stack_capacity ≡ before.stack_capacity → after.maximum ≡ before.maximum → AreClosed generation before after

@@ -3,7 +3,7 @@ use Rattle.std.proofs.Common.{◌≡◌, ℕ, zero, suc, ◌<◌, ◌≤◌, con
 use Rattle.std.specs.Prelude.{true, false, IsSome, count_by, is_some, slice_index_or, slice_get}
 use Rattle.std.proofs.lemmas.List.{length-take}
 use Rattle.std.proofs.lemmas.List.Sums.{sum_by-cons}
-use Rattle.arena_base.specs.DetachedSlots.{before_cut, trimmed, free_from, IsPacked}
+use Rattle.arena_base.specs.DetachedSlots.{before_cut, without_free_end, free_from, IsPacked}
 use Rattle.arena_base.specs.Slots.{item_at, entry_of, free_slot, IsSound}
 use Rattle.arena_base.specs.declared.slot.ArenaSlot.{ArenaSlot}
 use Rattle.arena_base.specs.declared.slot.ArenaSlot.TheVariants.{Allocated, Free}
@@ -11,25 +11,25 @@ use Rattle.arena_base.proofs.TrimLemmas.{map-take}
 
 module _ {X : Type 0} where
   -- Trimming removes all of the slots if they are free.
-  pub all_cut : (xs : List (Option X)) → ((k : ℕ) → slice_index_or xs k None ≡ None) → trimmed xs ≡ []
+  pub all_cut : (xs : List (Option X)) → ((k : ℕ) → slice_index_or xs k None ≡ None) → without_free_end xs ≡ []
   all_cut [] none = refl
   all_cut (x ∷ xs) none =
       let first : x ≡ None = none 0 in
-      ap (λ (o : Option X). before_cut o (trimmed xs)) first ∙ ap (before_cut None) (all_cut xs (λ k. none (suc k)))
+      ap (λ (o : Option X). before_cut o (without_free_end xs)) first ∙ ap (before_cut None) (all_cut xs (λ k. none (suc k)))
 
   -- A taken slot has an entry.
   some_there : (x : Option X) → IsSome x → (y : X) × (x ≡ Some y)
   some_there None some = let both : false ≡ true = some in absurd cc
   some_there (Some y) some = (y, refl)
 
-  cut_behind : (n : ℕ) (xs : List (Option X)) → ((k : ℕ) → k < n → IsSome (slice_index_or xs k None)) → ((k : ℕ) → n ≤ k → slice_index_or xs k None ≡ None) → trimmed xs ≡ take n xs
+  cut_behind : (n : ℕ) (xs : List (Option X)) → ((k : ℕ) → k < n → IsSome (slice_index_or xs k None)) → ((k : ℕ) → n ≤ k → slice_index_or xs k None ≡ None) → without_free_end xs ≡ take n xs
   cut_behind zero [] front behind = refl
   cut_behind zero (x ∷ xs) front behind = all_cut (x ∷ xs) (λ k. behind k (omega arith))
   cut_behind (suc n) [] front behind = refl
   cut_behind (suc n) (x ∷ xs) front behind =
       let first = some_there x (front 0 (omega arith)) in
       let rest = cut_behind n xs (λ k below. front (suc k) (omega (arith, below))) (λ k above. behind (suc k) (omega (arith, above))) in
-      ap (λ (o : Option X). before_cut o (trimmed xs)) first.1 ∙ (ap (λ (ys : List (Option X)). Some first.0 ∷ ys) rest ∙ ap (λ (o : Option X). o ∷ take n xs) (sym first.1))
+      ap (λ (o : Option X). before_cut o (without_free_end xs)) first.1 ∙ (ap (λ (ys : List (Option X)). Some first.0 ∷ ys) rest ∙ ap (λ (o : Option X). o ∷ take n xs) (sym first.1))
 
   none_left : (n i : ℕ) (xs : List (Option X)) → ((k : ℕ) → k < n → IsSome (slice_index_or xs k None)) → free_from i (take n xs) ≡ []
   none_left zero i [] front = refl
@@ -44,11 +44,11 @@ module _ {X : Type 0} where
     in_front k below = packed.taken (suc k) (omega arith) (omega (arith, below))
 
     -- The first `n` slots remain.
-    pub packed-trimmed : trimmed xs ≡ take n xs
+    pub packed-trimmed : without_free_end xs ≡ take n xs
     packed-trimmed = cut_behind n xs in_front (λ k above. packed.free (suc k) (omega (arith, above)))
 
     -- No free slot remains.
-    pub packed-none_free : free_from 1 (trimmed xs) ≡ []
+    pub packed-none_free : free_from 1 (without_free_end xs) ≡ []
     packed-none_free = ap (free_from 1) packed-trimmed ∙ none_left n 1 xs in_front
 
 module _ {P T Inx Gen Word : Type 0} where
@@ -78,7 +78,7 @@ module _ {P T Inx Gen Word : Type 0} where
     front k below = packed.taken (suc k) (omega arith) (omega (arith, below))
 
     -- The remaining slots hold the entries.
-    pub packed-entries : map entry_of (take n slots) ≡ trimmed (map entry_of slots)
+    pub packed-entries : map entry_of (take n slots) ≡ without_free_end (map entry_of slots)
     packed-entries = map-take slots n ∙ sym (packed-trimmed n (map entry_of slots) packed)
 
     -- There are at least `n` slots.

@@ -4,7 +4,7 @@ use Rattle.std.specs.Prelude.{true, false, IsSome, IfSome, count_by, is_some, is
 use Rattle.std.proofs.lemmas.List.{length-map, map-set}
 use Rattle.std.proofs.lemmas.List.Sums.{sum_by-cons}
 use Rattle.arena_base.specs.Arena.{IsMember, AreDistinct}
-use Rattle.arena_base.specs.DetachedSlots.{before_cut, trimmed, free_from}
+use Rattle.arena_base.specs.DetachedSlots.{before_cut, without_free_end, free_from}
 use Rattle.arena_base.specs.Slots.{item_at, entry_of, entry_in, free_slot, IsFreeList, IsSound}
 use Rattle.arena_base.specs.declared.slot.ArenaSlot.{ArenaSlot}
 use Rattle.arena_base.proofs.SlotLemmas.{slice_get-below, slice_get-set-same, slice_index_or-map}
@@ -17,18 +17,18 @@ module _ {X : Type 0} where
   keep (Some x) m xs = refl
 
   -- Slots that end in an entry stay.
-  pub trimmed-ends : (xs : List (Option X)) (k : ℕ) (x : X) → slice_index_or xs k None ≡ Some x → trimmed (take (suc k) xs) ≡ take (suc k) xs
-  trimmed-ends [] k x is = cc
-  trimmed-ends (s ∷ xs) zero x is =
-      ap (λ o. before_cut o (trimmed (take 0 xs))) is ∙ ap (λ (o : Option X). o ∷ take 0 xs) (sym is)
-  trimmed-ends (s ∷ []) (suc k) x is = cc
-  trimmed-ends (s ∷ m ∷ xs) (suc k) x is = ap (before_cut s) (trimmed-ends (m ∷ xs) k x is) ∙ keep s m (take k xs)
+  pub without_free_end-ends : (xs : List (Option X)) (k : ℕ) (x : X) → slice_index_or xs k None ≡ Some x → without_free_end (take (suc k) xs) ≡ take (suc k) xs
+  without_free_end-ends [] k x is = cc
+  without_free_end-ends (s ∷ xs) zero x is =
+      ap (λ o. before_cut o (without_free_end (take 0 xs))) is ∙ ap (λ (o : Option X). o ∷ take 0 xs) (sym is)
+  without_free_end-ends (s ∷ []) (suc k) x is = cc
+  without_free_end-ends (s ∷ m ∷ xs) (suc k) x is = ap (before_cut s) (without_free_end-ends (m ∷ xs) k x is) ∙ keep s m (take k xs)
 
   -- A free slot at the end is removed.
-  pub trimmed-cut : (xs : List (Option X)) (k : ℕ) → k < length xs → slice_index_or xs k None ≡ None → trimmed (take (suc k) xs) ≡ trimmed (take k xs)
-  trimmed-cut [] k below is = absurd (omega (arith, below))
-  trimmed-cut (s ∷ xs) zero below is = ap (λ o. before_cut o (trimmed (take 0 xs))) is
-  trimmed-cut (s ∷ xs) (suc k) below is = ap (before_cut s) (trimmed-cut xs k (omega (arith, below)) is)
+  pub without_free_end-cut : (xs : List (Option X)) (k : ℕ) → k < length xs → slice_index_or xs k None ≡ None → without_free_end (take (suc k) xs) ≡ without_free_end (take k xs)
+  without_free_end-cut [] k below is = absurd (omega (arith, below))
+  without_free_end-cut (s ∷ xs) zero below is = ap (λ o. before_cut o (without_free_end (take 0 xs))) is
+  without_free_end-cut (s ∷ xs) (suc k) below is = ap (before_cut s) (without_free_end-cut xs k (omega (arith, below)) is)
 
   pub drop-at : (xs : List (Option X)) (k : ℕ) → k < length xs → drop k xs ≡ slice_index_or xs k None ∷ drop (suc k) xs
   drop-at [] k below = absurd (omega (arith, below))
@@ -74,26 +74,26 @@ module _ {P T Inx Gen Word : Type 0} where
   map-take (s ∷ slots) (suc k) = ap (λ es. entry_of s ∷ es) (map-take slots k)
 
   -- One step of trimming.
-  pub cut_more : (slots : List (ArenaSlot P T Inx Gen Word)) (k n : ℕ) → k + 1 ≡ n → k < length slots → is_none (entry_in (slice_get slots k)) ≡ true → trimmed (take n (map entry_of slots)) ≡ trimmed (map entry_of slots)
-      → trimmed (take k (map entry_of slots)) ≡ trimmed (map entry_of slots)
+  pub cut_more : (slots : List (ArenaSlot P T Inx Gen Word)) (k n : ℕ) → k + 1 ≡ n → k < length slots → is_none (entry_in (slice_get slots k)) ≡ true → without_free_end (take n (map entry_of slots)) ≡ without_free_end (map entry_of slots)
+      → without_free_end (take k (map entry_of slots)) ≡ without_free_end (map entry_of slots)
   cut_more slots k n at below free rest =
       let next : suc k ≡ n = omega (arith, at) in
-      sym (trimmed-cut (map entry_of slots) k (omega (arith, below, length-map slots entry_of)) (slice_index_or-map slots k ∙ none_of (entry_in (slice_get slots k)) free))
-      ∙ (ap (λ m. trimmed (take m (map entry_of slots))) next ∙ rest)
+      sym (without_free_end-cut (map entry_of slots) k (omega (arith, below, length-map slots entry_of)) (slice_index_or-map slots k ∙ none_of (entry_in (slice_get slots k)) free))
+      ∙ (ap (λ m. without_free_end (take m (map entry_of slots))) next ∙ rest)
 
   -- Trimming ends after an entry.
-  pub cut_ends : (slots : List (ArenaSlot P T Inx Gen Word)) (k n : ℕ) → k + 1 ≡ n → is_none (entry_in (slice_get slots k)) ≡ false → trimmed (take n (map entry_of slots)) ≡ trimmed (map entry_of slots)
-      → map entry_of (take n slots) ≡ trimmed (map entry_of slots)
+  pub cut_ends : (slots : List (ArenaSlot P T Inx Gen Word)) (k n : ℕ) → k + 1 ≡ n → is_none (entry_in (slice_get slots k)) ≡ false → without_free_end (take n (map entry_of slots)) ≡ without_free_end (map entry_of slots)
+      → map entry_of (take n slots) ≡ without_free_end (map entry_of slots)
   cut_ends slots k n at taken rest =
       let next : suc k ≡ n = omega (arith, at) in
       let entry = some_of (entry_in (slice_get slots k)) taken in
-      map-take slots n ∙ (ap (λ m. take m (map entry_of slots)) (sym next) ∙ (sym (trimmed-ends (map entry_of slots) k entry.0 (slice_index_or-map slots k ∙ entry.1))
-      ∙ (ap (λ m. trimmed (take m (map entry_of slots))) next ∙ rest)))
+      map-take slots n ∙ (ap (λ m. take m (map entry_of slots)) (sym next) ∙ (sym (without_free_end-ends (map entry_of slots) k entry.0 (slice_index_or-map slots k ∙ entry.1))
+      ∙ (ap (λ m. without_free_end (take m (map entry_of slots))) next ∙ rest)))
 
   -- Trimming leaves no slots.
-  pub cut_all : (slots : List (ArenaSlot P T Inx Gen Word)) (n : ℕ) → n ≡ 0 → trimmed (take n (map entry_of slots)) ≡ trimmed (map entry_of slots) → map entry_of (take n slots) ≡ trimmed (map entry_of slots)
+  pub cut_all : (slots : List (ArenaSlot P T Inx Gen Word)) (n : ℕ) → n ≡ 0 → without_free_end (take n (map entry_of slots)) ≡ without_free_end (map entry_of slots) → map entry_of (take n slots) ≡ without_free_end (map entry_of slots)
   cut_all slots n none rest =
-      map-take slots n ∙ (ap (λ m. take m (map entry_of slots)) none ∙ (ap (λ m. trimmed (take m (map entry_of slots))) (sym none) ∙ rest))
+      map-take slots n ∙ (ap (λ m. take m (map entry_of slots)) none ∙ (ap (λ m. without_free_end (take m (map entry_of slots))) (sym none) ∙ rest))
 
 module _ {P T Inx Gen Word : Type 0} (number : Inx → ℕ) where
   -- The state of a listing down to position `k`.

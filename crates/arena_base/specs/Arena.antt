@@ -31,9 +31,9 @@ module _ {X : Type 0} where
   with_slot slots (suc k) slot = slice_set slots k slot
 
 -- The slots with an entry at the index of the next insertion.
-abbrev pub filled : {X : Type 0} → List ℕ → List (Option X) → X → List (Option X)
-filled [] slots entry = slots ++ Some entry ∷ []
-filled (i ∷ freed) slots entry = with_slot slots i (Some entry)
+abbrev pub slots_after_insertion : {X : Type 0} → List ℕ → List (Option X) → X → List (Option X)
+slots_after_insertion [] slots entry = slots ++ Some entry ∷ []
+slots_after_insertion (i ∷ freed) slots entry = with_slot slots i (Some entry)
 
 -- The index of the next insertion, given the freed list and the number of slots.
 abbrev pub first_or_next : List ℕ → ℕ → ℕ
@@ -107,7 +107,7 @@ module _ {Gen T : Type 0} where
 
   -- The arena after a value is inserted at that index.
   abbrev pub insert_next : Arena Gen T → T → Arena Gen T
-  insert_next a t = record a { slots = filled a.freed a.slots (a.counter, t); freed = without_first a.freed; placed = a.placed + 1 }
+  insert_next a t = record a { slots = slots_after_insertion a.freed a.slots (a.counter, t); freed = without_first a.freed; placed = a.placed + 1 }
 
   -- The arena after the entry at an index is removed.
   abbrev pub remove_at : (Gen → Gen) → Arena Gen T → ℕ → Arena Gen T
@@ -125,8 +125,8 @@ module _ {Gen T : Type 0} where
   with_value a i t = record a { slots = with_slot a.slots i (option_map (λ e. (e.0, t)) (entry_at a i)) }
 
   -- The arena without entries and slots. The counter stays if there were none.
-  abbrev pub cleared : (Gen → Gen) → Arena Gen T → Arena Gen T
-  cleared following a = record a { slots = []; counter = counter_after_clear following (entry_count a) a.counter; freed = [] }
+  abbrev pub arena_after_clear : (Gen → Gen) → Arena Gen T → Arena Gen T
+  arena_after_clear following a = record a { slots = []; counter = counter_after_clear following (entry_count a) a.counter; freed = [] }
 
   abbrev pub with_counter : Arena Gen T → Gen → Arena Gen T
   with_counter a g = record a { counter = g }

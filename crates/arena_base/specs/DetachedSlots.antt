@@ -22,9 +22,9 @@ module _ {X : Type 0} where
   before_cut (Some x) slots = Some x ∷ slots
 
   -- The slots without the free ones at the end.
-  abbrev pub trimmed : List (Option X) → List (Option X)
-  trimmed [] = []
-  trimmed (slot ∷ slots) = before_cut slot (trimmed slots)
+  abbrev pub without_free_end : List (Option X) → List (Option X)
+  without_free_end [] = []
+  without_free_end (slot ∷ slots) = before_cut slot (without_free_end slots)
 
   -- The ascending indexes of the free slots, where the first slot has index `i`.
   abbrev pub free_from : ℕ → List (Option X) → List ℕ
@@ -51,10 +51,10 @@ module _ {Gen T : Type 0} where
 
   -- The arena after slots are returned: free slots at the end are removed, and the others listed by
   -- ascending index.
-  abbrev pub returned : ℕ → Arena Gen T → DetachedView Gen T → Arena Gen T
-  returned greatest a held = record a {
-    slots = trimmed held.slots;
-    freed = free_from 1 (trimmed held.slots);
+  abbrev pub arena_after_return : ℕ → Arena Gen T → DetachedView Gen T → Arena Gen T
+  arena_after_return greatest a held = record a {
+    slots = without_free_end held.slots;
+    freed = free_from 1 (without_free_end held.slots);
     capacity = min held.stack_capacity greatest;
     stack_capacity = held.stack_capacity;
     maximum = held.maximum;

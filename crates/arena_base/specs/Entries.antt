@@ -89,14 +89,14 @@ module _ {Gen T : Type 0} where
   found i (e ∷ es) = cond (e.0.0 == i) (Some (e.0.1, e.1)) (found i es)
 
   -- The entries without the one at an index.
-  abbrev pub without : ℕ → List ((ℕ × Gen) × T) → List ((ℕ × Gen) × T)
-  without i [] = []
-  without i (e ∷ es) = cond (e.0.0 == i) es (e ∷ without i es)
+  abbrev pub without_index : ℕ → List ((ℕ × Gen) × T) → List ((ℕ × Gen) × T)
+  without_index i [] = []
+  without_index i (e ∷ es) = cond (e.0.0 == i) es (e ∷ without_index i es)
 
   -- The entries with the one at an index replaced.
-  abbrev pub replaced : ℕ → (Gen × T → Gen × T) → List ((ℕ × Gen) × T) → List ((ℕ × Gen) × T)
-  replaced i f [] = []
-  replaced i f (e ∷ es) = cond (e.0.0 == i) (((i, (f (e.0.1, e.1)).0), (f (e.0.1, e.1)).1) ∷ es) (e ∷ replaced i f es)
+  abbrev pub with_replacement : ℕ → (Gen × T → Gen × T) → List ((ℕ × Gen) × T) → List ((ℕ × Gen) × T)
+  with_replacement i f [] = []
+  with_replacement i f (e ∷ es) = cond (e.0.0 == i) (((i, (f (e.0.1, e.1)).0), (f (e.0.1, e.1)).1) ∷ es) (e ∷ with_replacement i f es)
 
   -- The indexes of the entries rise, and are at least `i`.
   abbrev pub AscendsFrom : ℕ → List ((ℕ × Gen) × T) → Type 0
@@ -113,22 +113,22 @@ module _ {Gen T : Type 0} where
   -- The view after the entry at an index is removed.
   abbrev pub entry_removed : (Gen → Gen) → ArenaView Gen T → ℕ → ArenaView Gen T
   entry_removed following s i = record s {
-    entries = without i s.entries;
+    entries = without_index i s.entries;
     counter = option_map following s.counter;
     slots = option_map (with_freed i) s.slots;
   }
 
   -- The view after the entry at a key's index, and the counter, got the key's generation.
-  abbrev pub renewed : ArenaView Gen T → ℕ × Gen → ArenaView Gen T
-  renewed s p = record s { entries = replaced p.0 (λ e. (p.1, e.1)) s.entries; counter = option_map (λ _. p.1) s.counter }
+  abbrev pub view_after_invalidation : ArenaView Gen T → ℕ × Gen → ArenaView Gen T
+  view_after_invalidation s p = record s { entries = with_replacement p.0 (λ e. (p.1, e.1)) s.entries; counter = option_map (λ _. p.1) s.counter }
 
   -- The view after the value at an index is written.
-  abbrev pub written : ArenaView Gen T → ℕ → T → ArenaView Gen T
-  written s i t = record s { entries = replaced i (λ e. (e.0, t)) s.entries }
+  abbrev pub view_with_value : ArenaView Gen T → ℕ → T → ArenaView Gen T
+  view_with_value s i t = record s { entries = with_replacement i (λ e. (e.0, t)) s.entries }
 
   -- The view after a clear, which leaves no slots. The counter stays if there were no entries.
-  abbrev pub emptied : (Gen → Gen) → ArenaView Gen T → ArenaView Gen T
-  emptied following s = record s {
+  abbrev pub view_after_clear : (Gen → Gen) → ArenaView Gen T → ArenaView Gen T
+  view_after_clear following s = record s {
     entries = [];
     counter = option_map (counter_after_clear following (length s.entries)) s.counter;
     slots = option_map without_slots s.slots;

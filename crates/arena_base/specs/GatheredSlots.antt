@@ -9,15 +9,15 @@ use Rattle.arena_base.specs.Compressions.{VisitsAll}
 
 module _ {Gen T : Type 0} where
   -- Entries of one generation with these values, followed by `slots`.
-  abbrev pub fronted : Gen → List T → List (Option (Gen × T)) → List (Option (Gen × T))
-  fronted g values slots = map (λ t. Some (g, t)) values ++ slots
+  abbrev pub with_front : Gen → List T → List (Option (Gen × T)) → List (Option (Gen × T))
+  with_front g values slots = map (λ t. Some (g, t)) values ++ slots
 
   -- The slots after holes are closed, as many as before: entries of generation `g`, and then free
   -- slots.
   pub record AreClosed (g : Gen) (old new : DetachedView Gen T) : Type 0 where
     pub values : List T
     pub free : ℕ
-    pub held : new ≡ record old { slots = fronted g values (replicate free None) }
+    pub held : new ≡ record old { slots = with_front g values (replicate free None) }
     pub same_length : length values + free ≡ length old.slots
 
   -- The arena after more placements and touches.
@@ -26,9 +26,9 @@ module _ {Gen T : Type 0} where
 
   -- The arena whose slots are exactly `values`, each placed once with the counter as its
   -- generation. Each slot was read once, and each value lent once.
-  abbrev pub gathered : Arena Gen T → List T → Arena Gen T
-  gathered a values = record a {
-    slots = fronted a.counter values [];
+  abbrev pub arena_of_values : Arena Gen T → List T → Arena Gen T
+  arena_of_values a values = record a {
+    slots = with_front a.counter values [];
     freed = [];
     placed = a.placed + length values;
     touched = a.touched + (length a.slots + length values);
@@ -37,5 +37,5 @@ module _ {Gen T : Type 0} where
 -- The entries are compacted, and are as the closure left them.
 pub record IsGathered {F P T Gen : Type 0} (g : Mut F (P × (MutBor T × (P × Unit {0}))) (Unit {0} × (MutBor T × Unit {0}))) (key : P → ℕ × Gen) (f : F) (old new : Arena Gen T) : Type 0 where
   pub values : List T
-  pub arena : new ≡ gathered old values
+  pub arena : new ≡ arena_of_values old values
   pub visits : VisitsAll g key f (entries old) (entries new)

@@ -6,7 +6,7 @@ ghost use Rattle.arena_ptr.specs.Invalidation.{invalidation_option, invalidation
 ghost use Rattle.arena_base.specs.Slots.{entry_of, ThreadsFreeList};
 ghost use Rattle.arena_base.specs.Entries.{entries, entries_from, key_at, first_key, last_key, IsNextEntry};
 ghost use Rattle.arena_base.specs.Advancers.{ahead};
-ghost use Rattle.arena_base.specs.DetachedSlots.{held_of, lent_out, returned, IsPacked, with_placement, with_touch};
+ghost use Rattle.arena_base.specs.DetachedSlots.{held_of, lent_out, arena_after_return, IsPacked, with_placement, with_touch};
 ghost use Rattle.arena_base.specs.Arena.{entry_at, entry_count, next_index, insert_next, remove_at, renewed_at, with_counter, with_capacity_of, with_maximum, new_arena, HasCapacityFor, ReachesCapacity, IsWithinReach};
 
 use crate::cursor::Cursor;
@@ -102,7 +102,7 @@ impl<P: PtrKey, T: Drop, S: SlotStack<Item = ArenaSlot<P, T>>> Arena<P, T, S> {
     {
         let (next, overflow) = self.counter.generational_inc();
         self.counter = next;
-        invalidated(overflow, ())
+        with_overflow(overflow, ())
     }
 
     /// Returns the slots.
@@ -367,7 +367,7 @@ impl<P: PtrKey, T: Drop, S: SlotStack<Item = ArenaSlot<P, T>>> Arena<P, T, S> {
     // Returns slots to the arena: free slots at the end are removed, and the other free slots are
     // listed.
     pub(crate) fn return_slots(&mut self, held: DetachedSlots<P, T, S>)
-        ensures { self.new ≡ returned P.Inx.greatest self.old held }
+        ensures { self.new ≡ arena_after_return P.Inx.greatest self.old held }
     {
         let DetachedSlots { mut slots } = held;
         trim(&mut slots);
@@ -381,7 +381,7 @@ impl<P: PtrKey, T: Drop, S: SlotStack<Item = ArenaSlot<P, T>>> Arena<P, T, S> {
     // removed, without reading any.
     pub(crate) fn return_packed(&mut self, held: DetachedSlots<P, T, S>, count: usize)
         requires { IsPacked held.slots count }
-        ensures { self.new ≡ returned P.Inx.greatest self.old held }
+        ensures { self.new ≡ arena_after_return P.Inx.greatest self.old held }
     {
         let DetachedSlots { mut slots } = held;
         slots.truncate(count);
@@ -454,7 +454,7 @@ pub fn outcome<T>(overflow: bool, t: T) -> InvalidationResult<T>
 }
 
 /// Returns `t` as an `InvalidationOption` with this overflow.
-pub fn invalidated<T>(overflow: bool, t: T) -> InvalidationOption<T>
+pub fn with_overflow<T>(overflow: bool, t: T) -> InvalidationOption<T>
     ensures { result ≡ invalidation_option overflow t }
 {
     if overflow {

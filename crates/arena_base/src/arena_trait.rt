@@ -8,7 +8,7 @@ ghost use Rattle.arena_ptr.specs.Numbers.{IsWithin};
 ghost use Rattle.arena_base.specs.Entries.{entries, view_of, index_of, CoverSlots};
 
 use crate::advancer::PtrAdvancer;
-use crate::arena::{Arena, invalidated, outcome};
+use crate::arena::{Arena, outcome, with_overflow};
 use crate::slot::{ArenaSlot, number_of, position_of};
 use crate::traits::{ArenaTrait, CompactArenaTrait};
 use arena_ptr::{
@@ -19,7 +19,7 @@ use std::alloc::Global;
 
 impl<P: PtrKey, T: Drop, S: SlotStack<Item = ArenaSlot<P, T>>> ArenaTrait<P, T> for Arena<P, T, S> {
     ghost use Rattle.std.specs.Prelude.{◌≡◌};
-    ghost use Rattle.arena_base.specs.Arena.{entry_at, with_capacity_of, IsWithinReach, IsNewWithCapacity, with_value, renewed_at, remove_at, cleared};
+    ghost use Rattle.arena_base.specs.Arena.{entry_at, with_capacity_of, IsWithinReach, IsNewWithCapacity, with_value, renewed_at, remove_at, arena_after_clear};
     ghost use Rattle.std.specs.Option.{option_map};
     ghost use Rattle.arena_base.specs.Entries.{view_of, entries};
     ghost use Rattle.arena_base.specs.EntryLaws.{entries_ascend, found-entries};
@@ -43,7 +43,7 @@ impl<P: PtrKey, T: Drop, S: SlotStack<Item = ArenaSlot<P, T>>> ArenaTrait<P, T> 
 
     ghost removes = { λ a i b. b ≡ remove_at P.Gen.following a i };
 
-    ghost clears = { λ a b. b ≡ cleared P.Gen.following a };
+    ghost clears = { λ a b. b ≡ arena_after_clear P.Gen.following a };
 
     ghost compresses = { λ a b. b.stack_capacity ≡ a.stack_capacity };
 
@@ -189,7 +189,7 @@ impl<P: PtrKey, T: Drop, S: SlotStack<Item = ArenaSlot<P, T>>> ArenaTrait<P, T> 
         self.slots.truncate(0);
         self.len = 0;
         self.first_free = None;
-        invalidated(overflow, ())
+        with_overflow(overflow, ())
     }
 
     fn compress_with<F: FnMut(P, &mut T, P) + Drop>(
@@ -272,6 +272,6 @@ impl<P: PtrKey, T: Drop, S: SlotStack<Item = ArenaSlot<P, T>>> Arena<P, T, S> {
     {
         let (generation, overflow) = after_compression(self.generation(), self.len(), reset);
         self.set_generation(generation);
-        invalidated(overflow, ())
+        with_overflow(overflow, ())
     }
 }

@@ -4,7 +4,7 @@ ghost use Rattle.std.specs.Option.{option_map, option_copied_mut};
 ghost use Rattle.std.specs.Borrow.{LendsSo, follows_so, sem};
 ghost use mathlib.Core.Option.{none};
 ghost use Rattle.arena_base.specs.Arena.{slot_at};
-ghost use Rattle.arena_base.specs.DetachedSlots.{DetachedView, borrowed_parts, with_placed_entry, held_of, IsTouched, IsWrittenAt, lent_out, returned, IsPacked, with_touch, with_placement, one_more};
+ghost use Rattle.arena_base.specs.DetachedSlots.{DetachedView, borrowed_parts, with_placed_entry, held_of, IsTouched, IsWrittenAt, lent_out, arena_after_return, IsPacked, with_touch, with_placement, one_more};
 
 use crate::arena::Arena;
 use crate::detached_slots::{DetachedSlots, LendsValue};
@@ -107,7 +107,7 @@ impl<'a, P: PtrKey, T: Drop, S: SlotStack<Item = ArenaSlot<P, T>>> Compactor<'a,
     /// Free slots at the end are removed. The other free slots are listed, with the least index to
     /// be used first.
     pub fn finish(self) -> Work
-        ensures arena { self.exit.0.now ≡ returned P.Inx.greatest self.entry.arena.now
+        ensures arena { self.exit.0.now ≡ arena_after_return P.Inx.greatest self.entry.arena.now
             self.entry.held }
         ensures placed { result.placed ≡ self.entry.placed }
         ensures touched { result.touched ≡ self.entry.touched }
@@ -127,7 +127,7 @@ impl<'a, P: PtrKey, T: Drop, S: SlotStack<Item = ArenaSlot<P, T>>> Compactor<'a,
     /// Exactly the first `count` slots must be entries.
     pub fn finish_packed(self, count: usize) -> Work
         requires { IsPacked self.held.slots count }
-        ensures arena { self.exit.0.now ≡ returned P.Inx.greatest self.entry.arena.now
+        ensures arena { self.exit.0.now ≡ arena_after_return P.Inx.greatest self.entry.arena.now
             self.entry.held }
         ensures placed { result.placed ≡ self.entry.placed }
         ensures touched { result.touched ≡ self.entry.touched }
@@ -145,7 +145,8 @@ impl<'a, P: PtrKey, T: Drop, S: SlotStack<Item = ArenaSlot<P, T>>> Compactor<'a,
 
 impl<'a, P: PtrKey, T: Drop, S: SlotStack<Item = ArenaSlot<P, T>>> Drop for Compactor<'a, P, T, S> {
     fn drop(self)
-        ensures { self.exit.0.now ≡ returned P.Inx.greatest self.entry.arena.now self.entry.held }
+        ensures { self.exit.0.now ≡ arena_after_return P.Inx.greatest self.entry.arena.now
+            self.entry.held }
     {
         let Compactor {
             arena,

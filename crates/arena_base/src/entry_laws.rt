@@ -1,6 +1,6 @@
 // Laws that hold for the entries of any arena.
 ghost use Rattle.std.specs.Prelude.{◌≡◌, ◌≢◌, ℕ, None};
-ghost use Rattle.arena_base.specs.Entries.{without};
+ghost use Rattle.arena_base.specs.Entries.{without_index};
 
 use crate::traits::ArenaTrait;
 use arena_ptr::PtrKey;
@@ -12,8 +12,8 @@ use arena_ptr::PtrKey;
 pub fn entries_determine_occupancy<P: PtrKey, T: Drop, A: ArenaTrait<P, T>>()
     ensures same { (a b : A) (i : ℕ) → (A.view b).entries ≡ (A.view a).entries
         → A.entry b i ≡ A.entry a i }
-    ensures gone { (a b : A) (i : ℕ) → (A.view b).entries ≡ without i (A.view a).entries
+    ensures gone { (a b : A) (i : ℕ) → (A.view b).entries ≡ without_index i (A.view a).entries
         → A.entry b i ≡ None }
-    ensures kept { (a b : A) (i j : ℕ) → (A.view b).entries ≡ without i (A.view a).entries → j ≢ i
-        → A.entry b j ≡ A.entry a j }
+    ensures kept { (a b : A) (i j : ℕ) → (A.view b).entries ≡ without_index i (A.view a).entries
+        → j ≢ i → A.entry b j ≡ A.entry a j }
 {}

@@ -1,14 +1,15 @@
 // Rebuilding of the freed list after entries were moved.
 ghost use Rattle.std.specs.Prelude.{◌≡◌, ◌≤◌, map, length};
 ghost use Rattle.arena_base.specs.Slots.{entry_of, IsSound};
-ghost use Rattle.arena_base.specs.DetachedSlots.{trimmed, free_from};
+ghost use Rattle.arena_base.specs.DetachedSlots.{without_free_end, free_from};
 
 use crate::slot::{ArenaSlot, is_free_at, list_at};
 use arena_ptr::{InxKey, PtrKey, SlotStack};
 
 // Removes the free slots at the end.
 pub(crate) fn trim<P: PtrKey, T: Drop, S: SlotStack<Item = ArenaSlot<P, T>>>(slots: &mut S)
-    ensures items { map entry_of (S.items slots.new) ≡ trimmed (map entry_of (S.items slots.old)) }
+    ensures items { map entry_of (S.items slots.new)
+        ≡ without_free_end (map entry_of (S.items slots.old)) }
     ensures length { length (S.items slots.new) ≤ length (S.items slots.old) }
     ensures capacity { S.capacity slots.new ≡ S.capacity slots.old }
     ensures maximum { S.maximum slots.new ≡ S.maximum slots.old }

@@ -20,7 +20,7 @@ mod tally;
 mod traits;
 
 pub use advancer::PtrAdvancer;
-pub use arena::{Arena, invalidated, outcome};
+pub use arena::{Arena, outcome, with_overflow};
 pub use compactor::{Compactor, SlotAccess, Work};
 pub use copy::ClosureMap;
 pub use entry::ArenaInsertEntry;

@@ -6,7 +6,7 @@ ghost use Rattle.arena_ptr.specs.Numbers.{IsWithin};
 ghost use Rattle.arena_ptr.specs.SlotStack.{IsBeyond, IsWithinMaximum};
 ghost use Rattle.arena_ptr.specs.Invalidation.{value_within, invalidation_result, invalidation_option};
 ghost use Rattle.arena_base.specs.Arena.{IsCapacityFor, IsValid, borrowed_entry, overflows_after_clear};
-ghost use Rattle.arena_base.specs.Entries.{ArenaView, CoverSlots, index_of, IsNew, found, AscendsFrom, first_key, last_key, entry_removed, renewed, written, emptied, with_capacity};
+ghost use Rattle.arena_base.specs.Entries.{ArenaView, CoverSlots, index_of, IsNew, found, AscendsFrom, first_key, last_key, entry_removed, view_after_invalidation, view_with_value, view_after_clear, with_capacity};
 ghost use Rattle.arena_base.specs.Advancers.{IsAdvanceUntilNone};
 ghost use Rattle.arena_base.specs.Entries.{entries};
 ghost use Rattle.arena_base.specs.Copies.{IsCopy, IsCopyBy, HasRefusable, IsAbandonedView};
@@ -164,7 +164,7 @@ pub trait ArenaTrait<P: PtrKey, T: Drop> {
     /// Returns the value of an entry, for writing, or `None` if `p` is not valid.
     fn get_mut(&mut self, p: P) -> Option<&mut T>
         ensures* writes_back { sem 𝓛 (LendsSo Self.row T.row self.entry result
-            (λ new t. OnSome result ((view new ≡ written (view self.old) (P.key p).0 t)
+            (λ new t. OnSome result ((view new ≡ view_with_value (view self.old) (P.key p).0 t)
             × writes self.old (P.key p).0 t new)) (λ new. new ≡ self.old)) }
         ensures some { IsSome result ↔ IsValid (entry self.old) (P.key p) }
         ensures value { IfSome result (λ t. entry self.old (P.key p).0 ≡ Some
@@ -177,7 +177,7 @@ pub trait ArenaTrait<P: PtrKey, T: Drop> {
     /// Returns the value at an index, for writing, or `None` if no entry is there.
     fn get_inx_mut(&mut self, i: P::Inx) -> Option<&mut T>
         ensures* writes_back { sem 𝓛 (LendsSo Self.row T.row self.entry result
-            (λ new t. OnSome result ((view new ≡ written (view self.old) (P.Inx.number i) t)
+            (λ new t. OnSome result ((view new ≡ view_with_value (view self.old) (P.Inx.number i) t)
             × writes self.old (P.Inx.number i) t new)) (λ new. new ≡ self.old)) }
         ensures value { option_copied_mut result ≡ option_map (λ e. e.1)
             (entry self.old (P.Inx.number i)) };
@@ -211,7 +211,8 @@ pub trait ArenaTrait<P: PtrKey, T: Drop> {
     fn invalidate(&mut self, p: P) -> InvalidationResult<P>
         ensures some { IsSome (value_within result) ↔ IsValid (entry self.old) (P.key p) }
         ensures valid { IsValid (entry self.old) (P.key p) → IfSome (value_within result) (λ q.
-            ((P.key q).0 ≡ (P.key p).0) × (view self.new ≡ renewed (view self.old) (P.key q)))
+            ((P.key q).0 ≡ (P.key p).0)
+            × (view self.new ≡ view_after_invalidation (view self.old) (P.key q)))
             × IsSome (value_within result) }
         ensures counter { IfSome (view self.old).counter
             (λ g. (result ≡ invalidation_result (P.Gen.wraps g) (value_within result))
@@ -256,7 +257,7 @@ pub trait ArenaTrait<P: PtrKey, T: Drop> {
         ensures overflow { IfSome (view self.old).counter
             (λ g. result ≡ invalidation_option
             (overflows_after_clear P.Gen.wraps (length (view self.old).entries) g) tt) }
-        ensures after { view self.new ≡ emptied P.Gen.following (view self.old) }
+        ensures after { view self.new ≡ view_after_clear P.Gen.following (view self.old) }
         ensures more { clears self.old self.new };
 
     /// Compacts the entries: the entry of the k-th least index is moved to index k.

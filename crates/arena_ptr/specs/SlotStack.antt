@@ -17,6 +17,6 @@ IsWithinMaximum-prop None n = Unit-prop
 IsWithinMaximum-prop (Some most) n = le_prop
 
 -- `n`, limited to the maximum, if there is one.
-abbrev pub capped : Option ℕ → ℕ → ℕ
-capped None n = n
-capped (Some most) n = min n most
+abbrev pub min_with_maximum : Option ℕ → ℕ → ℕ
+min_with_maximum None n = n
+min_with_maximum (Some most) n = min n most

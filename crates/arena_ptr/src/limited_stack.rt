@@ -37,7 +37,7 @@ impl<E> LimitedStack<E> {
 impl<E: Drop> SlotStack for LimitedStack<E> {
     ghost use Rattle.std.specs.Prelude.{◌*◌, max, None, refl};
     ghost use Rattle.arena_ptr.specs.LimitedStack.{with_item_at};
-    ghost use Rattle.arena_ptr.specs.SlotStack.{capped};
+    ghost use Rattle.arena_ptr.specs.SlotStack.{min_with_maximum};
     ghost use Rattle.arena_ptr.specs.SlotVectors.{slots_have_capacity, slots_fit};
 
     type Item = E;
@@ -50,7 +50,7 @@ impl<E: Drop> SlotStack for LimitedStack<E> {
 
     ghost initial_maximum = { None };
 
-    ghost may_reach = { λ old maximum n new. new ≡ max n (capped maximum (2 * old)) };
+    ghost may_reach = { λ old maximum n new. new ≡ max n (min_with_maximum maximum (2 * old)) };
 
     ghost with_item = { with_item_at };
 

@@ -11,7 +11,7 @@ use Rattle.chain_laws.proofs.RenamingLemmas.Chains.{renaming_agrees}
 use Rattle.arena_base.specs.Arena.{Arena, with_counter}
 use Rattle.arena_base.specs.Entries.{entries, index_of, view_of}
 use Rattle.arena_base.specs.Compressions.{IsCompressed, VisitsAll, counter_after_compression}
-use Rattle.arena_base.specs.GatheredSlots.{IsGathered, gathered}
+use Rattle.arena_base.specs.GatheredSlots.{IsGathered, arena_of_values}
 use Rattle.arena_base.proofs.CompactedArenaLemmas.{compressing}
 use Rattle.chain_links.specs.ChainArena.{LinkView, on_value, link_value, link_map, values_of}
 use Rattle.chain_compaction.specs.LinkCompressions.{ClosesHoles, AreGathered}
@@ -19,7 +19,7 @@ use Rattle.chain_compaction.specs.LinkCompressions.{ClosesHoles, AreGathered}
 module _ {F P T Gen : Type 0} (g : Mut F (P × (MutBor T × (P × Unit {0}))) (Unit {0} × (MutBor T × Unit {0}))) (key : P → ℕ × Gen) (f : F)
     (counter : Gen) (old mid new : Arena Gen (LinkView T)) (is_mid : mid ≡ with_counter old counter) (gathering : AreGathered g key f mid new) where
   -- The values alone, as if touched as in an arena without interlinks.
-  like_gathered : IsGathered g key f (values_of mid) (gathered (values_of mid) gathering.values)
+  like_gathered : IsGathered g key f (values_of mid) (arena_of_values (values_of mid) gathering.values)
   like_gathered = record {
     values = gathering.values;
     arena = refl;
@@ -31,7 +31,7 @@ module _ {F P T Gen : Type 0} (g : Mut F (P × (MutBor T × (P × Unit {0}))) (U
       → IsCompressed first following reset (view_of (values_of old)) (view_of (values_of new))
   links_compressed first following reset count is_counter is_count =
       let like =
-      compressing g key f counter (values_of old) (values_of mid) (gathered (values_of mid) gathering.values) (ap (λ (a : Arena Gen (LinkView T)). values_of a) is_mid) like_gathered first following reset count is_counter is_count in
+      compressing g key f counter (values_of old) (values_of mid) (arena_of_values (values_of mid) gathering.values) (ap (λ (a : Arena Gen (LinkView T)). values_of a) is_mid) like_gathered first following reset count is_counter is_count in
       let long : length mid.slots ≡ length (values_of old).slots = ap (λ (a : Arena Gen (LinkView T)). length a.slots) is_mid ∙ sym (length-map old.slots (option_map (on_value link_value))) in
       subst (λ (a : Arena Gen T). IsCompressed first following reset (view_of (values_of old)) (view_of a)) (sym gathering.arena) (record {
         indexes = like.indexes;

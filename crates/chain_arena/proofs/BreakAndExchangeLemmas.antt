@@ -10,22 +10,22 @@ use Rattle.chain_laws.proofs.CutLemmas.Chains.{cut_cuts}
 use Rattle.chain_laws.proofs.ExchangeLemmas.Pairs.{exchanged_agrees, exchanged_in_pairs}
 use Rattle.chain_laws.proofs.ExchangeLemmas.Chains.{exchanged_exchanges}
 use Rattle.arena_base.specs.Arena.{Arena}
-use Rattle.chain_links.specs.ChainArena.{LinkView, link_map, values_of, relinked, IsCut, IsExchange}
-use Rattle.chain_linking.proofs.LinkWriteLemmas.{FitsLinks-twice, link_map-relinked, values_of-relinked}
+use Rattle.chain_links.specs.ChainArena.{LinkView, link_map, values_of, with_link_map, IsCut, IsExchange}
+use Rattle.chain_linking.proofs.LinkWriteLemmas.{FitsLinks-twice, link_map-with_link_map, values_of-with_link_map}
 
 -- What holds of a known index.
 pub at_known : (F : ℕ → Type 0) (o : Option ℕ) (n : ℕ) → o ≡ Some n → F n → IfSome o F
 at_known F o n is holds = subst (λ x. IfSome x F) (sym is) holds
 
 module _ {Gen T : Type 0} (a b : Arena Gen (LinkView T)) where
-  module _ (u v w x : Option ℕ) (is : b ≡ relinked a (with_neighbors (with_neighbors (link_map a) u v) w x)) where
+  module _ (u v w x : Option ℕ) (is : b ≡ with_link_map a (with_neighbors (with_neighbors (link_map a) u v) w x)) where
     reports_twice : link_map b ≡ with_neighbors (with_neighbors (link_map a) u v) w x
-    reports_twice = ap (λ (y : Arena Gen (LinkView T)). link_map y) is ∙ link_map-relinked a (with_neighbors (with_neighbors (link_map a) u v) w x) (FitsLinks-twice a u v w x)
+    reports_twice = ap (λ (y : Arena Gen (LinkView T)). link_map y) is ∙ link_map-with_link_map a (with_neighbors (with_neighbors (link_map a) u v) w x) (FitsLinks-twice a u v w x)
 
     values_twice : values_of b ≡ values_of a
-    values_twice = ap (λ (y : Arena Gen (LinkView T)). values_of y) is ∙ values_of-relinked a (with_neighbors (with_neighbors (link_map a) u v) w x) (FitsLinks-twice a u v w x)
+    values_twice = ap (λ (y : Arena Gen (LinkView T)). values_of y) is ∙ values_of-with_link_map a (with_neighbors (with_neighbors (link_map a) u v) w x) (FitsLinks-twice a u v w x)
 
-  module _ (i j : ℕ) (is : b ≡ relinked a (without_pair (link_map a) i j)) where
+  module _ (i j : ℕ) (is : b ≡ with_link_map a (without_pair (link_map a) i j)) where
     pub cut_reports : link_map b ≡ without_pair (link_map a) i j
     cut_reports = reports_twice (Some i) None None (Some j) is
 
@@ -43,7 +43,7 @@ module _ {Gen T : Type 0} (a b : Arena Gen (LinkView T)) where
       chains = subst (λ (m : LinkMap). Cuts (link_map a) m i j) (sym cut_reports) (cut_cuts (link_map a) i j);
     }
 
-  module _ (p q : ℕ) (is : b ≡ relinked a (with_exchange (link_map a) p q)) where
+  module _ (p q : ℕ) (is : b ≡ with_link_map a (with_exchange (link_map a) p q)) where
     pub exchange_reports : link_map b ≡ with_exchange (link_map a) p q
     exchange_reports = reports_twice (Some p) (next_of (link_map a) q) (Some q) (next_of (link_map a) p) is
 

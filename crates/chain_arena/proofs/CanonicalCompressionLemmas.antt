@@ -15,8 +15,8 @@ use Rattle.arena_base.specs.Arena.{Arena, slot_at, with_counter}
 use Rattle.arena_base.specs.Entries.{entries_from, entries, found, view_of}
 use Rattle.arena_base.specs.EntryLaws.{found-entries}
 use Rattle.arena_base.specs.Compressions.{counter_after_compression, values_in}
-use Rattle.arena_base.specs.GatheredSlots.{fronted, gathered}
-use Rattle.arena_base.proofs.CompactedArenaLemmas.{length-slots, indexes-fronted, generations-fronted}
+use Rattle.arena_base.specs.GatheredSlots.{with_front, arena_of_values}
+use Rattle.arena_base.proofs.CompactedArenaLemmas.{length-slots, indexes-with_front, generations-with_front}
 use Rattle.chain_links.specs.ChainArena.{LinkView, on_value, link_value, interlinks_of, link_map, value_view, entry, values_of, ptr_at}
 use Rattle.chain_compaction.specs.Layouts.{ReportsMoves, ReportsAll, AreArranged}
 use Rattle.chain_links.specs.CanonicalLayouts.{IsCanonicalLayout}
@@ -24,9 +24,9 @@ use Rattle.chain_links.proofs.ArenaInsertionLemmas.{some_entry, values-count}
 use Rattle.chain_compaction.proofs.ArrangementLemmas.{count-stored}
 
 -- The values of entries at the front.
-values-fronted : {Gen T : Type 0} (g : Gen) (values : List T) (i : ℕ) → values_in (entries_from i (fronted g values [])) ≡ values
-values-fronted g [] i = refl
-values-fronted {Gen} {T} g (t ∷ values) i = ap (λ (ts : List T). t ∷ ts) (values-fronted g values (suc i))
+values-with_front : {Gen T : Type 0} (g : Gen) (values : List T) (i : ℕ) → values_in (entries_from i (with_front g values [])) ≡ values
+values-with_front g [] i = refl
+values-with_front {Gen} {T} g (t ∷ values) i = ap (λ (ts : List T). t ∷ ts) (values-with_front g values (suc i))
 
 module _ {F P T Gen : Type 0} (g : F → P → P → F → Type 0) (key : P → ℕ × Gen) (f last : F) (counter : Gen) (old mid new : Arena Gen (LinkView T)) (is_mid : mid ≡ with_counter old counter)
     (arranged : AreArranged g key f last mid new) where
@@ -65,10 +65,10 @@ module _ {F P T Gen : Type 0} (g : F → P → P → F → Type 0) (key : P → 
       ∙ (ap length arranged.was_stored ∙ (length-map arranged.indexes (λ i. option_map (λ (e : Gen × T). e.1) (entry mid i)) ∙ sym indexes_counted))
 
   abbrev after : Arena Gen T
-  after = record (gathered (with_counter (values_of old) counter) arranged.values) { touched = old.touched + arranged.touches }
+  after = record (arena_of_values (with_counter (values_of old) counter) arranged.values) { touched = old.touched + arranged.touches }
 
   is_after : values_of new ≡ after
-  is_after = arranged.arena ∙ (λ i. record (gathered (values_of (is_mid i)) arranged.values) { touched = (is_mid i).touched + arranged.touches })
+  is_after = arranged.arena ∙ (λ i. record (arena_of_values (values_of (is_mid i)) arranged.values) { touched = (is_mid i).touched + arranged.touches })
 
   -- The entry at each index is the one found there.
   entry_found : entry mid ≡ (λ i. found i (entries (values_of old)))
@@ -83,12 +83,12 @@ module _ {F P T Gen : Type 0} (g : F → P → P → F → Type 0) (key : P → 
         order = links_ordered;
         renamed = links_renamed;
         runs = links_run;
-        keys = indexes-fronted counter arranged.values 1 ∙ ap (range_with_len 1) values_counted;
-        values = ap (λ (ts : List T). map (λ t. Some t) ts) (values-fronted counter arranged.values 1)
+        keys = indexes-with_front counter arranged.values 1 ∙ ap (range_with_len 1) values_counted;
+        values = ap (λ (ts : List T). map (λ t. Some t) ts) (values-with_front counter arranged.values 1)
             ∙ (arranged.was_stored ∙ ap (λ (given : ℕ → Option (Gen × T)). map (λ i. option_map (λ (e : Gen × T). e.1) (given i)) arranged.indexes) entry_found);
         counter = ap (λ (h : Gen). Some h) (is_counter ∙ ap (λ n. counter_after_compression first following reset n old.counter) is_count);
         generation = counter;
-        generations = generations-fronted counter arranged.values 1;
+        generations = generations-with_front counter arranged.values 1;
         is_counter = refl;
         slots = record {
           count = length-slots counter arranged.values ∙ values_counted;

@@ -18,7 +18,7 @@ use Rattle.chain_links.specs.Links.{link_view}
 use Rattle.chain_arena.specs.Drains.{walk_left, without_each, IsDrainStep, CountsUp}
 use Rattle.chain_links.specs.declared.links.LinkBody.{LinkBody}
 use Rattle.chain_links.proofs.MappedArenaLemmas.{entry_at-with_each}
-use Rattle.chain_links.proofs.LinkStateLemmas.{length-relinked}
+use Rattle.chain_links.proofs.LinkStateLemmas.{length-with_link_map}
 use Rattle.chain_links.proofs.ArenaInsertionLemmas.{link_map-within}
 use Rattle.chain_linking.proofs.UnlinkLemmas.{passes_over, link_map-remove_link}
 
@@ -71,7 +71,7 @@ module _ {Gen T : Type 0} where
 
   -- A removal keeps the number of slots.
   length-remove_link : (following : Gen → Gen) (a : Arena Gen (LinkView T)) (i : ℕ) → length (remove_link following a i).slots ≡ length a.slots
-  length-remove_link following a i = length-relinked (remove_at following a i) (with_removal (link_map a) i) ∙ length-with_slot a.slots i None
+  length-remove_link following a i = length-with_link_map (remove_at following a i) (with_removal (link_map a) i) ∙ length-with_slot a.slots i None
 
   -- Each removal increments the counter.
   pub without_each-counts : (following : Gen → Gen) (a b : Arena Gen (LinkView T)) (indexes : List ℕ) → b ≡ without_each following a indexes → CountsUp following (length indexes) a b

@@ -16,7 +16,7 @@ use Rattle.chain_laws.specs.Cuts.{without_pair}
 use Rattle.chain_laws.specs.Insertions.{InsertKind}
 use Rattle.chain_laws.proofs.WalkLemmas.Walker.{no_other_walk}
 use Rattle.arena_base.specs.Arena.{IsValid, entry_at, entry_count, with_capacity_of}
-use Rattle.chain_links.specs.ChainArena.{LinkView, on_value, link_map, entry, link_value, insert_as, relinked}
+use Rattle.chain_links.specs.ChainArena.{LinkView, on_value, link_map, entry, link_value, insert_as, with_link_map}
 use Rattle.chain_arena.specs.Drains.{without_each}
 use Rattle.chain_links.specs.Links.{link_view, pair_view}
 use Rattle.chain_arena.specs.Effects.{Links, GrowsToFit, stays, grown, Refuses, ReportsOverflow, IsAdded}
@@ -72,7 +72,7 @@ module _ {Gen T : Type 0} where
   breaks_prev_same old a b p true true one two =
       let met : Some one.1 ≡ Some two.1 = sym one.2 ∙ two.2 in
       let beside : one.1 ≡ two.1 = cc in
-      (refl, one.3.state ∙ (ap (λ (i : ℕ). relinked old (without_pair (link_map old) i p.0)) beside ∙ sym two.3.state))
+      (refl, one.3.state ∙ (ap (λ (i : ℕ). with_link_map old (without_pair (link_map old) i p.0)) beside ∙ sym two.3.state))
 
   breaks_next_same : (old a b : Links Gen T) (p : ℕ × Gen) (r s : Bool) → BreakNextStep old p r a → BreakNextStep old p s b → Same r s a b
   breaks_next_same old a b p false false one two = (refl, same one.1 two.1)
@@ -81,7 +81,7 @@ module _ {Gen T : Type 0} where
   breaks_next_same old a b p true true one two =
       let met : Some one.1 ≡ Some two.1 = sym one.2 ∙ two.2 in
       let beside : one.1 ≡ two.1 = cc in
-      (refl, one.3.state ∙ (ap (λ (i : ℕ). relinked old (without_pair (link_map old) p.0 i)) beside ∙ sym two.3.state))
+      (refl, one.3.state ∙ (ap (λ (i : ℕ). with_link_map old (without_pair (link_map old) p.0 i)) beside ∙ sym two.3.state))
 
   -- Arenas that are the same but for touches are so but for capacity and touches.
   same_but_capacity : (a b : Links Gen T) → AreSameButTouched a b → AreSameButCapacityAndTouched a b

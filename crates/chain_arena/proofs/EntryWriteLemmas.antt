@@ -3,8 +3,8 @@ use Rattle.std.proofs.Common.{◌≡◌, ℕ, Option, None, Some, refl, ap, ap�
 use Rattle.std.specs.Prelude.{IfSome, IsSome}
 use Rattle.std.specs.Option.{option_map}
 use Rattle.chain_laws.specs.Chains.{IsWellLinked}
-use Rattle.arena_base.specs.Arena.{Arena, entry_at, with_slot, with_value, renewed_at, cleared}
-use Rattle.arena_base.specs.Entries.{view_of, written, renewed, emptied}
+use Rattle.arena_base.specs.Arena.{Arena, entry_at, with_slot, with_value, renewed_at, arena_after_clear}
+use Rattle.arena_base.specs.Entries.{view_of, view_with_value, view_after_invalidation, view_after_clear}
 use Rattle.chain_links.specs.declared.links.LinkBody.{LinkBody}
 use Rattle.chain_links.specs.ChainArena.{on_value, LinkView, link_value, with_link_value, values_of, link_map, with_value_at}
 use Rattle.chain_links.specs.Links.{link_view, links_view, pair_view}
@@ -44,7 +44,7 @@ module _ {Gen K T : Type 0} (number : K → Option ℕ) (a b : Arena Gen (LinkBo
   pub written-agrees : IsWellLinked (link_map (links_view number a)) → IsWellLinked (link_map (links_view number b))
   written-agrees agrees = subst IsWellLinked (sym written-link_map) agrees
 
-  pub written-view_after : view_of (values_of (links_view number b)) ≡ written (view_of (values_of (links_view number a))) n w
+  pub written-view_after : view_of (values_of (links_view number b)) ≡ view_with_value (view_of (values_of (links_view number a))) n w
   written-view_after = ap (λ (x : Arena Gen (LinkView T)). view_of (values_of x)) written-state
       ∙ (ap (λ (x : Arena Gen T). view_of x) (values_of-with_value_at (links_view number a) n (link_view number l) w viewed_stored) ∙ viewed_written (values_of (links_view number a)) n w)
 
@@ -55,20 +55,20 @@ module _ {Gen K T : Type 0} (number : K → Option ℕ) (following : Gen → Gen
   pub renewed-link_map : link_map (links_view number b) ≡ link_map (links_view number a)
   renewed-link_map = link_map-renewed following (links_view number a) (links_view number b) n renewed-state
 
-  pub renewed-view_after : view_of (values_of (links_view number b)) ≡ renewed (view_of (values_of (links_view number a))) (n, following a.counter)
+  pub renewed-view_after : view_of (values_of (links_view number b)) ≡ view_after_invalidation (view_of (values_of (links_view number a))) (n, following a.counter)
   renewed-view_after = ap (λ (x : Arena Gen (LinkView T)). view_of (values_of x)) renewed-state
       ∙ (ap (λ (x : Arena Gen T). view_of x) (with_each-renewed_at link_value following (links_view number a) n) ∙ viewed_renewed following (values_of (links_view number a)) n)
 
   -- The new pointer has the new generation.
   pub renewed-known : {Q : Type 0} (X : Q → Type 0) (key : Q → ℕ × Gen) (o : Option Q) → IfSome o (λ q. ((key q).0 ≡ n) × X q) × IsSome o → IfSome o (λ q. (key q).1 ≡ following a.counter)
-      → IfSome o (λ q. ((key q).0 ≡ n) × (view_of (values_of (links_view number b)) ≡ renewed (view_of (values_of (links_view number a))) (key q))) × IsSome o
+      → IfSome o (λ q. ((key q).0 ≡ n) × (view_of (values_of (links_view number b)) ≡ view_after_invalidation (view_of (values_of (links_view number a))) (key q))) × IsSome o
   renewed-known X key None known generation = absurd (let h = known.1 in cc)
   renewed-known X key (Some q) known generation =
-      ((known.0.0, renewed-view_after ∙ ap₂ (λ (i : ℕ) (g : Gen). renewed (view_of (values_of (links_view number a))) (i, g)) (sym known.0.0) (sym generation)), known.1)
+      ((known.0.0, renewed-view_after ∙ ap₂ (λ (i : ℕ) (g : Gen). view_after_invalidation (view_of (values_of (links_view number a))) (i, g)) (sym known.0.0) (sym generation)), known.1)
 
 -- The arena after a clear.
-module _ {Gen K T : Type 0} (number : K → Option ℕ) (following : Gen → Gen) (a b : Arena Gen (LinkBody K T)) (is : b ≡ cleared following a) where
-  pub cleared-view_after : view_of (values_of (links_view number b)) ≡ emptied following (view_of (values_of (links_view number a)))
+module _ {Gen K T : Type 0} (number : K → Option ℕ) (following : Gen → Gen) (a b : Arena Gen (LinkBody K T)) (is : b ≡ arena_after_clear following a) where
+  pub cleared-view_after : view_of (values_of (links_view number b)) ≡ view_after_clear following (view_of (values_of (links_view number a)))
   cleared-view_after = ap (λ (x : Arena Gen (LinkBody K T)). view_of (values_of (links_view number x))) is
       ∙ (ap (λ (x : Arena Gen (LinkView T)). view_of (values_of x)) (with_each-cleared (link_view number) following a)
       ∙ (ap (λ (x : Arena Gen T). view_of x) (with_each-cleared link_value following (links_view number a)) ∙ viewed_cleared following (values_of (links_view number a))))

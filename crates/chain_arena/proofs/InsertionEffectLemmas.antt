@@ -12,7 +12,7 @@ use Rattle.chain_links.specs.ChainArena.{LinkView, link_value, values_of, value_
 use Rattle.chain_links.specs.Insertions.{IsInsertion, IsInsertionBetween}
 use Rattle.chain_links.proofs.MappedArenaLemmas.{with_each-insert_next, length-with_each, listed-with_each}
 use Rattle.chain_links.proofs.ArenaInsertionLemmas.{link_map-insert_lone, link_map-next, inserted_at, length-filled}
-use Rattle.chain_linking.proofs.LinkWriteLemmas.{FitsLinks, FitsLinks-link_map, FitsLinks-next_set, FitsLinks-prev_set, link_map-relinked, values_of-relinked}
+use Rattle.chain_linking.proofs.LinkWriteLemmas.{FitsLinks, FitsLinks-link_map, FitsLinks-next_set, FitsLinks-prev_set, link_map-with_link_map, values_of-with_link_map}
 
 -- The insertion position of a kind that may be inserted.
 pub position_known : (interlinks : LinkMap) (kind : InsertKind ℕ) (q : ℕ) {u v : Option ℕ} → u ≡ link_before interlinks kind q → v ≡ link_after interlinks kind q
@@ -30,12 +30,12 @@ module _ {Gen T : Type 0} (a : Arena Gen (LinkView T)) (t : T) (listed : IsListe
 
   -- The link map of the arena with a link between two others.
   pub link_map-insert_between : (u v : Option ℕ) → link_map (insert_between a t u v) ≡ with_insertion (link_map a) (next_index a) u v
-  link_map-insert_between u v = link_map-relinked (insert_lone a t) (with_insertion (link_map a) (next_index a) u v) (fits_between u v)
+  link_map-insert_between u v = link_map-with_link_map (insert_lone a t) (with_insertion (link_map a) (next_index a) u v) (fits_between u v)
 
   -- The values of the arena with a link between two others.
   pub values_of-insert_between : (u v : Option ℕ) → values_of (insert_between a t u v) ≡ insert_next (values_of a) t
   values_of-insert_between u v =
-      values_of-relinked (insert_lone a t) (with_insertion (link_map a) (next_index a) u v) (fits_between u v) ∙ with_each-insert_next link_value a (lone t)
+      values_of-with_link_map (insert_lone a t) (with_insertion (link_map a) (next_index a) u v) (fits_between u v) ∙ with_each-insert_next link_value a (lone t)
 
   pub agrees-insert_between : (u v : Option ℕ) → IsWellLinked (link_map a) → IsInsertPosition (link_map a) (next_index a) u v → IsWellLinked (link_map (insert_between a t u v))
   agrees-insert_between u v agrees position =

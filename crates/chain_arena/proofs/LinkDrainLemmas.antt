@@ -9,7 +9,7 @@ use Rattle.arena_ptr.specs.Invalidation.{value_in, is_overflow, value_within, is
 use Rattle.arena_ptr.specs.declared.invalidation.InvalidationOption.{InvalidationOption}
 use Rattle.arena_ptr.specs.declared.invalidation.InvalidationResult.{InvalidationResult}
 use Rattle.arena_base.specs.Arena.{Arena, IsValid, entry_at}
-use Rattle.arena_base.specs.Entries.{ArenaView, entries, entries_from, index_of, found, without, first_key, AscendsFrom}
+use Rattle.arena_base.specs.Entries.{ArenaView, entries, entries_from, index_of, found, without_index, first_key, AscendsFrom}
 use Rattle.arena_base.specs.Entries.{entry_removed}
 use Rattle.arena_base.specs.EntryLaws.{entries_ascend, found-entries}
 use Rattle.arena_base.specs.Advancers.{entries_at_or_above}
@@ -40,8 +40,8 @@ module _ {Gen T : Type 0} where
   record IsFirst (i : ℕ) (p : ℕ × Gen) (es : List ((ℕ × Gen) × T)) : Type 0 where
     value : T
     stored : found p.0 es ≡ Some (p.1, value)
-    left : entries_at_or_above i es ≡ (p, value) ∷ entries_at_or_above p.0 (without p.0 es)
-    behind : entries_at_or_above p.0 (without p.0 es) ≡ entries_at_or_above (suc p.0) (without p.0 es)
+    left : entries_at_or_above i es ≡ (p, value) ∷ entries_at_or_above p.0 (without_index p.0 es)
+    behind : entries_at_or_above p.0 (without_index p.0 es) ≡ entries_at_or_above (suc p.0) (without_index p.0 es)
     from : i ≤ p.0
 
   first_here : (i : ℕ) (p : ℕ × Gen) (e : (ℕ × Gen) × T) (es : List ((ℕ × Gen) × T)) → AscendsFrom e.0.0 (e ∷ es) → leb i e.0.0 ≡ true → Some p ≡ first_key (entries_at_or_above i (e ∷ es)) → IsFirst i p (e ∷ es)
@@ -56,11 +56,11 @@ module _ {Gen T : Type 0} where
         value = e.1;
         stored = ap (λ b. cond b (Some (e.0.1, e.1)) (found p.0 es)) same ∙ ap (λ (k : ℕ × Gen). let o : Option (Gen × T) = Some (k.1, e.1) in o) (sym key);
         left = is ∙ (ap (λ (k : ℕ × Gen). (k, e.1) ∷ es) (sym key)
-            ∙ ap (λ (l : List ((ℕ × Gen) × T)). (p, e.1) ∷ l) (sym (ap (λ b. entries_at_or_above p.0 (cond b es (e ∷ without p.0 es))) same ∙ entries_at_or_above-ascends p.0 (suc e.0.0) es (omega (arith, index)) ascends.1)));
-        behind = ap (λ b. entries_at_or_above p.0 (cond b es (e ∷ without p.0 es))) same
+            ∙ ap (λ (l : List ((ℕ × Gen) × T)). (p, e.1) ∷ l) (sym (ap (λ b. entries_at_or_above p.0 (cond b es (e ∷ without_index p.0 es))) same ∙ entries_at_or_above-ascends p.0 (suc e.0.0) es (omega (arith, index)) ascends.1)));
+        behind = ap (λ b. entries_at_or_above p.0 (cond b es (e ∷ without_index p.0 es))) same
             ∙ (entries_at_or_above-ascends p.0 (suc e.0.0) es (omega (arith, index)) ascends.1
             ∙ (sym (entries_at_or_above-ascends (suc p.0) (suc e.0.0) es (omega (arith, index)) ascends.1)
-            ∙ sym (ap (λ b. entries_at_or_above (suc p.0) (cond b es (e ∷ without p.0 es))) same)));
+            ∙ sym (ap (λ b. entries_at_or_above (suc p.0) (cond b es (e ∷ without_index p.0 es))) same)));
         from = omega (arith, least, index);
       }
 
@@ -74,13 +74,13 @@ module _ {Gen T : Type 0} where
         stored = ap (λ b. cond b (Some (e.0.1, e.1)) (found p.0 es)) other ∙ rest.stored;
         left = ap (λ b. cond b (e ∷ es) (entries_at_or_above i es)) later
             ∙ (rest.left
-            ∙ ap (λ (l : List ((ℕ × Gen) × T)). (p, rest.value) ∷ l) (sym (ap (λ b. entries_at_or_above p.0 (cond b es (e ∷ without p.0 es))) other
-            ∙ ap (λ b. cond b (e ∷ without p.0 es) (entries_at_or_above p.0 (without p.0 es))) (lt-leb p.0 e.0.0 before))));
-        behind = ap (λ b. entries_at_or_above p.0 (cond b es (e ∷ without p.0 es))) other
-            ∙ (ap (λ b. cond b (e ∷ without p.0 es) (entries_at_or_above p.0 (without p.0 es))) (lt-leb p.0 e.0.0 before)
+            ∙ ap (λ (l : List ((ℕ × Gen) × T)). (p, rest.value) ∷ l) (sym (ap (λ b. entries_at_or_above p.0 (cond b es (e ∷ without_index p.0 es))) other
+            ∙ ap (λ b. cond b (e ∷ without_index p.0 es) (entries_at_or_above p.0 (without_index p.0 es))) (lt-leb p.0 e.0.0 before))));
+        behind = ap (λ b. entries_at_or_above p.0 (cond b es (e ∷ without_index p.0 es))) other
+            ∙ (ap (λ b. cond b (e ∷ without_index p.0 es) (entries_at_or_above p.0 (without_index p.0 es))) (lt-leb p.0 e.0.0 before)
             ∙ (rest.behind
-            ∙ (sym (ap (λ b. cond b (e ∷ without p.0 es) (entries_at_or_above (suc p.0) (without p.0 es))) (lt-leb (suc p.0) e.0.0 (omega (arith, before))))
-            ∙ sym (ap (λ b. entries_at_or_above (suc p.0) (cond b es (e ∷ without p.0 es))) other))));
+            ∙ (sym (ap (λ b. cond b (e ∷ without_index p.0 es) (entries_at_or_above (suc p.0) (without_index p.0 es))) (lt-leb (suc p.0) e.0.0 (omega (arith, before))))
+            ∙ sym (ap (λ b. entries_at_or_above (suc p.0) (cond b es (e ∷ without_index p.0 es))) other))));
         from = rest.from;
       }
 
@@ -94,8 +94,8 @@ module _ {Gen T : Type 0} where
 
   -- The first remaining link of an arena.
   pub first_left : (a : Arena Gen (LinkView T)) (at : ℕ) (p : ℕ × Gen) → Some p ≡ first_key (entries_left a at)
-      → (t : T) × (entry_at (values_of a) p.0 ≡ Some (p.1, t)) × (entries_left a at ≡ (p, t) ∷ entries_at_or_above p.0 (without p.0 (entries (values_of a)))) × (1 ≤ p.0)
-      × (entries_at_or_above p.0 (without p.0 (entries (values_of a))) ≡ entries_at_or_above (suc p.0) (without p.0 (entries (values_of a))))
+      → (t : T) × (entry_at (values_of a) p.0 ≡ Some (p.1, t)) × (entries_left a at ≡ (p, t) ∷ entries_at_or_above p.0 (without_index p.0 (entries (values_of a)))) × (1 ≤ p.0)
+      × (entries_at_or_above p.0 (without_index p.0 (entries (values_of a))) ≡ entries_at_or_above (suc p.0) (without_index p.0 (entries (values_of a))))
   first_left a zero p first = absurd (cc)
   first_left a (suc k) p first =
       let met = first_in (suc k) 1 p (entries (values_of a)) (entries_ascend (values_of a)) first in
@@ -141,7 +141,7 @@ module _ {Gen T : Type 0} where
   without_each-all following a [] all = all
   without_each-all following a (e ∷ es) all = without_each-all following (remove_link following a e.0.0) es
       (ap (λ (s : ArenaView Gen T). s.entries) (view_after-removed following a (remove_link following a e.0.0) e.0.0 refl)
-      ∙ (ap (without e.0.0) all ∙ ap (λ b. cond b es (e ∷ without e.0.0 es)) (eq-eqb e.0.0 e.0.0 refl)))
+      ∙ (ap (without_index e.0.0) all ∙ ap (λ b. cond b es (e ∷ without_index e.0.0 es)) (eq-eqb e.0.0 e.0.0 refl)))
 
 -- A result made from an overflow flag reports that flag.
 pub overflow_known : {X : Type 0} (w : Bool) (r : InvalidationResult X) (x : X) → r ≡ invalidation_result w (value_within r) → value_within r ≡ Some x → is_overflow_result r ≡ w
@@ -169,12 +169,12 @@ module _ {P Gen T : Type 0} (key : P → ℕ × Gen) (following : Gen → Gen) (
     drained_has none = let both = sym none ∙ value_is in cc
 
     -- The links left after the first one are left by the step.
-    left_behind : IsBehind (key p).0 next → entries (values_of new) ≡ without (key p).0 (entries (values_of old)) → entries_at_or_above (key p).0 (without (key p).0 (entries (values_of old))) ≡ entries_left new next
+    left_behind : IsBehind (key p).0 next → entries (values_of new) ≡ without_index (key p).0 (entries (values_of old)) → entries_at_or_above (key p).0 (without_index (key p).0 (entries (values_of old))) ≡ entries_left new next
     left_behind index es =
         let met = first_left old at (key p) first in
         ⊎_elim
-        (λ (same : next ≡ (key p).0). ap (λ n. entries_at_or_above n (without (key p).0 (entries (values_of old)))) (sym same) ∙ (ap (entries_at_or_above next) (sym es) ∙ sym (entries_left-at new next (omega (arith, met.3, same)))))
-        (λ (after : next ≡ suc (key p).0). met.4 ∙ (ap (λ n. entries_at_or_above n (without (key p).0 (entries (values_of old)))) (sym after) ∙ (ap (entries_at_or_above next) (sym es) ∙ sym (entries_left-at new next (omega (arith, after))))))
+        (λ (same : next ≡ (key p).0). ap (λ n. entries_at_or_above n (without_index (key p).0 (entries (values_of old)))) (sym same) ∙ (ap (entries_at_or_above next) (sym es) ∙ sym (entries_left-at new next (omega (arith, met.3, same)))))
+        (λ (after : next ≡ suc (key p).0). met.4 ∙ (ap (λ n. entries_at_or_above n (without_index (key p).0 (entries (values_of old)))) (sym after) ∙ (ap (entries_at_or_above next) (sym es) ∙ sym (entries_left-at new next (omega (arith, after))))))
         index
 
     pub drained_first : (t : T) (overflow : Bool) (gone : InvalidationOption (P × T)) → value_view new ≡ entry_removed following (value_view old) (key p).0 → new ≡ remove_link following old (key p).0
@@ -184,17 +184,17 @@ module _ {P Gen T : Type 0} (key : P → ℕ × Gen) (following : Gen → Gen) (
         let both : Some t ≡ Some met.0 = sym has ∙ value_is in
         let same : t ≡ met.0 = cc in
         let item : value_in gone ≡ (p, t) = ap value_in responded ∙ value_in-made overflow (p, t) in
-        let es : entries (values_of new) ≡ without (key p).0 (entries (values_of old)) = ap (λ (s : ArenaView Gen T). s.entries) loses in
+        let es : entries (values_of new) ≡ without_index (key p).0 (entries (values_of old)) = ap (λ (s : ArenaView Gen T). s.entries) loses in
         let keyed : key (value_in gone).0 ≡ key p = ap (λ (x : P × T). key x.0) item in
         let left : entries_left old at ≡ (key (value_in gone).0, (value_in gone).1) ∷ entries_left new next = met.2
-        ∙ (ap (λ (u : T). (key p, u) ∷ entries_at_or_above (key p).0 (without (key p).0 (entries (values_of old)))) (sym same)
-        ∙ (ap (λ (x : P × T). (key x.0, x.1) ∷ entries_at_or_above (key p).0 (without (key p).0 (entries (values_of old)))) (sym item)
+        ∙ (ap (λ (u : T). (key p, u) ∷ entries_at_or_above (key p).0 (without_index (key p).0 (entries (values_of old)))) (sym same)
+        ∙ (ap (λ (x : P × T). (key x.0, x.1) ∷ entries_at_or_above (key p).0 (without_index (key p).0 (entries (values_of old)))) (sym item)
         ∙ ap (λ (l : List ((ℕ × Gen) × T)). (key (value_in gone).0, (value_in gone).1) ∷ l) (left_behind index es))) in
         record {
           left = left;
           all = λ whole. sym (es
-              ∙ (ap (without (key p).0) (sym whole ∙ left)
-              ∙ ap (λ b. cond b (entries_left new next) ((key (value_in gone).0, (value_in gone).1) ∷ without (key p).0 (entries_left new next)))
+              ∙ (ap (without_index (key p).0) (sym whole ∙ left)
+              ∙ ap (λ b. cond b (entries_left new next) ((key (value_in gone).0, (value_in gone).1) ∷ without_index (key p).0 (entries_left new next)))
               (eq-eqb (key (value_in gone).0).0 (key p).0 (ap (λ (k : ℕ × Gen). k.0) keyed))));
           overflow = ap is_overflow responded ∙ (is_overflow-made overflow (p, t) ∙ known);
           state = removal ∙ ap (λ (x : P × T). remove_link following old (key x.0).0) (sym item);

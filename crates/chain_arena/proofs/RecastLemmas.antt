@@ -5,7 +5,7 @@ use Rattle.std.specs.Option.{option_map}
 use Rattle.std.proofs.lemmas.List.{append-nil, map-append}
 use Rattle.std.proofs.lemmas.Bool.{lt-leb, eq-eqb, ne_eqb}
 use Rattle.arena_base.specs.Arena.{Arena, IsValid, slot_at, with_slot, entry_at}
-use Rattle.arena_base.specs.Entries.{found, replaced, first_key, AscendsFrom}
+use Rattle.arena_base.specs.Entries.{found, with_replacement, first_key, AscendsFrom}
 use Rattle.arena_base.specs.EntryLaws.{entries_ascend, found-entries}
 use Rattle.arena_base.specs.Advancers.{entries_at_or_above, ahead, cursor_after, IsAdvance}
 use Rattle.arena_base.specs.Compressions.{values_in}
@@ -57,12 +57,12 @@ module _ {Gen T : Type 0} where
       ∙ found-behind front e rest (suc f.0.0) ascends.1
 
   replaced-behind : (u : T) (front : List ((ℕ × Gen) × T)) (e : (ℕ × Gen) × T) (rest : List ((ℕ × Gen) × T)) (m : ℕ) → AscendsFrom m (front ++ e ∷ rest)
-      → replaced e.0.0 (λ (x : Gen × T). (x.0, u)) (front ++ e ∷ rest) ≡ front ++ (e.0, u) ∷ rest
+      → with_replacement e.0.0 (λ (x : Gen × T). (x.0, u)) (front ++ e ∷ rest) ≡ front ++ (e.0, u) ∷ rest
   replaced-behind u [] e rest m ascends =
-      ap (λ b. cond b ((e.0, u) ∷ rest) (e ∷ replaced e.0.0 (λ (x : Gen × T). (x.0, u)) rest)) (eq-eqb e.0.0 e.0.0 refl)
+      ap (λ b. cond b ((e.0, u) ∷ rest) (e ∷ with_replacement e.0.0 (λ (x : Gen × T). (x.0, u)) rest)) (eq-eqb e.0.0 e.0.0 refl)
   replaced-behind u (f ∷ front) e rest m ascends =
       let below = ascends_to front e rest (suc f.0.0) ascends.1 in
-      let left = replaced e.0.0 (λ (x : Gen × T). (x.0, u)) (front ++ e ∷ rest) in
+      let left = with_replacement e.0.0 (λ (x : Gen × T). (x.0, u)) (front ++ e ∷ rest) in
       ap (λ b. cond b (((e.0.0, f.0.1), u) ∷ front ++ e ∷ rest) (f ∷ left)) (ne_eqb f.0.0 e.0.0 (λ same. omega (arith, below, same)))
       ∙ ap (λ es. f ∷ es) (replaced-behind u front e rest (suc f.0.0) ascends.1)
 
@@ -168,7 +168,7 @@ module _ {T I : Type 0} (recasts : T → T → Result (Unit {0}) I → Type 0) w
           was_value = ap (value_or next.value) (sym is.was_stored ∙ stored)
 
           entries_then : (value_view new).entries ≡ at.front ++ (p, is.is) ∷ next.later
-          entries_then = is.entries ∙ (ap (replaced p.0 (λ (x : Gen × T). (x.0, is.is))) entries_are ∙ replaced-behind is.is at.front (p, next.value) next.later 1 ascends)
+          entries_then = is.entries ∙ (ap (with_replacement p.0 (λ (x : Gen × T). (x.0, is.is))) entries_are ∙ replaced-behind is.is at.front (p, next.value) next.later 1 ascends)
 
           rest_then : with_each link_without_value new ≡ with_each link_without_value old
           rest_then = ap (with_each link_without_value) is.state ∙ (value-written now p.0 is.is ∙ at.rest)

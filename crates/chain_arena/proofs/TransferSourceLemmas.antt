@@ -14,7 +14,7 @@ use Rattle.chain_laws.proofs.ListLemmas.Members.{filled-IsMember}
 use Rattle.chain_laws.proofs.ChainLemmas.Uniqueness.{chain_valid, chain_filled}
 use Rattle.chain_laws.proofs.TransferLemmas.Source.{items_of, least_is_next, first_is_taken}
 use Rattle.chain_laws.proofs.RemovalLemmas.Pairs.{HasLink-removed}
-use Rattle.arena_base.specs.Entries.{ArenaView, found, without, entry_removed, AscendsFrom}
+use Rattle.arena_base.specs.Entries.{ArenaView, found, without_index, entry_removed, AscendsFrom}
 use Rattle.arena_base.specs.declared.cursor.Cursor.{Cursor}
 use Rattle.arena_base.specs.declared.cursor.Cursor.TheVariants.{Up}
 use Rattle.chain_arena.specs.Drains.{after_times}
@@ -27,19 +27,19 @@ tail_in_order c rest order = record { written = λ d h. order.written d (inr h);
 
 module _ {Gen T : Type 0} where
   -- A removal keeps all other entries.
-  found-without : (i j : ℕ) (es : List ((ℕ × Gen) × T)) → i ≢ j → found i (without j es) ≡ found i es
+  found-without : (i j : ℕ) (es : List ((ℕ × Gen) × T)) → i ≢ j → found i (without_index j es) ≡ found i es
   found-without i j [] ne = refl
   found-without i j (e ∷ es) ne = by (e.0.0 == j) refl (found-without i j es ne) where
-    by : (b : Bool) → (e.0.0 == j) ≡ b → found i (without j es) ≡ found i es → found i (cond b es (e ∷ without j es)) ≡ found i (e ∷ es)
+    by : (b : Bool) → (e.0.0 == j) ≡ b → found i (without_index j es) ≡ found i es → found i (cond b es (e ∷ without_index j es)) ≡ found i (e ∷ es)
     by true same rest = sym (if_other e.0.0 i (Some (e.0.1, e.1)) (found i es) (λ own. ne (sym own ∙ eqb-true e.0.0 j same)))
     by false other rest = ap (λ o. cond (e.0.0 == i) (Some (e.0.1, e.1)) o) rest
 
   -- One entry less is left.
-  length-without : (i : ℕ) (es : List ((ℕ × Gen) × T)) → is_some (found i es) ≡ true → length (without i es) + 1 ≡ length es
+  length-without : (i : ℕ) (es : List ((ℕ × Gen) × T)) → is_some (found i es) ≡ true → length (without_index i es) + 1 ≡ length es
   length-without i [] some = absurd (let h = some in cc)
   length-without i (e ∷ es) some = by (e.0.0 == i) refl some (length-without i es) where
-    by : (b : Bool) → (e.0.0 == i) ≡ b → is_some (cond b (Some (e.0.1, e.1)) (found i es)) ≡ true → (is_some (found i es) ≡ true → length (without i es) + 1 ≡ length es)
-        → length (cond b es (e ∷ without i es)) + 1 ≡ length (e ∷ es)
+    by : (b : Bool) → (e.0.0 == i) ≡ b → is_some (cond b (Some (e.0.1, e.1)) (found i es)) ≡ true → (is_some (found i es) ≡ true → length (without_index i es) + 1 ≡ length es)
+        → length (cond b es (e ∷ without_index i es)) + 1 ≡ length (e ∷ es)
     by true same there rest = omega arith
     by false other there rest = omega (arith, rest there)
 

@@ -7,11 +7,11 @@ use Rattle.chain_laws.specs.Insertions.{IsInsertPosition, with_insertion}
 use Rattle.chain_laws.specs.Arrangements.{in_runs}
 use Rattle.chain_laws.specs.Transfer.{with_appended, end_before, end_after}
 use Rattle.chain_laws.proofs.TransferLemmas.Target.{last_is_appended}
-use Rattle.arena_base.specs.Arena.{Arena, IsListed, slot_at, entry_count, filled, first_or_next, next_index, without_first}
+use Rattle.arena_base.specs.Arena.{Arena, IsListed, slot_at, entry_count, slots_after_insertion, first_or_next, next_index, without_first}
 use Rattle.arena_base.specs.Entries.{entries, entries_from}
 use Rattle.chain_links.specs.ChainArena.{LinkView, link_value, values_of, interlinks_of, link_map, lone, insert_lone, insert_between}
 use Rattle.chain_links.proofs.MappedArenaLemmas.{length-with_each}
-use Rattle.chain_links.proofs.LinkStateLemmas.{length-relinked}
+use Rattle.chain_links.proofs.LinkStateLemmas.{length-with_link_map}
 use Rattle.chain_links.proofs.ArenaInsertionLemmas.{values-count}
 use Rattle.chain_arena.proofs.InsertionEffectLemmas.{link_map-insert_between, values_of-insert_between}
 
@@ -84,15 +84,15 @@ module _ {Gen T : Type 0} where
         values_there : entries (values_of there) ≡ values ++ ((length values + 1, start.counter), t) ∷ []
         values_there =
             ap entries (values_of-insert_between now t listed (end_before ring (length xs) (next_index now)) (end_after ring (length xs) (next_index now)))
-            ∙ (ap (λ (f : List ℕ). entries_from 1 (filled f (values_of now).slots (now.counter, t))) now_unfreed
+            ∙ (ap (λ (f : List ℕ). entries_from 1 (slots_after_insertion f (values_of now).slots (now.counter, t))) now_unfreed
             ∙ (entries_from-append 1 (values_of now).slots (now.counter, t)
             ∙ ap₂ (λ (es : List ((ℕ × Gen) × T)) (p : ℕ × Gen). es ++ (p, t) ∷ []) landed.entered
             (ap₂ (λ (n : ℕ) (g : Gen). (n, g)) (let e : 1 + length (values_of now).slots ≡ length values + 1 = omega (arith, length-with_each link_value now, landed.slots) in e) (ap (λ (a : Arena Gen (LinkView T)). a.counter) landed.state))))
 
         slots_there : length there.slots ≡ length (values ++ ((length values + 1, start.counter), t) ∷ [])
         slots_there =
-            length-relinked (insert_lone now t) _
-            ∙ (ap (λ (f : List ℕ). length (filled f now.slots (now.counter, lone t))) now_unfreed
+            length-with_link_map (insert_lone now t) _
+            ∙ (ap (λ (f : List ℕ). length (slots_after_insertion f now.slots (now.counter, lone t))) now_unfreed
             ∙ (length-append now.slots (Some (now.counter, lone t) ∷ []) ∙ (ap (λ n. n + 1) landed.slots ∙ sym (length-append values (((length values + 1, start.counter), t) ∷ [])))))
 
         state_there : there ≡ record start { slots = there.slots; placed = start.placed + length (values ++ ((length values + 1, start.counter), t) ∷ []) }

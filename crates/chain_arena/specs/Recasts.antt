@@ -1,7 +1,7 @@
 -- A recast of a chain arena changes its values and nothing else.
 use Rattle.std.specs.Prelude.{◌≡◌, ℕ, List, [], ◌∷◌, ◌++◌, Some, Result, Ok, Err}
 use Rattle.arena_base.specs.Arena.{Arena}
-use Rattle.arena_base.specs.Entries.{replaced}
+use Rattle.arena_base.specs.Entries.{with_replacement}
 use Rattle.arena_base.specs.Compressions.{values_in}
 use Rattle.chain_links.specs.ChainArena.{LinkView, new_link, with_each, with_value_at, link_map, value_view, entry}
 
@@ -51,5 +51,5 @@ module _ {T I : Type 0} (recasts : T → T → Result (Unit {0}) I → Type 0) w
       pub was_stored : entry old p.0 ≡ Some (p.1, was)
       pub state : new ≡ with_value_at old p.0 is
       pub links : link_map new ≡ link_map old
-      pub entries : (value_view new).entries ≡ replaced p.0 (λ e. (e.0, is)) (value_view old).entries
+      pub entries : (value_view new).entries ≡ with_replacement p.0 (λ e. (e.0, is)) (value_view old).entries
       pub recast : recasts was is returned

@@ -11,7 +11,7 @@ use Rattle.arena_ptr.specs.declared.errors.ReallocationError.TheVariants as refu
 use Rattle.arena_ptr.specs.declared.invalidation.InvalidationResult.{InvalidationResult}
 use Rattle.chain_laws.specs.Chains.{prev_of, next_of}
 use Rattle.chain_laws.specs.Insertions.{InsertKind}
-use Rattle.arena_base.specs.Arena.{IsValid, entry_at, entry_count, with_capacity_of, with_counter, renewed_at, cleared, overflows_after_clear}
+use Rattle.arena_base.specs.Arena.{IsValid, entry_at, entry_count, with_capacity_of, with_counter, renewed_at, arena_after_clear, overflows_after_clear}
 use Rattle.arena_base.specs.Compressions.{overflows_after_compression}
 use Rattle.chain_links.specs.ChainArena.{link_map, entry, insert_as, CanConnect, CanExchange, IsJoin, IsCut, IsExchange, IsRemoval}
 use Rattle.chain_links.specs.Links.{link_view}
@@ -123,7 +123,7 @@ module _ {P I Gen W : Type 0} (pointers : PointerKind P I Gen W) where
     Step old (call.RemoveInx i) r new = (returned : InvalidationResult (Gen × HeldLink T)) × (r ≡ reply.RemovedInx returned) × RemoveInxStep old (pointers.number i) returned new
     Step old (call.Invalidate p) r new = (returned : InvalidationResult P) × (r ≡ reply.Renewed returned) × InvalidateStep old (pointers.key p) returned new
     Step old (call.DrainChain p take) r new = (returned : Option ℕ) × (r ≡ reply.Drained returned) × DrainChainStep old (pointers.key p) take returned new
-    Step old call.Clear r new = (r ≡ overflow_reply (overflows_after_clear pointers.wraps (entry_count old) old.counter)) × (new ≡ cleared pointers.following old)
+    Step old call.Clear r new = (r ≡ overflow_reply (overflows_after_clear pointers.wraps (entry_count old) old.counter)) × (new ≡ arena_after_clear pointers.following old)
     Step old (call.Compress reset) r new = (r ≡ compression_reply old reset) × IsCompression pointers.first pointers.following reset old new
     Step old (call.CompressCanonical reset) r new = (r ≡ compression_reply old reset) × IsCanonicalCompression pointers.first pointers.following reset old new
     Step old (call.Reserve n) r new = (returned : Result Unit ReallocationError) × (r ≡ reply.Reserved returned) × ReserveStep old n returned new

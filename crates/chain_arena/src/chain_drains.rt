@@ -14,7 +14,7 @@ ghost use Rattle.chain_arena.specs.Drains.{walk_left, without_each, IsDrainStep,
 
 use crate::chain_arena::ChainArena;
 use crate::insert_entry::number_or_zero;
-use arena_base::{ArenaSlot, ArenaTrait, invalidated};
+use arena_base::{ArenaSlot, ArenaTrait, with_overflow};
 use arena_ptr::{HeapStack, InvalidationOption, InxKey, PtrKey, SlotStack};
 use chain_links::LinkNoGen;
 use chain_links::walk_direction::step_on;
@@ -90,7 +90,7 @@ impl<P: PtrKey, T: Drop, S: SlotStack<Item = ArenaSlot<P, LinkNoGen<P, T>>>> Cha
             Some(i) => {
                 let (entry, overflow) = self.remove_inx_link_no_gen(i).overflowing();
                 match entry {
-                    Some(entry) => Some(yielded(i, entry, overflow)),
+                    Some(entry) => Some(drain_item(i, entry, overflow)),
                     None => None,
                 }
             }
@@ -117,7 +117,7 @@ impl<P: PtrKey, T: Drop, S: SlotStack<Item = ArenaSlot<P, LinkNoGen<P, T>>>> Cha
 
 // Returns the item that a drain yields for a removed entry, after the number of the walk's next
 // link.
-fn yielded<P: PtrKey, T>(
+fn drain_item<P: PtrKey, T>(
     i: P::Inx,
     entry: (P::Gen, LinkNoGen<P, T>),
     overflow: bool,
@@ -132,7 +132,7 @@ fn yielded<P: PtrKey, T>(
     let (generation, link) = entry;
     let next = next_after_removal(i, link.prev(), link.next());
     let p = P::_from_raw(i, generation);
-    (number_or_zero(next), invalidated(overflow, (p, link)))
+    (number_or_zero(next), with_overflow(overflow, (p, link)))
 }
 
 // Returns the next link of a walk whose first link is removed: the link after it, or else the link

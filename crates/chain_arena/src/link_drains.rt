@@ -9,7 +9,7 @@ ghost use Rattle.chain_arena.specs.Drains.{entries_left, without_each, IsLinkDra
 use crate::chain_arena::ChainArena;
 use crate::insert_entry::number_or_zero;
 use arena_base::{
-    Advancer, ArenaSlot, ArenaTrait, assume_proved, invalidated, inx_at, proved_unreachable,
+    Advancer, ArenaSlot, ArenaTrait, assume_proved, inx_at, proved_unreachable, with_overflow,
 };
 use arena_ptr::{HeapStack, InvalidationOption, InxKey, PtrKey, SlotStack};
 use chain_links::LinkNoGen;
@@ -80,7 +80,7 @@ impl<P: PtrKey, T: Drop, S: SlotStack<Item = ArenaSlot<P, LinkNoGen<P, T>>>> Cha
         match entry {
             Some((generation, link)) => {
                 let p = P::_from_raw(i, generation);
-                Some((at.saturating_add(1), invalidated(overflow, (p, link.t))))
+                Some((at.saturating_add(1), with_overflow(overflow, (p, link.t))))
             }
             None => None,
         }
@@ -113,7 +113,7 @@ impl<P: PtrKey, T: Drop, S: SlotStack<Item = ArenaSlot<P, LinkNoGen<P, T>>>> Cha
                 match entry {
                     Some((_, link)) => {
                         let behind = number_or_zero(Some(p.inx())).saturating_add(1);
-                        Some((behind, invalidated(overflow, (p, link.t))))
+                        Some((behind, with_overflow(overflow, (p, link.t))))
                     }
                     None => proved_unreachable!(),
                 }

@@ -107,20 +107,20 @@ capacity_or_counter_call name arguments =
 
 -- The renumbering with this name and these arguments, or else the call on the capacity or the
 -- counter.
-abbrev pub renumbering : List ℕ → List (List ℕ) → Option LinkCall
-renumbering name arguments =
+abbrev pub renumbering_call : List ℕ → List (List ℕ) → Option LinkCall
+renumbering_call name arguments =
     if bytes_eq name (codes "compress") then option_map Compress (option_and_then reset_word (one_word arguments))
     else (if bytes_eq name (codes "canonical") then option_map CompressCanonical (option_and_then reset_word (one_word arguments))
     else capacity_or_counter_call name arguments)
 
 -- The call that removes links or invalidates pointers, or else the renumbering.
-abbrev pub removing : List ℕ → List (List ℕ) → Option LinkCall
-removing name arguments =
+abbrev pub removal_call : List ℕ → List (List ℕ) → Option LinkCall
+removal_call name arguments =
     if bytes_eq name (codes "remove") then removal arguments
     else (if bytes_eq name (codes "invalidate") then option_map Invalidate (one_pointer arguments)
     else (if bytes_eq name (codes "drain") then option_map (λ a. DrainChain a.0 a.1) (pointer_and_number arguments)
     else (if bytes_eq name (codes "clear") then option_map (λ none. Clear) (no_arguments arguments)
-    else renumbering name arguments)))
+    else renumbering_call name arguments)))
 
 -- The call with this name and these arguments.
 abbrev pub call_of : List ℕ → List (List ℕ) → Option LinkCall
@@ -131,7 +131,7 @@ call_of name arguments =
     else (if bytes_eq name (codes "breakprev") then option_map BreakPrev (one_pointer arguments)
     else (if bytes_eq name (codes "breaknext") then option_map BreakNext (one_pointer arguments)
     else (if bytes_eq name (codes "exchange") then option_map (λ p. ExchangeNext p.0 p.1) (two_pointers arguments)
-    else removing name arguments)))))
+    else removal_call name arguments)))))
 
 -- The command with this name and these arguments.
 abbrev pub command_of : List ℕ → List (List ℕ) → Option Command

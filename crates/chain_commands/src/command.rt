@@ -2,7 +2,7 @@
 ghost use Rattle.std.specs.Prelude.{◌≡◌, bytes_eq, option_map};
 ghost use Rattle.chain_links.specs.declared.kinds.InsertKindBody.TheVariants.{AtInterlink, AtInterlinkInx, Bridge, BridgeInx};
 ghost use Rattle.chain_commands.specs.Words.{words_of};
-ghost use Rattle.chain_commands.specs.Commands.{one_word, one_pointer, two_pointers, pointer_and_number, no_arguments, reset_word, by_either, removal, kind_alone, kind_beside, kind_between, kind_and_value, capacity_or_counter_call, renumbering, removing, call_of, command_of, line_of};
+ghost use Rattle.chain_commands.specs.Commands.{one_word, one_pointer, two_pointers, pointer_and_number, no_arguments, reset_word, by_either, removal, kind_alone, kind_beside, kind_between, kind_and_value, capacity_or_counter_call, renumbering_call, removal_call, call_of, command_of, line_of};
 
 use crate::lexer::{generation, index, next_word, number, pointer, without_return};
 use arena_ptr::{Inx32, ToolPtr};
@@ -45,7 +45,7 @@ pub fn parse(line: &[u8]) -> Line
     }
     match next_word(without_return(line)) {
         None => Line::Blank,
-        Some((name, arguments)) => match named(name, arguments) {
+        Some((name, arguments)) => match command_of(name, arguments) {
             None => Line::Bad,
             Some(command) => Line::Good(command),
         },
@@ -53,7 +53,7 @@ pub fn parse(line: &[u8]) -> Line
 }
 
 /// Parses the command with this name and these arguments.
-fn named(name: &[u8], arguments: &[u8]) -> Option<Command>
+fn command_of(name: &[u8], arguments: &[u8]) -> Option<Command>
     ensures { result ≡ command_of name.now (words_of arguments.now) }
 {
     if is(name, "show") {
@@ -91,13 +91,13 @@ fn call(name: &[u8], arguments: &[u8]) -> Option<Call<ToolPtr, u32>>
         let (p, q) = two_pointers(arguments)?;
         Some(Call::ExchangeNext(p, q))
     } else {
-        removing(name, arguments)
+        removal_call(name, arguments)
     }
 }
 
 /// Parses a call that removes links or invalidates pointers, or else a renumbering.
-fn removing(name: &[u8], arguments: &[u8]) -> Option<Call<ToolPtr, u32>>
-    ensures { result ≡ removing name.now (words_of arguments.now) }
+fn removal_call(name: &[u8], arguments: &[u8]) -> Option<Call<ToolPtr, u32>>
+    ensures { result ≡ removal_call name.now (words_of arguments.now) }
 {
     if is(name, "remove") {
         removal(arguments)
@@ -110,13 +110,13 @@ fn removing(name: &[u8], arguments: &[u8]) -> Option<Call<ToolPtr, u32>>
         no_arguments(arguments)?;
         Some(Call::Clear)
     } else {
-        renumbering(name, arguments)
+        renumbering_call(name, arguments)
     }
 }
 
 /// Parses a renumbering, or else a call on the capacity or the counter.
-fn renumbering(name: &[u8], arguments: &[u8]) -> Option<Call<ToolPtr, u32>>
-    ensures { result ≡ renumbering name.now (words_of arguments.now) }
+fn renumbering_call(name: &[u8], arguments: &[u8]) -> Option<Call<ToolPtr, u32>>
+    ensures { result ≡ renumbering_call name.now (words_of arguments.now) }
 {
     if is(name, "compress") {
         Some(Call::Compress(reset(one_word(arguments)?)?))

@@ -60,8 +60,8 @@ pub fn push_reply(text: &mut String, reply: Reply<ToolPtr, u32>) -> Result<(), A
         Reply::RemovedInx(returned) => push_removed_inx(text, returned),
         Reply::Renewed(returned) => push_renewed(text, returned),
         Reply::Drained(returned) => push_drained(text, returned),
-        Reply::Counted(returned) => text.push_str(counted(returned)),
-        Reply::Reserved(returned) => text.push_str(reserved(returned)),
+        Reply::Counted(returned) => text.push_str(counted_text(returned)),
+        Reply::Reserved(returned) => text.push_str(reserve_text(returned)),
         Reply::Set => text.push_str("ok"),
     }
 }
@@ -92,7 +92,7 @@ fn push_drained(text: &mut String, returned: Option<usize>) -> Result<(), AllocE
 }
 
 /// Returns the text for the result of a growth.
-fn reserved(returned: Result<(), ReallocationError>) -> &'static str
+fn reserve_text(returned: Result<(), ReallocationError>) -> &'static str
     ensures { result.now ≡ reply_text (Reserved returned) }
 {
     match returned {
@@ -180,7 +180,7 @@ fn push_renewed(text: &mut String, returned: InvalidationResult<ToolPtr>) -> Res
 }
 
 /// Returns the text for a call that reports only whether the counter overflowed.
-fn counted(returned: InvalidationOption<()>) -> &'static str
+fn counted_text(returned: InvalidationOption<()>) -> &'static str
     ensures { result.now ≡ counted_text returned }
 {
     match returned {

@@ -16,8 +16,8 @@ use Rattle.chain_laws.proofs.RenamingLemmas.Positions.{place-within, place-has, 
 use Rattle.chain_laws.proofs.RenamingLemmas.ChainRuns.{canonical_arranges}
 use Rattle.chain_laws.proofs.RenamingLemmas.LeastIndexOrder.{least_index_order_is_canonical}
 use Rattle.arena_base.specs.Arena.{Arena, slot_at}
-use Rattle.arena_base.specs.DetachedSlots.{DetachedView, IsPacked, trimmed, held_of, lent_out, returned}
-use Rattle.arena_base.specs.GatheredSlots.{with_totals, fronted}
+use Rattle.arena_base.specs.DetachedSlots.{DetachedView, IsPacked, without_free_end, held_of, lent_out, arena_after_return}
+use Rattle.arena_base.specs.GatheredSlots.{with_totals, with_front}
 use Rattle.chain_links.specs.declared.links.LinkBody.{LinkBody}
 use Rattle.chain_links.specs.ChainArena.{LinkView, on_value, link_value, interlinks_of, link_map, values_of, entry, ptr_at}
 use Rattle.chain_links.specs.Links.{pair_view, links_view}
@@ -31,7 +31,7 @@ use Rattle.chain_links.proofs.MappedArenaLemmas.{slot_at-map}
 use Rattle.chain_links.proofs.ArenaInsertionLemmas.{some_entry, slots-within}
 use Rattle.arena_base.proofs.PackedSlotLemmas.{packed-none_free}
 use Rattle.chain_compaction.proofs.DetachedLinkLemmas.{work-more, work-few}
-use Rattle.chain_compaction.proofs.CompactedLinkLemmas.{trimmed-map, slot_at-trimmed}
+use Rattle.chain_compaction.proofs.CompactedLinkLemmas.{without_free_end-map, slot_at-trimmed}
 use Rattle.chain_compaction.proofs.CompactedFrontLemmas.{front-packed, packed-length, moved_viewed}
 use Rattle.chain_compaction.proofs.ChainDestinationLemmas.{length-view_after, stored_at}
 use Rattle.chain_compaction.proofs.WorkCountLemmas.{counted_none}
@@ -308,14 +308,14 @@ module _ {F P Gen K T : Type 0} (g : F → P → P → F → Type 0) (key : P �
       (λ i h. let w = (slots-within interlinks_of old_slots).within i ((old_arranges.valid i).1 h) in (w.0, omega (arith, w.1, length-map old.slots (option_map (pair_view number)))))
 
   abbrev last_slots : List (Option (Gen × LinkView T))
-  last_slots = map (option_map (pair_view number)) (trimmed h3.slots)
+  last_slots = map (option_map (pair_view number)) (without_free_end h3.slots)
 
   last-length : length last_slots ≡ length done.indexes
-  last-length = length-map (trimmed h3.slots) (option_map (pair_view number)) ∙ (packed-length total h3.slots done.packed ∙ done.counted)
+  last-length = length-map (without_free_end h3.slots) (option_map (pair_view number)) ∙ (packed-length total h3.slots done.packed ∙ done.counted)
 
   last_sent : (i d : ℕ) (x : Gen × LinkView T) → place_in done.indexes i ≡ Some d → slot_at old_slots i ≡ Some x → slot_at last_slots d ≡ Some (generation, renamed_link (place_in done.indexes) x.1)
   last_sent i d x at is =
-      ap (λ (s : List (Option (Gen × LinkView T))). slot_at s d) (trimmed-map (pair_view number) h3.slots)
+      ap (λ (s : List (Option (Gen × LinkView T))). slot_at s d) (without_free_end-map (pair_view number) h3.slots)
       ∙ (slot_at-trimmed (map (option_map (pair_view number)) h3.slots) d ∙ done.placed i d x at (ap (λ (h : DetachedView Gen (LinkBody K T)). slot_at (held_view number h).slots i) is_held ∙ is))
 
   module _ (greatest : ℕ) (maximum : Option ℕ) (lent : a1 ≡ lent_out maximum old) where
@@ -325,12 +325,12 @@ module _ {F P Gen K T : Type 0} (g : F → P → P → F → Type 0) (key : P �
         subst (λ (a : Arena Gen (LinkBody K T)). IsWork a a3 (length done.indexes) (4 * length old.slots + 12 * length done.indexes)) lent (work-few done.work _ (omega (arith, same)))
 
     abbrev arranged_arena : Arena Gen (LinkBody K T)
-    arranged_arena = returned greatest (with_totals (lent_out maximum old) (length done.indexes) whole_work.touches) h3
+    arranged_arena = arena_after_return greatest (with_totals (lent_out maximum old) (length done.indexes) whole_work.touches) h3
 
-    is_arranged : (new : Arena Gen (LinkBody K T)) → new ≡ returned greatest a3 h3 → new ≡ arranged_arena
-    is_arranged new is_new = is_new ∙ ap (λ (a : Arena Gen (LinkBody K T)). returned greatest a h3) whole_work.arena
+    is_arranged : (new : Arena Gen (LinkBody K T)) → new ≡ arena_after_return greatest a3 h3 → new ≡ arranged_arena
+    is_arranged new is_new = is_new ∙ ap (λ (a : Arena Gen (LinkBody K T)). arena_after_return greatest a h3) whole_work.arena
 
-    pub links_arranged : old.capacity ≡ min old.stack_capacity greatest → generation ≡ old.counter → (new : Arena Gen (LinkBody K T)) → new ≡ returned greatest a3 h3
+    pub links_arranged : old.capacity ≡ min old.stack_capacity greatest → generation ≡ old.counter → (new : Arena Gen (LinkBody K T)) → new ≡ arena_after_return greatest a3 h3
         → AreArranged g key f last (links_view number old) (links_view number new)
     links_arranged same_capacity counter new is_new = record {
       indexes = done.indexes;
@@ -358,7 +358,7 @@ module _ {F P Gen K T : Type 0} (g : F → P → P → F → Type 0) (key : P �
             × (length values ≡ length done.indexes)
         values = values-filled generation (entry (links_view number old)) done.indexes (value_stored generation old_slots last_slots done.indexes old_arranges last-length last_sent)
 
-        slots : map (option_map (on_value link_value)) last_slots ≡ fronted old.counter values.0 []
+        slots : map (option_map (on_value link_value)) last_slots ≡ with_front old.counter values.0 []
         slots =
             arranged_slots generation old_slots last_slots done.indexes old_arranges last-length last_sent
             ∙ (sym values.2 ∙ (ap (λ (h : Gen). map {B = Option (Gen × T)} (λ t. Some (h, t)) values.0) counter ∙ sym (append-nil (map {B = Option (Gen × T)} (λ t. Some (old.counter, t)) values.0))))

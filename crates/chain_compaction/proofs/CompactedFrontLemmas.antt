@@ -3,7 +3,7 @@ use Rattle.std.proofs.Common.{◌≡◌, ℕ, zero, suc, ◌<◌, ◌≤◌, Lis
 use Rattle.std.specs.Prelude.{slice_index_or, IsSome, is_some}
 use Rattle.std.specs.Option.{option_map}
 use Rattle.arena_base.specs.Arena.{slot_at}
-use Rattle.arena_base.specs.DetachedSlots.{IsPacked, trimmed}
+use Rattle.arena_base.specs.DetachedSlots.{IsPacked, without_free_end}
 use Rattle.chain_links.specs.declared.links.LinkBody.{LinkBody}
 use Rattle.chain_links.specs.ChainArena.{LinkView}
 use Rattle.chain_links.specs.Links.{link_view, pair_view}
@@ -19,7 +19,7 @@ module _ {X : Type 0} where
   length-front (suc n) (x ∷ xs) front = let rest = length-front n xs (λ k below. front (suc k) (omega (arith, below))) in omega (arith, rest)
 
   -- Trimming leaves exactly n slots.
-  pub packed-length : (n : ℕ) (xs : List (Option X)) → IsPacked xs n → length (trimmed xs) ≡ n
+  pub packed-length : (n : ℕ) (xs : List (Option X)) → IsPacked xs n → length (without_free_end xs) ≡ n
   packed-length n xs packed = ap length (packed-trimmed n xs packed) ∙ length-take-le n xs (length-front n xs (λ k below. packed.taken (suc k) (omega arith) (omega (arith, below))))
 
 module _ {E : Type 0} (goal : E → Option ℕ) (Settles : E → E → Type 0) (n : ℕ) (old new : List (Option E))

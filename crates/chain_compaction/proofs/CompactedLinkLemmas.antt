@@ -11,9 +11,9 @@ use Rattle.chain_laws.specs.Renamings.{IsRenaming}
 use Rattle.chain_laws.specs.Arrangements.{place_in}
 use Rattle.arena_base.specs.Arena.{Arena, slot_at}
 use Rattle.arena_base.specs.Entries.{entries_from, entries, index_of}
-use Rattle.arena_base.specs.DetachedSlots.{DetachedView, before_cut, trimmed, free_from, held_of, lent_out, returned}
+use Rattle.arena_base.specs.DetachedSlots.{DetachedView, before_cut, without_free_end, free_from, held_of, lent_out, arena_after_return}
 use Rattle.arena_base.specs.Compressions.{VisitsAll}
-use Rattle.arena_base.specs.GatheredSlots.{AreClosed, IsGathered, gathered, with_totals}
+use Rattle.arena_base.specs.GatheredSlots.{AreClosed, IsGathered, arena_of_values, with_totals}
 use Rattle.arena_base.proofs.CompactedArenaLemmas.{gathers, few_entries}
 use Rattle.chain_links.specs.declared.links.LinkBody.{LinkBody}
 use Rattle.chain_links.specs.ChainArena.{on_value, with_each, interlinks_of, link_map, values_of}
@@ -30,9 +30,9 @@ module _ {X Y : Type 0} (f : X → Y) where
   cut-map None (o ∷ slots) = refl
   cut-map (Some x) slots = refl
 
-  pub trimmed-map : (slots : List (Option X)) → map (option_map f) (trimmed slots) ≡ trimmed (map (option_map f) slots)
-  trimmed-map [] = refl
-  trimmed-map (o ∷ slots) = cut-map o (trimmed slots) ∙ ap (before_cut (option_map f o)) (trimmed-map slots)
+  pub without_free_end-map : (slots : List (Option X)) → map (option_map f) (without_free_end slots) ≡ without_free_end (map (option_map f) slots)
+  without_free_end-map [] = refl
+  without_free_end-map (o ∷ slots) = cut-map o (without_free_end slots) ∙ ap (before_cut (option_map f o)) (without_free_end-map slots)
 
   free_from-map : (slots : List (Option X)) (i : ℕ) → free_from i slots ≡ free_from i (map (option_map f) slots)
   free_from-map [] i = refl
@@ -47,14 +47,14 @@ module _ {X : Type 0} where
   cut-at None (o ∷ slots) k = refl
   cut-at (Some x) slots k = refl
 
-  trimmed-at : (slots : List (Option X)) (k : ℕ) → slice_index_or (trimmed slots) k None ≡ slice_index_or slots k None
-  trimmed-at [] k = refl
-  trimmed-at (o ∷ slots) zero = cut-at o (trimmed slots) zero
-  trimmed-at (o ∷ slots) (suc k) = cut-at o (trimmed slots) (suc k) ∙ trimmed-at slots k
+  without_free_end-at : (slots : List (Option X)) (k : ℕ) → slice_index_or (without_free_end slots) k None ≡ slice_index_or slots k None
+  without_free_end-at [] k = refl
+  without_free_end-at (o ∷ slots) zero = cut-at o (without_free_end slots) zero
+  without_free_end-at (o ∷ slots) (suc k) = cut-at o (without_free_end slots) (suc k) ∙ without_free_end-at slots k
 
-  pub slot_at-trimmed : (slots : List (Option X)) (i : ℕ) → slot_at (trimmed slots) i ≡ slot_at slots i
+  pub slot_at-trimmed : (slots : List (Option X)) (i : ℕ) → slot_at (without_free_end slots) i ≡ slot_at slots i
   slot_at-trimmed slots zero = refl
-  slot_at-trimmed slots (suc k) = trimmed-at slots k
+  slot_at-trimmed slots (suc k) = without_free_end-at slots k
 
 module _ {Gen K T : Type 0} (number : K → Option ℕ) where
   -- The link map of an arena is the link map of its slots.
@@ -65,20 +65,20 @@ module _ {Gen K T : Type 0} (number : K → Option ℕ) where
       twice None = refl
       twice (Some e) = refl
 
-  link_map-trimmed : (slots : List (Option (Gen × LinkBody K T))) → link_map_in number (trimmed slots) ≡ link_map_in number slots
+  link_map-trimmed : (slots : List (Option (Gen × LinkBody K T))) → link_map_in number (without_free_end slots) ≡ link_map_in number slots
   link_map-trimmed slots = fun_ext (λ i. ap (option_map (body_interlinks number)) (slot_at-trimmed slots i))
 
 -- The values of an arena whose slots are given back.
-values-returned : {Gen K T : Type 0} (greatest : ℕ) (a : Arena Gen (LinkBody K T)) (held : DetachedView Gen (LinkBody K T)) → with_each held_in (returned greatest a held) ≡ returned greatest (with_each held_in a) (held_values held)
+values-returned : {Gen K T : Type 0} (greatest : ℕ) (a : Arena Gen (LinkBody K T)) (held : DetachedView Gen (LinkBody K T)) → with_each held_in (arena_after_return greatest a held) ≡ arena_after_return greatest (with_each held_in a) (held_values held)
 values-returned greatest a held =
-    let slots = trimmed-map (on_value held_in) held.slots in
-    let freed = free_from-map (on_value held_in) (trimmed held.slots) 1 ∙ ap (free_from 1) slots in
-    λ i. record (returned greatest (with_each held_in a) (held_values held)) { slots = slots i; freed = freed i }
+    let slots = without_free_end-map (on_value held_in) held.slots in
+    let freed = free_from-map (on_value held_in) (without_free_end held.slots) 1 ∙ ap (free_from 1) slots in
+    λ i. record (arena_after_return greatest (with_each held_in a) (held_values held)) { slots = slots i; freed = freed i }
 
 module _ {F P T Gen K : Type 0} (g : Mut F (P × (MutBor T × (P × Unit {0}))) (Unit {0} × (MutBor T × Unit {0}))) (key : P → ℕ × Gen) (f : F) (number : K → Option ℕ) where
   -- The links were taken out, moved to the front, and given back.
   module _ (greatest : ℕ) (maximum : Option ℕ) (generation : Gen) (old start finish new : Arena Gen (LinkBody K T)) (before after : DetachedView Gen (LinkBody K T))
-      (is_start : start ≡ lent_out maximum old) (is_before : before ≡ held_of old) (is_new : new ≡ returned greatest finish after)
+      (is_start : start ≡ lent_out maximum old) (is_before : before ≡ held_of old) (is_new : new ≡ arena_after_return greatest finish after)
       (closed : AreClosed generation (held_values before) (held_values after)) (visits : VisitsAll g key f (entries_from 1 (held_values before).slots) (entries_from 1 (held_values after).slots))
       (work : IsWork start finish (length (entries_from 1 (held_values before).slots)) (length before.slots + 3 * length (entries_from 1 (held_values before).slots))) where
     -- The old values alone.
@@ -89,7 +89,7 @@ module _ {F P T Gen K : Type 0} (g : Mut F (P × (MutBor T × (P × Unit {0}))) 
     moved_count = length (entries_from 1 (held_values before).slots)
 
     abbrev like : Arena Gen T
-    like = returned greatest (with_totals (with_each held_in start) moved_count (length (held_values before).slots + moved_count)) (held_values after)
+    like = arena_after_return greatest (with_totals (with_each held_in start) moved_count (length (held_values before).slots + moved_count)) (held_values after)
 
     like_gathered : old.capacity ≡ min old.stack_capacity greatest → generation ≡ old.counter → IsGathered g key f old_values like
     like_gathered same_capacity counter =
@@ -99,7 +99,7 @@ module _ {F P T Gen K : Type 0} (g : Mut F (P × (MutBor T × (P × Unit {0}))) 
     -- The new values are as without interlinks, but for the touches.
     values_now : with_each held_in new ≡ record like { touched = old.touched + work.touches }
     values_now =
-        ap (λ (a : Arena Gen (LinkBody K T)). with_each held_in a) (is_new ∙ ap (λ (a : Arena Gen (LinkBody K T)). returned greatest a after) work.arena)
+        ap (λ (a : Arena Gen (LinkBody K T)). with_each held_in a) (is_new ∙ ap (λ (a : Arena Gen (LinkBody K T)). arena_after_return greatest a after) work.arena)
         ∙ (values-returned greatest (with_totals start moved_count work.touches) after ∙ (λ i. record like { touched = (is_start i).touched + work.touches }))
 
     few_touches : work.touches ≤ 4 * length old.slots
@@ -124,7 +124,7 @@ module _ {F P T Gen K : Type 0} (g : Mut F (P × (MutBor T × (P × Unit {0}))) 
           values = like.values;
           touches = work.touches;
           few = subst (λ (n : ℕ). work.touches ≤ 4 * n) (sym (length-map old.slots (option_map (pair_view number)))) few_touches;
-          arena = sym new_same ∙ (values_now ∙ ((λ i. record (like.arena i) { touched = old.touched + work.touches }) ∙ ap (λ (a : Arena Gen T). record (gathered a like.values) { touched = old.touched + work.touches }) old_same));
+          arena = sym new_same ∙ (values_now ∙ ((λ i. record (like.arena i) { touched = old.touched + work.touches }) ∙ ap (λ (a : Arena Gen T). record (arena_of_values a like.values) { touched = old.touched + work.touches }) old_same));
           visits = subst (λ (p : Arena Gen T × Arena Gen T). VisitsAll g key f (entries p.0) (entries p.1)) (λ i. (old_same i, (sym values_now ∙ new_same) i)) like.visits;
           renamed = subst (λ (p : List ℕ × (LinkMap × LinkMap)). IsRenaming (place_in p.0) p.1.0 p.1.1) (λ i. (indexes i, (reported_old i, reported_new i))) renamed;
         }

@@ -8,7 +8,7 @@ use denote.Ref.{MutBor}
 use Rattle.chain_laws.specs.Chains.{IsWellLinked}
 use Rattle.chain_laws.specs.Renamings.{IsRenaming}
 use Rattle.chain_laws.specs.Arrangements.{place_in}
-use Rattle.chain_laws.specs.Moves.{moved, CanMove}
+use Rattle.chain_laws.specs.Moves.{with_link_moved, CanMove}
 use Rattle.arena_base.specs.Arena.{Arena, slot_at}
 use Rattle.arena_base.specs.Entries.{entries_from}
 use Rattle.arena_base.specs.DetachedSlots.{DetachedView, IsPacked, with_placed_entry, held_with_value, with_touch}
@@ -92,7 +92,7 @@ module _ {F P Gen K T : Type 0} (g : Mut F (P × (MutBor T × (P × Unit {0}))) 
             (record { from = before_ptr; value = l.t; to = after_ptr; left = left }) next (slot_values after.slots) (ap (option_map held_in) stored ∙ value-there mid.slots to)
             (ap (λ (h : DetachedView Gen T). h.slots) (values-written mid after to l (record l { t = left }) stored wrote)) from_key to_key visit
 
-        pub arrives : (IsWellLinked (link_map_in number now.slots) → CanMove (link_map_in number now.slots) from to → link_map_in number mid.slots ≡ moved (link_map_in number now.slots) from to)
+        pub arrives : (IsWellLinked (link_map_in number now.slots) → CanMove (link_map_in number now.slots) from to → link_map_in number mid.slots ≡ with_link_moved (link_map_in number now.slots) from to)
             → AreGathered number old.slots after.slots (k + 1) (count + 1)
         arrives moves =
             gathered_continues number old.slots agrees now.slots k count gathered inside was

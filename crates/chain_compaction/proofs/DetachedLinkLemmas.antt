@@ -7,7 +7,7 @@ use Rattle.std.proofs.Math.Seq.{map-set_same}
 use mathlib.Core.Path.{fun_ext}
 use Rattle.chain_laws.specs.Chains.{LinkMap, Interlinks, IsWellLinked, prev_of, next_of}
 use Rattle.chain_laws.specs.Joins.{next_set, prev_set, with_next, with_prev}
-use Rattle.chain_laws.specs.Moves.{moved_index, moved, put, CanMove}
+use Rattle.chain_laws.specs.Moves.{moved_index, with_link_moved, with_link_placed, CanMove}
 use Rattle.chain_laws.proofs.InterlinkLemmas.Inverses.{if_same, if_other, one_some}
 use Rattle.chain_laws.proofs.RenamingLemmas.Moves.{neighbors_determine_a_move}
 use Rattle.arena_base.specs.Arena.{Arena, slot_at, with_slot}
@@ -141,7 +141,7 @@ module _ {Gen K T : Type 0} (held : DetachedView Gen (LinkBody K T)) (from to : 
 
   -- A placement in a free slot, or its own, moves a link without updating its neighbors.
   pub links-with_placed_entry : (number : K → Option ℕ) → 1 ≤ from → from ≤ length held.slots → 1 ≤ to → to ≤ length held.slots
-      → (to ≡ from) ⊎ (link_map_in number held.slots to ≡ None) → link_map_in number (with_placed_entry held from to generation).slots ≡ put (link_map_in number held.slots) from to
+      → (to ≡ from) ⊎ (link_map_in number held.slots to ≡ None) → link_map_in number (with_placed_entry held from to generation).slots ≡ with_link_placed (link_map_in number held.slots) from to
   links-with_placed_entry number first within first_to within_to free = fun_ext (λ j. by j (ℕ_discrete j to) (ℕ_discrete j from))
     where
       middle : List (Option (Gen × LinkBody K T))
@@ -167,7 +167,7 @@ module _ {Gen K T : Type 0} (held : DetachedView Gen (LinkBody K T)) (from to : 
       left j differs e (inl here) = absurd (differs (e ∙ sym here))
       left j differs e (inr none) = none
 
-      by : (j : ℕ) → Dec (j ≡ to) → Dec (j ≡ from) → link_map_in number (with_placed_entry held from to generation).slots j ≡ put (link_map_in number held.slots) from to j
+      by : (j : ℕ) → Dec (j ≡ to) → Dec (j ≡ from) → link_map_in number (with_placed_entry held from to generation).slots j ≡ with_link_placed (link_map_in number held.slots) from to j
       by j (yes e) rest = ap (option_map (body_interlinks number)) (at_to j ∙ if_same j to _ _ e) ∙ (same (slot_at held.slots from) ∙ sym (if_same j to _ _ e))
       by j (no c) (yes e) =
           ap (option_map (body_interlinks number)) (at_to j ∙ (if_other j to _ _ c ∙ (at_from j ∙ if_same j from _ _ e)))
@@ -187,10 +187,10 @@ module _ {Gen K T : Type 0} (number : K → Option ℕ) (old was_read brought kn
   pub move-links : (before after prev next : Option ℕ) → 1 ≤ from → from ≤ length old.slots → 1 ≤ to → to ≤ length old.slots
       → prev ≡ prev_of (link_map_in number old.slots) from → next ≡ next_of (link_map_in number old.slots) from → before ≡ option_map (moved_index from to) prev → after ≡ option_map (moved_index from to) next
       → link_map_in number known.slots ≡ next_set (link_map_in number brought.slots) before (Some to) → link_map_in number new.slots ≡ prev_set (link_map_in number known.slots) after (Some to)
-      → IsWellLinked (link_map_in number old.slots) → CanMove (link_map_in number old.slots) from to → link_map_in number new.slots ≡ moved (link_map_in number old.slots) from to
+      → IsWellLinked (link_map_in number old.slots) → CanMove (link_map_in number old.slots) from to → link_map_in number new.slots ≡ with_link_moved (link_map_in number old.slots) from to
   move-links before after prev next first within first_to within_to is_prev is_next is_before is_after first_known second_known agrees can =
       let link_map : LinkMap = link_map_in number old.slots in
-      let is_put : link_map_in number brought.slots ≡ put link_map from to =
+      let is_put : link_map_in number brought.slots ≡ with_link_placed link_map from to =
       ap (λ (h : DetachedView Gen (LinkBody K T)). link_map_in number h.slots) (is_brought ∙ ap (λ (h : DetachedView Gen (LinkBody K T)). with_placed_entry h from to generation) is_read)
       ∙ links-with_placed_entry old from to generation number first within first_to within_to can.free in
       let names_before : before ≡ option_map (moved_index from to) (prev_of link_map from) = is_before ∙ ap (option_map (moved_index from to)) is_prev in

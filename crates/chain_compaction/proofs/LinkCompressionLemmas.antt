@@ -6,7 +6,7 @@ use Rattle.std.proofs.lemmas.List.{length-append, length-map, map-append, append
 use Rattle.chain_laws.specs.Chains.{LinkMap, HasLink, HasLinksWithin, IsWellLinked}
 use Rattle.chain_laws.specs.Renamings.{IsRenaming}
 use Rattle.chain_laws.specs.Arrangements.{place_in}
-use Rattle.chain_laws.specs.Moves.{moved, CanMove, IsGathering}
+use Rattle.chain_laws.specs.Moves.{with_link_moved, CanMove, IsGathering}
 use Rattle.chain_laws.proofs.RenamingLemmas.HoleClosing.{gathering_begins, gathering_skips, gathering_continues, gathering_ends}
 use Rattle.arena_base.specs.Arena.{slot_at}
 use Rattle.arena_base.specs.Entries.{entries_from, index_of}
@@ -109,19 +109,19 @@ module _ {Gen K T : Type 0} (number : K → Option ℕ) (old : List (Option (Gen
           by (Some e) is = (e, refl)
 
       target : IsWellLinked (link_map_in number now) × CanMove (link_map_in number now) (k + 1) (length (indexes_to k (slot_values old)) + 1)
-          × IsGathering (link_map_in number old) (moved (link_map_in number now) (k + 1) (length (indexes_to k (slot_values old)) + 1)) (indexes_to k (slot_values old) ++ (k + 1) ∷ []) (k + 1)
+          × IsGathering (link_map_in number old) (with_link_moved (link_map_in number now) (k + 1) (length (indexes_to k (slot_values old)) + 1)) (indexes_to k (slot_values old) ++ (k + 1) ∷ []) (k + 1)
       target = gathering_continues (link_map_in number old) (link_map_in number now) (indexes_to k (slot_values old)) k agrees c.gathering (some-valid number old k arrives.0 arrives.1)
 
       pub gathered_continues : (from to : ℕ) (mid after : List (Option (Gen × LinkBody K T))) → from ≡ k + 1 → to ≡ count + 1
-          → (IsWellLinked (link_map_in number now) → CanMove (link_map_in number now) from to → link_map_in number mid ≡ moved (link_map_in number now) from to)
+          → (IsWellLinked (link_map_in number now) → CanMove (link_map_in number now) from to → link_map_in number mid ≡ with_link_moved (link_map_in number now) from to)
           → link_map_in number after ≡ link_map_in number mid → AreGathered number old after (k + 1) (count + 1)
       gathered_continues from to mid after at_from at_to moves kept =
           let met = indexes-met (slot_values old) k inside arrives.0 arrives.1 in
           let first : k + 1 ≡ from = sym at_from in
           let last : length (indexes_to k (slot_values old)) + 1 ≡ to = ap (λ (n : ℕ). n + 1) c.counted ∙ sym at_to in
           let can : CanMove (link_map_in number now) from to = subst (λ (p : ℕ × ℕ). CanMove (link_map_in number now) p.0 p.1) (λ i. (first i, last i)) target.1 in
-          let links : moved (link_map_in number now) (k + 1) (length (indexes_to k (slot_values old)) + 1) ≡ link_map_in number after =
-          (λ i. moved (link_map_in number now) (first i) (last i)) ∙ (sym (moves target.0 can) ∙ sym kept) in
+          let links : with_link_moved (link_map_in number now) (k + 1) (length (indexes_to k (slot_values old)) + 1) ≡ link_map_in number after =
+          (λ i. with_link_moved (link_map_in number now) (first i) (last i)) ∙ (sym (moves target.0 can) ∙ sym kept) in
           record {
             gathering = subst (λ (p : LinkMap × List ℕ). IsGathering (link_map_in number old) p.0 p.1 (k + 1)) (λ i. (links i, sym met i)) target.2;
             counted = ap (λ done. length done) met ∙ (length-append (indexes_to k (slot_values old)) ((k + 1) ∷ []) ∙ ap (λ (n : ℕ). n + 1) c.counted);

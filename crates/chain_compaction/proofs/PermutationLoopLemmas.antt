@@ -5,7 +5,7 @@ use Rattle.std.proofs.lemmas.Bool.Decides.{leb_tells}
 use Rattle.arena_base.specs.Arena.{Arena, slot_at}
 use Rattle.arena_base.specs.DetachedSlots.{with_touch, with_placement}
 use Rattle.chain_compaction.specs.DetachedLinks.{IsWork}
-use Rattle.chain_compaction.specs.Permutations.{Waits, HaveMoved, CanMoveAll, IsInBlock, IsSettling, ArePassed, waiting, IsWorkOn}
+use Rattle.chain_compaction.specs.Permutations.{Waits, HaveMoved, CanMoveAll, IsInBlock, IsSettling, ArePassed, waiting_count, IsWorkOn}
 use Rattle.chain_compaction.proofs.SlotSwapLemmas.{moving_begins, moving_ends}
 use Rattle.chain_compaction.proofs.SlotCountLemmas.{stored-within, waiting-none}
 use Rattle.chain_compaction.proofs.DetachedLinkLemmas.{work-none, work-touched, work-with_placed_entry, work-more}
@@ -42,7 +42,7 @@ module _ {E : Type 0} (goal : E → Option ℕ) (Settles : E → E → Type 0) (
   pub passing_ends : (old now : List (Option E)) → ArePassed goal Settles old now (length old) → HaveMoved goal Settles (slot_at old) (slot_at now)
   passing_ends old now p = moving_ends goal Settles done (slot_at old) (slot_at now) p.moves (nowhere old now p)
 
-  pub passing_leaves_none : (old now : List (Option E)) → ArePassed goal Settles old now (length old) → waiting goal now ≡ 0
+  pub passing_leaves_none : (old now : List (Option E)) → ArePassed goal Settles old now (length old) → waiting_count goal now ≡ 0
   passing_leaves_none old now p = waiting-none goal now (nowhere old now p)
 
 module _ {Gen T : Type 0} where

@@ -9,7 +9,7 @@ use Rattle.arena_base.specs.Arena.{slot_at, with_slot}
 use Rattle.arena_base.specs.DetachedSlots.{DetachedView, with_placed_entry, held_with_value}
 use Rattle.arena_base.proofs.SlotLemmas.{length-with_slot}
 use Rattle.chain_links.specs.declared.links.LinkBody.{LinkBody}
-use Rattle.chain_compaction.specs.Permutations.{Waits, IsSettledAt, WaitsWithin, IsSettling, waiting, waits, destination_of, Settles}
+use Rattle.chain_compaction.specs.Permutations.{Waits, IsSettledAt, WaitsWithin, IsSettling, waiting_count, waits, destination_of, Settles}
 use Rattle.chain_compaction.specs.Destinations.{destination_at, IsDirectedAt}
 use Rattle.chain_compaction.proofs.SlotCountLemmas.{slot_at-same, slot_at-other, stored-within, count-with_slot, mark, one_if}
 use Rattle.chain_compaction.proofs.SlotSwapLemmas.{moving_continues, arrived_from, waited_there}
@@ -109,13 +109,13 @@ module _ {Gen K T : Type 0} (number : K → Option ℕ) (g : Gen) (slots : List 
   two_other : (j : ℕ) → (j ≢ i) → (j ≢ d) → slot_at two j ≡ slot_at slots j
   two_other j n m = two_beside j m ∙ mid_other j n
 
-  pub one_less : waiting (destination_of number) two + 1 ≡ waiting (destination_of number) slots
+  pub one_less : waiting_count (destination_of number) two + 1 ≡ waiting_count (destination_of number) slots
   one_less =
-      let a : waiting (destination_of number) mid + mark (destination_of number) (slot_at slots i) ≡ waiting (destination_of number) slots + mark (destination_of number) (slot_at slots d)
+      let a : waiting_count (destination_of number) mid + mark (destination_of number) (slot_at slots i) ≡ waiting_count (destination_of number) slots + mark (destination_of number) (slot_at slots d)
       = count-with_slot (waits (destination_of number)) slots i (slot_at slots d) here.0 here.1 in
-      let b : waiting (destination_of number) exchanged + mark (destination_of number) (slot_at mid d) ≡ waiting (destination_of number) mid + mark (destination_of number) (option_map renewed (slot_at slots i))
+      let b : waiting_count (destination_of number) exchanged + mark (destination_of number) (slot_at mid d) ≡ waiting_count (destination_of number) mid + mark (destination_of number) (option_map renewed (slot_at slots i))
       = count-with_slot (waits (destination_of number)) mid d (option_map renewed (slot_at slots i)) low within_mid in
-      let c : waiting (destination_of number) two + mark (destination_of number) (slot_at exchanged d) ≡ waiting (destination_of number) exchanged + mark (destination_of number) (option_map (λ (x : Entry). (x.0, link)) (slot_at exchanged d))
+      let c : waiting_count (destination_of number) two + mark (destination_of number) (slot_at exchanged d) ≡ waiting_count (destination_of number) exchanged + mark (destination_of number) (option_map (λ (x : Entry). (x.0, link)) (slot_at exchanged d))
       = count-with_slot (waits (destination_of number)) exchanged d (option_map (λ (x : Entry). (x.0, link)) (slot_at exchanged d)) low within_exchanged in
       let waited : ◌≡◌ {A = ℕ} (one_if (is_some (destination_of number e))) 1 = ap (λ (o : Option ℕ). one_if (is_some o)) w.to in
       let m1 : mark (destination_of number) (slot_at slots i) ≡ 1 = ap (mark (destination_of number)) w.stored ∙ waited in
@@ -212,8 +212,8 @@ module _ {Gen K T : Type 0} (number : K → Option ℕ) (g : Gen) (i d : ℕ) (b
     slots_after : two number g before.slots i d who.0 left.0 left.1 left.2 who.1 bounds.0 bounds.1 ≡ after.slots
     slots_after = sym (ap (λ (h : DetachedView Gen (LinkBody K T)). h.slots) left.3 ∙ ap (λ (h : DetachedView Gen (LinkBody K T)). (held_with_value h d left.0).slots) moved)
 
-    pub one_less_after : waiting (destination_of number) after.slots + 1 ≡ waiting (destination_of number) before.slots
-    one_less_after = subst (λ (s : Entries). waiting (destination_of number) s + 1 ≡ waiting (destination_of number) before.slots) slots_after
+    pub one_less_after : waiting_count (destination_of number) after.slots + 1 ≡ waiting_count (destination_of number) before.slots
+    one_less_after = subst (λ (s : Entries). waiting_count (destination_of number) s + 1 ≡ waiting_count (destination_of number) before.slots) slots_after
         (one_less number g before.slots i d who.0 left.0 left.1 left.2 who.1 bounds.0 bounds.1)
 
     -- No entry waits there, unless one `may`.
@@ -222,7 +222,7 @@ module _ {Gen K T : Type 0} (number : K → Option ℕ) (g : Gen) (i d : ℕ) (b
     none_after false own = subst (λ (s : Entries). (h : ℕ) (f : Gen × LinkBody K T) → Waits (destination_of number) (slot_at s) i f h → ⊥) slots_after
         (own_settles number g before.slots i d who.0 left.0 left.1 left.2 who.1 bounds.0 bounds.1 (own refl))
 
-    pub fewer_after : (may : Bool) → OnTrue may (waiting (destination_of number) after.slots + 1 ≡ waiting (destination_of number) before.slots)
+    pub fewer_after : (may : Bool) → OnTrue may (waiting_count (destination_of number) after.slots + 1 ≡ waiting_count (destination_of number) before.slots)
     fewer_after true = one_less_after
     fewer_after false = tt
 

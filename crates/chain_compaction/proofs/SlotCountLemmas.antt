@@ -6,7 +6,7 @@ use Rattle.std.proofs.lemmas.List.Sums.{sum_by-set, sum_by-cons}
 use Rattle.chain_laws.specs.Chains.{Interlinks}
 use Rattle.chain_laws.proofs.InterlinkLemmas.Inverses.{if_same, if_other}
 use Rattle.arena_base.specs.Arena.{slot_at, with_slot}
-use Rattle.chain_compaction.specs.Permutations.{Waits, waits, waiting}
+use Rattle.chain_compaction.specs.Permutations.{Waits, waits, waiting_count}
 use Rattle.chain_links.proofs.ArenaInsertionLemmas.{slot_at-written, slots-within}
 
 module _ {X : Type 0} where
@@ -58,18 +58,18 @@ module _ {E : Type 0} (goal : E → Option ℕ) where
   mark-all (Some e) all = let a = all e refl in ap (λ (o : Option ℕ). one_if (is_some o)) a.1
 
   -- If no entry waits, the count is 0.
-  pub waiting-none : (xs : List (Option E)) → ((i d : ℕ) (e : E) → Waits goal (slot_at xs) i e d → ⊥) → waiting goal xs ≡ 0
+  pub waiting-none : (xs : List (Option E)) → ((i d : ℕ) (e : E) → Waits goal (slot_at xs) i e d → ⊥) → waiting_count goal xs ≡ 0
   waiting-none [] not = refl
   waiting-none (x ∷ xs) not =
-      let rest : waiting goal xs ≡ 0 = waiting-none xs (λ i d e w. not (suc i) d e (waits-behind x xs i e d w)) in
+      let rest : waiting_count goal xs ≡ 0 = waiting-none xs (λ i d e w. not (suc i) d e (waits-behind x xs i e d w)) in
       let first : mark goal x ≡ 0 = mark-none x (λ e d is to. not 1 d e (record { stored = is; to = to })) in
       sum_by-cons (mark goal) x xs ∙ ap₂ (λ (a b : ℕ). a + b) first rest
 
   -- If each entry waits, the count is the number of entries.
-  pub waiting-all : (xs : List (Option E)) → ((i : ℕ) (e : E) → slot_at xs i ≡ Some e → (d : ℕ) × (goal e ≡ Some d)) → waiting goal xs ≡ count_by is_some xs
+  pub waiting-all : (xs : List (Option E)) → ((i : ℕ) (e : E) → slot_at xs i ≡ Some e → (d : ℕ) × (goal e ≡ Some d)) → waiting_count goal xs ≡ count_by is_some xs
   waiting-all [] all = refl
   waiting-all (x ∷ xs) all =
-      let rest : waiting goal xs ≡ count_by is_some xs = waiting-all xs (λ i e s. all (suc i) e (stored-behind x xs i e s)) in
+      let rest : waiting_count goal xs ≡ count_by is_some xs = waiting-all xs (λ i e s. all (suc i) e (stored-behind x xs i e s)) in
       let first : mark goal x ≡ one_if (is_some x) = mark-all x (λ e s. all 1 e s) in
       sum_by-cons (mark goal) x xs ∙ (ap₂ (λ (a b : ℕ). a + b) first rest ∙ sym (sum_by-cons (λ (y : Option E). one_if (is_some y)) x xs))
 

@@ -2,10 +2,10 @@
 use Rattle.std.proofs.Common.{◌≡◌, ℕ, ◌+◌, refl, ap, ◌∙◌, arith}
 use Rattle.arena_base.specs.Arena.{Arena}
 use Rattle.arena_base.specs.DetachedSlots.{one_more, with_touch, with_placement}
-use Rattle.chain_compaction.specs.WorkCounts.{counted, HasCounted, CountsOn}
+use Rattle.chain_compaction.specs.WorkCounts.{saturating_count, HasCounted, CountsOn}
 
 -- One more is counted, up to the greatest count.
-counted_more : (n : ℕ) → one_more (counted n) ≡ counted (n + 1)
+counted_more : (n : ℕ) → one_more (saturating_count n) ≡ saturating_count (n + 1)
 counted_more n = omega arith
 
 module _ {Gen T : Type 0} where

@@ -1,7 +1,7 @@
 -- Moves of links to the first free index, one after another.
 use Rattle.std.specs.Prelude.{◌≡◌, ℕ, ◌+◌, ◌*◌, length}
 use Rattle.chain_laws.specs.Chains.{LinkMap, IsWellLinked}
-use Rattle.chain_laws.specs.Moves.{moved, CanMove}
+use Rattle.chain_laws.specs.Moves.{with_link_moved, CanMove}
 use Rattle.arena_base.specs.Arena.{Arena}
 use Rattle.arena_base.specs.Entries.{entries_from}
 use Rattle.arena_base.specs.DetachedSlots.{DetachedView}
@@ -10,7 +10,7 @@ use Rattle.chain_compaction.specs.DetachedLinks.{held_values, IsWork}
 
 -- If `old` is well linked, and the link may move, it has moved.
 abbrev pub IsLinkMove : LinkMap → LinkMap → ℕ → ℕ → Type 0
-IsLinkMove old new from to = IsWellLinked old → CanMove old from to → new ≡ moved old from to
+IsLinkMove old new from to = IsWellLinked old → CanMove old from to → new ≡ with_link_moved old from to
 
 module _ {Gen K T : Type 0} where
   -- The number of links.

@@ -8,7 +8,7 @@ use Rattle.chain_laws.specs.Renamings.{IsRenaming}
 use Rattle.chain_laws.specs.Arrangements.{place_in, IsLeastIndexOrder}
 use Rattle.arena_base.specs.Arena.{Arena}
 use Rattle.arena_base.specs.Entries.{ArenaView, found}
-use Rattle.arena_base.specs.GatheredSlots.{gathered}
+use Rattle.arena_base.specs.GatheredSlots.{arena_of_values}
 use Rattle.chain_links.specs.ChainArena.{LinkView, link_map, entry, values_of, ptr_at}
 
 -- The old and new pointers of all links, in their least-index order; the new ones have the indexes
@@ -56,7 +56,7 @@ module _ {F P Gen : Type 0} (g : F → P → P → F → Type 0) (key : P → �
     pub was_stored : map (λ t. Some t) values ≡ map (λ i. option_map (λ e. e.1) (entry old i)) indexes
     pub touches : ℕ
     pub few : touches ≤ 4 * length old.slots + 12 * length indexes
-    pub arena : values_of new ≡ record (gathered (values_of old) values) { touched = old.touched + touches }
+    pub arena : values_of new ≡ record (arena_of_values (values_of old) values) { touched = old.touched + touches }
     pub reports : ReportsMoves (ptr_at (entry old)) old.counter 1 f indexes last
 
 -- A pair is appended if there is spare capacity.

@@ -7,7 +7,7 @@ use Rattle.chain_laws.specs.Arrangements.{place_in}
 use Rattle.arena_base.specs.Arena.{Arena}
 use Rattle.arena_base.specs.Entries.{entries, index_of}
 use Rattle.arena_base.specs.Compressions.{VisitsAll}
-use Rattle.arena_base.specs.GatheredSlots.{gathered}
+use Rattle.arena_base.specs.GatheredSlots.{arena_of_values}
 use Rattle.chain_links.specs.ChainArena.{LinkView, link_map, values_of}
 
 -- Besides what is seen: the link of the k-th least index is moved to index k and names the new
@@ -22,6 +22,6 @@ pub record AreGathered {F P T Gen : Type 0} (g : Mut F (P × (MutBor T × (P × 
   pub values : List T
   pub touches : ℕ
   pub few : touches ≤ 4 * length old.slots
-  pub arena : values_of new ≡ record (gathered (values_of old) values) { touched = old.touched + touches }
+  pub arena : values_of new ≡ record (arena_of_values (values_of old) values) { touched = old.touched + touches }
   pub visits : VisitsAll g key f (entries (values_of old)) (entries (values_of new))
   pub renamed : IsRenaming (place_in (map index_of (entries (values_of old)))) (link_map old) (link_map new)

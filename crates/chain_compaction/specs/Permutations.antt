@@ -56,8 +56,8 @@ module _ {E : Type 0} where
   waits goal slot = is_some (option_and_then goal slot)
 
   -- The number of entries that wait.
-  abbrev pub waiting : (E → Option ℕ) → List (Option E) → ℕ
-  waiting goal slots = count_by (waits goal) slots
+  abbrev pub waiting_count : (E → Option ℕ) → List (Option E) → ℕ
+  waiting_count goal slots = count_by (waits goal) slots
 
   -- Each entry that waits does so for an existing slot.
   pub record WaitsWithin (goal : E → Option ℕ) (slots : List (Option E)) : Type 0 where

@@ -5,8 +5,8 @@ use Rattle.arena_base.specs.GatheredSlots.{with_totals}
 use Rattle.arena_base.specs.declared.compactor.Compactor.{Compactor}
 
 -- A count of work, which saturates.
-abbrev pub counted : ℕ → ℕ
-counted n = min n (2 ^ 128 - 1)
+abbrev pub saturating_count : ℕ → ℕ
+saturating_count n = min n (2 ^ 128 - 1)
 
 module _ {Gen T : Type 0} where
   -- A compactor has counted all work since its arena was in the state `first`.
@@ -14,8 +14,8 @@ module _ {Gen T : Type 0} where
     pub placements : ℕ
     pub touches : ℕ
     pub arena : now ≡ with_totals first placements touches
-    pub placements_counted : placed ≡ counted placements
-    pub touches_counted : touched ≡ counted touches
+    pub placements_counted : placed ≡ saturating_count placements
+    pub touches_counted : touched ≡ saturating_count touches
 
   -- The counts of a compactor that had counted all work stay complete.
   pub record CountsOn (old new : Arena Gen T) (old_placed old_touched new_placed new_touched : ℕ) : Type 0 where

@@ -4,7 +4,7 @@ ghost use Rattle.std.specs.Bool.{OnTrue, OnFalse};
 ghost use Rattle.arena_base.specs.Arena.{slot_at};
 ghost use Rattle.chain_compaction.specs.DetachedLinks.{IsWork};
 ghost use Rattle.chain_compaction.specs.WorkCounts.{CountsWork};
-ghost use Rattle.chain_compaction.specs.Permutations.{Waits, WaitsWithin, IsInBlock, IsSettling, ListsWaiting, HaveMoved, CanMoveAll, waiting, destination_of, Settles, IsWorkOn};
+ghost use Rattle.chain_compaction.specs.Permutations.{Waits, WaitsWithin, IsInBlock, IsSettling, ListsWaiting, HaveMoved, CanMoveAll, waiting_count, destination_of, Settles, IsWorkOn};
 
 use crate::slot_access::{direct_at, read_link};
 use arena_base::{ArenaSlot, Compactor, inx_at};
@@ -30,13 +30,13 @@ fn settle_once<P: PtrKey, T: Drop, S: SlotStack<Item = ArenaSlot<P, LinkNoGen<P,
         → Waits (destination_of P.Inx.packed_number) (slot_at compactor.new.held.slots)
         (P.Inx.number i) e d → ⊥) }
     ensures fewer { OnTrue result
-        (waiting (destination_of P.Inx.packed_number) compactor.new.held.slots + 1
-        ≡ waiting (destination_of P.Inx.packed_number) compactor.old.held.slots) }
+        (waiting_count (destination_of P.Inx.packed_number) compactor.new.held.slots + 1
+        ≡ waiting_count (destination_of P.Inx.packed_number) compactor.old.held.slots) }
     ensures capacity { compactor.new.held.stack_capacity ≡ compactor.old.held.stack_capacity }
     ensures maximum { compactor.new.held.maximum ≡ compactor.old.held.maximum }
     ensures work { IsWorkOn compactor.old.arena.now compactor.new.arena.now
-        (waiting (destination_of P.Inx.packed_number) compactor.old.held.slots)
-        (waiting (destination_of P.Inx.packed_number) compactor.new.held.slots)
+        (waiting_count (destination_of P.Inx.packed_number) compactor.old.held.slots)
+        (waiting_count (destination_of P.Inx.packed_number) compactor.new.held.slots)
         (if result then 0 else 1) }
     ensures counts { CountsWork compactor.old compactor.new }
 {
@@ -73,8 +73,8 @@ fn settle_each<P: PtrKey, T: Drop, S: SlotStack<Item = ArenaSlot<P, LinkNoGen<P,
     ensures capacity { compactor.new.held.stack_capacity ≡ compactor.old.held.stack_capacity }
     ensures maximum { compactor.new.held.maximum ≡ compactor.old.held.maximum }
     ensures work { IsWorkOn compactor.old.arena.now compactor.new.arena.now
-        (waiting (destination_of P.Inx.packed_number) compactor.old.held.slots)
-        (waiting (destination_of P.Inx.packed_number) compactor.new.held.slots)
+        (waiting_count (destination_of P.Inx.packed_number) compactor.old.held.slots)
+        (waiting_count (destination_of P.Inx.packed_number) compactor.new.held.slots)
         (count - result.1) }
     ensures counts { CountsWork compactor.old compactor.new }
 {
@@ -122,8 +122,8 @@ fn settle_block<P: PtrKey, T: Drop, S: SlotStack<Item = ArenaSlot<P, LinkNoGen<P
     ensures capacity { compactor.new.held.stack_capacity ≡ compactor.old.held.stack_capacity }
     ensures maximum { compactor.new.held.maximum ≡ compactor.old.held.maximum }
     ensures work { IsWorkOn compactor.old.arena.now compactor.new.arena.now
-        (waiting (destination_of P.Inx.packed_number) compactor.old.held.slots)
-        (waiting (destination_of P.Inx.packed_number) compactor.new.held.slots) count }
+        (waiting_count (destination_of P.Inx.packed_number) compactor.old.held.slots)
+        (waiting_count (destination_of P.Inx.packed_number) compactor.new.held.slots) count }
     ensures counts { CountsWork compactor.old compactor.new }
 {
     let (mut positions, mut left) = settle_each(compactor, start, count, generation);

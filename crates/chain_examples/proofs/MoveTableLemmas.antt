@@ -11,7 +11,7 @@ use Rattle.std.specs.Prelude.{slice_set}
 use Rattle.arena_base.specs.Arena.{slot_at, with_slot}
 use Rattle.arena_base.proofs.SlotLemmas.{length-with_slot}
 use Rattle.chain_links.proofs.ArenaInsertionLemmas.{slot_at-written}
-use Rattle.chain_examples.specs.MoveTables.{with_move, noted}
+use Rattle.chain_examples.specs.MoveTables.{with_move, with_moves}
 
 -- An empty table has no moves.
 none_stored : {X : Type 0} (n i : ℕ) → ◌≡◌ {A = Option X} (slot_at (replicate n None) i) None
@@ -29,11 +29,11 @@ module _ {P Gen : Type 0} (key : P → ℕ × Gen) where
 
   -- Writing move `i` gives the table of the first `i + 1` moves.
   pub note_more : (table : List (Option (P × P))) (moves : List (P × P)) (i k : ℕ) (m : P × P) → i < length moves → m ≡ get_or moves i m → k + 1 ≡ (key m.0).0
-      → slice_set (noted key table (take i moves)) k (Some m) ≡ noted key table (take (i + 1) moves)
+      → slice_set (with_moves key table (take i moves)) k (Some m) ≡ with_moves key table (take (i + 1) moves)
   note_more table moves i k m below is at =
       let index : suc k ≡ (key m.0).0 = omega arith in
-      subst (λ (j : ℕ). slice_set (noted key table (take i moves)) k (Some m) ≡ with_slot (noted key table (take i moves)) j (Some m)) index refl
-      ∙ (ap (with_move key (noted key table (take i moves))) is ∙ sym (fold_more (with_move key) table moves i m below))
+      subst (λ (j : ℕ). slice_set (with_moves key table (take i moves)) k (Some m) ≡ with_slot (with_moves key table (take i moves)) j (Some m)) index refl
+      ∙ (ap (with_move key (with_moves key table (take i moves))) is ∙ sym (fold_more (with_move key) table moves i m below))
 
   -- A table of `n` entries has one for each move.
   abbrev pub HasPlaces : ℕ → List (P × P) → Type 0
@@ -58,14 +58,14 @@ module _ {P Gen : Type 0} (key : P → ℕ × Gen) where
     elsewhere table m i long within other = slot_at-written table (from_index m) i (Some m) within.0 (omega (arith, long, within.1)) ∙ if_other i (from_index m) _ _ other
 
     -- An index that no move is from keeps its content.
-    keeps : (table : List (Option (P × P))) (moves : List (P × P)) (i : ℕ) → length table ≡ n → HasPlaces n moves → (IsMember (map from_index moves) i → ⊥) → slot_at (noted key table moves) i ≡ slot_at table i
+    keeps : (table : List (Option (P × P))) (moves : List (P × P)) (i : ℕ) → length table ≡ n → HasPlaces n moves → (IsMember (map from_index moves) i → ⊥) → slot_at (with_moves key table moves) i ≡ slot_at table i
     keeps table [] i long within absent = refl
     keeps table (m ∷ moves) i long within absent =
         keeps (with_move key table m) moves i (stays table m long) within.1 (λ has. absent (inr has)) ∙ elsewhere table m i long within.0 (λ is. absent (inl (sym is)))
 
     -- Each written move is found at its index.
     noted_has : (table : List (Option (P × P))) (moves : List (P × P)) (m : P × P) (k : ℕ) → length table ≡ n → HasPlaces n moves → AreDistinct (map from_index moves)
-        → k < length moves → slice_index_or moves k m ≡ m → slot_at (noted key table moves) (from_index m) ≡ Some m
+        → k < length moves → slice_index_or moves k m ≡ m → slot_at (with_moves key table moves) (from_index m) ≡ Some m
     noted_has table [] m k long within apart below is = absurd (omega (arith, below))
     noted_has table (x ∷ moves) m zero long within apart below is =
         let index = ap from_index is in
@@ -75,7 +75,7 @@ module _ {P Gen : Type 0} (key : P → ℕ × Gen) where
         noted_has (with_move key table x) moves m k (stays table x long) within.1 apart.1 (omega (arith, below)) is
 
     -- Any move found was written, or was there before.
-    noted_only : (table : List (Option (P × P))) (moves : List (P × P)) (i : ℕ) (m : P × P) → length table ≡ n → HasPlaces n moves → slot_at (noted key table moves) i ≡ Some m → (slot_at table i ≡ Some m) ⊎ Contains moves m
+    noted_only : (table : List (Option (P × P))) (moves : List (P × P)) (i : ℕ) (m : P × P) → length table ≡ n → HasPlaces n moves → slot_at (with_moves key table moves) i ≡ Some m → (slot_at table i ≡ Some m) ⊎ Contains moves m
     noted_only table [] i m long within is = inl is
     noted_only table (x ∷ moves) i m long within is =
         ⊎_elim (by (ℕ_discrete i (from_index x))) (λ has. inr (Contains-append_right (x ∷ []) moves m has)) (noted_only (with_move key table x) moves i m (stays table x long) within.1 is)
@@ -88,7 +88,7 @@ module _ {P Gen : Type 0} (key : P → ℕ × Gen) where
         by (no other) stored = inl (sym (elsewhere table x i long within.0 other) ∙ stored)
 
     -- Writing moves into an empty table gives the table of these moves.
-    pub noted_table : (moves : List (P × P)) → HasPlaces n moves → AreDistinct (map from_index moves) → IsTable moves (noted key (replicate n None) moves)
+    pub noted_table : (moves : List (P × P)) → HasPlaces n moves → AreDistinct (map from_index moves) → IsTable moves (with_moves key (replicate n None) moves)
     noted_table moves within apart = record {
       has = λ m has. noted_has (replicate n None) moves m has.0 (length-replicate n None) within apart has.1 has.2;
       only = λ i m is. ⊎_elim (λ was_stored. absurd (let none = sym (none_stored n i) ∙ was_stored in cc)) (λ has. has) (noted_only (replicate n None) moves i m (length-replicate n None) within is);

@@ -19,7 +19,7 @@ use Rattle.chain_compaction.specs.Layouts.{AreAllMoves}
 use Rattle.chain_compaction.specs.PointerMoves.{ArePointerMoves}
 use Rattle.chain_arena.proofs.PointerTransferLemmas.{arena_moves_pointers}
 use Rattle.chain_examples.specs.Renumbering.{Move, IsRenumbered}
-use Rattle.chain_examples.specs.MoveTables.{noted, new_pointer_of}
+use Rattle.chain_examples.specs.MoveTables.{with_moves, new_pointer_of}
 use Rattle.chain_examples.proofs.MoveTableLemmas.{HasPlaces, noted_table}
 use Rattle.chain_examples.proofs.PointerPairLemmas.{keys_of}
 use Rattle.chain_examples.proofs.BookmarkLemmas.{all_followed}
@@ -71,7 +71,7 @@ module _ {P Gen T : Type 0} (key : P → ℕ × Gen) (old new : Arena Gen (LinkV
 
     -- The links are renumbered, and the bookmarks follow their items.
     pub renumbered : (eq : P → P → Bool) → ((p q : P) → key p ≡ key q → p ≡ q) → ((p q : P) → (eq p q ≡ true) ↔ (p ≡ q)) → ArePointerMoves key (entry old) (entry new) moves → (bookmarks : List (Option P))
-        → IsRenumbered first following value_view entry link_map old new (map (option_map key) bookmarks) (map (option_map key) (map (option_and_then (new_pointer_of key eq (noted key (replicate (length old.slots) None) moves))) bookmarks))
+        → IsRenumbered first following value_view entry link_map old new (map (option_map key) bookmarks) (map (option_map key) (map (option_and_then (new_pointer_of key eq (with_moves key (replicate (length old.slots) None) moves))) bookmarks))
     renumbered eq same_key eq_is_same moved bookmarks =
         let moved_keys = arena_moves_pointers (λ (p : ℕ × Gen). p) first following false old new (map (keys_of key) moves) layout all_keys in
         record {
@@ -80,5 +80,5 @@ module _ {P Gen T : Type 0} (key : P → ℕ × Gen) (old new : Arena Gen (LinkV
           moved = moved_keys;
           placed = all_placed;
           texts = texts_move entry link_map old new (map (keys_of key) moves) (place_in all.indexes) moved_keys all_moved renaming;
-          bookmarks = all_followed key eq same_key eq_is_same (entry old) (entry new) moves moved (noted key (replicate (length old.slots) None) moves) (noted_table key (length old.slots) moves (has_places moved) moved.old_apart) bookmarks;
+          bookmarks = all_followed key eq same_key eq_is_same (entry old) (entry new) moves moved (with_moves key (replicate (length old.slots) None) moves) (noted_table key (length old.slots) moves (has_places moved) moved.old_apart) bookmarks;
         }

@@ -4,7 +4,7 @@ use Rattle.std.specs.Prelude.{is_some, IfSome}
 use Rattle.std.specs.Option.{option_map}
 use Rattle.chain_laws.specs.Chains.{LinkMap, cyclic, IsChain, IsMember, AreDistinct}
 use Rattle.arena_base.specs.Arena.{IsValid}
-use Rattle.arena_base.specs.Entries.{ArenaView, count, found, replaced, written, AscendsFrom}
+use Rattle.arena_base.specs.Entries.{ArenaView, count, found, with_replacement, view_with_value, AscendsFrom}
 use Rattle.chain_examples.specs.Lists.{Item, indexes, IsQueueOrder}
 use Rattle.chain_examples.specs.QueueOrder.{Queue, IsAmong, with_task}
 use Rattle.chain_examples.proofs.ItemListLemmas.{are_stored-some}
@@ -40,10 +40,10 @@ module _ {Gen T : Type 0} where
 
     -- A value is written at an index.
     pub order-written : (new : ℕ → Option (Gen × T)) (changed : LinkMap) (i : ℕ) (t : T) → new i ≡ option_map (valued t) (entry i) → ((k : ℕ) → k ≢ i → new k ≡ entry k) → changed ≡ links
-        → IsQueueOrder new changed current (replaced i (valued t) order)
+        → IsQueueOrder new changed current (with_replacement i (valued t) order)
     order-written new changed i t there rest same = record {
       first = is.first ∙ sym (first_key-written i t order);
-      ring = λ filled. subst (λ (l : List ℕ). IsChain changed (cyclic l)) (sym (indexes-written i t order)) (subst (λ (l : LinkMap). IsChain l (cyclic (indexes order))) (sym same) (is.ring (λ none. filled (ap (replaced i (valued t)) none))));
+      ring = λ filled. subst (λ (l : List ℕ). IsChain changed (cyclic l)) (sym (indexes-written i t order)) (subst (λ (l : LinkMap). IsChain l (cyclic (indexes order))) (sym same) (is.ring (λ none. filled (ap (with_replacement i (valued t)) none))));
       are_stored = are_stored-written entry new i t there rest order (once order is.ring) is.are_stored;
       all = λ k some. subst (λ (l : List ℕ). IsMember l k) (sym (indexes-written i t order)) (is.all k (sym (some-written entry new i t there rest k) ∙ some));
     }
@@ -74,7 +74,7 @@ module _ {A Gen T : Type 0} (view : A → ArenaView Gen T) (entry : A → ℕ �
     pub holds : IsQueueOrder (entry b) (links b) current (order_in view entry links ascends was_read b current)
     pub queue_is : queue_in view entry links ascends was_read b current ≡ q
 
-  pub task_written : (i : ℕ) (t : T) → view b ≡ written (view a) i t → links b ≡ links a → IsQueue (with_task (queue_in view entry links ascends was_read a current) i t)
+  pub task_written : (i : ℕ) (t : T) → view b ≡ view_with_value (view a) i t → links b ≡ links a → IsQueue (with_task (queue_in view entry links ascends was_read a current) i t)
   task_written i t was same =
       let now = settle view entry links ascends was_read b current _ (order-written (entry a) (links a) current _ is (entry b) (links b) i t (value_there view entry links was_read a b i t was) (values_elsewhere view entry links was_read a b i t was) same) in
       record { holds = now.holds; queue_is = λ k. record { order = now.is_found k; capacity = (ap (λ (s : ArenaView Gen T). s.capacity) was) k; maximum = (ap (λ (s : ArenaView Gen T). s.maximum) was) k } }

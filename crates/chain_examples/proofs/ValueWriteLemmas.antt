@@ -5,7 +5,7 @@ use Rattle.std.specs.Option.{option_map}
 use Rattle.std.proofs.lemmas.Bool.{cases_eq, eq-eqb, ne_eqb}
 use Rattle.std.proofs.lemmas.List.{map-append}
 use Rattle.chain_laws.specs.Chains.{LinkMap, linear, IsChain, IsMember, AreDistinct}
-use Rattle.arena_base.specs.Entries.{ArenaView, found, first_key, index_of, replaced, written}
+use Rattle.arena_base.specs.Entries.{ArenaView, found, first_key, index_of, with_replacement, view_with_value}
 use Rattle.chain_examples.specs.Lists.{Item, AreEntries, indexes}
 use Rattle.chain_examples.specs.Texts.{HasNewValue}
 use Rattle.chain_examples.proofs.ItemListLemmas.{are_stored-append, are_stored-left, are_stored-right, are_stored-frame}
@@ -24,21 +24,21 @@ module _ {Gen T : Type 0} where
   past_first e i es other = ap (λ b. cond b (Some (e.0.1, e.1)) (found i es)) (ne_eqb e.0.0 i other)
 
   -- A write changes the first item at its index, or else the rest.
-  writes_first : (i : ℕ) (t : T) (e : Item Gen T) (es : List (Item Gen T)) → e.0.0 ≡ i → replaced i (valued t) (e ∷ es) ≡ ((i, e.0.1), t) ∷ es
-  writes_first i t e es is = ap (λ b. cond b (((i, e.0.1), t) ∷ es) (e ∷ replaced i (valued t) es)) (eq-eqb e.0.0 i is)
+  writes_first : (i : ℕ) (t : T) (e : Item Gen T) (es : List (Item Gen T)) → e.0.0 ≡ i → with_replacement i (valued t) (e ∷ es) ≡ ((i, e.0.1), t) ∷ es
+  writes_first i t e es is = ap (λ b. cond b (((i, e.0.1), t) ∷ es) (e ∷ with_replacement i (valued t) es)) (eq-eqb e.0.0 i is)
 
-  writes_later : (i : ℕ) (t : T) (e : Item Gen T) (es : List (Item Gen T)) → e.0.0 ≢ i → replaced i (valued t) (e ∷ es) ≡ e ∷ replaced i (valued t) es
-  writes_later i t e es other = ap (λ b. cond b (((i, e.0.1), t) ∷ es) (e ∷ replaced i (valued t) es)) (ne_eqb e.0.0 i other)
+  writes_later : (i : ℕ) (t : T) (e : Item Gen T) (es : List (Item Gen T)) → e.0.0 ≢ i → with_replacement i (valued t) (e ∷ es) ≡ e ∷ with_replacement i (valued t) es
+  writes_later i t e es other = ap (λ b. cond b (((i, e.0.1), t) ∷ es) (e ∷ with_replacement i (valued t) es)) (ne_eqb e.0.0 i other)
 
   -- Lookup finds the new value at the index, and the old ones elsewhere.
-  pub found-written : (i : ℕ) (t : T) (es : List (Item Gen T)) → found i (replaced i (valued t) es) ≡ option_map (valued t) (found i es)
+  pub found-written : (i : ℕ) (t : T) (es : List (Item Gen T)) → found i (with_replacement i (valued t) es) ≡ option_map (valued t) (found i es)
   found-written i t [] = refl
   found-written i t (e ∷ es) = ⊎_elim
       (λ is. ap (found i) (writes_first i t e es is) ∙ (at_first ((i, e.0.1), t) i es refl ∙ sym (ap (option_map (valued t)) (at_first e i es is))))
-      (λ other. ap (found i) (writes_later i t e es other) ∙ (past_first e i (replaced i (valued t) es) other ∙ (found-written i t es ∙ sym (ap (option_map (valued t)) (past_first e i es other)))))
+      (λ other. ap (found i) (writes_later i t e es other) ∙ (past_first e i (with_replacement i (valued t) es) other ∙ (found-written i t es ∙ sym (ap (option_map (valued t)) (past_first e i es other)))))
       (cases_eq e.0.0 i)
 
-  pub found-unwritten : (k i : ℕ) (t : T) (es : List (Item Gen T)) → k ≢ i → found k (replaced i (valued t) es) ≡ found k es
+  pub found-unwritten : (k i : ℕ) (t : T) (es : List (Item Gen T)) → k ≢ i → found k (with_replacement i (valued t) es) ≡ found k es
   found-unwritten k i t [] other = refl
   found-unwritten k i t (e ∷ es) other = ⊎_elim
       (λ is. ap (found k) (writes_first i t e es is) ∙ (past_first ((i, e.0.1), t) k es (λ same. other (sym same)) ∙ sym (past_first e k es (λ same. other (sym same ∙ is)))))
@@ -46,14 +46,14 @@ module _ {Gen T : Type 0} where
       (cases_eq e.0.0 i)
 
   -- Indexes and the first pointer are unchanged.
-  pub indexes-written : (i : ℕ) (t : T) (es : List (Item Gen T)) → indexes (replaced i (valued t) es) ≡ indexes es
+  pub indexes-written : (i : ℕ) (t : T) (es : List (Item Gen T)) → indexes (with_replacement i (valued t) es) ≡ indexes es
   indexes-written i t [] = refl
   indexes-written i t (e ∷ es) = ⊎_elim
       (λ is. ap indexes (writes_first i t e es is) ∙ ap (λ (n : ℕ). n ∷ indexes es) (sym is))
       (λ other. ap indexes (writes_later i t e es other) ∙ ap (λ (l : List ℕ). e.0.0 ∷ l) (indexes-written i t es))
       (cases_eq e.0.0 i)
 
-  pub first_key-written : (i : ℕ) (t : T) (es : List (Item Gen T)) → first_key (replaced i (valued t) es) ≡ first_key es
+  pub first_key-written : (i : ℕ) (t : T) (es : List (Item Gen T)) → first_key (with_replacement i (valued t) es) ≡ first_key es
   first_key-written i t [] = refl
   first_key-written i t (e ∷ es) = ⊎_elim
       (λ is. ap first_key (writes_first i t e es is) ∙ ap (λ (n : ℕ). let k : Option (ℕ × Gen) = Some (n, e.0.1) in k) (sym is))
@@ -74,7 +74,7 @@ module _ {Gen T : Type 0} where
 
   -- Items stay stored after writing the value at an index.
   module _ (old new : ℕ → Option (Gen × T)) (i : ℕ) (t : T) (there : new i ≡ option_map (valued t) (old i)) (rest : (k : ℕ) → k ≢ i → new k ≡ old k) where
-    pub are_stored-written : (es : List (Item Gen T)) → AreDistinct (indexes es) → AreEntries old es → AreEntries new (replaced i (valued t) es)
+    pub are_stored-written : (es : List (Item Gen T)) → AreDistinct (indexes es) → AreEntries old es → AreEntries new (with_replacement i (valued t) es)
     are_stored-written [] once are_stored = tt
     are_stored-written (e ∷ es) once are_stored = ⊎_elim
         (λ is. subst (AreEntries new) (sym (writes_first i t e es is)) (
@@ -97,7 +97,7 @@ module _ {Gen T : Type 0} where
 
 -- A value written in an arena.
 module _ {A Gen T : Type 0} (view : A → ArenaView Gen T) (entry : A → ℕ → Option (Gen × T)) (links : A → LinkMap) (was_read : (a : A) (i : ℕ) → found i (view a).entries ≡ entry a i)
-    (a b : A) (i : ℕ) (t : T) (was : view b ≡ written (view a) i t) where
+    (a b : A) (i : ℕ) (t : T) (was : view b ≡ view_with_value (view a) i t) where
   pub value_there : entry b i ≡ option_map (valued t) (entry a i)
   value_there = sym (was_read b i) ∙ (ap (λ (s : ArenaView Gen T). found i s.entries) was ∙ (found-written i t (view a).entries ∙ ap (option_map (valued t)) (was_read a i)))
 

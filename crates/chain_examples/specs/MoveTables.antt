@@ -8,8 +8,8 @@ module _ {P Gen : Type 0} (key : P → ℕ × Gen) where
   with_move table m = with_slot table (key m.0).0 (Some m)
 
   -- The table with moves written into it one after another.
-  abbrev pub noted : List (Option (P × P)) → List (P × P) → List (Option (P × P))
-  noted table moves = fold with_move table moves
+  abbrev pub with_moves : List (Option (P × P)) → List (P × P) → List (Option (P × P))
+  with_moves table moves = fold with_move table moves
 
 -- The new pointer of a move, if its old one is `p`.
 abbrev pub target_from : {P : Type 0} → (P → P → Bool) → P → Option (P × P) → Option P

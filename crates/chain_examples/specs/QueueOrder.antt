@@ -2,7 +2,7 @@
 use Rattle.std.specs.Prelude.{◌≡◌, ◌⊎◌, ℕ, zero, suc, List, [], ◌∷◌, ◌++◌, Option, None, Some}
 use Rattle.std.specs.Option.{option_map}
 use Rattle.chain_laws.specs.Chains.{LinkMap, next_of}
-use Rattle.arena_base.specs.Entries.{first_key, replaced}
+use Rattle.arena_base.specs.Entries.{first_key, with_replacement}
 use Rattle.chain_examples.specs.Lists.{Item, IsQueueOrder}
 
 -- A run queue: its tasks in turn, the current one first, its capacity, and the limit of that, if
@@ -14,7 +14,7 @@ pub record Queue (Gen T : Type 0) : Type 0 where
 
 -- The queue with the task at an index replaced.
 abbrev pub with_task : {Gen T : Type 0} → Queue Gen T → ℕ → T → Queue Gen T
-with_task q i t = record q { order = replaced i (λ e. (e.0, t)) q.order }
+with_task q i t = record q { order = with_replacement i (λ e. (e.0, t)) q.order }
 
 -- The list with its first item moved to the end.
 abbrev pub rotation : {X : Type 0} → List X → List X

@@ -1,7 +1,7 @@
 -- The effect on texts of splits, joins and moves of items.
 use Rattle.std.specs.Prelude.{◌≡◌, ◌≢◌, ℕ, List, [], ◌∷◌, ◌++◌, Option, IfSome}
 use Rattle.chain_laws.specs.Chains.{LinkMap, linear, IsMember, AreDistinct}
-use Rattle.arena_base.specs.Entries.{ArenaView, first_key, last_key, written}
+use Rattle.arena_base.specs.Entries.{ArenaView, first_key, last_key, view_with_value}
 use Rattle.chain_examples.specs.Lists.{Item, indexes, IsText, KeepsWithout}
 
 module _ {A Gen T : Type 0} (entry : A → ℕ → Option (Gen × T)) (links : A → LinkMap) (arena : A) where
@@ -60,5 +60,5 @@ pub record HasNewValue {A Gen T : Type 0} (view : A → ArenaView Gen T) (entry 
   pub text : (s : T) (before after : List (Item Gen T)) → IsText entry links old (before ++ (p, s) ∷ after)
       → IsText entry links new (before ++ (p, t) ∷ after)
   pub others : KeepsWithout entry links linear old new (p ∷ [])
-  pub state : view new ≡ written (view old) p.0 t
+  pub state : view new ≡ view_with_value (view old) p.0 t
   pub order : links new ≡ links old

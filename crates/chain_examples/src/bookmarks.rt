@@ -5,7 +5,7 @@ ghost use Rattle.std.specs.Option.{option_map, option_and_then};
 ghost use Rattle.chain_links.specs.ChainArena.{entry, value_view, link_map};
 ghost use Rattle.chain_links.specs.CanonicalLayouts.{IsCanonicalLayout};
 ghost use Rattle.chain_examples.specs.Renumbering.{IsRenumbered};
-ghost use Rattle.chain_examples.specs.MoveTables.{noted, new_pointer_of};
+ghost use Rattle.chain_examples.specs.MoveTables.{with_moves, new_pointer_of};
 
 use arena_base::{ArenaSlot, ArenaTrait};
 use arena_ptr::{InxKey, PtrKey, SlotStack};
@@ -73,7 +73,7 @@ fn place_of<P: PtrKey>(p: P) -> usize
 /// Writes each move into the table, at the position of its old pointer.
 fn note<P: PtrKey>(table: &mut [Option<(P, P)>], moves: &[(P, P)])
     requires { All (λ m. (P.key m.0).0 ≤ length table.old) moves.now }
-    ensures { table.new ≡ noted P.key table.old moves.now }
+    ensures { table.new ≡ with_moves P.key table.old moves.now }
 {
     for (from, to) in moves {
         table[place_of(*from)] = Some((*from, *to));

@@ -13,7 +13,7 @@ ghost use Rattle.arena_base.specs.Arena.{IsValid};
 ghost use Rattle.arena_base.specs.Entries.{entry_removed, HasFreeCapacity, NeedsBeyondMaximum};
 ghost use Rattle.chain_links.specs.CallEffects.{GainsLink};
 ghost use Rattle.chain_links.specs.ChainArena.{CanConnect};
-ghost use Rattle.chain_links.specs.Kinds.{pointed};
+ghost use Rattle.chain_links.specs.Kinds.{name_of_pointer};
 
 use arena_ptr::{ChainInsertionError, GenKey, InxKey, PtrKey};
 use chain_links::LinkInsertKind;
@@ -102,7 +102,7 @@ pub fn put_behind<P: PtrKey, T: Drop, A: ChainArenaTrait<P, T>>(
     ensures behind { IfOk result (λ q. AreNeighbors (A.interlinks arena.new) (P.key p).0
         (P.key q).0) }
     ensures inserted { IfOk result (λ q. GainsLink A.view A.entry A.interlinks
-        (next_to (pointed P.key P.Inx.number p)) t arena.old (P.key q) arena.new) }
+        (next_to (name_of_pointer P.key P.Inx.number p)) t arena.old (P.key q) arena.new) }
     ensures link { (result ≡ Err ChainInsertionError.FailedLinkRequirement)
         ↔ ¬ IsValid (A.entry arena.old) (P.key p) }
     ensures within_capacity { IsValid (A.entry arena.old) (P.key p) × HasFreeCapacity

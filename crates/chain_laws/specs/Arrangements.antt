@@ -32,8 +32,8 @@ pub record IsLeastIndexOrder (link_map : LinkMap) (indexes : List ℕ) : Type 0 
   pub items : indexes ≡ all_items chains
 
 -- The least-index order, from the one set of chains.
-abbrev pub ordered : {link_map : LinkMap} → HasOneSetOfChains link_map → List ℕ
-ordered one = all_items one.chains
+abbrev pub order_of : {link_map : LinkMap} → HasOneSetOfChains link_map → List ℕ
+order_of one = all_items one.chains
 
 -- The chains as runs of consecutive indexes from k on.
 abbrev pub in_runs : ℕ → List Chain → List Chain
@@ -69,7 +69,7 @@ HasLeastIndexOrder = (link_map : LinkMap) (slots : ℕ) → IsWellLinked link_ma
 
 -- The least-index order is `ordered`.
 abbrev pub LeastIndexOrderIsOrdered : Type 0
-LeastIndexOrderIsOrdered = (link_map : LinkMap) (one : HasOneSetOfChains link_map) (indexes : List ℕ) → IsLeastIndexOrder link_map indexes ↔ (indexes ≡ ordered one)
+LeastIndexOrderIsOrdered = (link_map : LinkMap) (one : HasOneSetOfChains link_map) (indexes : List ℕ) → IsLeastIndexOrder link_map indexes ↔ (indexes ≡ order_of one)
 
 -- The least-index order is canonical.
 abbrev pub LeastIndexOrderIsCanonical : Type 0

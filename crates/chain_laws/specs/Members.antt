@@ -56,34 +56,34 @@ abbrev pub RotationsHaveTheSame : Type 0
 RotationsHaveTheSame = (c other : Chain) (i : ℕ) → IsRotation c other → IsMember (items c) i ↔ IsMember (items other) i
 
 -- The items of all chains are the items of each of them.
-abbrev pub HasInAll : Type 0
-HasInAll = (chains : List Chain) (i : ℕ) → IsMember (all_items chains) i ↔ ((c : Chain) × HasChain chains c × IsMember (items c) i)
+abbrev pub MemberInAll : Type 0
+MemberInAll = (chains : List Chain) (i : ℕ) → IsMember (all_items chains) i ↔ ((c : Chain) × HasChain chains c × IsMember (items c) i)
 
 -- ---- in a list
 
 -- A concatenation has the items of both lists.
-abbrev pub HasInJoin : Type 0
-HasInJoin = (xs ys : List ℕ) (i : ℕ) → IsMember (xs ++ ys) i ↔ (IsMember xs i ⊎ IsMember ys i)
+abbrev pub MemberInJoin : Type 0
+MemberInJoin = (xs ys : List ℕ) (i : ℕ) → IsMember (xs ++ ys) i ↔ (IsMember xs i ⊎ IsMember ys i)
 
 -- The order of two lists does not change their items.
-abbrev pub HasInRotation : Type 0
-HasInRotation = (xs ys : List ℕ) (i : ℕ) → IsMember (xs ++ ys) i ↔ IsMember (ys ++ xs) i
+abbrev pub MemberInRotation : Type 0
+MemberInRotation = (xs ys : List ℕ) (i : ℕ) → IsMember (xs ++ ys) i ↔ IsMember (ys ++ xs) i
 
 -- x in the middle adds only x to the items.
-abbrev pub HasInMiddle : Type 0
-HasInMiddle = (xs ys : List ℕ) (x i : ℕ) → IsMember (xs ++ x ∷ ys) i ↔ ((i ≡ x) ⊎ IsMember (xs ++ ys) i)
+abbrev pub MemberInMiddle : Type 0
+MemberInMiddle = (xs ys : List ℕ) (x i : ℕ) → IsMember (xs ++ x ∷ ys) i ↔ ((i ≡ x) ⊎ IsMember (xs ++ ys) i)
 
 -- A list has i exactly if it is some items, i, and some items.
 abbrev pub MembersSplitAList : Type 0
 MembersSplitAList = (xs : List ℕ) (i : ℕ) → IsMember xs i ↔ ((before : List ℕ) × (after : List ℕ) × (xs ≡ before ++ i ∷ after))
 
 -- A list has i or does not have it.
-abbrev pub HasIsDecided : Type 0
-HasIsDecided = (xs : List ℕ) (i : ℕ) → IsMember xs i ⊎ (IsMember xs i → ⊥)
+abbrev pub MembershipIsDecided : Type 0
+MembershipIsDecided = (xs : List ℕ) (i : ℕ) → IsMember xs i ⊎ (IsMember xs i → ⊥)
 
 -- A list is not empty exactly if it has an item.
-abbrev pub HasIsFilled : Type 0
-HasIsFilled = (xs : List ℕ) → (xs ≢ []) ↔ ((i : ℕ) × IsMember xs i)
+abbrev pub MemberIsFilled : Type 0
+MemberIsFilled = (xs : List ℕ) → (xs ≢ []) ↔ ((i : ℕ) × IsMember xs i)
 
 -- A concatenation has no repetition exactly if neither list has any and they share nothing.
 abbrev pub OnceInJoin : Type 0

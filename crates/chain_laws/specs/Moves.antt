@@ -14,12 +14,12 @@ abbrev pub with_moved : ℕ → ℕ → Interlinks → Interlinks
 with_moved i k link = record { prev = option_map (moved_index i k) link.prev; next = option_map (moved_index i k) link.next }
 
 -- The link at i moves to k, and links that named i name k.
-abbrev pub moved : LinkMap → ℕ → ℕ → LinkMap
-moved link_map i k j = if j == k then option_map (with_moved i k) (link_map i) else if j == i then None else option_map (with_moved i k) (link_map j)
+abbrev pub with_link_moved : LinkMap → ℕ → ℕ → LinkMap
+with_link_moved link_map i k j = if j == k then option_map (with_moved i k) (link_map i) else if j == i then None else option_map (with_moved i k) (link_map j)
 
 -- The link at i moves to k, and no interlinks are rewritten.
-abbrev pub put : LinkMap → ℕ → ℕ → LinkMap
-put link_map i k j = if j == k then link_map i else if j == i then None else link_map j
+abbrev pub with_link_placed : LinkMap → ℕ → ℕ → LinkMap
+with_link_placed link_map i k j = if j == k then link_map i else if j == i then None else link_map j
 
 -- There is a link at i, and k is i or free.
 pub record CanMove (link_map : LinkMap) (i k : ℕ) : Type 0 where
@@ -27,17 +27,17 @@ pub record CanMove (link_map : LinkMap) (i k : ℕ) : Type 0 where
   pub free : (k ≡ i) ⊎ (link_map k ≡ None)
 
 -- Where each link is after the move.
-abbrev pub moving : LinkMap → ℕ → ℕ → ℕ → Option ℕ
-moving link_map i k j = option_map (λ _. moved_index i k j) (link_map j)
+abbrev pub index_after_move : LinkMap → ℕ → ℕ → ℕ → Option ℕ
+index_after_move link_map i k j = option_map (λ _. moved_index i k j) (link_map j)
 
 -- A move is a renaming.
 abbrev pub MoveRenames : Type 0
-MoveRenames = (link_map : LinkMap) (i k : ℕ) → IsWellLinked link_map → CanMove link_map i k → IsRenaming (moving link_map i k) link_map (moved link_map i k)
+MoveRenames = (link_map : LinkMap) (i k : ℕ) → IsWellLinked link_map → CanMove link_map i k → IsRenaming (index_after_move link_map i k) link_map (with_link_moved link_map i k)
 
 -- A move rewrites only the neighbors of the link.
 abbrev pub NeighborsDetermineAMove : Type 0
 NeighborsDetermineAMove = (link_map : LinkMap) (i k : ℕ) → IsWellLinked link_map → CanMove link_map i k
-    → prev_set (next_set (put link_map i k) (option_map (moved_index i k) (prev_of link_map i)) (Some k)) (option_map (moved_index i k) (next_of link_map i)) (Some k) ≡ moved link_map i k
+    → prev_set (next_set (with_link_placed link_map i k) (option_map (moved_index i k) (prev_of link_map i)) (Some k)) (option_map (moved_index i k) (next_of link_map i)) (Some k) ≡ with_link_moved link_map i k
 
 -- One renaming after another is a renaming.
 abbrev pub RenamingsCompose : Type 0
@@ -66,7 +66,7 @@ GatheringSkips = (old now : LinkMap) (done : List ℕ) (k : ℕ) → IsGathering
 -- The next link is still at its index, may move, and moves.
 abbrev pub GatheringContinues : Type 0
 GatheringContinues = (old now : LinkMap) (done : List ℕ) (k : ℕ) → IsWellLinked old → IsGathering old now done k → HasLink old (k + 1)
-    → IsWellLinked now × CanMove now (k + 1) (length done + 1) × IsGathering old (moved now (k + 1) (length done + 1)) (done ++ (k + 1) ∷ []) (k + 1)
+    → IsWellLinked now × CanMove now (k + 1) (length done + 1) × IsGathering old (with_link_moved now (k + 1) (length done + 1)) (done ++ (k + 1) ∷ []) (k + 1)
 
 -- In the end, all links are renumbered by their order.
 abbrev pub GatheringEnds : Type 0

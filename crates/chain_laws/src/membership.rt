@@ -1,8 +1,8 @@
 //! Laws of membership in chains and lists.
 
 ghost use Rattle.chain_laws.specs.Members.{MembersAreLinks, FreeIsInNoChain, MembersOccurOnce, MembersNameNeighbors};
-ghost use Rattle.chain_laws.specs.Members.{PlacesInALine, PlacesInARing, LinesEnd, RingsAreCyclic, NeighborsShareAChain, ChainsShareEach, RotationsHaveTheSame, HasInAll};
-ghost use Rattle.chain_laws.specs.Members.{HasInJoin, HasInRotation, HasInMiddle, MembersSplitAList, HasIsDecided, HasIsFilled};
+ghost use Rattle.chain_laws.specs.Members.{PlacesInALine, PlacesInARing, LinesEnd, RingsAreCyclic, NeighborsShareAChain, ChainsShareEach, RotationsHaveTheSame, MemberInAll};
+ghost use Rattle.chain_laws.specs.Members.{MemberInJoin, MemberInRotation, MemberInMiddle, MembersSplitAList, MembershipIsDecided, MemberIsFilled};
 ghost use Rattle.chain_laws.specs.Members.{OnceInJoin, OnceInRotation, OnceInMiddle, OnceAtOnePlace, OnceIsNoLonger};
 
 /// States that each index of a chain has a link and is in the chain once.
@@ -29,17 +29,17 @@ pub fn neighbors_share_a_chain()
     ensures together { NeighborsShareAChain }
     ensures each { ChainsShareEach }
     ensures rotated { RotationsHaveTheSame }
-    ensures in_all { HasInAll }
+    ensures in_all { MemberInAll }
 {}
 
 /// States what a list has, by its parts, in either order, and around an item.
 pub fn lists_have()
-    ensures in_join { HasInJoin }
-    ensures in_turn { HasInRotation }
-    ensures in_middle { HasInMiddle }
+    ensures in_join { MemberInJoin }
+    ensures in_turn { MemberInRotation }
+    ensures in_middle { MemberInMiddle }
     ensures written { MembersSplitAList }
-    ensures decided { HasIsDecided }
-    ensures filled { HasIsFilled }
+    ensures decided { MembershipIsDecided }
+    ensures filled { MemberIsFilled }
 {}
 
 /// States when a list has no repetition, by its parts, in either order, and around an item.

@@ -11,12 +11,12 @@ use Rattle.chain_laws.proofs.JoinLemmas.Chains.{joined_agrees, joined_adds_a_pai
 use Rattle.chain_links.specs.declared.links.LinkBody.{LinkBody}
 use Rattle.chain_links.specs.Links.{link_view, pair_view, links_view}
 use Rattle.arena_base.specs.Arena.{Arena, entry_at}
-use Rattle.chain_links.specs.ChainArena.{on_value, LinkView, link_value, link_map, values_of, relinked, interlinks_of, CanConnect, IsLinkAt, ptr_at}
+use Rattle.chain_links.specs.ChainArena.{on_value, LinkView, link_value, link_map, values_of, with_link_map, interlinks_of, CanConnect, IsLinkAt, ptr_at}
 use Rattle.chain_links.proofs.MappedArenaLemmas.{IsValidPtr, entry_at-with_each, IsValidPtr-with_each}
 use Rattle.chain_links.proofs.LinkStateLemmas.{entry_at-links_view}
 use Rattle.chain_linking.specs.LinkWrites.{IsValidEnd, IsValidStart}
 use Rattle.chain_linking.proofs.NeighborLemmas.{valid_link}
-use Rattle.chain_linking.proofs.LinkWriteLemmas.{FitsLinks, link_map-relinked, values_of-relinked, relinked-again, relinked-own, FitsLinks-link_map, FitsLinks-next_set, FitsLinks-linked}
+use Rattle.chain_linking.proofs.LinkWriteLemmas.{FitsLinks, link_map-with_link_map, values_of-with_link_map, with_link_map-again, with_link_map-own, FitsLinks-link_map, FitsLinks-next_set, FitsLinks-linked}
 
 pub none_unless_some : {A : Type 0} (o : Option A) → is_some o ≡ false → o ≡ None
 none_unless_some None none = refl
@@ -72,17 +72,17 @@ module _ {Gen T : Type 0} where
   end_and_start : (a : Arena Gen (LinkView T)) (p q : ℕ × Gen) → CanConnect (entry_at (values_of a)) (link_map a) p q → AreEndAndStart (link_map a) p.0 q.0
   end_and_start a p q can = record { valid_end = valid_link a p can.first_valid; valid_start = valid_link a q can.second_valid; end = can.no_next; start = can.no_prev }
 
-  link_map-joined : (a : Arena Gen (LinkView T)) (i j : ℕ) → link_map (relinked a (with_join (link_map a) i j)) ≡ with_join (link_map a) i j
-  link_map-joined a i j = link_map-relinked a (with_join (link_map a) i j) (FitsLinks-linked a (Some i) (Some j))
+  link_map-joined : (a : Arena Gen (LinkView T)) (i j : ℕ) → link_map (with_link_map a (with_join (link_map a) i j)) ≡ with_join (link_map a) i j
+  link_map-joined a i j = link_map-with_link_map a (with_join (link_map a) i j) (FitsLinks-linked a (Some i) (Some j))
 
   -- The join of two links that may be joined.
-  module _ (a b : Arena Gen (LinkView T)) (p q : ℕ × Gen) (can : CanConnect (entry_at (values_of a)) (link_map a) p q) (is_joined : b ≡ relinked a (with_join (link_map a) p.0 q.0)) where
+  module _ (a b : Arena Gen (LinkView T)) (p q : ℕ × Gen) (can : CanConnect (entry_at (values_of a)) (link_map a) p q) (is_joined : b ≡ with_link_map a (with_join (link_map a) p.0 q.0)) where
     pub links : link_map b ≡ with_join (link_map a) p.0 q.0
     links = ap (λ (x : Arena Gen (LinkView T)). link_map x) is_joined ∙ link_map-joined a p.0 q.0
 
     -- Values are unchanged.
     pub joined-values : values_of b ≡ values_of a
-    joined-values = ap (λ (x : Arena Gen (LinkView T)). values_of x) is_joined ∙ values_of-relinked a (with_join (link_map a) p.0 q.0) (FitsLinks-linked a (Some p.0) (Some q.0))
+    joined-values = ap (λ (x : Arena Gen (LinkView T)). values_of x) is_joined ∙ values_of-with_link_map a (with_join (link_map a) p.0 q.0) (FitsLinks-linked a (Some p.0) (Some q.0))
 
     -- The interlinks stay consistent.
     pub joined-agrees : IsWellLinked (link_map a) → IsWellLinked (link_map b)
@@ -117,7 +117,7 @@ prev_kept true (Some l) v = refl
 prev_kept false l v = refl
 
 -- p names q, before q is checked.
-module _ {Gen T : Type 0} (a b : Arena Gen (LinkView T)) (p q : ℕ × Gen) (named : b ≡ relinked a (next_set (link_map a) (Some p.0) (Some q.0))) where
+module _ {Gen T : Type 0} (a b : Arena Gen (LinkView T)) (p q : ℕ × Gen) (named : b ≡ with_link_map a (next_set (link_map a) (Some p.0) (Some q.0))) where
   abbrev names : LinkMap
   names = next_set (link_map a) (Some p.0) (Some q.0)
 
@@ -125,10 +125,10 @@ module _ {Gen T : Type 0} (a b : Arena Gen (LinkView T)) (p q : ℕ × Gen) (nam
   fits = FitsLinks-next_set a (link_map a) (Some p.0) (Some q.0) (FitsLinks-link_map a)
 
   reports_names : link_map b ≡ names
-  reports_names = ap (λ (x : Arena Gen (LinkView T)). link_map x) named ∙ link_map-relinked a names fits
+  reports_names = ap (λ (x : Arena Gen (LinkView T)). link_map x) named ∙ link_map-with_link_map a names fits
 
   same_values : values_of b ≡ values_of a
-  same_values = ap (λ (x : Arena Gen (LinkView T)). values_of x) named ∙ values_of-relinked a names fits
+  same_values = ap (λ (x : Arena Gen (LinkView T)). values_of x) named ∙ values_of-with_link_map a names fits
 
   same_prev : prev_of (link_map b) q.0 ≡ prev_of (link_map a) q.0
   same_prev = ap (λ (m : LinkMap). prev_of m q.0) reports_names ∙ prev_kept (q.0 == p.0) (link_map a q.0) (Some q.0)
@@ -147,12 +147,12 @@ module _ {Gen T : Type 0} (a b : Arena Gen (LinkView T)) (p q : ℕ × Gen) (nam
   named_may_not fails can = fails (record { valid = subst (λ (v : Arena Gen T). IsValidPtr v q) (sym same_values) can.second_valid; start = same_prev ∙ can.no_prev })
 
   -- Clearing `next` of p again restores the arena.
-  pub taken_back : (c : Arena Gen (LinkView T)) → next_of (link_map a) p.0 ≡ None → c ≡ relinked b (next_set (link_map b) (Some p.0) None) → c ≡ a
+  pub taken_back : (c : Arena Gen (LinkView T)) → next_of (link_map a) p.0 ≡ None → c ≡ with_link_map b (next_set (link_map b) (Some p.0) None) → c ≡ a
   taken_back c none back =
-      back ∙ (ap (λ (m : LinkMap). relinked b (next_set m (Some p.0) None)) reports_names
-      ∙ (ap (λ (x : Arena Gen (LinkView T)). relinked x (next_set names (Some p.0) None)) named
-      ∙ (relinked-again a names (next_set names (Some p.0) None) fits
-      ∙ (ap (relinked a) (undone (link_map a) p.0 (Some q.0) none) ∙ sym (relinked-own a)))))
+      back ∙ (ap (λ (m : LinkMap). with_link_map b (next_set m (Some p.0) None)) reports_names
+      ∙ (ap (λ (x : Arena Gen (LinkView T)). with_link_map x (next_set names (Some p.0) None)) named
+      ∙ (with_link_map-again a names (next_set names (Some p.0) None) fits
+      ∙ (ap (with_link_map a) (undone (link_map a) p.0 (Some q.0) none) ∙ sym (with_link_map-own a)))))
 
 module _ {Gen K T : Type 0} (number : K → Option ℕ) where
   -- The value of the link at an index.

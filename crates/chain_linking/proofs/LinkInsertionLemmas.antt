@@ -16,22 +16,22 @@ use Rattle.arena_base.specs.Arena.{Arena, entry_at, next_index, insert_next, IsL
 use Rattle.chain_linking.specs.declared.insert_position.InsertPosition.{InsertPosition}
 use Rattle.chain_linking.specs.declared.insert_position.InsertPosition.TheVariants.{Itself, Between}
 use Rattle.chain_linking.specs.InsertPositions.{before_in, after_in, named_before, named_after}
-use Rattle.chain_links.specs.ChainArena.{LinkView, lone, new_link, named_by, insert_lone, insert_between, link_map, relink, relinked, interlinks_of}
+use Rattle.chain_links.specs.ChainArena.{LinkView, lone, new_link, named_by, insert_lone, insert_between, link_map, relink, with_link_map, interlinks_of}
 use Rattle.chain_links.proofs.LinkStateLemmas.{is_relinked}
 use Rattle.chain_linking.proofs.NeighborLemmas.{if_each}
 use Rattle.chain_links.proofs.ArenaInsertionLemmas.{link_map-next, AreFree, slot_at-filled, length-filled, link_map-insert_lone, listed-links_view, links_view-insert_next, next_index-links_view}
-use Rattle.chain_linking.proofs.LinkWriteLemmas.{relink-own, FitsLinks, FitsLinks-link_map, FitsLinks-next_set, link_map-relinked, relinked-again}
+use Rattle.chain_linking.proofs.LinkWriteLemmas.{relink-own, FitsLinks, FitsLinks-link_map, FitsLinks-next_set, link_map-with_link_map, with_link_map-again}
 use Rattle.chain_links.proofs.MappedArenaLemmas.{is_some-map}
 
 module _ {Gen T : Type 0} where
   -- Two writes make u and v name q.
-  pub named_by_writes : (a b c : Arena Gen (LinkView T)) (u v : Option ℕ) (q : ℕ) → b ≡ relinked a (next_set (link_map a) u (Some q)) → c ≡ relinked b (prev_set (link_map b) v (Some q)) → c ≡ named_by a u v q
+  pub named_by_writes : (a b c : Arena Gen (LinkView T)) (u v : Option ℕ) (q : ℕ) → b ≡ with_link_map a (next_set (link_map a) u (Some q)) → c ≡ with_link_map b (prev_set (link_map b) v (Some q)) → c ≡ named_by a u v q
   named_by_writes a b c u v q first second =
       let followed = next_set (link_map a) u (Some q) in
       let fits : FitsLinks followed a = FitsLinks-next_set a (link_map a) u (Some q) (FitsLinks-link_map a) in
-      second ∙ (ap (λ (x : Arena Gen (LinkView T)). relinked x (prev_set (link_map x) v (Some q))) first
-      ∙ (ap (λ (m : LinkMap). relinked (relinked a followed) (prev_set m v (Some q))) (link_map-relinked a followed fits)
-      ∙ relinked-again a followed (prev_set followed v (Some q)) fits))
+      second ∙ (ap (λ (x : Arena Gen (LinkView T)). with_link_map x (prev_set (link_map x) v (Some q))) first
+      ∙ (ap (λ (m : LinkMap). with_link_map (with_link_map a followed) (prev_set m v (Some q))) (link_map-with_link_map a followed fits)
+      ∙ with_link_map-again a followed (prev_set followed v (Some q)) fits))
 
 module _ {Gen T : Type 0} (a : Arena Gen (LinkView T)) (free : AreFree a.slots a.freed) (t : T) where
   -- A link that names others is a lone link with interlinks written, at each index.
@@ -40,7 +40,7 @@ module _ {Gen T : Type 0} (a : Arena Gen (LinkView T)) (free : AreFree a.slots a
   named_at true u v e = refl
   named_at false u v e = relink-own e
 
-  inserted_named : (u v : Option ℕ) → insert_next a (new_link t u v) ≡ relinked (insert_lone a t) (with_link (link_map a) (next_index a) u v)
+  inserted_named : (u v : Option ℕ) → insert_next a (new_link t u v) ≡ with_link_map (insert_lone a t) (with_link (link_map a) (next_index a) u v)
   inserted_named u v = is_relinked (insert_lone a t) (insert_next a (new_link t u v)) (with_link (link_map a) (next_index a) u v)
       (length-filled a.freed a.slots (a.counter, new_link t u v) ∙ sym (length-filled a.freed a.slots (a.counter, lone t))) refl
       (λ i. slot_at-filled a.freed a.slots (a.counter, new_link t u v) i free
@@ -61,15 +61,15 @@ module _ {Gen T : Type 0} (a : Arena Gen (LinkView T)) (free : AreFree a.slots a
       let named = with_link (link_map a) q u v in
       let fits : FitsLinks named base = FitsLinks-with_link u v in
       ap (λ (x : Arena Gen (LinkView T)). named_by x u v q) (inserted_named u v)
-      ∙ (ap (λ (m : LinkMap). relinked (relinked base named) (prev_set (next_set m u (Some q)) v (Some q))) (link_map-relinked base named fits)
-      ∙ (relinked-again base named (prev_set (next_set named u (Some q)) v (Some q)) fits ∙ ap (relinked base) (inserted_by_writes (link_map a) q u v itself)))
+      ∙ (ap (λ (m : LinkMap). with_link_map (with_link_map base named) (prev_set (next_set m u (Some q)) v (Some q))) (link_map-with_link_map base named fits)
+      ∙ (with_link_map-again base named (prev_set (next_set named u (Some q)) v (Some q)) fits ∙ ap (with_link_map base) (inserted_by_writes (link_map a) q u v itself)))
 
   -- A lone link that is then named by itself is a ring.
   pub ringed : named_by (insert_lone a t) (Some (next_index a)) (Some (next_index a)) (next_index a) ≡ insert_between a t (Some (next_index a)) (Some (next_index a))
   ringed =
       let q = next_index a in
-      ap (λ (m : LinkMap). relinked (insert_lone a t) (with_neighbors m (Some q) (Some q))) (link_map-insert_lone a t free)
-      ∙ ap (relinked (insert_lone a t)) (ringed_by_writes (link_map a) q)
+      ap (λ (m : LinkMap). with_link_map (insert_lone a t) (with_neighbors m (Some q) (Some q))) (link_map-insert_lone a t free)
+      ∙ ap (with_link_map (insert_lone a t)) (ringed_by_writes (link_map a) q)
 
   -- A new link that the links of its position name is inserted there.
   pub placed_in : {I : Type 0} (number : I → ℕ) (position : InsertPosition I) → (before_in number position (next_index a) ≡ Some (next_index a) → after_in number position (next_index a) ≡ Some (next_index a))

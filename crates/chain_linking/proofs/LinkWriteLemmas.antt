@@ -11,9 +11,9 @@ use Rattle.chain_laws.proofs.InterlinkLemmas.Inverses.{if_same, if_other, one_so
 use Rattle.chain_links.specs.declared.links.LinkBody.{LinkBody}
 use Rattle.chain_links.specs.Links.{link_view, pair_view, links_view}
 use Rattle.arena_base.specs.Arena.{Arena, entry_at, with_value}
-use Rattle.chain_links.specs.ChainArena.{on_value, link_value, values_of, LinkView, link_map, relink, relinked, interlinks_of, interlinks_in, with_interlinks}
+use Rattle.chain_links.specs.ChainArena.{on_value, link_value, values_of, LinkView, link_map, relink, with_link_map, interlinks_of, interlinks_in, with_interlinks}
 use Rattle.chain_links.proofs.MappedArenaLemmas.{is_some-map, entry_at-with_each, length-with_each}
-use Rattle.chain_links.proofs.LinkStateLemmas.{is_relinked, entry_at-relinked, entry_at-with_value, entry_at-links_view, length-with_value, length-links_view, length-relinked}
+use Rattle.chain_links.proofs.LinkStateLemmas.{is_relinked, entry_at-with_link_map, entry_at-with_value, entry_at-links_view, length-with_value, length-links_view, length-with_link_map}
 
 is_some-if : (b : Bool) (change : Interlinks → Interlinks) (l : Option Interlinks) → is_some (if b then option_map change l else l) ≡ is_some l
 is_some-if true change l = is_some-map change l
@@ -26,8 +26,8 @@ module _ {Gen T : Type 0} where
   relink-own (Some e) = refl
 
   -- An arena with its own interlinks is itself.
-  pub relinked-own : (a : Arena Gen (LinkView T)) → a ≡ relinked a (link_map a)
-  relinked-own a = is_relinked a a (link_map a) refl refl (λ i. relink-own (entry_at a i))
+  pub with_link_map-own : (a : Arena Gen (LinkView T)) → a ≡ with_link_map a (link_map a)
+  with_link_map-own a = is_relinked a a (link_map a) refl refl (λ i. relink-own (entry_at a i))
 
   -- Interlinks for exactly the links of the arena.
   abbrev pub FitsLinks : LinkMap → Arena Gen (LinkView T) → Type 0
@@ -46,14 +46,14 @@ module _ {Gen T : Type 0} where
   relink-again (Some l) (Some m) (Some e) same = refl
 
   -- The link map is the interlinks that were written.
-  pub link_map-relinked : (a : Arena Gen (LinkView T)) (interlinks : LinkMap) → FitsLinks interlinks a → link_map (relinked a interlinks) ≡ interlinks
-  link_map-relinked a interlinks fits = fun_ext (λ i. ap (option_map interlinks_of) (entry_at-relinked a interlinks i) ∙ interlinks-relink (interlinks i) (entry_at a i) (fits i))
+  pub link_map-with_link_map : (a : Arena Gen (LinkView T)) (interlinks : LinkMap) → FitsLinks interlinks a → link_map (with_link_map a interlinks) ≡ interlinks
+  link_map-with_link_map a interlinks fits = fun_ext (λ i. ap (option_map interlinks_of) (entry_at-with_link_map a interlinks i) ∙ interlinks-relink (interlinks i) (entry_at a i) (fits i))
 
   -- Of two writes of all interlinks the second counts.
-  pub relinked-again : (a : Arena Gen (LinkView T)) (first second : LinkMap) → FitsLinks first a → relinked (relinked a first) second ≡ relinked a second
-  relinked-again a first second fits = is_relinked a (relinked (relinked a first) second) second
-      (length-relinked (relinked a first) second ∙ length-relinked a first) refl
-      (λ i. entry_at-relinked (relinked a first) second i ∙ (ap (relink (second i)) (entry_at-relinked a first i) ∙ relink-again (first i) (second i) (entry_at a i) (fits i)))
+  pub with_link_map-again : (a : Arena Gen (LinkView T)) (first second : LinkMap) → FitsLinks first a → with_link_map (with_link_map a first) second ≡ with_link_map a second
+  with_link_map-again a first second fits = is_relinked a (with_link_map (with_link_map a first) second) second
+      (length-with_link_map (with_link_map a first) second ∙ length-with_link_map a first) refl
+      (λ i. entry_at-with_link_map (with_link_map a first) second i ∙ (ap (relink (second i)) (entry_at-with_link_map a first i) ∙ relink-again (first i) (second i) (entry_at a i) (fits i)))
 
   pub FitsLinks-link_map : (a : Arena Gen (LinkView T)) → FitsLinks (link_map a) a
   FitsLinks-link_map a i = is_some-map interlinks_of (entry_at a i)
@@ -72,36 +72,36 @@ module _ {Gen T : Type 0} where
   value-relink (Some l) (Some e) same = refl
 
   -- Values are unchanged.
-  pub values_of-relinked : (a : Arena Gen (LinkView T)) (interlinks : LinkMap) → FitsLinks interlinks a → values_of (relinked a interlinks) ≡ values_of a
-  values_of-relinked a interlinks fits =
+  pub values_of-with_link_map : (a : Arena Gen (LinkView T)) (interlinks : LinkMap) → FitsLinks interlinks a → values_of (with_link_map a interlinks) ≡ values_of a
+  values_of-with_link_map a interlinks fits =
       ap (λ (slots : List (Option (Gen × T))). let b : Arena Gen T = record (values_of a) { slots = slots } in b)
-      (ext_get_or None (values_of (relinked a interlinks)).slots (values_of a).slots
-      (length-with_each link_value (relinked a interlinks) ∙ (length-relinked a interlinks ∙ sym (length-with_each link_value a)))
-      (λ k inside. entry_at-with_each link_value (relinked a interlinks) (suc k)
-      ∙ (ap (option_map (on_value link_value)) (entry_at-relinked a interlinks (suc k))
+      (ext_get_or None (values_of (with_link_map a interlinks)).slots (values_of a).slots
+      (length-with_each link_value (with_link_map a interlinks) ∙ (length-with_link_map a interlinks ∙ sym (length-with_each link_value a)))
+      (λ k inside. entry_at-with_each link_value (with_link_map a interlinks) (suc k)
+      ∙ (ap (option_map (on_value link_value)) (entry_at-with_link_map a interlinks (suc k))
       ∙ (value-relink (interlinks (suc k)) (entry_at a (suc k)) (fits (suc k)) ∙ sym (entry_at-with_each link_value a (suc k))))))
 
   pub FitsLinks-linked : (a : Arena Gen (LinkView T)) (u v : Option ℕ) → FitsLinks (with_neighbors (link_map a) u v) a
   FitsLinks-linked a u v = FitsLinks-prev_set a (next_set (link_map a) u v) v u (FitsLinks-next_set a (link_map a) u v (FitsLinks-link_map a))
 
   -- Writes to `next` and `prev` link a pair.
-  pub linked_by_writes : (a b c : Arena Gen (LinkView T)) (u v : Option ℕ) → b ≡ relinked a (next_set (link_map a) u v) → c ≡ relinked b (prev_set (link_map b) v u)
-      → c ≡ relinked a (with_neighbors (link_map a) u v)
+  pub linked_by_writes : (a b c : Arena Gen (LinkView T)) (u v : Option ℕ) → b ≡ with_link_map a (next_set (link_map a) u v) → c ≡ with_link_map b (prev_set (link_map b) v u)
+      → c ≡ with_link_map a (with_neighbors (link_map a) u v)
   linked_by_writes a b c u v first second =
       let fits = FitsLinks-next_set a (link_map a) u v (FitsLinks-link_map a) in
       second
-      ∙ (ap (λ (x : Arena Gen (LinkView T)). relinked x (prev_set (link_map x) v u)) first
-      ∙ (ap (λ (m : LinkMap). relinked (relinked a (next_set (link_map a) u v)) (prev_set m v u)) (link_map-relinked a (next_set (link_map a) u v) fits)
-      ∙ relinked-again a (next_set (link_map a) u v) (with_neighbors (link_map a) u v) fits))
+      ∙ (ap (λ (x : Arena Gen (LinkView T)). with_link_map x (prev_set (link_map x) v u)) first
+      ∙ (ap (λ (m : LinkMap). with_link_map (with_link_map a (next_set (link_map a) u v)) (prev_set m v u)) (link_map-with_link_map a (next_set (link_map a) u v) fits)
+      ∙ with_link_map-again a (next_set (link_map a) u v) (with_neighbors (link_map a) u v) fits))
 
   -- Two pairs are linked one after another.
-  pub linked_twice : (a b c : Arena Gen (LinkView T)) (u v w x : Option ℕ) → b ≡ relinked a (with_neighbors (link_map a) u v) → c ≡ relinked b (with_neighbors (link_map b) w x)
-      → c ≡ relinked a (with_neighbors (with_neighbors (link_map a) u v) w x)
+  pub linked_twice : (a b c : Arena Gen (LinkView T)) (u v w x : Option ℕ) → b ≡ with_link_map a (with_neighbors (link_map a) u v) → c ≡ with_link_map b (with_neighbors (link_map b) w x)
+      → c ≡ with_link_map a (with_neighbors (with_neighbors (link_map a) u v) w x)
   linked_twice a b c u v w x first second =
       let one : LinkMap = with_neighbors (link_map a) u v in
       let fits : FitsLinks one a = FitsLinks-linked a u v in
-      second ∙ (ap (λ (y : Arena Gen (LinkView T)). relinked y (with_neighbors (link_map y) w x)) first
-      ∙ (ap (λ (m : LinkMap). relinked (relinked a one) (with_neighbors m w x)) (link_map-relinked a one fits) ∙ relinked-again a one (with_neighbors one w x) fits))
+      second ∙ (ap (λ (y : Arena Gen (LinkView T)). with_link_map y (with_neighbors (link_map y) w x)) first
+      ∙ (ap (λ (m : LinkMap). with_link_map (with_link_map a one) (with_neighbors m w x)) (link_map-with_link_map a one fits) ∙ with_link_map-again a one (with_neighbors one w x) fits))
 
   pub FitsLinks-twice : (a : Arena Gen (LinkView T)) (u v w x : Option ℕ) → FitsLinks (with_neighbors (with_neighbors (link_map a) u v) w x) a
   FitsLinks-twice a u v w x = FitsLinks-prev_set a (next_set (with_neighbors (link_map a) u v) w x) x w (FitsLinks-next_set a (with_neighbors (link_map a) u v) w x (FitsLinks-linked a u v))
@@ -123,7 +123,7 @@ module _ {Gen K T : Type 0} (number : K → Option ℕ) where
   pub links_view-write : (a : Arena Gen (LinkBody K T)) (n : ℕ) (link : LinkBody K T) (write : LinkBody K T → LinkBody K T) (change : Interlinks → Interlinks) (interlinks : LinkMap) → IsWrite number write change
       → option_map (λ (e : Gen × LinkBody K T). e.1) (entry_at a n) ≡ Some link
       → ((i : ℕ) → interlinks i ≡ (if i == n then option_map change (link_map (links_view number a) i) else link_map (links_view number a) i))
-      → links_view number (with_value a n (write link)) ≡ relinked (links_view number a) interlinks
+      → links_view number (with_value a n (write link)) ≡ with_link_map (links_view number a) interlinks
   links_view-write a n link write change interlinks is stored are =
       let view_after = links_view number a in
       let w = write link in

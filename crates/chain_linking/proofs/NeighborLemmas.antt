@@ -10,11 +10,11 @@ use Rattle.chain_laws.proofs.RemovalLemmas.Pairs.{HasLink-vacated}
 use Rattle.chain_laws.proofs.ChainLemmas.LinkedLists.{next_valid, prev_valid, reports_valid}
 use Rattle.chain_links.specs.declared.links.LinkBody.{LinkBody}
 use Rattle.chain_links.specs.Links.{links_view, pair_view}
-use Rattle.chain_links.specs.ChainArena.{LinkView, entry, link_map, relinked, interlinks_of}
+use Rattle.chain_links.specs.ChainArena.{LinkView, entry, link_map, with_link_map, interlinks_of}
 use Rattle.chain_links.proofs.LinkStateLemmas.{entry_at-links_view, no_entry}
 use Rattle.arena_base.specs.Arena.{Arena, entry_at, IsValid}
 use Rattle.chain_linking.specs.ChainArenaLaws.{links_exist}
-use Rattle.chain_linking.proofs.LinkWriteLemmas.{FitsLinks, FitsLinks-link_map, link_map-relinked}
+use Rattle.chain_linking.proofs.LinkWriteLemmas.{FitsLinks, FitsLinks-link_map, link_map-with_link_map}
 
 -- `IfSome` by cases of the option.
 pub if_each : {A : Type 0} (o : Option A) (P : A → Type 0) → ((x : A) → o ≡ Some x → P x) → IfSome o P
@@ -48,11 +48,11 @@ module _ {Gen T : Type 0} where
   valid_link a p valid = link_where (link_map a) p.0 (links_exist a p.0 ∙ ap is_some valid.stored)
 
   -- A write of interlinks removes no link.
-  pub still_named : (a b : Arena Gen (LinkView T)) (interlinks : LinkMap) (i : Option ℕ) → FitsLinks interlinks a → b ≡ relinked a interlinks → IfSome i (HasLink (link_map a)) → IfSome i (HasLink (link_map b))
+  pub still_named : (a b : Arena Gen (LinkView T)) (interlinks : LinkMap) (i : Option ℕ) → FitsLinks interlinks a → b ≡ with_link_map a interlinks → IfSome i (HasLink (link_map a)) → IfSome i (HasLink (link_map b))
   still_named a b interlinks None fits is stored = tt
   still_named a b interlinks (Some i) fits is stored = link_where (link_map b) i
       (ap (λ (x : Arena Gen (LinkView T)). is_some (link_map x i)) is
-      ∙ (ap (λ (m : LinkMap). is_some (m i)) (link_map-relinked a interlinks fits) ∙ (fits i ∙ (sym (FitsLinks-link_map a i) ∙ ap is_some stored.links))))
+      ∙ (ap (λ (m : LinkMap). is_some (m i)) (link_map-with_link_map a interlinks fits) ∙ (fits i ∙ (sym (FitsLinks-link_map a i) ∙ ap is_some stored.links))))
 
 module _ {Gen K T : Type 0} (number : K → Option ℕ) where
   -- An index without an entry has no link.

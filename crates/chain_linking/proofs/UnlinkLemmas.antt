@@ -14,14 +14,14 @@ use Rattle.chain_laws.proofs.RemovalLemmas.Chains.{removed_removes}
 use Rattle.arena_base.specs.Arena.{Arena, entry_at, remove_at, renewed_at}
 use Rattle.arena_base.specs.Entries.{view_of}
 use Rattle.arena_base.specs.Entries.{entry_removed}
-use Rattle.chain_links.specs.ChainArena.{on_value, LinkView, link_value, with_link_value, link_map, relinked, interlinks_of, values_of, with_value_at, remove_link}
+use Rattle.chain_links.specs.ChainArena.{on_value, LinkView, link_value, with_link_value, link_map, with_link_map, interlinks_of, values_of, with_value_at, remove_link}
 use Rattle.arena_base.proofs.ArenaViewLemmas as seeing
 use Rattle.chain_links.proofs.ArenaInsertionLemmas.{map-if}
 use Rattle.chain_links.proofs.MappedArenaLemmas.{with_each-remove_at}
 use Rattle.chain_links.proofs.LinkStateLemmas.{slot_at-changed}
 use Rattle.chain_linking.specs.LinkWrites.{WereBeside}
 use Rattle.chain_linking.proofs.NeighborLemmas.{apart_named, next_named, prev_named}
-use Rattle.chain_linking.proofs.LinkWriteLemmas.{FitsLinks, FitsLinks-linked, relinked-own, link_map-relinked, values_of-relinked}
+use Rattle.chain_linking.proofs.LinkWriteLemmas.{FitsLinks, FitsLinks-linked, with_link_map-own, link_map-with_link_map, values_of-with_link_map}
 
 same_if : {X : Type 0} (b : Bool) (x y : X) → x ≡ y → (if b then x else y) ≡ y
 same_if true x y same = same
@@ -69,7 +69,7 @@ module _ {Gen T : Type 0} where
 
   -- A removal bypasses the index.
   pub link_map-remove_link : (following : Gen → Gen) (a : Arena Gen (LinkView T)) (i : ℕ) → link_map (remove_link following a i) ≡ with_removal (link_map a) i
-  link_map-remove_link following a i = link_map-relinked (remove_at following a i) (with_removal (link_map a) i) (fits-removed following a i)
+  link_map-remove_link following a i = link_map-with_link_map (remove_at following a i) (with_removal (link_map a) i) (fits-removed following a i)
 
   pub passes_over : (following : Gen → Gen) (a b : Arena Gen (LinkView T)) (i : ℕ) → b ≡ remove_link following a i → link_map b ≡ with_removal (link_map a) i
   passes_over following a b i gone = ap (λ (x : Arena Gen (LinkView T)). link_map x) gone ∙ link_map-remove_link following a i
@@ -90,7 +90,7 @@ module _ {Gen T : Type 0} where
 
   -- The values at other indexes are unchanged.
   pub values_of-remove_link : (following : Gen → Gen) (a : Arena Gen (LinkView T)) (i : ℕ) → values_of (remove_link following a i) ≡ remove_at following (values_of a) i
-  values_of-remove_link following a i = values_of-relinked (remove_at following a i) (with_removal (link_map a) i) (fits-removed following a i) ∙ with_each-remove_at link_value following a i
+  values_of-remove_link following a i = values_of-with_link_map (remove_at following a i) (with_removal (link_map a) i) (fits-removed following a i) ∙ with_each-remove_at link_value following a i
 
   pub view_after-removed : (following : Gen → Gen) (a b : Arena Gen (LinkView T)) (i : ℕ) → b ≡ remove_link following a i → view_of (values_of b) ≡ entry_removed following (view_of (values_of a)) i
   view_after-removed following a b i gone =
@@ -98,12 +98,12 @@ module _ {Gen T : Type 0} where
 
   -- The steps of a removal.
   pub removal_by_steps : (following : Gen → Gen) (a out b : Arena Gen (LinkView T)) (i : ℕ) (u v : Option ℕ) → out ≡ remove_at following a i
-      → b ≡ relinked out (with_neighbors (link_map out) u v) → u ≡ prev_of (link_map a) i → v ≡ next_of (link_map a) i → b ≡ remove_link following a i
+      → b ≡ with_link_map out (with_neighbors (link_map out) u v) → u ≡ prev_of (link_map a) i → v ≡ next_of (link_map a) i → b ≡ remove_link following a i
   removal_by_steps following a out b i u v taken joined before after =
       joined
-      ∙ (ap (λ (x : Arena Gen (LinkView T)). relinked x (with_neighbors (link_map x) u v)) taken
-      ∙ (ap (λ (s : LinkMap). relinked (remove_at following a i) (with_neighbors s u v)) (link_map-remove_at following a i)
-      ∙ ap₂ (λ (s t : Option ℕ). relinked (remove_at following a i) (with_neighbors (without_link (link_map a) i) s t)) before after))
+      ∙ (ap (λ (x : Arena Gen (LinkView T)). with_link_map x (with_neighbors (link_map x) u v)) taken
+      ∙ (ap (λ (s : LinkMap). with_link_map (remove_at following a i) (with_neighbors s u v)) (link_map-remove_at following a i)
+      ∙ ap₂ (λ (s t : Option ℕ). with_link_map (remove_at following a i) (with_neighbors (without_link (link_map a) i) s t)) before after))
 
   -- The former neighbors of a removed link.
   pub were_beside : (following : Gen → Gen) (a out : Arena Gen (LinkView T)) (i : ℕ) (u v : Option ℕ) → out ≡ remove_at following a i → IsWellLinked (link_map a)
@@ -118,5 +118,5 @@ module _ {Gen T : Type 0} where
       }
 
   -- A link alone in a ring is removed without a write.
-  pub ring_gone : (a : Arena Gen (LinkView T)) (i : ℕ) (u v : Option ℕ) → WereBeside (link_map a) i u v → u ≡ Some i → a ≡ relinked a (with_neighbors (link_map a) u v)
-  ring_gone a i u v were same = relinked-own a ∙ ap (relinked a) (sym (linked_nowhere (link_map a) i were.gone) ∙ ap₂ (λ (x y : Option ℕ). with_neighbors (link_map a) x y) (sym same) (sym (were.ring same)))
+  pub ring_gone : (a : Arena Gen (LinkView T)) (i : ℕ) (u v : Option ℕ) → WereBeside (link_map a) i u v → u ≡ Some i → a ≡ with_link_map a (with_neighbors (link_map a) u v)
+  ring_gone a i u v were same = with_link_map-own a ∙ ap (with_link_map a) (sym (linked_nowhere (link_map a) i were.gone) ∙ ap₂ (λ (x y : Option ℕ). with_neighbors (link_map a) x y) (sym same) (sym (were.ring same)))

@@ -44,7 +44,7 @@ pub fn next_of<P: PtrKey, T: Drop, S: SlotStack<Item = ArenaSlot<P, LinkNoGen<P,
     arena: &Arena<P, LinkNoGen<P, T>, S>,
     name: Name<P, P::Inx>,
 ) -> Option<P::Inx>
-    ensures named { IsNextOf P.Inx.number (links_view P.Inx.packed_number arena.now)
+    ensures neighbor { IsNextOf P.Inx.number (links_view P.Inx.packed_number arena.now)
         (name_of P.key P.Inx.number name) result }
     ensures some { IsSome result → HasName (entry (links_view P.Inx.packed_number arena.now))
         (name_of P.key P.Inx.number name) }
@@ -60,7 +60,7 @@ pub fn prev_of<P: PtrKey, T: Drop, S: SlotStack<Item = ArenaSlot<P, LinkNoGen<P,
     arena: &Arena<P, LinkNoGen<P, T>, S>,
     name: Name<P, P::Inx>,
 ) -> Option<P::Inx>
-    ensures named { IsPrevOf P.Inx.number (links_view P.Inx.packed_number arena.now)
+    ensures neighbor { IsPrevOf P.Inx.number (links_view P.Inx.packed_number arena.now)
         (name_of P.key P.Inx.number name) result }
     ensures some { IsSome result → HasName (entry (links_view P.Inx.packed_number arena.now))
         (name_of P.key P.Inx.number name) }
@@ -171,7 +171,7 @@ fn between<P: PtrKey, T: Drop, S: SlotStack<Item = ArenaSlot<P, LinkNoGen<P, T>>
 }
 
 // Returns the position after `a` and before `b`, if they are an end and a start of chains.
-fn bridging<P: PtrKey, T: Drop, S: SlotStack<Item = ArenaSlot<P, LinkNoGen<P, T>>>>(
+fn bridge_position<P: PtrKey, T: Drop, S: SlotStack<Item = ArenaSlot<P, LinkNoGen<P, T>>>>(
     arena: &Arena<P, LinkNoGen<P, T>, S>,
     a: Name<P, P::Inx>,
     b: Name<P, P::Inx>,
@@ -205,6 +205,6 @@ pub fn position_of_kind<P: PtrKey, T: Drop, S: SlotStack<Item = ArenaSlot<P, Lin
         NamedKind::NextTo(a) => after(arena, a),
         NamedKind::PrevTo(b) => before(arena, b),
         NamedKind::AtInterlink(a, b) => between(arena, a, b),
-        NamedKind::Bridge(a, b) => bridging(arena, a, b),
+        NamedKind::Bridge(a, b) => bridge_position(arena, a, b),
     }
 }

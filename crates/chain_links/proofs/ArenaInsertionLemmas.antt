@@ -9,7 +9,7 @@ use Rattle.chain_laws.specs.Joins.{with_lone}
 use Rattle.chain_laws.proofs.InterlinkLemmas.Inverses.{if_same, if_other}
 use Rattle.chain_links.specs.declared.links.LinkBody.{LinkBody}
 use Rattle.chain_links.specs.Links.{link_view, links_view}
-use Rattle.arena_base.specs.Arena.{Arena, slot_at, with_slot, filled, first_or_next, IsMember, IsListed, entry_at, entry_count, next_index, insert_next, with_capacity_of}
+use Rattle.arena_base.specs.Arena.{Arena, slot_at, with_slot, slots_after_insertion, first_or_next, IsMember, IsListed, entry_at, entry_count, next_index, insert_next, with_capacity_of}
 use Rattle.chain_links.specs.ChainArena.{LinkView, link_value, values_of, link_map, IsInserted, interlinks_of, lone, insert_lone}
 use Rattle.arena_base.specs.Entries.{entries, count_with_next}
 use Rattle.arena_base.proofs.ArenaViewLemmas.{length-entries}
@@ -65,14 +65,14 @@ AreFree slots freed = (i : ℕ) → IsMember freed i → (slot_at slots i ≡ No
 
 -- The slot at each index after an insertion.
 pub slot_at-filled : {X : Type 0} (freed : List ℕ) (slots : List (Option X)) (x : X) (j : ℕ) → AreFree slots freed
-    → slot_at (filled freed slots x) j ≡ (if j == first_or_next freed (length slots) then Some x else slot_at slots j)
+    → slot_at (slots_after_insertion freed slots x) j ≡ (if j == first_or_next freed (length slots) then Some x else slot_at slots j)
 slot_at-filled [] slots x zero free = sym (if_other 0 (length slots + 1) _ _ (λ is. absurd (omega (arith, is))))
 slot_at-filled [] slots x (suc k) free = slice_index_or-append slots (Some x) k
     ∙ (if_suc k (length slots) _ _ ∙ ap (λ q. if suc k == q then Some x else slice_index_or slots k None) (let same : suc (length slots) ≡ length slots + 1 = omega arith in same))
 slot_at-filled (i ∷ freed) slots x j free = let here = free i (inl refl) in slot_at-written slots i j (Some x) here.1 here.2
 
 -- The number of slots after an insertion.
-pub length-filled : {X : Type 0} (freed : List ℕ) (slots : List (Option X)) (x : X) → length (filled freed slots x) ≡ count_with_next freed (length slots)
+pub length-filled : {X : Type 0} (freed : List ℕ) (slots : List (Option X)) (x : X) → length (slots_after_insertion freed slots x) ≡ count_with_next freed (length slots)
 length-filled [] slots x = length-append slots (Some x ∷ [])
 length-filled (i ∷ freed) slots x = length-with_slot slots i (Some x)
 

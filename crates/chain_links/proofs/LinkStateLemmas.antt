@@ -11,7 +11,7 @@ use Rattle.chain_links.proofs.MappedArenaLemmas.{entry_at-with_each, length-with
 use Rattle.chain_links.specs.declared.links.LinkBody.{LinkBody}
 use Rattle.chain_links.specs.Links.{link_view, pair_view, links_view}
 use Rattle.arena_base.specs.Arena.{Arena, slot_at, with_slot, entry_at, with_value}
-use Rattle.chain_links.specs.ChainArena.{LinkView, relink, relink_from, relinked}
+use Rattle.chain_links.specs.ChainArena.{LinkView, relink, relink_from, with_link_map}
 
 -- Numbers are equal exactly if their successors are.
 pub if_suc : {A : Type 0} (j k : ℕ) (x y : A) → (if j == k then x else y) ≡ (if suc j == suc k then x else y)
@@ -55,24 +55,24 @@ module _ {Gen T : Type 0} where
   slice_index_or-relink_from interlinks k x (suc j) (e ∷ slots) at = slice_index_or-relink_from interlinks (suc k) x j slots (omega (arith, at))
 
   -- The entries of an arena with other interlinks.
-  pub entry_at-relinked : (a : Arena Gen (LinkView T)) (interlinks : LinkMap) (i : ℕ) → entry_at (relinked a interlinks) i ≡ relink (interlinks i) (entry_at a i)
-  entry_at-relinked a interlinks zero = refl
-  entry_at-relinked a interlinks (suc j) = slice_index_or-relink_from interlinks 1 (suc j) j a.slots (omega arith)
+  pub entry_at-with_link_map : (a : Arena Gen (LinkView T)) (interlinks : LinkMap) (i : ℕ) → entry_at (with_link_map a interlinks) i ≡ relink (interlinks i) (entry_at a i)
+  entry_at-with_link_map a interlinks zero = refl
+  entry_at-with_link_map a interlinks (suc j) = slice_index_or-relink_from interlinks 1 (suc j) j a.slots (omega arith)
 
   length-relink_from : (interlinks : LinkMap) (k : ℕ) (slots : List (Option (Gen × LinkView T))) → length (relink_from interlinks k slots) ≡ length slots
   length-relink_from interlinks k [] = refl
   length-relink_from interlinks k (e ∷ slots) = ap (λ n. suc n) (length-relink_from interlinks (suc k) slots)
 
-  pub length-relinked : (a : Arena Gen (LinkView T)) (interlinks : LinkMap) → length (relinked a interlinks).slots ≡ length a.slots
-  length-relinked a interlinks = length-relink_from interlinks 1 a.slots
+  pub length-with_link_map : (a : Arena Gen (LinkView T)) (interlinks : LinkMap) → length (with_link_map a interlinks).slots ≡ length a.slots
+  length-with_link_map a interlinks = length-relink_from interlinks 1 a.slots
 
   -- An arena that differs only in interlinks is `relinked`.
   pub is_relinked : (a b : Arena Gen (LinkView T)) (interlinks : LinkMap) → length b.slots ≡ length a.slots → b ≡ record a { slots = b.slots }
-      → ((i : ℕ) → entry_at b i ≡ relink (interlinks i) (entry_at a i)) → b ≡ relinked a interlinks
+      → ((i : ℕ) → entry_at b i ≡ relink (interlinks i) (entry_at a i)) → b ≡ with_link_map a interlinks
   is_relinked a b interlinks long rest entries =
       rest ∙ ap (λ (slots : List (Option (Gen × LinkView T))). let c : Arena Gen (LinkView T) = record a { slots = slots } in c)
       (ext_get_or None b.slots (relink_from interlinks 1 a.slots) (long ∙ sym (length-relink_from interlinks 1 a.slots))
-      (λ k inside. entries (suc k) ∙ sym (entry_at-relinked a interlinks (suc k))))
+      (λ k inside. entries (suc k) ∙ sym (entry_at-with_link_map a interlinks (suc k))))
 
 -- Links as contracts see them.
 module _ {Gen K T : Type 0} (number : K → Option ℕ) where

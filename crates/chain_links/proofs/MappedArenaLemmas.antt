@@ -4,7 +4,7 @@ use Rattle.std.specs.Prelude.{count_by, is_some, slice_index_or, if◌then◌els
 use Rattle.std.specs.Option.{option_map}
 use Rattle.std.proofs.lemmas.List.{length-map, map-append, map-set}
 use Rattle.std.proofs.lemmas.List.Sums.{sum_by-cons}
-use Rattle.arena_base.specs.Arena.{Arena, slot_at, with_slot, filled, entry_at, entry_count, insert_next, remove_at, renewed_at, with_value, cleared, counter_after_clear, IsListed, IsValid}
+use Rattle.arena_base.specs.Arena.{Arena, slot_at, with_slot, slots_after_insertion, entry_at, entry_count, insert_next, remove_at, renewed_at, with_value, arena_after_clear, counter_after_clear, IsListed, IsValid}
 use Rattle.chain_links.specs.ChainArena.{on_value, with_each}
 
 -- A mapped option is `Some` exactly if the option is.
@@ -77,7 +77,7 @@ module _ {Gen X Y : Type 0} (f : X → Y) where
   over a slots = record (with_each f a) { slots = slots }
 
   map-filled : (freed : List ℕ) (slots : List (Option (Gen × X))) (e : Gen × X)
-      → map (option_map (on_value f)) (filled freed slots e) ≡ filled freed (map (option_map (on_value f)) slots) (on_value f e)
+      → map (option_map (on_value f)) (slots_after_insertion freed slots e) ≡ slots_after_insertion freed (map (option_map (on_value f)) slots) (on_value f e)
   map-filled [] slots e = map-append (option_map (on_value f)) slots (Some e ∷ [])
   map-filled (i ∷ freed) slots e = map-with_slot (option_map (on_value f)) slots i (Some e)
 
@@ -104,7 +104,7 @@ module _ {Gen X Y : Type 0} (f : X → Y) where
       renewed None = refl
       renewed (Some e) = refl
 
-  pub with_each-cleared : (following : Gen → Gen) (a : Arena Gen X) → with_each f (cleared following a) ≡ cleared following (with_each f a)
+  pub with_each-cleared : (following : Gen → Gen) (a : Arena Gen X) → with_each f (arena_after_clear following a) ≡ arena_after_clear following (with_each f a)
   with_each-cleared following a = ap (λ n. let b : Arena Gen Y = record (with_each f a) { slots = []; counter = counter_after_clear following n a.counter; freed = [] } in b) (sym (entry_count-with_each a))
 
   -- The same pointers are valid.

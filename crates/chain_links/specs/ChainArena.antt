@@ -88,8 +88,8 @@ module _ {Gen T : Type 0} where
   relink_from interlinks i (e ∷ es) = relink (interlinks i) e ∷ relink_from interlinks (suc i) es
 
   -- The arena with other interlinks and nothing else changed.
-  abbrev pub relinked : Arena Gen (LinkView T) → LinkMap → Arena Gen (LinkView T)
-  relinked a interlinks = record a { slots = relink_from interlinks 1 a.slots }
+  abbrev pub with_link_map : Arena Gen (LinkView T) → LinkMap → Arena Gen (LinkView T)
+  with_link_map a interlinks = record a { slots = relink_from interlinks 1 a.slots }
 
   -- A link without neighbors is inserted.
   abbrev pub insert_lone : Arena Gen (LinkView T) → T → Arena Gen (LinkView T)
@@ -97,15 +97,15 @@ module _ {Gen T : Type 0} where
 
   -- q is the next link of u and the previous one of v.
   abbrev pub named_by : Arena Gen (LinkView T) → Option ℕ → Option ℕ → ℕ → Arena Gen (LinkView T)
-  named_by a u v q = relinked a (prev_set (next_set (link_map a) u (Some q)) v (Some q))
+  named_by a u v q = with_link_map a (prev_set (next_set (link_map a) u (Some q)) v (Some q))
 
   -- A link is inserted between u and v.
   abbrev pub insert_between : Arena Gen (LinkView T) → T → Option ℕ → Option ℕ → Arena Gen (LinkView T)
-  insert_between a t u v = relinked (insert_lone a t) (with_insertion (link_map a) (next_index a) u v)
+  insert_between a t u v = with_link_map (insert_lone a t) (with_insertion (link_map a) (next_index a) u v)
 
   -- A link of a kind is inserted.
   abbrev pub insert_as : Arena Gen (LinkView T) → InsertKind ℕ → T → Arena Gen (LinkView T)
-  insert_as a kind t = relinked (insert_lone a t) (with_insertion_as (link_map a) kind (next_index a))
+  insert_as a kind t = with_link_map (insert_lone a t) (with_insertion_as (link_map a) kind (next_index a))
 
   -- The link at i, if there is one, with another value.
   abbrev pub with_value_at : Arena Gen (LinkView T) → ℕ → T → Arena Gen (LinkView T)
@@ -113,7 +113,7 @@ module _ {Gen T : Type 0} where
 
   -- The link at i is removed and its neighbors are linked.
   abbrev pub remove_link : (Gen → Gen) → Arena Gen (LinkView T) → ℕ → Arena Gen (LinkView T)
-  remove_link following a i = relinked (remove_at following a i) (with_removal (link_map a) i)
+  remove_link following a i = with_link_map (remove_at following a i) (with_removal (link_map a) i)
 
   -- The link at i was removed, by state, link map, chains and pairs.
   pub record IsRemoval (following : Gen → Gen) (old : Arena Gen (LinkView T)) (i : ℕ) (new : Arena Gen (LinkView T)) : Type 0 where
@@ -124,21 +124,21 @@ module _ {Gen T : Type 0} where
 
   -- The start b was joined to the end a, by state, link map, pairs and chains.
   pub record IsJoin (old new : Arena Gen (LinkView T)) (a b : ℕ) : Type 0 where
-    pub state : new ≡ relinked old (with_join (link_map old) a b)
+    pub state : new ≡ with_link_map old (with_join (link_map old) a b)
     pub links : link_map new ≡ with_join (link_map old) a b
     pub pair : AddsPair (link_map old) (link_map new) a b
     pub chains : Connects (link_map old) (link_map new) a b
 
   -- The neighbors a and b were cut, by state, link map, pairs and chains.
   pub record IsCut (old new : Arena Gen (LinkView T)) (a b : ℕ) : Type 0 where
-    pub state : new ≡ relinked old (without_pair (link_map old) a b)
+    pub state : new ≡ with_link_map old (without_pair (link_map old) a b)
     pub links : link_map new ≡ without_pair (link_map old) a b
     pub pair : TakesPair (link_map old) (link_map new) a b
     pub chains : Cuts (link_map old) (link_map new) a b
 
   -- The links after p and q were exchanged, by state, link map, pairs and chains.
   pub record IsExchange (old new : Arena Gen (LinkView T)) (p q : ℕ) : Type 0 where
-    pub state : new ≡ relinked old (with_exchange (link_map old) p q)
+    pub state : new ≡ with_link_map old (with_exchange (link_map old) p q)
     pub links : link_map new ≡ with_exchange (link_map old) p q
     pub pairs : ExchangesPairs (link_map old) (link_map new) p q
     pub chains : Exchanges (link_map old) (link_map new) p q

@@ -17,27 +17,27 @@ LinkName Gen = ℕ × Option Gen
 
 -- The names in a kind.
 module _ {P I Gen : Type 0} (key : P → ℕ × Gen) (number : I → ℕ) where
-  abbrev pub pointed : P → LinkName Gen
-  pointed p = ((key p).0, Some (key p).1)
+  abbrev pub name_of_pointer : P → LinkName Gen
+  name_of_pointer p = ((key p).0, Some (key p).1)
 
-  abbrev pub indexed : I → LinkName Gen
-  indexed i = (number i, None)
+  abbrev pub name_of_index : I → LinkName Gen
+  name_of_index i = (number i, None)
 
   abbrev pub names_in : InsertKindBody P I → InsertKind (LinkName Gen)
   names_in kinds.Disconnected = disconnected
   names_in kinds.SingleLinkCyclic = single_link_cyclic
-  names_in (kinds.ChainEnd p) = chain_end (pointed p)
-  names_in (kinds.ChainEndInx i) = chain_end (indexed i)
-  names_in (kinds.ChainStart p) = chain_start (pointed p)
-  names_in (kinds.ChainStartInx i) = chain_start (indexed i)
-  names_in (kinds.NextTo p) = next_to (pointed p)
-  names_in (kinds.NextToInx i) = next_to (indexed i)
-  names_in (kinds.PrevTo p) = prev_to (pointed p)
-  names_in (kinds.PrevToInx i) = prev_to (indexed i)
-  names_in (kinds.AtInterlink p q) = at_interlink (pointed p) (pointed q)
-  names_in (kinds.AtInterlinkInx i j) = at_interlink (indexed i) (indexed j)
-  names_in (kinds.Bridge p q) = bridge (pointed p) (pointed q)
-  names_in (kinds.BridgeInx i j) = bridge (indexed i) (indexed j)
+  names_in (kinds.ChainEnd p) = chain_end (name_of_pointer p)
+  names_in (kinds.ChainEndInx i) = chain_end (name_of_index i)
+  names_in (kinds.ChainStart p) = chain_start (name_of_pointer p)
+  names_in (kinds.ChainStartInx i) = chain_start (name_of_index i)
+  names_in (kinds.NextTo p) = next_to (name_of_pointer p)
+  names_in (kinds.NextToInx i) = next_to (name_of_index i)
+  names_in (kinds.PrevTo p) = prev_to (name_of_pointer p)
+  names_in (kinds.PrevToInx i) = prev_to (name_of_index i)
+  names_in (kinds.AtInterlink p q) = at_interlink (name_of_pointer p) (name_of_pointer q)
+  names_in (kinds.AtInterlinkInx i j) = at_interlink (name_of_index i) (name_of_index j)
+  names_in (kinds.Bridge p q) = bridge (name_of_pointer p) (name_of_pointer q)
+  names_in (kinds.BridgeInx i j) = bridge (name_of_index i) (name_of_index j)
 
 module _ {Gen : Type 0} where
   -- The kind by indexes.
@@ -75,8 +75,8 @@ module _ {Gen T : Type 0} (entry : ℕ → Option (Gen × T)) where
 -- Names and kinds in the forms of the code.
 module _ {P I Gen : Type 0} (key : P → ℕ × Gen) (number : I → ℕ) where
   abbrev pub name_of : Name P I → LinkName Gen
-  name_of (Pointer p) = pointed key number p
-  name_of (Index i) = indexed key number i
+  name_of (Pointer p) = name_of_pointer key number p
+  name_of (Index i) = name_of_index key number i
 
   abbrev pub named_in : NamedKind (Name P I) → InsertKind (LinkName Gen)
   named_in named.Disconnected = disconnected

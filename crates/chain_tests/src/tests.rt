@@ -100,7 +100,7 @@ fn remove<T: Drop, S: SlotStack<Item = ArenaSlot<ToolPtr, LinkNoGen<ToolPtr, T>>
 }
 
 // Inserts a link and returns its pointer, or the invalid one if there is no capacity.
-fn put<T: Drop, S: SlotStack<Item = ArenaSlot<ToolPtr, LinkNoGen<ToolPtr, T>>>>(
+fn insert_or_invalid<T: Drop, S: SlotStack<Item = ArenaSlot<ToolPtr, LinkNoGen<ToolPtr, T>>>>(
     arena: &mut ChainArena<ToolPtr, T, S>,
     kind: LinkInsertKind<ToolPtr>,
     t: T,
@@ -128,7 +128,7 @@ fn add_plain<T: Drop, S: SlotStack<Item = ArenaSlot<ToolPtr, LinkNoGen<ToolPtr, 
 }
 
 // Converts a plain arena to a chain arena, if its interlinks are consistent.
-fn chained<T: Drop, S: SlotStack<Item = ArenaSlot<ToolPtr, LinkNoGen<ToolPtr, T>>>>(
+fn to_chain_arena<T: Drop, S: SlotStack<Item = ArenaSlot<ToolPtr, LinkNoGen<ToolPtr, T>>>>(
     arena: Arena<ToolPtr, LinkNoGen<ToolPtr, T>, S>,
 ) -> Result<ChainArena<ToolPtr, T, S>, &'static str> {
     ChainArena::from_arena(arena)
@@ -143,7 +143,7 @@ fn lone_links<S: SlotStack<Item = Slot>>(alloc: Global, count: u32) -> ChainsOve
     arena
 }
 
-fn limited<S: LimitStack<Item = Slot>>(
+fn fresh_limited<S: LimitStack<Item = Slot>>(
     rt: &impl Abort,
     alloc: Global,
     most: usize,

@@ -6,12 +6,12 @@ use Rattle.chain_laws.specs.Chains.{LinkMap, IsWellLinked}
 use Rattle.chain_laws.specs.Removals.{with_removal, Removes}
 use Rattle.chain_laws.proofs.RemovalLemmas.Chains.{removed_removes}
 use Rattle.arena_base.specs.Arena.{IsValid}
-use Rattle.arena_base.specs.Entries.{ArenaView, count, found, without, AscendsFrom, entry_removed}
+use Rattle.arena_base.specs.Entries.{ArenaView, count, found, without_index, AscendsFrom, entry_removed}
 use Rattle.arena_base.proofs.EntrySearchLemmas.{found-gone, found-kept}
 
 module _ {Gen T : Type 0} where
   -- A removal empties its index and changes no other entry.
-  module _ (entry after : ℕ → Option (Gen × T)) (es fs : List ((ℕ × Gen) × T)) (n : ℕ) (ascends : AscendsFrom 1 es) (was : (i : ℕ) → found i es ≡ entry i) (finds : (i : ℕ) → found i fs ≡ after i) (gone : fs ≡ without n es) where
+  module _ (entry after : ℕ → Option (Gen × T)) (es fs : List ((ℕ × Gen) × T)) (n : ℕ) (ascends : AscendsFrom 1 es) (was : (i : ℕ) → found i es ≡ entry i) (finds : (i : ℕ) → found i fs ≡ after i) (gone : fs ≡ without_index n es) where
     pub entry_gone : after n ≡ None
     entry_gone = sym (finds n) ∙ (ap (found n) gone ∙ found-gone n 1 es ascends)
 
@@ -19,12 +19,12 @@ module _ {Gen T : Type 0} where
     entry_kept i other = sym (finds i) ∙ (ap (found i) gone ∙ (found-kept i n es other ∙ was i))
 
   -- A removal leaves one entry less.
-  pub one_less : (i : ℕ) (es : List ((ℕ × Gen) × T)) → is_some (found i es) ≡ true → suc (length (without i es)) ≡ length es
+  pub one_less : (i : ℕ) (es : List ((ℕ × Gen) × T)) → is_some (found i es) ≡ true → suc (length (without_index i es)) ≡ length es
   one_less i [] some = absurd (let h = some in cc)
   one_less i (e ∷ es) some = by (e.0.0 == i) refl some (one_less i es)
     where
-      by : (b : Bool) → (e.0.0 == i) ≡ b → is_some (cond b (Some (e.0.1, e.1)) (found i es)) ≡ true → (is_some (found i es) ≡ true → suc (length (without i es)) ≡ length es)
-          → suc (length (cond b es (e ∷ without i es))) ≡ suc (length es)
+      by : (b : Bool) → (e.0.0 == i) ≡ b → is_some (cond b (Some (e.0.1, e.1)) (found i es)) ≡ true → (is_some (found i es) ≡ true → suc (length (without_index i es)) ≡ length es)
+          → suc (length (cond b es (e ∷ without_index i es))) ≡ suc (length es)
       by true same some rest = refl
       by false other some rest = ap suc (rest some)
 

@@ -11,7 +11,7 @@ ghost use Rattle.arena_base.specs.declared.cursor.Cursor.{Cursor};
 ghost use Rattle.chain_traits.specs.DrainOrder.{IsNextChain};
 
 use crate::chain_traits::ChainArenaTrait;
-use arena_base::{Advancer, invalidated, proved_unreachable};
+use arena_base::{Advancer, proved_unreachable, with_overflow};
 use arena_ptr::{InvalidationOption, InxKey, PtrKey};
 use chain_links::walk_direction::step_on;
 
@@ -175,7 +175,7 @@ fn take_link<Q: PtrKey, U: Drop, A: ChainArenaTrait<Q, U>>(
             let next = step_on(i, link.next());
             (
                 Q::_from_raw(i, generation),
-                invalidated(overflow, link.t),
+                with_overflow(overflow, link.t),
                 next,
             )
         }

@@ -83,8 +83,8 @@ fn definitions()
     ensures whole { whole_lines (97 ∷ 10 ∷ 98 ∷ []) ≡ (97 ∷ []) ∷ [] }
     ensures return_dropped { without_return (97 ∷ 13 ∷ 13 ∷ []) ≡ 97 ∷ 13 ∷ [] }
     ensures return_within { without_return (13 ∷ 97 ∷ []) ≡ 13 ∷ 97 ∷ [] }
-    ensures words { words_of (codes "  add  7 ") ≡ codes "add" ∷ codes "7" ∷ [] }
-    ensures no_words { words_of (codes "   ") ≡ [] }
+    ensures two_words { words_of (codes "  add  7 ") ≡ codes "add" ∷ codes "7" ∷ [] }
+    ensures only_spaces { words_of (codes "   ") ≡ [] }
     ensures number { number_of (codes "007") ≡ Some 7 }
     ensures greatest { number_of (codes "4294967295") ≡ Some 4294967295 }
     ensures too_great { number_of (codes "4294967296") ≡ None }
@@ -257,7 +257,7 @@ const NUMBERS_AND_POINTERS: [(&str, &str); 21] = [
 ];
 
 /// Returns a line of a command, spaces up to `len` bytes, and an end.
-fn filled(rt: &impl Abort, alloc: Global, command: &str, len: usize, end: &str) -> String {
+fn padded_line(rt: &impl Abort, alloc: Global, command: &str, len: usize, end: &str) -> String {
     format!(in alloc; "{command:len$}{end}").expect(rt, "memory")
 }
 
@@ -266,7 +266,7 @@ type FilledLine<'a> = (&'a str, &'a str, usize, &'a str, &'a str);
 
 fn check_filled(rt: &impl Abort, alloc: Global, line: &FilledLine<'_>) {
     let (what, command, len, end, output) = line;
-    let input = filled(rt, alloc, command, *len, end);
+    let input = padded_line(rt, alloc, command, *len, end);
     same(rt, what, input.len().saturating_sub(end.len()), *len);
     check(rt, alloc, what, input.as_bytes(), output.as_bytes());
 }
@@ -472,7 +472,7 @@ static RUNS: [(&str, &str); 15] = [
 ];
 
 /// Returns the runs. Only this body names the table, since naming it costs by its rows.
-fn runs() -> &'static [(&'static str, &'static str)] {
+fn run_rows() -> &'static [(&'static str, &'static str)] {
     &RUNS
 }
 
@@ -487,14 +487,14 @@ const TABLES: [&[(&str, &str)]; 5] = [
 
 #[test]
 fn texts_and_what_is_written(rt: HostRuntime) {
-    check_texts(&rt, rt.alloc(), runs());
+    check_texts(&rt, rt.alloc(), run_rows());
     for table in &TABLES {
         check_texts(&rt, rt.alloc(), table);
     }
 }
 
 fn check_runs<S: SlotStack<Item = Slot>>(rt: &impl Abort, alloc: Global) {
-    for (input, output) in runs() {
+    for (input, output) in run_rows() {
         check_on(rt, alloc, &mut LinksOver::<S>::new(alloc), input, output);
     }
 }
@@ -533,7 +533,7 @@ const WALK_OF_THE_REST: (&str, &str) = (
 );
 
 /// Returns the number of links, and how many a canonical compression places.
-fn placed<S: SlotStack<Item = Slot>>(arena: &mut LinksOver<S>) -> (usize, u128) {
+fn links_and_placements<S: SlotStack<Item = Slot>>(arena: &mut LinksOver<S>) -> (usize, u128) {
     let links = arena.len();
     let (_, work) = arena.compress_canonical_counted(false);
     (links, work.placed)
@@ -545,7 +545,7 @@ fn check_chain<S: SlotStack<Item = Slot>>(rt: &impl Abort, alloc: Global) {
     let mut arena = LinksOver::<S>::new(alloc);
     assert!(rt; add_chain(&mut arena) == 130);
     assert!(rt; empty_the_first_block(&mut arena) == 66);
-    assert!(rt; placed(&mut arena) == (66, 66));
+    assert!(rt; links_and_placements(&mut arena) == (66, 66));
     let (input, output) = WALK_OF_THE_REST;
     check_on(rt, alloc, &mut arena, input, output);
 }

@@ -8,7 +8,7 @@ use Rattle.chain_laws.proofs.JoinLemmas.LoneLinks.{with_lone_adds, next_of-with_
 use Rattle.chain_laws.proofs.JoinLemmas.Chains.{joined_connects}
 use Rattle.chain_laws.proofs.ChainLemmas.Uniqueness.{chain_valid}
 use Rattle.arena_base.specs.Arena.{IsValid}
-use Rattle.arena_base.specs.Entries.{found, without, AscendsFrom}
+use Rattle.arena_base.specs.Entries.{found, without_index, AscendsFrom}
 use Rattle.arena_base.proofs.EntrySearchLemmas.{found-gone, found-kept}
 use Rattle.trait_tests.specs.Extensions.{Extends}
 use Rattle.chain_links.specs.ChainArena.{IsInserted, CanConnect}
@@ -19,12 +19,12 @@ none_of (Some x) is = absurd (let h = is in cc)
 
 module _ {Gen T : Type 0} (old mid : ℕ → Option (Gen × T)) (q : ℕ × Gen) (t : T) (inserted : IsInserted old mid q t) where
   -- An insertion followed by the removal of that link leaves every entry as it was.
-  pub taken_back : (new : ℕ → Option (Gen × T)) (es fs : List ((ℕ × Gen) × T)) → AscendsFrom 1 es → ((i : ℕ) → found i es ≡ mid i) → ((i : ℕ) → found i fs ≡ new i) → fs ≡ without q.0 es
+  pub taken_back : (new : ℕ → Option (Gen × T)) (es fs : List ((ℕ × Gen) × T)) → AscendsFrom 1 es → ((i : ℕ) → found i es ≡ mid i) → ((i : ℕ) → found i fs ≡ new i) → fs ≡ without_index q.0 es
       → (i : ℕ) → new i ≡ old i
   taken_back new es fs ascends was finds gone i =
-      let left : new i ≡ found i (without q.0 es) = sym (finds i) ∙ ap (found i) gone in
+      let left : new i ≡ found i (without_index q.0 es) = sym (finds i) ∙ ap (found i) gone in
       left ∙ ⊎_elim
-      (λ is. ap (λ k. found k (without q.0 es)) is ∙ (found-gone q.0 1 es ascends ∙ (sym inserted.free ∙ ap old (sym is))))
+      (λ is. ap (λ k. found k (without_index q.0 es)) is ∙ (found-gone q.0 1 es ascends ∙ (sym inserted.free ∙ ap old (sym is))))
       (λ other. found-kept i q.0 es other ∙ (was i ∙ inserted.rest i other))
       (cases_eq i q.0)
 

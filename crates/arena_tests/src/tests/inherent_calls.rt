@@ -4,7 +4,7 @@ ghost use Rattle.arena_base.specs.Arena.{slot_at};
 
 use crate::tests::entries::enter;
 use crate::tests::pointers::Numbered;
-use crate::tests::scripts::{Call, RunsCalls, overwritten, run_trait_call};
+use crate::tests::scripts::{Call, RunsCalls, overwrite, run_trait_call};
 use crate::tests::support::{Slot, index, text, text_of_all};
 use arena_base::{Arena, ArenaTrait, Compactor, SlotAccess, Work};
 use arena_ptr::{InxKey, PtrKey, SlotStack};
@@ -27,7 +27,7 @@ pub(super) fn insert_many<P: PtrKey, S: SlotStack<Item = Slot<P>>>(
     added
 }
 
-fn iterated<P: PtrKey + Debug, S: SlotStack<Item = Slot<P>>>(
+fn iteration_text<P: PtrKey + Debug, S: SlotStack<Item = Slot<P>>>(
     alloc: Global,
     arena: &Arena<P, u32, S>,
 ) -> String {
@@ -35,7 +35,7 @@ fn iterated<P: PtrKey + Debug, S: SlotStack<Item = Slot<P>>>(
 }
 
 // Returns the text of the drained entries, and leaves a new arena.
-fn drained<P: PtrKey + Debug, S: SlotStack<Item = Slot<P>>>(
+fn drain_text<P: PtrKey + Debug, S: SlotStack<Item = Slot<P>>>(
     alloc: Global,
     arena: &mut Arena<P, u32, S>,
 ) -> String {
@@ -61,7 +61,7 @@ fn value_read<P: PtrKey, C: SlotAccess<P, u32>>(
     ensures { IsSome result ↔ IsSome (slot_at (C.held slots.new).slots (P.Inx.number i)) }
 {
     if let Some(value) = value {
-        overwritten(slots.value_mut(i), value);
+        overwrite(slots.value_mut(i), value);
     }
     match slots.peek(i) {
         Some((_, t)) => Some(*t),
@@ -71,7 +71,7 @@ fn value_read<P: PtrKey, C: SlotAccess<P, u32>>(
 
 // Returns the number of slots and the value at `from`, and moves the entry to `to` if both are
 // slots.
-fn moved<P: PtrKey, S: SlotStack<Item = Slot<P>>>(
+fn move_entry<P: PtrKey, S: SlotStack<Item = Slot<P>>>(
     compactor: &mut Compactor<'_, P, u32, S>,
     from: P::Inx,
     to: P::Inx,
@@ -86,14 +86,14 @@ fn moved<P: PtrKey, S: SlotStack<Item = Slot<P>>>(
     (slots, value)
 }
 
-fn compacted<P: Numbered, S: SlotStack<Item = Slot<P>>>(
+fn compact<P: Numbered, S: SlotStack<Item = Slot<P>>>(
     arena: &mut Arena<P, u32, S>,
     (from, to, g): (u8, u8, u8),
     value: Option<u32>,
 ) -> ((usize, Option<u32>), Work) {
     let (from, to) = (index::<P>(from), index::<P>(to));
     let mut compactor = arena.compactor();
-    let visited = moved(&mut compactor, from, to, P::generation_of(g), value);
+    let visited = move_entry(&mut compactor, from, to, P::generation_of(g), value);
     (visited, compactor.finish())
 }
 
@@ -134,9 +134,9 @@ fn run_whole_call<P: Numbered, S: SlotStack<Item = Slot<P>>>(
         Call::Generation => text(alloc, P::number_of(arena.generation())),
         Call::SetGeneration(g) => text(alloc, arena.set_generation(P::generation_of(g))),
         Call::IncGeneration => text(alloc, arena.inc_generation()),
-        Call::Entries => iterated(alloc, arena),
-        Call::Drain => drained(alloc, arena),
-        Call::Compact(from, to, g, value) => text(alloc, compacted(arena, (from, to, g), value)),
+        Call::Entries => iteration_text(alloc, arena),
+        Call::Drain => drain_text(alloc, arena),
+        Call::Compact(from, to, g, value) => text(alloc, compact(arena, (from, to, g), value)),
         other => run_other_call(alloc, arena, other),
     }
 }

@@ -74,7 +74,7 @@ pub(super) enum Call {
 pub(super) type Row = (Call, &'static str);
 
 // Returns the entries of an arena, read by index.
-fn listed<P: PtrKey, A: ArenaTrait<P, u32>>(alloc: Global, arena: &A) -> Vec<(P, u32)> {
+fn entry_list<P: PtrKey, A: ArenaTrait<P, u32>>(alloc: Global, arena: &A) -> Vec<(P, u32)> {
     let mut entries = Vec::new(alloc);
     for n in 1..=u8::MAX {
         let i = index::<P>(n);
@@ -85,7 +85,7 @@ fn listed<P: PtrKey, A: ArenaTrait<P, u32>>(alloc: Global, arena: &A) -> Vec<(P,
     entries
 }
 
-fn numbered<P: Numbered, T: Drop>(entry: Option<(P::Gen, T)>) -> Option<(u8, T)> {
+fn with_number<P: Numbered, T: Drop>(entry: Option<(P::Gen, T)>) -> Option<(u8, T)> {
     match entry {
         Some((generation, t)) => Some((P::number_of(generation), t)),
         None => None,
@@ -99,7 +99,7 @@ fn number_of<P: Numbered>(generation: Option<P::Gen>) -> Option<u8> {
     }
 }
 
-pub(super) fn overwritten(slot: Option<&mut u32>, value: u32) -> Option<u32> {
+pub(super) fn overwrite(slot: Option<&mut u32>, value: u32) -> Option<u32> {
     match slot {
         Some(t) => Some(mem::replace(t, value)),
         None => None,
@@ -117,7 +117,7 @@ fn thrice<P: PtrKey, C, A: Advancer<C, Item = P>>(mut advancer: A, collection: &
 }
 
 // Runs an advancer by ascending index, one from an index on, or an empty one.
-fn advanced<P: PtrKey, A: ArenaTrait<P, u32>>(arena: &A, call: Call, i: P::Inx) -> Three<P> {
+fn run_advancer<P: PtrKey, A: ArenaTrait<P, u32>>(arena: &A, call: Call, i: P::Inx) -> Three<P> {
     match call {
         Call::AdvanceFrom(_, rev) => thrice(arena.advancer_inx(i, rev), arena),
         Call::AdvanceEmpty => thrice(A::PtrAdvancer::empty(), arena),
@@ -127,7 +127,7 @@ fn advanced<P: PtrKey, A: ArenaTrait<P, u32>>(arena: &A, call: Call, i: P::Inx) 
 
 // Compresses with a closure that adds the number of its call to each value, and lists its
 // arguments.
-fn compressed<P: PtrKey, A: ArenaTrait<P, u32>>(
+fn compress_and_list<P: PtrKey, A: ArenaTrait<P, u32>>(
     alloc: Global,
     arena: &mut A,
     reset: bool,
@@ -143,7 +143,7 @@ fn compressed<P: PtrKey, A: ArenaTrait<P, u32>>(
 }
 
 // Returns the pointer that a call names, as two numbers. An index alone, or none, has generation 2.
-fn named(call: Call) -> (u8, u8) {
+fn pointer_numbers(call: Call) -> (u8, u8) {
     match call {
         Call::Contains(i, g) | Call::Get(i, g) | Call::Write(i, g, _) => (i, g),
         Call::Invalidate(i, g) | Call::Remove(i, g) => (i, g),
@@ -168,7 +168,7 @@ fn run_lookup<P: Numbered, A: ArenaTrait<P, u32>>(
         Call::Counter => text(alloc, number_of::<P>(arena.singular_generation())),
         Call::Contains(..) => text(alloc, arena.contains(p)),
         Call::Get(..) => text(alloc, arena.get(p)),
-        Call::GetInx(_) => text(alloc, numbered::<P, &u32>(arena.get_inx(p.inx()))),
+        Call::GetInx(_) => text(alloc, with_number::<P, &u32>(arena.get_inx(p.inx()))),
         _ => run_walk(alloc, arena, call, p),
     }
 }
@@ -184,8 +184,8 @@ fn run_walk<P: Numbered, A: ArenaTrait<P, u32>>(
             let ends = (arena.find_first_inx_ptr(), arena.find_last_inx_ptr());
             text(alloc, ends)
         }
-        Call::DetachedView => text(alloc, listed(alloc, arena)),
-        _ => text(alloc, advanced(arena, call, p.inx())),
+        Call::DetachedView => text(alloc, entry_list(alloc, arena)),
+        _ => text(alloc, run_advancer(arena, call, p.inx())),
     }
 }
 
@@ -197,7 +197,7 @@ fn born<P: PtrKey, A: ArenaTrait<P, u32> + Drop>(alloc: Global, n: usize) -> Opt
 }
 
 // Clears an arena and reserves its old capacity: both results, and whether the capacity is kept.
-fn cleared<P: PtrKey, A: ArenaTrait<P, u32>>(
+fn clear_and_reserve<P: PtrKey, A: ArenaTrait<P, u32>>(
     arena: &mut A,
 ) -> (InvalidationOption<()>, Result<(), ReallocationError>, bool) {
     let capacity = arena.capacity();
@@ -214,13 +214,13 @@ fn run_change<P: Numbered, A: ArenaTrait<P, u32> + Drop>(
 ) -> String {
     match call {
         Call::Born(n) => text(alloc, born::<P, A>(alloc, n)),
-        Call::Write(_, _, value) => text(alloc, overwritten(arena.get_mut(p), value)),
-        Call::WriteInx(_, value) => { text(alloc, overwritten(arena.get_inx_mut(p.inx()), value)) }
+        Call::Write(_, _, value) => text(alloc, overwrite(arena.get_mut(p), value)),
+        Call::WriteInx(_, value) => { text(alloc, overwrite(arena.get_inx_mut(p.inx()), value)) }
         Call::Invalidate(..) => text(alloc, arena.invalidate(p)),
         Call::Remove(..) => text(alloc, arena.remove(p)),
         Call::RemoveInx(_) => {
             let removed = arena.remove_inx(p.inx()).allow();
-            text(alloc, numbered::<P, u32>(removed))
+            text(alloc, with_number::<P, u32>(removed))
         }
         other => run_whole_change(alloc, arena, other, p),
     }
@@ -233,9 +233,9 @@ fn run_whole_change<P: Numbered, A: ArenaTrait<P, u32> + Drop>(
     p: P,
 ) -> String {
     match call {
-        Call::ClearAndReserve => text(alloc, cleared(arena)),
+        Call::ClearAndReserve => text(alloc, clear_and_reserve(arena)),
         Call::Compress(reset) => text(alloc, arena.compress(reset)),
-        Call::CompressWith(reset) => text(alloc, compressed(alloc, arena, reset)),
+        Call::CompressWith(reset) => text(alloc, compress_and_list(alloc, arena, reset)),
         Call::Reserve(n) => text(alloc, arena.reallocate_min_capacity(n)),
         other => run_lookup(alloc, arena, other, p),
     }
@@ -250,7 +250,7 @@ pub(super) fn run_trait_call<
     match call {
         Call::CopyHole => text(alloc, copied_hole::<P, R, A>(alloc, arena)),
         other => {
-            let (i, g) = named(other);
+            let (i, g) = pointer_numbers(other);
             run_change(alloc, arena, other, at(i, g))
         }
     }

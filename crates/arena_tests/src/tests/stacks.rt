@@ -131,7 +131,7 @@ fn shape<S: SlotStack<Item = u32>>(stack: &S) -> (usize, usize, Option<usize>) {
 }
 
 // Returns the items in order.
-fn held<S: SlotStack<Item = u32>>(alloc: Global, stack: &S) -> Vec<u32> {
+fn item_list<S: SlotStack<Item = u32>>(alloc: Global, stack: &S) -> Vec<u32> {
     let mut items = Vec::new(alloc);
     for i in 0..stack.len() {
         if let Some(item) = stack.get(i) {
@@ -175,7 +175,7 @@ fn reply_to<S: SlotStack<Item = u32>>(
 // Returns the text of a call's result, and the length, capacity, maximum and items then.
 fn state_text<S: SlotStack<Item = u32>>(alloc: Global, stack: &mut S, call: Call) -> String {
     let outcome = reply_to(stack, call);
-    text(alloc, (outcome, shape(stack), held(alloc, stack)))
+    text(alloc, (outcome, shape(stack), item_list(alloc, stack)))
 }
 
 // Checks the text of each call.
@@ -341,7 +341,7 @@ fn read<S: SlotStack<Item = u32>>(stack: &S, i: usize) -> Option<u32> {
     }
 }
 
-fn edited<S: SlotStack<Item = u32>>(stack: &mut S, edit: Edit) -> Option<u32> {
+fn apply_edit<S: SlotStack<Item = u32>>(stack: &mut S, edit: Edit) -> Option<u32> {
     match edit {
         Edit::Read(i) => read(stack, i),
         Edit::Replace(i, item) => replace(stack, i, item),
@@ -375,7 +375,7 @@ static EDITS: [(Edit, Option<u32>); 9] = [
 
 fn edits<S: SlotStack<Item = u32>>(rt: &impl Abort, stack: &mut S) {
     for (edit, want) in &EDITS {
-        equal(rt, "an edit", edited(stack, *edit), *want);
+        equal(rt, "an edit", apply_edit(stack, *edit), *want);
     }
 }
 
@@ -391,7 +391,7 @@ fn check_edits<S: SlotStack<Item = u32>>(rt: &impl Abort, alloc: Global, few: u6
     equal(rt, "few growths", fill(&mut stack, 1000) <= few, true);
     let capacity = stack.capacity();
     edits(rt, &mut stack);
-    let left = text(alloc, held(alloc, &stack));
+    let left = text(alloc, item_list(alloc, &stack));
     same(rt, "what is left", left.as_str(), "[999, 70, 2, 80]");
     equal(rt, "the same capacity", shape(&stack), (4, capacity, None));
     stack.truncate(0);
@@ -416,7 +416,7 @@ fn check_growth<S: SlotStack<Item = u32>>(rt: &impl Abort, alloc: Global, one: u
     equal(rt, "refused", refused, Err(ReallocationError::AllocError));
     equal(rt, "unchanged", shape(&stack), before);
     equal(rt, "farther", has_grown(&mut stack, 1000), true);
-    let left = text(alloc, held(alloc, &stack));
+    let left = text(alloc, item_list(alloc, &stack));
     same(rt, "what is held", left.as_str(), "[0, 0, 1]");
 }
 

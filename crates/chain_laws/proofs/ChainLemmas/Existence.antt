@@ -124,7 +124,7 @@ module _ (link_map : LinkMap) (slots : ℕ) (agrees : IsWellLinked link_map) (wi
       written_from (cyclic (k ∷ t.0)) t.1 (inl refl) (IsMember-at_most k t.0 (λ y n. least (cyclic (k ∷ t.0)) y t.1 (inl refl) (inr n)))
 
   -- The chains not among those done, by least index.
-  record Others (done : List Chain) : Type 0 where
+  record OtherChains (done : List Chain) : Type 0 where
     chains : List Chain
     each : (c : Chain) → HasChain chains c → IsChain link_map c
     written : (c : Chain) → HasChain chains c → StartsAtLeast c
@@ -136,7 +136,7 @@ module _ (link_map : LinkMap) (slots : ℕ) (agrees : IsWellLinked link_map) (wi
   -- Adds a chain before the others.
   with_chain : (k : ℕ) (done : List Chain) (c : Chain) → IsChain link_map c → IsMember (items c) k → StartsAtLeast c
       → ((i : ℕ) → HasLink link_map i → i < k → IsMember (all_items done) i) → ((y : ℕ) → IsMember (items c) y → IsMember (all_items done) y → ⊥)
-      → Others (c ∷ done) → Others done
+      → OtherChains (c ∷ done) → OtherChains done
   with_chain k done c h m w below apart more = record {
     chains = c ∷ more.chains;
     each = chains_each;
@@ -171,7 +171,7 @@ module _ (link_map : LinkMap) (slots : ℕ) (agrees : IsWellLinked link_map) (wi
 
   -- The chains of indexes from k on, not among those done.
   others : (left k : ℕ) (done : List Chain) → k + left ≡ suc slots → ((c : Chain) → HasChain done c → IsChain link_map c)
-      → ((i : ℕ) → HasLink link_map i → i < k → IsMember (all_items done) i) → Others done
+      → ((i : ℕ) → HasLink link_map i → i < k → IsMember (all_items done) i) → OtherChains done
   others zero k done e each below = record {
     chains = [];
     each = λ c n. absurd n;
@@ -205,7 +205,7 @@ module _ (link_map : LinkMap) (slots : ℕ) (agrees : IsWellLinked link_map) (wi
           new (IsMember-all_items done d.0 k d.1 (chains_share link_map c d.0 y k h (each d.0 d.1) n d.2 m))
 
       by_written : (IsMember (all_items done) k → ⊥) → WrittenFrom k
-          → ((c : Chain) → IsChain link_map c → ((i : ℕ) → HasLink link_map i → i < suc k → IsMember (all_items (c ∷ done)) i) → Others (c ∷ done)) → Others done
+          → ((c : Chain) → IsChain link_map c → ((i : ℕ) → HasLink link_map i → i < suc k → IsMember (all_items (c ∷ done)) i) → OtherChains (c ∷ done)) → OtherChains done
       by_written new (written_from c h m w) more =
           with_chain k done c h m w below (done_apart new c h m)
           (more c h (split (IsMember (items c ++ all_items done)) (λ i v l. IsMember-right (items c) (all_items done) i (below i v l)) (λ v. IsMember-left (items c) (all_items done) k m)))
@@ -216,14 +216,14 @@ module _ (link_map : LinkMap) (slots : ℕ) (agrees : IsWellLinked link_map) (wi
           omega arith
 
       by_done : HasLink link_map k → IsMember (all_items done) k ⊎ (IsMember (all_items done) k → ⊥)
-          → (((i : ℕ) → HasLink link_map i → i < suc k → IsMember (all_items done) i) → Others done)
-          → ((c : Chain) → IsChain link_map c → ((i : ℕ) → HasLink link_map i → i < suc k → IsMember (all_items (c ∷ done)) i) → Others (c ∷ done)) → Others done
+          → (((i : ℕ) → HasLink link_map i → i < suc k → IsMember (all_items done) i) → OtherChains done)
+          → ((c : Chain) → IsChain link_map c → ((i : ℕ) → HasLink link_map i → i < suc k → IsMember (all_items (c ∷ done)) i) → OtherChains (c ∷ done)) → OtherChains done
       by_done v (inl h) same more = same (split (IsMember (all_items done)) below (λ w. h))
       by_done v (inr new) same more = by_written new (from_least k (has_chain k v) (least new)) more
 
       by_valid : (o : Option Interlinks) → link_map k ≡ o
-          → (((i : ℕ) → HasLink link_map i → i < suc k → IsMember (all_items done) i) → Others done)
-          → ((c : Chain) → IsChain link_map c → ((i : ℕ) → HasLink link_map i → i < suc k → IsMember (all_items (c ∷ done)) i) → Others (c ∷ done)) → Others done
+          → (((i : ℕ) → HasLink link_map i → i < suc k → IsMember (all_items done) i) → OtherChains done)
+          → ((c : Chain) → IsChain link_map c → ((i : ℕ) → HasLink link_map i → i < suc k → IsMember (all_items (c ∷ done)) i) → OtherChains (c ∷ done)) → OtherChains done
       by_valid None is same more = same (split (IsMember (all_items done)) below (λ (v : HasLink link_map k). let f = v.links in absurd (cc)))
       by_valid (Some l) is same more = by_done (reports_valid link_map k l is) (IsMember-or_not (all_items done) k) same more
 

@@ -2,7 +2,7 @@
 use Rattle.std.proofs.Common.{◌≡◌, ℕ, List, [], ◌∷◌, ◌++◌, Option, None, Some, refl, sym, ap, ◌∙◌, subst, subst₂}
 use Rattle.chain_laws.specs.Chains.{linear, cyclic, IsMember, IsChain, AreLinked, first_or, last_or, prev_in, next_in, prev_of, next_of}
 use Rattle.chain_laws.specs.Members.{MembersAreLinks, FreeIsInNoChain, MembersNameNeighbors, PlacesInALine, PlacesInARing, LinesEnd, RingsAreCyclic}
-use Rattle.chain_laws.specs.Members.{NeighborsShareAChain, ChainsShareEach, RotationsHaveTheSame, HasInAll}
+use Rattle.chain_laws.specs.Members.{NeighborsShareAChain, ChainsShareEach, RotationsHaveTheSame, MemberInAll}
 use Rattle.chain_laws.proofs.ListLemmas.Members.{IsMember-rotated, IsMember-written, first_or-append, last_or-append}
 use Rattle.chain_laws.proofs.InterlinkLemmas.Inverses.{one_some}
 use Rattle.chain_laws.proofs.ChainLemmas.LinkedLists.{link, AreLinked-first, AreLinked-last}
@@ -88,5 +88,5 @@ rotations_have_the_same (cyclic xs) (cyclic ys) i same = (
 )
 
 -- The items of all chains are the items of each.
-pub has_in_all : HasInAll
-has_in_all chains i = (chain_at chains i, λ w. IsMember-all_items chains w.0 i w.1 w.2)
+pub member_in_all : MemberInAll
+member_in_all chains i = (chain_at chains i, λ w. IsMember-all_items chains w.0 i w.1 w.2)

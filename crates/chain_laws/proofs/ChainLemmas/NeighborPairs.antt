@@ -111,17 +111,17 @@ neighbors_before (cyclic xs) [] after i j once e (inr w) = w.0
 neighbors_before (cyclic xs) (b ∷ before) after i j once e (inr w) = absurd (first_begins xs b before after i once e w.1)
 
 -- Items beside each other are in the list.
-pub beside_Has : (xs : List ℕ) (i j : ℕ) → IsBeside xs i j → IsMember xs i × IsMember xs j
-beside_Has xs i j b = (
+pub beside_members : (xs : List ℕ) (i j : ℕ) → IsBeside xs i j → IsMember xs i × IsMember xs j
+beside_members xs i j b = (
   subst (λ (zs : List ℕ). IsMember zs i) (sym b.2) (IsMember-middle b.0 (j ∷ b.1) i),
   subst (λ (zs : List ℕ). IsMember zs j) (sym b.2) (IsMember-right b.0 (i ∷ j ∷ b.1) j (inr (inl refl))),
 )
 
 -- Neighbors are in the chain.
-pub neighbors_Has : (c : Chain) (i j : ℕ) → AreNeighborsIn c i j → IsMember (items c) i × IsMember (items c) j
-neighbors_Has (linear xs) i j b = beside_Has xs i j b
-neighbors_Has (cyclic xs) i j (inl b) = beside_Has xs i j b
-neighbors_Has (cyclic xs) i j (inr w) = (
+pub neighbor_members : (c : Chain) (i j : ℕ) → AreNeighborsIn c i j → IsMember (items c) i × IsMember (items c) j
+neighbor_members (linear xs) i j b = beside_members xs i j b
+neighbor_members (cyclic xs) i j (inl b) = beside_members xs i j b
+neighbor_members (cyclic xs) i j (inr w) = (
   ⊎_elim (λ (h : IsMember xs i). h) (λ (n : None ≡ Some i). absurd (cc)) (last_or-IsMember xs None i w.0),
   ⊎_elim (λ (h : IsMember xs j). h) (λ (n : None ≡ Some j). absurd (cc)) (first_or-IsMember xs None j w.1),
 )
@@ -165,11 +165,11 @@ pub interlinks : (link_map : LinkMap) (chains : List Chain) → AreChains link_m
 interlinks link_map chains are = record {
   next = λ a b. (
     (λ e. let w = chain_at chains a (are.all a (next_valid link_map a b e)) in (w.0, w.1, (chain_next link_map w.0 a b (are.each w.0 w.1) w.2).0 e)),
-    (λ n. (chain_next link_map n.0 a b (are.each n.0 n.1) (neighbors_Has n.0 a b n.2).0).1 n.2),
+    (λ n. (chain_next link_map n.0 a b (are.each n.0 n.1) (neighbor_members n.0 a b n.2).0).1 n.2),
   );
   prev = λ a b. (
     (λ e. let w = chain_at chains b (are.all b (prev_valid link_map b a e)) in (w.0, w.1, (chain_prev link_map w.0 b a (are.each w.0 w.1) w.2).0 e)),
-    (λ n. (chain_prev link_map n.0 b a (are.each n.0 n.1) (neighbors_Has n.0 a b n.2).1).1 n.2),
+    (λ n. (chain_prev link_map n.0 b a (are.each n.0 n.1) (neighbor_members n.0 a b n.2).1).1 n.2),
   );
 }
 
@@ -199,7 +199,7 @@ chains_from_pairs link_map chains partition pairs = record {
     next_is c m left right i e j = (
       (λ n. let w = (pairs.next i j).0 n in
           neighbors_after c left right i j (once_each chains c partition.once m) e
-          (subst (λ (d : Chain). AreNeighborsIn d i j) (same_chain c w.0 i m w.1 (member c left right i e) (neighbors_Has w.0 i j w.2).0) w.2)),
+          (subst (λ (d : Chain). AreNeighborsIn d i j) (same_chain c w.0 i m w.1 (member c left right i e) (neighbor_members w.0 i j w.2).0) w.2)),
       (λ n. (pairs.next i j).1 (c, m, after_neighbors c left right i j e n)),
     )
 
@@ -208,7 +208,7 @@ chains_from_pairs link_map chains partition pairs = record {
     prev_is c m left right i e j = (
       (λ n. let w = (pairs.prev j i).0 n in
           neighbors_before c left right i j (once_each chains c partition.once m) e
-          (subst (λ (d : Chain). AreNeighborsIn d j i) (same_chain c w.0 i m w.1 (member c left right i e) (neighbors_Has w.0 j i w.2).1) w.2)),
+          (subst (λ (d : Chain). AreNeighborsIn d j i) (same_chain c w.0 i m w.1 (member c left right i e) (neighbor_members w.0 j i w.2).1) w.2)),
       (λ n. (pairs.prev j i).1 (c, m, before_neighbors c left right i j e n)),
     )
 

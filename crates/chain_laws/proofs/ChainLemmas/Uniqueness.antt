@@ -112,10 +112,10 @@ one_cyclic link_map i xs ys h k =
     lists_are_one link_map (Some i) (Some i) xs ys i h.2.1 k.2.1 h.1.0 k.1.0 (sym (ap next_in h.2.0) ∙ ap next_in k.2.0)
 
 -- A lower bound is at most each item.
-pub at_most_Has : (x : ℕ) (xs : List ℕ) (y : ℕ) → IsAtMostEach x xs → IsMember xs y → x ≤ y
-at_most_Has x [] y least h = elim h [ ]
-at_most_Has x (z ∷ xs) y least (inl e) = subst (λ (w : ℕ). x ≤ w) e least.0
-at_most_Has x (z ∷ xs) y least (inr h) = at_most_Has x xs y least.1 h
+pub at_most_members : (x : ℕ) (xs : List ℕ) (y : ℕ) → IsAtMostEach x xs → IsMember xs y → x ≤ y
+at_most_members x [] y least h = elim h [ ]
+at_most_members x (z ∷ xs) y least (inl e) = subst (λ (w : ℕ). x ≤ w) e least.0
+at_most_members x (z ∷ xs) y least (inr h) = at_most_members x xs y least.1 h
 
 -- An index at most each item is a lower bound.
 pub IsMember-at_most : (x : ℕ) (xs : List ℕ) → ((y : ℕ) → IsMember xs y → x ≤ y) → IsAtMostEach x xs
@@ -125,7 +125,7 @@ IsMember-at_most x (z ∷ xs) least = (least z (inl refl), IsMember-at_most x xs
 -- In a cyclic chain written from its least index, that is at most each item.
 pub written_least : (x : ℕ) (xs : List ℕ) (y : ℕ) → StartsAtLeast (cyclic (x ∷ xs)) → IsMember (x ∷ xs) y → x ≤ y
 written_least x xs y w (inl e) = let same : x ≡ y = e in omega arith
-written_least x xs y w (inr h) = at_most_Has x xs y w h
+written_least x xs y w (inr h) = at_most_members x xs y w h
 
 -- Cyclic chains with a common index, from their least indexes, are equal.
 pub one_written : (link_map : LinkMap) (xs ys : List ℕ) (i : ℕ) → IsChain link_map (cyclic xs) → IsChain link_map (cyclic ys) → StartsAtLeast (cyclic xs) → StartsAtLeast (cyclic ys)

@@ -1,23 +1,23 @@
 -- Laws of the members of lists, as equivalences.
 use Rattle.std.proofs.Common.{ℕ, inl, inr, ⊎_elim, List, [], ◌∷◌, sym, subst}
 use Rattle.chain_laws.specs.Chains.{IsMember}
-use Rattle.chain_laws.specs.Members.{HasInJoin, HasInRotation, HasInMiddle, MembersSplitAList, HasIsFilled, OnceInJoin, OnceInRotation, OnceInMiddle}
+use Rattle.chain_laws.specs.Members.{MemberInJoin, MemberInRotation, MemberInMiddle, MembersSplitAList, MemberIsFilled, OnceInJoin, OnceInRotation, OnceInMiddle}
 use Rattle.chain_laws.proofs.ListLemmas.Members.{IsMember-left, IsMember-right, IsMember-parts, IsMember-middle, IsMember-rotated, IsMember-written, IsMember-filled, filled-IsMember}
 use Rattle.chain_laws.proofs.ListLemmas.Members.{AreDistinct-left, AreDistinct-right, AreDistinct-apart, AreDistinct-append, AreDistinct-rotated}
 
 -- The members of two lists written as one.
-pub has_in_join : HasInJoin
-has_in_join xs ys i = (IsMember-parts xs ys i, ⊎_elim (IsMember-left xs ys i) (IsMember-right xs ys i))
+pub member_in_join : MemberInJoin
+member_in_join xs ys i = (IsMember-parts xs ys i, ⊎_elim (IsMember-left xs ys i) (IsMember-right xs ys i))
 
 -- The members of two lists in either order.
-pub has_in_turn : HasInRotation
-has_in_turn xs ys i = (IsMember-rotated xs ys i, IsMember-rotated ys xs i)
+pub member_in_rotation : MemberInRotation
+member_in_rotation xs ys i = (IsMember-rotated xs ys i, IsMember-rotated ys xs i)
 
 -- An item between two lists.
-pub has_in_middle : HasInMiddle
-has_in_middle [] ys x i = (⊎_elim (λ e. inl (sym e)) (λ h. inr h), ⊎_elim (λ e. inl (sym e)) (λ h. inr h))
-has_in_middle (y ∷ xs) ys x i =
-    let rest = has_in_middle xs ys x i in (
+pub member_in_middle : MemberInMiddle
+member_in_middle [] ys x i = (⊎_elim (λ e. inl (sym e)) (λ h. inr h), ⊎_elim (λ e. inl (sym e)) (λ h. inr h))
+member_in_middle (y ∷ xs) ys x i =
+    let rest = member_in_middle xs ys x i in (
       ⊎_elim (λ e. inr (inl e)) (λ h. ⊎_elim (λ e. inl e) (λ k. inr (inr k)) (rest.0 h)),
       ⊎_elim (λ e. inr (rest.1 (inl e))) (⊎_elim (λ e. inl e) (λ h. inr (rest.1 (inr h)))),
     )
@@ -27,8 +27,8 @@ pub has_is_written : MembersSplitAList
 has_is_written xs i = (IsMember-written xs i, λ w. subst (λ (zs : List ℕ). IsMember zs i) (sym w.2) (IsMember-middle w.0 w.1 i))
 
 -- Non-empty lists are those with a member.
-pub has_is_filled : HasIsFilled
-has_is_filled xs = (filled-IsMember xs, λ w. IsMember-filled xs w.0 w.1)
+pub member_is_filled : MemberIsFilled
+member_is_filled xs = (filled-IsMember xs, λ w. IsMember-filled xs w.0 w.1)
 
 -- Two lists written as one are distinct exactly if each is and they are disjoint.
 pub once_in_join : OnceInJoin

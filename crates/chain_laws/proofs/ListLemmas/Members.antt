@@ -157,9 +157,9 @@ distinct (x ∷ xs) once = (differs x xs once.0, distinct xs once.1)
     differs x (y ∷ ys) apart = (ne_eqb x y (λ e. apart (inl (sym e))), differs x ys (λ h. apart (inr h)))
 
 -- A list has what a search through it finds.
-any_Has : (xs : List ℕ) (q : ℕ) → list_any (eqb q) xs ≡ true → IsMember xs q
-any_Has [] q e = absurd (cc)
-any_Has (x ∷ xs) q e = by_test (eqb q x) refl e (any_Has xs q)
+any_member : (xs : List ℕ) (q : ℕ) → list_any (eqb q) xs ≡ true → IsMember xs q
+any_member [] q e = absurd (cc)
+any_member (x ∷ xs) q e = by_test (eqb q x) refl e (any_member xs q)
   where
     by_test : (b : Bool) → eqb q x ≡ b → (b || list_any (eqb q) xs) ≡ true → (list_any (eqb q) xs ≡ true → IsMember xs q) → IsMember (x ∷ xs) q
     by_test true is t rest = inl (sym (eqb-true q x is))
@@ -180,7 +180,7 @@ length_bound xs n once within =
     below_of q (inr h) = let w = within q h in let high : q ≤ n = w.1 in omega arith
 
     below : (q : ℕ) → list_any (eqb q) (0 ∷ xs) ≡ true → q < suc n
-    below q e = below_of q (any_Has (0 ∷ xs) q e)
+    below q e = below_of q (any_member (0 ∷ xs) q e)
 
 -- A list with an item has a last one.
 pub last_apart : (x : ℕ) (xs : List ℕ) → (before : List ℕ) × (k : ℕ) × (x ∷ xs ≡ before ++ k ∷ [])

@@ -7,7 +7,7 @@ use Rattle.std.proofs.lemmas.Bool.{cases_lt, le-leb, lt-leb}
 use Rattle.chain_laws.specs.Chains.{LinkMap, Interlinks, IsMember, HasLink, HasLinksWithin, IsWellLinked, prev_in, next_in}
 use Rattle.chain_laws.specs.Renamings.{IsRenaming}
 use Rattle.chain_laws.specs.Arrangements.{place_in}
-use Rattle.chain_laws.specs.Moves.{moved_index, moved, CanMove, moving, gathered_place, IsGathering, GatheringBegins, GatheringSkips, GatheringContinues, GatheringEnds}
+use Rattle.chain_laws.specs.Moves.{moved_index, with_link_moved, CanMove, index_after_move, gathered_place, IsGathering, GatheringBegins, GatheringSkips, GatheringContinues, GatheringEnds}
 use Rattle.chain_laws.proofs.ListLemmas.Members.{IsMember-left, IsMember-middle, IsMember-parts, IsMember-or_not, AreDistinct-append}
 use Rattle.chain_laws.proofs.ChainLemmas.LinkedLists.{link, reports_valid}
 use Rattle.chain_laws.proofs.InterlinkLemmas.Inverses.{not_both_ways}
@@ -26,7 +26,7 @@ gathered_place-high link_map done k i high = ap (λ t. if t then place_in done i
 
 -- The index of each link after the next move.
 abbrev gathered_on : LinkMap → LinkMap → List ℕ → ℕ → ℕ → Option ℕ
-gathered_on old now done k i = option_and_then (moving now (k + 1) (length done + 1)) (gathered_place old done k i)
+gathered_on old now done k i = option_and_then (index_after_move now (k + 1) (length done + 1)) (gathered_place old done k i)
 
 module _ (old now : LinkMap) (done : List ℕ) (k : ℕ) (gathering : IsGathering old now done k) where
   -- The list has only indexes up to k.
@@ -138,7 +138,7 @@ module _ (old now : LinkMap) (done : List ℕ) (k : ℕ) (gathering : IsGatherin
     -- The new index of a link that was at m.
     moved_on : (i m : ℕ) → gathered_place old done k i ≡ Some m → gathered_on old now done k i ≡ Some (moved_index (k + 1) (length done + 1) m)
     moved_on i m e =
-        ap (option_and_then (moving now (k + 1) (length done + 1))) e
+        ap (option_and_then (index_after_move now (k + 1) (length done + 1))) e
         ∙ sent-valid now m (moved_index (k + 1) (length done + 1) m) (valid_renamed (gathered_place old done k) old now gathering.renamed i m (gathered_from i m e) e)
 
     -- Any other link keeps its index.
@@ -147,7 +147,7 @@ module _ (old now : LinkMap) (done : List ℕ) (k : ℕ) (gathering : IsGatherin
 
     -- An index without a place still has none.
     moved_nowhere : (i : ℕ) → gathered_place old done k i ≡ None → gathered_on old now done k i ≡ None
-    moved_nowhere i e = ap (option_and_then (moving now (k + 1) (length done + 1))) e
+    moved_nowhere i e = ap (option_and_then (index_after_move now (k + 1) (length done + 1))) e
 
     -- The link to be moved is not in the list.
     not_held : IsMember done (k + 1) → ⊥
@@ -184,11 +184,11 @@ module _ (old now : LinkMap) (done : List ℕ) (k : ℕ) (gathering : IsGatherin
             ∙ (sym (place-before_last done (k + 1) i (λ e. omega arith)) ∙ sym (gathered_place-low old (done ++ (k + 1) ∷ []) (k + 1) i (omega arith)))
 
     -- The link has been moved.
-    gone : IsGathering old (moved now (k + 1) (length done + 1)) (done ++ (k + 1) ∷ []) (k + 1)
+    gone : IsGathering old (with_link_moved now (k + 1) (length done + 1)) (done ++ (k + 1) ∷ []) (k + 1)
     gone = record {
       renamed =
-          renaming-same (gathered_on old now done k) (gathered_place old (done ++ (k + 1) ∷ []) (k + 1)) old (moved now (k + 1) (length done + 1)) moved_same
-          (renamings_compose (gathered_place old done k) (moving now (k + 1) (length done + 1)) old now (moved now (k + 1) (length done + 1)) gathering.renamed
+          renaming-same (gathered_on old now done k) (gathered_place old (done ++ (k + 1) ∷ []) (k + 1)) old (with_link_moved now (k + 1) (length done + 1)) moved_same
+          (renamings_compose (gathered_place old done k) (index_after_move now (k + 1) (length done + 1)) old now (with_link_moved now (k + 1) (length done + 1)) gathering.renamed
           (move_renames now (k + 1) (length done + 1) agrees_now can_move));
       once = AreDistinct-append done ((k + 1) ∷ []) gathering.once ((λ h. h), tt) apart;
       holds = λ i. (held i, holds i);

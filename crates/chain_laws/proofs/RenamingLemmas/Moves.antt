@@ -5,7 +5,7 @@ use Rattle.std.proofs.Math.Decide.{ℕ_discrete}
 use Rattle.chain_laws.specs.Chains.{LinkMap, Interlinks, HasLink, IsWellLinked, prev_in, next_in, prev_of, next_of}
 use Rattle.chain_laws.specs.Joins.{next_set, prev_set}
 use Rattle.chain_laws.specs.Renamings.{IsRenaming}
-use Rattle.chain_laws.specs.Moves.{moved_index, with_moved, moved, put, CanMove, moving, MoveRenames, NeighborsDetermineAMove}
+use Rattle.chain_laws.specs.Moves.{moved_index, with_moved, with_link_moved, with_link_placed, CanMove, index_after_move, MoveRenames, NeighborsDetermineAMove}
 use Rattle.chain_laws.proofs.ChainLemmas.LinkedLists.{link, reports_both, reports_valid, next_valid, prev_valid}
 use Rattle.chain_laws.proofs.InterlinkLemmas.Inverses.{if_same, if_other, altered-same, altered-other, one_some, not_both_ways}
 use Rattle.chain_laws.proofs.InterlinkLemmas.Linked.{IsValidAt, put_at, prev_of-next_set, next_of-prev_set, next_of-next_set, prev_of-prev_set, HasLink-next_set, HasLink-prev_set, HasLink-changed}
@@ -32,12 +32,12 @@ sent-from link_map j n m e = by (link_map j) refl e
     by (Some l) is goes = (reports_valid link_map j l is, one_some goes)
 
 -- Each link after a move was there before it.
-put_from : (link_map : LinkMap) (i k m : ℕ) → HasLink (put link_map i k) m → (j : ℕ) × HasLink link_map j × (moved_index i k j ≡ m)
+put_from : (link_map : LinkMap) (i k m : ℕ) → HasLink (with_link_placed link_map i k) m → (j : ℕ) × HasLink link_map j × (moved_index i k j ≡ m)
 put_from link_map i k m valid = by (ℕ_discrete m k) (ℕ_discrete m i)
   where
     by : Dec (m ≡ k) → Dec (m ≡ i) → (j : ℕ) × HasLink link_map j × (moved_index i k j ≡ m)
     by (yes e) rest = (i, reports_valid link_map i valid.link (sym (if_same m k _ _ e) ∙ valid.links), moved_index-same i k i refl ∙ sym e)
-    by (no c) (yes e) = absurd (not_both_ways (put link_map i k m) valid.link (if_other m k _ _ c ∙ if_same m i _ _ e) valid.links)
+    by (no c) (yes e) = absurd (not_both_ways (with_link_placed link_map i k m) valid.link (if_other m k _ _ c ∙ if_same m i _ _ e) valid.links)
     by (no c) (no d) = (m, reports_valid link_map m valid.link (sym (if_other m k _ _ c ∙ if_other m i _ _ d) ∙ valid.links), moved_index-other i k m d)
 
 -- The index after a link is valid.
@@ -68,35 +68,35 @@ module _ (link_map : LinkMap) (i k : ℕ) (agrees : IsWellLinked link_map) (can 
       by (no c) (no d) = sym (moved_index-other i k a c) ∙ (e ∙ moved_index-other i k b d)
 
   -- What was at the index of a link is at its new index.
-  put_to : (other : LinkMap) (j : ℕ) → HasLink link_map j → put other i k (moved_index i k j) ≡ other j
+  put_to : (other : LinkMap) (j : ℕ) → HasLink link_map j → with_link_placed other i k (moved_index i k j) ≡ other j
   put_to other j valid = by (ℕ_discrete j i)
     where
-      by : Dec (j ≡ i) → put other i k (moved_index i k j) ≡ other j
+      by : Dec (j ≡ i) → with_link_placed other i k (moved_index i k j) ≡ other j
       by (yes e) = if_same (moved_index i k j) k _ _ (moved_index-same i k j e) ∙ ap other (sym e)
       by (no d) =
-          ap (put other i k) (moved_index-other i k j d) ∙ (if_other j k _ _ (differs_elsewhere j valid d) ∙ if_other j i _ _ d)
+          ap (with_link_placed other i k) (moved_index-other i k j d) ∙ (if_other j k _ _ (differs_elsewhere j valid d) ∙ if_other j i _ _ d)
 
   -- ---- a renaming
 
   -- The new index of a neighbor, if there is one.
-  maps_to : (o : Option ℕ) → IsValidAt link_map o → option_map (moved_index i k) o ≡ option_and_then (moving link_map i k) o
+  maps_to : (o : Option ℕ) → IsValidAt link_map o → option_map (moved_index i k) o ≡ option_and_then (index_after_move link_map i k) o
   maps_to None valid = refl
   maps_to (Some q) valid = sym (sent-valid link_map q (moved_index i k q) (valid q refl))
 
   -- After the move a link names the new indexes of its neighbors.
   moved_to : (j : ℕ) (u v : Option ℕ) → link_map j ≡ Some (link u v)
-      → moved link_map i k (moved_index i k j) ≡ Some (link (option_map (moved_index i k) u) (option_map (moved_index i k) v))
+      → with_link_moved link_map i k (moved_index i k j) ≡ Some (link (option_map (moved_index i k) u) (option_map (moved_index i k) v))
   moved_to j u v links =
       put_to (λ m. option_map (with_moved i k) (link_map m)) j (reports_valid link_map j (link u v) links) ∙ ap (option_map (with_moved i k)) links
 
   -- Each link after the move was there before it.
-  moved_from : (m : ℕ) → HasLink (moved link_map i k) m → (j : ℕ) × HasLink link_map j × (moved_index i k j ≡ m)
+  moved_from : (m : ℕ) → HasLink (with_link_moved link_map i k) m → (j : ℕ) × HasLink link_map j × (moved_index i k j ≡ m)
   moved_from m valid =
       let j = put_from (λ (a : ℕ). option_map (with_moved i k) (link_map a)) i k m (record { link = valid.link; links = valid.links }) in
       (j.0, (HasLink-changed (λ (a : ℕ). option_map (with_moved i k) (link_map a)) link_map (with_moved i k) j.0 refl).0 j.1, j.2)
 
   -- A move is a renaming.
-  is_renaming : IsRenaming (moving link_map i k) link_map (moved link_map i k)
+  is_renaming : IsRenaming (index_after_move link_map i k) link_map (with_link_moved link_map i k)
   is_renaming = record {
     apart = λ a b m e f.
         let x = sent-from link_map a (moved_index i k a) m e in
@@ -105,7 +105,7 @@ module _ (link_map : LinkMap) (i k : ℕ) (agrees : IsWellLinked link_map) (can 
     each = λ j valid. (moved_index i k j, sent-valid link_map j (moved_index i k j) valid);
     onto = λ m valid. let j = moved_from m valid in (j.0, j.1, sent-valid link_map j.0 (moved_index i k j.0) j.1 ∙ ap Some j.2);
     carries = λ j m u v links e.
-        ap (moved link_map i k) (sym (sent-from link_map j (moved_index i k j) m e).1)
+        ap (with_link_moved link_map i k) (sym (sent-from link_map j (moved_index i k j) m e).1)
         ∙ (moved_to j u v links
         ∙ ap₂ (λ (o p : Option ℕ). Some (link o p)) (maps_to u (λ q s. prev_named link_map j agrees q (ap prev_in links ∙ s))) (maps_to v (λ q s. next_named link_map j agrees q (ap next_in links ∙ s))));
   }
@@ -113,11 +113,11 @@ module _ (link_map : LinkMap) (i k : ℕ) (agrees : IsWellLinked link_map) (can 
   -- ---- writes to the neighbors
 
   -- There are links at the new indexes of the neighbors.
-  neighbor_stored : (o : Option ℕ) → IsValidAt link_map o → IsValidAt (put link_map i k) (option_map (moved_index i k) o)
+  neighbor_stored : (o : Option ℕ) → IsValidAt link_map o → IsValidAt (with_link_placed link_map i k) (option_map (moved_index i k) o)
   neighbor_stored None valid m e = absurd (cc)
   neighbor_stored (Some q) valid m e =
       let stored = valid q refl in
-      reports_valid (put link_map i k) m stored.link (ap (put link_map i k) (sym (one_some e)) ∙ (put_to link_map q stored ∙ stored.links))
+      reports_valid (with_link_placed link_map i k) m stored.link (ap (with_link_placed link_map i k) (sym (one_some e)) ∙ (put_to link_map q stored ∙ stored.links))
 
   -- An index other than i is unchanged.
   named_as_before : (o : Option ℕ) → o ≢ Some i → option_map (moved_index i k) o ≡ o
@@ -140,50 +140,50 @@ module _ (link_map : LinkMap) (i k : ℕ) (agrees : IsWellLinked link_map) (can 
 
   -- The arena after the write to the link before i.
   abbrev next_known : LinkMap
-  next_known = next_set (put link_map i k) (option_map (moved_index i k) (prev_of link_map i)) (Some k)
+  next_known = next_set (with_link_placed link_map i k) (option_map (moved_index i k) (prev_of link_map i)) (Some k)
 
   -- The arena after both writes.
   abbrev both_known : LinkMap
   both_known = prev_set next_known (option_map (moved_index i k) (next_of link_map i)) (Some k)
 
   -- The valid indexes after both writes.
-  known_valid : (m : ℕ) → HasLink both_known m ↔ HasLink (put link_map i k) m
+  known_valid : (m : ℕ) → HasLink both_known m ↔ HasLink (with_link_placed link_map i k) m
   known_valid m =
       let after = HasLink-prev_set next_known (option_map (moved_index i k) (next_of link_map i)) (Some k) m in
-      let before = HasLink-next_set (put link_map i k) (option_map (moved_index i k) (prev_of link_map i)) (Some k) m in
+      let before = HasLink-next_set (with_link_placed link_map i k) (option_map (moved_index i k) (prev_of link_map i)) (Some k) m in
       (λ v. before.0 (after.0 v), λ v. after.1 (before.1 v))
 
   -- Each `next` after both writes.
   known_next : (j : ℕ) → HasLink link_map j → next_of both_known (moved_index i k j) ≡ option_map (moved_index i k) (next_of link_map j)
   known_next j valid =
       next_of-prev_set next_known (option_map (moved_index i k) (next_of link_map i)) (Some k) (moved_index i k j)
-      ∙ (next_of-next_set (put link_map i k) (option_map (moved_index i k) (prev_of link_map i)) (Some k) (moved_index i k j) (neighbor_stored (prev_of link_map i) (prev_named link_map i agrees))
-      ∙ known (next_of link_map) (next_of (put link_map i k)) (prev_of link_map i) j (λ q. ((agrees.both q i).1, (agrees.both q i).0)) (prev_named link_map i agrees) valid (ap next_in (put_to link_map j valid)))
+      ∙ (next_of-next_set (with_link_placed link_map i k) (option_map (moved_index i k) (prev_of link_map i)) (Some k) (moved_index i k j) (neighbor_stored (prev_of link_map i) (prev_named link_map i agrees))
+      ∙ known (next_of link_map) (next_of (with_link_placed link_map i k)) (prev_of link_map i) j (λ q. ((agrees.both q i).1, (agrees.both q i).0)) (prev_named link_map i agrees) valid (ap next_in (put_to link_map j valid)))
 
   -- Each `prev` after both writes.
   known_prev : (j : ℕ) → HasLink link_map j → prev_of both_known (moved_index i k j) ≡ option_map (moved_index i k) (prev_of link_map j)
   known_prev j valid =
       prev_of-prev_set next_known (option_map (moved_index i k) (next_of link_map i)) (Some k) (moved_index i k j) after_stored
       ∙ known (prev_of link_map) (prev_of next_known) (next_of link_map i) j (agrees.both i) (next_named link_map i agrees) valid
-      (prev_of-next_set (put link_map i k) (option_map (moved_index i k) (prev_of link_map i)) (Some k) (moved_index i k j) ∙ ap prev_in (put_to link_map j valid))
+      (prev_of-next_set (with_link_placed link_map i k) (option_map (moved_index i k) (prev_of link_map i)) (Some k) (moved_index i k j) ∙ ap prev_in (put_to link_map j valid))
     where
       after_stored : IsValidAt next_known (option_map (moved_index i k) (next_of link_map i))
       after_stored m e =
-          (HasLink-next_set (put link_map i k) (option_map (moved_index i k) (prev_of link_map i)) (Some k) m).1 (neighbor_stored (next_of link_map i) (next_named link_map i agrees) m e)
+          (HasLink-next_set (with_link_placed link_map i k) (option_map (moved_index i k) (prev_of link_map i)) (Some k) m).1 (neighbor_stored (next_of link_map i) (next_named link_map i agrees) m e)
 
   -- Both writes leave each link as the move does.
-  known_reports : (j : ℕ) → HasLink link_map j → both_known (moved_index i k j) ≡ moved link_map i k (moved_index i k j)
+  known_reports : (j : ℕ) → HasLink link_map j → both_known (moved_index i k j) ≡ with_link_moved link_map i k (moved_index i k j)
   known_reports j valid =
-      let stored = reports_valid (put link_map i k) (moved_index i k j) valid.link (put_to link_map j valid ∙ valid.links) in
+      let stored = reports_valid (with_link_placed link_map i k) (moved_index i k j) valid.link (put_to link_map j valid ∙ valid.links) in
       reports_both both_known (moved_index i k j) _ _ ((known_valid (moved_index i k j)).1 stored) (known_prev j valid) (known_next j valid)
       ∙ sym (moved_to j (prev_of link_map j) (next_of link_map j) (reports_both link_map j (prev_of link_map j) (next_of link_map j) valid refl refl))
 
   -- Both writes make the move.
-  is_known : both_known ≡ moved link_map i k
-  is_known = same_reported both_known (moved link_map i k) (λ m v. at m (put_from link_map i k m ((known_valid m).0 v))) (λ m v. at m (moved_from m v))
+  is_known : both_known ≡ with_link_moved link_map i k
+  is_known = same_reported both_known (with_link_moved link_map i k) (λ m v. at m (put_from link_map i k m ((known_valid m).0 v))) (λ m v. at m (moved_from m v))
     where
-      at : (m : ℕ) → (j : ℕ) × HasLink link_map j × (moved_index i k j ≡ m) → both_known m ≡ moved link_map i k m
-      at m j = subst (λ (a : ℕ). both_known a ≡ moved link_map i k a) j.2 (known_reports j.0 j.1)
+      at : (m : ℕ) → (j : ℕ) × HasLink link_map j × (moved_index i k j ≡ m) → both_known m ≡ with_link_moved link_map i k m
+      at m j = subst (λ (a : ℕ). both_known a ≡ with_link_moved link_map i k a) j.2 (known_reports j.0 j.1)
 
 -- A move to a free index is a renaming.
 pub move_renames : MoveRenames

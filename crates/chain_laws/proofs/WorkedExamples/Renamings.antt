@@ -6,7 +6,7 @@ use Rattle.std.proofs.Common.{refl}
 use Rattle.chain_laws.specs.Chains.{LinkMap, linear, cyclic, all_items, prev_of, next_of}
 use Rattle.chain_laws.specs.Joins.{prev_set, next_set, with_join, with_lone}
 use Rattle.chain_laws.specs.Arrangements.{place_in, in_runs}
-use Rattle.chain_laws.specs.Moves.{moved_index, moved, put, gathered_place}
+use Rattle.chain_laws.specs.Moves.{moved_index, with_link_moved, with_link_placed, gathered_place}
 use Rattle.chain_laws.proofs.ChainLemmas.LinkedLists.{link}
 
 -- The empty arena.
@@ -68,43 +68,43 @@ numbers_row = refl
 -- ---- a link that moves
 
 -- A link that names itself moves from 2 to 1, as its own neighbor.
-ring_moves : moved ring_of_one 2 1 1 ≡ Some (link (Some 1) (Some 1))
+ring_moves : with_link_moved ring_of_one 2 1 1 ≡ Some (link (Some 1) (Some 1))
 ring_moves = refl
 
-ring_leaves : moved ring_of_one 2 1 2 ≡ None
+ring_leaves : with_link_moved ring_of_one 2 1 2 ≡ None
 ring_leaves = refl
 
-ring_put : put ring_of_one 2 1 1 ≡ Some (link (Some 2) (Some 2))
+ring_put : with_link_placed ring_of_one 2 1 1 ≡ Some (link (Some 2) (Some 2))
 ring_put = refl
 
-ring_known : prev_set (next_set (put ring_of_one 2 1) (option_map (moved_index 2 1) (prev_of ring_of_one 2)) (Some 1)) (option_map (moved_index 2 1) (next_of ring_of_one 2)) (Some 1) 1
+ring_known : prev_set (next_set (with_link_placed ring_of_one 2 1) (option_map (moved_index 2 1) (prev_of ring_of_one 2)) (Some 1)) (option_map (moved_index 2 1) (next_of ring_of_one 2)) (Some 1) 1
     ≡ Some (link (Some 1) (Some 1))
 ring_known = refl
 
 -- The start of the chain 3 4 moves to 2; only the end is rewritten.
-start_moves : moved pair 3 2 2 ≡ Some (link None (Some 4))
+start_moves : with_link_moved pair 3 2 2 ≡ Some (link None (Some 4))
 start_moves = refl
 
-end_names : moved pair 3 2 4 ≡ Some (link (Some 2) None)
+end_names : with_link_moved pair 3 2 4 ≡ Some (link (Some 2) None)
 end_names = refl
 
-start_leaves : moved pair 3 2 3 ≡ None
+start_leaves : with_link_moved pair 3 2 3 ≡ None
 start_leaves = refl
 
-end_known : prev_set (next_set (put pair 3 2) (option_map (moved_index 3 2) (prev_of pair 3)) (Some 2)) (option_map (moved_index 3 2) (next_of pair 3)) (Some 2) 4
+end_known : prev_set (next_set (with_link_placed pair 3 2) (option_map (moved_index 3 2) (prev_of pair 3)) (Some 2)) (option_map (moved_index 3 2) (next_of pair 3)) (Some 2) 4
     ≡ Some (link (Some 2) None)
 end_known = refl
 
 -- A link of a cyclic chain of two moves.
-ring_of_two_moves : moved two_chains 2 7 3 ≡ Some (link (Some 7) (Some 7))
+ring_of_two_moves : with_link_moved two_chains 2 7 3 ≡ Some (link (Some 7) (Some 7))
 ring_of_two_moves = refl
 
 -- A link of another chain stays.
-other_chain_stays : moved two_chains 2 7 4 ≡ Some (link (Some 1) None)
+other_chain_stays : with_link_moved two_chains 2 7 4 ≡ Some (link (Some 1) None)
 other_chain_stays = refl
 
 -- A link that moves to its own index changes nothing.
-moves_nowhere : moved two_chains 4 4 1 ≡ Some (link None (Some 4))
+moves_nowhere : with_link_moved two_chains 4 4 1 ≡ Some (link None (Some 4))
 moves_nowhere = refl
 
 -- ---- closed holes
@@ -123,8 +123,8 @@ both_gone : gathered_place pair (3 ∷ 4 ∷ []) 4 4 ≡ Some 2
 both_gone = refl
 
 -- The gathered chain.
-closed_start : moved (moved pair 3 1) 4 2 1 ≡ Some (link None (Some 2))
+closed_start : with_link_moved (with_link_moved pair 3 1) 4 2 1 ≡ Some (link None (Some 2))
 closed_start = refl
 
-closed_end : moved (moved pair 3 1) 4 2 2 ≡ Some (link (Some 1) None)
+closed_end : with_link_moved (with_link_moved pair 3 1) 4 2 2 ≡ Some (link (Some 1) None)
 closed_end = refl

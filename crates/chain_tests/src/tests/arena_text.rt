@@ -71,12 +71,12 @@ static WORDS: [(&[Do], &str, &str); 4] = [
     ),
 ];
 
-fn words() -> &'static [(&'static [Do], &'static str, &'static str)] {
+fn text_rows() -> &'static [(&'static [Do], &'static str, &'static str)] {
     &WORDS
 }
 
 fn check_words<S: SlotStack<Item = SlotOf<String>>>(rt: &impl Abort, alloc: Global) {
-    for row in words() {
+    for row in text_rows() {
         let (calls, plain, sharp) = *row;
         let arena: ChainArena<ToolPtr, String, S> = after(alloc, calls);
         same(rt, "by debug", text(alloc, &arena).as_str(), plain);

@@ -1,7 +1,7 @@
 //! Tests of lists of calls and their replies.
 
 use super::scripts::{Do, Kind, Line, lookup};
-use super::{ChainsOver, Slot, at, fresh, generation, index, limited, same, text};
+use super::{ChainsOver, Slot, at, fresh, fresh_limited, generation, index, same, text};
 use arena_base::ArenaTrait;
 use arena_ptr::{AllocError, LimitStack, SlotStack, ToolPtr};
 use chain_arena::{Call, LinkInsertKind, Reply, run_calls};
@@ -93,7 +93,7 @@ fn replies<S: SlotStack<Item = Slot>>(
     same(rt, what, replies.next().is_none(), true);
 }
 
-fn inserted(replies: &[Reply<ToolPtr, u32>]) -> usize {
+fn insertion_count(replies: &[Reply<ToolPtr, u32>]) -> usize {
     let mut count = 0usize;
     for reply in replies {
         if let Reply::Inserted(Ok(_)) = reply {
@@ -116,7 +116,7 @@ pub(super) fn two_calls<S: SlotStack<Item = Slot>>(
         return Err(AllocError);
     };
     let replies = run_calls(alloc, arena, calls)?;
-    Ok(arena.len() == before.saturating_add(inserted(&replies)))
+    Ok(arena.len() == before.saturating_add(insertion_count(&replies)))
 }
 
 // A name, the calls with their replies, and the reads after them.
@@ -334,6 +334,6 @@ pub(super) fn check_refused_list<S: SlotStack<Item = Slot>>(rt: &impl Abort, all
 }
 
 pub(super) fn check_every_reply<S: LimitStack<Item = Slot>>(rt: &impl Abort, alloc: Global) {
-    let mut arena: ChainsOver<S> = limited(rt, alloc, 3);
+    let mut arena: ChainsOver<S> = fresh_limited(rt, alloc, 3);
     replies(rt, alloc, &mut arena, every_reply());
 }

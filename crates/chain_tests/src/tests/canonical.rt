@@ -8,7 +8,7 @@ use chain_arena::{ChainArena, ChainArenaTrait, LinkNoGen};
 use std::alloc::Global;
 use std::process::Abort;
 
-pub(super) fn counted<S: SlotStack<Item = Slot>>(
+pub(super) fn compress_and_count<S: SlotStack<Item = Slot>>(
     arena: &mut ChainsOver<S>,
     reset: bool,
 ) -> (InvalidationOption<()>, Work) {
@@ -16,11 +16,11 @@ pub(super) fn counted<S: SlotStack<Item = Slot>>(
 }
 
 // Compresses, and returns the number of links placed.
-pub(super) fn placed<S: SlotStack<Item = Slot>>(
+pub(super) fn placement_count<S: SlotStack<Item = Slot>>(
     arena: &mut ChainsOver<S>,
     reset: bool,
 ) -> (InvalidationOption<()>, u128) {
-    let (reply, work) = counted(arena, reset);
+    let (reply, work) = compress_and_count(arena, reset);
     (reply, work.placed)
 }
 
@@ -247,7 +247,7 @@ fn within_bound<S: SlotStack<Item = Slot>>(alloc: Global, count: u32, reset: boo
         remove(&mut arena, (k, 2));
     }
     let links = u128::from(count);
-    let (_, work) = counted(&mut arena, reset);
+    let (_, work) = compress_and_count(&mut arena, reset);
     let slots = links.saturating_mul(2);
     let bound = slots
         .saturating_mul(4)

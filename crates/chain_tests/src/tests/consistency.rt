@@ -1,7 +1,7 @@
 //! Tests of plain arenas of links, which become chain arenas if their interlinks are consistent.
 
 use super::scripts::{Do, Kind, Line, plays};
-use super::{At, ChainsOver, Slot, add_plain, at, chained, fresh_plain, same};
+use super::{At, ChainsOver, Slot, add_plain, at, fresh_plain, same, to_chain_arena};
 use arena_base::{Arena, ArenaTrait};
 use arena_ptr::{SlotStack, ToolPtr};
 use chain_arena::{LinkNoGen, links_agree};
@@ -55,7 +55,7 @@ const REFUSAL: &str = "interlink transitivity does not hold";
 fn agreement<S: SlotStack<Item = Slot>>(arena: Plain<S>) -> (usize, bool, Option<&'static str>) {
     let count = arena.len();
     let agree = links_agree(&arena);
-    (count, agree, chained(arena).err())
+    (count, agree, to_chain_arena(arena).err())
 }
 
 // Returns the rows. Only this body names them, since each step of a body lists what the body names.
@@ -92,14 +92,14 @@ static ACCEPTED: [Line; 5] = [
     ),
 ];
 
-fn accepted<S: SlotStack<Item = Slot>>(rt: &impl Abort, alloc: Global) -> ChainsOver<S> {
+fn accepted_arena<S: SlotStack<Item = Slot>>(rt: &impl Abort, alloc: Global) -> ChainsOver<S> {
     let links = [(0, 3), (0, 0), (1, 0), (0, 0), (5, 5)];
     let arena = plain::<S>(alloc, &links, &[4, 2]);
-    chained(arena).expect(rt, "interlinks that agree")
+    to_chain_arena(arena).expect(rt, "interlinks that agree")
 }
 
 // The conversion keeps indexes, generations, interlinks, counter and freed list.
 pub(super) fn check_accepted<S: SlotStack<Item = Slot>>(rt: &impl Abort, alloc: Global) {
-    let mut arena: ChainsOver<S> = accepted(rt, alloc);
+    let mut arena: ChainsOver<S> = accepted_arena(rt, alloc);
     plays(rt, alloc, "accepted", &mut arena, &ACCEPTED);
 }

@@ -12,7 +12,10 @@ use std::alloc::Global;
 use std::process::Abort;
 
 // Returns the next pointer in a clone, the clone then, and its maximum.
-pub(super) fn cloned<S: SlotStack<Item = Slot>>(alloc: Global, arena: &ChainsOver<S>) -> String {
+pub(super) fn clone_text<S: SlotStack<Item = Slot>>(
+    alloc: Global,
+    arena: &ChainsOver<S>,
+) -> String {
     match arena.clone(alloc) {
         Ok(mut copy) => {
             let next = copy.insert_reallocating(LinkInsertKind::Disconnected, 9);

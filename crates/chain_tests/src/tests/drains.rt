@@ -31,7 +31,7 @@ pub(super) enum Ends {
 
 // Returns what a drain yields. All drains use it, since each place that passes one to code generic
 // over iterators is costly.
-fn yielded<T: Debug + Drop, I: Iterator<Item = T> + Drop>(
+fn drain_text<T: Debug + Drop, I: Iterator<Item = T> + Drop>(
     alloc: Global,
     links: I,
     ends: Ends,
@@ -64,15 +64,15 @@ pub(super) fn drained_chain<S: SlotStack<Item = Slot>>(
     ends: Ends,
 ) -> String {
     match arena.drain_chain(p) {
-        Some(links) => yielded(alloc, links, ends),
+        Some(links) => drain_text(alloc, links, ends),
         None => text(alloc, None::<u32>),
     }
 }
 
-pub(super) fn drained<S: SlotStack<Item = Slot>>(
+pub(super) fn drain_all_text<S: SlotStack<Item = Slot>>(
     alloc: Global,
     arena: &mut ChainsOver<S>,
     ends: Ends,
 ) -> String {
-    yielded(alloc, arena.drain(), ends)
+    drain_text(alloc, arena.drain(), ends)
 }

@@ -8,7 +8,7 @@ ghost use Rattle.chain_links.specs.ChainArena.{entry, link_map, insert_as};
 ghost use Rattle.chain_links.specs.Kinds.{names_in, by_index, MayInsert};
 
 use super::scripts::{Do, Kind, Line, plays};
-use super::{ChainsOver, Slot, limited, same};
+use super::{ChainsOver, Slot, fresh_limited, same};
 use arena_base::ArenaTrait;
 use arena_ptr::{
     ChainInsertionError, LimitStack, MaxCapacityReductionError, ReallocationError, SetMaxCapacity,
@@ -165,7 +165,7 @@ fn in_two_slots() -> [&'static [Line]; 2] {
 // nothing.
 pub(super) fn check_full<S: LimitStack<Item = Slot>>(rt: &impl Abort, alloc: Global) {
     let [full, still] = in_two_slots();
-    let mut arena: ChainsOver<S> = limited(rt, alloc, 2);
+    let mut arena: ChainsOver<S> = fresh_limited(rt, alloc, 2);
     plays(rt, alloc, "a maximum of two", &mut arena, full);
     let less = arena.set_max_capacity(1);
     same(rt, "a less maximum", less, Err(MaxCapacityReductionError));

@@ -1,8 +1,10 @@
 //! The inherent calls of a chain arena, as rows of tables.
 
 use super::call_lists::{kind, two_calls};
-use super::canonical::{both_arranged, carried_in, counted, moves_listed, moves_visited, placed};
-use super::drains::{Ends, drained, drained_chain, remove_all};
+use super::canonical::{
+    both_arranged, carried_in, compress_and_count, moves_listed, moves_visited, placement_count,
+};
+use super::drains::{Ends, drain_all_text, drained_chain, remove_all};
 use super::entries::{
     drop_entry, entry_refusals, forget, insert_by_any_entry, insert_by_entry, insert_if_allowed,
 };
@@ -42,8 +44,8 @@ fn run_layout<S: SlotStack<Item = Slot>>(
     row: Do,
 ) -> String {
     match row {
-        Do::Placed(reset) => text(alloc, placed(arena, reset)),
-        Do::Counted(reset) => text(alloc, counted(arena, reset)),
+        Do::Placed(reset) => text(alloc, placement_count(arena, reset)),
+        Do::Counted(reset) => text(alloc, compress_and_count(arena, reset)),
         Do::MovesVisited(reset) => text(alloc, moves_visited(alloc, arena, reset)),
         Do::MovesListed(reset) => text(alloc, moves_listed(alloc, arena, reset)),
         Do::BothArranged => text(alloc, both_arranged(alloc, arena)),
@@ -83,9 +85,9 @@ fn run_drain<S: SlotStack<Item = Slot>>(
         Do::DrainChain(p) => drained_chain(alloc, arena, at(p), Ends::Empty),
         Do::DrainChainOne(p) => drained_chain(alloc, arena, at(p), Ends::Dropped),
         Do::ForgetChainDrain(p) => drained_chain(alloc, arena, at(p), Ends::Forgotten),
-        Do::Drain => drained(alloc, arena, Ends::Empty),
-        Do::DrainOne => drained(alloc, arena, Ends::Dropped),
-        Do::ForgetDrain => drained(alloc, arena, Ends::Forgotten),
+        Do::Drain => drain_all_text(alloc, arena, Ends::Empty),
+        Do::DrainOne => drain_all_text(alloc, arena, Ends::Dropped),
+        Do::ForgetDrain => drain_all_text(alloc, arena, Ends::Forgotten),
         Do::RemoveAll => text(alloc, remove_all(arena)),
         other => run_placement(alloc, arena, other),
     }

@@ -203,7 +203,7 @@ pub(super) fn plays<A: RunsCalls>(
 }
 
 // Runs a script, and returns its arena.
-pub(super) fn played<A: RunsCalls>(rt: &impl Abort, alloc: Global, script: Script) -> A {
+pub(super) fn arena_of_script<A: RunsCalls>(rt: &impl Abort, alloc: Global, script: Script) -> A {
     let (what, count, pairs, lines) = script;
     let mut arena = A::fresh(alloc);
     begins(rt, alloc, &mut arena, count, pairs);
@@ -213,7 +213,7 @@ pub(super) fn played<A: RunsCalls>(rt: &impl Abort, alloc: Global, script: Scrip
 
 pub(super) fn plays_all<A: RunsCalls + Drop>(rt: &impl Abort, alloc: Global, table: &[Script]) {
     for script in table {
-        let _: A = played(rt, alloc, *script);
+        let _: A = arena_of_script(rt, alloc, *script);
     }
 }
 
@@ -225,7 +225,7 @@ pub(super) fn plays_on<A: RunsCalls + Drop>(
 ) {
     for (script, lists) in table {
         for lines in *lists {
-            let mut arena: A = played(rt, alloc, *script);
+            let mut arena: A = arena_of_script(rt, alloc, *script);
             plays(rt, alloc, script.0, &mut arena, lines);
         }
     }

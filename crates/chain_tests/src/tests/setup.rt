@@ -2,7 +2,7 @@
 
 use super::call_lists::kind;
 use super::scripts::Do;
-use super::{fresh, generation, put, remove};
+use super::{fresh, generation, insert_or_invalid, remove};
 use arena_base::ArenaSlot;
 use arena_ptr::{SlotStack, ToolPtr};
 use chain_arena::{ChainArena, LinkNoGen};
@@ -24,7 +24,7 @@ pub(super) fn after<T: Numbered + Drop, S: SlotStack<Item = SlotOf<T>>>(
     for call in calls {
         match *call {
             Do::Insert(k, n) => {
-                put(&mut arena, kind(k), T::of(alloc, n));
+                insert_or_invalid(&mut arena, kind(k), T::of(alloc, n));
             }
             Do::Remove(p) => {
                 remove(&mut arena, p);

@@ -1,7 +1,7 @@
 //! Tests that no value is lost or cloned twice, by values that count themselves and their clones.
 
 use super::setup::SlotOf;
-use super::{add_plain, at, chained, fresh, fresh_plain, put, remove, same};
+use super::{add_plain, at, fresh, fresh_plain, insert_or_invalid, remove, same, to_chain_arena};
 use arena_base::{Arena, ArenaSlot, ArenaTrait};
 use arena_ptr::{ChunkStack, HeapStack, LimitedStack, PtrKey, SlotStack, ToolPtr};
 use chain_arena::{Call, ChainArena, ChainArenaTrait, LinkInsertKind, LinkNoGen, apply};
@@ -67,7 +67,7 @@ fn lone_values<S: SlotStack<Item = SlotOf<Counted>>>(
     let mut arena: ValuesOver<S> = fresh(alloc);
     for number in numbers {
         let value = value(rt, clones, *number);
-        put(&mut arena, LinkInsertKind::Disconnected, value);
+        insert_or_invalid(&mut arena, LinkInsertKind::Disconnected, value);
     }
     arena
 }
@@ -112,12 +112,12 @@ fn left_by_a_refusal<S: SlotStack<Item = SlotOf<Counted>>>(
     for next in [next, 0] {
         add_plain(&mut arena, (0, next), value(rt, &clones, 0));
     }
-    let made = chained(arena);
+    let made = to_chain_arena(arena);
     (made.is_err(), Rc::strong_count(&clones))
 }
 
 // Returns a clone of an arena, if no value refuses, and its number of links.
-fn cloned<S: SlotStack<Item = SlotOf<Counted>>>(
+fn clone_and_count<S: SlotStack<Item = SlotOf<Counted>>>(
     alloc: Global,
     arena: &ValuesOver<S>,
 ) -> (usize, Option<ValuesOver<S>>) {
@@ -136,12 +136,12 @@ fn cloned_once_more<S: SlotStack<Item = SlotOf<Counted>>>(
     let clones = no_clones(rt, alloc);
     let mut arena: ValuesOver<S> = lone_values(rt, alloc, &clones, &[1, 2, 3]);
     let refused = (
-        cloned(alloc, &arena).0,
+        clone_and_count(alloc, &arena).0,
         clones.get(),
         Rc::strong_count(&clones),
     );
     remove(&mut arena, (2, 2));
-    let (count, copy) = cloned(alloc, &arena);
+    let (count, copy) = clone_and_count(alloc, &arena);
     let made = (count, clones.get(), Rc::strong_count(&clones));
     drop(copy);
     [refused, made]

@@ -1,6 +1,6 @@
 //! Tests that visitors and value maps are returned in the state they reached.
 
-use super::{ChainsOver, Slot, fresh_plain, limited, lone_links, remove, same, text};
+use super::{ChainsOver, Slot, fresh_limited, fresh_plain, lone_links, remove, same, text};
 use arena_base::{Arena, ArenaSlot, ArenaTrait, ValueMap};
 use arena_ptr::{AllocError, LimitStack, ReallocationError, SlotStack, ToolPtr};
 use chain_arena::{LinkNoGen, Visitor};
@@ -126,7 +126,7 @@ pub(super) fn check_counted<
 
 // A copy of two links over an arena of at most one slot calls no value map.
 pub(super) fn check_beyond_one<S: LimitStack<Item = Slot>>(rt: &impl Abort, alloc: Global) {
-    let mut target: ChainsOver<S> = limited(rt, alloc, 1);
+    let mut target: ChainsOver<S> = fresh_limited(rt, alloc, 1);
     let reply = counted_over(alloc, 2, &mut target);
     let want = "(Err(BeyondMaxCapacity), Counting { calls: 0 }, {})";
     same(rt, "one slot at most", reply.as_str(), want);

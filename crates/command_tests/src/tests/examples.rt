@@ -48,7 +48,7 @@ fn number<P: PtrKey>(names: &[P], p: Option<P>) -> u32 {
 }
 
 // Notes a pointer, if there is one, and returns whether it is noted.
-fn noted<P: PtrKey>(names: &mut Vec<P>, came: Option<P>) -> bool {
+fn note<P: PtrKey>(names: &mut Vec<P>, came: Option<P>) -> bool {
     match came {
         Some(p) => names.push(p).is_ok(),
         None => false,
@@ -77,24 +77,29 @@ fn with_digit(number: u32, digit: u32) -> u32 {
 }
 
 // Runs the rows of queues, meshes and documents at one arena.
-fn played<P: PtrKey, A: ChainArenaTrait<P, u32> + Drop>(alloc: Global) -> [Differing; 3] {
+fn first_differences<P: PtrKey, A: ChainArenaTrait<P, u32> + Drop>(
+    alloc: Global,
+) -> [Differing; 3] {
     [
-        run_queue::differing::<P, A>(alloc),
-        mesh::differing::<P, A>(alloc),
-        documents::differing::<P, A>(alloc),
+        run_queue::first_difference::<P, A>(alloc),
+        mesh::first_difference::<P, A>(alloc),
+        documents::first_difference::<P, A>(alloc),
     ]
 }
 
-fn played_by_forwarding<P: PtrKey, A: ChainArenaTrait<P, u32> + Drop>(
+fn first_differences_by_forwarding<P: PtrKey, A: ChainArenaTrait<P, u32> + Drop>(
     alloc: Global,
 ) -> [Differing; 3] {
-    played::<P, ForwardingArena<A>>(alloc)
+    first_differences::<P, ForwardingArena<A>>(alloc)
 }
 
 // Runs them at an arena and at its forwarding arena, and the bookmarks at the arena.
 fn all_played<P: PtrKey, A: Renumbers<P>>(alloc: Global) -> ([[Differing; 3]; 2], Differing) {
-    let both = [played::<P, A>(alloc), played_by_forwarding::<P, A>(alloc)];
-    (both, bookmarks::differing::<P, A>(alloc))
+    let both = [
+        first_differences::<P, A>(alloc),
+        first_differences_by_forwarding::<P, A>(alloc),
+    ];
+    (both, bookmarks::first_difference::<P, A>(alloc))
 }
 
 // What is run at an arena.

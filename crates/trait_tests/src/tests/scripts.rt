@@ -3,7 +3,7 @@
 use super::advancers::{changes_met, met, met_along};
 use super::generic_code::{add_behind, count_of_links, remove_and_step};
 use super::parser::{Do, ParsedCall};
-use super::transfers::carried;
+use super::transfers::run_transfer;
 use super::{At, Numbered, add_lone, number, numbers, rows_of, same, text};
 use arena_base::{Advancer, ArenaTrait, CompactArenaTrait};
 use arena_ptr::{AllocError, InvalidationOption, InvalidationResult, InxKey, PtrKey};
@@ -13,7 +13,7 @@ use std::alloc::Global;
 use std::mem;
 use std::process::Abort;
 
-pub(super) fn overwritten(slot: Option<&mut u32>, value: u32) -> Option<u32> {
+pub(super) fn overwrite(slot: Option<&mut u32>, value: u32) -> Option<u32> {
     match slot {
         Some(t) => Some(mem::replace(t, value)),
         None => None,
@@ -32,7 +32,7 @@ fn new_with_capacity<P: PtrKey, A: ChainArenaTrait<P, u32> + Drop>(
 }
 
 // Clears an arena, and returns whether its capacity is kept.
-fn cleared<P: PtrKey, A: ArenaTrait<P, u32>>(arena: &mut A) -> (InvalidationOption<()>, bool) {
+fn clear<P: PtrKey, A: ArenaTrait<P, u32>>(arena: &mut A) -> (InvalidationOption<()>, bool) {
     let capacity = arena.capacity();
     let outcome = arena.clear();
     (outcome, arena.capacity() == capacity)
@@ -40,7 +40,7 @@ fn cleared<P: PtrKey, A: ArenaTrait<P, u32>>(arena: &mut A) -> (InvalidationOpti
 
 // Compresses, adds ten times the number of the closure's call to each value, and lists what the
 // closure was given.
-fn compressed<P: PtrKey, A: ArenaTrait<P, u32>>(
+fn compress_and_list<P: PtrKey, A: ArenaTrait<P, u32>>(
     alloc: Global,
     arena: &mut A,
     reset: bool,
@@ -55,7 +55,7 @@ fn compressed<P: PtrKey, A: ArenaTrait<P, u32>>(
     (outcome, visited)
 }
 
-fn counted<P: Numbered>(generation: Option<P::Gen>) -> Option<u32> {
+fn generation_number<P: Numbered>(generation: Option<P::Gen>) -> Option<u32> {
     match generation {
         Some(generation) => Some(P::number_of(generation)),
         None => None,
@@ -103,7 +103,7 @@ fn bare_at<P: Numbered, A: ChainArenaTrait<P, u32>>(
     }
 }
 
-fn removed<P: PtrKey>(
+fn bare_removal<P: PtrKey>(
     outcome: InvalidationResult<LinkNoGen<P, u32>>,
 ) -> InvalidationResult<(u32, u32, u32)> {
     match outcome {
@@ -125,7 +125,7 @@ fn lookup<P: Numbered, A: ChainArenaTrait<P, u32> + Drop>(
         Do::IsEmpty => text(alloc, arena.is_empty()),
         Do::HasCapacity => text(alloc, arena.capacity() >= parsed.n as usize),
         Do::Maximum => text(alloc, arena.max_capacity()),
-        Do::Counter => text(alloc, counted::<P>(arena.singular_generation())),
+        Do::Counter => text(alloc, generation_number::<P>(arena.singular_generation())),
         Do::Contains => text(alloc, arena.contains(parsed.p)),
         Do::Get => text(alloc, arena.get(parsed.p)),
         Do::GetInx => text(alloc, entry_value::<P, &u32>(arena.get_inx(parsed.i))),
@@ -210,12 +210,12 @@ fn change_links<P: Numbered, A: ChainArenaTrait<P, u32> + CompactArenaTrait<P, u
     parsed: ParsedCall<P>,
 ) -> Option<String> {
     match parsed.call {
-        Do::RemoveLink => text(alloc, removed::<P>(arena.remove_link_no_gen(parsed.p))),
+        Do::RemoveLink => text(alloc, bare_removal::<P>(arena.remove_link_no_gen(parsed.p))),
         Do::Canonical => text(alloc, arena.compress_canonical(parsed.n > 0)),
         Do::AddBehind => text(alloc, add_behind(arena, parsed.p, parsed.t)),
         Do::TakeNext => text(alloc, index_number(remove_and_step(arena, parsed.i))),
         Do::CarryOut | Do::CarryAsFive | Do::CarryToFull | Do::CarryToBare => {
-            carried(alloc, arena, parsed.call, parsed.n)
+            run_transfer(alloc, arena, parsed.call, parsed.n)
         }
         _ => change(alloc, arena, parsed),
     }
@@ -227,8 +227,8 @@ fn change<P: Numbered, A: ChainArenaTrait<P, u32> + Drop>(
     parsed: ParsedCall<P>,
 ) -> Option<String> {
     match parsed.call {
-        Do::Write => text(alloc, overwritten(arena.get_mut(parsed.p), parsed.t)),
-        Do::WriteInx => text(alloc, overwritten(arena.get_inx_mut(parsed.i), parsed.t)),
+        Do::Write => text(alloc, overwrite(arena.get_mut(parsed.p), parsed.t)),
+        Do::WriteInx => text(alloc, overwrite(arena.get_inx_mut(parsed.i), parsed.t)),
         Do::Remove => text(alloc, arena.remove(parsed.p)),
         Do::RemoveInx => {
             let removed = arena.remove_inx(parsed.i).allow();
@@ -246,9 +246,9 @@ fn change_whole<P: Numbered, A: ChainArenaTrait<P, u32> + Drop>(
 ) -> Option<String> {
     match parsed.call {
         Do::Clear => text(alloc, arena.clear()),
-        Do::ClearAndReserve => text(alloc, cleared(arena)),
+        Do::ClearAndReserve => text(alloc, clear(arena)),
         Do::Reserve => text(alloc, arena.reallocate_min_capacity(parsed.n as usize)),
-        Do::CompressWith => text(alloc, compressed(alloc, arena, parsed.n > 0)),
+        Do::CompressWith => text(alloc, compress_and_list(alloc, arena, parsed.n > 0)),
         _ => lookup(alloc, arena, parsed),
     }
 }

@@ -90,7 +90,7 @@ fn contents<Q: Ptr, S: SlotStack<Item = Slot<Q>>>(
     text(alloc, (arena, counter, arena.max_capacity(), is_little))
 }
 
-fn joined(alloc: Global, reply: Option<String>, listing: Option<String>) -> Option<String> {
+fn in_one_line(alloc: Global, reply: Option<String>, listing: Option<String>) -> Option<String> {
     match (reply, listing) {
         (Some(reply), Some(listing)) => format!(in alloc; "{reply} {listing}").ok(),
         _ => None,
@@ -99,7 +99,7 @@ fn joined(alloc: Global, reply: Option<String>, listing: Option<String>) -> Opti
 
 // Transfers all links to a new target. Returns the result and the closure's arguments, and the
 // target then.
-fn carried_to<
+fn transfer_to<
     P: PtrKey + Debug,
     Q: Ptr,
     A: ChainArenaTrait<P, u32> + CompactArenaTrait<P, u32>,
@@ -107,20 +107,18 @@ fn carried_to<
 >(alloc: Global, source: &mut A, generation: Q::Gen, setup: &TargetSetup) -> Option<String> {
     let mut target: ChainArena<Q, u32, S> = arena_as(alloc, setup);
     let reply = carry(alloc, source, generation, &mut target, setup.returned);
-    joined(alloc, reply, contents(alloc, &target))
+    in_one_line(alloc, reply, contents(alloc, &target))
 }
 
-pub(super) fn carried<P: PtrKey + Debug, A: ChainArenaTrait<P, u32> + CompactArenaTrait<P, u32>>(
-    alloc: Global,
-    source: &mut A,
-    call: Do,
-    n: u32,
-) -> Option<String> {
+pub(super) fn run_transfer<
+    P: PtrKey + Debug,
+    A: ChainArenaTrait<P, u32> + CompactArenaTrait<P, u32>,
+>(alloc: Global, source: &mut A, call: Do, n: u32) -> Option<String> {
     let setup = setup_of(call, n);
     if setup.is_ring {
-        return carried_to::<P, BarePtr, A, LimitedStack<Slot<BarePtr>>>(alloc, source, (), &setup);
+        return transfer_to::<P, BarePtr, A, LimitedStack<Slot<BarePtr>>>(alloc, source, (), &setup);
     }
-    carried_to::<P, ToolPtr, A, LimitedStack<Slot<ToolPtr>>>(alloc, source, Gen32::of(n), &setup)
+    transfer_to::<P, ToolPtr, A, LimitedStack<Slot<ToolPtr>>>(alloc, source, Gen32::of(n), &setup)
 }
 
 // Transfers of a chain of 3 and 1 with a lone link between, and of others. Some have the generation

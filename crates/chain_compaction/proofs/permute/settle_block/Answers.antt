@@ -1,7 +1,7 @@
 -- `settle_block` moves one more link of the block, or shortens the list of its positions.
 use Rattle.std.proofs.Common.{◌+◌, ◌-◌, length, slice_index, subst}
 use Rattle.arena_base.specs.Arena.{slot_at}
-use Rattle.chain_compaction.specs.Permutations.{IsInBlock, waiting, destination_of, Settles, IsWorkOn}
+use Rattle.chain_compaction.specs.Permutations.{IsInBlock, waiting_count, destination_of, Settles, IsWorkOn}
 use Rattle.chain_compaction.proofs.BlockTurnLemmas.{turn_in_block, listing_stays, listing_shrinks, listing_ends, sum_decreases-moved, sum_decreases-shortened, touches_stay, touches_continue, touches_end, one_less_left, none_left, below_bound, turn_within}
 use Rattle.chain_compaction.proofs.PermutationStepLemmas.{settling_continues}
 use Rattle.chain_compaction.proofs.PermutationLoopLemmas.{work_on-after}
@@ -51,7 +51,7 @@ loop-left-preserved-then-settle_once g c =
       lists = listing_stays target c.args.start c.args.count c.loop-left.positions left turn i (slot_at now.held.slots) (slot_at next.held.slots) inv.lists c.wrapped_index-turn.ensures c.inx_at.ensures step.settles.stays;
       capacity = capacity_then old now next inv.capacity step.capacity;
       maximum = maximum_then old now next inv.maximum step.maximum;
-      work = work_on-after old.arena.now now.arena.now next.arena.now (waiting target old.held.slots) (waiting target now.held.slots) (waiting target next.held.slots)
+      work = work_on-after old.arena.now now.arena.now next.arena.now (waiting_count target old.held.slots) (waiting_count target now.held.slots) (waiting_count target next.held.slots)
           (c.args.count - left) 0 (c.args.count - left) inv.work step.work (touches_stay c.args.count left);
       counts = counts_on old now next inv.counts step.counts;
     }
@@ -76,7 +76,7 @@ loop-left-preserved g c =
           (left - 1) (one_less_left left c.loop-left-test.true) c.requires.count step.none;
       capacity = capacity_then old now next inv.capacity step.capacity;
       maximum = maximum_then old now next inv.maximum step.maximum;
-      work = work_on-after old.arena.now now.arena.now next.arena.now (waiting target old.held.slots) (waiting target now.held.slots) (waiting target next.held.slots)
+      work = work_on-after old.arena.now now.arena.now next.arena.now (waiting_count target old.held.slots) (waiting_count target now.held.slots) (waiting_count target next.held.slots)
           (c.args.count - left) 1 (c.args.count - (left - 1)) inv.work step.work (touches_continue c.args.count left c.loop-left-test.true inv.lists.few);
       counts = counts_on old now next inv.counts step.counts;
     }
@@ -84,13 +84,13 @@ loop-left-preserved g c =
 pub loop-left-smaller-then-settle_once : goal.loop-left-smaller-then-settle_once
 loop-left-smaller-then-settle_once g c =
     let target = destination_of g.P.Inx.InxKey.packed_number in
-    sum_decreases-moved (waiting target c.loop-left.compactor.held.slots) (waiting target c.settle_once.new.compactor.held.slots) c.loop-left.left c.if-settle_once.ensures.fewer
+    sum_decreases-moved (waiting_count target c.loop-left.compactor.held.slots) (waiting_count target c.settle_once.new.compactor.held.slots) c.loop-left.left c.if-settle_once.ensures.fewer
 
 pub loop-left-smaller : goal.loop-left-smaller
 loop-left-smaller g c =
     let target = destination_of g.P.Inx.InxKey.packed_number in
     let work = c.if-settle_once.ensures.work in
-    sum_decreases-shortened (waiting target c.loop-left.compactor.held.slots) (waiting target c.settle_once.new.compactor.held.slots) work.moved c.loop-left.left work.count c.loop-left-test.true
+    sum_decreases-shortened (waiting_count target c.loop-left.compactor.held.slots) (waiting_count target c.settle_once.new.compactor.held.slots) work.moved c.loop-left.left work.count c.loop-left-test.true
 
 pub returns : goal.returns
 returns g c =
@@ -104,6 +104,6 @@ returns g c =
       none = listing_ends target c.args.start c.args.count c.loop-left.positions c.loop-left.left (slot_at now.held.slots) inv.lists (none_left c.loop-left.left c.loop-left-test.false);
       capacity = inv.capacity;
       maximum = inv.maximum;
-      work = subst (IsWorkOn old.arena.now now.arena.now (waiting target old.held.slots) (waiting target now.held.slots)) (touches_end c.args.count c.loop-left.left c.loop-left-test.false) inv.work;
+      work = subst (IsWorkOn old.arena.now now.arena.now (waiting_count target old.held.slots) (waiting_count target now.held.slots)) (touches_end c.args.count c.loop-left.left c.loop-left-test.false) inv.work;
       counts = inv.counts;
     }

@@ -1,7 +1,7 @@
 -- `settle_each` moves the link at one more slot, and lists the slot if a link may still wait there.
 use Rattle.std.proofs.Common.{◌≡◌, ◌∙◌, ◌+◌, ◌-◌, ℕ, false, List, sym, ap, subst, arith}
 use Rattle.arena_base.specs.Arena.{slot_at}
-use Rattle.chain_compaction.specs.Permutations.{IsInBlock, ListsWaiting, waiting, destination_of, Settles, IsWorkOn}
+use Rattle.chain_compaction.specs.Permutations.{IsInBlock, ListsWaiting, waiting_count, destination_of, Settles, IsWorkOn}
 use Rattle.chain_compaction.proofs.BlockTurnLemmas.{listing_skips, listing_grows, touches_add, touches_skip, next_in_block, below_64}
 use Rattle.chain_compaction.proofs.PermutationStepLemmas.{settling_continues}
 use Rattle.chain_compaction.proofs.PermutationLoopLemmas.{work_on-after}
@@ -24,8 +24,8 @@ loop-k-preserved g c =
     let next = c.settle_once.new.compactor in
     let inside = next_in_block c.args.start c.args.count k i c.inx_at.ensures c.loop-k-test.true in
     let low = below_64 k c.args.count c.loop-k-test.true c.requires.count in
-    let worked = λ (more all : ℕ) (further : IsWorkOn now.arena.now next.arena.now (waiting target now.held.slots) (waiting target next.held.slots) more). work_on-after old.arena.now now.arena.now next.arena.now
-    (waiting target old.held.slots) (waiting target now.held.slots) (waiting target next.held.slots) (k - left) more all inv.work further in
+    let worked = λ (more all : ℕ) (further : IsWorkOn now.arena.now next.arena.now (waiting_count target now.held.slots) (waiting_count target next.held.slots) more). work_on-after old.arena.now now.arena.now next.arena.now
+    (waiting_count target old.held.slots) (waiting_count target now.held.slots) (waiting_count target next.held.slots) (k - left) more all inv.work further in
     let skips = λ (is : c.settle_once.result ≡ false). listing_skips target c.args.start positions k left i (slot_at now.held.slots) (slot_at next.held.slots) inv.lists c.inx_at.ensures step.settles.stays
     (rw is at step.none) in
     let grows = listing_grows target c.args.start positions k left i (slot_at now.held.slots) (slot_at next.held.slots) inv.lists c.inx_at.ensures step.settles.stays low in

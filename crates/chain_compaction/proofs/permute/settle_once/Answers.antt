@@ -4,7 +4,7 @@ use Rattle.std.specs.Prelude.{not}
 use Rattle.std.specs.Option.{option_map}
 use Rattle.arena_base.specs.Arena.{slot_at}
 use Rattle.arena_base.specs.DetachedSlots.{with_placed_entry}
-use Rattle.chain_compaction.specs.Permutations.{Waits, IsSettling, waiting, destination_of, Settles, IsWorkOn}
+use Rattle.chain_compaction.specs.Permutations.{Waits, IsSettling, waiting_count, destination_of, Settles, IsWorkOn}
 use Rattle.chain_compaction.specs.Destinations.{destination_at}
 use Rattle.chain_compaction.proofs.PermutationStepLemmas.{settling_begins, one_less_after, settles_after, fewer_after, none_after, capacity_after, maximum_after, none_waits}
 use Rattle.chain_compaction.proofs.PermutationLoopLemmas.{work_on-moves, work_on-reads, work_on-either}
@@ -41,8 +41,8 @@ returns-in-Some g c =
       fewer = fewer_after packed_number c.args.generation i d old.held placed.held after.held is c.requires moved emptied.directed (not c.is_same.result);
       capacity = capacity_after packed_number c.args.generation i d old.held placed.held after.held is c.requires moved emptied.directed;
       maximum = maximum_after packed_number c.args.generation i d old.held placed.held after.held is c.requires moved emptied.directed;
-      work = work_on-either old.arena.now after.arena.now (waiting target old.held.slots) (waiting target after.held.slots) (not c.is_same.result)
-          (work_on-moves old.arena.now read.arena.now placed.arena.now after.arena.now (waiting target old.held.slots) (waiting target after.held.slots) was_read.arena c.place.ensures.arena emptied.arena less);
+      work = work_on-either old.arena.now after.arena.now (waiting_count target old.held.slots) (waiting_count target after.held.slots) (not c.is_same.result)
+          (work_on-moves old.arena.now read.arena.now placed.arena.now after.arena.now (waiting_count target old.held.slots) (waiting_count target after.held.slots) was_read.arena c.place.ensures.arena emptied.arena less);
       counts = counts_on old placed after (counts_on old read placed was_read.counts
           (counts_place read.arena.now placed.arena.now read.placed placed.placed read.touched placed.touched c.place.ensures.arena c.place.ensures.placed c.place.ensures.touched)) emptied.counts;
     }
@@ -66,6 +66,6 @@ returns-in-None g c =
       fewer = tt;
       capacity = λ j. (kept j).stack_capacity;
       maximum = λ j. (kept j).maximum;
-      work = subst (λ s. IsWorkOn old.arena.now after.arena.now (waiting target old.held.slots) (waiting target s) 1) (sym slots) (work_on-reads old.arena.now after.arena.now (waiting target old.held.slots) read.was_read.arena);
+      work = subst (λ s. IsWorkOn old.arena.now after.arena.now (waiting_count target old.held.slots) (waiting_count target s) 1) (sym slots) (work_on-reads old.arena.now after.arena.now (waiting_count target old.held.slots) read.was_read.arena);
       counts = read.was_read.counts;
     }

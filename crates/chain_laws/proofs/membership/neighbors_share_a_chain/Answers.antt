@@ -1,5 +1,5 @@
 -- The items of a chain are closed under its interlinks.
-use Rattle.chain_laws.proofs.ChainLemmas.MemberLaws.{neighbors_share_a_chain, chains_share_each, rotations_have_the_same, has_in_all}
+use Rattle.chain_laws.proofs.ChainLemmas.MemberLaws.{neighbors_share_a_chain, chains_share_each, rotations_have_the_same, member_in_all}
 use Rattle.chain_laws.proofs.membership.neighbors_share_a_chain.Goals as goal
 
 pub returns-clause-together : goal.returns-clause-together
@@ -12,4 +12,4 @@ pub returns-clause-rotated : goal.returns-clause-rotated
 returns-clause-rotated c = rotations_have_the_same
 
 pub returns-clause-in_all : goal.returns-clause-in_all
-returns-clause-in_all c = has_in_all
+returns-clause-in_all c = member_in_all

@@ -8,7 +8,7 @@ use Rattle.arena_base.specs.Arena.{with_value}
 use Rattle.chain_links.specs.Links.{links_view, link_view}
 use Rattle.chain_links.specs.ChainArena.{interlinks_in, with_interlinks}
 use Rattle.chain_linking.proofs.NeighborLemmas.{nothing_named}
-use Rattle.chain_linking.proofs.LinkWriteLemmas.{IsWrite, links_view-write, relinked-own}
+use Rattle.chain_linking.proofs.LinkWriteLemmas.{IsWrite, links_view-write, with_link_map-own}
 use Rattle.chain_linking.proofs.link_writes.set_prev.Goals as goal
 
 pub returns-in-Some-get_inx_mut : goal.returns-in-Some-get_inx_mut
@@ -32,4 +32,4 @@ proved_unreachable-assume_proved-requires g c = absurd (
     (sym c.get_inx_mut.ensures.value ∙ ap option_copied_mut c.in-None-get_inx_mut.is) (rw c.in-Some.is at c.requires))
 
 pub returns-in-None : goal.returns-in-None
-returns-in-None g c = rw c.in-None.is (relinked-own (links_view g.P.Inx.InxKey.packed_number c.args.arena.now))
+returns-in-None g c = rw c.in-None.is (with_link_map-own (links_view g.P.Inx.InxKey.packed_number c.args.arena.now))

@@ -4,7 +4,7 @@ use Rattle.std.specs.Prelude.{IfSome}
 use Rattle.std.specs.Option.{option_map}
 use Rattle.chain_laws.specs.Chains.{HasLink}
 use Rattle.chain_laws.specs.Joins.{next_set, prev_set}
-use Rattle.chain_links.specs.ChainArena.{link_map, relinked}
+use Rattle.chain_links.specs.ChainArena.{link_map, with_link_map}
 use Rattle.chain_links.specs.Links.{links_view}
 use Rattle.chain_linking.specs.InsertPositions.{before_in, after_in}
 use Rattle.chain_linking.proofs.NeighborLemmas.{still_named}
@@ -35,5 +35,5 @@ returns g c =
     let b = links_view g.P.Inx.InxKey.packed_number c.set_next.new.arena in
     let q = (g.P.PtrKey.key c.args.p).0 in
     named_by_writes a b (links_view g.P.Inx.InxKey.packed_number c.set_prev.new.arena) (before_in number c.args.position q) (after_in number c.args.position q) q
-    (c.set_next.ensures ∙ ap₂ (λ (u : Option ℕ) (i : ℕ). relinked a (next_set (link_map a) u (Some i))) (c.neighbors_of_position-prev.ensures.before ∙ ap (before_in number c.args.position) c.inx-i.ensures) c.inx-i.ensures)
-    (c.set_prev.ensures ∙ ap₂ (λ (v : Option ℕ) (i : ℕ). relinked b (prev_set (link_map b) v (Some i))) (c.neighbors_of_position-prev.ensures.after ∙ ap (after_in number c.args.position) c.inx-i.ensures) c.inx-i.ensures)
+    (c.set_next.ensures ∙ ap₂ (λ (u : Option ℕ) (i : ℕ). with_link_map a (next_set (link_map a) u (Some i))) (c.neighbors_of_position-prev.ensures.before ∙ ap (before_in number c.args.position) c.inx-i.ensures) c.inx-i.ensures)
+    (c.set_prev.ensures ∙ ap₂ (λ (v : Option ℕ) (i : ℕ). with_link_map b (prev_set (link_map b) v (Some i))) (c.neighbors_of_position-prev.ensures.after ∙ ap (after_in number c.args.position) c.inx-i.ensures) c.inx-i.ensures)

@@ -71,7 +71,7 @@ static REFUSED: [Script; 1] = [(
     ],
 )];
 
-fn refused() -> &'static [Script] {
+fn refused_scripts() -> &'static [Script] {
     &REFUSED
 }
 
@@ -99,7 +99,7 @@ fn arena_texts<A: RunsCalls>(alloc: Global, arena: &mut A) -> Texts {
 
 // Returns whether a call is refused at first, and the arena and the next pointer after it. Checks
 // that a refusal changes nothing, and that a second attempt succeeds.
-fn grown<A: RunsCalls + Drop>(
+fn run_growth<A: RunsCalls + Drop>(
     rt: &impl Abort,
     alloc: Global,
     begin: Do,
@@ -116,7 +116,7 @@ fn grown<A: RunsCalls + Drop>(
     }
     let after = arena_texts(alloc, &mut arena);
     (
-        refused,
+        refused_scripts,
         after,
         arena.run_call(alloc, Do::InsertWithin(Kind::Disconnected, 7)),
     )
@@ -141,8 +141,8 @@ fn check_grown<A: RunsCalls + Drop, B: RunsCalls + Drop>(
     calls: &[Do],
 ) {
     for call in calls {
-        let (_, listing, next) = grown::<B>(rt, alloc, begin, *call);
-        let got = grown::<A>(rt, alloc, begin, *call);
+        let (_, listing, next) = run_growth::<B>(rt, alloc, begin, *call);
+        let got = run_growth::<A>(rt, alloc, begin, *call);
         same(rt, "refused at first", got, (true, listing, next));
     }
 }
@@ -157,7 +157,7 @@ fn check_growths<A: RunsCalls + Drop, B: RunsCalls + Drop>(rt: &impl Abort, allo
         let second = is_refused(alloc, &mut arena, call);
         same(rt, "refused each time", (first, second), (true, true));
     }
-    plays_all::<A>(rt, alloc, refused());
+    plays_all::<A>(rt, alloc, refused_scripts());
     let next = next_is_refused::<A>(rt, alloc);
     same(rt, "the next growth is refused", next, true);
 }
@@ -171,7 +171,7 @@ fn both_texts<A: RunsCalls>(alloc: Global, source: &mut A, target: &mut A) -> Bo
 
 // Returns whether a transfer of many links between arenas with holes is refused at first, and both
 // arenas after it. Checks that a refusal changes neither, and that a second attempt succeeds.
-fn carried<S: SlotStack<Item = Slot>>(rt: &impl Abort, alloc: Global) -> (bool, BothTexts) {
+fn run_transfer<S: SlotStack<Item = Slot>>(rt: &impl Abort, alloc: Global) -> (bool, BothTexts) {
     let mut source: ChainsOver<S> = with_a_hole(alloc, 70);
     let mut target: ChainsOver<S> = begun(alloc, Do::Dig);
     let before = both_texts(alloc, &mut source, &mut target);
@@ -187,8 +187,8 @@ fn carried<S: SlotStack<Item = Slot>>(rt: &impl Abort, alloc: Global) -> (bool, 
 
 // Compares a stack that refuses the transfer at first with one that does not.
 fn check_carried<S: SlotStack<Item = Slot>>(rt: &impl Abort, alloc: Global) {
-    let (_, want) = carried::<S>(rt, alloc);
-    let got = carried::<FailingStack<S>>(rt, alloc);
+    let (_, want) = run_transfer::<S>(rt, alloc);
+    let got = run_transfer::<FailingStack<S>>(rt, alloc);
     same(rt, "refused at first", got, (true, want));
 }
 
@@ -204,7 +204,7 @@ pub(super) fn check_all<S: SlotStack<Item = Slot>>(rt: &impl Abort, alloc: Globa
 fn check_bearing<A: RunsCalls + Drop>(rt: &impl Abort, alloc: Global, begin: Do) {
     for calls in [&GROWTHS[..], &BIRTHS[..], &LISTS[..]] {
         for call in calls {
-            let _ = grown::<A>(rt, alloc, begin, *call);
+            let _ = run_growth::<A>(rt, alloc, begin, *call);
         }
     }
 }
@@ -213,7 +213,7 @@ fn check_bearing_links<S: SlotStack<Item = Slot>>(rt: &impl Abort, alloc: Global
     for begin in [Do::Fill, Do::Dig] {
         check_bearing::<ChainsOver<S>>(rt, alloc, begin);
     }
-    let _ = carried::<S>(rt, alloc);
+    let _ = run_transfer::<S>(rt, alloc);
 }
 
 // Checks also a copy to a plain arena, which is not refused twice.

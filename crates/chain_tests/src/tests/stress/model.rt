@@ -88,7 +88,7 @@ impl Lists {
     }
 
     // Cuts a chain after a link, and returns whether a link followed.
-    pub(super) fn cut(&mut self, rt: &impl Abort, t: u32) -> bool {
+    pub(super) fn cut_after(&mut self, rt: &impl Abort, t: u32) -> bool {
         if self.next(t).is_none() {
             return false;
         }
@@ -110,7 +110,7 @@ impl Lists {
     // Cuts a chain before a link, and returns whether a link preceded.
     pub(super) fn cut_before(&mut self, rt: &impl Abort, t: u32) -> bool {
         match self.prev(t) {
-            Some(prev) => self.cut(rt, prev),
+            Some(prev) => self.cut_after(rt, prev),
             None => false,
         }
     }
@@ -167,7 +167,7 @@ impl Lists {
             return false;
         };
         if let Some(before) = before {
-            self.cut(rt, before);
+            self.cut_after(rt, before);
         }
         let values = Vec::from_array(self.alloc, [t]).expect(rt, "memory");
         self.add(rt, values, matches!(kind, Kind::SingleLinkCyclic));
@@ -195,8 +195,8 @@ impl Lists {
             return false;
         };
         if t != u {
-            self.cut(rt, t);
-            self.cut(rt, u);
+            self.cut_after(rt, t);
+            self.cut_after(rt, u);
             self.join_chains(rt, t, after_u);
             self.join_chains(rt, u, after_t);
         }
@@ -207,7 +207,7 @@ impl Lists {
     pub(super) fn remove(&mut self, rt: &impl Abort, t: u32) -> bool {
         let (prev, next) = (self.prev(t), self.next(t));
         self.cut_before(rt, t);
-        self.cut(rt, t);
+        self.cut_after(rt, t);
         if let (Some(prev), Some(next)) = (prev, next)
             && prev != t
         {

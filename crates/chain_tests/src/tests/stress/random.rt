@@ -2,7 +2,7 @@
 
 use super::model::{Chain, Lists};
 use super::{ChainsOver, Slot, same};
-use crate::tests::{at, fresh, generation, index, limited};
+use crate::tests::{at, fresh, fresh_limited, generation, index};
 use arena_base::{Advancer, ArenaTrait};
 use arena_ptr::{
     ChainInsertionError, InvalidationResult, Inx32, LimitStack, Ptr, SlotStack, ToolPtr,
@@ -83,7 +83,7 @@ struct Step {
 
 // The values of the links that a step names, 0 for none.
 #[derive(Clone, Copy)]
-struct Named {
+struct Names {
     p: u32,
     q: u32,
     i: u32,
@@ -91,7 +91,7 @@ struct Named {
 }
 
 // Returns the kind of a number.
-fn kind_of<P: Copy, I: Copy>(place: u32, p: P, q: P, i: I, j: I) -> InsertKindBody<P, I> {
+fn numbered_kind<P: Copy, I: Copy>(place: u32, p: P, q: P, i: I, j: I) -> InsertKindBody<P, I> {
     match place {
         0 => InsertKindBody::SingleLinkCyclic,
         1 => InsertKindBody::ChainEnd(p),
@@ -136,11 +136,11 @@ fn call_of(step: Step, t: u32) -> Call<ToolPtr, u32> {
     } = step;
     match which {
         Which::Insert => Call::Insert {
-            kind: kind_of(step.kind, p, q, i, j),
+            kind: numbered_kind(step.kind, p, q, i, j),
             t,
         },
         Which::InsertWithin => Call::InsertWithin {
-            kind: kind_of(step.kind, p, q, i, j),
+            kind: numbered_kind(step.kind, p, q, i, j),
             t,
         },
         Which::Connect => Call::Connect(p, q),
@@ -171,13 +171,17 @@ fn whole_call_of(step: Step) -> Call<ToolPtr, u32> {
 }
 
 // Makes a step on the lists, and returns whether it is done.
-fn follow(rt: &impl Abort, lists: &mut Lists, step: Step, named: Named, t: u32) -> bool {
-    let Named { p, q, i, j } = named;
+fn follow(rt: &impl Abort, lists: &mut Lists, step: Step, names: Names, t: u32) -> bool {
+    let Names { p, q, i, j } = names;
     match step.which {
-        Which::Insert | Which::InsertWithin => lists.insert(rt, kind_of(step.kind, p, q, i, j), t),
+        Which::Insert | Which::InsertWithin => lists.insert(
+            rt,
+            numbered_kind(step.kind, p, q, i, j),
+            t,
+        ),
         Which::Connect => lists.connect(rt, p, q),
         Which::BreakPrev => lists.cut_before(rt, p),
-        Which::BreakNext => lists.cut(rt, p),
+        Which::BreakNext => lists.cut_after(rt, p),
         Which::ExchangeNext => lists.exchange(rt, p, q),
         Which::Remove => lists.remove(rt, p),
         Which::RemoveInx => lists.remove(rt, i),
@@ -259,8 +263,8 @@ fn next_step<S: SlotStack<Item = Slot>>(numbers: &mut Numbers, arena: &ChainsOve
     }
 }
 
-fn names_of<S: SlotStack<Item = Slot>>(arena: &ChainsOver<S>, step: Step) -> Named {
-    Named {
+fn names_of<S: SlotStack<Item = Slot>>(arena: &ChainsOver<S>, step: Step) -> Names {
+    Names {
         p: value(arena, step.p),
         q: value(arena, step.q),
         i: value_at(arena, step.i),
@@ -329,22 +333,22 @@ fn check_step<S: SlotStack<Item = Slot>>(
     step: Step,
     t: u32,
 ) -> Option<bool> {
-    let named = names_of(arena, step);
+    let names = names_of(arena, step);
     let done = is_done(&reply(rt, alloc, arena, call_of(step, t)));
     match done {
-        Some(done) => same(rt, "done", follow(rt, lists, step, named, t), done),
-        None => same(rt, "could be", could_be(lists, step, named), true),
+        Some(done) => same(rt, "done", follow(rt, lists, step, names, t), done),
+        None => same(rt, "could be", could_be(lists, step, names), true),
     }
     check(rt, arena, lists);
     done
 }
 
 // Returns whether the lists could make a step, given capacity.
-fn could_be(lists: &Lists, step: Step, named: Named) -> bool {
-    let Named { p, q, i, j } = named;
+fn could_be(lists: &Lists, step: Step, names: Names) -> bool {
+    let Names { p, q, i, j } = names;
     match step.which {
         Which::Insert | Which::InsertWithin => lists
-            .position(kind_of(step.kind, p, q, i, j))
+            .position(numbered_kind(step.kind, p, q, i, j))
             .is_some(),
         Which::Reserve => true,
         _ => false,
@@ -433,7 +437,7 @@ pub(super) fn check_limited_runs<S: LimitStack<Item = Slot>>(
     let mut numbers = Numbers { state: 2 };
     let mut counts = no_counts();
     for _ in 0..10 {
-        let mut arena: ChainsOver<S> = limited(rt, alloc, 6);
+        let mut arena: ChainsOver<S> = fresh_limited(rt, alloc, 6);
         check_run(rt, alloc, &mut arena, &mut numbers, &mut counts);
     }
     check_counts(rt, counts, refused);

@@ -72,7 +72,7 @@ fn not_done<P: PtrKey, A: ChainArenaTrait<P, u32> + Drop>(
 
 // Returns the first bookmark that is missing or reads something else, or `MARKS.len()` if an old
 // pointer is still valid.
-fn followed<P: PtrKey, A: ChainArenaTrait<P, u32> + Drop>(
+fn first_wrong_mark<P: PtrKey, A: ChainArenaTrait<P, u32> + Drop>(
     texts: &Documents<P, u32, A>,
     before: P,
     marks: &[Option<P>],
@@ -105,7 +105,7 @@ fn are_same<P: PtrKey>(marks: &[Option<P>], others: &[Option<P>]) -> bool {
 
 // Renumbers, again if an allocation fails, and returns whether it is done. A refusal changes
 // neither texts nor bookmarks.
-fn renumbered<P: PtrKey, A: Renumbers<P>>(
+fn renumber<P: PtrKey, A: Renumbers<P>>(
     alloc: Global,
     texts: &mut Documents<P, u32, A>,
     names: &[P],
@@ -121,13 +121,13 @@ fn renumbered<P: PtrKey, A: Renumbers<P>>(
 }
 
 // Edits, renumbers, and checks what each bookmark reads.
-pub(super) fn differing<P: PtrKey, A: Renumbers<P>>(alloc: Global) -> Differing {
+pub(super) fn first_difference<P: PtrKey, A: Renumbers<P>>(alloc: Global) -> Differing {
     let mut texts = Documents::<P, u32, A>::new(alloc);
     let mut names = names_of(alloc);
     let not_done = not_done(&mut texts, &mut names);
     let mut marks = marks(alloc, &names);
-    let is_renumbered = renumbered(alloc, &mut texts, &names, marks.as_mut_slice());
-    let differing = followed(&texts, name(&names, 3), &marks);
+    let is_renumbered = renumber(alloc, &mut texts, &names, marks.as_mut_slice());
+    let differing = first_wrong_mark(&texts, name(&names, 3), &marks);
     if is_renumbered {
         not_done.or(differing)
     } else {

@@ -1,6 +1,6 @@
 //! Tests of texts: their paragraphs are inserted, moved and removed, and their parts rearranged.
 
-use super::{Differing, name, names_of, noted, number, with_digit, with_pair};
+use super::{Differing, name, names_of, note, number, with_digit, with_pair};
 use arena_ptr::PtrKey;
 use chain_arena::ChainArenaTrait;
 use chain_examples::Documents;
@@ -54,7 +54,7 @@ const ROWS: [Row; 25] = [
     (Edit::After(1, 5), false, 3, 2, 2),
 ];
 
-fn named(edit: Edit) -> (usize, usize, u32) {
+fn edit_arguments(edit: Edit) -> (usize, usize, u32) {
     match edit {
         Edit::Begin(t) => (0, 0, t),
         Edit::After(n, t) | Edit::Before(n, t) | Edit::Write(n, t) => (n, 0, t),
@@ -65,25 +65,25 @@ fn named(edit: Edit) -> (usize, usize, u32) {
 }
 
 // Makes an edit, and returns whether it is done.
-fn edited<P: PtrKey, A: ChainArenaTrait<P, u32> + Drop>(
+fn apply_edit<P: PtrKey, A: ChainArenaTrait<P, u32> + Drop>(
     texts: &mut Documents<P, u32, A>,
     names: &mut Vec<P>,
     edit: Edit,
 ) -> bool {
-    let (n, m, t) = named(edit);
+    let (n, m, t) = edit_arguments(edit);
     let (p, q) = (name(names, n), name(names, m));
     match edit {
-        Edit::Begin(_) => noted(names, texts.begin(t).ok()),
-        Edit::After(..) => noted(names, texts.insert_after(p, t).ok()),
-        Edit::Before(..) => noted(names, texts.insert_before(p, t).ok()),
-        Edit::Write(..) => written(texts, p, t),
+        Edit::Begin(_) => note(names, texts.begin(t).ok()),
+        Edit::After(..) => note(names, texts.insert_after(p, t).ok()),
+        Edit::Before(..) => note(names, texts.insert_before(p, t).ok()),
+        Edit::Write(..) => write(texts, p, t),
         Edit::Reserve(n) => texts.reserve(n).is_ok() && texts.capacity() - texts.len() >= n,
         Edit::Count(n) => texts.len() == n && texts.is_empty() == (n == 0),
-        _ => moved(texts, edit, p, q),
+        _ => rearrange(texts, edit, p, q),
     }
 }
 
-fn written<P: PtrKey, A: ChainArenaTrait<P, u32> + Drop>(
+fn write<P: PtrKey, A: ChainArenaTrait<P, u32> + Drop>(
     texts: &mut Documents<P, u32, A>,
     p: P,
     t: u32,
@@ -97,7 +97,7 @@ fn written<P: PtrKey, A: ChainArenaTrait<P, u32> + Drop>(
     }
 }
 
-fn moved<P: PtrKey, A: ChainArenaTrait<P, u32> + Drop>(
+fn rearrange<P: PtrKey, A: ChainArenaTrait<P, u32> + Drop>(
     texts: &mut Documents<P, u32, A>,
     edit: Edit,
     p: P,
@@ -151,11 +151,11 @@ pub(super) fn made<P: PtrKey, A: ChainArenaTrait<P, u32> + Drop>(
     edit: Edit,
 ) -> Option<bool> {
     let before = contents(texts, names);
-    if edited(texts, names, edit) {
+    if apply_edit(texts, names, edit) {
         return Some(true);
     }
     if contents(texts, names) == before {
-        Some(edited(texts, names, edit))
+        Some(apply_edit(texts, names, edit))
     } else {
         None
     }
@@ -172,7 +172,9 @@ fn holds<P: PtrKey, A: ChainArenaTrait<P, u32> + Drop>(
     is_done == Some(done) && read(texts, from, false) == ahead && read(texts, from, true) == behind
 }
 
-pub(super) fn differing<P: PtrKey, A: ChainArenaTrait<P, u32> + Drop>(alloc: Global) -> Differing {
+pub(super) fn first_difference<P: PtrKey, A: ChainArenaTrait<P, u32> + Drop>(
+    alloc: Global,
+) -> Differing {
     let mut texts = Documents::<P, u32, A>::new(alloc);
     let mut names = names_of(alloc);
     for (place, row) in ROWS.iter().enumerate() {

@@ -1,6 +1,6 @@
 //! Tests of a mesh: a square is triangulated and merged again.
 
-use super::{Differing, name, names_of, noted, number, same, with_digit, with_pair};
+use super::{Differing, name, names_of, note, number, same, with_digit, with_pair};
 use arena_ptr::{InxKey, PtrKey};
 use chain_arena::ChainArenaTrait;
 use chain_examples::Mesh;
@@ -58,7 +58,7 @@ const BESIDE_A_HOLE: [Row; 6] = [
     (Change::Split(1, 3), true, 4, 413),
 ];
 
-fn named(change: Change) -> (usize, usize, u32) {
+fn change_arguments(change: Change) -> (usize, usize, u32) {
     match change {
         Change::Start(t) => (0, 0, t),
         Change::After(n, t) => (n, 0, t),
@@ -75,28 +75,28 @@ fn split<P: PtrKey, A: ChainArenaTrait<P, u32> + Drop>(
     q: P,
 ) -> bool {
     match mesh.split(p, q) {
-        Ok(Some((c, d))) => noted(names, Some(c)) && noted(names, Some(d)),
+        Ok(Some((c, d))) => note(names, Some(c)) && note(names, Some(d)),
         _ => false,
     }
 }
 
 // Makes a change, and returns whether it is done.
-fn changed<P: PtrKey, A: ChainArenaTrait<P, u32> + Drop>(
+fn apply_change<P: PtrKey, A: ChainArenaTrait<P, u32> + Drop>(
     mesh: &mut Mesh<P, u32, A>,
     names: &mut Vec<P>,
     change: Change,
 ) -> bool {
-    let (n, m, t) = named(change);
+    let (n, m, t) = change_arguments(change);
     let (p, q) = (name(names, n), name(names, m));
     match change {
-        Change::Start(_) => noted(names, mesh.start(t).ok()),
-        Change::After(..) => noted(names, mesh.insert_after(p, t).ok()),
+        Change::Start(_) => note(names, mesh.start(t).ok()),
+        Change::After(..) => note(names, mesh.insert_after(p, t).ok()),
         Change::Split(..) => split(mesh, names, p, q),
-        _ => relinked(mesh, change, p, q),
+        _ => rearrange(mesh, change, p, q),
     }
 }
 
-fn relinked<P: PtrKey, A: ChainArenaTrait<P, u32> + Drop>(
+fn rearrange<P: PtrKey, A: ChainArenaTrait<P, u32> + Drop>(
     mesh: &mut Mesh<P, u32, A>,
     change: Change,
     p: P,
@@ -147,11 +147,11 @@ fn made<P: PtrKey, A: ChainArenaTrait<P, u32> + Drop>(
     change: Change,
 ) -> Option<bool> {
     let before = contents(mesh, names);
-    if changed(mesh, names, change) {
+    if apply_change(mesh, names, change) {
         return Some(true);
     }
     if contents(mesh, names) == before {
-        Some(changed(mesh, names, change))
+        Some(apply_change(mesh, names, change))
     } else {
         None
     }
@@ -185,7 +185,9 @@ pub(super) fn split_beside_a_hole<P: PtrKey, A: ChainArenaTrait<P, u32> + Drop>(
     )
 }
 
-pub(super) fn differing<P: PtrKey, A: ChainArenaTrait<P, u32> + Drop>(alloc: Global) -> Differing {
+pub(super) fn first_difference<P: PtrKey, A: ChainArenaTrait<P, u32> + Drop>(
+    alloc: Global,
+) -> Differing {
     let mut mesh = Mesh::<P, u32, A>::new(alloc);
     let mut names = names_of(alloc);
     for (place, row) in ROWS.iter().enumerate() {

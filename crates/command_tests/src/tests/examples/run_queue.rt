@@ -1,6 +1,6 @@
 //! Tests of a run queue: five tasks in turn, with cancellations.
 
-use super::{Differing, name, names_of, noted, number, with_digit, with_pair};
+use super::{Differing, name, names_of, note, number, with_digit, with_pair};
 use arena_ptr::PtrKey;
 use chain_arena::ChainArenaTrait;
 use chain_examples::RunQueue;
@@ -71,18 +71,18 @@ const ROWS: [(Operation, u32); 35] = [
     (Operation::IsEmpty, 1),
 ];
 
-fn spawned<P: PtrKey, A: ChainArenaTrait<P, u32> + Drop>(
+fn spawn<P: PtrKey, A: ChainArenaTrait<P, u32> + Drop>(
     queue: &mut RunQueue<P, u32, A>,
     names: &mut Vec<P>,
     task: u32,
 ) -> u32 {
     let came = queue.spawn(task).ok();
-    noted(names, came);
+    note(names, came);
     number(names, came)
 }
 
 // Returns the tasks left, in turn, or 0 if there are none or no memory for them.
-fn drained<P: PtrKey, A: ChainArenaTrait<P, u32> + Drop>(
+fn drain<P: PtrKey, A: ChainArenaTrait<P, u32> + Drop>(
     alloc: Global,
     queue: &mut RunQueue<P, u32, A>,
 ) -> u32 {
@@ -96,7 +96,7 @@ fn drained<P: PtrKey, A: ChainArenaTrait<P, u32> + Drop>(
 }
 
 // Replaces a task and returns the old one, or 0 if there is none.
-fn written<P: PtrKey, A: ChainArenaTrait<P, u32> + Drop>(
+fn write<P: PtrKey, A: ChainArenaTrait<P, u32> + Drop>(
     queue: &mut RunQueue<P, u32, A>,
     p: P,
     task: u32,
@@ -107,7 +107,7 @@ fn written<P: PtrKey, A: ChainArenaTrait<P, u32> + Drop>(
     }
 }
 
-fn reserved<P: PtrKey, A: ChainArenaTrait<P, u32> + Drop>(
+fn reserve<P: PtrKey, A: ChainArenaTrait<P, u32> + Drop>(
     queue: &mut RunQueue<P, u32, A>,
     n: usize,
 ) -> u32 {
@@ -122,12 +122,12 @@ fn done<P: PtrKey, A: ChainArenaTrait<P, u32> + Drop>(
     operation: Operation,
 ) -> u32 {
     match operation {
-        Operation::Spawn(task) => spawned(queue, names, task),
+        Operation::Spawn(task) => spawn(queue, names, task),
         Operation::Next => number(names, queue.next()),
         Operation::Cancel(n) => queue.cancel(name(names, n)).unwrap_or(0),
-        Operation::Write(n, task) => written(queue, name(names, n), task),
-        Operation::Reserve(n) => reserved(queue, n),
-        Operation::Drain => drained(alloc, queue),
+        Operation::Write(n, task) => write(queue, name(names, n), task),
+        Operation::Reserve(n) => reserve(queue, n),
+        Operation::Drain => drain(alloc, queue),
         lookup => lookups_agree(queue, names, lookup),
     }
 }
@@ -178,7 +178,9 @@ fn holds<P: PtrKey, A: ChainArenaTrait<P, u32> + Drop>(
     contents(queue, names) == before && done(alloc, queue, names, operation) == want
 }
 
-pub(super) fn differing<P: PtrKey, A: ChainArenaTrait<P, u32> + Drop>(alloc: Global) -> Differing {
+pub(super) fn first_difference<P: PtrKey, A: ChainArenaTrait<P, u32> + Drop>(
+    alloc: Global,
+) -> Differing {
     let mut queue = RunQueue::<P, u32, A>::new(alloc);
     let mut names = names_of(alloc);
     for (place, row) in ROWS.iter().enumerate() {

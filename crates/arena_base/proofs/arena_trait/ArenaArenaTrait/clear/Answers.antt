@@ -1,6 +1,6 @@
 -- No slot remains.
 use Rattle.std.proofs.Common.{ap, ◌∙◌}
-use Rattle.arena_base.specs.Arena.{cleared}
+use Rattle.arena_base.specs.Arena.{arena_after_clear}
 use Rattle.arena_base.specs.Slots.{freed_of}
 use Rattle.arena_base.specs.Entries.{view_of}
 use Rattle.arena_base.proofs.ArenaViewLemmas.{length-entries, viewed_cleared}
@@ -17,9 +17,9 @@ returns g c =
     let inside = c.self.inside in
     let made = c.after_clear-generation.ensures in
     let after = cleared_view g.P.Inx.InxKey.number (g.S.SlotStack.items inside.slots) (g.S.SlotStack.items c.truncate.new.self) (freed_of g.P.Inx.InxKey.number (g.S.SlotStack.items inside.slots) inside.first_free) inside.counter c.after_clear-generation.result.0 g.P.Inx.InxKey.greatest (g.S.SlotStack.capacity inside.slots) (g.S.SlotStack.capacity c.truncate.new.self) (g.S.SlotStack.maximum inside.slots) (g.S.SlotStack.maximum c.truncate.new.self) inside.placed.count inside.touched.count
-    inside.len following c.truncate.ensures.items c.truncate.ensures.capacity c.truncate.ensures.maximum c.self.invariant.counted made.next ∙ ap (cleared following) c.self.view_is in
+    inside.len following c.truncate.ensures.items c.truncate.ensures.capacity c.truncate.ensures.maximum c.self.invariant.counted made.next ∙ ap (arena_after_clear following) c.self.view_is in
     record {
-      overflow = rw (length-entries c.args.self.now, ← c.self.view_is, ← c.self.invariant.counted, ← made.overflow) c.invalidated.ensures;
+      overflow = rw (length-entries c.args.self.now, ← c.self.view_is, ← c.self.invariant.counted, ← made.overflow) c.with_overflow.ensures;
       after = ap view_of after ∙ viewed_cleared following c.args.self.now;
       more = after;
     }

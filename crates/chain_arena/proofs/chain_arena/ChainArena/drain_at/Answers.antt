@@ -8,11 +8,11 @@ returns-in-Some-entry g c =
     let number = g.P.Inx.InxKey.number in
     let packed = g.P.Inx.InxKey.packed_number in
     let removal = c.remove_inx_link_no_gen.ensures in
-    let yields = c.yielded.ensures in record {
+    let yields = c.drain_item.ensures in record {
       none = tt;
       some =
-          drained_step g.P.PtrKey.key packed g.P.Gen.GenKey.following g.P.Gen.GenKey.wraps c.args.self.now c.remove_inx_link_no_gen.new.self c.args.at (number c.in-Some.i) c.yielded.result.0
-          c.remove_inx_link_no_gen.result c.in-Some.ensures.some removal.agreed removal.returned c.in-Some-entry.entry c.overflowing-entry.result.1 c.yielded.result.1
+          drained_step g.P.PtrKey.key packed g.P.Gen.GenKey.following g.P.Gen.GenKey.wraps c.args.self.now c.remove_inx_link_no_gen.new.self c.args.at (number c.in-Some.i) c.drain_item.result.0
+          c.remove_inx_link_no_gen.result c.in-Some.ensures.some removal.agreed removal.returned c.in-Some-entry.entry c.overflowing-entry.result.1 c.drain_item.result.1
           removal.overflow (λ stored. (removal.more stored).state) (sym (ap (λ x. x.0) c.overflowing-entry.ensures) ∙ c.in-Some-entry.is) (ap (λ x. x.1) c.overflowing-entry.ensures)
           yields.ptr yields.link yields.overflow yields.next;
       agreed = removal.agreed;

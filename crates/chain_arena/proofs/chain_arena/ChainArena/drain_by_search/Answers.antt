@@ -37,10 +37,10 @@ returns-in-Some-entry-clause-some g c =
     let index : c.number_or_zero.result ≡ (key p).0 = nonzero_index-is c.number_or_zero.result _ c.number_or_zero.ensures.index ∙ c.inx-in-Some-entry.ensures in
     drained_first key following wraps a b c.args.at c.saturating_add-behind.result p c.in-Some.ensures (option_map (λ e. e.1.t) v)
     (value_alone_known packed following a b _ v made.returned ∙ ap (λ (n : ℕ). option_map (λ e. e.1) (entry_at (values_of a) n)) c.inx.ensures)
-    c.in-Some-entry.link.t c.overflowing-entry.result.1 c.invalidated.result
+    c.in-Some-entry.link.t c.overflowing-entry.result.1 c.with_overflow.result
     (viewed_at packed following a b _ v made.returned made.removal (key p) c.inx.ensures valid ∙ ap (entry_removed following (value_view a)) c.inx.ensures)
     ((removal_at packed following a b _ v made.returned made.removal (key p) c.inx.ensures valid).state ∙ ap (remove_link following a) c.inx.ensures)
     (ap (option_map (λ e. e.1.t)) has)
     (ap (λ x. x.1) c.overflowing-entry.ensures ∙ overflow_known (wraps a.counter) c.unlink.result _ made.overflow has)
-    c.invalidated.ensures
+    c.with_overflow.ensures
     (subst (λ i. IsBehind i c.saturating_add-behind.result) index (is_behind _ c.number_or_zero.result c.saturating_add-behind.result c.saturating_add-behind.ensures (omega (arith, c.number_or_zero.type_inv))))

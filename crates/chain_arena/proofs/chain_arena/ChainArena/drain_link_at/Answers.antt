@@ -30,11 +30,11 @@ returns-in-Some-clause-some g c =
     ap (entry a) (sym index) ∙ (sym (value_known packed following a b _ v made.returned)
     ∙ (ap (option_map (λ e. (e.0, e.1.t))) has ∙ ap (λ h. let o : Option (_ × _) = Some (h, t) in o) (sym (ap (λ k. k.1) keyed)))) in
     let first = stored_first a c.args.at (key p) t at stored in
-    let responded : c.invalidated.result ≡ invalidation_option c.overflowing-entry.result.1 (p, t) = search of_calls in
+    let responded : c.with_overflow.result ≡ invalidation_option c.overflowing-entry.result.1 (p, t) = search of_calls in
     let valid = first_valid a c.args.at (key p) first in
     drained_first key following wraps a b c.args.at c.saturating_add.result p first (option_map (λ e. e.1.t) v)
     (value_alone_known packed following a b _ v made.returned ∙ ap (λ (n : ℕ). option_map (λ e. e.1) (entry_at (values_of a) n)) named)
-    t c.overflowing-entry.result.1 c.invalidated.result
+    t c.overflowing-entry.result.1 c.with_overflow.result
     (viewed_at packed following a b _ v made.returned made.removal (key p) named valid ∙ ap (entry_removed following (value_view a)) named)
     ((removal_at packed following a b _ v made.returned made.removal (key p) named valid).state ∙ ap (remove_link following a) named)
     (ap (option_map (λ e. e.1.t)) has)

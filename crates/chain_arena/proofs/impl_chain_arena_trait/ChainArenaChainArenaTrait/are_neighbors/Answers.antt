@@ -16,8 +16,8 @@ states : (g : Over) (c : After-is_index g) → let s = links_view g.P.Inx.InxKey
     ↔ (IsValid (entry s) (g.P.PtrKey.key c.args.p) × IsValid (entry s) (g.P.PtrKey.key c.args.q) × AreNeighbors (link_map s) (g.P.PtrKey.key c.args.p).0 (g.P.PtrKey.key c.args.q).0)
 states g c valid = (
   λ yes. let named = c.is_index.ensures.0 yes in let stored = c.next_of.ensures.some (sym (is_some-map _ c.next_of.result) ∙ ap is_some named) in
-      (stored, valid, sym (c.next_of.ensures.named stored) ∙ (named ∙ ap Some c.inx.ensures)),
-  λ h. c.is_index.ensures.1 (c.next_of.ensures.named h.0 ∙ (h.2 ∙ sym (ap Some c.inx.ensures))),
+      (stored, valid, sym (c.next_of.ensures.neighbor stored) ∙ (named ∙ ap Some c.inx.ensures)),
+  λ h. c.is_index.ensures.1 (c.next_of.ensures.neighbor h.0 ∙ (h.2 ∙ sym (ap Some c.inx.ensures))),
 )
 
 pub returns-then-contains : goal.returns-then-contains

@@ -9,7 +9,7 @@ use Rattle.chain_laws.proofs.ChainLemmas.LinkedLists.{next_valid, prev_valid}
 use Rattle.arena_base.specs.Arena.{Arena}
 use Rattle.arena_base.specs.Entries.{view_of}
 use Rattle.chain_links.specs.Links.{links_view}
-use Rattle.chain_links.specs.ChainArena.{LinkView, relinked, link_map}
+use Rattle.chain_links.specs.ChainArena.{LinkView, with_link_map, link_map}
 use Rattle.chain_arena.proofs.BreakAndExchangeLemmas.{at_known, cut_values, cut_reports, agrees_cut, cut_known}
 use Rattle.chain_arena.proofs.impl_chain_arena_trait.ChainArenaChainArenaTrait.break_next.Given.{Over}
 use Rattle.chain_arena.proofs.impl_chain_arena_trait.ChainArenaChainArenaTrait.break_next.Goals.{After-link_twice}
@@ -24,21 +24,21 @@ cut_links g c = links_view g.P.Inx.InxKey.packed_number c.link_twice.new.arena
 
 -- The neighbor.
 known : (g : Over) (c : After-link_twice g) → next_of (link_map (links g c)) (g.P.PtrKey.key c.args.p).0 ≡ Some (g.P.Inx.InxKey.number c.in-Some.after)
-known g c = sym (c.in-Some.ensures.named (c.in-Some.ensures.some refl))
+known g c = sym (c.in-Some.ensures.neighbor (c.in-Some.ensures.some refl))
 
 pair : (g : Over) (c : After-link_twice g) → AreNeighbors (link_map (links g c)) (g.P.PtrKey.key c.args.p).0 (g.P.Inx.InxKey.number c.in-Some.after)
 pair g c = known g c
 
 -- The links written are the cut.
-is_cut : (g : Over) (c : After-link_twice g) → cut_links g c ≡ relinked (links g c) (without_pair (link_map (links g c)) (g.P.PtrKey.key c.args.p).0 (g.P.Inx.InxKey.number c.in-Some.after))
-is_cut g c = c.link_twice.ensures ∙ ap (λ (i : ℕ). relinked (links g c) (without_pair (link_map (links g c)) i (g.P.Inx.InxKey.number c.in-Some.after))) c.inx.ensures
+is_cut : (g : Over) (c : After-link_twice g) → cut_links g c ≡ with_link_map (links g c) (without_pair (link_map (links g c)) (g.P.PtrKey.key c.args.p).0 (g.P.Inx.InxKey.number c.in-Some.after))
+is_cut g c = c.link_twice.ensures ∙ ap (λ (i : ℕ). with_link_map (links g c) (without_pair (link_map (links g c)) i (g.P.Inx.InxKey.number c.in-Some.after))) c.inx.ensures
 
 pub link_twice-requires : goal.link_twice-requires
 link_twice-requires g c =
     let s = link_map (links_view g.P.Inx.InxKey.packed_number c.self.inside.arena) in
     let p = (g.P.PtrKey.key c.args.p).0 in
     let after = g.P.Inx.InxKey.number c.in-Some.after in
-    let at : next_of s p ≡ Some after = sym (c.in-Some.ensures.named (c.in-Some.ensures.some refl)) in
+    let at : next_of s p ≡ Some after = sym (c.in-Some.ensures.neighbor (c.in-Some.ensures.some refl)) in
     record {
       first_prev = subst (HasLink s) (sym c.inx.ensures) (next_valid s p after at);
       first_next = tt;
@@ -69,7 +69,7 @@ returns-in-Some g c =
 
 pub returns-in-None : goal.returns-in-None
 returns-in-None g c = rw (← c.self.view_is) (record {
-  some = ((λ no. absurd (false≢true no)), λ can. absurd (false≢true (ap is_some (c.in-None.ensures.named can.0) ∙ can.1)));
+  some = ((λ no. absurd (false≢true no)), λ can. absurd (false≢true (ap is_some (c.in-None.ensures.neighbor can.0) ∙ can.1)));
   cut = tt;
   chains = tt;
   view_after = tt;

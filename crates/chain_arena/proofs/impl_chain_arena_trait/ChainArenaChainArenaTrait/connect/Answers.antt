@@ -6,19 +6,19 @@ use Rattle.chain_laws.specs.Joins.{with_join}
 use Rattle.arena_base.specs.Arena.{entry_at}
 use Rattle.arena_base.specs.Entries.{view_of}
 use Rattle.chain_links.specs.Links.{links_view}
-use Rattle.chain_links.specs.ChainArena.{values_of, CanConnect, relinked, link_map}
+use Rattle.chain_links.specs.ChainArena.{values_of, CanConnect, with_link_map, link_map}
 use Rattle.chain_linking.proofs.ConnectionLemmas.{links, joined-values, joined-agrees, joined-pair, joined-chains}
 use Rattle.chain_arena.specs.Effects.{Links}
 use Rattle.chain_arena.proofs.impl_chain_arena_trait.ChainArenaChainArenaTrait.connect.Goals as goal
 
 module _ {X Gen T : Type 0} (a b : Links Gen T) (p q : ℕ × Gen) where
-  agrees_after : (o : Option X) → IsSome o ↔ CanConnect (entry_at (values_of a)) (link_map a) p q → OnSome o (b ≡ relinked a (with_join (link_map a) p.0 q.0)) → IfNone o (b ≡ a) → IsWellLinked (link_map a) → IsWellLinked (link_map b)
+  agrees_after : (o : Option X) → IsSome o ↔ CanConnect (entry_at (values_of a)) (link_map a) p q → OnSome o (b ≡ with_link_map a (with_join (link_map a) p.0 q.0)) → IfNone o (b ≡ a) → IsWellLinked (link_map a) → IsWellLinked (link_map b)
   agrees_after None may is none agrees = subst (λ (x : Links Gen T). IsWellLinked (link_map x)) (sym none) agrees
   agrees_after (Some x) may is none agrees = joined-agrees a b p q (may.0 refl) is agrees
 
   -- If they may be joined, the consequences of the join hold.
-  known : {Y : Type 0} (o : Option X) → IsSome o ↔ CanConnect (entry_at (values_of a)) (link_map a) p q → OnSome o (b ≡ relinked a (with_join (link_map a) p.0 q.0))
-      → (CanConnect (entry_at (values_of a)) (link_map a) p q → b ≡ relinked a (with_join (link_map a) p.0 q.0) → Y) → OnSome o Y
+  known : {Y : Type 0} (o : Option X) → IsSome o ↔ CanConnect (entry_at (values_of a)) (link_map a) p q → OnSome o (b ≡ with_link_map a (with_join (link_map a) p.0 q.0))
+      → (CanConnect (entry_at (values_of a)) (link_map a) p q → b ≡ with_link_map a (with_join (link_map a) p.0 q.0) → Y) → OnSome o Y
   known None may is states = tt
   known (Some x) may is states = states (may.0 refl) is
 

@@ -9,7 +9,7 @@ use Rattle.chain_laws.proofs.ChainLemmas.LinkedLists.{next_valid, prev_valid}
 use Rattle.arena_base.specs.Arena.{Arena}
 use Rattle.arena_base.specs.Entries.{view_of}
 use Rattle.chain_links.specs.Links.{links_view}
-use Rattle.chain_links.specs.ChainArena.{LinkView, relinked, link_map}
+use Rattle.chain_links.specs.ChainArena.{LinkView, with_link_map, link_map}
 use Rattle.chain_arena.proofs.BreakAndExchangeLemmas.{exchange_values, exchange_reports, agrees_exchange, exchange_known}
 use Rattle.chain_arena.proofs.impl_chain_arena_trait.ChainArenaChainArenaTrait.exchange_next.Given.{Over}
 use Rattle.chain_arena.proofs.impl_chain_arena_trait.ChainArenaChainArenaTrait.exchange_next.Goals.{After-link_twice}
@@ -24,10 +24,10 @@ exchanged_links g c = links_view g.P.Inx.InxKey.packed_number c.link_twice.new.a
 
 -- The next links of the two.
 after_p : (g : Over) (c : After-link_twice g) → Some (g.P.Inx.InxKey.number c.in-Some.after_p) ≡ next_of (link_map (links g c)) (g.P.PtrKey.key c.args.p).0
-after_p g c = c.in-Some.ensures.named (c.in-Some.ensures.some refl)
+after_p g c = c.in-Some.ensures.neighbor (c.in-Some.ensures.some refl)
 
 after_q : (g : Over) (c : After-link_twice g) → Some (g.P.Inx.InxKey.number c.in-Some-next_of_link.after_q) ≡ next_of (link_map (links g c)) (g.P.PtrKey.key c.args.q).0
-after_q g c = c.in-Some-next_of_link.ensures.named (c.in-Some-next_of_link.ensures.some refl)
+after_q g c = c.in-Some-next_of_link.ensures.neighbor (c.in-Some-next_of_link.ensures.some refl)
 
 valid_p : (g : Over) (c : After-link_twice g) → HasLink (link_map (links g c)) (g.P.PtrKey.key c.args.p).0
 valid_p g c = next_valid (link_map (links g c)) _ _ (sym (after_p g c))
@@ -36,12 +36,12 @@ valid_q : (g : Over) (c : After-link_twice g) → HasLink (link_map (links g c))
 valid_q g c = next_valid (link_map (links g c)) _ _ (sym (after_q g c))
 
 -- The links written are the exchange.
-is_exchanged : (g : Over) (c : After-link_twice g) → exchanged_links g c ≡ relinked (links g c) (with_exchange (link_map (links g c)) (g.P.PtrKey.key c.args.p).0 (g.P.PtrKey.key c.args.q).0)
+is_exchanged : (g : Over) (c : After-link_twice g) → exchanged_links g c ≡ with_link_map (links g c) (with_exchange (link_map (links g c)) (g.P.PtrKey.key c.args.p).0 (g.P.PtrKey.key c.args.q).0)
 is_exchanged g c =
     let s = links g c in
     c.link_twice.ensures
-    ∙ (ap₂ (λ (i j : ℕ). relinked s (with_neighbors (with_neighbors (link_map s) (Some i) (Some (g.P.Inx.InxKey.number c.in-Some-next_of_link.after_q))) (Some j) (Some (g.P.Inx.InxKey.number c.in-Some.after_p)))) c.inx-i.ensures c.inx-j.ensures
-    ∙ ap₂ (λ (a b : Option ℕ). relinked s (with_neighbors (with_neighbors (link_map s) (Some (g.P.PtrKey.key c.args.p).0) b) (Some (g.P.PtrKey.key c.args.q).0) a)) (after_p g c) (after_q g c))
+    ∙ (ap₂ (λ (i j : ℕ). with_link_map s (with_neighbors (with_neighbors (link_map s) (Some i) (Some (g.P.Inx.InxKey.number c.in-Some-next_of_link.after_q))) (Some j) (Some (g.P.Inx.InxKey.number c.in-Some.after_p)))) c.inx-i.ensures c.inx-j.ensures
+    ∙ ap₂ (λ (a b : Option ℕ). with_link_map s (with_neighbors (with_neighbors (link_map s) (Some (g.P.PtrKey.key c.args.p).0) b) (Some (g.P.PtrKey.key c.args.q).0) a)) (after_p g c) (after_q g c))
 
 pub link_twice-requires : goal.link_twice-requires
 link_twice-requires g c =
@@ -49,8 +49,8 @@ link_twice-requires g c =
     let s = link_map (links_view g.P.Inx.InxKey.packed_number c.self.inside.arena) in
     let p = (g.P.PtrKey.key c.args.p).0 in
     let q = (g.P.PtrKey.key c.args.q).0 in
-    let after_one : next_of s p ≡ Some (number c.in-Some.after_p) = sym (c.in-Some.ensures.named (c.in-Some.ensures.some refl)) in
-    let after_other : next_of s q ≡ Some (number c.in-Some-next_of_link.after_q) = sym (c.in-Some-next_of_link.ensures.named (c.in-Some-next_of_link.ensures.some refl)) in
+    let after_one : next_of s p ≡ Some (number c.in-Some.after_p) = sym (c.in-Some.ensures.neighbor (c.in-Some.ensures.some refl)) in
+    let after_other : next_of s q ≡ Some (number c.in-Some-next_of_link.after_q) = sym (c.in-Some-next_of_link.ensures.neighbor (c.in-Some-next_of_link.ensures.some refl)) in
     record {
       first_prev = subst (HasLink s) (sym c.inx-i.ensures) (next_valid s p _ after_one);
       first_next = prev_valid s _ q ((c.self.invariant.both q _).0 after_other);
@@ -83,7 +83,7 @@ returns-in-Some-next_of_link g c =
 
 pub returns-in-None-next_of_link : goal.returns-in-None-next_of_link
 returns-in-None-next_of_link g c = rw (← c.self.view_is) (record {
-  some = ((λ no. absurd (false≢true no)), λ can. absurd (false≢true (ap is_some (c.in-None-next_of_link.ensures.named can.second_valid) ∙ can.second_next)));
+  some = ((λ no. absurd (false≢true no)), λ can. absurd (false≢true (ap is_some (c.in-None-next_of_link.ensures.neighbor can.second_valid) ∙ can.second_next)));
   exchanged = tt;
   chains = tt;
   view_after = tt;
@@ -94,7 +94,7 @@ returns-in-None-next_of_link g c = rw (← c.self.view_is) (record {
 
 pub returns-in-None : goal.returns-in-None
 returns-in-None g c = rw (← c.self.view_is) (record {
-  some = ((λ no. absurd (false≢true no)), λ can. absurd (false≢true (ap is_some (c.in-None.ensures.named can.first_valid) ∙ can.first_next)));
+  some = ((λ no. absurd (false≢true no)), λ can. absurd (false≢true (ap is_some (c.in-None.ensures.neighbor can.first_valid) ∙ can.first_next)));
   exchanged = tt;
   chains = tt;
   view_after = tt;

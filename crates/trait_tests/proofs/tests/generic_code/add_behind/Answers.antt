@@ -4,7 +4,7 @@ use Rattle.std.specs.Prelude.{is_some, IfNone}
 use Rattle.std.proofs.lemmas.Bool.{false≢true}
 use Rattle.chain_laws.specs.Removals.{with_removal}
 use Rattle.arena_base.specs.Arena.{IsValid}
-use Rattle.arena_base.specs.Entries.{without}
+use Rattle.arena_base.specs.Entries.{without_index}
 use Rattle.chain_laws.proofs.RemovalLemmas.Pairs.{removed_of_lone}
 use Rattle.chain_laws.proofs.InsertionLemmas.Writes.{alone_by_writes}
 use Rattle.trait_tests.proofs.ExtensionLemmas.{taken_back, not_reported, joinable, extends, ended, some_holds}
@@ -39,7 +39,7 @@ returns-clause-none g c =
     let valid : IsValid (g.A.ArenaTrait.entry c.connect.new.self) q = subst (λ a. IsValid (g.A.ArenaTrait.entry a) q) (sym same) (record { value = c.args.t; stored = inserted.stored }) in
     let gone = c.remove_link_no_gen.ensures.valid valid in (
       taken_back (g.A.ArenaTrait.entry old) (g.A.ArenaTrait.entry mid) q c.args.t inserted (g.A.ArenaTrait.entry new) (g.A.ArenaTrait.view mid).entries (g.A.ArenaTrait.view new).entries (g.met.A.ArenaTrait.ascends mid)
-          (g.met.A.ArenaTrait.finds mid) (g.met.A.ArenaTrait.finds new) (ap (λ s. s.entries) gone.1.0 ∙ ap (λ a. without q.0 (g.A.ArenaTrait.view a).entries) same),
+          (g.met.A.ArenaTrait.finds mid) (g.met.A.ArenaTrait.finds new) (ap (λ s. s.entries) gone.1.0 ∙ ap (λ a. without_index q.0 (g.A.ArenaTrait.view a).entries) same),
       gone.1.1 ∙ (ap (λ a. with_removal (g.A.ChainArenaTrait.interlinks a) q.0) same ∙ (ap (λ s. with_removal s q.0) (c.in_ok-q.ensures.inserted.links ∙ alone_by_writes (g.A.ChainArenaTrait.interlinks old) q.0)
           ∙ removed_of_lone (g.A.ChainArenaTrait.interlinks old) q.0 (not_reported (g.A.ArenaTrait.entry old) (g.A.ArenaTrait.entry mid) q c.args.t inserted (g.A.ChainArenaTrait.interlinks old) (g.met.A.ChainArenaTrait.links_are_entries old q.0)))),
     )
