@@ -1,7 +1,7 @@
 //! Calls on chain arenas as rows of tables, each with the text of its result.
 
 use super::call_lists::{call, reply_text};
-use super::copies::{cloned, copied_over};
+use super::copies::{clone_text, copied_over};
 use super::{At, ChainsOver, Slot, at, same, text};
 use arena_base::{ArenaSlot, ArenaTrait};
 use arena_ptr::{SlotStack, ToolPtr};
@@ -151,7 +151,7 @@ pub(super) fn lookup<S: SlotStack<Item = Slot>>(
         }
         Do::Slots => text(alloc, arena.backing().len()),
         Do::SlotsListed => slots_of(alloc, arena.backing()),
-        Do::Clone => cloned(alloc, arena),
+        Do::Clone => clone_text(alloc, arena),
         Do::CopyOver(count) => copied_over(alloc, arena, count),
         other => trait_lookup(alloc, arena, other),
     }

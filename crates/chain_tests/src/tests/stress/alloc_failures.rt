@@ -116,7 +116,7 @@ fn run_growth<A: RunsCalls + Drop>(
     }
     let after = arena_texts(alloc, &mut arena);
     (
-        refused_scripts,
+        refused,
         after,
         arena.run_call(alloc, Do::InsertWithin(Kind::Disconnected, 7)),
     )
