@@ -361,7 +361,7 @@ class Word:
     def key(self):
         return f"word {self.path} {self.name}"
 
-    def words(self):
+    def words_used(self):
         """Returns the definitions that this one uses."""
         file = spec(self.path)
         names = {name: (it.path, it.name) for name, it in file.words.items()} | file.imports

@@ -1,6 +1,6 @@
 //! Commands, and the parser of lines.
 
-use crate::lexer::{MAX_LINE_LENGTH, generation, index, number, pointer_word, words};
+use crate::lexer::{MAX_LINE_LENGTH, generation, index, number, pointer_word, words_of};
 use crate::pointer::{Generation, Inx, P0};
 use triple_arena::LinkInsertKind;
 
@@ -43,7 +43,7 @@ pub fn parse(line: &[u8]) -> Line {
     if line.len() > MAX_LINE_LENGTH {
         return Line::Bad;
     }
-    match words(line).split_first() {
+    match words_of(line).split_first() {
         None => Line::Blank,
         Some((name, arguments)) => match command(name, arguments) {
             None => Line::Bad,

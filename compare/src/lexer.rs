@@ -6,7 +6,7 @@ use crate::pointer::{Generation, Inx, P0, pointer};
 pub const MAX_LINE_LENGTH: usize = 200;
 
 /// Returns the words of a line, which are separated by spaces. A carriage return at its end is ignored.
-pub fn words(line: &[u8]) -> Vec<&[u8]> {
+pub fn words_of(line: &[u8]) -> Vec<&[u8]> {
     let line = line.strip_suffix(b"\r").unwrap_or(line);
     line.split(|byte| *byte == b' ')
         .filter(|word| !word.is_empty())

@@ -192,7 +192,7 @@ module _ (n : ℕ) where
             indexes = made.layout.indexes;
             order = made.layout.order;
             renamed = made.layout.renamed;
-            runs = made.layout.runs;
+            new_chains = made.layout.new_chains;
             keys = made.layout.keys;
             values = made.layout.values;
             counter = made.layout.counter;

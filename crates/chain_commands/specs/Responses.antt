@@ -167,7 +167,7 @@ pub record RespondsToMoves (old : ToolLinks) (reset : Bool) (text : List ℕ) (n
   pub moves : List (ToolPtr × ToolPtr)
   pub step : Step tool_pointers old (CompressCanonical reset) (Counted known) new
   pub all : AreAllMoves key_of (value_view old) (link_map old) new.counter moves
-  pub words : text ≡ moves_text moves known
+  pub text_is : text ≡ moves_text moves known
 
 -- The response to a command, and the arena after it.
 abbrev pub RespondsToCommand : ToolLinks → Command → List ℕ → ToolLinks → Type 0

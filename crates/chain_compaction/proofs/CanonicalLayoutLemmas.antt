@@ -201,13 +201,13 @@ module _ {F P Gen K T : Type 0} (g : F → P → P → F → Type 0) (key : P �
       by (Some x) is both = (first_arranges.valid i).0 (record { link = interlinks_of x; links = ap (option_map interlinks_of) is })
 
   pub links_can_move : CanMoveAll (destination_of number) h2.slots
-  links_can_move = can_move number h2.slots numbered.indexes first_arranges.once numbered.places each_placed
+  links_can_move = can_move number h2.slots numbered.indexes first_arranges.once numbered.destinations each_placed
 
   links_to_front : AreMovedToFront (destination_of number) h2.slots (length numbered.indexes)
-  links_to_front = moved_to_front number h2.slots numbered.indexes first_arranges.once numbered.places each_placed
+  links_to_front = moved_to_front number h2.slots numbered.indexes first_arranges.once numbered.destinations each_placed
 
   links_counted : count_by is_some h2.slots ≡ length numbered.indexes
-  links_counted = count-stored (record a1 { slots = h2.slots }) numbered.indexes first_arranges.once each_placed (has_entry number h2.slots numbered.indexes first_arranges.once numbered.places each_placed)
+  links_counted = count-stored (record a1 { slots = h2.slots }) numbered.indexes first_arranges.once each_placed (has_entry number h2.slots numbered.indexes first_arranges.once numbered.destinations each_placed)
 
   -- The number of slots is unchanged.
   first-length : length h1.slots ≡ length h0.slots
@@ -220,7 +220,7 @@ module _ {F P Gen K T : Type 0} (g : F → P → P → F → Type 0) (key : P �
   module _ (h3 : DetachedView Gen (LinkBody K T)) (moved : HaveMoved (destination_of number) (Settles number generation) (slot_at h2.slots) (slot_at h3.slots)) where
     all_sent : (i d : ℕ) (x : Gen × LinkView T) → place_in numbered.indexes i ≡ Some d → slot_at first_slots i ≡ Some x → slot_at (held_view number h3).slots d ≡ Some (generation, renamed_link (place_in numbered.indexes) x.1)
     all_sent i d x at is =
-        let w = waits_for number h2.slots numbered.indexes first_arranges.once numbered.places each_placed i d at in
+        let w = waits_for number h2.slots numbered.indexes first_arranges.once numbered.destinations each_placed i d at in
         let both : ◌≡◌ {A = Option (Gen × LinkView T)} (Some (pair_view number w.0)) (Some (x.0, renamed_link (place_in numbered.indexes) x.1)) =
         sym (ap (option_map (pair_view number)) w.1.stored) ∙ (renamed_there i ∙ ap (option_map (on_value (renamed_link (place_in numbered.indexes)))) is) in
         moved_viewed number generation h2.slots h3.slots moved i d w.0 w.1 ∙ ap (λ (l : LinkView T). let o : Option (Gen × LinkView T) = Some (generation, l) in o) (link_is both)

@@ -109,7 +109,7 @@ module _ {Gen K T : Type 0} (number : K → Option ℕ) where
   pub one_numbered : (now new : DetachedView Gen (LinkBody K T)) (i : ℕ) (e : Gen × LinkBody K T) (w : LinkBody K T) → slot_at now.slots i ≡ Some e → new ≡ held_with_value now i w → (count : ℕ) (done : List ℕ) → AreNumbered number now.slots count done
       → (IsMember done i → ⊥) → number w.destination ≡ Some (count + 1) → AreNumbered number new.slots (count + 1) (done ++ i ∷ [])
   one_numbered now new i e w stored wrote count done n fresh value = record {
-    places = λ j. after j (ℕ_discrete j i);
+    destinations = λ j. after j (ℕ_discrete j i);
     counts = ap (λ (m : ℕ). m + 1) n.counts ∙ sym (length-append done (i ∷ []));
   }
     where
@@ -117,18 +117,18 @@ module _ {Gen K T : Type 0} (number : K → Option ℕ) where
       after j (yes s) =
           ap (destination_at number new.slots) s ∙ (written_own now new i e w stored wrote number
           ∙ (value ∙ (ap (λ (m : ℕ). Some (m + 1)) n.counts ∙ (sym (place-last done i fresh) ∙ ap (place_in (done ++ i ∷ [])) (sym s)))))
-      after j (no ne) = destination_written now new i e w stored wrote number j ne ∙ (n.places j ∙ sym (place-before_last done i j (λ s. ne (sym s))))
+      after j (no ne) = destination_written now new i e w stored wrote number j ne ∙ (n.destinations j ∙ sym (place-before_last done i j (λ s. ne (sym s))))
 
   -- A link was overwritten, with its destination unchanged.
   pub still_numbered : (now new : DetachedView Gen (LinkBody K T)) (i : ℕ) (e : Gen × LinkBody K T) (w : LinkBody K T) → slot_at now.slots i ≡ Some e → new ≡ held_with_value now i w → (count : ℕ) (done : List ℕ) → AreNumbered number now.slots count done
       → number w.destination ≡ number e.1.destination → AreNumbered number new.slots count done
-  still_numbered now new i e w stored wrote count done n same = record { places = λ j. after j (ℕ_discrete j i); counts = n.counts }
+  still_numbered now new i e w stored wrote count done n same = record { destinations = λ j. after j (ℕ_discrete j i); counts = n.counts }
     where
       after : (j : ℕ) → Dec (j ≡ i) → destination_at number new.slots j ≡ place_in done j
       after j (yes s) =
           ap (destination_at number new.slots) s
-          ∙ (written_own now new i e w stored wrote number ∙ (same ∙ (sym (ap (option_and_then (destination_of number)) stored) ∙ (n.places i ∙ ap (place_in done) (sym s)))))
-      after j (no ne) = destination_written now new i e w stored wrote number j ne ∙ n.places j
+          ∙ (written_own now new i e w stored wrote number ∙ (same ∙ (sym (ap (option_and_then (destination_of number)) stored) ∙ (n.destinations i ∙ ap (place_in done) (sym s)))))
+      after j (no ne) = destination_written now new i e w stored wrote number j ne ∙ n.destinations j
 
 -- ---- what the links of a chain name, before and after
 

@@ -153,7 +153,7 @@ module _ {Gen K T F P : Type 0} (number : K → Option ℕ) (g : F → P → P �
         parts = refl;
         low = λ y h. (let w = within.within y ((all.1.partition.valid y).1 h) in let l : 1 ≤ y = w.0 in omega arith);
         relinked = relinked_none number (λ _. renamed_link (place_in (all_items all.0))) old;
-        numbered = record { places = none; counts = refl };
+        numbered = record { destinations = none; counts = refl };
         reports = reports_none g key (ptr_at (slot_at old.slots)) generation 1 f;
         ahead = 0;
         allowed = omega (arith, few);
@@ -183,7 +183,7 @@ module _ {Gen K T F P : Type 0} (number : K → Option ℕ) (g : F → P → P �
       indexes = all_items o.done;
       order = record { chains = o.chains; are = o.are; items = sym whole };
       counted = o.numbered.counts;
-      places = o.numbered.places;
+      destinations = o.numbered.destinations;
       renamed = all_relinked number (place_in (all_items o.done)) old now (all_items o.done)
           (subst (λ (xs : List ℕ). AreRelinked number (λ _. renamed_link (place_in xs)) old now (all_items o.done)) whole o.relinked) each;
       reports = o.reports;
@@ -226,7 +226,7 @@ module _ {Gen K T F P : Type 0} (number : K → Option ℕ) (g : F → P → P �
           not_here h =
               let v = rest_valid i h in
               let out = λ (m : IsMember (all_items o.done) i). AreDistinct-apart (all_items o.done) (all_items o.rest) i once m h in
-              stale_some number (slot_at now.slots i) v.link (as_old i out ∙ v.links) stale (o.numbered.places i ∙ place-none 1 (all_items o.done) i out)
+              stale_some number (slot_at now.slots i) v.link (as_old i out ∙ v.links) stale (o.numbered.destinations i ∙ place-none 1 (all_items o.done) i out)
 
           lower : (y : ℕ) → IsMember (all_items o.rest) y → Dec (y ≡ i) → k + 1 < y
           lower y h (yes s) = absurd (not_here (subst (IsMember (all_items o.rest)) s h))
@@ -237,7 +237,7 @@ module _ {Gen K T F P : Type 0} (number : K → Option ℕ) (g : F → P → P �
         not_done : IsMember (all_items o.done) i → ⊥
         not_done h =
             let p = has-place 1 (all_items o.done) i h in
-            let none : None ≡ Some p.0 = sym (fresh_none number (slot_at now.slots i) fresh) ∙ (o.numbered.places i ∙ p.1) in
+            let none : None ≡ Some p.0 = sym (fresh_none number (slot_at now.slots i) fresh) ∙ (o.numbered.destinations i ∙ p.1) in
             absurd (cc)
 
         stored : HasLink (link_map_in number old.slots) i

@@ -49,7 +49,7 @@ module _ {Gen K T : Type 0} (number : K → Option ℕ) where
 
   -- `count` links have destinations: their places in `done`.
   pub record AreNumbered (slots : List (Option (Gen × LinkBody K T))) (count : ℕ) (done : List ℕ) : Type 0 where
-    pub places : (j : ℕ) → destination_at slots j ≡ place_in done j
+    pub destinations : (j : ℕ) → destination_at slots j ≡ place_in done j
     pub counts : count ≡ length done
 
   -- The destination of the link at i, if any, was set or removed, and nothing else changed.
@@ -107,7 +107,7 @@ module _ {Gen K T : Type 0} (number : K → Option ℕ) where
       pub indexes : List ℕ
       pub order : IsLeastIndexOrder (link_map_in number old.slots) indexes
       pub counted : count ≡ length indexes
-      pub places : (j : ℕ) → destination_at new.slots j ≡ place_in indexes j
+      pub destinations : (j : ℕ) → destination_at new.slots j ≡ place_in indexes j
       pub renamed : held_view new ≡ renamed_held (place_in indexes) (held_view old)
       pub reports : ReportsMoves g key (ptr_at (slot_at old.slots)) generation 1 f indexes last
       pub work : IsWork before after 0 (2 * length old.slots + 5 * length indexes)

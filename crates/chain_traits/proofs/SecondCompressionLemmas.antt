@@ -78,7 +78,7 @@ moves_nothing first following reset again old mid new old_links mid_links new_li
     let many : length once.indexes ≡ length mid.entries =
     sym (length-map once.indexes _) ∙ (sym (ap length once.values) ∙ (length-map (values_in mid.entries) _ ∙ length-map mid.entries _)) in
     let itself : IsRenaming (place_in twice.indexes) mid_links mid_links =
-    subst (λ (is : List ℕ). IsRenaming (place_in is) mid_links mid_links) (sym (same ∙ ap (λ (is : List ℕ). range_with_len 1 (length is)) once.order.items)) (renamed_to_itself mid_links once.order.chains once.runs) in
+    subst (λ (is : List ℕ). IsRenaming (place_in is) mid_links mid_links) (sym (same ∙ ap (λ (is : List ℕ). range_with_len 1 (length is)) once.order.items)) (renamed_to_itself mid_links once.order.chains once.new_chains) in
     record {
       indexes = twice.keys ∙ (ap (range_with_len 1) count ∙ sym once.keys);
       values = some_equal _ _ (twice.values ∙ (ap (map (value_found mid.entries)) (same ∙ ap (range_with_len 1) many) ∙ values_found 1 mid.entries (once.keys ∙ ap (range_with_len 1) (sym count))));

@@ -173,7 +173,7 @@ fn linked_pairs<P: Numbered, A: ChainArenaTrait<P, u32> + Drop>(
 }
 
 // Returns an interlink's index as a number, 0 for none.
-fn named<I: InxKey>(i: Option<I>) -> u32 {
+fn number_or_zero<I: InxKey>(i: Option<I>) -> u32 {
     match i {
         Some(i) => number(i),
         None => 0,
@@ -190,7 +190,7 @@ fn row_of<P: Numbered, A: ChainArenaTrait<P, u32>>(arena: &A, p: P) -> Option<Ro
         numbers(link.next()),
     );
     let bare = arena.get_link_no_gen(p)?;
-    if (bare.t, named(bare.prev()), named(bare.next())) != (row.1, row.2.0, row.3.0) {
+    if (bare.t, number_or_zero(bare.prev()), number_or_zero(bare.next())) != (row.1, row.2.0, row.3.0) {
         return None;
     }
     Some(row)

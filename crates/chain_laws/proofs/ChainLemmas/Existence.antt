@@ -42,17 +42,17 @@ module _ (link_map : LinkMap) (slots : ℕ) (agrees : IsWellLinked link_map) (wi
       absurd (bounded (k ∷ xs) (apart_no_repetition link_map before k xs (Some j) s apart) (λ i h. AreLinked-valid link_map before (k ∷ xs) (Some j) i s h) (omega arith))
   onward (suc left) before k xs j s apart differs more = by_next (next_of link_map j) refl (λ m t a d. onward left before k (xs ++ j ∷ []) m t a d longer)
     where
-      named : prev_of link_map j ≡ last_or (k ∷ xs) before
-      named = names_last before k xs j s
+      prev_is : prev_of link_map j ≡ last_or (k ∷ xs) before
+      prev_is = names_last before k xs j s
 
       valid : HasLink link_map j
-      valid = let last = last_or-filled (k ∷ xs) k (inl refl) in prev_valid link_map j last.0 (named ∙ last.1 before)
+      valid = let last = last_or-filled (k ∷ xs) k (inl refl) in prev_valid link_map j last.0 (prev_is ∙ last.1 before)
 
       longer : slots < left + length (k ∷ xs ++ j ∷ [])
       longer = let l : length (xs ++ j ∷ []) ≡ length xs + length (j ∷ []) = length-append xs (j ∷ []) in omega arith
 
       stored : (after : Option ℕ) → next_of link_map j ≡ after → AreLinked link_map before (k ∷ xs ++ j ∷ []) after
-      stored after n = AreLinked-append link_map before (k ∷ xs) (j ∷ []) after s (reports_both link_map j (last_or (k ∷ xs) before) after valid named n, tt)
+      stored after n = AreLinked-append link_map before (k ∷ xs) (j ∷ []) after s (reports_both link_map j (last_or (k ∷ xs) before) after valid prev_is n, tt)
 
       still_apart : IsMember (xs ++ j ∷ []) k → ⊥
       still_apart h = ⊎_elim apart (⊎_elim differs (λ (n : ⊥). n)) (IsMember-parts xs (j ∷ []) k h)

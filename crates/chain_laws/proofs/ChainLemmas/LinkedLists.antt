@@ -164,11 +164,11 @@ apart_no_repetition link_map before x [] after s apart = (apart, tt)
 apart_no_repetition link_map before x (y ∷ ys) after s apart =
     (apart, apart_no_repetition link_map (Some x) y ys after s.1 again)
   where
-    named : prev_of link_map y ≡ Some x
-    named = ap prev_in s.1.0
+    prev_is : prev_of link_map y ≡ Some x
+    prev_is = ap prev_in s.1.0
 
     again : IsMember ys y → ⊥
-    again h = ⊎_elim (λ (k : IsMember ys x). apart (inr k)) (λ (e : Some y ≡ Some x). apart (inl (cc))) (AreLinked-prev link_map (Some y) ys after y x s.1.1 h named)
+    again h = ⊎_elim (λ (k : IsMember ys x). apart (inr k)) (λ (e : Some y ≡ Some x). apart (inl (cc))) (AreLinked-prev link_map (Some y) ys after y x s.1.1 h prev_is)
 
 -- A linked list with nothing before it has no repetition.
 pub first_no_repetition : (link_map : LinkMap) (xs : List ℕ) (after : Option ℕ) → AreLinked link_map None xs after → AreDistinct xs

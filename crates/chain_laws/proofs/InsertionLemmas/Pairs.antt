@@ -58,7 +58,7 @@ pub next_puts : (link_map : LinkMap) (q : ℕ) (u v : Option ℕ) → link_map q
 next_puts link_map q u v free between =
     record {
       here = outer q ∙ altered-same (next_of (appended link_map q u)) q v q refl;
-      named = λ j ne at_u. outer j ∙ altered-other (next_of (appended link_map q u)) q v j ne ∙ inner j
+      before = λ j ne at_u. outer j ∙ altered-other (next_of (appended link_map q u)) q v j ne ∙ inner j
           ∙ put_at-same (next_of (with_lone link_map q)) u (Some q) j at_u;
       off = λ j ne not_u. outer j ∙ altered-other (next_of (appended link_map q u)) q v j ne ∙ inner j
           ∙ put_at-other (next_of (with_lone link_map q)) u (Some q) j not_u ∙ next_of-with_lone link_map q free j;
@@ -79,7 +79,7 @@ prev_puts link_map q u v free between =
           (λ at_v. put_at-same (prev_of (appended link_map q u)) v (Some q) q at_v ∙ sym (between.back.itself at_v))
           (λ not_v. put_at-other (prev_of (appended link_map q u)) v (Some q) q not_v ∙ inner q ∙ altered-same (prev_of (with_lone link_map q)) q u q refl)
           (names_or_not v q);
-      named = λ j ne at_v. outer j ∙ put_at-same (prev_of (appended link_map q u)) v (Some q) j at_v;
+      before = λ j ne at_v. outer j ∙ put_at-same (prev_of (appended link_map q u)) v (Some q) j at_v;
       off = λ j ne not_v. outer j ∙ put_at-other (prev_of (appended link_map q u)) v (Some q) j not_v ∙ inner j
           ∙ altered-other (prev_of (with_lone link_map q)) q u j ne ∙ prev_of-with_lone link_map q free j;
     }

@@ -38,7 +38,7 @@ returns-in-Ok g c =
         moves = c.in-Ok.moves.items;
         step = (ap Counted made.overflow, record { layout = made.canonical; stack_capacity = made.stack_capacity });
         all = made.moves;
-        words = c.write_moves.ensures.bytes ∙ (ap (λ b. b ++ moves_text c.as_slice.result.now c.in-Ok.known) none ∙ ap (λ items. moves_text items c.in-Ok.known) c.as_slice.ensures.value);
+        text_is = c.write_moves.ensures.bytes ∙ (ap (λ b. b ++ moves_text c.as_slice.result.now c.in-Ok.known) none ∙ ap (λ items. moves_text items c.in-Ok.known) c.as_slice.ensures.value);
       };
       capacity = capacity_after (string_bytes c.reserve.new.self) _ _ _ _ _ _ none c.write_moves.ensures.bytes less c.in_ok-reserve.ensures.ok c.write_moves.ensures.capacity;
       err = tt;
