@@ -41,6 +41,7 @@ pub fn empty_all<P: PtrKey, T: Drop, S: SlotStack<Item = ArenaSlot<P, LinkNoGen<
 
 // Assigns each link its destination and moves it there. Returns the visitor and the number of
 // links.
+#[inline(always)]
 fn arrange_by_moves<
     P: PtrKey,
     T: Drop,

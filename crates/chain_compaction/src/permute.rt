@@ -103,6 +103,7 @@ pub(crate) fn wrapped_index(at: usize, left: usize) -> usize
 //
 // Successive placements follow different cycles, so their memory accesses overlap. A link that is
 // at its destination is placed there in the first turn, and its slot is not read again.
+#[inline(always)]
 fn settle_block<P: PtrKey, T: Drop, S: SlotStack<Item = ArenaSlot<P, LinkNoGen<P, T>>>>(
     compactor: &mut Compactor<'_, P, LinkNoGen<P, T>, S>,
     start: usize,
@@ -142,7 +143,8 @@ fn settle_block<P: PtrKey, T: Drop, S: SlotStack<Item = ArenaSlot<P, LinkNoGen<P
 
 /// Moves each link to its destination and sets its generation.
 ///
-/// Each link is placed once.
+/// Each link is placed once. Inlined, so what is not used of the counts is not counted.
+#[inline(always)]
 pub fn move_all<P: PtrKey, T: Drop, S: SlotStack<Item = ArenaSlot<P, LinkNoGen<P, T>>>>(
     compactor: &mut Compactor<'_, P, LinkNoGen<P, T>, S>,
     generation: P::Gen,

@@ -165,6 +165,7 @@ fn read_along<P: PtrKey, T: Drop, S: SlotStack<Item = ArenaSlot<P, LinkNoGen<P, 
 
 /// Reads along the chains of up to 16 links from position `k` on, if `prev` or `next` of the link
 /// there is far away, and it was not read ahead yet.
+#[inline(always)]
 pub(crate) fn read_ahead<P: PtrKey, T: Drop, S: SlotStack<Item = ArenaSlot<P, LinkNoGen<P, T>>>>(
     compactor: &mut Compactor<'_, P, LinkNoGen<P, T>, S>,
     k: usize,
