@@ -1,3 +1,4 @@
+mod alloc_failures;
 mod arena_text;
 mod call_lists;
 mod canonical;
@@ -15,7 +16,6 @@ mod recast;
 mod scripts;
 mod setup;
 mod stacks;
-mod stress;
 mod value_counts;
 mod visitor_state;
 

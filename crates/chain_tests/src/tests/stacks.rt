@@ -7,9 +7,8 @@ use super::copies::{check_plain, check_refused_beside_holes, check_refused_copy,
 use super::entries::check_full;
 use super::inherent_call_tables::tables;
 use super::scripts::{RunsCalls, plays_all, plays_on};
-use super::stress::{check_limited, check_under_stress};
 use super::visitor_state::{check_beyond_one, check_counted, check_kept};
-use super::{ChainsOver, Slot};
+use super::{ChainsOver, Slot, alloc_failures};
 use arena_base::ArenaSlot;
 use arena_ptr::{ChunkStack, HeapStack, LimitStack, LimitedStack, SlotStack, ToolPtr};
 use std::alloc::Global;
@@ -37,7 +36,7 @@ fn check_limited_links<S: LimitStack<Item = Slot>>(rt: &impl Abort, alloc: Globa
     check_full::<S>(rt, alloc);
     check_every_reply::<S>(rt, alloc);
     check_beyond_one::<S>(rt, alloc);
-    check_limited::<S>(rt, alloc);
+    alloc_failures::check_all::<S>(rt, alloc);
     plays_on::<ChainsOver<S>>(rt, alloc, copies());
 }
 
@@ -52,7 +51,7 @@ fn check_plain_arenas<S: SlotStack<Item = Slot>, R: LimitStack<Item = ArenaSlot<
 
 fn check_all<S: SlotStack<Item = Slot>>(rt: &impl Abort, alloc: Global) {
     check_links::<S>(rt, alloc);
-    check_under_stress::<S>(rt, alloc, 40);
+    alloc_failures::check_all::<S>(rt, alloc);
 }
 
 #[test]
@@ -62,7 +61,7 @@ fn links_over_the_heap_stack(rt: HostRuntime) {
 
 #[test]
 fn links_in_blocks(rt: HostRuntime) {
-    check_under_stress::<ChunkStack<Slot>>(&rt, rt.alloc(), 10);
+    alloc_failures::check_all::<ChunkStack<Slot>>(&rt, rt.alloc());
 }
 
 #[test]

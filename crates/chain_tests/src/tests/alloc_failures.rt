@@ -4,12 +4,12 @@
 //! Here a stack refuses every other growth. `tools/test_alloc_failures` refuses each request for
 //! memory in turn, in the tests that allow it.
 
-use super::{ChainsOver, FailingStack, Slot, same};
-use crate::tests::call_lists::check_refused_list;
-use crate::tests::canonical::carry_over;
-use crate::tests::copies::{copied_twice, with_a_hole};
-use crate::tests::scripts::{Do, Kind, RunsCalls, Script, plays_all};
-use crate::tests::{fresh_plain, generation};
+use super::call_lists::check_refused_list;
+use super::canonical::carry_over;
+use super::copies::{copied_twice, with_a_hole};
+use super::failing_stack::FailingStack;
+use super::scripts::{Do, Kind, RunsCalls, Script, plays_all};
+use super::{ChainsOver, Slot, fresh_plain, generation, same};
 use arena_base::{Arena, ArenaSlot};
 use arena_ptr::{ChunkStack, HeapStack, LimitedStack, SlotStack, ToolPtr};
 use std::alloc::Global;
