@@ -1,7 +1,5 @@
-//! Tests of the program over readers and writers in memory, and of the examples.
-mod examples;
+//! Tests of the program over readers and writers in memory.
 mod io_faults;
-mod no_memory;
 mod small_indexes;
 
 ghost use Rattle.std.specs.Prelude.{◌≡◌, ℕ, List, ◌∷◌, [], codes, true, Some, None, option_map};

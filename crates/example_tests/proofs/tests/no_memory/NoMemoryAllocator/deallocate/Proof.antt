@@ -26,12 +26,12 @@ use denote.Steps.{nothing}
 use denote.Triple.Spec.{triple_of}
 use denote.Triple.Table.{entered}
 use denote.Triple.Walked.{Stays, stay_dropped, walk_of, ends_at, walked, Goes-dropped, walk_Meets}
-use Rattle.command_tests.specs.contracts.tests.no_memory.NoMemory as BP
+use Rattle.example_tests.specs.contracts.tests.no_memory.NoMemory as BP
 use denote.Signature.{type_at, types_at}
-use Rattle.command_tests.specs.contracts.tests.no_memory.NoMemoryAllocator.deallocate as F
-use Rattle.command_tests.specs.contracts.tests.no_memory.NoMemoryAllocator.deallocate.Key.{name as #self}
-use Rattle.command_tests.proofs.tests.no_memory.NoMemoryAllocator.deallocate.Statement as stated
-use Rattle.command_tests.proofs.tests.no_memory.NoMemoryAllocator.deallocate.Code as code
+use Rattle.example_tests.specs.contracts.tests.no_memory.NoMemoryAllocator.deallocate as F
+use Rattle.example_tests.specs.contracts.tests.no_memory.NoMemoryAllocator.deallocate.Key.{name as #self}
+use Rattle.example_tests.proofs.tests.no_memory.NoMemoryAllocator.deallocate.Statement as stated
+use Rattle.example_tests.proofs.tests.no_memory.NoMemoryAllocator.deallocate.Code as code
 
 abbrev stayed : Stays (F.ended).signature.params (F.ended).kept
 stayed = (stay_dropped (RefOf (0 ∷ []) tt (plain (λ _. BP.the_row)) (λ _. tt)) yes, (stay_dropped (plain (λ _. RawPtr)) yes, (stay_dropped (plain (λ _. usize)) yes, (stay_dropped (plain (λ _. usize)) yes, tt))))

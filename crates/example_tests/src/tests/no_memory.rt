@@ -2,12 +2,11 @@
 
 ghost use Rattle.std.specs.Borrow.{ffalse};
 
-use super::examples::{Part, check_examples};
-use super::{LinksOver, Slot, carried_out, same};
+use super::{Part, Slot, check_examples, same};
 use arena_base::ArenaTrait;
 use arena_ptr::{HeapStack, PtrKey, SlotStack, ToolPtr};
-use chain_arena::ChainArenaTrait;
 use chain_arena::calls::{Call, run_calls};
+use chain_arena::{ChainArena, ChainArenaTrait, LinkInsertKind};
 use chain_examples::RunQueue;
 use std::alloc::{AllocError, Allocator, Global};
 use std::process::Abort;
@@ -26,12 +25,31 @@ unsafe impl Allocator for NoMemory {
     unsafe fn deallocate(&self, _ptr: *mut u8, _size: usize, _align: usize) {}
 }
 
-/// A list of three links beside a free slot, and a lone link.
-const LINKS: &str =
-    "add alone 1\nadd end 1.2 2\nadd end 2.2 3\nadd end 3.2 4\nadd alone 5\nremove 2.2\n";
+type LinksOver<S> = ChainArena<ToolPtr, u32, S>;
+
+/// Returns a chain of three links, with a free slot after the first, and a lone link.
+fn links<S: SlotStack<Item = Slot<ToolPtr>>>(alloc: Global) -> LinksOver<S> {
+    let mut arena = LinksOver::<S>::new(alloc);
+    let mut last = ToolPtr::invalid();
+    for t in 1..=4 {
+        let kind = if t == 1 {
+            LinkInsertKind::Disconnected
+        } else {
+            LinkInsertKind::ChainEnd(last)
+        };
+        if let Ok(p) = arena.insert_reallocating(kind, t) {
+            if t == 3 {
+                arena.remove(last);
+            }
+            last = p;
+        }
+    }
+    let _ = arena.insert_reallocating(LinkInsertKind::Disconnected, 5);
+    arena
+}
 
 /// Returns the text of an arena with its counter, and its capacity.
-fn state<S: SlotStack<Item = Slot>>(
+fn state<S: SlotStack<Item = Slot<ToolPtr>>>(
     alloc: Global,
     arena: &LinksOver<S>,
 ) -> Option<(String, usize)> {
@@ -42,7 +60,10 @@ fn state<S: SlotStack<Item = Slot>>(
 }
 
 /// Returns whether the replies to several calls are refused.
-fn replies_are_refused<S: SlotStack<Item = Slot>>(alloc: Global, arena: &mut LinksOver<S>) -> bool {
+fn replies_are_refused<S: SlotStack<Item = Slot<ToolPtr>>>(
+    alloc: Global,
+    arena: &mut LinksOver<S>,
+) -> bool {
     let calls: [Call<ToolPtr, u32>; 3] = [
         Call::IncGeneration,
         Call::Compress(false),
@@ -54,10 +75,9 @@ fn replies_are_refused<S: SlotStack<Item = Slot>>(alloc: Global, arena: &mut Lin
     }
 }
 
-fn check_refused_calls<S: SlotStack<Item = Slot>>(rt: &impl Abort, alloc: Global) {
-    let mut arena = LinksOver::<S>::new(alloc);
-    let made = carried_out(alloc, &mut arena, LINKS);
-    same(rt, "links", made.0, Ok(()));
+fn check_refused_calls<S: SlotStack<Item = Slot<ToolPtr>>>(rt: &impl Abort, alloc: Global) {
+    let mut arena = links::<S>(alloc);
+    same(rt, "links", arena.len(), 4);
     let before = state(alloc, &arena);
     let replies = replies_are_refused(alloc, &mut arena);
     same(rt, "replies", replies, true);
@@ -68,7 +88,7 @@ fn check_refused_calls<S: SlotStack<Item = Slot>>(rt: &impl Abort, alloc: Global
 
 #[test]
 fn refused_replies_and_moves_change_nothing(rt: HostRuntime) {
-    check_refused_calls::<HeapStack<Slot>>(&rt, rt.alloc());
+    check_refused_calls::<HeapStack<Slot<ToolPtr>>>(&rt, rt.alloc());
 }
 
 /// Spawns two tasks and drains the queue into refused memory. Returns whether both are spawned,
@@ -92,5 +112,5 @@ pub(super) fn check_refused_drain<P: PtrKey, A: ChainArenaTrait<P, u32> + Drop>(
 
 #[test]
 fn a_refused_drain_takes_no_task(rt: HostRuntime) {
-    check_examples::<ToolPtr, HeapStack<Slot>>(&rt, rt.alloc(), Part::RefusedDrain);
+    check_examples::<ToolPtr, HeapStack<Slot<ToolPtr>>>(&rt, rt.alloc(), Part::RefusedDrain);
 }

@@ -4,9 +4,9 @@ mod bookmarks;
 mod documents;
 mod failing_stack;
 mod mesh;
+mod no_memory;
 mod run_queue;
 
-use super::{no_memory, same};
 use arena_base::ArenaSlot;
 use arena_ptr::{ChunkStack, HeapStack, PtrKey, SlotStack, ToolPtr};
 use bookmarks::Renumbers;
@@ -15,9 +15,14 @@ use chain_examples::{Documents, Mesh, RunQueue};
 use failing_stack::FailingStack;
 use forwarding_arena::ForwardingArena;
 use std::alloc::Global;
+use std::fmt::Debug;
 use std::process::Abort;
 
 type Slot<P> = ArenaSlot<P, LinkNoGen<P, u32>>;
+
+fn same<T: PartialEq + Debug + Drop>(rt: &impl Abort, what: &str, got: T, want: T) {
+    assert_eq!(rt; got, want, "{what}");
+}
 
 // The position of a table's first row that differs. Tables return it, so only one body needs a way
 // to end a test.
@@ -104,7 +109,7 @@ fn all_played<P: PtrKey, A: Renumbers<P>>(alloc: Global) -> ([[Differing; 3]; 2]
 
 // What is run at an arena.
 #[derive(Clone, Copy)]
-pub(super) enum Part {
+enum Part {
     Rows,
     // The calls that are refused where each growth is refused once.
     Refusals,
@@ -128,7 +133,7 @@ fn check_part<P: PtrKey, A: Renumbers<P>>(rt: &impl Abort, alloc: Global, part: 
 
 // Runs a part at a chain arena. Only this body names it, since naming it is the cost. Over any stack
 // it costs less than over one.
-pub(super) fn check_examples<P: PtrKey, S: SlotStack<Item = Slot<P>>>(
+fn check_examples<P: PtrKey, S: SlotStack<Item = Slot<P>>>(
     rt: &impl Abort,
     alloc: Global,
     part: Part,

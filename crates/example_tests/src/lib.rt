@@ -1,0 +1,5 @@
+//! Tests of `chain_examples`.
+#![tactic(auto)]
+
+#[cfg(test)]
+mod tests;
