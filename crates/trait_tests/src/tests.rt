@@ -190,7 +190,12 @@ fn row_of<P: Numbered, A: ChainArenaTrait<P, u32>>(arena: &A, p: P) -> Option<Ro
         numbers(link.next()),
     );
     let bare = arena.get_link_no_gen(p)?;
-    if (bare.t, number_or_zero(bare.prev()), number_or_zero(bare.next())) != (row.1, row.2.0, row.3.0) {
+    if (
+        bare.t,
+        number_or_zero(bare.prev()),
+        number_or_zero(bare.next()),
+    ) != (row.1, row.2.0, row.3.0)
+    {
         return None;
     }
     Some(row)
