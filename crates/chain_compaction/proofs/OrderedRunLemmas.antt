@@ -64,13 +64,13 @@ items_of true xs = refl
 
 -- The links up to index k form whole chains up to index `start`, each of them a run, and the links
 -- after it each name the next index.
-pub record AreRuns (link_map : LinkMap) (start : ℕ) (is_ring : Bool) (k : ℕ) : Type 0 where
+pub record AreRuns (link_map : LinkMap) (start : ℕ) (is_cyclic : Bool) (k : ℕ) : Type 0 where
   pub chains : List Chain
   pub each : (c : Chain) → HasChain chains c → IsChain link_map c
   pub items : all_items chains ≡ range_with_len 1 start
   pub low : start ≤ k
   pub valid : (j : ℕ) → 1 ≤ j → j ≤ k → HasLink link_map j
-  pub first : start < k → is_ring ≡ false → prev_of link_map (start + 1) ≡ None
+  pub first : start < k → is_cyclic ≡ false → prev_of link_map (start + 1) ≡ None
   pub on : (j : ℕ) → start < j → j ≤ k → next_of link_map j ≡ Some (j + 1)
 
 module _ (link_map : LinkMap) where

@@ -12,9 +12,9 @@ use Rattle.chain_compaction.specs.Destinations.{held_view, renamed_link}
 -- In a run of links from position `start` on, the link at position k names the one at position
 -- k + 1, or it is the last one: then the next run starts at `after`.
 abbrev pub IsStartAfter : ℕ → Bool → ℕ → Option ℕ → ℕ → Type 0
-IsStartAfter start is_ring k next after =
+IsStartAfter start is_cyclic k next after =
     ((after ≡ start) × (next ≡ Some (k + 2)))
-    ⊎ ((after ≡ k + 1) × (next ≡ (if is_ring then Some (start + 1) else None)))
+    ⊎ ((after ≡ k + 1) × (next ≡ (if is_cyclic then Some (start + 1) else None)))
 
 module _ {F P Gen K T : Type 0} (number : K → Option ℕ) (g : F → P → P → F → Type 0) (key : P → ℕ × Gen) where
   -- All `count` links are in the first slots, in their least-index order. Their interlinks are

@@ -99,7 +99,7 @@ fn place_all<P: PtrKey, T: Drop, S: SlotStack<Item = ArenaSlot<P, LinkNoGen<P, T
 /// Each link is moved to its destination, names the destinations of its neighbors, and gets the
 /// counter as its generation. The visitor sees each link's old and new pointer, and is then ready
 /// for others. Afterwards every slot is occupied. Links that are arranged canonically already stay
-/// in their slots, and only their generations are set.
+/// in their slots: each gets the counter as its generation and loses its destination.
 pub fn arrange<
     P: PtrKey,
     T: Drop,

@@ -17,25 +17,29 @@ use arena_ptr::{InxKey, PtrKey, SlotStack};
 use chain_links::LinkNoGen;
 
 // Returns whether the run from position `start` on is cyclic, by `prev` of its first link. After
-// the first link that is `is_ring`.
-fn is_ring_at<I: Copy>(start: usize, is_ring: bool, k: usize, prev: Option<I>) -> bool
+// the first link that is `is_cyclic`.
+fn is_cyclic_at<I: Copy>(start: usize, is_cyclic: bool, k: usize, prev: Option<I>) -> bool
     ensures first { k ≡ start → result ≡ is_some prev }
-    ensures later { start < k → result ≡ is_ring }
+    ensures later { start < k → result ≡ is_cyclic }
 {
-    if k == start { prev.is_some() } else { is_ring }
+    if k == start {
+        prev.is_some()
+    } else {
+        is_cyclic
+    }
 }
 
 // Returns the start of the run that position `k + 1` is in: `start` if the link at position `k`
 // names the one there, and `k + 1` if it ends the run. Returns `None` if it does neither.
 fn start_after<P: PtrKey>(
     start: usize,
-    is_ring: bool,
+    is_cyclic: bool,
     k: usize,
     next: Option<P::Inx>,
 ) -> Option<usize>
     requires start { start ≤ k }
     requires fits { k < P.Inx.greatest }
-    ensures { IfSome result (IsStartAfter start is_ring k (option_map P.Inx.number next)) }
+    ensures { IfSome result (IsStartAfter start is_cyclic k (option_map P.Inx.number next)) }
 {
     match next {
         Some(i) => match i.try_into_usize() {
@@ -43,7 +47,7 @@ fn start_after<P: PtrKey>(
                 let position = number - 1;
                 if position == k + 1 {
                     Some(start)
-                } else if is_ring && position == start {
+                } else if is_cyclic && position == start {
                     Some(k + 1)
                 } else {
                     None
@@ -51,7 +55,7 @@ fn start_after<P: PtrKey>(
             }
             None => None,
         },
-        None => if is_ring { None } else { Some(k + 1) },
+        None => if is_cyclic { None } else { Some(k + 1) },
     }
 }
 
@@ -74,15 +78,15 @@ pub(crate) fn is_in_order<P: PtrKey, T: Drop, S: SlotStack<Item = ArenaSlot<P, L
         return false;
     }
     let mut start = 0;
-    let mut is_ring = false;
+    let mut is_cyclic = false;
     for k in 0..slots {
         let (was, prev, next, _) = read_link(compactor, inx_at::<P>(k));
         match was {
             Some(_) => {}
             None => return false,
         }
-        is_ring = is_ring_at(start, is_ring, k, prev);
-        match start_after::<P>(start, is_ring, k, next) {
+        is_cyclic = is_cyclic_at(start, is_cyclic, k, prev);
+        match start_after::<P>(start, is_cyclic, k, next) {
             Some(after) => start = after,
             None => return false,
         }

@@ -28,11 +28,11 @@ loop-k-preserved g c =
     let now = c.loop-k.compactor in
     let inv = c.loop-k.invariant in
     let lookup = c.read_link-was.ensures in
-    let ring = c.is_ring_at-is_ring in
+    let ring = c.is_cyclic_at-is_cyclic in
     record {
       read = reads_more old now c.read_link-was.new.compactor c.loop-k.k inv.read lookup.was_read;
       runs =
-          runs_read packed_number old.held now.held c.requires.agree c.loop-k.start c.loop-k.k c.loop-k.is_ring ring.result inv.runs inv.read.held (number c.inx_at.result) c.inx_at.ensures
+          runs_read packed_number old.held now.held c.requires.agree c.loop-k.start c.loop-k.k c.loop-k.is_cyclic ring.result inv.runs inv.read.held (number c.inx_at.result) c.inx_at.ensures
           c.read_link-was.result.0 c.in-Some.field-0 c.in-Some.is lookup.generation number c.read_link-was.result.1 c.read_link-was.result.2 lookup.prev lookup.next ring.ensures.first ring.ensures.later
           c.in-Some-start_after.after c.in-Some-start_after.ensures;
     }
@@ -42,4 +42,4 @@ returns-clause-canonical g c =
     let packed_number = g.P.Inx.InxKey.packed_number in
     let slots = c.args.compactor.now.held.slots in
     let all : c.loop-k.k ≡ length slots = omega arith in
-    runs_checked packed_number slots c.loop-k.start c.slots-slots.result c.loop-k.k c.loop-k.is_ring c.slots-slots.ensures all c.loop-k.invariant.runs
+    runs_checked packed_number slots c.loop-k.start c.slots-slots.result c.loop-k.k c.loop-k.is_cyclic c.slots-slots.ensures all c.loop-k.invariant.runs
