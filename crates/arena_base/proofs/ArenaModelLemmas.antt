@@ -2,7 +2,7 @@
 use Rattle.std.proofs.Common.{◌≡◌, ℕ, ◌+◌, ◌-◌, ◌<◌, List, [], ◌∷◌, ◌++◌, map, Option, None, Some, refl, ap, sym, ◌∙◌, subst, arith}
 use Rattle.std.specs.Prelude.{slice_get, slice_set, count_by, is_some}
 use Rattle.std.proofs.lemmas.List.{map-set}
-use Rattle.arena_base.specs.Arena.{Arena, slot_at, with_slot, insert_next, remove_at, with_value, renewed_at, arena_after_clear, counter_after_clear, with_capacity_of, ReachesCapacity}
+use Rattle.arena_base.specs.Arena.{Arena, slot_at, with_slot, insert_next, remove_at, with_value, invalidate_at, arena_after_clear, counter_after_clear, with_capacity_of, ReachesCapacity}
 use Rattle.std.specs.Option.{option_map}
 use Rattle.arena_base.specs.Slots.{entry_of, entry_in, with_value_in, allocated_slot, free_slot, arena_of, freed_of, IsSound}
 use Rattle.arena_base.specs.declared.slot.ArenaSlot.{ArenaSlot}
@@ -52,7 +52,7 @@ module _ {P T Inx Gen Word : Type 0} (slots : List (ArenaSlot P T Inx Gen Word))
       ∙ ap (λ (o : Option (Gen × T)). with_slot (map entry_of slots) n o) (entry_of-written slot w ∙ ap rewrite (sym (entry_at-position slots k n at ∙ ap entry_in is))))
 
   pub viewed_renewed_slot : (following : Gen → Gen) (k n : ℕ) (g : Gen) (t : T) → k + 1 ≡ n → slice_get slots k ≡ Some (allocated_slot g t)
-      → arena_of (slice_set slots k (allocated_slot (following counter) t)) ns (following counter) greatest capacity maximum placed touched ≡ renewed_at following now n
+      → arena_of (slice_set slots k (allocated_slot (following counter) t)) ns (following counter) greatest capacity maximum placed touched ≡ invalidate_at following now n
   viewed_renewed_slot following k n g t at is =
       ap (λ (es : List (Option (Gen × T))). let a : Arena Gen T = record now { slots = es; counter = following counter } in a)
       (viewed_slots k n (allocated_slot (following counter) t) at

@@ -5,8 +5,8 @@ use Rattle.std.specs.Option.{option_map}
 use Rattle.std.proofs.lemmas.Bool.{eq-eqb, ne_eqb}
 use Rattle.std.proofs.lemmas.List.Sums.{sum_by-cons, sum_by-set}
 use Rattle.arena_ptr.specs.Invalidation.{value_within, invalidation_result}
-use Rattle.arena_base.specs.Arena.{Arena, IsMember, slots_after_insertion, entry_count, slot_at, with_slot, remove_at, renewed_at, with_value, arena_after_clear, counter_after_clear}
-use Rattle.arena_base.specs.Entries.{ArenaView, entries_from, entries, view_of, without_index, with_replacement, entry_removed, view_after_invalidation, view_with_value, view_after_clear}
+use Rattle.arena_base.specs.Arena.{Arena, IsMember, slots_after_insertion, entry_count, slot_at, with_slot, remove_at, invalidate_at, with_value, arena_after_clear, counter_after_clear}
+use Rattle.arena_base.specs.Entries.{ArenaView, entries_from, entries, view_of, without_index, with_replacement, view_after_removal, view_after_invalidation, view_with_value, view_after_clear}
 use Rattle.arena_base.proofs.SlotLemmas.{length-with_slot}
 
 module _ {Gen T : Type 0} where
@@ -98,7 +98,7 @@ module _ {Gen T : Type 0} where
     slots = Some (record { count = count; freed = freed; placed = placed; touched = a.touched });
   }
 
-  pub viewed_removed : (following : Gen → Gen) (a : Arena Gen T) (n : ℕ) → view_of (remove_at following a n) ≡ entry_removed following (view_of a) n
+  pub viewed_removed : (following : Gen → Gen) (a : Arena Gen T) (n : ℕ) → view_of (remove_at following a n) ≡ view_after_removal following (view_of a) n
   viewed_removed following a n = λ i. shape a (entries-freed a.slots n i) (length-with_slot a.slots n None i) (n ∷ a.freed) (following a.counter) (a.placed + 1)
 
   pub viewed_written : (a : Arena Gen T) (n : ℕ) (t : T) → view_of (with_value a n t) ≡ view_with_value (view_of a) n t
@@ -106,7 +106,7 @@ module _ {Gen T : Type 0} where
       let f : Gen × T → Gen × T = λ e. (e.0, t) in
       λ i. shape a (entries-replaced f a.slots n i) (length-with_slot a.slots n (option_map f (slot_at a.slots n)) i) a.freed a.counter a.placed
 
-  pub viewed_renewed : (following : Gen → Gen) (a : Arena Gen T) (n : ℕ) → view_of (renewed_at following a n) ≡ view_after_invalidation (view_of a) (n, following a.counter)
+  pub viewed_renewed : (following : Gen → Gen) (a : Arena Gen T) (n : ℕ) → view_of (invalidate_at following a n) ≡ view_after_invalidation (view_of a) (n, following a.counter)
   viewed_renewed following a n =
       let f : Gen × T → Gen × T = λ e. (following a.counter, e.1) in
       λ i. shape a (entries-replaced f a.slots n i) (length-with_slot a.slots n (option_map f (slot_at a.slots n)) i) a.freed (following a.counter) a.placed
@@ -123,7 +123,7 @@ value_within-made true (Some x) = refl
 module _ {Gen T : Type 0} where
   -- The pointer of an entry that got the next generation.
   pub renewed_key : (following : Gen → Gen) (a b : Arena Gen T) (key : ℕ × Gen) (m made n : ℕ) (g : Gen)
-      → key ≡ (made, g) → made ≡ n → m ≡ n → g ≡ following a.counter → b ≡ renewed_at following a m → (key.0 ≡ n) × (view_of b ≡ view_after_invalidation (view_of a) key)
+      → key ≡ (made, g) → made ≡ n → m ≡ n → g ≡ following a.counter → b ≡ invalidate_at following a m → (key.0 ≡ n) × (view_of b ≡ view_after_invalidation (view_of a) key)
   renewed_key following a b key m made n g is at index next after =
       let same : key ≡ (m, following a.counter) = is ∙ (ap (λ i. let k : ℕ × Gen = (i, g) in k) (at ∙ sym index) ∙ ap (λ (h : Gen). let k : ℕ × Gen = (m, h) in k) next) in
       (ap (λ (k : ℕ × Gen). k.0) is ∙ at, ap view_of after ∙ (viewed_renewed following a m ∙ ap (view_after_invalidation (view_of a)) (sym same)))

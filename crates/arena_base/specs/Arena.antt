@@ -114,8 +114,8 @@ module _ {Gen T : Type 0} where
   remove_at following a i = record a { slots = with_slot a.slots i None; counter = following a.counter; freed = i ∷ a.freed; placed = a.placed + 1 }
 
   -- The arena after the entry at an index got the next generation.
-  abbrev pub renewed_at : (Gen → Gen) → Arena Gen T → ℕ → Arena Gen T
-  renewed_at following a i = record a {
+  abbrev pub invalidate_at : (Gen → Gen) → Arena Gen T → ℕ → Arena Gen T
+  invalidate_at following a i = record a {
     slots = with_slot a.slots i (option_map (λ e. (following a.counter, e.1)) (entry_at a i));
     counter = following a.counter;
   }

@@ -11,8 +11,8 @@ pub record DetachedView (Gen T : Type 0) : Type 0 where
   pub maximum : Option ℕ
 
 -- A saturating count of work, plus one.
-abbrev pub one_more : ℕ → ℕ
-one_more n = min (n + 1) (2 ^ 128 - 1)
+abbrev pub saturating_increment : ℕ → ℕ
+saturating_increment n = min (n + 1) (2 ^ 128 - 1)
 
 module _ {X : Type 0} where
   -- A slot before trimmed slots, removed if it is free and last.
@@ -46,8 +46,8 @@ module _ {Gen T : Type 0} where
   held_of a = record { slots = a.slots; stack_capacity = a.stack_capacity; maximum = a.maximum }
 
   -- The arena without its slots: empty over a new stack, with its counter and totals.
-  abbrev pub lent_out : Option ℕ → Arena Gen T → Arena Gen T
-  lent_out maximum a = record a { slots = []; freed = []; capacity = 0; stack_capacity = 0; maximum = maximum }
+  abbrev pub arena_without_slots : Option ℕ → Arena Gen T → Arena Gen T
+  arena_without_slots maximum a = record a { slots = []; freed = []; capacity = 0; stack_capacity = 0; maximum = maximum }
 
   -- The arena after slots are returned: free slots at the end are removed, and the others listed by
   -- ascending index.

@@ -111,8 +111,8 @@ module _ {Gen T : Type 0} where
   last_key es = first_key (reverse es)
 
   -- The view after the entry at an index is removed.
-  abbrev pub entry_removed : (Gen → Gen) → ArenaView Gen T → ℕ → ArenaView Gen T
-  entry_removed following s i = record s {
+  abbrev pub view_after_removal : (Gen → Gen) → ArenaView Gen T → ℕ → ArenaView Gen T
+  view_after_removal following s i = record s {
     entries = without_index i s.entries;
     counter = option_map following s.counter;
     slots = option_map (with_freed i) s.slots;

@@ -6,8 +6,8 @@ ghost use Rattle.arena_ptr.specs.Invalidation.{invalidation_option, invalidation
 ghost use Rattle.arena_base.specs.Slots.{entry_of, ThreadsFreeList};
 ghost use Rattle.arena_base.specs.Entries.{entries, entries_from, key_at, first_key, last_key, IsNextEntry};
 ghost use Rattle.arena_base.specs.Advancers.{ahead};
-ghost use Rattle.arena_base.specs.DetachedSlots.{held_of, lent_out, arena_after_return, IsPacked, with_placement, with_touch};
-ghost use Rattle.arena_base.specs.Arena.{entry_at, entry_count, next_index, insert_next, remove_at, renewed_at, with_counter, with_capacity_of, with_maximum, new_arena, HasCapacityFor, ReachesCapacity, IsWithinReach};
+ghost use Rattle.arena_base.specs.DetachedSlots.{held_of, arena_without_slots, arena_after_return, IsPacked, with_placement, with_touch};
+ghost use Rattle.arena_base.specs.Arena.{entry_at, entry_count, next_index, insert_next, remove_at, invalidate_at, with_counter, with_capacity_of, with_maximum, new_arena, HasCapacityFor, ReachesCapacity, IsWithinReach};
 
 use crate::cursor::Cursor;
 use crate::detached_slots::DetachedSlots;
@@ -343,7 +343,7 @@ impl<P: PtrKey, T: Drop, S: SlotStack<Item = ArenaSlot<P, T>>> Arena<P, T, S> {
         requires { IsSome (entry_at self.old (P.Inx.number i)) }
         ensures next { result.0 ≡ P.Gen.following self.old.counter }
         ensures overflow { result.1 ≡ P.Gen.wraps self.old.counter }
-        ensures after { self.new ≡ renewed_at P.Gen.following self.old (P.Inx.number i) }
+        ensures after { self.new ≡ invalidate_at P.Gen.following self.old (P.Inx.number i) }
     {
         let (generation, overflow) = self.counter.generational_inc();
         self.counter = generation;
@@ -354,7 +354,7 @@ impl<P: PtrKey, T: Drop, S: SlotStack<Item = ArenaSlot<P, T>>> Arena<P, T, S> {
     // Takes the slots, and leaves the arena empty over a new stack.
     pub(crate) fn take_slots(&mut self) -> DetachedSlots<P, T, S>
         ensures held { result ≡ held_of self.old }
-        ensures after { self.new ≡ lent_out S.initial_maximum self.old }
+        ensures after { self.new ≡ arena_without_slots S.initial_maximum self.old }
         ensures fits { length self.old.slots ≤ P.Inx.greatest }
     {
         let empty = S::new(self.slots.allocator());

@@ -19,7 +19,7 @@ use std::alloc::Global;
 
 impl<P: PtrKey, T: Drop, S: SlotStack<Item = ArenaSlot<P, T>>> ArenaTrait<P, T> for Arena<P, T, S> {
     ghost use Rattle.std.specs.Prelude.{◌≡◌};
-    ghost use Rattle.arena_base.specs.Arena.{entry_at, with_capacity_of, IsWithinReach, IsNewWithCapacity, with_value, renewed_at, remove_at, arena_after_clear};
+    ghost use Rattle.arena_base.specs.Arena.{entry_at, with_capacity_of, IsWithinReach, IsNewWithCapacity, with_value, invalidate_at, remove_at, arena_after_clear};
     ghost use Rattle.std.specs.Option.{option_map};
     ghost use Rattle.arena_base.specs.Entries.{view_of, entries};
     ghost use Rattle.arena_base.specs.EntryLaws.{entries_ascend, found-entries};
@@ -39,7 +39,7 @@ impl<P: PtrKey, T: Drop, S: SlotStack<Item = ArenaSlot<P, T>>> ArenaTrait<P, T> 
 
     ghost writes = { λ a i t b. b ≡ with_value a i t };
 
-    ghost renews = { λ a i b. b ≡ renewed_at P.Gen.following a i };
+    ghost renews = { λ a i b. b ≡ invalidate_at P.Gen.following a i };
 
     ghost removes = { λ a i b. b ≡ remove_at P.Gen.following a i };
 

@@ -4,14 +4,14 @@ ghost use Rattle.std.specs.Option.{option_map, option_copied_mut};
 ghost use Rattle.std.specs.Borrow.{LendsSo, follows_so, sem};
 ghost use mathlib.Core.Option.{none};
 ghost use Rattle.arena_base.specs.Arena.{slot_at};
-ghost use Rattle.arena_base.specs.DetachedSlots.{DetachedView, borrowed_parts, with_placed_entry, held_of, IsTouched, IsWrittenAt, lent_out, arena_after_return, IsPacked, with_touch, with_placement, one_more};
+ghost use Rattle.arena_base.specs.DetachedSlots.{DetachedView, borrowed_parts, with_placed_entry, held_of, IsTouched, IsWrittenAt, arena_without_slots, arena_after_return, IsPacked, with_touch, with_placement, saturating_increment};
 
 use crate::arena::Arena;
 use crate::detached_slots::{DetachedSlots, LendsValue};
 use crate::slot::ArenaSlot;
 use arena_ptr::{HeapStack, PtrKey, SlotStack};
 
-/// The work of a compactor: the number of placed entries, and of accesses to slots.
+/// The work of a compactor: the number of placements, and of other accesses to slots.
 ///
 /// Each count saturates at 2^128 - 1.
 #[derive(Debug, Clone, Copy, PartialEq, Eq)]
@@ -40,7 +40,7 @@ impl<P: PtrKey, T: Drop, S: SlotStack<Item = ArenaSlot<P, T>>> Arena<P, T, S> {
     /// Takes the slots out of the arena into a compactor, to move entries.
     pub fn compactor(&mut self) -> Compactor<'_, P, T, S>
         ensures same_reference { result.arena.ghost_name ≡ self.entry.ghost_name }
-        ensures arena { result.arena.now ≡ lent_out S.initial_maximum self.old }
+        ensures arena { result.arena.now ≡ arena_without_slots S.initial_maximum self.old }
         ensures held { result.held ≡ held_of self.old }
         ensures placed { result.placed ≡ 0 }
         ensures touched { result.touched ≡ 0 }
@@ -73,7 +73,7 @@ impl<'a, P: PtrKey, T: Drop, S: SlotStack<Item = ArenaSlot<P, T>>> Compactor<'a,
         ensures arena { self.new.arena.now ≡ with_placement self.old.arena.now }
         ensures held { self.new.held ≡ with_placed_entry self.old.held (P.Inx.number from)
             (P.Inx.number to) generation }
-        ensures placed { self.new.placed ≡ one_more self.old.placed }
+        ensures placed { self.new.placed ≡ saturating_increment self.old.placed }
         ensures touched { self.new.touched ≡ self.old.touched }
     {
         self.arena.count_placement();
@@ -94,7 +94,7 @@ impl<'a, P: PtrKey, T: Drop, S: SlotStack<Item = ArenaSlot<P, T>>> Compactor<'a,
         ensures arena { self.new.arena.now ≡ with_placement self.old.arena.now }
         ensures held { self.new.held ≡ with_placed_entry self.old.held (P.Inx.number from)
             (P.Inx.number to) generation }
-        ensures placed { self.new.placed ≡ one_more self.old.placed }
+        ensures placed { self.new.placed ≡ saturating_increment self.old.placed }
         ensures touched { self.new.touched ≡ self.old.touched }
     {
         self.arena.count_placement();
@@ -184,13 +184,13 @@ pub trait SlotAccess<P: PtrKey, T: Drop> {
 impl<'a, P: PtrKey, T: Drop, S: SlotStack<Item = ArenaSlot<P, T>>> SlotAccess<P, T>
     for Compactor<'a, P, T, S> {
     ghost use Rattle.std.specs.Prelude.{◌≡◌};
-    ghost use Rattle.arena_base.specs.DetachedSlots.{with_touch, one_more};
+    ghost use Rattle.arena_base.specs.DetachedSlots.{with_touch, saturating_increment};
 
     ghost held = { λ c. c.held };
 
     ghost touches = { λ a b. (b.arena.ghost_name ≡ a.arena.ghost_name)
         × (b.arena.now ≡ with_touch a.arena.now) × (b.placed ≡ a.placed)
-        × (b.touched ≡ one_more a.touched) };
+        × (b.touched ≡ saturating_increment a.touched) };
 
     fn peek(&mut self, i: P::Inx) -> Option<(&P::Gen, &T)> {
         self.arena.count_touch();

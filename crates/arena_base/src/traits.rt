@@ -6,7 +6,7 @@ ghost use Rattle.arena_ptr.specs.Numbers.{IsWithin};
 ghost use Rattle.arena_ptr.specs.SlotStack.{IsBeyond, IsWithinMaximum};
 ghost use Rattle.arena_ptr.specs.Invalidation.{value_within, invalidation_result, invalidation_option};
 ghost use Rattle.arena_base.specs.Arena.{IsCapacityFor, IsValid, borrowed_entry, overflows_after_clear};
-ghost use Rattle.arena_base.specs.Entries.{ArenaView, CoverSlots, index_of, IsNew, found, AscendsFrom, first_key, last_key, entry_removed, view_after_invalidation, view_with_value, view_after_clear, with_capacity};
+ghost use Rattle.arena_base.specs.Entries.{ArenaView, CoverSlots, index_of, IsNew, found, AscendsFrom, first_key, last_key, view_after_removal, view_after_invalidation, view_with_value, view_after_clear, with_capacity};
 ghost use Rattle.arena_base.specs.Advancers.{IsAdvanceUntilNone};
 ghost use Rattle.arena_base.specs.Entries.{entries};
 ghost use Rattle.arena_base.specs.Copies.{IsCopy, IsCopyBy, HasRefusable, IsAbandonedView};
@@ -229,7 +229,7 @@ pub trait ArenaTrait<P: PtrKey, T: Drop> {
         ensures some { IsSome (value_within result) ↔ IsValid (entry self.old) (P.key p) }
         ensures valid { IsValid (entry self.old) (P.key p)
             → (value_within result ≡ option_map (λ e. e.1) (entry self.old (P.key p).0))
-            × (view self.new ≡ entry_removed P.Gen.following (view self.old) (P.key p).0) }
+            × (view self.new ≡ view_after_removal P.Gen.following (view self.old) (P.key p).0) }
         ensures overflow { IfSome (view self.old).counter
             (λ g. result ≡ invalidation_result (P.Gen.wraps g) (value_within result)) }
         ensures invalid { ¬ IsValid (entry self.old) (P.key p) → (value_within result ≡ None)
@@ -245,7 +245,7 @@ pub trait ArenaTrait<P: PtrKey, T: Drop> {
         ensures overflow { IfSome (view self.old).counter
             (λ g. result ≡ invalidation_result (P.Gen.wraps g) (value_within result)) }
         ensures valid { IsSome (entry self.old (P.Inx.number i))
-            → view self.new ≡ entry_removed P.Gen.following (view self.old) (P.Inx.number i) }
+            → view self.new ≡ view_after_removal P.Gen.following (view self.old) (P.Inx.number i) }
         ensures invalid { entry self.old (P.Inx.number i) ≡ None → self.new ≡ self.old }
         ensures more { IsSome (entry self.old (P.Inx.number i))
             → removes self.old (P.Inx.number i) self.new };

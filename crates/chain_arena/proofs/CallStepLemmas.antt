@@ -18,7 +18,7 @@ use Rattle.chain_laws.specs.Chains.{LinkMap, prev_of, next_of}
 use Rattle.chain_laws.specs.Insertions.{InsertKind, link_before, link_after, InsertsPairs, Inserts}
 use Rattle.chain_laws.specs.Walks.{IsWalk, TakesWalk}
 use Rattle.chain_laws.proofs.WalkLemmas.Drains.{walk_is_taken}
-use Rattle.arena_base.specs.Arena.{IsValid, IsCapacityFor, HasCapacityFor, entry_at, entry_count, next_index, with_capacity_of, renewed_at, overflows_after_clear}
+use Rattle.arena_base.specs.Arena.{IsValid, IsCapacityFor, HasCapacityFor, entry_at, entry_count, next_index, with_capacity_of, invalidate_at, overflows_after_clear}
 use Rattle.arena_base.specs.Compressions.{overflows_after_compression}
 use Rattle.arena_base.specs.Entries.{count, view_after_invalidation, HasFreeCapacity, NeedsBeyondMaximum}
 use Rattle.chain_links.specs.ChainArena.{LinkView, on_value, link_map, value_view, entry, link_value, insert_as, link_at, CanConnect, CanExchange, IsJoin, IsCut, IsExchange, IsRemoval}
@@ -244,7 +244,7 @@ module _ {P I Gen W T : Type 0} (pointers : PointerKind P I Gen W) (old new : Li
   pub renews_link : (p : ℕ × Gen) (r : InvalidationResult P) → IsValid (entry old) p ⊎ (IsValid (entry old) p → ⊥)
       → (IsValid (entry old) p → IfSome (value_within r) (λ q. ((pointers.key q).0 ≡ p.0) × (value_view new ≡ view_after_invalidation (value_view old) (pointers.key q))) × IsSome (value_within r))
       → (r ≡ invalidation_result (pointers.wraps old.counter) (value_within r)) × IfSome (value_within r) (λ q. (pointers.key q).1 ≡ pointers.following old.counter)
-      → ((IsValid (entry old) p → ⊥) → (value_within r ≡ None) × (new ≡ old)) → (IsValid (entry old) p → (new ≡ renewed_at pointers.following old p.0) × (link_map new ≡ link_map old))
+      → ((IsValid (entry old) p → ⊥) → (value_within r ≡ None) × (new ≡ old)) → (IsValid (entry old) p → (new ≡ invalidate_at pointers.following old p.0) × (link_map new ≡ link_map old))
       → InvalidateStep pointers old p r new
   renews_link p r decided valid counter invalid state = states (λ q. IsRenewed pointers old p q new) (pointers.wraps old.counter) r decided counter.0 (λ is. (valid is).1)
       (λ is q at. (is, ap₂ (λ (i : ℕ) (g : Gen). (i, g)) (subst (λ o. IfSome o (λ q. ((pointers.key q).0 ≡ p.0) × (value_view new ≡ view_after_invalidation (value_view old) (pointers.key q)))) at (valid is).0).0 (subst (λ o. IfSome o (λ q. (pointers.key q).1 ≡ pointers.following old.counter)) at counter.1), (state is).0, (state is).1))

@@ -83,7 +83,7 @@ module _ {F P T Gen : Type 0} (g : F → P → P → F → Type 0) (key : P → 
         order = links_ordered;
         renamed = links_renamed;
         new_chains = links_run;
-        keys = indexes-with_front counter arranged.values 1 ∙ ap (range_with_len 1) values_counted;
+        new_indexes = indexes-with_front counter arranged.values 1 ∙ ap (range_with_len 1) values_counted;
         values = ap (λ (ts : List T). map (λ t. Some t) ts) (values-with_front counter arranged.values 1)
             ∙ (arranged.was_stored ∙ ap (λ (given : ℕ → Option (Gen × T)). map (λ i. option_map (λ (e : Gen × T). e.1) (given i)) arranged.indexes) entry_found);
         counter = ap (λ (h : Gen). Some h) (is_counter ∙ ap (λ n. counter_after_compression first following reset n old.counter) is_count);

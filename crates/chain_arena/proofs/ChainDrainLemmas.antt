@@ -7,7 +7,7 @@ use Rattle.arena_ptr.specs.declared.invalidation.InvalidationOption.{Invalidatio
 use Rattle.arena_ptr.specs.declared.invalidation.InvalidationResult.{InvalidationResult}
 use Rattle.chain_laws.specs.Chains.{LinkMap, IsWellLinked, HasLink, prev_in, next_in}
 use Rattle.chain_laws.specs.Removals.{with_removal}
-use Rattle.chain_laws.specs.Walks.{IsWalk, rest_start, rest_start_of, walk_from, removed_each, TakesWalk}
+use Rattle.chain_laws.specs.Walks.{IsWalk, rest_start, rest_start_of, walk_from, with_removals, TakesWalk}
 use Rattle.chain_laws.proofs.WalkLemmas.Drains.{walk_from-walk, walk_from-none, walk_from-next, walk_is_taken}
 use Rattle.arena_base.specs.Arena.{Arena, entry_at, remove_at}
 use Rattle.arena_base.specs.Arena.{IsValid}
@@ -102,17 +102,17 @@ module _ {Gen T : Type 0} where
       ∙ ap (walk_from (length a.slots) (with_removal (link_map a) i)) (on ∙ sym same)))))
 
   -- The link map after the removals.
-  pub link_map-without_each : (following : Gen → Gen) (a : Arena Gen (LinkView T)) (walk : List ℕ) → link_map (without_each following a walk) ≡ removed_each (link_map a) walk
+  pub link_map-without_each : (following : Gen → Gen) (a : Arena Gen (LinkView T)) (walk : List ℕ) → link_map (without_each following a walk) ≡ with_removals (link_map a) walk
   link_map-without_each following a [] = refl
-  link_map-without_each following a (i ∷ rest) = link_map-without_each following (remove_link following a i) rest ∙ ap (λ (s : LinkMap). removed_each s rest) (link_map-remove_link following a i)
+  link_map-without_each following a (i ∷ rest) = link_map-without_each following (remove_link following a i) rest ∙ ap (λ (s : LinkMap). with_removals s rest) (link_map-remove_link following a i)
 
   -- Removing the walk that is left takes it, also if it is empty.
   pub without_each-takes : (following : Gen → Gen) (a b : Arena Gen (LinkView T)) (i : ℕ) → IsWellLinked (link_map a) → b ≡ without_each following a (walk_left a i) → TakesWalk (link_map a) (link_map b) (walk_left a i)
   without_each-takes following a b i agrees gone =
       subst (λ (s : LinkMap). TakesWalk (link_map a) s (walk_left a i)) (sym (ap (λ (x : Arena Gen (LinkView T)). link_map x) gone ∙ link_map-without_each following a (walk_left a i))) (by (entry_at a i) refl)
     where
-      by : (o : Option (Gen × LinkView T)) → entry_at a i ≡ o → TakesWalk (link_map a) (removed_each (link_map a) (walk_left a i)) (walk_left a i)
-      by None none = subst (λ (w : List ℕ). TakesWalk (link_map a) (removed_each (link_map a) w) w) (sym (walk_left-none a i none)) (no_walk_is_taken (link_map a))
+      by : (o : Option (Gen × LinkView T)) → entry_at a i ≡ o → TakesWalk (link_map a) (with_removals (link_map a) (walk_left a i)) (walk_left a i)
+      by None none = subst (λ (w : List ℕ). TakesWalk (link_map a) (with_removals (link_map a) w) w) (sym (walk_left-none a i none)) (no_walk_is_taken (link_map a))
       by (Some e) stored = walk_is_taken (link_map a) i (walk_left a i) (walk_left-walk a i e agrees stored)
 
 module _ {P Gen K T : Type 0} (key : P → ℕ × Gen) (number : K → Option ℕ) (following : Gen → Gen) (wraps : Gen → Bool) where

@@ -3,12 +3,12 @@ use Rattle.std.proofs.Common.{◌≡◌, ℕ, Option, None, Some, refl, ap, ap�
 use Rattle.std.specs.Prelude.{IfSome, IsSome}
 use Rattle.std.specs.Option.{option_map}
 use Rattle.chain_laws.specs.Chains.{IsWellLinked}
-use Rattle.arena_base.specs.Arena.{Arena, entry_at, with_slot, with_value, renewed_at, arena_after_clear}
+use Rattle.arena_base.specs.Arena.{Arena, entry_at, with_slot, with_value, invalidate_at, arena_after_clear}
 use Rattle.arena_base.specs.Entries.{view_of, view_with_value, view_after_invalidation, view_after_clear}
 use Rattle.chain_links.specs.declared.links.LinkBody.{LinkBody}
 use Rattle.chain_links.specs.ChainArena.{on_value, LinkView, link_value, with_link_value, values_of, link_map, with_value_at}
 use Rattle.chain_links.specs.Links.{link_view, links_view, pair_view}
-use Rattle.chain_links.proofs.MappedArenaLemmas.{with_each-with_value, with_each-renewed_at, with_each-cleared}
+use Rattle.chain_links.proofs.MappedArenaLemmas.{with_each-with_value, with_each-invalidate_at, with_each-cleared}
 use Rattle.arena_base.proofs.ArenaViewLemmas.{viewed_written, viewed_renewed, viewed_cleared}
 use Rattle.chain_links.proofs.LinkStateLemmas.{entry_at-links_view}
 use Rattle.chain_linking.proofs.UnlinkLemmas.{link_map-written, link_map-renewed}
@@ -48,16 +48,16 @@ module _ {Gen K T : Type 0} (number : K → Option ℕ) (a b : Arena Gen (LinkBo
   written-view_after = ap (λ (x : Arena Gen (LinkView T)). view_of (values_of x)) written-state
       ∙ (ap (λ (x : Arena Gen T). view_of x) (values_of-with_value_at (links_view number a) n (link_view number l) w viewed_stored) ∙ viewed_written (values_of (links_view number a)) n w)
 
-module _ {Gen K T : Type 0} (number : K → Option ℕ) (following : Gen → Gen) (a b : Arena Gen (LinkBody K T)) (n : ℕ) (is : b ≡ renewed_at following a n) where
-  pub renewed-state : links_view number b ≡ renewed_at following (links_view number a) n
-  renewed-state = ap (λ (x : Arena Gen (LinkBody K T)). links_view number x) is ∙ with_each-renewed_at (link_view number) following a n
+module _ {Gen K T : Type 0} (number : K → Option ℕ) (following : Gen → Gen) (a b : Arena Gen (LinkBody K T)) (n : ℕ) (is : b ≡ invalidate_at following a n) where
+  pub renewed-state : links_view number b ≡ invalidate_at following (links_view number a) n
+  renewed-state = ap (λ (x : Arena Gen (LinkBody K T)). links_view number x) is ∙ with_each-invalidate_at (link_view number) following a n
 
   pub renewed-link_map : link_map (links_view number b) ≡ link_map (links_view number a)
   renewed-link_map = link_map-renewed following (links_view number a) (links_view number b) n renewed-state
 
   pub renewed-view_after : view_of (values_of (links_view number b)) ≡ view_after_invalidation (view_of (values_of (links_view number a))) (n, following a.counter)
   renewed-view_after = ap (λ (x : Arena Gen (LinkView T)). view_of (values_of x)) renewed-state
-      ∙ (ap (λ (x : Arena Gen T). view_of x) (with_each-renewed_at link_value following (links_view number a) n) ∙ viewed_renewed following (values_of (links_view number a)) n)
+      ∙ (ap (λ (x : Arena Gen T). view_of x) (with_each-invalidate_at link_value following (links_view number a) n) ∙ viewed_renewed following (values_of (links_view number a)) n)
 
   -- The new pointer has the new generation.
   pub renewed-known : {Q : Type 0} (X : Q → Type 0) (key : Q → ℕ × Gen) (o : Option Q) → IfSome o (λ q. ((key q).0 ≡ n) × X q) × IsSome o → IfSome o (λ q. (key q).1 ≡ following a.counter)

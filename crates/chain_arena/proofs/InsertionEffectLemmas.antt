@@ -12,7 +12,7 @@ use Rattle.chain_links.specs.ChainArena.{LinkView, link_value, values_of, value_
 use Rattle.chain_links.specs.Insertions.{IsInsertion, IsInsertionBetween}
 use Rattle.chain_links.proofs.MappedArenaLemmas.{with_each-insert_next, length-with_each, listed-with_each}
 use Rattle.chain_links.proofs.ArenaInsertionLemmas.{link_map-insert_lone, link_map-next, inserted_at, length-filled}
-use Rattle.chain_linking.proofs.LinkWriteLemmas.{FitsLinks, FitsLinks-link_map, FitsLinks-next_set, FitsLinks-prev_set, link_map-with_link_map, values_of-with_link_map}
+use Rattle.chain_linking.proofs.LinkWriteLemmas.{FitsLinks, FitsLinks-link_map, FitsLinks-with_next_at, FitsLinks-with_prev_at, link_map-with_link_map, values_of-with_link_map}
 
 -- The insertion position of a kind that may be inserted.
 pub position_known : (interlinks : LinkMap) (kind : InsertKind ℕ) (q : ℕ) {u v : Option ℕ} → u ≡ link_before interlinks kind q → v ≡ link_after interlinks kind q
@@ -25,7 +25,7 @@ module _ {Gen T : Type 0} (a : Arena Gen (LinkView T)) (t : T) (listed : IsListe
       let base = insert_lone a t in
       let q = next_index a in
       let lone_fits : FitsLinks (with_lone (link_map a) q) base = subst (λ (m : LinkMap). FitsLinks m base) (link_map-insert_lone a t listed.free) (FitsLinks-link_map base) in
-      let links = (λ (m : LinkMap) (x y : Option ℕ) (fits : FitsLinks m base). FitsLinks-prev_set base _ y x (FitsLinks-next_set base m x y fits)) in
+      let links = (λ (m : LinkMap) (x y : Option ℕ) (fits : FitsLinks m base). FitsLinks-with_prev_at base _ y x (FitsLinks-with_next_at base m x y fits)) in
       links (with_neighbors (with_lone (link_map a) q) u (Some q)) (Some q) v (links (with_lone (link_map a) q) u (Some q) lone_fits)
 
   -- The link map of the arena with a link between two others.

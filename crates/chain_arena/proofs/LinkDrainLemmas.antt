@@ -10,7 +10,7 @@ use Rattle.arena_ptr.specs.declared.invalidation.InvalidationOption.{Invalidatio
 use Rattle.arena_ptr.specs.declared.invalidation.InvalidationResult.{InvalidationResult}
 use Rattle.arena_base.specs.Arena.{Arena, IsValid, entry_at}
 use Rattle.arena_base.specs.Entries.{ArenaView, entries, entries_from, index_of, found, without_index, first_key, AscendsFrom}
-use Rattle.arena_base.specs.Entries.{entry_removed}
+use Rattle.arena_base.specs.Entries.{view_after_removal}
 use Rattle.arena_base.specs.EntryLaws.{entries_ascend, found-entries}
 use Rattle.arena_base.specs.Advancers.{entries_at_or_above}
 use Rattle.chain_links.specs.ChainArena.{LinkView, values_of, value_view, remove_link}
@@ -177,7 +177,7 @@ module _ {P Gen T : Type 0} (key : P → ℕ × Gen) (following : Gen → Gen) (
         (λ (after : next ≡ suc (key p).0). met.4 ∙ (ap (λ n. entries_at_or_above n (without_index (key p).0 (entries (values_of old)))) (sym after) ∙ (ap (entries_at_or_above next) (sym es) ∙ sym (entries_left-at new next (omega (arith, after))))))
         index
 
-    pub drained_first : (t : T) (overflow : Bool) (gone : InvalidationOption (P × T)) → value_view new ≡ entry_removed following (value_view old) (key p).0 → new ≡ remove_link following old (key p).0
+    pub drained_first : (t : T) (overflow : Bool) (gone : InvalidationOption (P × T)) → value_view new ≡ view_after_removal following (value_view old) (key p).0 → new ≡ remove_link following old (key p).0
         → taken ≡ Some t → overflow ≡ wraps old.counter → gone ≡ invalidation_option overflow (p, t) → IsBehind (key p).0 next → IsLinkDrainStep key following wraps old at gone new next
     drained_first t overflow gone loses removal has known responded index =
         let met = first_left old at (key p) first in

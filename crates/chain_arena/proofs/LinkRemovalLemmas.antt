@@ -7,7 +7,7 @@ use Rattle.arena_ptr.specs.declared.invalidation.InvalidationResult.{Invalidatio
 use Rattle.arena_ptr.specs.declared.invalidation.InvalidationResult.TheVariants.{Success, GenerationOverflow, InvalidPtr}
 use Rattle.chain_laws.specs.Chains.{IsWellLinked}
 use Rattle.arena_base.specs.Arena.{IsValid, entry_at}
-use Rattle.arena_base.specs.Entries.{entry_removed}
+use Rattle.arena_base.specs.Entries.{view_after_removal}
 use Rattle.chain_links.specs.ChainArena.{LinkView, on_value, link_map, value_view, entry, link_value, link_at, remove_link, IsRemoval}
 use Rattle.chain_links.specs.Links.{held_in, link_view, pair_view}
 use Rattle.chain_links.specs.declared.links.LinkBody.{LinkBody}
@@ -94,12 +94,12 @@ module _ {Gen K T : Type 0} (packed : K → Option ℕ) (following : Gen → Gen
     pub removal_there : is_some (entry a n) ≡ true → IsRemoval following a n b
     removal_there stored = removal (some_taken stored)
 
-    pub viewed_there : is_some (entry a n) ≡ true → value_view b ≡ entry_removed following (value_view a) n
+    pub viewed_there : is_some (entry a n) ≡ true → value_view b ≡ view_after_removal following (value_view a) n
     viewed_there stored = view_after-removed following a b n (removal_there stored).state
 
     -- The link of a valid pointer is removed.
     pub removal_at : (p : ℕ × Gen) → n ≡ p.0 → IsValid (entry a) p → IsRemoval following a n b
     removal_at p at valid = removal_there (ap (λ i. is_some (entry a i)) at ∙ ap is_some valid.stored)
 
-    pub viewed_at : (p : ℕ × Gen) → n ≡ p.0 → IsValid (entry a) p → value_view b ≡ entry_removed following (value_view a) n
+    pub viewed_at : (p : ℕ × Gen) → n ≡ p.0 → IsValid (entry a) p → value_view b ≡ view_after_removal following (value_view a) n
     viewed_at p at valid = viewed_there (ap (λ i. is_some (entry a i)) at ∙ ap is_some valid.stored)

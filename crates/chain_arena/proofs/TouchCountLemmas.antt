@@ -115,7 +115,7 @@ module _ {Gen T : Type 0} where
         let values = same_values (values_in (entries (values_of a))) (values_in (entries (values_of b)))
         (x.values ∙ (ap (λ (is : List ℕ). map (λ i. option_map (λ (e : Gen × T). e.1) (found i (value_view old).entries)) is) order ∙ sym y.values)) in
         same_known_alike a b (length (value_view old).entries) _ (slots_known old)
-        (same_entries b.counter (entries (values_of a)) (entries (values_of b)) (x.keys ∙ sym y.keys) values
+        (same_entries b.counter (entries (values_of a)) (entries (values_of b)) (x.new_indexes ∙ sym y.new_indexes) values
         (of_counter x.generation b.counter (entries (values_of a)) (sym x.is_counter ∙ counter) x.generations) (of_counter y.generation b.counter (entries (values_of b)) (sym y.is_counter) y.generations))
         (renaming_is_determined _ (link_map old) (link_map a) (link_map b) (subst (λ (is : List ℕ). IsRenaming (place_in is) (link_map old) (link_map a)) order x.renamed) y.renamed) x.slots y.slots counter
         (x.capacity ∙ sym y.capacity) (one.stack_capacity ∙ sym two.stack_capacity) (x.maximum ∙ sym y.maximum)
@@ -193,7 +193,7 @@ module _ (n : ℕ) where
             order = made.layout.order;
             renamed = made.layout.renamed;
             new_chains = made.layout.new_chains;
-            keys = made.layout.keys;
+            new_indexes = made.layout.new_indexes;
             values = made.layout.values;
             counter = made.layout.counter;
             generation = made.layout.generation;

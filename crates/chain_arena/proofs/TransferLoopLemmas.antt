@@ -21,7 +21,7 @@ use Rattle.chain_laws.proofs.TransferLemmas.Source.{items_left}
 use Rattle.chain_laws.proofs.TransferLemmas.Target.{all_items-append, items_arranged, arranged-length, arranged_between}
 use Rattle.chain_laws.proofs.RenamingLemmas.ChainRuns.{runs_are_renumbered}
 use Rattle.arena_base.specs.Arena.{Arena, IsListed, entry_count, next_index}
-use Rattle.arena_base.specs.Entries.{ArenaView, found, entry_removed, AscendsFrom}
+use Rattle.arena_base.specs.Entries.{ArenaView, found, view_after_removal, AscendsFrom}
 use Rattle.arena_base.specs.declared.cursor.Cursor.{Cursor}
 use Rattle.arena_base.specs.declared.cursor.Cursor.TheVariants.{Up}
 use Rattle.chain_links.specs.ChainArena.{LinkView, link_map, insert_between}
@@ -255,7 +255,7 @@ module _ {Q P G Gen I U T F : Type 0} (key : Q → ℕ × G) (new_key : P → �
 
         -- The link is carried over.
         pub carries_link : IsWellLinked links → (after : ArenaView G U) (links_after : LinkMap) (on : Option ℕ) (bounds : Option (I × I)) (then_now : Arena Gen (LinkView T))
-            → IfSome view_after.counter (λ g. is_overflow value ≡ wraps g) → on ≡ step_forward i (next_of links i) → after ≡ entry_removed following view_after i → links_after ≡ with_removal links i
+            → IfSome view_after.counter (λ g. is_overflow value ≡ wraps g) → on ≡ step_forward i (next_of links i) → after ≡ view_after_removal following view_after i → links_after ≡ with_removal links i
             → then_now ≡ insert_between now t (end_before ring (length c.taken) (next_index now)) (end_after ring (length c.taken) (next_index now))
             → AreEnds number bounds (length c.taken + 1) (k + 1 + 1)
             → IsCarrying (k + 1) after links_after cursor on ring bounds next then_now

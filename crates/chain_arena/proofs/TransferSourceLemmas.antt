@@ -14,7 +14,7 @@ use Rattle.chain_laws.proofs.ListLemmas.Members.{filled-IsMember}
 use Rattle.chain_laws.proofs.ChainLemmas.Uniqueness.{chain_valid, chain_filled}
 use Rattle.chain_laws.proofs.TransferLemmas.Source.{items_of, least_is_next, first_is_taken}
 use Rattle.chain_laws.proofs.RemovalLemmas.Pairs.{HasLink-removed}
-use Rattle.arena_base.specs.Entries.{ArenaView, found, without_index, entry_removed, AscendsFrom}
+use Rattle.arena_base.specs.Entries.{ArenaView, found, without_index, view_after_removal, AscendsFrom}
 use Rattle.arena_base.specs.declared.cursor.Cursor.{Cursor}
 use Rattle.arena_base.specs.declared.cursor.Cursor.TheVariants.{Up}
 use Rattle.chain_arena.specs.Drains.{after_times}
@@ -62,9 +62,9 @@ module _ {Gen T : Type 0} where
   valid_found links view_after stored i valid = sym (stored i) ∙ ap is_some valid.links
 
 module _ {Gen T : Type 0} (following : Gen → Gen) where
-  entries_removed-append : (s : ArenaView Gen T) (xs : List ℕ) (i : ℕ) → entries_removed following s (xs ++ i ∷ []) ≡ entry_removed following (entries_removed following s xs) i
+  entries_removed-append : (s : ArenaView Gen T) (xs : List ℕ) (i : ℕ) → entries_removed following s (xs ++ i ∷ []) ≡ view_after_removal following (entries_removed following s xs) i
   entries_removed-append s [] i = refl
-  entries_removed-append s (x ∷ xs) i = entries_removed-append (entry_removed following s x) xs i
+  entries_removed-append s (x ∷ xs) i = entries_removed-append (view_after_removal following s x) xs i
 
   -- Each removal increments the counter.
   pub counter-entries_removed : (s : ArenaView Gen T) (xs : List ℕ) → (entries_removed following s xs).counter ≡ option_map (after_times following (length xs)) s.counter
@@ -73,7 +73,7 @@ module _ {Gen T : Type 0} (following : Gen → Gen) where
       own : (o : Option Gen) → o ≡ option_map (after_times following 0) o
       own None = refl
       own (Some g) = refl
-  counter-entries_removed s (x ∷ xs) = counter-entries_removed (entry_removed following s x) xs ∙ once s.counter
+  counter-entries_removed s (x ∷ xs) = counter-entries_removed (view_after_removal following s x) xs ∙ once s.counter
     where
       once : (o : Option Gen) → option_map (after_times following (length xs)) (option_map following o) ≡ option_map (after_times following (suc (length xs))) o
       once None = refl
@@ -83,7 +83,7 @@ module _ {Gen T : Type 0} (following : Gen → Gen) where
   pub found-entries_removed : (s : ArenaView Gen T) (xs : List ℕ) (i : ℕ) → (IsMember xs i → ⊥) → found i (entries_removed following s xs).entries ≡ found i s.entries
   found-entries_removed s [] i none = refl
   found-entries_removed s (x ∷ xs) i none =
-      found-entries_removed (entry_removed following s x) xs i (λ h. none (inr h)) ∙ found-without i x s.entries (λ same. none (inl (sym same)))
+      found-entries_removed (view_after_removal following s x) xs i (λ h. none (inr h)) ∙ found-without i x s.entries (λ same. none (inl (sym same)))
 
   -- Links were taken out of a source: these chains are left, the first of them in part. Links
   -- outside that part are at or above the advancer's index.
@@ -140,14 +140,14 @@ module _ {Gen T : Type 0} (following : Gen → Gen) where
       first_found = valid_found links view_after stored i (chain_valid links (chain_of ring (i ∷ xs)) i (d.chains.each (chain_of ring (i ∷ xs)) (inl refl)) (subst (λ (zs : List ℕ). IsMember zs i) (sym (items_of ring (i ∷ xs))) (inl refl)))
 
       -- After it is taken, the rest of the chain is left.
-      pub departs_on : IsWellLinked links → (after : ArenaView Gen T) (links_after : LinkMap) → after ≡ entry_removed following view_after i → links_after ≡ with_removal links i
+      pub departs_on : IsWellLinked links → (after : ArenaView Gen T) (links_after : LinkMap) → after ≡ view_after_removal following view_after i → links_after ≡ with_removal links i
           → IsDeparting source after links_after cursor ring xs rest (taken ++ i ∷ []) × (step_forward i (next_of links i) ≡ first_or xs None)
       departs_on agrees after links_after is passed =
           let w = first_is_taken links ring i xs rest agrees d.chains in (
             record {
               chains = subst (λ (m : LinkMap). AreChains m (with_rest ring xs rest)) (sym passed) w.0;
               order = d.order;
-              same = is ∙ (ap (λ (s : ArenaView Gen T). entry_removed following s i) d.same ∙ sym (entries_removed-append source taken i));
+              same = is ∙ (ap (λ (s : ArenaView Gen T). view_after_removal following s i) d.same ∙ sym (entries_removed-append source taken i));
               size = omega (arith, d.size, ap (λ (s : ArenaView Gen T). length s.entries) is, length-without i view_after.entries first_found, length-append taken (i ∷ []));
               from = d.from;
               up = d.up;

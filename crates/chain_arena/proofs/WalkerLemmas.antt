@@ -51,8 +51,8 @@ module _ {Gen T : Type 0} (a : Arena Gen (LinkView T)) where
 
     -- The current link is the last, before the start of a cyclic chain.
     pub passes_last : (left : ℕ) (next : Option ℕ) → (left ≡ 0 → ⊥) → next ≡ e.1.next → next ≡ Some start → links_ahead a left start (Some i) back ≡ (i, e) ∷ links_ahead a 0 start next back
-    passes_last left next some named once_around =
-        let closed : e.1.next ≡ Some start = sym named ∙ once_around in
+    passes_last left next some named of_cyclic =
+        let closed : e.1.next ≡ Some start = sym named ∙ of_cyclic in
         passes_first left some
         ∙ ap (λ (rest : List (ℕ × (Gen × LinkView T))). (i, e) ∷ rest)
         (ap₂ (λ (forth behind : Option ℕ). links_ahead a (left - 1) start forth behind)

@@ -11,7 +11,7 @@ use Rattle.arena_ptr.specs.declared.errors.ReallocationError.TheVariants as refu
 use Rattle.arena_ptr.specs.declared.invalidation.InvalidationResult.{InvalidationResult}
 use Rattle.chain_laws.specs.Chains.{prev_of, next_of}
 use Rattle.chain_laws.specs.Insertions.{InsertKind}
-use Rattle.arena_base.specs.Arena.{IsValid, entry_at, entry_count, with_capacity_of, with_counter, renewed_at, arena_after_clear, overflows_after_clear}
+use Rattle.arena_base.specs.Arena.{IsValid, entry_at, entry_count, with_capacity_of, with_counter, invalidate_at, arena_after_clear, overflows_after_clear}
 use Rattle.arena_base.specs.Compressions.{overflows_after_compression}
 use Rattle.chain_links.specs.ChainArena.{link_map, entry, insert_as, CanConnect, CanExchange, IsJoin, IsCut, IsExchange, IsRemoval}
 use Rattle.chain_links.specs.Links.{link_view}
@@ -88,7 +88,7 @@ module _ {P I Gen W : Type 0} (pointers : PointerKind P I Gen W) where
     -- A link has the next generation, with this pointer, and stays in its chain.
     abbrev pub IsRenewed : Links Gen T → ℕ × Gen → P → Links Gen T → Type 0
     IsRenewed old p q new =
-        IsValid (entry old) p × (pointers.key q ≡ (p.0, pointers.following old.counter)) × (new ≡ renewed_at pointers.following old p.0) × (link_map new ≡ link_map old)
+        IsValid (entry old) p × (pointers.key q ≡ (p.0, pointers.following old.counter)) × (new ≡ invalidate_at pointers.following old p.0) × (link_map new ≡ link_map old)
 
     abbrev pub InvalidateStep : Links Gen T → ℕ × Gen → InvalidationResult P → Links Gen T → Type 0
     InvalidateStep old p returned new = ReportsOverflow ((IsValid (entry old) p → ⊥) × (new ≡ old)) (pointers.wraps old.counter) (λ q. IsRenewed old p q new) returned

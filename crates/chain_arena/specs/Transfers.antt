@@ -11,7 +11,7 @@ use Rattle.chain_laws.specs.Transfer.{end_before, end_after}
 use Rattle.chain_laws.specs.Renamings.{IsRenaming}
 use Rattle.chain_laws.specs.Arrangements.{place_in, IsLeastIndexOrder}
 use Rattle.arena_base.specs.Arena.{Arena, next_index}
-use Rattle.arena_base.specs.Entries.{ArenaView, entries, found, entry_removed}
+use Rattle.arena_base.specs.Entries.{ArenaView, entries, found, view_after_removal}
 use Rattle.chain_links.specs.ChainArena.{LinkView, link_map, values_of, insert_between}
 use Rattle.chain_links.specs.CanonicalLayouts.{IsCanonicalLayout}
 
@@ -31,7 +31,7 @@ overflows following wraps (suc n) g = wraps g ∷ overflows following wraps n (f
 -- The view after the removals at these indexes, in order.
 abbrev pub entries_removed : {Gen T : Type 0} → (Gen → Gen) → ArenaView Gen T → List ℕ → ArenaView Gen T
 entries_removed following s [] = s
-entries_removed following s (i ∷ rest) = entries_removed following (entry_removed following s i) rest
+entries_removed following s (i ∷ rest) = entries_removed following (view_after_removal following s i) rest
 
 -- The index that a link had.
 abbrev pub old_index : {Q P G U T : Type 0} → (Q → ℕ × G) → Carried Q P U T → ℕ

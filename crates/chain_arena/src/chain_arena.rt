@@ -26,7 +26,7 @@ use arena_ptr::{
 use chain_compaction::canonical::arrange;
 use chain_compaction::visitor::Visitor;
 use chain_linking::insert_position::{InsertPosition, position_of_kind};
-use chain_linking::link_writes::take_out;
+use chain_linking::link_writes::remove_link_at;
 use chain_links::kinds::by_names;
 use chain_links::{LinkInsertKind, LinkNoGen};
 use std::alloc::Allocator;
@@ -121,7 +121,7 @@ impl<P: PtrKey, T: Drop, S: SlotStack<Item = ArenaSlot<P, LinkNoGen<P, T>>>> Cha
         ensures invalid { value_within result ≡ None → self.new ≡ self.old }
         ensures agreed { IsWellLinked (link_map self.old) }
     {
-        take_out(&mut self.arena, i)
+        remove_link_at(&mut self.arena, i)
     }
 
     /// Returns the counter: the generation of the next link.

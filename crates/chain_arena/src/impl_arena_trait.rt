@@ -22,7 +22,7 @@ use std::alloc::Global;
 impl<P: PtrKey, T: Drop, S: SlotStack<Item = ArenaSlot<P, LinkNoGen<P, T>>>> ArenaTrait<P, T>
     for ChainArena<P, T, S> {
     ghost use Rattle.std.specs.Prelude.{◌≡◌};
-    ghost use Rattle.arena_base.specs.Arena.{entry_at, with_capacity_of, IsWithinReach, IsNewWithCapacity, renewed_at, arena_after_clear};
+    ghost use Rattle.arena_base.specs.Arena.{entry_at, with_capacity_of, IsWithinReach, IsNewWithCapacity, invalidate_at, arena_after_clear};
     ghost use Rattle.std.specs.Option.{option_map};
     ghost use Rattle.arena_base.specs.Entries.{view_of, entries};
     ghost use Rattle.arena_base.specs.EntryLaws.{entries_ascend, found-entries};
@@ -45,7 +45,7 @@ impl<P: PtrKey, T: Drop, S: SlotStack<Item = ArenaSlot<P, LinkNoGen<P, T>>>> Are
 
     ghost writes = { λ a i t b. (b ≡ with_value_at a i t) × (link_map b ≡ link_map a) };
 
-    ghost renews = { λ a i b. (b ≡ renewed_at P.Gen.following a i) × (link_map b ≡ link_map a) };
+    ghost renews = { λ a i b. (b ≡ invalidate_at P.Gen.following a i) × (link_map b ≡ link_map a) };
 
     ghost removes = { λ a i b. IsRemoval P.Gen.following a i b };
 

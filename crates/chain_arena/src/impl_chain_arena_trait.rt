@@ -15,7 +15,7 @@ use arena_ptr::{
 };
 use chain_linking::connection::join;
 use chain_linking::insert_position::{is_index, next_of as next_of_link, prev_of as prev_of_link};
-use chain_linking::link_writes::{link_twice, neighbor};
+use chain_linking::link_writes::{link_pairs, neighbor};
 use chain_links::kinds::Name;
 use chain_links::{Link, LinkInsertKind, LinkNoGen};
 use chain_traits::ChainArenaTrait;
@@ -137,7 +137,7 @@ impl<P: PtrKey, T: Drop, S: SlotStack<Item = ArenaSlot<P, LinkNoGen<P, T>>>> Cha
     fn break_prev(&mut self, p: P) -> Option<()> {
         match prev_of_link(&self.arena, Name::Pointer(p)) {
             Some(before) => {
-                link_twice(&mut self.arena, (Some(before), None), (None, Some(p.inx())));
+                link_pairs(&mut self.arena, (Some(before), None), (None, Some(p.inx())));
                 Some(())
             }
             None => None,
@@ -147,7 +147,7 @@ impl<P: PtrKey, T: Drop, S: SlotStack<Item = ArenaSlot<P, LinkNoGen<P, T>>>> Cha
     fn break_next(&mut self, p: P) -> Option<()> {
         match next_of_link(&self.arena, Name::Pointer(p)) {
             Some(after) => {
-                link_twice(&mut self.arena, (Some(p.inx()), None), (None, Some(after)));
+                link_pairs(&mut self.arena, (Some(p.inx()), None), (None, Some(after)));
                 Some(())
             }
             None => None,
@@ -159,7 +159,7 @@ impl<P: PtrKey, T: Drop, S: SlotStack<Item = ArenaSlot<P, LinkNoGen<P, T>>>> Cha
             Some(after_p) => match next_of_link(&self.arena, Name::Pointer(q)) {
                 Some(after_q) => {
                     let (i, j) = (p.inx(), q.inx());
-                    link_twice(
+                    link_pairs(
                         &mut self.arena,
                         (Some(i), Some(after_q)),
                         (Some(j), Some(after_p)),

@@ -22,7 +22,7 @@
 //! use std::alloc::Global;
 //!
 //! /// Builds the list 10, 20, 30, removes 20, and returns whether 10 and 30 are now neighbors.
-//! pub fn row_of_three(alloc: Global) -> Result<bool, ChainInsertionError> {
+//! pub fn removal_connects_neighbors(alloc: Global) -> Result<bool, ChainInsertionError> {
 //!     let mut arena: ChainArena<ToolPtr, u32> = ChainArena::new(alloc);
 //!     let a = arena.insert_reallocating(LinkInsertKind::Disconnected, 10)?;
 //!     let c = arena.insert_reallocating(LinkInsertKind::ChainEnd(a), 30)?;

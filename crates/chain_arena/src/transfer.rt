@@ -67,7 +67,7 @@ impl<P: PtrKey, T: Drop, S: SlotStack<Item = ArenaSlot<P, LinkNoGen<P, T>>>> Cha
             Ok(()) => {
                 self.clear();
                 self.set_generation(new_generation);
-                carry_all(self, source, map);
+                transfer_links(self, source, map);
                 Ok(())
             }
             Err(why) => Err(why),
@@ -99,7 +99,7 @@ impl<P: PtrKey, T: Drop, S: SlotStack<Item = ArenaSlot<P, LinkNoGen<P, T>>>> Cha
 }
 
 // Moves all links of a source, for which the capacity suffices, to the target, chain by chain.
-fn carry_all<
+fn transfer_links<
     P: PtrKey,
     T: Drop,
     S: SlotStack<Item = ArenaSlot<P, LinkNoGen<P, T>>>,

@@ -16,7 +16,7 @@ use Rattle.chain_laws.proofs.RenamingLemmas.Positions.{place-within, place-has, 
 use Rattle.chain_laws.proofs.RenamingLemmas.ChainRuns.{canonical_arranges}
 use Rattle.chain_laws.proofs.RenamingLemmas.LeastIndexOrder.{least_index_order_is_canonical}
 use Rattle.arena_base.specs.Arena.{Arena, slot_at}
-use Rattle.arena_base.specs.DetachedSlots.{DetachedView, IsPacked, without_free_end, held_of, lent_out, arena_after_return}
+use Rattle.arena_base.specs.DetachedSlots.{DetachedView, IsPacked, without_free_end, held_of, arena_without_slots, arena_after_return}
 use Rattle.arena_base.specs.GatheredSlots.{with_totals, with_front}
 use Rattle.chain_links.specs.declared.links.LinkBody.{LinkBody}
 use Rattle.chain_links.specs.ChainArena.{LinkView, on_value, link_value, interlinks_of, link_map, values_of, entry, ptr_at}
@@ -318,14 +318,14 @@ module _ {F P Gen K T : Type 0} (g : F → P → P → F → Type 0) (key : P �
       ap (λ (s : List (Option (Gen × LinkView T))). slot_at s d) (without_free_end-map (pair_view number) h3.slots)
       ∙ (slot_at-trimmed (map (option_map (pair_view number)) h3.slots) d ∙ done.placed i d x at (ap (λ (h : DetachedView Gen (LinkBody K T)). slot_at (held_view number h).slots i) is_held ∙ is))
 
-  module _ (greatest : ℕ) (maximum : Option ℕ) (lent : a1 ≡ lent_out maximum old) where
-    whole_work : IsWork (lent_out maximum old) a3 (length done.indexes) (4 * length old.slots + 12 * length done.indexes)
+  module _ (greatest : ℕ) (maximum : Option ℕ) (lent : a1 ≡ arena_without_slots maximum old) where
+    whole_work : IsWork (arena_without_slots maximum old) a3 (length done.indexes) (4 * length old.slots + 12 * length done.indexes)
     whole_work =
         let same : length h0.slots ≡ length old.slots = ap (λ (h : DetachedView Gen (LinkBody K T)). length h.slots) is_held in
         subst (λ (a : Arena Gen (LinkBody K T)). IsWork a a3 (length done.indexes) (4 * length old.slots + 12 * length done.indexes)) lent (work-few done.work _ (omega (arith, same)))
 
     abbrev arranged_arena : Arena Gen (LinkBody K T)
-    arranged_arena = arena_after_return greatest (with_totals (lent_out maximum old) (length done.indexes) whole_work.touches) h3
+    arranged_arena = arena_after_return greatest (with_totals (arena_without_slots maximum old) (length done.indexes) whole_work.touches) h3
 
     is_arranged : (new : Arena Gen (LinkBody K T)) → new ≡ arena_after_return greatest a3 h3 → new ≡ arranged_arena
     is_arranged new is_new = is_new ∙ ap (λ (a : Arena Gen (LinkBody K T)). arena_after_return greatest a h3) whole_work.arena

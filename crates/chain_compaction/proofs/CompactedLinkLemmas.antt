@@ -11,7 +11,7 @@ use Rattle.chain_laws.specs.Renamings.{IsRenaming}
 use Rattle.chain_laws.specs.Arrangements.{place_in}
 use Rattle.arena_base.specs.Arena.{Arena, slot_at}
 use Rattle.arena_base.specs.Entries.{entries_from, entries, index_of}
-use Rattle.arena_base.specs.DetachedSlots.{DetachedView, before_cut, without_free_end, free_from, held_of, lent_out, arena_after_return}
+use Rattle.arena_base.specs.DetachedSlots.{DetachedView, before_cut, without_free_end, free_from, held_of, arena_without_slots, arena_after_return}
 use Rattle.arena_base.specs.Compressions.{VisitsAll}
 use Rattle.arena_base.specs.GatheredSlots.{AreClosed, IsGathered, arena_of_values, with_totals}
 use Rattle.arena_base.proofs.CompactedArenaLemmas.{gathers, few_entries}
@@ -78,7 +78,7 @@ values-returned greatest a held =
 module _ {F P T Gen K : Type 0} (g : Mut F (P × (MutBor T × (P × Unit {0}))) (Unit {0} × (MutBor T × Unit {0}))) (key : P → ℕ × Gen) (f : F) (number : K → Option ℕ) where
   -- The links were taken out, moved to the front, and given back.
   module _ (greatest : ℕ) (maximum : Option ℕ) (generation : Gen) (old start finish new : Arena Gen (LinkBody K T)) (before after : DetachedView Gen (LinkBody K T))
-      (is_start : start ≡ lent_out maximum old) (is_before : before ≡ held_of old) (is_new : new ≡ arena_after_return greatest finish after)
+      (is_start : start ≡ arena_without_slots maximum old) (is_before : before ≡ held_of old) (is_new : new ≡ arena_after_return greatest finish after)
       (closed : AreClosed generation (held_values before) (held_values after)) (visits : VisitsAll g key f (entries_from 1 (held_values before).slots) (entries_from 1 (held_values after).slots))
       (work : IsWork start finish (length (entries_from 1 (held_values before).slots)) (length before.slots + 3 * length (entries_from 1 (held_values before).slots))) where
     -- The old values alone.

@@ -6,7 +6,7 @@ use Rattle.std.proofs.Math.Decide.{ℕ_discrete}
 use Rattle.std.proofs.Math.Seq.{map-set_same}
 use mathlib.Core.Path.{fun_ext}
 use Rattle.chain_laws.specs.Chains.{LinkMap, Interlinks, IsWellLinked, prev_of, next_of}
-use Rattle.chain_laws.specs.Joins.{next_set, prev_set, with_next, with_prev}
+use Rattle.chain_laws.specs.Joins.{with_next_at, with_prev_at, with_next, with_prev}
 use Rattle.chain_laws.specs.Moves.{moved_index, with_link_moved, with_link_placed, CanMove}
 use Rattle.chain_laws.proofs.InterlinkLemmas.Inverses.{if_same, if_other, one_some}
 use Rattle.chain_laws.proofs.RenamingLemmas.Moves.{neighbors_determine_a_move}
@@ -84,15 +84,15 @@ module _ {Gen K T : Type 0} (held new : DetachedView Gen (LinkBody K T)) (n : �
           ap (option_map (body_interlinks number)) (slot_at-changed held.slots n i (option_map (λ (e : Gen × LinkBody K T). (e.0, w))) refl ∙ if_other i n _ _ differs) ∙ sym (if_other i n _ _ differs)
 
   -- `next` of the link was set.
-  pub links-next_set : (number : K → Option ℕ) (next : Option ℕ) → w ≡ record l { next = w.next } → number w.next ≡ next
-      → link_map_in number new.slots ≡ next_set (link_map_in number held.slots) (Some n) next
-  links-next_set number next rest named =
+  pub links-with_next_at : (number : K → Option ℕ) (next : Option ℕ) → w ≡ record l { next = w.next } → number w.next ≡ next
+      → link_map_in number new.slots ≡ with_next_at (link_map_in number held.slots) (Some n) next
+  links-with_next_at number next rest named =
       ap (λ (h : DetachedView Gen (LinkBody K T)). link_map_in number h.slots) wrote ∙ fun_ext (links-changed number (with_next next) (λ i. record { prev = number (rest i).prev; next = named i }))
 
   -- `prev` of the link was set.
-  pub links-prev_set : (number : K → Option ℕ) (prev : Option ℕ) → w ≡ record l { prev = w.prev } → number w.prev ≡ prev
-      → link_map_in number new.slots ≡ prev_set (link_map_in number held.slots) (Some n) prev
-  links-prev_set number prev rest named =
+  pub links-with_prev_at : (number : K → Option ℕ) (prev : Option ℕ) → w ≡ record l { prev = w.prev } → number w.prev ≡ prev
+      → link_map_in number new.slots ≡ with_prev_at (link_map_in number held.slots) (Some n) prev
+  links-with_prev_at number prev rest named =
       ap (λ (h : DetachedView Gen (LinkBody K T)). link_map_in number h.slots) wrote ∙ fun_ext (links-changed number (with_prev prev) (λ i. record { prev = named i; next = number (rest i).next }))
 
 -- Setting the interlinks of a free slot changes nothing.
@@ -114,11 +114,11 @@ module _ {Gen K T : Type 0} (number : K → Option ℕ) (slots : List (Option (G
           nothing ∙ (sym (ap (option_map change) nothing) ∙ sym (if_same i n _ _ e))
       by (no differs) = sym (if_other i n _ _ differs)
 
-  pub next_set-unknown : (next : Option ℕ) → link_map_in number slots ≡ next_set (link_map_in number slots) (Some n) next
-  next_set-unknown next = fun_ext (unknown (with_next next))
+  pub with_next_at-unknown : (next : Option ℕ) → link_map_in number slots ≡ with_next_at (link_map_in number slots) (Some n) next
+  with_next_at-unknown next = fun_ext (unknown (with_next next))
 
-  pub prev_set-unknown : (prev : Option ℕ) → link_map_in number slots ≡ prev_set (link_map_in number slots) (Some n) prev
-  prev_set-unknown prev = fun_ext (unknown (with_prev prev))
+  pub with_prev_at-unknown : (prev : Option ℕ) → link_map_in number slots ≡ with_prev_at (link_map_in number slots) (Some n) prev
+  with_prev_at-unknown prev = fun_ext (unknown (with_prev prev))
 
 module _ {Gen K T : Type 0} (held : DetachedView Gen (LinkBody K T)) (from to : ℕ) (generation : Gen) where
   -- A placement places the value.
@@ -186,7 +186,7 @@ module _ {Gen K T : Type 0} (number : K → Option ℕ) (old was_read brought kn
 
   pub move-links : (before after prev next : Option ℕ) → 1 ≤ from → from ≤ length old.slots → 1 ≤ to → to ≤ length old.slots
       → prev ≡ prev_of (link_map_in number old.slots) from → next ≡ next_of (link_map_in number old.slots) from → before ≡ option_map (moved_index from to) prev → after ≡ option_map (moved_index from to) next
-      → link_map_in number known.slots ≡ next_set (link_map_in number brought.slots) before (Some to) → link_map_in number new.slots ≡ prev_set (link_map_in number known.slots) after (Some to)
+      → link_map_in number known.slots ≡ with_next_at (link_map_in number brought.slots) before (Some to) → link_map_in number new.slots ≡ with_prev_at (link_map_in number known.slots) after (Some to)
       → IsWellLinked (link_map_in number old.slots) → CanMove (link_map_in number old.slots) from to → link_map_in number new.slots ≡ with_link_moved (link_map_in number old.slots) from to
   move-links before after prev next first within first_to within_to is_prev is_next is_before is_after first_known second_known agrees can =
       let link_map : LinkMap = link_map_in number old.slots in
@@ -196,7 +196,7 @@ module _ {Gen K T : Type 0} (number : K → Option ℕ) (old was_read brought kn
       let names_before : before ≡ option_map (moved_index from to) (prev_of link_map from) = is_before ∙ ap (option_map (moved_index from to)) is_prev in
       let names_after : after ≡ option_map (moved_index from to) (next_of link_map from) = is_after ∙ ap (option_map (moved_index from to)) is_next in
       second_known
-      ∙ (ap₂ (λ (m : LinkMap) (o : Option ℕ). prev_set m o (Some to)) (first_known ∙ ap₂ (λ (m : LinkMap) (o : Option ℕ). next_set m o (Some to)) is_put names_before) names_after
+      ∙ (ap₂ (λ (m : LinkMap) (o : Option ℕ). with_prev_at m o (Some to)) (first_known ∙ ap₂ (λ (m : LinkMap) (o : Option ℕ). with_next_at m o (Some to)) is_put names_before) names_after
       ∙ neighbors_determine_a_move link_map from to agrees can)
 
 -- A read that reports a generation found an entry.

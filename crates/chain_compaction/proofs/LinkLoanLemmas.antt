@@ -4,7 +4,7 @@ use Rattle.std.specs.Prelude.{OnSome}
 use Rattle.std.specs.Option.{option_map, option_copied_mut}
 use denote.Ref.{MutBor}
 use Rattle.arena_base.specs.Arena.{slot_at}
-use Rattle.arena_base.specs.DetachedSlots.{held_with_value, with_touch, one_more}
+use Rattle.arena_base.specs.DetachedSlots.{held_with_value, with_touch, saturating_increment}
 use Rattle.arena_base.specs.declared.compactor.Compactor.{Compactor}
 use Rattle.chain_compaction.specs.WorkCounts.{CountsWork}
 use Rattle.chain_compaction.proofs.WorkCountLemmas.{counts_touch, counts_then}
@@ -27,7 +27,7 @@ module _ {P T S Inx Gen Word : Type 0} (old new : Compactor P T S Inx Gen Word) 
     pub counts : CountsWork old new
 
   abbrev Touched : Type 0
-  Touched = (new.arena.ghost_name ≡ old.arena.ghost_name) × (new.arena.now ≡ with_touch old.arena.now) × (new.placed ≡ old.placed) × (new.touched ≡ one_more old.touched)
+  Touched = (new.arena.ghost_name ≡ old.arena.ghost_name) × (new.arena.now ≡ with_touch old.arena.now) × (new.placed ≡ old.placed) × (new.touched ≡ saturating_increment old.touched)
 
   pub lent : (lends : Option (MutBor T)) (m : MutBor T) (w : T) → lends ≡ Some m → option_copied_mut lends ≡ option_map (λ e. e.1) (slot_at old.held.slots i)
       → OnSome lends ((new.held ≡ held_with_value old.held i w) × Touched) → IsOverwritten m.now w

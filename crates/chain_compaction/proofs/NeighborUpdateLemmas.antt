@@ -6,7 +6,7 @@ use Rattle.arena_base.specs.Arena.{slot_at}
 use Rattle.arena_base.specs.DetachedSlots.{DetachedView, held_with_value}
 use Rattle.chain_links.specs.declared.links.LinkBody.{LinkBody}
 use Rattle.chain_compaction.specs.DetachedLinks.{held_values, link_map_in, with_neighbor}
-use Rattle.chain_compaction.proofs.DetachedLinkLemmas.{values-kept, links-next_set, links-prev_set, next_set-unknown, prev_set-unknown}
+use Rattle.chain_compaction.proofs.DetachedLinkLemmas.{values-kept, links-with_next_at, links-with_prev_at, with_next_at-unknown, with_prev_at-unknown}
 
 -- No index is given.
 pub states_none : {I : Type 0} (index : I → ℕ) (link_map : LinkMap) (before : Bool) (named : Option I) (target : Option ℕ) → named ≡ None → link_map ≡ with_neighbor before link_map (option_map index named) target
@@ -26,8 +26,8 @@ module _ {I Gen K T : Type 0} (index : I → ℕ) (number : K → Option ℕ) (o
     states_nowhere none = (λ j. link_map_in number (same j).slots) ∙ (by before ∙ (λ j. with_neighbor before (link_map_in number old.slots) (option_map index (sym is j)) target))
       where
         by : (b : Bool) → link_map_in number old.slots ≡ with_neighbor b (link_map_in number old.slots) (Some (index i)) target
-        by true = prev_set-unknown number old.slots (index i) none target
-        by false = next_set-unknown number old.slots (index i) none target
+        by true = with_prev_at-unknown number old.slots (index i) none target
+        by false = with_next_at-unknown number old.slots (index i) none target
 
   -- A link was written.
   module _ (l w : LinkBody K T) (stored : Some l ≡ option_map (λ (e : Gen × LinkBody K T). e.1) (slot_at old.slots (index i))) (wrote : new ≡ held_with_value old (index i) w) where
@@ -36,11 +36,11 @@ module _ {I Gen K T : Type 0} (index : I → ℕ) (number : K → Option ℕ) (o
       prev_values = values-kept old new (index i) l w stored wrote (λ j. (rest j).t)
 
       pub states_prev : number w.prev ≡ target → link_map_in number new.slots ≡ with_neighbor before (link_map_in number old.slots) (option_map index named) target
-      states_prev to = links-prev_set old new (index i) l w stored wrote number target rest to ∙ (λ j. with_neighbor (sym on j) (link_map_in number old.slots) (option_map index (sym is j)) target)
+      states_prev to = links-with_prev_at old new (index i) l w stored wrote number target rest to ∙ (λ j. with_neighbor (sym on j) (link_map_in number old.slots) (option_map index (sym is j)) target)
 
     module _ (off : before ≡ false) (rest : w ≡ record l { next = w.next }) where
       pub next_values : held_values new ≡ held_values old
       next_values = values-kept old new (index i) l w stored wrote (λ j. (rest j).t)
 
       pub states_next : number w.next ≡ target → link_map_in number new.slots ≡ with_neighbor before (link_map_in number old.slots) (option_map index named) target
-      states_next to = links-next_set old new (index i) l w stored wrote number target rest to ∙ (λ j. with_neighbor (sym off j) (link_map_in number old.slots) (option_map index (sym is j)) target)
+      states_next to = links-with_next_at old new (index i) l w stored wrote number target rest to ∙ (λ j. with_neighbor (sym off j) (link_map_in number old.slots) (option_map index (sym is j)) target)

@@ -166,19 +166,19 @@ compression_moves_pointers {P} {Gen} {T} key first following reset old new links
     arrives = all.from ∙ ap (λ (entry : ℕ → Option (Gen × T)). map (ptr_at entry) all.indexes) entry_found
 
     ascends : AscendsFrom 1 new.entries
-    ascends = run-ascends 1 (length old.entries) new.entries layout.keys
+    ascends = run-ascends 1 (length old.entries) new.entries layout.new_indexes
 
     long : length all.indexes ≡ length old.entries
     long =
         ap length same_order
         ∙ (sym (length-map layout.indexes (λ i. option_map (λ (e : Gen × T). e.1) (found i old.entries))) ∙ (sym (ap length layout.values) ∙ (length-map (values_in new.entries) (λ t. Some t)
-        ∙ (length-map new.entries (λ e. e.1) ∙ (sym (length-map new.entries index_of) ∙ (ap length layout.keys ∙ length-range_with_len 1 (length old.entries)))))))
+        ∙ (length-map new.entries (λ e. e.1) ∙ (sym (length-map new.entries index_of) ∙ (ap length layout.new_indexes ∙ length-range_with_len 1 (length old.entries)))))))
 
     target : map (λ (m : P × P). key m.1) moves ≡ map (λ (e : (ℕ × Gen) × T). e.0) new.entries
     target =
         all.to
         ∙ (ap (λ n. map (λ k. (k, layout.generation)) (range_with_len 1 n)) long
-        ∙ sym (keys-run layout.generation (range_with_len 1 (length old.entries)) new.entries layout.keys (recursion_from_All _ new.entries layout.generations)))
+        ∙ sym (keys-run layout.generation (range_with_len 1 (length old.entries)) new.entries layout.new_indexes (recursion_from_All _ new.entries layout.generations)))
 
 module _ {Gen T : Type 0} (entry : ℕ → Option (Gen × T)) where
   what_stored : (o : Option (Gen × T)) → is_some o ≡ true → (e : Gen × T) × (o ≡ Some e)

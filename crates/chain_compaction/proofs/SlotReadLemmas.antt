@@ -2,7 +2,7 @@
 use Rattle.std.proofs.Common.{◌≡◌, ℕ, Bool, true, false, Option, None, Some, refl, sym, ap}
 use Rattle.std.specs.Prelude.{is_none, is_some, not}
 use Rattle.std.specs.Option.{option_map, option_and_then}
-use Rattle.arena_base.specs.DetachedSlots.{with_touch, one_more}
+use Rattle.arena_base.specs.DetachedSlots.{with_touch, saturating_increment}
 use Rattle.arena_base.specs.declared.compactor.Compactor.{Compactor}
 use Rattle.chain_laws.specs.Chains.{prev_in, next_in}
 use Rattle.chain_links.specs.declared.links.LinkBody.{LinkBody}
@@ -15,7 +15,7 @@ use Rattle.chain_compaction.proofs.WorkCountLemmas.{counts_touch}
 module _ {P T S Inx Gen Word : Type 0} where
   -- A read is one touch, and keeps the slots.
   pub has_read : (old new : Compactor P T S Inx Gen Word)
-      → (new.held ≡ old.held) × ((new.arena.ghost_name ≡ old.arena.ghost_name) × (new.arena.now ≡ with_touch old.arena.now) × (new.placed ≡ old.placed) × (new.touched ≡ one_more old.touched))
+      → (new.held ≡ old.held) × ((new.arena.ghost_name ≡ old.arena.ghost_name) × (new.arena.now ≡ with_touch old.arena.now) × (new.placed ≡ old.placed) × (new.touched ≡ saturating_increment old.touched))
       → HasReadSlot old new
   has_read old new h = record { same_reference = h.1.0; held = h.0; arena = h.1.1; counts = counts_touch _ _ _ _ _ _ h.1.1 h.1.2 h.1.3 }
 

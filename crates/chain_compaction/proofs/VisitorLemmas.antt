@@ -39,7 +39,7 @@ module _ {P Gen T : Type 0} (key : P → ℕ × Gen) (first : Gen) (following : 
       sym (length-map moves (λ (m : P × P). Some (key m.0)))
       ∙ (ap length all.from ∙ (length-map all.indexes (ptr_at (λ i. found i old.entries)) ∙ (ap length same_order
       ∙ (sym (length-map layout.indexes (λ i. option_map (λ (e : Gen × T). e.1) (found i old.entries))) ∙ (sym (ap length layout.values) ∙ (length-map (values_in new.entries) (λ t. Some t)
-      ∙ (length-map new.entries (λ e. e.1) ∙ (sym (length-map new.entries index_of) ∙ (ap length layout.keys ∙ length-range_with_len 1 (length old.entries))))))))))
+      ∙ (length-map new.entries (λ e. e.1) ∙ (sym (length-map new.entries index_of) ∙ (ap length layout.new_indexes ∙ length-range_with_len 1 (length old.entries))))))))))
     where
       same_order : all.indexes ≡ layout.indexes
       same_order = all.order.items ∙ (ap all_items (no_others links all.order.chains layout.order.chains all.order.are layout.order.are) ∙ sym layout.order.items)

@@ -1,11 +1,11 @@
 -- A compactor's counts agree with the totals of its arena.
 use Rattle.std.proofs.Common.{◌≡◌, ℕ, ◌+◌, refl, ap, ◌∙◌, arith}
 use Rattle.arena_base.specs.Arena.{Arena}
-use Rattle.arena_base.specs.DetachedSlots.{one_more, with_touch, with_placement}
+use Rattle.arena_base.specs.DetachedSlots.{saturating_increment, with_touch, with_placement}
 use Rattle.chain_compaction.specs.WorkCounts.{saturating_count, HasCounted, CountsOn}
 
 -- One more is counted, up to the greatest count.
-counted_more : (n : ℕ) → one_more (saturating_count n) ≡ saturating_count (n + 1)
+counted_more : (n : ℕ) → saturating_increment (saturating_count n) ≡ saturating_count (n + 1)
 counted_more n = omega arith
 
 module _ {Gen T : Type 0} where
@@ -22,25 +22,25 @@ module _ {Gen T : Type 0} where
   counts_then a b c p q r t u v one two = record { on = λ first had. two.on first (one.on first had) }
 
   -- Counts after a touch.
-  pub counts_touch : (a b : Arena Gen T) (p q t u : ℕ) → b ≡ with_touch a → q ≡ p → u ≡ one_more t → CountsOn a b p t q u
+  pub counts_touch : (a b : Arena Gen T) (p q t u : ℕ) → b ≡ with_touch a → q ≡ p → u ≡ saturating_increment t → CountsOn a b p t q u
   counts_touch a b p q t u is same more = record {
     on = λ first had. record {
       placements = had.placements;
       touches = had.touches + 1;
       arena = is ∙ (ap with_touch had.arena ∙ same_totals first (first.placed + had.placements) (first.placed + had.placements) (first.touched + had.touches + 1) (first.touched + (had.touches + 1)) refl (omega arith));
       placements_counted = same ∙ had.placements_counted;
-      touches_counted = more ∙ (ap one_more had.touches_counted ∙ counted_more had.touches);
+      touches_counted = more ∙ (ap saturating_increment had.touches_counted ∙ counted_more had.touches);
     };
   }
 
   -- Counts after a placement.
-  pub counts_place : (a b : Arena Gen T) (p q t u : ℕ) → b ≡ with_placement a → q ≡ one_more p → u ≡ t → CountsOn a b p t q u
+  pub counts_place : (a b : Arena Gen T) (p q t u : ℕ) → b ≡ with_placement a → q ≡ saturating_increment p → u ≡ t → CountsOn a b p t q u
   counts_place a b p q t u is more same = record {
     on = λ first had. record {
       placements = had.placements + 1;
       touches = had.touches;
       arena = is ∙ (ap with_placement had.arena ∙ same_totals first (first.placed + had.placements + 1) (first.placed + (had.placements + 1)) (first.touched + had.touches) (first.touched + had.touches) (omega arith) refl);
-      placements_counted = more ∙ (ap one_more had.placements_counted ∙ counted_more had.placements);
+      placements_counted = more ∙ (ap saturating_increment had.placements_counted ∙ counted_more had.placements);
       touches_counted = same ∙ had.touches_counted;
     };
   }

@@ -2,7 +2,7 @@
 use Rattle.std.specs.Prelude.{◌≡◌, ℕ, ◌≤◌, Bool, true, false, List, map, Option}
 use Rattle.std.specs.Option.{option_map}
 use Rattle.chain_laws.specs.Chains.{LinkMap, Interlinks}
-use Rattle.chain_laws.specs.Joins.{next_set, prev_set}
+use Rattle.chain_laws.specs.Joins.{with_next_at, with_prev_at}
 use Rattle.arena_base.specs.Arena.{Arena, slot_at}
 use Rattle.arena_base.specs.Entries.{entries_from, index_of}
 use Rattle.arena_base.specs.DetachedSlots.{DetachedView}
@@ -30,8 +30,8 @@ module _ {Gen K T : Type 0} where
 
 -- The link map after `prev` (`true`) or `next` (`false`) of the link at an index, if any, is set.
 abbrev pub with_neighbor : Bool → LinkMap → Option ℕ → Option ℕ → LinkMap
-with_neighbor true link_map i named = prev_set link_map i named
-with_neighbor false link_map i named = next_set link_map i named
+with_neighbor true link_map i named = with_prev_at link_map i named
+with_neighbor false link_map i named = with_next_at link_map i named
 
 -- The indexes of the entries in slots, in ascending order.
 abbrev pub indexes_in : {Gen T : Type 0} → List (Option (Gen × T)) → List ℕ

@@ -14,14 +14,14 @@ ghost use Rattle.chain_compaction.specs.OrderedLinks.{AreAllPlaced};
 use crate::assign_destinations::number_all;
 use crate::in_order::{is_in_order, renew_all};
 use crate::permute::move_all;
-use crate::slot_access::direct_at;
+use crate::slot_access::set_destination_at;
 use crate::visitor::Visitor;
 use arena_base::{Arena, ArenaSlot, ArenaTrait, Compactor, Work, inx_at};
 use arena_ptr::{PtrKey, SlotStack};
 use chain_links::LinkNoGen;
 
 /// Removes the destinations of all links.
-pub fn empty_all<P: PtrKey, T: Drop, S: SlotStack<Item = ArenaSlot<P, LinkNoGen<P, T>>>>(
+pub fn clear_destinations<P: PtrKey, T: Drop, S: SlotStack<Item = ArenaSlot<P, LinkNoGen<P, T>>>>(
     compactor: &mut Compactor<'_, P, LinkNoGen<P, T>, S>,
 )
     requires fits { length compactor.old.held.slots ≤ P.Inx.greatest }
@@ -35,7 +35,7 @@ pub fn empty_all<P: PtrKey, T: Drop, S: SlotStack<Item = ArenaSlot<P, LinkNoGen<
     ensures counts { CountsWork compactor.old compactor.new }
 {
     for k in 0..compactor.slots() {
-        direct_at(compactor, inx_at::<P>(k), None);
+        set_destination_at(compactor, inx_at::<P>(k), None);
     }
 }
 
@@ -62,7 +62,7 @@ fn arrange_by_moves<
         result.1 7 }
     ensures counts { CountsWork compactor.old compactor.new }
 {
-    empty_all(compactor);
+    clear_destinations(compactor);
     let (visitor, count) = number_all(compactor, generation, visitor);
     move_all(compactor, generation);
     (visitor, count)

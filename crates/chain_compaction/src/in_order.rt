@@ -10,7 +10,7 @@ ghost use Rattle.chain_compaction.specs.OrderedLinks.{IsStartAfter, AreAllPlaced
 ghost use Rattle.chain_compaction.specs.SlotReads.{HasReadSlots};
 ghost use Rattle.chain_compaction.specs.WorkCounts.{CountsWork};
 
-use crate::slot_access::{direct_at, read_link};
+use crate::slot_access::{read_link, set_destination_at};
 use crate::visitor::Visitor;
 use arena_base::{ArenaSlot, Compactor, SlotAccess, inx_at, proved_unreachable};
 use arena_ptr::{InxKey, PtrKey, SlotStack};
@@ -61,7 +61,7 @@ fn start_after<P: PtrKey>(
 
 /// Returns whether all slots hold links that are arranged canonically already.
 ///
-/// No slot is read if one is free, which `links`, the number of links, shows.
+/// Reads no slot if `links`, the number of links, is less than the number of slots.
 pub(crate) fn is_in_order<P: PtrKey, T: Drop, S: SlotStack<Item = ArenaSlot<P, LinkNoGen<P, T>>>>(
     compactor: &mut Compactor<'_, P, LinkNoGen<P, T>, S>,
     links: usize,
@@ -128,7 +128,7 @@ pub(crate) fn renew_all<
         match was {
             Some(was) => {
                 compactor.place(i, i, generation);
-                direct_at(compactor, i, None);
+                set_destination_at(compactor, i, None);
                 visitor.visit(P::_from_raw(i, was), P::_from_raw(i, generation));
             }
             None => proved_unreachable!(),

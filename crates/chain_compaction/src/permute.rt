@@ -6,7 +6,7 @@ ghost use Rattle.chain_compaction.specs.DetachedLinks.{IsWork};
 ghost use Rattle.chain_compaction.specs.WorkCounts.{CountsWork};
 ghost use Rattle.chain_compaction.specs.Permutations.{Waits, WaitsWithin, IsInBlock, IsSettling, ListsWaiting, HaveMoved, CanMoveAll, waiting_count, destination_of, Settles, IsWorkOn};
 
-use crate::slot_access::{direct_at, read_link};
+use crate::slot_access::{read_link, set_destination_at};
 use arena_base::{ArenaSlot, Compactor, inx_at};
 use arena_ptr::{InxKey, PtrKey, SlotStack};
 use chain_links::LinkNoGen;
@@ -44,7 +44,7 @@ fn settle_once<P: PtrKey, T: Drop, S: SlotStack<Item = ArenaSlot<P, LinkNoGen<P,
     match destination {
         Some(to) => {
             compactor.place(i, to, generation);
-            direct_at(compactor, to, None);
+            set_destination_at(compactor, to, None);
             !to.is_same(i)
         }
         None => false,

@@ -45,11 +45,11 @@ pub(crate) fn read_link<P: PtrKey, T: Drop, S: SlotStack<Item = ArenaSlot<P, Lin
 }
 
 // Sets or removes the destination of the link at `i`, if any.
-pub(crate) fn direct_at<P: PtrKey, T: Drop, S: SlotStack<Item = ArenaSlot<P, LinkNoGen<P, T>>>>(
-    compactor: &mut Compactor<'_, P, LinkNoGen<P, T>, S>,
-    i: P::Inx,
-    destination: Option<P::Inx>,
-)
+pub(crate) fn set_destination_at<
+    P: PtrKey,
+    T: Drop,
+    S: SlotStack<Item = ArenaSlot<P, LinkNoGen<P, T>>>,
+>(compactor: &mut Compactor<'_, P, LinkNoGen<P, T>, S>, i: P::Inx, destination: Option<P::Inx>)
     ensures same_reference { compactor.new.arena.ghost_name ≡ compactor.old.arena.ghost_name }
     ensures directed { IsDirectedAt P.Inx.packed_number (P.Inx.number i)
         (option_map P.Inx.number destination) compactor.old.held compactor.new.held }

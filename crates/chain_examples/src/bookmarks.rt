@@ -39,8 +39,8 @@ pub fn renumber<P: PtrKey, T: Drop, S: SlotStack<Item = ArenaSlot<P, LinkNoGen<P
     match arena.compress_canonical_moves(alloc, false) {
         Ok((_, moves)) => {
             let table = table.as_mut_slice();
-            note(table, &moves);
-            follow(table, bookmarks);
+            fill_table(table, &moves);
+            update_bookmarks(table, bookmarks);
             Ok(())
         }
         Err(_) => Err(AllocError),
@@ -71,7 +71,7 @@ fn place_of<P: PtrKey>(p: P) -> usize
 }
 
 /// Writes each move into the table, at the position of its old pointer.
-fn note<P: PtrKey>(table: &mut [Option<(P, P)>], moves: &[(P, P)])
+fn fill_table<P: PtrKey>(table: &mut [Option<(P, P)>], moves: &[(P, P)])
     requires { All (λ m. (P.key m.0).0 ≤ length table.old) moves.now }
     ensures { table.new ≡ with_moves P.key table.old moves.now }
 {
@@ -93,7 +93,7 @@ fn find<P: PtrKey>(table: &[Option<(P, P)>], bookmark: Option<P>) -> Option<P>
 }
 
 /// Replaces each bookmark with its new pointer, or with `None` if the table has no move from it.
-fn follow<P: PtrKey>(table: &[Option<(P, P)>], bookmarks: &mut [Option<P>])
+fn update_bookmarks<P: PtrKey>(table: &[Option<(P, P)>], bookmarks: &mut [Option<P>])
     ensures { bookmarks.new ≡ map (option_and_then (new_pointer_of P.key P.same table.now))
         bookmarks.old }
 {

@@ -6,7 +6,7 @@ ghost use Rattle.std.specs.Borrow.{LendsSo, sem};
 ghost use Rattle.arena_ptr.specs.SlotStack.{IsBeyond, IsWithinMaximum};
 ghost use Rattle.chain_laws.specs.Chains.{linear, IsMember, next_of, prev_of};
 ghost use Rattle.arena_base.specs.Arena.{IsCapacityFor, IsValid};
-ghost use Rattle.arena_base.specs.Entries.{count, entry_removed, first_key, last_key, with_capacity, NeedsBeyondMaximum};
+ghost use Rattle.arena_base.specs.Entries.{count, view_after_removal, first_key, last_key, with_capacity, NeedsBeyondMaximum};
 ghost use Rattle.chain_links.specs.CanonicalLayouts.{IsCanonicalLayout};
 ghost use Rattle.chain_links.specs.CallEffects.{SucceedsWithinCapacity};
 ghost use Rattle.chain_links.specs.ChainArena.{IsInserted, CanConnect, entry, value_view, link_map};
@@ -310,7 +310,7 @@ impl<P: PtrKey, T: Drop, A: ChainArenaTrait<P, T> + Drop> Documents<P, T, A> {
         ensures others { KeepsWithout A.entry A.interlinks linear self.old self.new (P.key p ∷ []) }
         ensures size { OnSome result (count (A.view self.old) ≡ count (A.view self.new) + 1) }
         ensures view_after { OnSome result (A.view self.new
-            ≡ entry_removed P.Gen.following (A.view self.old) (P.key p).0) }
+            ≡ view_after_removal P.Gen.following (A.view self.old) (P.key p).0) }
         ensures none { IfNone result (self.new ≡ self.old) }
     {
         self.paragraphs.agrees();
@@ -320,7 +320,7 @@ impl<P: PtrKey, T: Drop, A: ChainArenaTrait<P, T> + Drop> Documents<P, T, A> {
     /// Splits a document directly after `p`, so that what follows `p` is a document of its own.
     ///
     /// Returns `None` and changes nothing if `p` is not valid or is the last paragraph.
-    pub fn part_after(&mut self, p: P) -> Option<()>
+    pub fn split_after(&mut self, p: P) -> Option<()>
         ensures some { IsSome result
             ↔ (IsValid (A.entry self.old) (P.key p)
             × IsSome (next_of (A.interlinks self.old) (P.key p).0)) }
@@ -336,7 +336,7 @@ impl<P: PtrKey, T: Drop, A: ChainArenaTrait<P, T> + Drop> Documents<P, T, A> {
     /// Splits a document directly before `p`, so that what precedes `p` is a document of its own.
     ///
     /// Returns `None` and changes nothing if `p` is not valid or is the first paragraph.
-    pub fn part_before(&mut self, p: P) -> Option<()>
+    pub fn split_before(&mut self, p: P) -> Option<()>
         ensures some { IsSome result
             ↔ (IsValid (A.entry self.old) (P.key p)
             × IsSome (prev_of (A.interlinks self.old) (P.key p).0)) }
@@ -404,8 +404,8 @@ impl<P: PtrKey, T: Drop, A: ChainArenaTrait<P, T> + Drop> Documents<P, T, A> {
         ensures none { IfNone result (self.new ≡ self.old) }
     {
         let (before, after) = self.beside(p)?;
-        self.part_before(p);
-        self.part_after(p);
+        self.split_before(p);
+        self.split_after(p);
         self.close(before, after);
         Some(())
     }
@@ -418,7 +418,7 @@ impl<P: PtrKey, T: Drop, A: ChainArenaTrait<P, T> + Drop> Documents<P, T, A> {
         ensures view_after { A.view self.new ≡ A.view self.old }
     {
         let after = self.next(q);
-        self.part_after(q);
+        self.split_after(q);
         self.join(q, p);
         self.close(Some(p), after);
     }

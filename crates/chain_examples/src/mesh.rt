@@ -5,7 +5,7 @@ ghost use Rattle.std.specs.Option.{option_map};
 ghost use Rattle.arena_ptr.specs.SlotStack.{IsBeyond, IsWithinMaximum};
 ghost use Rattle.chain_laws.specs.Chains.{cyclic};
 ghost use Rattle.arena_base.specs.Arena.{IsCapacityFor, IsValid};
-ghost use Rattle.arena_base.specs.Entries.{count, entry_removed, first_key, with_capacity, HasFreeCapacity, NeedsBeyondMaximum};
+ghost use Rattle.arena_base.specs.Entries.{count, view_after_removal, first_key, with_capacity, HasFreeCapacity, NeedsBeyondMaximum};
 ghost use Rattle.chain_links.specs.CallEffects.{SucceedsWithinCapacity};
 ghost use Rattle.chain_links.specs.ChainArena.{IsInserted};
 ghost use Rattle.chain_examples.specs.Lists.{Item, IsRing, KeepsWithout, InsertsAfter, InsertsBefore, Leaves};
@@ -222,7 +222,7 @@ impl<P: PtrKey, T: Drop, A: ChainArenaTrait<P, T> + Drop> Mesh<P, T, A> {
             (P.key corner ∷ []) }
         ensures size { OnSome result (count (A.view self.old) ≡ count (A.view self.new) + 1) }
         ensures view_after { OnSome result (A.view self.new
-            ≡ entry_removed P.Gen.following (A.view self.old) (P.key corner).0) }
+            ≡ view_after_removal P.Gen.following (A.view self.old) (P.key corner).0) }
         ensures none { IfNone result (self.new ≡ self.old) }
     {
         self.corners.agrees();

@@ -10,7 +10,7 @@ ghost use Rattle.chain_laws.specs.Neighbors.{AreNeighbors};
 ghost use Rattle.chain_laws.specs.Joins.{with_join, KeepsChainsWithout};
 ghost use Rattle.chain_laws.specs.Removals.{with_removal};
 ghost use Rattle.arena_base.specs.Arena.{IsValid};
-ghost use Rattle.arena_base.specs.Entries.{entry_removed, HasFreeCapacity, NeedsBeyondMaximum};
+ghost use Rattle.arena_base.specs.Entries.{view_after_removal, HasFreeCapacity, NeedsBeyondMaximum};
 ghost use Rattle.chain_links.specs.CallEffects.{GainsLink};
 ghost use Rattle.chain_links.specs.ChainArena.{CanConnect};
 ghost use Rattle.chain_links.specs.Kinds.{name_of_pointer};
@@ -52,7 +52,8 @@ pub fn remove_and_step<P: PtrKey, T: Drop, A: ChainArenaTrait<P, T>>(
     ensures links { IsSome (A.entry arena.old (P.Inx.number i))
         → A.interlinks arena.new ≡ with_removal (A.interlinks arena.old) (P.Inx.number i) }
     ensures view_after { IsSome (A.entry arena.old (P.Inx.number i))
-        → A.view arena.new ≡ entry_removed P.Gen.following (A.view arena.old) (P.Inx.number i) }
+        → A.view arena.new
+        ≡ view_after_removal P.Gen.following (A.view arena.old) (P.Inx.number i) }
     ensures none { A.entry arena.old (P.Inx.number i) ≡ None
         → (result ≡ None) × (arena.new ≡ arena.old) }
 {

@@ -67,9 +67,9 @@ RunsAreRenumbered = (old new : LinkMap) (chains : List Chain) → AreChains old 
 abbrev pub HasLeastIndexOrder : Type 0
 HasLeastIndexOrder = (link_map : LinkMap) (slots : ℕ) → IsWellLinked link_map → HasLinksWithin link_map slots → (indexes : List ℕ) × IsLeastIndexOrder link_map indexes
 
--- The least-index order is `ordered`.
-abbrev pub LeastIndexOrderIsOrdered : Type 0
-LeastIndexOrderIsOrdered = (link_map : LinkMap) (one : HasOneSetOfChains link_map) (indexes : List ℕ) → IsLeastIndexOrder link_map indexes ↔ (indexes ≡ order_of one)
+-- The least-index order is `order_of`.
+abbrev pub LeastIndexOrderIsUnique : Type 0
+LeastIndexOrderIsUnique = (link_map : LinkMap) (one : HasOneSetOfChains link_map) (indexes : List ℕ) → IsLeastIndexOrder link_map indexes ↔ (indexes ≡ order_of one)
 
 -- The least-index order is canonical.
 abbrev pub LeastIndexOrderIsCanonical : Type 0

@@ -11,18 +11,18 @@ abbrev pub with_next : Option ℕ → Interlinks → Interlinks
 with_next after link = record link { next = after }
 
 -- The link at i, if there is one, gets this prev.
-abbrev pub prev_set : LinkMap → Option ℕ → Option ℕ → LinkMap
-prev_set link_map None before j = link_map j
-prev_set link_map (Some i) before j = if j == i then option_map (with_prev before) (link_map j) else link_map j
+abbrev pub with_prev_at : LinkMap → Option ℕ → Option ℕ → LinkMap
+with_prev_at link_map None before j = link_map j
+with_prev_at link_map (Some i) before j = if j == i then option_map (with_prev before) (link_map j) else link_map j
 
 -- The link at i, if there is one, gets this next.
-abbrev pub next_set : LinkMap → Option ℕ → Option ℕ → LinkMap
-next_set link_map None after j = link_map j
-next_set link_map (Some i) after j = if j == i then option_map (with_next after) (link_map j) else link_map j
+abbrev pub with_next_at : LinkMap → Option ℕ → Option ℕ → LinkMap
+with_next_at link_map None after j = link_map j
+with_next_at link_map (Some i) after j = if j == i then option_map (with_next after) (link_map j) else link_map j
 
 -- v comes after u; a missing one leaves no neighbor on that side.
 abbrev pub with_neighbors : LinkMap → Option ℕ → Option ℕ → LinkMap
-with_neighbors link_map u v = prev_set (next_set link_map u v) v u
+with_neighbors link_map u v = with_prev_at (with_next_at link_map u v) v u
 
 -- b comes after a.
 abbrev pub with_join : LinkMap → ℕ → ℕ → LinkMap

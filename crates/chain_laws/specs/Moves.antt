@@ -2,7 +2,7 @@
 use Rattle.std.specs.Prelude.{◌≡◌, ◌↔◌, ℕ, ◌+◌, ◌≤◌, ◌==◌, leb, if◌then◌else◌, ◌⊎◌, List, [], ◌∷◌, ◌++◌, length, Option, None, Some}
 use Rattle.std.specs.Option.{option_map, option_and_then}
 use Rattle.chain_laws.specs.Chains.{LinkMap, Interlinks, IsMember, AreDistinct, HasLink, HasLinksWithin, IsWellLinked, prev_of, next_of}
-use Rattle.chain_laws.specs.Joins.{next_set, prev_set}
+use Rattle.chain_laws.specs.Joins.{with_next_at, with_prev_at}
 use Rattle.chain_laws.specs.Renamings.{IsRenaming}
 use Rattle.chain_laws.specs.Arrangements.{place_in}
 
@@ -37,7 +37,7 @@ MoveRenames = (link_map : LinkMap) (i k : ℕ) → IsWellLinked link_map → Can
 -- A move rewrites only the neighbors of the link.
 abbrev pub NeighborsDetermineAMove : Type 0
 NeighborsDetermineAMove = (link_map : LinkMap) (i k : ℕ) → IsWellLinked link_map → CanMove link_map i k
-    → prev_set (next_set (with_link_placed link_map i k) (option_map (moved_index i k) (prev_of link_map i)) (Some k)) (option_map (moved_index i k) (next_of link_map i)) (Some k) ≡ with_link_moved link_map i k
+    → with_prev_at (with_next_at (with_link_placed link_map i k) (option_map (moved_index i k) (prev_of link_map i)) (Some k)) (option_map (moved_index i k) (next_of link_map i)) (Some k) ≡ with_link_moved link_map i k
 
 -- One renaming after another is a renaming.
 abbrev pub RenamingsCompose : Type 0

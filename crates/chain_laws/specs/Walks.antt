@@ -6,8 +6,8 @@ use Rattle.chain_laws.specs.Removals.{with_removal}
 
 -- Linear: from i to the end, then from the link before i back to the start; cyclic: once around.
 pub data IsWalk (link_map : LinkMap) (i : ℕ) : List ℕ → Type 0 where
-  there_and_back : (before after : List ℕ) → IsChain link_map (linear (before ++ i ∷ after)) → IsWalk link_map i (i ∷ after ++ reverse before)
-  once_around : (after : List ℕ) → IsChain link_map (cyclic (i ∷ after)) → IsWalk link_map i (i ∷ after)
+  of_linear : (before after : List ℕ) → IsChain link_map (linear (before ++ i ∷ after)) → IsWalk link_map i (i ∷ after ++ reverse before)
+  of_cyclic : (after : List ℕ) → IsChain link_map (cyclic (i ∷ after)) → IsWalk link_map i (i ∷ after)
 
 -- The next link, unless that is `start`.
 abbrev pub step_forward : ℕ → Option ℕ → Option ℕ
@@ -51,13 +51,13 @@ abbrev pub passes_ahead : LinkMap → Walker → List ℕ
 passes_ahead link_map w = walk_ahead w.left link_map w.start w.forth w.back
 
 -- The link of a step, and what the walker passes after it.
-abbrev pub passed_by : LinkMap → Option (ℕ × Walker) → List ℕ
-passed_by link_map None = []
-passed_by link_map (Some step) = step.0 ∷ passes_ahead link_map step.1
+abbrev pub walk_of_step : LinkMap → Option (ℕ × Walker) → List ℕ
+walk_of_step link_map None = []
+walk_of_step link_map (Some step) = step.0 ∷ passes_ahead link_map step.1
 
 -- A walker passes what its steps pass.
 abbrev pub StepsPass : Type 0
-StepsPass = (link_map : LinkMap) (w : Walker) → passes_ahead link_map w ≡ passed_by link_map (step_of link_map w)
+StepsPass = (link_map : LinkMap) (w : Walker) → passes_ahead link_map w ≡ walk_of_step link_map (step_of link_map w)
 
 -- A walker passes a walk.
 abbrev pub WalksAhead : Type 0
@@ -95,9 +95,9 @@ walk_from slots link_map None = []
 walk_from slots link_map (Some i) = if is_some (link_map i) then walk_ahead slots link_map i (Some i) (prev_of link_map i) else []
 
 -- The links at these indexes are removed, one after another.
-abbrev pub removed_each : LinkMap → List ℕ → LinkMap
-removed_each link_map [] = link_map
-removed_each link_map (i ∷ rest) = removed_each (with_removal link_map i) rest
+abbrev pub with_removals : LinkMap → List ℕ → LinkMap
+with_removals link_map [] = link_map
+with_removals link_map (i ∷ rest) = with_removals (with_removal link_map i) rest
 
 -- The links of a walk are gone, and nothing else has changed.
 pub record TakesWalk (old new : LinkMap) (walk : List ℕ) : Type 0 where
@@ -108,4 +108,4 @@ pub record TakesWalk (old new : LinkMap) (walk : List ℕ) : Type 0 where
 
 -- Removing the links of a walk, in its order, takes the walk.
 abbrev pub WalkIsTaken : Type 0
-WalkIsTaken = (link_map : LinkMap) (i : ℕ) (walk : List ℕ) → IsWalk link_map i walk → TakesWalk link_map (removed_each link_map walk) walk
+WalkIsTaken = (link_map : LinkMap) (i : ℕ) (walk : List ℕ) → IsWalk link_map i walk → TakesWalk link_map (with_removals link_map walk) walk

@@ -3,7 +3,7 @@
 ghost use Rattle.chain_laws.specs.Renamings.{RenamingAgrees, RenamingCarriesPairs, RenamingCarriesChains, RenamingCarriesAll, RenamingIsDetermined};
 ghost use Rattle.chain_laws.specs.Arrangements.{ArrangementNumbers, PlacesAreApart, CanonicalArranges, PlacesChainsInRuns, RunsAreRenumbered};
 ghost use Rattle.chain_laws.specs.Moves.{MoveRenames, NeighborsDetermineAMove, RenamingsCompose, GatheringBegins, GatheringSkips, GatheringContinues, GatheringEnds};
-ghost use Rattle.chain_laws.specs.Arrangements.{HasLeastIndexOrder, LeastIndexOrderIsOrdered, LeastIndexOrderIsCanonical, LeastIndexOrderRests, LayoutRests, PlacesRest};
+ghost use Rattle.chain_laws.specs.Arrangements.{HasLeastIndexOrder, LeastIndexOrderIsUnique, LeastIndexOrderIsCanonical, LeastIndexOrderRests, LayoutRests, PlacesRest};
 
 /// States that a renaming keeps the arena well linked, and moves pairs and chains to their new
 /// indexes.
@@ -37,7 +37,7 @@ pub fn canonical_places_chains_in_runs()
 /// If the links are in a canonical order, as after arranging by it, each keeps its index.
 pub fn least_index_order()
     ensures there_is_one { HasLeastIndexOrder }
-    ensures one { LeastIndexOrderIsOrdered }
+    ensures one { LeastIndexOrderIsUnique }
     ensures canonical { LeastIndexOrderIsCanonical }
     ensures rests { LeastIndexOrderRests }
     ensures layout_rests { LayoutRests }

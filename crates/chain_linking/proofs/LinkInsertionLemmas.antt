@@ -5,7 +5,7 @@ use Rattle.std.proofs.lemmas.Bool.{cases_eq}
 use Rattle.std.specs.Option.{option_map}
 use Rattle.chain_laws.specs.Chains.{LinkMap, IsWellLinked, HasLink}
 use Rattle.chain_laws.specs.Insertions.{IsInsertPosition}
-use Rattle.chain_laws.specs.Joins.{next_set, prev_set, with_neighbors}
+use Rattle.chain_laws.specs.Joins.{with_next_at, with_prev_at, with_neighbors}
 use Rattle.chain_laws.proofs.InterlinkLemmas.Inverses.{if_same, if_other}
 use Rattle.chain_laws.proofs.InsertionLemmas.Pairs.{position_between}
 use Rattle.chain_laws.proofs.ChainLemmas.LinkedLists.{link}
@@ -20,18 +20,18 @@ use Rattle.chain_links.specs.ChainArena.{LinkView, lone, new_link, named_by, ins
 use Rattle.chain_links.proofs.LinkStateLemmas.{is_relinked}
 use Rattle.chain_linking.proofs.NeighborLemmas.{if_each}
 use Rattle.chain_links.proofs.ArenaInsertionLemmas.{link_map-next, AreFree, slot_at-filled, length-filled, link_map-insert_lone, listed-links_view, links_view-insert_next, next_index-links_view}
-use Rattle.chain_linking.proofs.LinkWriteLemmas.{relink-own, FitsLinks, FitsLinks-link_map, FitsLinks-next_set, link_map-with_link_map, with_link_map-again}
+use Rattle.chain_linking.proofs.LinkWriteLemmas.{relink-own, FitsLinks, FitsLinks-link_map, FitsLinks-with_next_at, link_map-with_link_map, with_link_map-again}
 use Rattle.chain_links.proofs.MappedArenaLemmas.{is_some-map}
 
 module _ {Gen T : Type 0} where
   -- Two writes make u and v name q.
-  pub named_by_writes : (a b c : Arena Gen (LinkView T)) (u v : Option ℕ) (q : ℕ) → b ≡ with_link_map a (next_set (link_map a) u (Some q)) → c ≡ with_link_map b (prev_set (link_map b) v (Some q)) → c ≡ named_by a u v q
+  pub named_by_writes : (a b c : Arena Gen (LinkView T)) (u v : Option ℕ) (q : ℕ) → b ≡ with_link_map a (with_next_at (link_map a) u (Some q)) → c ≡ with_link_map b (with_prev_at (link_map b) v (Some q)) → c ≡ named_by a u v q
   named_by_writes a b c u v q first second =
-      let followed = next_set (link_map a) u (Some q) in
-      let fits : FitsLinks followed a = FitsLinks-next_set a (link_map a) u (Some q) (FitsLinks-link_map a) in
-      second ∙ (ap (λ (x : Arena Gen (LinkView T)). with_link_map x (prev_set (link_map x) v (Some q))) first
-      ∙ (ap (λ (m : LinkMap). with_link_map (with_link_map a followed) (prev_set m v (Some q))) (link_map-with_link_map a followed fits)
-      ∙ with_link_map-again a followed (prev_set followed v (Some q)) fits))
+      let followed = with_next_at (link_map a) u (Some q) in
+      let fits : FitsLinks followed a = FitsLinks-with_next_at a (link_map a) u (Some q) (FitsLinks-link_map a) in
+      second ∙ (ap (λ (x : Arena Gen (LinkView T)). with_link_map x (with_prev_at (link_map x) v (Some q))) first
+      ∙ (ap (λ (m : LinkMap). with_link_map (with_link_map a followed) (with_prev_at m v (Some q))) (link_map-with_link_map a followed fits)
+      ∙ with_link_map-again a followed (with_prev_at followed v (Some q)) fits))
 
 module _ {Gen T : Type 0} (a : Arena Gen (LinkView T)) (free : AreFree a.slots a.freed) (t : T) where
   -- A link that names others is a lone link with interlinks written, at each index.
@@ -61,8 +61,8 @@ module _ {Gen T : Type 0} (a : Arena Gen (LinkView T)) (free : AreFree a.slots a
       let named = with_link (link_map a) q u v in
       let fits : FitsLinks named base = FitsLinks-with_link u v in
       ap (λ (x : Arena Gen (LinkView T)). named_by x u v q) (inserted_named u v)
-      ∙ (ap (λ (m : LinkMap). with_link_map (with_link_map base named) (prev_set (next_set m u (Some q)) v (Some q))) (link_map-with_link_map base named fits)
-      ∙ (with_link_map-again base named (prev_set (next_set named u (Some q)) v (Some q)) fits ∙ ap (with_link_map base) (inserted_by_writes (link_map a) q u v itself)))
+      ∙ (ap (λ (m : LinkMap). with_link_map (with_link_map base named) (with_prev_at (with_next_at m u (Some q)) v (Some q))) (link_map-with_link_map base named fits)
+      ∙ (with_link_map-again base named (with_prev_at (with_next_at named u (Some q)) v (Some q)) fits ∙ ap (with_link_map base) (inserted_by_writes (link_map a) q u v itself)))
 
   -- A lone link that is then named by itself is a ring.
   pub ringed : named_by (insert_lone a t) (Some (next_index a)) (Some (next_index a)) (next_index a) ≡ insert_between a t (Some (next_index a)) (Some (next_index a))

@@ -3,7 +3,7 @@ use Rattle.std.proofs.Common.{◌≡◌, ◌≢◌, ℕ, suc, List, Bool, true, 
 use Rattle.std.specs.Prelude.{◌==◌, if◌then◌else◌, is_some}
 use Rattle.std.specs.Option.{option_map}
 use Rattle.chain_laws.specs.Chains.{LinkMap, Interlinks}
-use Rattle.chain_laws.specs.Joins.{next_set, prev_set, with_neighbors, with_next, with_prev}
+use Rattle.chain_laws.specs.Joins.{with_next_at, with_prev_at, with_neighbors, with_next, with_prev}
 use Rattle.std.proofs.lemmas.Bool.{cases_eq}
 use Rattle.std.proofs.lemmas.List.{ext_get_or}
 use mathlib.Core.Path.{fun_ext}
@@ -58,13 +58,13 @@ module _ {Gen T : Type 0} where
   pub FitsLinks-link_map : (a : Arena Gen (LinkView T)) → FitsLinks (link_map a) a
   FitsLinks-link_map a i = is_some-map interlinks_of (entry_at a i)
 
-  pub FitsLinks-next_set : (a : Arena Gen (LinkView T)) (interlinks : LinkMap) (u v : Option ℕ) → FitsLinks interlinks a → FitsLinks (next_set interlinks u v) a
-  FitsLinks-next_set a interlinks None v fits i = fits i
-  FitsLinks-next_set a interlinks (Some u) v fits i = is_some-if (i == u) (with_next v) (interlinks i) ∙ fits i
+  pub FitsLinks-with_next_at : (a : Arena Gen (LinkView T)) (interlinks : LinkMap) (u v : Option ℕ) → FitsLinks interlinks a → FitsLinks (with_next_at interlinks u v) a
+  FitsLinks-with_next_at a interlinks None v fits i = fits i
+  FitsLinks-with_next_at a interlinks (Some u) v fits i = is_some-if (i == u) (with_next v) (interlinks i) ∙ fits i
 
-  pub FitsLinks-prev_set : (a : Arena Gen (LinkView T)) (interlinks : LinkMap) (u v : Option ℕ) → FitsLinks interlinks a → FitsLinks (prev_set interlinks u v) a
-  FitsLinks-prev_set a interlinks None v fits i = fits i
-  FitsLinks-prev_set a interlinks (Some u) v fits i = is_some-if (i == u) (with_prev v) (interlinks i) ∙ fits i
+  pub FitsLinks-with_prev_at : (a : Arena Gen (LinkView T)) (interlinks : LinkMap) (u v : Option ℕ) → FitsLinks interlinks a → FitsLinks (with_prev_at interlinks u v) a
+  FitsLinks-with_prev_at a interlinks None v fits i = fits i
+  FitsLinks-with_prev_at a interlinks (Some u) v fits i = is_some-if (i == u) (with_prev v) (interlinks i) ∙ fits i
 
   value-relink : (l : Option Interlinks) (o : Option (Gen × LinkView T)) → is_some l ≡ is_some o → option_map (on_value link_value) (relink l o) ≡ option_map (on_value link_value) o
   value-relink l None same = refl
@@ -82,29 +82,29 @@ module _ {Gen T : Type 0} where
       ∙ (value-relink (interlinks (suc k)) (entry_at a (suc k)) (fits (suc k)) ∙ sym (entry_at-with_each link_value a (suc k))))))
 
   pub FitsLinks-linked : (a : Arena Gen (LinkView T)) (u v : Option ℕ) → FitsLinks (with_neighbors (link_map a) u v) a
-  FitsLinks-linked a u v = FitsLinks-prev_set a (next_set (link_map a) u v) v u (FitsLinks-next_set a (link_map a) u v (FitsLinks-link_map a))
+  FitsLinks-linked a u v = FitsLinks-with_prev_at a (with_next_at (link_map a) u v) v u (FitsLinks-with_next_at a (link_map a) u v (FitsLinks-link_map a))
 
   -- Writes to `next` and `prev` link a pair.
-  pub linked_by_writes : (a b c : Arena Gen (LinkView T)) (u v : Option ℕ) → b ≡ with_link_map a (next_set (link_map a) u v) → c ≡ with_link_map b (prev_set (link_map b) v u)
+  pub linked_by_writes : (a b c : Arena Gen (LinkView T)) (u v : Option ℕ) → b ≡ with_link_map a (with_next_at (link_map a) u v) → c ≡ with_link_map b (with_prev_at (link_map b) v u)
       → c ≡ with_link_map a (with_neighbors (link_map a) u v)
   linked_by_writes a b c u v first second =
-      let fits = FitsLinks-next_set a (link_map a) u v (FitsLinks-link_map a) in
+      let fits = FitsLinks-with_next_at a (link_map a) u v (FitsLinks-link_map a) in
       second
-      ∙ (ap (λ (x : Arena Gen (LinkView T)). with_link_map x (prev_set (link_map x) v u)) first
-      ∙ (ap (λ (m : LinkMap). with_link_map (with_link_map a (next_set (link_map a) u v)) (prev_set m v u)) (link_map-with_link_map a (next_set (link_map a) u v) fits)
-      ∙ with_link_map-again a (next_set (link_map a) u v) (with_neighbors (link_map a) u v) fits))
+      ∙ (ap (λ (x : Arena Gen (LinkView T)). with_link_map x (with_prev_at (link_map x) v u)) first
+      ∙ (ap (λ (m : LinkMap). with_link_map (with_link_map a (with_next_at (link_map a) u v)) (with_prev_at m v u)) (link_map-with_link_map a (with_next_at (link_map a) u v) fits)
+      ∙ with_link_map-again a (with_next_at (link_map a) u v) (with_neighbors (link_map a) u v) fits))
 
   -- Two pairs are linked one after another.
-  pub linked_twice : (a b c : Arena Gen (LinkView T)) (u v w x : Option ℕ) → b ≡ with_link_map a (with_neighbors (link_map a) u v) → c ≡ with_link_map b (with_neighbors (link_map b) w x)
+  pub arena_with_pairs : (a b c : Arena Gen (LinkView T)) (u v w x : Option ℕ) → b ≡ with_link_map a (with_neighbors (link_map a) u v) → c ≡ with_link_map b (with_neighbors (link_map b) w x)
       → c ≡ with_link_map a (with_neighbors (with_neighbors (link_map a) u v) w x)
-  linked_twice a b c u v w x first second =
+  arena_with_pairs a b c u v w x first second =
       let one : LinkMap = with_neighbors (link_map a) u v in
       let fits : FitsLinks one a = FitsLinks-linked a u v in
       second ∙ (ap (λ (y : Arena Gen (LinkView T)). with_link_map y (with_neighbors (link_map y) w x)) first
       ∙ (ap (λ (m : LinkMap). with_link_map (with_link_map a one) (with_neighbors m w x)) (link_map-with_link_map a one fits) ∙ with_link_map-again a one (with_neighbors one w x) fits))
 
   pub FitsLinks-twice : (a : Arena Gen (LinkView T)) (u v w x : Option ℕ) → FitsLinks (with_neighbors (with_neighbors (link_map a) u v) w x) a
-  FitsLinks-twice a u v w x = FitsLinks-prev_set a (next_set (with_neighbors (link_map a) u v) w x) x w (FitsLinks-next_set a (with_neighbors (link_map a) u v) w x (FitsLinks-linked a u v))
+  FitsLinks-twice a u v w x = FitsLinks-with_prev_at a (with_next_at (with_neighbors (link_map a) u v) w x) x w (FitsLinks-with_next_at a (with_neighbors (link_map a) u v) w x (FitsLinks-linked a u v))
 
 -- As contracts see links, `write` changes their interlinks by `change`.
 abbrev pub IsWrite : {K T : Type 0} → (K → Option ℕ) → (LinkBody K T → LinkBody K T) → (Interlinks → Interlinks) → Type 0

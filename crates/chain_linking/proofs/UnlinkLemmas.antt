@@ -11,9 +11,9 @@ use Rattle.chain_laws.specs.Removals.{without_link, with_removal, Removes, Remov
 use Rattle.chain_laws.proofs.InterlinkLemmas.Inverses.{if_same, if_other}
 use Rattle.chain_laws.proofs.RemovalLemmas.Pairs.{removed_agrees, removed_in_pairs}
 use Rattle.chain_laws.proofs.RemovalLemmas.Chains.{removed_removes}
-use Rattle.arena_base.specs.Arena.{Arena, entry_at, remove_at, renewed_at}
+use Rattle.arena_base.specs.Arena.{Arena, entry_at, remove_at, invalidate_at}
 use Rattle.arena_base.specs.Entries.{view_of}
-use Rattle.arena_base.specs.Entries.{entry_removed}
+use Rattle.arena_base.specs.Entries.{view_after_removal}
 use Rattle.chain_links.specs.ChainArena.{on_value, LinkView, link_value, with_link_value, link_map, with_link_map, interlinks_of, values_of, with_value_at, remove_link}
 use Rattle.arena_base.proofs.ArenaViewLemmas as seeing
 use Rattle.chain_links.proofs.ArenaInsertionLemmas.{map-if}
@@ -49,7 +49,7 @@ module _ {Gen T : Type 0} where
       kept (Some e) = refl
 
   -- A new generation leaves the interlinks unchanged.
-  pub link_map-renewed : (following : Gen → Gen) (a b : Arena Gen (LinkView T)) (i : ℕ) → b ≡ renewed_at following a i → link_map b ≡ link_map a
+  pub link_map-renewed : (following : Gen → Gen) (a b : Arena Gen (LinkView T)) (i : ℕ) → b ≡ invalidate_at following a i → link_map b ≡ link_map a
   link_map-renewed following a b i renewed = ap (λ (x : Arena Gen (LinkView T)). link_map x) renewed ∙ fun_ext (λ j.
       ap (option_map interlinks_of) (slot_at-changed a.slots i j (option_map (λ (e : Gen × LinkView T). (following a.counter, e.1))) refl)
       ∙ (map-if (j == i) _ _ ∙ same_if (j == i) _ _ (kept (entry_at a j))))
@@ -92,7 +92,7 @@ module _ {Gen T : Type 0} where
   pub values_of-remove_link : (following : Gen → Gen) (a : Arena Gen (LinkView T)) (i : ℕ) → values_of (remove_link following a i) ≡ remove_at following (values_of a) i
   values_of-remove_link following a i = values_of-with_link_map (remove_at following a i) (with_removal (link_map a) i) (fits-removed following a i) ∙ with_each-remove_at link_value following a i
 
-  pub view_after-removed : (following : Gen → Gen) (a b : Arena Gen (LinkView T)) (i : ℕ) → b ≡ remove_link following a i → view_of (values_of b) ≡ entry_removed following (view_of (values_of a)) i
+  pub view_after-removed : (following : Gen → Gen) (a b : Arena Gen (LinkView T)) (i : ℕ) → b ≡ remove_link following a i → view_of (values_of b) ≡ view_after_removal following (view_of (values_of a)) i
   view_after-removed following a b i gone =
       ap (λ (x : Arena Gen (LinkView T)). view_of (values_of x)) gone ∙ (ap (λ (x : Arena Gen T). view_of x) (values_of-remove_link following a i) ∙ seeing.viewed_removed following (values_of a) i)
 

@@ -2,7 +2,7 @@
 use Rattle.std.specs.Prelude.{◌≡◌, ◌≢◌, ℕ, IfSome, Option, None, Some}
 use Rattle.std.specs.Option.{option_map}
 use Rattle.chain_laws.specs.Chains.{LinkMap, HasLink, prev_of, next_of}
-use Rattle.chain_laws.specs.Joins.{next_set, prev_set, with_neighbors}
+use Rattle.chain_laws.specs.Joins.{with_next_at, with_prev_at, with_neighbors}
 use Rattle.arena_base.specs.Arena.{Arena, IsValid}
 use Rattle.chain_links.specs.ChainArena.{LinkView, link_map, with_link_map}
 
@@ -12,20 +12,20 @@ numbers number p = (option_map number p.0, option_map number p.1)
 
 module _ {Gen T : Type 0} where
   -- The `next` of the link at i is written.
-  abbrev pub next_written : Arena Gen (LinkView T) → Option ℕ → Option ℕ → Arena Gen (LinkView T)
-  next_written a i next = with_link_map a (next_set (link_map a) i next)
+  abbrev pub arena_with_next : Arena Gen (LinkView T) → Option ℕ → Option ℕ → Arena Gen (LinkView T)
+  arena_with_next a i next = with_link_map a (with_next_at (link_map a) i next)
 
   -- The `prev` of the link at i is written.
-  abbrev pub prev_written : Arena Gen (LinkView T) → Option ℕ → Option ℕ → Arena Gen (LinkView T)
-  prev_written a i prev = with_link_map a (prev_set (link_map a) i prev)
+  abbrev pub arena_with_prev : Arena Gen (LinkView T) → Option ℕ → Option ℕ → Arena Gen (LinkView T)
+  arena_with_prev a i prev = with_link_map a (with_prev_at (link_map a) i prev)
 
   -- v comes after u.
-  abbrev pub linked_up : Arena Gen (LinkView T) → Option ℕ → Option ℕ → Arena Gen (LinkView T)
-  linked_up a u v = with_link_map a (with_neighbors (link_map a) u v)
+  abbrev pub arena_with_pair : Arena Gen (LinkView T) → Option ℕ → Option ℕ → Arena Gen (LinkView T)
+  arena_with_pair a u v = with_link_map a (with_neighbors (link_map a) u v)
 
   -- The pair p is linked, then the pair q.
-  abbrev pub linked_twice : Arena Gen (LinkView T) → Option ℕ × Option ℕ → Option ℕ × Option ℕ → Arena Gen (LinkView T)
-  linked_twice a p q = with_link_map a (with_neighbors (with_neighbors (link_map a) p.0 p.1) q.0 q.1)
+  abbrev pub arena_with_pairs : Arena Gen (LinkView T) → Option ℕ × Option ℕ → Option ℕ × Option ℕ → Arena Gen (LinkView T)
+  arena_with_pairs a p q = with_link_map a (with_neighbors (with_neighbors (link_map a) p.0 p.1) q.0 q.1)
 
 module _ {Gen T : Type 0} (entry : ℕ → Option (Gen × T)) (interlinks : LinkMap) (p : ℕ × Gen) where
   -- p is valid, and no link comes after it.

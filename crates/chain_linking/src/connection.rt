@@ -4,7 +4,7 @@ ghost use Rattle.std.specs.Option.{option_map};
 ghost use Rattle.chain_laws.specs.Chains.{HasLink};
 ghost use Rattle.chain_links.specs.ChainArena.{link_map, entry, CanConnect};
 ghost use Rattle.chain_links.specs.Links.{links_view};
-ghost use Rattle.chain_linking.specs.LinkWrites.{next_written, linked_up, IsValidEnd, IsValidStart};
+ghost use Rattle.chain_linking.specs.LinkWrites.{arena_with_next, arena_with_pair, IsValidEnd, IsValidStart};
 
 use crate::link_writes;
 use arena_base::{Arena, ArenaSlot, ArenaTrait};
@@ -67,7 +67,7 @@ fn set_next<P: PtrKey, T: Drop, S: SlotStack<Item = ArenaSlot<P, LinkNoGen<P, T>
     i: Option<P::Inx>,
     next: Option<P::Inx>,
 )
-    ensures { links_view P.Inx.packed_number arena.new ≡ next_written
+    ensures { links_view P.Inx.packed_number arena.new ≡ arena_with_next
         (links_view P.Inx.packed_number arena.old) (option_map P.Inx.number i)
         (option_map P.Inx.number next) }
 {
@@ -78,11 +78,11 @@ fn set_next<P: PtrKey, T: Drop, S: SlotStack<Item = ArenaSlot<P, LinkNoGen<P, T>
 // Clears the index after the link at `i`, if there is a link. Unlikely, so out of line.
 #[cold]
 #[inline(never)]
-fn take_back<P: PtrKey, T: Drop, S: SlotStack<Item = ArenaSlot<P, LinkNoGen<P, T>>>>(
+fn clear_next<P: PtrKey, T: Drop, S: SlotStack<Item = ArenaSlot<P, LinkNoGen<P, T>>>>(
     arena: &mut Arena<P, LinkNoGen<P, T>, S>,
     i: P::Inx,
 )
-    ensures { links_view P.Inx.packed_number arena.new ≡ next_written
+    ensures { links_view P.Inx.packed_number arena.new ≡ arena_with_next
         (links_view P.Inx.packed_number arena.old) (Some (P.Inx.number i)) None }
 {
     set_next(arena, Some(i), None);
@@ -99,7 +99,7 @@ pub fn join<P: PtrKey, T: Drop, S: SlotStack<Item = ArenaSlot<P, LinkNoGen<P, T>
 ) -> Option<()>
     ensures some { IsSome result ↔ CanConnect (entry (links_view P.Inx.packed_number arena.old))
         (link_map (links_view P.Inx.packed_number arena.old)) (P.key p) (P.key q) }
-    ensures joined { OnSome result (links_view P.Inx.packed_number arena.new ≡ linked_up
+    ensures joined { OnSome result (links_view P.Inx.packed_number arena.new ≡ arena_with_pair
         (links_view P.Inx.packed_number arena.old) (Some (P.key p).0) (Some (P.key q).0)) }
     ensures none { IfNone result (links_view P.Inx.packed_number arena.new
         ≡ links_view P.Inx.packed_number arena.old) }
@@ -110,7 +110,7 @@ pub fn join<P: PtrKey, T: Drop, S: SlotStack<Item = ArenaSlot<P, LinkNoGen<P, T>
     }
     link_writes::set_next(arena, Some(i), Some(j));
     if !is_start(arena, q) {
-        take_back(arena, i);
+        clear_next(arena, i);
         return None;
     }
     link_writes::set_prev(arena, Some(j), Some(i));

@@ -28,7 +28,7 @@ pub fn neighbors_at<P: PtrKey, T: Drop, S: SlotStack<Item = ArenaSlot<P, LinkNoG
 }
 
 /// Returns whether the link after `i`, if any, names `i` as the one before it.
-pub fn agrees_forth<P: PtrKey, T: Drop, S: SlotStack<Item = ArenaSlot<P, LinkNoGen<P, T>>>>(
+pub fn next_agrees<P: PtrKey, T: Drop, S: SlotStack<Item = ArenaSlot<P, LinkNoGen<P, T>>>>(
     arena: &Arena<P, LinkNoGen<P, T>, S>,
     i: P::Inx,
 ) -> bool
@@ -43,7 +43,7 @@ pub fn agrees_forth<P: PtrKey, T: Drop, S: SlotStack<Item = ArenaSlot<P, LinkNoG
 }
 
 // Returns whether the link before `i`, if any, names `i` as the one after it.
-fn agrees_back<P: PtrKey, T: Drop, S: SlotStack<Item = ArenaSlot<P, LinkNoGen<P, T>>>>(
+fn prev_agrees<P: PtrKey, T: Drop, S: SlotStack<Item = ArenaSlot<P, LinkNoGen<P, T>>>>(
     arena: &Arena<P, LinkNoGen<P, T>, S>,
     i: P::Inx,
 ) -> bool
@@ -64,7 +64,7 @@ pub fn agrees_at<P: PtrKey, T: Drop, S: SlotStack<Item = ArenaSlot<P, LinkNoGen<
     ensures { IsTrue result ↔ IsWellLinkedAt (link_map (links_view P.Inx.packed_number arena.now))
         (P.Inx.number i) }
 {
-    agrees_forth(arena, i) && agrees_back(arena, i)
+    next_agrees(arena, i) && prev_agrees(arena, i)
 }
 
 /// Returns whether the interlinks are consistent: j comes after i exactly if i comes before j.

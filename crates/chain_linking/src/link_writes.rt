@@ -7,7 +7,7 @@ ghost use Rattle.chain_laws.specs.Chains.{IsWellLinked, HasLink};
 ghost use Rattle.chain_links.specs.ChainArena.{link_map, remove_link, entry, named_by, ptr_at};
 ghost use Rattle.chain_links.specs.Links.{links_view, pair_view};
 ghost use Rattle.chain_linking.specs.InsertPositions.{before_in, after_in};
-ghost use Rattle.chain_linking.specs.LinkWrites.{next_written, prev_written, linked_up, linked_twice, numbers, WereBeside};
+ghost use Rattle.chain_linking.specs.LinkWrites.{arena_with_next, arena_with_prev, arena_with_pair, arena_with_pairs, numbers, WereBeside};
 
 use crate::insert_position::InsertPosition;
 use crate::new_link::neighbors_of_position;
@@ -42,7 +42,7 @@ pub fn set_next<P: PtrKey, T: Drop, S: SlotStack<Item = ArenaSlot<P, LinkNoGen<P
 )
     requires { IfSome (option_map P.Inx.number i)
         (HasLink (link_map (links_view P.Inx.packed_number arena.old))) }
-    ensures { links_view P.Inx.packed_number arena.new ≡ next_written
+    ensures { links_view P.Inx.packed_number arena.new ≡ arena_with_next
         (links_view P.Inx.packed_number arena.old) (option_map P.Inx.number i)
         (option_map P.Inx.number next) }
 {
@@ -63,7 +63,7 @@ pub fn set_prev<P: PtrKey, T: Drop, S: SlotStack<Item = ArenaSlot<P, LinkNoGen<P
 )
     requires { IfSome (option_map P.Inx.number i)
         (HasLink (link_map (links_view P.Inx.packed_number arena.old))) }
-    ensures { links_view P.Inx.packed_number arena.new ≡ prev_written
+    ensures { links_view P.Inx.packed_number arena.new ≡ arena_with_prev
         (links_view P.Inx.packed_number arena.old) (option_map P.Inx.number i)
         (option_map P.Inx.number prev) }
 {
@@ -77,7 +77,7 @@ pub fn set_prev<P: PtrKey, T: Drop, S: SlotStack<Item = ArenaSlot<P, LinkNoGen<P
 }
 
 /// Links `next` after `prev`. If either is `None`, only the other link is written.
-pub fn link_up<P: PtrKey, T: Drop, S: SlotStack<Item = ArenaSlot<P, LinkNoGen<P, T>>>>(
+pub fn link_pair<P: PtrKey, T: Drop, S: SlotStack<Item = ArenaSlot<P, LinkNoGen<P, T>>>>(
     arena: &mut Arena<P, LinkNoGen<P, T>, S>,
     prev: Option<P::Inx>,
     next: Option<P::Inx>,
@@ -86,7 +86,7 @@ pub fn link_up<P: PtrKey, T: Drop, S: SlotStack<Item = ArenaSlot<P, LinkNoGen<P,
         (HasLink (link_map (links_view P.Inx.packed_number arena.old))) }
     requires next { IfSome (option_map P.Inx.number next)
         (HasLink (link_map (links_view P.Inx.packed_number arena.old))) }
-    ensures { links_view P.Inx.packed_number arena.new ≡ linked_up
+    ensures { links_view P.Inx.packed_number arena.new ≡ arena_with_pair
         (links_view P.Inx.packed_number arena.old) (option_map P.Inx.number prev)
         (option_map P.Inx.number next) }
 {
@@ -94,8 +94,8 @@ pub fn link_up<P: PtrKey, T: Drop, S: SlotStack<Item = ArenaSlot<P, LinkNoGen<P,
     set_prev(arena, next, prev);
 }
 
-/// Links two pairs, one after another, each as `link_up` does.
-pub fn link_twice<P: PtrKey, T: Drop, S: SlotStack<Item = ArenaSlot<P, LinkNoGen<P, T>>>>(
+/// Links two pairs, one after another, each as `link_pair` does.
+pub fn link_pairs<P: PtrKey, T: Drop, S: SlotStack<Item = ArenaSlot<P, LinkNoGen<P, T>>>>(
     arena: &mut Arena<P, LinkNoGen<P, T>, S>,
     first: (Option<P::Inx>, Option<P::Inx>),
     second: (Option<P::Inx>, Option<P::Inx>),
@@ -108,12 +108,12 @@ pub fn link_twice<P: PtrKey, T: Drop, S: SlotStack<Item = ArenaSlot<P, LinkNoGen
         (HasLink (link_map (links_view P.Inx.packed_number arena.old))) }
     requires second_next { IfSome (option_map P.Inx.number second.1)
         (HasLink (link_map (links_view P.Inx.packed_number arena.old))) }
-    ensures { links_view P.Inx.packed_number arena.new ≡ linked_twice
+    ensures { links_view P.Inx.packed_number arena.new ≡ arena_with_pairs
         (links_view P.Inx.packed_number arena.old) (numbers P.Inx.number first)
         (numbers P.Inx.number second) }
 {
-    link_up(arena, first.0, first.1);
-    link_up(arena, second.0, second.1);
+    link_pair(arena, first.0, first.1);
+    link_pair(arena, second.0, second.1);
 }
 
 /// Sets the index of a new link in the links of its insertion position.
@@ -138,7 +138,7 @@ pub fn update_neighbors<P: PtrKey, T: Drop, S: SlotStack<Item = ArenaSlot<P, Lin
 }
 
 // Links the former neighbors of the link removed from `i`, unless it was its own neighbor.
-fn close_over<P: PtrKey, T: Drop, S: SlotStack<Item = ArenaSlot<P, LinkNoGen<P, T>>>>(
+fn connect_former_neighbors<P: PtrKey, T: Drop, S: SlotStack<Item = ArenaSlot<P, LinkNoGen<P, T>>>>(
     arena: &mut Arena<P, LinkNoGen<P, T>, S>,
     i: P::Inx,
     prev: Option<P::Inx>,
@@ -146,17 +146,17 @@ fn close_over<P: PtrKey, T: Drop, S: SlotStack<Item = ArenaSlot<P, LinkNoGen<P, 
 )
     requires { WereBeside (link_map (links_view P.Inx.packed_number arena.old)) (P.Inx.number i)
         (option_map P.Inx.number prev) (option_map P.Inx.number next) }
-    ensures { links_view P.Inx.packed_number arena.new ≡ linked_up
+    ensures { links_view P.Inx.packed_number arena.new ≡ arena_with_pair
         (links_view P.Inx.packed_number arena.old) (option_map P.Inx.number prev)
         (option_map P.Inx.number next) }
 {
     match prev {
         Some(before) => {
             if !before.is_same(i) {
-                link_up(arena, Some(before), next);
+                link_pair(arena, Some(before), next);
             }
         }
-        None => link_up(arena, None, next),
+        None => link_pair(arena, None, next),
     }
 }
 
@@ -164,7 +164,7 @@ fn close_over<P: PtrKey, T: Drop, S: SlotStack<Item = ArenaSlot<P, LinkNoGen<P, 
 ///
 /// Returns its generation and the link as it was. If there is none, returns `InvalidPtr` and
 /// changes nothing.
-pub fn take_out<P: PtrKey, T: Drop, S: SlotStack<Item = ArenaSlot<P, LinkNoGen<P, T>>>>(
+pub fn remove_link_at<P: PtrKey, T: Drop, S: SlotStack<Item = ArenaSlot<P, LinkNoGen<P, T>>>>(
     arena: &mut Arena<P, LinkNoGen<P, T>, S>,
     i: P::Inx,
 ) -> InvalidationResult<(P::Gen, LinkNoGen<P, T>)>
@@ -180,7 +180,7 @@ pub fn take_out<P: PtrKey, T: Drop, S: SlotStack<Item = ArenaSlot<P, LinkNoGen<P
     let (entry, overflow) = arena.remove_inx(i).overflowing();
     match entry {
         Some((generation, link)) => {
-            close_over(arena, i, link.prev(), link.next());
+            connect_former_neighbors(arena, i, link.prev(), link.next());
             outcome(overflow, (generation, link))
         }
         None => InvalidationResult::InvalidPtr,

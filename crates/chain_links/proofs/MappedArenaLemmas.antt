@@ -4,7 +4,7 @@ use Rattle.std.specs.Prelude.{count_by, is_some, slice_index_or, if◌then◌els
 use Rattle.std.specs.Option.{option_map}
 use Rattle.std.proofs.lemmas.List.{length-map, map-append, map-set}
 use Rattle.std.proofs.lemmas.List.Sums.{sum_by-cons}
-use Rattle.arena_base.specs.Arena.{Arena, slot_at, with_slot, slots_after_insertion, entry_at, entry_count, insert_next, remove_at, renewed_at, with_value, arena_after_clear, counter_after_clear, IsListed, IsValid}
+use Rattle.arena_base.specs.Arena.{Arena, slot_at, with_slot, slots_after_insertion, entry_at, entry_count, insert_next, remove_at, invalidate_at, with_value, arena_after_clear, counter_after_clear, IsListed, IsValid}
 use Rattle.chain_links.specs.ChainArena.{on_value, with_each}
 
 -- A mapped option is `Some` exactly if the option is.
@@ -96,8 +96,8 @@ module _ {Gen X Y : Type 0} (f : X → Y) where
       written None = refl
       written (Some e) = refl
 
-  pub with_each-renewed_at : (following : Gen → Gen) (a : Arena Gen X) (i : ℕ) → with_each f (renewed_at following a i) ≡ renewed_at following (with_each f a) i
-  with_each-renewed_at following a i = ap (over (renewed_at following a i)) (map-with_slot (option_map (on_value f)) a.slots i (option_map (λ e. (following a.counter, e.1)) (entry_at a i))
+  pub with_each-invalidate_at : (following : Gen → Gen) (a : Arena Gen X) (i : ℕ) → with_each f (invalidate_at following a i) ≡ invalidate_at following (with_each f a) i
+  with_each-invalidate_at following a i = ap (over (invalidate_at following a i)) (map-with_slot (option_map (on_value f)) a.slots i (option_map (λ e. (following a.counter, e.1)) (entry_at a i))
       ∙ ap (with_slot (map (option_map (on_value f)) a.slots) i) (renewed (entry_at a i) ∙ ap (option_map (λ (e : Gen × Y). (following a.counter, e.1))) (sym (entry_at-with_each a i))))
     where
       renewed : (o : Option (Gen × X)) → option_map (on_value f) (option_map (λ (e : Gen × X). (following a.counter, e.1)) o) ≡ option_map (λ (e : Gen × Y). (following a.counter, e.1)) (option_map (on_value f) o)

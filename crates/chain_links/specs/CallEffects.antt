@@ -4,7 +4,7 @@ use Rattle.std.specs.Option.{option_map}
 use Rattle.chain_laws.specs.Chains.{LinkMap}
 use Rattle.chain_laws.specs.Insertions.{InsertKind}
 use Rattle.chain_laws.specs.Removals.{with_removal}
-use Rattle.arena_base.specs.Entries.{ArenaView, count, HasFreeCapacity, entry_removed}
+use Rattle.arena_base.specs.Entries.{ArenaView, count, HasFreeCapacity, view_after_removal}
 use Rattle.chain_links.specs.ChainArena.{link_at}
 use Rattle.chain_links.specs.Insertions.{IsInsertion}
 use Rattle.chain_links.specs.Kinds.{LinkName, by_index}
@@ -23,7 +23,7 @@ module _ {Gen T : Type 0} where
 module _ {A Gen T : Type 0} (view : A → ArenaView Gen T) (interlinks : A → LinkMap) where
   -- The link at i is removed, its neighbors are linked, and the counter advances.
   abbrev pub LosesLink : (Gen → Gen) → ℕ → A → A → Type 0
-  LosesLink following i old new = (view new ≡ entry_removed following (view old) i) × (interlinks new ≡ with_removal (interlinks old) i)
+  LosesLink following i old new = (view new ≡ view_after_removal following (view old) i) × (interlinks new ≡ with_removal (interlinks old) i)
 
 module _ {A Gen T : Type 0} (view : A → ArenaView Gen T) (entry : A → ℕ → Option (Gen × T)) (interlinks : A → LinkMap) where
   -- A link of a kind, with a value, is inserted at p.

@@ -25,7 +25,7 @@ pub record IsCanonicalLayout {Gen T : Type 0} (first : Gen) (following : Gen →
   pub renamed : IsRenaming (place_in indexes) links new_links
   -- The chains are in runs, one after another.
   pub new_chains : AreChains new_links (in_runs 1 order.chains)
-  pub keys : map index_of new.entries ≡ range_with_len 1 (length old.entries)
+  pub new_indexes : map index_of new.entries ≡ range_with_len 1 (length old.entries)
   pub values : map (λ t. Some t) (values_in new.entries) ≡ map (λ i. option_map (λ e. e.1) (found i old.entries)) indexes
   pub counter : new.counter ≡ option_map (counter_after_compression first following reset (length old.entries)) old.counter
   pub generation : Gen

@@ -6,7 +6,7 @@ use Rattle.chain_laws.specs.Walks.{IsWalk}
 use Rattle.chain_laws.specs.Removals.{with_removal, Removes, RemovesPairs}
 use Rattle.chain_laws.specs.Cuts.{without_pair, Cuts, TakesPair}
 use Rattle.chain_laws.specs.Exchanges.{with_exchange, Exchanges, ExchangesPairs}
-use Rattle.chain_laws.specs.Joins.{next_set, prev_set, with_join, AddsPair, Connects}
+use Rattle.chain_laws.specs.Joins.{with_next_at, with_prev_at, with_join, AddsPair, Connects}
 use Rattle.chain_laws.specs.Insertions.{InsertKind, with_insertion, with_insertion_as}
 use Rattle.arena_base.specs.Arena.{Arena, with_slot, entry_at, next_index, insert_next, remove_at, IsValid}
 use Rattle.arena_base.specs.Entries.{ArenaView, view_of}
@@ -97,7 +97,7 @@ module _ {Gen T : Type 0} where
 
   -- q is the next link of u and the previous one of v.
   abbrev pub named_by : Arena Gen (LinkView T) → Option ℕ → Option ℕ → ℕ → Arena Gen (LinkView T)
-  named_by a u v q = with_link_map a (prev_set (next_set (link_map a) u (Some q)) v (Some q))
+  named_by a u v q = with_link_map a (with_prev_at (with_next_at (link_map a) u (Some q)) v (Some q))
 
   -- A link is inserted between u and v.
   abbrev pub insert_between : Arena Gen (LinkView T) → T → Option ℕ → Option ℕ → Arena Gen (LinkView T)

@@ -6,7 +6,7 @@ use Rattle.chain_laws.specs.Chains.{LinkMap, IsWellLinked}
 use Rattle.chain_laws.specs.Removals.{with_removal, Removes}
 use Rattle.chain_laws.proofs.RemovalLemmas.Chains.{removed_removes}
 use Rattle.arena_base.specs.Arena.{IsValid}
-use Rattle.arena_base.specs.Entries.{ArenaView, count, found, without_index, AscendsFrom, entry_removed}
+use Rattle.arena_base.specs.Entries.{ArenaView, count, found, without_index, AscendsFrom, view_after_removal}
 use Rattle.arena_base.proofs.EntrySearchLemmas.{found-gone, found-kept}
 
 module _ {Gen T : Type 0} where
@@ -50,7 +50,7 @@ module _ {A Gen T : Type 0} (view : A → ArenaView Gen T) (entry : A → ℕ �
     pub same : o ≡ None → new ≡ old
 
   pub removal : ((a : A) → AscendsFrom 1 (view a).entries) → ((a : A) (i : ℕ) → found i (view a).entries ≡ entry a i) → (old new : A) (p : ℕ × Gen) (following : Gen → Gen) (o : Option T)
-      → IsSome o ↔ IsValid (entry old) p → (IsValid (entry old) p → (o ≡ option_map (λ e. e.1) (entry old p.0)) × (view new ≡ entry_removed following (view old) p.0))
+      → IsSome o ↔ IsValid (entry old) p → (IsValid (entry old) p → (o ≡ option_map (λ e. e.1) (entry old p.0)) × (view new ≡ view_after_removal following (view old) p.0))
       → ((IsValid (entry old) p → ⊥) → (o ≡ None) × (new ≡ old)) → (IsValid (entry old) p → links new ≡ with_removal (links old) p.0) → IsWellLinked (links old) → TakesEntry old new p o
   removal ascends was_read old new p following o some valid invalid passed agrees = record {
     valid = some.1;

@@ -74,13 +74,13 @@ pub moves_nothing : {Gen T : Type 0} → SecondCompressionMovesNothing Gen T
 moves_nothing first following reset again old mid new old_links mid_links new_links once twice =
     let rests = layout_rests old_links mid_links once.indexes once.order once.renamed in
     let same : twice.indexes ≡ range_with_len 1 (length once.indexes) = one_order mid_links twice.indexes _ twice.order rests in
-    let count : length mid.entries ≡ length old.entries = sym (length-map mid.entries index_of) ∙ (ap length once.keys ∙ length-range_with_len 1 (length old.entries)) in
+    let count : length mid.entries ≡ length old.entries = sym (length-map mid.entries index_of) ∙ (ap length once.new_indexes ∙ length-range_with_len 1 (length old.entries)) in
     let many : length once.indexes ≡ length mid.entries =
     sym (length-map once.indexes _) ∙ (sym (ap length once.values) ∙ (length-map (values_in mid.entries) _ ∙ length-map mid.entries _)) in
     let itself : IsRenaming (place_in twice.indexes) mid_links mid_links =
     subst (λ (is : List ℕ). IsRenaming (place_in is) mid_links mid_links) (sym (same ∙ ap (λ (is : List ℕ). range_with_len 1 (length is)) once.order.items)) (renamed_to_itself mid_links once.order.chains once.new_chains) in
     record {
-      indexes = twice.keys ∙ (ap (range_with_len 1) count ∙ sym once.keys);
-      values = some_equal _ _ (twice.values ∙ (ap (map (value_found mid.entries)) (same ∙ ap (range_with_len 1) many) ∙ values_found 1 mid.entries (once.keys ∙ ap (range_with_len 1) (sym count))));
+      indexes = twice.new_indexes ∙ (ap (range_with_len 1) count ∙ sym once.new_indexes);
+      values = some_equal _ _ (twice.values ∙ (ap (map (value_found mid.entries)) (same ∙ ap (range_with_len 1) many) ∙ values_found 1 mid.entries (once.new_indexes ∙ ap (range_with_len 1) (sym count))));
       links = renaming_is_determined (place_in twice.indexes) mid_links new_links mid_links twice.renamed itself;
     }

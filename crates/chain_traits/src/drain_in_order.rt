@@ -6,7 +6,7 @@ ghost use Rattle.chain_laws.specs.Chains.{IsWellLinked, prev_of, next_of};
 ghost use Rattle.chain_laws.specs.Removals.{with_removal};
 ghost use Rattle.chain_laws.specs.Walks.{step_forward};
 ghost use Rattle.chain_laws.specs.ChainStart.{IsStart};
-ghost use Rattle.arena_base.specs.Entries.{entry_removed, AscendsFrom};
+ghost use Rattle.arena_base.specs.Entries.{view_after_removal, AscendsFrom};
 ghost use Rattle.arena_base.specs.declared.cursor.Cursor.{Cursor};
 ghost use Rattle.chain_traits.specs.DrainOrder.{IsNextChain};
 
@@ -134,7 +134,7 @@ pub fn take_next<Q: PtrKey, U: Drop, A: ChainArenaTrait<Q, U>>(
         (λ g. is_overflow result.value ≡ Q.Gen.wraps g) }
     ensures next { option_map Q.Inx.number result.next ≡ step_forward (Q.key result.ptr).0
         (next_of (A.interlinks source.old) (Q.key result.ptr).0) }
-    ensures view_after { A.view source.new ≡ entry_removed Q.Gen.following (A.view source.old)
+    ensures view_after { A.view source.new ≡ view_after_removal Q.Gen.following (A.view source.old)
         (Q.key result.ptr).0 }
     ensures links { A.interlinks source.new ≡ with_removal (A.interlinks source.old)
         (Q.key result.ptr).0 }
@@ -163,7 +163,7 @@ fn take_link<Q: PtrKey, U: Drop, A: ChainArenaTrait<Q, U>>(
         (λ g. is_overflow result.1 ≡ Q.Gen.wraps g) }
     ensures next { option_map Q.Inx.number result.2 ≡ step_forward (Q.Inx.number i)
         (next_of (A.interlinks source.old) (Q.Inx.number i)) }
-    ensures view_after { A.view source.new ≡ entry_removed Q.Gen.following (A.view source.old)
+    ensures view_after { A.view source.new ≡ view_after_removal Q.Gen.following (A.view source.old)
         (Q.Inx.number i) }
     ensures links { A.interlinks source.new ≡ with_removal (A.interlinks source.old)
         (Q.Inx.number i) }

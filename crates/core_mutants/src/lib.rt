@@ -9,6 +9,6 @@ mod stacks;
 mod trait_calls;
 
 pub use layouts::arrange;
-pub use links::{join, link_up, take_out};
+pub use links::{join, link_pair, remove_link_at};
 pub use stacks::{reserve_to, slot_at};
 pub use trait_calls::break_next;

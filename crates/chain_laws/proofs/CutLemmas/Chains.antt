@@ -4,7 +4,7 @@ use Rattle.std.proofs.Common.{sym, refl, ap, ◌∙◌, subst, inl, ⊎_elim}
 use Rattle.std.proofs.lemmas.List.{append_assoc}
 use Rattle.chain_laws.specs.Chains.{LinkMap, Chain, linear, cyclic, items, IsChain, IsWellLinked, IsMember, AreDistinct, AreLinked, prev_of, first_or, last_or}
 use Rattle.chain_laws.specs.Neighbors.{AreNeighbors}
-use Rattle.chain_laws.specs.Joins.{prev_set, next_set, with_neighbors}
+use Rattle.chain_laws.specs.Joins.{with_prev_at, with_next_at, with_neighbors}
 use Rattle.chain_laws.specs.Cuts.{without_pair, Cuts, CutIsDetermined}
 use Rattle.chain_laws.proofs.InterlinkLemmas.Inverses.{one_some}
 use Rattle.chain_laws.proofs.ListLemmas.Members.{IsMember-written, IsMember-middle, IsMember-filled, last_or-append, last_or-IsMember, AreDistinct-left, AreDistinct-right, AreDistinct-apart}
@@ -12,22 +12,22 @@ use Rattle.chain_laws.proofs.ChainLemmas.LinkedLists.{AreLinked-left, AreLinked-
 use Rattle.chain_laws.proofs.ChainLemmas.Uniqueness.{chain_closed}
 use Rattle.chain_laws.proofs.ChainLemmas.Rotations.{rotated_to}
 use Rattle.chain_laws.proofs.ChainLemmas.Existence.{ChainOf, stored_in, has_chain}
-use Rattle.chain_laws.proofs.JoinLemmas.Lists.{IsOutside, IsOutside-Some, AreLinked-next_set, AreLinked-prev_set, AreLinked-next_of_last, AreLinked-prev_of_first, IsChain-linked}
+use Rattle.chain_laws.proofs.JoinLemmas.Lists.{IsOutside, IsOutside-Some, AreLinked-with_next_at, AreLinked-with_prev_at, AreLinked-next_of_last, AreLinked-prev_of_first, IsChain-linked}
 use Rattle.chain_laws.proofs.ChainLemmas.Determinacy.{NamesChains, settled}
 
 -- Both parts of a linear list, cut after the left one, are chains.
 parts_stored : (link_map : LinkMap) (a b : ℕ) (xs y : List ℕ) → xs ≢ [] → last_or xs None ≡ Some a → AreDistinct (xs ++ b ∷ y) → AreLinked link_map None (xs ++ b ∷ y) None
     → IsChain (without_pair link_map a b) (linear xs) × IsChain (without_pair link_map a b) (linear (b ∷ y))
 parts_stored link_map a b xs y filled ends once stored =
-    let ended = next_set link_map (Some a) None in
+    let ended = with_next_at link_map (Some a) None in
     let xs_once : AreDistinct xs = AreDistinct-left xs (b ∷ y) once in
     let ys_once : AreDistinct (b ∷ y) = AreDistinct-right xs (b ∷ y) once in
     let left : AreLinked ended None xs None =
-    subst (λ (o : Option ℕ). AreLinked (next_set link_map o None) None xs None) ends
+    subst (λ (o : Option ℕ). AreLinked (with_next_at link_map o None) None xs None) ends
     (AreLinked-next_of_last link_map None None xs (Some b) xs_once (AreLinked-left link_map None xs (b ∷ y) None stored)) in
     let right : AreLinked ended (last_or xs None) (b ∷ y) None =
-    AreLinked-next_set link_map (Some a) None (last_or xs None) (b ∷ y) None (IsOutside-Some a (b ∷ y) a_apart) (AreLinked-right link_map None xs (b ∷ y) None stored) in (
-      (filled, xs_once, AreLinked-prev_set ended (Some b) None None xs None (IsOutside-Some b xs b_apart) left),
+    AreLinked-with_next_at link_map (Some a) None (last_or xs None) (b ∷ y) None (IsOutside-Some a (b ∷ y) a_apart) (AreLinked-right link_map None xs (b ∷ y) None stored) in (
+      (filled, xs_once, AreLinked-with_prev_at ended (Some b) None None xs None (IsOutside-Some b xs b_apart) left),
       (IsMember-filled (b ∷ y) b (inl refl), ys_once, AreLinked-prev_of_first ended None (last_or xs None) (b ∷ y) None ys_once right),
     )
   where
@@ -49,13 +49,13 @@ pub cut_one : (link_map : LinkMap) (a b : ℕ) (xs : List ℕ) → IsChain link_
     → IsChain (without_pair link_map a b) (linear xs)
 cut_one link_map a b [] chain starts ends = absurd (chain.0 refl)
 cut_one link_map a b (x ∷ xs) chain starts ends =
-    let ended : AreLinked (next_set link_map (Some a) None) (last_or xs (Some x)) (x ∷ xs) None =
-    subst (λ (o : Option ℕ). AreLinked (next_set link_map o None) (last_or xs (Some x)) (x ∷ xs) None) ends
+    let ended : AreLinked (with_next_at link_map (Some a) None) (last_or xs (Some x)) (x ∷ xs) None =
+    subst (λ (o : Option ℕ). AreLinked (with_next_at link_map o None) (last_or xs (Some x)) (x ∷ xs) None) ends
     (AreLinked-next_of_last link_map None (last_or xs (Some x)) (x ∷ xs) (Some x) chain.1 chain.2) in (
       chain.0,
       chain.1,
-      subst (λ (o : Option ℕ). AreLinked (prev_set (next_set link_map (Some a) None) o None) None (x ∷ xs) None) starts
-          (AreLinked-prev_of_first (next_set link_map (Some a) None) None (last_or xs (Some x)) (x ∷ xs) None chain.1 ended),
+      subst (λ (o : Option ℕ). AreLinked (with_prev_at (with_next_at link_map (Some a) None) o None) None (x ∷ xs) None) starts
+          (AreLinked-prev_of_first (with_next_at link_map (Some a) None) None (last_or xs (Some x)) (x ∷ xs) None chain.1 ended),
     )
 
 -- No list has a missing index.

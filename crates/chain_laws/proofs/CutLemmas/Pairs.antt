@@ -8,7 +8,7 @@ use Rattle.chain_laws.specs.Joins.{with_neighbors, with_join, AddsPair, AreEndAn
 use Rattle.chain_laws.specs.Cuts.{without_pair, TakesPair, CutIsDeterminedByPairs, JoinOfCutRestores, CutOfJoinRestores}
 use Rattle.chain_laws.proofs.InterlinkLemmas.Inverses.{altered, altered-same, altered-other, cut_undoes, Undoes-at, one_some, not_both_ways}
 use Rattle.chain_laws.proofs.ChainLemmas.LinkedLists.{next_valid, prev_valid}
-use Rattle.chain_laws.proofs.InterlinkLemmas.Linked.{IsValidAt, IsValidAt-Some, next_of-linked, prev_of-linked, prev_of-next_set, HasLink-linked}
+use Rattle.chain_laws.proofs.InterlinkLemmas.Linked.{IsValidAt, IsValidAt-Some, next_of-linked, prev_of-linked, prev_of-with_next_at, HasLink-linked}
 use Rattle.chain_laws.proofs.JoinLemmas.Chains.{next_of-joined, joined_agrees, joined_adds_a_pair}
 use Rattle.chain_laws.proofs.ChainLemmas.Determinacy.{pairs_decide}
 
@@ -27,7 +27,7 @@ pub prev_of-cut : (link_map : LinkMap) (a b : ℕ) → HasLink link_map b → (j
 prev_of-cut link_map a b valid j =
     let ended = with_neighbors link_map (Some a) None in
     prev_of-linked ended None (Some b) j (IsValidAt-Some ended b ((HasLink-linked link_map (Some a) None b).1 valid))
-    ∙ ap (λ o. if j == b then None else o) (prev_of-next_set link_map (Some a) None j)
+    ∙ ap (λ o. if j == b then None else o) (prev_of-with_next_at link_map (Some a) None j)
 
 -- A cut keeps the valid indexes.
 pub HasLink-cut : (link_map : LinkMap) (a b j : ℕ) → HasLink (without_pair link_map a b) j ↔ HasLink link_map j

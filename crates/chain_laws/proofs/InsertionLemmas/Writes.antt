@@ -5,7 +5,7 @@ use Rattle.std.proofs.Common.{refl, sym, ap, ◌∙◌}
 use mathlib.Core.Path.{fun_ext}
 use Rattle.std.proofs.lemmas.Bool.{eqb-true}
 use Rattle.chain_laws.specs.Chains.{LinkMap, Interlinks}
-use Rattle.chain_laws.specs.Joins.{with_prev, with_next, prev_set, next_set, with_neighbors, with_lone}
+use Rattle.chain_laws.specs.Joins.{with_prev, with_next, with_prev_at, with_next_at, with_neighbors, with_lone}
 use Rattle.chain_laws.specs.Insertions.{with_insertion}
 use Rattle.chain_laws.proofs.ChainLemmas.LinkedLists.{link}
 
@@ -35,15 +35,15 @@ after_at false false a q v s itself = refl
 
 -- Naming neighbors by writes and naming them at once agree.
 named_alike : (link_map : LinkMap) (q : ℕ) (u v : Option ℕ) → (u ≡ Some q → v ≡ Some q) → (j : ℕ)
-    → next_set (prev_set (next_set (with_lone link_map q) u (Some q)) (Some q) u) (Some q) v j ≡ next_set (with_link link_map q u v) u (Some q) j
+    → with_next_at (with_prev_at (with_next_at (with_lone link_map q) u (Some q)) (Some q) u) (Some q) v j ≡ with_next_at (with_link link_map q u v) u (Some q) j
 named_alike link_map q None v itself j = alone_at (j == q) v (link_map j)
 named_alike link_map q (Some a) v itself j =
     after_at (j == q) (j == a) a q v (link_map j) (λ at_q at_a. itself (ap Some (sym (eqb-true j a at_a) ∙ eqb-true j q at_q)))
 
 -- A link that names u and v and is named by them is inserted, if v is q where u is.
 pub inserted_by_writes : (link_map : LinkMap) (q : ℕ) (u v : Option ℕ) → (u ≡ Some q → v ≡ Some q)
-    → prev_set (next_set (with_link link_map q u v) u (Some q)) v (Some q) ≡ with_insertion link_map q u v
-inserted_by_writes link_map q u v itself = ap (λ (s : LinkMap). prev_set s v (Some q)) (sym (fun_ext (named_alike link_map q u v itself)))
+    → with_prev_at (with_next_at (with_link link_map q u v) u (Some q)) v (Some q) ≡ with_insertion link_map q u v
+inserted_by_writes link_map q u v itself = ap (λ (s : LinkMap). with_prev_at s v (Some q)) (sym (fun_ext (named_alike link_map q u v itself)))
 
 -- A lone link that names itself, by two writes and at once.
 ringed_at : (b : Bool) (q : ℕ) (s : Option Interlinks) → (let lone = (if b then Some (link None None) else s) in let named = (if b then option_map (with_next (Some q)) lone else lone) in if b then option_map (with_prev (Some q)) named else named)

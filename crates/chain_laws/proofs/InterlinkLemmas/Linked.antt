@@ -4,7 +4,7 @@ use Rattle.std.specs.Option.{option_map}
 use Rattle.std.proofs.Common.{sym, refl, ap, ◌∙◌, subst, ⊎_elim}
 use Rattle.std.proofs.lemmas.Bool.{cases_eq}
 use Rattle.chain_laws.specs.Chains.{LinkMap, Interlinks, prev_in, next_in, prev_of, next_of, HasLink}
-use Rattle.chain_laws.specs.Joins.{with_prev, with_next, prev_set, next_set, with_neighbors}
+use Rattle.chain_laws.specs.Joins.{with_prev, with_next, with_prev_at, with_next_at, with_neighbors}
 use Rattle.chain_laws.proofs.InterlinkLemmas.Inverses.{altered, if_same, if_other, altered-same, altered-other, one_some}
 
 -- The optional index is not j.
@@ -25,26 +25,26 @@ put_at f None o j = f j
 put_at f (Some i) o j = altered f i o j
 
 -- A write of `next` leaves other indexes unchanged.
-pub next_set-off : (link_map : LinkMap) (u v : Option ℕ) (j : ℕ) → IsOff u j → next_set link_map u v j ≡ link_map j
-next_set-off link_map None v j off = refl
-next_set-off link_map (Some i) v j off = if_other j i _ _ (off i refl)
+pub with_next_at-off : (link_map : LinkMap) (u v : Option ℕ) (j : ℕ) → IsOff u j → with_next_at link_map u v j ≡ link_map j
+with_next_at-off link_map None v j off = refl
+with_next_at-off link_map (Some i) v j off = if_other j i _ _ (off i refl)
 
 -- A write of `prev` leaves other indexes unchanged.
-pub prev_set-off : (link_map : LinkMap) (u v : Option ℕ) (j : ℕ) → IsOff u j → prev_set link_map u v j ≡ link_map j
-prev_set-off link_map None v j off = refl
-prev_set-off link_map (Some i) v j off = if_other j i _ _ (off i refl)
+pub with_prev_at-off : (link_map : LinkMap) (u v : Option ℕ) (j : ℕ) → IsOff u j → with_prev_at link_map u v j ≡ link_map j
+with_prev_at-off link_map None v j off = refl
+with_prev_at-off link_map (Some i) v j off = if_other j i _ _ (off i refl)
 
 -- Linking u and v leaves other indexes unchanged.
 pub linked-off : (link_map : LinkMap) (u v : Option ℕ) (j : ℕ) → IsOff u j → IsOff v j → with_neighbors link_map u v j ≡ link_map j
-linked-off link_map u v j off_u off_v = prev_set-off (next_set link_map u v) v u j off_v ∙ next_set-off link_map u v j off_u
+linked-off link_map u v j off_u off_v = with_prev_at-off (with_next_at link_map u v) v u j off_v ∙ with_next_at-off link_map u v j off_u
 
 -- The link whose `next` is written.
-pub next_set-at : (link_map : LinkMap) (i : ℕ) (v : Option ℕ) (link : Interlinks) → link_map i ≡ Some link → next_set link_map (Some i) v i ≡ Some (with_next v link)
-next_set-at link_map i v link e = if_same i i _ _ refl ∙ ap (option_map (with_next v)) e
+pub with_next_at-at : (link_map : LinkMap) (i : ℕ) (v : Option ℕ) (link : Interlinks) → link_map i ≡ Some link → with_next_at link_map (Some i) v i ≡ Some (with_next v link)
+with_next_at-at link_map i v link e = if_same i i _ _ refl ∙ ap (option_map (with_next v)) e
 
 -- The link whose `prev` is written.
-pub prev_set-at : (link_map : LinkMap) (i : ℕ) (u : Option ℕ) (link : Interlinks) → link_map i ≡ Some link → prev_set link_map (Some i) u i ≡ Some (with_prev u link)
-prev_set-at link_map i u link e = if_same i i _ _ refl ∙ ap (option_map (with_prev u)) e
+pub with_prev_at-at : (link_map : LinkMap) (i : ℕ) (u : Option ℕ) (link : Interlinks) → link_map i ≡ Some link → with_prev_at link_map (Some i) u i ≡ Some (with_prev u link)
+with_prev_at-at link_map i u link e = if_same i i _ _ refl ∙ ap (option_map (with_prev u)) e
 
 -- A link keeps its `prev` when its `next` is written.
 prev_in-with_next : (v : Option ℕ) (o : Option Interlinks) → prev_in (option_map (with_next v) o) ≡ prev_in o
@@ -57,36 +57,36 @@ next_in-with_prev u None = refl
 next_in-with_prev u (Some link) = refl
 
 -- A write of `next` leaves each `prev` unchanged.
-pub prev_of-next_set : (link_map : LinkMap) (u v : Option ℕ) (j : ℕ) → prev_of (next_set link_map u v) j ≡ prev_of link_map j
-prev_of-next_set link_map None v j = refl
-prev_of-next_set link_map (Some i) v j = ⊎_elim
+pub prev_of-with_next_at : (link_map : LinkMap) (u v : Option ℕ) (j : ℕ) → prev_of (with_next_at link_map u v) j ≡ prev_of link_map j
+prev_of-with_next_at link_map None v j = refl
+prev_of-with_next_at link_map (Some i) v j = ⊎_elim
     (λ e. ap prev_in (if_same j i _ _ e) ∙ prev_in-with_next v (link_map j))
     (λ ne. ap prev_in (if_other j i _ _ ne))
     (cases_eq j i)
 
 -- A write of `prev` leaves each `next` unchanged.
-pub next_of-prev_set : (link_map : LinkMap) (u v : Option ℕ) (j : ℕ) → next_of (prev_set link_map u v) j ≡ next_of link_map j
-next_of-prev_set link_map None v j = refl
-next_of-prev_set link_map (Some i) v j = ⊎_elim
+pub next_of-with_prev_at : (link_map : LinkMap) (u v : Option ℕ) (j : ℕ) → next_of (with_prev_at link_map u v) j ≡ next_of link_map j
+next_of-with_prev_at link_map None v j = refl
+next_of-with_prev_at link_map (Some i) v j = ⊎_elim
     (λ e. ap next_in (if_same j i _ _ e) ∙ next_in-with_prev v (link_map j))
     (λ ne. ap next_in (if_other j i _ _ ne))
     (cases_eq j i)
 
 -- Each `next` after a write at a valid index.
-pub next_of-next_set : (link_map : LinkMap) (u v : Option ℕ) (j : ℕ) → IsValidAt link_map u → next_of (next_set link_map u v) j ≡ put_at (next_of link_map) u v j
-next_of-next_set link_map None v j valid = refl
-next_of-next_set link_map (Some i) v j valid = ⊎_elim
+pub next_of-with_next_at : (link_map : LinkMap) (u v : Option ℕ) (j : ℕ) → IsValidAt link_map u → next_of (with_next_at link_map u v) j ≡ put_at (next_of link_map) u v j
+next_of-with_next_at link_map None v j valid = refl
+next_of-with_next_at link_map (Some i) v j valid = ⊎_elim
     (λ e. let at_i = valid i refl in
-    subst (λ k. next_of (next_set link_map (Some i) v) k ≡ v) (sym e) (ap next_in (next_set-at link_map i v at_i.link at_i.links)) ∙ sym (altered-same (next_of link_map) i v j e))
+    subst (λ k. next_of (with_next_at link_map (Some i) v) k ≡ v) (sym e) (ap next_in (with_next_at-at link_map i v at_i.link at_i.links)) ∙ sym (altered-same (next_of link_map) i v j e))
     (λ ne. ap next_in (if_other j i _ _ ne) ∙ sym (altered-other (next_of link_map) i v j ne))
     (cases_eq j i)
 
 -- Each `prev` after a write at a valid index.
-pub prev_of-prev_set : (link_map : LinkMap) (u v : Option ℕ) (j : ℕ) → IsValidAt link_map u → prev_of (prev_set link_map u v) j ≡ put_at (prev_of link_map) u v j
-prev_of-prev_set link_map None v j valid = refl
-prev_of-prev_set link_map (Some i) v j valid = ⊎_elim
+pub prev_of-with_prev_at : (link_map : LinkMap) (u v : Option ℕ) (j : ℕ) → IsValidAt link_map u → prev_of (with_prev_at link_map u v) j ≡ put_at (prev_of link_map) u v j
+prev_of-with_prev_at link_map None v j valid = refl
+prev_of-with_prev_at link_map (Some i) v j valid = ⊎_elim
     (λ e. let at_i = valid i refl in
-    subst (λ k. prev_of (prev_set link_map (Some i) v) k ≡ v) (sym e) (ap prev_in (prev_set-at link_map i v at_i.link at_i.links)) ∙ sym (altered-same (prev_of link_map) i v j e))
+    subst (λ k. prev_of (with_prev_at link_map (Some i) v) k ≡ v) (sym e) (ap prev_in (with_prev_at-at link_map i v at_i.link at_i.links)) ∙ sym (altered-same (prev_of link_map) i v j e))
     (λ ne. ap prev_in (if_other j i _ _ ne) ∙ sym (altered-other (prev_of link_map) i v j ne))
     (cases_eq j i)
 
@@ -105,37 +105,37 @@ HasLink-changed left right change j e =
     by (Some l) links h = record { link = l; links = links }
 
 -- A write of `next` leaves the valid indexes unchanged.
-pub HasLink-next_set : (link_map : LinkMap) (u v : Option ℕ) (j : ℕ) → HasLink (next_set link_map u v) j ↔ HasLink link_map j
-HasLink-next_set link_map None v j = (λ h. h, λ h. h)
-HasLink-next_set link_map (Some i) v j = ⊎_elim
-    (λ e. HasLink-changed (next_set link_map (Some i) v) link_map (with_next v) j (if_same j i _ _ e))
-    (λ ne. HasLink-same (next_set link_map (Some i) v) link_map j (if_other j i _ _ ne))
+pub HasLink-with_next_at : (link_map : LinkMap) (u v : Option ℕ) (j : ℕ) → HasLink (with_next_at link_map u v) j ↔ HasLink link_map j
+HasLink-with_next_at link_map None v j = (λ h. h, λ h. h)
+HasLink-with_next_at link_map (Some i) v j = ⊎_elim
+    (λ e. HasLink-changed (with_next_at link_map (Some i) v) link_map (with_next v) j (if_same j i _ _ e))
+    (λ ne. HasLink-same (with_next_at link_map (Some i) v) link_map j (if_other j i _ _ ne))
     (cases_eq j i)
 
 -- A write of `prev` leaves the valid indexes unchanged.
-pub HasLink-prev_set : (link_map : LinkMap) (u v : Option ℕ) (j : ℕ) → HasLink (prev_set link_map u v) j ↔ HasLink link_map j
-HasLink-prev_set link_map None v j = (λ h. h, λ h. h)
-HasLink-prev_set link_map (Some i) v j = ⊎_elim
-    (λ e. HasLink-changed (prev_set link_map (Some i) v) link_map (with_prev v) j (if_same j i _ _ e))
-    (λ ne. HasLink-same (prev_set link_map (Some i) v) link_map j (if_other j i _ _ ne))
+pub HasLink-with_prev_at : (link_map : LinkMap) (u v : Option ℕ) (j : ℕ) → HasLink (with_prev_at link_map u v) j ↔ HasLink link_map j
+HasLink-with_prev_at link_map None v j = (λ h. h, λ h. h)
+HasLink-with_prev_at link_map (Some i) v j = ⊎_elim
+    (λ e. HasLink-changed (with_prev_at link_map (Some i) v) link_map (with_prev v) j (if_same j i _ _ e))
+    (λ ne. HasLink-same (with_prev_at link_map (Some i) v) link_map j (if_other j i _ _ ne))
     (cases_eq j i)
 
 -- Linking leaves the valid indexes unchanged.
 pub HasLink-linked : (link_map : LinkMap) (u v : Option ℕ) (j : ℕ) → HasLink (with_neighbors link_map u v) j ↔ HasLink link_map j
 HasLink-linked link_map u v j =
-    let outer = HasLink-prev_set (next_set link_map u v) v u j in
-    let inner = HasLink-next_set link_map u v j in
+    let outer = HasLink-with_prev_at (with_next_at link_map u v) v u j in
+    let inner = HasLink-with_next_at link_map u v j in
     (λ h. inner.0 (outer.0 h), λ h. outer.1 (inner.1 h))
 
 -- Each `next` once v comes after u.
 pub next_of-linked : (link_map : LinkMap) (u v : Option ℕ) (j : ℕ) → IsValidAt link_map u → next_of (with_neighbors link_map u v) j ≡ put_at (next_of link_map) u v j
-next_of-linked link_map u v j valid = next_of-prev_set (next_set link_map u v) v u j ∙ next_of-next_set link_map u v j valid
+next_of-linked link_map u v j valid = next_of-with_prev_at (with_next_at link_map u v) v u j ∙ next_of-with_next_at link_map u v j valid
 
 -- Each `prev` once v comes after u.
 pub prev_of-linked : (link_map : LinkMap) (u v : Option ℕ) (j : ℕ) → IsValidAt link_map v → prev_of (with_neighbors link_map u v) j ≡ put_at (prev_of link_map) v u j
 prev_of-linked link_map u v j valid =
-    prev_of-prev_set (next_set link_map u v) v u j (λ i e. (HasLink-next_set link_map u v i).1 (valid i e)) ∙ same v
+    prev_of-with_prev_at (with_next_at link_map u v) v u j (λ i e. (HasLink-with_next_at link_map u v i).1 (valid i e)) ∙ same v
   where
-    same : (w : Option ℕ) → put_at (prev_of (next_set link_map u v)) w u j ≡ put_at (prev_of link_map) w u j
-    same None = prev_of-next_set link_map u v j
-    same (Some i) = ap (λ o. if j == i then u else o) (prev_of-next_set link_map u v j)
+    same : (w : Option ℕ) → put_at (prev_of (with_next_at link_map u v)) w u j ≡ put_at (prev_of link_map) w u j
+    same None = prev_of-with_next_at link_map u v j
+    same (Some i) = ap (λ o. if j == i then u else o) (prev_of-with_next_at link_map u v j)

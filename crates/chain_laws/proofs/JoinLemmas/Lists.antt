@@ -2,10 +2,10 @@
 use Rattle.std.specs.Prelude.{◌≡◌, ◌↔◌, ℕ, List, [], ◌∷◌, ◌++◌, Option, None, Some}
 use Rattle.std.proofs.Common.{sym, ◌∙◌, subst, inl, inr, ⊎_elim}
 use Rattle.chain_laws.specs.Chains.{LinkMap, Chain, items, IsChain, IsMember, AreDistinct, AreLinked, first_or, last_or}
-use Rattle.chain_laws.specs.Joins.{prev_set, next_set, with_neighbors}
+use Rattle.chain_laws.specs.Joins.{with_prev_at, with_next_at, with_neighbors}
 use Rattle.chain_laws.proofs.ListLemmas.Members.{last_or-IsMember}
 use Rattle.chain_laws.proofs.ChainLemmas.LinkedLists.{AreLinked-frame, IsChain-frame, AreLinked-append}
-use Rattle.chain_laws.proofs.InterlinkLemmas.Linked.{IsOff, next_set-off, prev_set-off, linked-off, next_set-at, prev_set-at}
+use Rattle.chain_laws.proofs.InterlinkLemmas.Linked.{IsOff, with_next_at-off, with_prev_at-off, linked-off, with_next_at-at, with_prev_at-at}
 use Rattle.chain_laws.proofs.InterlinkLemmas.Inverses.{one_some}
 
 -- The optional index is not among the items.
@@ -17,14 +17,14 @@ IsOff-item : (u : Option ℕ) (xs : List ℕ) (j : ℕ) → IsOutside u xs → I
 IsOff-item u xs j apart h i named e = apart i named (subst (IsMember xs) e h)
 
 -- A list without u stays linked when `next` of u is written.
-pub AreLinked-next_set : (link_map : LinkMap) (u v before : Option ℕ) (xs : List ℕ) (after : Option ℕ) → IsOutside u xs → AreLinked link_map before xs after → AreLinked (next_set link_map u v) before xs after
-AreLinked-next_set link_map u v before xs after apart stored =
-    AreLinked-frame link_map (next_set link_map u v) before xs after (λ i h. sym (next_set-off link_map u v i (IsOff-item u xs i apart h))) stored
+pub AreLinked-with_next_at : (link_map : LinkMap) (u v before : Option ℕ) (xs : List ℕ) (after : Option ℕ) → IsOutside u xs → AreLinked link_map before xs after → AreLinked (with_next_at link_map u v) before xs after
+AreLinked-with_next_at link_map u v before xs after apart stored =
+    AreLinked-frame link_map (with_next_at link_map u v) before xs after (λ i h. sym (with_next_at-off link_map u v i (IsOff-item u xs i apart h))) stored
 
 -- A list without u stays linked when `prev` of u is written.
-pub AreLinked-prev_set : (link_map : LinkMap) (u v before : Option ℕ) (xs : List ℕ) (after : Option ℕ) → IsOutside u xs → AreLinked link_map before xs after → AreLinked (prev_set link_map u v) before xs after
-AreLinked-prev_set link_map u v before xs after apart stored =
-    AreLinked-frame link_map (prev_set link_map u v) before xs after (λ i h. sym (prev_set-off link_map u v i (IsOff-item u xs i apart h))) stored
+pub AreLinked-with_prev_at : (link_map : LinkMap) (u v before : Option ℕ) (xs : List ℕ) (after : Option ℕ) → IsOutside u xs → AreLinked link_map before xs after → AreLinked (with_prev_at link_map u v) before xs after
+AreLinked-with_prev_at link_map u v before xs after apart stored =
+    AreLinked-frame link_map (with_prev_at link_map u v) before xs after (λ i h. sym (with_prev_at-off link_map u v i (IsOff-item u xs i apart h))) stored
 
 -- Linking u and v leaves a list with neither unchanged.
 linked-outside : (link_map : LinkMap) (u v : Option ℕ) (xs : List ℕ) → IsOutside u xs → IsOutside v xs → (i : ℕ) → IsMember xs i → with_neighbors link_map u v i ≡ link_map i
@@ -45,18 +45,18 @@ last_beyond x y ys none i named e =
 
 -- v after the last item comes after the list.
 pub AreLinked-next_of_last : (link_map : LinkMap) (v before : Option ℕ) (xs : List ℕ) (after : Option ℕ) → AreDistinct xs → AreLinked link_map before xs after
-    → AreLinked (next_set link_map (last_or xs before) v) before xs v
+    → AreLinked (with_next_at link_map (last_or xs before) v) before xs v
 AreLinked-next_of_last link_map v before [] after once stored = tt
-AreLinked-next_of_last link_map v before (x ∷ []) after once stored = (next_set-at link_map x v _ stored.0, tt)
+AreLinked-next_of_last link_map v before (x ∷ []) after once stored = (with_next_at-at link_map x v _ stored.0, tt)
 AreLinked-next_of_last link_map v before (x ∷ y ∷ ys) after once stored =
-    (next_set-off link_map (last_or ys (Some y)) v x (last_beyond x y ys once.0) ∙ stored.0, AreLinked-next_of_last link_map v (Some x) (y ∷ ys) after once.1 stored.1)
+    (with_next_at-off link_map (last_or ys (Some y)) v x (last_beyond x y ys once.0) ∙ stored.0, AreLinked-next_of_last link_map v (Some x) (y ∷ ys) after once.1 stored.1)
 
 -- u before the first item comes before the list.
 pub AreLinked-prev_of_first : (link_map : LinkMap) (u before : Option ℕ) (xs : List ℕ) (after : Option ℕ) → AreDistinct xs → AreLinked link_map before xs after
-    → AreLinked (prev_set link_map (first_or xs after) u) u xs after
+    → AreLinked (with_prev_at link_map (first_or xs after) u) u xs after
 AreLinked-prev_of_first link_map u before [] after once stored = tt
 AreLinked-prev_of_first link_map u before (x ∷ xs) after once stored =
-    (prev_set-at link_map x u _ stored.0, AreLinked-prev_set link_map (Some x) u (Some x) xs after (λ i named h. once.0 (subst (IsMember xs) (sym (one_some named)) h)) stored.1)
+    (with_prev_at-at link_map x u _ stored.0, AreLinked-with_prev_at link_map (Some x) u (Some x) xs after (λ i named h. once.0 (subst (IsMember xs) (sym (one_some named)) h)) stored.1)
 
 -- Two lists joined at an end and a start are one.
 pub AreLinked-glued : (link_map : LinkMap) (before : Option ℕ) (xs : List ℕ) (xs_after ys_before : Option ℕ) (ys : List ℕ) (after : Option ℕ)
@@ -67,8 +67,8 @@ AreLinked-glued link_map before xs xs_after ys_before ys after xs_once ys_once l
     let u = last_or xs before in
     let v = first_or ys after in
     AreLinked-append (with_neighbors link_map u v) before xs ys after
-    (AreLinked-prev_set (next_set link_map u v) v u before xs v first_apart (AreLinked-next_of_last link_map v before xs xs_after xs_once xs_stored))
-    (AreLinked-prev_of_first (next_set link_map u v) u ys_before ys after ys_once (AreLinked-next_set link_map u v ys_before ys after last_apart ys_stored))
+    (AreLinked-with_prev_at (with_next_at link_map u v) v u before xs v first_apart (AreLinked-next_of_last link_map v before xs xs_after xs_once xs_stored))
+    (AreLinked-prev_of_first (with_next_at link_map u v) u ys_before ys after ys_once (AreLinked-with_next_at link_map u v ys_before ys after last_apart ys_stored))
 
 -- A list whose end is linked to its start is a ring.
 pub AreLinked-ringed : (link_map : LinkMap) (before : Option ℕ) (xs : List ℕ) (after : Option ℕ) → AreDistinct xs → AreLinked link_map before xs after
@@ -76,7 +76,7 @@ pub AreLinked-ringed : (link_map : LinkMap) (before : Option ℕ) (xs : List ℕ
 AreLinked-ringed link_map before [] after once stored = tt
 AreLinked-ringed link_map before (x ∷ xs) after once stored =
     let u = last_or xs (Some x) in
-    AreLinked-prev_of_first (next_set link_map u (Some x)) u before (x ∷ xs) (Some x) once (AreLinked-next_of_last link_map (Some x) before (x ∷ xs) after once stored)
+    AreLinked-prev_of_first (with_next_at link_map u (Some x)) u before (x ∷ xs) (Some x) once (AreLinked-next_of_last link_map (Some x) before (x ∷ xs) after once stored)
 
 -- Linking leaves the chains with neither u nor v unchanged.
 pub IsChain-linked : (link_map : LinkMap) (u v : Option ℕ) (c : Chain) → IsOutside u (items c) → IsOutside v (items c) → IsChain link_map c ↔ IsChain (with_neighbors link_map u v) c

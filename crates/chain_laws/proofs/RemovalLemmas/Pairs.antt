@@ -5,11 +5,11 @@ use Rattle.std.proofs.Common.{sym, refl, ap, ap₂, ◌∙◌, inl, inr, ⊎_eli
 use Rattle.std.proofs.lemmas.Bool.{cases_eq}
 use mathlib.Core.Path.{fun_ext}
 use Rattle.chain_laws.specs.Chains.{LinkMap, HasLink, IsWellLinked, prev_in, next_in, prev_of, next_of}
-use Rattle.chain_laws.specs.Joins.{with_prev, with_next, prev_set, next_set, with_neighbors, with_lone}
+use Rattle.chain_laws.specs.Joins.{with_prev, with_next, with_prev_at, with_next_at, with_neighbors, with_lone}
 use Rattle.chain_laws.specs.Removals.{without_link, with_removal, RemovesPairs}
 use Rattle.chain_laws.proofs.InterlinkLemmas.Inverses.{if_same, if_other, altered-same}
 use Rattle.chain_laws.proofs.ChainLemmas.LinkedLists.{next_valid, prev_valid}
-use Rattle.chain_laws.proofs.InterlinkLemmas.Linked.{IsOff, IsValidAt-Some, next_set-off, prev_set-off, prev_of-next_set, next_of-prev_set, next_of-next_set, prev_of-prev_set, HasLink-same, HasLink-next_set, HasLink-linked}
+use Rattle.chain_laws.proofs.InterlinkLemmas.Linked.{IsOff, IsValidAt-Some, with_next_at-off, with_prev_at-off, prev_of-with_next_at, next_of-with_prev_at, next_of-with_next_at, prev_of-with_prev_at, HasLink-same, HasLink-with_next_at, HasLink-linked}
 use Rattle.chain_laws.proofs.JoinLemmas.LoneLinks.{with_lone-at, with_lone-off}
 use Rattle.chain_laws.proofs.InterlinkLemmas.Skips.{Skips, skips_pairs, skips_undo}
 
@@ -22,17 +22,17 @@ pub vacated-off : (link_map : LinkMap) (q j : ℕ) → j ≢ q → without_link 
 vacated-off link_map q j ne = if_other j q None (link_map j) ne
 
 -- A write of `next` makes no link.
-pub next_set-none : (link_map : LinkMap) (u v : Option ℕ) (j : ℕ) → link_map j ≡ None → next_set link_map u v j ≡ None
-next_set-none link_map None v j e = e
-next_set-none link_map (Some i) v j e = ⊎_elim
+pub with_next_at-none : (link_map : LinkMap) (u v : Option ℕ) (j : ℕ) → link_map j ≡ None → with_next_at link_map u v j ≡ None
+with_next_at-none link_map None v j e = e
+with_next_at-none link_map (Some i) v j e = ⊎_elim
     (λ s. if_same j i _ _ s ∙ ap (option_map (with_next v)) e)
     (λ ne. if_other j i _ _ ne ∙ e)
     (cases_eq j i)
 
 -- A write of `prev` makes no link.
-pub prev_set-none : (link_map : LinkMap) (u v : Option ℕ) (j : ℕ) → link_map j ≡ None → prev_set link_map u v j ≡ None
-prev_set-none link_map None v j e = e
-prev_set-none link_map (Some i) v j e = ⊎_elim
+pub with_prev_at-none : (link_map : LinkMap) (u v : Option ℕ) (j : ℕ) → link_map j ≡ None → with_prev_at link_map u v j ≡ None
+with_prev_at-none link_map None v j e = e
+with_prev_at-none link_map (Some i) v j e = ⊎_elim
     (λ s. if_same j i _ _ s ∙ ap (option_map (with_prev v)) e)
     (λ ne. if_other j i _ _ ne ∙ e)
     (cases_eq j i)
@@ -42,7 +42,7 @@ pub removed-at : (link_map : LinkMap) (q : ℕ) → with_removal link_map q q �
 removed-at link_map q =
     let u = prev_of link_map q in
     let v = next_of link_map q in
-    prev_set-none (next_set (without_link link_map q) u v) v u q (next_set-none (without_link link_map q) u v q (vacated-at link_map q q refl))
+    with_prev_at-none (with_next_at (without_link link_map q) u v) v u q (with_next_at-none (without_link link_map q) u v q (vacated-at link_map q q refl))
 
 -- The valid indexes are the old ones without q.
 pub HasLink-vacated : (link_map : LinkMap) (q j : ℕ) → HasLink (without_link link_map q) j ↔ (HasLink link_map j × (j ≢ q))
@@ -69,9 +69,9 @@ next_skips link_map q agrees = record { gone = ap next_in (removed-at link_map q
         let v = next_of link_map q in
         let named : u ≡ Some j = (agrees.both j q).0 to_q in
         let valid : HasLink (without_link link_map q) j = (HasLink-vacated link_map q j).1 (next_valid link_map j q to_q, ne) in
-        next_of-prev_set (next_set (without_link link_map q) u v) v u j
-        ∙ ap (λ o. next_of (next_set (without_link link_map q) o v) j) named
-        ∙ next_of-next_set (without_link link_map q) (Some j) v j (IsValidAt-Some (without_link link_map q) j valid)
+        next_of-with_prev_at (with_next_at (without_link link_map q) u v) v u j
+        ∙ ap (λ o. next_of (with_next_at (without_link link_map q) o v) j) named
+        ∙ next_of-with_next_at (without_link link_map q) (Some j) v j (IsValidAt-Some (without_link link_map q) j valid)
         ∙ altered-same (next_of (without_link link_map q)) j v j refl
 
     off : (j : ℕ) → j ≢ q → next_of link_map j ≢ Some q → next_of (with_removal link_map q) j ≡ next_of link_map j
@@ -79,8 +79,8 @@ next_skips link_map q agrees = record { gone = ap next_in (removed-at link_map q
         let u = prev_of link_map q in
         let v = next_of link_map q in
         let unnamed : IsOff u j = λ i named s. not_q ((agrees.both j q).1 (named ∙ ap Some (sym s))) in
-        next_of-prev_set (next_set (without_link link_map q) u v) v u j
-        ∙ ap next_in (next_set-off (without_link link_map q) u v j unnamed)
+        next_of-with_prev_at (with_next_at (without_link link_map q) u v) v u j
+        ∙ ap next_in (with_next_at-off (without_link link_map q) u v j unnamed)
         ∙ ap next_in (vacated-off link_map q j ne)
 
 -- `prev` after the removal skips q.
@@ -93,9 +93,9 @@ prev_skips link_map q agrees = record { gone = ap prev_in (removed-at link_map q
         let v = next_of link_map q in
         let named : v ≡ Some j = (agrees.both q j).1 to_q in
         let valid : HasLink (without_link link_map q) j = (HasLink-vacated link_map q j).1 (prev_valid link_map j q to_q, ne) in
-        let written = next_set (without_link link_map q) u v in
-        ap (λ o. prev_of (prev_set written o u) j) named
-        ∙ prev_of-prev_set written (Some j) u j (IsValidAt-Some written j ((HasLink-next_set (without_link link_map q) u v j).1 valid))
+        let written = with_next_at (without_link link_map q) u v in
+        ap (λ o. prev_of (with_prev_at written o u) j) named
+        ∙ prev_of-with_prev_at written (Some j) u j (IsValidAt-Some written j ((HasLink-with_next_at (without_link link_map q) u v j).1 valid))
         ∙ altered-same (prev_of written) j u j refl
 
     off : (j : ℕ) → j ≢ q → prev_of link_map j ≢ Some q → prev_of (with_removal link_map q) j ≡ prev_of link_map j
@@ -103,8 +103,8 @@ prev_skips link_map q agrees = record { gone = ap prev_in (removed-at link_map q
         let u = prev_of link_map q in
         let v = next_of link_map q in
         let unnamed : IsOff v j = λ i named s. not_q ((agrees.both q j).0 (named ∙ ap Some (sym s))) in
-        ap prev_in (prev_set-off (next_set (without_link link_map q) u v) v u j unnamed)
-        ∙ prev_of-next_set (without_link link_map q) u v j
+        ap prev_in (with_prev_at-off (with_next_at (without_link link_map q) u v) v u j unnamed)
+        ∙ prev_of-with_next_at (without_link link_map q) u v j
         ∙ ap prev_in (vacated-off link_map q j ne)
 
 -- A removal keeps the interlinks consistent.

@@ -4,7 +4,7 @@ use Rattle.std.specs.List.{range_with_len}
 use Rattle.chain_laws.specs.Chains.{Chain, linear, cyclic, items, HasChain, all_items, IsMember, StartsAtLeast, IsSortedByLeast, IsInOrder}
 use Rattle.std.proofs.Math.Decide.{ℕ_discrete}
 use Rattle.chain_laws.specs.Renamings.{IsRenaming}
-use Rattle.chain_laws.specs.Arrangements.{place_from, place_in, in_runs, LayoutRests, PlacesRest, HasLeastIndexOrder, LeastIndexOrderIsOrdered, LeastIndexOrderIsCanonical, LeastIndexOrderRests}
+use Rattle.chain_laws.specs.Arrangements.{place_from, place_in, in_runs, LayoutRests, PlacesRest, HasLeastIndexOrder, LeastIndexOrderIsUnique, LeastIndexOrderIsCanonical, LeastIndexOrderRests}
 use Rattle.chain_laws.proofs.ListLemmas.Members.{IsMember-left, IsMember-right}
 use Rattle.chain_laws.proofs.ChainLemmas.Uniqueness.{IsMember-at_most, chain_filled}
 use Rattle.chain_laws.proofs.ChainLemmas.NeighborPairs.{partitions, interlinks, chains_from_pairs}
@@ -19,7 +19,7 @@ has_least_index_order link_map slots agrees within =
     (all_items all.0, record { chains = all.0; are = all.1; items = refl })
 
 -- The least-index order is that of the one set of chains.
-pub least_index_order_is_ordered : LeastIndexOrderIsOrdered
+pub least_index_order_is_ordered : LeastIndexOrderIsUnique
 least_index_order_is_ordered link_map one indexes = (
   (λ order. order.items ∙ ap all_items (one.only order.chains order.are)),
   (λ e. record { chains = one.chains; are = one.are; items = e }),

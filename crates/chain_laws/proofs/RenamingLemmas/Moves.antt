@@ -3,12 +3,12 @@ use Rattle.std.proofs.Common.{◌≡◌, ◌≢◌, ◌↔◌, ℕ, ◌⊎◌, i
 use Rattle.std.specs.Option.{option_map, option_and_then}
 use Rattle.std.proofs.Math.Decide.{ℕ_discrete}
 use Rattle.chain_laws.specs.Chains.{LinkMap, Interlinks, HasLink, IsWellLinked, prev_in, next_in, prev_of, next_of}
-use Rattle.chain_laws.specs.Joins.{next_set, prev_set}
+use Rattle.chain_laws.specs.Joins.{with_next_at, with_prev_at}
 use Rattle.chain_laws.specs.Renamings.{IsRenaming}
 use Rattle.chain_laws.specs.Moves.{moved_index, with_moved, with_link_moved, with_link_placed, CanMove, index_after_move, MoveRenames, NeighborsDetermineAMove}
 use Rattle.chain_laws.proofs.ChainLemmas.LinkedLists.{link, reports_both, reports_valid, next_valid, prev_valid}
 use Rattle.chain_laws.proofs.InterlinkLemmas.Inverses.{if_same, if_other, altered-same, altered-other, one_some, not_both_ways}
-use Rattle.chain_laws.proofs.InterlinkLemmas.Linked.{IsValidAt, put_at, prev_of-next_set, next_of-prev_set, next_of-next_set, prev_of-prev_set, HasLink-next_set, HasLink-prev_set, HasLink-changed}
+use Rattle.chain_laws.proofs.InterlinkLemmas.Linked.{IsValidAt, put_at, prev_of-with_next_at, next_of-with_prev_at, next_of-with_next_at, prev_of-with_prev_at, HasLink-with_next_at, HasLink-with_prev_at, HasLink-changed}
 use Rattle.chain_laws.proofs.RenamingLemmas.Chains.{same_reported}
 
 -- The moved index.
@@ -140,36 +140,36 @@ module _ (link_map : LinkMap) (i k : ℕ) (agrees : IsWellLinked link_map) (can 
 
   -- The arena after the write to the link before i.
   abbrev next_known : LinkMap
-  next_known = next_set (with_link_placed link_map i k) (option_map (moved_index i k) (prev_of link_map i)) (Some k)
+  next_known = with_next_at (with_link_placed link_map i k) (option_map (moved_index i k) (prev_of link_map i)) (Some k)
 
   -- The arena after both writes.
   abbrev both_known : LinkMap
-  both_known = prev_set next_known (option_map (moved_index i k) (next_of link_map i)) (Some k)
+  both_known = with_prev_at next_known (option_map (moved_index i k) (next_of link_map i)) (Some k)
 
   -- The valid indexes after both writes.
   known_valid : (m : ℕ) → HasLink both_known m ↔ HasLink (with_link_placed link_map i k) m
   known_valid m =
-      let after = HasLink-prev_set next_known (option_map (moved_index i k) (next_of link_map i)) (Some k) m in
-      let before = HasLink-next_set (with_link_placed link_map i k) (option_map (moved_index i k) (prev_of link_map i)) (Some k) m in
+      let after = HasLink-with_prev_at next_known (option_map (moved_index i k) (next_of link_map i)) (Some k) m in
+      let before = HasLink-with_next_at (with_link_placed link_map i k) (option_map (moved_index i k) (prev_of link_map i)) (Some k) m in
       (λ v. before.0 (after.0 v), λ v. after.1 (before.1 v))
 
   -- Each `next` after both writes.
   known_next : (j : ℕ) → HasLink link_map j → next_of both_known (moved_index i k j) ≡ option_map (moved_index i k) (next_of link_map j)
   known_next j valid =
-      next_of-prev_set next_known (option_map (moved_index i k) (next_of link_map i)) (Some k) (moved_index i k j)
-      ∙ (next_of-next_set (with_link_placed link_map i k) (option_map (moved_index i k) (prev_of link_map i)) (Some k) (moved_index i k j) (neighbor_stored (prev_of link_map i) (prev_named link_map i agrees))
+      next_of-with_prev_at next_known (option_map (moved_index i k) (next_of link_map i)) (Some k) (moved_index i k j)
+      ∙ (next_of-with_next_at (with_link_placed link_map i k) (option_map (moved_index i k) (prev_of link_map i)) (Some k) (moved_index i k j) (neighbor_stored (prev_of link_map i) (prev_named link_map i agrees))
       ∙ known (next_of link_map) (next_of (with_link_placed link_map i k)) (prev_of link_map i) j (λ q. ((agrees.both q i).1, (agrees.both q i).0)) (prev_named link_map i agrees) valid (ap next_in (put_to link_map j valid)))
 
   -- Each `prev` after both writes.
   known_prev : (j : ℕ) → HasLink link_map j → prev_of both_known (moved_index i k j) ≡ option_map (moved_index i k) (prev_of link_map j)
   known_prev j valid =
-      prev_of-prev_set next_known (option_map (moved_index i k) (next_of link_map i)) (Some k) (moved_index i k j) after_stored
+      prev_of-with_prev_at next_known (option_map (moved_index i k) (next_of link_map i)) (Some k) (moved_index i k j) after_stored
       ∙ known (prev_of link_map) (prev_of next_known) (next_of link_map i) j (agrees.both i) (next_named link_map i agrees) valid
-      (prev_of-next_set (with_link_placed link_map i k) (option_map (moved_index i k) (prev_of link_map i)) (Some k) (moved_index i k j) ∙ ap prev_in (put_to link_map j valid))
+      (prev_of-with_next_at (with_link_placed link_map i k) (option_map (moved_index i k) (prev_of link_map i)) (Some k) (moved_index i k j) ∙ ap prev_in (put_to link_map j valid))
     where
       after_stored : IsValidAt next_known (option_map (moved_index i k) (next_of link_map i))
       after_stored m e =
-          (HasLink-next_set (with_link_placed link_map i k) (option_map (moved_index i k) (prev_of link_map i)) (Some k) m).1 (neighbor_stored (next_of link_map i) (next_named link_map i agrees) m e)
+          (HasLink-with_next_at (with_link_placed link_map i k) (option_map (moved_index i k) (prev_of link_map i)) (Some k) m).1 (neighbor_stored (next_of link_map i) (next_named link_map i agrees) m e)
 
   -- Both writes leave each link as the move does.
   known_reports : (j : ℕ) → HasLink link_map j → both_known (moved_index i k j) ≡ with_link_moved link_map i k (moved_index i k j)

@@ -5,7 +5,7 @@ use Rattle.std.proofs.Common.{sym, refl, ap, ap₂, ◌∙◌, subst, inl, inr, 
 use mathlib.Core.List.{reverse_aux}
 use Rattle.chain_laws.specs.Chains.{LinkMap, Interlinks, Chain, linear, cyclic, items, IsChain, HasLink, HasLinksWithin, IsWellLinked, IsMember, prev_in, next_in, prev_of, next_of, first_or, last_or}
 use Rattle.chain_laws.specs.Removals.{with_removal, without_link}
-use Rattle.chain_laws.specs.Walks.{IsWalk, there_and_back, once_around, walk_ahead, step_forward, rest_start_of, walk_from, removed_each, RemovalLeavesTheWalk, TakesWalk, WalkIsTaken}
+use Rattle.chain_laws.specs.Walks.{IsWalk, of_linear, of_cyclic, walk_ahead, step_forward, rest_start_of, walk_from, with_removals, RemovalLeavesTheWalk, TakesWalk, WalkIsTaken}
 use Rattle.chain_laws.proofs.ListLemmas.Members.{IsMember-left, IsMember-filled, IsMember-middle, AreDistinct-right, AreDistinct-apart, last_or-append, last_apart}
 use Rattle.chain_laws.proofs.ChainLemmas.LinkedLists.{link, AreLinked-right, AreLinked-frame}
 use Rattle.chain_laws.proofs.InterlinkLemmas.Inverses.{if_same, one_some, not_both_ways}
@@ -61,26 +61,26 @@ leaves_back link_map i k before chain =
     leaves_from link_map i k (reverse left)
     (rest_back link_map i k (stored ∙ ap (λ (o : Option ℕ). let l : Option Interlinks = Some (link o None) in l) (last_or-append before (k ∷ []) None)) other)
     (ap (λ (zs : List ℕ). first_or zs None) (last_reversed before k []))
-    (subst (λ (zs : List ℕ). IsWalk (with_removal link_map i) k zs) (sym (last_reversed before k [])) (there_and_back before [] shorter))
+    (subst (λ (zs : List ℕ). IsWalk (with_removal link_map i) k zs) (sym (last_reversed before k [])) (of_linear before [] shorter))
 
 -- Without its first link, a walk goes on.
 leaves : (link_map : LinkMap) (i : ℕ) (walk : List ℕ) → IsWalk link_map i walk → LeavesWalk link_map i (rest_of walk)
-leaves link_map i _ (there_and_back [] [] chain) = record { first = sym (rest_by link_map i None None chain.2.0); walk = λ k e. absurd (cc) }
-leaves link_map i _ (there_and_back (x ∷ xs) [] chain) =
+leaves link_map i _ (of_linear [] [] chain) = record { first = sym (rest_by link_map i None None chain.2.0); walk = λ k e. absurd (cc) }
+leaves link_map i _ (of_linear (x ∷ xs) [] chain) =
     let l = last_apart x xs in
     subst (λ (zs : List ℕ). LeavesWalk link_map i (reverse zs)) (sym l.2) (leaves_back link_map i l.1 l.0 (subst (λ (zs : List ℕ). IsChain link_map (linear (zs ++ i ∷ []))) l.2 chain))
-leaves link_map i _ (there_and_back before (k ∷ ks) chain) =
+leaves link_map i _ (of_linear before (k ∷ ks) chain) =
     let stored = AreLinked-right link_map None before (i ∷ k ∷ ks) None chain.2 in
     let once = AreDistinct-right before (i ∷ k ∷ ks) chain.1 in
     leaves_from link_map i k (k ∷ ks ++ reverse before) (rest_forth link_map i k (last_or before None) stored.0 (λ e. once.0 (inl e))) refl
-    (there_and_back before ks (removed_from_linear link_map i before (k ∷ ks) chain (IsMember-filled (before ++ k ∷ ks) k (IsMember-middle before ks k))))
-leaves link_map i _ (once_around [] chain) = record {
+    (of_linear before ks (removed_from_linear link_map i before (k ∷ ks) chain (IsMember-filled (before ++ k ∷ ks) k (IsMember-middle before ks k))))
+leaves link_map i _ (of_cyclic [] chain) = record {
   first = sym (rest_by link_map i (Some i) (Some i) chain.2.0 ∙ ap₂ (λ (o p : Option ℕ). option_or o p) (if_same i i None (Some i) refl) (if_same i i None (Some i) refl));
   walk = λ k e. absurd (cc);
 }
-leaves link_map i _ (once_around (k ∷ ks) chain) =
+leaves link_map i _ (of_cyclic (k ∷ ks) chain) =
     leaves_from link_map i k (k ∷ ks) (rest_forth link_map i k (last_or (k ∷ ks) None) chain.2.0 (λ e. chain.1.0 (inl e))) refl
-    (once_around ks (removed_first_of_cyclic link_map i (k ∷ ks) chain (λ e. cc)))
+    (of_cyclic ks (removed_first_of_cyclic link_map i (k ∷ ks) chain (λ e. cc)))
 
 pub removal_leaves_the_walk : RemovalLeavesTheWalk
 removal_leaves_the_walk link_map i rest walk =
@@ -104,14 +104,14 @@ record EmptiesWalk (old new : LinkMap) (walk : List ℕ) : Type 0 where
   rest : (j : ℕ) → (IsMember walk j → ⊥) → new j ≡ old j
 
 -- The links of a walk after its first are removed.
-empties_after : (link_map : LinkMap) (i k : ℕ) (rest : List ℕ) → IsWalk link_map i (i ∷ k ∷ rest) → EmptiesWalk (with_removal link_map i) (removed_each (with_removal link_map i) (k ∷ rest)) (k ∷ rest)
-    → EmptiesWalk link_map (removed_each link_map (i ∷ k ∷ rest)) (i ∷ k ∷ rest)
+empties_after : (link_map : LinkMap) (i k : ℕ) (rest : List ℕ) → IsWalk link_map i (i ∷ k ∷ rest) → EmptiesWalk (with_removal link_map i) (with_removals (with_removal link_map i) (k ∷ rest)) (k ∷ rest)
+    → EmptiesWalk link_map (with_removals link_map (i ∷ k ∷ rest)) (i ∷ k ∷ rest)
 empties_after link_map i k rest walk after = record {
   gone = λ j h. ⊎_elim (λ (e : i ≡ j). after.rest j (λ g. (walk_once link_map i (i ∷ k ∷ rest) walk).0 (subst (IsMember (k ∷ rest)) (sym e) g)) ∙ subst (λ (n : ℕ). with_removal link_map i n ≡ None) e (removed-at link_map i)) (after.gone j) h;
   rest = λ j none. after.rest j (λ h. none (inr h)) ∙ reports_rest link_map i (i ∷ k ∷ rest) walk j none;
 }
 
-empties : (link_map : LinkMap) (i : ℕ) (rest : List ℕ) → IsWalk link_map i (i ∷ rest) → EmptiesWalk link_map (removed_each link_map (i ∷ rest)) (i ∷ rest)
+empties : (link_map : LinkMap) (i : ℕ) (rest : List ℕ) → IsWalk link_map i (i ∷ rest) → EmptiesWalk link_map (with_removals link_map (i ∷ rest)) (i ∷ rest)
 empties link_map i [] walk = record {
   gone = λ j h. ⊎_elim (λ (e : i ≡ j). subst (λ (n : ℕ). with_removal link_map i n ≡ None) e (removed-at link_map i)) (λ n. absurd n) h;
   rest = reports_rest link_map i (i ∷ []) walk;
@@ -125,8 +125,8 @@ same_chain old new (cyclic xs) same c = (c.0, c.1, AreLinked-frame old new (last
 
 -- A walk begins with its link.
 walk_written : (link_map : LinkMap) (i : ℕ) (walk : List ℕ) → IsWalk link_map i walk → walk ≡ i ∷ rest_of walk
-walk_written link_map i _ (there_and_back before after chain) = refl
-walk_written link_map i _ (once_around after chain) = refl
+walk_written link_map i _ (of_linear before after chain) = refl
+walk_written link_map i _ (of_cyclic after chain) = refl
 
 taken : (old new : LinkMap) (walk : List ℕ) → EmptiesWalk old new walk → TakesWalk old new walk
 taken old new walk each = record {
@@ -142,8 +142,8 @@ taken old new walk each = record {
 pub walk_is_taken : WalkIsTaken
 walk_is_taken link_map i walk is_walk =
     let e = walk_written link_map i walk is_walk in
-    taken link_map (removed_each link_map walk) walk
-    (subst (λ (w : List ℕ). EmptiesWalk link_map (removed_each link_map w) w) (sym e) (empties link_map i (rest_of walk) (subst (IsWalk link_map i) e is_walk)))
+    taken link_map (with_removals link_map walk) walk
+    (subst (λ (w : List ℕ). EmptiesWalk link_map (with_removals link_map w) w) (sym e) (empties link_map i (rest_of walk) (subst (IsWalk link_map i) e is_walk)))
 
 -- The walk of a valid link.
 pub walk_from-walk : (slots : ℕ) (link_map : LinkMap) (i : ℕ) → IsWellLinked link_map → HasLinksWithin link_map slots → HasLink link_map i → IsWalk link_map i (walk_from slots link_map (Some i))

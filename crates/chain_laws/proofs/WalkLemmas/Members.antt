@@ -3,7 +3,7 @@ use Rattle.std.specs.Prelude.{◌↔◌, ℕ, ◌≤◌, ◌⊎◌, List, [], �
 use Rattle.std.proofs.Common.{sym, refl, subst, inl, inr, ⊎_elim}
 use mathlib.Core.List.{reverse_aux}
 use Rattle.chain_laws.specs.Chains.{LinkMap, Chain, linear, cyclic, items, IsChain, HasLink, HasLinksWithin, IsWellLinked, IsMember, AreDistinct}
-use Rattle.chain_laws.specs.Walks.{IsWalk, there_and_back, once_around, WalksAhead, PassesTheChain}
+use Rattle.chain_laws.specs.Walks.{IsWalk, of_linear, of_cyclic, WalksAhead, PassesTheChain}
 use Rattle.chain_laws.proofs.ListLemmas.Members.{IsMember-left, IsMember-right, IsMember-parts, IsMember-written, AreDistinct-left, AreDistinct-right, AreDistinct-apart, AreDistinct-append, length_bound}
 use Rattle.chain_laws.proofs.ChainLemmas.Uniqueness.{chain_valid, chains_share}
 use Rattle.chain_laws.proofs.ChainLemmas.Rotations.{rotated_to}
@@ -43,27 +43,27 @@ IsMember-back xs y h = ⊎_elim (λ k. k) (λ n. absurd n) ((IsMember-reversed x
 
 -- A walk begins at its link.
 pub walk_starts : (link_map : LinkMap) (i : ℕ) (walk : List ℕ) → IsWalk link_map i walk → IsMember walk i
-walk_starts link_map i _ (there_and_back before after chain) = inl refl
-walk_starts link_map i _ (once_around after chain) = inl refl
+walk_starts link_map i _ (of_linear before after chain) = inl refl
+walk_starts link_map i _ (of_cyclic after chain) = inl refl
 
 -- A walk has each link at most once.
 pub walk_once : (link_map : LinkMap) (i : ℕ) (walk : List ℕ) → IsWalk link_map i walk → AreDistinct walk
-walk_once link_map i _ (there_and_back before after chain) =
+walk_once link_map i _ (of_linear before after chain) =
     AreDistinct-append (i ∷ after) (reverse before) (AreDistinct-right before (i ∷ after) chain.1)
     (AreDistinct-reversed before [] (AreDistinct-left before (i ∷ after) chain.1) tt (λ y h n. n))
     (λ y h k. AreDistinct-apart before (i ∷ after) y chain.1 (IsMember-back before y k) h)
-walk_once link_map i _ (once_around after chain) = chain.1
+walk_once link_map i _ (of_cyclic after chain) = chain.1
 
 -- A chain with the members of a walk.
 pub walk_chain : (link_map : LinkMap) (i : ℕ) (walk : List ℕ) → IsWalk link_map i walk → (c : Chain) × IsChain link_map c × ((j : ℕ) → IsMember walk j ↔ IsMember (items c) j)
-walk_chain link_map i _ (there_and_back before after chain) = (linear (before ++ i ∷ after), chain, λ j. (there j, back j))
+walk_chain link_map i _ (of_linear before after chain) = (linear (before ++ i ∷ after), chain, λ j. (there j, back j))
   where
     there : (j : ℕ) → IsMember ((i ∷ after) ++ reverse before) j → IsMember (before ++ i ∷ after) j
     there j h = ⊎_elim (λ k. IsMember-right before (i ∷ after) j k) (λ k. IsMember-left before (i ∷ after) j (IsMember-back before j k)) (IsMember-parts (i ∷ after) (reverse before) j h)
 
     back : (j : ℕ) → IsMember (before ++ i ∷ after) j → IsMember ((i ∷ after) ++ reverse before) j
     back j h = ⊎_elim (λ k. IsMember-right (i ∷ after) (reverse before) j ((IsMember-reversed before [] j).1 (inl k))) (λ k. IsMember-left (i ∷ after) (reverse before) j k) (IsMember-parts before (i ∷ after) j h)
-walk_chain link_map i _ (once_around after chain) = (cyclic (i ∷ after), chain, λ j. (λ h. h, λ h. h))
+walk_chain link_map i _ (of_cyclic after chain) = (cyclic (i ∷ after), chain, λ j. (λ h. h, λ h. h))
 
 -- A walk has the links of its chain and no others.
 pub walk_has : PassesTheChain
@@ -89,10 +89,10 @@ walk_bound link_map slots i walk within is_walk =
 pub walk_of_chain : (link_map : LinkMap) (i : ℕ) (c : Chain) → IsChain link_map c → IsMember (items c) i → (walk : List ℕ) × IsWalk link_map i walk
 walk_of_chain link_map i (linear xs) chain has =
     let w = IsMember-written xs i has in
-    (i ∷ w.1 ++ reverse w.0, there_and_back w.0 w.1 (subst (λ (zs : List ℕ). IsChain link_map (linear zs)) w.2 chain))
+    (i ∷ w.1 ++ reverse w.0, of_linear w.0 w.1 (subst (λ (zs : List ℕ). IsChain link_map (linear zs)) w.2 chain))
 walk_of_chain link_map i (cyclic xs) chain has =
     let t = rotated_to link_map xs i chain has in
-    (i ∷ t.0, once_around t.0 t.1)
+    (i ∷ t.0, of_cyclic t.0 t.1)
 
 -- There is a walk from each valid index.
 pub has_walk : (link_map : LinkMap) (slots i : ℕ) → IsWellLinked link_map → HasLinksWithin link_map slots → HasLink link_map i → (walk : List ℕ) × IsWalk link_map i walk

@@ -1,9 +1,9 @@
 -- The steps of a walker.
 use Rattle.std.proofs.Common.{◌≡◌, ℕ, zero, suc, List, ◌∷◌, Option, None, Some, refl, ap, sym, ◌∙◌, subst, IfSome}
 use Rattle.chain_laws.specs.Chains.{LinkMap, first_or}
-use Rattle.chain_laws.specs.Walks.{Walker, walk_ahead, passes_ahead, next_step, step_of, passed_by, StepsPass}
+use Rattle.chain_laws.specs.Walks.{Walker, walk_ahead, passes_ahead, next_step, step_of, walk_of_step, StepsPass}
 
-steps_from : (link_map : LinkMap) (left start : ℕ) (forth back : Option ℕ) → walk_ahead left link_map start forth back ≡ passed_by link_map (next_step left link_map start forth back)
+steps_from : (link_map : LinkMap) (left start : ℕ) (forth back : Option ℕ) → walk_ahead left link_map start forth back ≡ walk_of_step link_map (next_step left link_map start forth back)
 steps_from link_map zero start forth back = refl
 steps_from link_map (suc left) start (Some j) back = refl
 steps_from link_map (suc left) start None (Some k) = refl
@@ -14,13 +14,13 @@ steps_pass link_map w = steps_from link_map w.left w.start w.forth w.back
 
 -- The links ahead before a step, and after it.
 pub step_ahead : (link_map : LinkMap) (old new : Walker) (i : ℕ) → step_of link_map old ≡ Some (i, new) → passes_ahead link_map old ≡ i ∷ passes_ahead link_map new
-step_ahead link_map old new i is = steps_pass link_map old ∙ ap (passed_by link_map) is
+step_ahead link_map old new i is = steps_pass link_map old ∙ ap (walk_of_step link_map) is
 
 -- The link of the next step is the first link ahead.
 pub first_ahead : (link_map : LinkMap) (w : Walker) (Holds : ℕ → Type 0) → IfSome (step_of link_map w) (λ step. Holds step.0) → (i : ℕ) (rest : List ℕ) → passes_ahead link_map w ≡ i ∷ rest → Holds i
 first_ahead link_map w Holds holds i rest is = by (step_of link_map w) holds (sym (steps_pass link_map w) ∙ is)
   where
-    by : (o : Option (ℕ × Walker)) → IfSome o (λ step. Holds step.0) → passed_by link_map o ≡ i ∷ rest → Holds i
+    by : (o : Option (ℕ × Walker)) → IfSome o (λ step. Holds step.0) → walk_of_step link_map o ≡ i ∷ rest → Holds i
     by None holds same = absurd (let h = same in cc)
     by (Some step) holds same = let first : step.0 ≡ i = let h = ap (λ (l : List ℕ). first_or l None) same in cc in subst Holds first holds
 

@@ -3,7 +3,7 @@ use Rattle.std.specs.Prelude.{◌≡◌, ◌≢◌, ℕ, zero, suc, ◌+◌, ◌
 use Rattle.std.proofs.Common.{sym, refl, ap, ap₂, ◌∙◌, inl, inr, arith}
 use mathlib.Core.List.{reverse_aux}
 use Rattle.chain_laws.specs.Chains.{LinkMap, IsMember, AreLinked, prev_in, next_in, prev_of, first_or, last_or}
-use Rattle.chain_laws.specs.Walks.{IsWalk, there_and_back, once_around, walk_ahead, step_forward, step_back, HasNoOtherWalk}
+use Rattle.chain_laws.specs.Walks.{IsWalk, of_linear, of_cyclic, walk_ahead, step_forward, step_back, HasNoOtherWalk}
 use Rattle.chain_laws.proofs.ListLemmas.Members.{AreDistinct-right}
 use Rattle.chain_laws.proofs.ChainLemmas.LinkedLists.{AreLinked-left, AreLinked-right}
 use Rattle.chain_laws.proofs.InterlinkLemmas.Inverses.{if_same, if_other}
@@ -74,13 +74,13 @@ passes_cyclic (suc left) link_map start before back y (k ∷ ks) stored none eno
 
 -- With enough steps a walker passes any walk from its first link.
 pub walk_passed : (left : ℕ) (link_map : LinkMap) (i : ℕ) (walk : List ℕ) → IsWalk link_map i walk → length walk ≤ left → walk_ahead left link_map i (Some i) (prev_of link_map i) ≡ walk
-walk_passed left link_map i _ (there_and_back before after chain) enough =
+walk_passed left link_map i _ (of_linear before after chain) enough =
     let stored = AreLinked-right link_map None before (i ∷ after) None chain.2 in
     let once = AreDistinct-right before (i ∷ after) chain.1 in
     let home = StepsBack-reversed link_map before [] (Some i) (AreLinked-left link_map None before (i ∷ after) None chain.2) tt in
     ap (λ (o : Option ℕ). walk_ahead left link_map i (Some i) o) (ap prev_in stored.0 ∙ sym (first_or-reversed before []))
     ∙ passes_on left link_map i (last_or before None) i after (reverse before) stored once.0 home enough
-walk_passed left link_map i _ (once_around after chain) enough =
+walk_passed left link_map i _ (of_cyclic after chain) enough =
     passes_cyclic left link_map i (last_or after (Some i)) (prev_of link_map i) i after chain.2 chain.1.0 enough
 
 -- There is one walk from a link.

@@ -2,7 +2,7 @@
 use Rattle.std.specs.Prelude.{◌≡◌, None, Some}
 use Rattle.std.proofs.Common.{refl}
 use Rattle.chain_laws.specs.Chains.{LinkMap}
-use Rattle.chain_laws.specs.Joins.{prev_set, next_set, with_join, with_lone}
+use Rattle.chain_laws.specs.Joins.{with_prev_at, with_next_at, with_join, with_lone}
 use Rattle.chain_laws.specs.Cuts.{without_pair}
 use Rattle.chain_laws.proofs.ChainLemmas.LinkedLists.{link}
 
@@ -23,7 +23,7 @@ abbrev ring : LinkMap
 ring = with_join three 3 1
 
 -- A cut is two writes.
-cut_in_two_writes : (link_map : LinkMap) → without_pair link_map 1 2 ≡ prev_set (next_set link_map (Some 1) None) (Some 2) None
+cut_in_two_writes : (link_map : LinkMap) → without_pair link_map 1 2 ≡ with_prev_at (with_next_at link_map (Some 1) None) (Some 2) None
 cut_in_two_writes link_map = refl
 
 -- A linear chain cut after its start.

@@ -2,7 +2,7 @@
 use Rattle.std.specs.Prelude.{◌≡◌, ℕ, List, [], ◌∷◌, None, Some}
 use Rattle.std.proofs.Common.{refl}
 use Rattle.chain_laws.specs.Chains.{LinkMap, AreLinked, first_or, last_or, next_of}
-use Rattle.chain_laws.specs.Joins.{prev_set, next_set, with_join, with_lone}
+use Rattle.chain_laws.specs.Joins.{with_prev_at, with_next_at, with_join, with_lone}
 use Rattle.chain_laws.specs.Exchanges.{with_exchange}
 use Rattle.chain_laws.proofs.ChainLemmas.LinkedLists.{link}
 
@@ -53,7 +53,7 @@ StoredInRing link_map xs = AreLinked link_map (last_or xs None) xs (first_or xs 
 -- An exchange is four writes.
 exchanged_in_four_writes : (link_map : LinkMap) (p q : ℕ)
     → with_exchange link_map p q
-    ≡ prev_set (next_set (prev_set (next_set link_map (Some p) (next_of link_map q)) (next_of link_map q) (Some p)) (Some q) (next_of link_map p)) (next_of link_map p) (Some q)
+    ≡ with_prev_at (with_next_at (with_prev_at (with_next_at link_map (Some p) (next_of link_map q)) (next_of link_map q) (Some p)) (Some q) (next_of link_map p)) (next_of link_map p) (Some q)
 exchanged_in_four_writes link_map p q = refl
 
 -- Two links of a cyclic chain: it splits, and the same exchange again restores it.

@@ -2,7 +2,7 @@
 use Rattle.std.specs.Prelude.{◌≡◌, None, Some}
 use Rattle.std.proofs.Common.{refl}
 use Rattle.chain_laws.specs.Chains.{LinkMap}
-use Rattle.chain_laws.specs.Joins.{prev_set, next_set, with_join, with_lone}
+use Rattle.chain_laws.specs.Joins.{with_prev_at, with_next_at, with_join, with_lone}
 use Rattle.chain_laws.specs.Removals.{with_removal}
 use Rattle.chain_laws.specs.Insertions.{disconnected, single_link_cyclic, chain_end, chain_start, next_to, prev_to, at_interlink, bridge, with_insertion, with_insertion_as}
 use Rattle.chain_laws.proofs.ChainLemmas.LinkedLists.{link}
@@ -38,7 +38,7 @@ ring_of_one = with_join lone 2 2
 -- An insertion is a lone link and four writes.
 inserted_in_four_writes : (link_map : LinkMap)
     → with_insertion link_map 7 (Some 1) (Some 2)
-    ≡ prev_set (next_set (prev_set (next_set (with_lone link_map 7) (Some 1) (Some 7)) (Some 7) (Some 1)) (Some 7) (Some 2)) (Some 2) (Some 7)
+    ≡ with_prev_at (with_next_at (with_prev_at (with_next_at (with_lone link_map 7) (Some 1) (Some 7)) (Some 7) (Some 1)) (Some 7) (Some 2)) (Some 2) (Some 7)
 inserted_in_four_writes link_map = refl
 
 -- A new lone link.

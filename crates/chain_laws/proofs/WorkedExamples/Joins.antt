@@ -3,7 +3,7 @@ use Rattle.std.specs.Prelude.{◌≡◌, [], ◌∷◌, None, Some}
 use Rattle.std.proofs.Common.{refl, inl, inr, arith}
 use Rattle.chain_laws.specs.Chains.{LinkMap, IsChain, linear, cyclic, prev_of}
 use Rattle.chain_laws.specs.Joins.{with_join, with_neighbors, with_lone}
-use Rattle.chain_laws.specs.Walks.{IsWalk, there_and_back, once_around, walk_ahead}
+use Rattle.chain_laws.specs.Walks.{IsWalk, of_linear, of_cyclic, walk_ahead}
 use Rattle.chain_laws.proofs.ChainLemmas.LinkedLists.{link, first_no_repetition}
 
 -- The empty arena.
@@ -94,10 +94,10 @@ walker_in_a_cycle_of_one = refl
 
 -- Walks in linear and cyclic chains.
 walk_from_second : (link_map : LinkMap) → IsChain link_map (linear (4 ∷ 2 ∷ 9 ∷ 7 ∷ [])) → IsWalk link_map 2 (2 ∷ 9 ∷ 7 ∷ 4 ∷ [])
-walk_from_second link_map chain = there_and_back (4 ∷ []) (9 ∷ 7 ∷ []) chain
+walk_from_second link_map chain = of_linear (4 ∷ []) (9 ∷ 7 ∷ []) chain
 
 walk_from_end : (link_map : LinkMap) → IsChain link_map (linear (4 ∷ 2 ∷ 9 ∷ 7 ∷ [])) → IsWalk link_map 7 (7 ∷ 9 ∷ 2 ∷ 4 ∷ [])
-walk_from_end link_map chain = there_and_back (4 ∷ 2 ∷ 9 ∷ []) [] chain
+walk_from_end link_map chain = of_linear (4 ∷ 2 ∷ 9 ∷ []) [] chain
 
 walk_in_a_cycle : (link_map : LinkMap) → IsChain link_map (cyclic (2 ∷ 3 ∷ 1 ∷ [])) → IsWalk link_map 2 (2 ∷ 3 ∷ 1 ∷ [])
-walk_in_a_cycle link_map chain = once_around (3 ∷ 1 ∷ []) chain
+walk_in_a_cycle link_map chain = of_cyclic (3 ∷ 1 ∷ []) chain

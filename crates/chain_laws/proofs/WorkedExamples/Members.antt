@@ -3,7 +3,7 @@ use Rattle.std.specs.Prelude.{◌≡◌, [], ◌∷◌, None, Some}
 use Rattle.std.proofs.Common.{refl, ap, inl, inr, arith}
 use Rattle.chain_laws.specs.Chains.{LinkMap, IsChain, linear, cyclic, IsMember, next_in, next_of}
 use Rattle.chain_laws.specs.Neighbors.{AreNeighbors}
-use Rattle.chain_laws.specs.Joins.{with_join, next_set, with_lone}
+use Rattle.chain_laws.specs.Joins.{with_join, with_next_at, with_lone}
 use Rattle.chain_laws.specs.Cuts.{without_pair}
 use Rattle.chain_laws.specs.Removals.{with_removal}
 use Rattle.chain_laws.specs.Insertions.{with_insertion_as, next_to}
@@ -21,7 +21,7 @@ pair = with_join two_lone 1 2
 
 -- 1 names 2 as next, but 2 names nothing as prev.
 abbrev torn : LinkMap
-torn = next_set two_lone (Some 1) (Some 2)
+torn = with_next_at two_lone (Some 1) (Some 2)
 
 pair_is_a_chain : IsChain pair (linear (1 ∷ 2 ∷ []))
 pair_is_a_chain = (λ e. cc, first_no_repetition pair (1 ∷ 2 ∷ []) None (refl, (refl, tt)), (refl, (refl, tt)))

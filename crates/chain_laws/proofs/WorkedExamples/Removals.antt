@@ -2,7 +2,7 @@
 use Rattle.std.specs.Prelude.{◌≡◌, ℕ, [], ◌∷◌, Option, None, Some}
 use Rattle.std.proofs.Common.{refl}
 use Rattle.chain_laws.specs.Chains.{LinkMap, linear, cyclic}
-use Rattle.chain_laws.specs.Joins.{prev_set, next_set, with_neighbors, with_join, with_lone}
+use Rattle.chain_laws.specs.Joins.{with_prev_at, with_next_at, with_neighbors, with_join, with_lone}
 use Rattle.chain_laws.specs.Removals.{without_link, with_removal, list_without, chain_without}
 use Rattle.chain_laws.proofs.ChainLemmas.LinkedLists.{link}
 
@@ -31,7 +31,7 @@ abbrev ring_of_one : LinkMap
 ring_of_one = with_join lone 2 2
 
 -- The two writes of a removal are one `linked`.
-linked_in_two_writes : (link_map : LinkMap) (q : ℕ) (u v : Option ℕ) → prev_set (next_set (without_link link_map q) u v) v u ≡ with_neighbors (without_link link_map q) u v
+linked_in_two_writes : (link_map : LinkMap) (q : ℕ) (u v : Option ℕ) → with_prev_at (with_next_at (without_link link_map q) u v) v u ≡ with_neighbors (without_link link_map q) u v
 linked_in_two_writes link_map q u v = refl
 
 -- Removing the middle of a chain.

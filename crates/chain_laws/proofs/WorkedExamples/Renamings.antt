@@ -4,7 +4,7 @@ use Rattle.std.specs.Option.{option_map}
 use Rattle.std.specs.List.{range_with_len}
 use Rattle.std.proofs.Common.{refl}
 use Rattle.chain_laws.specs.Chains.{LinkMap, linear, cyclic, all_items, prev_of, next_of}
-use Rattle.chain_laws.specs.Joins.{prev_set, next_set, with_join, with_lone}
+use Rattle.chain_laws.specs.Joins.{with_prev_at, with_next_at, with_join, with_lone}
 use Rattle.chain_laws.specs.Arrangements.{place_in, in_runs}
 use Rattle.chain_laws.specs.Moves.{moved_index, with_link_moved, with_link_placed, gathered_place}
 use Rattle.chain_laws.proofs.ChainLemmas.LinkedLists.{link}
@@ -77,7 +77,7 @@ ring_leaves = refl
 ring_put : with_link_placed ring_of_one 2 1 1 ≡ Some (link (Some 2) (Some 2))
 ring_put = refl
 
-ring_known : prev_set (next_set (with_link_placed ring_of_one 2 1) (option_map (moved_index 2 1) (prev_of ring_of_one 2)) (Some 1)) (option_map (moved_index 2 1) (next_of ring_of_one 2)) (Some 1) 1
+ring_known : with_prev_at (with_next_at (with_link_placed ring_of_one 2 1) (option_map (moved_index 2 1) (prev_of ring_of_one 2)) (Some 1)) (option_map (moved_index 2 1) (next_of ring_of_one 2)) (Some 1) 1
     ≡ Some (link (Some 1) (Some 1))
 ring_known = refl
 
@@ -91,7 +91,7 @@ end_names = refl
 start_leaves : with_link_moved pair 3 2 3 ≡ None
 start_leaves = refl
 
-end_known : prev_set (next_set (with_link_placed pair 3 2) (option_map (moved_index 3 2) (prev_of pair 3)) (Some 2)) (option_map (moved_index 3 2) (next_of pair 3)) (Some 2) 4
+end_known : with_prev_at (with_next_at (with_link_placed pair 3 2) (option_map (moved_index 3 2) (prev_of pair 3)) (Some 2)) (option_map (moved_index 3 2) (next_of pair 3)) (Some 2) 4
     ≡ Some (link (Some 2) None)
 end_known = refl
 

@@ -104,8 +104,8 @@ fn rearrange<P: PtrKey, A: ChainArenaTrait<P, u32> + Drop>(
     q: P,
 ) -> bool {
     match edit {
-        Edit::PartAfter(_) => texts.part_after(p).is_some(),
-        Edit::PartBefore(_) => texts.part_before(p).is_some(),
+        Edit::PartAfter(_) => texts.split_after(p).is_some(),
+        Edit::PartBefore(_) => texts.split_before(p).is_some(),
         Edit::Join(..) => texts.join(p, q).is_some(),
         Edit::Move(..) => texts.move_after(p, q).is_some(),
         _ => texts.remove(p).is_some(),

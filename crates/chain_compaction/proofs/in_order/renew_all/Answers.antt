@@ -34,8 +34,8 @@ loop-k-preserved g c =
     let now = c.loop-k.compactor in
     let read = c.read_link-was.new.compactor in
     let placed = c.place.new.self in
-    let new = c.direct_at.new.compactor in
-    let emptied = c.direct_at.ensures in
+    let new = c.set_destination_at.new.compactor in
+    let emptied = c.set_destination_at.ensures in
     let i = g.P.Inx.InxKey.number c.inx_at-i.result in
     record {
       ready = c.visit.ensures.ready;

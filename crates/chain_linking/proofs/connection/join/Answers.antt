@@ -2,7 +2,7 @@
 use Rattle.std.proofs.Common.{◌≡◌, ℕ, Some, None, ap, ap₂, ◌∙◌, sym, refl, subst}
 use Rattle.std.proofs.lemmas.Bool.{false≢true}
 use Rattle.chain_laws.specs.Chains.{HasLink}
-use Rattle.chain_laws.specs.Joins.{next_set, prev_set}
+use Rattle.chain_laws.specs.Joins.{with_next_at, with_prev_at}
 use Rattle.chain_links.specs.Links.{links_view}
 use Rattle.arena_base.specs.Arena.{Arena}
 use Rattle.chain_links.specs.ChainArena.{LinkView, with_link_map, link_map}
@@ -11,8 +11,8 @@ use Rattle.chain_linking.proofs.NeighborLemmas.{valid_link}
 use Rattle.chain_linking.proofs.LinkWriteLemmas.{linked_by_writes}
 use Rattle.chain_linking.proofs.connection.join.Goals as goal
 
-named : {Gen T : Type 0} (a b : Arena Gen (LinkView T)) {i j u v : ℕ} → b ≡ with_link_map a (next_set (link_map a) (Some i) (Some j)) → i ≡ u → j ≡ v → b ≡ with_link_map a (next_set (link_map a) (Some u) (Some v))
-named a b is first second = is ∙ ap₂ (λ (x y : ℕ). with_link_map a (next_set (link_map a) (Some x) (Some y))) first second
+named : {Gen T : Type 0} (a b : Arena Gen (LinkView T)) {i j u v : ℕ} → b ≡ with_link_map a (with_next_at (link_map a) (Some i) (Some j)) → i ≡ u → j ≡ v → b ≡ with_link_map a (with_next_at (link_map a) (Some u) (Some v))
+named a b is first second = is ∙ ap₂ (λ (x y : ℕ). with_link_map a (with_next_at (link_map a) (Some x) (Some y))) first second
 
 pub set_next-requires : goal.set_next-requires
 set_next-requires g c =
@@ -34,10 +34,10 @@ pub returns-then-not-is_start-clause-none : goal.returns-then-not-is_start-claus
 returns-then-not-is_start-clause-none g c =
     let a = links_view g.P.Inx.InxKey.packed_number c.args.arena.now in
     let b = links_view g.P.Inx.InxKey.packed_number c.set_next.new.arena in
-    let d = links_view g.P.Inx.InxKey.packed_number c.take_back.new.arena in
+    let d = links_view g.P.Inx.InxKey.packed_number c.clear_next.new.arena in
     let end = c.is_end.ensures.0 c.if-not-is_end.false in
-    let back : d ≡ with_link_map b (next_set (link_map b) (Some (g.P.PtrKey.key c.args.p).0) None) =
-    c.take_back.ensures ∙ ap (λ (i : ℕ). with_link_map b (next_set (link_map b) (Some i) None)) c.inx-i.ensures in
+    let back : d ≡ with_link_map b (with_next_at (link_map b) (Some (g.P.PtrKey.key c.args.p).0) None) =
+    c.clear_next.ensures ∙ ap (λ (i : ℕ). with_link_map b (with_next_at (link_map b) (Some i) None)) c.inx-i.ensures in
     taken_back a b (g.P.PtrKey.key c.args.p) (g.P.PtrKey.key c.args.q) (named _ _ c.set_next.ensures c.inx-i.ensures c.inx-j.ensures) d end.end back
 
 pub returns-clause-some : goal.returns-clause-some
@@ -52,6 +52,6 @@ returns-clause-joined g c =
     let d = links_view g.P.Inx.InxKey.packed_number c.set_prev.new.arena in
     let p = (g.P.PtrKey.key c.args.p).0 in
     let q = (g.P.PtrKey.key c.args.q).0 in
-    let second : d ≡ with_link_map b (prev_set (link_map b) (Some q) (Some p)) =
-    c.set_prev.ensures ∙ ap₂ (λ (i j : ℕ). with_link_map b (prev_set (link_map b) (Some j) (Some i))) c.inx-i.ensures c.inx-j.ensures in
+    let second : d ≡ with_link_map b (with_prev_at (link_map b) (Some q) (Some p)) =
+    c.set_prev.ensures ∙ ap₂ (λ (i j : ℕ). with_link_map b (with_prev_at (link_map b) (Some j) (Some i))) c.inx-i.ensures c.inx-j.ensures in
     linked_by_writes a b d (Some p) (Some q) (named _ _ c.set_next.ensures c.inx-i.ensures c.inx-j.ensures) second

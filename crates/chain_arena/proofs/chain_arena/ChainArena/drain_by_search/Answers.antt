@@ -3,7 +3,7 @@ use Rattle.std.proofs.Common.{◌≡◌, ℕ, ap, sym, ◌∙◌, subst, arith}
 use Rattle.std.specs.Option.{option_map}
 use Rattle.arena_ptr.specs.Invalidation.{value_within}
 use Rattle.arena_base.specs.Arena.{entry_at}
-use Rattle.arena_base.specs.Entries.{entry_removed}
+use Rattle.arena_base.specs.Entries.{view_after_removal}
 use Rattle.chain_links.specs.ChainArena.{value_view, values_of, remove_link}
 use Rattle.chain_arena.proofs.ChainDrainLemmas.{nonzero_index-is}
 use Rattle.chain_arena.proofs.LinkRemovalLemmas.{value_alone_known, viewed_at, removal_at}
@@ -38,7 +38,7 @@ returns-in-Some-entry-clause-some g c =
     drained_first key following wraps a b c.args.at c.saturating_add-behind.result p c.in-Some.ensures (option_map (λ e. e.1.t) v)
     (value_alone_known packed following a b _ v made.returned ∙ ap (λ (n : ℕ). option_map (λ e. e.1) (entry_at (values_of a) n)) c.inx.ensures)
     c.in-Some-entry.link.t c.overflowing-entry.result.1 c.with_overflow.result
-    (viewed_at packed following a b _ v made.returned made.removal (key p) c.inx.ensures valid ∙ ap (entry_removed following (value_view a)) c.inx.ensures)
+    (viewed_at packed following a b _ v made.returned made.removal (key p) c.inx.ensures valid ∙ ap (view_after_removal following (value_view a)) c.inx.ensures)
     ((removal_at packed following a b _ v made.returned made.removal (key p) c.inx.ensures valid).state ∙ ap (remove_link following a) c.inx.ensures)
     (ap (option_map (λ e. e.1.t)) has)
     (ap (λ x. x.1) c.overflowing-entry.ensures ∙ overflow_known (wraps a.counter) c.unlink.result _ made.overflow has)

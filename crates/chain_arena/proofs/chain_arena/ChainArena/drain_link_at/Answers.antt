@@ -3,7 +3,7 @@ use Rattle.std.proofs.Common.{◌≡◌, ℕ, Option, Some, ap, sym, ◌∙◌, 
 use Rattle.std.specs.Option.{option_map}
 use Rattle.arena_ptr.specs.Invalidation.{value_within, invalidation_option}
 use Rattle.arena_base.specs.Arena.{entry_at}
-use Rattle.arena_base.specs.Entries.{entry_removed}
+use Rattle.arena_base.specs.Entries.{view_after_removal}
 use Rattle.chain_links.specs.ChainArena.{entry, value_view, values_of, remove_link}
 use Rattle.chain_arena.proofs.LinkRemovalLemmas.{value_known, value_alone_known, viewed_at, removal_at}
 use Rattle.chain_arena.proofs.LinkDrainLemmas.{drained_first, first_valid, stored_first, overflow_known, IsBehind, is_behind}
@@ -35,7 +35,7 @@ returns-in-Some-clause-some g c =
     drained_first key following wraps a b c.args.at c.saturating_add.result p first (option_map (λ e. e.1.t) v)
     (value_alone_known packed following a b _ v made.returned ∙ ap (λ (n : ℕ). option_map (λ e. e.1) (entry_at (values_of a) n)) named)
     t c.overflowing-entry.result.1 c.with_overflow.result
-    (viewed_at packed following a b _ v made.returned made.removal (key p) named valid ∙ ap (entry_removed following (value_view a)) named)
+    (viewed_at packed following a b _ v made.returned made.removal (key p) named valid ∙ ap (view_after_removal following (value_view a)) named)
     ((removal_at packed following a b _ v made.returned made.removal (key p) named valid).state ∙ ap (remove_link following a) named)
     (ap (option_map (λ e. e.1.t)) has)
     (ap (λ x. x.1) c.overflowing-entry.ensures ∙ overflow_known (wraps a.counter) c.unlink.result _ made.overflow has)

@@ -4,24 +4,24 @@ use Rattle.chain_links.specs.Links.{links_view}
 use Rattle.chain_arena.proofs.LinkRemovalLemmas.{agreed_after, removal_of}
 use Rattle.chain_arena.proofs.chain_arena.ChainArena.unlink.Goals as goal
 
-pub take_out-requires : goal.take_out-requires
-take_out-requires g c = c.self.invariant
+pub remove_link_at-requires : goal.remove_link_at-requires
+remove_link_at-requires g c = c.self.invariant
 
 pub invariant_of-self : goal.invariant_of-self
 invariant_of-self g c =
     let packed = g.P.Inx.InxKey.packed_number in
-    let made = c.take_out.ensures in
-    agreed_after g.P.Gen.GenKey.following (links_view packed c.self.inside.arena) (links_view packed c.take_out.new.arena) _ _ made.valid (λ none. ap (links_view packed) (made.invalid none)) c.self.invariant
+    let made = c.remove_link_at.ensures in
+    agreed_after g.P.Gen.GenKey.following (links_view packed c.self.inside.arena) (links_view packed c.remove_link_at.new.arena) _ _ made.valid (λ none. ap (links_view packed) (made.invalid none)) c.self.invariant
 
 pub returns : goal.returns
 returns g c =
     let packed = g.P.Inx.InxKey.packed_number in
     let a = c.self.inside.arena in
-    let made = c.take_out.ensures in
+    let made = c.remove_link_at.ensures in
     rw (← c.self.view_is) (record {
       returned = made.returned;
       overflow = made.overflow;
-      removal = λ some. removal_of g.P.Gen.GenKey.following (links_view packed a) (links_view packed c.take_out.new.arena) (g.P.Inx.InxKey.number c.args.i) c.self.invariant (made.valid some);
+      removal = λ some. removal_of g.P.Gen.GenKey.following (links_view packed a) (links_view packed c.remove_link_at.new.arena) (g.P.Inx.InxKey.number c.args.i) c.self.invariant (made.valid some);
       invalid = λ none. ap (links_view packed) (made.invalid none);
       agreed = c.self.invariant;
     })

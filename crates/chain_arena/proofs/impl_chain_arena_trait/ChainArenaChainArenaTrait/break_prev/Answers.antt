@@ -12,29 +12,29 @@ use Rattle.chain_links.specs.Links.{links_view}
 use Rattle.chain_links.specs.ChainArena.{LinkView, with_link_map, link_map}
 use Rattle.chain_arena.proofs.BreakAndExchangeLemmas.{at_known, cut_values, cut_reports, agrees_cut, cut_known}
 use Rattle.chain_arena.proofs.impl_chain_arena_trait.ChainArenaChainArenaTrait.break_prev.Given.{Over}
-use Rattle.chain_arena.proofs.impl_chain_arena_trait.ChainArenaChainArenaTrait.break_prev.Goals.{After-link_twice}
+use Rattle.chain_arena.proofs.impl_chain_arena_trait.ChainArenaChainArenaTrait.break_prev.Goals.{After-link_pairs}
 use Rattle.chain_arena.proofs.impl_chain_arena_trait.ChainArenaChainArenaTrait.break_prev.Goals as goal
 
 -- The links before the cut, and after it.
-abbrev links : (g : Over) → After-link_twice g → Arena g.row.P-Gen.Denot (LinkView g.row.T.Denot)
+abbrev links : (g : Over) → After-link_pairs g → Arena g.row.P-Gen.Denot (LinkView g.row.T.Denot)
 links g c = links_view g.P.Inx.InxKey.packed_number c.self.inside.arena
 
-abbrev cut_links : (g : Over) → After-link_twice g → Arena g.row.P-Gen.Denot (LinkView g.row.T.Denot)
-cut_links g c = links_view g.P.Inx.InxKey.packed_number c.link_twice.new.arena
+abbrev cut_links : (g : Over) → After-link_pairs g → Arena g.row.P-Gen.Denot (LinkView g.row.T.Denot)
+cut_links g c = links_view g.P.Inx.InxKey.packed_number c.link_pairs.new.arena
 
 -- The neighbor.
-known : (g : Over) (c : After-link_twice g) → prev_of (link_map (links g c)) (g.P.PtrKey.key c.args.p).0 ≡ Some (g.P.Inx.InxKey.number c.in-Some.before)
+known : (g : Over) (c : After-link_pairs g) → prev_of (link_map (links g c)) (g.P.PtrKey.key c.args.p).0 ≡ Some (g.P.Inx.InxKey.number c.in-Some.before)
 known g c = sym (c.in-Some.ensures.neighbor (c.in-Some.ensures.some refl))
 
-pair : (g : Over) (c : After-link_twice g) → AreNeighbors (link_map (links g c)) (g.P.Inx.InxKey.number c.in-Some.before) (g.P.PtrKey.key c.args.p).0
+pair : (g : Over) (c : After-link_pairs g) → AreNeighbors (link_map (links g c)) (g.P.Inx.InxKey.number c.in-Some.before) (g.P.PtrKey.key c.args.p).0
 pair g c = (c.self.invariant.both (g.P.Inx.InxKey.number c.in-Some.before) (g.P.PtrKey.key c.args.p).0).1 (known g c)
 
 -- The links written are the cut.
-is_cut : (g : Over) (c : After-link_twice g) → cut_links g c ≡ with_link_map (links g c) (without_pair (link_map (links g c)) (g.P.Inx.InxKey.number c.in-Some.before) (g.P.PtrKey.key c.args.p).0)
-is_cut g c = c.link_twice.ensures ∙ ap (λ (i : ℕ). with_link_map (links g c) (without_pair (link_map (links g c)) (g.P.Inx.InxKey.number c.in-Some.before) i)) c.inx.ensures
+is_cut : (g : Over) (c : After-link_pairs g) → cut_links g c ≡ with_link_map (links g c) (without_pair (link_map (links g c)) (g.P.Inx.InxKey.number c.in-Some.before) (g.P.PtrKey.key c.args.p).0)
+is_cut g c = c.link_pairs.ensures ∙ ap (λ (i : ℕ). with_link_map (links g c) (without_pair (link_map (links g c)) (g.P.Inx.InxKey.number c.in-Some.before) i)) c.inx.ensures
 
-pub link_twice-requires : goal.link_twice-requires
-link_twice-requires g c =
+pub link_pairs-requires : goal.link_pairs-requires
+link_pairs-requires g c =
     let s = link_map (links_view g.P.Inx.InxKey.packed_number c.self.inside.arena) in
     let p = (g.P.PtrKey.key c.args.p).0 in
     let before = g.P.Inx.InxKey.number c.in-Some.before in

@@ -12,39 +12,39 @@ use Rattle.chain_links.specs.Links.{links_view}
 use Rattle.chain_links.specs.ChainArena.{LinkView, with_link_map, link_map}
 use Rattle.chain_arena.proofs.BreakAndExchangeLemmas.{exchange_values, exchange_reports, agrees_exchange, exchange_known}
 use Rattle.chain_arena.proofs.impl_chain_arena_trait.ChainArenaChainArenaTrait.exchange_next.Given.{Over}
-use Rattle.chain_arena.proofs.impl_chain_arena_trait.ChainArenaChainArenaTrait.exchange_next.Goals.{After-link_twice}
+use Rattle.chain_arena.proofs.impl_chain_arena_trait.ChainArenaChainArenaTrait.exchange_next.Goals.{After-link_pairs}
 use Rattle.chain_arena.proofs.impl_chain_arena_trait.ChainArenaChainArenaTrait.exchange_next.Goals as goal
 
 -- The links before the exchange, and after it.
-abbrev links : (g : Over) → After-link_twice g → Arena g.row.P-Gen.Denot (LinkView g.row.T.Denot)
+abbrev links : (g : Over) → After-link_pairs g → Arena g.row.P-Gen.Denot (LinkView g.row.T.Denot)
 links g c = links_view g.P.Inx.InxKey.packed_number c.self.inside.arena
 
-abbrev exchanged_links : (g : Over) → After-link_twice g → Arena g.row.P-Gen.Denot (LinkView g.row.T.Denot)
-exchanged_links g c = links_view g.P.Inx.InxKey.packed_number c.link_twice.new.arena
+abbrev exchanged_links : (g : Over) → After-link_pairs g → Arena g.row.P-Gen.Denot (LinkView g.row.T.Denot)
+exchanged_links g c = links_view g.P.Inx.InxKey.packed_number c.link_pairs.new.arena
 
 -- The next links of the two.
-after_p : (g : Over) (c : After-link_twice g) → Some (g.P.Inx.InxKey.number c.in-Some.after_p) ≡ next_of (link_map (links g c)) (g.P.PtrKey.key c.args.p).0
+after_p : (g : Over) (c : After-link_pairs g) → Some (g.P.Inx.InxKey.number c.in-Some.after_p) ≡ next_of (link_map (links g c)) (g.P.PtrKey.key c.args.p).0
 after_p g c = c.in-Some.ensures.neighbor (c.in-Some.ensures.some refl)
 
-after_q : (g : Over) (c : After-link_twice g) → Some (g.P.Inx.InxKey.number c.in-Some-next_of_link.after_q) ≡ next_of (link_map (links g c)) (g.P.PtrKey.key c.args.q).0
+after_q : (g : Over) (c : After-link_pairs g) → Some (g.P.Inx.InxKey.number c.in-Some-next_of_link.after_q) ≡ next_of (link_map (links g c)) (g.P.PtrKey.key c.args.q).0
 after_q g c = c.in-Some-next_of_link.ensures.neighbor (c.in-Some-next_of_link.ensures.some refl)
 
-valid_p : (g : Over) (c : After-link_twice g) → HasLink (link_map (links g c)) (g.P.PtrKey.key c.args.p).0
+valid_p : (g : Over) (c : After-link_pairs g) → HasLink (link_map (links g c)) (g.P.PtrKey.key c.args.p).0
 valid_p g c = next_valid (link_map (links g c)) _ _ (sym (after_p g c))
 
-valid_q : (g : Over) (c : After-link_twice g) → HasLink (link_map (links g c)) (g.P.PtrKey.key c.args.q).0
+valid_q : (g : Over) (c : After-link_pairs g) → HasLink (link_map (links g c)) (g.P.PtrKey.key c.args.q).0
 valid_q g c = next_valid (link_map (links g c)) _ _ (sym (after_q g c))
 
 -- The links written are the exchange.
-is_exchanged : (g : Over) (c : After-link_twice g) → exchanged_links g c ≡ with_link_map (links g c) (with_exchange (link_map (links g c)) (g.P.PtrKey.key c.args.p).0 (g.P.PtrKey.key c.args.q).0)
+is_exchanged : (g : Over) (c : After-link_pairs g) → exchanged_links g c ≡ with_link_map (links g c) (with_exchange (link_map (links g c)) (g.P.PtrKey.key c.args.p).0 (g.P.PtrKey.key c.args.q).0)
 is_exchanged g c =
     let s = links g c in
-    c.link_twice.ensures
+    c.link_pairs.ensures
     ∙ (ap₂ (λ (i j : ℕ). with_link_map s (with_neighbors (with_neighbors (link_map s) (Some i) (Some (g.P.Inx.InxKey.number c.in-Some-next_of_link.after_q))) (Some j) (Some (g.P.Inx.InxKey.number c.in-Some.after_p)))) c.inx-i.ensures c.inx-j.ensures
     ∙ ap₂ (λ (a b : Option ℕ). with_link_map s (with_neighbors (with_neighbors (link_map s) (Some (g.P.PtrKey.key c.args.p).0) b) (Some (g.P.PtrKey.key c.args.q).0) a)) (after_p g c) (after_q g c))
 
-pub link_twice-requires : goal.link_twice-requires
-link_twice-requires g c =
+pub link_pairs-requires : goal.link_pairs-requires
+link_pairs-requires g c =
     let number = g.P.Inx.InxKey.number in
     let s = link_map (links_view g.P.Inx.InxKey.packed_number c.self.inside.arena) in
     let p = (g.P.PtrKey.key c.args.p).0 in

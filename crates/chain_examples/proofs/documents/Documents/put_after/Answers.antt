@@ -4,9 +4,9 @@ use Rattle.chain_examples.proofs.ItemMoveLemmas.{put_after, keeps_put}
 use Rattle.chain_examples.proofs.documents.Documents.put_after.Goals as goal
 
 pub returns-clause-texts : goal.returns-clause-texts
-returns-clause-texts g c = put_after g.A.ArenaTrait.entry g.A.ChainArenaTrait.interlinks c.args.self.now c.part_after.new.self c.join.new.self c.close.new.self (g.P.PtrKey.key c.args.p) (g.P.PtrKey.key c.args.q) _
-    c.part_after.ensures.texts c.part_after.ensures.others c.join.ensures.texts c.join.ensures.others c.close.ensures.texts c.next-after.ensures.next
+returns-clause-texts g c = put_after g.A.ArenaTrait.entry g.A.ChainArenaTrait.interlinks c.args.self.now c.split_after.new.self c.join.new.self c.close.new.self (g.P.PtrKey.key c.args.p) (g.P.PtrKey.key c.args.q) _
+    c.split_after.ensures.texts c.split_after.ensures.others c.join.ensures.texts c.join.ensures.others c.close.ensures.texts c.next-after.ensures.next
 
 pub returns-clause-others : goal.returns-clause-others
-returns-clause-others g c = keeps_put g.A.ArenaTrait.entry g.A.ChainArenaTrait.interlinks c.args.self.now c.part_after.new.self c.join.new.self c.close.new.self (g.P.PtrKey.key c.args.p) (g.P.PtrKey.key c.args.q) _
-    c.part_after.ensures.others c.join.ensures.others c.close.ensures.texts (from_mapped _ g.P.PtrKey.key c.next-after.result c.next-after.ensures.together)
+returns-clause-others g c = keeps_put g.A.ArenaTrait.entry g.A.ChainArenaTrait.interlinks c.args.self.now c.split_after.new.self c.join.new.self c.close.new.self (g.P.PtrKey.key c.args.p) (g.P.PtrKey.key c.args.q) _
+    c.split_after.ensures.others c.join.ensures.others c.close.ensures.texts (from_mapped _ g.P.PtrKey.key c.next-after.result c.next-after.ensures.together)

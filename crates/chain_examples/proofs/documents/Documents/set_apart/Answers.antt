@@ -4,12 +4,12 @@ use Rattle.chain_examples.proofs.DocumentLemmas.{in_a_text}
 use Rattle.chain_examples.proofs.documents.Documents.set_apart.Goals as goal
 
 pub returns-clause-texts : goal.returns-clause-texts
-returns-clause-texts g c = stored_alone g.A.ArenaTrait.entry g.A.ChainArenaTrait.interlinks c.args.self.now c.part_before.new.self c.part_after.new.self c.close.new.self (g.P.PtrKey.key c.args.p) _ _
-    c.part_before.ensures.texts c.part_after.ensures.texts c.part_after.ensures.others c.close.ensures.texts c.in_ok-before.ensures.between.before c.in_ok-before.ensures.between.after
+returns-clause-texts g c = stored_alone g.A.ArenaTrait.entry g.A.ChainArenaTrait.interlinks c.args.self.now c.split_before.new.self c.split_after.new.self c.close.new.self (g.P.PtrKey.key c.args.p) _ _
+    c.split_before.ensures.texts c.split_after.ensures.texts c.split_after.ensures.others c.close.ensures.texts c.in_ok-before.ensures.between.before c.in_ok-before.ensures.between.after
 
 pub returns-clause-others : goal.returns-clause-others
-returns-clause-others g c = keeps_alone g.A.ArenaTrait.entry g.A.ChainArenaTrait.interlinks c.args.self.now c.part_before.new.self c.part_after.new.self c.close.new.self (g.P.PtrKey.key c.args.p) _ _
-    c.part_before.ensures.others c.part_after.ensures.others c.close.ensures.texts c.in_ok-before.ensures.between.with_before c.in_ok-before.ensures.between.with_after
+returns-clause-others g c = keeps_alone g.A.ArenaTrait.entry g.A.ChainArenaTrait.interlinks c.args.self.now c.split_before.new.self c.split_after.new.self c.close.new.self (g.P.PtrKey.key c.args.p) _ _
+    c.split_before.ensures.others c.split_after.ensures.others c.close.ensures.texts c.in_ok-before.ensures.between.with_before c.in_ok-before.ensures.between.with_after
 
 -- A pointer that is not valid is in no text.
 pub returns-in_err-before-clause-texts : goal.returns-in_err-before-clause-texts

@@ -1,0 +1,61 @@
+-- The link is removed, and its former neighbors are linked.
+use Rattle.std.proofs.Common.{of_calls, ◌≡◌, None, Some, sym, ap, ◌∙◌}
+use Rattle.std.specs.Prelude.{is_some}
+use Rattle.std.specs.Option.{option_map}
+use Rattle.arena_ptr.specs.Invalidation.{value_within}
+use Rattle.arena_base.specs.Arena.{entry_at}
+use Rattle.arena_base.proofs.ArenaViewLemmas.{value_within-made}
+use Rattle.chain_links.specs.Links.{links_view, link_view, pair_view}
+use Rattle.chain_links.proofs.LinkStateLemmas.{entry_at-links_view}
+use Rattle.chain_links.proofs.MappedArenaLemmas.{with_each-remove_at}
+use Rattle.chain_linking.proofs.ConnectionLemmas.{prev_of-view_after, next_of-view_after}
+use Rattle.chain_linking.proofs.UnlinkLemmas.{removal_by_steps, were_beside}
+use Rattle.chain_linking.proofs.link_writes.remove_link_at.Goals as goal
+
+pub connect_former_neighbors-requires : goal.connect_former_neighbors-requires
+connect_former_neighbors-requires g c =
+    let number = g.P.Inx.InxKey.number in
+    let packed = g.P.Inx.InxKey.packed_number in
+    let a = c.args.arena.now in
+    let n = number c.args.i in
+    let link = c.in-Some.link in
+    let stored : entry_at a n ≡ Some (c.in-Some.generation, link) = sym c.remove_inx.ensures.returned ∙ (sym (ap (λ x. x.0) c.overflowing-entry.ensures) ∙ c.in-Some.is) in
+    let named_prev : option_map number c.prev.result ≡ packed link.prev = search of_calls in
+    let named_next : option_map number c.next.result ≡ packed link.next = search of_calls in
+    were_beside g.P.Gen.GenKey.following (links_view packed a) (links_view packed c.remove_inx.new.self) n _ _
+    (ap (links_view packed) (c.remove_inx.ensures.more (ap is_some stored)) ∙ with_each-remove_at (link_view packed) g.P.Gen.GenKey.following a n) c.requires
+    (named_prev ∙ sym (prev_of-view_after packed a (n, c.in-Some.generation) link stored)) (named_next ∙ sym (next_of-view_after packed a (n, c.in-Some.generation) link stored))
+
+pub returns-in-Some-clause-returned : goal.returns-in-Some-clause-returned
+returns-in-Some-clause-returned g c =
+    let packed = g.P.Inx.InxKey.packed_number in
+    let a = c.args.arena.now in
+    let n = g.P.Inx.InxKey.number c.args.i in
+    let stored : entry_at a n ≡ Some (c.in-Some.generation, c.in-Some.link) = sym c.remove_inx.ensures.returned ∙ (sym (ap (λ x. x.0) c.overflowing-entry.ensures) ∙ c.in-Some.is) in
+    let found : value_within c.outcome.result ≡ Some (c.in-Some.generation, c.in-Some.link) = search (of_calls, value_within-made) in
+    ap (option_map (pair_view packed)) found ∙ sym (entry_at-links_view packed a n ∙ ap (option_map (pair_view packed)) stored)
+
+pub returns-in-Some-clause-valid : goal.returns-in-Some-clause-valid
+returns-in-Some-clause-valid g c =
+    let number = g.P.Inx.InxKey.number in
+    let packed = g.P.Inx.InxKey.packed_number in
+    let a = c.args.arena.now in
+    let n = number c.args.i in
+    let link = c.in-Some.link in
+    let stored : entry_at a n ≡ Some (c.in-Some.generation, link) = sym c.remove_inx.ensures.returned ∙ (sym (ap (λ x. x.0) c.overflowing-entry.ensures) ∙ c.in-Some.is) in
+    let named_prev : option_map number c.prev.result ≡ packed link.prev = search of_calls in
+    let named_next : option_map number c.next.result ≡ packed link.next = search of_calls in
+    λ _. removal_by_steps g.P.Gen.GenKey.following (links_view packed a) (links_view packed c.remove_inx.new.self) (links_view packed c.connect_former_neighbors.new.arena) n
+    (option_map number c.prev.result) (option_map number c.next.result)
+    (ap (links_view packed) (c.remove_inx.ensures.more (ap is_some stored)) ∙ with_each-remove_at (link_view packed) g.P.Gen.GenKey.following a n)
+    c.connect_former_neighbors.ensures
+    (named_prev ∙ sym (prev_of-view_after packed a (n, c.in-Some.generation) link stored))
+    (named_next ∙ sym (next_of-view_after packed a (n, c.in-Some.generation) link stored))
+
+pub returns-in-None-clause-returned : goal.returns-in-None-clause-returned
+returns-in-None-clause-returned g c =
+    let packed = g.P.Inx.InxKey.packed_number in
+    let a = c.args.arena.now in
+    let n = g.P.Inx.InxKey.number c.args.i in
+    let none : entry_at a n ≡ None = sym c.remove_inx.ensures.returned ∙ (sym (ap (λ x. x.0) c.overflowing-entry.ensures) ∙ c.in-None.is) in
+    sym (entry_at-links_view packed a n ∙ ap (option_map (pair_view packed)) none)
