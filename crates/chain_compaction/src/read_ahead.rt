@@ -57,17 +57,6 @@ fn is_far<P: PtrKey>(k: usize, neighbor: Option<P::Inx>) -> bool {
     }
 }
 
-// Returns whether the link at `i` has no destination yet.
-fn is_fresh_at<P: PtrKey, T: Drop, S: SlotStack<Item = ArenaSlot<P, LinkNoGen<P, T>>>>(
-    compactor: &mut Compactor<'_, P, LinkNoGen<P, T>, S>,
-    i: P::Inx,
-) -> bool
-    ensures { HasReadSlot compactor.old compactor.new }
-{
-    let (was, _, _, destination) = read_link(compactor, i);
-    was.is_some() && destination.is_none()
-}
-
 // Returns the number of a neighbor, or `None` if there is none or it is `start`, where the walk
 // began.
 fn number_on_walk<P: PtrKey>(neighbor: Option<P::Inx>, start: usize) -> Option<usize> {
@@ -98,8 +87,32 @@ fn step_at<P: PtrKey, T: Drop, S: SlotStack<Item = ArenaSlot<P, LinkNoGen<P, T>>
     }
 }
 
-// Lists the numbers of up to 16 links without destinations, of the 64 slots from position `k` on.
-// Returns the list, its length, and the number of slots that were read.
+// Returns whether two links are at most two slots apart, which are then in the cache together.
+fn are_close(a: Option<usize>, b: Option<usize>) -> bool {
+    match (a, b) {
+        (Some(a), Some(b)) => a.abs_diff(b) <= 2,
+        _ => false,
+    }
+}
+
+// Returns whether to walk from the link at `i`, and the number of the link after it. The link has to
+// be without a destination, and the link after it not close to `last`, the one after the last link
+// listed: chains that grew in turn lie beside each other.
+fn walk_from<P: PtrKey, T: Drop, S: SlotStack<Item = ArenaSlot<P, LinkNoGen<P, T>>>>(
+    compactor: &mut Compactor<'_, P, LinkNoGen<P, T>, S>,
+    i: P::Inx,
+    last: Option<usize>,
+) -> (bool, Option<usize>)
+    ensures { HasReadSlot compactor.old compactor.new }
+{
+    let (was, _, next, destination) = read_link(compactor, i);
+    let after = number_on_walk::<P>(next, 0);
+    let is_fresh = was.is_some() && destination.is_none();
+    (is_fresh && !are_close(after, last), after)
+}
+
+// Lists the numbers of up to 16 links to walk from, of the 64 slots from position `k` on. Returns the
+// list, its length, and the number of slots that were read.
 fn fresh_links<P: PtrKey, T: Drop, S: SlotStack<Item = ArenaSlot<P, LinkNoGen<P, T>>>>(
     compactor: &mut Compactor<'_, P, LinkNoGen<P, T>, S>,
     k: usize,
@@ -112,14 +125,17 @@ fn fresh_links<P: PtrKey, T: Drop, S: SlotStack<Item = ArenaSlot<P, LinkNoGen<P,
 {
     let mut links = [0; 16];
     let mut count = 0;
+    let mut last = None;
     let slots = (compactor.slots() - k).min(64);
     for j in 0..slots {
         if count == 16 {
             return (links, count, j);
         }
-        if is_fresh_at(compactor, inx_at::<P>(k + j)) {
+        let (is_listed, after) = walk_from(compactor, inx_at::<P>(k + j), last);
+        if is_listed {
             links[count] = k + j + 1;
             count += 1;
+            last = after;
         }
     }
     (links, count, slots)
