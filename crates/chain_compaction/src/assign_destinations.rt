@@ -11,7 +11,7 @@ ghost use Rattle.chain_compaction.specs.Destinations.{HasChainFrom, number_after
 use crate::read_ahead::{ReadAhead, read_ahead};
 use crate::slot_access::{read_link, relink_at};
 use crate::visitor::Visitor;
-use arena_base::{ArenaSlot, Compactor, SlotAccess, inx_at, proved_unreachable};
+use arena_base::{ArenaSlot, Compactor, SlotAccess, assume_proved, inx_at, proved_unreachable};
 use arena_ptr::{InxKey, PtrKey, SlotStack};
 use chain_links::walk_direction::step_on;
 use chain_links::{LinkNoGen, link_access};
@@ -181,6 +181,7 @@ pub fn number_all<
     let mut count = 0;
     let mut ahead = ReadAhead::new(compactor.slots());
     for k in 0..compactor.slots() {
+        assume_proved(k < compactor.slots());
         let i = inx_at::<P>(k);
         let (was, prev, next, destination) = read_link(compactor, i);
         match was {

@@ -6,8 +6,8 @@ ghost use Rattle.chain_compaction.specs.DetachedLinks.{IsWork};
 ghost use Rattle.chain_compaction.specs.WorkCounts.{CountsWork};
 ghost use Rattle.chain_compaction.specs.Permutations.{Waits, WaitsWithin, IsInBlock, IsSettling, ListsWaiting, HaveMoved, CanMoveAll, waiting_count, destination_of, Settles, IsWorkOn};
 
-use crate::slot_access::{read_link, set_destination_at};
-use arena_base::{ArenaSlot, Compactor, inx_at};
+use crate::slot_access::{read_link, remove_destination_at};
+use arena_base::{ArenaSlot, Compactor, assume_proved, inx_at};
 use arena_ptr::{InxKey, PtrKey, SlotStack};
 use chain_links::LinkNoGen;
 
@@ -44,7 +44,7 @@ fn settle_once<P: PtrKey, T: Drop, S: SlotStack<Item = ArenaSlot<P, LinkNoGen<P,
     match destination {
         Some(to) => {
             compactor.place(i, to, generation);
-            set_destination_at(compactor, to, None);
+            remove_destination_at(compactor, to);
             !to.is_same(i)
         }
         None => false,
@@ -82,6 +82,7 @@ fn settle_each<P: PtrKey, T: Drop, S: SlotStack<Item = ArenaSlot<P, LinkNoGen<P,
     let mut left = 0;
     for k in 0..count {
         let position = start + k;
+        assume_proved(position < compactor.slots());
         if settle_once(compactor, inx_at::<P>(position), generation) {
             positions[left] = position;
             left += 1;
@@ -131,6 +132,7 @@ fn settle_block<P: PtrKey, T: Drop, S: SlotStack<Item = ArenaSlot<P, LinkNoGen<P
     let mut at = 0;
     while left > 0 {
         let turn = wrapped_index(at, left);
+        assume_proved(positions[turn] < compactor.slots());
         if settle_once(compactor, inx_at::<P>(positions[turn]), generation) {
             at = turn + 1;
         } else {

@@ -1,5 +1,5 @@
 // Reads and writes of one slot that leave no borrow of it.
-ghost use Rattle.std.specs.Prelude.{◌≡◌, Some};
+ghost use Rattle.std.specs.Prelude.{◌≡◌, IsSome, None, Some};
 ghost use Rattle.std.specs.Option.{option_map};
 ghost use Rattle.chain_laws.specs.Chains.{prev_of, next_of};
 ghost use Rattle.arena_base.specs.Arena.{slot_at};
@@ -9,7 +9,7 @@ ghost use Rattle.chain_compaction.specs.DetachedLinks.{link_map_in};
 ghost use Rattle.chain_compaction.specs.SlotReads.{HasReadSlot};
 ghost use Rattle.chain_compaction.specs.Destinations.{destination_at, IsDirectedAt, IsRelinkedAt};
 
-use arena_base::{ArenaSlot, Compactor, SlotAccess};
+use arena_base::{ArenaSlot, Compactor, SlotAccess, proved_unreachable};
 use arena_ptr::{InxKey, PtrKey, SlotStack};
 use chain_links::{LinkNoGen, link_access};
 
@@ -59,6 +59,26 @@ pub(crate) fn set_destination_at<
     match compactor.value_mut(i) {
         Some(link) => link_access::set_destination(link, destination),
         None => {}
+    }
+}
+
+// Removes the destination of the link at `i`. It does not test whether there is one.
+#[inline(always)]
+pub(crate) fn remove_destination_at<
+    P: PtrKey,
+    T: Drop,
+    S: SlotStack<Item = ArenaSlot<P, LinkNoGen<P, T>>>,
+>(compactor: &mut Compactor<'_, P, LinkNoGen<P, T>, S>, i: P::Inx)
+    requires { IsSome (slot_at compactor.old.held.slots (P.Inx.number i)) }
+    ensures same_reference { compactor.new.arena.ghost_name ≡ compactor.old.arena.ghost_name }
+    ensures directed { IsDirectedAt P.Inx.packed_number (P.Inx.number i) None
+        compactor.old.held compactor.new.held }
+    ensures arena { compactor.new.arena.now ≡ with_touch compactor.old.arena.now }
+    ensures counts { CountsWork compactor.old compactor.new }
+{
+    match compactor.value_mut(i) {
+        Some(link) => link_access::set_destination(link, None),
+        None => proved_unreachable!(),
     }
 }
 

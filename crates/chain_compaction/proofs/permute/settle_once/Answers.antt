@@ -26,8 +26,8 @@ returns-in-Some g c =
     let read = c.read_link-destination.new.compactor in
     let was_read = c.read_link-destination.ensures.was_read in
     let placed = c.place.new.self in
-    let after = c.set_destination_at.new.compactor in
-    let emptied = c.set_destination_at.ensures in
+    let after = c.remove_destination_at.new.compactor in
+    let emptied = c.remove_destination_at.ensures in
     let is : Some d ≡ destination_at packed_number old.held.slots i
     = sym (ap (option_map g.P.Inx.InxKey.number) c.in-Some.is) ∙ c.read_link-destination.ensures.destination in
     let moved : placed.held ≡ with_placed_entry old.held i d c.args.generation
