@@ -234,7 +234,7 @@ module _ {F P Gen K T : Type 0} (g : F → P → P → F → Type 0) (key : P �
 
     -- All links are placed.
     pub links_placed : (a0 a3 : Arena Gen (LinkBody K T)) → h3.stack_capacity ≡ h2.stack_capacity → h3.maximum ≡ h2.maximum → a1 ≡ with_totals a0 0 (length h0.slots)
-        → IsWork a2 a3 (count_by is_some h2.slots) (2 * count_by is_some h2.slots + length h2.slots) → AreAllPlaced number g key generation f last h0 h3 a0 a3 total 7
+        → IsWork a2 a3 (count_by is_some h2.slots) (4 * count_by is_some h2.slots + length h2.slots) → AreAllPlaced number g key generation f last h0 h3 a0 a3 total 9
     links_placed a0 a3 capacity maximum emptying moving = record {
       indexes = numbered.indexes;
       order = first_order;
@@ -247,7 +247,7 @@ module _ {F P Gen K T : Type 0} (g : F → P → P → F → Type 0) (key : P �
       work =
           let first : IsWork a0 a1 0 (length h0.slots) = record { touches = length h0.slots; few = omega arith; arena = emptying } in
           work-more (work-more first numbered.work 0 (3 * length h0.slots + 5 * length numbered.indexes) refl (omega (arith, first-length)))
-          moving (length numbered.indexes) (4 * length h0.slots + 7 * length numbered.indexes) (omega (arith, links_counted)) (omega (arith, links_counted, second-length));
+          moving (length numbered.indexes) (4 * length h0.slots + 9 * length numbered.indexes) (omega (arith, links_counted)) (omega (arith, links_counted, second-length));
     }
       where
         pointers : ptr_at (slot_at h1.slots) ≡ ptr_at (slot_at h0.slots)
@@ -292,7 +292,7 @@ module _ {F P Gen K T : Type 0} (g : F → P → P → F → Type 0) (key : P �
 -- ---- after the slots are given back
 
 module _ {F P Gen K T : Type 0} (g : F → P → P → F → Type 0) (key : P → ℕ × Gen) (f last : F) (number : K → Option ℕ) (generation : Gen) (old : Arena Gen (LinkBody K T)) (h0 h3 : DetachedView Gen (LinkBody K T))
-    (is_held : h0 ≡ held_of old) (a1 a3 : Arena Gen (LinkBody K T)) (total : ℕ) (done : AreAllPlaced number g key generation f last h0 h3 a1 a3 total 8) where
+    (is_held : h0 ≡ held_of old) (a1 a3 : Arena Gen (LinkBody K T)) (total : ℕ) (done : AreAllPlaced number g key generation f last h0 h3 a1 a3 total 10) where
   abbrev old_slots : List (Option (Gen × LinkView T))
   old_slots = (links_view number old).slots
 

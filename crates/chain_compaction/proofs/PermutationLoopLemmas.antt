@@ -1,14 +1,14 @@
 -- The loop that moves entries: its beginning, its step, its end, and its work.
-use Rattle.std.proofs.Common.{◌≡◌, ℕ, zero, suc, ◌+◌, ◌*◌, ◌⊎◌, inl, inr, ◌<◌, ◌≤◌, List, length, Option, None, Some, Bool, true, false, leb, refl, ◌∙◌, subst, arith}
+use Rattle.std.proofs.Common.{◌≡◌, ℕ, zero, suc, ◌+◌, ◌-◌, ◌*◌, ◌⊎◌, inl, inr, ◌<◌, ◌≤◌, List, length, Option, None, Some, Bool, true, false, leb, refl, ◌∙◌, subst, arith}
 use Rattle.std.specs.Prelude.{if◌then◌else◌}
 use Rattle.std.proofs.lemmas.Bool.Decides.{leb_tells}
 use Rattle.arena_base.specs.Arena.{Arena, slot_at}
 use Rattle.arena_base.specs.DetachedSlots.{with_touch, with_placement}
 use Rattle.chain_compaction.specs.DetachedLinks.{IsWork}
-use Rattle.chain_compaction.specs.Permutations.{Waits, HaveMoved, CanMoveAll, IsInBlock, IsSettling, ArePassed, waiting_count, IsWorkOn}
+use Rattle.chain_compaction.specs.Permutations.{Waits, HaveMoved, CanMoveAll, IsInBlock, IsSettling, ArePassed, waiting_count, IsWorkOn, IsWorkInRounds}
 use Rattle.chain_compaction.proofs.SlotSwapLemmas.{moving_begins, moving_ends}
 use Rattle.chain_compaction.proofs.SlotCountLemmas.{stored-within, waiting-none}
-use Rattle.chain_compaction.proofs.DetachedLinkLemmas.{work-none, work-touched, work-with_placed_entry, work-more}
+use Rattle.chain_compaction.proofs.DetachedLinkLemmas.{work-none, work-touched, work-with_placed_entry, work-more, work-few}
 
 module _ {E : Type 0} (goal : E → Option ℕ) (Settles : E → E → Type 0) (done : (e f : E) → Settles e f → goal f ≡ None) where
   pub passing_begins : (old : List (Option E)) → CanMoveAll goal old → ArePassed goal Settles old old 0
@@ -81,8 +81,43 @@ module _ {Gen T : Type 0} where
     count = (let a : wait + work.moved ≡ waited = work.count in let b : less + further.moved ≡ wait = further.count in omega arith);
   }
 
+  -- The work before the first round.
+  pub rounds_start : (old now : Arena Gen T) (waited wait more : ℕ) → IsWorkOn old now waited wait more → IsWorkInRounds old now waited wait more 0
+  rounds_start old now waited wait more first = record { moved = first.moved; most = 2 * first.moved + more; work = first.work; few = omega arith; count = first.count }
+
+  -- The work after the reads before a turn, and the step of that turn.
+  pub rounds_continue : (old now was_read next : Arena Gen T) (waited wait less some at turn more all after : ℕ) → IsWorkInRounds old now waited wait some at
+      → turn ≤ at → IsWork now was_read 0 (2 * (at - turn)) → (step : IsWorkOn was_read next wait less more) → some + more ≡ all → after ≤ turn + step.moved
+      → IsWorkInRounds old next waited less all after
+  rounds_continue old now was_read next waited wait less some at turn more all after rounds early reads step is low = record {
+    moved = rounds.moved + step.moved;
+    most = (rounds.most + 2 * (at - turn)) + (2 * step.moved + more);
+    work = work-more (work-more rounds.work reads rounds.moved (rounds.most + 2 * (at - turn)) (omega arith) (omega arith)) step.work (rounds.moved + step.moved) ((rounds.most + 2 * (at - turn)) + (2 * step.moved + more)) refl (omega arith);
+    few = omega (arith, rounds.few, early, is, low);
+    count = omega (arith, rounds.count, step.count);
+  }
+
+  -- The work after the last round.
+  pub rounds_stop : (old now : Arena Gen T) (waited wait some all at : ℕ) → some ≡ all → IsWorkInRounds old now waited wait some at → IsWorkInRounds old now waited wait all 0
+  rounds_stop old now waited wait some all at is rounds = record { moved = rounds.moved; most = rounds.most; work = rounds.work; few = omega (arith, rounds.few, is); count = rounds.count }
+
+  -- No work so far.
+  pub rounds_begin : (a : Arena Gen T) (wait : ℕ) → IsWorkInRounds a a wait wait 0 0
+  rounds_begin a wait = rounds_start a a wait wait 0 (work_on-begins a wait)
+
+  -- The work of two parts together.
+  pub rounds_then : (old now next : Arena Gen T) (waited wait less some more all : ℕ) → IsWorkInRounds old now waited wait some 0 → IsWorkInRounds now next wait less more 0 → some + more ≡ all
+      → IsWorkInRounds old next waited less all 0
+  rounds_then old now next waited wait less some more all one two is = record {
+    moved = one.moved + two.moved;
+    most = one.most + two.most;
+    work = work-more one.work two.work (one.moved + two.moved) (one.most + two.most) refl (omega arith);
+    few = omega (arith, one.few, two.few, is);
+    count = omega (arith, one.count, two.count);
+  }
+
   -- The total work, when no entry waits.
-  pub work_on-ends : (old now : Arena Gen T) (waited wait all more : ℕ) → IsWorkOn old now waited wait more → wait ≡ 0 → waited ≡ all → IsWork old now all (2 * all + more)
-  work_on-ends old now waited wait all more work none each =
-      let m : work.moved ≡ all = (let a : wait + work.moved ≡ waited = work.count in omega arith) in
-      subst (λ (n : ℕ). IsWork old now n (2 * n + more)) m work.work
+  pub rounds_end : (old now : Arena Gen T) (waited wait all more : ℕ) → IsWorkInRounds old now waited wait more 0 → wait ≡ 0 → waited ≡ all → IsWork old now all (4 * all + more)
+  rounds_end old now waited wait all more rounds none each =
+      let m : rounds.moved ≡ all = omega (arith, rounds.count) in
+      subst (λ (n : ℕ). IsWork old now n (4 * all + more)) m (work-few rounds.work (4 * all + more) (omega (arith, rounds.few)))

@@ -9,7 +9,7 @@ use Rattle.arena_base.specs.Arena.{slot_at, with_slot}
 use Rattle.arena_base.specs.DetachedSlots.{DetachedView, with_placed_entry, held_with_value}
 use Rattle.arena_base.proofs.SlotLemmas.{length-with_slot}
 use Rattle.chain_links.specs.declared.links.LinkBody.{LinkBody}
-use Rattle.chain_compaction.specs.Permutations.{Waits, IsSettledAt, WaitsWithin, IsSettling, waiting_count, waits, destination_of, Settles}
+use Rattle.chain_compaction.specs.Permutations.{Waits, IsSettledAt, WaitsWithin, IsInBlock, IsSettling, ListsWaiting, waiting_count, waits, destination_of, Settles}
 use Rattle.chain_compaction.specs.Destinations.{destination_at, IsDirectedAt}
 use Rattle.chain_compaction.proofs.SlotCountLemmas.{slot_at-same, slot_at-other, stored-within, count-with_slot, mark, one_if}
 use Rattle.chain_compaction.proofs.SlotSwapLemmas.{moving_continues, arrived_from, waited_there}
@@ -160,6 +160,23 @@ settling_continues goal Settled block i old now next inside before step = record
   length = step.length ∙ before.length;
   stays = λ j d e out w. before.stays j d e out (step.stays j d e (λ s. out (subst block (sym s) inside)) w);
 }
+
+-- What is known of a block, after reads.
+module _ {Gen K : Type 0} (goal : Gen × K → Option ℕ) (Settled : Gen × K → Gen × K → Type 0) (start count : ℕ) (positions : List ℕ) (left : ℕ) (old now was_read : DetachedView Gen K) where
+  pub record IsBlockRead : Type 0 where
+    pub lists : ListsWaiting goal start count positions left (slot_at was_read.slots)
+    pub settles : IsSettling goal Settled (IsInBlock start count) old.slots was_read.slots
+    pub capacity : was_read.stack_capacity ≡ old.stack_capacity
+    pub maximum : was_read.maximum ≡ old.maximum
+
+  pub settle_reads : was_read ≡ now → ListsWaiting goal start count positions left (slot_at now.slots) → IsSettling goal Settled (IsInBlock start count) old.slots now.slots
+      → now.stack_capacity ≡ old.stack_capacity → now.maximum ≡ old.maximum → IsBlockRead
+  settle_reads same lists settles capacity maximum = record {
+    lists = subst (λ (h : DetachedView Gen K). ListsWaiting goal start count positions left (slot_at h.slots)) (sym same) lists;
+    settles = subst (λ (h : DetachedView Gen K). IsSettling goal Settled (IsInBlock start count) old.slots h.slots) (sym same) settles;
+    capacity = ap (λ (h : DetachedView Gen K). h.stack_capacity) same ∙ capacity;
+    maximum = ap (λ (h : DetachedView Gen K). h.maximum) same ∙ maximum;
+  }
 
 -- No entry waits if there is no destination.
 pub none_waits : {E : Type 0} (goal : E → Option ℕ) (slots : List (Option E)) (i : ℕ) → None ≡ option_and_then goal (slot_at slots i) → (d : ℕ) (e : E) → Waits goal (slot_at slots) i e d → ⊥

@@ -59,7 +59,7 @@ fn arrange_by_moves<
     ensures same_reference { compactor.new.arena.ghost_name ≡ compactor.old.arena.ghost_name }
     ensures placed { AreAllPlaced P.Inx.packed_number V.sees P.key generation visitor result.0
         compactor.old.held compactor.new.held compactor.old.arena.now compactor.new.arena.now
-        result.1 7 }
+        result.1 9 }
     ensures counts { CountsWork compactor.old compactor.new }
 {
     clear_destinations(compactor);
@@ -84,7 +84,7 @@ fn place_all<P: PtrKey, T: Drop, S: SlotStack<Item = ArenaSlot<P, LinkNoGen<P, T
     ensures same_reference { compactor.new.arena.ghost_name ≡ compactor.old.arena.ghost_name }
     ensures placed { AreAllPlaced P.Inx.packed_number V.sees P.key generation visitor result.0
         compactor.old.held compactor.new.held compactor.old.arena.now compactor.new.arena.now
-        result.1 8 }
+        result.1 10 }
     ensures counts { CountsWork compactor.old compactor.new }
 {
     if is_in_order(compactor, links) {

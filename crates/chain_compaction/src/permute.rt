@@ -1,11 +1,13 @@
 // Moves of links to their destinations along the cycles of the permutation, each link placed once.
-ghost use Rattle.std.specs.Prelude.{◌≡◌, ◌<◌, ◌≤◌, ◌+◌, ◌*◌, ◌-◌, ℕ, length, count_by, is_some, if◌then◌else◌};
+ghost use Rattle.std.specs.Prelude.{◌≡◌, ◌<◌, ◌≤◌, ◌+◌, ◌*◌, ◌-◌, ℕ, length, slice_index, count_by, is_some, if◌then◌else◌};
 ghost use Rattle.std.specs.Bool.{OnTrue, OnFalse};
 ghost use Rattle.arena_base.specs.Arena.{slot_at};
 ghost use Rattle.chain_compaction.specs.DetachedLinks.{IsWork};
 ghost use Rattle.chain_compaction.specs.WorkCounts.{CountsWork};
-ghost use Rattle.chain_compaction.specs.Permutations.{Waits, WaitsWithin, IsInBlock, IsSettling, ListsWaiting, HaveMoved, CanMoveAll, waiting_count, destination_of, Settles, IsWorkOn};
+ghost use Rattle.chain_compaction.specs.Permutations.{Waits, WaitsWithin, IsInBlock, IsSettling, ListsWaiting, HaveMoved, CanMoveAll, waiting_count, destination_of, Settles, IsWorkOn, IsWorkInRounds};
+ghost use Rattle.chain_compaction.specs.SlotReads.{HasReadSlots};
 
+use crate::read_ahead::read_destinations;
 use crate::slot_access::{read_link, remove_destination_at};
 use arena_base::{ArenaSlot, Compactor, assume_proved, inx_at};
 use arena_ptr::{InxKey, PtrKey, SlotStack};
@@ -91,19 +93,41 @@ fn settle_each<P: PtrKey, T: Drop, S: SlotStack<Item = ArenaSlot<P, LinkNoGen<P,
     (positions, left)
 }
 
-// Returns `at`, or 0 if the list of `left` positions ends there.
-pub(crate) fn wrapped_index(at: usize, left: usize) -> usize
-    requires { 0 < left }
-    ensures { result < left }
+// Returns the turn after `at`, which is 0 at the end of a round, and whether to read ahead again.
+//
+// Before a new round the slots of its destinations are read, if `reads_ahead`. If no link there is
+// to be moved, no round after it needs such reads.
+#[inline(always)]
+fn next_turn<P: PtrKey, T: Drop, S: SlotStack<Item = ArenaSlot<P, LinkNoGen<P, T>>>>(
+    compactor: &mut Compactor<'_, P, LinkNoGen<P, T>, S>,
+    positions: &[usize; 64],
+    left: usize,
+    at: usize,
+    reads_ahead: bool,
+) -> (usize, bool)
+    requires some { 0 < left }
+    requires left { left ≤ 64 }
+    requires within { (p : ℕ) → p < left → slice_index positions.now p < P.Inx.greatest }
+    ensures turn { result.0 < left }
+    ensures early { result.0 ≤ at }
+    ensures read { HasReadSlots compactor.old compactor.new (2 * (at - result.0)) }
 {
-    if at < left { at } else { 0 }
+    if at < left {
+        return (at, reads_ahead);
+    }
+    if reads_ahead {
+        (0, read_destinations(compactor, positions, left))
+    } else {
+        (0, false)
+    }
 }
 
 // Moves the links of a block of slots, one placement at each slot in turn, until none with a
 // destination is in the block.
 //
 // Successive placements follow different cycles, so their memory accesses overlap. A link that is
-// at its destination is placed there in the first turn, and its slot is not read again.
+// at its destination is placed there in the first turn, and its slot is not read again. From
+// 2,097,152 slots on, which exceed the cache, the destinations of a round are read before it.
 #[inline(always)]
 fn settle_block<P: PtrKey, T: Drop, S: SlotStack<Item = ArenaSlot<P, LinkNoGen<P, T>>>>(
     compactor: &mut Compactor<'_, P, LinkNoGen<P, T>, S>,
@@ -123,15 +147,17 @@ fn settle_block<P: PtrKey, T: Drop, S: SlotStack<Item = ArenaSlot<P, LinkNoGen<P
         → Waits (destination_of P.Inx.packed_number) (slot_at compactor.new.held.slots) j e d → ⊥ }
     ensures capacity { compactor.new.held.stack_capacity ≡ compactor.old.held.stack_capacity }
     ensures maximum { compactor.new.held.maximum ≡ compactor.old.held.maximum }
-    ensures work { IsWorkOn compactor.old.arena.now compactor.new.arena.now
+    ensures work { IsWorkInRounds compactor.old.arena.now compactor.new.arena.now
         (waiting_count (destination_of P.Inx.packed_number) compactor.old.held.slots)
-        (waiting_count (destination_of P.Inx.packed_number) compactor.new.held.slots) count }
+        (waiting_count (destination_of P.Inx.packed_number) compactor.new.held.slots) count 0 }
     ensures counts { CountsWork compactor.old compactor.new }
 {
     let (mut positions, mut left) = settle_each(compactor, start, count, generation);
+    let mut reads_ahead = compactor.slots() >= 2_097_152;
     let mut at = 0;
     while left > 0 {
-        let turn = wrapped_index(at, left);
+        let (turn, again) = next_turn(compactor, &positions, left, at, reads_ahead);
+        reads_ahead = again;
         assume_proved(positions[turn] < compactor.slots());
         if settle_once(compactor, inx_at::<P>(positions[turn]), generation) {
             at = turn + 1;
@@ -162,7 +188,7 @@ pub fn move_all<P: PtrKey, T: Drop, S: SlotStack<Item = ArenaSlot<P, LinkNoGen<P
     ensures maximum { compactor.new.held.maximum ≡ compactor.old.held.maximum }
     ensures work { IsWork compactor.old.arena.now compactor.new.arena.now
         (count_by is_some compactor.old.held.slots)
-        (2 * count_by is_some compactor.old.held.slots + length compactor.old.held.slots) }
+        (4 * count_by is_some compactor.old.held.slots + length compactor.old.held.slots) }
     ensures counts { CountsWork compactor.old compactor.new }
 {
     let slots = compactor.slots();

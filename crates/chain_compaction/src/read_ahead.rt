@@ -1,11 +1,11 @@
-// Reads of links before their chains are numbered, which change nothing.
+// Reads of links before they are numbered or moved, which change nothing.
 //
 // The walk along a chain waits for each link, since the link names the next one. Here several
 // chains are walked in turn, so that these waits overlap, and their links are then in the cache.
-ghost use Rattle.std.specs.Prelude.{◌≤◌, ◌<◌, ◌+◌, ◌-◌, length};
+// Before a round of moves the slots of all destinations are read, for the same reason.
+ghost use Rattle.std.specs.Prelude.{◌≤◌, ◌<◌, ◌+◌, ◌*◌, ◌-◌, ℕ, length, slice_index};
 ghost use Rattle.chain_compaction.specs.SlotReads.{HasReadSlot, HasReadSlots};
 
-use crate::permute::wrapped_index;
 use crate::slot_access::read_link;
 use arena_base::{ArenaSlot, Compactor, SlotAccess, inx_at, proved_unreachable};
 use arena_ptr::{InxKey, PtrKey, SlotStack};
@@ -95,9 +95,9 @@ fn are_close(a: Option<usize>, b: Option<usize>) -> bool {
     }
 }
 
-// Returns whether to walk from the link at `i`, and the number of the link after it. The link has to
-// be without a destination, and the link after it not close to `last`, the one after the last link
-// listed: chains that grew in turn lie beside each other.
+// Returns whether to walk from the link at `i`, and the number of the link after it. The link has
+// to be without a destination, and the link after it not close to `last`, the one after the last
+// link listed: chains that grew in turn lie beside each other.
 fn walk_from<P: PtrKey, T: Drop, S: SlotStack<Item = ArenaSlot<P, LinkNoGen<P, T>>>>(
     compactor: &mut Compactor<'_, P, LinkNoGen<P, T>, S>,
     i: P::Inx,
@@ -111,8 +111,8 @@ fn walk_from<P: PtrKey, T: Drop, S: SlotStack<Item = ArenaSlot<P, LinkNoGen<P, T
     (is_fresh && !are_close(after, last), after)
 }
 
-// Lists the numbers of up to 16 links to walk from, of the 64 slots from position `k` on. Returns the
-// list, its length, and the number of slots that were read.
+// Lists the numbers of up to 16 links to walk from, of the 64 slots from position `k` on. Returns
+// the list, its length, and the number of slots that were read.
 fn fresh_links<P: PtrKey, T: Drop, S: SlotStack<Item = ArenaSlot<P, LinkNoGen<P, T>>>>(
     compactor: &mut Compactor<'_, P, LinkNoGen<P, T>, S>,
     k: usize,
@@ -139,6 +139,14 @@ fn fresh_links<P: PtrKey, T: Drop, S: SlotStack<Item = ArenaSlot<P, LinkNoGen<P,
         }
     }
     (links, count, slots)
+}
+
+// Returns `at`, or 0 if the list of `left` links ends there.
+fn wrapped_index(at: usize, left: usize) -> usize
+    requires { 0 < left }
+    ensures { result < left }
+{
+    if at < left { at } else { 0 }
 }
 
 // Walks along the chains of `count` links in turn, by `next` or by `prev`, until each walk ends or
@@ -208,4 +216,49 @@ pub(crate) fn read_ahead<P: PtrKey, T: Drop, S: SlotStack<Item = ArenaSlot<P, Li
         position: k.saturating_add(slots),
         credit: ahead.credit - (slots + forward + backward),
     }
+}
+
+// Reads the link at position `k`, and then the one at its destination. Returns whether the second
+// has a destination, too.
+#[inline(always)]
+fn leads_on<P: PtrKey, T: Drop, S: SlotStack<Item = ArenaSlot<P, LinkNoGen<P, T>>>>(
+    compactor: &mut Compactor<'_, P, LinkNoGen<P, T>, S>,
+    k: usize,
+) -> bool
+    requires { k < P.Inx.greatest }
+    ensures { HasReadSlots compactor.old compactor.new 2 }
+{
+    let (_, _, _, destination) = read_link(compactor, inx_at::<P>(k));
+    match destination {
+        Some(to) => {
+            let (_, _, _, further) = read_link(compactor, to);
+            further.is_some()
+        }
+        None => false,
+    }
+}
+
+/// Reads the slots at the destinations of the links at the first `left` positions. Returns whether
+/// a link there has a destination, too.
+#[inline(always)]
+pub(crate) fn read_destinations<
+    P: PtrKey,
+    T: Drop,
+    S: SlotStack<Item = ArenaSlot<P, LinkNoGen<P, T>>>,
+>(
+    compactor: &mut Compactor<'_, P, LinkNoGen<P, T>, S>,
+    positions: &[usize; 64],
+    left: usize,
+) -> bool
+    requires left { left ≤ 64 }
+    requires within { (p : ℕ) → p < left → slice_index positions.now p < P.Inx.greatest }
+    ensures { HasReadSlots compactor.old compactor.new (2 * left) }
+{
+    let mut any = false;
+    for p in 0..left {
+        if leads_on(compactor, positions[p]) {
+            any = true;
+        }
+    }
+    any
 }

@@ -16,7 +16,7 @@ returns-then-is_in_order g c =
       same_reference = same_then old test new read.same_reference done.same_reference;
       placed =
           placed_after_reads g.V.Visitor.sees g.P.PtrKey.key c.args.visitor c.renew_all.result.0 g.P.Inx.InxKey.packed_number c.args.generation old.held test.held new.held read.held
-          old.arena.now test.arena.now new.arena.now c.renew_all.result.1 2 c.args.links c.requires.links read.work done.placed 8 (omega arith);
+          old.arena.now test.arena.now new.arena.now c.renew_all.result.1 2 c.args.links c.requires.links read.work done.placed 10 (omega arith);
       counts = counts_on old test new read.counts done.counts;
     }
 
@@ -32,6 +32,6 @@ returns-else-is_in_order g c =
       same_reference = same_then old test new read.same_reference done.same_reference;
       placed =
           placed_after_reads g.V.Visitor.sees g.P.PtrKey.key c.args.visitor c.arrange_by_moves.result.0 g.P.Inx.InxKey.packed_number c.args.generation old.held test.held new.held read.held
-          old.arena.now test.arena.now new.arena.now c.arrange_by_moves.result.1 7 c.args.links c.requires.links read.work done.placed 8 (omega arith);
+          old.arena.now test.arena.now new.arena.now c.arrange_by_moves.result.1 9 c.args.links c.requires.links read.work done.placed 10 (omega arith);
       counts = counts_on old test new read.counts done.counts;
     }

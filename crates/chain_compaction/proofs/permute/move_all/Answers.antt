@@ -1,9 +1,9 @@
 -- `move_all` settles one more block, and all in the end.
-use Rattle.std.proofs.Common.{◌≡◌, ◌+◌, ◌≤◌, length, refl, subst, arith}
-use Rattle.chain_compaction.specs.Permutations.{ArePassed, waiting_count, destination_of, Settles, IsWorkOn}
+use Rattle.std.proofs.Common.{◌≡◌, ℕ, ◌+◌, ◌≤◌, length, refl, subst, arith}
+use Rattle.chain_compaction.specs.Permutations.{ArePassed, waiting_count, destination_of, Settles, IsWorkInRounds}
 use Rattle.chain_compaction.proofs.SlotCountLemmas.{waiting-all}
 use Rattle.chain_compaction.proofs.PermutationStepLemmas.{settled_rests}
-use Rattle.chain_compaction.proofs.PermutationLoopLemmas.{passing_begins, passing_continues, passing_ends, passing_leaves_none, work_on-begins, work_on-after, work_on-ends}
+use Rattle.chain_compaction.proofs.PermutationLoopLemmas.{passing_begins, passing_continues, passing_ends, passing_leaves_none, rounds_begin, rounds_then, rounds_end}
 use Rattle.chain_compaction.proofs.LinkLoanLemmas.{same_then, counts_on, capacity_then, maximum_then}
 use Rattle.chain_compaction.proofs.WorkCountLemmas.{counts_none}
 use Rattle.chain_compaction.proofs.permute.move_all.Goals as goal
@@ -18,7 +18,7 @@ loop-start-init g c =
       passed = passing_begins (destination_of packed_number) (Settles packed_number c.args.generation) (settled_rests packed_number c.args.generation) old.held.slots c.requires.can;
       capacity = refl;
       maximum = refl;
-      work = work_on-begins old.arena.now (waiting_count (destination_of packed_number) old.held.slots);
+      work = rounds_begin old.arena.now (waiting_count (destination_of packed_number) old.held.slots);
       counts = counts_none old.arena.now old.placed old.touched;
     }
 
@@ -50,7 +50,7 @@ loop-start-preserved g c =
           start count inv.passed after.settles after.none;
       capacity = capacity_then old now next inv.capacity after.capacity;
       maximum = maximum_then old now next inv.maximum after.maximum;
-      work = work_on-after old.arena.now now.arena.now next.arena.now (waiting_count (destination_of packed_number) old.held.slots) (waiting_count (destination_of packed_number) now.held.slots)
+      work = rounds_then old.arena.now now.arena.now next.arena.now (waiting_count (destination_of packed_number) old.held.slots) (waiting_count (destination_of packed_number) now.held.slots)
           (waiting_count (destination_of packed_number) next.held.slots) start count (start + count) inv.work after.work refl;
       counts = counts_on old now next inv.counts after.counts;
     }
@@ -74,7 +74,7 @@ returns g c =
       length = inv.passed.length;
       capacity = inv.capacity;
       maximum = inv.maximum;
-      work = work_on-ends old.arena.now now.arena.now _ _ _ (length old.held.slots) (subst (IsWorkOn old.arena.now now.arena.now (waiting_count target old.held.slots) (waiting_count target now.held.slots)) all inv.work)
+      work = rounds_end old.arena.now now.arena.now _ _ _ (length old.held.slots) (subst (λ (n : ℕ). IsWorkInRounds old.arena.now now.arena.now (waiting_count target old.held.slots) (waiting_count target now.held.slots) n 0) all inv.work)
           (passing_leaves_none target settles rests old.held.slots now.held.slots passed) (waiting-all target old.held.slots c.requires.can.each);
       counts = inv.counts;
     }

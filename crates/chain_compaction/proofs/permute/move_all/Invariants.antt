@@ -1,7 +1,7 @@
 -- The slots up to start are settled.
 use Rattle.std.proofs.Common.{◌≡◌, ◌≤◌, ◌-◌}
 use Rattle.chain_compaction.specs.WorkCounts.{CountsWork}
-use Rattle.chain_compaction.specs.Permutations.{ArePassed, waiting_count, destination_of, Settles, IsWorkOn}
+use Rattle.chain_compaction.specs.Permutations.{ArePassed, waiting_count, destination_of, Settles, IsWorkInRounds}
 use Rattle.chain_compaction.proofs.permute.move_all.Given as goal
 
 abbrev pub invariant-loop-start : goal.invariant-loop-start
@@ -13,7 +13,7 @@ invariant-loop-start g l =
       passed : ArePassed (destination_of packed_number) (Settles packed_number l.generation) l.fn.compactor.held.slots l.compactor.held.slots l.start;
       capacity : l.compactor.held.stack_capacity ≡ l.fn.compactor.held.stack_capacity;
       maximum : l.compactor.held.maximum ≡ l.fn.compactor.held.maximum;
-      work : IsWorkOn l.fn.compactor.arena.now l.compactor.arena.now (waiting_count (destination_of packed_number) l.fn.compactor.held.slots) (waiting_count (destination_of packed_number) l.compactor.held.slots) l.start;
+      work : IsWorkInRounds l.fn.compactor.arena.now l.compactor.arena.now (waiting_count (destination_of packed_number) l.fn.compactor.held.slots) (waiting_count (destination_of packed_number) l.compactor.held.slots) l.start 0;
       counts : CountsWork l.fn.compactor l.compactor;
     }
 

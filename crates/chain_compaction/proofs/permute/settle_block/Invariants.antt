@@ -2,7 +2,7 @@
 use Rattle.std.proofs.Common.{◌≡◌, ◌+◌, ◌-◌}
 use Rattle.arena_base.specs.Arena.{slot_at}
 use Rattle.chain_compaction.specs.WorkCounts.{CountsWork}
-use Rattle.chain_compaction.specs.Permutations.{IsInBlock, IsSettling, ListsWaiting, waiting_count, destination_of, Settles, IsWorkOn}
+use Rattle.chain_compaction.specs.Permutations.{IsInBlock, IsSettling, ListsWaiting, waiting_count, destination_of, Settles, IsWorkInRounds}
 use Rattle.chain_compaction.proofs.permute.settle_block.Given as goal
 
 abbrev pub invariant-loop-left : goal.invariant-loop-left
@@ -14,7 +14,7 @@ invariant-loop-left g l =
       lists : ListsWaiting (destination_of packed_number) l.start l.count l.positions l.left (slot_at l.compactor.held.slots);
       capacity : l.compactor.held.stack_capacity ≡ l.fn.compactor.held.stack_capacity;
       maximum : l.compactor.held.maximum ≡ l.fn.compactor.held.maximum;
-      work : IsWorkOn l.fn.compactor.arena.now l.compactor.arena.now (waiting_count (destination_of packed_number) l.fn.compactor.held.slots) (waiting_count (destination_of packed_number) l.compactor.held.slots) (l.count - l.left);
+      work : IsWorkInRounds l.fn.compactor.arena.now l.compactor.arena.now (waiting_count (destination_of packed_number) l.fn.compactor.held.slots) (waiting_count (destination_of packed_number) l.compactor.held.slots) (l.count - l.left) l.at;
       counts : CountsWork l.fn.compactor l.compactor;
     }
 
