@@ -133,6 +133,9 @@ sum_decreases-moved wait less left is = omega arith
 pub sum_decreases-shortened : (wait less moved left : ℕ) → less + moved ≡ wait → 0 < left → less + (left - 1) < wait + left
 sum_decreases-shortened wait less moved left is some = omega arith
 
+pub sum_decreases-round : (wait was_read less left rest : ℕ) → was_read ≡ wait → rest ≤ left → rest + less ≤ was_read → 0 < left → less + rest < wait + left
+sum_decreases-round wait was_read less left rest same fewer moved some = omega arith
+
 -- The touches beside those of the moves: at most one for each slot that is not in the list.
 pub touches_add : (k left : ℕ) → (k - left) + 0 ≡ (k + 1) - (left + 1)
 touches_add k left = omega arith
@@ -145,6 +148,12 @@ touches_stay count left = omega arith
 
 pub touches_continue : (count left : ℕ) → 0 < left → left ≤ count → (count - left) + 1 ≡ count - (left - 1)
 touches_continue count left some few = omega arith
+
+pub touches_round : (count left rest : ℕ) → left ≤ count → rest ≤ left → (count - left) + (left - rest) ≡ count - rest
+touches_round count left rest few fewer = omega arith
+
+pub none_more : (left : ℕ) → 0 ≡ left - left
+none_more left = omega arith
 
 pub touches_end : (count left : ℕ) → left ≤ 0 → count - left ≡ count
 touches_end count left none = omega arith

@@ -1,5 +1,5 @@
 -- The loop that moves entries: its beginning, its step, its end, and its work.
-use Rattle.std.proofs.Common.{◌≡◌, ℕ, zero, suc, ◌+◌, ◌-◌, ◌*◌, ◌⊎◌, inl, inr, ◌<◌, ◌≤◌, List, length, Option, None, Some, Bool, true, false, leb, refl, ◌∙◌, subst, arith}
+use Rattle.std.proofs.Common.{◌≡◌, ℕ, zero, suc, ◌+◌, ◌*◌, ◌⊎◌, inl, inr, ◌<◌, ◌≤◌, List, length, Option, None, Some, Bool, true, false, leb, refl, ◌∙◌, subst, arith}
 use Rattle.std.specs.Prelude.{if◌then◌else◌}
 use Rattle.std.proofs.lemmas.Bool.Decides.{leb_tells}
 use Rattle.arena_base.specs.Arena.{Arena, slot_at}
@@ -82,28 +82,27 @@ module _ {Gen T : Type 0} where
   }
 
   -- The work before the first round.
-  pub rounds_start : (old now : Arena Gen T) (waited wait more : ℕ) → IsWorkOn old now waited wait more → IsWorkInRounds old now waited wait more 0
-  rounds_start old now waited wait more first = record { moved = first.moved; most = 2 * first.moved + more; work = first.work; few = omega arith; count = first.count }
+  pub rounds_start : (old now : Arena Gen T) (waited wait more left : ℕ) → IsWorkOn old now waited wait more → left + wait ≤ waited → IsWorkInRounds old now waited wait more left
+  rounds_start old now waited wait more left first moves = record { moved = first.moved; most = 2 * first.moved + more; work = first.work; few = omega (arith, first.count, moves); count = first.count }
 
-  -- The work after the reads before a turn, and the step of that turn.
-  pub rounds_continue : (old now was_read next : Arena Gen T) (waited wait less some at turn more all after : ℕ) → IsWorkInRounds old now waited wait some at
-      → turn ≤ at → IsWork now was_read 0 (2 * (at - turn)) → (step : IsWorkOn was_read next wait less more) → some + more ≡ all → after ≤ turn + step.moved
-      → IsWorkInRounds old next waited less all after
-  rounds_continue old now was_read next waited wait less some at turn more all after rounds early reads step is low = record {
-    moved = rounds.moved + step.moved;
-    most = (rounds.most + 2 * (at - turn)) + (2 * step.moved + more);
-    work = work-more (work-more rounds.work reads rounds.moved (rounds.most + 2 * (at - turn)) (omega arith) (omega arith)) step.work (rounds.moved + step.moved) ((rounds.most + 2 * (at - turn)) + (2 * step.moved + more)) refl (omega arith);
-    few = omega (arith, rounds.few, early, is, low);
-    count = omega (arith, rounds.count, step.count);
+  -- The work after the reads before a round, and the round.
+  pub rounds_continue : (old now was_read next : Arena Gen T) (waited wait less some left more all rest : ℕ) → IsWorkInRounds old now waited wait some left
+      → IsWork now was_read 0 (2 * left) → (round : IsWorkOn was_read next wait less more) → some + more ≡ all → rest + less ≤ wait → IsWorkInRounds old next waited less all rest
+  rounds_continue old now was_read next waited wait less some left more all rest rounds reads round is moves = record {
+    moved = rounds.moved + round.moved;
+    most = (rounds.most + 2 * left) + (2 * round.moved + more);
+    work = work-more (work-more rounds.work reads rounds.moved (rounds.most + 2 * left) (omega arith) (omega arith)) round.work (rounds.moved + round.moved) ((rounds.most + 2 * left) + (2 * round.moved + more)) refl (omega arith);
+    few = omega (arith, rounds.few, is, moves, round.count);
+    count = omega (arith, rounds.count, round.count);
   }
 
   -- The work after the last round.
-  pub rounds_stop : (old now : Arena Gen T) (waited wait some all at : ℕ) → some ≡ all → IsWorkInRounds old now waited wait some at → IsWorkInRounds old now waited wait all 0
-  rounds_stop old now waited wait some all at is rounds = record { moved = rounds.moved; most = rounds.most; work = rounds.work; few = omega (arith, rounds.few, is); count = rounds.count }
+  pub rounds_stop : (old now : Arena Gen T) (waited wait some all left : ℕ) → some ≡ all → IsWorkInRounds old now waited wait some left → IsWorkInRounds old now waited wait all 0
+  rounds_stop old now waited wait some all left is rounds = record { moved = rounds.moved; most = rounds.most; work = rounds.work; few = omega (arith, rounds.few, is); count = rounds.count }
 
   -- No work so far.
   pub rounds_begin : (a : Arena Gen T) (wait : ℕ) → IsWorkInRounds a a wait wait 0 0
-  rounds_begin a wait = rounds_start a a wait wait 0 (work_on-begins a wait)
+  rounds_begin a wait = rounds_start a a wait wait 0 0 (work_on-begins a wait) (omega arith)
 
   -- The work of two parts together.
   pub rounds_then : (old now next : Arena Gen T) (waited wait less some more all : ℕ) → IsWorkInRounds old now waited wait some 0 → IsWorkInRounds now next wait less more 0 → some + more ≡ all

@@ -161,7 +161,17 @@ settling_continues goal Settled block i old now next inside before step = record
   stays = λ j d e out w. before.stays j d e out (step.stays j d e (λ s. out (subst block (sym s) inside)) w);
 }
 
--- What is known of a block, after reads.
+-- Two parts after one another.
+pub settling_joins : {E : Type 0} (goal : E → Option ℕ) (Settled : E → E → Type 0) (block : ℕ → Type 0) (old now next : List (Option E))
+    → IsSettling goal Settled block old now → IsSettling goal Settled block now next → IsSettling goal Settled block old next
+settling_joins goal Settled block old now next before after = record {
+  moves = λ first m. after.moves first (before.moves first m);
+  within = λ b. after.within (before.within b);
+  length = after.length ∙ before.length;
+  stays = λ j d e out w. before.stays j d e out (after.stays j d e out w);
+}
+
+-- What is known of a block is known after reads.
 module _ {Gen K : Type 0} (goal : Gen × K → Option ℕ) (Settled : Gen × K → Gen × K → Type 0) (start count : ℕ) (positions : List ℕ) (left : ℕ) (old now was_read : DetachedView Gen K) where
   pub record IsBlockRead : Type 0 where
     pub lists : ListsWaiting goal start count positions left (slot_at was_read.slots)

@@ -117,12 +117,12 @@ module _ {Gen T : Type 0} where
     pub work : IsWork old new moved (2 * moved + more)
     pub count : wait + moved ≡ waited
 
-  -- The work of moves in rounds, before which slots may be read ahead: a placement for each entry
-  -- that no longer waits, at most four touches for each, and at most some more touches. Of these
-  -- four, two are left for each of the `at` moves of the round that has begun.
-  pub record IsWorkInRounds (old new : Arena Gen T) (waited wait more at : ℕ) : Type 0 where
+  -- The work of moves in rounds, before each of which slots may be read: a placement for each entry
+  -- that no longer waits, at most four touches for each, and at most some more touches. Two touches
+  -- for each of the `left` entries of the next round are not used yet.
+  pub record IsWorkInRounds (old new : Arena Gen T) (waited wait more left : ℕ) : Type 0 where
     pub moved : ℕ
     pub most : ℕ
     pub work : IsWork old new moved most
-    pub few : most + 2 * at ≤ 4 * moved + more
+    pub few : most + 2 * left ≤ 4 * moved + more
     pub count : wait + moved ≡ waited

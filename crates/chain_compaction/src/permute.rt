@@ -1,11 +1,10 @@
 // Moves of links to their destinations along the cycles of the permutation, each link placed once.
-ghost use Rattle.std.specs.Prelude.{◌≡◌, ◌<◌, ◌≤◌, ◌+◌, ◌*◌, ◌-◌, ℕ, length, slice_index, count_by, is_some, if◌then◌else◌};
+ghost use Rattle.std.specs.Prelude.{◌≡◌, ◌<◌, ◌≤◌, ◌+◌, ◌*◌, ◌-◌, ℕ, length, count_by, is_some, if◌then◌else◌};
 ghost use Rattle.std.specs.Bool.{OnTrue, OnFalse};
 ghost use Rattle.arena_base.specs.Arena.{slot_at};
 ghost use Rattle.chain_compaction.specs.DetachedLinks.{IsWork};
 ghost use Rattle.chain_compaction.specs.WorkCounts.{CountsWork};
 ghost use Rattle.chain_compaction.specs.Permutations.{Waits, WaitsWithin, IsInBlock, IsSettling, ListsWaiting, HaveMoved, CanMoveAll, waiting_count, destination_of, Settles, IsWorkOn, IsWorkInRounds};
-ghost use Rattle.chain_compaction.specs.SlotReads.{HasReadSlots};
 
 use crate::read_ahead::read_destinations;
 use crate::slot_access::{read_link, remove_destination_at};
@@ -72,6 +71,9 @@ fn settle_each<P: PtrKey, T: Drop, S: SlotStack<Item = ArenaSlot<P, LinkNoGen<P,
         compactor.old.held.slots compactor.new.held.slots }
     ensures lists { ListsWaiting (destination_of P.Inx.packed_number) start count result.0 result.1
         (slot_at compactor.new.held.slots) }
+    ensures moved { result.1
+        + waiting_count (destination_of P.Inx.packed_number) compactor.new.held.slots
+        ≤ waiting_count (destination_of P.Inx.packed_number) compactor.old.held.slots }
     ensures capacity { compactor.new.held.stack_capacity ≡ compactor.old.held.stack_capacity }
     ensures maximum { compactor.new.held.maximum ≡ compactor.old.held.maximum }
     ensures work { IsWorkOn compactor.old.arena.now compactor.new.arena.now
@@ -93,33 +95,55 @@ fn settle_each<P: PtrKey, T: Drop, S: SlotStack<Item = ArenaSlot<P, LinkNoGen<P,
     (positions, left)
 }
 
-// Returns the turn after `at`, which is 0 at the end of a round, and whether to read ahead again.
+// Moves the link at each of the first `left` positions once, and removes the positions where no
+// link waits any more. Returns how many are left.
 //
-// Before a new round the slots of its destinations are read, if `reads_ahead`. If no link there is
-// to be moved, no round after it needs such reads.
+// Each position stands for a slot of the block of `count` slots after position `start`.
 #[inline(always)]
-fn next_turn<P: PtrKey, T: Drop, S: SlotStack<Item = ArenaSlot<P, LinkNoGen<P, T>>>>(
+fn settle_round<P: PtrKey, T: Drop, S: SlotStack<Item = ArenaSlot<P, LinkNoGen<P, T>>>>(
     compactor: &mut Compactor<'_, P, LinkNoGen<P, T>, S>,
-    positions: &[usize; 64],
+    positions: &mut [usize; 64],
+    start: usize,
+    count: usize,
     left: usize,
-    at: usize,
-    reads_ahead: bool,
-) -> (usize, bool)
-    requires some { 0 < left }
-    requires left { left ≤ 64 }
-    requires within { (p : ℕ) → p < left → slice_index positions.now p < P.Inx.greatest }
-    ensures turn { result.0 < left }
-    ensures early { result.0 ≤ at }
-    ensures read { HasReadSlots compactor.old compactor.new (2 * (at - result.0)) }
+    generation: P::Gen,
+) -> usize
+    requires count { count ≤ 64 }
+    requires block { start + count ≤ length compactor.old.held.slots }
+    requires fits { length compactor.old.held.slots ≤ P.Inx.greatest }
+    requires within { WaitsWithin (destination_of P.Inx.packed_number) compactor.old.held.slots }
+    requires lists { ListsWaiting (destination_of P.Inx.packed_number) start count positions.old left
+        (slot_at compactor.old.held.slots) }
+    ensures same_reference { compactor.new.arena.ghost_name ≡ compactor.old.arena.ghost_name }
+    ensures settles { IsSettling (destination_of P.Inx.packed_number)
+        (Settles P.Inx.packed_number generation) (IsInBlock start count)
+        compactor.old.held.slots compactor.new.held.slots }
+    ensures lists { ListsWaiting (destination_of P.Inx.packed_number) start count positions.new
+        result (slot_at compactor.new.held.slots) }
+    ensures fewer { result ≤ left }
+    ensures moved { result
+        + waiting_count (destination_of P.Inx.packed_number) compactor.new.held.slots
+        ≤ waiting_count (destination_of P.Inx.packed_number) compactor.old.held.slots }
+    ensures capacity { compactor.new.held.stack_capacity ≡ compactor.old.held.stack_capacity }
+    ensures maximum { compactor.new.held.maximum ≡ compactor.old.held.maximum }
+    ensures work { IsWorkOn compactor.old.arena.now compactor.new.arena.now
+        (waiting_count (destination_of P.Inx.packed_number) compactor.old.held.slots)
+        (waiting_count (destination_of P.Inx.packed_number) compactor.new.held.slots)
+        (left - result) }
+    ensures counts { CountsWork compactor.old compactor.new }
 {
-    if at < left {
-        return (at, reads_ahead);
+    let mut rest = left;
+    let mut turn = 0;
+    while turn < rest {
+        assume_proved(positions[turn] < compactor.slots());
+        if settle_once(compactor, inx_at::<P>(positions[turn]), generation) {
+            turn += 1;
+        } else {
+            rest -= 1;
+            positions[turn] = positions[rest];
+        }
     }
-    if reads_ahead {
-        (0, read_destinations(compactor, positions, left))
-    } else {
-        (0, false)
-    }
+    rest
 }
 
 // Moves the links of a block of slots, one placement at each slot in turn, until none with a
@@ -154,18 +178,9 @@ fn settle_block<P: PtrKey, T: Drop, S: SlotStack<Item = ArenaSlot<P, LinkNoGen<P
 {
     let (mut positions, mut left) = settle_each(compactor, start, count, generation);
     let mut reads_ahead = compactor.slots() >= 2_097_152;
-    let mut at = 0;
     while left > 0 {
-        let (turn, again) = next_turn(compactor, &positions, left, at, reads_ahead);
-        reads_ahead = again;
-        assume_proved(positions[turn] < compactor.slots());
-        if settle_once(compactor, inx_at::<P>(positions[turn]), generation) {
-            at = turn + 1;
-        } else {
-            left -= 1;
-            positions[turn] = positions[left];
-            at = turn;
-        }
+        reads_ahead = read_destinations(compactor, &positions, left, reads_ahead);
+        left = settle_round(compactor, &mut positions, start, count, left, generation);
     }
 }
 

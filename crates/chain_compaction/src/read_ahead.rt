@@ -238,8 +238,8 @@ fn leads_on<P: PtrKey, T: Drop, S: SlotStack<Item = ArenaSlot<P, LinkNoGen<P, T>
     }
 }
 
-/// Reads the slots at the destinations of the links at the first `left` positions. Returns whether
-/// a link there has a destination, too.
+/// Reads the slots at the destinations of the links at the first `left` positions, if `is_wanted`.
+/// Returns whether a link there has a destination, too. If not, no later round needs such reads.
 #[inline(always)]
 pub(crate) fn read_destinations<
     P: PtrKey,
@@ -249,11 +249,15 @@ pub(crate) fn read_destinations<
     compactor: &mut Compactor<'_, P, LinkNoGen<P, T>, S>,
     positions: &[usize; 64],
     left: usize,
+    is_wanted: bool,
 ) -> bool
     requires left { left ≤ 64 }
     requires within { (p : ℕ) → p < left → slice_index positions.now p < P.Inx.greatest }
     ensures { HasReadSlots compactor.old compactor.new (2 * left) }
 {
+    if !is_wanted {
+        return false;
+    }
     let mut any = false;
     for p in 0..left {
         if leads_on(compactor, positions[p]) {

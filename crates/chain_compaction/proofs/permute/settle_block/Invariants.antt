@@ -14,7 +14,7 @@ invariant-loop-left g l =
       lists : ListsWaiting (destination_of packed_number) l.start l.count l.positions l.left (slot_at l.compactor.held.slots);
       capacity : l.compactor.held.stack_capacity ≡ l.fn.compactor.held.stack_capacity;
       maximum : l.compactor.held.maximum ≡ l.fn.compactor.held.maximum;
-      work : IsWorkInRounds l.fn.compactor.arena.now l.compactor.arena.now (waiting_count (destination_of packed_number) l.fn.compactor.held.slots) (waiting_count (destination_of packed_number) l.compactor.held.slots) (l.count - l.left) l.at;
+      work : IsWorkInRounds l.fn.compactor.arena.now l.compactor.arena.now (waiting_count (destination_of packed_number) l.fn.compactor.held.slots) (waiting_count (destination_of packed_number) l.compactor.held.slots) (l.count - l.left) l.left;
       counts : CountsWork l.fn.compactor l.compactor;
     }
 

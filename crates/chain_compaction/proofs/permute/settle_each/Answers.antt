@@ -38,6 +38,10 @@ loop-k-preserved g c =
         | else-settle_once w ↦ subst (λ (l : ℕ). ListsWaiting target c.args.start (k + 1) c.if-settle_once.positions l (slot_at next.held.slots)) (sym w.left-is)
             (subst (λ (p : List ℕ). ListsWaiting target c.args.start (k + 1) p left (slot_at next.held.slots)) (sym w.positions-is) (skips w.if-settle_once.false))
       ];
+      moved = elim c.if-settle_once.branch [
+        | then-settle_once w ↦ omega (arith, inv.moved, w.left-is, rw w.if-settle_once.true at step.fewer)
+        | else-settle_once w ↦ omega (arith, inv.moved, w.left-is, step.work.count)
+      ];
       capacity = capacity_then old now next inv.capacity step.capacity;
       maximum = maximum_then old now next inv.maximum step.maximum;
       work = elim c.if-settle_once.branch [

@@ -1,5 +1,5 @@
 -- The moves so far, the list of the slots at which a link may still wait, and the work.
-use Rattle.std.proofs.Common.{◌≡◌, ◌-◌}
+use Rattle.std.proofs.Common.{◌≡◌, ◌≤◌, ◌+◌, ◌-◌}
 use Rattle.arena_base.specs.Arena.{slot_at}
 use Rattle.chain_compaction.specs.WorkCounts.{CountsWork}
 use Rattle.chain_compaction.specs.Permutations.{IsInBlock, IsSettling, ListsWaiting, waiting_count, destination_of, Settles, IsWorkOn}
@@ -12,6 +12,7 @@ invariant-loop-k g l =
       same_reference : l.compactor.arena.ghost_name ≡ l.fn.compactor.arena.ghost_name;
       settles : IsSettling (destination_of packed_number) (Settles packed_number l.generation) (IsInBlock l.start l.count) l.fn.compactor.held.slots l.compactor.held.slots;
       lists : ListsWaiting (destination_of packed_number) l.start l.k l.positions l.left (slot_at l.compactor.held.slots);
+      moved : l.left + waiting_count (destination_of packed_number) l.compactor.held.slots ≤ waiting_count (destination_of packed_number) l.fn.compactor.held.slots;
       capacity : l.compactor.held.stack_capacity ≡ l.fn.compactor.held.stack_capacity;
       maximum : l.compactor.held.maximum ≡ l.fn.compactor.held.maximum;
       work : IsWorkOn l.fn.compactor.arena.now l.compactor.arena.now (waiting_count (destination_of packed_number) l.fn.compactor.held.slots) (waiting_count (destination_of packed_number) l.compactor.held.slots) (l.k - l.left);

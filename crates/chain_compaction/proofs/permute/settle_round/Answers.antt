@@ -1,0 +1,120 @@
+-- `settle_round` moves one more link of the block, or shortens the list of its positions.
+use Rattle.std.proofs.Common.{◌+◌, ◌-◌, length, slice_index, refl, subst, arith}
+use Rattle.arena_base.specs.Arena.{slot_at}
+use Rattle.chain_compaction.specs.Permutations.{IsInBlock, waiting_count, destination_of, Settles, IsWorkOn}
+use Rattle.chain_compaction.proofs.BlockTurnLemmas.{turn_in_block, listing_stays, listing_shrinks, sum_decreases-moved, sum_decreases-shortened, touches_stay, touches_continue, none_more, one_less_left, below_bound, turn_within}
+use Rattle.chain_compaction.proofs.PermutationStepLemmas.{settling_begins, settling_continues}
+use Rattle.chain_compaction.proofs.PermutationLoopLemmas.{work_on-begins, work_on-after}
+use Rattle.chain_compaction.proofs.LinkLoanLemmas.{same_then, counts_on, capacity_then, maximum_then}
+use Rattle.chain_compaction.proofs.WorkCountLemmas.{counts_none}
+use Rattle.chain_compaction.proofs.permute.settle_round.Goals as goal
+
+pub loop-turn-init : goal.loop-turn-init
+loop-turn-init g c =
+    let packed_number = g.P.Inx.InxKey.packed_number in
+    let target = destination_of packed_number in
+    let now = c.args.compactor.now in
+    record {
+      same_reference = refl;
+      settles = settling_begins target (Settles packed_number c.args.generation) (IsInBlock c.args.start c.args.count) now.held.slots;
+      lists = c.requires.lists;
+      few = omega arith;
+      reached = omega arith;
+      moved = omega arith;
+      capacity = refl;
+      maximum = refl;
+      work = subst (IsWorkOn now.arena.now now.arena.now (waiting_count target now.held.slots) (waiting_count target now.held.slots)) (none_more c.args.left) (work_on-begins now.arena.now (waiting_count target now.held.slots));
+      counts = counts_none now.arena.now now.placed now.touched;
+    }
+
+pub bounds-positions-turn : goal.bounds-positions-turn
+bounds-positions-turn g c = turn_within c.loop-turn.turn c.loop-turn.rest c.args.count c.loop-turn-test.true c.loop-turn.invariant.lists.few c.requires.count
+
+pub inx_at-requires : goal.inx_at-requires
+inx_at-requires g c =
+    let within = c.loop-turn.invariant.lists.within c.loop-turn.turn c.loop-turn-test.true in
+    below_bound (slice_index c.loop-turn.positions c.loop-turn.turn) (c.args.start + c.args.count) (length c.args.compactor.now.held.slots) g.P.Inx.InxKey.greatest within.1 c.requires.block c.requires.fits
+
+pub settle_once-requires : goal.settle_once-requires
+settle_once-requires g c = c.loop-turn.invariant.settles.within c.requires.within
+
+pub loop-turn-preserved-then-settle_once : goal.loop-turn-preserved-then-settle_once
+loop-turn-preserved-then-settle_once g c =
+    let packed_number = g.P.Inx.InxKey.packed_number in
+    let target = destination_of packed_number in
+    let i = g.P.Inx.InxKey.number c.inx_at.result in
+    let turn = c.loop-turn.turn in
+    let rest = c.loop-turn.rest in
+    let inv = c.loop-turn.invariant in
+    let step = c.if-settle_once.ensures in
+    let old = c.args.compactor.now in
+    let now = c.loop-turn.compactor in
+    let next = c.settle_once.new.compactor in
+    let inside = turn_in_block target c.args.start c.args.count c.loop-turn.positions rest turn i (slot_at now.held.slots) (slot_at next.held.slots) inv.lists c.loop-turn-test.true c.inx_at.ensures step.settles.stays in
+    record {
+      same_reference = same_then old now next inv.same_reference step.same_reference;
+      settles = settling_continues target (Settles packed_number c.args.generation) (IsInBlock c.args.start c.args.count) i old.held.slots now.held.slots next.held.slots inside inv.settles step.settles;
+      lists = listing_stays target c.args.start c.args.count c.loop-turn.positions rest turn i (slot_at now.held.slots) (slot_at next.held.slots) inv.lists c.loop-turn-test.true c.inx_at.ensures step.settles.stays;
+      few = omega (arith, inv.few);
+      reached = omega (arith, inv.reached, c.loop-turn-test.true);
+      moved = omega (arith, inv.moved, step.fewer);
+      capacity = capacity_then old now next inv.capacity step.capacity;
+      maximum = maximum_then old now next inv.maximum step.maximum;
+      work = work_on-after old.arena.now now.arena.now next.arena.now (waiting_count target old.held.slots) (waiting_count target now.held.slots) (waiting_count target next.held.slots)
+          (c.args.left - rest) 0 (c.args.left - rest) inv.work step.work (touches_stay c.args.left rest);
+      counts = counts_on old now next inv.counts step.counts;
+    }
+
+pub loop-turn-preserved : goal.loop-turn-preserved
+loop-turn-preserved g c =
+    let packed_number = g.P.Inx.InxKey.packed_number in
+    let target = destination_of packed_number in
+    let i = g.P.Inx.InxKey.number c.inx_at.result in
+    let turn = c.loop-turn.turn in
+    let rest = c.loop-turn.rest in
+    let inv = c.loop-turn.invariant in
+    let step = c.if-settle_once.ensures in
+    let old = c.args.compactor.now in
+    let now = c.loop-turn.compactor in
+    let next = c.settle_once.new.compactor in
+    let inside = turn_in_block target c.args.start c.args.count c.loop-turn.positions rest turn i (slot_at now.held.slots) (slot_at next.held.slots) inv.lists c.loop-turn-test.true c.inx_at.ensures step.settles.stays in
+    record {
+      same_reference = same_then old now next inv.same_reference step.same_reference;
+      settles = settling_continues target (Settles packed_number c.args.generation) (IsInBlock c.args.start c.args.count) i old.held.slots now.held.slots next.held.slots inside inv.settles step.settles;
+      lists = listing_shrinks target c.args.start c.args.count c.loop-turn.positions rest turn i (slot_at now.held.slots) (slot_at next.held.slots) inv.lists c.loop-turn-test.true c.inx_at.ensures step.settles.stays
+          (rest - 1) (one_less_left rest (omega (arith, c.loop-turn-test.true))) c.requires.count step.none;
+      few = omega (arith, inv.few);
+      reached = omega (arith, inv.reached, c.loop-turn-test.true);
+      moved = omega (arith, inv.moved, step.work.count);
+      capacity = capacity_then old now next inv.capacity step.capacity;
+      maximum = maximum_then old now next inv.maximum step.maximum;
+      work = work_on-after old.arena.now now.arena.now next.arena.now (waiting_count target old.held.slots) (waiting_count target now.held.slots) (waiting_count target next.held.slots)
+          (c.args.left - rest) 1 (c.args.left - (rest - 1)) inv.work step.work (touches_continue c.args.left rest (omega (arith, c.loop-turn-test.true)) inv.few);
+      counts = counts_on old now next inv.counts step.counts;
+    }
+
+pub loop-turn-smaller-then-settle_once : goal.loop-turn-smaller-then-settle_once
+loop-turn-smaller-then-settle_once g c =
+    let target = destination_of g.P.Inx.InxKey.packed_number in
+    sum_decreases-moved (waiting_count target c.loop-turn.compactor.held.slots) (waiting_count target c.settle_once.new.compactor.held.slots) c.loop-turn.rest c.if-settle_once.ensures.fewer
+
+pub loop-turn-smaller : goal.loop-turn-smaller
+loop-turn-smaller g c =
+    let target = destination_of g.P.Inx.InxKey.packed_number in
+    let work = c.if-settle_once.ensures.work in
+    sum_decreases-shortened (waiting_count target c.loop-turn.compactor.held.slots) (waiting_count target c.settle_once.new.compactor.held.slots) work.moved c.loop-turn.rest work.count (omega (arith, c.loop-turn-test.true))
+
+pub returns : goal.returns
+returns g c =
+    let inv = c.loop-turn.invariant in
+    record {
+      same_reference = inv.same_reference;
+      settles = inv.settles;
+      lists = inv.lists;
+      fewer = inv.few;
+      moved = omega (arith, inv.moved, inv.reached, c.loop-turn-test.false);
+      capacity = inv.capacity;
+      maximum = inv.maximum;
+      work = inv.work;
+      counts = inv.counts;
+    }

@@ -1,0 +1,25 @@
+-- The moves so far, the positions that are left, and the work.
+use Rattle.std.proofs.Common.{◌≡◌, ◌≤◌, ◌+◌, ◌-◌}
+use Rattle.arena_base.specs.Arena.{slot_at}
+use Rattle.chain_compaction.specs.WorkCounts.{CountsWork}
+use Rattle.chain_compaction.specs.Permutations.{IsInBlock, IsSettling, ListsWaiting, waiting_count, destination_of, Settles, IsWorkOn}
+use Rattle.chain_compaction.proofs.permute.settle_round.Given as goal
+
+abbrev pub invariant-loop-turn : goal.invariant-loop-turn
+invariant-loop-turn g l =
+    let packed_number = g.P.Inx.InxKey.packed_number in
+    record {
+      same_reference : l.compactor.arena.ghost_name ≡ l.fn.compactor.arena.ghost_name;
+      settles : IsSettling (destination_of packed_number) (Settles packed_number l.generation) (IsInBlock l.start l.count) l.fn.compactor.held.slots l.compactor.held.slots;
+      lists : ListsWaiting (destination_of packed_number) l.start l.count l.positions l.rest (slot_at l.compactor.held.slots);
+      few : l.rest ≤ l.left;
+      reached : l.turn ≤ l.rest;
+      moved : l.turn + waiting_count (destination_of packed_number) l.compactor.held.slots ≤ waiting_count (destination_of packed_number) l.fn.compactor.held.slots;
+      capacity : l.compactor.held.stack_capacity ≡ l.fn.compactor.held.stack_capacity;
+      maximum : l.compactor.held.maximum ≡ l.fn.compactor.held.maximum;
+      work : IsWorkOn l.fn.compactor.arena.now l.compactor.arena.now (waiting_count (destination_of packed_number) l.fn.compactor.held.slots) (waiting_count (destination_of packed_number) l.compactor.held.slots) (l.left - l.rest);
+      counts : CountsWork l.fn.compactor l.compactor;
+    }
+
+abbrev pub decreases-loop-turn : goal.decreases-loop-turn
+decreases-loop-turn g l = waiting_count (destination_of g.P.Inx.InxKey.packed_number) l.compactor.held.slots + l.rest
