@@ -1,6 +1,6 @@
 -- Numbering of chains by their least index: the beginning, one more slot, and the end.
 use Rattle.std.proofs.Common.{◌≡◌, ℕ, ◌+◌, ◌-◌, ◌*◌, ◌<◌, ◌≤◌, ◌⊎◌, inl, inr, List, [], ◌∷◌, ◌++◌, length, Option, None, Some, true, false, refl, sym, ap, ◌∙◌, subst, arith}
-use Rattle.std.specs.Prelude.{is_none}
+use Rattle.std.specs.Prelude.{count_by, is_none, is_some}
 use Rattle.std.specs.Option.{option_map, option_and_then}
 use Rattle.std.proofs.lemmas.List.{length-append, append-nil}
 use Rattle.std.proofs.Math.Decide.{ℕ_discrete}
@@ -26,7 +26,8 @@ use Rattle.chain_compaction.specs.Permutations.{destination_of}
 use Rattle.chain_compaction.specs.Destinations.{HasChainFrom, renamed_link, destination_at, is_fresh, AreNumbered, AreRelinked, CanNumber, IsChainNumbered, AreAllNumbered}
 use Rattle.chain_links.proofs.ArenaInsertionLemmas.{slots-within}
 use Rattle.chain_compaction.proofs.DetachedLinkLemmas.{work-none, work-more, work-few}
-use Rattle.chain_compaction.proofs.ChainDestinationLemmas.{reports_none, reports_then}
+use Rattle.chain_compaction.proofs.ArrangementLemmas.{count-stored}
+use Rattle.chain_compaction.proofs.ChainDestinationLemmas.{stored_at, reports_none, reports_then}
 use Rattle.chain_compaction.proofs.LinkRewriteLemmas.{viewed_as, relinked_none, relinked_as, relinked_ptr, relinked_then, all_relinked}
 
 -- ---- chains in order
@@ -177,9 +178,9 @@ module _ {Gen K T F P : Type 0} (number : K → Option ℕ) (g : F → P → P �
     rest_valid : (j : ℕ) → IsMember (all_items o.rest) j → HasLink (link_map_in number old.slots) j
     rest_valid j h = (o.are.partition.valid j).1 (subst (λ (xs : List ℕ). IsMember xs j) (sym all_parts) (IsMember-right (all_items o.done) (all_items o.rest) j h))
 
-    -- All slots are passed.
-    pub order_ends : k ≡ length old.slots → AreAllNumbered number g key generation f last old now before after count
-    order_ends all = record {
+    -- No link is left.
+    ended : ((y : ℕ) → IsMember (all_items o.rest) y → ⊥) → k ≤ length old.slots → AreAllNumbered number g key generation f last old now before after count
+    ended none few = record {
       indexes = all_items o.done;
       order = record { chains = o.chains; are = o.are; items = sym whole };
       counted = o.numbered.counts;
@@ -187,8 +188,19 @@ module _ {Gen K T F P : Type 0} (number : K → Option ℕ) (g : F → P → P �
       renamed = all_relinked number (place_in (all_items o.done)) old now (all_items o.done)
           (subst (λ (xs : List ℕ). AreRelinked number (λ _. renamed_link (place_in xs)) old now (all_items o.done)) whole o.relinked) each;
       reports = o.reports;
-      work = work-few o.work (2 * length old.slots + 5 * length (all_items o.done)) (omega (arith, all, o.allowed, o.numbered.counts));
+      work = work-few o.work (2 * length old.slots + 5 * length (all_items o.done)) (omega (arith, few, o.allowed, o.numbered.counts));
     }
+      where
+        whole : all_items o.chains ≡ all_items o.done
+        whole = all_parts ∙ (ap (λ (xs : List ℕ). all_items o.done ++ xs) (no_items (all_items o.rest) none) ∙ append-nil (all_items o.done))
+
+        each : (j : ℕ) (e : Gen × LinkBody K T) → slot_at old.slots j ≡ Some e → IsMember (all_items o.done) j
+        each j e is =
+            subst (λ (xs : List ℕ). IsMember xs j) whole ((o.are.partition.valid j).0 (record { link = body_interlinks number e; links = ap (option_map (body_interlinks number)) is }))
+
+    -- All slots are passed.
+    pub order_ends : k ≡ length old.slots → AreAllNumbered number g key generation f last old now before after count
+    order_ends all = ended none (omega (arith, all))
       where
         none : (y : ℕ) → IsMember (all_items o.rest) y → ⊥
         none y h =
@@ -196,12 +208,22 @@ module _ {Gen K T F P : Type 0} (number : K → Option ℕ) (g : F → P → P �
             let high : y ≤ length old.slots = ((slots-within (body_interlinks number) old.slots).within y (rest_valid y h)).1 in
             omega (arith, all)
 
-        whole : all_items o.chains ≡ all_items o.done
-        whole = all_parts ∙ (ap (λ (xs : List ℕ). all_items o.done ++ xs) (no_items (all_items o.rest) none) ∙ append-nil (all_items o.done))
+    -- As many links are numbered as there are.
+    pub order_full : count ≡ count_by is_some old.slots → k ≤ length old.slots → AreAllNumbered number g key generation f last old now before after count
+    order_full full few = ended none few
+      where
+        stored : count_by is_some old.slots ≡ length (all_items o.chains)
+        stored =
+            count-stored (record before { slots = old.slots }) (all_items o.chains) are.once
+            (λ i e s. (o.are.partition.valid i).0 (record { link = body_interlinks number e; links = ap (option_map (body_interlinks number)) s }))
+            (λ i h. stored_at number old.slots i ((o.are.partition.valid i).1 h))
 
-        each : (j : ℕ) (e : Gen × LinkBody K T) → slot_at old.slots j ≡ Some e → IsMember (all_items o.done) j
-        each j e is =
-            subst (λ (xs : List ℕ). IsMember xs j) whole ((o.are.partition.valid j).0 (record { link = body_interlinks number e; links = ap (option_map (body_interlinks number)) is }))
+        nothing : (xs : List ℕ) → length xs ≡ 0 → (y : ℕ) → IsMember xs y → ⊥
+        nothing [] e y h = h
+        nothing (x ∷ xs) e y h = cc
+
+        none : (y : ℕ) → IsMember (all_items o.rest) y → ⊥
+        none = nothing (all_items o.rest) (omega (arith, full, stored, o.numbered.counts, ap length all_parts, length-append (all_items o.done) (all_items o.rest)))
 
     module _ (i : ℕ) (is : i ≡ k + 1) where
       -- The next slot holds no link without a destination.

@@ -1,5 +1,5 @@
 -- Writes of slots: which entry is where, and how many entries wait.
-use Rattle.std.proofs.Common.{◌≡◌, ◌≢◌, ℕ, zero, suc, ◌+◌, ◌≤◌, List, [], ◌∷◌, length, Bool, cond, Option, None, Some, refl, sym, ap, ap₂, ◌∙◌, arith}
+use Rattle.std.proofs.Common.{◌≡◌, ◌≢◌, ℕ, zero, suc, ◌+◌, ◌≤◌, List, [], ◌∷◌, length, map, Bool, cond, Option, None, Some, refl, sym, ap, ap₂, ◌∙◌, arith}
 use Rattle.std.specs.Prelude.{count_by, is_some}
 use Rattle.std.specs.Option.{option_map}
 use Rattle.std.proofs.lemmas.List.Sums.{sum_by-set, sum_by-cons}
@@ -76,3 +76,13 @@ module _ {E : Type 0} (goal : E → Option ℕ) where
 -- A loop index that has reached its end.
 pub at_end : (k end all : ℕ) → end ≡ all → k ≤ end → end ≤ k → k ≡ all
 at_end k end all is high low = omega (arith, is, high, low)
+
+-- The number of entries stays the same if each is mapped.
+pub count-mapped : {A B : Type 0} (f : A → B) (xs : List (Option A)) → count_by is_some (map (option_map f) xs) ≡ count_by is_some xs
+count-mapped f [] = refl
+count-mapped f (x ∷ xs) = sum_by-cons (λ (y : Option _). one_if (is_some y)) (option_map f x) (map (option_map f) xs)
+    ∙ (ap₂ (λ (b : Bool) (n : ℕ). one_if b + n) (kept x) (count-mapped f xs) ∙ sym (sum_by-cons (λ (y : Option _). one_if (is_some y)) x xs))
+  where
+    kept : (o : Option _) → is_some (option_map f o) ≡ is_some o
+    kept None = refl
+    kept (Some e) = refl

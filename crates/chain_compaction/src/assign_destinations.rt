@@ -1,6 +1,6 @@
 // Numbering of chains by their least index, linear ones from their start, cyclic ones from their
 // least index.
-ghost use Rattle.std.specs.Prelude.{◌≡◌, ◌≤◌, ◌<◌, ℕ, ◌+◌, length, List, ◌∷◌, None, IsSome};
+ghost use Rattle.std.specs.Prelude.{◌≡◌, ◌≤◌, ◌<◌, ℕ, ◌+◌, length, count_by, is_some, List, ◌∷◌, None, IsSome};
 ghost use Rattle.std.specs.Option.{option_map};
 ghost use Rattle.chain_laws.specs.Chains.{Chain, linear, cyclic, IsMember, IsChain, IsWellLinked};
 ghost use Rattle.chain_laws.specs.ChainStart.{IsStart};
@@ -151,7 +151,8 @@ fn number_chain<
     (visitor, count)
 }
 
-/// Assigns each link its destination, and returns the visitor and the number of links.
+/// Assigns each link its destination, and returns the visitor and the number of links. There are
+/// `links` of them; slots behind the last chain to be numbered are not read.
 ///
 /// Chains are numbered by their least index, linear ones from their start, cyclic ones from their
 /// least index. Interlinks then name destinations. The visitor sees each link's old and new
@@ -163,10 +164,12 @@ pub fn number_all<
     V: Visitor<P>,
 >(
     compactor: &mut Compactor<'_, P, LinkNoGen<P, T>, S>,
+    links: usize,
     generation: P::Gen,
     mut visitor: V,
 ) -> (V, usize)
     requires ready { V.is_ready visitor }
+    requires links { links ≡ count_by is_some compactor.old.held.slots }
     requires fits { length compactor.old.held.slots ≤ P.Inx.greatest }
     requires agree { IsWellLinked (link_map_in P.Inx.packed_number compactor.old.held.slots) }
     requires empty { (j : ℕ) → destination_at P.Inx.packed_number compactor.old.held.slots j
@@ -181,6 +184,9 @@ pub fn number_all<
     let mut count = 0;
     let mut ahead = ReadAhead::new(compactor.slots());
     for k in 0..compactor.slots() {
+        if count == links {
+            return (visitor, count);
+        }
         assume_proved(k < compactor.slots());
         let i = inx_at::<P>(k);
         let (was, prev, next, destination) = read_link(compactor, i);

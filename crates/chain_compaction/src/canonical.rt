@@ -40,7 +40,7 @@ pub fn clear_destinations<P: PtrKey, T: Drop, S: SlotStack<Item = ArenaSlot<P, L
 }
 
 // Assigns each link its destination and moves it there. Returns the visitor and the number of
-// links.
+// links, which is `links`.
 #[inline(always)]
 fn arrange_by_moves<
     P: PtrKey,
@@ -49,10 +49,12 @@ fn arrange_by_moves<
     V: Visitor<P>,
 >(
     compactor: &mut Compactor<'_, P, LinkNoGen<P, T>, S>,
+    links: usize,
     generation: P::Gen,
     visitor: V,
 ) -> (V, usize)
     requires ready { V.is_ready visitor }
+    requires links { links ≡ count_by is_some compactor.old.held.slots }
     requires fits { length compactor.old.held.slots ≤ P.Inx.greatest }
     requires agree { IsWellLinked (link_map_in P.Inx.packed_number compactor.old.held.slots) }
     ensures ready { V.is_ready result.0 }
@@ -63,7 +65,7 @@ fn arrange_by_moves<
     ensures counts { CountsWork compactor.old compactor.new }
 {
     clear_destinations(compactor);
-    let (visitor, count) = number_all(compactor, generation, visitor);
+    let (visitor, count) = number_all(compactor, links, generation, visitor);
     move_all(compactor, generation);
     (visitor, count)
 }
@@ -90,7 +92,7 @@ fn place_all<P: PtrKey, T: Drop, S: SlotStack<Item = ArenaSlot<P, LinkNoGen<P, T
     if is_in_order(compactor, links) {
         renew_all(compactor, generation, visitor)
     } else {
-        arrange_by_moves(compactor, generation, visitor)
+        arrange_by_moves(compactor, links, generation, visitor)
     }
 }
 

@@ -5,7 +5,7 @@ use Rattle.chain_compaction.proofs.SlotCountLemmas.{at_end}
 use Rattle.chain_compaction.proofs.DetachedLinkLemmas.{work-touched, work-more}
 use Rattle.chain_compaction.proofs.LinkLoanLemmas.{same_then, counts_on}
 use Rattle.chain_compaction.proofs.SlotReadLemmas.{known_fresh, known_directed, known_none}
-use Rattle.chain_compaction.proofs.ChainOrderLemmas.{order_begins, order_ends, order_skips, order_found, order_can, order_continues}
+use Rattle.chain_compaction.proofs.ChainOrderLemmas.{order_begins, order_ends, order_full, order_skips, order_found, order_can, order_continues}
 use Rattle.chain_compaction.proofs.WorkCountLemmas.{counts_none}
 use Rattle.chain_compaction.proofs.assign_destinations.number_all.Goals as goal
 
@@ -110,6 +110,19 @@ loop-k-preserved g c =
           (work-more (work-touched now.arena.now mid.arena.now lookup.was_read.arena) ahead.read.work 0 (1 + reads) refl (omega arith))
           (omega (arith, ahead.fewer, c.with_numbered-ahead.ensures, c.saturating_sub.ensures)) start.linear start.cyclic chain.numbered;
       counts = counts_on old now new at.counts (counts_on now mid new lookup.was_read.counts (counts_on mid behind new ahead.read.counts (counts_on behind was_stored new start.counts chain.counts)));
+    }
+
+pub returns-then-count-links : goal.returns-then-count-links
+returns-then-count-links g c =
+    let at = c.loop-k.invariant in
+    let old = c.args.compactor.now in
+    let now = c.loop-k.compactor in
+    record {
+      ready = at.ready;
+      same_reference = at.same_reference;
+      numbered = order_full g.P.Inx.InxKey.packed_number g.V.Visitor.sees g.P.PtrKey.key c.args.generation c.args.visitor old.held old.arena.now c.loop-k.visitor now.held now.arena.now c.loop-k.count c.loop-k.k c.loop-k.ahead.credit
+          at.order (c.if-count-links.true ∙ c.requires.links) (omega (arith, c.slots-k-end.ensures, c.loop-k.auto.k-end));
+      counts = at.counts;
     }
 
 pub returns : goal.returns

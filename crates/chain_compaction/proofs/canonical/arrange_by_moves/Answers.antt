@@ -1,9 +1,12 @@
 -- `arrange_by_moves` moves each link to its destination, and leaves no free slot between them.
-use Rattle.std.proofs.Common.{arith}
-use Rattle.chain_compaction.proofs.ChainDestinationLemmas.{length-view_after}
+use Rattle.std.proofs.Common.{sym, ◌∙◌, arith}
+use Rattle.chain_compaction.proofs.ChainDestinationLemmas.{length-view_after, count-view_after}
 use Rattle.chain_compaction.proofs.CanonicalLayoutLemmas.{length-renamed, agree-view_after, links_can_move, links_placed}
 use Rattle.chain_compaction.proofs.LinkLoanLemmas.{same_then, counts_on}
 use Rattle.chain_compaction.proofs.canonical.arrange_by_moves.Goals as goal
+
+pub number_all-visitor-requires-clause-links : goal.number_all-visitor-requires-clause-links
+number_all-visitor-requires-clause-links g c = c.requires.links ∙ sym (count-view_after g.P.Inx.InxKey.packed_number c.clear_destinations.new.compactor.held c.args.compactor.now.held c.clear_destinations.ensures.view_after)
 
 pub number_all-visitor-requires-clause-agree : goal.number_all-visitor-requires-clause-agree
 number_all-visitor-requires-clause-agree g c = agree-view_after g.P.Inx.InxKey.packed_number c.args.compactor.now.held c.clear_destinations.new.compactor.held c.clear_destinations.ensures.view_after c.requires.agree

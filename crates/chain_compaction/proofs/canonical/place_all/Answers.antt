@@ -1,8 +1,12 @@
 -- `place_all` renews the links or moves them, after a test that reads each link at most once.
-use Rattle.std.proofs.Common.{arith}
+use Rattle.std.specs.Prelude.{count_by, is_some}
+use Rattle.std.proofs.Common.{sym, ap, ◌∙◌, arith}
 use Rattle.chain_compaction.proofs.CanonicalLayoutLemmas.{placed_after_reads}
 use Rattle.chain_compaction.proofs.LinkLoanLemmas.{same_then, counts_on}
 use Rattle.chain_compaction.proofs.canonical.place_all.Goals as goal
+
+pub arrange_by_moves-requires-clause-links : goal.arrange_by_moves-requires-clause-links
+arrange_by_moves-requires-clause-links g c = c.requires.links ∙ sym (ap (λ h. count_by is_some h.slots) c.is_in_order.ensures.read.held)
 
 pub returns-then-is_in_order : goal.returns-then-is_in_order
 returns-then-is_in_order g c =
