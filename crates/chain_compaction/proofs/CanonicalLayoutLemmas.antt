@@ -35,6 +35,7 @@ use Rattle.chain_compaction.proofs.CompactedLinkLemmas.{without_free_end-map, sl
 use Rattle.chain_compaction.proofs.CompactedFrontLemmas.{front-packed, packed-length, moved_viewed}
 use Rattle.chain_compaction.proofs.ChainDestinationLemmas.{length-view_after, stored_at}
 use Rattle.chain_compaction.proofs.WorkCountLemmas.{counted_none}
+use Rattle.chain_compaction.proofs.SlotCountLemmas.{count-mapped}
 use Rattle.chain_compaction.proofs.ArrangementLemmas.{count-stored, slots-filled, values-filled}
 
 -- ---- links at their places
@@ -151,6 +152,13 @@ module _ {Gen K T : Type 0} (number : K → Option ℕ) where
       sym (length-map one.slots (option_map (pair_view number)))
       ∙ (ap (λ (h : DetachedView Gen (LinkView T)). length h.slots) renamed
       ∙ (length-map (held_view number other).slots (option_map (on_value (renamed_link to))) ∙ length-map other.slots (option_map (pair_view number))))
+
+  -- It also keeps the number of links.
+  pub count-renamed : (to : ℕ → Option ℕ) (one other : DetachedView Gen (LinkBody K T)) → held_view number one ≡ renamed_held to (held_view number other) → count_by is_some one.slots ≡ count_by is_some other.slots
+  count-renamed to one other renamed =
+      sym (count-mapped (pair_view number) one.slots)
+      ∙ (ap (λ (h : DetachedView Gen (LinkView T)). count_by is_some h.slots) renamed
+      ∙ (count-mapped (on_value (renamed_link to)) (held_view number other).slots ∙ count-mapped (pair_view number) other.slots))
 
   -- The pointers follow from the view.
   ptr-view_after : (held : DetachedView Gen (LinkBody K T)) (i : ℕ) → ptr_at (slot_at held.slots) i ≡ ptr_at (slot_at (map (option_map (on_value link_value)) (held_view number held).slots)) i

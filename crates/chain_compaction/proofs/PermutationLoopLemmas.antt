@@ -7,7 +7,7 @@ use Rattle.arena_base.specs.DetachedSlots.{with_touch, with_placement}
 use Rattle.chain_compaction.specs.DetachedLinks.{IsWork}
 use Rattle.chain_compaction.specs.Permutations.{Waits, HaveMoved, CanMoveAll, IsInBlock, IsSettling, ArePassed, waiting_count, IsWorkOn, IsWorkInRounds}
 use Rattle.chain_compaction.proofs.SlotSwapLemmas.{moving_begins, moving_ends}
-use Rattle.chain_compaction.proofs.SlotCountLemmas.{stored-within, waiting-none}
+use Rattle.chain_compaction.proofs.SlotCountLemmas.{stored-within, waiting-none, none-waiting}
 use Rattle.chain_compaction.proofs.DetachedLinkLemmas.{work-none, work-touched, work-with_placed_entry, work-more, work-few}
 
 module _ {E : Type 0} (goal : E → Option ℕ) (Settles : E → E → Type 0) (done : (e f : E) → Settles e f → goal f ≡ None) where
@@ -35,6 +35,10 @@ module _ {E : Type 0} (goal : E → Option ℕ) (Settles : E → E → Type 0) (
       by : (j d : ℕ) (e : E) → j ≤ k + count → Waits goal (slot_at next) j e d → ((leb j k ≡ true) × (j ≤ k)) ⊎ ((leb j k ≡ false) × (k < j)) → ⊥
       by j d e low w (inl before) = let first : j ≤ k = before.1 in p.passed j d e first (s.stays j d e (λ b. let after : k < j = b.0 in omega arith) w)
       by j d e low w (inr after) = none j d e (after.1, low) w
+
+  -- If no entry waits, all slots are passed.
+  pub passing_stops : (old now : List (Option E)) (k : ℕ) → ArePassed goal Settles old now k → waiting_count goal now ≡ 0 → ArePassed goal Settles old now (length old)
+  passing_stops old now k p none = record { moves = p.moves; within = p.within; length = p.length; passed = λ j d e low w. none-waiting goal now none j d e w }
 
   nowhere : (old now : List (Option E)) → ArePassed goal Settles old now (length old) → (i d : ℕ) (e : E) → Waits goal (slot_at now) i e d → ⊥
   nowhere old now p i d e w = p.passed i d e (let b : i ≤ length now = (stored-within now i e w.stored).1 in let l : length now ≡ length old = p.length in omega arith) w
@@ -97,7 +101,7 @@ module _ {Gen T : Type 0} where
   }
 
   -- The work after the last round.
-  pub rounds_stop : (old now : Arena Gen T) (waited wait some all left : ℕ) → some ≡ all → IsWorkInRounds old now waited wait some left → IsWorkInRounds old now waited wait all 0
+  pub rounds_stop : (old now : Arena Gen T) (waited wait some all left : ℕ) → some ≤ all → IsWorkInRounds old now waited wait some left → IsWorkInRounds old now waited wait all 0
   rounds_stop old now waited wait some all left is rounds = record { moved = rounds.moved; most = rounds.most; work = rounds.work; few = omega (arith, rounds.few, is); count = rounds.count }
 
   -- No work so far.

@@ -65,6 +65,18 @@ module _ {E : Type 0} (goal : E → Option ℕ) where
       let first : mark goal x ≡ 0 = mark-none x (λ e d is to. not 1 d e (record { stored = is; to = to })) in
       sum_by-cons (mark goal) x xs ∙ ap₂ (λ (a b : ℕ). a + b) first rest
 
+  -- If the count is 0, no entry waits.
+  pub none-waiting : (xs : List (Option E)) → waiting_count goal xs ≡ 0 → (i d : ℕ) (e : E) → Waits goal (slot_at xs) i e d → ⊥
+  none-waiting [] none i d e w = let within = stored-within [] i e w.stored in omega (arith, within.0, within.1)
+  none-waiting (x ∷ xs) none zero d e w = let within = stored-within (x ∷ xs) zero e w.stored in omega (arith, within.0)
+  none-waiting (x ∷ xs) none (suc zero) d e w =
+      let first : mark goal x ≡ 1 = ap (mark goal) w.stored ∙ ap (λ (o : Option ℕ). one_if (is_some o)) w.to in
+      let whole : waiting_count goal (x ∷ xs) ≡ mark goal x + waiting_count goal xs = sum_by-cons (mark goal) x xs in
+      omega arith
+  none-waiting (x ∷ xs) none (suc (suc k)) d e w =
+      let whole : waiting_count goal (x ∷ xs) ≡ mark goal x + waiting_count goal xs = sum_by-cons (mark goal) x xs in
+      none-waiting xs (omega arith) (suc k) d e (record { stored = w.stored; to = w.to })
+
   -- If each entry waits, the count is the number of entries.
   pub waiting-all : (xs : List (Option E)) → ((i : ℕ) (e : E) → slot_at xs i ≡ Some e → (d : ℕ) × (goal e ≡ Some d)) → waiting_count goal xs ≡ count_by is_some xs
   waiting-all [] all = refl

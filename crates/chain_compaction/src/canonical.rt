@@ -66,7 +66,7 @@ fn arrange_by_moves<
 {
     clear_destinations(compactor);
     let (visitor, count) = number_all(compactor, links, generation, visitor);
-    move_all(compactor, generation);
+    move_all(compactor, links, generation);
     (visitor, count)
 }
 

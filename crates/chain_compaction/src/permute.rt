@@ -15,14 +15,19 @@ use chain_links::LinkNoGen;
 // Moves the link at `i` to its destination, if it has one, by an exchange of slots, and returns
 // whether another may now wait at `i`: none does if the destination is `i` itself.
 //
+// `unplaced` is the number of links that wait.
+//
 // The destination is removed after the exchange: a write just before it would delay its reads.
 #[inline(always)]
 fn settle_once<P: PtrKey, T: Drop, S: SlotStack<Item = ArenaSlot<P, LinkNoGen<P, T>>>>(
     compactor: &mut Compactor<'_, P, LinkNoGen<P, T>, S>,
     i: P::Inx,
     generation: P::Gen,
+    unplaced: &mut usize,
 ) -> bool
-    requires { WaitsWithin (destination_of P.Inx.packed_number) compactor.old.held.slots }
+    requires within { WaitsWithin (destination_of P.Inx.packed_number) compactor.old.held.slots }
+    requires unplaced { unplaced.old
+        ≡ waiting_count (destination_of P.Inx.packed_number) compactor.old.held.slots }
     ensures same_reference { compactor.new.arena.ghost_name ≡ compactor.old.arena.ghost_name }
     ensures settles { IsSettling (destination_of P.Inx.packed_number)
         (Settles P.Inx.packed_number generation) (λ j. j ≡ P.Inx.number i)
@@ -39,6 +44,8 @@ fn settle_once<P: PtrKey, T: Drop, S: SlotStack<Item = ArenaSlot<P, LinkNoGen<P,
         (waiting_count (destination_of P.Inx.packed_number) compactor.old.held.slots)
         (waiting_count (destination_of P.Inx.packed_number) compactor.new.held.slots)
         (if result then 0 else 1) }
+    ensures unplaced { unplaced.new
+        ≡ waiting_count (destination_of P.Inx.packed_number) compactor.new.held.slots }
     ensures counts { CountsWork compactor.old compactor.new }
 {
     let (_, _, _, destination) = read_link(compactor, i);
@@ -46,6 +53,7 @@ fn settle_once<P: PtrKey, T: Drop, S: SlotStack<Item = ArenaSlot<P, LinkNoGen<P,
         Some(to) => {
             compactor.place(i, to, generation);
             remove_destination_at(compactor, to);
+            *unplaced -= 1;
             !to.is_same(i)
         }
         None => false,
@@ -60,11 +68,14 @@ fn settle_each<P: PtrKey, T: Drop, S: SlotStack<Item = ArenaSlot<P, LinkNoGen<P,
     start: usize,
     count: usize,
     generation: P::Gen,
+    unplaced: &mut usize,
 ) -> ([usize; 64], usize)
     requires count { count ≤ 64 }
     requires block { start + count ≤ length compactor.old.held.slots }
     requires fits { length compactor.old.held.slots ≤ P.Inx.greatest }
     requires within { WaitsWithin (destination_of P.Inx.packed_number) compactor.old.held.slots }
+    requires unplaced { unplaced.old
+        ≡ waiting_count (destination_of P.Inx.packed_number) compactor.old.held.slots }
     ensures same_reference { compactor.new.arena.ghost_name ≡ compactor.old.arena.ghost_name }
     ensures settles { IsSettling (destination_of P.Inx.packed_number)
         (Settles P.Inx.packed_number generation) (IsInBlock start count)
@@ -80,6 +91,8 @@ fn settle_each<P: PtrKey, T: Drop, S: SlotStack<Item = ArenaSlot<P, LinkNoGen<P,
         (waiting_count (destination_of P.Inx.packed_number) compactor.old.held.slots)
         (waiting_count (destination_of P.Inx.packed_number) compactor.new.held.slots)
         (count - result.1) }
+    ensures unplaced { unplaced.new
+        ≡ waiting_count (destination_of P.Inx.packed_number) compactor.new.held.slots }
     ensures counts { CountsWork compactor.old compactor.new }
 {
     let mut positions = [0; 64];
@@ -87,7 +100,7 @@ fn settle_each<P: PtrKey, T: Drop, S: SlotStack<Item = ArenaSlot<P, LinkNoGen<P,
     for k in 0..count {
         let position = start + k;
         assume_proved(position < compactor.slots());
-        if settle_once(compactor, inx_at::<P>(position), generation) {
+        if settle_once(compactor, inx_at::<P>(position), generation, unplaced) {
             positions[left] = position;
             left += 1;
         }
@@ -107,6 +120,7 @@ fn settle_round<P: PtrKey, T: Drop, S: SlotStack<Item = ArenaSlot<P, LinkNoGen<P
     count: usize,
     left: usize,
     generation: P::Gen,
+    unplaced: &mut usize,
 ) -> usize
     requires count { count ≤ 64 }
     requires block { start + count ≤ length compactor.old.held.slots }
@@ -114,6 +128,8 @@ fn settle_round<P: PtrKey, T: Drop, S: SlotStack<Item = ArenaSlot<P, LinkNoGen<P
     requires within { WaitsWithin (destination_of P.Inx.packed_number) compactor.old.held.slots }
     requires lists { ListsWaiting (destination_of P.Inx.packed_number) start count positions.old left
         (slot_at compactor.old.held.slots) }
+    requires unplaced { unplaced.old
+        ≡ waiting_count (destination_of P.Inx.packed_number) compactor.old.held.slots }
     ensures same_reference { compactor.new.arena.ghost_name ≡ compactor.old.arena.ghost_name }
     ensures settles { IsSettling (destination_of P.Inx.packed_number)
         (Settles P.Inx.packed_number generation) (IsInBlock start count)
@@ -130,13 +146,20 @@ fn settle_round<P: PtrKey, T: Drop, S: SlotStack<Item = ArenaSlot<P, LinkNoGen<P
         (waiting_count (destination_of P.Inx.packed_number) compactor.old.held.slots)
         (waiting_count (destination_of P.Inx.packed_number) compactor.new.held.slots)
         (left - result) }
+    ensures unplaced { unplaced.new
+        ≡ waiting_count (destination_of P.Inx.packed_number) compactor.new.held.slots }
     ensures counts { CountsWork compactor.old compactor.new }
 {
     let mut rest = left;
     let mut turn = 0;
     while turn < rest {
         assume_proved(positions[turn] < compactor.slots());
-        if settle_once(compactor, inx_at::<P>(positions[turn]), generation) {
+        if settle_once(
+            compactor,
+            inx_at::<P>(positions[turn]),
+            generation,
+            unplaced,
+        ) {
             turn += 1;
         } else {
             rest -= 1;
@@ -158,11 +181,14 @@ fn settle_block<P: PtrKey, T: Drop, S: SlotStack<Item = ArenaSlot<P, LinkNoGen<P
     start: usize,
     count: usize,
     generation: P::Gen,
+    unplaced: &mut usize,
 )
     requires count { count ≤ 64 }
     requires block { start + count ≤ length compactor.old.held.slots }
     requires fits { length compactor.old.held.slots ≤ P.Inx.greatest }
     requires within { WaitsWithin (destination_of P.Inx.packed_number) compactor.old.held.slots }
+    requires unplaced { unplaced.old
+        ≡ waiting_count (destination_of P.Inx.packed_number) compactor.old.held.slots }
     ensures same_reference { compactor.new.arena.ghost_name ≡ compactor.old.arena.ghost_name }
     ensures settles { IsSettling (destination_of P.Inx.packed_number)
         (Settles P.Inx.packed_number generation) (IsInBlock start count)
@@ -174,25 +200,38 @@ fn settle_block<P: PtrKey, T: Drop, S: SlotStack<Item = ArenaSlot<P, LinkNoGen<P
     ensures work { IsWorkInRounds compactor.old.arena.now compactor.new.arena.now
         (waiting_count (destination_of P.Inx.packed_number) compactor.old.held.slots)
         (waiting_count (destination_of P.Inx.packed_number) compactor.new.held.slots) count 0 }
+    ensures unplaced { unplaced.new
+        ≡ waiting_count (destination_of P.Inx.packed_number) compactor.new.held.slots }
     ensures counts { CountsWork compactor.old compactor.new }
 {
-    let (mut positions, mut left) = settle_each(compactor, start, count, generation);
+    let (mut positions, mut left) = settle_each(compactor, start, count, generation, unplaced);
     let mut reads_ahead = compactor.slots() >= 2_097_152;
     while left > 0 {
         reads_ahead = read_destinations(compactor, &positions, left, reads_ahead);
-        left = settle_round(compactor, &mut positions, start, count, left, generation);
+        left = settle_round(
+            compactor,
+            &mut positions,
+            start,
+            count,
+            left,
+            generation,
+            unplaced,
+        );
     }
 }
 
 /// Moves each link to its destination and sets its generation.
 ///
-/// Each link is placed once. Inlined, so what is not used of the counts is not counted.
+/// Each link is placed once. There are `links` of them; slots behind the last to be placed are not
+/// read. Inlined, so what is not used of the counts is not counted.
 #[inline(always)]
 pub fn move_all<P: PtrKey, T: Drop, S: SlotStack<Item = ArenaSlot<P, LinkNoGen<P, T>>>>(
     compactor: &mut Compactor<'_, P, LinkNoGen<P, T>, S>,
+    links: usize,
     generation: P::Gen,
 )
     requires fits { length compactor.old.held.slots ≤ P.Inx.greatest }
+    requires links { links ≡ count_by is_some compactor.old.held.slots }
     requires can { CanMoveAll (destination_of P.Inx.packed_number) compactor.old.held.slots }
     ensures same_reference { compactor.new.arena.ghost_name ≡ compactor.old.arena.ghost_name }
     ensures moved { HaveMoved (destination_of P.Inx.packed_number)
@@ -208,9 +247,10 @@ pub fn move_all<P: PtrKey, T: Drop, S: SlotStack<Item = ArenaSlot<P, LinkNoGen<P
 {
     let slots = compactor.slots();
     let mut start = 0;
-    while start < slots {
+    let mut unplaced = links;
+    while start < slots && unplaced > 0 {
         let count = (slots - start).min(64);
-        settle_block(compactor, start, count, generation);
+        settle_block(compactor, start, count, generation, &mut unplaced);
         start += count;
     }
 }

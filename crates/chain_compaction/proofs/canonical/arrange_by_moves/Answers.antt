@@ -1,7 +1,7 @@
 -- `arrange_by_moves` moves each link to its destination, and leaves no free slot between them.
 use Rattle.std.proofs.Common.{sym, ◌∙◌, arith}
 use Rattle.chain_compaction.proofs.ChainDestinationLemmas.{length-view_after, count-view_after}
-use Rattle.chain_compaction.proofs.CanonicalLayoutLemmas.{length-renamed, agree-view_after, links_can_move, links_placed}
+use Rattle.chain_compaction.proofs.CanonicalLayoutLemmas.{length-renamed, count-renamed, agree-view_after, links_can_move, links_placed}
 use Rattle.chain_compaction.proofs.LinkLoanLemmas.{same_then, counts_on}
 use Rattle.chain_compaction.proofs.canonical.arrange_by_moves.Goals as goal
 
@@ -22,6 +22,13 @@ move_all-requires-clause-fits g c =
       length-view_after g.P.Inx.InxKey.packed_number c.clear_destinations.new.compactor.held c.args.compactor.now.held c.clear_destinations.ensures.view_after,
       c.requires.fits,
     )
+
+pub move_all-requires-clause-links : goal.move_all-requires-clause-links
+move_all-requires-clause-links g c =
+    let empty = c.clear_destinations.new.compactor in
+    let numbered = c.number_all-visitor.new.compactor in
+    c.requires.links ∙ (sym (count-view_after g.P.Inx.InxKey.packed_number empty.held c.args.compactor.now.held c.clear_destinations.ensures.view_after)
+    ∙ sym (count-renamed g.P.Inx.InxKey.packed_number _ numbered.held empty.held c.number_all-visitor.ensures.numbered.renamed))
 
 pub move_all-requires-clause-can : goal.move_all-requires-clause-can
 move_all-requires-clause-can g c =

@@ -1,9 +1,9 @@
 -- `move_all` settles one more block, and all in the end.
-use Rattle.std.proofs.Common.{◌≡◌, ℕ, ◌+◌, ◌≤◌, length, refl, subst, arith}
+use Rattle.std.proofs.Common.{◌≡◌, ℕ, ◌+◌, ◌≤◌, length, refl, sym, ◌∙◌, subst, arith}
 use Rattle.chain_compaction.specs.Permutations.{ArePassed, waiting_count, destination_of, Settles, IsWorkInRounds}
 use Rattle.chain_compaction.proofs.SlotCountLemmas.{waiting-all}
 use Rattle.chain_compaction.proofs.PermutationStepLemmas.{settled_rests}
-use Rattle.chain_compaction.proofs.PermutationLoopLemmas.{passing_begins, passing_continues, passing_ends, passing_leaves_none, rounds_begin, rounds_then, rounds_end}
+use Rattle.chain_compaction.proofs.PermutationLoopLemmas.{passing_begins, passing_continues, passing_stops, passing_ends, passing_leaves_none, rounds_begin, rounds_then, rounds_stop, rounds_end}
 use Rattle.chain_compaction.proofs.LinkLoanLemmas.{same_then, counts_on, capacity_then, maximum_then}
 use Rattle.chain_compaction.proofs.WorkCountLemmas.{counts_none}
 use Rattle.chain_compaction.proofs.permute.move_all.Goals as goal
@@ -19,6 +19,7 @@ loop-start-init g c =
       capacity = refl;
       maximum = refl;
       work = rounds_begin old.arena.now (waiting_count (destination_of packed_number) old.held.slots);
+      unplaced = c.requires.links ∙ sym (waiting-all (destination_of packed_number) old.held.slots c.requires.can.each);
       counts = counts_none old.arena.now old.placed old.touched;
     }
 
@@ -31,6 +32,7 @@ settle_block-requires g c =
       block = omega (arith, c.min-count.ensures, same, reached, c.slots-slots.ensures);
       fits = omega (arith, same, c.requires.fits);
       within = c.loop-start.invariant.passed.within;
+      unplaced = c.loop-start.invariant.unplaced;
     }
 
 pub loop-start-preserved : goal.loop-start-preserved
@@ -52,14 +54,15 @@ loop-start-preserved g c =
       maximum = maximum_then old now next inv.maximum after.maximum;
       work = rounds_then old.arena.now now.arena.now next.arena.now (waiting_count (destination_of packed_number) old.held.slots) (waiting_count (destination_of packed_number) now.held.slots)
           (waiting_count (destination_of packed_number) next.held.slots) start count (start + count) inv.work after.work refl;
+      unplaced = after.unplaced;
       counts = counts_on old now next inv.counts after.counts;
     }
 
 pub loop-start-smaller : goal.loop-start-smaller
 loop-start-smaller g c = omega (arith, c.min-count.ensures, c.loop-start-test.true)
 
-pub returns : goal.returns
-returns g c =
+pub returns-after-loop-start : goal.returns-after-loop-start
+returns-after-loop-start g c =
     let old = c.args.compactor.now in
     let all : c.loop-start.start ≡ length old.held.slots = omega (arith, c.loop-start.invariant.reached, c.slots-slots.ensures) in
     let target = destination_of g.P.Inx.InxKey.packed_number in
@@ -76,5 +79,25 @@ returns g c =
       maximum = inv.maximum;
       work = rounds_end old.arena.now now.arena.now _ _ _ (length old.held.slots) (subst (λ (n : ℕ). IsWorkInRounds old.arena.now now.arena.now (waiting_count target old.held.slots) (waiting_count target now.held.slots) n 0) all inv.work)
           (passing_leaves_none target settles rests old.held.slots now.held.slots passed) (waiting-all target old.held.slots c.requires.can.each);
+      counts = inv.counts;
+    }
+
+pub returns-else-unplaced-gt0 : goal.returns-else-unplaced-gt0
+returns-else-unplaced-gt0 g c =
+    let old = c.args.compactor.now in
+    let target = destination_of g.P.Inx.InxKey.packed_number in
+    let now = c.loop-start.compactor in
+    let inv = c.loop-start.invariant in
+    let none : waiting_count target now.held.slots ≡ 0 = omega (arith, inv.unplaced, c.if-unplaced-gt0.false) in
+    let settles = Settles g.P.Inx.InxKey.packed_number c.args.generation in
+    let rests = settled_rests g.P.Inx.InxKey.packed_number c.args.generation in
+    record {
+      same_reference = inv.same_reference;
+      moved = passing_ends target settles rests old.held.slots now.held.slots (passing_stops target settles rests old.held.slots now.held.slots c.loop-start.start inv.passed none);
+      length = inv.passed.length;
+      capacity = inv.capacity;
+      maximum = inv.maximum;
+      work = rounds_end old.arena.now now.arena.now _ _ _ (length old.held.slots) (rounds_stop old.arena.now now.arena.now _ _ c.loop-start.start (length old.held.slots) 0 (omega (arith, inv.reached, c.slots-slots.ensures)) inv.work)
+          none (waiting-all target old.held.slots c.requires.can.each);
       counts = inv.counts;
     }

@@ -1,9 +1,9 @@
 -- `settle_block` reads before a round of moves and makes it, until the list of positions is empty.
-use Rattle.std.proofs.Common.{◌+◌, ◌-◌, length, slice_index, ap, subst, arith}
+use Rattle.std.proofs.Common.{◌+◌, ◌-◌, length, slice_index, sym, ap, ◌∙◌, subst, arith}
 use Rattle.arena_base.specs.Arena.{slot_at}
 use Rattle.arena_base.specs.DetachedSlots.{DetachedView}
 use Rattle.chain_compaction.specs.Permutations.{IsInBlock, waiting_count, destination_of, Settles, IsWorkOn}
-use Rattle.chain_compaction.proofs.BlockTurnLemmas.{listing_ends, sum_decreases-round, touches_round, touches_end, none_left, below_bound}
+use Rattle.chain_compaction.proofs.BlockTurnLemmas.{listing_ends, sum_decreases-round, touches_round, none_left, below_bound}
 use Rattle.chain_compaction.proofs.PermutationStepLemmas.{settle_reads, settling_joins}
 use Rattle.chain_compaction.proofs.PermutationLoopLemmas.{rounds_start, rounds_continue, rounds_stop}
 use Rattle.chain_compaction.proofs.LinkLoanLemmas.{same_then, counts_on, capacity_then, maximum_then}
@@ -19,6 +19,7 @@ loop-left-init g c =
       capacity = first.capacity;
       maximum = first.maximum;
       work = rounds_start c.args.compactor.now.arena.now c.settle_each-left.new.compactor.arena.now _ _ _ c.settle_each-left.result.1 first.work first.moved;
+      unplaced = first.unplaced;
       counts = first.counts;
     }
 
@@ -44,6 +45,7 @@ settle_round-left-requires g c =
       fits = omega (arith, here.settles.length, c.requires.fits);
       within = here.settles.within c.requires.within;
       lists = here.lists;
+      unplaced = inv.unplaced ∙ ap (λ (h : DetachedView _ _). waiting_count target h.slots) (sym kept);
     }
 
 pub loop-left-preserved : goal.loop-left-preserved
@@ -70,6 +72,7 @@ loop-left-preserved g c =
       maximum = maximum_then old was_read next here.maximum round.maximum;
       work = rounds_continue old.arena.now now.arena.now was_read.arena.now next.arena.now (waiting_count target old.held.slots) (waiting_count target now.held.slots) (waiting_count target next.held.slots)
           (c.args.count - left) left (left - rest) (c.args.count - rest) rest inv.work read.work work (touches_round c.args.count left rest inv.lists.few round.fewer) (omega (arith, round.moved, waited));
+      unplaced = round.unplaced;
       counts = counts_on old was_read next (counts_on old now was_read inv.counts read.counts) round.counts;
     }
 
@@ -91,6 +94,7 @@ returns g c =
       none = listing_ends target c.args.start c.args.count c.loop-left.positions c.loop-left.left (slot_at now.held.slots) inv.lists (none_left c.loop-left.left c.loop-left-test.false);
       capacity = inv.capacity;
       maximum = inv.maximum;
-      work = rounds_stop c.args.compactor.now.arena.now now.arena.now _ _ (c.args.count - c.loop-left.left) c.args.count c.loop-left.left (touches_end c.args.count c.loop-left.left c.loop-left-test.false) inv.work;
+      work = rounds_stop c.args.compactor.now.arena.now now.arena.now _ _ (c.args.count - c.loop-left.left) c.args.count c.loop-left.left (omega arith) inv.work;
+      unplaced = inv.unplaced;
       counts = inv.counts;
     }

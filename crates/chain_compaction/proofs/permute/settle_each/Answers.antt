@@ -48,6 +48,7 @@ loop-k-preserved g c =
         | then-settle_once w ↦ worked 0 ((k + 1) - c.if-settle_once.left) (rw w.if-settle_once.true at step.work) (touches_add k left ∙ ap (λ (l : ℕ). (k + 1) - l) (sym w.left-is))
         | else-settle_once w ↦ worked 1 ((k + 1) - c.if-settle_once.left) (rw w.if-settle_once.false at step.work) (touches_skip k left inv.lists.few ∙ ap (λ (l : ℕ). (k + 1) - l) (sym w.left-is))
       ];
+      unplaced = step.unplaced;
       counts = counts_on old now next inv.counts step.counts;
     }
 

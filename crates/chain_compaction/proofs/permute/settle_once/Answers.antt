@@ -1,5 +1,5 @@
 -- `settle_once` moves the link to its destination, and one link less waits.
-use Rattle.std.proofs.Common.{◌≡◌, ℕ, Bool, true, false, Some, refl, sym, ap, ◌∙◌, subst}
+use Rattle.std.proofs.Common.{◌≡◌, ℕ, Bool, true, false, Some, refl, sym, ap, ◌∙◌, subst, arith}
 use Rattle.std.specs.Prelude.{not}
 use Rattle.std.specs.Option.{option_map}
 use Rattle.arena_base.specs.Arena.{slot_at}
@@ -32,17 +32,18 @@ returns-in-Some g c =
     = sym (ap (option_map g.P.Inx.InxKey.number) c.in-Some.is) ∙ c.read_link-destination.ensures.destination in
     let moved : placed.held ≡ with_placed_entry old.held i d c.args.generation
     = c.place.ensures.held ∙ ap (λ h. with_placed_entry h i d c.args.generation) was_read.held in
-    let less = one_less_after packed_number c.args.generation i d old.held placed.held after.held is c.requires moved emptied.directed in
+    let less = one_less_after packed_number c.args.generation i d old.held placed.held after.held is c.requires.within moved emptied.directed in
     record {
       same_reference = same_then old placed after (same_then old read placed was_read.same_reference c.place.ensures.same_reference) emptied.same_reference;
-      settles = settles_after packed_number c.args.generation i d old.held placed.held after.held is c.requires moved emptied.directed;
-      none = none_after packed_number c.args.generation i d old.held placed.held after.held is c.requires moved emptied.directed (not c.is_same.result)
+      settles = settles_after packed_number c.args.generation i d old.held placed.held after.held is c.requires.within moved emptied.directed;
+      none = none_after packed_number c.args.generation i d old.held placed.held after.held is c.requires.within moved emptied.directed (not c.is_same.result)
           (λ is. ap g.P.Inx.InxKey.number ((g.met.P.Inx.InxKey.same_is_equal c.in-Some.to c.args.i).0 (sym c.is_same.ensures ∙ not_false c.is_same.result is)));
-      fewer = fewer_after packed_number c.args.generation i d old.held placed.held after.held is c.requires moved emptied.directed (not c.is_same.result);
-      capacity = capacity_after packed_number c.args.generation i d old.held placed.held after.held is c.requires moved emptied.directed;
-      maximum = maximum_after packed_number c.args.generation i d old.held placed.held after.held is c.requires moved emptied.directed;
+      fewer = fewer_after packed_number c.args.generation i d old.held placed.held after.held is c.requires.within moved emptied.directed (not c.is_same.result);
+      capacity = capacity_after packed_number c.args.generation i d old.held placed.held after.held is c.requires.within moved emptied.directed;
+      maximum = maximum_after packed_number c.args.generation i d old.held placed.held after.held is c.requires.within moved emptied.directed;
       work = work_on-either old.arena.now after.arena.now (waiting_count target old.held.slots) (waiting_count target after.held.slots) (not c.is_same.result)
           (work_on-moves old.arena.now read.arena.now placed.arena.now after.arena.now (waiting_count target old.held.slots) (waiting_count target after.held.slots) was_read.arena c.place.ensures.arena emptied.arena less);
+      unplaced = omega (arith, c.requires.unplaced, less);
       counts = counts_on old placed after (counts_on old read placed was_read.counts
           (counts_place read.arena.now placed.arena.now read.placed placed.placed read.touched placed.touched c.place.ensures.arena c.place.ensures.placed c.place.ensures.touched)) emptied.counts;
     }
@@ -67,5 +68,6 @@ returns-in-None g c =
       capacity = λ j. (kept j).stack_capacity;
       maximum = λ j. (kept j).maximum;
       work = subst (λ s. IsWorkOn old.arena.now after.arena.now (waiting_count target old.held.slots) (waiting_count target s) 1) (sym slots) (work_on-reads old.arena.now after.arena.now (waiting_count target old.held.slots) read.was_read.arena);
+      unplaced = c.requires.unplaced ∙ ap (waiting_count target) (sym slots);
       counts = read.was_read.counts;
     }

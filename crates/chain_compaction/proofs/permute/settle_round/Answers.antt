@@ -24,6 +24,7 @@ loop-turn-init g c =
       capacity = refl;
       maximum = refl;
       work = subst (IsWorkOn now.arena.now now.arena.now (waiting_count target now.held.slots) (waiting_count target now.held.slots)) (none_more c.args.left) (work_on-begins now.arena.now (waiting_count target now.held.slots));
+      unplaced = c.requires.unplaced;
       counts = counts_none now.arena.now now.placed now.touched;
     }
 
@@ -36,7 +37,7 @@ inx_at-requires g c =
     below_bound (slice_index c.loop-turn.positions c.loop-turn.turn) (c.args.start + c.args.count) (length c.args.compactor.now.held.slots) g.P.Inx.InxKey.greatest within.1 c.requires.block c.requires.fits
 
 pub settle_once-requires : goal.settle_once-requires
-settle_once-requires g c = c.loop-turn.invariant.settles.within c.requires.within
+settle_once-requires g c = record { within = c.loop-turn.invariant.settles.within c.requires.within; unplaced = c.loop-turn.invariant.unplaced }
 
 pub loop-turn-preserved-then-settle_once : goal.loop-turn-preserved-then-settle_once
 loop-turn-preserved-then-settle_once g c =
@@ -62,6 +63,7 @@ loop-turn-preserved-then-settle_once g c =
       maximum = maximum_then old now next inv.maximum step.maximum;
       work = work_on-after old.arena.now now.arena.now next.arena.now (waiting_count target old.held.slots) (waiting_count target now.held.slots) (waiting_count target next.held.slots)
           (c.args.left - rest) 0 (c.args.left - rest) inv.work step.work (touches_stay c.args.left rest);
+      unplaced = step.unplaced;
       counts = counts_on old now next inv.counts step.counts;
     }
 
@@ -90,6 +92,7 @@ loop-turn-preserved g c =
       maximum = maximum_then old now next inv.maximum step.maximum;
       work = work_on-after old.arena.now now.arena.now next.arena.now (waiting_count target old.held.slots) (waiting_count target now.held.slots) (waiting_count target next.held.slots)
           (c.args.left - rest) 1 (c.args.left - (rest - 1)) inv.work step.work (touches_continue c.args.left rest (omega (arith, c.loop-turn-test.true)) inv.few);
+      unplaced = step.unplaced;
       counts = counts_on old now next inv.counts step.counts;
     }
 
@@ -116,5 +119,6 @@ returns g c =
       capacity = inv.capacity;
       maximum = inv.maximum;
       work = inv.work;
+      unplaced = inv.unplaced;
       counts = inv.counts;
     }

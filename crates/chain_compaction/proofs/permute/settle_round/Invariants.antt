@@ -18,6 +18,7 @@ invariant-loop-turn g l =
       capacity : l.compactor.held.stack_capacity ≡ l.fn.compactor.held.stack_capacity;
       maximum : l.compactor.held.maximum ≡ l.fn.compactor.held.maximum;
       work : IsWorkOn l.fn.compactor.arena.now l.compactor.arena.now (waiting_count (destination_of packed_number) l.fn.compactor.held.slots) (waiting_count (destination_of packed_number) l.compactor.held.slots) (l.left - l.rest);
+      unplaced : l.unplaced ≡ waiting_count (destination_of packed_number) l.compactor.held.slots;
       counts : CountsWork l.fn.compactor l.compactor;
     }
 
