@@ -2,6 +2,7 @@
 use Rattle.std.proofs.Common.{◌≡◌, ℕ, ◌+◌, ◌-◌, ◌<◌, List, [], ◌∷◌, ◌++◌, map, Option, None, Some, refl, ap, sym, ◌∙◌, subst, arith}
 use Rattle.std.specs.Prelude.{slice_get, slice_set, count_by, is_some}
 use Rattle.std.proofs.lemmas.List.{map-set}
+use Rattle.arena_ptr.specs.declared.packed_option.PackedOption.{PackedOption}
 use Rattle.arena_base.specs.Arena.{Arena, slot_at, with_slot, insert_next, remove_at, with_value, invalidate_at, arena_after_clear, counter_after_clear, with_capacity_of, ReachesCapacity}
 use Rattle.std.specs.Option.{option_map}
 use Rattle.arena_base.specs.Slots.{entry_of, entry_in, with_value_in, allocated_slot, free_slot, arena_of, freed_of, IsSound}
@@ -34,7 +35,7 @@ module _ {P T Inx Gen Word : Type 0} (slots : List (ArenaSlot P T Inx Gen Word))
       ap (λ (es : List (Option (Gen × T))). let a : Arena Gen T = record now { slots = es; freed = rest; placed = placed + 1 } in a) (viewed_slots k n (allocated_slot counter t) at)
       ∙ ap (λ ms. insert_next (record now { freed = ms }) t) (sym first)
 
-  pub viewed_vacated : (following : Gen → Gen) (k n : ℕ) (next : Option Inx) → k + 1 ≡ n
+  pub viewed_vacated : (following : Gen → Gen) (k n : ℕ) (next : PackedOption Inx Word) → k + 1 ≡ n
       → arena_of (slice_set slots k (free_slot next)) (n ∷ ns) (following counter) greatest capacity maximum (placed + 1) touched ≡ remove_at following now n
   viewed_vacated following k n next at =
       ap (λ (es : List (Option (Gen × T))). let a : Arena Gen T = record now { slots = es; counter = following counter; freed = n ∷ ns; placed = placed + 1 } in a) (viewed_slots k n (free_slot next) at)
@@ -58,9 +59,9 @@ module _ {P T Inx Gen Word : Type 0} (slots : List (ArenaSlot P T Inx Gen Word))
       (viewed_slots k n (allocated_slot (following counter) t) at
       ∙ ap (λ (o : Option (Gen × T)). with_slot (map entry_of slots) n (option_map (λ (e : Gen × T). (following counter, e.1)) o)) (sym (entry_viewed k n g t at is)))
 
-module _ {P T Inx Gen Word : Type 0} (number : Inx → ℕ) where
+module _ {P T Inx Gen Word : Type 0} (number : PackedOption Inx Word → Option ℕ) where
   -- The arena after a value is written.
-  pub lent_view : {slots : List (ArenaSlot P T Inx Gen Word)} {greatest len : ℕ} {head : Option Inx} → IsSound number slots greatest len head (freed_of number slots head)
+  pub lent_view : {slots : List (ArenaSlot P T Inx Gen Word)} {greatest len : ℕ} {head : PackedOption Inx Word} → IsSound number slots greatest len head (freed_of number slots head)
       → (counter : Gen) (capacity : ℕ) (maximum : Option ℕ) (placed touched : ℕ) (k n : ℕ) (slot : ArenaSlot P T Inx Gen Word) (w : T)
       → (items : List (ArenaSlot P T Inx Gen Word)) (new_capacity : ℕ) (most : Option ℕ) → k + 1 ≡ n → slice_get slots k ≡ Some slot → items ≡ slice_set slots k (with_value_in slot w) → new_capacity ≡ capacity → most ≡ maximum
       → arena_of items (freed_of number items head) counter greatest new_capacity most placed touched ≡ with_value (arena_of slots (freed_of number slots head) counter greatest capacity maximum placed touched) n w
@@ -69,23 +70,23 @@ module _ {P T Inx Gen Word : Type 0} (number : Inx → ℕ) where
       (viewed_with_value slots (freed_of number slots head) counter greatest capacity maximum placed touched k n slot w at is)
 
   -- The arena after an entry is removed.
-  pub vacated_view : {slots : List (ArenaSlot P T Inx Gen Word)} {greatest len : ℕ} {head : Option Inx} → IsSound number slots greatest len head (freed_of number slots head)
-      → (counter after : Gen) (capacity new_capacity : ℕ) (maximum most : Option ℕ) (placed total touched : ℕ) (following : Gen → Gen) (k : ℕ) (i : Inx) (g : Gen) (t : T) (items : List (ArenaSlot P T Inx Gen Word))
-      → k + 1 ≡ number i → slice_get slots k ≡ Some (allocated_slot g t) → items ≡ slice_set slots k (free_slot head) → new_capacity ≡ capacity → most ≡ maximum → after ≡ following counter → total ≡ placed + 1
-      → arena_of items (freed_of number items (Some i)) after greatest new_capacity most total touched ≡ remove_at following (arena_of slots (freed_of number slots head) counter greatest capacity maximum placed touched) (number i)
-  vacated_view {slots = slots} {greatest = greatest} {len = len} {head = head} s counter after capacity new_capacity maximum most placed total touched following k i g t items at is written equal_capacity same_most same_after same_total =
+  pub vacated_view : {slots : List (ArenaSlot P T Inx Gen Word)} {greatest len : ℕ} {head : PackedOption Inx Word} → IsSound number slots greatest len head (freed_of number slots head)
+      → (counter after : Gen) (capacity new_capacity : ℕ) (maximum most : Option ℕ) (placed total touched : ℕ) (following : Gen → Gen) (k i : ℕ) (first : PackedOption Inx Word) (g : Gen) (t : T) (items : List (ArenaSlot P T Inx Gen Word))
+      → number first ≡ Some i → k + 1 ≡ i → slice_get slots k ≡ Some (allocated_slot g t) → items ≡ slice_set slots k (free_slot head) → new_capacity ≡ capacity → most ≡ maximum → after ≡ following counter → total ≡ placed + 1
+      → arena_of items (freed_of number items first) after greatest new_capacity most total touched ≡ remove_at following (arena_of slots (freed_of number slots head) counter greatest capacity maximum placed touched) i
+  vacated_view {slots = slots} {greatest = greatest} {len = len} {head = head} s counter after capacity new_capacity maximum most placed total touched following k i first g t items names at is written equal_capacity same_most same_after same_total =
       let some = some_taken number s k g t is in
-      rw (written, equal_capacity, same_most, same_after, same_total, walked_all number (slot_vacated number s k i g t (len - 1) at is (omega (arith, some))))
-      (viewed_vacated slots (freed_of number slots head) counter greatest capacity maximum placed touched following k (number i) head at)
+      rw (written, equal_capacity, same_most, same_after, same_total, walked_all number (slot_vacated number s k i first g t (len - 1) names at is (omega (arith, some))))
+      (viewed_vacated slots (freed_of number slots head) counter greatest capacity maximum placed touched following k i head at)
 
   -- The arena after its slots are dropped.
-  pub cleared_view : (slots items : List (ArenaSlot P T Inx Gen Word)) (ns : List ℕ) (counter after : Gen) (greatest capacity new_capacity : ℕ) (maximum most : Option ℕ) (placed touched len : ℕ) (following : Gen → Gen)
+  pub cleared_view : (slots items : List (ArenaSlot P T Inx Gen Word)) (head : PackedOption Inx Word) (ns : List ℕ) (counter after : Gen) (greatest capacity new_capacity : ℕ) (maximum most : Option ℕ) (placed touched len : ℕ) (following : Gen → Gen)
       → items ≡ [] → new_capacity ≡ capacity → most ≡ maximum → len ≡ count_by is_some (map entry_of slots) → after ≡ counter_after_clear following len counter
-      → arena_of items (freed_of number items None) after greatest new_capacity most placed touched ≡ arena_after_clear following (arena_of slots ns counter greatest capacity maximum placed touched)
-  cleared_view slots items ns counter after greatest capacity new_capacity maximum most placed touched len following none equal_capacity same_most counted same_after = rw (none, equal_capacity, same_most, same_after, counted)
+      → arena_of items (freed_of number items head) after greatest new_capacity most placed touched ≡ arena_after_clear following (arena_of slots ns counter greatest capacity maximum placed touched)
+  cleared_view slots items head ns counter after greatest capacity new_capacity maximum most placed touched len following none equal_capacity same_most counted same_after = rw (none, equal_capacity, same_most, same_after, counted)
 
   -- The arena after a slot is written back unchanged.
-  pub kept_view : (slots items : List (ArenaSlot P T Inx Gen Word)) (head : Option Inx) (counter : Gen) (greatest capacity new_capacity : ℕ) (maximum most : Option ℕ) (placed touched : ℕ) (k : ℕ) (slot : ArenaSlot P T Inx Gen Word)
+  pub kept_view : (slots items : List (ArenaSlot P T Inx Gen Word)) (head : PackedOption Inx Word) (counter : Gen) (greatest capacity new_capacity : ℕ) (maximum most : Option ℕ) (placed touched : ℕ) (k : ℕ) (slot : ArenaSlot P T Inx Gen Word)
       → slice_get slots k ≡ Some slot → items ≡ slice_set slots k slot → new_capacity ≡ capacity → most ≡ maximum
       → arena_of items (freed_of number items head) counter greatest new_capacity most placed touched ≡ arena_of slots (freed_of number slots head) counter greatest capacity maximum placed touched
   kept_view slots items head counter greatest capacity new_capacity maximum most placed touched k slot is written equal_capacity same_most =
@@ -93,28 +94,27 @@ module _ {P T Inx Gen Word : Type 0} (number : Inx → ℕ) where
       rw (same, equal_capacity, same_most)
 
   -- The arena after an insertion into the first freed slot.
-  pub filled_freed_view : {slots : List (ArenaSlot P T Inx Gen Word)} {greatest len : ℕ} {head : Option Inx} → IsSound number slots greatest len head (freed_of number slots head)
-      → (counter : Gen) (capacity new_capacity : ℕ) (maximum most : Option ℕ) (placed total touched : ℕ) (k : ℕ) (i : Inx) (next : Option Inx) (t : T) (items : List (ArenaSlot P T Inx Gen Word))
-      → head ≡ Some i → k + 1 ≡ number i → slice_get slots k ≡ Some (free_slot next) → items ≡ slice_set slots k (allocated_slot counter t) → new_capacity ≡ capacity → most ≡ maximum → total ≡ placed + 1
+  pub filled_freed_view : {slots : List (ArenaSlot P T Inx Gen Word)} {greatest len : ℕ} {head : PackedOption Inx Word} → IsSound number slots greatest len head (freed_of number slots head)
+      → (counter : Gen) (capacity new_capacity : ℕ) (maximum most : Option ℕ) (placed total touched : ℕ) (k i : ℕ) (next : PackedOption Inx Word) (t : T) (items : List (ArenaSlot P T Inx Gen Word))
+      → number head ≡ Some i → k + 1 ≡ i → slice_get slots k ≡ Some (free_slot next) → items ≡ slice_set slots k (allocated_slot counter t) → new_capacity ≡ capacity → most ≡ maximum → total ≡ placed + 1
       → IsSound number items greatest (len + 1) next (freed_of number items next)
       × (arena_of items (freed_of number items next) counter greatest new_capacity most total touched ≡ insert_next (arena_of slots (freed_of number slots head) counter greatest capacity maximum placed touched) t)
-  filled_freed_view {slots = slots} {greatest = greatest} s counter capacity new_capacity maximum most placed total touched k i next t items first at was written equal_capacity same_most same_total =
-      let filled = filled_freed number i next k counter t (rw first at s) at was in (
+  filled_freed_view {slots = slots} {greatest = greatest} {head = head} s counter capacity new_capacity maximum most placed total touched k i next t items first at was written equal_capacity same_most same_total =
+      let filled = filled_freed number i next k counter t s first at was in (
         rw written (closed number filled.0),
-        rw (written, equal_capacity, same_most, same_total, walked_all number filled.0, first) (viewed_filled_freed slots (freed_of number slots (Some i)) counter greatest capacity maximum placed touched k (number i) _ t at filled.1),
+        rw (written, equal_capacity, same_most, same_total, walked_all number filled.0) (viewed_filled_freed slots (freed_of number slots head) counter greatest capacity maximum placed touched k i _ t at filled.1),
       )
 
   -- The arena after an insertion into a new slot.
-  pub filled_next_view : {slots : List (ArenaSlot P T Inx Gen Word)} {greatest len : ℕ} {head : Option Inx} → IsSound number slots greatest len head (freed_of number slots head)
+  pub filled_next_view : {slots : List (ArenaSlot P T Inx Gen Word)} {greatest len : ℕ} {head : PackedOption Inx Word} → IsSound number slots greatest len head (freed_of number slots head)
       → (counter : Gen) (capacity new_capacity : ℕ) (maximum most : Option ℕ) (placed total touched : ℕ) (t : T) (items : List (ArenaSlot P T Inx Gen Word))
-      → head ≡ None → len < greatest → items ≡ slots ++ allocated_slot counter t ∷ [] → new_capacity ≡ capacity → most ≡ maximum → total ≡ placed + 1
-      → IsSound number items greatest (len + 1) None (freed_of number items None)
-      × (arena_of items (freed_of number items None) counter greatest new_capacity most total touched ≡ insert_next (arena_of slots (freed_of number slots head) counter greatest capacity maximum placed touched) t)
-  filled_next_view {slots = slots} {greatest = greatest} s counter capacity new_capacity maximum most placed total touched t items none less written equal_capacity same_most same_total =
-      let sound = rw none at s in
-      let filled = filled_next number counter t sound (omega (arith, less, none_freed number sound)) in (
+      → number head ≡ None → len < greatest → items ≡ slots ++ allocated_slot counter t ∷ [] → new_capacity ≡ capacity → most ≡ maximum → total ≡ placed + 1
+      → IsSound number items greatest (len + 1) head (freed_of number items head)
+      × (arena_of items (freed_of number items head) counter greatest new_capacity most total touched ≡ insert_next (arena_of slots (freed_of number slots head) counter greatest capacity maximum placed touched) t)
+  filled_next_view {slots = slots} {greatest = greatest} {head = head} s counter capacity new_capacity maximum most placed total touched t items none less written equal_capacity same_most same_total =
+      let filled = filled_next number counter t s none (omega (arith, less, none_freed number s none)) in (
         rw written (closed number filled.0),
-        rw (written, equal_capacity, same_most, same_total, walked_all number filled.0, none) (viewed_filled_next slots (freed_of number slots None) counter greatest capacity maximum placed touched t filled.1),
+        rw (written, equal_capacity, same_most, same_total, walked_all number filled.0) (viewed_filled_next slots (freed_of number slots head) counter greatest capacity maximum placed touched t filled.1),
       )
 
 module _ {Gen T : Type 0} (old mid new : Arena Gen T) (t : T) (grown : mid ≡ with_capacity_of old mid) (inserted : new ≡ insert_next mid t) where

@@ -4,6 +4,7 @@ use Rattle.std.specs.Prelude.{true, false, IsSome, slice_index_or, slice_get, sl
 use Rattle.std.specs.Option.{option_map}
 use Rattle.std.proofs.Math.Decide.{ℕ_discrete}
 use Rattle.std.proofs.lemmas.List.{length-map, length-set, map-set, set-set, get_or-set_same, get_or-set_other}
+use Rattle.arena_ptr.specs.declared.packed_option.PackedOption.{PackedOption}
 use Rattle.arena_base.specs.Arena.{slot_at, with_slot}
 use Rattle.arena_base.specs.DetachedSlots.{DetachedView, with_placed_entry, held_with_value}
 use Rattle.arena_base.specs.Slots.{entry_of, entry_in, allocated_slot, free_slot, with_value_in, with_generation_in, with_generation_at, detached_view}
@@ -100,7 +101,7 @@ module _ {P T Inx Gen Word : Type 0} where
       by (no differs) = ap (λ o. slice_set (slice_set (map entry_of slots) i o) j (regenerated g (slice_index_or (map entry_of slots) i None))) (get_or-set_other (map entry_of slots) i j (regenerated g (slice_index_or (map entry_of slots) i None)) None differs)
 
   -- Moving an entry to a free slot or its own is a placement.
-  pub held_brought : (slots : List (ArenaSlot P T Inx Gen Word)) (capacity : ℕ) (maximum : Option ℕ) (i j from to : ℕ) (g h : Gen) (t : T) (next : Option Inx) → i + 1 ≡ from → j + 1 ≡ to
+  pub held_brought : (slots : List (ArenaSlot P T Inx Gen Word)) (capacity : ℕ) (maximum : Option ℕ) (i j from to : ℕ) (g h : Gen) (t : T) (next : PackedOption Inx Word) → i + 1 ≡ from → j + 1 ≡ to
       → Some (h, t) ≡ slice_index_or (map entry_of slots) i None → (j ≢ i → slice_index_or (map entry_of slots) j None ≡ None)
       → detached_view (slice_set (slice_set slots i (free_slot next)) j (allocated_slot g t)) capacity maximum ≡ with_placed_entry (detached_view slots capacity maximum) from to g
   held_brought slots capacity maximum i j from to g h t next at_from at_to stored free =

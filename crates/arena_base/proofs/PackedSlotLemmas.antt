@@ -3,6 +3,7 @@ use Rattle.std.proofs.Common.{◌≡◌, ℕ, zero, suc, ◌<◌, ◌≤◌, con
 use Rattle.std.specs.Prelude.{true, false, IsSome, count_by, is_some, slice_index_or, slice_get}
 use Rattle.std.proofs.lemmas.List.{length-take}
 use Rattle.std.proofs.lemmas.List.Sums.{sum_by-cons}
+use Rattle.arena_ptr.specs.declared.packed_option.PackedOption.{PackedOption}
 use Rattle.arena_base.specs.DetachedSlots.{before_cut, without_free_end, free_from, IsPacked}
 use Rattle.arena_base.specs.Slots.{item_at, entry_of, free_slot, IsSound}
 use Rattle.arena_base.specs.declared.slot.ArenaSlot.{ArenaSlot}
@@ -52,7 +53,7 @@ module _ {X : Type 0} where
     packed-none_free = ap (free_from 1) packed-trimmed ∙ none_left n 1 xs in_front
 
 module _ {P T Inx Gen Word : Type 0} where
-  none_free_at : (n : ℕ) (slots : List (ArenaSlot P T Inx Gen Word)) (k : ℕ) (next : Option Inx) → ((k : ℕ) → k < n → IsSome (slice_index_or (map entry_of slots) k None))
+  none_free_at : (n : ℕ) (slots : List (ArenaSlot P T Inx Gen Word)) (k : ℕ) (next : PackedOption Inx Word) → ((k : ℕ) → k < n → IsSome (slice_index_or (map entry_of slots) k None))
       → slice_get (take n slots) k ≡ Some (free_slot next) → ⊥
   none_free_at zero [] k next front is = cc
   none_free_at zero (s ∷ slots) k next front is = cc
@@ -86,18 +87,18 @@ module _ {P T Inx Gen Word : Type 0} where
     packed-within = omega (arith, (taken_count n slots front).1, length-take n slots)
 
     -- The remaining slots are sound.
-    pub packed_sound : (number : Inx → ℕ) (greatest : ℕ) → length slots ≤ greatest → IsSound number (take n slots) greatest n None []
-    packed_sound number greatest fits =
+    pub packed_sound : (number : PackedOption Inx Word → Option ℕ) (greatest : ℕ) (head : PackedOption Inx Word) → number head ≡ None → length slots ≤ greatest → IsSound number (take n slots) greatest n head []
+    packed_sound number greatest head none fits =
         let counts = taken_count n slots front in
         record {
-          linked = refl;
+          linked = none;
           apart = tt;
-          covers = λ m next free. absurd (none m next free);
+          covers = λ m next free. absurd (none_free m next free);
           counted = counts.0;
           total = omega (arith, counts.1);
           fits = omega (arith, fits, packed-within, counts.1);
         }
       where
-        none : (m : ℕ) (next : Option Inx) → item_at (take n slots) m ≡ Some (free_slot next) → ⊥
-        none zero next is = cc
-        none (suc k) next is = none_free_at n slots k next front is
+        none_free : (m : ℕ) (next : PackedOption Inx Word) → item_at (take n slots) m ≡ Some (free_slot next) → ⊥
+        none_free zero next is = cc
+        none_free (suc k) next is = none_free_at n slots k next front is

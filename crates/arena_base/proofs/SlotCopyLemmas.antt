@@ -4,6 +4,7 @@ use Rattle.std.specs.Prelude.{slice_get, min}
 use Rattle.std.specs.List.{FoldsTo}
 use Rattle.std.proofs.lemmas.List.{append-nil, map-append, length-map, drop_all}
 use Rattle.std.proofs.lemmas.Fn.{FoldsTo-push}
+use Rattle.arena_ptr.specs.declared.packed_option.PackedOption.{PackedOption}
 use Rattle.arena_base.specs.Arena.{Arena, IsCapacityFor, with_capacity_of}
 use Rattle.arena_base.specs.Entries.{ArenaView, entries_from, entries, view_of}
 use Rattle.arena_base.specs.Slots.{entry_of, allocated_slot, free_slot, without_value, without_values, freed_of, arena_of, IsSound}
@@ -69,7 +70,7 @@ module _ {F P U T Inx Gen Word : Type 0} (makes : F → P → U → T → F → 
         ∙ entries_from-push (map entry_of slots) 1 (suc k) (entry_of copy) (omega (arith, length-map slots entry_of, c.copied))
 
     -- A free slot is copied.
-    pub copying_frees : (next : Option Inx) (after : List (ArenaSlot P T Inx Gen Word)) → slice_get old k ≡ Some (free_slot next) → after ≡ slots ++ free_slot next ∷ [] → IsCopying makes key first old (k + 1) f after
+    pub copying_frees : (next : PackedOption Inx Word) (after : List (ArenaSlot P T Inx Gen Word)) → slice_get old k ≡ Some (free_slot next) → after ≡ slots ++ free_slot next ∷ [] → IsCopying makes key first old (k + 1) f after
     copying_frees next after is pushed =
         let number : suc k ≡ k + 1 = omega arith in
         let copy : ArenaSlot P T Inx Gen Word = free_slot next in
@@ -137,7 +138,7 @@ module _ {F P U T Inx Gen Word : Type 0} (makes : F → P → U → T → F → 
         after = c.after;
       }
 
-module _ {P T U Inx Gen Word : Type 0} (number : Inx → ℕ) (a : List (ArenaSlot P U Inx Gen Word)) (b : List (ArenaSlot P T Inx Gen Word)) (alike : without_values b ≡ without_values a) (greatest len : ℕ) (head : Option Inx) where
+module _ {P T U Inx Gen Word : Type 0} (number : PackedOption Inx Word → Option ℕ) (a : List (ArenaSlot P U Inx Gen Word)) (b : List (ArenaSlot P T Inx Gen Word)) (alike : without_values b ≡ without_values a) (greatest len : ℕ) (head : PackedOption Inx Word) where
   -- An arena with slots like the source's, its freed list and its counter.
   pub has_slots_of : IsSound number a greatest len head (freed_of number a head)
       → (source : Arena Gen U) (old mid : Arena Gen T) (counter before : Gen) (ns : List ℕ) (slots : List (ArenaSlot P T Inx Gen Word)) (new_capacity capacity has : ℕ) (limit maximum most : Option ℕ) (p t placed touched n : ℕ) → has ≡ capacity → most ≡ maximum
@@ -162,10 +163,10 @@ module _ {P T U Inx Gen Word : Type 0} (number : Inx → ℕ) (a : List (ArenaSl
       }
 
 -- An arena that lost its slots when the copy failed.
-pub copy_abandoned : {P T Inx Gen Word : Type 0} (number : Inx → ℕ) (items slots : List (ArenaSlot P T Inx Gen Word)) (ns : List ℕ) (counter : Gen) (greatest new_capacity capacity : ℕ) (most maximum : Option ℕ) (placed touched : ℕ) (old mid : Arena Gen T)
+pub copy_abandoned : {P T Inx Gen Word : Type 0} (number : PackedOption Inx Word → Option ℕ) (items slots : List (ArenaSlot P T Inx Gen Word)) (head : PackedOption Inx Word) (ns : List ℕ) (counter : Gen) (greatest new_capacity capacity : ℕ) (most maximum : Option ℕ) (placed touched : ℕ) (old mid : Arena Gen T)
     → items ≡ [] → new_capacity ≡ capacity → most ≡ maximum → arena_of slots ns counter greatest capacity maximum placed touched ≡ mid → mid ≡ with_capacity_of old mid
-    → IsAbandonedCopy old (arena_of items (freed_of number items None) counter greatest new_capacity most placed touched)
-copy_abandoned {T = T} {Gen = Gen} number items slots ns counter greatest new_capacity capacity most maximum placed touched old mid empty equal_capacity same_most is_mid after =
+    → IsAbandonedCopy old (arena_of items (freed_of number items head) counter greatest new_capacity most placed touched)
+copy_abandoned {T = T} {Gen = Gen} number items slots head ns counter greatest new_capacity capacity most maximum placed touched old mid empty equal_capacity same_most is_mid after =
     let same = is_mid ∙ after in
     rw empty (λ i. record {
       slots = [];

@@ -3,6 +3,7 @@ use Rattle.std.proofs.Common.{◌≡◌, ℕ, zero, suc, ◌+◌, ◌<◌, List,
 use Rattle.std.specs.Prelude.{IsSome, true, false, count_by, is_some, cond, slice_index_or, slice_get, slice_set}
 use Rattle.std.proofs.lemmas.List.{length-set}
 use Rattle.std.proofs.lemmas.List.Sums.{sum_by-cons}
+use Rattle.arena_ptr.specs.declared.packed_option.PackedOption.{PackedOption}
 use Rattle.arena_base.specs.Arena.{slot_at, with_slot}
 use Rattle.arena_base.specs.Slots.{item_at, entry_of, entry_in, allocated_slot, free_slot, with_generation_in, with_generation_at, freed_slot}
 use Rattle.arena_base.specs.declared.slot.ArenaSlot.{ArenaSlot}
@@ -116,12 +117,12 @@ module _ {P T Inx Gen Word : Type 0} where
   with_generation_at-none (s ∷ slots) (suc k) g is = ap (λ zs. s ∷ zs) (with_generation_at-none slots k g is)
 
   -- A slot without an entry is free, and stays the same.
-  pub freed_slot-free : (slot : ArenaSlot P T Inx Gen Word) (next : Option Inx) → entry_of slot ≡ None → freed_slot slot next ≡ slot
+  pub freed_slot-free : (slot : ArenaSlot P T Inx Gen Word) (next : PackedOption Inx Word) → entry_of slot ≡ None → freed_slot slot next ≡ slot
   freed_slot-free (Allocated g t) next is = cc
   freed_slot-free (Free other) next is = refl
 
   -- A slot with an entry is freed.
-  pub freed_slot-taken : (slot : ArenaSlot P T Inx Gen Word) (next : Option Inx) (e : Gen × T) → entry_of slot ≡ Some e → freed_slot slot next ≡ free_slot next
+  pub freed_slot-taken : (slot : ArenaSlot P T Inx Gen Word) (next : PackedOption Inx Word) (e : Gen × T) → entry_of slot ≡ Some e → freed_slot slot next ≡ free_slot next
   freed_slot-taken (Allocated g t) next e is = refl
   freed_slot-taken (Free other) next e is = cc
 

@@ -4,6 +4,7 @@ use Rattle.std.specs.Prelude.{slice_get, is_some}
 use Rattle.std.specs.Option.{option_map}
 use Rattle.std.proofs.lemmas.List.{length-map}
 use Rattle.std.proofs.lemmas.List.Sums.{sum_by-cons}
+use Rattle.arena_ptr.specs.declared.packed_option.PackedOption.{PackedOption}
 use Rattle.arena_base.specs.Slots.{item_at, entry_of, free_slot, without_value, without_values, IsFreeList, IsSound}
 use Rattle.arena_base.specs.Copies.{generations}
 use Rattle.arena_base.specs.declared.slot.ArenaSlot.{ArenaSlot}
@@ -22,7 +23,7 @@ module _ {X Y : Type 0} (f : X → Y) where
 
 module _ {P T Inx Gen Word : Type 0} where
   -- A slot that is free without its value is free.
-  free_before : (o : Option (ArenaSlot P T Inx Gen Word)) (next : Option Inx) → option_map without_value o ≡ Some (free_slot next) → o ≡ Some (free_slot next)
+  free_before : (o : Option (ArenaSlot P T Inx Gen Word)) (next : PackedOption Inx Word) → option_map without_value o ≡ Some (free_slot next) → o ≡ Some (free_slot next)
   free_before None next is = cc
   free_before (Some (Allocated g t)) next is = cc
   free_before (Some (Free other)) next is = let same : other ≡ next = cc in ap (λ n. Some (free_slot n)) same
@@ -54,18 +55,18 @@ module _ {P T U Inx Gen Word : Type 0} (a : List (ArenaSlot P U Inx Gen Word)) (
   same_generations = generations_kept b ∙ (ap (λ s. generations (map entry_of s)) alike ∙ sym (generations_kept a))
 
   -- A slot free in one is free in the other, with the same next.
-  free_too : (n : ℕ) (next : Option Inx) → item_at a n ≡ Some (free_slot next) → item_at b n ≡ Some (free_slot next)
+  free_too : (n : ℕ) (next : PackedOption Inx Word) → item_at a n ≡ Some (free_slot next) → item_at b n ≡ Some (free_slot next)
   free_too n next is =
       free_before (item_at b n) next
       (sym (item_at-map without_value b n) ∙ (ap (λ s. item_at s n) alike ∙ (item_at-map without_value a n ∙ ap (option_map without_value) is)))
 
-  linked_too : (number : Inx → ℕ) (ns : List ℕ) (head : Option Inx) → IsFreeList number a ns head → IsFreeList number b ns head
+  linked_too : (number : PackedOption Inx Word → Option ℕ) (ns : List ℕ) (head : PackedOption Inx Word) → IsFreeList number a ns head → IsFreeList number b ns head
   linked_too number [] head l = l
-  linked_too number (n ∷ ns) head l = (l.0, l.1, l.2, l.3, free_too n l.1 l.4, linked_too number ns l.1 l.5)
+  linked_too number (n ∷ ns) head l = (l.0, l.1, free_too n l.0 l.2, linked_too number ns l.0 l.3)
 
-module _ {P T U Inx Gen Word : Type 0} (number : Inx → ℕ) {a : List (ArenaSlot P U Inx Gen Word)} {b : List (ArenaSlot P T Inx Gen Word)} (alike : without_values b ≡ without_values a) where
+module _ {P T U Inx Gen Word : Type 0} (number : PackedOption Inx Word → Option ℕ) {a : List (ArenaSlot P U Inx Gen Word)} {b : List (ArenaSlot P T Inx Gen Word)} (alike : without_values b ≡ without_values a) where
   -- The other slots are sound with the same freed list.
-  pub sound_too : {greatest len : ℕ} {head : Option Inx} {ns : List ℕ} → IsSound number a greatest len head ns → IsSound number b greatest len head ns
+  pub sound_too : {greatest len : ℕ} {head : PackedOption Inx Word} {ns : List ℕ} → IsSound number a greatest len head ns → IsSound number b greatest len head ns
   sound_too {head = head} {ns = ns} s = record {
     linked = linked_too a b alike number ns head s.linked;
     apart = s.apart;

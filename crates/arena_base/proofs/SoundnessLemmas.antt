@@ -3,6 +3,7 @@ use Rattle.std.proofs.Common.{◌≡◌, ℕ, zero, suc, ◌+◌, ◌<◌, ◌�
 use Rattle.std.specs.Prelude.{slice_get, slice_set}
 use Rattle.std.proofs.lemmas.List.{length-set}
 use Rattle.std.proofs.lemmas.Bool.{cases_eq}
+use Rattle.arena_ptr.specs.declared.packed_option.PackedOption.{PackedOption}
 use Rattle.arena_base.specs.Arena.{IsMember, first_or_next, without_first}
 use Rattle.arena_base.specs.Slots.{item_at, with_value_in, next_free, allocated_slot, free_slot, freed_from, freed_of, IsFreeList, IsSound}
 use Rattle.arena_base.specs.declared.slot.ArenaSlot.{ArenaSlot}
@@ -11,37 +12,36 @@ use Rattle.arena_base.proofs.SlotLemmas.{slice_get-set-same, slice_set-itself, i
 
 module _ {P T Inx Gen Word : Type 0} where
   -- A slot with an entry is not free.
-  not_free : (slot : ArenaSlot P T Inx Gen Word) (g : Gen) (t : T) (next : Option Inx) → slot ≡ Allocated g t → Some slot ≡ Some (free_slot next) → ⊥
+  not_free : (slot : ArenaSlot P T Inx Gen Word) (g : Gen) (t : T) (next : PackedOption Inx Word) → slot ≡ Allocated g t → Some slot ≡ Some (free_slot next) → ⊥
   not_free slot g t next taken free = cc
 
-module _ {P T Inx Gen Word : Type 0} (number : Inx → ℕ) where
+module _ {P T Inx Gen Word : Type 0} (number : PackedOption Inx Word → Option ℕ) where
   -- A slot in the freed list is free.
-  pub listed_is_free : (slots : List (ArenaSlot P T Inx Gen Word)) (ns : List ℕ) (head : Option Inx) (n : ℕ) → IsFreeList number slots ns head → IsMember ns n → (next : Option Inx) × (item_at slots n ≡ Some (free_slot next))
+  pub listed_is_free : (slots : List (ArenaSlot P T Inx Gen Word)) (ns : List ℕ) (head : PackedOption Inx Word) (n : ℕ) → IsFreeList number slots ns head → IsMember ns n → (next : PackedOption Inx Word) × (item_at slots n ≡ Some (free_slot next))
   listed_is_free slots [] head n l has = absurd has
-  listed_is_free slots (m ∷ ns) head n l (inl same) = (l.1, subst (λ k. item_at slots k ≡ Some (free_slot l.1)) same l.4)
-  listed_is_free slots (m ∷ ns) head n l (inr has) = listed_is_free slots ns l.1 n l.5 has
+  listed_is_free slots (m ∷ ns) head n l (inl same) = (l.0, subst (λ k. item_at slots k ≡ Some (free_slot l.0)) same l.2)
+  listed_is_free slots (m ∷ ns) head n l (inr has) = listed_is_free slots ns l.0 n l.3 has
 
-  pub taken_is_not_listed : (slots : List (ArenaSlot P T Inx Gen Word)) (ns : List ℕ) (head : Option Inx) (n : ℕ) (g : Gen) (t : T) → IsFreeList number slots ns head → item_at slots n ≡ Some (allocated_slot g t) → IsMember ns n → ⊥
+  pub taken_is_not_listed : (slots : List (ArenaSlot P T Inx Gen Word)) (ns : List ℕ) (head : PackedOption Inx Word) (n : ℕ) (g : Gen) (t : T) → IsFreeList number slots ns head → item_at slots n ≡ Some (allocated_slot g t) → IsMember ns n → ⊥
   taken_is_not_listed slots ns head n g t l is has =
       let free = listed_is_free slots ns head n l has in
       let both : Some (allocated_slot g t) ≡ Some (free_slot free.0) = sym is ∙ free.1 in cc
 
-  pub IsFreeList-set : (slots : List (ArenaSlot P T Inx Gen Word)) (k : ℕ) (slot : ArenaSlot P T Inx Gen Word) (ns : List ℕ) (head : Option Inx) → (IsMember ns (suc k) → ⊥) → IsFreeList number slots ns head → IsFreeList number (slice_set slots k slot) ns head
+  pub IsFreeList-set : (slots : List (ArenaSlot P T Inx Gen Word)) (k : ℕ) (slot : ArenaSlot P T Inx Gen Word) (ns : List ℕ) (head : PackedOption Inx Word) → (IsMember ns (suc k) → ⊥) → IsFreeList number slots ns head → IsFreeList number (slice_set slots k slot) ns head
   IsFreeList-set slots k slot [] head out l = l
   IsFreeList-set slots k slot (n ∷ ns) head out l =
-      (l.0, l.1, l.2, l.3, item_at-set-other slots k n slot (λ e. out (inl (sym e))) ∙ l.4, IsFreeList-set slots k slot ns l.1 (λ h. out (inr h)) l.5)
+      (l.0, l.1, item_at-set-other slots k n slot (λ e. out (inl (sym e))) ∙ l.2, IsFreeList-set slots k slot ns l.0 (λ h. out (inr h)) l.3)
 
   -- A walk along the freed list yields it.
-  pub walked : (slots : List (ArenaSlot P T Inx Gen Word)) (ns : List ℕ) (most : ℕ) (head : Option Inx) → IsFreeList number slots ns head → length ns ≤ most → freed_from number slots most head ≡ ns
+  pub walked : (slots : List (ArenaSlot P T Inx Gen Word)) (ns : List ℕ) (most : ℕ) (head : PackedOption Inx Word) → IsFreeList number slots ns head → length ns ≤ most → freed_from number slots most (number head) ≡ ns
   walked slots [] zero head l few = refl
   walked slots [] (suc most) head l few = ap (freed_from number slots (suc most)) l
   walked slots (n ∷ ns) zero head l few = absurd (omega (arith, few))
   walked slots (n ∷ ns) (suc most) head l few =
-      ap (freed_from number slots (suc most)) l.2
-      ∙ (ap (λ m. m ∷ freed_from number slots most (next_free (item_at slots m))) l.3
-      ∙ (ap (λ o. n ∷ freed_from number slots most (next_free o)) l.4 ∙ ap (λ ms. n ∷ ms) (walked slots ns most l.1 l.5 (omega (arith, few)))))
+      ap (freed_from number slots (suc most)) l.1
+      ∙ (ap (λ o. n ∷ freed_from number slots most (next_free number o)) l.2 ∙ ap (λ ms. n ∷ ms) (walked slots ns most l.0 l.3 (omega (arith, few))))
 
-  module _ {slots : List (ArenaSlot P T Inx Gen Word)} {greatest len : ℕ} {head : Option Inx} {ns : List ℕ} (s : IsSound number slots greatest len head ns) where
+  module _ {slots : List (ArenaSlot P T Inx Gen Word)} {greatest len : ℕ} {head : PackedOption Inx Word} {ns : List ℕ} (s : IsSound number slots greatest len head ns) where
     pub walked_all : freed_of number slots head ≡ ns
     walked_all = walked slots ns (length slots) head s.linked (omega (arith, s.total))
 
@@ -50,23 +50,21 @@ module _ {P T Inx Gen Word : Type 0} (number : Inx → ℕ) where
     closed = subst (IsSound number slots greatest len head) (sym walked_all) s
 
     -- The slot of an entry is freed.
-    pub slot_vacated : (k : ℕ) (i : Inx) (g : Gen) (t : T) (left : ℕ) → k + 1 ≡ number i → slice_get slots k ≡ Some (allocated_slot g t) → left + 1 ≡ len
-        → IsSound number (slice_set slots k (free_slot head)) greatest left (Some i) (number i ∷ ns)
-    slot_vacated k i g t left at is one =
-        let index : suc k ≡ number i = omega (arith, at) in
-        let was_stored : item_at slots (number i) ≡ Some (allocated_slot g t) = at_position slots k (number i) at ∙ is in
-        let out = taken_is_not_listed slots ns head (number i) g t s.linked was_stored in
+    pub slot_vacated : (k i : ℕ) (first : PackedOption Inx Word) (g : Gen) (t : T) (left : ℕ) → number first ≡ Some i → k + 1 ≡ i → slice_get slots k ≡ Some (allocated_slot g t) → left + 1 ≡ len
+        → IsSound number (slice_set slots k (free_slot head)) greatest left first (i ∷ ns)
+    slot_vacated k i first g t left names at is one =
+        let index : suc k ≡ i = omega (arith, at) in
+        let was_stored : item_at slots i ≡ Some (allocated_slot g t) = at_position slots k i at ∙ is in
+        let out = taken_is_not_listed slots ns head i g t s.linked was_stored in
         record {
           linked = (
-            i,
             head,
-            refl,
-            refl,
-            at_position (slice_set slots k (free_slot head)) k (number i) at ∙ slice_get-set-same slots k (free_slot head) (allocated_slot g t) is,
+            names,
+            at_position (slice_set slots k (free_slot head)) k i at ∙ slice_get-set-same slots k (free_slot head) (allocated_slot g t) is,
             IsFreeList-set slots k (free_slot head) ns head (λ h. out (subst (λ n. IsMember ns n) index h)) s.linked,
           );
           apart = (out, s.apart);
-          covers = λ n next free. elim (cases_eq (number i) n) [
+          covers = λ n next free. elim (cases_eq i n) [
             | inl same ↦ inl same
             | inr other ↦ inr (s.covers n next (sym (item_at-set-other slots k n (free_slot head) (λ e. other (sym index ∙ e))) ∙ free))
           ];
@@ -94,22 +92,21 @@ module _ {P T Inx Gen Word : Type 0} (number : Inx → ℕ) where
         }
 
   -- An entry is written into the first freed slot.
-  pub filled_freed : {slots : List (ArenaSlot P T Inx Gen Word)} {greatest len : ℕ} {ns : List ℕ} (i : Inx) (next : Option Inx) (k : ℕ) (g : Gen) (t : T)
-      → IsSound number slots greatest len (Some i) ns → k + 1 ≡ number i → slice_get slots k ≡ Some (free_slot next)
-      → IsSound number (slice_set slots k (allocated_slot g t)) greatest (len + 1) next (without_first ns) × (ns ≡ number i ∷ without_first ns)
-  filled_freed {ns = []} i next k g t s at is = let none : Some i ≡ None = s.linked in cc
-  filled_freed {slots = slots} {ns = n ∷ ns} i next k g t s at is =
-      let slot = allocated_slot g t in
-      let index : suc k ≡ number i = omega (arith, at) in
-      let first : Some i ≡ Some s.linked.0 = s.linked.2 in
-      let same : i ≡ s.linked.0 = cc in
-      let named : number i ≡ n = ap number same ∙ s.linked.3 in
-      let was_stored : item_at slots n ≡ Some (free_slot next) = sym (ap (item_at slots) named) ∙ (at_position slots k (number i) at ∙ is) in
-      let both : Some (free_slot s.linked.1) ≡ Some (free_slot next) = sym s.linked.4 ∙ was_stored in
-      let rest : s.linked.1 ≡ next = cc in
+  pub filled_freed : {slots : List (ArenaSlot P T Inx Gen Word)} {greatest len : ℕ} {head : PackedOption Inx Word} {ns : List ℕ} (i : ℕ) (next : PackedOption Inx Word) (k : ℕ) (g : Gen) (t : T)
+      → IsSound number slots greatest len head ns → number head ≡ Some i → k + 1 ≡ i → slice_get slots k ≡ Some (free_slot next)
+      → IsSound number (slice_set slots k (allocated_slot g t)) greatest (len + 1) next (without_first ns) × (ns ≡ i ∷ without_first ns)
+  filled_freed {ns = []} i next k g t s first at is = let none : Some i ≡ None = sym first ∙ s.linked in cc
+  filled_freed {slots = slots} {ns = n ∷ ns} i next k g t s first at is =
+      let slot : ArenaSlot P T Inx Gen Word = allocated_slot g t in
+      let index : suc k ≡ i = omega (arith, at) in
+      let firsts : Some i ≡ Some n = sym first ∙ s.linked.1 in
+      let named : i ≡ n = cc in
+      let was_stored : item_at slots n ≡ Some (free_slot next) = sym (ap (item_at slots) named) ∙ (at_position slots k i at ∙ is) in
+      let both : Some (free_slot s.linked.0) ≡ Some (free_slot next) = sym s.linked.2 ∙ was_stored in
+      let rest : s.linked.0 ≡ next = cc in
       let out : IsMember ns (suc k) → ⊥ = λ h. s.apart.0 (subst (λ m. IsMember ns m) (index ∙ named) h) in (
         record {
-          linked = IsFreeList-set slots k slot ns next out (subst (λ o. IsFreeList number slots ns o) rest s.linked.5);
+          linked = IsFreeList-set slots k slot ns next out (subst (λ o. IsFreeList number slots ns o) rest s.linked.3);
           apart = s.apart.1;
           covers = λ m other free. elim (cases_eq (suc k) m) [
             | inl here ↦ absurd (not_free slot g t other refl (sym (slice_get-set-same slots k slot (free_slot next) is) ∙ subst (λ j. item_at (slice_set slots k slot) j ≡ Some (free_slot other)) (sym here) free))
@@ -127,13 +124,13 @@ module _ {P T Inx Gen Word : Type 0} (number : Inx → ℕ) where
       elsewhere m away (inr has) = has
 
   -- An entry is appended if no slot is free.
-  pub filled_next : {slots : List (ArenaSlot P T Inx Gen Word)} {greatest len : ℕ} {ns : List ℕ} (g : Gen) (t : T)
-      → IsSound number slots greatest len None ns → length slots < greatest
-      → IsSound number (slots ++ allocated_slot g t ∷ []) greatest (len + 1) None [] × (ns ≡ [])
-  filled_next {slots = slots} {ns = []} g t s less =
+  pub filled_next : {slots : List (ArenaSlot P T Inx Gen Word)} {greatest len : ℕ} {head : PackedOption Inx Word} {ns : List ℕ} (g : Gen) (t : T)
+      → IsSound number slots greatest len head ns → number head ≡ None → length slots < greatest
+      → IsSound number (slots ++ allocated_slot g t ∷ []) greatest (len + 1) head [] × (ns ≡ [])
+  filled_next {slots = slots} {ns = []} g t s none less =
       let slot = allocated_slot g t in (
         record {
-          linked = refl;
+          linked = none;
           apart = tt;
           covers = λ m other free. elim (item_at-push slots slot (free_slot other) m free) [
             | inl before ↦ s.covers m other before
@@ -145,43 +142,40 @@ module _ {P T Inx Gen Word : Type 0} (number : Inx → ℕ) where
         },
         refl,
       )
-  filled_next {slots = slots} {ns = n ∷ ns} g t s less = let some : None ≡ Some s.linked.0 = s.linked.2 in cc
+  filled_next {slots = slots} {ns = n ∷ ns} g t s none less = let some : None ≡ Some n = sym none ∙ s.linked.1 in cc
 
-  none_listed : (slots : List (ArenaSlot P T Inx Gen Word)) (n : ℕ) (next : Option Inx) → slots ≡ [] → item_at slots n ≡ Some (free_slot next) → ⊥
+  none_listed : (slots : List (ArenaSlot P T Inx Gen Word)) (n : ℕ) (next : PackedOption Inx Word) → slots ≡ [] → item_at slots n ≡ Some (free_slot next) → ⊥
   none_listed slots zero next empty is = cc
   none_listed [] (suc k) next empty is = cc
   none_listed (s ∷ slots) (suc k) next empty is = cc
 
   -- An empty list of slots is sound.
-  pub none_sound : (slots : List (ArenaSlot P T Inx Gen Word)) (greatest : ℕ) → slots ≡ [] → IsSound number slots greatest 0 None (freed_of number slots None)
-  none_sound [] greatest is = record { linked = refl; apart = tt; covers = λ n next free. absurd (none_listed [] n next refl free); counted = refl; total = refl; fits = omega arith }
-  none_sound (s ∷ slots) greatest is = cc
+  pub none_sound : (slots : List (ArenaSlot P T Inx Gen Word)) (greatest : ℕ) (head : PackedOption Inx Word) → number head ≡ None → slots ≡ [] → IsSound number slots greatest 0 head (freed_of number slots head)
+  none_sound [] greatest head none is = record { linked = none; apart = tt; covers = λ n next free. absurd (none_listed [] n next refl free); counted = refl; total = refl; fits = omega arith }
+  none_sound (s ∷ slots) greatest head none is = cc
 
   -- The next insertion takes the first freed slot.
-  pub first_freed : {slots : List (ArenaSlot P T Inx Gen Word)} {greatest len : ℕ} {ns : List ℕ} (i : Inx) → IsSound number slots greatest len (Some i) ns → (count : ℕ) → number i ≡ first_or_next ns count
-  first_freed {ns = []} i s count = let none : Some i ≡ None = s.linked in cc
-  first_freed {ns = n ∷ ns} i s count =
-      let first : Some i ≡ Some s.linked.0 = s.linked.2 in
-      let same : i ≡ s.linked.0 = cc in
-      ap number same ∙ s.linked.3
+  pub first_freed : {slots : List (ArenaSlot P T Inx Gen Word)} {greatest len : ℕ} {head : PackedOption Inx Word} {ns : List ℕ} (i : ℕ) → IsSound number slots greatest len head ns → number head ≡ Some i → (count : ℕ) → i ≡ first_or_next ns count
+  first_freed {ns = []} i s first count = let none : Some i ≡ None = sym first ∙ s.linked in cc
+  first_freed {ns = n ∷ ns} i s first count = let firsts : Some i ≡ Some n = sym first ∙ s.linked.1 in cc
 
   -- The next insertion takes a new slot if none is freed.
-  pub first_new : {slots : List (ArenaSlot P T Inx Gen Word)} {greatest len : ℕ} {ns : List ℕ} → IsSound number slots greatest len None ns → (count : ℕ) → count + 1 ≡ first_or_next ns count
-  first_new {ns = []} s count = refl
-  first_new {ns = n ∷ ns} s count = let some : None ≡ Some s.linked.0 = s.linked.2 in cc
+  pub first_new : {slots : List (ArenaSlot P T Inx Gen Word)} {greatest len : ℕ} {head : PackedOption Inx Word} {ns : List ℕ} → IsSound number slots greatest len head ns → number head ≡ None → (count : ℕ) → count + 1 ≡ first_or_next ns count
+  first_new {ns = []} s none count = refl
+  first_new {ns = n ∷ ns} s none count = let some : None ≡ Some n = sym none ∙ s.linked.1 in cc
 
   -- Without freed slots there are as many entries as slots.
-  pub none_freed : {slots : List (ArenaSlot P T Inx Gen Word)} {greatest len : ℕ} {ns : List ℕ} → IsSound number slots greatest len None ns → len ≡ length slots
-  none_freed {ns = []} s = omega (arith, s.total)
-  none_freed {ns = n ∷ ns} s = let some : None ≡ Some s.linked.0 = s.linked.2 in cc
+  pub none_freed : {slots : List (ArenaSlot P T Inx Gen Word)} {greatest len : ℕ} {head : PackedOption Inx Word} {ns : List ℕ} → IsSound number slots greatest len head ns → number head ≡ None → len ≡ length slots
+  none_freed {ns = []} s none = omega (arith, s.total)
+  none_freed {ns = n ∷ ns} s none = let some : None ≡ Some n = sym none ∙ s.linked.1 in cc
 
   -- If there is an entry, the count is positive.
-  pub some_taken : {slots : List (ArenaSlot P T Inx Gen Word)} {greatest len : ℕ} {head : Option Inx} {ns : List ℕ} → IsSound number slots greatest len head ns
+  pub some_taken : {slots : List (ArenaSlot P T Inx Gen Word)} {greatest len : ℕ} {head : PackedOption Inx Word} {ns : List ℕ} → IsSound number slots greatest len head ns
       → (k : ℕ) (g : Gen) (t : T) → slice_get slots k ≡ Some (allocated_slot g t) → 1 ≤ len
   some_taken {slots = slots} {head = head} s k g t is = omega (arith, s.counted, taken_count-set slots k (allocated_slot g t) (free_slot head) is)
 
   -- A value is written.
-  pub lent : {slots : List (ArenaSlot P T Inx Gen Word)} {greatest len : ℕ} {head : Option Inx} {ns : List ℕ} (k : ℕ) (slot : ArenaSlot P T Inx Gen Word) (w : T)
+  pub lent : {slots : List (ArenaSlot P T Inx Gen Word)} {greatest len : ℕ} {head : PackedOption Inx Word} {ns : List ℕ} (k : ℕ) (slot : ArenaSlot P T Inx Gen Word) (w : T)
       → IsSound number slots greatest len head ns → slice_get slots k ≡ Some slot → IsSound number (slice_set slots k (with_value_in slot w)) greatest len head ns
   lent k (Allocated g t) w s is = rewritten s k g g t w is
   lent {slots = slots} {greatest = greatest} {len = len} {head = head} {ns = ns} k (Free next) w s is =

@@ -1,8 +1,9 @@
 -- Trimming of free slots at the end, and listing of the others by ascending index.
 use Rattle.std.proofs.Common.{◌≡◌, ℕ, zero, suc, ◌+◌, ◌<◌, ◌≤◌, cond, List, [], ◌∷◌, length, map, take, drop, Option, None, Some, refl, ap, sym, ◌∙◌, subst, arith, inl, inr}
-use Rattle.std.specs.Prelude.{true, false, IsSome, IfSome, count_by, is_some, is_none, slice_index_or, slice_get, slice_set}
+use Rattle.std.specs.Prelude.{true, false, count_by, is_some, is_none, slice_index_or, slice_get, slice_set}
 use Rattle.std.proofs.lemmas.List.{length-map, map-set}
 use Rattle.std.proofs.lemmas.List.Sums.{sum_by-cons}
+use Rattle.arena_ptr.specs.declared.packed_option.PackedOption.{PackedOption}
 use Rattle.arena_base.specs.Arena.{IsMember, AreDistinct}
 use Rattle.arena_base.specs.DetachedSlots.{before_cut, without_free_end, free_from}
 use Rattle.arena_base.specs.Slots.{item_at, entry_of, entry_in, free_slot, IsFreeList, IsSound}
@@ -95,14 +96,14 @@ module _ {P T Inx Gen Word : Type 0} where
   cut_all slots n none rest =
       map-take slots n ∙ (ap (λ m. take m (map entry_of slots)) none ∙ (ap (λ m. without_free_end (take m (map entry_of slots))) (sym none) ∙ rest))
 
-module _ {P T Inx Gen Word : Type 0} (number : Inx → ℕ) where
+module _ {P T Inx Gen Word : Type 0} (number : PackedOption Inx Word → Option ℕ) where
   -- The state of a listing down to position `k`.
-  pub record IsListing (slots : List (ArenaSlot P T Inx Gen Word)) (entries : List (Option (Gen × T))) (k len : ℕ) (head : Option Inx) : Type 0 where
+  pub record IsListing (slots : List (ArenaSlot P T Inx Gen Word)) (entries : List (Option (Gen × T))) (k len : ℕ) (head : PackedOption Inx Word) : Type 0 where
     pub same : map entry_of slots ≡ entries
     pub linked : IsFreeList number slots (free_from (suc k) (drop k entries)) head
     pub counted : len ≡ count_by is_some (drop k entries)
 
-  module _ {slots : List (ArenaSlot P T Inx Gen Word)} {entries : List (Option (Gen × T))} {n len : ℕ} {head : Option Inx} (l : IsListing slots entries n len head) (k : ℕ) (at : suc k ≡ n) (below : k < length slots) where
+  module _ {slots : List (ArenaSlot P T Inx Gen Word)} {entries : List (Option (Gen × T))} {n len : ℕ} {head : PackedOption Inx Word} (l : IsListing slots entries n len head) (k : ℕ) (at : suc k ≡ n) (below : k < length slots) where
     entry_there : slice_index_or entries k None ≡ entry_in (slice_get slots k)
     entry_there = ap (λ es. slice_index_or es k None) (sym l.same) ∙ slice_index_or-map slots k
 
@@ -122,16 +123,16 @@ module _ {P T Inx Gen Word : Type 0} (number : Inx → ℕ) where
         }
 
     -- A free slot is listed.
-    pub listing_lists : (old : Option Inx) (i : Inx) → slice_get slots k ≡ Some (free_slot old) → number i ≡ suc k → IsListing (slice_set slots k (free_slot head)) entries k len (Some i)
-    listing_lists old i is index =
+    pub listing_lists : (old first : PackedOption Inx Word) → slice_get slots k ≡ Some (free_slot old) → number first ≡ Some (suc k) → IsListing (slice_set slots k (free_slot head)) entries k len first
+    listing_lists old first is names =
         let free = drop-at entries k within ∙ ap (λ o. o ∷ drop (suc k) entries) (entry_there ∙ ap entry_in is) in
         let rest = ap (λ i. drop i entries) at in
         let old_list = subst (λ es. IsFreeList number slots (free_from (suc (suc k)) es) head) (sym rest) (subst (λ i. IsFreeList number slots (free_from (suc i) (drop n entries)) head) (sym at) l.linked) in
         let out : IsMember (free_from (suc (suc k)) (drop (suc k) entries)) (suc k) → ⊥ = λ has. let more = free_from-above (drop (suc k) entries) (suc (suc k)) (suc k) has in absurd (omega (arith, more)) in
         record {
           same = map-set entry_of slots k (free_slot head) ∙ (unchanged (map entry_of slots) k (slice_index_or-map slots k ∙ ap entry_in is) ∙ l.same);
-          linked = subst (λ es. IsFreeList number (slice_set slots k (free_slot head)) (free_from (suc k) es) (Some i)) (sym free)
-              (i, head, refl, index, slice_get-set-same slots k (free_slot head) (free_slot old) is, IsFreeList-set number slots k (free_slot head) (free_from (suc (suc k)) (drop (suc k) entries)) head out old_list);
+          linked = subst (λ es. IsFreeList number (slice_set slots k (free_slot head)) (free_from (suc k) es) first) (sym free)
+              (head, names, slice_get-set-same slots k (free_slot head) (free_slot old) is, IsFreeList-set number slots k (free_slot head) (free_from (suc (suc k)) (drop (suc k) entries)) head out old_list);
           counted = omega (arith, l.counted, ap (count_by is_some) rest, ap (count_by is_some) free, sum_by-cons (λ (o : Option (Gen × T)). cond (is_some o) 1 0) None (drop (suc k) entries));
         }
       where
@@ -141,7 +142,7 @@ module _ {P T Inx Gen Word : Type 0} (number : Inx → ℕ) where
         unchanged (e ∷ es) (suc j) none = ap (λ fs. e ∷ fs) (unchanged es j none)
 
   -- Completely listed slots are sound.
-  pub listing_ends : {slots : List (ArenaSlot P T Inx Gen Word)} {entries : List (Option (Gen × T))} {len greatest : ℕ} {head : Option Inx} → IsListing slots entries 0 len head → length slots ≤ greatest
+  pub listing_ends : {slots : List (ArenaSlot P T Inx Gen Word)} {entries : List (Option (Gen × T))} {len greatest : ℕ} {head : PackedOption Inx Word} → IsListing slots entries 0 len head → length slots ≤ greatest
       → IsSound number slots greatest len head (free_from 1 entries)
   listing_ends {slots = slots} {entries = entries} {len = len} l few =
       let counted : len ≡ count_by is_some entries = l.counted in
@@ -154,7 +155,7 @@ module _ {P T Inx Gen Word : Type 0} (number : Inx → ℕ) where
         fits = few;
       }
     where
-      listed : (n : ℕ) (next : Option Inx) → item_at slots n ≡ Some (free_slot next) → IsMember (free_from 1 entries) n
+      listed : (n : ℕ) (next : PackedOption Inx Word) → item_at slots n ≡ Some (free_slot next) → IsMember (free_from 1 entries) n
       listed zero next free = cc
       listed (suc k) next free =
           let below = slice_get-below slots k (free_slot next) free in
@@ -162,18 +163,18 @@ module _ {P T Inx Gen Word : Type 0} (number : Inx → ℕ) where
           (ap (λ es. slice_index_or es k None) (sym l.same) ∙ (slice_index_or-map slots k ∙ ap entry_in free))
 
   -- A listing step at a free slot.
-  pub listing_frees : {slots items : List (ArenaSlot P T Inx Gen Word)} {entries : List (Option (Gen × T))} {n len : ℕ} {head : Option Inx} → IsListing slots entries n len head
-      → (k : ℕ) (o : Option Inx) → k + 1 ≡ n → k < length slots → is_none (entry_in (slice_get slots k)) ≡ true → IsSome o → IfSome o (λ i. number i ≡ k + 1) → items ≡ slice_set slots k (free_slot head)
-      → IsListing items entries k len o
-  listing_frees l k None at below free some index written = let both : false ≡ true = some in cc
-  listing_frees {slots = slots} {entries = entries} {len = len} l k (Some i) at below free some index written =
+  pub listing_frees : {slots items : List (ArenaSlot P T Inx Gen Word)} {entries : List (Option (Gen × T))} {n len : ℕ} {head : PackedOption Inx Word} → IsListing slots entries n len head
+      → (k : ℕ) (first : PackedOption Inx Word) → k + 1 ≡ n → k < length slots → is_none (entry_in (slice_get slots k)) ≡ true → number first ≡ Some (k + 1) → items ≡ slice_set slots k (free_slot head)
+      → IsListing items entries k len first
+  listing_frees {slots = slots} {entries = entries} {len = len} l k first at below free names written =
+      let next : k + 1 ≡ suc k = omega arith in
       let slot = there slots k below in
       let old = free_of slot.0 (sym (ap entry_in slot.1) ∙ none_of (entry_in (slice_get slots k)) free) in
-      subst (λ es. IsListing es entries k len (Some i)) (sym written)
-      (listing_lists l k (omega (arith, at)) below old.0 i (slot.1 ∙ ap (λ s. Some s) old.1) (omega (arith, index)))
+      subst (λ es. IsListing es entries k len first) (sym written)
+      (listing_lists l k (omega (arith, at)) below old.0 first (slot.1 ∙ ap (λ s. Some s) old.1) (names ∙ ap (λ m. Some m) next))
 
   -- A listing step at an entry.
-  pub listing_takes : {slots : List (ArenaSlot P T Inx Gen Word)} {entries : List (Option (Gen × T))} {n len : ℕ} {head : Option Inx} → IsListing slots entries n len head
+  pub listing_takes : {slots : List (ArenaSlot P T Inx Gen Word)} {entries : List (Option (Gen × T))} {n len : ℕ} {head : PackedOption Inx Word} → IsListing slots entries n len head
       → (k : ℕ) → k + 1 ≡ n → k < length slots → is_none (entry_in (slice_get slots k)) ≡ false → IsListing slots entries k (len + 1) head
   listing_takes {slots = slots} l k at below taken =
       let entry = some_of (entry_in (slice_get slots k)) taken in

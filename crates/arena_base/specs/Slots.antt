@@ -1,6 +1,7 @@
 -- The representation of an arena in its slots. Public clauses cite `entry_of` and
 -- `ThreadsFreeList`.
 use Rattle.std.specs.Prelude.{◌≡◌, ℕ, zero, suc, ◌+◌, ◌≤◌, ⊤, List, [], ◌∷◌, map, min, length, count_by, is_some, slice_get, Option, None, Some}
+use Rattle.arena_ptr.specs.declared.packed_option.PackedOption.{PackedOption}
 use Rattle.arena_base.specs.DetachedSlots.{DetachedView}
 use Rattle.arena_base.specs.Arena.{Arena, IsMember, AreDistinct}
 use Rattle.arena_base.specs.declared.slot.ArenaSlot.{ArenaSlot}
@@ -30,11 +31,11 @@ module _ {P T Inx Gen Word : Type 0} where
   abbrev pub allocated_slot : Gen → T → ArenaSlot P T Inx Gen Word
   allocated_slot generation t = Allocated generation t
 
-  abbrev pub free_slot : Option Inx → ArenaSlot P T Inx Gen Word
+  abbrev pub free_slot : PackedOption Inx Word → ArenaSlot P T Inx Gen Word
   free_slot next = Free next
 
   -- The slot with its entry, if it has one, removed.
-  abbrev pub freed_slot : ArenaSlot P T Inx Gen Word → Option Inx → ArenaSlot P T Inx Gen Word
+  abbrev pub freed_slot : ArenaSlot P T Inx Gen Word → PackedOption Inx Word → ArenaSlot P T Inx Gen Word
   freed_slot (Allocated generation t) next = Free next
   freed_slot (Free other) next = Free other
 
@@ -55,11 +56,11 @@ module _ {P T Inx Gen Word : Type 0} where
   with_generation_at (slot ∷ slots) zero g = with_generation_in slot g ∷ slots
   with_generation_at (slot ∷ slots) (suc k) g = slot ∷ with_generation_at slots k g
 
-  -- The next free slot that a slot names.
-  abbrev pub next_free : Option (ArenaSlot P T Inx Gen Word) → Option Inx
-  next_free None = None
-  next_free (Some (Allocated generation t)) = None
-  next_free (Some (Free next)) = next
+  -- The index of the next free slot that a slot names.
+  abbrev pub next_free : (PackedOption Inx Word → Option ℕ) → Option (ArenaSlot P T Inx Gen Word) → Option ℕ
+  next_free number None = None
+  next_free number (Some (Allocated generation t)) = None
+  next_free number (Some (Free next)) = number next
 
 -- The slot without its value, if it has one.
 abbrev pub without_value : {P T Inx Gen Word : Type 0} → ArenaSlot P T Inx Gen Word → ArenaSlot P (Unit {0}) Inx Gen Word
@@ -70,34 +71,34 @@ without_value (Free next) = Free next
 abbrev pub without_values : {P T Inx Gen Word : Type 0} → List (ArenaSlot P T Inx Gen Word) → List (ArenaSlot P (Unit {0}) Inx Gen Word)
 without_values slots = map without_value slots
 
-module _ {P T Inx Gen Word : Type 0} (number : Inx → ℕ) (slots : List (ArenaSlot P T Inx Gen Word)) where
+module _ {P T Inx Gen Word : Type 0} (number : PackedOption Inx Word → Option ℕ) (slots : List (ArenaSlot P T Inx Gen Word)) where
   -- The freed indexes from a first one, at most so many.
-  abbrev pub freed_from : ℕ → Option Inx → List ℕ
-  freed_from zero head = []
+  abbrev pub freed_from : ℕ → Option ℕ → List ℕ
+  freed_from zero first = []
   freed_from (suc most) None = []
-  freed_from (suc most) (Some i) = number i ∷ freed_from most (next_free (item_at slots (number i)))
+  freed_from (suc most) (Some n) = n ∷ freed_from most (next_free number (item_at slots n))
 
   -- The list is that of the freed indexes from `head`: each names the next.
-  abbrev pub IsFreeList : List ℕ → Option Inx → Type 0
-  IsFreeList [] head = head ≡ None
-  IsFreeList (n ∷ ns) head = (i : Inx) × (next : Option Inx) × (head ≡ Some i) × (number i ≡ n) × (item_at slots n ≡ Some (Free next)) × IsFreeList ns next
+  abbrev pub IsFreeList : List ℕ → PackedOption Inx Word → Type 0
+  IsFreeList [] head = number head ≡ None
+  IsFreeList (n ∷ ns) head = (next : PackedOption Inx Word) × (number head ≡ Some n) × (item_at slots n ≡ Some (Free next)) × IsFreeList ns next
 
   -- The list threads the free slots: each one's slot names the next.
   abbrev pub ThreadsFreeList : List ℕ → Type 0
-  ThreadsFreeList freed = (head : Option Inx) × IsFreeList freed head
+  ThreadsFreeList freed = (head : PackedOption Inx Word) × IsFreeList freed head
 
   -- `len` counts the entries, and the freed list from `head` holds every free slot once.
-  pub record IsSound (greatest len : ℕ) (head : Option Inx) (freed : List ℕ) : Type 0 where
+  pub record IsSound (greatest len : ℕ) (head : PackedOption Inx Word) (freed : List ℕ) : Type 0 where
     pub linked : IsFreeList freed head
     pub apart : AreDistinct freed
-    pub covers : (n : ℕ) (next : Option Inx) → item_at slots n ≡ Some (Free next) → IsMember freed n
+    pub covers : (n : ℕ) (next : PackedOption Inx Word) → item_at slots n ≡ Some (Free next) → IsMember freed n
     pub counted : len ≡ count_by is_some (map entry_of slots)
     pub total : len + length freed ≡ length slots
     pub fits : length slots ≤ greatest
 
   -- The freed list of all slots.
-  abbrev pub freed_of : Option Inx → List ℕ
-  freed_of head = freed_from (length slots) head
+  abbrev pub freed_of : PackedOption Inx Word → List ℕ
+  freed_of head = freed_from (length slots) (number head)
 
 -- An arena of slots, with its freed list.
 abbrev pub arena_of : {P T Inx Gen Word : Type 0} → List (ArenaSlot P T Inx Gen Word) → List ℕ → Gen → ℕ → ℕ → Option ℕ → ℕ → ℕ → Arena Gen T

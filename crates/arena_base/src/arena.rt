@@ -12,7 +12,7 @@ ghost use Rattle.arena_base.specs.Arena.{entry_at, entry_count, next_index, inse
 use crate::cursor::Cursor;
 use crate::detached_slots::DetachedSlots;
 use crate::free_list::{relist, trim};
-use crate::slot::{ArenaSlot, fill, inx_at, position_of, regenerate_at, vacate_at};
+use crate::slot::{ArenaSlot, PackedInx, fill, inx_at, position_of, regenerate_at, vacate_at};
 use crate::tally::Tally;
 use arena_ptr::{
     GenKey, HeapStack, InvalidationOption, InvalidationResult, InxKey, LimitStack,
@@ -40,7 +40,7 @@ pub struct Arena<
     // The number of entries.
     pub(crate) len: usize,
     // The index to use next, if a slot is free.
-    pub(crate) first_free: Option<P::Inx>,
+    pub(crate) first_free: PackedInx<P::Inx>,
     pub(crate) counter: P::Gen,
     pub(crate) placed: Tally,
     pub(crate) touched: Tally,
@@ -54,11 +54,11 @@ impl<P: PtrKey, T: Drop, S: SlotStack<Item = ArenaSlot<P, T>>> Model for Arena<P
     ghost use Rattle.arena_base.specs.Slots.{arena_of, freed_of, IsSound};
 
     ghost view = { λ a. arena_of (S.items a.slots)
-        (freed_of P.Inx.number (S.items a.slots) a.first_free) a.counter
+        (freed_of P.Inx.packed_number (S.items a.slots) a.first_free) a.counter
         P.Inx.greatest (S.capacity a.slots) (S.maximum a.slots) a.placed.count a.touched.count };
 
-    ghost invariant = { λ a. IsSound P.Inx.number (S.items a.slots) P.Inx.greatest a.len
-        a.first_free (freed_of P.Inx.number (S.items a.slots) a.first_free) };
+    ghost invariant = { λ a. IsSound P.Inx.packed_number (S.items a.slots) P.Inx.greatest
+        a.len a.first_free (freed_of P.Inx.packed_number (S.items a.slots) a.first_free) };
 }
 
 impl<P: PtrKey, T: Drop, S: SlotStack<Item = ArenaSlot<P, T>>> Arena<P, T, S> {
@@ -74,7 +74,7 @@ impl<P: PtrKey, T: Drop, S: SlotStack<Item = ArenaSlot<P, T>>> Arena<P, T, S> {
         Arena {
             slots,
             len: 0,
-            first_free: None,
+            first_free: P::Inx::pack(None),
             counter: P::Gen::two(),
             placed: Tally::zero(),
             touched: Tally::zero(),
@@ -108,7 +108,7 @@ impl<P: PtrKey, T: Drop, S: SlotStack<Item = ArenaSlot<P, T>>> Arena<P, T, S> {
     /// Returns the slots.
     pub fn backing(&self) -> &S
         ensures slots { map entry_of (S.items result.now) ≡ self.now.slots }
-        ensures freed { ThreadsFreeList P.Inx.number (S.items result.now) self.now.freed }
+        ensures freed { ThreadsFreeList P.Inx.packed_number (S.items result.now) self.now.freed }
         ensures capacity { S.capacity result.now ≡ self.now.stack_capacity }
         ensures arena_capacity { self.now.capacity ≡ min (S.capacity result.now) P.Inx.greatest }
         ensures maximum { S.maximum result.now ≡ self.now.maximum }
@@ -309,7 +309,7 @@ impl<P: PtrKey, T: Drop, S: SlotStack<Item = ArenaSlot<P, T>>> Arena<P, T, S> {
         requires { entry_count self.now < self.now.capacity }
         ensures { P.key result ≡ (next_index self.now, self.now.counter) }
     {
-        let i = match self.first_free {
+        let i = match P::Inx::unpack(self.first_free) {
             Some(i) => i,
             // There are as many slots as entries.
             None => inx_at::<P>(self.len),
@@ -327,7 +327,7 @@ impl<P: PtrKey, T: Drop, S: SlotStack<Item = ArenaSlot<P, T>>> Arena<P, T, S> {
     {
         match vacate_at(&mut self.slots, position_of::<P>(i), self.first_free) {
             Some(entry) => {
-                self.first_free = Some(i);
+                self.first_free = P::Inx::pack(Some(i));
                 self.len -= 1;
                 self.placed = self.placed.one_more();
                 let (generation, overflow) = self.counter.generational_inc();
@@ -360,7 +360,7 @@ impl<P: PtrKey, T: Drop, S: SlotStack<Item = ArenaSlot<P, T>>> Arena<P, T, S> {
         let empty = S::new(self.slots.allocator());
         let slots = mem::replace(&mut self.slots, empty);
         self.len = 0;
-        self.first_free = None;
+        self.first_free = P::Inx::pack(None);
         DetachedSlots { slots }
     }
 
@@ -387,7 +387,7 @@ impl<P: PtrKey, T: Drop, S: SlotStack<Item = ArenaSlot<P, T>>> Arena<P, T, S> {
         slots.truncate(count);
         self.slots = slots;
         self.len = count;
-        self.first_free = None;
+        self.first_free = P::Inx::pack(None);
     }
 
     // Counts one placement.
@@ -411,7 +411,7 @@ impl<P: PtrKey, T: Drop, S: SlotStack<Item = ArenaSlot<P, T>>> Arena<P, T, S> {
         ensures after { self.new ≡ insert_next self.old t }
     {
         let p = self.next_ptr();
-        match self.first_free {
+        match P::Inx::unpack(self.first_free) {
             Some(i) => {
                 self.first_free = fill(&mut self.slots, position_of::<P>(i), self.counter, t);
             }

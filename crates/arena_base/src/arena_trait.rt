@@ -188,7 +188,7 @@ impl<P: PtrKey, T: Drop, S: SlotStack<Item = ArenaSlot<P, T>>> ArenaTrait<P, T> 
         self.counter = generation;
         self.slots.truncate(0);
         self.len = 0;
-        self.first_free = None;
+        self.first_free = P::Inx::pack(None);
         with_overflow(overflow, ())
     }
 

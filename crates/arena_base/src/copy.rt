@@ -10,7 +10,7 @@ use crate::arena::Arena;
 use crate::proved_unreachable;
 use crate::slot::{ArenaSlot, inx_at};
 use crate::traits::{ArenaCloneFromWith, ArenaTrait, ValueMap};
-use arena_ptr::{AllocError, PtrKey, ReallocationError, SlotStack};
+use arena_ptr::{AllocError, InxKey, PtrKey, ReallocationError, SlotStack};
 
 /// A `ValueMap` by a closure, which is called with the pointer and the value of each entry.
 #[derive(Drop)]
@@ -120,7 +120,7 @@ impl<P: PtrKey, T: Drop, S: SlotStack<Item = ArenaSlot<P, T>>> Arena<P, T, S> {
                     Err(_) => {
                         self.slots.truncate(0);
                         self.len = 0;
-                        self.first_free = None;
+                        self.first_free = P::Inx::pack(None);
                         (Err(ReallocationError::AllocError), values)
                     }
                 }

@@ -7,7 +7,7 @@ ghost use Rattle.arena_base.specs.DetachedSlots.{DetachedView, borrowed_parts, w
 
 use crate::proved_unreachable;
 use crate::slot::{ArenaSlot, position_of, put_at, regenerate_at, vacate_at};
-use arena_ptr::{PtrKey, SlotStack};
+use arena_ptr::{InxKey, PtrKey, SlotStack};
 use std::marker::Model;
 
 #[derive(Drop)]
@@ -68,7 +68,7 @@ impl<P: PtrKey, T: Drop, S: SlotStack<Item = ArenaSlot<P, T>>> DetachedSlots<P, 
         ensures { self.new ≡ with_placed_entry self.old (P.Inx.number from)
             (P.Inx.number to) generation }
     {
-        match vacate_at(&mut self.slots, position_of::<P>(from), None) {
+        match vacate_at(&mut self.slots, position_of::<P>(from), P::Inx::pack(None)) {
             Some((_, t)) => put_at(&mut self.slots, position_of::<P>(to), generation, t),
             None => proved_unreachable!(),
         }

@@ -3,7 +3,7 @@ ghost use Rattle.std.specs.Prelude.{◌≡◌, ◌≤◌, map, length};
 ghost use Rattle.arena_base.specs.Slots.{entry_of, IsSound};
 ghost use Rattle.arena_base.specs.DetachedSlots.{without_free_end, free_from};
 
-use crate::slot::{ArenaSlot, is_free_at, list_at};
+use crate::slot::{ArenaSlot, PackedInx, is_free_at, list_at};
 use arena_ptr::{InxKey, PtrKey, SlotStack};
 
 // Removes the free slots at the end.
@@ -24,16 +24,16 @@ pub(crate) fn trim<P: PtrKey, T: Drop, S: SlotStack<Item = ArenaSlot<P, T>>>(slo
 // Lists the free slots by ascending index. Returns the number of entries and the first free index.
 pub(crate) fn relist<P: PtrKey, T: Drop, S: SlotStack<Item = ArenaSlot<P, T>>>(
     slots: &mut S,
-) -> (usize, Option<P::Inx>)
+) -> (usize, PackedInx<P::Inx>)
     requires { length (S.items slots.old) ≤ P.Inx.greatest }
     ensures entries { map entry_of (S.items slots.new) ≡ map entry_of (S.items slots.old) }
-    ensures sound { IsSound P.Inx.number (S.items slots.new) P.Inx.greatest result.0 result.1
+    ensures sound { IsSound P.Inx.packed_number (S.items slots.new) P.Inx.greatest result.0 result.1
         (free_from 1 (map entry_of (S.items slots.old))) }
     ensures capacity { S.capacity slots.new ≡ S.capacity slots.old }
     ensures maximum { S.maximum slots.new ≡ S.maximum slots.old }
 {
     let mut len = 0;
-    let mut head = None;
+    let mut head = P::Inx::pack(None);
     for k in (0..slots.len()).rev() {
         if is_free_at::<P, T, S>(slots, k) {
             head = list_at::<P, T, S>(slots, k, head);

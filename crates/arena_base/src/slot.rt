@@ -1,12 +1,15 @@
 // A slot of an arena, and the operations on a stack of slots.
-ghost use Rattle.std.specs.Prelude.{◌≡◌, ◌+◌, ◌<◌, length, slice_get, slice_set, Some, None, OnSome, IfNone, IfSome, IsSome, is_none};
+ghost use Rattle.std.specs.Prelude.{◌≡◌, ◌+◌, ◌<◌, length, slice_get, slice_set, Some, None, OnSome, IfNone, is_none};
 ghost use Rattle.std.specs.Option.{option_map, option_copied_mut};
 ghost use Rattle.std.specs.Borrow.{LendsIf, sem};
 ghost use Rattle.arena_base.specs.Slots.{entry_of, entry_in, with_value_in, with_generation_in, with_generation_at, IsFree, free_slot, allocated_slot, freed_slot};
 
 use crate::proved_unreachable;
-use arena_ptr::{InxKey, PtrKey, SlotStack};
+use arena_ptr::{InxKey, PackedOption, PtrKey, SlotStack};
 use std::mem;
+
+// An optional index, packed.
+pub(crate) type PackedInx<I> = PackedOption<I, <I as InxKey>::Word>;
 
 /// A slot of an arena: an entry with its generation, or a free slot that names the slot freed
 /// before it.
@@ -16,8 +19,8 @@ use std::mem;
 pub enum ArenaSlot<P: PtrKey, T> {
     /// The generation and the value of an entry.
     Allocated(P::Gen, T),
-    /// The next freed index, if there is one.
-    Free(Option<P::Inx>),
+    /// The next freed index, if there is one. `P::Inx::unpack` returns it.
+    Free(PackedOption<P::Inx, <P::Inx as InxKey>::Word>),
 }
 
 impl<P: PtrKey, T> ArenaSlot<P, T> {
@@ -48,7 +51,7 @@ impl<P: PtrKey, T> ArenaSlot<P, T> {
     }
 
     // Removes an entry, and makes the slot free, before the freed slot `next`.
-    fn vacate(&mut self, next: Option<P::Inx>) -> Option<(P::Gen, T)>
+    fn vacate(&mut self, next: PackedInx<P::Inx>) -> Option<(P::Gen, T)>
         ensures entry { result ≡ entry_of self.old }
         ensures after { self.new ≡ freed_slot self.old next }
     {
@@ -96,7 +99,7 @@ pub(crate) fn fill<P: PtrKey, T: Drop, S: SlotStack<Item = ArenaSlot<P, T>>>(
     k: usize,
     generation: P::Gen,
     t: T,
-) -> Option<P::Inx>
+) -> PackedInx<P::Inx>
     requires { IsFree (slice_get (S.items slots.old) k) }
     ensures was { slice_get (S.items slots.old) k ≡ Some (free_slot result) }
     ensures items { S.items slots.new ≡ slice_set (S.items slots.old) k
@@ -122,7 +125,7 @@ pub(crate) fn fill<P: PtrKey, T: Drop, S: SlotStack<Item = ArenaSlot<P, T>>>(
 pub(crate) fn vacate_at<P: PtrKey, T: Drop, S: SlotStack<Item = ArenaSlot<P, T>>>(
     slots: &mut S,
     k: usize,
-    next: Option<P::Inx>,
+    next: PackedInx<P::Inx>,
 ) -> Option<(P::Gen, T)>
     ensures entry { result ≡ entry_in (slice_get (S.items slots.old) k) }
     ensures some { OnSome result (S.items slots.new ≡ slice_set (S.items slots.old) k
@@ -192,12 +195,11 @@ pub(crate) fn is_free_at<P: PtrKey, T: Drop, S: SlotStack<Item = ArenaSlot<P, T>
 pub(crate) fn list_at<P: PtrKey, T: Drop, S: SlotStack<Item = ArenaSlot<P, T>>>(
     slots: &mut S,
     k: usize,
-    next: Option<P::Inx>,
-) -> Option<P::Inx>
+    next: PackedInx<P::Inx>,
+) -> PackedInx<P::Inx>
     requires in_bounds { k < length (S.items slots.old) }
     requires fits { k < P.Inx.greatest }
-    ensures index { IfSome result (λ i. P.Inx.number i ≡ k + 1) }
-    ensures some { IsSome result }
+    ensures index { P.Inx.packed_number result ≡ Some (k + 1) }
     ensures items { S.items slots.new ≡ slice_set (S.items slots.old) k (free_slot next) }
     ensures capacity { S.capacity slots.new ≡ S.capacity slots.old }
     ensures maximum { S.maximum slots.new ≡ S.maximum slots.old }
@@ -208,5 +210,5 @@ pub(crate) fn list_at<P: PtrKey, T: Drop, S: SlotStack<Item = ArenaSlot<P, T>>>(
         }
         None => proved_unreachable!(),
     }
-    P::Inx::try_from_usize(k + 1)
+    P::Inx::pack(Some(inx_at::<P>(k)))
 }

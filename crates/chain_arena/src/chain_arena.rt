@@ -272,7 +272,7 @@ impl<P: PtrKey, T: Drop, S: SlotStack<Item = ArenaSlot<P, LinkNoGen<P, T>>>> Cha
     pub fn backing(&self) -> &S
         ensures slots { map (option_map (pair_view P.Inx.packed_number))
             (map entry_of (S.items result.now)) ≡ self.now.slots }
-        ensures freed { ThreadsFreeList P.Inx.number (S.items result.now) self.now.freed }
+        ensures freed { ThreadsFreeList P.Inx.packed_number (S.items result.now) self.now.freed }
         ensures capacity { S.capacity result.now ≡ self.now.stack_capacity }
         ensures arena_capacity { self.now.capacity ≡ min (S.capacity result.now) P.Inx.greatest }
         ensures maximum { S.maximum result.now ≡ self.now.maximum }

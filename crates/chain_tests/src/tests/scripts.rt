@@ -4,7 +4,7 @@ use super::call_lists::{call, reply_text};
 use super::copies::{clone_text, copied_over};
 use super::{At, ChainsOver, Slot, at, same, text};
 use arena_base::{ArenaSlot, ArenaTrait};
-use arena_ptr::{SlotStack, ToolPtr};
+use arena_ptr::{InxKey, SlotStack, ToolPtr};
 use chain_arena::apply;
 use std::alloc::Global;
 use std::fmt::Debug;
@@ -126,7 +126,7 @@ pub(super) fn slots_of<T: Copy + Debug, S: SlotStack<Item = ArenaSlot<ToolPtr, T
             for k in 0..slots.len() {
                 let _ = all.push(match slots.get(k) {
                     Some(ArenaSlot::Allocated(generation, t)) => (Some((*generation, *t)), None),
-                    Some(ArenaSlot::Free(next)) => (None, *next),
+                    Some(ArenaSlot::Free(next)) => (None, InxKey::unpack(*next)),
                     None => (None, None),
                 });
             }

@@ -14,7 +14,7 @@ loop-k-preserved-then-is_free_at g c =
       few = omega (arith, at.few);
       capacity = c.list_at-head.ensures.capacity ∙ at.capacity;
       most = c.list_at-head.ensures.maximum ∙ at.most;
-      listing = listing_frees g.P.Inx.InxKey.number at.listing k c.list_at-head.result (omega arith) (omega (arith, at.few, at.long)) (sym c.is_free_at.ensures ∙ c.if-is_free_at.true) c.list_at-head.ensures.some c.list_at-head.ensures.index c.list_at-head.ensures.items;
+      listing = listing_frees g.P.Inx.InxKey.packed_number at.listing k c.list_at-head.result (omega arith) (omega (arith, at.few, at.long)) (sym c.is_free_at.ensures ∙ c.if-is_free_at.true) c.list_at-head.ensures.index c.list_at-head.ensures.items;
     }
 
 pub loop-k-preserved : goal.loop-k-preserved
@@ -26,7 +26,7 @@ loop-k-preserved g c =
       few = omega (arith, at.few);
       capacity = at.capacity;
       most = at.most;
-      listing = listing_takes g.P.Inx.InxKey.number at.listing k (omega arith) (omega (arith, at.few, at.long)) (sym c.is_free_at.ensures ∙ c.if-is_free_at.false);
+      listing = listing_takes g.P.Inx.InxKey.packed_number at.listing k (omega arith) (omega (arith, at.few, at.long)) (sym c.is_free_at.ensures ∙ c.if-is_free_at.false);
     }
 
 pub returns : goal.returns
@@ -35,7 +35,7 @@ returns g c =
     let none : c.loop-k.k ≡ 0 = omega arith in
     record {
       entries = at.listing.same;
-      sound = listing_ends g.P.Inx.InxKey.number (rw none at at.listing) (omega (arith, at.long, c.requires));
+      sound = listing_ends g.P.Inx.InxKey.packed_number (rw none at at.listing) (omega (arith, at.long, c.requires));
       capacity = at.capacity;
       maximum = at.most;
     }

@@ -10,5 +10,5 @@ invariant-loop-k g l = record {
   few : l.k ≤ length (g.S.SlotStack.items l.fn.slots);
   capacity : g.S.SlotStack.capacity l.slots ≡ g.S.SlotStack.capacity l.fn.slots;
   most : g.S.SlotStack.maximum l.slots ≡ g.S.SlotStack.maximum l.fn.slots;
-  listing : IsListing g.P.Inx.InxKey.number (g.S.SlotStack.items l.slots) (map entry_of (g.S.SlotStack.items l.fn.slots)) l.k l.len l.head;
+  listing : IsListing g.P.Inx.InxKey.packed_number (g.S.SlotStack.items l.slots) (map entry_of (g.S.SlotStack.items l.fn.slots)) l.k l.len l.head;
 }

@@ -1,5 +1,5 @@
 -- The slot is written, and its index exists.
-use Rattle.std.proofs.Common.{◌≡◌, None, Some, ◌∙◌, arith}
+use Rattle.std.proofs.Common.{◌≡◌, None, Some, ◌∙◌, ap}
 use Rattle.arena_base.proofs.FreeListLemmas.{there}
 use Rattle.arena_base.proofs.slot.list_at.Goals as goal
 
@@ -10,8 +10,7 @@ assume_proved-requires g c = absurd (
 
 pub returns : goal.returns
 returns g c = record {
-  index = c.try_from_usize.ensures.value;
-  some = c.try_from_usize.ensures.variant.1 (omega arith, omega (arith, c.requires.fits));
+  index = c.pack.ensures ∙ ap (λ n. Some n) c.inx_at.ensures;
   items = g.met.S.SlotStack.items_written c.args.slots.now c.args.k _;
   capacity = g.met.S.SlotStack.capacity_written c.args.slots.now c.args.k _;
   maximum = g.met.S.SlotStack.maximum_written c.args.slots.now c.args.k _;

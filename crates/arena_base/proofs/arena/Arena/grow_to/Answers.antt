@@ -24,7 +24,7 @@ returns g c =
         reached = reached;
       }) grown.grown;
       reached = reached;
-      err = on_err c.reserve_to.result (ap (λ within_capacity. arena_of items (freed_of g.P.Inx.InxKey.number items inside.first_free) inside.counter greatest within_capacity (g.S.SlotStack.maximum inside.slots) inside.placed.count inside.touched.count)) grown.refused;
+      err = on_err c.reserve_to.result (ap (λ within_capacity. arena_of items (freed_of g.P.Inx.InxKey.packed_number items inside.first_free) inside.counter greatest within_capacity (g.S.SlotStack.maximum inside.slots) inside.placed.count inside.touched.count)) grown.refused;
       after = refl;
       never_less = omega (arith, grown.never_less);
     })

@@ -8,11 +8,12 @@ use Rattle.arena_base.proofs.arena.Arena.next_ptr.Goals as goal
 
 pub returns : goal.returns
 returns g c =
-    let number = g.P.Inx.InxKey.number in
+    let packed_number = g.P.Inx.InxKey.packed_number in
+    let sound = c.self.invariant in
     let items = g.S.SlotStack.items c.self.inside.slots in
-    rw (← c.self.view_is) (c._from_raw.ensures ∙ ap (λ n. (n, c.self.inside.counter)) (elim c.match-self.branch [
-      | in-Some w ↦ rw w.i-is (rw w.in-Some.is (first_freed number w.in-Some.i (rw w.in-Some.is at c.self.invariant) _))
+    rw (← c.self.view_is) (c._from_raw.ensures ∙ ap (λ n. (n, c.self.inside.counter)) (elim c.match-unpack.branch [
+      | in-Some w ↦ rw w.i-is (first_freed packed_number _ sound (sym w.in-Some.ensures) _)
       | in-None w ↦
-          let sound = rw w.in-None.is at c.self.invariant in
-          rw w.i-is (w.inx_at-i.ensures ∙ (ap (λ n. n + 1) (none_freed number sound ∙ sym (length-map items entry_of)) ∙ rw w.in-None.is (first_new number sound _)))
+          let none = sym w.in-None.ensures in
+          rw w.i-is (w.inx_at-i.ensures ∙ (ap (λ n. n + 1) (none_freed packed_number sound none ∙ sym (length-map items entry_of)) ∙ first_new packed_number sound none _))
     ]))

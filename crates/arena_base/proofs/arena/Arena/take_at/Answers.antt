@@ -11,28 +11,27 @@ use Rattle.arena_base.proofs.arena.Arena.take_at.Goals as goal
 pub overflow_sub-self : goal.overflow_sub-self
 overflow_sub-self g c =
     let is = allocated-at (slice_get (g.S.SlotStack.items c.self.inside.slots) c.position_of.result) c.in-Some.entry c.in-Some.ensures.entry in
-    some_taken g.P.Inx.InxKey.number c.self.invariant c.position_of.result _ _ is
+    some_taken g.P.Inx.InxKey.packed_number c.self.invariant c.position_of.result _ _ is
 
 pub invariant_of-self : goal.invariant_of-self
 invariant_of-self g c =
-    let number = g.P.Inx.InxKey.number in
+    let packed_number = g.P.Inx.InxKey.packed_number in
     let is = allocated-at (slice_get (g.S.SlotStack.items c.self.inside.slots) c.position_of.result) c.in-Some.entry c.in-Some.ensures.entry in
-    let some = some_taken number c.self.invariant c.position_of.result _ _ is in
-    rw c.in-Some.ensures.some (closed number (slot_vacated number c.self.invariant c.position_of.result c.args.i _ _ (c.self.inside.len - 1) c.position_of.ensures is (omega (arith, some))))
+    let some = some_taken packed_number c.self.invariant c.position_of.result _ _ is in
+    rw c.in-Some.ensures.some (closed packed_number (slot_vacated packed_number c.self.invariant c.position_of.result _ c.pack-self-inside.result _ _ (c.self.inside.len - 1) c.pack-self-inside.ensures c.position_of.ensures is (omega (arith, some))))
 
 pub returns-in-Some : goal.returns-in-Some
 returns-in-Some g c =
-    let number = g.P.Inx.InxKey.number in
     let inside = c.self.inside in
     let items = g.S.SlotStack.items inside.slots in
     let k = c.position_of.result in
-    let n = number c.args.i in
+    let n = g.P.Inx.InxKey.number c.args.i in
     let was_stored : entry_at c.args.self.now n ≡ Some c.in-Some.entry = ap (λ a. entry_at a n) (sym c.self.view_is) ∙ (entry_at-position items k n c.position_of.ensures ∙ sym c.in-Some.ensures.entry) in
     let overflow : c.generational_inc-generation.result.1 ≡ g.P.Gen.GenKey.wraps c.args.self.now.counter = c.generational_inc-generation.ensures.overflow ∙ ap (λ a. g.P.Gen.GenKey.wraps a.counter) c.self.view_is in
     record {
       returned = c.outcome.ensures ∙ (λ j. invalidation_result (overflow j) (sym was_stored j));
-      some = λ _. vacated_view number c.self.invariant inside.counter c.generational_inc-generation.result.0 (g.S.SlotStack.capacity inside.slots) (g.S.SlotStack.capacity c.vacate_at.new.slots) (g.S.SlotStack.maximum inside.slots) (g.S.SlotStack.maximum c.vacate_at.new.slots) inside.placed.count _ inside.touched.count
-          g.P.Gen.GenKey.following k c.args.i _ _ (g.S.SlotStack.items c.vacate_at.new.slots) c.position_of.ensures (allocated-at (slice_get items k) c.in-Some.entry c.in-Some.ensures.entry)
+      some = λ _. vacated_view g.P.Inx.InxKey.packed_number c.self.invariant inside.counter c.generational_inc-generation.result.0 (g.S.SlotStack.capacity inside.slots) (g.S.SlotStack.capacity c.vacate_at.new.slots) (g.S.SlotStack.maximum inside.slots) (g.S.SlotStack.maximum c.vacate_at.new.slots) inside.placed.count _ inside.touched.count
+          g.P.Gen.GenKey.following k n c.pack-self-inside.result _ _ (g.S.SlotStack.items c.vacate_at.new.slots) c.pack-self-inside.ensures c.position_of.ensures (allocated-at (slice_get items k) c.in-Some.entry c.in-Some.ensures.entry)
           c.in-Some.ensures.some c.vacate_at.ensures.capacity c.vacate_at.ensures.maximum c.generational_inc-generation.ensures.next c.one_more-self-inside.ensures
           ∙ ap (λ a. remove_at g.P.Gen.GenKey.following a n) c.self.view_is;
       none = λ none. let both = sym was_stored ∙ none in cc;

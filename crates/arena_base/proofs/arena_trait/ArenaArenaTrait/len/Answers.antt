@@ -9,7 +9,6 @@ use Rattle.arena_base.proofs.arena_trait.ArenaArenaTrait.len.Goals as goal
 
 pub returns : goal.returns
 returns g c =
-    let number = g.P.Inx.InxKey.number in
     let greatest = g.P.Inx.InxKey.greatest in
     let inside = c.self.inside in
     let slots = inside.slots in
@@ -18,7 +17,7 @@ returns g c =
     let sound = c.self.invariant in
     let many = length-map items entry_of in
     let within : length items ≤ capacity = g.met.S.SlotStack.has_capacity slots in
-    let are_listed = listed number sound inside.counter capacity (g.S.SlotStack.maximum slots) inside.placed.count inside.touched.count in
+    let are_listed = listed g.P.Inx.InxKey.packed_number sound inside.counter capacity (g.S.SlotStack.maximum slots) inside.placed.count inside.touched.count in
     let all = map entry_of items in
     rw (← c.self.view_is) (record {
       count = rw (length-entries_from 1 all) sound.counted;
