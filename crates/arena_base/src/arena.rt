@@ -281,7 +281,8 @@ impl<P: PtrKey, T: Drop, S: SlotStack<Item = ArenaSlot<P, T>>> Arena<P, T, S> {
 
     // Returns the valid pointer of greatest index up to index `to`.
     pub(crate) fn last_to(&self, to: usize) -> Option<P>
-        ensures key { option_map P.key result ≡ last_key (entries_from 1 (take to self.now.slots)) }
+        ensures key { option_map P.key result
+            ≡ last_key (entries_from 1 (take to self.now.slots)) }
         ensures fits { IfSome result (λ p. (P.key p).0 + 1 < 2 ^ 64) }
     {
         for k in (0..to.min(self.slots.len())).rev() {

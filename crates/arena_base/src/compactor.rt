@@ -167,8 +167,8 @@ pub trait SlotAccess<P: PtrKey, T: Drop> {
 
     /// Returns the generation and the value at an index. Counts one touch.
     fn peek(&mut self, i: P::Inx) -> Option<(&P::Gen, &T)>
-        ensures* after { sem 𝓛 (follows_so Self.row Self.row self.entry.ghost_name none (λ _ _. ⊤)
-            (IsTouched held touches self.old)) }
+        ensures* after { sem 𝓛 (follows_so Self.row Self.row self.entry.ghost_name none
+            (λ _ _. ⊤) (IsTouched held touches self.old)) }
         ensures value { option_map borrowed_parts result ≡ slot_at (held self.old).slots
             (P.Inx.number i) };
 

@@ -82,7 +82,8 @@ pub(crate) trait LendsValue<P: PtrKey, T: Drop> {
     // Returns the value at an index, for writing.
     fn value_mut(&mut self, i: P::Inx) -> Option<&mut T>
         ensures* writes_back { sem 𝓛 (LendsSo Self.row T.row self.entry result
-            (λ new t. OnSome result (lent new ≡ held_with_value (lent self.old) (P.Inx.number i) t))
+            (λ new t. OnSome result
+            (lent new ≡ held_with_value (lent self.old) (P.Inx.number i) t))
             (λ new. lent new ≡ lent self.old)) }
         ensures value { option_copied_mut result ≡ option_map (λ e. e.1)
             (slot_at (lent self.old).slots (P.Inx.number i)) };

@@ -14,6 +14,7 @@ pub fn entries_determine_occupancy<P: PtrKey, T: Drop, A: ArenaTrait<P, T>>()
         → A.entry b i ≡ A.entry a i }
     ensures gone { (a b : A) (i : ℕ) → (A.view b).entries ≡ without_index i (A.view a).entries
         → A.entry b i ≡ None }
-    ensures kept { (a b : A) (i j : ℕ) → (A.view b).entries ≡ without_index i (A.view a).entries
+    ensures kept { (a b : A) (i j : ℕ)
+        → (A.view b).entries ≡ without_index i (A.view a).entries
         → j ≢ i → A.entry b j ≡ A.entry a j }
 {}

@@ -43,8 +43,8 @@ pub trait Advancer<C>: Drop {
     fn empty() -> Self
         ensures { is_spent result };
 
-    ghost stays_spent: { (a b : Self) (c : C) (r : Option Self.Item) → is_spent a → gives a c r b
-        → (r ≡ None) × is_spent b };
+    ghost stays_spent: { (a b : Self) (c : C) (r : Option Self.Item) → is_spent a
+        → gives a c r b → (r ≡ None) × is_spent b };
 }
 
 /// An arena: a finite map from indexes to entries, each a generation and a value.
@@ -177,7 +177,8 @@ pub trait ArenaTrait<P: PtrKey, T: Drop> {
     /// Returns the value at an index, for writing, or `None` if no entry is there.
     fn get_inx_mut(&mut self, i: P::Inx) -> Option<&mut T>
         ensures* writes_back { sem 𝓛 (LendsSo Self.row T.row self.entry result
-            (λ new t. OnSome result ((view new ≡ view_with_value (view self.old) (P.Inx.number i) t)
+            (λ new t. OnSome result
+            ((view new ≡ view_with_value (view self.old) (P.Inx.number i) t)
             × writes self.old (P.Inx.number i) t new)) (λ new. new ≡ self.old)) }
         ensures value { option_copied_mut result ≡ option_map (λ e. e.1)
             (entry self.old (P.Inx.number i)) };
@@ -219,7 +220,8 @@ pub trait ArenaTrait<P: PtrKey, T: Drop> {
             × IfSome (value_within result) (λ q. (P.key q).1 ≡ P.Gen.following g)) }
         ensures invalid { ¬ IsValid (entry self.old) (P.key p) → (value_within result ≡ None)
             × (self.new ≡ self.old) }
-        ensures more { IsValid (entry self.old) (P.key p) → renews self.old (P.key p).0 self.new };
+        ensures more { IsValid (entry self.old) (P.key p)
+            → renews self.old (P.key p).0 self.new };
 
     /// Removes an entry, returns its value and increments the counter.
     ///
@@ -234,7 +236,8 @@ pub trait ArenaTrait<P: PtrKey, T: Drop> {
             (λ g. result ≡ invalidation_result (P.Gen.wraps g) (value_within result)) }
         ensures invalid { ¬ IsValid (entry self.old) (P.key p) → (value_within result ≡ None)
             × (self.new ≡ self.old) }
-        ensures more { IsValid (entry self.old) (P.key p) → removes self.old (P.key p).0 self.new };
+        ensures more { IsValid (entry self.old) (P.key p)
+            → removes self.old (P.key p).0 self.new };
 
     /// Removes the entry at an index, returns its generation and value, and increments the counter.
     ///
@@ -245,7 +248,8 @@ pub trait ArenaTrait<P: PtrKey, T: Drop> {
         ensures overflow { IfSome (view self.old).counter
             (λ g. result ≡ invalidation_result (P.Gen.wraps g) (value_within result)) }
         ensures valid { IsSome (entry self.old (P.Inx.number i))
-            → view self.new ≡ view_after_removal P.Gen.following (view self.old) (P.Inx.number i) }
+            → view self.new
+            ≡ view_after_removal P.Gen.following (view self.old) (P.Inx.number i) }
         ensures invalid { entry self.old (P.Inx.number i) ≡ None → self.new ≡ self.old }
         ensures more { IsSome (entry self.old (P.Inx.number i))
             → removes self.old (P.Inx.number i) self.new };
@@ -349,7 +353,8 @@ pub trait ArenaCloneFromWith<P: PtrKey, T: Drop>: ArenaTrait<P, T> {
 
     // An arena's own guarantee beyond its view, when the second arena became the third as a copy of
     // the first.
-    ghost copies: { (U : Type 0) → State P.Gen U → Self → Self → Type 0 } = { λ _ _ _ _. ⊤ };
+    ghost copies: { (U : Type 0) → State P.Gen U → Self → Self
+        → Type 0 } = { λ _ _ _ _. ⊤ };
 
     /// Becomes a copy of `source`, with values made by `values`, which is returned.
     ///
