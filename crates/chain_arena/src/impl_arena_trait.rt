@@ -45,7 +45,8 @@ impl<P: PtrKey, T: Drop, S: SlotStack<Item = ArenaSlot<P, LinkNoGen<P, T>>>> Are
 
     ghost writes = { λ a i t b. (b ≡ with_value_at a i t) × (link_map b ≡ link_map a) };
 
-    ghost renews = { λ a i b. (b ≡ invalidate_at P.Gen.following a i) × (link_map b ≡ link_map a) };
+    ghost renews = { λ a i b. (b ≡ invalidate_at P.Gen.following a i)
+        × (link_map b ≡ link_map a) };
 
     ghost removes = { λ a i b. IsRemoval P.Gen.following a i b };
 

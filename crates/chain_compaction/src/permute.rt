@@ -126,8 +126,8 @@ fn settle_round<P: PtrKey, T: Drop, S: SlotStack<Item = ArenaSlot<P, LinkNoGen<P
     requires block { start + count ≤ length compactor.old.held.slots }
     requires fits { length compactor.old.held.slots ≤ P.Inx.greatest }
     requires within { WaitsWithin (destination_of P.Inx.packed_number) compactor.old.held.slots }
-    requires lists { ListsWaiting (destination_of P.Inx.packed_number) start count positions.old left
-        (slot_at compactor.old.held.slots) }
+    requires lists { ListsWaiting (destination_of P.Inx.packed_number) start count positions.old
+        left (slot_at compactor.old.held.slots) }
     requires unplaced { unplaced.old
         ≡ waiting_count (destination_of P.Inx.packed_number) compactor.old.held.slots }
     ensures same_reference { compactor.new.arena.ghost_name ≡ compactor.old.arena.ghost_name }

@@ -134,8 +134,8 @@ pub fn take_next<Q: PtrKey, U: Drop, A: ChainArenaTrait<Q, U>>(
         (λ g. is_overflow result.value ≡ Q.Gen.wraps g) }
     ensures next { option_map Q.Inx.number result.next ≡ step_forward (Q.key result.ptr).0
         (next_of (A.interlinks source.old) (Q.key result.ptr).0) }
-    ensures view_after { A.view source.new ≡ view_after_removal Q.Gen.following (A.view source.old)
-        (Q.key result.ptr).0 }
+    ensures view_after { A.view source.new
+        ≡ view_after_removal Q.Gen.following (A.view source.old) (Q.key result.ptr).0 }
     ensures links { A.interlinks source.new ≡ with_removal (A.interlinks source.old)
         (Q.key result.ptr).0 }
 {
@@ -163,8 +163,8 @@ fn take_link<Q: PtrKey, U: Drop, A: ChainArenaTrait<Q, U>>(
         (λ g. is_overflow result.1 ≡ Q.Gen.wraps g) }
     ensures next { option_map Q.Inx.number result.2 ≡ step_forward (Q.Inx.number i)
         (next_of (A.interlinks source.old) (Q.Inx.number i)) }
-    ensures view_after { A.view source.new ≡ view_after_removal Q.Gen.following (A.view source.old)
-        (Q.Inx.number i) }
+    ensures view_after { A.view source.new
+        ≡ view_after_removal Q.Gen.following (A.view source.old) (Q.Inx.number i) }
     ensures links { A.interlinks source.new ≡ with_removal (A.interlinks source.old)
         (Q.Inx.number i) }
     ensures agreed { IsWellLinked (A.interlinks source.old) }
