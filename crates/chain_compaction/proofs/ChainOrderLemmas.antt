@@ -317,18 +317,18 @@ module _ {Gen K T F P : Type 0} (number : K → Option ℕ) (g : F → P → P �
                 (xs, inr (subst (λ (z : ℕ). IsChain (link_map_in number now.slots) (cyclic (z ∷ xs))) same h))
 
         -- The walk back reads no more links than the chain has.
-        start_work : (a b : Arena Gen (LinkBody K T)) → ((xs : List ℕ) → IsChain (link_map_in number now.slots) (linear xs) → IsMember xs i → IsWork a b 0 (length xs))
-            → ((xs : List ℕ) → IsChain (link_map_in number now.slots) (cyclic (i ∷ xs)) → IsWork a b 0 (length xs + 1)) → IsWork a b 0 (length (items the_next.first))
-        start_work a b in_linear in_cyclic = by the_next.first first_chain first_written the_next.has the_next.least
+        start_work : (a b : Arena Gen (LinkBody K T)) (on : ℕ) → ((xs : List ℕ) → IsChain (link_map_in number now.slots) (linear xs) → IsMember xs i → IsWork a b 0 (length xs + on))
+            → ((xs : List ℕ) → IsChain (link_map_in number now.slots) (cyclic (i ∷ xs)) → IsWork a b 0 (length xs + 1 + on)) → IsWork a b 0 (length (items the_next.first) + on)
+        start_work a b on in_linear in_cyclic = by the_next.first first_chain first_written the_next.has the_next.least
           where
-            by : (c : Chain) → IsChain (link_map_in number now.slots) c → StartsAtLeast c → IsMember (items c) i → ((y : ℕ) → IsMember (items c) y → i ≤ y) → IsWork a b 0 (length (items c))
+            by : (c : Chain) → IsChain (link_map_in number now.slots) c → StartsAtLeast c → IsMember (items c) i → ((y : ℕ) → IsMember (items c) y → i ≤ y) → IsWork a b 0 (length (items c) + on)
             by (linear xs) h w m least = in_linear xs h m
             by (cyclic []) h w m least = absurd m
             by (cyclic (x ∷ xs)) h w m least =
                 let low : x ≤ i = written_least x xs i w m in
                 let high : i ≤ x = least x (inl refl) in
                 let same : x ≡ i = omega arith in
-                let long : length xs + 1 ≡ length (x ∷ xs) = omega arith in
+                let long : length xs + 1 + on ≡ length (x ∷ xs) + on = omega arith in
                 subst (IsWork a b 0) long (in_cyclic xs (subst (λ (z : ℕ). IsChain (link_map_in number now.slots) (cyclic (z ∷ xs))) same h))
 
         with_first : all_items o.done ++ items the_next.first ≡ all_items (o.done ++ the_next.first ∷ [])
@@ -365,14 +365,14 @@ module _ {Gen K T F P : Type 0} (number : K → Option ℕ) (g : F → P → P �
             order_can = (all_items o.done, the_next.first, can_here)
 
             -- The next chain is numbered, after some reads ahead.
-            pub order_continues : (a b d : Arena Gen (LinkBody K T)) (next : F) (new : DetachedView Gen (LinkBody K T)) (more reads left : ℕ)
+            pub order_continues : (a b d : Arena Gen (LinkBody K T)) (next : F) (new : DetachedView Gen (LinkBody K T)) (more reads on left : ℕ)
                 → IsWork after a 0 (1 + reads)
-                → left + reads ≤ credit + (more - count)
-                → ((xs : List ℕ) → IsChain (link_map_in number mid.slots) (linear xs) → IsMember xs i → IsWork a b 0 (length xs))
-                → ((xs : List ℕ) → IsChain (link_map_in number mid.slots) (cyclic (i ∷ xs)) → IsWork a b 0 (length xs + 1))
+                → left + (reads + on) ≤ credit + (more - count)
+                → ((xs : List ℕ) → IsChain (link_map_in number mid.slots) (linear xs) → IsMember xs i → IsWork a b 0 (length xs + on))
+                → ((xs : List ℕ) → IsChain (link_map_in number mid.slots) (cyclic (i ∷ xs)) → IsWork a b 0 (length xs + 1 + on))
                 → ((done : List ℕ) (c : Chain) → CanNumber number was_stored.slots start count done c → IsChainNumbered number g key generation last next was_stored new b d more done c)
                 → IsOrdering number g key generation f next old new before d more (k + 1) left
-            order_continues a b d next new more reads left was_read paid in_linear in_cyclic numbers = record {
+            order_continues a b d next new more reads on left was_read paid in_linear in_cyclic numbers = record {
               chains = o.chains;
               are = o.are;
               done = o.done ++ the_next.first ∷ [];
@@ -386,11 +386,11 @@ module _ {Gen K T F P : Type 0} (number : K → Option ℕ) (g : F → P → P �
                   (reports_then g key (ptr_at (slot_at old.slots)) generation 1 f last next (all_items o.done) (items the_next.first) o.reports
                   (subst (λ (n : ℕ). ReportsMoves g key (ptr_at (slot_at old.slots)) generation n last (items the_next.first) next) place
                   (subst (λ (pointer : ℕ → Option (ℕ × Gen)). ReportsMoves g key pointer generation (length (all_items o.done) + 1) last (items the_next.first) next) pointers chain.reports)));
-              ahead = o.ahead + reads;
+              ahead = o.ahead + (reads + on);
               allowed = omega (arith, o.allowed, paid, o.numbered.counts, chain.numbered.counts, length-append (all_items o.done) (items the_next.first));
               work = work-more (work-more (work-more o.work was_read 0 (o.ahead + reads + (k + 1 + 4 * length (all_items o.done))) refl (omega arith))
-                  walk 0 (o.ahead + reads + (k + 1 + 4 * length (all_items o.done) + length (items the_next.first))) refl (omega arith))
-                  chain.work 0 (o.ahead + reads + (k + 1 + 4 * length (all_items (o.done ++ the_next.first ∷ [])))) refl (omega (arith, long));
+                  walk 0 (o.ahead + (reads + on) + (k + 1 + 4 * length (all_items o.done) + length (items the_next.first))) refl (omega arith))
+                  chain.work 0 (o.ahead + (reads + on) + (k + 1 + 4 * length (all_items (o.done ++ the_next.first ∷ [])))) refl (omega (arith, long));
             }
               where
                 chain : IsChainNumbered number g key generation last next was_stored new b d more (all_items o.done) the_next.first
@@ -423,7 +423,7 @@ module _ {Gen K T F P : Type 0} (number : K → Option ℕ) (g : F → P → P �
                 long : length (all_items (o.done ++ the_next.first ∷ [])) ≡ length (all_items o.done) + length (items the_next.first)
                 long = ap length (sym with_first) ∙ length-append (all_items o.done) (items the_next.first)
 
-                walk : IsWork a b 0 (length (items the_next.first))
-                walk = start_work a b
-                    (subst (λ (h : DetachedView Gen (LinkBody K T)). (xs : List ℕ) → IsChain (link_map_in number h.slots) (linear xs) → IsMember xs i → IsWork a b 0 (length xs)) lookup in_linear)
-                    (subst (λ (h : DetachedView Gen (LinkBody K T)). (xs : List ℕ) → IsChain (link_map_in number h.slots) (cyclic (i ∷ xs)) → IsWork a b 0 (length xs + 1)) lookup in_cyclic)
+                walk : IsWork a b 0 (length (items the_next.first) + on)
+                walk = start_work a b on
+                    (subst (λ (h : DetachedView Gen (LinkBody K T)). (xs : List ℕ) → IsChain (link_map_in number h.slots) (linear xs) → IsMember xs i → IsWork a b 0 (length xs + on)) lookup in_linear)
+                    (subst (λ (h : DetachedView Gen (LinkBody K T)). (xs : List ℕ) → IsChain (link_map_in number h.slots) (cyclic (i ∷ xs)) → IsWork a b 0 (length xs + 1 + on)) lookup in_cyclic)

@@ -8,7 +8,7 @@ ghost use Rattle.chain_compaction.specs.DetachedLinks.{link_map_in, IsWork};
 ghost use Rattle.chain_compaction.specs.WorkCounts.{CountsWork};
 ghost use Rattle.chain_compaction.specs.Destinations.{HasChainFrom, number_after, destination_at, IsRingClosed, CanNumber, NumbersFrom, AreAllNumbered};
 
-use crate::read_ahead::{ReadAhead, read_ahead};
+use crate::read_ahead::{ReadAhead, read_ahead, read_on};
 use crate::slot_access::{read_link, relink_at};
 use crate::visitor::Visitor;
 use arena_base::{ArenaSlot, Compactor, SlotAccess, assume_proved, inx_at, proved_unreachable};
@@ -16,41 +16,51 @@ use arena_ptr::{InxKey, PtrKey, SlotStack};
 use chain_links::walk_direction::step_on;
 use chain_links::{LinkNoGen, link_access};
 
-// Returns where the chain of `i` is numbered from: its start if linear, `i` if cyclic. Reads at
-// most as many slots as the chain has links.
+// Returns where the chain of `i` is numbered from: its start if linear, `i` if cyclic. The walk back
+// reads at most as many slots as the chain has links.
+//
+// With each step back, one link of the walk from `i` on is read, of at most `limit` in all: the two
+// walks wait for memory at the same time. Returns the number of these reads, too.
 fn start_at<P: PtrKey, T: Drop, S: SlotStack<Item = ArenaSlot<P, LinkNoGen<P, T>>>>(
     compactor: &mut Compactor<'_, P, LinkNoGen<P, T>, S>,
     i: P::Inx,
-) -> P::Inx
+    limit: usize,
+) -> (P::Inx, usize)
     requires { HasChainFrom (link_map_in P.Inx.packed_number compactor.old.held.slots)
         (P.Inx.number i) }
     ensures same_reference { compactor.new.arena.ghost_name ≡ compactor.old.arena.ghost_name }
     ensures start { IsStart (link_map_in P.Inx.packed_number compactor.old.held.slots)
         (P.Inx.number i)
-        (P.Inx.number result) }
+        (P.Inx.number result.0) }
+    ensures ahead { result.1 ≤ limit }
     ensures held { compactor.new.held ≡ compactor.old.held }
     ensures linear { (xs : List ℕ)
         → IsChain (link_map_in P.Inx.packed_number compactor.old.held.slots)
         (linear xs) → IsMember xs (P.Inx.number i)
-        → IsWork compactor.old.arena.now compactor.new.arena.now 0 (length xs) }
+        → IsWork compactor.old.arena.now compactor.new.arena.now 0 (length xs + result.1) }
     ensures cyclic { (xs : List ℕ)
         → IsChain (link_map_in P.Inx.packed_number compactor.old.held.slots)
         (cyclic (P.Inx.number i ∷ xs))
-        → IsWork compactor.old.arena.now compactor.new.arena.now 0 (length xs + 1) }
+        → IsWork compactor.old.arena.now compactor.new.arena.now 0 (length xs + 1 + result.1) }
     ensures counts { CountsWork compactor.old compactor.new }
 {
     let mut at = i;
+    let mut on = Some(i);
+    let mut reads = 0;
     for step in 0..compactor.slots() {
         let (_, before, _, _) = read_link(compactor, at);
         match before {
             Some(k) => {
                 if k.is_same(i) {
-                    return i;
+                    return (i, reads);
                 }
                 at = k;
             }
-            None => return at,
+            None => return (at, reads),
         }
+        let (next, count) = read_on(compactor, on, limit - reads);
+        on = next;
+        reads += count;
     }
     proved_unreachable!()
 }
@@ -199,7 +209,8 @@ pub fn number_all<
             None => {}
         }
         ahead = read_ahead(compactor, k, prev, next, ahead);
-        let start = start_at(compactor, i);
+        let (start, reads) = start_at(compactor, i, ahead.credit);
+        ahead = ahead.without_reads(reads);
         let (visited, numbered) = number_chain(compactor, start, count, generation, visitor);
         visitor = visited;
         ahead = ahead.with_numbered(numbered.saturating_sub(count));

@@ -3,7 +3,7 @@
 // The walk along a chain waits for each link, since the link names the next one. Here several
 // chains are walked in turn, so that these waits overlap, and their links are then in the cache.
 // Before a round of moves the slots of all destinations are read, for the same reason.
-ghost use Rattle.std.specs.Prelude.{◌≤◌, ◌<◌, ◌+◌, ◌*◌, ◌-◌, ℕ, length, slice_index};
+ghost use Rattle.std.specs.Prelude.{◌≡◌, ◌≤◌, ◌<◌, ◌+◌, ◌*◌, ◌-◌, ℕ, length, slice_index};
 ghost use Rattle.chain_compaction.specs.SlotReads.{HasReadSlot, HasReadSlots};
 
 use crate::slot_access::read_link;
@@ -42,6 +42,17 @@ impl ReadAhead {
         ReadAhead {
             position: self.position,
             credit: self.credit.saturating_add(links),
+        }
+    }
+
+    /// Allows fewer reads, since some were made.
+    pub(crate) fn without_reads(self, reads: usize) -> ReadAhead
+        requires { reads ≤ self.credit }
+        ensures { result.credit ≡ self.credit - reads }
+    {
+        ReadAhead {
+            position: self.position,
+            credit: self.credit - reads,
         }
     }
 }
@@ -215,6 +226,26 @@ pub(crate) fn read_ahead<P: PtrKey, T: Drop, S: SlotStack<Item = ArenaSlot<P, Li
     ReadAhead {
         position: k.saturating_add(slots),
         credit: ahead.credit - (slots + forward + backward),
+    }
+}
+
+/// Reads the link at `on`, if there is one and reads are `left`. Returns the index after it, and the
+/// number of links that were read.
+#[inline(always)]
+pub(crate) fn read_on<P: PtrKey, T: Drop, S: SlotStack<Item = ArenaSlot<P, LinkNoGen<P, T>>>>(
+    compactor: &mut Compactor<'_, P, LinkNoGen<P, T>, S>,
+    on: Option<P::Inx>,
+    left: usize,
+) -> (Option<P::Inx>, usize)
+    ensures count { result.1 ≤ left }
+    ensures read { HasReadSlots compactor.old compactor.new result.1 }
+{
+    match on {
+        Some(i) if left > 0 => {
+            let (_, _, next, _) = read_link(compactor, i);
+            (next, 1)
+        }
+        _ => (None, 0),
     }
 }
 

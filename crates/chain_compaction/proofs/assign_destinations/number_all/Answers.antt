@@ -50,7 +50,7 @@ number_chain-visited-requires-clause-can g c =
     let start = c.start_at-start.ensures in
     order_can g.P.Inx.InxKey.packed_number g.V.Visitor.sees g.P.PtrKey.key c.args.generation c.args.visitor old.held old.arena.now c.loop-k.visitor now.held now.arena.now c.loop-k.count c.loop-k.k c.loop-k.ahead.credit
     c.loop-k.invariant.order (g.P.Inx.InxKey.number c.inx_at-i.result) c.inx_at-i.ensures (known_fresh g.P.Inx.InxKey.packed_number g.P.Inx.InxKey.number (slot_at now.held.slots (g.P.Inx.InxKey.number c.inx_at-i.result)) c.read_link-was.result.0 c.in-Some.field-0 c.read_link-was.result.3 c.in-Some.is lookup.generation lookup.destination c.in-None-destination.is)
-    c.read_ahead-ahead.new.compactor.held (c.read_ahead-ahead.ensures.read.held ∙ lookup.was_read.held) c.start_at-start.new.compactor.held start.held (g.P.Inx.InxKey.number c.start_at-start.result) start.start
+    c.read_ahead-ahead.new.compactor.held (c.read_ahead-ahead.ensures.read.held ∙ lookup.was_read.held) c.start_at-start.new.compactor.held start.held (g.P.Inx.InxKey.number c.start_at-start.result.0) start.start
 
 pub loop-k-preserved-in-None : goal.loop-k-preserved-in-None
 loop-k-preserved-in-None g c =
@@ -105,10 +105,10 @@ loop-k-preserved g c =
       order = order_continues g.P.Inx.InxKey.packed_number g.V.Visitor.sees g.P.PtrKey.key c.args.generation c.args.visitor old.held old.arena.now c.loop-k.visitor now.held now.arena.now c.loop-k.count c.loop-k.k c.loop-k.ahead.credit
           at.order (g.P.Inx.InxKey.number c.inx_at-i.result) c.inx_at-i.ensures
           (known_fresh g.P.Inx.InxKey.packed_number g.P.Inx.InxKey.number (slot_at now.held.slots (g.P.Inx.InxKey.number c.inx_at-i.result)) c.read_link-was.result.0 c.in-Some.field-0 c.read_link-was.result.3 c.in-Some.is lookup.generation lookup.destination c.in-None-destination.is)
-          behind.held (ahead.read.held ∙ lookup.was_read.held) was_stored.held start.held (g.P.Inx.InxKey.number c.start_at-start.result) start.start behind.arena.now was_stored.arena.now new.arena.now
-          c.number_chain-visited.result.0 new.held c.number_chain-visited.result.1 reads c.with_numbered-ahead.result.credit
+          behind.held (ahead.read.held ∙ lookup.was_read.held) was_stored.held start.held (g.P.Inx.InxKey.number c.start_at-start.result.0) start.start behind.arena.now was_stored.arena.now new.arena.now
+          c.number_chain-visited.result.0 new.held c.number_chain-visited.result.1 reads c.start_at-start.result.1 c.with_numbered-ahead.result.credit
           (work-more (work-touched now.arena.now mid.arena.now lookup.was_read.arena) ahead.read.work 0 (1 + reads) refl (omega arith))
-          (omega (arith, ahead.fewer, c.with_numbered-ahead.ensures, c.saturating_sub.ensures)) start.linear start.cyclic chain.numbered;
+          (omega (arith, ahead.fewer, start.ahead, c.without_reads-ahead.ensures, c.with_numbered-ahead.ensures, c.saturating_sub.ensures)) start.linear start.cyclic chain.numbered;
       counts = counts_on old now new at.counts (counts_on now mid new lookup.was_read.counts (counts_on mid behind new ahead.read.counts (counts_on behind was_stored new start.counts chain.counts)));
     }
 

@@ -1,5 +1,5 @@
 -- `start_at` walks back to the start of a linear chain, or once around a cyclic one.
-use Rattle.std.proofs.Common.{◌≡◌, Bool, true, false, Some, refl, sym, ap, ◌∙◌, arith}
+use Rattle.std.proofs.Common.{◌≡◌, ◌+◌, Bool, true, false, Some, refl, sym, ap, ◌∙◌, arith}
 use Rattle.std.specs.Option.{option_map}
 use Rattle.chain_laws.specs.Chains.{prev_of}
 use Rattle.chain_laws.proofs.WalkLemmas.WalkBack.{back_begins, back_continues, back_ends, back_wraps_around}
@@ -20,6 +20,7 @@ loop-step-init g c =
       same_reference = refl;
       held = refl;
       back = back_begins (link_map_in g.P.Inx.InxKey.packed_number old.held.slots) (g.P.Inx.InxKey.number c.args.i);
+      few = omega arith;
       work = work-none old.arena.now 0;
       counts = counts_none old.arena.now old.placed old.touched;
     }
@@ -40,9 +41,10 @@ returns-then-is_same g c =
       same_reference = same_then old now new at.same_reference lookup.was_read.same_reference;
       start = back_wraps_around reported (number c.args.i) c.loop-step.step (number c.loop-step.at) at.back
           (sym arrived ∙ (sym lookup.prev ∙ ap (option_map number) c.in-Some.is ∙ ap (λ k. Some (number k)) same));
+      ahead = at.few;
       held = held_then old now new at.held lookup.was_read.held;
-      linear = λ xs h m. work-more at.work (work-touched now.arena.now new.arena.now lookup.was_read.arena) 0 _ refl (lookups_linear reported (number c.args.i) c.loop-step.step (number c.loop-step.at) at.back xs h m);
-      cyclic = λ xs h. work-more at.work (work-touched now.arena.now new.arena.now lookup.was_read.arena) 0 _ refl (lookups_cyclic reported (number c.args.i) c.loop-step.step (number c.loop-step.at) at.back xs h);
+      linear = λ xs h m. work-more at.work (work-touched now.arena.now new.arena.now lookup.was_read.arena) 0 _ refl (omega (arith, lookups_linear reported (number c.args.i) c.loop-step.step (number c.loop-step.at) at.back xs h m));
+      cyclic = λ xs h. work-more at.work (work-touched now.arena.now new.arena.now lookup.was_read.arena) 0 _ refl (omega (arith, lookups_cyclic reported (number c.args.i) c.loop-step.step (number c.loop-step.at) at.back xs h));
       counts = counts_on old now new at.counts lookup.was_read.counts;
     }
 
@@ -59,9 +61,10 @@ returns-in-None g c =
     record {
       same_reference = same_then old now new at.same_reference lookup.was_read.same_reference;
       start = back_ends reported (number c.args.i) c.loop-step.step (number c.loop-step.at) at.back (sym arrived ∙ (sym lookup.prev ∙ ap (option_map number) c.in-None.is));
+      ahead = at.few;
       held = held_then old now new at.held lookup.was_read.held;
-      linear = λ xs h m. work-more at.work (work-touched now.arena.now new.arena.now lookup.was_read.arena) 0 _ refl (lookups_linear reported (number c.args.i) c.loop-step.step (number c.loop-step.at) at.back xs h m);
-      cyclic = λ xs h. work-more at.work (work-touched now.arena.now new.arena.now lookup.was_read.arena) 0 _ refl (lookups_cyclic reported (number c.args.i) c.loop-step.step (number c.loop-step.at) at.back xs h);
+      linear = λ xs h m. work-more at.work (work-touched now.arena.now new.arena.now lookup.was_read.arena) 0 _ refl (omega (arith, lookups_linear reported (number c.args.i) c.loop-step.step (number c.loop-step.at) at.back xs h m));
+      cyclic = λ xs h. work-more at.work (work-touched now.arena.now new.arena.now lookup.was_read.arena) 0 _ refl (omega (arith, lookups_cyclic reported (number c.args.i) c.loop-step.step (number c.loop-step.at) at.back xs h));
       counts = counts_on old now new at.counts lookup.was_read.counts;
     }
 
@@ -74,15 +77,18 @@ loop-step-preserved g c =
     let old = c.args.compactor.now in
     let now = c.loop-step.compactor in
     let new = c.read_link-before.new.compactor in
+    let on = c.read_on-next.ensures in
+    let next = c.read_on-next.new.compactor in
     let known = c.is_same.ensures in
     record {
-      same_reference = same_then old now new at.same_reference lookup.was_read.same_reference;
-      held = held_then old now new at.held lookup.was_read.held;
+      same_reference = same_then old new next (same_then old now new at.same_reference lookup.was_read.same_reference) on.read.same_reference;
+      held = held_then old new next (held_then old now new at.held lookup.was_read.held) on.read.held;
       back = back_continues (link_map_in packed_number c.args.compactor.now.held.slots) (number c.args.i) c.loop-step.step (number c.loop-step.at) (number c.in-Some.k) at.back
           (sym (ap (λ h. prev_of (link_map_in packed_number h.slots) (number c.loop-step.at)) at.held) ∙ sym c.read_link-before.ensures.prev ∙ ap (option_map number) c.in-Some.is)
           (λ e. not_both _ ((g.met.P.Inx.InxKey.same_is_equal c.in-Some.k c.args.i).1 (g.met.P.Inx.InxKey.same_number c.in-Some.k c.args.i e)) (sym known ∙ c.if-is_same.false));
-      work = work-more at.work (work-touched now.arena.now new.arena.now lookup.was_read.arena) 0 _ refl (omega arith);
-      counts = counts_on old now new at.counts lookup.was_read.counts;
+      few = omega (arith, at.few, on.count);
+      work = work-more (work-more at.work (work-touched now.arena.now new.arena.now lookup.was_read.arena) 0 (c.loop-step.step + c.loop-step.reads + 1) refl (omega arith)) on.read.work 0 _ refl (omega arith);
+      counts = counts_on old new next (counts_on old now new at.counts lookup.was_read.counts) on.read.counts;
     }
 
 pub proved_unreachable-assume_proved-requires : goal.proved_unreachable-assume_proved-requires

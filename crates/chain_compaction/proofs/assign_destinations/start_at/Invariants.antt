@@ -1,5 +1,5 @@
--- The number of steps back, which bounds the reads.
-use Rattle.std.proofs.Common.{◌≡◌}
+-- The number of steps back and of reads ahead, which bounds the reads.
+use Rattle.std.proofs.Common.{◌≡◌, ◌≤◌, ◌+◌}
 use Rattle.chain_laws.specs.ChainStart.{IsBack}
 use Rattle.chain_compaction.specs.WorkCounts.{CountsWork}
 use Rattle.chain_compaction.specs.DetachedLinks.{link_map_in, IsWork}
@@ -12,6 +12,7 @@ invariant-loop-step g l =
       same_reference : l.compactor.arena.ghost_name ≡ l.fn.compactor.arena.ghost_name;
       held : l.compactor.held ≡ l.fn.compactor.held;
       back : IsBack (link_map_in g.P.Inx.InxKey.packed_number l.fn.compactor.held.slots) (number l.i) l.step (number l.at);
-      work : IsWork l.fn.compactor.arena.now l.compactor.arena.now 0 l.step;
+      few : l.reads ≤ l.limit;
+      work : IsWork l.fn.compactor.arena.now l.compactor.arena.now 0 (l.step + l.reads);
       counts : CountsWork l.fn.compactor l.compactor;
     }
