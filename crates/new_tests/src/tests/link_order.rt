@@ -1,0 +1,100 @@
+//! Tests of which links are equal, and which comes first.
+
+use super::{at, same};
+use arena_ptr::{Inx32, ToolPtr};
+use chain_arena::{Link, LinkNoGen};
+use std::cmp::Ordering;
+use std::hash::{DefaultHasher, Hash, Hasher};
+
+// The indexes of a link's neighbors, 0 for none, and its value.
+type Parts = (u32, u32, u32);
+
+// Links in ascending order.
+const ASCENDING: [Parts; 8] = [
+    (0, 0, 1),
+    (0, 0, 2),
+    (0, 2, 9),
+    (1, 0, 0),
+    (1, 0, 7),
+    (1, 1, 0),
+    (1, 256, 0),
+    (256, 0, 0),
+];
+
+fn inx(n: u32) -> Option<Inx32> {
+    Inx32::new(n)
+}
+
+fn bare(parts: Parts) -> LinkNoGen<ToolPtr, u32> {
+    let (prev, next, t) = parts;
+    LinkNoGen::<ToolPtr, u32>::new((inx(prev), inx(next)), t)
+}
+
+// Returns a link with pointers of generation 2, as the first links of an arena have.
+fn with_pointers(parts: Parts) -> Link<ToolPtr, u32> {
+    let (prev, next, t) = parts;
+    let prev = if prev == 0 { None } else { Some(at(prev, 2)) };
+    let next = if next == 0 { None } else { Some(at(next, 2)) };
+    Link::new((prev, next), t)
+}
+
+// Returns whether `l` is below `m` by each comparison.
+fn is_below<L: Ord>(l: &L, m: &L) -> bool {
+    l < m && m > l && l != m && l.cmp(m).is_lt() && m.cmp(l).is_gt()
+}
+
+// Returns whether `l` equals `m` by each comparison.
+fn is_same<L: Ord + Hash>(l: &L, m: &L) -> bool {
+    l == m && l.cmp(m).is_eq() && hash_of(l) == hash_of(m)
+}
+
+fn hash_of<T: Hash>(t: &T) -> u64 {
+    let mut state = DefaultHasher::new();
+    t.hash(&mut state);
+    state.finish()
+}
+
+// Returns whether a link is below another, with and without generations.
+fn ascends(low: Parts, high: Parts) -> bool {
+    is_below(&bare(low), &bare(high)) && is_below(&with_pointers(low), &with_pointers(high))
+}
+
+// Returns whether a link equals one of the same parts, and its clone.
+fn equals(parts: Parts) -> bool {
+    match bare(parts).clone() {
+        Ok(copy) => is_same(&bare(parts), &copy)
+            && is_same(&with_pointers(parts), &with_pointers(parts)),
+        Err(_) => false,
+    }
+}
+
+#[test]
+fn links_order_by_neighbors_then_values(rt: HostRuntime) {
+    let mut last: Option<Parts> = None;
+    for parts in ASCENDING {
+        if let Some(low) = last {
+            assert!(rt; ascends(low, parts));
+        }
+        assert!(rt; equals(parts));
+        last = Some(parts);
+    }
+}
+
+#[test]
+fn the_generation_of_a_neighbor_counts_until_it_is_taken_off(rt: HostRuntime) {
+    let old = with_pointers((1, 0, 7));
+    let new = Link::new((Some(at(1, 3)), None), 7);
+    assert!(rt;
+        is_below(&old, &new) && is_same(&old.no_gen(), &new.no_gen()) && *new.no_gen_ref().t == 7
+    );
+    assert!(rt; old.prev_next() == (Some(at(1, 2)), None));
+}
+
+#[test]
+fn a_value_without_an_order_has_none_in_a_link(rt: HostRuntime) {
+    let link = |next: u32, t: f64| LinkNoGen::<ToolPtr, f64>::new((None, inx(next)), t);
+    let nan = 0.0 / 0.0;
+    same(&rt, "alone", link(0, nan).partial_cmp(&link(0, 1.0)), None);
+    let decided = link(0, nan).partial_cmp(&link(1, nan));
+    same(&rt, "by the next", decided, Some(Ordering::Less));
+}

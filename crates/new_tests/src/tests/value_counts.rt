@@ -1,0 +1,172 @@
+//! Tests that no value is lost or cloned twice, by values that count themselves and their clones.
+
+use super::{at, same};
+use arena_base::{Arena, ArenaSlot, ArenaTrait};
+use arena_ptr::{ChunkStack, HeapStack, Inx32, LimitedStack, PtrKey, SlotStack, ToolPtr};
+use chain_arena::{Call, ChainArena, ChainArenaTrait, LinkBody, LinkInsertKind, LinkNoGen, apply};
+use std::alloc::{AllocError, Global};
+use std::cell::Cell;
+use std::marker::Model;
+use std::process::Abort;
+use std::rc::Rc;
+
+// A value with a number, which shares a count of clones with its clones. Cloning the number 2 is
+// refused. Contracts see neither field, so all such values are equal.
+#[derive(Drop)]
+struct Counted {
+    number: u32,
+    clones: Rc<Cell<u32>>,
+}
+
+impl Model for Counted {
+    ghost use Rattle.std.specs.Prelude.{⊤};
+
+    ghost Value = { ⊤ };
+
+    ghost view = { λ _. tt };
+}
+
+impl Clone for Counted {
+    ghost use Rattle.std.specs.Prelude.{◌≡◌};
+
+    ghost is_clone = { λ x y. y ≡ x };
+
+    fn clone(&self) -> Result<Counted, AllocError> {
+        if self.number == 2 {
+            return Err(AllocError);
+        }
+        let clones = self.clones.clone()?;
+        clones.set(clones.get().saturating_add(1));
+        Ok(Counted {
+            number: self.number,
+            clones,
+        })
+    }
+}
+
+type CountedSlot = ArenaSlot<ToolPtr, LinkNoGen<ToolPtr, Counted>>;
+
+type ValuesOver<S> = ChainArena<ToolPtr, Counted, S>;
+
+// Returns a count of no clones. Its strong count is one more than there are values.
+fn no_clones(rt: &impl Abort, alloc: Global) -> Rc<Cell<u32>> {
+    let clones = Rc::new(alloc, Cell::new(0)).ok();
+    clones.expect(rt, "memory")
+}
+
+fn value(rt: &impl Abort, clones: &Rc<Cell<u32>>, number: u32) -> Counted {
+    let clones = clones.clone().expect(rt, "one more");
+    Counted { number, clones }
+}
+
+fn lone_values<S: SlotStack<Item = CountedSlot>>(
+    rt: &impl Abort,
+    alloc: Global,
+    clones: &Rc<Cell<u32>>,
+    numbers: &[u32],
+) -> ValuesOver<S> {
+    let mut arena = ValuesOver::<S>::new(alloc);
+    for number in numbers {
+        let value = value(rt, clones, *number);
+        let _ = arena.insert_reallocating(LinkInsertKind::Disconnected, value);
+    }
+    arena
+}
+
+// Connects three links, and drains them by a `Call` that takes `take` of them. Generic over
+// pointers and values, the types cost its proof less.
+fn link_and_drain<P: PtrKey, T: Drop, S: SlotStack<Item = ArenaSlot<P, LinkNoGen<P, T>>>>(
+    arena: &mut ChainArena<P, T, S>,
+    p: P,
+    q: P,
+    r: P,
+    take: usize,
+) -> usize {
+    arena.connect(p, q);
+    arena.connect(q, r);
+    drop(apply(arena, Call::DrainChain { p, take }));
+    arena.len()
+}
+
+// Drains a chain of three beside a lone link. Returns the number of links left and the strong
+// count.
+fn left_by_a_drain<S: SlotStack<Item = CountedSlot>>(
+    rt: &impl Abort,
+    alloc: Global,
+    take: usize,
+) -> (usize, usize) {
+    let clones = no_clones(rt, alloc);
+    let mut arena: ValuesOver<S> = lone_values(rt, alloc, &clones, &[0, 0, 0, 0]);
+    let left = link_and_drain(&mut arena, at(1, 2), at(2, 2), at(3, 2), take);
+    (left, Rc::strong_count(&clones))
+}
+
+// Converts a plain arena of two links, the first of which has the next index `next`. Returns
+// whether that is refused, and the strong count then.
+fn left_by_a_refusal<S: SlotStack<Item = CountedSlot>>(
+    rt: &impl Abort,
+    alloc: Global,
+    next: u32,
+) -> (bool, usize) {
+    let clones = no_clones(rt, alloc);
+    let mut arena = Arena::<ToolPtr, LinkNoGen<ToolPtr, Counted>, S>::new(alloc);
+    for next in [next, 0] {
+        let link = LinkBody::new((None, Inx32::new(next)), value(rt, &clones, 0));
+        let _ = arena.insert_reallocating(link);
+    }
+    let made = ValuesOver::<S>::from_arena(arena);
+    (made.is_err(), Rc::strong_count(&clones))
+}
+
+// Returns a clone of an arena, if no value refuses, and its number of links.
+fn clone_and_count<S: SlotStack<Item = CountedSlot>>(
+    alloc: Global,
+    arena: &ValuesOver<S>,
+) -> (usize, Option<ValuesOver<S>>) {
+    match arena.clone(alloc) {
+        Ok(copy) => (copy.len(), Some(copy)),
+        Err(_) => (0, None),
+    }
+}
+
+// Clones an arena of the values 1, 2 and 3, where 2 refuses, and again without 2. Returns each time
+// the links of the clone, the clones of values so far, and the strong count while the clone exists.
+fn cloned_once_more<S: SlotStack<Item = CountedSlot>>(
+    rt: &impl Abort,
+    alloc: Global,
+) -> [(usize, u32, usize); 2] {
+    let clones = no_clones(rt, alloc);
+    let mut arena: ValuesOver<S> = lone_values(rt, alloc, &clones, &[1, 2, 3]);
+    let refused = (
+        clone_and_count(alloc, &arena).0,
+        clones.get(),
+        Rc::strong_count(&clones),
+    );
+    arena.remove(at(2, 2));
+    let (count, copy) = clone_and_count(alloc, &arena);
+    let made = (count, clones.get(), Rc::strong_count(&clones));
+    drop(copy);
+    [refused, made]
+}
+
+// After a drain only the lone link's value is left, and after a refused conversion none. A clone
+// clones each value once, and drops what was cloned before a refusal.
+fn check_counts<S: SlotStack<Item = CountedSlot>>(rt: &impl Abort, alloc: Global) {
+    for take in [0, 1, 5] {
+        let left = left_by_a_drain::<S>(rt, alloc, take);
+        same(rt, "links and values", left, (1, 2));
+    }
+    for (next, want) in [(2, (true, 1)), (0, (false, 3))] {
+        let left = left_by_a_refusal::<S>(rt, alloc, next);
+        same(rt, "refused, and values", left, want);
+    }
+    let made = cloned_once_more::<S>(rt, alloc);
+    same(rt, "a clone", made, [(0, 1, 4), (2, 3, 5)]);
+}
+
+#[test]
+fn values_are_dropped_and_cloned_once(rt: HostRuntime) {
+    check_counts::<HeapStack<CountedSlot>>(&rt, rt.alloc());
+    check_counts::<LimitedStack<CountedSlot>>(&rt, rt.alloc());
+    check_counts::<ChunkStack<CountedSlot>>(&rt, rt.alloc());
+}
