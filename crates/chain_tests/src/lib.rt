@@ -1,4 +1,4 @@
-//! Tests of the inherent calls of a chain arena, and of lists of calls.
+//! Tests of `chain_arena`, `chain_traits` and `chain_links`.
 #![tactic(auto)]
 
 #[cfg(test)]
