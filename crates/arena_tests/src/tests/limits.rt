@@ -2,7 +2,6 @@
 use crate::tests::calls::check_scripts;
 use crate::tests::pointers::{Numbered, SmallPtr};
 use crate::tests::scripts::{Call, Row, RunsCalls, run_rows};
-use crate::tests::stacks::FailingStack;
 use crate::tests::support::{Slot, equal};
 use arena_base::{Arena, ArenaSlot, ArenaTrait};
 use arena_ptr::{
@@ -12,6 +11,7 @@ use arena_ptr::{
 use std::alloc::Global;
 use std::process::Abort;
 use std::rc::Rc;
+use test_types::FailingStack;
 
 // A slot for a shared value, whose strong count is the number of its copies.
 type Shared<P> = ArenaSlot<P, Rc<u8>>;

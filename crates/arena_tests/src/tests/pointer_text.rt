@@ -1,9 +1,8 @@
 // Tests of the texts of indexes, generations and pointers.
-use crate::tests::support::{gen8, gen32, gen64, inx8, inx32, inx64, same, text};
+use crate::tests::support::{all, gen8, gen32, gen64, inx8, inx32, inx64, is_text};
 use arena_ptr::{Gen32, Inx8, Ptr, PtrGen, PtrInx, ToolPtr};
 use std::alloc::Global;
 use std::fmt;
-use std::process::Abort;
 
 // An index and a generation, displayed by their own texts.
 #[derive(Drop)]
@@ -16,40 +15,53 @@ impl<I: PtrInx, G: PtrGen> fmt::Display for Printed<I, G> {
     }
 }
 
-// Checks the text written plain, with `#` and with a width.
-fn reads<I: PtrInx, G: PtrGen>(rt: &impl Abort, alloc: Global, inx: I, generation: G, want: &str) {
+// Returns whether this text is written plain, with `#` and with a width.
+fn reads<I: PtrInx, G: PtrGen>(alloc: Global, inx: I, generation: G, want: &str) -> bool {
     let printed = Printed(inx, generation);
-    let texts = format!(in alloc; "{printed} {printed:#} {printed:>12}").expect(rt, "memory");
-    same(rt, "whatever the format", texts.as_str(), want);
+    is_text(
+        format!(in alloc; "{printed} {printed:#} {printed:>12}"),
+        want,
+    )
 }
 
 #[test]
 fn texts_of_indexes_and_generations_are_hexadecimal(rt: HostRuntime) {
     let alloc = rt.alloc();
     let i = inx8(&rt, 16);
-    reads(&rt, alloc, i, gen8(&rt, 0xfe), "10(fe) 10(fe) 10(fe)");
-    reads(&rt, alloc, i, (), "10 10 10");
-    let i = inx32(&rt, 0xab_cdef);
-    reads(&rt, alloc, i, Gen32::two(), "abcdef(2) abcdef(2) abcdef(2)");
-    let (i, g) = (inx64(&rt, u64::MAX), gen64(&rt, u64::MAX));
-    let want = "ffffffffffffffff(ffffffffffffffff) ffffffffffffffff(ffffffffffffffff) \
+    let (last, end) = (inx64(&rt, u64::MAX), gen64(&rt, u64::MAX));
+    let greatest = "ffffffffffffffff(ffffffffffffffff) ffffffffffffffff(ffffffffffffffff) \
         ffffffffffffffff(ffffffffffffffff)";
-    reads(&rt, alloc, i, g, want);
+    let looks = [
+        reads(alloc, i, gen8(&rt, 0xfe), "10(fe) 10(fe) 10(fe)"),
+        reads(alloc, i, (), "10 10 10"),
+        reads(
+            alloc,
+            inx32(&rt, 0xab_cdef),
+            Gen32::two(),
+            "abcdef(2) abcdef(2) abcdef(2)",
+        ),
+        reads(alloc, last, end, greatest),
+    ];
+    all(&rt, "whatever the format", &looks);
 }
 
 #[test]
 fn the_text_of_a_pointer_has_its_name(rt: HostRuntime) {
     let p = ToolPtr::_from_raw(inx32(&rt, 26), gen32(&rt, 11));
     let name = ToolPtr::name();
-    let texts = format!(in rt.alloc(); "{name} {p:?} {p:#?}").expect(&rt, "memory");
-    same(&rt, "the texts", texts.as_str(), "P0 P0[1a](b) P0[1a](b)");
+    let written = format!(in rt.alloc(); "{name} {p:?} {p:#?}");
+    all(
+        &rt,
+        "the texts",
+        &[is_text(written, "P0 P0[1a](b) P0[1a](b)")],
+    );
 }
 
 // A packed optional index is written as the optional index that it means.
 #[test]
 fn the_text_of_a_packed_index_is_that_of_the_index(rt: HostRuntime) {
     let packed = (Inx8::pack(None), Inx8::pack(Some(inx8(&rt, 3))));
-    let texts = text(rt.alloc(), packed);
+    let written = format!(in rt.alloc(); "{packed:?}");
     let want = "(None, Some(Inx8 { number: 3 }))";
-    same(&rt, "none and an index", texts.as_str(), want);
+    all(&rt, "none and an index", &[is_text(written, want)]);
 }

@@ -19,6 +19,32 @@ pub(super) fn equal<T: PartialEq + Drop>(rt: &impl Abort, what: &str, got: T, wa
     assert!(rt; got == want, "{what}");
 }
 
+// Checks that each look is true.
+pub(super) fn all(rt: &impl Abort, what: &str, looks: &[bool]) {
+    let mut n = 0usize;
+    for look in looks {
+        n = n.saturating_add(1);
+        assert!(rt; *look, "{what}: {n}");
+    }
+}
+
+// Checks tables by the number of the first row that fails in each, or 0.
+pub(super) fn none_failed(rt: &impl Abort, what: &str, failed: &[usize]) {
+    let mut table = 0usize;
+    for row in failed {
+        table = table.saturating_add(1);
+        assert!(rt; *row == 0, "{what}: table {table}, row {row}");
+    }
+}
+
+// Returns whether a text was written and is this one.
+pub(super) fn is_text(written: Result<String, AllocError>, want: &str) -> bool {
+    match written {
+        Ok(text) => text.as_str() == want,
+        Err(_) => false,
+    }
+}
+
 // Returns a result as `Debug` writes it. After an allocation failure it is empty, which no test
 // expects. So it needs no `Abort`, which each of its steps would name.
 pub(super) fn text<T: Debug + Drop>(alloc: Global, outcome: T) -> String {

@@ -130,18 +130,24 @@ fn pointers_without_a_generation_print_none(rt: HostRuntime) {
     reads(&rt, "an arena", text, want);
 }
 
-type Words = ArenaSlot<ToolPtr, LinkNoGen<ToolPtr, &'static str>>;
+type Words = ArenaSlot<ToolPtr, LinkNoGen<ToolPtr, String>>;
 
-type WordsOver<S> = ChainArena<ToolPtr, &'static str, S>;
+type WordsOver<S> = ChainArena<ToolPtr, String, S>;
 
-// Inserts links behind these indexes, 0 for none.
-fn add_words<S: SlotStack<Item = Words>>(arena: &mut WordsOver<S>, words: &[(u32, &'static str)]) {
+// Inserts links of words behind these indexes, 0 for none.
+fn add_words<S: SlotStack<Item = Words>>(
+    alloc: Global,
+    arena: &mut WordsOver<S>,
+    words: &[(u32, &str)],
+) {
     for (i, word) in words {
         let kind = match Inx32::new(*i) {
             Some(i) => LinkInsertKind::ChainEndInx(i),
             None => LinkInsertKind::Disconnected,
         };
-        let _ = arena.insert_reallocating(kind, *word);
+        if let Ok(word) = String::from_str(alloc, word) {
+            let _ = arena.insert_reallocating(kind, word);
+        }
     }
 }
 
@@ -153,13 +159,13 @@ fn both_texts<S: SlotStack<Item = Words>>(alloc: Global, arena: &WordsOver<S>) -
 fn check_words<S: SlotStack<Item = Words>>(rt: &impl Abort, alloc: Global) {
     let mut arena = WordsOver::<S>::new(alloc);
     reads(rt, "no link", both_texts(alloc, &arena), "{} {}");
-    add_words(&mut arena, &[(0, "A"), (1, "B")]);
+    add_words(alloc, &mut arena, &[(0, "A"), (1, "B")]);
     let want = "{P0[1](2): {(start), 2} \"A\", P0[2](2): {1, (end)} \"B\"} \
         {\n    P0[1](2): {(start), 2} \"A\",\n    P0[2](2): {1, (end)} \"B\",\n}";
     reads(rt, "two in a row", both_texts(alloc, &arena), want);
     arena.clear();
     arena.set_generation(generation(26));
-    add_words(&mut arena, &[(0, "A")]);
+    add_words(alloc, &mut arena, &[(0, "A")]);
     let want = "{P0[1](1a): {(start), (end)} \"A\"} {\n    P0[1](1a): {(start), (end)} \"A\",\n}";
     reads(rt, "a generation", both_texts(alloc, &arena), want);
 }
@@ -168,9 +174,9 @@ fn check_words<S: SlotStack<Item = Words>>(rt: &impl Abort, alloc: Global) {
 // start.
 fn check_two_chains<S: SlotStack<Item = Words>>(rt: &impl Abort, alloc: Global) {
     let mut arena = WordsOver::<S>::new(alloc);
-    add_words(&mut arena, &[(0, "X"), (0, "A"), (1, "Y"), (2, "B")]);
+    add_words(alloc, &mut arena, &[(0, "X"), (0, "A"), (1, "Y"), (2, "B")]);
     arena.remove(at(1, 2));
-    add_words(&mut arena, &[(4, "C")]);
+    add_words(alloc, &mut arena, &[(4, "C")]);
     let want = "{P0[1](3): {4, (end)} \"C\", P0[2](2): {(start), 4} \"A\", \
         P0[3](2): {(start), (end)} \"Y\", P0[4](2): {2, 1} \"B\"} {
     P0[1](3): {4, (end)} \"C\",
