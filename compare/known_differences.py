@@ -1,5 +1,5 @@
 """Expected differences: those that known_differences.txt lists, and the arrangement by a compression in place."""
-import subprocess
+import itertools
 
 import scripts
 from programs import NO_RESPONSE, responses_of
@@ -42,28 +42,25 @@ class KnownDifferences:
         print(f"listed scripts: {len(self.scripts)} scripts, {responses} responses")
         return len(self.scripts), responses, unexpected
 
-    def compare_cases(self, rust, here):
-        """Compares the cases of library_cases.txt line by line. Returns the number of cases, of results, and of unexpected ones."""
-        with open(f"{here}/library_cases.txt", encoding="utf-8") as file:
-            expected = file.read()
-        run = subprocess.run([f"{rust}/library"], input=expected, capture_output=True, text=True, check=False)
+    def compare_cases(self, expected, ours, rust):
+        """Compares library_cases.txt line by line with what both libraries write. Returns the number of cases, of results, and of
+        calls with an unexpected result."""
         lines, unexpected, case = expected.splitlines(), 0, ""
-        rust_lines = run.stdout.splitlines()
-        rust_lines += [NO_RESPONSE] * (len(lines) - len(rust_lines))
-        for line, rust_line in zip(lines, rust_lines):
+        for line, our_line, rust_line in itertools.zip_longest(lines, ours.splitlines(), rust.splitlines(), fillvalue=NO_RESPONSE):
             case = line[2:] if line.startswith("#") else case
-            unexpected += line != rust_line and not self.check_call(case, line, rust_line)
+            unexpected += not self.check_call(case, line, our_line, rust_line)
         count, compared = sum(line.startswith("#") for line in lines), sum(" = " in line for line in lines)
         print(f"cases of calls: {count} cases, {compared} results", flush=True)
         return count, compared, unexpected
 
-    def check_call(self, case, line, rust_line):
-        """Returns whether the results of a call in a case are a known difference, and prints them if they are not."""
-        call, _, ours = line.partition(" = ")
-        rust = rust_line.partition(" = ")[2]
-        if self.cases.get((case, call)) == (ours, rust):
+    def check_call(self, case, line, our_line, rust_line):
+        """Returns whether our result of a call in a case is that of the file, and the Rust's is the same or a known difference.
+        Prints the results if not."""
+        call, _, result = line.partition(" = ")
+        ours, rust = our_line.removeprefix(f"{call} = "), rust_line.removeprefix(f"{call} = ")
+        if our_line == line and (rust_line == line or self.cases.get((case, call)) == (result, rust)):
             return True
-        print(f"A difference, in the case {case}:\n  {call}\n  ours: {ours}\n  Rust: {rust or rust_line}")
+        print(f"A difference, in the case {case}:\n  {call}\n  file: {result}\n  ours: {ours}\n  Rust: {rust}")
         return False
 
 
