@@ -12,9 +12,11 @@ mod run_queue;
 
 use arena_base::ArenaSlot;
 use arena_ptr::{
-    ChunkStack, Gen32, HeapStack, Inx32, Ptr, PtrGen, PtrInx, PtrKey, SlotStack, ToolPtr,
+    ChunkStack, Gen32, HeapStack, Inx32, Ptr, PtrGen, PtrInx, PtrKey, ReallocationError, SlotStack,
+    ToolPtr,
 };
 use chain_arena::{ChainArena, LinkNoGen};
+use chain_examples::Documents;
 use chain_traits::ChainArenaTrait;
 use forwarding_arena::ForwardingArena;
 use own_calls::OwnCalls;
@@ -70,6 +72,21 @@ fn value_of(t: Option<&u32>) -> u32 {
     }
 }
 
+// Returns a removed value, or 0 for none.
+fn removed(t: Option<u32>) -> u32 {
+    match t {
+        Some(t) => t,
+        None => 0,
+    }
+}
+
+fn is_reserved(made: Result<(), ReallocationError>) -> bool {
+    match made {
+        Ok(()) => true,
+        Err(_) => false,
+    }
+}
+
 // Returns 1 if a call is done.
 fn done(made: Option<()>) -> u32 {
     match made {
@@ -80,6 +97,15 @@ fn done(made: Option<()>) -> u32 {
 
 fn count(n: usize) -> u32 {
     u32::try_from(n).unwrap_or(u32::MAX)
+}
+
+fn size(n: u32) -> usize {
+    usize::try_from(n).unwrap_or(usize::MAX)
+}
+
+// Returns 1 for true.
+fn flag(is: bool) -> u32 {
+    u32::from(is)
 }
 
 // Appends a decimal digit to a number, which is how lists of values below 10 are written.
@@ -115,7 +141,10 @@ fn all_wrong<P: Named, A: ChainArenaTrait<P, u32> + Drop>(
     (
         run_queue::wrong::<P, A>(alloc, refuses),
         mesh::wrong::<P, A>(alloc, refuses),
-        documents::wrong::<P, A>(alloc, refuses),
+        documents::wrong(
+            &mut Documents::<P, u32, A>::new(alloc),
+            documents::rows(refuses),
+        ),
     )
 }
 

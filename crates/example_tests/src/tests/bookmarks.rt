@@ -1,8 +1,8 @@
 //! Tests of bookmarks in texts that are edited and renumbered.
 
-use super::documents::{TWO_TEXTS, Texts, first_wrong, text_from};
+use super::documents::{TWO_TEXTS, Texts, text_from};
 use super::own_calls::OwnCalls;
-use super::{Named, Wrong};
+use super::{Named, Wrong, documents};
 use chain_traits::ChainArenaTrait;
 use std::alloc::Global;
 
@@ -35,7 +35,7 @@ fn texts_from<P: Named, A: ChainArenaTrait<P, u32> + Drop>(
 // an old pointer is no longer valid.
 pub(super) fn wrong<P: Named, A: OwnCalls<P>>(alloc: Global) -> (Wrong, bool) {
     let mut texts = Texts::<P, A>::new(alloc);
-    let wrong = first_wrong(&mut texts, &TWO_TEXTS);
+    let wrong = documents::wrong(&mut texts, &TWO_TEXTS);
     let mut marks = A::renumber(&mut texts, alloc);
     if marks == MARKS && texts_from(&texts, MARKS) == TEXTS {
         marks = A::renumber(&mut texts, alloc);

@@ -1,6 +1,9 @@
 //! Tests of texts: their paragraphs are inserted, moved and removed, and their parts rearranged.
 
-use super::{Named, Wrong, count, done, number_of, value_of, with_digit, with_hex_digit};
+use super::{
+    Named, Wrong, count, done, flag, is_reserved, number_of, removed, value_of, with_digit,
+    with_hex_digit,
+};
 use chain_examples::Documents;
 use chain_traits::ChainArenaTrait;
 use std::alloc::Global;
@@ -90,6 +93,10 @@ const REFUSED: [Row; 4] = [
 
 const PARAGRAPHS: [u32; 4] = [0x12, 0x22, 0x32, 0x42];
 
+pub(super) fn rows(refuses: bool) -> &'static [Row] {
+    if refuses { &REFUSED } else { &ROWS }
+}
+
 // Returns each paragraph, and the indexes of the ones before and after it, in three hexadecimal
 // digits.
 fn contents<P: Named, A: ChainArenaTrait<P, u32> + Drop>(texts: &Texts<P, A>) -> u64 {
@@ -145,9 +152,9 @@ fn insert<P: Named, A: ChainArenaTrait<P, u32> + Drop>(
         Op::Begin => number_of(texts.begin(t).ok()),
         Op::After => number_of(texts.insert_after(p, t).ok()),
         Op::Before => number_of(texts.insert_before(p, t).ok()),
-        Op::Reserve => u32::from(texts.reserve(2).is_ok() && texts.capacity() - texts.len() >= 2),
-        Op::IsEmpty => u32::from(texts.is_empty()),
-        Op::HasMaximum => u32::from(texts.max_capacity().is_some()),
+        Op::Reserve => flag(is_reserved(texts.reserve(2)) && texts.capacity() - texts.len() >= 2),
+        Op::IsEmpty => flag(texts.is_empty()),
+        Op::HasMaximum => flag(texts.max_capacity().is_some()),
         _ => count(texts.len()),
     }
 }
@@ -161,15 +168,15 @@ fn change<P: Named, A: ChainArenaTrait<P, u32> + Drop>(texts: &mut Texts<P, A>, 
         Op::PartBefore => done(texts.split_before(p)),
         Op::Join => done(texts.join(p, q)),
         Op::Move => done(texts.move_after(p, q)),
-        Op::Remove => texts.remove(p).unwrap_or(0),
-        Op::Write => u32::from(write(texts, p, m)),
+        Op::Remove => removed(texts.remove(p)),
+        Op::Write => flag(write(texts, p, m)),
         _ => insert(texts, op, p, m),
     }
 }
 
 // Returns the first row that does not hold: a call yields its number, at least on a second attempt,
 // and then the paragraphs are as they should be. So a refusal changes nothing.
-pub(super) fn first_wrong<P: Named, A: ChainArenaTrait<P, u32> + Drop>(
+pub(super) fn wrong<P: Named, A: ChainArenaTrait<P, u32> + Drop>(
     texts: &mut Texts<P, A>,
     rows: &[Row],
 ) -> Wrong {
@@ -180,12 +187,4 @@ pub(super) fn first_wrong<P: Named, A: ChainArenaTrait<P, u32> + Drop>(
         }
     }
     None
-}
-
-pub(super) fn wrong<P: Named, A: ChainArenaTrait<P, u32> + Drop>(
-    alloc: Global,
-    refuses: bool,
-) -> Wrong {
-    let rows: &[Row] = if refuses { &REFUSED } else { &ROWS };
-    first_wrong(&mut Texts::<P, A>::new(alloc), rows)
 }

@@ -1,6 +1,8 @@
 //! Tests of a mesh: a square is triangulated and merged again.
 
-use super::{Named, Wrong, count, done, number_of, value_of, with_hex_digit};
+use super::{
+    Named, Wrong, count, done, flag, is_reserved, number_of, removed, value_of, with_hex_digit,
+};
 use chain_examples::Mesh;
 use chain_traits::ChainArenaTrait;
 use std::alloc::Global;
@@ -161,8 +163,8 @@ fn change<P: Named, A: ChainArenaTrait<P, u32> + Drop>(
         Op::Split => split(mesh, p, q),
         Op::Cut => done(mesh.cut(p, q)),
         Op::Merge => done(mesh.merge(p, q)),
-        Op::Remove => mesh.remove(p).unwrap_or(0),
-        Op::Reserve => u32::from(mesh.reserve(3).is_ok() && mesh.capacity() >= 3),
+        Op::Remove => removed(mesh.remove(p)),
+        Op::Reserve => flag(is_reserved(mesh.reserve(3)) && mesh.capacity() >= 3),
         Op::StartWithin => {
             let capacity = mesh.capacity();
             let started = number_of(mesh.start(m).ok());
@@ -173,7 +175,7 @@ fn change<P: Named, A: ChainArenaTrait<P, u32> + Drop>(
             }
         }
         Op::Count => count(mesh.len()),
-        Op::IsNew => u32::from(mesh.is_empty() && mesh.capacity() == 0),
+        Op::IsNew => flag(mesh.is_empty() && mesh.capacity() == 0),
     }
 }
 

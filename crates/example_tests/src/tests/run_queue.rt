@@ -1,7 +1,9 @@
 //! Tests of a run queue: five tasks in turn, with cancellations.
 
 use super::no_memory::NoMemory;
-use super::{Named, Wrong, count, number_of, value_of, with_digit};
+use super::{
+    Named, Wrong, count, flag, is_reserved, number_of, removed, size, value_of, with_digit,
+};
 use chain_examples::RunQueue;
 use chain_traits::ChainArenaTrait;
 use std::alloc::Global;
@@ -32,56 +34,62 @@ enum Op {
     Count,
     IsEmpty,
     HasCapacity,
+    // The capacity.
+    Capacity,
     // All tasks left, in turn; 1 if there is no memory for them.
     Drain,
     DrainRefused,
 }
 
-// A call, a pointer or a number, a task, and what the call yields.
-type Row = (Op, u32, u32, u32);
+// A call, a pointer or a number, a task, what the call yields, and then the tasks in turn, from the
+// one after the current one on.
+type Row = (Op, u32, u32, u32, u32);
 
 // The first task is current. The third is canceled while another is current, and the fifth while it
 // is itself.
 const ROWS: [Row; 31] = [
-    (Op::Next, 0, 0, 0),
-    (Op::IsEmpty, 0, 0, 1),
-    (Op::Reserve, 3, 0, 1),
-    (Op::ReserveAll, 0, 0, 0),
-    (Op::Spawn, 0, 4, 0x12),
-    (Op::Spawn, 0, 5, 0x22),
-    (Op::Spawn, 0, 6, 0x32),
-    (Op::Spawn, 0, 7, 0x42),
-    (Op::Spawn, 0, 8, 0x52),
-    (Op::Current, 0, 0, 0x12),
-    (Op::Next, 0, 0, 0x22),
-    (Op::Turns, 4, 0, 6784),
-    (Op::Cancel, 0x32, 0, 6),
-    (Op::Cancel, 0x32, 0, 0),
-    (Op::Turns, 3, 0, 578),
-    (Op::Cancel, 0x52, 0, 8),
-    (Op::Current, 0, 0, 0x12),
-    (Op::Count, 0, 0, 3),
-    (Op::IsEmpty, 0, 0, 0),
-    (Op::HasCapacity, 0, 0, 1),
-    (Op::Read, 0x22, 0, 5),
-    (Op::Read, 0x32, 0, 0),
-    (Op::Write, 0x22, 9, 5),
-    (Op::Write, 0x32, 9, 0),
-    (Op::Read, 0x22, 0, 9),
-    (Op::Reserve, 7, 0, 1),
-    (Op::Next, 0, 0, 0x22),
-    (Op::DrainRefused, 0, 0, 1),
-    (Op::Drain, 0, 0, 974),
-    (Op::Count, 0, 0, 0),
-    (Op::IsEmpty, 0, 0, 1),
+    (Op::Next, 0, 0, 0, 0),
+    (Op::IsEmpty, 0, 0, 1, 0),
+    (Op::Reserve, 3, 0, 1, 0),
+    (Op::ReserveAll, 0, 0, 0, 0),
+    (Op::Spawn, 0, 4, 0x12, 4),
+    (Op::Spawn, 0, 5, 0x22, 54),
+    (Op::Spawn, 0, 6, 0x32, 564),
+    (Op::Spawn, 0, 7, 0x42, 5674),
+    (Op::Spawn, 0, 8, 0x52, 56784),
+    (Op::Current, 0, 0, 0x12, 56784),
+    (Op::Next, 0, 0, 0x22, 67845),
+    (Op::Turns, 4, 0, 6784, 56784),
+    (Op::Cancel, 0x32, 0, 6, 5784),
+    (Op::Cancel, 0x32, 0, 0, 5784),
+    (Op::Turns, 3, 0, 578, 4578),
+    (Op::Cancel, 0x52, 0, 8, 574),
+    (Op::Current, 0, 0, 0x12, 574),
+    (Op::Count, 0, 0, 3, 574),
+    (Op::IsEmpty, 0, 0, 0, 574),
+    (Op::HasCapacity, 0, 0, 1, 574),
+    (Op::Read, 0x22, 0, 5, 574),
+    (Op::Read, 0x32, 0, 0, 574),
+    (Op::Write, 0x22, 9, 5, 974),
+    (Op::Write, 0x32, 9, 0, 974),
+    (Op::Read, 0x22, 0, 9, 974),
+    (Op::Reserve, 7, 0, 1, 974),
+    (Op::Next, 0, 0, 0x22, 749),
+    (Op::DrainRefused, 0, 0, 1, 749),
+    (Op::Drain, 0, 0, 974, 0),
+    (Op::Count, 0, 0, 0, 0),
+    (Op::IsEmpty, 0, 0, 1, 0),
 ];
 
 // The calls that are refused where each growth is refused once.
-const REFUSED: [Row; 4] = [
-    (Op::Spawn, 0, 4, 0),
-    (Op::Spawn, 0, 4, 0x12),
-    (Op::Reserve, 3, 0, 0),
-    (Op::Reserve, 3, 0, 1),
+const REFUSED: [Row; 7] = [
+    (Op::Spawn, 0, 4, 0, 0),
+    (Op::Capacity, 0, 0, 0, 0),
+    (Op::Spawn, 0, 4, 0x12, 4),
+    (Op::Capacity, 0, 0, 1, 4),
+    (Op::Reserve, 3, 0, 0, 4),
+    (Op::Capacity, 0, 0, 1, 4),
+    (Op::Reserve, 3, 0, 1, 4),
 ];
 
 // Makes steps, and returns the tasks that become current.
@@ -129,20 +137,20 @@ fn change<P: Named, A: ChainArenaTrait<P, u32> + Drop>(
     queue: &mut Queue<P, A>,
     row: &Row,
 ) -> u32 {
-    let (op, n, task, _) = *row;
-    let (p, size) = (P::at(n), usize::try_from(n).unwrap_or(0));
+    let (op, n, task, _, _) = *row;
+    let (p, n) = (P::at(n), size(n));
     match op {
         Op::Spawn => number_of(queue.spawn(task).ok()),
         Op::Next => number_of(queue.next()),
-        Op::Turns => turns(queue, size),
-        Op::Cancel => queue.cancel(p).unwrap_or(0),
+        Op::Turns => turns(queue, n),
+        Op::Cancel => removed(queue.cancel(p)),
         Op::Write => write(queue, p, task),
         Op::Reserve => {
-            u32::from(queue.reserve(size).is_ok() && queue.capacity() - queue.len() >= size)
+            flag(is_reserved(queue.reserve(n)) && queue.capacity() - queue.len() >= n)
         }
-        Op::ReserveAll => u32::from(queue.reserve(usize::MAX).is_ok()),
+        Op::ReserveAll => flag(is_reserved(queue.reserve(usize::MAX))),
         Op::Drain => drain(alloc, queue),
-        Op::DrainRefused => u32::from(queue.drain_all(NoMemory).is_err()),
+        Op::DrainRefused => flag(queue.drain_all(NoMemory).is_err()),
         _ => look_up(queue, op, p),
     }
 }
@@ -151,36 +159,17 @@ fn look_up<P: Named, A: ChainArenaTrait<P, u32> + Drop>(queue: &Queue<P, A>, op:
     match op {
         Op::Current => number_of(queue.current()),
         Op::Read => value_of(queue.get(p)),
-        Op::IsEmpty => u32::from(queue.is_empty()),
+        Op::IsEmpty => flag(queue.is_empty()),
         Op::HasCapacity => {
-            u32::from(queue.capacity() >= queue.len() && queue.max_capacity().is_none())
+            flag(queue.capacity() >= queue.len() && queue.max_capacity().is_none())
         }
+        Op::Capacity => count(queue.capacity()),
         _ => count(queue.len()),
     }
 }
 
-// Returns the tasks in turn, their number, and the capacity. After one round the current task is
-// current again.
-fn contents<P: Named, A: ChainArenaTrait<P, u32> + Drop>(
-    queue: &mut Queue<P, A>,
-) -> (u32, usize, usize) {
-    let (count, capacity) = (queue.len(), queue.capacity());
-    (turns(queue, count), count, capacity)
-}
-
-// Returns whether a call yields its number, at least on a second attempt. A refusal changes
-// nothing.
-fn holds<P: Named, A: ChainArenaTrait<P, u32> + Drop>(
-    alloc: Global,
-    queue: &mut Queue<P, A>,
-    row: &Row,
-) -> bool {
-    let before = contents(queue);
-    change(alloc, queue, row) == row.3
-        || contents(queue) == before && change(alloc, queue, row) == row.3
-}
-
-// Returns the first row that does not hold.
+// Returns the first row that does not hold: a call yields its number, at least on a second attempt,
+// and then the tasks are as they should be. So a refusal changes nothing.
 pub(super) fn wrong<P: Named, A: ChainArenaTrait<P, u32> + Drop>(
     alloc: Global,
     refuses: bool,
@@ -188,7 +177,10 @@ pub(super) fn wrong<P: Named, A: ChainArenaTrait<P, u32> + Drop>(
     let mut queue = Queue::<P, A>::new(alloc);
     let rows: &[Row] = if refuses { &REFUSED } else { &ROWS };
     for (place, row) in rows.iter().enumerate() {
-        if !holds(alloc, &mut queue, row) {
+        let is_done = change(alloc, &mut queue, row) == row.3
+            || change(alloc, &mut queue, row) == row.3;
+        let count = queue.len();
+        if !is_done || turns(&mut queue, count) != row.4 {
             return Some(place);
         }
     }
