@@ -155,36 +155,29 @@ fn all_wrong_by_forwarding<P: Named, A: ChainArenaTrait<P, u32> + Drop>(
     all_wrong::<P, ForwardingArena<A>>(alloc, refuses)
 }
 
-fn check_rows<P: Named, A: OwnCalls<P>>(rt: &impl Abort, alloc: Global, refuses: bool) {
+// What is wrong with an arena and with its forwarding arena, and with bookmarks, and whether the
+// calls with a given allocator are right.
+type Results = (AllWrong, AllWrong, Wrong, bool);
+
+const RIGHT: Results = ((None, [None; 3], None), (None, [None; 3], None), None, true);
+
+fn results<P: Named, A: OwnCalls<P>>(alloc: Global, part: Part) -> Results {
+    let refuses = match part {
+        Part::Rows => false,
+        Part::Refusals => true,
+        Part::NoMemory => return (RIGHT.0, RIGHT.1, None, no_memory::are_right::<P, A>(alloc)),
+    };
     let own = all_wrong::<P, A>(alloc, refuses);
     let forwarded = all_wrong_by_forwarding::<P, A>(alloc, refuses);
-    let bookmarks = bookmarks::wrong::<P, A>(alloc);
-    let none = (None, [None; 3], None);
-    same(
-        rt,
-        "rows",
-        (own, forwarded, bookmarks),
-        (none, none, (None, true)),
-    );
-}
-
-fn check_part<P: Named, A: OwnCalls<P>>(rt: &impl Abort, alloc: Global, part: Part) {
-    match part {
-        Part::Rows => check_rows::<P, A>(rt, alloc, false),
-        Part::Refusals => check_rows::<P, A>(rt, alloc, true),
-        Part::NoMemory => same(
-            rt,
-            "memory",
-            no_memory::are_right::<P, A>(alloc),
-            [[true; 4]; 2],
-        ),
-    }
+    let (bookmarks, are_right) = bookmarks::wrong::<P, A>(alloc);
+    (own, forwarded, bookmarks, are_right)
 }
 
 // Runs a part at a chain arena. Only this body names it, since naming it is the cost. Over any stack
 // it costs less than over one.
 fn check_examples<S: SlotStack<Item = Slot>>(rt: &impl Abort, alloc: Global, part: Part) {
-    check_part::<ToolPtr, ChainArena<ToolPtr, u32, S>>(rt, alloc, part);
+    let results = results::<ToolPtr, ChainArena<ToolPtr, u32, S>>(alloc, part);
+    same(rt, "results", results, RIGHT);
 }
 
 #[test]

@@ -33,29 +33,27 @@ fn insert<P: Named, A: ChainArenaTrait<P, u32>>(
 }
 
 /// Makes a chain of three links, with the last in a freed slot after the first, and a lone link.
-fn are_inserted<P: Named, A: ChainArenaTrait<P, u32>>(arena: &mut A) -> [bool; 4] {
-    [
-        insert(arena, LinkInsertKind::Disconnected, 1) == 0x12
-            && insert(arena, LinkInsertKind::ChainEnd(P::at(0x12)), 2) == 0x22
-            && insert(arena, LinkInsertKind::ChainEnd(P::at(0x22)), 3) == 0x32,
-        arena.remove(P::at(0x22)).allow() == Some(2),
-        insert(arena, LinkInsertKind::ChainEnd(P::at(0x32)), 4) == 0x23,
-        insert(arena, LinkInsertKind::Disconnected, 5) == 0x43 && arena.len() == 4,
-    ]
+/// Returns whether each is inserted.
+fn are_inserted<P: Named, A: ChainArenaTrait<P, u32>>(arena: &mut A) -> bool {
+    insert(arena, LinkInsertKind::Disconnected, 1) == 0x12
+        && insert(arena, LinkInsertKind::ChainEnd(P::at(0x12)), 2) == 0x22
+        && insert(arena, LinkInsertKind::ChainEnd(P::at(0x22)), 3) == 0x32
+        && arena.remove(P::at(0x22)).allow() == Some(2)
+        && insert(arena, LinkInsertKind::ChainEnd(P::at(0x32)), 4) == 0x23
+        && insert(arena, LinkInsertKind::Disconnected, 5) == 0x43
+        && arena.len() == 4
 }
 
-/// Refuses the replies to calls and the moves of a compression, which changes nothing.
-fn are_kept<P: Named, A: OwnCalls<P>>(alloc: Global, arena: &mut A) -> [bool; 4] {
+/// Returns whether the replies to calls and the moves of a compression are refused, and nothing
+/// changes.
+fn are_refused<P: Named, A: OwnCalls<P>>(alloc: Global, arena: &mut A) -> bool {
     let (before, capacity) = (arena.state(alloc), arena.capacity());
-    [
-        arena.replies_are_refused(alloc),
-        arena.moves_are_refused(),
-        arena.capacity() == capacity,
-        before.is_some() && arena.state(alloc) == before,
-    ]
+    let are_refused = arena.replies_are_refused(alloc) && arena.moves_are_refused();
+    let is_kept = arena.capacity() == capacity && arena.state(alloc) == before;
+    are_refused && before.is_some() && is_kept
 }
 
-pub(super) fn are_right<P: Named, A: OwnCalls<P>>(alloc: Global) -> [[bool; 4]; 2] {
+pub(super) fn are_right<P: Named, A: OwnCalls<P>>(alloc: Global) -> bool {
     let mut arena = A::new(alloc);
-    [are_inserted(&mut arena), are_kept(alloc, &mut arena)]
+    are_inserted(&mut arena) && are_refused(alloc, &mut arena)
 }
