@@ -1,15 +1,9 @@
-mod DocumentRenamingLemmas
 mod ListChangeLemmas
-mod BookmarkLemmas
 mod ItemListLemmas
-mod MappedListLemmas
-mod PointerPairLemmas
 mod ItemMoveLemmas
 mod ItemRemovalLemmas
-mod RenumberingLemmas
 mod RingLemmas
 mod MeshInvariantLemmas
-mod MoveTableLemmas
 mod TaskLemmas
 mod DocumentLemmas
 mod QueueOrderLemmas

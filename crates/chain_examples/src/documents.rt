@@ -1,33 +1,28 @@
 //! Ordered documents, whose paragraphs are all stored in one arena.
 
-ghost use Rattle.std.specs.Prelude.{◌≡◌, ◌≢◌, ◌↔◌, ℕ, ◌+◌, ◌<◌, ◌≤◌, List, [], ◌∷◌, ◌++◌, IsTrue, IsSome, IfSome, OnSome, IfNone, IsOk, IfOk, OnOk, IsErr, IfErr, OnErr, Some, None, Err, map, false};
+ghost use Rattle.std.specs.Prelude.{◌≡◌, ◌≢◌, ◌↔◌, ℕ, ◌+◌, ◌<◌, ◌≤◌, List, [], ◌∷◌, ◌++◌, IsTrue, IsSome, IfSome, OnSome, IfNone, IsOk, IfOk, OnOk, IsErr, IfErr, OnErr, Some, None, Err};
 ghost use Rattle.std.specs.Option.{option_map};
-ghost use Rattle.std.specs.Borrow.{LendsSo, sem};
+ghost use Rattle.std.specs.Borrow.{Lends, LendsSo, sem};
 ghost use Rattle.arena_ptr.specs.SlotStack.{IsBeyond, IsWithinMaximum};
 ghost use Rattle.chain_laws.specs.Chains.{linear, IsMember, next_of, prev_of};
 ghost use Rattle.arena_base.specs.Arena.{IsCapacityFor, IsValid};
 ghost use Rattle.arena_base.specs.Entries.{count, view_after_removal, first_key, last_key, with_capacity, NeedsBeyondMaximum};
-ghost use Rattle.chain_links.specs.CanonicalLayouts.{IsCanonicalLayout};
 ghost use Rattle.chain_links.specs.CallEffects.{SucceedsWithinCapacity};
-ghost use Rattle.chain_links.specs.ChainArena.{IsInserted, CanConnect, entry, value_view, link_map};
-ghost use Rattle.chain_examples.specs.Renumbering.{IsRenumbered};
+ghost use Rattle.chain_links.specs.ChainArena.{IsInserted, CanConnect};
 ghost use Rattle.chain_examples.specs.Lists.{Item, indexes, IsText, KeepsWithout, InsertsAfter, InsertsBefore, Leaves};
 ghost use Rattle.chain_examples.specs.Texts.{HasTextNeighbors, EndsIn, BeginsWith, AreJoined, IsClosed, IsSeparated, IsPutAfter, IsMovedAfter, HasNewValue};
 
-use crate::bookmarks::renumber;
 use crate::growth::reserve;
-use arena_base::ArenaSlot;
-use arena_ptr::{ChainInsertionError, GenKey, InxKey, PtrKey, ReallocationError, SlotStack};
-use chain_arena::{ChainArena, LinkNoGen};
+use arena_ptr::{ChainInsertionError, GenKey, InxKey, PtrKey, ReallocationError};
 use chain_links::LinkInsertKind;
 use chain_traits::ChainArenaTrait;
-use std::alloc::{AllocError, Global};
+use std::alloc::Global;
 use std::marker::{Model, PhantomData};
 
 /// A set of documents, each a linear chain of paragraphs in one arena.
 ///
 /// Inserting a paragraph returns its pointer. The pointer identifies the paragraph wherever it is
-/// moved, until the paragraph is removed or `renumber` is called.
+/// moved, until the paragraph is removed or the arena renumbered.
 ///
 /// Contracts see the arena, and call a document a text (`IsText`). A text is the list of the
 /// paragraphs from the first to the last, each with its pointer's index and generation.
@@ -185,6 +180,29 @@ impl<P: PtrKey, T: Drop, A: ChainArenaTrait<P, T> + Drop> Documents<P, T, A> {
             Some(paragraph) => Some(paragraph),
             None => None,
         }
+    }
+
+    /// Returns the arena, for calls that no document has.
+    ///
+    /// What the arena becomes, the documents become. Its links should stay linear, since a cyclic
+    /// chain is not a document.
+    pub fn arena_mut(&mut self) -> &mut A
+        ensures* writes_back { sem 𝓛 (Lends
+            (the_row P.row T.row A.row P.Inx.row P.Gen.row P.Inx.Word.row
+            A.ChainPtrAdvancer.row A.PtrAdvancer.row P.PtrKey P.Inx.InxKey P.Gen.GenKey
+            (record {
+              interlinks = A.interlinks;
+              walker = A.walker;
+              connects = A.connects;
+              breaks = A.breaks;
+              exchanges = A.exchanges;
+              compresses_canonically = A.compresses_canonically;
+            }) A.ArenaTrait
+            A.PtrAdvancer.Advancer A.ChainPtrAdvancer.Advancer)
+            A.row self.entry result (λ arena. arena)) }
+        ensures arena { result.now ≡ self.old }
+    {
+        &mut self.paragraphs
     }
 
     /// Returns the pointer of the paragraph after `p` in its document.
@@ -445,35 +463,5 @@ impl<P: PtrKey, T: Drop, A: ChainArenaTrait<P, T> + Drop> Documents<P, T, A> {
         self.set_apart(p)?;
         self.put_after(p, q);
         Some(())
-    }
-}
-
-impl<P: PtrKey, T: Drop, S: SlotStack<Item = ArenaSlot<P, LinkNoGen<P, T>>>> Documents<
-    P,
-    T,
-    ChainArena<P, T, S>,
-> {
-    /// Renumbers all paragraphs and updates `bookmarks`.
-    ///
-    /// The documents are arranged one after another from index 1, each in one run of indexes. Each
-    /// bookmark becomes the new pointer of its paragraph, even if paragraphs have equal values. A
-    /// bookmark whose paragraph was removed becomes `None`. No other old pointer may be used again:
-    /// it may point to another paragraph once the generation counter wraps.
-    ///
-    /// Takes time linear in the slots and bookmarks; no clause states this.
-    ///
-    /// # Errors
-    ///
-    /// - `AllocError`: an allocation failed. The documents and the bookmarks are unchanged.
-    pub fn renumber(&mut self, alloc: Global, bookmarks: &mut [Option<P>]) -> Result<(), AllocError>
-        ensures canonical { OnOk result (IsCanonicalLayout P.Gen.first P.Gen.following false
-            (value_view self.old) (link_map self.old) (value_view self.new) (link_map self.new)) }
-        ensures renumbered { OnOk result
-            (IsRenumbered P.Gen.first P.Gen.following value_view entry link_map
-            self.old self.new
-            (map (option_map P.key) bookmarks.old) (map (option_map P.key) bookmarks.new)) }
-        ensures err { OnErr result ((self.new ≡ self.old) × (bookmarks.new ≡ bookmarks.old)) }
-    {
-        renumber(&mut self.paragraphs, alloc, bookmarks)
     }
 }

@@ -2,15 +2,13 @@
 //! functions.
 //!
 //! The data structures work over any arena of links, and are proved from the contracts of
-//! `ChainArenaTrait` alone. Only `Documents::renumber` needs a `ChainArena`. Their own contracts
-//! are about lists rather than links.
+//! `ChainArenaTrait` alone. Their own contracts are about lists rather than links.
+//! `chain_arena_examples` has what needs a `ChainArena`.
 #![tactic(auto)]
 
-mod bookmarks;
 mod documents;
 mod growth;
 mod mesh;
-pub mod named_type;
 mod queue;
 pub mod tutorial;
 

@@ -1,13 +1,14 @@
-// Forwarding wrappers of calls of `Documents`.
+// Forwarding wrappers of a call of `Documents` and of their renumbering.
 ghost use Rattle.std.specs.Prelude.{OnOk, OnSome, map};
 ghost use Rattle.std.specs.Option.{option_map};
 ghost use Rattle.chain_links.specs.ChainArena.{entry, value_view, link_map};
-ghost use Rattle.chain_examples.specs.Renumbering.{IsRenumbered};
+ghost use Rattle.chain_arena_examples.specs.Renumbering.{IsRenumbered};
 ghost use Rattle.chain_examples.specs.Texts.{IsMovedAfter};
 
 use arena_base::ArenaSlot;
 use arena_ptr::{GenKey, PtrKey, SlotStack};
 use chain_arena::{ChainArena, LinkNoGen};
+use chain_arena_examples::renumber_documents;
 use chain_examples::Documents;
 use chain_traits::ChainArenaTrait;
 use std::alloc::{AllocError, Global};
@@ -24,7 +25,7 @@ pub fn move_after<P: PtrKey, T: Drop, A: ChainArenaTrait<P, T> + Drop>(
     documents.move_after(p, q)
 }
 
-/// Forwards to `Documents::renumber`, under the clause on the texts and bookmarks.
+/// Forwards to `renumber_documents`, under the clause on the texts and bookmarks.
 pub fn renumber<P: PtrKey, T: Drop, S: SlotStack<Item = ArenaSlot<P, LinkNoGen<P, T>>>>(
     documents: &mut Documents<P, T, ChainArena<P, T, S>>,
     alloc: Global,
@@ -34,5 +35,5 @@ pub fn renumber<P: PtrKey, T: Drop, S: SlotStack<Item = ArenaSlot<P, LinkNoGen<P
         documents.old documents.new
         (map (option_map P.key) bookmarks.old) (map (option_map P.key) bookmarks.new)) }
 {
-    documents.renumber(alloc, bookmarks)
+    renumber_documents(documents, alloc, bookmarks)
 }

@@ -1,4 +1,4 @@
-//! Tests of `chain_examples`.
+//! Tests of `chain_examples` and `chain_arena_examples`.
 #![tactic(auto)]
 
 #[cfg(test)]

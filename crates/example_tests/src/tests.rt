@@ -1,110 +1,121 @@
 //! Tests of the examples over chain arenas on two stacks, and over the forwarding arena.
+//!
+//! The rows of a table are calls with what they yield. A call that yields something else is made
+//! again, if it changed nothing: it may have been refused memory.
 
 mod bookmarks;
 mod documents;
-mod failing_stack;
 mod mesh;
 mod no_memory;
+mod own_calls;
 mod run_queue;
 
 use arena_base::ArenaSlot;
-use arena_ptr::{ChunkStack, HeapStack, PtrKey, SlotStack, ToolPtr};
-use bookmarks::Renumbers;
-use chain_arena::{ChainArena, ChainArenaTrait, LinkNoGen};
-use chain_examples::{Documents, Mesh, RunQueue};
-use failing_stack::FailingStack;
+use arena_ptr::{
+    ChunkStack, Gen32, HeapStack, Inx32, Ptr, PtrGen, PtrInx, PtrKey, ReallocationError, SlotStack,
+    ToolPtr,
+};
+use chain_arena::{ChainArena, LinkNoGen};
+use chain_examples::Documents;
+use chain_traits::ChainArenaTrait;
 use forwarding_arena::ForwardingArena;
+use own_calls::OwnCalls;
 use std::alloc::Global;
 use std::fmt::Debug;
 use std::process::Abort;
+use test_types::FailingStack;
 
-type Slot<P> = ArenaSlot<P, LinkNoGen<P, u32>>;
+type Slot = ArenaSlot<ToolPtr, LinkNoGen<ToolPtr, u32>>;
 
 fn same<T: PartialEq + Debug + Drop>(rt: &impl Abort, what: &str, got: T, want: T) {
     assert_eq!(rt; got, want, "{what}");
 }
 
-// The position of a table's first row that differs. Tables return it, so only one body needs a way
-// to end a test.
-type Differing = Option<usize>;
+// A pointer that is written as a number of two hexadecimal digits, its index and its generation.
+// Generic code costs less than code that names a type of pointers.
+trait Named: PtrKey {
+    fn at(number: u32) -> Self;
 
-// Returns the n-th pointer, from 1 on, or the invalid one, which no arena returns, for 0 or an
-// absent one.
-fn name<P: PtrKey>(names: &[P], n: usize) -> P {
-    match n.checked_sub(1) {
-        Some(k) => names.get(k).copied().unwrap_or(P::invalid()),
-        None => P::invalid(),
-    }
+    fn number(self) -> u32;
 }
 
-// Returns the 1-based position of a pointer in `names`, or 0 if it is absent.
-fn number<P: PtrKey>(names: &[P], p: Option<P>) -> u32 {
-    let Some(p) = p else {
-        return 0;
-    };
-    let mut n = 0;
-    for q in names {
-        n = u32::saturating_add(n, 1);
-        if q.is_same(p) {
-            return n;
+impl Named for ToolPtr {
+    fn at(number: u32) -> Self {
+        match (Inx32::new(number / 16), Gen32::new(number % 16)) {
+            (Some(i), Some(g)) => <ToolPtr as Ptr>::_from_raw(i, g),
+            _ => <ToolPtr as Ptr>::invalid(),
         }
     }
-    0
-}
 
-// Notes a pointer, if there is one, and returns whether it is noted.
-fn note<P: PtrKey>(names: &mut Vec<P>, came: Option<P>) -> bool {
-    match came {
-        Some(p) => names.push(p).is_ok(),
-        None => false,
+    fn number(self) -> u32 {
+        let generation = Ptr::generation(self).get();
+        Ptr::inx(self)
+            .get()
+            .wrapping_mul(16)
+            .wrapping_add(generation)
     }
 }
 
-// Returns a vector for pointers, on a second attempt if the first allocation is refused.
-fn names_of<P: PtrKey>(alloc: Global) -> Vec<P> {
-    for _ in 0..2 {
-        if let Ok(names) = Vec::with_capacity(alloc, 16) {
-            return names;
-        }
+// Returns the number of a pointer, or 0 for none.
+fn number_of<P: Named>(p: Option<P>) -> u32 {
+    match p {
+        Some(p) => p.number(),
+        None => 0,
     }
-    Vec::new(alloc)
 }
 
-// Appends two numbers below 16 to a number, which holds sixteen such pairs.
-fn with_pair(all: u128, first: u32, second: u32) -> u128 {
-    let pair = first.wrapping_mul(16).wrapping_add(second);
-    all.wrapping_mul(256).wrapping_add(u128::from(pair))
+// Returns a value, or 0 for none.
+fn value_of(t: Option<&u32>) -> u32 {
+    match t {
+        Some(t) => *t,
+        None => 0,
+    }
 }
 
-// Appends a digit to a number, which is how lists of values below 10 are written.
+// Returns a removed value, or 0 for none.
+fn removed(t: Option<u32>) -> u32 {
+    match t {
+        Some(t) => t,
+        None => 0,
+    }
+}
+
+fn is_reserved(made: Result<(), ReallocationError>) -> bool {
+    match made {
+        Ok(()) => true,
+        Err(_) => false,
+    }
+}
+
+// Returns 1 if a call is done.
+fn done(made: Option<()>) -> u32 {
+    match made {
+        Some(()) => 1,
+        None => 0,
+    }
+}
+
+fn count(n: usize) -> u32 {
+    u32::try_from(n).unwrap_or(u32::MAX)
+}
+
+fn size(n: u32) -> usize {
+    usize::try_from(n).unwrap_or(usize::MAX)
+}
+
+// Returns 1 for true.
+fn flag(is: bool) -> u32 {
+    u32::from(is)
+}
+
+// Appends a decimal digit to a number, which is how lists of values below 10 are written.
 fn with_digit(number: u32, digit: u32) -> u32 {
     number.saturating_mul(10).saturating_add(digit)
 }
 
-// Runs the rows of queues, meshes and documents at one arena.
-fn first_differences<P: PtrKey, A: ChainArenaTrait<P, u32> + Drop>(
-    alloc: Global,
-) -> [Differing; 3] {
-    [
-        run_queue::first_difference::<P, A>(alloc),
-        mesh::first_difference::<P, A>(alloc),
-        documents::first_difference::<P, A>(alloc),
-    ]
-}
-
-fn first_differences_by_forwarding<P: PtrKey, A: ChainArenaTrait<P, u32> + Drop>(
-    alloc: Global,
-) -> [Differing; 3] {
-    first_differences::<P, ForwardingArena<A>>(alloc)
-}
-
-// Runs them at an arena and at its forwarding arena, and the bookmarks at the arena.
-fn all_played<P: PtrKey, A: Renumbers<P>>(alloc: Global) -> ([[Differing; 3]; 2], Differing) {
-    let both = [
-        first_differences::<P, A>(alloc),
-        first_differences_by_forwarding::<P, A>(alloc),
-    ];
-    (both, bookmarks::first_difference::<P, A>(alloc))
+// Appends a hexadecimal digit to a number.
+fn with_hex_digit(number: u64, digit: u32) -> u64 {
+    number.wrapping_mul(16).wrapping_add(u64::from(digit))
 }
 
 // What is run at an arena.
@@ -113,75 +124,76 @@ enum Part {
     Rows,
     // The calls that are refused where each growth is refused once.
     Refusals,
-    SmallMesh,
-    RefusedDrain,
+    NoMemory,
 }
 
-fn check_rows<P: PtrKey, A: Renumbers<P>>(rt: &impl Abort, alloc: Global) {
-    let differing = all_played::<P, A>(alloc);
-    same(rt, "rows", differing, ([[None; 3]; 2], None));
+// The position of a table's first row that does not hold. Tables return it, so that values are
+// compared in few places.
+type Wrong = Option<usize>;
+
+// What is wrong with a queue, meshes and texts.
+type AllWrong = (Wrong, [Wrong; 3], Wrong);
+
+fn all_wrong<P: Named, A: ChainArenaTrait<P, u32> + Drop>(
+    alloc: Global,
+    refuses: bool,
+) -> AllWrong {
+    (
+        run_queue::wrong::<P, A>(alloc, refuses),
+        mesh::wrong::<P, A>(alloc, refuses),
+        documents::wrong(
+            &mut Documents::<P, u32, A>::new(alloc),
+            documents::rows(refuses),
+        ),
+    )
 }
 
-fn check_part<P: PtrKey, A: Renumbers<P>>(rt: &impl Abort, alloc: Global, part: Part) {
-    match part {
-        Part::Rows => check_rows::<P, A>(rt, alloc),
-        Part::Refusals => check_refusals::<P, A>(rt, alloc),
-        Part::SmallMesh => mesh::check_small_mesh::<P, A>(rt, alloc),
-        Part::RefusedDrain => no_memory::check_refused_drain::<P, A>(rt, alloc),
-    }
+fn all_wrong_by_forwarding<P: Named, A: ChainArenaTrait<P, u32> + Drop>(
+    alloc: Global,
+    refuses: bool,
+) -> AllWrong {
+    all_wrong::<P, ForwardingArena<A>>(alloc, refuses)
+}
+
+// What is wrong with an arena and with its forwarding arena, and with bookmarks, and whether the
+// calls with a given allocator are right.
+type Results = (AllWrong, AllWrong, Wrong, bool);
+
+const RIGHT: Results = ((None, [None; 3], None), (None, [None; 3], None), None, true);
+
+fn results<P: Named, A: OwnCalls<P>>(alloc: Global, part: Part) -> Results {
+    let refuses = match part {
+        Part::Rows => false,
+        Part::Refusals => true,
+        Part::NoMemory => return (RIGHT.0, RIGHT.1, None, no_memory::are_right::<P, A>(alloc)),
+    };
+    let own = all_wrong::<P, A>(alloc, refuses);
+    let forwarded = all_wrong_by_forwarding::<P, A>(alloc, refuses);
+    let (bookmarks, are_right) = bookmarks::wrong::<P, A>(alloc);
+    (own, forwarded, bookmarks, are_right)
 }
 
 // Runs a part at a chain arena. Only this body names it, since naming it is the cost. Over any stack
 // it costs less than over one.
-fn check_examples<P: PtrKey, S: SlotStack<Item = Slot<P>>>(
-    rt: &impl Abort,
-    alloc: Global,
-    part: Part,
-) {
-    check_part::<P, ChainArena<P, u32, S>>(rt, alloc, part);
+fn check_examples<S: SlotStack<Item = Slot>>(rt: &impl Abort, alloc: Global, part: Part) {
+    let results = results::<ToolPtr, ChainArena<ToolPtr, u32, S>>(alloc, part);
+    same(rt, "results", results, RIGHT);
 }
 
 #[test]
 fn over_one_piece_of_memory_and_in_blocks(rt: HostRuntime) {
-    check_examples::<ToolPtr, HeapStack<Slot<ToolPtr>>>(&rt, rt.alloc(), Part::Rows);
-    check_examples::<ToolPtr, ChunkStack<Slot<ToolPtr>>>(&rt, rt.alloc(), Part::Rows);
-}
-
-// Returns whether the first insertion and the first reservation of each are refused.
-fn are_refused<P: PtrKey, A: ChainArenaTrait<P, u32> + Drop>(alloc: Global) -> [bool; 6] {
-    [
-        RunQueue::<P, u32, A>::new(alloc).spawn(1).is_err(),
-        Mesh::<P, u32, A>::new(alloc).start(1).is_err(),
-        Documents::<P, u32, A>::new(alloc).begin(1).is_err(),
-        RunQueue::<P, u32, A>::new(alloc).reserve(2).is_err(),
-        Mesh::<P, u32, A>::new(alloc).reserve(2).is_err(),
-        Documents::<P, u32, A>::new(alloc).reserve(2).is_err(),
-    ]
-}
-
-// Checks that the first calls are refused, and the indexes of a split beside a hole, whose growth is
-// refused once.
-fn check_refusals<P: PtrKey, A: ChainArenaTrait<P, u32> + Drop>(rt: &impl Abort, alloc: Global) {
-    let refused = are_refused::<P, A>(alloc);
-    same(rt, "refused", refused, [true; 6]);
-    let split = mesh::split_beside_a_hole::<P, A>(alloc);
-    same(rt, "split beside a hole", split, (true, [Some(2), Some(5)]));
-}
-
-// Runs the refusals, and all rows, where each growth is refused once. A refused call changes
-// nothing, and then succeeds.
-fn check_refusing<P: PtrKey, S: SlotStack<Item = Slot<P>>>(rt: &impl Abort, alloc: Global) {
-    for part in [Part::Refusals, Part::Rows] {
-        check_examples::<P, FailingStack<S>>(rt, alloc, part);
-    }
+    check_examples::<HeapStack<Slot>>(&rt, rt.alloc(), Part::Rows);
+    check_examples::<ChunkStack<Slot>>(&rt, rt.alloc(), Part::Rows);
 }
 
 #[test]
 fn each_growth_is_refused_once(rt: HostRuntime) {
-    check_refusing::<ToolPtr, HeapStack<Slot<ToolPtr>>>(&rt, rt.alloc());
+    for part in [Part::Refusals, Part::Rows] {
+        check_examples::<FailingStack<HeapStack<Slot>>>(&rt, rt.alloc(), part);
+    }
 }
 
 #[test]
-fn one_corner_is_not_split_and_capacity_is_reserved(rt: HostRuntime) {
-    check_examples::<ToolPtr, HeapStack<Slot<ToolPtr>>>(&rt, rt.alloc(), Part::SmallMesh);
+fn a_given_allocator_may_refuse_all(rt: HostRuntime) {
+    check_examples::<HeapStack<Slot>>(&rt, rt.alloc(), Part::NoMemory);
 }

@@ -1,122 +1,119 @@
 //! Tests of texts: their paragraphs are inserted, moved and removed, and their parts rearranged.
 
-use super::{Differing, name, names_of, note, number, with_digit, with_pair};
-use arena_ptr::PtrKey;
-use chain_arena::ChainArenaTrait;
+use super::{
+    Named, Wrong, count, done, flag, is_reserved, number_of, removed, value_of, with_digit,
+    with_hex_digit,
+};
 use chain_examples::Documents;
+use chain_traits::ChainArenaTrait;
 use std::alloc::Global;
 
-// A change of texts. Paragraphs are numbered in the order of their insertion.
+pub(super) type Texts<P, A> = Documents<P, u32, A>;
+
+// A call on texts.
 #[derive(Clone, Copy)]
-pub(super) enum Edit {
-    Begin(u32),
-    After(usize, u32),
-    Before(usize, u32),
-    PartAfter(usize),
-    PartBefore(usize),
-    Join(usize, usize),
-    Move(usize, usize),
-    Remove(usize),
-    // Sets a paragraph, reserves capacity for this many more, and checks their number.
-    Write(usize, u32),
-    Reserve(usize),
-    Count(usize),
+pub(super) enum Op {
+    // The new paragraph's pointer, or 0 if it is refused.
+    Begin,
+    After,
+    Before,
+    // 1 if it is done.
+    PartAfter,
+    PartBefore,
+    Join,
+    Move,
+    // The removed paragraph, or 0 if there is none.
+    Remove,
+    // 1 if the paragraph is there, and now has this value.
+    Write,
+    // 1 if there is capacity for two more; 1 if there are none; 1 if there is a maximum.
+    Reserve,
+    IsEmpty,
+    HasMaximum,
+    // The number of paragraphs.
+    Count,
 }
 
-// An edit, whether it is done, a paragraph, and the text from it on, and back from it.
-type Row = (Edit, bool, usize, u32, u32);
+// A call, a paragraph, another paragraph or a value, what the call yields, and then the first four
+// paragraphs, each with the indexes of the ones before and after it.
+pub(super) type Row = (Op, u32, u32, u32, u64);
 
-const ROWS: [Row; 25] = [
-    (Edit::Count(0), true, 1, 0, 0),
-    (Edit::Reserve(2), true, 1, 0, 0),
-    (Edit::Begin(1), true, 1, 1, 1),
-    (Edit::After(1, 3), true, 1, 13, 1),
-    (Edit::Before(2, 2), true, 1, 123, 1),
-    (Edit::Join(3, 2), false, 3, 23, 21),
-    (Edit::PartAfter(3), true, 1, 12, 1),
-    (Edit::PartAfter(3), false, 2, 3, 3),
-    (Edit::Join(2, 1), true, 2, 312, 3),
-    (Edit::PartBefore(2), false, 2, 312, 3),
-    (Edit::Move(2, 3), true, 1, 123, 1),
-    (Edit::Move(1, 3), true, 3, 213, 2),
-    (Edit::Move(2, 3), true, 3, 231, 2),
-    (Edit::Move(1, 2), true, 3, 231, 2),
-    (Edit::Move(1, 1), false, 3, 231, 2),
-    (Edit::Begin(4), true, 4, 4, 4),
-    (Edit::Move(2, 4), true, 4, 43, 4),
-    (Edit::Move(4, 1), true, 1, 14, 12),
-    (Edit::Write(4, 8), true, 1, 18, 12),
-    (Edit::Write(4, 4), true, 1, 14, 12),
-    (Edit::Count(4), true, 2, 3, 3),
-    (Edit::PartBefore(1), true, 1, 14, 1),
-    (Edit::Remove(1), true, 4, 4, 4),
-    (Edit::Remove(1), false, 1, 0, 0),
-    (Edit::After(1, 5), false, 3, 2, 2),
+// A text is not joined with itself, and not split after its last paragraph or before its first.
+const ROWS: [Row; 29] = [
+    (Op::Count, 0, 0, 0, 0),
+    (Op::IsEmpty, 0, 0, 1, 0),
+    (Op::Reserve, 0, 0, 1, 0),
+    (Op::Begin, 0, 1, 0x12, 0x100_000_000_000),
+    (Op::After, 0x12, 3, 0x22, 0x102_310_000_000),
+    (Op::Before, 0x22, 2, 0x32, 0x103_330_212_000),
+    (Op::Join, 0x32, 0x22, 0, 0x103_330_212_000),
+    (Op::PartAfter, 0x32, 0, 1, 0x103_300_210_000),
+    (Op::PartAfter, 0x32, 0, 0, 0x103_300_210_000),
+    (Op::Join, 0x22, 0x12, 1, 0x123_301_210_000),
+    (Op::PartBefore, 0x22, 0, 0, 0x123_301_210_000),
+    (Op::Move, 0x22, 0x32, 1, 0x103_330_212_000),
+    (Op::Move, 0x12, 0x32, 1, 0x132_310_201_000),
+    (Op::Move, 0x22, 0x32, 1, 0x120_331_202_000),
+    (Op::Move, 0x12, 0x22, 1, 0x120_331_202_000),
+    (Op::Move, 0x12, 0x12, 0, 0x120_331_202_000),
+    (Op::Begin, 0, 4, 0x42, 0x120_331_202_400),
+    (Op::Move, 0x22, 0x42, 1, 0x130_340_201_402),
+    (Op::Move, 0x42, 0x12, 1, 0x134_300_201_410),
+    (Op::Write, 0x42, 8, 1, 0x134_300_201_810),
+    (Op::Write, 0x42, 4, 1, 0x134_300_201_410),
+    (Op::HasMaximum, 0, 0, 0, 0x134_300_201_410),
+    (Op::Count, 0, 0, 4, 0x134_300_201_410),
+    (Op::IsEmpty, 0, 0, 0, 0x134_300_201_410),
+    (Op::PartBefore, 0x12, 0, 1, 0x104_300_200_410),
+    (Op::Remove, 0x12, 0, 1, 0x000_300_200_400),
+    (Op::Remove, 0x12, 0, 0, 0x000_300_200_400),
+    (Op::Write, 0x12, 7, 0, 0x000_300_200_400),
+    (Op::After, 0x12, 5, 0, 0x000_300_200_400),
 ];
 
-fn edit_arguments(edit: Edit) -> (usize, usize, u32) {
-    match edit {
-        Edit::Begin(t) => (0, 0, t),
-        Edit::After(n, t) | Edit::Before(n, t) | Edit::Write(n, t) => (n, 0, t),
-        Edit::Join(n, m) | Edit::Move(n, m) => (n, m, 0),
-        Edit::PartAfter(n) | Edit::PartBefore(n) | Edit::Remove(n) => (n, 0, 0),
-        Edit::Reserve(_) | Edit::Count(_) => (0, 0, 0),
-    }
+// Two texts, written in turn, with a move and a removal. A paragraph of each has the same value.
+pub(super) const TWO_TEXTS: [Row; 8] = [
+    (Op::Begin, 0, 1, 0x12, 0x100_000_000_000),
+    (Op::Begin, 0, 5, 0x22, 0x100_500_000_000),
+    (Op::After, 0x12, 2, 0x32, 0x103_500_210_000),
+    (Op::After, 0x22, 6, 0x42, 0x103_504_210_620),
+    (Op::After, 0x32, 3, 0x52, 0x103_504_215_620),
+    (Op::Move, 0x52, 0x12, 1, 0x105_504_250_620),
+    (Op::Remove, 0x12, 0, 1, 0x000_504_250_620),
+    (Op::Before, 0x42, 2, 0x13, 0x000_501_250_610),
+];
+
+// The calls that are refused where each growth is refused once.
+const REFUSED: [Row; 4] = [
+    (Op::Begin, 0, 1, 0, 0),
+    (Op::Begin, 0, 1, 0x12, 0x100_000_000_000),
+    (Op::Reserve, 0, 0, 0, 0x100_000_000_000),
+    (Op::Reserve, 0, 0, 1, 0x100_000_000_000),
+];
+
+const PARAGRAPHS: [u32; 4] = [0x12, 0x22, 0x32, 0x42];
+
+pub(super) fn rows(refuses: bool) -> &'static [Row] {
+    if refuses { &REFUSED } else { &ROWS }
 }
 
-// Makes an edit, and returns whether it is done.
-fn apply_edit<P: PtrKey, A: ChainArenaTrait<P, u32> + Drop>(
-    texts: &mut Documents<P, u32, A>,
-    names: &mut Vec<P>,
-    edit: Edit,
-) -> bool {
-    let (n, m, t) = edit_arguments(edit);
-    let (p, q) = (name(names, n), name(names, m));
-    match edit {
-        Edit::Begin(_) => note(names, texts.begin(t).ok()),
-        Edit::After(..) => note(names, texts.insert_after(p, t).ok()),
-        Edit::Before(..) => note(names, texts.insert_before(p, t).ok()),
-        Edit::Write(..) => write(texts, p, t),
-        Edit::Reserve(n) => texts.reserve(n).is_ok() && texts.capacity() - texts.len() >= n,
-        Edit::Count(n) => texts.len() == n && texts.is_empty() == (n == 0),
-        _ => rearrange(texts, edit, p, q),
+// Returns each paragraph, and the indexes of the ones before and after it, in three hexadecimal
+// digits.
+fn contents<P: Named, A: ChainArenaTrait<P, u32> + Drop>(texts: &Texts<P, A>) -> u64 {
+    let mut all = 0;
+    for n in &PARAGRAPHS {
+        let p = P::at(*n);
+        all = with_hex_digit(all, value_of(texts.get(p)));
+        all = with_hex_digit(all, number_of(texts.prev(p)) / 16);
+        all = with_hex_digit(all, number_of(texts.next(p)) / 16);
     }
+    all
 }
 
-fn write<P: PtrKey, A: ChainArenaTrait<P, u32> + Drop>(
-    texts: &mut Documents<P, u32, A>,
-    p: P,
-    t: u32,
-) -> bool {
-    match texts.get_mut(p) {
-        Some(paragraph) => {
-            *paragraph = t;
-            texts.max_capacity().is_none()
-        }
-        None => false,
-    }
-}
-
-fn rearrange<P: PtrKey, A: ChainArenaTrait<P, u32> + Drop>(
-    texts: &mut Documents<P, u32, A>,
-    edit: Edit,
-    p: P,
-    q: P,
-) -> bool {
-    match edit {
-        Edit::PartAfter(_) => texts.split_after(p).is_some(),
-        Edit::PartBefore(_) => texts.split_before(p).is_some(),
-        Edit::Join(..) => texts.join(p, q).is_some(),
-        Edit::Move(..) => texts.move_after(p, q).is_some(),
-        _ => texts.remove(p).is_some(),
-    }
-}
-
-// Returns the paragraphs from one on, or back from it.
-pub(super) fn read<P: PtrKey, A: ChainArenaTrait<P, u32> + Drop>(
-    texts: &Documents<P, u32, A>,
+// Returns the paragraphs from one on, or 0 for none.
+pub(super) fn text_from<P: Named, A: ChainArenaTrait<P, u32> + Drop>(
+    texts: &Texts<P, A>,
     from: Option<P>,
-    back: bool,
 ) -> u32 {
     let mut all = 0;
     let mut at = from;
@@ -124,61 +121,68 @@ pub(super) fn read<P: PtrKey, A: ChainArenaTrait<P, u32> + Drop>(
         let Some(p) = at else {
             return all;
         };
-        all = with_digit(all, texts.get(p).copied().unwrap_or(0));
-        at = if back { texts.prev(p) } else { texts.next(p) };
+        all = with_digit(all, value_of(texts.get(p)));
+        at = texts.next(p);
     }
     all
 }
 
-// Returns each paragraph with the number of the next one.
-pub(super) fn contents<P: PtrKey, A: ChainArenaTrait<P, u32> + Drop>(
-    texts: &Documents<P, u32, A>,
-    names: &[P],
-) -> u128 {
-    let mut all = 0;
-    for p in names {
-        let paragraph = texts.get(*p).copied().unwrap_or(0);
-        all = with_pair(all, paragraph, number(names, texts.next(*p)));
-    }
-    all
-}
-
-// Makes an edit, again if it is not done, and returns whether it is done then. Returns `None` if an
-// edit that is not done changes something.
-pub(super) fn made<P: PtrKey, A: ChainArenaTrait<P, u32> + Drop>(
-    texts: &mut Documents<P, u32, A>,
-    names: &mut Vec<P>,
-    edit: Edit,
-) -> Option<bool> {
-    let before = contents(texts, names);
-    if apply_edit(texts, names, edit) {
-        return Some(true);
-    }
-    if contents(texts, names) == before {
-        Some(apply_edit(texts, names, edit))
-    } else {
-        None
-    }
-}
-
-fn holds<P: PtrKey, A: ChainArenaTrait<P, u32> + Drop>(
-    texts: &mut Documents<P, u32, A>,
-    names: &mut Vec<P>,
-    row: &Row,
+fn write<P: Named, A: ChainArenaTrait<P, u32> + Drop>(
+    texts: &mut Texts<P, A>,
+    p: P,
+    t: u32,
 ) -> bool {
-    let (edit, done, n, ahead, behind) = *row;
-    let is_done = made(texts, names, edit);
-    let from = Some(name(names, n));
-    is_done == Some(done) && read(texts, from, false) == ahead && read(texts, from, true) == behind
+    match texts.get_mut(p) {
+        Some(paragraph) => {
+            *paragraph = t;
+            true
+        }
+        None => false,
+    }
 }
 
-pub(super) fn first_difference<P: PtrKey, A: ChainArenaTrait<P, u32> + Drop>(
-    alloc: Global,
-) -> Differing {
-    let mut texts = Documents::<P, u32, A>::new(alloc);
-    let mut names = names_of(alloc);
-    for (place, row) in ROWS.iter().enumerate() {
-        if !holds(&mut texts, &mut names, row) {
+// Inserts a paragraph, or looks up sizes, and returns what the call yields.
+fn insert<P: Named, A: ChainArenaTrait<P, u32> + Drop>(
+    texts: &mut Texts<P, A>,
+    op: Op,
+    p: P,
+    t: u32,
+) -> u32 {
+    match op {
+        Op::Begin => number_of(texts.begin(t).ok()),
+        Op::After => number_of(texts.insert_after(p, t).ok()),
+        Op::Before => number_of(texts.insert_before(p, t).ok()),
+        Op::Reserve => flag(is_reserved(texts.reserve(2)) && texts.capacity() - texts.len() >= 2),
+        Op::IsEmpty => flag(texts.is_empty()),
+        Op::HasMaximum => flag(texts.max_capacity().is_some()),
+        _ => count(texts.len()),
+    }
+}
+
+// Makes a call, and returns what it yields.
+fn change<P: Named, A: ChainArenaTrait<P, u32> + Drop>(texts: &mut Texts<P, A>, row: &Row) -> u32 {
+    let (op, n, m, _, _) = *row;
+    let (p, q) = (P::at(n), P::at(m));
+    match op {
+        Op::PartAfter => done(texts.split_after(p)),
+        Op::PartBefore => done(texts.split_before(p)),
+        Op::Join => done(texts.join(p, q)),
+        Op::Move => done(texts.move_after(p, q)),
+        Op::Remove => removed(texts.remove(p)),
+        Op::Write => flag(write(texts, p, m)),
+        _ => insert(texts, op, p, m),
+    }
+}
+
+// Returns the first row that does not hold: a call yields its number, at least on a second attempt,
+// and then the paragraphs are as they should be. So a refusal changes nothing.
+pub(super) fn wrong<P: Named, A: ChainArenaTrait<P, u32> + Drop>(
+    texts: &mut Texts<P, A>,
+    rows: &[Row],
+) -> Wrong {
+    for (place, row) in rows.iter().enumerate() {
+        let is_done = change(texts, row) == row.3 || change(texts, row) == row.3;
+        if !is_done || contents(texts) != row.4 {
             return Some(place);
         }
     }

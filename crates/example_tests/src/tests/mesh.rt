@@ -1,239 +1,208 @@
 //! Tests of a mesh: a square is triangulated and merged again.
 
-use super::{Differing, name, names_of, note, number, same, with_digit, with_pair};
-use arena_ptr::{InxKey, PtrKey};
-use chain_arena::ChainArenaTrait;
+use super::{
+    Named, Wrong, count, done, flag, is_reserved, number_of, removed, value_of, with_hex_digit,
+};
 use chain_examples::Mesh;
+use chain_traits::ChainArenaTrait;
 use std::alloc::Global;
-use std::process::Abort;
 
-// A change of polygons. Corners are numbered in the order of their insertion.
+type Polygons<P, A> = Mesh<P, u32, A>;
+
+// A call on a mesh.
 #[derive(Clone, Copy)]
-enum Change {
-    Start(u32),
-    After(usize, u32),
-    Cut(usize, usize),
-    Merge(usize, usize),
-    Split(usize, usize),
-    Remove(usize),
+enum Op {
+    // The new corner's pointer, or 0 if it is refused. `StartWithin` keeps the capacity.
+    Start,
+    StartWithin,
+    After,
+    // The copies' pointers in four digits, 1 if there are none, or 0 if it is refused.
+    Split,
+    // 1 if the corners are valid.
+    Cut,
+    Merge,
+    // The removed point, or 0 if there is none.
+    Remove,
+    // 1 if there is capacity for this many more corners.
+    Reserve,
+    // The number of corners; 1 if there are none, without capacity.
+    Count,
+    IsNew,
 }
 
-// A change, whether it is done, a corner, and the points from it on, once around.
-type Row = (Change, bool, usize, u32);
+// A call, a corner or a number, another corner or a point, what the call yields, and then the point
+// of each corner with the index of the next one, for the first six corners and for others.
+type Row = (Op, u32, u32, u32, u64, u64);
 
-// The square of the points 1 to 4 is split along a diagonal. Both triangles are read and merged,
-// and the copies of the diagonal's ends removed. Then the square is cut and merged again. A corner
-// is not split from itself, and a split to a second polygon makes one of both.
+const CORNERS: [u32; 6] = [0x12, 0x22, 0x32, 0x42, 0x52, 0x62];
+
+// Corners at freed indexes and at new ones.
+const OTHERS: [u32; 6] = [0x23, 0x53, 0x54, 0x64, 0x74, 0x84];
+
+// The square of the points 1 to 4 is split along a diagonal. Both triangles are merged, and the
+// copies of the diagonal's ends removed. Then the square is cut and merged again. A removed corner
+// is not cut, split, removed or inserted after, a corner is not split from itself, and a split to a
+// second polygon makes one of both.
 const ROWS: [Row; 20] = [
-    (Change::Start(1), true, 1, 1),
-    (Change::After(1, 2), true, 1, 12),
-    (Change::After(2, 3), true, 1, 123),
-    (Change::After(3, 4), true, 1, 1234),
-    (Change::Split(1, 3), true, 1, 123),
-    (Change::Cut(4, 4), true, 4, 413),
-    (Change::Merge(3, 5), true, 1, 123341),
-    (Change::Remove(5), true, 1, 12334),
-    (Change::Remove(6), true, 2, 2341),
-    (Change::Cut(5, 1), false, 2, 2341),
-    (Change::Split(6, 1), false, 2, 2341),
-    (Change::Cut(1, 3), true, 1, 14),
-    (Change::Cut(2, 2), true, 2, 23),
-    (Change::Merge(1, 3), true, 1, 1234),
-    (Change::Remove(6), false, 6, 0),
-    (Change::After(6, 9), false, 3, 3412),
-    (Change::Split(2, 2), false, 2, 2341),
-    (Change::Start(5), true, 7, 5),
-    (Change::After(7, 6), true, 7, 56),
-    (Change::Split(1, 7), true, 1, 12341565),
+    (Op::Start, 0, 1, 0x12, 0x11_00_00_00_00_00, 0),
+    (Op::After, 0x12, 2, 0x22, 0x12_21_00_00_00_00, 0),
+    (Op::After, 0x22, 3, 0x32, 0x12_23_31_00_00_00, 0),
+    (Op::After, 0x32, 4, 0x42, 0x12_23_34_41_00_00, 0),
+    (Op::Split, 0x12, 0x32, 0x5262, 0x12_23_31_45_16_34, 0),
+    (Op::Cut, 0x42, 0x42, 1, 0x12_23_31_45_16_34, 0),
+    (Op::Merge, 0x32, 0x52, 1, 0x12_23_36_45_11_34, 0),
+    (Op::Remove, 0x52, 0, 1, 0x12_23_36_41_00_34, 0),
+    (Op::Remove, 0x62, 0, 3, 0x12_23_34_41_00_00, 0),
+    (Op::Cut, 0x52, 0x12, 0, 0x12_23_34_41_00_00, 0),
+    (Op::Split, 0x62, 0x12, 1, 0x12_23_34_41_00_00, 0),
+    (Op::Cut, 0x12, 0x32, 1, 0x14_23_32_41_00_00, 0),
+    (Op::Cut, 0x22, 0x22, 1, 0x14_23_32_41_00_00, 0),
+    (Op::Merge, 0x12, 0x32, 1, 0x12_23_34_41_00_00, 0),
+    (Op::Remove, 0x62, 0, 0, 0x12_23_34_41_00_00, 0),
+    (Op::After, 0x62, 9, 0, 0x12_23_34_41_00_00, 0),
+    (Op::Split, 0x22, 0x22, 1, 0x12_23_34_41_00_00, 0),
+    (
+        Op::Start,
+        0,
+        5,
+        0x64,
+        0x12_23_34_41_00_00,
+        0x00_00_00_56_00_00,
+    ),
+    (
+        Op::After,
+        0x64,
+        6,
+        0x54,
+        0x12_23_34_41_00_00,
+        0x00_00_66_55_00_00,
+    ),
+    (
+        Op::Split,
+        0x12,
+        0x64,
+        0x7484,
+        0x12_23_34_47_00_00,
+        0x00_00_66_51_18_55,
+    ),
 ];
 
 // A square without a corner is split. The copies are stored at the freed index and at a new one, so
 // an arena of four grows.
 const BESIDE_A_HOLE: [Row; 6] = [
-    (Change::Start(1), true, 1, 1),
-    (Change::After(1, 2), true, 1, 12),
-    (Change::After(2, 3), true, 1, 123),
-    (Change::After(3, 4), true, 1, 1234),
-    (Change::Remove(2), true, 1, 134),
-    (Change::Split(1, 3), true, 4, 413),
+    (Op::Start, 0, 1, 0x12, 0x11_00_00_00_00_00, 0),
+    (Op::After, 0x12, 2, 0x22, 0x12_21_00_00_00_00, 0),
+    (Op::After, 0x22, 3, 0x32, 0x12_23_31_00_00_00, 0),
+    (Op::After, 0x32, 4, 0x42, 0x12_23_34_41_00_00, 0),
+    (Op::Remove, 0x22, 0, 2, 0x13_00_34_41_00_00, 0),
+    (
+        Op::Split,
+        0x12,
+        0x32,
+        0x2353,
+        0x13_00_31_42_00_00,
+        0x15_34_00_00_00_00,
+    ),
 ];
 
-fn change_arguments(change: Change) -> (usize, usize, u32) {
-    match change {
-        Change::Start(t) => (0, 0, t),
-        Change::After(n, t) => (n, 0, t),
-        Change::Cut(n, m) | Change::Merge(n, m) | Change::Split(n, m) => (n, m, 0),
-        Change::Remove(n) => (n, 0, 0),
+// Capacity is reserved, and a corner is added within it, which is not split from itself.
+const ONE_CORNER: [Row; 7] = [
+    (Op::IsNew, 0, 0, 1, 0, 0),
+    (Op::Count, 0, 0, 0, 0, 0),
+    (Op::Reserve, 3, 0, 1, 0, 0),
+    (Op::StartWithin, 0, 1, 0x12, 0x11_00_00_00_00_00, 0),
+    (Op::IsNew, 0, 0, 0, 0x11_00_00_00_00_00, 0),
+    (Op::Count, 0, 0, 1, 0x11_00_00_00_00_00, 0),
+    (Op::Split, 0x12, 0x12, 1, 0x11_00_00_00_00_00, 0),
+];
+
+// The calls that are refused where each growth is refused once.
+const REFUSED: [Row; 4] = [
+    (Op::Start, 0, 1, 0, 0, 0),
+    (Op::Start, 0, 1, 0x12, 0x11_00_00_00_00_00, 0),
+    (Op::Reserve, 3, 0, 0, 0x11_00_00_00_00_00, 0),
+    (Op::Reserve, 3, 0, 1, 0x11_00_00_00_00_00, 0),
+];
+
+// Returns the point of each corner, and the index of the next corner, in two hexadecimal digits.
+fn contents<P: Named, A: ChainArenaTrait<P, u32> + Drop>(
+    mesh: &Polygons<P, A>,
+    corners: &[u32],
+) -> u64 {
+    let mut all = 0;
+    for n in corners {
+        let p = P::at(*n);
+        all = with_hex_digit(all, value_of(mesh.get(p)));
+        all = with_hex_digit(all, number_of(mesh.next(p)) / 16);
     }
+    all
 }
 
-// Splits a polygon, and notes both copies.
-fn split<P: PtrKey, A: ChainArenaTrait<P, u32> + Drop>(
-    mesh: &mut Mesh<P, u32, A>,
-    names: &mut Vec<P>,
+fn split<P: Named, A: ChainArenaTrait<P, u32> + Drop>(
+    mesh: &mut Polygons<P, A>,
     p: P,
     q: P,
-) -> bool {
-    match mesh.split(p, q) {
-        Ok(Some((c, d))) => note(names, Some(c)) && note(names, Some(d)),
-        _ => false,
-    }
-}
-
-// Makes a change, and returns whether it is done.
-fn apply_change<P: PtrKey, A: ChainArenaTrait<P, u32> + Drop>(
-    mesh: &mut Mesh<P, u32, A>,
-    names: &mut Vec<P>,
-    change: Change,
-) -> bool {
-    let (n, m, t) = change_arguments(change);
-    let (p, q) = (name(names, n), name(names, m));
-    match change {
-        Change::Start(_) => note(names, mesh.start(t).ok()),
-        Change::After(..) => note(names, mesh.insert_after(p, t).ok()),
-        Change::Split(..) => split(mesh, names, p, q),
-        _ => rearrange(mesh, change, p, q),
-    }
-}
-
-fn rearrange<P: PtrKey, A: ChainArenaTrait<P, u32> + Drop>(
-    mesh: &mut Mesh<P, u32, A>,
-    change: Change,
-    p: P,
-    q: P,
-) -> bool {
-    match change {
-        Change::Cut(..) => mesh.cut(p, q).is_some(),
-        Change::Merge(..) => mesh.merge(p, q).is_some(),
-        _ => mesh.remove(p).is_some(),
-    }
-}
-
-// Returns the points from a corner on, once around.
-fn points_around<P: PtrKey, A: ChainArenaTrait<P, u32> + Drop>(
-    mesh: &Mesh<P, u32, A>,
-    from: P,
 ) -> u32 {
-    let mut all = 0;
-    let mut at = from;
-    for _ in 0..8 {
-        all = with_digit(all, mesh.get(at).copied().unwrap_or(0));
-        at = mesh.next(at).unwrap_or(from);
-        if at.is_same(from) {
-            return all;
-        }
-    }
-    all
-}
-
-// Returns the point of each corner with the number of the next one.
-fn contents<P: PtrKey, A: ChainArenaTrait<P, u32> + Drop>(
-    mesh: &Mesh<P, u32, A>,
-    names: &[P],
-) -> u128 {
-    let mut all = 0;
-    for p in names {
-        let point = mesh.get(*p).copied().unwrap_or(0);
-        all = with_pair(all, point, number(names, mesh.next(*p)));
-    }
-    all
-}
-
-// Makes a change, again if it is not done, and returns whether it is done then. Returns `None` if a
-// change that is not done changes something.
-fn made<P: PtrKey, A: ChainArenaTrait<P, u32> + Drop>(
-    mesh: &mut Mesh<P, u32, A>,
-    names: &mut Vec<P>,
-    change: Change,
-) -> Option<bool> {
-    let before = contents(mesh, names);
-    if apply_change(mesh, names, change) {
-        return Some(true);
-    }
-    if contents(mesh, names) == before {
-        Some(apply_change(mesh, names, change))
-    } else {
-        None
+    match mesh.split(p, q) {
+        Ok(Some((c, d))) => c.number().wrapping_mul(256).wrapping_add(d.number()),
+        Ok(None) => 1,
+        Err(_) => 0,
     }
 }
 
-fn holds<P: PtrKey, A: ChainArenaTrait<P, u32> + Drop>(
-    mesh: &mut Mesh<P, u32, A>,
-    names: &mut Vec<P>,
+// Makes a call, and returns what it yields.
+fn change<P: Named, A: ChainArenaTrait<P, u32> + Drop>(
+    mesh: &mut Polygons<P, A>,
     row: &Row,
-) -> bool {
-    let (change, done, n, points) = *row;
-    let is_done = made(mesh, names, change);
-    mesh.all_in_polygons();
-    is_done == Some(done) && points_around(mesh, name(names, n)) == points
-}
-
-// Splits beside a hole. Returns whether each row holds, and the indexes of the copies.
-pub(super) fn split_beside_a_hole<P: PtrKey, A: ChainArenaTrait<P, u32> + Drop>(
-    alloc: Global,
-) -> (bool, [Option<usize>; 2]) {
-    let mut mesh = Mesh::<P, u32, A>::new(alloc);
-    let mut names = names_of(alloc);
-    let mut hold = true;
-    for row in &BESIDE_A_HOLE {
-        hold = hold && holds(&mut mesh, &mut names, row);
+) -> u32 {
+    let (op, n, m, _, _, _) = *row;
+    let (p, q) = (P::at(n), P::at(m));
+    match op {
+        Op::Start => number_of(mesh.start(m).ok()),
+        Op::After => number_of(mesh.insert_after(p, m).ok()),
+        Op::Split => split(mesh, p, q),
+        Op::Cut => done(mesh.cut(p, q)),
+        Op::Merge => done(mesh.merge(p, q)),
+        Op::Remove => removed(mesh.remove(p)),
+        Op::Reserve => flag(is_reserved(mesh.reserve(3)) && mesh.capacity() >= 3),
+        Op::StartWithin => {
+            let capacity = mesh.capacity();
+            let started = number_of(mesh.start(m).ok());
+            if mesh.capacity() == capacity {
+                started
+            } else {
+                0
+            }
+        }
+        Op::Count => count(mesh.len()),
+        Op::IsNew => flag(mesh.is_empty() && mesh.capacity() == 0),
     }
-    let (first, second) = (name(&names, 5), name(&names, 6));
-    (
-        hold,
-        [first.inx().try_into_usize(), second.inx().try_into_usize()],
-    )
 }
 
-pub(super) fn first_difference<P: PtrKey, A: ChainArenaTrait<P, u32> + Drop>(
-    alloc: Global,
-) -> Differing {
-    let mut mesh = Mesh::<P, u32, A>::new(alloc);
-    let mut names = names_of(alloc);
-    for (place, row) in ROWS.iter().enumerate() {
-        if !holds(&mut mesh, &mut names, row) {
+// Returns the first row that does not hold: a call yields its number, at least on a second attempt,
+// and then the corners are as they should be. So a refusal changes nothing.
+fn first_wrong<P: Named, A: ChainArenaTrait<P, u32> + Drop>(alloc: Global, rows: &[Row]) -> Wrong {
+    let mut mesh = Polygons::<P, A>::new(alloc);
+    for (place, row) in rows.iter().enumerate() {
+        let is_done = change(&mut mesh, row) == row.3 || change(&mut mesh, row) == row.3;
+        if !is_done || contents(&mesh, &CORNERS) != row.4 || contents(&mesh, &OTHERS) != row.5 {
             return Some(place);
         }
     }
+    mesh.all_in_polygons();
     None
 }
 
-// Returns whether a split at one corner returns `Ok(None)` and changes nothing.
-fn one_corner_is_not_split<P: PtrKey, A: ChainArenaTrait<P, u32> + Drop>(alloc: Global) -> bool {
-    let mut mesh = Mesh::<P, u32, A>::new(alloc);
-    let Ok(p) = mesh.start(1) else {
-        return false;
-    };
-    let is_refused = matches!(mesh.split(p, p), Ok(None));
-    is_refused && mesh.len() == 1 && points_around(&mesh, p) == 1
-}
-
-fn has_size<P: PtrKey, A: ChainArenaTrait<P, u32> + Drop>(
-    mesh: &Mesh<P, u32, A>,
-    len: usize,
-    capacity: usize,
-) -> bool {
-    mesh.len() == len && mesh.is_empty() == (len == 0) && mesh.capacity() == capacity
-}
-
-// Returns whether a new mesh is empty, capacity for three corners is reserved and reported, and a
-// corner is added within it.
-fn capacity_is_reserved<P: PtrKey, A: ChainArenaTrait<P, u32> + Drop>(alloc: Global) -> [bool; 5] {
-    let mut mesh = Mesh::<P, u32, A>::new(alloc);
-    let is_empty = has_size(&mesh, 0, 0);
-    let is_reserved = mesh.reserve(3).is_ok();
-    let capacity = mesh.capacity();
-    let is_started = mesh.start(1).is_ok();
-    let is_kept = has_size(&mesh, 1, capacity);
-    [is_empty, is_reserved, capacity >= 3, is_started, is_kept]
-}
-
-pub(super) fn check_small_mesh<P: PtrKey, A: ChainArenaTrait<P, u32> + Drop>(
-    rt: &impl Abort,
+pub(super) fn wrong<P: Named, A: ChainArenaTrait<P, u32> + Drop>(
     alloc: Global,
-) {
-    let is_kept = one_corner_is_not_split::<P, A>(alloc);
-    same(rt, "a split at one corner", is_kept, true);
-    let reserved = capacity_is_reserved::<P, A>(alloc);
-    same(rt, "capacity", reserved, [true; 5]);
+    refuses: bool,
+) -> [Wrong; 3] {
+    if refuses {
+        return [first_wrong::<P, A>(alloc, &REFUSED), None, None];
+    }
+    [
+        first_wrong::<P, A>(alloc, &ROWS),
+        first_wrong::<P, A>(alloc, &BESIDE_A_HOLE),
+        first_wrong::<P, A>(alloc, &ONE_CORNER),
+    ]
 }

@@ -1,90 +1,115 @@
 //! Tests of a run queue: five tasks in turn, with cancellations.
 
-use super::{Differing, name, names_of, note, number, with_digit, with_pair};
-use arena_ptr::PtrKey;
-use chain_arena::ChainArenaTrait;
+use super::no_memory::NoMemory;
+use super::{
+    Named, Wrong, count, flag, is_reserved, number_of, removed, size, value_of, with_digit,
+};
 use chain_examples::RunQueue;
+use chain_traits::ChainArenaTrait;
 use std::alloc::Global;
 use std::mem;
 
-// A call on a queue, which yields a number. Tasks are numbered in the order of their insertion.
+type Queue<P, A> = RunQueue<P, u32, A>;
+
+// A call on a queue.
 #[derive(Clone, Copy)]
-enum Operation {
-    // The new task's number, or 0 if it is refused.
-    Spawn(u32),
-    // The number of the current task, after a step or now.
+enum Op {
+    // The new task's pointer, or 0 if it is refused.
+    Spawn,
+    // The current task's pointer, after a step or now.
     Next,
     Current,
+    // The tasks that become current in this many steps.
+    Turns,
     // The canceled task, or 0 if there is none.
-    Cancel(usize),
+    Cancel,
     // The task, which `Write` replaces, or 0 if there is none.
-    Read(usize),
-    Write(usize, u32),
-    // 1 if the queue has, or gets, capacity for this many more tasks.
-    Reserve(usize),
+    Read,
+    Write,
+    // 1 if the queue has, or gets, capacity for this many more tasks, or for the greatest number.
+    Reserve,
+    ReserveAll,
     // The number of tasks; 1 if there are none; 1 if the capacity suffices for them, without a
     // maximum.
     Count,
     IsEmpty,
     HasCapacity,
-    // All tasks left, in turn.
+    // The capacity.
+    Capacity,
+    // All tasks left, in turn; 1 if there is no memory for them.
     Drain,
+    DrainRefused,
 }
+
+// A call, a pointer or a number, a task, what the call yields, and then the tasks in turn, from the
+// one after the current one on.
+type Row = (Op, u32, u32, u32, u32);
 
 // The first task is current. The third is canceled while another is current, and the fifth while it
 // is itself.
-const ROWS: [(Operation, u32); 35] = [
-    (Operation::Next, 0),
-    (Operation::IsEmpty, 1),
-    (Operation::Reserve(3), 1),
-    (Operation::Reserve(usize::MAX), 0),
-    (Operation::Spawn(4), 1),
-    (Operation::Spawn(5), 2),
-    (Operation::Spawn(6), 3),
-    (Operation::Spawn(7), 4),
-    (Operation::Spawn(8), 5),
-    (Operation::Current, 1),
-    (Operation::Next, 2),
-    (Operation::Next, 3),
-    (Operation::Next, 4),
-    (Operation::Next, 5),
-    (Operation::Next, 1),
-    (Operation::Cancel(3), 6),
-    (Operation::Cancel(3), 0),
-    (Operation::Next, 2),
-    (Operation::Next, 4),
-    (Operation::Next, 5),
-    (Operation::Cancel(5), 8),
-    (Operation::Current, 1),
-    (Operation::Count, 3),
-    (Operation::IsEmpty, 0),
-    (Operation::HasCapacity, 1),
-    (Operation::Read(2), 5),
-    (Operation::Read(3), 0),
-    (Operation::Write(2, 9), 5),
-    (Operation::Write(3, 9), 0),
-    (Operation::Read(2), 9),
-    (Operation::Reserve(7), 1),
-    (Operation::Next, 2),
-    (Operation::Drain, 974),
-    (Operation::Count, 0),
-    (Operation::IsEmpty, 1),
+const ROWS: [Row; 31] = [
+    (Op::Next, 0, 0, 0, 0),
+    (Op::IsEmpty, 0, 0, 1, 0),
+    (Op::Reserve, 3, 0, 1, 0),
+    (Op::ReserveAll, 0, 0, 0, 0),
+    (Op::Spawn, 0, 4, 0x12, 4),
+    (Op::Spawn, 0, 5, 0x22, 54),
+    (Op::Spawn, 0, 6, 0x32, 564),
+    (Op::Spawn, 0, 7, 0x42, 5674),
+    (Op::Spawn, 0, 8, 0x52, 56784),
+    (Op::Current, 0, 0, 0x12, 56784),
+    (Op::Next, 0, 0, 0x22, 67845),
+    (Op::Turns, 4, 0, 6784, 56784),
+    (Op::Cancel, 0x32, 0, 6, 5784),
+    (Op::Cancel, 0x32, 0, 0, 5784),
+    (Op::Turns, 3, 0, 578, 4578),
+    (Op::Cancel, 0x52, 0, 8, 574),
+    (Op::Current, 0, 0, 0x12, 574),
+    (Op::Count, 0, 0, 3, 574),
+    (Op::IsEmpty, 0, 0, 0, 574),
+    (Op::HasCapacity, 0, 0, 1, 574),
+    (Op::Read, 0x22, 0, 5, 574),
+    (Op::Read, 0x32, 0, 0, 574),
+    (Op::Write, 0x22, 9, 5, 974),
+    (Op::Write, 0x32, 9, 0, 974),
+    (Op::Read, 0x22, 0, 9, 974),
+    (Op::Reserve, 7, 0, 1, 974),
+    (Op::Next, 0, 0, 0x22, 749),
+    (Op::DrainRefused, 0, 0, 1, 749),
+    (Op::Drain, 0, 0, 974, 0),
+    (Op::Count, 0, 0, 0, 0),
+    (Op::IsEmpty, 0, 0, 1, 0),
 ];
 
-fn spawn<P: PtrKey, A: ChainArenaTrait<P, u32> + Drop>(
-    queue: &mut RunQueue<P, u32, A>,
-    names: &mut Vec<P>,
-    task: u32,
+// The calls that are refused where each growth is refused once.
+const REFUSED: [Row; 7] = [
+    (Op::Spawn, 0, 4, 0, 0),
+    (Op::Capacity, 0, 0, 0, 0),
+    (Op::Spawn, 0, 4, 0x12, 4),
+    (Op::Capacity, 0, 0, 1, 4),
+    (Op::Reserve, 3, 0, 0, 4),
+    (Op::Capacity, 0, 0, 1, 4),
+    (Op::Reserve, 3, 0, 1, 4),
+];
+
+// Makes steps, and returns the tasks that become current.
+fn turns<P: Named, A: ChainArenaTrait<P, u32> + Drop>(
+    queue: &mut Queue<P, A>,
+    steps: usize,
 ) -> u32 {
-    let came = queue.spawn(task).ok();
-    note(names, came);
-    number(names, came)
+    let mut all = 0;
+    for _ in 0..steps {
+        if let Some(p) = queue.next() {
+            all = with_digit(all, value_of(queue.get(p)));
+        }
+    }
+    all
 }
 
 // Returns the tasks left, in turn, or 0 if there are none or no memory for them.
-fn drain<P: PtrKey, A: ChainArenaTrait<P, u32> + Drop>(
+fn drain<P: Named, A: ChainArenaTrait<P, u32> + Drop>(
     alloc: Global,
-    queue: &mut RunQueue<P, u32, A>,
+    queue: &mut Queue<P, A>,
 ) -> u32 {
     let mut all = 0;
     if let Ok(tasks) = queue.drain_all(alloc) {
@@ -96,8 +121,8 @@ fn drain<P: PtrKey, A: ChainArenaTrait<P, u32> + Drop>(
 }
 
 // Replaces a task and returns the old one, or 0 if there is none.
-fn write<P: PtrKey, A: ChainArenaTrait<P, u32> + Drop>(
-    queue: &mut RunQueue<P, u32, A>,
+fn write<P: Named, A: ChainArenaTrait<P, u32> + Drop>(
+    queue: &mut Queue<P, A>,
     p: P,
     task: u32,
 ) -> u32 {
@@ -107,84 +132,55 @@ fn write<P: PtrKey, A: ChainArenaTrait<P, u32> + Drop>(
     }
 }
 
-fn reserve<P: PtrKey, A: ChainArenaTrait<P, u32> + Drop>(
-    queue: &mut RunQueue<P, u32, A>,
-    n: usize,
-) -> u32 {
-    let is_done = queue.reserve(n).is_ok();
-    u32::from(is_done && queue.capacity() - queue.len() >= n)
-}
-
-fn done<P: PtrKey, A: ChainArenaTrait<P, u32> + Drop>(
+fn change<P: Named, A: ChainArenaTrait<P, u32> + Drop>(
     alloc: Global,
-    queue: &mut RunQueue<P, u32, A>,
-    names: &mut Vec<P>,
-    operation: Operation,
+    queue: &mut Queue<P, A>,
+    row: &Row,
 ) -> u32 {
-    match operation {
-        Operation::Spawn(task) => spawn(queue, names, task),
-        Operation::Next => number(names, queue.next()),
-        Operation::Cancel(n) => queue.cancel(name(names, n)).unwrap_or(0),
-        Operation::Write(n, task) => write(queue, name(names, n), task),
-        Operation::Reserve(n) => reserve(queue, n),
-        Operation::Drain => drain(alloc, queue),
-        lookup => lookups_agree(queue, names, lookup),
-    }
-}
-
-fn lookups_agree<P: PtrKey, A: ChainArenaTrait<P, u32> + Drop>(
-    queue: &RunQueue<P, u32, A>,
-    names: &[P],
-    operation: Operation,
-) -> u32 {
-    match operation {
-        Operation::Current => number(names, queue.current()),
-        Operation::Read(n) => queue.get(name(names, n)).copied().unwrap_or(0),
-        Operation::IsEmpty => u32::from(queue.is_empty()),
-        Operation::HasCapacity => {
-            u32::from(queue.capacity() >= queue.len() && queue.max_capacity().is_none())
+    let (op, n, task, _, _) = *row;
+    let (p, n) = (P::at(n), size(n));
+    match op {
+        Op::Spawn => number_of(queue.spawn(task).ok()),
+        Op::Next => number_of(queue.next()),
+        Op::Turns => turns(queue, n),
+        Op::Cancel => removed(queue.cancel(p)),
+        Op::Write => write(queue, p, task),
+        Op::Reserve => {
+            flag(is_reserved(queue.reserve(n)) && queue.capacity() - queue.len() >= n)
         }
-        _ => u32::try_from(queue.len()).unwrap_or(u32::MAX),
+        Op::ReserveAll => flag(is_reserved(queue.reserve(usize::MAX))),
+        Op::Drain => drain(alloc, queue),
+        Op::DrainRefused => flag(queue.drain_all(NoMemory).is_err()),
+        _ => look_up(queue, op, p),
     }
 }
 
-// Returns the tasks in turn, their number, and the capacity. After one round the current task is
-// current again.
-fn contents<P: PtrKey, A: ChainArenaTrait<P, u32> + Drop>(
-    queue: &mut RunQueue<P, u32, A>,
-    names: &[P],
-) -> (u128, usize, usize) {
-    let count = queue.len();
-    let mut all = 0;
-    for _ in 0..count {
-        all = with_pair(all, 0, number(names, queue.next()));
+fn look_up<P: Named, A: ChainArenaTrait<P, u32> + Drop>(queue: &Queue<P, A>, op: Op, p: P) -> u32 {
+    match op {
+        Op::Current => number_of(queue.current()),
+        Op::Read => value_of(queue.get(p)),
+        Op::IsEmpty => flag(queue.is_empty()),
+        Op::HasCapacity => {
+            flag(queue.capacity() >= queue.len() && queue.max_capacity().is_none())
+        }
+        Op::Capacity => count(queue.capacity()),
+        _ => count(queue.len()),
     }
-    (all, count, queue.capacity())
 }
 
-// Returns whether a call yields its number, at least on a second attempt. A refusal changes
-// nothing.
-fn holds<P: PtrKey, A: ChainArenaTrait<P, u32> + Drop>(
+// Returns the first row that does not hold: a call yields its number, at least on a second attempt,
+// and then the tasks are as they should be. So a refusal changes nothing.
+pub(super) fn wrong<P: Named, A: ChainArenaTrait<P, u32> + Drop>(
     alloc: Global,
-    queue: &mut RunQueue<P, u32, A>,
-    names: &mut Vec<P>,
-    row: &(Operation, u32),
-) -> bool {
-    let (operation, want) = *row;
-    let before = contents(queue, names);
-    if done(alloc, queue, names, operation) == want {
-        return true;
-    }
-    contents(queue, names) == before && done(alloc, queue, names, operation) == want
-}
-
-pub(super) fn first_difference<P: PtrKey, A: ChainArenaTrait<P, u32> + Drop>(
-    alloc: Global,
-) -> Differing {
-    let mut queue = RunQueue::<P, u32, A>::new(alloc);
-    let mut names = names_of(alloc);
-    for (place, row) in ROWS.iter().enumerate() {
-        if !holds(alloc, &mut queue, &mut names, row) {
+    refuses: bool,
+) -> Wrong {
+    let mut queue = Queue::<P, A>::new(alloc);
+    let rows: &[Row] = if refuses { &REFUSED } else { &ROWS };
+    for (place, row) in rows.iter().enumerate() {
+        let is_done = change(alloc, &mut queue, row) == row.3
+            || change(alloc, &mut queue, row) == row.3;
+        let count = queue.len();
+        if !is_done || turns(&mut queue, count) != row.4 {
             return Some(place);
         }
     }

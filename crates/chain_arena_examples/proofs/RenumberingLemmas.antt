@@ -18,12 +18,12 @@ use Rattle.chain_links.proofs.MappedArenaLemmas.{length-with_each}
 use Rattle.chain_compaction.specs.Layouts.{AreAllMoves}
 use Rattle.chain_compaction.specs.PointerMoves.{ArePointerMoves}
 use Rattle.chain_arena.proofs.PointerTransferLemmas.{arena_moves_pointers}
-use Rattle.chain_examples.specs.Renumbering.{Move, IsRenumbered}
-use Rattle.chain_examples.specs.MoveTables.{with_moves, new_pointer_of}
-use Rattle.chain_examples.proofs.MoveTableLemmas.{HasPlaces, noted_table}
-use Rattle.chain_examples.proofs.PointerPairLemmas.{keys_of}
-use Rattle.chain_examples.proofs.BookmarkLemmas.{all_followed}
-use Rattle.chain_examples.proofs.DocumentRenamingLemmas.{moves_follow, moves_end_at, texts_move}
+use Rattle.chain_arena_examples.specs.Renumbering.{Move, IsRenumbered}
+use Rattle.chain_arena_examples.specs.MoveTables.{with_moves, new_pointer_of}
+use Rattle.chain_arena_examples.proofs.MoveTableLemmas.{HasPlaces, noted_table}
+use Rattle.chain_arena_examples.proofs.PointerPairLemmas.{keys_of}
+use Rattle.chain_arena_examples.proofs.BookmarkLemmas.{all_followed}
+use Rattle.chain_arena_examples.proofs.DocumentRenamingLemmas.{moves_follow, moves_end_at, texts_move}
 
 abbrev no_neighbors : Interlinks
 no_neighbors = record { prev = None; next = None }

@@ -1,8 +1,8 @@
 -- One more move is written.
 use Rattle.std.proofs.Common.{◌∙◌, ap, Some}
 use Rattle.std.specs.Prelude.{slice_set}
-use Rattle.chain_examples.proofs.MoveTableLemmas.{note_more}
-use Rattle.chain_examples.proofs.bookmarks.fill_table.Goals as goal
+use Rattle.chain_arena_examples.proofs.MoveTableLemmas.{note_more}
+use Rattle.chain_arena_examples.proofs.bookmarks.fill_table.Goals as goal
 
 pub loop-from-preserved : goal.loop-from-preserved
 loop-from-preserved g c =

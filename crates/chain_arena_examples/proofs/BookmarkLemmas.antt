@@ -2,11 +2,11 @@
 use Rattle.std.proofs.Common.{◌≡◌, ◌↔◌, ℕ, Bool, true, false, if◌then◌else◌, List, [], ◌∷◌, map, Contains, Option, None, Some, option_map, option_and_then, refl, sym, ◌∙◌, subst}
 use Rattle.arena_base.specs.Arena.{slot_at, IsValid}
 use Rattle.chain_compaction.specs.PointerMoves.{ArePointerMoves}
-use Rattle.chain_examples.specs.Renumbering.{IsFollowed, AreFollowed}
-use Rattle.chain_examples.specs.MoveTables.{target_from, new_pointer_of}
-use Rattle.chain_examples.proofs.MappedListLemmas.{map_has, map_has_of}
-use Rattle.chain_examples.proofs.PointerPairLemmas.{keys_of, move_keeps}
-use Rattle.chain_examples.proofs.MoveTableLemmas.{IsTable}
+use Rattle.chain_arena_examples.specs.Renumbering.{IsFollowed, AreFollowed}
+use Rattle.chain_arena_examples.specs.MoveTables.{target_from, new_pointer_of}
+use Rattle.chain_arena_examples.proofs.MappedListLemmas.{map_has, map_has_of}
+use Rattle.chain_arena_examples.proofs.PointerPairLemmas.{keys_of, move_keeps}
+use Rattle.chain_arena_examples.proofs.MoveTableLemmas.{IsTable}
 
 module _ {P Gen T : Type 0} (key : P → ℕ × Gen) (eq : P → P → Bool) (same_key : (p q : P) → key p ≡ key q → p ≡ q) (eq_is_same : (p q : P) → (eq p q ≡ true) ↔ (p ≡ q))
     (before after : ℕ → Option (Gen × T)) (moves : List (P × P)) (moved : ArePointerMoves key before after moves) (table : List (Option (P × P))) (noted : IsTable key moves table) where

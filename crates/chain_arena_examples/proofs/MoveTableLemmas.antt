@@ -11,7 +11,7 @@ use Rattle.std.specs.Prelude.{slice_set}
 use Rattle.arena_base.specs.Arena.{slot_at, with_slot}
 use Rattle.arena_base.proofs.SlotLemmas.{length-with_slot}
 use Rattle.chain_links.proofs.ArenaInsertionLemmas.{slot_at-written}
-use Rattle.chain_examples.specs.MoveTables.{with_move, with_moves}
+use Rattle.chain_arena_examples.specs.MoveTables.{with_move, with_moves}
 
 -- An empty table has no moves.
 none_stored : {X : Type 0} (n i : ℕ) → ◌≡◌ {A = Option X} (slot_at (replicate n None) i) None

@@ -4,8 +4,8 @@ ghost use Rattle.std.specs.Prelude.{◌≡◌, ◌≤◌, ◌+◌, length, repli
 ghost use Rattle.std.specs.Option.{option_map, option_and_then};
 ghost use Rattle.chain_links.specs.ChainArena.{entry, value_view, link_map};
 ghost use Rattle.chain_links.specs.CanonicalLayouts.{IsCanonicalLayout};
-ghost use Rattle.chain_examples.specs.Renumbering.{IsRenumbered};
-ghost use Rattle.chain_examples.specs.MoveTables.{with_moves, new_pointer_of};
+ghost use Rattle.chain_arena_examples.specs.Renumbering.{IsRenumbered};
+ghost use Rattle.chain_arena_examples.specs.MoveTables.{with_moves, new_pointer_of};
 
 use arena_base::{ArenaSlot, ArenaTrait};
 use arena_ptr::{InxKey, PtrKey, SlotStack};

@@ -8,7 +8,7 @@ use Rattle.arena_ptr.specs.ToolPtr.{key_of}
 use Rattle.chain_links.specs.ChainArena.{entry, link_map}
 use Rattle.chain_linking.specs.ChainArenaLaws.{links_exist}
 use Rattle.chain_traits.proofs.NeighborPointerLemmas.{was_read, none_read}
-use Rattle.chain_examples.proofs.named_type.pointer_after.Goals as goal
+use Rattle.chain_arena_examples.proofs.named_type.pointer_after.Goals as goal
 
 pub returns-in-Some-clause-some : goal.returns-in-Some-clause-some
 returns-in-Some-clause-some c =

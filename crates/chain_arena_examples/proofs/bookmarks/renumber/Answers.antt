@@ -1,9 +1,9 @@
 -- The table has an entry for each slot, and holds the moves of the compression.
 use Rattle.std.proofs.Common.{◌≡◌, length, None, ap, ◌∙◌}
 use Rattle.std.proofs.lemmas.List.{length-replicate}
-use Rattle.chain_examples.proofs.MappedListLemmas.{length_twice}
-use Rattle.chain_examples.proofs.RenumberingLemmas.{fits, renumbered}
-use Rattle.chain_examples.proofs.bookmarks.renumber.Goals as goal
+use Rattle.chain_arena_examples.proofs.MappedListLemmas.{length_twice}
+use Rattle.chain_arena_examples.proofs.RenumberingLemmas.{fits, renumbered}
+use Rattle.chain_arena_examples.proofs.bookmarks.renumber.Goals as goal
 
 pub fill_table-requires : goal.fill_table-requires
 fill_table-requires g c =

@@ -9,9 +9,9 @@ use Rattle.chain_laws.proofs.RenamingLemmas.Chains.{renaming_carries_chains}
 use Rattle.chain_links.specs.ChainArena.{ptr_at}
 use Rattle.chain_compaction.specs.PointerMoves.{ArePointerMoves}
 use Rattle.chain_examples.specs.Lists.{Item, AreEntries, indexes, IsText}
-use Rattle.chain_examples.specs.Renumbering.{Move, AreMovedTo}
-use Rattle.chain_examples.proofs.MappedListLemmas.{map_has_of}
-use Rattle.chain_examples.proofs.PointerPairLemmas.{move_keeps}
+use Rattle.chain_arena_examples.specs.Renumbering.{Move, AreMovedTo}
+use Rattle.chain_arena_examples.proofs.MappedListLemmas.{map_has_of}
+use Rattle.chain_arena_examples.proofs.PointerPairLemmas.{move_keeps}
 
 module _ {Gen T : Type 0} (entry : ℕ → Option (Gen × T)) (to : ℕ → Option ℕ) (g : Gen) where
   -- The pointer of the entry at an index has that index.

@@ -2,7 +2,7 @@
 use Rattle.std.proofs.Common.{ℕ, List, Contains, Option}
 use Rattle.std.proofs.lemmas.List.Elements.{All-contains}
 use Rattle.chain_compaction.specs.PointerMoves.{ArePointerMoves, IsPointerMove}
-use Rattle.chain_examples.specs.Renumbering.{Move}
+use Rattle.chain_arena_examples.specs.Renumbering.{Move}
 
 -- A move by its keys.
 abbrev pub keys_of : {P Gen : Type 0} → (P → ℕ × Gen) → P × P → Move Gen

@@ -1,0 +1,6 @@
+mod DocumentRenamingLemmas
+mod BookmarkLemmas
+mod MappedListLemmas
+mod PointerPairLemmas
+mod RenumberingLemmas
+mod MoveTableLemmas
