@@ -5,6 +5,7 @@ use arena_ptr::{
     ChainInsertionError, Gen32, InvalidationOption, InvalidationResult, ReallocationError, ToolPtr,
 };
 use chain_arena::{ChainArenaTrait, LinkInsertKind, LinkNoGen};
+use chain_examples::tutorial::{after, put_behind};
 use std::alloc::Global;
 use std::process::Abort;
 
@@ -172,6 +173,18 @@ fn compressions<A: ChainArenaTrait<ToolPtr, u32>>(arena: &mut A) -> [bool; 10] {
     ]
 }
 
+// Functions proved for any arena of links. The arena has the links 1 and 2 in a row.
+fn generic_code<A: ChainArenaTrait<ToolPtr, u32>>(arena: &mut A) -> [bool; 5] {
+    let failed = ChainInsertionError::FailedLinkRequirement;
+    [
+        put_behind(arena, at(1, 2), 3) == Ok(at(3, 2)),
+        put_behind(arena, at(1, 3), 3) == Err(failed),
+        after(arena, at(3, 2)) == Some(at(2, 2)),
+        after(arena, at(2, 2)).is_none() && after(arena, at(2, 3)).is_none(),
+        links_are(arena, &[(1, 2, 0, 3, 1), (2, 2, 3, 0, 2), (3, 2, 1, 2, 3)]),
+    ]
+}
+
 pub(super) fn check<A: ChainArenaTrait<ToolPtr, u32> + Drop>(rt: &impl Abort, alloc: Global) {
     let connected = connections(&mut linked::<A>(alloc, 4, &[]));
     same(rt, "connections", connected, [true; 11]);
@@ -180,6 +193,8 @@ pub(super) fn check<A: ChainArenaTrait<ToolPtr, u32> + Drop>(rt: &impl Abort, al
     same(rt, "removals", removed, [true; 11]);
     let inserted = insertions(&mut linked::<A>(alloc, 2, &[(1, 2)]));
     same(rt, "insertions", inserted, [true; 8]);
+    let generic = generic_code(&mut linked::<A>(alloc, 2, &[(1, 2)]));
+    same(rt, "generic code", generic, [true; 5]);
     let written = writes(&mut linked::<A>(alloc, 3, &[(1, 2), (2, 3)]));
     same(rt, "writes", written, [true; 5]);
     let mut arena: A = linked(alloc, 4, &[(2, 2), (3, 4)]);
