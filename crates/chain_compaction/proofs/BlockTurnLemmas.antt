@@ -155,9 +155,6 @@ touches_round count left rest few fewer = omega arith
 pub none_more : (left : ℕ) → 0 ≡ left - left
 none_more left = omega arith
 
-pub touches_end : (count left : ℕ) → left ≤ 0 → count - left ≡ count
-touches_end count left none = omega arith
-
 -- The number of positions in the list after one leaves it, and at the end.
 pub one_less_left : (left : ℕ) → 0 < left → (left - 1) + 1 ≡ left
 one_less_left left some = omega arith

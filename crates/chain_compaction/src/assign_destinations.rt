@@ -16,8 +16,8 @@ use arena_ptr::{InxKey, PtrKey, SlotStack};
 use chain_links::walk_direction::step_on;
 use chain_links::{LinkNoGen, link_access};
 
-// Returns where the chain of `i` is numbered from: its start if linear, `i` if cyclic. The walk back
-// reads at most as many slots as the chain has links.
+// Returns where the chain of `i` is numbered from: its start if linear, `i` if cyclic. The walk
+// back reads at most as many slots as the chain has links.
 //
 // With each step back, one link of the walk from `i` on is read, of at most `limit` in all: the two
 // walks wait for memory at the same time. Returns the number of these reads, too.

@@ -229,8 +229,8 @@ pub(crate) fn read_ahead<P: PtrKey, T: Drop, S: SlotStack<Item = ArenaSlot<P, Li
     }
 }
 
-/// Reads the link at `on`, if there is one and reads are `left`. Returns the index after it, and the
-/// number of links that were read.
+/// Reads the link at `on`, if there is one and reads are `left`. Returns the index after it, and
+/// the number of links that were read.
 #[inline(always)]
 pub(crate) fn read_on<P: PtrKey, T: Drop, S: SlotStack<Item = ArenaSlot<P, LinkNoGen<P, T>>>>(
     compactor: &mut Compactor<'_, P, LinkNoGen<P, T>, S>,

@@ -1,4 +1,4 @@
-//! Tests of `chain_arena`, `chain_traits` and `chain_links`.
+//! Tests of the calls that only a chain arena has.
 #![tactic(auto)]
 
 #[cfg(test)]

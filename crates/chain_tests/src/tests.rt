@@ -1,27 +1,18 @@
 mod alloc_failures;
-mod any_arena;
 mod canonical;
-mod changes;
 mod consistency;
 mod copies;
-mod limits;
-mod link_order;
-mod link_text;
 mod lists;
 mod own_calls;
-mod pointers;
-mod reads;
 mod recast;
-mod sizes;
 mod transfers;
 mod value_counts;
 mod value_maps;
-mod walks;
 
 use arena_base::{ArenaSlot, ArenaTrait};
 use arena_ptr::{
-    ChunkStack, Gen32, HeapStack, Inx32, InxKey, LimitStack, LimitedStack, PackedOption, Ptr,
-    SetMaxCapacity, SlotStack, ToolPtr,
+    ChunkStack, Gen32, HeapStack, Inx32, LimitStack, LimitedStack, Ptr, SetMaxCapacity, SlotStack,
+    ToolPtr,
 };
 use chain_arena::{ChainArena, ChainArenaTrait, LinkInsertKind, LinkNoGen};
 use std::alloc::Global;
@@ -30,9 +21,6 @@ use std::process::Abort;
 
 // A slot of a link of a number.
 type Slot = ArenaSlot<ToolPtr, LinkNoGen<ToolPtr, u32>>;
-
-// A slot of a link of a number, for any pointers.
-type SlotOf<P> = ArenaSlot<P, LinkNoGen<P, u32>>;
 
 // A chain arena over a stack. Generic over stacks, code costs its proof half as much.
 type ChainsOver<S> = ChainArena<ToolPtr, u32, S>;
@@ -95,39 +83,7 @@ fn with_link(all: u128, p: ToolPtr, link: &LinkNoGen<ToolPtr, u32>) -> u128 {
 
 // Inserts lone links, each with its index as its value, and connects each pair. A second attempt is
 // made if an allocation fails.
-fn linked<A: ChainArenaTrait<ToolPtr, u32> + Drop>(
-    alloc: Global,
-    count: u32,
-    pairs: &[(u32, u32)],
-) -> A {
-    let mut arena = A::new(alloc);
-    for k in 1..=count {
-        for _ in 0..2 {
-            if (arena.len() as u64) < u64::from(k) {
-                let _ = arena.insert_reallocating(LinkInsertKind::Disconnected, k);
-            }
-        }
-    }
-    for (i, j) in pairs {
-        arena.connect(at(*i, 2), at(*j, 2));
-    }
-    arena
-}
-
-// Returns whether an arena has exactly these links.
-fn links_are<A: ChainArenaTrait<ToolPtr, u32>>(arena: &A, rows: &[Row]) -> bool {
-    for (i, g, prev, next, t) in rows {
-        match arena.get_inx_link_no_gen(index(*i)) {
-            Some((found, link)) if found.get() == *g && parts_of(link) == (*prev, *next, *t) => {}
-            _ => return false,
-        }
-    }
-    arena.len() == rows.len()
-}
-
-// Returns lone links in a chain arena, of which each pair is connected, as `linked` does. To pass a
-// chain arena to code that is generic in the arena costs more than these two functions.
-fn linked_chains<S: SlotStack<Item = Slot>>(
+fn linked<S: SlotStack<Item = Slot>>(
     alloc: Global,
     count: u32,
     pairs: &[(u32, u32)],
@@ -146,8 +102,8 @@ fn linked_chains<S: SlotStack<Item = Slot>>(
     arena
 }
 
-// Returns whether a chain arena has exactly these links.
-fn chains_are<S: SlotStack<Item = Slot>>(arena: &ChainsOver<S>, rows: &[Row]) -> bool {
+// Returns whether an arena has exactly these links.
+fn links_are<S: SlotStack<Item = Slot>>(arena: &ChainsOver<S>, rows: &[Row]) -> bool {
     for (i, g, prev, next, t) in rows {
         match arena.get_inx_link_no_gen(index(*i)) {
             Some((found, link)) if found.get() == *g && parts_of(link) == (*prev, *next, *t) => {}
@@ -190,7 +146,7 @@ fn check_limited<S: LimitStack<Item = Slot>, R: LimitStack<Item = PlainSlot>>(
     rt: &impl Abort,
     alloc: Global,
 ) {
-    let mut arena: ChainsOver<S> = linked_chains(alloc, 2, &[]);
+    let mut arena: ChainsOver<S> = linked(alloc, 2, &[]);
     let limits = (
         arena.set_max_capacity(2).is_ok(),
         arena.set_max_capacity(1).is_ok(),

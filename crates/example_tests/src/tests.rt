@@ -173,8 +173,8 @@ fn results<P: Named, A: OwnCalls<P>>(alloc: Global, part: Part) -> Results {
     (own, forwarded, bookmarks, are_right)
 }
 
-// Runs a part at a chain arena. Only this body names it, since naming it is the cost. Over any stack
-// it costs less than over one.
+// Runs a part at a chain arena. Only this body names it, since naming it is the cost. Over any
+// stack it costs less than over one.
 fn check_examples<S: SlotStack<Item = Slot>>(rt: &impl Abort, alloc: Global, part: Part) {
     let results = results::<ToolPtr, ChainArena<ToolPtr, u32, S>>(alloc, part);
     same(rt, "results", results, RIGHT);

@@ -8,8 +8,8 @@ use super::canonical::moves_listed;
 use super::copies::{Plain, PlainSlot, copied_over, copied_plain, with_a_hole};
 use super::lists::two_calls_are_made;
 use super::own_calls::{Ends, entered, entered_if_allowed};
-use super::transfers::carried_chains;
-use super::{ChainsOver, Slot, at, linked_chains, same};
+use super::transfers::carried;
+use super::{ChainsOver, Slot, at, linked, same};
 use arena_base::{ArenaSlot, ArenaTrait};
 use arena_ptr::{
     ChainInsertionError, ChunkStack, HeapStack, InvalidationOption, InxKey, LimitedStack,
@@ -65,7 +65,7 @@ fn begun<S: SlotStack<Item = Slot>>(alloc: Global, begin: Begin) -> ChainsOver<S
     match begin {
         Begin::Full => full(alloc),
         Begin::Holes => {
-            let mut arena: ChainsOver<S> = linked_chains(alloc, 8, &[(1, 4), (4, 6), (7, 7)]);
+            let mut arena: ChainsOver<S> = linked(alloc, 8, &[(1, 4), (4, 6), (7, 7)]);
             for i in [2, 5, 3] {
                 arena.remove(at(i, 2));
             }
@@ -76,7 +76,7 @@ fn begun<S: SlotStack<Item = Slot>>(alloc: Global, begin: Begin) -> ChainsOver<S
 }
 
 fn full<S: SlotStack<Item = Slot>>(alloc: Global) -> ChainsOver<S> {
-    let mut arena: ChainsOver<S> = linked_chains(alloc, 2, &[(1, 2)]);
+    let mut arena: ChainsOver<S> = linked(alloc, 2, &[(1, 2)]);
     for t in 3..=64 {
         let _ = arena.insert_within_capacity(LinkInsertKind::NextTo(at(2, 2)), t);
     }
@@ -84,9 +84,9 @@ fn full<S: SlotStack<Item = Slot>>(alloc: Global) -> ChainsOver<S> {
 }
 
 fn carry_is_done<S: SlotStack<Item = Slot>>(alloc: Global, target: &mut ChainsOver<S>) -> bool {
-    let mut source: ChainsOver<S> = linked_chains(alloc, 70, &[(3, 1)]);
+    let mut source: ChainsOver<S> = linked(alloc, 70, &[(3, 1)]);
     let before = state(alloc, &source);
-    let (outcome, _) = carried_chains(&mut source, 7, target, None);
+    let (outcome, _) = carried(&mut source, 7, target, None);
     outcome.is_ok() || state(alloc, &source) != before
 }
 
@@ -184,7 +184,7 @@ fn without_growth<S: SlotStack<Item = Slot>>(
         arena.remove(at(1, 2)).allow().is_some(),
         arena.insert_reallocating(lone, 7).is_ok(),
         arena.clear() == InvalidationOption::Success(()),
-        carried_chains(&mut linked_chains::<S>(alloc, 2, &[]), 7, arena, None)
+        carried(&mut linked::<S>(alloc, 2, &[]), 7, arena, None)
             .0
             .is_ok(),
     ]

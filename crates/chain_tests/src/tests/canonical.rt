@@ -1,6 +1,6 @@
 //! Tests of canonical compressions, which arrange chains in place one after another.
 
-use super::{ChainsOver, Slot, at, chains_are, generation, linked_chains, same, with_digit};
+use super::{ChainsOver, Slot, at, generation, linked, links_are, same, with_digit};
 use arena_base::{ArenaTrait, Work};
 use arena_ptr::{InvalidationOption, PtrKey, SlotStack, ToolPtr};
 use chain_arena::{ChainArenaTrait, LinkInsertKind, Visitor};
@@ -10,13 +10,13 @@ use std::process::Abort;
 const DONE: InvalidationOption<()> = InvalidationOption::Success(());
 
 // Appends index and generation of a pointer.
-fn with_pointer(all: u128, p: ToolPtr) -> u128 {
+pub(super) fn with_pointer(all: u128, p: ToolPtr) -> u128 {
     with_digit(with_digit(all, p.inx().get()), p.generation().get())
 }
 
 // Returns a chain of 2, 4 and 1, of which 1 was inserted last, and a lone link 3.
 pub(super) fn scattered<S: SlotStack<Item = Slot>>(alloc: Global) -> ChainsOver<S> {
-    let mut arena: ChainsOver<S> = linked_chains(alloc, 4, &[(1, 3), (2, 4)]);
+    let mut arena: ChainsOver<S> = linked(alloc, 4, &[(1, 3), (2, 4)]);
     arena.remove(at(1, 2));
     let _ = arena.insert_within_capacity(LinkInsertKind::ChainEnd(at(4, 2)), 5);
     arena
@@ -24,12 +24,12 @@ pub(super) fn scattered<S: SlotStack<Item = Slot>>(alloc: Global) -> ChainsOver<
 
 // Returns a chain of 1 and 4, and a ring of 2 and 3.
 pub(super) fn interleaved<S: SlotStack<Item = Slot>>(alloc: Global) -> ChainsOver<S> {
-    linked_chains(alloc, 4, &[(1, 4), (2, 3), (3, 2)])
+    linked(alloc, 4, &[(1, 4), (2, 3), (3, 2)])
 }
 
 // Returns two lone links behind four free slots.
 pub(super) fn behind_holes<S: SlotStack<Item = Slot>>(alloc: Global) -> ChainsOver<S> {
-    let mut arena: ChainsOver<S> = linked_chains(alloc, 6, &[]);
+    let mut arena: ChainsOver<S> = linked(alloc, 6, &[]);
     for i in 1..5 {
         arena.remove(at(i, 2));
     }
@@ -102,7 +102,7 @@ fn layouts<S: SlotStack<Item = Slot>>(alloc: Global) -> [bool; 7] {
     let mut holes: ChainsOver<S> = behind_holes(alloc);
     [
         placed(&mut arena) == (DONE, 4),
-        chains_are(
+        links_are(
             &arena,
             &[
                 (1, 4, 0, 2, 2),
@@ -113,7 +113,7 @@ fn layouts<S: SlotStack<Item = Slot>>(alloc: Global) -> [bool; 7] {
         ),
         arena.generation() == generation(4),
         placed(&mut holes) == (DONE, 2),
-        chains_are(&holes, &[(1, 7, 0, 0, 5), (2, 7, 0, 0, 6)]),
+        links_are(&holes, &[(1, 7, 0, 0, 5), (2, 7, 0, 0, 6)]),
         placed(&mut holes) == (DONE, 2),
         holes.generation() == generation(8),
     ]
@@ -126,7 +126,7 @@ fn moves<S: SlotStack<Item = Slot>>(alloc: Global) -> [bool; 7] {
         moves_listed(alloc, &mut scattered::<S>(alloc)) == Some((DONE, 2214_4224_1334_3244)),
         moves_visited(&mut interleaved::<S>(alloc)) == (DONE, 1213_4223_2233_3243),
         moves_listed(alloc, &mut interleaved::<S>(alloc)) == Some((DONE, 1213_4223_2233_3243)),
-        moves_visited(&mut linked_chains::<S>(alloc, 3, &by_least)) == (DONE, 3213_1223_2233),
+        moves_visited(&mut linked::<S>(alloc, 3, &by_least)) == (DONE, 3213_1223_2233),
         last_kept(&mut behind_holes::<S>(alloc)) == (2, Some((at(6, 2), at(2, 7))), 2),
         last_kept(&mut ChainsOver::<S>::new(alloc)) == (0, None, 0),
     ]
@@ -135,7 +135,7 @@ fn moves<S: SlotStack<Item = Slot>>(alloc: Global) -> [bool; 7] {
 // Compresses lone links behind as many free slots. Returns whether the work is within its bound and
 // places each link once.
 fn is_within_bound<S: SlotStack<Item = Slot>>(alloc: Global, count: u32, reset: bool) -> bool {
-    let mut arena: ChainsOver<S> = linked_chains(alloc, count.saturating_mul(2), &[]);
+    let mut arena: ChainsOver<S> = linked(alloc, count.saturating_mul(2), &[]);
     for k in 1..=count {
         arena.remove(at(k, 2));
     }

@@ -1,6 +1,6 @@
 //! Tests of plain arenas of links, which become chain arenas if their interlinks are consistent.
 
-use super::{ChainsOver, Slot, at, chains_are, same};
+use super::{ChainsOver, Slot, at, links_are, same};
 use arena_base::{Arena, ArenaTrait};
 use arena_ptr::{Inx32, SlotStack, ToolPtr};
 use chain_arena::{ChainArenaTrait, LinkBody, LinkInsertKind, LinkNoGen, links_agree};
@@ -86,7 +86,7 @@ fn accepted<S: SlotStack<Item = Slot>>(alloc: Global) -> Option<ChainsOver<S>> {
 fn keeps<S: SlotStack<Item = Slot>>(arena: &mut ChainsOver<S>) -> [bool; 4] {
     let lone = LinkInsertKind::Disconnected;
     [
-        chains_are(arena, &[(1, 2, 0, 3, 7), (3, 2, 1, 0, 7), (5, 2, 5, 5, 7)]),
+        links_are(arena, &[(1, 2, 0, 3, 7), (3, 2, 1, 0, 7), (5, 2, 5, 5, 7)]),
         arena.generation().get() == 4,
         arena.insert_reallocating(lone, 9) == Ok(at(2, 4)),
         arena.insert_reallocating(lone, 9) == Ok(at(4, 4)),

@@ -1,7 +1,7 @@
 //! Tests of copies of chain arenas: what they contain, what their closures are given, and when one
 //! is refused.
 
-use super::{ChainsOver, Slot, at, chains_are, linked_chains, same, with_link};
+use super::{ChainsOver, Slot, at, linked, links_are, same, with_link};
 use arena_base::{Arena, ArenaSlot, ArenaTrait};
 use arena_ptr::{LimitStack, ReallocationError, SetMaxCapacity, SlotStack, ToolPtr};
 use chain_arena::{ChainArenaTrait, LinkInsertKind, LinkNoGen};
@@ -18,7 +18,7 @@ const LEFT: u128 = 12031_32103;
 
 // Returns lone links without the second but with the first connected to the third.
 pub(super) fn with_a_hole<S: SlotStack<Item = Slot>>(alloc: Global, count: u32) -> ChainsOver<S> {
-    let mut arena: ChainsOver<S> = linked_chains(alloc, count, &[(1, 2), (2, 3)]);
+    let mut arena: ChainsOver<S> = linked(alloc, count, &[(1, 2), (2, 3)]);
     arena.remove(at(2, 2));
     arena
 }
@@ -57,7 +57,7 @@ pub(super) fn copied_plain<R: SlotStack<Item = Slot>, S: SlotStack<Item = PlainS
 // The arena is that of `LEFT`, or a clone of it, which has no maximum. Its freed list is kept.
 fn has_left<S: SlotStack<Item = Slot>>(arena: &mut ChainsOver<S>) -> [bool; 3] {
     [
-        chains_are(arena, &[(1, 2, 0, 3, 1), (3, 2, 1, 0, 3)]),
+        links_are(arena, &[(1, 2, 0, 3, 1), (3, 2, 1, 0, 3)]),
         arena.max_capacity().is_none(),
         arena.insert_reallocating(LinkInsertKind::Disconnected, 9) == Ok(at(2, 3)),
     ]
@@ -70,7 +70,7 @@ fn copies<S: SlotStack<Item = Slot>>(
 ) -> [bool; 3] {
     [
         copied_over(source, target) == (Ok(()), LEFT),
-        chains_are(target, &[(1, 2, 0, 3, 11), (3, 2, 1, 0, 23)]),
+        links_are(target, &[(1, 2, 0, 3, 11), (3, 2, 1, 0, 23)]),
         target.insert_reallocating(LinkInsertKind::Disconnected, 9) == Ok(at(2, 3)),
     ]
 }
@@ -93,7 +93,7 @@ pub(super) fn check<S: SlotStack<Item = Slot>, R: SlotStack<Item = PlainSlot>>(
     alloc: Global,
 ) {
     let mut source: ChainsOver<S> = with_a_hole(alloc, 3);
-    let mut target: ChainsOver<S> = linked_chains(alloc, 2, &[(1, 1), (2, 2)]);
+    let mut target: ChainsOver<S> = linked(alloc, 2, &[(1, 1), (2, 2)]);
     same(rt, "copies", copies(&source, &mut target), [true; 3]);
     let plain = plain_copies(&source, &mut Plain::<R>::new(alloc));
     same(rt, "copies to a plain arena", plain, [true; 5]);
@@ -108,7 +108,7 @@ pub(super) fn check_limited<S: LimitStack<Item = Slot>, R: LimitStack<Item = Pla
     alloc: Global,
 ) {
     let source: ChainsOver<S> = with_a_hole(alloc, 3);
-    let mut target: ChainsOver<S> = linked_chains(alloc, 1, &[]);
+    let mut target: ChainsOver<S> = linked(alloc, 1, &[]);
     let _ = target.set_max_capacity(2);
     same(rt, "refused", is_refused(&source, &mut target), true);
     let mut target = Plain::<R>::new(alloc);
@@ -126,7 +126,7 @@ fn is_refused<S: SlotStack<Item = Slot>>(
     target: &mut ChainsOver<S>,
 ) -> bool {
     copied_over(source, target) == (Err(ReallocationError::BeyondMaxCapacity), 0)
-        && chains_are(target, &[(1, 2, 0, 0, 1)])
+        && links_are(target, &[(1, 2, 0, 0, 1)])
         && target.max_capacity() == Some(2)
 }
 

@@ -1,5 +1,5 @@
-//! Tests of the inherent calls of a chain arena: the counter, values by index, iterators, drains and
-//! vacant entries.
+//! Tests of the inherent calls of a chain arena: the counter, values by index, iterators, drains
+//! and vacant entries.
 
 ghost use Rattle.std.specs.Prelude.{◌≡◌};
 ghost use Rattle.arena_ptr.specs.ToolPtr.{key_of};
@@ -7,7 +7,7 @@ ghost use Rattle.arena_base.specs.Arena.{IsValid};
 ghost use Rattle.chain_links.specs.ChainArena.{entry, with_value_at};
 
 use super::{
-    ChainsOver, Slot, at, chains_are, generation, index, linked_chains, same, with_digit, with_link,
+    ChainsOver, Slot, at, generation, index, linked, links_are, same, with_digit, with_link,
 };
 use arena_base::{Advancer, ArenaTrait, Iter};
 use arena_ptr::{
@@ -192,14 +192,14 @@ fn drained<S: SlotStack<Item = Slot>>(
 
 // Returns four links in a row and a lone one.
 fn row_of_four<S: SlotStack<Item = Slot>>(alloc: Global) -> ChainsOver<S> {
-    linked_chains(alloc, 5, &[(1, 2), (2, 3), (3, 4)])
+    linked(alloc, 5, &[(1, 2), (2, 3), (3, 4)])
 }
 
 fn whole_drain<S: SlotStack<Item = Slot>>(arena: &mut ChainsOver<S>) -> [bool; 4] {
     [
         drained_chain(arena, at(3, 3), 9, false).is_none(),
         drained_chain(arena, at(3, 2), 9, false) == Some(32243_042204_022102_012001),
-        chains_are(arena, &[(5, 2, 0, 0, 5)]),
+        links_are(arena, &[(5, 2, 0, 0, 5)]),
         arena.generation() == generation(6),
     ]
 }
@@ -208,7 +208,7 @@ fn whole_drain<S: SlotStack<Item = Slot>>(arena: &mut ChainsOver<S>) -> [bool; 4
 fn dropped_drain<S: SlotStack<Item = Slot>>(arena: &mut ChainsOver<S>) -> [bool; 4] {
     [
         drained_chain(arena, at(2, 2), 1, false) == Some(22132),
-        chains_are(arena, &[(5, 2, 0, 0, 5)]),
+        links_are(arena, &[(5, 2, 0, 0, 5)]),
         arena.generation() == generation(6),
         drained_chain(arena, at(5, 2), 0, false) == Some(0) && arena.is_empty(),
     ]
@@ -224,7 +224,7 @@ fn forgotten_drain<S: SlotStack<Item = Slot>>(arena: &mut ChainsOver<S>) -> [boo
     ];
     [
         drained_chain(arena, at(2, 2), 1, true) == Some(22132),
-        chains_are(arena, &left),
+        links_are(arena, &left),
         arena.generation() == generation(3),
     ]
 }
@@ -254,7 +254,7 @@ fn forgotten_drain_of_all<S: SlotStack<Item = Slot>>(arena: &mut ChainsOver<S>) 
     ];
     [
         drained(arena, 1, true) == 121,
-        chains_are(arena, &left),
+        links_are(arena, &left),
         arena.generation() == generation(3),
     ]
 }
@@ -340,16 +340,16 @@ fn entries<S: SlotStack<Item = Slot>>(arena: &mut ChainsOver<S>) -> [bool; 11] {
         entered_if_allowed(arena, end, 9).is_none(),
         entered(arena, end, Ends::Filled(9)) == Err(ChainInsertionError::FailedLinkRequirement),
         entered_within(arena, end, 9) == Err(ChainInsertionError::FailedLinkRequirement),
-        chains_are(arena, &[(1, 2, 0, 2, 7), (2, 2, 1, 0, 8)]),
+        links_are(arena, &[(1, 2, 0, 2, 7), (2, 2, 1, 0, 8)]),
     ]
 }
 
 pub(super) fn check<S: SlotStack<Item = Slot>>(rt: &impl Abort, alloc: Global) {
-    let mut arena: ChainsOver<S> = linked_chains(alloc, 2, &[]);
+    let mut arena: ChainsOver<S> = linked(alloc, 2, &[]);
     same(rt, "counters", counters(&mut arena), [true; 10]);
-    let arena: ChainsOver<S> = linked_chains(alloc, 5, &[(4, 2), (3, 1), (1, 4), (5, 5)]);
+    let arena: ChainsOver<S> = linked(alloc, 5, &[(4, 2), (3, 1), (1, 4), (5, 5)]);
     same(rt, "walks", walks(&arena), [true; 6]);
-    let mut arena: ChainsOver<S> = linked_chains(alloc, 3, &[(1, 2), (2, 3)]);
+    let mut arena: ChainsOver<S> = linked(alloc, 3, &[(1, 2), (2, 3)]);
     same(rt, "iterators", iterators(alloc, &mut arena), [true; 13]);
     check_drains::<S>(rt, alloc);
     let entered = entries(&mut ChainsOver::<S>::new(alloc));
@@ -369,7 +369,7 @@ fn check_drains<S: SlotStack<Item = Slot>>(rt: &impl Abort, alloc: Global) {
     same(rt, "a dropped drain of all", dropped, [true; 3]);
     let forgotten = forgotten_drain_of_all(&mut row_of_four::<S>(alloc));
     same(rt, "a forgotten drain of all", forgotten, [true; 3]);
-    let mut arena: ChainsOver<S> = linked_chains(alloc, 4, &[(1, 2)]);
+    let mut arena: ChainsOver<S> = linked(alloc, 4, &[(1, 2)]);
     same(rt, "overflows", overflowing_drains(&mut arena), [true; 4]);
 }
 

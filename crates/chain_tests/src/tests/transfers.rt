@@ -1,14 +1,9 @@
-//! Tests of transfers of all links to another arena.
+//! Tests of transfers of all links to another arena. `trait_tests` has other sources.
 
-use super::canonical::{behind_holes, interleaved, scattered};
-use super::pointers::{BarePtr, Digits, pointer};
-use super::{
-    ChainsOver, Slot, SlotOf, at, chains_are, generation, linked, linked_chains, links_are, same,
-    with_digit,
-};
-use arena_base::{ArenaTrait, CompactArenaTrait};
-use arena_ptr::{LimitStack, ReallocationError, SetMaxCapacity, SlotStack, ToolPtr};
-use chain_arena::{ChainArena, ChainArenaTrait, LinkInsertKind};
+use super::canonical::{behind_holes, interleaved, scattered, with_pointer};
+use super::{ChainsOver, Slot, at, generation, linked, links_are, same, with_digit};
+use arena_base::ArenaTrait;
+use arena_ptr::{LimitStack, ReallocationError, SetMaxCapacity, SlotStack};
 use std::alloc::Global;
 use std::process::Abort;
 
@@ -18,40 +13,27 @@ type Carried = (Result<(), ReallocationError>, u128);
 
 // Transfers all links of a source. The closure adds ten times the number of its call to each value,
 // or returns `returned`.
-pub(super) fn carried<
-    P: Digits,
-    A: ChainArenaTrait<P, u32> + CompactArenaTrait<P, u32>,
-    S: SlotStack<Item = Slot>,
->(source: &mut A, g: u32, target: &mut ChainsOver<S>, returned: Option<u32>) -> Carried {
+pub(super) fn carried<R: SlotStack<Item = Slot>, S: SlotStack<Item = Slot>>(
+    source: &mut ChainsOver<R>,
+    g: u32,
+    target: &mut ChainsOver<S>,
+    returned: Option<u32>,
+) -> Carried {
     let mut given = 0;
     let mut calls = 0u32;
     let outcome = target.transfer_canonical_reallocating(generation(g), source, |p, value, q| {
         let (t, overflow) = value.overflowing();
-        let [i, g] = p.digits();
-        let [j, h] = ToolPtr::digits(q);
-        for digit in [i, g, t, u32::from(overflow), j, h] {
-            given = with_digit(given, digit);
-        }
+        let old = with_digit(with_pointer(given, p), t);
+        given = with_pointer(with_digit(old, u32::from(overflow)), q);
         calls = calls.saturating_add(10);
         returned.unwrap_or(t.saturating_add(calls))
     });
     (outcome, given)
 }
 
-// Transfers all links of a chain arena. Only here one is passed to code that is generic in the
-// arena.
-pub(super) fn carried_chains<R: SlotStack<Item = Slot>, S: SlotStack<Item = Slot>>(
-    source: &mut ChainsOver<R>,
-    g: u32,
-    target: &mut ChainsOver<S>,
-    returned: Option<u32>,
-) -> Carried {
-    carried(source, g, target, returned)
-}
-
 // Returns a target of two lone links.
-pub(super) fn target<S: SlotStack<Item = Slot>>(alloc: Global) -> ChainsOver<S> {
-    linked_chains(alloc, 2, &[])
+fn target<S: SlotStack<Item = Slot>>(alloc: Global) -> ChainsOver<S> {
+    linked(alloc, 2, &[])
 }
 
 // A transfer and a compression with the same generation arrange the same links alike.
@@ -66,10 +48,10 @@ fn of_scattered<S: SlotStack<Item = Slot>>(
         (4, 4, 0, 0, 43),
     ];
     [
-        carried_chains(source, 4, to, None) == (Ok(()), 222014_424024_135034_323044),
-        chains_are(to, &rows),
+        carried(source, 4, to, None) == (Ok(()), 222014_424024_135034_323044),
+        links_are(to, &rows),
         source.is_empty() && source.generation() == generation(7),
-        carried_chains(source, 9, to, None) == (Ok(()), 0),
+        carried(source, 9, to, None) == (Ok(()), 0),
         to.is_empty() && to.generation() == generation(9) && source.generation() == generation(7),
     ]
 }
@@ -93,10 +75,10 @@ fn of_interleaved<S: SlotStack<Item = Slot>>(
     ];
     let mut back = ChainsOver::<S>::new(source.backing().allocator());
     [
-        carried_chains(source, 3, to, None) == (Ok(()), 121013_424023_222033_323043),
-        chains_are(to, &rows),
-        carried_chains(to, 7, &mut back, Some(5)).0.is_ok(),
-        chains_are(&back, &fives),
+        carried(source, 3, to, None) == (Ok(()), 121013_424023_222033_323043),
+        links_are(to, &rows),
+        carried(to, 7, &mut back, Some(5)).0.is_ok(),
+        links_are(&back, &fives),
     ]
 }
 
@@ -106,10 +88,10 @@ fn of_small_chains<S: SlotStack<Item = Slot>>(
     to: &mut ChainsOver<S>,
 ) -> [bool; 4] {
     [
-        carried_chains(ring, 4, to, None) == (Ok(()), 222014_323024_424034),
-        chains_are(to, &[(1, 4, 1, 1, 12), (2, 4, 0, 3, 23), (3, 4, 2, 0, 34)]),
-        carried_chains(holes, 7, to, None) == (Ok(()), 525017_626027),
-        chains_are(to, &[(1, 7, 0, 0, 15), (2, 7, 0, 0, 26)]),
+        carried(ring, 4, to, None) == (Ok(()), 222014_323024_424034),
+        links_are(to, &[(1, 4, 1, 1, 12), (2, 4, 0, 3, 23), (3, 4, 2, 0, 34)]),
+        carried(holes, 7, to, None) == (Ok(()), 525017_626027),
+        links_are(to, &[(1, 7, 0, 0, 15), (2, 7, 0, 0, 26)]),
     ]
 }
 
@@ -119,33 +101,18 @@ pub(super) fn check<S: SlotStack<Item = Slot>>(rt: &impl Abort, alloc: Global) {
     same(rt, "scattered chains", got, [true; 5]);
     let got = of_interleaved(&mut interleaved::<S>(alloc), &mut to);
     same(rt, "a chain and a ring", got, [true; 4]);
-    let mut ring: ChainsOver<S> = linked_chains(alloc, 4, &[(2, 2), (3, 4)]);
+    let mut ring: ChainsOver<S> = linked(alloc, 4, &[(2, 2), (3, 4)]);
     ring.remove(at(1, 2));
     let got = of_small_chains(&mut ring, &mut behind_holes::<S>(alloc), &mut to);
     same(rt, "behind free slots", got, [true; 4]);
 }
 
-// Transfers a chain of 3 and 1 and a lone link 2. The source is any arena.
-pub(super) fn check_source<
-    A: ChainArenaTrait<ToolPtr, u32> + CompactArenaTrait<ToolPtr, u32> + Drop,
-    S: SlotStack<Item = Slot>,
->(rt: &impl Abort, alloc: Global) {
-    let mut source: A = linked(alloc, 3, &[(3, 1)]);
-    let mut to: ChainsOver<S> = target(alloc);
-    let got = carried(&mut source, 7, &mut to, None);
-    same(rt, "a source", got, (Ok(()), 323017_121027_222037));
-    let are = chains_are(&to, &[(1, 7, 0, 2, 13), (2, 7, 1, 0, 21), (3, 7, 0, 0, 32)]);
-    same(rt, "the target", are, true);
-    let left = (source.is_empty(), source.singular_generation());
-    same(rt, "the source", left, (true, Some(generation(5))));
-}
-
 // Under a maximum of two, three links are refused, and neither arena changes.
 pub(super) fn check_limited<S: LimitStack<Item = Slot>>(rt: &impl Abort, alloc: Global) {
-    let mut source: ChainsOver<S> = linked_chains(alloc, 3, &[(3, 1)]);
+    let mut source: ChainsOver<S> = linked(alloc, 3, &[(3, 1)]);
     let mut to: ChainsOver<S> = target(alloc);
     let _ = to.set_max_capacity(2);
-    let got = carried_chains(&mut source, 7, &mut to, None);
+    let got = carried(&mut source, 7, &mut to, None);
     same(
         rt,
         "refused",
@@ -153,35 +120,13 @@ pub(super) fn check_limited<S: LimitStack<Item = Slot>>(rt: &impl Abort, alloc: 
         (Err(ReallocationError::BeyondMaxCapacity), 0),
     );
     let kept = [
-        chains_are(
+        links_are(
             &source,
             &[(1, 2, 3, 0, 1), (2, 2, 0, 0, 2), (3, 2, 0, 1, 3)],
         ),
-        chains_are(&to, &[(1, 2, 0, 0, 1), (2, 2, 0, 0, 2)]),
+        links_are(&to, &[(1, 2, 0, 0, 1), (2, 2, 0, 0, 2)]),
         source.generation() == generation(2) && to.generation() == generation(2),
         to.max_capacity() == Some(2),
     ];
     same(rt, "kept", kept, [true; 4]);
-}
-
-// Transfers 256 links to indexes of 8 bits. The index type is tested before the maximum, and both
-// arenas are unchanged. The source is any arena.
-pub(super) fn too_many<
-    A: ChainArenaTrait<ToolPtr, u32> + CompactArenaTrait<ToolPtr, u32> + Drop,
-    B: LimitStack<Item = SlotOf<BarePtr>>,
->(alloc: Global, most: usize) -> [bool; 6] {
-    let mut source: A = linked(alloc, 256, &[(3, 1)]);
-    let mut to = ChainArena::<BarePtr, u32, B>::new(alloc);
-    let p = to.insert_reallocating(LinkInsertKind::SingleLinkCyclic, 5);
-    let is_limited = to.set_max_capacity(most).is_ok();
-    let capacity = source.capacity();
-    let outcome = to.transfer_canonical_reallocating((), &mut source, |_, value, _| value.allow());
-    [
-        outcome == Err(ReallocationError::AllocError),
-        source.len() == 256 && source.capacity() == capacity,
-        source.are_neighbors(at(3, 2), at(1, 2)),
-        p == Ok(pointer(1, ())) && to.get(pointer(1, ())) == Some(&5),
-        to.len() == 1 && to.are_neighbors(pointer(1, ()), pointer(1, ())),
-        is_limited && to.max_capacity() == Some(most),
-    ]
 }

@@ -1,7 +1,7 @@
 //! Tests that value maps are returned in the state they reached.
 
 use super::copies::{Plain, PlainSlot};
-use super::{ChainsOver, Slot, chains_are, linked_chains, same};
+use super::{ChainsOver, Slot, linked, links_are, same};
 use arena_base::{ArenaTrait, ValueMap};
 use arena_ptr::{AllocError, LimitStack, ReallocationError, SetMaxCapacity, SlotStack, ToolPtr};
 use chain_arena::LinkNoGen;
@@ -59,8 +59,8 @@ pub(super) fn check<S: SlotStack<Item = Slot>, R: SlotStack<Item = PlainSlot>>(
 ) {
     let refused = Some(ReallocationError::AllocError);
     for (count, want, left) in [(2, (None, 2), 2), (3, (refused, 3), 0)] {
-        let source: ChainsOver<S> = linked_chains(alloc, count, &[]);
-        let mut target: ChainsOver<S> = linked_chains(alloc, 1, &[]);
+        let source: ChainsOver<S> = linked(alloc, count, &[]);
+        let mut target: ChainsOver<S> = linked(alloc, 1, &[]);
         same(
             rt,
             "over one link",
@@ -68,7 +68,7 @@ pub(super) fn check<S: SlotStack<Item = Slot>, R: SlotStack<Item = PlainSlot>>(
             want,
         );
         same(rt, "the links", target.len(), left);
-        let is_new = left == 0 || chains_are(&target, &[(1, 2, 0, 0, 2), (2, 2, 0, 0, 3)]);
+        let is_new = left == 0 || links_are(&target, &[(1, 2, 0, 0, 2), (2, 2, 0, 0, 3)]);
         same(rt, "their values", is_new, true);
         let mut target = Plain::<R>::new(alloc);
         same(
@@ -83,7 +83,7 @@ pub(super) fn check<S: SlotStack<Item = Slot>, R: SlotStack<Item = PlainSlot>>(
 
 // A copy of two links over an arena of at most one slot calls no value map.
 pub(super) fn check_limited<S: LimitStack<Item = Slot>>(rt: &impl Abort, alloc: Global) {
-    let source: ChainsOver<S> = linked_chains(alloc, 2, &[]);
+    let source: ChainsOver<S> = linked(alloc, 2, &[]);
     let mut target = ChainsOver::<S>::new(alloc);
     let _ = target.set_max_capacity(1);
     let want = (Some(ReallocationError::BeyondMaxCapacity), 0);

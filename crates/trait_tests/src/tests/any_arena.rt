@@ -20,8 +20,8 @@ fn check_arena<A: ChainArenaTrait<ToolPtr, u32> + CompactArenaTrait<ToolPtr, u32
     walks::check::<A>(rt, alloc);
     check_source::<A, HeapStack<Slot>>(rt, alloc);
     for most in [300, 2] {
-        let kept = too_many::<A, LimitedStack<SlotOf<BarePtr>>>(alloc, most);
-        same(rt, "too many links", kept, [true; 6]);
+        let kept = too_many::<BarePtr, A, LimitedStack<SlotOf<BarePtr>>>(alloc, most);
+        same(rt, "too many links", kept, true);
     }
 }
 
