@@ -38,8 +38,9 @@ pub(super) fn behind_holes<S: SlotStack<Item = Slot>>(alloc: Global) -> ChainsOv
 
 // Compresses, and lists the old and the new pointer of each link, as the closure is given them.
 fn moves_visited<S: SlotStack<Item = Slot>>(
-    arena: &mut ChainsOver<S>,
+    arena: ChainsOver<S>,
 ) -> (InvalidationOption<()>, u128) {
+    let mut arena = arena;
     let mut moves = 0;
     let outcome = arena.compress_canonical_with(false, |p, q| {
         moves = with_pointer(with_pointer(moves, p), q);
@@ -58,6 +59,15 @@ pub(super) fn moves_listed<S: SlotStack<Item = Slot>>(
         all = with_pointer(with_pointer(all, *p), *q);
     }
     Some((outcome, all))
+}
+
+// Compresses an arena, and lists the moves as they are returned.
+fn moves_of<S: SlotStack<Item = Slot>>(
+    alloc: Global,
+    arena: ChainsOver<S>,
+) -> Option<(InvalidationOption<()>, u128)> {
+    let mut arena = arena;
+    moves_listed(alloc, &mut arena)
 }
 
 // A visitor that counts links, and keeps both pointers of the last.
@@ -82,8 +92,9 @@ impl Visitor<ToolPtr> for Kept {
 
 // Returns the visitor's count, the last link's pointers, and the placed links of a compression.
 fn last_kept<S: SlotStack<Item = Slot>>(
-    arena: &mut ChainsOver<S>,
+    arena: ChainsOver<S>,
 ) -> (u32, Option<(ToolPtr, ToolPtr)>, u128) {
+    let mut arena = arena;
     let begun = Kept {
         count: 0,
         last: None,
@@ -119,16 +130,18 @@ fn layouts<S: SlotStack<Item = Slot>>(alloc: Global) -> [bool; 7] {
     ]
 }
 
+// Each arena is given away, since an arena that lives to the end of a body costs each of its steps.
 fn moves<S: SlotStack<Item = Slot>>(alloc: Global) -> [bool; 7] {
-    let by_least: [(u32, u32); 1] = [(3, 1)];
+    let of_scattered = (DONE, 2214_4224_1334_3244);
+    let of_interleaved = (DONE, 1213_4223_2233_3243);
     [
-        moves_visited(&mut scattered::<S>(alloc)) == (DONE, 2214_4224_1334_3244),
-        moves_listed(alloc, &mut scattered::<S>(alloc)) == Some((DONE, 2214_4224_1334_3244)),
-        moves_visited(&mut interleaved::<S>(alloc)) == (DONE, 1213_4223_2233_3243),
-        moves_listed(alloc, &mut interleaved::<S>(alloc)) == Some((DONE, 1213_4223_2233_3243)),
-        moves_visited(&mut linked::<S>(alloc, 3, &by_least)) == (DONE, 3213_1223_2233),
-        last_kept(&mut behind_holes::<S>(alloc)) == (2, Some((at(6, 2), at(2, 7))), 2),
-        last_kept(&mut ChainsOver::<S>::new(alloc)) == (0, None, 0),
+        moves_visited(scattered::<S>(alloc)) == of_scattered,
+        moves_of(alloc, scattered::<S>(alloc)) == Some(of_scattered),
+        moves_visited(interleaved::<S>(alloc)) == of_interleaved,
+        moves_of(alloc, interleaved::<S>(alloc)) == Some(of_interleaved),
+        moves_visited(linked::<S>(alloc, 3, &[(3, 1)])) == (DONE, 3213_1223_2233),
+        last_kept(behind_holes::<S>(alloc)) == (2, Some((at(6, 2), at(2, 7))), 2),
+        last_kept(ChainsOver::<S>::new(alloc)) == (0, None, 0),
     ]
 }
 

@@ -112,21 +112,20 @@ pub(super) fn check_limited<S: LimitStack<Item = Slot>>(rt: &impl Abort, alloc: 
     let mut source: ChainsOver<S> = linked(alloc, 3, &[(3, 1)]);
     let mut to: ChainsOver<S> = target(alloc);
     let _ = to.set_max_capacity(2);
-    let got = carried(&mut source, 7, &mut to, None);
+    let (outcome, given) = carried(&mut source, 7, &mut to, None);
+    let beyond = Err(ReallocationError::BeyondMaxCapacity);
+    same(rt, "refused", (outcome, given), (beyond, 0));
     same(
         rt,
-        "refused",
-        got,
-        (Err(ReallocationError::BeyondMaxCapacity), 0),
+        "kept",
+        (are_kept(&source, &to), to.max_capacity()),
+        (true, Some(2)),
     );
-    let kept = [
-        links_are(
-            &source,
-            &[(1, 2, 3, 0, 1), (2, 2, 0, 0, 2), (3, 2, 0, 1, 3)],
-        ),
-        links_are(&to, &[(1, 2, 0, 0, 1), (2, 2, 0, 0, 2)]),
-        source.generation() == generation(2) && to.generation() == generation(2),
-        to.max_capacity() == Some(2),
-    ];
-    same(rt, "kept", kept, [true; 4]);
+}
+
+fn are_kept<S: SlotStack<Item = Slot>>(source: &ChainsOver<S>, to: &ChainsOver<S>) -> bool {
+    links_are(source, &[(1, 2, 3, 0, 1), (2, 2, 0, 0, 2), (3, 2, 0, 1, 3)])
+        && links_are(to, &[(1, 2, 0, 0, 1), (2, 2, 0, 0, 2)])
+        && source.generation() == generation(2)
+        && to.generation() == generation(2)
 }
