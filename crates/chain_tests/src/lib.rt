@@ -1,4 +1,4 @@
-//! Tests of the calls that only a chain arena has.
+//! Tests of the inherent calls of a chain arena, and of lists of calls.
 #![tactic(auto)]
 
 #[cfg(test)]

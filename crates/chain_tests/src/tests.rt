@@ -1,21 +1,32 @@
 mod alloc_failures;
+mod arena_text;
+mod call_lists;
 mod canonical;
 mod consistency;
 mod copies;
-mod lists;
-mod own_calls;
+mod drains;
+mod entries;
+mod fallible_insertion;
+mod indexing;
+mod inherent_call_tables;
+mod inherent_calls;
+mod iterators;
 mod recast;
-mod transfers;
+mod scripts;
+mod setup;
+mod stacks;
 mod value_counts;
-mod value_maps;
+mod visitor_state;
 
-use arena_base::{ArenaSlot, ArenaTrait};
+ghost use Rattle.std.specs.Iterator.{IsFinite};
+
+use self::fallible_insertion::add;
+use arena_base::{Arena, ArenaSlot, ArenaTrait};
 use arena_ptr::{
-    ChunkStack, Gen32, HeapStack, Inx32, LimitStack, LimitedStack, Ptr, SetMaxCapacity, SlotStack,
-    ToolPtr,
+    Gen32, InvalidationResult, Inx32, LimitStack, Ptr, SetMaxCapacity, SlotStack, ToolPtr,
 };
-use chain_arena::{ChainArena, ChainArenaTrait, LinkInsertKind, LinkNoGen};
-use std::alloc::Global;
+use chain_arena::{ChainArena, ChainArenaTrait, LinkBody, LinkInsertKind, LinkNoGen};
+use std::alloc::{AllocError, Global};
 use std::fmt::Debug;
 use std::process::Abort;
 
@@ -25,15 +36,36 @@ type Slot = ArenaSlot<ToolPtr, LinkNoGen<ToolPtr, u32>>;
 // A chain arena over a stack. Generic over stacks, code costs its proof half as much.
 type ChainsOver<S> = ChainArena<ToolPtr, u32, S>;
 
-// A link as numbers: its index and generation, the indexes before and after it, 0 for none, and its
-// value.
-type Row = (u32, u32, u32, u32, u32);
+// A pointer as its index and its generation.
+type At = (u32, u32);
 
 fn same<T: PartialEq + Debug + Drop>(rt: &impl Abort, what: &str, got: T, want: T) {
     assert_eq!(rt; got, want, "{what}");
 }
 
-// Returns the index of a number; zero gives the first index.
+// Returns a result as `Debug` writes it, on a second attempt if the first allocation fails. After
+// both it is empty, which no test expects. So it needs no `Abort`, which each of its steps would
+// name.
+fn text<T: Debug + Drop>(alloc: Global, outcome: T) -> String {
+    for _ in 0..2 {
+        if let Ok(text) = format!(in alloc; "{outcome:?}") {
+            return text;
+        }
+    }
+    String::new(alloc)
+}
+
+fn text_of_all<T: Debug + Drop, I: Iterator<Item = T> + Drop>(alloc: Global, items: I) -> String
+    requires { I.can_next items × IsFinite (I.remaining items) }
+{
+    let all: Result<Vec<T>, AllocError> = items.collect(alloc);
+    match all {
+        Ok(all) => text(alloc, all),
+        Err(_) => String::new(alloc),
+    }
+}
+
+// Returns the index of a number; zero gives the invalid pointer's index.
 fn index(i: u32) -> Inx32 {
     match Inx32::new(i) {
         Some(index) => index,
@@ -49,123 +81,73 @@ fn generation(n: u32) -> Gen32 {
     }
 }
 
-fn at(i: u32, g: u32) -> ToolPtr {
-    ToolPtr::_from_raw(index(i), generation(g))
+fn at(p: At) -> ToolPtr {
+    ToolPtr::_from_raw(index(p.0), generation(p.1))
 }
 
-fn number(i: Option<Inx32>) -> u32 {
-    match i {
-        Some(i) => i.get(),
-        None => 0,
-    }
-}
-
-// Returns the indexes of a link's neighbors, 0 for none, and its value.
-fn parts_of(link: &LinkNoGen<ToolPtr, u32>) -> (u32, u32, u32) {
-    (number(link.prev()), number(link.next()), link.t)
-}
-
-// Appends a digit to a number, by which lists of numbers below 10 are written.
-fn with_digit(all: u128, digit: u32) -> u128 {
-    all.saturating_mul(10).saturating_add(u128::from(digit))
-}
-
-// Appends the digits of a link: index and generation, the indexes before and after it, and its
-// value.
-fn with_link(all: u128, p: ToolPtr, link: &LinkNoGen<ToolPtr, u32>) -> u128 {
-    let (prev, next, t) = parts_of(link);
-    let mut all = with_digit(with_digit(all, p.inx().get()), p.generation().get());
-    for digit in [prev, next, t] {
-        all = with_digit(all, digit);
-    }
-    all
-}
-
-// Inserts lone links, each with its index as its value, and connects each pair. A second attempt is
-// made if an allocation fails.
-fn linked<S: SlotStack<Item = Slot>>(
+fn fresh<T: Drop, S: SlotStack<Item = ArenaSlot<ToolPtr, LinkNoGen<ToolPtr, T>>>>(
     alloc: Global,
-    count: u32,
-    pairs: &[(u32, u32)],
-) -> ChainsOver<S> {
-    let mut arena = ChainsOver::<S>::new(alloc);
-    for k in 1..=count {
-        for _ in 0..2 {
-            if (arena.len() as u64) < u64::from(k) {
-                let _ = arena.insert_reallocating(LinkInsertKind::Disconnected, k);
-            }
-        }
+) -> ChainArena<ToolPtr, T, S> {
+    ChainArena::new(alloc)
+}
+
+fn remove<T: Drop, S: SlotStack<Item = ArenaSlot<ToolPtr, LinkNoGen<ToolPtr, T>>>>(
+    arena: &mut ChainArena<ToolPtr, T, S>,
+    p: At,
+) -> InvalidationResult<T> {
+    arena.remove(at(p))
+}
+
+// Inserts a link and returns its pointer, or the invalid one if there is no capacity.
+fn insert_or_invalid<T: Drop, S: SlotStack<Item = ArenaSlot<ToolPtr, LinkNoGen<ToolPtr, T>>>>(
+    arena: &mut ChainArena<ToolPtr, T, S>,
+    kind: LinkInsertKind<ToolPtr>,
+    t: T,
+) -> ToolPtr {
+    match arena.insert_reallocating(kind, t) {
+        Ok(p) => p,
+        Err(_) => ToolPtr::invalid(),
     }
-    for (i, j) in pairs {
-        arena.connect(at(*i, 2), at(*j, 2));
+}
+
+fn fresh_plain<T: Drop, S: SlotStack<Item = ArenaSlot<ToolPtr, T>>>(
+    alloc: Global,
+) -> Arena<ToolPtr, T, S> {
+    Arena::new(alloc)
+}
+
+// Inserts a link into a plain arena, if there is capacity, between two indexes, 0 for none.
+fn add_plain<T: Drop, S: SlotStack<Item = ArenaSlot<ToolPtr, LinkNoGen<ToolPtr, T>>>>(
+    arena: &mut Arena<ToolPtr, LinkNoGen<ToolPtr, T>, S>,
+    beside: At,
+    t: T,
+) {
+    let beside = (Inx32::new(beside.0), Inx32::new(beside.1));
+    let _ = arena.insert_reallocating(LinkBody::new(beside, t));
+}
+
+// Converts a plain arena to a chain arena, if its interlinks are consistent.
+fn to_chain_arena<T: Drop, S: SlotStack<Item = ArenaSlot<ToolPtr, LinkNoGen<ToolPtr, T>>>>(
+    arena: Arena<ToolPtr, LinkNoGen<ToolPtr, T>, S>,
+) -> Result<ChainArena<ToolPtr, T, S>, &'static str> {
+    ChainArena::from_arena(arena)
+}
+
+// Returns lone links, each with its index as its value.
+fn lone_links<S: SlotStack<Item = Slot>>(alloc: Global, count: u32) -> ChainsOver<S> {
+    let mut arena: ChainsOver<S> = fresh(alloc);
+    for k in 1..=count {
+        add(&mut arena, LinkInsertKind::Disconnected, k);
     }
     arena
 }
 
-// Returns whether an arena has exactly these links.
-fn links_are<S: SlotStack<Item = Slot>>(arena: &ChainsOver<S>, rows: &[Row]) -> bool {
-    for (i, g, prev, next, t) in rows {
-        match arena.get_inx_link_no_gen(index(*i)) {
-            Some((found, link)) if found.get() == *g && parts_of(link) == (*prev, *next, *t) => {}
-            _ => return false,
-        }
-    }
-    arena.len() == rows.len()
-}
-
-type PlainSlot = ArenaSlot<ToolPtr, u32>;
-
-// Runs the tests of inherent calls over a stack.
-fn check_over<S: SlotStack<Item = Slot>, R: SlotStack<Item = PlainSlot>>(
+fn fresh_limited<S: LimitStack<Item = Slot>>(
     rt: &impl Abort,
     alloc: Global,
-) {
-    own_calls::check::<S>(rt, alloc);
-    canonical::check::<S>(rt, alloc);
-    transfers::check::<S>(rt, alloc);
-    copies::check::<S, R>(rt, alloc);
-    value_maps::check::<S, R>(rt, alloc);
-    consistency::check::<S>(rt, alloc);
-    lists::check::<S>(rt, alloc);
-    alloc_failures::check::<S>(rt, alloc);
-    lists::check_refused::<S>(rt, alloc);
-}
-
-#[test]
-fn over_one_piece_of_memory(rt: HostRuntime) {
-    check_over::<HeapStack<Slot>, HeapStack<PlainSlot>>(&rt, rt.alloc());
-}
-
-#[test]
-fn in_blocks(rt: HostRuntime) {
-    check_over::<ChunkStack<Slot>, ChunkStack<PlainSlot>>(&rt, rt.alloc());
-}
-
-// Runs the tests under a maximum, and those of refused allocations without one.
-fn check_limited<S: LimitStack<Item = Slot>, R: LimitStack<Item = PlainSlot>>(
-    rt: &impl Abort,
-    alloc: Global,
-) {
-    let mut arena: ChainsOver<S> = linked(alloc, 2, &[]);
-    let limits = (
-        arena.set_max_capacity(2).is_ok(),
-        arena.set_max_capacity(1).is_ok(),
-    );
-    same(
-        rt,
-        "a maximum of two, and a lesser one",
-        limits,
-        (true, false),
-    );
-    same(rt, "refused", own_calls::are_refused(&mut arena), [true; 9]);
-    same(rt, "the maximum", arena.max_capacity(), Some(2));
-    copies::check_limited::<S, R>(rt, alloc);
-    value_maps::check_limited::<S>(rt, alloc);
-    transfers::check_limited::<S>(rt, alloc);
-    alloc_failures::check::<S>(rt, alloc);
-}
-
-#[test]
-fn over_a_limited_stack(rt: HostRuntime) {
-    check_limited::<LimitedStack<Slot>, LimitedStack<PlainSlot>>(&rt, rt.alloc());
+    most: usize,
+) -> ChainsOver<S> {
+    let mut arena: ChainsOver<S> = fresh(alloc);
+    assert!(rt; arena.set_max_capacity(most).is_ok());
+    arena
 }

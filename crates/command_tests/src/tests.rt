@@ -1,6 +1,5 @@
 //! Tests of the program over readers and writers in memory.
 mod io_faults;
-mod link_rows;
 mod small_indexes;
 
 ghost use Rattle.std.specs.Prelude.{◌≡◌, ℕ, List, ◌∷◌, [], codes, true, Some, None, option_map};
@@ -14,7 +13,6 @@ ghost use Rattle.chain_commands.specs.Words.{lines_of, whole_lines, without_retu
 ghost use Rattle.chain_commands.specs.Commands.{line_of};
 ghost use Rattle.chain_commands.specs.Transcripts.{AreComplete};
 
-use self::link_rows::{LINK_ROWS, UNDER_THREE};
 use arena_base::{ArenaSlot, ArenaTrait};
 use arena_ptr::{
     ChunkStack, HeapStack, Inx32, LimitStack, LimitedStack, SetMaxCapacity, SlotStack, ToolPtr,
@@ -418,12 +416,6 @@ const LIMITED: [&[(&str, &str)]; 3] = [
     )],
 ];
 
-fn check_under_three<S: LimitStack<Item = Slot>>(rt: &impl Abort, alloc: Global) {
-    let mut arena = LinksOver::<S>::new(alloc);
-    let _ = arena.set_max_capacity(3);
-    check_rows(rt, alloc, &mut arena, UNDER_THREE);
-}
-
 fn check_limited<S: LimitStack<Item = Slot>>(
     rt: &impl Abort,
     alloc: Global,
@@ -441,7 +433,6 @@ fn limited_arenas(rt: HostRuntime) {
     for texts in &LIMITED {
         check_limited::<LimitedStack<Slot>>(&rt, rt.alloc(), texts);
     }
-    check_under_three::<LimitedStack<Slot>>(&rt, rt.alloc());
 }
 
 /// Lines of every sort, also without words, of 201 spaces, and without a line feed at the end.
@@ -500,32 +491,10 @@ fn texts_and_what_is_written(rt: HostRuntime) {
     }
 }
 
-/// Runs each line of a text on an arena, and checks its response. A line `# ..` begins a new arena.
-fn check_rows<S: SlotStack<Item = Slot>>(
-    rt: &impl Abort,
-    alloc: Global,
-    arena: &mut LinksOver<S>,
-    rows: &str,
-) {
-    for row in rows.split('\n') {
-        if row.starts_with('#') {
-            *arena = LinksOver::<S>::new(alloc);
-        } else {
-            let (line, response) = row.split_once(" = ").unwrap_or((row, ""));
-            let (result, written) = carried_out(alloc, arena, line);
-            same(rt, row, result, Ok(()));
-            let written = written.as_slice();
-            let written = written.strip_suffix("\n".as_bytes()).unwrap_or(written);
-            same(rt, row, written, response.as_bytes());
-        }
-    }
-}
-
 fn check_runs<S: SlotStack<Item = Slot>>(rt: &impl Abort, alloc: Global) {
     for (input, output) in run_rows() {
         check_on(rt, alloc, &mut LinksOver::<S>::new(alloc), input, output);
     }
-    check_rows(rt, alloc, &mut LinksOver::<S>::new(alloc), LINK_ROWS);
 }
 
 /// Makes a chain of 130 links over three blocks, each with its index as its value, and returns

@@ -1,5 +1,4 @@
-//! Tests of the traits of arenas of links, at chain arenas and a forwarding arena, of other
-//! pointers, and of links.
+//! Tests of generic code over arenas of links, at several pointers and stacks, and of links.
 #![tactic(auto)]
 
 #[cfg(test)]

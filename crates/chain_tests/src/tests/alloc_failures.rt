@@ -4,322 +4,237 @@
 //! Here a stack refuses every other growth. `tools/test_alloc_failures` refuses each request for
 //! memory in turn, in the tests that allow it.
 
-use super::canonical::moves_listed;
-use super::copies::{Plain, PlainSlot, copied_over, copied_plain, with_a_hole};
-use super::lists::two_calls_are_made;
-use super::own_calls::{Ends, entered, entered_if_allowed};
-use super::transfers::carried;
-use super::{ChainsOver, Slot, at, linked, same};
-use arena_base::{ArenaSlot, ArenaTrait};
-use arena_ptr::{
-    ChainInsertionError, ChunkStack, HeapStack, InvalidationOption, InxKey, LimitedStack,
-    ReallocationError, SlotStack, ToolPtr,
-};
-use chain_arena::{ChainArenaTrait, LinkInsertKind, LinkNoGen};
+use super::call_lists::check_refused_list;
+use super::canonical::carry_over;
+use super::copies::{copied_twice, with_a_hole};
+use super::scripts::{Do, Kind, RunsCalls, Script, plays_all};
+use super::{ChainsOver, Slot, fresh_plain, generation, same};
+use arena_base::{Arena, ArenaSlot};
+use arena_ptr::{ChunkStack, HeapStack, LimitedStack, SlotStack, ToolPtr};
 use std::alloc::Global;
 use std::process::Abort;
 use test_types::FailingStack;
 
-// A call that requests memory.
-#[derive(Clone, Copy)]
-enum Growth {
-    Reserve,
-    Insert,
-    InsertAllowed,
-    Enter,
-    EnterAllowed,
-    Copy,
-    Carry,
-    // Requests memory, but no capacity.
-    ListMoves,
-    RunCalls,
-}
-
 // Calls that need more capacity than a full arena has.
-const GROWTHS: [Growth; 7] = [
-    Growth::Reserve,
-    Growth::Insert,
-    Growth::InsertAllowed,
-    Growth::Enter,
-    Growth::EnterAllowed,
-    Growth::Copy,
-    Growth::Carry,
+const GROWTHS: [Do; 7] = [
+    Do::Reserve(100),
+    Do::InsertIfAllowed(Kind::NextTo((1, 2)), 7),
+    Do::Insert(Kind::NextTo((1, 2)), 7),
+    Do::InsertByAnyEntry(Kind::NextTo((1, 2)), 7),
+    Do::InsertByEntry(Kind::NextTo((1, 2)), 7),
+    Do::CopyOver(70),
+    Do::CarryIn(70),
 ];
 
-// Calls that need more capacity than an arena with free slots has.
-const GROWTHS_BESIDE_HOLES: [Growth; 3] = [Growth::Reserve, Growth::Copy, Growth::Carry];
+// Calls that need more capacity than an arena with holes has.
+const GROWTHS_BESIDE_HOLES: [Do; 3] = [Do::Reserve(100), Do::CopyOver(70), Do::CarryIn(70)];
 
-const LISTS: [Growth; 2] = [Growth::ListMoves, Growth::RunCalls];
+// Calls that make a new arena.
+const BIRTHS: [Do; 2] = [Do::Clone, Do::Birth(100)];
 
-// The arena that a call is made on: full, with free slots, or new.
-#[derive(Clone, Copy)]
-enum Begin {
-    Full,
-    Holes,
-    New,
+// Calls that request memory, but no capacity.
+const LISTS: [Do; 2] = [Do::TwoCalls, Do::MovesListed(false)];
+
+// Calls on a full arena that request no memory.
+const NO_GROWTHS: [Do; 9] = [
+    Do::RemoveLink((1, 2)),
+    Do::Compress(false),
+    Do::Canonical(false),
+    Do::MovesVisited(true),
+    Do::InsertWithin(Kind::Disconnected, 7),
+    Do::RemoveLink((2, 2)),
+    Do::Insert(Kind::Disconnected, 7),
+    Do::Clear,
+    Do::CarryIn(2),
+];
+
+type Bare = ArenaSlot<ToolPtr, u32>;
+
+// A new arena that refuses every other growth.
+static REFUSED: [Script; 1] = [(
+    "links that are carried over: neither arena has changed, and then both have",
+    0,
+    &[],
+    &[
+        (
+            Do::CarryIn(2),
+            "(Err(AllocError), {P0[1](2): {(start), (end)} 1, P0[2](2): {(start), (end)} 2})",
+        ),
+        (Do::Debug, "{}"),
+        (Do::Generation, "2"),
+        (Do::CarryIn(2), "(Ok(()), {})"),
+        (
+            Do::Debug,
+            "{P0[1](7): {(start), (end)} 1, P0[2](7): {(start), (end)} 2}",
+        ),
+        (Do::Generation, "7"),
+    ],
+)];
+
+fn refused_scripts() -> &'static [Script] {
+    &REFUSED
 }
 
-// Returns a chain up to the capacity, of 2 to 64 links; or eight links of which 2, 5 and 3 are
-// removed; or no links.
-fn begun<S: SlotStack<Item = Slot>>(alloc: Global, begin: Begin) -> ChainsOver<S> {
-    match begin {
-        Begin::Full => full(alloc),
-        Begin::Holes => {
-            let mut arena: ChainsOver<S> = linked(alloc, 8, &[(1, 4), (4, 6), (7, 7)]);
-            for i in [2, 5, 3] {
-                arena.remove(at(i, 2));
-            }
-            arena
-        }
-        Begin::New => ChainsOver::<S>::new(alloc),
-    }
+// Returns whether a result reports an error or `false`.
+fn is_refused<A: RunsCalls>(alloc: Global, arena: &mut A, call: Do) -> bool {
+    let outcome = arena.run_call(alloc, call);
+    outcome.contains("Err") || outcome.contains("false")
 }
 
-fn full<S: SlotStack<Item = Slot>>(alloc: Global) -> ChainsOver<S> {
-    let mut arena: ChainsOver<S> = linked(alloc, 2, &[(1, 2)]);
-    for t in 3..=64 {
-        let _ = arena.insert_within_capacity(LinkInsertKind::NextTo(at(2, 2)), t);
-    }
+// Returns a full arena, or one with holes.
+fn begun<A: RunsCalls>(alloc: Global, begin: Do) -> A {
+    let mut arena = A::fresh(alloc);
+    arena.run_call(alloc, begin);
     arena
 }
 
-fn carry_is_done<S: SlotStack<Item = Slot>>(alloc: Global, target: &mut ChainsOver<S>) -> bool {
-    let mut source: ChainsOver<S> = linked(alloc, 70, &[(3, 1)]);
-    let before = state(alloc, &source);
-    let (outcome, _) = carried(&mut source, 7, target, None);
-    outcome.is_ok() || state(alloc, &source) != before
+// All that an arena reports: links, counter, capacity, and all slots.
+type Texts = (String, String, String);
+
+fn arena_texts<A: RunsCalls>(alloc: Global, arena: &mut A) -> Texts {
+    let links = arena.run_call(alloc, Do::Debug);
+    let capacities = arena.run_call(alloc, Do::Capacities);
+    (links, capacities, arena.run_call(alloc, Do::SlotsListed))
 }
 
-// Makes a call, and returns whether it is not refused.
-fn is_done<S: SlotStack<Item = Slot>>(
-    alloc: Global,
-    arena: &mut ChainsOver<S>,
-    growth: Growth,
-) -> bool {
-    let next = LinkInsertKind::NextTo(at(1, 2));
-    match growth {
-        Growth::Reserve => arena.reallocate_min_capacity(100).is_ok(),
-        Growth::Insert => arena.insert_reallocating(next, 7).is_ok(),
-        Growth::InsertAllowed => arena.can_insert(next) && arena.insert(next, 7).is_ok(),
-        Growth::Enter => entered(arena, next, Ends::Filled(7)).is_ok(),
-        Growth::EnterAllowed => match entered_if_allowed(arena, next, 7) {
-            Some(outcome) => outcome.is_ok(),
-            None => false,
-        },
-        Growth::Copy => copied_over(&with_a_hole(alloc, 70), arena).0.is_ok(),
-        Growth::Carry => carry_is_done(alloc, arena),
-        Growth::ListMoves => moves_listed(alloc, arena).is_some(),
-        Growth::RunCalls => two_calls_are_made(alloc, arena),
-    }
-}
-
-// Appends the slots of a link: its generation, neighbors and value, or 0 and the next free index.
-fn push_slots<S: SlotStack<Item = Slot>>(all: &mut Vec<u32>, slots: &S) {
-    for k in 0..slots.len() {
-        let (generation, (prev, next, t)) = match slots.get(k) {
-            Some(ArenaSlot::Allocated(generation, link)) => {
-                (generation.get(), super::parts_of(link))
-            }
-            Some(ArenaSlot::Free(next)) => (0, (0, super::number(InxKey::unpack(*next)), 0)),
-            None => (0, (0, 0, 0)),
-        };
-        for number in [generation, prev, next, t] {
-            let _ = all.push(number);
-        }
-    }
-}
-
-// Returns all slots, the capacity and the counter, on a second attempt if an allocation is refused.
-fn state<S: SlotStack<Item = Slot>>(alloc: Global, arena: &ChainsOver<S>) -> Vec<u32> {
-    for _ in 0..2 {
-        if let Ok(mut all) = Vec::with_capacity(alloc, 1000) {
-            push_slots(&mut all, arena.backing());
-            let _ = all.push(u32::try_from(arena.capacity()).unwrap_or(u32::MAX));
-            let _ = all.push(arena.generation().get());
-            return all;
-        }
-    }
-    Vec::new(alloc)
-}
-
-// Whether a call was refused at first, whether a refusal changed nothing and a second attempt
-// succeeded, the arena then, and the next pointer.
-type Grown = (bool, bool, Vec<u32>, Result<ToolPtr, ChainInsertionError>);
-
-fn grown<S: SlotStack<Item = Slot>>(alloc: Global, begin: Begin, growth: Growth) -> Grown {
-    let mut arena: ChainsOver<S> = begun(alloc, begin);
-    let before = state(alloc, &arena);
-    let refused = !is_done(alloc, &mut arena, growth);
-    let kept = !refused || (state(alloc, &arena) == before && is_done(alloc, &mut arena, growth));
-    let after = state(alloc, &arena);
-    let next = arena.insert_within_capacity(LinkInsertKind::Disconnected, 7);
-    (refused, kept, after, next)
-}
-
-// Compares a stack that refuses each growth at first with one that does not.
-fn check_growths<S: SlotStack<Item = Slot>>(
+// Returns whether a call is refused at first, and the arena and the next pointer after it. Checks
+// that a refusal changes nothing, and that a second attempt succeeds.
+fn run_growth<A: RunsCalls + Drop>(
     rt: &impl Abort,
     alloc: Global,
-    begin: Begin,
-    growths: &[Growth],
-) {
-    for growth in growths {
-        let (_, kept, after, next) = grown::<S>(alloc, begin, *growth);
-        let got = grown::<FailingStack<S>>(alloc, begin, *growth);
-        same(rt, "refused at first", got, (true, kept, after, next));
+    begin: Do,
+    call: Do,
+) -> (bool, Texts, String) {
+    let mut arena: A = begun(alloc, begin);
+    let before = arena_texts(alloc, &mut arena);
+    let refused = is_refused(alloc, &mut arena, call);
+    if refused {
+        let after = arena_texts(alloc, &mut arena);
+        same(rt, "nothing has changed", after, before);
+        let again = is_refused(alloc, &mut arena, call);
+        same(rt, "once more", again, false);
     }
+    let after = arena_texts(alloc, &mut arena);
+    (
+        refused,
+        after,
+        arena.run_call(alloc, Do::InsertWithin(Kind::Disconnected, 7)),
+    )
 }
 
-// Checks that calls on a full arena without requests for memory succeed.
-fn without_growth<S: SlotStack<Item = Slot>>(
-    alloc: Global,
-    arena: &mut ChainsOver<S>,
-) -> [bool; 8] {
-    let lone = LinkInsertKind::Disconnected;
-    [
-        arena.remove(at(1, 2)).allow().is_some(),
-        arena.compress(false) == InvalidationOption::Success(()),
-        arena.compress_canonical(true) == InvalidationOption::Success(()),
-        arena.insert_within_capacity(lone, 7).is_ok(),
-        arena.remove(at(1, 2)).allow().is_some(),
-        arena.insert_reallocating(lone, 7).is_ok(),
-        arena.clear() == InvalidationOption::Success(()),
-        carried(&mut linked::<S>(alloc, 2, &[]), 7, arena, None)
-            .0
-            .is_ok(),
-    ]
-}
-
-// A new arena with capacity is refused each time, and so is a clone.
-fn births<S: SlotStack<Item = Slot>>(alloc: Global, arena: &ChainsOver<S>) -> [bool; 4] {
-    let memory = Err(ReallocationError::AllocError);
-    [
-        ChainsOver::<S>::with_min_capacity(alloc, 100).is_ok(),
-        ChainsOver::<S>::with_min_capacity(alloc, 100).is_ok(),
-        arena.clone(alloc).map(|_| ()) != memory,
-        arena.clone(alloc).map(|_| ()) != memory,
-    ]
-}
-
-fn check_refusing<S: SlotStack<Item = Slot>>(rt: &impl Abort, alloc: Global) {
-    let mut arena: ChainsOver<S> = begun(alloc, Begin::Full);
-    same(rt, "births", births(alloc, &arena), [false; 4]);
-    let done = without_growth(alloc, &mut arena);
-    same(rt, "no growth", done, [true; 8]);
-    let next = is_done(alloc, &mut arena, Growth::Reserve);
-    same(rt, "the next growth", next, false);
-}
-
-pub(super) fn check<S: SlotStack<Item = Slot>>(rt: &impl Abort, alloc: Global) {
-    check_growths::<S>(rt, alloc, Begin::Full, &GROWTHS);
-    check_growths::<S>(rt, alloc, Begin::Holes, &GROWTHS_BESIDE_HOLES);
-    check_growths::<S>(rt, alloc, Begin::New, &GROWTHS_BESIDE_HOLES);
-    check_refusing::<FailingStack<S>>(rt, alloc);
-}
-
-// A copy to a plain arena is refused at first, and then changes nothing. Returns also whether a
-// second one succeeds.
-fn refused_plain_copies<S: SlotStack<Item = Slot>, R: SlotStack<Item = PlainSlot>>(
-    source: &ChainsOver<S>,
-    target: &mut Plain<R>,
-) -> [bool; 4] {
-    let before = (target.len(), target.capacity());
-    [
-        copied_plain(source, target) == (Err(ReallocationError::AllocError), 0),
-        (target.len(), target.capacity()) == before,
-        target.generation().get() == 2,
-        copied_plain(source, target).0.is_ok(),
-    ]
-}
-
-// Returns a plain arena of the values 1 to 4 without the third and the second.
-fn plain_with_holes<R: SlotStack<Item = PlainSlot>>(alloc: Global) -> Plain<R> {
-    let mut arena = Plain::<R>::new(alloc);
-    for t in 1..5 {
-        for _ in 0..2 {
-            if (arena.len() as u64) < u64::from(t) {
-                let _ = arena.insert_reallocating(t);
-            }
-        }
+// Checks that calls without requests for memory succeed. Returns whether the next growth is
+// refused.
+fn next_is_refused<A: RunsCalls + Drop>(rt: &impl Abort, alloc: Global) -> bool {
+    let mut arena: A = begun(alloc, Do::Fill);
+    for call in NO_GROWTHS {
+        let refused = is_refused(alloc, &mut arena, call);
+        same(rt, "allocates nothing", refused, false);
     }
-    arena.remove(at(3, 2));
-    arena.remove(at(2, 2));
-    arena
+    is_refused(alloc, &mut arena, Do::Reserve(100))
 }
 
-fn check_plain<S: SlotStack<Item = Slot>, R: SlotStack<Item = PlainSlot>>(
+// Compares an arena that refuses each growth at first with one that does not.
+fn check_grown<A: RunsCalls + Drop, B: RunsCalls + Drop>(
     rt: &impl Abort,
     alloc: Global,
+    begin: Do,
+    calls: &[Do],
 ) {
-    let source: ChainsOver<S> = with_a_hole(alloc, 70);
-    let refused = refused_plain_copies(&source, &mut Plain::<R>::new(alloc));
-    same(rt, "a copy to a plain arena", refused, [true; 4]);
-    let mut target: Plain<R> = plain_with_holes(alloc);
-    let outcome = copied_plain(&source, &mut target);
-    same(
-        rt,
-        "refused",
-        outcome,
-        (Err(ReallocationError::AllocError), 0),
-    );
-    let next = [
-        target.insert_within_capacity(9),
-        target.insert_within_capacity(9),
-    ];
-    same(rt, "the freed list", next, [Ok(at(2, 4)), Ok(at(3, 4))]);
+    for call in calls {
+        let (_, listing, next) = run_growth::<B>(rt, alloc, begin, *call);
+        let got = run_growth::<A>(rt, alloc, begin, *call);
+        same(rt, "refused at first", got, (true, listing, next));
+    }
 }
 
-#[test]
-fn copies_to_plain_arenas(rt: HostRuntime) {
-    check_plain::<HeapStack<Slot>, FailingStack<HeapStack<PlainSlot>>>(&rt, rt.alloc());
+// Checks each growth. A call that makes a new arena is refused each time.
+fn check_growths<A: RunsCalls + Drop, B: RunsCalls + Drop>(rt: &impl Abort, alloc: Global) {
+    check_grown::<A, B>(rt, alloc, Do::Fill, &GROWTHS);
+    check_grown::<A, B>(rt, alloc, Do::Dig, &GROWTHS_BESIDE_HOLES);
+    let mut arena: A = begun(alloc, Do::Dig);
+    for call in BIRTHS {
+        let first = is_refused(alloc, &mut arena, call);
+        let second = is_refused(alloc, &mut arena, call);
+        same(rt, "refused each time", (first, second), (true, true));
+    }
+    plays_all::<A>(rt, alloc, refused_scripts());
+    let next = next_is_refused::<A>(rt, alloc);
+    same(rt, "the next growth is refused", next, true);
+}
+
+type BothTexts = (Texts, Texts);
+
+fn both_texts<A: RunsCalls>(alloc: Global, source: &mut A, target: &mut A) -> BothTexts {
+    let first = arena_texts(alloc, source);
+    (first, arena_texts(alloc, target))
+}
+
+// Returns whether a transfer of many links between arenas with holes is refused at first, and both
+// arenas after it. Checks that a refusal changes neither, and that a second attempt succeeds.
+fn run_transfer<S: SlotStack<Item = Slot>>(rt: &impl Abort, alloc: Global) -> (bool, BothTexts) {
+    let mut source: ChainsOver<S> = with_a_hole(alloc, 70);
+    let mut target: ChainsOver<S> = begun(alloc, Do::Dig);
+    let before = both_texts(alloc, &mut source, &mut target);
+    let refused = carry_over(&mut source, &mut target, generation(9)).is_err();
+    if refused {
+        let after = both_texts(alloc, &mut source, &mut target);
+        same(rt, "neither has changed", after, before);
+        let again = carry_over(&mut source, &mut target, generation(9));
+        same(rt, "once more", again, Ok(()));
+    }
+    (refused, both_texts(alloc, &mut source, &mut target))
+}
+
+// Compares a stack that refuses the transfer at first with one that does not.
+fn check_carried<S: SlotStack<Item = Slot>>(rt: &impl Abort, alloc: Global) {
+    let (_, want) = run_transfer::<S>(rt, alloc);
+    let got = run_transfer::<FailingStack<S>>(rt, alloc);
+    same(rt, "refused at first", got, (true, want));
+}
+
+// Checks refusals over any stack. The first call of a list is refused, and the second is not.
+pub(super) fn check_all<S: SlotStack<Item = Slot>>(rt: &impl Abort, alloc: Global) {
+    check_growths::<ChainsOver<FailingStack<S>>, ChainsOver<S>>(rt, alloc);
+    check_carried::<S>(rt, alloc);
+    check_refused_list::<FailingStack<S>>(rt, alloc);
 }
 
 // Checks each call that may request memory: if any one request is refused, nothing changes, and a
 // second attempt succeeds.
-fn check_bearing<S: SlotStack<Item = Slot>>(rt: &impl Abort, alloc: Global) {
-    for begin in [Begin::Full, Begin::Holes] {
-        for growths in [&GROWTHS[..], &LISTS[..]] {
-            for growth in growths {
-                let (_, kept, _, _) = grown::<S>(alloc, begin, *growth);
-                same(rt, "unchanged, and then done", kept, true);
-            }
+fn check_bearing<A: RunsCalls + Drop>(rt: &impl Abort, alloc: Global, begin: Do) {
+    for calls in [&GROWTHS[..], &BIRTHS[..], &LISTS[..]] {
+        for call in calls {
+            let _ = run_growth::<A>(rt, alloc, begin, *call);
         }
     }
 }
 
-// A clone, a new arena and a copy to a plain one are not refused twice.
-fn check_bearing_copies<S: SlotStack<Item = Slot>, R: SlotStack<Item = PlainSlot>>(
+fn check_bearing_links<S: SlotStack<Item = Slot>>(rt: &impl Abort, alloc: Global) {
+    for begin in [Do::Fill, Do::Dig] {
+        check_bearing::<ChainsOver<S>>(rt, alloc, begin);
+    }
+    let _ = run_transfer::<S>(rt, alloc);
+}
+
+// Checks also a copy to a plain arena, which is not refused twice.
+fn check_bearing_copies<S: SlotStack<Item = Slot>, R: SlotStack<Item = Bare>>(
     rt: &impl Abort,
     alloc: Global,
 ) {
-    check_bearing::<S>(rt, alloc);
-    let source: ChainsOver<S> = with_a_hole(alloc, 70);
-    let [new, again, clone, cloned_again] = births(alloc, &source);
-    same(
-        rt,
-        "born",
-        (new || again, clone || cloned_again),
-        (true, true),
-    );
-    let mut target = Plain::<R>::new(alloc);
-    let done = copied_plain(&source, &mut target).0.is_ok();
-    let is_copied = done || (target.is_empty() && copied_plain(&source, &mut target).0.is_ok());
-    same(rt, "copied", is_copied, true);
+    check_bearing_links::<S>(rt, alloc);
+    let mut target: Arena<ToolPtr, u32, R> = fresh_plain(alloc);
+    let reply = copied_twice::<S, R>(alloc, &mut target);
+    same(rt, "a copy", reply.contains("(Ok(())"), true);
 }
 
 #[test]
 fn a_request_may_be_refused(rt: HostRuntime) {
-    check_bearing_copies::<HeapStack<Slot>, HeapStack<PlainSlot>>(&rt, rt.alloc());
-    check_bearing::<LimitedStack<Slot>>(&rt, rt.alloc());
-    check_bearing::<ChunkStack<Slot>>(&rt, rt.alloc());
-}
-
-fn check_without_growth<S: SlotStack<Item = Slot>>(rt: &impl Abort, alloc: Global) {
-    let done = without_growth(alloc, &mut begun::<S>(alloc, Begin::Full));
-    same(rt, "no growth", done, [true; 8]);
+    check_bearing_copies::<HeapStack<Slot>, HeapStack<Bare>>(&rt, rt.alloc());
+    check_bearing_links::<LimitedStack<Slot>>(&rt, rt.alloc());
+    check_bearing_links::<ChunkStack<Slot>>(&rt, rt.alloc());
 }
 
 #[test]
 fn calls_without_allocation(rt: HostRuntime) {
-    check_without_growth::<HeapStack<Slot>>(&rt, rt.alloc());
+    let _ = next_is_refused::<ChainsOver<HeapStack<Slot>>>(&rt, rt.alloc());
 }

@@ -1,176 +1,262 @@
 //! Tests of canonical compressions, which arrange chains in place one after another.
 
-use super::{ChainsOver, Slot, at, generation, linked, links_are, same, with_digit};
-use arena_base::{ArenaTrait, Work};
-use arena_ptr::{InvalidationOption, PtrKey, SlotStack, ToolPtr};
-use chain_arena::{ChainArenaTrait, LinkInsertKind, Visitor};
+use super::scripts::{Do, Kind, Line, Script};
+use super::{ChainsOver, Slot, fresh, generation, lone_links, remove, same, text};
+use arena_base::{ArenaSlot, Work};
+use arena_ptr::{AllocError, InvalidationOption, PtrKey, ReallocationError, SlotStack, ToolPtr};
+use chain_arena::{ChainArena, ChainArenaTrait, LinkNoGen};
 use std::alloc::Global;
 use std::process::Abort;
 
-const DONE: InvalidationOption<()> = InvalidationOption::Success(());
-
-// Appends index and generation of a pointer.
-pub(super) fn with_pointer(all: u128, p: ToolPtr) -> u128 {
-    with_digit(with_digit(all, p.inx().get()), p.generation().get())
+pub(super) fn compress_and_count<S: SlotStack<Item = Slot>>(
+    arena: &mut ChainsOver<S>,
+    reset: bool,
+) -> (InvalidationOption<()>, Work) {
+    arena.compress_canonical_counted(reset)
 }
 
-// Returns a chain of 2, 4 and 1, of which 1 was inserted last, and a lone link 3.
-pub(super) fn scattered<S: SlotStack<Item = Slot>>(alloc: Global) -> ChainsOver<S> {
-    let mut arena: ChainsOver<S> = linked(alloc, 4, &[(1, 3), (2, 4)]);
-    arena.remove(at(1, 2));
-    let _ = arena.insert_within_capacity(LinkInsertKind::ChainEnd(at(4, 2)), 5);
-    arena
-}
-
-// Returns a chain of 1 and 4, and a ring of 2 and 3.
-pub(super) fn interleaved<S: SlotStack<Item = Slot>>(alloc: Global) -> ChainsOver<S> {
-    linked(alloc, 4, &[(1, 4), (2, 3), (3, 2)])
-}
-
-// Returns two lone links behind four free slots.
-pub(super) fn behind_holes<S: SlotStack<Item = Slot>>(alloc: Global) -> ChainsOver<S> {
-    let mut arena: ChainsOver<S> = linked(alloc, 6, &[]);
-    for i in 1..5 {
-        arena.remove(at(i, 2));
-    }
-    arena
-}
-
-// Compresses, and lists the old and the new pointer of each link, as the closure is given them.
-fn moves_visited<S: SlotStack<Item = Slot>>(
-    arena: ChainsOver<S>,
+// Compresses, and returns the number of links placed.
+pub(super) fn placement_count<S: SlotStack<Item = Slot>>(
+    arena: &mut ChainsOver<S>,
+    reset: bool,
 ) -> (InvalidationOption<()>, u128) {
-    let mut arena = arena;
-    let mut moves = 0;
-    let outcome = arena.compress_canonical_with(false, |p, q| {
-        moves = with_pointer(with_pointer(moves, p), q);
-    });
-    (outcome, moves)
+    let (reply, work) = compress_and_count(arena, reset);
+    (reply, work.placed)
 }
 
-// Compresses, and lists them as they are returned.
+// The old and the new pointer of each link.
+type Moves = Vec<(ToolPtr, ToolPtr)>;
+
+// Returns the moves that a compression reports to its closure.
+pub(super) fn moves_visited<S: SlotStack<Item = Slot>>(
+    alloc: Global,
+    arena: &mut ChainsOver<S>,
+    reset: bool,
+) -> (InvalidationOption<()>, Moves) {
+    let mut moves = Vec::new(alloc);
+    let reply = arena.compress_canonical_with(reset, |p, q| {
+        let _ = moves.push((p, q));
+    });
+    (reply, moves)
+}
+
+// Returns the moves that a compression lists.
 pub(super) fn moves_listed<S: SlotStack<Item = Slot>>(
     alloc: Global,
     arena: &mut ChainsOver<S>,
-) -> Option<(InvalidationOption<()>, u128)> {
-    let (outcome, moves) = arena.compress_canonical_moves(alloc, false).ok()?;
-    let mut all = 0;
-    for (p, q) in moves.as_slice() {
-        all = with_pointer(with_pointer(all, *p), *q);
-    }
-    Some((outcome, all))
+    reset: bool,
+) -> Result<(InvalidationOption<()>, Moves), AllocError> {
+    arena.compress_canonical_moves(alloc, reset)
 }
 
-// Compresses an arena, and lists the moves as they are returned.
-fn moves_of<S: SlotStack<Item = Slot>>(
+// Transfers all links of an arena to another. Generic over pointers and values, the types cost its
+// proof less.
+pub(super) fn carry_over<P: PtrKey, T: Drop, S: SlotStack<Item = ArenaSlot<P, LinkNoGen<P, T>>>>(
+    source: &mut ChainArena<P, T, S>,
+    target: &mut ChainArena<P, T, S>,
+    now: P::Gen,
+) -> Result<(), ReallocationError> {
+    target.transfer_canonical_reallocating(now, source, |_, value, _| value.allow())
+}
+
+// Compresses one clone, and transfers another with the generation of the compression. Returns
+// whether both have the same text, and the text.
+pub(super) fn both_arranged<S: SlotStack<Item = Slot>>(
     alloc: Global,
-    arena: ChainsOver<S>,
-) -> Option<(InvalidationOption<()>, u128)> {
-    let mut arena = arena;
-    moves_listed(alloc, &mut arena)
-}
-
-// A visitor that counts links, and keeps both pointers of the last.
-#[derive(Drop)]
-struct Kept {
-    count: u32,
-    last: Option<(ToolPtr, ToolPtr)>,
-}
-
-impl Visitor<ToolPtr> for Kept {
-    ghost use Rattle.std.specs.Prelude.{◌≡◌, ⊤, Some};
-
-    ghost is_ready = { λ _. ⊤ };
-
-    ghost sees = { λ _ p q w. w.last ≡ Some (p, q) };
-
-    fn visit(&mut self, from: ToolPtr, to: ToolPtr) {
-        self.count = self.count.saturating_add(1);
-        self.last = Some((from, to));
-    }
-}
-
-// Returns the visitor's count, the last link's pointers, and the placed links of a compression.
-fn last_kept<S: SlotStack<Item = Slot>>(
-    arena: ChainsOver<S>,
-) -> (u32, Option<(ToolPtr, ToolPtr)>, u128) {
-    let mut arena = arena;
-    let begun = Kept {
-        count: 0,
-        last: None,
+    arena: &ChainsOver<S>,
+) -> (bool, String) {
+    let (Ok(mut compressed), Ok(mut source)) = (arena.clone(alloc), arena.clone(alloc)) else {
+        return (false, String::new(alloc));
     };
-    let (_, visitor, work) = arena.compress_canonical_by(false, begun);
-    (visitor.count, visitor.last, work.placed)
+    compressed.compress_canonical(false);
+    let mut carried: ChainsOver<S> = fresh(alloc);
+    let now = compressed.generation();
+    let outcome = carry_over(&mut source, &mut carried, now);
+    let listing = text(alloc, &carried);
+    let is_same = text(alloc, &compressed).as_str() == listing.as_str();
+    (outcome.is_ok() && is_same, listing)
 }
 
-fn placed<S: SlotStack<Item = Slot>>(arena: &mut ChainsOver<S>) -> (InvalidationOption<()>, u128) {
-    let (outcome, work) = arena.compress_canonical_counted(false);
-    (outcome, work.placed)
+// Transfers lone links to an arena with generation 7. Returns the result and the source then.
+pub(super) fn carried_in<S: SlotStack<Item = Slot>>(
+    alloc: Global,
+    target: &mut ChainsOver<S>,
+    count: u32,
+) -> String {
+    let mut source: ChainsOver<S> = lone_links(alloc, count);
+    let outcome = carry_over(&mut source, target, generation(7));
+    text(alloc, (outcome, &source))
 }
 
-fn layouts<S: SlotStack<Item = Slot>>(alloc: Global) -> [bool; 7] {
-    let mut arena: ChainsOver<S> = scattered(alloc);
-    let mut holes: ChainsOver<S> = behind_holes(alloc);
-    [
-        placed(&mut arena) == (DONE, 4),
-        links_are(
-            &arena,
+// A chain of 2, 4 and 1, of which 1 was inserted last, and a lone link 3.
+const SCATTERED: Script = (
+    "scattered chains",
+    4,
+    &[(1, 3), (2, 4)],
+    &[
+        (Do::Remove((1, 2)), "Success(1)"),
+        (Do::Insert(Kind::ChainEnd((4, 2)), 5), "Ok(P0[1](3))"),
+    ],
+);
+
+// A linear chain of 1 and 4, and a cycle of 2 and 3.
+const INTERLEAVED: Script = (
+    "a linear chain and a cycle",
+    4,
+    &[(1, 4), (2, 3), (3, 2)],
+    &[],
+);
+
+// Two lone links behind four holes.
+const BEHIND_HOLES: Script = (
+    "lone links behind holes",
+    6,
+    &[],
+    &[
+        (Do::Remove((1, 2)), "Success(1)"),
+        (Do::Remove((2, 2)), "Success(2)"),
+        (Do::Remove((3, 2)), "Success(3)"),
+        (Do::Remove((4, 2)), "Success(4)"),
+    ],
+);
+
+// A chain whose start is not its least index, and a lone link.
+const BY_LEAST_INDEX: Script = ("a chain of 3 and 1", 3, &[(3, 1)], &[]);
+
+// A ring of one and a chain of two behind a hole.
+const BEHIND_A_HOLE: Script = (
+    "a ring and a chain behind a hole",
+    0,
+    &[],
+    &[
+        (Do::Insert(Kind::Disconnected, 1), "Ok(P0[1](2))"),
+        (Do::Insert(Kind::SingleLinkCyclic, 2), "Ok(P0[2](2))"),
+        (Do::Insert(Kind::Disconnected, 3), "Ok(P0[3](2))"),
+        (Do::Insert(Kind::ChainEnd((3, 2)), 4), "Ok(P0[4](2))"),
+        (Do::Remove((1, 2)), "Success(1)"),
+    ],
+);
+
+// Scripts, and lines that follow them.
+static LAYOUTS: [(Script, &[&[Line]]); 6] = [
+    (
+        BEHIND_A_HOLE,
+        &[
+            &[(Do::Compress(false), "Success(())"), (Do::Slots, "3")],
+            &[(
+                Do::BothArranged,
+                "(true, \"{P0[1](4): {1, 1} 2, P0[2](4): {(start), 3} 3, P0[3](4): {2, (end)} 4}\")",
+            )],
+        ],
+    ),
+    (
+        SCATTERED,
+        &[
             &[
-                (1, 4, 0, 2, 2),
-                (2, 4, 1, 3, 4),
-                (3, 4, 2, 0, 5),
-                (4, 4, 0, 0, 3),
+                (Do::Placed(false), "(Success(()), 4)"),
+                (
+                    Do::Debug,
+                    "{P0[1](4): {(start), 2} 2, P0[2](4): {1, 3} 4, P0[3](4): {2, (end)} 5, P0[4](4): {(start), (end)} 3}",
+                ),
+                (Do::Generation, "4"),
             ],
-        ),
-        arena.generation() == generation(4),
-        placed(&mut holes) == (DONE, 2),
-        links_are(&holes, &[(1, 7, 0, 0, 5), (2, 7, 0, 0, 6)]),
-        placed(&mut holes) == (DONE, 2),
-        holes.generation() == generation(8),
-    ]
+            &[(
+                Do::MovesVisited(false),
+                "(Success(()), [(P0[2](2), P0[1](4)), (P0[4](2), P0[2](4)), (P0[1](3), P0[3](4)), \
+                (P0[3](2), P0[4](4))])",
+            )],
+            &[(
+                Do::MovesListed(false),
+                "Ok((Success(()), [(P0[2](2), P0[1](4)), (P0[4](2), P0[2](4)), (P0[1](3), P0[3](4)), \
+                (P0[3](2), P0[4](4))]))",
+            )],
+            &[(
+                Do::BothArranged,
+                "(true, \"{P0[1](4): {(start), 2} 2, P0[2](4): {1, 3} 4, P0[3](4): {2, (end)} 5, P0[4](4): {(start), (end)} 3}\")",
+            )],
+        ],
+    ),
+    (
+        INTERLEAVED,
+        &[
+            &[(
+                Do::MovesVisited(false),
+                "(Success(()), [(P0[1](2), P0[1](3)), (P0[4](2), P0[2](3)), (P0[2](2), P0[3](3)), \
+                (P0[3](2), P0[4](3))])",
+            )],
+            &[(
+                Do::MovesListed(false),
+                "Ok((Success(()), [(P0[1](2), P0[1](3)), (P0[4](2), P0[2](3)), (P0[2](2), P0[3](3)), \
+                (P0[3](2), P0[4](3))]))",
+            )],
+            &[(
+                Do::BothArranged,
+                "(true, \"{P0[1](3): {(start), 2} 1, P0[2](3): {1, (end)} 4, P0[3](3): {4, 4} 2, P0[4](3): {3, 3} 3}\")",
+            )],
+        ],
+    ),
+    (
+        BY_LEAST_INDEX,
+        &[
+            &[(
+                Do::MovesVisited(false),
+                "(Success(()), [(P0[3](2), P0[1](3)), (P0[1](2), P0[2](3)), (P0[2](2), P0[3](3))])",
+            )],
+            &[(
+                Do::MovesListed(false),
+                "Ok((Success(()), [(P0[3](2), P0[1](3)), (P0[1](2), P0[2](3)), (P0[2](2), P0[3](3))]))",
+            )],
+        ],
+    ),
+    (
+        BEHIND_HOLES,
+        &[
+            &[
+                (Do::Placed(false), "(Success(()), 2)"),
+                (Do::Placed(false), "(Success(()), 2)"),
+            ],
+            &[(
+                Do::BothArranged,
+                "(true, \"{P0[1](7): {(start), (end)} 5, P0[2](7): {(start), (end)} 6}\")",
+            )],
+        ],
+    ),
+    (
+        ("an empty arena", 0, &[], &[]),
+        &[&[
+            (
+                Do::Counted(false),
+                "(Success(()), Work { placed: 0, touched: 0 })",
+            ),
+            (Do::Canonical(false), "Success(())"),
+            (Do::IsEmpty, "true"),
+            (Do::Generation, "2"),
+        ]],
+    ),
+];
+
+pub(super) fn layouts() -> &'static [(Script, &'static [&'static [Line]])] {
+    &LAYOUTS
 }
 
-// Each arena is given away, since an arena that lives to the end of a body costs each of its steps.
-fn moves<S: SlotStack<Item = Slot>>(alloc: Global) -> [bool; 7] {
-    let of_scattered = (DONE, 2214_4224_1334_3244);
-    let of_interleaved = (DONE, 1213_4223_2233_3243);
-    [
-        moves_visited(scattered::<S>(alloc)) == of_scattered,
-        moves_of(alloc, scattered::<S>(alloc)) == Some(of_scattered),
-        moves_visited(interleaved::<S>(alloc)) == of_interleaved,
-        moves_of(alloc, interleaved::<S>(alloc)) == Some(of_interleaved),
-        moves_visited(linked::<S>(alloc, 3, &[(3, 1)])) == (DONE, 3213_1223_2233),
-        last_kept(behind_holes::<S>(alloc)) == (2, Some((at(6, 2), at(2, 7))), 2),
-        last_kept(ChainsOver::<S>::new(alloc)) == (0, None, 0),
-    ]
-}
-
-// Compresses lone links behind as many free slots. Returns whether the work is within its bound and
+// Compresses lone links behind as many holes. Returns whether the work is within its bound and
 // places each link once.
-fn is_within_bound<S: SlotStack<Item = Slot>>(alloc: Global, count: u32, reset: bool) -> bool {
-    let mut arena: ChainsOver<S> = linked(alloc, count.saturating_mul(2), &[]);
+fn within_bound<S: SlotStack<Item = Slot>>(alloc: Global, count: u32, reset: bool) -> bool {
+    let mut arena: ChainsOver<S> = lone_links(alloc, count.saturating_mul(2));
     for k in 1..=count {
-        arena.remove(at(k, 2));
+        remove(&mut arena, (k, 2));
     }
     let links = u128::from(count);
-    let (_, work) = arena.compress_canonical_counted(reset);
-    work.placed == links && work.touched <= links.saturating_mul(20)
+    let (_, work) = compress_and_count(&mut arena, reset);
+    let slots = links.saturating_mul(2);
+    let bound = slots
+        .saturating_mul(4)
+        .saturating_add(links.saturating_mul(12));
+    work.placed == links && work.touched <= bound
 }
 
-fn bounds<S: SlotStack<Item = Slot>>(alloc: Global) -> [bool; 3] {
-    let nothing = Work {
-        placed: 0,
-        touched: 0,
-    };
-    [
-        is_within_bound::<S>(alloc, 100, false),
-        is_within_bound::<S>(alloc, 100_000, true),
-        ChainsOver::<S>::new(alloc).compress_canonical_counted(false) == (DONE, nothing),
-    ]
-}
-
-pub(super) fn check<S: SlotStack<Item = Slot>>(rt: &impl Abort, alloc: Global) {
-    same(rt, "layouts", layouts::<S>(alloc), [true; 7]);
-    same(rt, "moves", moves::<S>(alloc), [true; 7]);
-    same(rt, "bounds", bounds::<S>(alloc), [true; 3]);
+pub(super) fn check_bounds<S: SlotStack<Item = Slot>>(rt: &impl Abort, alloc: Global) {
+    let few = within_bound::<S>(alloc, 100, false);
+    let many = within_bound::<S>(alloc, 100_000, true);
+    same(rt, "work within its bound", (few, many), (true, true));
 }

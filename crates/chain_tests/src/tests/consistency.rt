@@ -1,27 +1,24 @@
 //! Tests of plain arenas of links, which become chain arenas if their interlinks are consistent.
 
-use super::{ChainsOver, Slot, at, links_are, same};
+use super::scripts::{Do, Kind, Line, plays};
+use super::{At, ChainsOver, Slot, add_plain, at, fresh_plain, same, to_chain_arena};
 use arena_base::{Arena, ArenaTrait};
-use arena_ptr::{Inx32, SlotStack, ToolPtr};
-use chain_arena::{ChainArenaTrait, LinkBody, LinkInsertKind, LinkNoGen, links_agree};
+use arena_ptr::{SlotStack, ToolPtr};
+use chain_arena::{LinkNoGen, links_agree};
 use std::alloc::Global;
 use std::process::Abort;
-
-// The indexes before and after a link, 0 for none.
-type At = (u32, u32);
 
 type Plain<S> = Arena<ToolPtr, LinkNoGen<ToolPtr, u32>, S>;
 
 // Returns a plain arena of links of the value 7 with these previous and next indexes, 0 for none.
 // The links in `gone` are removed.
 fn plain<S: SlotStack<Item = Slot>>(alloc: Global, links: &[At], gone: &[u32]) -> Plain<S> {
-    let mut arena = Plain::<S>::new(alloc);
+    let mut arena: Plain<S> = fresh_plain(alloc);
     for link in links {
-        let beside = (Inx32::new(link.0), Inx32::new(link.1));
-        let _ = arena.insert_reallocating(LinkBody::new(beside, 7));
+        add_plain(&mut arena, *link, 7);
     }
     for k in gone {
-        arena.remove(at(*k, 2));
+        arena.remove(at((*k, 2)));
     }
     arena
 }
@@ -58,7 +55,7 @@ const REFUSAL: &str = "interlink transitivity does not hold";
 fn agreement<S: SlotStack<Item = Slot>>(arena: Plain<S>) -> (usize, bool, Option<&'static str>) {
     let count = arena.len();
     let agree = links_agree(&arena);
-    (count, agree, ChainsOver::<S>::from_arena(arena).err())
+    (count, agree, to_chain_arena(arena).err())
 }
 
 // Returns the rows. Only this body names them, since each step of a body lists what the body names.
@@ -66,7 +63,7 @@ fn rows() -> &'static [(&'static str, &'static [At], &'static [u32], bool)] {
     &ROWS
 }
 
-fn check_rows<S: SlotStack<Item = Slot>>(rt: &impl Abort, alloc: Global) {
+pub(super) fn check_rows<S: SlotStack<Item = Slot>>(rt: &impl Abort, alloc: Global) {
     for row in rows() {
         let (what, links, gone, agree) = *row;
         let count = links.len().saturating_sub(gone.len());
@@ -76,25 +73,33 @@ fn check_rows<S: SlotStack<Item = Slot>>(rt: &impl Abort, alloc: Global) {
     }
 }
 
-// A chain of two and a ring of one beside two free slots.
-fn accepted<S: SlotStack<Item = Slot>>(alloc: Global) -> Option<ChainsOver<S>> {
+// A chain of two and a ring of one beside two free slots. The last freed index is used first, then
+// the other.
+static ACCEPTED: [Line; 5] = [
+    (
+        Do::Debug,
+        "{P0[1](2): {(start), 3} 7, P0[3](2): {1, (end)} 7, P0[5](2): {5, 5} 7}",
+    ),
+    (Do::Insert(Kind::Disconnected, 9), "Ok(P0[2](4))"),
+    (
+        Do::Debug,
+        "{P0[1](2): {(start), 3} 7, P0[2](4): {(start), (end)} 9, P0[3](2): {1, (end)} 7, P0[5](2): {5, 5} 7}",
+    ),
+    (Do::Insert(Kind::Disconnected, 9), "Ok(P0[4](4))"),
+    (
+        Do::Debug,
+        "{P0[1](2): {(start), 3} 7, P0[2](4): {(start), (end)} 9, P0[3](2): {1, (end)} 7, P0[4](4): {(start), (end)} 9, P0[5](2): {5, 5} 7}",
+    ),
+];
+
+fn accepted_arena<S: SlotStack<Item = Slot>>(rt: &impl Abort, alloc: Global) -> ChainsOver<S> {
     let links = [(0, 3), (0, 0), (1, 0), (0, 0), (5, 5)];
-    ChainsOver::<S>::from_arena(plain::<S>(alloc, &links, &[4, 2])).ok()
+    let arena = plain::<S>(alloc, &links, &[4, 2]);
+    to_chain_arena(arena).expect(rt, "interlinks that agree")
 }
 
 // The conversion keeps indexes, generations, interlinks, counter and freed list.
-fn keeps<S: SlotStack<Item = Slot>>(arena: &mut ChainsOver<S>) -> [bool; 4] {
-    let lone = LinkInsertKind::Disconnected;
-    [
-        links_are(arena, &[(1, 2, 0, 3, 7), (3, 2, 1, 0, 7), (5, 2, 5, 5, 7)]),
-        arena.generation().get() == 4,
-        arena.insert_reallocating(lone, 9) == Ok(at(2, 4)),
-        arena.insert_reallocating(lone, 9) == Ok(at(4, 4)),
-    ]
-}
-
-pub(super) fn check<S: SlotStack<Item = Slot>>(rt: &impl Abort, alloc: Global) {
-    check_rows::<S>(rt, alloc);
-    let mut arena = accepted::<S>(alloc).expect(rt, "interlinks that agree");
-    same(rt, "accepted", keeps(&mut arena), [true; 4]);
+pub(super) fn check_accepted<S: SlotStack<Item = Slot>>(rt: &impl Abort, alloc: Global) {
+    let mut arena: ChainsOver<S> = accepted_arena(rt, alloc);
+    plays(rt, alloc, "accepted", &mut arena, &ACCEPTED);
 }

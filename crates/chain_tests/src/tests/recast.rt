@@ -1,10 +1,11 @@
 //! Tests of values recast in place, by ascending index, up to one that refuses.
 ghost use Rattle.std.specs.Prelude.{◌≡◌, OnErr, Err};
 
-use super::{at, same};
-use arena_base::{ArenaSlot, ArenaTrait};
+use super::scripts::{Do, Kind};
+use super::setup::{Numbered, SlotOf, after};
+use super::{same, text};
 use arena_ptr::{HeapStack, Recast, Recaster, SlotStack, ToolPtr};
-use chain_arena::{ChainArena, ChainArenaTrait, LinkInsertKind, LinkNoGen};
+use chain_arena::ChainArena;
 use std::alloc::Global;
 use std::process::Abort;
 
@@ -38,84 +39,96 @@ impl Recast<u32> for Number {
     }
 }
 
-type NumberSlot = ArenaSlot<ToolPtr, LinkNoGen<ToolPtr, Number>>;
-
-type NumbersOver<S> = ChainArena<ToolPtr, Number, S>;
-
-fn add<S: SlotStack<Item = NumberSlot>>(
-    arena: &mut NumbersOver<S>,
-    kind: LinkInsertKind<ToolPtr>,
-    n: u32,
-) {
-    let _ = arena.insert_reallocating(kind, Number(n, 0));
+impl Numbered for Number {
+    fn of(_: Global, n: u32) -> Number {
+        Number(n, 0)
+    }
 }
 
-// Recasts all values, and returns the text of the result and of the arena.
-fn recast_text<S: SlotStack<Item = NumberSlot>>(
-    alloc: Global,
-    arena: &mut NumbersOver<S>,
-) -> Option<String> {
-    let outcome = arena.recast(&AddTen);
-    format!(in alloc; "{outcome:?} {arena:?}").ok()
-}
+const LONE: Kind = Kind::Disconnected;
 
-// Numbers, and the text after a recast. Only values at lower indexes than the refused one are new.
-const ROWS: [(&[u32], &str); 6] = [
-    (&[], "Ok(()) {}"),
+// Calls, and the text of the result, the arena and its counter. A refused recast keeps pointers,
+// interlinks and the counter. Only values at lower indexes than the refused one are new.
+// The last row is a chain of 4 and 1 and a ring of 3, with a hole between. The refusal at 3 comes
+// before 4, the start of the chain.
+static ROWS: [(&[Do], &str); 7] = [
+    (&[], "(Ok(()), {}, Gen32 { number: 2 })"),
     (
-        &[1, 2, 3],
-        "Err(2) {P0[1](2): {(start), (end)} Number(11, 1), P0[2](2): {(start), (end)} Number(2, 1), \
-            P0[3](2): {(start), (end)} Number(3, 0)}",
+        &[
+            Do::Insert(LONE, 1),
+            Do::Insert(LONE, 2),
+            Do::Insert(LONE, 3),
+        ],
+        "(Err(2), {P0[1](2): {(start), (end)} Number(11, 1), P0[2](2): {(start), (end)} Number(2, 1), \
+            P0[3](2): {(start), (end)} Number(3, 0)}, Gen32 { number: 2 })",
     ),
     (
-        &[2, 1, 3],
-        "Err(2) {P0[1](2): {(start), (end)} Number(2, 1), P0[2](2): {(start), (end)} Number(1, 0), \
-            P0[3](2): {(start), (end)} Number(3, 0)}",
+        &[
+            Do::Insert(LONE, 2),
+            Do::Insert(LONE, 1),
+            Do::Insert(LONE, 3),
+        ],
+        "(Err(2), {P0[1](2): {(start), (end)} Number(2, 1), P0[2](2): {(start), (end)} Number(1, 0), \
+            P0[3](2): {(start), (end)} Number(3, 0)}, Gen32 { number: 2 })",
     ),
     (
-        &[1, 3, 2],
-        "Err(2) {P0[1](2): {(start), (end)} Number(11, 1), P0[2](2): {(start), (end)} Number(13, 1), \
-            P0[3](2): {(start), (end)} Number(2, 1)}",
+        &[
+            Do::Insert(LONE, 1),
+            Do::Insert(LONE, 3),
+            Do::Insert(LONE, 2),
+        ],
+        "(Err(2), {P0[1](2): {(start), (end)} Number(11, 1), P0[2](2): {(start), (end)} Number(13, 1), \
+            P0[3](2): {(start), (end)} Number(2, 1)}, Gen32 { number: 2 })",
     ),
     (
-        &[1, 2, 2],
-        "Err(2) {P0[1](2): {(start), (end)} Number(11, 1), P0[2](2): {(start), (end)} Number(2, 1), \
-            P0[3](2): {(start), (end)} Number(2, 0)}",
+        &[
+            Do::Insert(LONE, 1),
+            Do::Insert(LONE, 2),
+            Do::Insert(LONE, 2),
+        ],
+        "(Err(2), {P0[1](2): {(start), (end)} Number(11, 1), P0[2](2): {(start), (end)} Number(2, 1), \
+            P0[3](2): {(start), (end)} Number(2, 0)}, Gen32 { number: 2 })",
     ),
     (
-        &[1, 3, 5],
-        "Ok(()) {P0[1](2): {(start), (end)} Number(11, 1), P0[2](2): {(start), (end)} Number(13, 1), \
-            P0[3](2): {(start), (end)} Number(15, 1)}",
+        &[
+            Do::Insert(LONE, 1),
+            Do::Insert(LONE, 3),
+            Do::Insert(LONE, 5),
+        ],
+        "(Ok(()), {P0[1](2): {(start), (end)} Number(11, 1), P0[2](2): {(start), (end)} Number(13, 1), \
+            P0[3](2): {(start), (end)} Number(15, 1)}, Gen32 { number: 2 })",
+    ),
+    (
+        &[
+            Do::Insert(LONE, 1),
+            Do::Insert(LONE, 9),
+            Do::Insert(Kind::SingleLinkCyclic, 2),
+            Do::Insert(Kind::ChainStart((1, 2)), 3),
+            Do::Remove((2, 2)),
+        ],
+        "(Err(2), {P0[1](2): {4, (end)} Number(11, 1), P0[3](2): {3, 3} Number(2, 1), \
+            P0[4](2): {(start), 1} Number(3, 0)}, Gen32 { number: 3 })",
     ),
 ];
 
-// A chain of 4 and 1 and a ring of 3, with a free slot between. The refusal at 3 comes before 4,
-// the start of the chain.
-const CHAIN_AND_RING: &str =
-    "Err(2) {P0[1](2): {4, (end)} Number(11, 1), P0[3](2): {3, 3} Number(2, 1), \
-    P0[4](2): {(start), 1} Number(3, 0)}";
+fn rows() -> &'static [(&'static [Do], &'static str)] {
+    &ROWS
+}
 
-fn check_recasts<S: SlotStack<Item = NumberSlot>>(rt: &impl Abort, alloc: Global) {
-    for (numbers, want) in ROWS {
-        let mut arena = NumbersOver::<S>::new(alloc);
-        for n in numbers {
-            add(&mut arena, LinkInsertKind::Disconnected, *n);
-        }
-        let text = recast_text(alloc, &mut arena).expect(rt, "memory");
-        same(rt, "recast", text.as_str(), want);
+fn recast<S: SlotStack<Item = SlotOf<Number>>>(alloc: Global, calls: &[Do]) -> String {
+    let mut arena: ChainArena<ToolPtr, Number, S> = after(alloc, calls);
+    let outcome = arena.recast(&AddTen);
+    text(alloc, (outcome, &arena, arena.generation()))
+}
+
+fn check_recasts<S: SlotStack<Item = SlotOf<Number>>>(rt: &impl Abort, alloc: Global) {
+    for row in rows() {
+        let reply = recast::<S>(alloc, row.0);
+        same(rt, "recast", reply.as_str(), row.1);
     }
-    let mut arena = NumbersOver::<S>::new(alloc);
-    add(&mut arena, LinkInsertKind::Disconnected, 1);
-    add(&mut arena, LinkInsertKind::Disconnected, 9);
-    add(&mut arena, LinkInsertKind::SingleLinkCyclic, 2);
-    add(&mut arena, LinkInsertKind::ChainStart(at(1, 2)), 3);
-    arena.remove(at(2, 2));
-    let text = recast_text(alloc, &mut arena).expect(rt, "memory");
-    same(rt, "a chain and a ring", text.as_str(), CHAIN_AND_RING);
-    same(rt, "the counter", arena.generation().get(), 3);
 }
 
 #[test]
 fn recasters_that_refuse_and_that_do_not(rt: HostRuntime) {
-    check_recasts::<HeapStack<NumberSlot>>(&rt, rt.alloc());
+    check_recasts::<HeapStack<SlotOf<Number>>>(&rt, rt.alloc());
 }

@@ -1,52 +1,76 @@
-//! Runs the tests of the traits at chain arenas and at a forwarding arena.
+//! Runs the rows that any arena of links satisfies, at the chain arena and at a forwarding arena.
 
-use super::pointers::BarePtr;
-use super::transfers::{check_source, too_many};
-use super::{Slot, SlotOf, changes, reads, same, walks};
-use arena_base::CompactArenaTrait;
-use arena_ptr::{ChunkStack, HeapStack, LimitedStack, SlotStack, ToolPtr};
+use super::parser::parse_call;
+use super::scripts::{RunsCalls, plays, run_call};
+use super::trait_calls::{NONE_THEN_AGAIN, NONE_THEN_NONE, ROWS};
+use super::transfers::TRANSFERS;
+use super::{Numbered, Slot};
+use arena_base::{ArenaTrait, CompactArenaTrait};
+use arena_ptr::{ChunkStack, HeapStack, SlotStack, ToolPtr};
 use chain_arena::{ChainArena, ChainArenaTrait};
 use forwarding_arena::ForwardingArena;
 use std::alloc::Global;
+use std::marker::PhantomData;
 use std::process::Abort;
 
-// Runs all tests of the traits at an arena, which is also the source of transfers.
-fn check_arena<A: ChainArenaTrait<ToolPtr, u32> + CompactArenaTrait<ToolPtr, u32> + Drop>(
-    rt: &impl Abort,
-    alloc: Global,
-) {
-    reads::check::<A>(rt, alloc);
-    changes::check::<A>(rt, alloc);
-    walks::check::<A>(rt, alloc);
-    check_source::<A, HeapStack<Slot>>(rt, alloc);
-    for most in [300, 2] {
-        let kept = too_many::<BarePtr, A, LimitedStack<SlotOf<BarePtr>>>(alloc, most);
-        same(rt, "too many links", kept, true);
+// A forwarding arena, and the type of its pointers.
+#[derive(Drop)]
+struct Forwarding<P, A> {
+    arena: ForwardingArena<A>,
+    pointer: PhantomData<P>,
+}
+
+impl<P: Numbered, A: ChainArenaTrait<P, u32> + CompactArenaTrait<P, u32> + Drop> RunsCalls
+    for Forwarding<P, A> {
+    fn renew(&mut self, alloc: Global) {
+        self.arena = ForwardingArena::<A>::new(alloc);
+    }
+
+    fn run_call(&mut self, alloc: Global, call: &str) -> Option<String> {
+        match parse_call::<P>(call) {
+            Some(parsed) => run_call(alloc, &mut self.arena, parsed),
+            None => None,
+        }
     }
 }
 
-fn check_chains<S: SlotStack<Item = Slot>>(rt: &impl Abort, alloc: Global) {
-    check_arena::<ChainArena<ToolPtr, u32, S>>(rt, alloc);
+// Runs all rows, and those of an advancer after its first `None`.
+fn check_all<A: RunsCalls>(rt: &impl Abort, alloc: Global, arena: &mut A, after_none: &str) {
+    plays(rt, alloc, arena, ROWS);
+    plays(rt, alloc, arena, TRANSFERS);
+    plays(rt, alloc, arena, after_none);
 }
 
-fn check_forwarding<A: ChainArenaTrait<ToolPtr, u32> + CompactArenaTrait<ToolPtr, u32> + Drop>(
+fn check_chains<P: Numbered, S: SlotStack<Item = Slot<P>>>(rt: &impl Abort, alloc: Global) {
+    let mut arena: ChainArena<P, u32, S> = ChainArena::new(alloc);
+    check_all(rt, alloc, &mut arena, NONE_THEN_NONE);
+}
+
+fn check_forwarding<P: Numbered, A: ChainArenaTrait<P, u32> + CompactArenaTrait<P, u32> + Drop>(
     rt: &impl Abort,
     alloc: Global,
 ) {
-    check_arena::<ForwardingArena<A>>(rt, alloc);
+    let mut arena: Forwarding<P, A> = Forwarding {
+        arena: ForwardingArena::<A>::new(alloc),
+        pointer: PhantomData,
+    };
+    check_all(rt, alloc, &mut arena, NONE_THEN_AGAIN);
 }
 
-fn check_forwarding_of_chains<S: SlotStack<Item = Slot>>(rt: &impl Abort, alloc: Global) {
-    check_forwarding::<ChainArena<ToolPtr, u32, S>>(rt, alloc);
+fn check_forwarding_of_chains<P: Numbered, S: SlotStack<Item = Slot<P>>>(
+    rt: &impl Abort,
+    alloc: Global,
+) {
+    check_forwarding::<P, ChainArena<P, u32, S>>(rt, alloc);
 }
 
 #[test]
 fn chain_arenas(rt: HostRuntime) {
-    check_chains::<HeapStack<Slot>>(&rt, rt.alloc());
-    check_chains::<ChunkStack<Slot>>(&rt, rt.alloc());
+    check_chains::<ToolPtr, HeapStack<Slot<ToolPtr>>>(&rt, rt.alloc());
+    check_chains::<ToolPtr, ChunkStack<Slot<ToolPtr>>>(&rt, rt.alloc());
 }
 
 #[test]
 fn a_forwarding_arena(rt: HostRuntime) {
-    check_forwarding_of_chains::<HeapStack<Slot>>(&rt, rt.alloc());
+    check_forwarding_of_chains::<ToolPtr, HeapStack<Slot<ToolPtr>>>(&rt, rt.alloc());
 }

@@ -1,7 +1,7 @@
-//! Tests of the texts of links, and of arenas of links.
+//! Tests of the texts of links and of arenas of links.
 
 use super::pointers::BarePtr;
-use super::{at, generation, same};
+use super::{At, NONE, Numbered, at, same};
 use arena_base::{ArenaSlot, ArenaTrait};
 use arena_ptr::{HeapStack, Inx32, Ptr, SlotStack, ToolPtr};
 use chain_arena::{ChainArena, ChainArenaTrait, Link, LinkInsertKind, LinkNoGen};
@@ -45,17 +45,12 @@ fn texts_of<T: Debug + Display>(alloc: Global, item: &T) -> Option<String> {
     format!(in alloc; "{item:?} {item:#?} {item:>+40.3?} {item} {item:#} {item:>+40.3}").ok()
 }
 
-// A pointer as its index and its generation.
-type At = (u32, u32);
-
-const NONE: At = (0, 0);
-
-fn neighbor(p: At) -> Option<ToolPtr> {
-    if p.0 == 0 { None } else { Some(at(p.0, p.1)) }
+fn neighbor<P: Numbered>(p: At) -> Option<P> {
+    if p.0 == 0 { None } else { Some(at(p)) }
 }
 
 // Returns them for a link, with and without the generations of its neighbors.
-fn texts_of_link(alloc: Global, link: Link<ToolPtr, FormatProbe>) -> [Option<String>; 2] {
+fn texts_of_link<P: Ptr>(alloc: Global, link: Link<P, FormatProbe>) -> [Option<String>; 2] {
     [texts_of(alloc, &link), texts_of(alloc, &link.no_gen())]
 }
 
@@ -115,7 +110,7 @@ fn links_print_their_values_after_their_neighbors(rt: HostRuntime) {
 
 type Telling<P> = ArenaSlot<P, LinkNoGen<P, FormatProbe>>;
 
-// Returns the alternate text of a ring of one and a lone link.
+// Returns the alternate text of a ring of one and a lone link. The transfers test plain texts.
 fn text_of_two<P: Ptr, S: SlotStack<Item = Telling<P>>>(alloc: Global) -> Option<String> {
     let mut arena: ChainArena<P, FormatProbe, S> = ChainArena::new(alloc);
     let _ = arena.insert_reallocating(LinkInsertKind::SingleLinkCyclic, FormatProbe);
@@ -128,67 +123,4 @@ fn pointers_without_a_generation_print_none(rt: HostRuntime) {
     let text = text_of_two::<BarePtr, HeapStack<Telling<BarePtr>>>(rt.alloc());
     let want = "{\n    Bare[1]: {1, 1} debug#,\n    Bare[2]: {(start), (end)} debug#,\n}";
     reads(&rt, "an arena", text, want);
-}
-
-type Words = ArenaSlot<ToolPtr, LinkNoGen<ToolPtr, String>>;
-
-type WordsOver<S> = ChainArena<ToolPtr, String, S>;
-
-// Inserts links of words behind these indexes, 0 for none.
-fn add_words<S: SlotStack<Item = Words>>(
-    alloc: Global,
-    arena: &mut WordsOver<S>,
-    words: &[(u32, &str)],
-) {
-    for (i, word) in words {
-        let kind = match Inx32::new(*i) {
-            Some(i) => LinkInsertKind::ChainEndInx(i),
-            None => LinkInsertKind::Disconnected,
-        };
-        if let Ok(word) = String::from_str(alloc, word) {
-            let _ = arena.insert_reallocating(kind, word);
-        }
-    }
-}
-
-// Returns the plain and the alternate text.
-fn both_texts<S: SlotStack<Item = Words>>(alloc: Global, arena: &WordsOver<S>) -> Option<String> {
-    format!(in alloc; "{arena:?} {arena:#?}").ok()
-}
-
-fn check_words<S: SlotStack<Item = Words>>(rt: &impl Abort, alloc: Global) {
-    let mut arena = WordsOver::<S>::new(alloc);
-    reads(rt, "no link", both_texts(alloc, &arena), "{} {}");
-    add_words(alloc, &mut arena, &[(0, "A"), (1, "B")]);
-    let want = "{P0[1](2): {(start), 2} \"A\", P0[2](2): {1, (end)} \"B\"} \
-        {\n    P0[1](2): {(start), 2} \"A\",\n    P0[2](2): {1, (end)} \"B\",\n}";
-    reads(rt, "two in a row", both_texts(alloc, &arena), want);
-    arena.clear();
-    arena.set_generation(generation(26));
-    add_words(alloc, &mut arena, &[(0, "A")]);
-    let want = "{P0[1](1a): {(start), (end)} \"A\"} {\n    P0[1](1a): {(start), (end)} \"A\",\n}";
-    reads(rt, "a generation", both_texts(alloc, &arena), want);
-}
-
-// Checks the text of links that are inserted in turn into two chains, the first of which loses its
-// start.
-fn check_two_chains<S: SlotStack<Item = Words>>(rt: &impl Abort, alloc: Global) {
-    let mut arena = WordsOver::<S>::new(alloc);
-    add_words(alloc, &mut arena, &[(0, "X"), (0, "A"), (1, "Y"), (2, "B")]);
-    arena.remove(at(1, 2));
-    add_words(alloc, &mut arena, &[(4, "C")]);
-    let want = "{P0[1](3): {4, (end)} \"C\", P0[2](2): {(start), 4} \"A\", \
-        P0[3](2): {(start), (end)} \"Y\", P0[4](2): {2, 1} \"B\"} {
-    P0[1](3): {4, (end)} \"C\",
-    P0[2](2): {(start), 4} \"A\",
-    P0[3](2): {(start), (end)} \"Y\",
-    P0[4](2): {2, 1} \"B\",
-}";
-    reads(rt, "two chains", both_texts(alloc, &arena), want);
-}
-
-#[test]
-fn arenas_of_words(rt: HostRuntime) {
-    check_words::<HeapStack<Words>>(&rt, rt.alloc());
-    check_two_chains::<HeapStack<Words>>(&rt, rt.alloc());
 }

@@ -1,94 +1,202 @@
-//! Tests of transfers of all links from any arena.
+//! Tests of transfers of chains to another arena.
 
-use super::pointers::Digits;
-use super::{ChainsOver, Slot, SlotOf, at, chains_are, generation, linked, same, with_digit};
+use super::parser::Do;
+use super::pointers::BarePtr;
+use super::{Counted, Slot, limited, text};
 use arena_base::{ArenaTrait, CompactArenaTrait};
-use arena_ptr::{LimitStack, PtrKey, ReallocationError, SetMaxCapacity, SlotStack, ToolPtr};
+use arena_ptr::{Gen32, LimitStack, LimitedStack, Ptr, PtrKey, SlotStack, ToolPtr};
 use chain_arena::{ChainArena, ChainArenaTrait, LinkInsertKind};
 use std::alloc::Global;
-use std::process::Abort;
+use std::fmt::Debug;
 
-// The result of a transfer. Lists for each call of the closure the old pointer, the value, 1 if its
-// removal overflowed, and the new pointer.
-type Carried = (Result<(), ReallocationError>, u128);
-
-// Transfers all links of a source. The closure adds ten times the number of its call to each value,
-// or returns `returned`.
-pub(super) fn carried<
-    P: Digits,
-    A: ChainArenaTrait<P, u32> + CompactArenaTrait<P, u32>,
-    S: SlotStack<Item = Slot>,
->(source: &mut A, g: u32, target: &mut ChainsOver<S>, returned: Option<u32>) -> Carried {
-    let mut given = 0;
-    let mut calls = 0u32;
-    let outcome = target.transfer_canonical_reallocating(generation(g), source, |p, value, q| {
-        let (t, overflow) = value.overflowing();
-        let [i, g] = p.digits();
-        let [j, h] = ToolPtr::digits(q);
-        for digit in [i, g, t, u32::from(overflow), j, h] {
-            given = with_digit(given, digit);
-        }
-        calls = calls.saturating_add(10);
-        returned.unwrap_or(t.saturating_add(calls))
-    });
-    (outcome, given)
+// The target of a transfer: its maximum, and links of these values, rings of one or lone ones. The
+// closure returns `returned` for each value, if there is one.
+#[derive(Drop)]
+struct TargetSetup {
+    most: usize,
+    is_ring: bool,
+    values: &'static [u32],
+    returned: Option<u32>,
 }
 
-// Returns a target of two lone links.
-pub(super) fn target<S: SlotStack<Item = Slot>>(alloc: Global) -> ChainsOver<S> {
-    let mut arena = ChainsOver::<S>::new(alloc);
-    for t in 1..3 {
-        let _ = arena.insert_reallocating(LinkInsertKind::Disconnected, t);
+// Returns the target of a call. `CarryToBare` has 8-bit indexes, two rings and a maximum of `n`.
+// `CarryToFull` has two links and a maximum of two. `CarryAsFive` is empty, and makes each value 5.
+// Any other has two links.
+fn setup_of(call: Do, n: u32) -> TargetSetup {
+    let (most, is_ring, values, returned): (usize, bool, &'static [u32], Option<u32>) = match call {
+        Do::CarryToBare => (n as usize, true, &[5, 6], None),
+        Do::CarryToFull => (2, false, &[1, 2], None),
+        Do::CarryAsFive => (1000, false, &[], Some(5)),
+        _ => (1000, false, &[1, 2], None),
+    };
+    TargetSetup {
+        most,
+        is_ring,
+        values,
+        returned,
+    }
+}
+
+fn arena_as<P: PtrKey, S: LimitStack<Item = Slot<P>>>(
+    alloc: Global,
+    setup: &TargetSetup,
+) -> ChainArena<P, u32, S> {
+    let mut arena: ChainArena<P, u32, S> = limited(alloc, setup.most);
+    let kind = if setup.is_ring {
+        LinkInsertKind::SingleLinkCyclic
+    } else {
+        LinkInsertKind::Disconnected
+    };
+    for value in setup.values {
+        let _ = arena.insert_reallocating(kind, *value);
     }
     arena
 }
 
-// Transfers a chain of 3 and 1 and a lone link 2. The source is any arena.
-pub(super) fn check_source<
-    A: ChainArenaTrait<ToolPtr, u32> + CompactArenaTrait<ToolPtr, u32> + Drop,
-    S: SlotStack<Item = Slot>,
->(rt: &impl Abort, alloc: Global) {
-    let mut source: A = linked(alloc, 3, &[(3, 1)]);
-    let mut to: ChainsOver<S> = target(alloc);
-    let got = carried(&mut source, 7, &mut to, None);
-    same(rt, "a source", got, (Ok(()), 323017_121027_222037));
-    let are = chains_are(&to, &[(1, 7, 0, 2, 13), (2, 7, 1, 0, 21), (3, 7, 0, 0, 32)]);
-    same(rt, "the target", are, true);
-    let left = (source.is_empty(), source.singular_generation());
-    same(rt, "the source", left, (true, Some(generation(5))));
+// Transfers all links of a source. The closure adds ten times the number of its call to each value,
+// or returns `returned`.
+// Returns the result, and for each call of the closure the old pointer, the value, whether its
+// removal overflowed, and the new pointer.
+fn carry<
+    P: PtrKey + Debug,
+    Q: PtrKey + Debug,
+    A: ChainArenaTrait<P, u32> + CompactArenaTrait<P, u32>,
+    S: SlotStack<Item = Slot<Q>>,
+>(
+    alloc: Global,
+    source: &mut A,
+    generation: Q::Gen,
+    target: &mut ChainArena<Q, u32, S>,
+    returned: Option<u32>,
+) -> Option<String> {
+    let mut visited: Vec<(P, u32, bool, Q)> = Vec::new(alloc);
+    let mut calls = 0u32;
+    let outcome = target.transfer_canonical_reallocating(generation, source, |p, value, q| {
+        let (t, overflow) = value.overflowing();
+        let _ = visited.push((p, t, overflow, q));
+        calls = calls.saturating_add(10);
+        returned.unwrap_or(t.saturating_add(calls))
+    });
+    text(alloc, (outcome, visited))
 }
 
-// Transfers 256 links to indexes of 8 bits. The index type is tested before the maximum, and both
-// arenas are unchanged. The source is any arena.
-pub(super) fn too_many<
-    Q: PtrKey,
-    A: ChainArenaTrait<ToolPtr, u32> + CompactArenaTrait<ToolPtr, u32> + Drop,
-    S: LimitStack<Item = SlotOf<Q>>,
->(alloc: Global, most: usize) -> bool {
-    let mut source: A = linked(alloc, 256, &[(3, 1)]);
-    let mut to = ChainArena::<Q, u32, S>::new(alloc);
-    let Ok(p) = to.insert_reallocating(LinkInsertKind::SingleLinkCyclic, 5) else {
-        return false;
-    };
-    let capacity = source.capacity();
-    to.set_max_capacity(most).is_ok()
-        && are_refused(&mut source, &mut to, p)
-        && source.capacity() == capacity
-        && to.max_capacity() == Some(most)
+// Returns the links, counter and maximum, and whether the capacity is at most 64.
+fn contents<Q: Ptr, S: SlotStack<Item = Slot<Q>>>(
+    alloc: Global,
+    arena: &ChainArena<Q, u32, S>,
+) -> Option<String> {
+    let counter = arena.generation();
+    let is_little = arena.capacity() <= 64;
+    text(alloc, (arena, counter, arena.max_capacity(), is_little))
 }
 
-// Returns whether a transfer is refused and leaves the links of both arenas.
-fn are_refused<
-    Q: PtrKey,
-    A: ChainArenaTrait<ToolPtr, u32> + CompactArenaTrait<ToolPtr, u32>,
-    S: SlotStack<Item = SlotOf<Q>>,
->(source: &mut A, to: &mut ChainArena<Q, u32, S>, p: Q) -> bool {
-    let now = p.generation();
-    let outcome = to.transfer_canonical_reallocating(now, source, |_, value, _| value.allow());
-    outcome == Err(ReallocationError::AllocError)
-        && source.len() == 256
-        && source.are_neighbors(at(3, 2), at(1, 2))
-        && to.len() == 1
-        && to.get(p) == Some(&5)
-        && to.are_neighbors(p, p)
+fn in_one_line(alloc: Global, reply: Option<String>, listing: Option<String>) -> Option<String> {
+    match (reply, listing) {
+        (Some(reply), Some(listing)) => format!(in alloc; "{reply} {listing}").ok(),
+        _ => None,
+    }
 }
+
+// Transfers all links to a new target. Returns the result and the closure's arguments, and the
+// target then.
+fn transfer_to<
+    P: PtrKey + Debug,
+    Q: Ptr,
+    A: ChainArenaTrait<P, u32> + CompactArenaTrait<P, u32>,
+    S: LimitStack<Item = Slot<Q>>,
+>(alloc: Global, source: &mut A, generation: Q::Gen, setup: &TargetSetup) -> Option<String> {
+    let mut target: ChainArena<Q, u32, S> = arena_as(alloc, setup);
+    let reply = carry(alloc, source, generation, &mut target, setup.returned);
+    in_one_line(alloc, reply, contents(alloc, &target))
+}
+
+pub(super) fn run_transfer<
+    P: PtrKey + Debug,
+    A: ChainArenaTrait<P, u32> + CompactArenaTrait<P, u32>,
+>(alloc: Global, source: &mut A, call: Do, n: u32) -> Option<String> {
+    let setup = setup_of(call, n);
+    if setup.is_ring {
+        return transfer_to::<P, BarePtr, A, LimitedStack<Slot<BarePtr>>>(alloc, source, (), &setup);
+    }
+    transfer_to::<P, ToolPtr, A, LimitedStack<Slot<ToolPtr>>>(alloc, source, Gen32::of(n), &setup)
+}
+
+// Transfers of a chain of 3 and 1 with a lone link between, and of others. Some have the generation
+// of a compression, which arranges the same links alike.
+pub(super) const TRANSFERS: &str = "\
+# a ring and a chain behind a hole
+Insert Disconnected 1 = Ok(P0[1](2))
+Insert SingleLinkCyclic 2 = Ok(P0[2](2))
+Insert Disconnected 3 = Ok(P0[3](2))
+Insert ChainEnd 3 2 4 = Ok(P0[4](2))
+Remove 1 2 = Success(1)
+CarryOut 4 = (Ok(()), [(P0[2](2), 2, false, P0[1](4)), (P0[3](2), 3, false, P0[2](4)), (P0[4](2), 4, false, P0[3](4))]) ({P0[1](4): {1, 1} 12, P0[2](4): {(start), 3} 23, P0[3](4): {2, (end)} 34}, Gen32 { number: 4 }, Some(1000), true)
+# a linear chain and a cycle
+InsertMany 4 = 4
+Connect 1 2 4 2 = Some(())
+Connect 2 2 3 2 = Some(())
+Connect 3 2 2 2 = Some(())
+CarryOut 3 = (Ok(()), [(P0[1](2), 1, false, P0[1](3)), (P0[4](2), 4, false, P0[2](3)), (P0[2](2), 2, false, P0[3](3)), (P0[3](2), 3, false, P0[4](3))]) ({P0[1](3): {(start), 2} 11, P0[2](3): {1, (end)} 24, P0[3](3): {4, 4} 32, P0[4](3): {3, 3} 43}, Gen32 { number: 3 }, Some(1000), true)
+# a chain of 3 and 1
+InsertMany 3 = 3
+Connect 3 2 1 2 = Some(())
+CarryOut 3 = (Ok(()), [(P0[3](2), 3, false, P0[1](3)), (P0[1](2), 1, false, P0[2](3)), (P0[2](2), 2, false, P0[3](3))]) ({P0[1](3): {(start), 2} 13, P0[2](3): {1, (end)} 21, P0[3](3): {(start), (end)} 32}, Gen32 { number: 3 }, Some(1000), true)
+# lone links behind holes
+InsertMany 6 = 6
+Remove 1 2 = Success(1)
+Remove 2 2 = Success(2)
+Remove 3 2 = Success(3)
+Remove 4 2 = Success(4)
+CarryOut 7 = (Ok(()), [(P0[5](2), 5, false, P0[1](7)), (P0[6](2), 6, false, P0[2](7))]) ({P0[1](7): {(start), (end)} 15, P0[2](7): {(start), (end)} 26}, Gen32 { number: 7 }, Some(1000), true)
+# a chain of 3 and 1
+InsertMany 3 = 3
+Connect 3 2 1 2 = Some(())
+CarryOut 7 = (Ok(()), [(P0[3](2), 3, false, P0[1](7)), (P0[1](2), 1, false, P0[2](7)), (P0[2](2), 2, false, P0[3](7))]) ({P0[1](7): {(start), 2} 13, P0[2](7): {1, (end)} 21, P0[3](7): {(start), (end)} 32}, Gen32 { number: 7 }, Some(1000), true)
+Len = 0
+Counter = Some(5)
+# scattered chains
+InsertMany 4 = 4
+Connect 1 2 3 2 = Some(())
+Connect 2 2 4 2 = Some(())
+Remove 1 2 = Success(1)
+Insert ChainEnd 4 2 5 = Ok(P0[1](3))
+CarryOut 4 = (Ok(()), [(P0[2](2), 2, false, P0[1](4)), (P0[4](2), 4, false, P0[2](4)), (P0[1](3), 5, false, P0[3](4)), (P0[3](2), 3, false, P0[4](4))]) ({P0[1](4): {(start), 2} 12, P0[2](4): {1, 3} 24, P0[3](4): {2, (end)} 35, P0[4](4): {(start), (end)} 43}, Gen32 { number: 4 }, Some(1000), true)
+Len = 0
+Counter = Some(7)
+# a linear chain and a cycle
+InsertMany 4 = 4
+Connect 1 2 4 2 = Some(())
+Connect 2 2 3 2 = Some(())
+Connect 3 2 2 2 = Some(())
+CarryOut 2 = (Ok(()), [(P0[1](2), 1, false, P0[1](2)), (P0[4](2), 4, false, P0[2](2)), (P0[2](2), 2, false, P0[3](2)), (P0[3](2), 3, false, P0[4](2))]) ({P0[1](2): {(start), 2} 11, P0[2](2): {1, (end)} 24, P0[3](2): {4, 4} 32, P0[4](2): {3, 3} 43}, Gen32 { number: 2 }, Some(1000), true)
+Len = 0
+Counter = Some(6)
+# a linear chain and a cycle
+InsertMany 4 = 4
+Connect 1 2 4 2 = Some(())
+Connect 2 2 3 2 = Some(())
+Connect 3 2 2 2 = Some(())
+CarryAsFive 7 = (Ok(()), [(P0[1](2), 1, false, P0[1](7)), (P0[4](2), 4, false, P0[2](7)), (P0[2](2), 2, false, P0[3](7)), (P0[3](2), 3, false, P0[4](7))]) ({P0[1](7): {(start), 2} 5, P0[2](7): {1, (end)} 5, P0[3](7): {4, 4} 5, P0[4](7): {3, 3} 5}, Gen32 { number: 7 }, Some(1000), true)
+# an empty source
+CarryOut 9 = (Ok(()), []) ({}, Gen32 { number: 9 }, Some(1000), true)
+Len = 0
+Counter = Some(2)
+# refused transfers, of a chain of 3 and 1 and other links, beyond the maximum
+InsertMany 3 = 3
+Connect 3 2 1 2 = Some(())
+Reserve 100 = Ok(())
+CarryToFull 7 = (Err(BeyondMaxCapacity), []) ({P0[1](2): {(start), (end)} 1, P0[2](2): {(start), (end)} 2}, Gen32 { number: 2 }, Some(2), true)
+HasCapacity 100 = true
+All = [((1, 2), 1, (3, 2), (0, 0)), ((2, 2), 2, (0, 0), (0, 0)), ((3, 2), 3, (0, 0), (1, 2))]
+Counter = Some(2)
+# the index type is checked before the maximum; on the error both arenas are unchanged
+InsertMany 256 = 256
+Connect 3 2 1 2 = Some(())
+Reserve 300 = Ok(())
+CarryToBare 300 = (Err(AllocError), []) ({Bare[1]: {1, 1} 5, Bare[2]: {2, 2} 6}, (), Some(300), true)
+CarryToBare 2 = (Err(AllocError), []) ({Bare[1]: {1, 1} 5, Bare[2]: {2, 2} 6}, (), Some(2), true)
+HasCapacity 300 = true
+Len = 256
+Along 3 2 = Some([(3, 2), (1, 2), (0, 0), (0, 0), (0, 0)])
+Counter = Some(2)
+";

@@ -1,0 +1,62 @@
+//! The inherent calls of a chain arena that rows at any pointer make.
+
+use super::parser::{Do, ParsedCall, parse_call};
+use super::scripts::{RunsCalls, run_call};
+use super::{Numbered, Slot, text};
+use arena_base::ArenaTrait;
+use arena_ptr::{InvalidationOption, PtrKey, SlotStack};
+use chain_arena::ChainArena;
+use std::alloc::Global;
+
+// Returns whether the counter overflows at a link that a drain yields.
+fn overflows<T: Drop>(gone: Option<InvalidationOption<T>>) -> Option<bool> {
+    match gone {
+        Some(gone) => Some(gone.overflowing().1),
+        None => None,
+    }
+}
+
+// Drains a whole chain, and returns `overflows` for each of its first two links.
+fn drained_two<P: PtrKey, S: SlotStack<Item = Slot<P>>>(
+    arena: &mut ChainArena<P, u32, S>,
+    p: P,
+) -> [Option<bool>; 2] {
+    match arena.drain_chain(p) {
+        Some(mut links) => [overflows(links.next()), overflows(links.next())],
+        None => [None, None],
+    }
+}
+
+fn run_own_call<P: Numbered, S: SlotStack<Item = Slot<P>>>(
+    alloc: Global,
+    arena: &mut ChainArena<P, u32, S>,
+    parsed: ParsedCall<P>,
+) -> Option<String> {
+    match parsed.call {
+        Do::SetGeneration => text(alloc, arena.set_generation(P::generation_of(parsed.n))),
+        Do::DrainTwo => text(alloc, drained_two(arena, parsed.p)),
+        _ => run_trait_call(alloc, arena, parsed),
+    }
+}
+
+// Runs a call of the traits. Only here generic code gets an arena.
+fn run_trait_call<P: Numbered, S: SlotStack<Item = Slot<P>>>(
+    alloc: Global,
+    arena: &mut ChainArena<P, u32, S>,
+    parsed: ParsedCall<P>,
+) -> Option<String> {
+    run_call(alloc, arena, parsed)
+}
+
+impl<P: Numbered, S: SlotStack<Item = Slot<P>>> RunsCalls for ChainArena<P, u32, S> {
+    fn renew(&mut self, alloc: Global) {
+        *self = ChainArena::new(alloc);
+    }
+
+    fn run_call(&mut self, alloc: Global, call: &str) -> Option<String> {
+        match parse_call::<P>(call) {
+            Some(parsed) => run_own_call(alloc, self, parsed),
+            None => None,
+        }
+    }
+}
