@@ -25,7 +25,7 @@ enum Op {
     Remove,
     // 1 if there is capacity for this many more corners.
     Reserve,
-    // The number of corners; 1 if there are none, without capacity.
+    // The number of corners; 1 if there are none, without capacity and without a maximum.
     Count,
     IsNew,
 }
@@ -175,7 +175,9 @@ fn change<P: Named, A: ChainArenaTrait<P, u32> + Drop>(
             }
         }
         Op::Count => count(mesh.len()),
-        Op::IsNew => flag(mesh.is_empty() && mesh.capacity() == 0),
+        Op::IsNew => {
+            flag(mesh.is_empty() && mesh.capacity() == 0 && mesh.max_capacity().is_none())
+        }
     }
 }
 
