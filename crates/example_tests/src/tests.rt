@@ -1,7 +1,8 @@
 //! Tests of the examples over chain arenas on two stacks, and over the forwarding arena.
 //!
 //! The rows of a table are calls with what they yield. A call that yields something else is made
-//! again, if it changed nothing: it may have been refused memory.
+//! once more, since it may have been refused memory. The state after it shows whether the refusal
+//! changed anything.
 
 mod bookmarks;
 mod documents;

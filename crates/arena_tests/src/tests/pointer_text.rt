@@ -31,7 +31,7 @@ fn texts_of_indexes_and_generations_are_hexadecimal(rt: HostRuntime) {
     let (last, end) = (inx64(&rt, u64::MAX), gen64(&rt, u64::MAX));
     let greatest = "ffffffffffffffff(ffffffffffffffff) ffffffffffffffff(ffffffffffffffff) \
         ffffffffffffffff(ffffffffffffffff)";
-    let looks = [
+    let checks = [
         reads(alloc, i, gen8(&rt, 0xfe), "10(fe) 10(fe) 10(fe)"),
         reads(alloc, i, (), "10 10 10"),
         reads(
@@ -42,7 +42,7 @@ fn texts_of_indexes_and_generations_are_hexadecimal(rt: HostRuntime) {
         ),
         reads(alloc, last, end, greatest),
     ];
-    all(&rt, "whatever the format", &looks);
+    all(&rt, "whatever the format", &checks);
 }
 
 #[test]

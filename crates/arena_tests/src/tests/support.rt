@@ -19,12 +19,12 @@ pub(super) fn equal<T: PartialEq + Drop>(rt: &impl Abort, what: &str, got: T, wa
     assert!(rt; got == want, "{what}");
 }
 
-// Checks that each look is true.
-pub(super) fn all(rt: &impl Abort, what: &str, looks: &[bool]) {
+// Panics unless each of `checks` is true.
+pub(super) fn all(rt: &impl Abort, what: &str, checks: &[bool]) {
     let mut n = 0usize;
-    for look in looks {
+    for check in checks {
         n = n.saturating_add(1);
-        assert!(rt; *look, "{what}: {n}");
+        assert!(rt; *check, "{what}: {n}");
     }
 }
 
