@@ -20,6 +20,8 @@ def text_of(script):
 
 # Scripts written by hand. They have each command and kind, with each response that occurs without an allocation failure.
 ROWS = [
+    # The example session of docs/CLI.md.
+    "add alone 10;add alone 20;connect 1.2 2.2;add end 1.2 40;add end 2.2 40;chain 1.2;show 2.2;remove 2.2;chain 3.2;show 2.2;hello",
     # Kinds by pointers, and the requirements of each.
     "reserve 4;add alone 1;add ring 2;add end 1.2 3;add start 1.2 4;add after 1.2 5;add before 1.2 6;add between 4.2 6.2 7;"
     "add bridge 3.2 4.2 8;chain 1.2;add end 1.2 9;add start 1.2 9;add between 1.2 1.2 9;add bridge 1.2 1.2 9;add after 9.2 9;"
