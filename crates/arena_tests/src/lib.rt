@@ -1,4 +1,5 @@
-//! Tests of the lower crates: numbers, pointers, results, slot stacks, and the arena over them.
+//! Tests of the lower crates: numbers, pointers, results, slot stacks, the arena over them,
+//! and links.
 #![tactic(auto)]
 
 #[cfg(test)]

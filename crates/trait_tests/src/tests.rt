@@ -1,14 +1,12 @@
 mod advancers;
 mod any_arena;
+mod arena_text;
 mod generic_code;
 mod inherent_calls;
 mod limits;
-mod link_order;
-mod link_text;
 mod parser;
 mod pointers;
 mod scripts;
-mod sizes;
 mod trait_calls;
 mod transfers;
 

@@ -64,13 +64,14 @@ fn check_forwarding_of_chains<P: Numbered, S: SlotStack<Item = Slot<P>>>(
     check_forwarding::<P, ChainArena<P, u32, S>>(rt, alloc);
 }
 
-#[test]
-fn chain_arenas(rt: HostRuntime) {
-    check_chains::<ToolPtr, HeapStack<Slot<ToolPtr>>>(&rt, rt.alloc());
-    check_chains::<ToolPtr, ChunkStack<Slot<ToolPtr>>>(&rt, rt.alloc());
+// Runs the rows at a chain arena over a stack and at its forwarding arena.
+fn check_over<P: Numbered, S: SlotStack<Item = Slot<P>>>(rt: &impl Abort, alloc: Global) {
+    check_chains::<P, S>(rt, alloc);
+    check_forwarding_of_chains::<P, S>(rt, alloc);
 }
 
 #[test]
-fn a_forwarding_arena(rt: HostRuntime) {
-    check_forwarding_of_chains::<ToolPtr, HeapStack<Slot<ToolPtr>>>(&rt, rt.alloc());
+fn chain_arenas_and_forwarding_arenas(rt: HostRuntime) {
+    check_over::<ToolPtr, HeapStack<Slot<ToolPtr>>>(&rt, rt.alloc());
+    check_over::<ToolPtr, ChunkStack<Slot<ToolPtr>>>(&rt, rt.alloc());
 }

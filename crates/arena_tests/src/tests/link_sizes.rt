@@ -3,7 +3,7 @@ ghost use Rattle.std.specs.Prelude.{◌≡◌};
 
 use arena_base::ArenaSlot;
 use arena_ptr::{Ptr, ToolPtr};
-use chain_arena::LinkNoGen;
+use chain_links::LinkNoGen;
 
 // A slot of links has the tag, the generation, the two interlinks, the destination and the value,
 // four bytes each.

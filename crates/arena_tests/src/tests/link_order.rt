@@ -1,8 +1,9 @@
 //! Tests of which links are equal, and which comes first.
 
-use super::{at, same};
+use super::links::pointer;
+use super::support::equal;
 use arena_ptr::{Inx32, ToolPtr};
-use chain_arena::{Link, LinkNoGen};
+use chain_links::{Link, LinkNoGen};
 use std::cmp::Ordering;
 use std::hash::{DefaultHasher, Hash, Hasher};
 
@@ -33,9 +34,7 @@ fn bare(parts: Parts) -> LinkNoGen<ToolPtr, u32> {
 // Returns a link with pointers of generation 2, as the first links of an arena have.
 fn with_pointers(parts: Parts) -> Link<ToolPtr, u32> {
     let (prev, next, t) = parts;
-    let prev = if prev == 0 { None } else { Some(at((prev, 2))) };
-    let next = if next == 0 { None } else { Some(at((next, 2))) };
-    Link::new((prev, next), t)
+    Link::new((pointer((prev, 2)), pointer((next, 2))), t)
 }
 
 // Returns whether `l` is below `m` by each comparison.
@@ -83,7 +82,7 @@ fn links_order_by_neighbors_then_values(rt: HostRuntime) {
 #[test]
 fn the_generation_of_a_neighbor_counts_until_it_is_taken_off(rt: HostRuntime) {
     let old = with_pointers((1, 0, 7));
-    let new = Link::new((Some(at::<ToolPtr>((1, 3))), None), 7);
+    let new = Link::new((pointer((1, 3)), None), 7);
     assert!(rt;
         is_below(&old, &new) && is_same(&old.no_gen(), &new.no_gen()) && *new.no_gen_ref().t == 7
     );
@@ -93,7 +92,7 @@ fn the_generation_of_a_neighbor_counts_until_it_is_taken_off(rt: HostRuntime) {
 fn a_value_without_an_order_has_none_in_a_link(rt: HostRuntime) {
     let link = |next: u32, t: f64| LinkNoGen::<ToolPtr, f64>::new((None, inx(next)), t);
     let nan = 0.0 / 0.0;
-    same(&rt, "alone", link(0, nan).partial_cmp(&link(0, 1.0)), None);
+    equal(&rt, "alone", link(0, nan).partial_cmp(&link(0, 1.0)), None);
     let decided = link(0, nan).partial_cmp(&link(1, nan));
-    same(&rt, "by the next", decided, Some(Ordering::Less));
+    equal(&rt, "by the next", decided, Some(Ordering::Less));
 }
