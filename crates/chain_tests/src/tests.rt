@@ -11,6 +11,7 @@ mod indexing;
 mod inherent_call_tables;
 mod inherent_calls;
 mod iterators;
+mod plain_copies;
 mod recast;
 mod scripts;
 mod setup;
@@ -32,6 +33,9 @@ use std::process::Abort;
 
 // A slot of a link of a number.
 type Slot = ArenaSlot<ToolPtr, LinkNoGen<ToolPtr, u32>>;
+
+// A slot of a plain arena of numbers.
+type Bare = ArenaSlot<ToolPtr, u32>;
 
 // A chain arena over a stack. Generic over stacks, code costs its proof half as much.
 type ChainsOver<S> = ChainArena<ToolPtr, u32, S>;

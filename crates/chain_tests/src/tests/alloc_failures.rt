@@ -6,11 +6,13 @@
 
 use super::call_lists::check_refused_list;
 use super::canonical::carry_over;
-use super::copies::{copied_twice, with_a_hole};
+use super::copies::with_a_hole;
+use super::plain_copies::{PlainArena, copied_twice};
 use super::scripts::{Do, Kind, RunsCalls, Script, plays_all};
-use super::{ChainsOver, Slot, fresh_plain, generation, same};
-use arena_base::{Arena, ArenaSlot};
-use arena_ptr::{ChunkStack, HeapStack, LimitedStack, SlotStack, ToolPtr};
+use super::stacks::{Part, in_blocks, over_heap, under_maxima};
+use super::{ChainsOver, Slot, generation, same};
+use arena_base::ArenaTrait;
+use arena_ptr::SlotStack;
 use std::alloc::Global;
 use std::process::Abort;
 use test_types::FailingStack;
@@ -48,8 +50,6 @@ const NO_GROWTHS: [Do; 9] = [
     Do::CarryIn(2),
 ];
 
-type Bare = ArenaSlot<ToolPtr, u32>;
-
 // A new arena that refuses every other growth.
 static REFUSED: [Script; 1] = [(
     "links that are carried over: neither arena has changed, and then both have",
@@ -61,13 +61,13 @@ static REFUSED: [Script; 1] = [(
             "(Err(AllocError), {P0[1](2): {(start), (end)} 1, P0[2](2): {(start), (end)} 2})",
         ),
         (Do::Debug, "{}"),
-        (Do::Generation, "2"),
+        (Do::Counter, "Some(Gen32 { number: 2 })"),
         (Do::CarryIn(2), "(Ok(()), {})"),
         (
             Do::Debug,
             "{P0[1](7): {(start), (end)} 1, P0[2](7): {(start), (end)} 2}",
         ),
-        (Do::Generation, "7"),
+        (Do::Counter, "Some(Gen32 { number: 7 })"),
     ],
 )];
 
@@ -124,7 +124,7 @@ fn run_growth<A: RunsCalls + Drop>(
 
 // Checks that calls without requests for memory succeed. Returns whether the next growth is
 // refused.
-fn next_is_refused<A: RunsCalls + Drop>(rt: &impl Abort, alloc: Global) -> bool {
+pub(super) fn next_is_refused<A: RunsCalls + Drop>(rt: &impl Abort, alloc: Global) -> bool {
     let mut arena: A = begun(alloc, Do::Fill);
     for call in NO_GROWTHS {
         let refused = is_refused(alloc, &mut arena, call);
@@ -193,7 +193,7 @@ fn check_carried<S: SlotStack<Item = Slot>>(rt: &impl Abort, alloc: Global) {
 }
 
 // Checks refusals over any stack. The first call of a list is refused, and the second is not.
-pub(super) fn check_all<S: SlotStack<Item = Slot>>(rt: &impl Abort, alloc: Global) {
+pub(super) fn check_refusals<S: SlotStack<Item = Slot>>(rt: &impl Abort, alloc: Global) {
     check_growths::<ChainsOver<FailingStack<S>>, ChainsOver<S>>(rt, alloc);
     check_carried::<S>(rt, alloc);
     check_refused_list::<FailingStack<S>>(rt, alloc);
@@ -217,24 +217,24 @@ fn check_bearing_links<S: SlotStack<Item = Slot>>(rt: &impl Abort, alloc: Global
 }
 
 // Checks also a copy to a plain arena, which is not refused twice.
-fn check_bearing_copies<S: SlotStack<Item = Slot>, R: SlotStack<Item = Bare>>(
+pub(super) fn check_requests<S: SlotStack<Item = Slot>, A: PlainArena>(
     rt: &impl Abort,
     alloc: Global,
 ) {
     check_bearing_links::<S>(rt, alloc);
-    let mut target: Arena<ToolPtr, u32, R> = fresh_plain(alloc);
-    let reply = copied_twice::<S, R>(alloc, &mut target);
-    same(rt, "a copy", reply.contains("(Ok(())"), true);
+    let [first, _, second, _] = copied_twice::<S, A>(alloc, &mut A::new(alloc));
+    let is_copied = first.contains("(Ok(())") || second.contains("(Ok(())");
+    same(rt, "a copy", is_copied, true);
 }
 
 #[test]
 fn a_request_may_be_refused(rt: HostRuntime) {
-    check_bearing_copies::<HeapStack<Slot>, HeapStack<Bare>>(&rt, rt.alloc());
-    check_bearing_links::<LimitedStack<Slot>>(&rt, rt.alloc());
-    check_bearing_links::<ChunkStack<Slot>>(&rt, rt.alloc());
+    over_heap(&rt, rt.alloc(), Part::Requests);
+    in_blocks(&rt, rt.alloc(), Part::Requests);
+    under_maxima(&rt, rt.alloc(), Part::Requests);
 }
 
 #[test]
 fn calls_without_allocation(rt: HostRuntime) {
-    let _ = next_is_refused::<ChainsOver<HeapStack<Slot>>>(&rt, rt.alloc());
+    over_heap(&rt, rt.alloc(), Part::NoRequests);
 }

@@ -59,24 +59,6 @@ pub(super) fn carry_over<P: PtrKey, T: Drop, S: SlotStack<Item = ArenaSlot<P, Li
     target.transfer_canonical_reallocating(now, source, |_, value, _| value.allow())
 }
 
-// Compresses one clone, and transfers another with the generation of the compression. Returns
-// whether both have the same text, and the text.
-pub(super) fn both_arranged<S: SlotStack<Item = Slot>>(
-    alloc: Global,
-    arena: &ChainsOver<S>,
-) -> (bool, String) {
-    let (Ok(mut compressed), Ok(mut source)) = (arena.clone(alloc), arena.clone(alloc)) else {
-        return (false, String::new(alloc));
-    };
-    compressed.compress_canonical(false);
-    let mut carried: ChainsOver<S> = fresh(alloc);
-    let now = compressed.generation();
-    let outcome = carry_over(&mut source, &mut carried, now);
-    let listing = text(alloc, &carried);
-    let is_same = text(alloc, &compressed).as_str() == listing.as_str();
-    (outcome.is_ok() && is_same, listing)
-}
-
 // Transfers lone links to an arena with generation 7. Returns the result and the source then.
 pub(super) fn carried_in<S: SlotStack<Item = Slot>>(
     alloc: Global,
@@ -141,13 +123,7 @@ const BEHIND_A_HOLE: Script = (
 static LAYOUTS: [(Script, &[&[Line]]); 6] = [
     (
         BEHIND_A_HOLE,
-        &[
-            &[(Do::Compress(false), "Success(())"), (Do::Slots, "3")],
-            &[(
-                Do::BothArranged,
-                "(true, \"{P0[1](4): {1, 1} 2, P0[2](4): {(start), 3} 3, P0[3](4): {2, (end)} 4}\")",
-            )],
-        ],
+        &[&[(Do::Compress(false), "Success(())"), (Do::Slots, "3")]],
     ),
     (
         SCATTERED,
@@ -158,7 +134,7 @@ static LAYOUTS: [(Script, &[&[Line]]); 6] = [
                     Do::Debug,
                     "{P0[1](4): {(start), 2} 2, P0[2](4): {1, 3} 4, P0[3](4): {2, (end)} 5, P0[4](4): {(start), (end)} 3}",
                 ),
-                (Do::Generation, "4"),
+                (Do::Counter, "Some(Gen32 { number: 4 })"),
             ],
             &[(
                 Do::MovesVisited(false),
@@ -169,10 +145,6 @@ static LAYOUTS: [(Script, &[&[Line]]); 6] = [
                 Do::MovesListed(false),
                 "Ok((Success(()), [(P0[2](2), P0[1](4)), (P0[4](2), P0[2](4)), (P0[1](3), P0[3](4)), \
                 (P0[3](2), P0[4](4))]))",
-            )],
-            &[(
-                Do::BothArranged,
-                "(true, \"{P0[1](4): {(start), 2} 2, P0[2](4): {1, 3} 4, P0[3](4): {2, (end)} 5, P0[4](4): {(start), (end)} 3}\")",
             )],
         ],
     ),
@@ -188,10 +160,6 @@ static LAYOUTS: [(Script, &[&[Line]]); 6] = [
                 Do::MovesListed(false),
                 "Ok((Success(()), [(P0[1](2), P0[1](3)), (P0[4](2), P0[2](3)), (P0[2](2), P0[3](3)), \
                 (P0[3](2), P0[4](3))]))",
-            )],
-            &[(
-                Do::BothArranged,
-                "(true, \"{P0[1](3): {(start), 2} 1, P0[2](3): {1, (end)} 4, P0[3](3): {4, 4} 2, P0[4](3): {3, 3} 3}\")",
             )],
         ],
     ),
@@ -210,16 +178,10 @@ static LAYOUTS: [(Script, &[&[Line]]); 6] = [
     ),
     (
         BEHIND_HOLES,
-        &[
-            &[
-                (Do::Placed(false), "(Success(()), 2)"),
-                (Do::Placed(false), "(Success(()), 2)"),
-            ],
-            &[(
-                Do::BothArranged,
-                "(true, \"{P0[1](7): {(start), (end)} 5, P0[2](7): {(start), (end)} 6}\")",
-            )],
-        ],
+        &[&[
+            (Do::Placed(false), "(Success(()), 2)"),
+            (Do::Placed(false), "(Success(()), 2)"),
+        ]],
     ),
     (
         ("an empty arena", 0, &[], &[]),
@@ -230,7 +192,7 @@ static LAYOUTS: [(Script, &[&[Line]]); 6] = [
             ),
             (Do::Canonical(false), "Success(())"),
             (Do::IsEmpty, "true"),
-            (Do::Generation, "2"),
+            (Do::Counter, "Some(Gen32 { number: 2 })"),
         ]],
     ),
 ];

@@ -106,11 +106,10 @@ static FURTHER_WALKS: [Script; 3] = [
         &[(1, 2), (2, 1)],
         &[
             (Do::Slots, "2"),
-            (Do::Generation, "2"),
             (Do::Counter, "Some(Gen32 { number: 2 })"),
             (Do::Clear, "Success(())"),
             (Do::Slots, "0"),
-            (Do::Generation, "3"),
+            (Do::Counter, "Some(Gen32 { number: 3 })"),
         ],
     ),
 ];
@@ -186,7 +185,7 @@ static CHAIN_DRAINS: [Script; 4] = [
                 Success((P0[3](2), {(start), (end)} 3))]",
             ),
             (Do::IsEmpty, "true"),
-            (Do::Generation, "5"),
+            (Do::Counter, "Some(Gen32 { number: 5 })"),
         ],
     ),
     (
@@ -200,7 +199,7 @@ static CHAIN_DRAINS: [Script; 4] = [
                 Success((P0[1](2), {(start), (end)} 1))]",
             ),
             (Do::IsEmpty, "true"),
-            (Do::Generation, "5"),
+            (Do::Counter, "Some(Gen32 { number: 5 })"),
         ],
     ),
     (
@@ -214,7 +213,7 @@ static CHAIN_DRAINS: [Script; 4] = [
                 Success((P0[3](2), {3, 3} 3))]",
             ),
             (Do::IsEmpty, "true"),
-            (Do::Generation, "5"),
+            (Do::Counter, "Some(Gen32 { number: 5 })"),
         ],
     ),
     (
@@ -257,7 +256,7 @@ static FURTHER_CHAIN_DRAINS: [Script; 3] = [
                 Do::DrainChainOne((2, 2)),
                 "Some(Success((P0[2](2), {1, 3} 2)))",
             ),
-            (Do::Generation, "6"),
+            (Do::Counter, "Some(Gen32 { number: 6 })"),
             (Do::Debug, "{P0[5](2): {(start), (end)} 5}"),
         ],
     ),
@@ -291,7 +290,7 @@ static DRAINS: [Script; 3] = [
                 "[Success((P0[1](2), 1)), Success((P0[3](2), 3)), Success((P0[4](2), 4))]",
             ),
             (Do::IsEmpty, "true"),
-            (Do::Generation, "6"),
+            (Do::Counter, "Some(Gen32 { number: 6 })"),
         ],
     ),
     (
@@ -329,7 +328,7 @@ static FURTHER_DRAINS: [Script; 3] = [
         &[
             (Do::DrainOne, "Some(Success((P0[1](2), 1)))"),
             (Do::IsEmpty, "true"),
-            (Do::Generation, "5"),
+            (Do::Counter, "Some(Gen32 { number: 5 })"),
         ],
     ),
     (
@@ -342,7 +341,7 @@ static FURTHER_DRAINS: [Script; 3] = [
                 Do::Debug,
                 "{P0[2](2): {(start), 3} 2, P0[3](2): {2, (end)} 3}",
             ),
-            (Do::Generation, "3"),
+            (Do::Counter, "Some(Gen32 { number: 3 })"),
         ],
     ),
     (
@@ -352,7 +351,7 @@ static FURTHER_DRAINS: [Script; 3] = [
         &[
             (Do::SetGeneration(u32::MAX), "()"),
             (Do::DrainOne, "Some(GenerationOverflow((P0[1](2), 1)))"),
-            (Do::Generation, "4"),
+            (Do::Counter, "Some(Gen32 { number: 4 })"),
             (Do::RemoveAll, "()"),
             (Do::IsEmpty, "true"),
         ],
@@ -368,11 +367,11 @@ static VACANT_ENTRIES: [Script; 6] = [
         &[
             (Do::DropEntry(Kind::Disconnected), "Ok(P0[1](2))"),
             (Do::Len, "0"),
-            (Do::Generation, "2"),
+            (Do::Counter, "Some(Gen32 { number: 2 })"),
             (Do::Get((1, 2)), "None"),
             (Do::InsertByEntry(Kind::Disconnected, 7), "Ok(P0[1](2))"),
             (Do::Len, "1"),
-            (Do::Generation, "2"),
+            (Do::Counter, "Some(Gen32 { number: 2 })"),
             (Do::Get((1, 2)), "Some(7)"),
         ],
     ),
@@ -383,7 +382,7 @@ static VACANT_ENTRIES: [Script; 6] = [
         &[
             (Do::Forget(Kind::Disconnected), "None"),
             (Do::Len, "0"),
-            (Do::Generation, "2"),
+            (Do::Counter, "Some(Gen32 { number: 2 })"),
             (Do::Get((1, 2)), "None"),
             (Do::Insert(Kind::Disconnected, 7), "Ok(P0[1](2))"),
         ],

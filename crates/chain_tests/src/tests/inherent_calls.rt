@@ -2,7 +2,7 @@
 
 use super::call_lists::{kind, two_calls};
 use super::canonical::{
-    both_arranged, carried_in, compress_and_count, moves_listed, moves_visited, placement_count,
+    carried_in, compress_and_count, moves_listed, moves_visited, placement_count,
 };
 use super::drains::{Ends, drain_all_text, drained_chain, remove_all};
 use super::entries::{
@@ -48,7 +48,6 @@ fn run_layout<S: SlotStack<Item = Slot>>(
         Do::Counted(reset) => text(alloc, compress_and_count(arena, reset)),
         Do::MovesVisited(reset) => text(alloc, moves_visited(alloc, arena, reset)),
         Do::MovesListed(reset) => text(alloc, moves_listed(alloc, arena, reset)),
-        Do::BothArranged => text(alloc, both_arranged(alloc, arena)),
         other => run_growth(alloc, arena, other),
     }
 }

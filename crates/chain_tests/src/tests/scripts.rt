@@ -48,7 +48,6 @@ pub(super) enum Do {
     Capacities,
     Maximum,
     Counter,
-    Generation,
     Slots,
     SlotsListed,
     Get(At),
@@ -82,13 +81,11 @@ pub(super) enum Do {
     InsertByEntry(Kind, u32),
     InsertByAnyEntry(Kind, u32),
     InsertIfAllowed(Kind, u32),
-    // Canonical compressions: placed links, all work, moves by a closure and as a list, and beside
-    // a transfer.
+    // Canonical compressions: placed links, all work, and moves by a closure and as a list.
     Placed(bool),
     Counted(bool),
     MovesVisited(bool),
     MovesListed(bool),
-    BothArranged,
     // Calls that are tested with refused allocations: a full chain, holes, a minimum capacity, a
     // transfer of lone links, and two calls as one list.
     Fill,
@@ -144,11 +141,6 @@ pub(super) fn lookup<S: SlotStack<Item = Slot>>(
 ) -> String {
     match row {
         Do::Debug => text(alloc, &*arena),
-        Do::Generation => text(alloc, arena.generation().get()),
-        Do::Capacities => {
-            let capacities = (arena.capacity(), arena.max_capacity());
-            text(alloc, (arena.generation(), capacities))
-        }
         Do::Slots => text(alloc, arena.backing().len()),
         Do::SlotsListed => slots_of(alloc, arena.backing()),
         Do::Clone => clone_text(alloc, arena),
@@ -165,6 +157,10 @@ fn trait_lookup<A: ArenaTrait<ToolPtr, u32>>(alloc: Global, arena: &mut A, row: 
         Do::HasCapacity(n) => text(alloc, arena.capacity() >= n),
         Do::Maximum => text(alloc, arena.max_capacity()),
         Do::Counter => text(alloc, arena.singular_generation()),
+        Do::Capacities => {
+            let capacities = (arena.capacity(), arena.max_capacity());
+            text(alloc, (arena.singular_generation(), capacities))
+        }
         Do::Get(p) => text(alloc, arena.get(at(p))),
         Do::Remove(p) => text(alloc, arena.remove(at(p))),
         _ => text(alloc, "no call of any stack"),

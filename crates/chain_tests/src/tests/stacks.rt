@@ -1,18 +1,38 @@
 //! Runs the tests of links of numbers over each stack.
 
+use super::alloc_failures::{check_refusals, check_requests, next_is_refused};
 use super::call_lists::{check_every_reply, check_lists};
 use super::canonical::{check_bounds, layouts};
 use super::consistency::{check_accepted, check_rows};
-use super::copies::{check_plain, check_refused_beside_holes, check_refused_copy, copies};
+use super::copies::copies;
 use super::entries::check_full;
 use super::inherent_call_tables::tables;
+use super::plain_copies::{
+    PlainArena, check_limited_copy, check_refused_beside_holes, check_refused_copy,
+};
 use super::scripts::{RunsCalls, plays_all, plays_on};
 use super::visitor_state::{check_beyond_one, check_counted, check_kept};
-use super::{ChainsOver, Slot, alloc_failures};
-use arena_base::ArenaSlot;
+use super::{Bare, ChainsOver, Slot};
+use arena_base::Arena;
 use arena_ptr::{ChunkStack, HeapStack, LimitStack, LimitedStack, SlotStack, ToolPtr};
 use std::alloc::Global;
 use std::process::Abort;
+use test_types::FailingStack;
+
+type Plain<R> = Arena<ToolPtr, u32, R>;
+
+// What is run over a stack.
+#[derive(Clone, Copy)]
+pub(super) enum Part {
+    // All calls, and those that a maximum refuses.
+    Calls,
+    // Calls over a stack that refuses every other growth.
+    Refusals,
+    // Calls of which each request for memory may be refused.
+    Requests,
+    // Calls that request no memory.
+    NoRequests,
+}
 
 // Runs the tables of inherent calls and of layouts.
 fn check_scripts<A: RunsCalls + Drop>(rt: &impl Abort, alloc: Global) {
@@ -22,7 +42,7 @@ fn check_scripts<A: RunsCalls + Drop>(rt: &impl Abort, alloc: Global) {
     plays_on::<A>(rt, alloc, layouts());
 }
 
-fn check_links<S: SlotStack<Item = Slot>>(rt: &impl Abort, alloc: Global) {
+fn check_calls<S: SlotStack<Item = Slot>>(rt: &impl Abort, alloc: Global) {
     check_rows::<S>(rt, alloc);
     check_accepted::<S>(rt, alloc);
     check_lists::<S>(rt, alloc);
@@ -32,50 +52,80 @@ fn check_links<S: SlotStack<Item = Slot>>(rt: &impl Abort, alloc: Global) {
     plays_on::<ChainsOver<S>>(rt, alloc, copies());
 }
 
-fn check_limited_links<S: LimitStack<Item = Slot>>(rt: &impl Abort, alloc: Global) {
-    check_full::<S>(rt, alloc);
-    check_every_reply::<S>(rt, alloc);
-    check_beyond_one::<S>(rt, alloc);
-    alloc_failures::check_all::<S>(rt, alloc);
-    plays_on::<ChainsOver<S>>(rt, alloc, copies());
+fn check_refused_copies<S: SlotStack<Item = Slot>, A: PlainArena>(rt: &impl Abort, alloc: Global) {
+    check_refusals::<S>(rt, alloc);
+    check_refused_copy::<S, A>(rt, alloc);
+    check_refused_beside_holes::<S, A>(rt, alloc);
 }
 
-// Runs the tests of copies to plain arenas, over another stack.
-fn check_plain_arenas<S: SlotStack<Item = Slot>, R: LimitStack<Item = ArenaSlot<ToolPtr, u32>>>(
+fn check_no_requests<S: SlotStack<Item = Slot>>(rt: &impl Abort, alloc: Global) {
+    let _ = next_is_refused::<ChainsOver<S>>(rt, alloc);
+}
+
+// Runs a part over a stack of links, and over one of the values of a plain arena.
+fn check<S: SlotStack<Item = Slot>, R: SlotStack<Item = Bare>>(
+    rt: &impl Abort,
+    alloc: Global,
+    part: Part,
+) {
+    match part {
+        Part::Calls => check_calls::<S>(rt, alloc),
+        Part::Refusals => check_refused_copies::<S, Plain<FailingStack<R>>>(rt, alloc),
+        Part::Requests => check_requests::<S, Plain<R>>(rt, alloc),
+        Part::NoRequests => check_no_requests::<S>(rt, alloc),
+    }
+}
+
+fn check_maxima<S: LimitStack<Item = Slot>, R: LimitStack<Item = Bare>>(
     rt: &impl Abort,
     alloc: Global,
 ) {
-    check_counted::<S, R>(rt, alloc);
-    check_plain::<S, R>(rt, alloc);
+    check_full::<S>(rt, alloc);
+    check_every_reply::<S>(rt, alloc);
+    check_beyond_one::<S>(rt, alloc);
+    check_counted::<S, Plain<R>>(rt, alloc);
+    check_limited_copy::<S, Plain<R>>(rt, alloc);
+    plays_on::<ChainsOver<S>>(rt, alloc, copies());
 }
 
-fn check_all<S: SlotStack<Item = Slot>>(rt: &impl Abort, alloc: Global) {
-    check_links::<S>(rt, alloc);
-    alloc_failures::check_all::<S>(rt, alloc);
+// Runs a part over stacks with a maximum. Its calls are those that a maximum refuses, and copies.
+fn check_limited<S: LimitStack<Item = Slot>, R: LimitStack<Item = Bare>>(
+    rt: &impl Abort,
+    alloc: Global,
+    part: Part,
+) {
+    match part {
+        Part::Calls => check_maxima::<S, R>(rt, alloc),
+        other => check::<S, R>(rt, alloc, other),
+    }
+}
+
+// Only the next three bodies name a stack, since naming it is the cost.
+pub(super) fn over_heap(rt: &impl Abort, alloc: Global, part: Part) {
+    check::<HeapStack<Slot>, HeapStack<Bare>>(rt, alloc, part);
+}
+
+pub(super) fn in_blocks(rt: &impl Abort, alloc: Global, part: Part) {
+    check::<ChunkStack<Slot>, ChunkStack<Bare>>(rt, alloc, part);
+}
+
+pub(super) fn under_maxima(rt: &impl Abort, alloc: Global, part: Part) {
+    check_limited::<LimitedStack<Slot>, LimitedStack<Bare>>(rt, alloc, part);
 }
 
 #[test]
-fn links_over_the_heap_stack(rt: HostRuntime) {
-    check_all::<HeapStack<Slot>>(&rt, rt.alloc());
+fn calls_over_the_heap_stack(rt: HostRuntime) {
+    over_heap(&rt, rt.alloc(), Part::Calls);
 }
 
 #[test]
-fn links_in_blocks(rt: HostRuntime) {
-    alloc_failures::check_all::<ChunkStack<Slot>>(&rt, rt.alloc());
+fn calls_over_a_limited_stack(rt: HostRuntime) {
+    under_maxima(&rt, rt.alloc(), Part::Calls);
 }
 
 #[test]
-fn links_over_a_limited_stack(rt: HostRuntime) {
-    check_limited_links::<LimitedStack<Slot>>(&rt, rt.alloc());
-}
-
-type Bare = ArenaSlot<ToolPtr, u32>;
-
-#[test]
-fn copies_to_plain_arenas(rt: HostRuntime) {
-    check_plain_arenas::<HeapStack<Slot>, LimitedStack<Bare>>(&rt, rt.alloc());
-    check_refused_copy::<HeapStack<Slot>, HeapStack<Bare>>(&rt, rt.alloc());
-    check_refused_copy::<LimitedStack<Slot>, LimitedStack<Bare>>(&rt, rt.alloc());
-    check_refused_copy::<ChunkStack<Slot>, ChunkStack<Bare>>(&rt, rt.alloc());
-    check_refused_beside_holes::<HeapStack<Slot>, HeapStack<Bare>>(&rt, rt.alloc());
+fn each_growth_is_refused_once(rt: HostRuntime) {
+    over_heap(&rt, rt.alloc(), Part::Refusals);
+    in_blocks(&rt, rt.alloc(), Part::Refusals);
+    under_maxima(&rt, rt.alloc(), Part::Refusals);
 }

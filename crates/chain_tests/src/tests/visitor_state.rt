@@ -1,7 +1,8 @@
 //! Tests that visitors and value maps are returned in the state they reached.
 
-use super::{ChainsOver, Slot, fresh_limited, fresh_plain, lone_links, remove, same, text};
-use arena_base::{Arena, ArenaSlot, ArenaTrait, ValueMap};
+use super::plain_copies::PlainArena;
+use super::{ChainsOver, Slot, fresh_limited, lone_links, remove, same, text};
+use arena_base::{ArenaTrait, ValueMap};
 use arena_ptr::{AllocError, LimitStack, ReallocationError, SlotStack, ToolPtr};
 use chain_arena::{LinkNoGen, Visitor};
 use std::alloc::Global;
@@ -79,11 +80,8 @@ fn counted_over<S: SlotStack<Item = Slot>>(
 type Report = (Option<ReallocationError>, u32, usize);
 
 // Copies lone links into a plain arena.
-fn counted_to_plain<S: SlotStack<Item = Slot>, R: SlotStack<Item = ArenaSlot<ToolPtr, u32>>>(
-    alloc: Global,
-    count: u32,
-) -> Report {
-    let mut target: Arena<ToolPtr, u32, R> = fresh_plain(alloc);
+fn counted_to_plain<S: SlotStack<Item = Slot>, A: PlainArena>(alloc: Global, count: u32) -> Report {
+    let mut target = A::new(alloc);
     let source: ChainsOver<S> = lone_links(alloc, count);
     let (outcome, map) = source.clone_to_arena_by(&mut target, Counting { calls: 0 });
     (outcome.err(), map.calls, target.len())
@@ -110,16 +108,16 @@ static COUNTED: [(u32, &str, Report); 2] = [
 ];
 
 // Checks each row. The value map is returned.
-pub(super) fn check_counted<
-    S: SlotStack<Item = Slot>,
-    R: SlotStack<Item = ArenaSlot<ToolPtr, u32>>,
->(rt: &impl Abort, alloc: Global) {
+pub(super) fn check_counted<S: SlotStack<Item = Slot>, A: PlainArena>(
+    rt: &impl Abort,
+    alloc: Global,
+) {
     for row in &COUNTED {
         let (count, want, plain) = *row;
         let mut target: ChainsOver<S> = lone_links(alloc, 1);
         let reply = counted_over(alloc, count, &mut target);
         same(rt, "over one link", reply.as_str(), want);
-        let reply = counted_to_plain::<S, R>(alloc, count);
+        let reply = counted_to_plain::<S, A>(alloc, count);
         same(rt, "to a plain arena", reply, plain);
     }
 }
