@@ -1,6 +1,5 @@
 //! Tests of the program over readers and writers in memory.
 mod io_faults;
-mod small_indexes;
 
 ghost use Rattle.std.specs.Prelude.{◌≡◌, ℕ, List, ◌∷◌, [], codes, true, Some, None, option_map};
 ghost use Rattle.chain_links.specs.declared.kinds.InsertKindBody.TheVariants.{Disconnected, SingleLinkCyclic, ChainEnd, NextToInx, BridgeInx};
@@ -15,9 +14,9 @@ ghost use Rattle.chain_commands.specs.Transcripts.{AreComplete};
 
 use arena_base::{ArenaSlot, ArenaTrait};
 use arena_ptr::{
-    ChunkStack, HeapStack, Inx32, LimitStack, LimitedStack, SetMaxCapacity, SlotStack, ToolPtr,
+    ChunkStack, HeapStack, LimitStack, LimitedStack, SetMaxCapacity, SlotStack, ToolPtr,
 };
-use chain_arena::{ChainArena, ChainArenaTrait, LinkInsertKind, LinkNoGen};
+use chain_arena::{ChainArena, LinkNoGen};
 use chain_commands::{ToolError, run, run_on};
 use std::alloc::Global;
 use std::fmt::Debug;
@@ -497,53 +496,88 @@ fn check_runs<S: SlotStack<Item = Slot>>(rt: &impl Abort, alloc: Global) {
     }
 }
 
-/// Makes a chain of 130 links over three blocks, each with its index as its value, and returns
-/// their number.
-fn add_chain<S: SlotStack<Item = Slot>>(arena: &mut LinksOver<S>) -> usize {
-    let mut kind = LinkInsertKind::Disconnected;
-    for t in 1..=130 {
-        if let Ok(p) = arena.insert_reallocating(kind, t) {
-            kind = LinkInsertKind::ChainEnd(p);
-        }
-    }
-    arena.len()
-}
-
-/// Removes the first 64 of them, and returns the number left.
-fn empty_the_first_block<S: SlotStack<Item = Slot>>(arena: &mut LinksOver<S>) -> usize {
-    for i in 1..=64 {
-        if let Some(i) = Inx32::new(i) {
-            arena.remove_inx(i);
-        }
-    }
-    arena.len()
-}
-
-/// The walk along the 66 links left, at indexes from 1 on.
-const WALK_OF_THE_REST: (&str, &str) = (
-    "chain 1.67\n",
-    "1.67:65 2.67:66 3.67:67 4.67:68 5.67:69 6.67:70 7.67:71 8.67:72 9.67:73 10.67:74 11.67:75 12.67:76 13.67:77 \
-    14.67:78 15.67:79 16.67:80 17.67:81 18.67:82 19.67:83 20.67:84 21.67:85 22.67:86 23.67:87 24.67:88 25.67:89 \
-    26.67:90 27.67:91 28.67:92 29.67:93 30.67:94 31.67:95 32.67:96 33.67:97 34.67:98 35.67:99 36.67:100 \
-    37.67:101 38.67:102 39.67:103 40.67:104 41.67:105 42.67:106 43.67:107 44.67:108 45.67:109 46.67:110 \
-    47.67:111 48.67:112 49.67:113 50.67:114 51.67:115 52.67:116 53.67:117 54.67:118 55.67:119 56.67:120 \
-    57.67:121 58.67:122 59.67:123 60.67:124 61.67:125 62.67:126 63.67:127 64.67:128 65.67:129 66.67:130\n",
+/// A chain of 130 links over three blocks, each with its index as its value. The first 64, a whole
+/// block, are removed.
+const FIRST_BLOCK_EMPTIED: (&str, &str) = (
+    "add alone 1\nadd end 1.2 2\nadd end 2.2 3\nadd end 3.2 4\nadd end 4.2 5\nadd end 5.2 6\n\
+    add end 6.2 7\nadd end 7.2 8\nadd end 8.2 9\nadd end 9.2 10\nadd end 10.2 11\n\
+    add end 11.2 12\nadd end 12.2 13\nadd end 13.2 14\nadd end 14.2 15\nadd end 15.2 16\n\
+    add end 16.2 17\nadd end 17.2 18\nadd end 18.2 19\nadd end 19.2 20\nadd end 20.2 21\n\
+    add end 21.2 22\nadd end 22.2 23\nadd end 23.2 24\nadd end 24.2 25\nadd end 25.2 26\n\
+    add end 26.2 27\nadd end 27.2 28\nadd end 28.2 29\nadd end 29.2 30\nadd end 30.2 31\n\
+    add end 31.2 32\nadd end 32.2 33\nadd end 33.2 34\nadd end 34.2 35\nadd end 35.2 36\n\
+    add end 36.2 37\nadd end 37.2 38\nadd end 38.2 39\nadd end 39.2 40\nadd end 40.2 41\n\
+    add end 41.2 42\nadd end 42.2 43\nadd end 43.2 44\nadd end 44.2 45\nadd end 45.2 46\n\
+    add end 46.2 47\nadd end 47.2 48\nadd end 48.2 49\nadd end 49.2 50\nadd end 50.2 51\n\
+    add end 51.2 52\nadd end 52.2 53\nadd end 53.2 54\nadd end 54.2 55\nadd end 55.2 56\n\
+    add end 56.2 57\nadd end 57.2 58\nadd end 58.2 59\nadd end 59.2 60\nadd end 60.2 61\n\
+    add end 61.2 62\nadd end 62.2 63\nadd end 63.2 64\nadd end 64.2 65\nadd end 65.2 66\n\
+    add end 66.2 67\nadd end 67.2 68\nadd end 68.2 69\nadd end 69.2 70\nadd end 70.2 71\n\
+    add end 71.2 72\nadd end 72.2 73\nadd end 73.2 74\nadd end 74.2 75\nadd end 75.2 76\n\
+    add end 76.2 77\nadd end 77.2 78\nadd end 78.2 79\nadd end 79.2 80\nadd end 80.2 81\n\
+    add end 81.2 82\nadd end 82.2 83\nadd end 83.2 84\nadd end 84.2 85\nadd end 85.2 86\n\
+    add end 86.2 87\nadd end 87.2 88\nadd end 88.2 89\nadd end 89.2 90\nadd end 90.2 91\n\
+    add end 91.2 92\nadd end 92.2 93\nadd end 93.2 94\nadd end 94.2 95\nadd end 95.2 96\n\
+    add end 96.2 97\nadd end 97.2 98\nadd end 98.2 99\nadd end 99.2 100\nadd end 100.2 101\n\
+    add end 101.2 102\nadd end 102.2 103\nadd end 103.2 104\nadd end 104.2 105\n\
+    add end 105.2 106\nadd end 106.2 107\nadd end 107.2 108\nadd end 108.2 109\n\
+    add end 109.2 110\nadd end 110.2 111\nadd end 111.2 112\nadd end 112.2 113\n\
+    add end 113.2 114\nadd end 114.2 115\nadd end 115.2 116\nadd end 116.2 117\n\
+    add end 117.2 118\nadd end 118.2 119\nadd end 119.2 120\nadd end 120.2 121\n\
+    add end 121.2 122\nadd end 122.2 123\nadd end 123.2 124\nadd end 124.2 125\n\
+    add end 125.2 126\nadd end 126.2 127\nadd end 127.2 128\nadd end 128.2 129\n\
+    add end 129.2 130\nremove 1\nremove 2\nremove 3\nremove 4\nremove 5\nremove 6\nremove 7\n\
+    remove 8\nremove 9\nremove 10\nremove 11\nremove 12\nremove 13\nremove 14\nremove 15\n\
+    remove 16\nremove 17\nremove 18\nremove 19\nremove 20\nremove 21\nremove 22\nremove 23\n\
+    remove 24\nremove 25\nremove 26\nremove 27\nremove 28\nremove 29\nremove 30\nremove 31\n\
+    remove 32\nremove 33\nremove 34\nremove 35\nremove 36\nremove 37\nremove 38\nremove 39\n\
+    remove 40\nremove 41\nremove 42\nremove 43\nremove 44\nremove 45\nremove 46\nremove 47\n\
+    remove 48\nremove 49\nremove 50\nremove 51\nremove 52\nremove 53\nremove 54\nremove 55\n\
+    remove 56\nremove 57\nremove 58\nremove 59\nremove 60\nremove 61\nremove 62\nremove 63\n\
+    remove 64\n",
+    "at 1.2\nat 2.2\nat 3.2\nat 4.2\nat 5.2\nat 6.2\nat 7.2\nat 8.2\nat 9.2\nat 10.2\nat 11.2\n\
+    at 12.2\nat 13.2\nat 14.2\nat 15.2\nat 16.2\nat 17.2\nat 18.2\nat 19.2\nat 20.2\nat 21.2\n\
+    at 22.2\nat 23.2\nat 24.2\nat 25.2\nat 26.2\nat 27.2\nat 28.2\nat 29.2\nat 30.2\nat 31.2\n\
+    at 32.2\nat 33.2\nat 34.2\nat 35.2\nat 36.2\nat 37.2\nat 38.2\nat 39.2\nat 40.2\nat 41.2\n\
+    at 42.2\nat 43.2\nat 44.2\nat 45.2\nat 46.2\nat 47.2\nat 48.2\nat 49.2\nat 50.2\nat 51.2\n\
+    at 52.2\nat 53.2\nat 54.2\nat 55.2\nat 56.2\nat 57.2\nat 58.2\nat 59.2\nat 60.2\nat 61.2\n\
+    at 62.2\nat 63.2\nat 64.2\nat 65.2\nat 66.2\nat 67.2\nat 68.2\nat 69.2\nat 70.2\nat 71.2\n\
+    at 72.2\nat 73.2\nat 74.2\nat 75.2\nat 76.2\nat 77.2\nat 78.2\nat 79.2\nat 80.2\nat 81.2\n\
+    at 82.2\nat 83.2\nat 84.2\nat 85.2\nat 86.2\nat 87.2\nat 88.2\nat 89.2\nat 90.2\nat 91.2\n\
+    at 92.2\nat 93.2\nat 94.2\nat 95.2\nat 96.2\nat 97.2\nat 98.2\nat 99.2\nat 100.2\nat 101.2\n\
+    at 102.2\nat 103.2\nat 104.2\nat 105.2\nat 106.2\nat 107.2\nat 108.2\nat 109.2\nat 110.2\n\
+    at 111.2\nat 112.2\nat 113.2\nat 114.2\nat 115.2\nat 116.2\nat 117.2\nat 118.2\nat 119.2\n\
+    at 120.2\nat 121.2\nat 122.2\nat 123.2\nat 124.2\nat 125.2\nat 126.2\nat 127.2\nat 128.2\n\
+    at 129.2\nat 130.2\nvalue 1\nvalue 2\nvalue 3\nvalue 4\nvalue 5\nvalue 6\nvalue 7\nvalue 8\n\
+    value 9\nvalue 10\nvalue 11\nvalue 12\nvalue 13\nvalue 14\nvalue 15\nvalue 16\nvalue 17\n\
+    value 18\nvalue 19\nvalue 20\nvalue 21\nvalue 22\nvalue 23\nvalue 24\nvalue 25\nvalue 26\n\
+    value 27\nvalue 28\nvalue 29\nvalue 30\nvalue 31\nvalue 32\nvalue 33\nvalue 34\nvalue 35\n\
+    value 36\nvalue 37\nvalue 38\nvalue 39\nvalue 40\nvalue 41\nvalue 42\nvalue 43\nvalue 44\n\
+    value 45\nvalue 46\nvalue 47\nvalue 48\nvalue 49\nvalue 50\nvalue 51\nvalue 52\nvalue 53\n\
+    value 54\nvalue 55\nvalue 56\nvalue 57\nvalue 58\nvalue 59\nvalue 60\nvalue 61\nvalue 62\n\
+    value 63\nvalue 64\n",
 );
 
-/// Returns the number of links, and how many a canonical compression places.
-fn links_and_placements<S: SlotStack<Item = Slot>>(arena: &mut LinksOver<S>) -> (usize, u128) {
-    let links = arena.len();
-    let (_, work) = arena.compress_canonical_counted(false);
-    (links, work.placed)
-}
+/// The walk along the 66 links left after a compression, at indexes from 1 on.
+const WALK_OF_THE_REST: (&str, &str) = (
+    "len\nchain 1.67\n",
+    "count 66\n1.67:65 2.67:66 3.67:67 4.67:68 5.67:69 6.67:70 7.67:71 8.67:72 9.67:73 10.67:74 \
+    11.67:75 12.67:76 13.67:77 14.67:78 15.67:79 16.67:80 17.67:81 18.67:82 19.67:83 20.67:84 \
+    21.67:85 22.67:86 23.67:87 24.67:88 25.67:89 26.67:90 27.67:91 28.67:92 29.67:93 30.67:94 \
+    31.67:95 32.67:96 33.67:97 34.67:98 35.67:99 36.67:100 37.67:101 38.67:102 39.67:103 \
+    40.67:104 41.67:105 42.67:106 43.67:107 44.67:108 45.67:109 46.67:110 47.67:111 48.67:112 \
+    49.67:113 50.67:114 51.67:115 52.67:116 53.67:117 54.67:118 55.67:119 56.67:120 57.67:121 \
+    58.67:122 59.67:123 60.67:124 61.67:125 62.67:126 63.67:127 64.67:128 65.67:129 66.67:130\n",
+);
 
 /// Checks that a chain whose first of three blocks is emptied is compressed to two, in order. Each
 /// link is placed once.
 fn check_chain<S: SlotStack<Item = Slot>>(rt: &impl Abort, alloc: Global) {
     let mut arena = LinksOver::<S>::new(alloc);
-    assert!(rt; add_chain(&mut arena) == 130);
-    assert!(rt; empty_the_first_block(&mut arena) == 66);
-    assert!(rt; links_and_placements(&mut arena) == (66, 66));
+    let (input, output) = FIRST_BLOCK_EMPTIED;
+    check_on(rt, alloc, &mut arena, input, output);
+    let (_, work) = arena.compress_canonical_counted(false);
+    assert!(rt; work.placed == 66);
     let (input, output) = WALK_OF_THE_REST;
     check_on(rt, alloc, &mut arena, input, output);
 }
