@@ -181,9 +181,14 @@ fn check_examples<S: SlotStack<Item = Slot>>(rt: &impl Abort, alloc: Global, par
     same(rt, "results", results, RIGHT);
 }
 
+// The heap stack is named here alone, too.
+fn over_heap(rt: &impl Abort, alloc: Global, part: Part) {
+    check_examples::<HeapStack<Slot>>(rt, alloc, part);
+}
+
 #[test]
 fn over_one_piece_of_memory_and_in_blocks(rt: HostRuntime) {
-    check_examples::<HeapStack<Slot>>(&rt, rt.alloc(), Part::Rows);
+    over_heap(&rt, rt.alloc(), Part::Rows);
     check_examples::<ChunkStack<Slot>>(&rt, rt.alloc(), Part::Rows);
 }
 
@@ -196,5 +201,5 @@ fn each_growth_is_refused_once(rt: HostRuntime) {
 
 #[test]
 fn a_given_allocator_may_refuse_all(rt: HostRuntime) {
-    check_examples::<HeapStack<Slot>>(&rt, rt.alloc(), Part::NoMemory);
+    over_heap(&rt, rt.alloc(), Part::NoMemory);
 }
