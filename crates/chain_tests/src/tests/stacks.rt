@@ -14,7 +14,9 @@ use super::scripts::{RunsCalls, plays_all, plays_on};
 use super::visitor_state::{check_beyond_one, check_counted, check_kept};
 use super::{Bare, ChainsOver, Slot};
 use arena_base::Arena;
-use arena_ptr::{ChunkStack, HeapStack, LimitStack, LimitedStack, SlotStack, ToolPtr};
+use arena_ptr::{
+    ChunkStack, HeapStack, LimitStack, LimitedStack, SetMaxCapacity, SlotStack, ToolPtr,
+};
 use std::alloc::Global;
 use std::process::Abort;
 use test_types::FailingStack;
@@ -76,6 +78,14 @@ fn check<S: SlotStack<Item = Slot>, R: SlotStack<Item = Bare>>(
     }
 }
 
+fn check_limited_copies<S: SlotStack<Item = Slot>, A: PlainArena + SetMaxCapacity>(
+    rt: &impl Abort,
+    alloc: Global,
+) {
+    check_counted::<S, A>(rt, alloc);
+    check_limited_copy::<S, A>(rt, alloc);
+}
+
 fn check_maxima<S: LimitStack<Item = Slot>, R: LimitStack<Item = Bare>>(
     rt: &impl Abort,
     alloc: Global,
@@ -83,8 +93,7 @@ fn check_maxima<S: LimitStack<Item = Slot>, R: LimitStack<Item = Bare>>(
     check_full::<S>(rt, alloc);
     check_every_reply::<S>(rt, alloc);
     check_beyond_one::<S>(rt, alloc);
-    check_counted::<S, Plain<R>>(rt, alloc);
-    check_limited_copy::<S, Plain<R>>(rt, alloc);
+    check_limited_copies::<S, Plain<R>>(rt, alloc);
     plays_on::<ChainsOver<S>>(rt, alloc, copies());
 }
 

@@ -5,7 +5,7 @@ use super::pointers::{BarePtr, SmallPtr, TinyPtr, WidePtr};
 use super::scripts::plays;
 use super::{Numbered, Slot, limited};
 use arena_base::{ArenaSlot, ArenaTrait};
-use arena_ptr::{ChunkStack, HeapStack, LimitStack, LimitedStack, SlotStack};
+use arena_ptr::{ChunkStack, HeapStack, LimitStack, LimitedStack, PtrKey, SlotStack};
 use chain_arena::{ChainArena, ChainArenaTrait, LinkInsertKind, LinkNoGen};
 use std::alloc::Global;
 use std::process::Abort;
@@ -156,14 +156,17 @@ fn other_pointers(rt: HostRuntime) {
 }
 
 // A slot for a shared value, whose strong count is the number of its copies.
-type Shared = ArenaSlot<BarePtr, LinkNoGen<BarePtr, Rc<u8>>>;
+type Shared<P> = ArenaSlot<P, LinkNoGen<P, Rc<u8>>>;
 
 // Offers 300 values to an arena with a maximum. Returns its length and the number of copies.
-fn passed_values<S: LimitStack<Item = Shared>>(alloc: Global, most: usize) -> (usize, usize) {
+fn passed_values<P: PtrKey, S: LimitStack<Item = Shared<P>>>(
+    alloc: Global,
+    most: usize,
+) -> (usize, usize) {
     let Ok(value) = Rc::new(alloc, 5) else {
         return (0, 0);
     };
-    let mut arena: ChainArena<BarePtr, Rc<u8>, S> = limited(alloc, most);
+    let mut arena: ChainArena<P, Rc<u8>, S> = limited(alloc, most);
     for _ in 0..300 {
         if let Ok(one) = value.clone() {
             let _ = arena.insert_reallocating(LinkInsertKind::Disconnected, one);
@@ -177,6 +180,7 @@ fn passed_values<S: LimitStack<Item = Shared>>(alloc: Global, most: usize) -> (u
 #[test]
 fn refused_values_are_dropped(rt: HostRuntime) {
     for (most, left) in [(2, (2, 3)), (1000, (255, 256))] {
-        assert!(rt; passed_values::<LimitedStack<Shared>>(rt.alloc(), most) == left);
+        let passed = passed_values::<BarePtr, LimitedStack<Shared<BarePtr>>>(rt.alloc(), most);
+        assert!(rt; passed == left);
     }
 }
