@@ -1,4 +1,5 @@
-//! Forwarding wrappers of calls of arenas, of `chain_examples` and of `chain_arena_examples`.
+//! Forwarding wrappers of calls of arenas, of `chain_examples`, of `chain_arena_examples` and of
+//! `chain_commands`.
 //!
 //! Each has the original contract, or clauses of it. Each edit of `must-fail/` replaces a body with
 //! a mutant and checks that the contract rejects it; little has to be proved here for that.
@@ -8,10 +9,12 @@ mod documents;
 mod mesh;
 mod own_calls;
 mod queue;
+mod session;
 mod trait_calls;
 
 pub use documents::{move_after, renumber};
 pub use mesh::{merge, split};
 pub use own_calls::{compress_canonical_counted, remove_chain, transfer_canonical_reallocating};
 pub use queue::{cancel, spawn};
+pub use session::run_on;
 pub use trait_calls::compress_canonical;

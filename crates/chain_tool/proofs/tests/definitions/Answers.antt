@@ -8,7 +8,7 @@ use Rattle.chain_commands.specs.declared.command.Command.TheVariants.{Change}
 use Rattle.chain_commands.specs.Commands.{line_with, by_either}
 use Rattle.chain_commands.specs.Transcripts.{AreComplete, by_line_feed, by_the_end}
 use Rattle.chain_commands.specs.Words.{index_named, generation_of}
-use Rattle.command_tests.proofs.tests.definitions.Goals as goal
+use Rattle.chain_tool.proofs.tests.definitions.Goals as goal
 
 -- A line of which more may come is not complete.
 none_complete : (lines : List (List ℕ)) → AreComplete (codes "add alone 2") (Some (codes "5")) lines → lines ≡ []
