@@ -150,7 +150,7 @@ fn split<P: Named, A: ChainArenaTrait<P, u32> + Drop>(
     }
 }
 
-// Makes a call on corners, and returns what it yields.
+// Makes a call, and returns what it yields.
 fn change<P: Named, A: ChainArenaTrait<P, u32> + Drop>(
     mesh: &mut Polygons<P, A>,
     row: &Row,
@@ -158,42 +158,26 @@ fn change<P: Named, A: ChainArenaTrait<P, u32> + Drop>(
     let (op, n, m, _, _, _) = *row;
     let (p, q) = (P::at(n), P::at(m));
     match op {
+        Op::Start => number_of(mesh.start(m).ok()),
         Op::After => number_of(mesh.insert_after(p, m).ok()),
         Op::Split => split(mesh, p, q),
         Op::Cut => done(mesh.cut(p, q)),
         Op::Merge => done(mesh.merge(p, q)),
         Op::Remove => removed(mesh.remove(p)),
-        _ => change_whole(mesh, op, m),
-    }
-}
-
-// Makes a call on the whole mesh, and returns what it yields.
-fn change_whole<P: Named, A: ChainArenaTrait<P, u32> + Drop>(
-    mesh: &mut Polygons<P, A>,
-    op: Op,
-    point: u32,
-) -> u32 {
-    match op {
-        Op::Start => number_of(mesh.start(point).ok()),
-        Op::StartWithin => start_within(mesh, point),
         Op::Reserve => flag(is_reserved(mesh.reserve(3)) && mesh.capacity() >= 3),
+        Op::StartWithin => {
+            let capacity = mesh.capacity();
+            let started = number_of(mesh.start(m).ok());
+            if mesh.capacity() == capacity {
+                started
+            } else {
+                0
+            }
+        }
+        Op::Count => count(mesh.len()),
         Op::IsNew => {
             flag(mesh.is_empty() && mesh.capacity() == 0 && mesh.max_capacity().is_none())
         }
-        _ => count(mesh.len()),
-    }
-}
-
-fn start_within<P: Named, A: ChainArenaTrait<P, u32> + Drop>(
-    mesh: &mut Polygons<P, A>,
-    point: u32,
-) -> u32 {
-    let capacity = mesh.capacity();
-    let started = number_of(mesh.start(point).ok());
-    if mesh.capacity() == capacity {
-        started
-    } else {
-        0
     }
 }
 

@@ -132,52 +132,33 @@ fn write<P: Named, A: ChainArenaTrait<P, u32> + Drop>(
     }
 }
 
-// Makes a call on tasks, and returns what it yields.
 fn change<P: Named, A: ChainArenaTrait<P, u32> + Drop>(
     alloc: Global,
     queue: &mut Queue<P, A>,
     row: &Row,
 ) -> u32 {
     let (op, n, task, _, _) = *row;
-    let p = P::at(n);
+    let (p, n) = (P::at(n), size(n));
     match op {
         Op::Spawn => number_of(queue.spawn(task).ok()),
         Op::Next => number_of(queue.next()),
+        Op::Turns => turns(queue, n),
         Op::Cancel => removed(queue.cancel(p)),
         Op::Write => write(queue, p, task),
-        Op::Current | Op::Read => look_up(queue, op, p),
-        _ => change_whole(alloc, queue, op, size(n)),
-    }
-}
-
-// Makes a call on the whole queue, and returns what it yields.
-fn change_whole<P: Named, A: ChainArenaTrait<P, u32> + Drop>(
-    alloc: Global,
-    queue: &mut Queue<P, A>,
-    op: Op,
-    n: usize,
-) -> u32 {
-    match op {
-        Op::Turns => turns(queue, n),
         Op::Reserve => {
             flag(is_reserved(queue.reserve(n)) && queue.capacity() - queue.len() >= n)
         }
         Op::ReserveAll => flag(is_reserved(queue.reserve(usize::MAX))),
         Op::Drain => drain(alloc, queue),
         Op::DrainRefused => flag(queue.drain_all(NoMemory).is_err()),
-        _ => sizes(queue, op),
+        _ => look_up(queue, op, p),
     }
 }
 
 fn look_up<P: Named, A: ChainArenaTrait<P, u32> + Drop>(queue: &Queue<P, A>, op: Op, p: P) -> u32 {
     match op {
         Op::Current => number_of(queue.current()),
-        _ => value_of(queue.get(p)),
-    }
-}
-
-fn sizes<P: Named, A: ChainArenaTrait<P, u32> + Drop>(queue: &Queue<P, A>, op: Op) -> u32 {
-    match op {
+        Op::Read => value_of(queue.get(p)),
         Op::IsEmpty => flag(queue.is_empty()),
         Op::HasCapacity => {
             flag(queue.capacity() >= queue.len() && queue.max_capacity().is_none())
