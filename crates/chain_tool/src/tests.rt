@@ -3,13 +3,20 @@ mod faults;
 mod io_faults;
 
 ghost use Rattle.std.specs.Prelude.{◌≡◌, ℕ, List, ◌∷◌, [], codes, true, Some, None, option_map};
-ghost use Rattle.chain_links.specs.declared.kinds.InsertKindBody.TheVariants.{Disconnected, SingleLinkCyclic, ChainEnd, NextToInx, BridgeInx};
+ghost use Rattle.chain_links.specs.declared.kinds.InsertKindBody.TheVariants.{Disconnected};
+ghost use Rattle.chain_links.specs.declared.kinds.InsertKindBody.TheVariants.{SingleLinkCyclic};
+ghost use Rattle.chain_links.specs.declared.kinds.InsertKindBody.TheVariants.{ChainEnd, NextToInx};
+ghost use Rattle.chain_links.specs.declared.kinds.InsertKindBody.TheVariants.{BridgeInx};
 ghost use Rattle.arena_ptr.specs.declared.index.inx32.Inx32.{Inx32};
 ghost use Rattle.arena_ptr.specs.declared.tool_ptr.ToolPtr.{ToolPtr};
-ghost use Rattle.chain_arena.specs.declared.calls.Call.TheVariants.{Insert, InsertWithin, Remove, RemoveInx, DrainChain, Compress, CompressCanonical, Reserve, IncGeneration};
+ghost use Rattle.chain_arena.specs.declared.calls.Call.TheVariants.{Insert, InsertWithin, Remove};
+ghost use Rattle.chain_arena.specs.declared.calls.Call.TheVariants.{RemoveInx, DrainChain};
+ghost use Rattle.chain_arena.specs.declared.calls.Call.TheVariants.{Compress, CompressCanonical};
+ghost use Rattle.chain_arena.specs.declared.calls.Call.TheVariants.{Reserve, IncGeneration};
 ghost use Rattle.chain_commands.specs.declared.command.Command.TheVariants.{Change, Len, Moves};
 ghost use Rattle.chain_commands.specs.declared.command.Line.TheVariants.{Blank, Bad, Good};
-ghost use Rattle.chain_commands.specs.Words.{lines_of, whole_lines, without_return, words_of, number_of, index_word, pointer_of};
+ghost use Rattle.chain_commands.specs.Words.{lines_of, whole_lines, without_return, words_of};
+ghost use Rattle.chain_commands.specs.Words.{number_of, index_word, pointer_of};
 ghost use Rattle.chain_commands.specs.Commands.{line_of};
 ghost use Rattle.chain_commands.specs.Transcripts.{AreComplete};
 
