@@ -9,7 +9,7 @@ use chain_arena::LinkNoGen;
 use std::alloc::Global;
 use std::process::Abort;
 
-// A plain arena of numbers. Only its implementation names one, since naming it is the cost.
+// A plain arena of numbers, with the calls that no trait has. A bound costs less than the type.
 pub(super) trait PlainArena: ArenaCloneFromWith<ToolPtr, u32> + Drop {
     // Inserts a number, with growth.
     fn add(&mut self, t: u32) -> Option<ToolPtr>;

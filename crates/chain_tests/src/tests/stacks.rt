@@ -109,7 +109,7 @@ fn check_limited<S: LimitStack<Item = Slot>, R: LimitStack<Item = Bare>>(
     }
 }
 
-// Only the next three bodies name a stack, since naming it is the cost.
+// Only the next three bodies name a stack of links of numbers: each place that names one is costly.
 pub(super) fn over_heap(rt: &impl Abort, alloc: Global, part: Part) {
     check::<HeapStack<Slot>, HeapStack<Bare>>(rt, alloc, part);
 }
