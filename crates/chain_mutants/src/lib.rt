@@ -1,8 +1,9 @@
 //! Forwarding wrappers of calls of arenas, of `chain_examples`, of `chain_arena_examples` and of
 //! `chain_commands`.
 //!
-//! Each has the original contract, or clauses of it. Each edit of `must-fail/` replaces a body with
-//! a mutant and checks that the contract rejects it; little has to be proved here for that.
+//! Each has the clauses of the original contract that its mutants break. Each edit of `must-fail/`
+//! replaces a body with a mutant and checks that these clauses reject it; little has to be proved
+//! here for that.
 #![tactic(auto)]
 
 mod documents;

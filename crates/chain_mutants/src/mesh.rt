@@ -1,36 +1,29 @@
 // Forwarding wrappers of calls of `Mesh`.
 ghost use Rattle.std.specs.Prelude.{IfSome, IfOk};
-ghost use Rattle.chain_examples.specs.Rings.{AreMerged, AreCopied, IsBridged, IsCutInTwo, IsSplit};
+ghost use Rattle.chain_examples.specs.Rings.{AreMerged, AreCopied};
 
 use arena_ptr::{PtrKey, ReallocationError};
 use chain_examples::Mesh;
 use chain_traits::ChainArenaTrait;
 
-/// Forwards to `Mesh::merge`, under the clauses on the polygons.
+/// Forwards to `Mesh::merge`, under its clause on two polygons.
 pub fn merge<P: PtrKey, T: Drop, A: ChainArenaTrait<P, T> + Drop>(
     mesh: &mut Mesh<P, T, A>,
     u: P,
     v: P,
 ) -> Option<()>
-    ensures ring { AreMerged A.entry A.interlinks mesh.old mesh.new (P.key u) (P.key v) }
-    ensures cut { IsCutInTwo A.entry A.interlinks mesh.old mesh.new (P.key u) (P.key v) }
+    ensures { AreMerged A.entry A.interlinks mesh.old mesh.new (P.key u) (P.key v) }
 {
     mesh.merge(u, v)
 }
 
-/// Forwards to `Mesh::split`, under the clauses on the polygons and the points.
+/// Forwards to `Mesh::split`, under its clause on the corners.
 pub fn split<P: PtrKey, T: Copy + Drop, A: ChainArenaTrait<P, T> + Drop>(
     mesh: &mut Mesh<P, T, A>,
     u: P,
     v: P,
 ) -> Result<Option<(P, P)>, ReallocationError>
-    ensures rings { IfOk result (λ r. IfSome r (λ copies.
-        IsSplit A.entry A.interlinks mesh.old mesh.new
-        (P.key u) (P.key v) (P.key copies.0) (P.key copies.1))) }
-    ensures bridged { IfOk result (λ r. IfSome r (λ copies.
-        IsBridged A.entry A.interlinks mesh.old mesh.new
-        (P.key u) (P.key v) (P.key copies.0) (P.key copies.1))) }
-    ensures corners { IfOk result (λ r. IfSome r (λ copies.
+    ensures { IfOk result (λ r. IfSome r (λ copies.
         AreCopied (A.entry mesh.old) (A.entry mesh.new)
         (P.key u) (P.key v) (P.key copies.0) (P.key copies.1))) }
 {

@@ -1,6 +1,6 @@
-//! Forwarding wrappers for functions of the crates below `chain_arena`, under clauses of their
-//! contracts. Each edit of `must-fail/` replaces a body with a mutant that these clauses reject,
-//! with little to prove.
+//! Forwarding wrappers for functions of the crates below `chain_arena`. Each has the clauses of the
+//! original contract that its mutants break: each edit of `must-fail/` replaces a body with a mutant
+//! that these clauses reject, with little to prove.
 #![tactic(auto)]
 
 mod layouts;
@@ -9,6 +9,6 @@ mod stacks;
 mod trait_calls;
 
 pub use layouts::arrange;
-pub use links::{join, link_pair, remove_link_at};
+pub use links::{join, link_pair};
 pub use stacks::{reserve_to, slot_at};
-pub use trait_calls::break_next;
+pub use trait_calls::{break_next, remove_link_no_gen};

@@ -11,10 +11,9 @@ pub fn slot_at<S: SlotStack>(stack: &S, i: usize) -> Option<&S::Item>
     stack.get(i)
 }
 
-/// Forwards to `SlotStack::reserve_to`, with the clauses on the stack after a refusal.
+/// Forwards to `SlotStack::reserve_to`, under its clause on the capacity after a refusal.
 pub fn reserve_to<S: SlotStack>(stack: &mut S, n: usize) -> Result<(), ReallocationError>
-    ensures items { S.items stack.new ≡ S.items stack.old }
-    ensures refused { OnErr result (S.capacity stack.new ≡ S.capacity stack.old) }
+    ensures { OnErr result (S.capacity stack.new ≡ S.capacity stack.old) }
 {
     stack.reserve_to(n)
 }

@@ -1,23 +1,28 @@
 // Functions of `ChainArenaTrait`.
-ghost use Rattle.std.specs.Prelude.{◌≡◌, ◌↔◌, IsSome, IfSome, OnSome, IfNone};
-ghost use Rattle.chain_laws.specs.Chains.{IsWellLinked, next_of};
-ghost use Rattle.chain_laws.specs.Cuts.{without_pair, Cuts};
+ghost use Rattle.std.specs.Prelude.{◌↔◌, IsSome};
+ghost use Rattle.chain_laws.specs.Chains.{next_of};
+ghost use Rattle.chain_laws.specs.Removals.{Removes};
 ghost use Rattle.arena_base.specs.Arena.{IsValid};
 
-use arena_ptr::PtrKey;
+use arena_ptr::{InvalidationResult, PtrKey};
+use chain_links::LinkNoGen;
 use chain_traits::ChainArenaTrait;
 
-/// Forwards to `ChainArenaTrait::break_next`.
+/// Forwards to `ChainArenaTrait::break_next`, under its clause on when it returns `Some`.
 pub fn break_next<P: PtrKey, T: Drop, A: ChainArenaTrait<P, T>>(arena: &mut A, p: P) -> Option<()>
-    ensures some { IsSome result ↔ (IsValid (A.entry arena.old) (P.key p)
+    ensures { IsSome result ↔ (IsValid (A.entry arena.old) (P.key p)
         × IsSome (next_of (A.interlinks arena.old) (P.key p).0)) }
-    ensures cut { OnSome result (IfSome (next_of (A.interlinks arena.old) (P.key p).0)
-        (λ b. A.interlinks arena.new ≡ without_pair (A.interlinks arena.old) (P.key p).0 b)) }
-    ensures chains { OnSome result (IfSome (next_of (A.interlinks arena.old) (P.key p).0)
-        (λ b. Cuts (A.interlinks arena.old) (A.interlinks arena.new) (P.key p).0 b)) }
-    ensures view_after { OnSome result (A.view arena.new ≡ A.view arena.old) }
-    ensures none { IfNone result (arena.new ≡ arena.old) }
-    ensures agreed { IsWellLinked (A.interlinks arena.old) }
 {
     arena.break_next(p)
+}
+
+/// Forwards to `ChainArenaTrait::remove_link_no_gen`, under its clause on the chains.
+pub fn remove_link_no_gen<P: PtrKey, T: Drop, A: ChainArenaTrait<P, T>>(
+    arena: &mut A,
+    p: P,
+) -> InvalidationResult<LinkNoGen<P, T>>
+    ensures { IsValid (A.entry arena.old) (P.key p)
+        → Removes (A.interlinks arena.old) (A.interlinks arena.new) (P.key p).0 }
+{
+    arena.remove_link_no_gen(p)
 }
