@@ -169,19 +169,31 @@ fn both_texts<A: RunsCalls>(alloc: Global, source: &mut A, target: &mut A) -> Bo
     (first, arena_texts(alloc, target))
 }
 
+// Returns whether a transfer is refused at first. Checks that a refusal changes neither arena, and
+// that a second attempt succeeds.
+fn is_carried_later<S: SlotStack<Item = Slot>>(
+    rt: &impl Abort,
+    alloc: Global,
+    source: &mut ChainsOver<S>,
+    target: &mut ChainsOver<S>,
+) -> bool {
+    let before = both_texts(alloc, source, target);
+    let refused = carry_over(source, target, generation(9)).is_err();
+    if refused {
+        let after = both_texts(alloc, source, target);
+        same(rt, "neither has changed", after, before);
+        let again = carry_over(source, target, generation(9));
+        same(rt, "once more", again, Ok(()));
+    }
+    refused
+}
+
 // Returns whether a transfer of many links between arenas with holes is refused at first, and both
-// arenas after it. Checks that a refusal changes neither, and that a second attempt succeeds.
+// arenas after it.
 fn run_transfer<S: SlotStack<Item = Slot>>(rt: &impl Abort, alloc: Global) -> (bool, BothTexts) {
     let mut source: ChainsOver<S> = with_a_hole(alloc, 70);
     let mut target: ChainsOver<S> = begun(alloc, Do::Dig);
-    let before = both_texts(alloc, &mut source, &mut target);
-    let refused = carry_over(&mut source, &mut target, generation(9)).is_err();
-    if refused {
-        let after = both_texts(alloc, &mut source, &mut target);
-        same(rt, "neither has changed", after, before);
-        let again = carry_over(&mut source, &mut target, generation(9));
-        same(rt, "once more", again, Ok(()));
-    }
+    let refused = is_carried_later(rt, alloc, &mut source, &mut target);
     (refused, both_texts(alloc, &mut source, &mut target))
 }
 

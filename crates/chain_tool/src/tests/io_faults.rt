@@ -4,7 +4,7 @@ ghost use Rattle.std.specs.Prelude.{◌≤◌};
 
 use super::{LinksOver, SAMPLE, Slot, same};
 use arena_base::ArenaTrait;
-use arena_ptr::{ChunkStack, HeapStack, LimitedStack, SlotStack};
+use arena_ptr::{ChunkStack, HeapStack, LimitedStack, SlotStack, ToolPtr};
 use chain_arena::{ChainArenaTrait, LinkInsertKind};
 use chain_commands::{ToolError, run, run_on};
 use std::alloc::Global;
@@ -74,9 +74,19 @@ fn ends_at_the_fault<S: SlotStack<Item = Slot>>(
     )
 }
 
+fn line_count(read: &[u8]) -> usize {
+    let mut count = 0usize;
+    for byte in read {
+        if *byte == b'\n' {
+            count = count.saturating_add(1);
+        }
+    }
+    count
+}
+
 /// Returns whether the output and the number of links are those of the lines that were read.
 fn are_whole(read: &[u8], written: &[u8], links: usize) -> bool {
-    let lines = read.iter().filter(|b| **b == b'\n').count();
+    let lines = line_count(read);
     let want = WRITTEN.get(lines).copied().unwrap_or("no such line");
     written == want.as_bytes() && links == lines.saturating_add(1) / 2
 }
@@ -248,36 +258,6 @@ fn a_flush_that_fails(rt: HostRuntime) {
     }
 }
 
-/// Runs `moves` on an arena of one link, where memory may be refused: `tools/test_alloc_failures`
-/// refuses each request in turn. Returns whether the moves are written, or else the pointer is kept
-/// and nothing is written.
-fn moves_or_keeps<S: SlotStack<Item = Slot>>(alloc: Global) -> bool {
-    let mut arena = LinksOver::<S>::new(alloc);
-    let Ok(p) = arena.insert_reallocating(LinkInsertKind::Disconnected, 5) else {
-        return false;
-    };
-    let Ok(mut written) = Vec::with_capacity(alloc, 100) else {
-        return false;
-    };
-    let result = run_on(
-        alloc,
-        &mut arena,
-        &mut "moves keep\n".as_bytes(),
-        &mut written,
-    );
-    let outcome = if result.is_ok() {
-        "moved 1 1.2>1.3\n"
-    } else {
-        ""
-    };
-    written.as_slice() == outcome.as_bytes() && arena.contains(p) == result.is_err()
-}
-
-#[test]
-fn moves_or_nothing(rt: HostRuntime) {
-    assert!(rt; moves_or_keeps::<HeapStack<Slot>>(rt.alloc()));
-}
-
 /// Returns whether the output is whole lines as wanted, up to the first that was refused memory.
 /// From there on it may differ.
 fn is_beginning(written: &str, want: &str) -> bool {
@@ -309,15 +289,29 @@ fn written_of(size: usize, left: usize) -> usize
     size.saturating_sub(left)
 }
 
-fn sample_on<S: SlotStack<Item = Slot>>(alloc: Global) -> bool {
-    let (input, _) = SAMPLE;
+/// A result, the number of bytes that are not read, and that of the bytes written.
+type Ended = (Result<(), ToolError>, usize, usize);
+
+/// Runs a text on an arena, with output to a buffer, so that only the run requests memory.
+fn run_to_buffer<S: SlotStack<Item = Slot>>(
+    alloc: Global,
+    arena: &mut LinksOver<S>,
+    input: &str,
+    written: &mut [u8; 200],
+) -> Ended
+    ensures { result.2 ≤ 200 }
+{
     let mut reader = input.as_bytes();
-    let mut written = [0u8; 200];
     let mut buffer = written.as_mut_slice();
+    let result = run_on(alloc, arena, &mut reader, &mut buffer);
+    (result, reader.len(), written_of(200, buffer.len()))
+}
+
+fn sample_on<S: SlotStack<Item = Slot>>(alloc: Global) -> bool {
     let mut arena = LinksOver::<S>::new(alloc);
-    let result = run_on(alloc, &mut arena, &mut reader, &mut buffer);
-    let count = written_of(200, buffer.len());
-    is_sample(result, reader.len(), &written[..count])
+    let mut written = [0u8; 200];
+    let (result, unread, count) = run_to_buffer(alloc, &mut arena, SAMPLE.0, &mut written);
+    is_sample(result, unread, &written[..count])
 }
 
 fn sample(alloc: Global) -> bool {
@@ -336,4 +330,38 @@ fn a_sample_or_its_beginning(rt: HostRuntime) {
     assert!(rt; sample_on::<HeapStack<Slot>>(rt.alloc()));
     assert!(rt; sample_on::<LimitedStack<Slot>>(rt.alloc()));
     assert!(rt; sample_on::<ChunkStack<Slot>>(rt.alloc()));
+}
+
+fn insert_lone<S: SlotStack<Item = Slot>>(arena: &mut LinksOver<S>, t: u32) -> Option<ToolPtr> {
+    arena
+        .insert_reallocating(LinkInsertKind::Disconnected, t)
+        .ok()
+}
+
+/// Returns whether the moves of one link are written, or else nothing is.
+fn is_moved_or_not(ended: Result<(), ToolError>, written: &[u8]) -> bool {
+    let outcome = if ended.is_ok() {
+        "moved 1 1.2>1.3\n"
+    } else {
+        ""
+    };
+    written == outcome.as_bytes()
+}
+
+/// Runs `moves` on an arena of one link, where memory may be refused: `tools/test_alloc_failures`
+/// refuses each request in turn. Returns whether the moves are written, or else the pointer is kept
+/// and nothing is written.
+fn moves_or_keeps<S: SlotStack<Item = Slot>>(alloc: Global) -> bool {
+    let mut arena = LinksOver::<S>::new(alloc);
+    let Some(p) = insert_lone(&mut arena, 5) else {
+        return false;
+    };
+    let mut written = [0u8; 200];
+    let (result, _, count) = run_to_buffer(alloc, &mut arena, "moves keep\n", &mut written);
+    is_moved_or_not(result, &written[..count]) && arena.contains(p) == result.is_err()
+}
+
+#[test]
+fn moves_or_nothing(rt: HostRuntime) {
+    assert!(rt; moves_or_keeps::<HeapStack<Slot>>(rt.alloc()));
 }
