@@ -19,8 +19,8 @@ returns-in-Ok g c =
       capacity = capacity_grown following c.args.new_generation old grown clear set new c.in-Ok.ensures.after c.clear.ensures.more c.set_generation.ensures made.capacity made.stack_capacity greatest c.len.result _ count (ap (λ a. a.maximum) moved.state) c.in-Ok.ensures.capacity;
       reached = reach_grown following c.args.new_generation old grown clear set new c.in-Ok.ensures.after c.clear.ensures.more c.set_generation.ensures made.capacity made.stack_capacity g.S.SlotStack.may_reach c.len.result _ count c.in-Ok.ensures.reached;
       within = λ few.
-      let same = same_grown following c.args.new_generation old grown clear set new c.in-Ok.ensures.after c.clear.ensures.more c.set_generation.ensures made.capacity made.stack_capacity (c.in-Ok.ensures.within (subst (λ n. n ≤ old.capacity) (sym count) few)).1 in
-      (refl, same.0, same.1);
+          let same = same_grown following c.args.new_generation old grown clear set new c.in-Ok.ensures.after c.clear.ensures.more c.set_generation.ensures made.capacity made.stack_capacity (c.in-Ok.ensures.within (subst (λ n. n ≤ old.capacity) (sym count) few)).1 in
+          (refl, same.0, same.1);
       greatest = λ over. c.in-Ok.ensures.greatest (subst (λ n. greatest < n) (sym count) over);
       beyond = beyond_at greatest c.len.result _ old.maximum count c.in-Ok.ensures.beyond;
       err = tt;
@@ -34,8 +34,8 @@ returns-in-Err g c =
       capacity = tt;
       reached = tt;
       within = λ few.
-      let stays = c.in-Err.ensures.within (subst (λ n. n ≤ old.capacity) (sym count) few) in
-      (stays.0, ap (λ a. a.capacity) stays.1, ap (λ a. a.stack_capacity) stays.1);
+          let stays = c.in-Err.ensures.within (subst (λ n. n ≤ old.capacity) (sym count) few) in
+          (stays.0, ap (λ a. a.capacity) stays.1, ap (λ a. a.stack_capacity) stays.1);
       greatest = λ over. c.in-Err.ensures.greatest (subst (λ n. g.P.Inx.InxKey.greatest < n) (sym count) over);
       beyond = beyond_at g.P.Inx.InxKey.greatest c.len.result _ old.maximum count c.in-Err.ensures.beyond;
       err = (c.in-Err.ensures.err, refl);
