@@ -34,13 +34,6 @@ module _ {Gen T : Type 0} (a : Arena Gen (LinkView T)) where
     behind = subst (λ (o : Option ℕ). IfSome o (HasLink (link_map a))) (ap (λ (o : Option (Gen × LinkView T)). prev_in (option_map interlinks_of o)) stored) (prev_named (link_map a) i agrees);
   }
 
-  -- A lookup of an existing link reports it.
-  pub never_none : (i : ℕ) → HasLink (link_map a) i → (let none : Option (ℕ × (Gen × LinkView T)) = None in none ≡ option_map (index_and_entry i) (entry_at a i)) → ⊥
-  never_none i stored = by (entry_at a i) stored.links where
-    by : (o : Option (Gen × LinkView T)) → option_map interlinks_of o ≡ Some stored.link → (let none : Option (ℕ × (Gen × LinkView T)) = None in none ≡ option_map (index_and_entry i) o) → ⊥
-    by None is none = absurd (let h = is in cc)
-    by (Some e) is none = absurd (let h = none in cc)
-
   -- A walker with no next link passes nothing.
   pub nowhere : (left start : ℕ) → links_ahead a left start None None ≡ []
   nowhere zero start = refl

@@ -1,8 +1,6 @@
 -- With or without an error, the arena has one set of chains.
 use Rattle.std.proofs.Common.{Result, Ok, Err}
 use Rattle.std.specs.Prelude.{IfOk, OnErr, MatchResult}
-use Rattle.chain_arena.specs.Steps.{Run}
-use Rattle.chain_arena.proofs.PointerKindLemmas.{kind_by}
 use Rattle.chain_arena.proofs.calls.run_calls.Goals as goal
 
 in_both : {A E : Type 0} (F : A → Type 0) (X : Type 0) (r : Result A E) → IfOk r F → OnErr r X → MatchResult r F (λ _. X)

@@ -1,15 +1,14 @@
 -- The iterator passes the current link, and goes on to an existing link or ends.
-use Rattle.std.proofs.Common.{of_calls, arith, ◌≡◌, ℕ, ◌<◌, List, ◌∷◌, length, None, Some, ap, ap₂, sym, ◌∙◌, subst}
-use Rattle.std.specs.Prelude.{◌-◌, IfSome}
+use Rattle.std.proofs.Common.{of_calls, arith, ◌≡◌, ℕ, ◌<◌, List, ◌∷◌, length, None, Some, ap, ap₂, sym, ◌∙◌}
+use Rattle.std.specs.Prelude.{◌-◌}
 use Rattle.std.specs.Option.{option_map}
 use Rattle.std.proofs.lemmas.Bool.{false≢true}
 use Rattle.arena_base.specs.Arena.{entry_at}
-use Rattle.chain_laws.specs.Chains.{HasLink}
 use Rattle.chain_laws.proofs.InterlinkLemmas.Inverses.{one_some}
-use Rattle.chain_links.specs.ChainArena.{LinkView, link_map}
+use Rattle.chain_links.specs.ChainArena.{LinkView}
 use Rattle.chain_links.specs.Links.{link_view, links_view}
 use Rattle.chain_links.specs.Walkers.{index_and_entry, links_ahead}
-use Rattle.chain_arena.proofs.WalkerLemmas.{behind_stored, never_none, nowhere, passes_back, read_some, onward_stored, passes_last, passes_on}
+use Rattle.chain_arena.proofs.WalkerLemmas.{behind_stored, nowhere, passes_back, read_some, onward_stored, passes_last, passes_on}
 use Rattle.chain_arena.proofs.chain_iterators.ChainIterIterator.next.Goals.{then-is_index, else-is_index}
 use Rattle.chain_arena.proofs.chain_iterators.ChainIterIterator.next.Goals as goal
 
@@ -77,18 +76,6 @@ returns-after-is_index-clause-steps g c =
       | else-is_index w ↦
           rw w.self-is (passes_on a start i back e stored left next c.if-self-eq0.false named (λ same. false≢true (sym w.if-is_index.false ∙ c.is_index.ensures.1 same)) ∙ ap (λ x. x ∷ links_ahead a (left - 1) start next back) (sym item))
     ])
-
-pub proved_unreachable-assume_proved-requires : goal.proved_unreachable-assume_proved-requires
-proved_unreachable-assume_proved-requires g c =
-    let number = g.P.Inx.InxKey.number in
-    let a = links_view g.P.Inx.InxKey.packed_number c.self.inside.arena.now in
-    absurd (never_none a (number c.in-Some.i) (subst (λ o. IfSome (option_map number o) (HasLink (link_map a))) c.in-Some.is c.self.invariant.onward) c.in-None-lookup.ensures.link)
-
-pub proved_unreachable-assume_proved-requires-in-None-lookup-2 : goal.proved_unreachable-assume_proved-requires-in-None-lookup-2
-proved_unreachable-assume_proved-requires-in-None-lookup-2 g c =
-    let number = g.P.Inx.InxKey.number in
-    let a = links_view g.P.Inx.InxKey.packed_number c.self.inside.arena.now in
-    absurd (never_none a (number c.in-Some-back.i) (subst (λ o. IfSome (option_map number o) (HasLink (link_map a))) c.in-Some-back.is c.self.invariant.behind) c.in-None-lookup-2.ensures.link)
 
 pub returns-in-Some-lookup-2-clause-steps : goal.returns-in-Some-lookup-2-clause-steps
 returns-in-Some-lookup-2-clause-steps g c =
