@@ -10,6 +10,7 @@ pub mod TransferTargetLemmas
 pub mod TransferSourceLemmas
 pub mod TransferClosureLemmas
 pub mod TransferLoopLemmas
+pub mod TransferGrowthLemmas
 pub mod ValueLoanLemmas
 pub mod LinkDrainLemmas
 pub mod GrowthResultLemmas
@@ -22,6 +23,7 @@ pub mod TouchCountLemmas
 pub mod EntryWriteLemmas
 pub mod CanonicalCompressionLemmas
 pub mod NewLinkLemmas
+pub mod InsertEntryLemmas
 pub mod PointerTransferLemmas
 pub mod WalkerLemmas
 pub mod DrainLawLemmas

@@ -1,5 +1,5 @@
 -- Copies of an arena of links: their interlinks, values and views.
-use Rattle.std.proofs.Common.{◌≡◌, ℕ, zero, suc, ◌≤◌, List, [], ◌∷◌, ◌++◌, length, map, Option, None, Some, Result, Ok, Err, OnOk, OnErr, IsOk, ◌⊎◌, inl, inr, arith, refl, ap, sym, ◌∙◌, subst}
+use Rattle.std.proofs.Common.{◌≡◌, ◌↔◌, ℕ, zero, suc, ◌≤◌, List, [], ◌∷◌, ◌++◌, length, map, Option, None, Some, Result, Ok, Err, OnOk, OnErr, IsOk, ◌⊎◌, inl, inr, arith, refl, ap, sym, ◌∙◌, subst}
 use Rattle.std.specs.Prelude.{is_ok}
 use Rattle.std.specs.Option.{option_map}
 use Rattle.std.proofs.lemmas.Bool.{false≢true}
@@ -8,6 +8,7 @@ use Rattle.std.proofs.lemmas.List.{map-append}
 use Rattle.std.specs.Borrow.{Bor}
 use Rattle.std.specs.Fn.{Mut}
 use Rattle.arena_ptr.specs.declared.errors.ReallocationError.{ReallocationError}
+use Rattle.arena_ptr.specs.declared.errors.ReallocationError.TheVariants as refused
 use Rattle.chain_laws.specs.Chains.{Interlinks, IsWellLinked}
 use Rattle.arena_base.specs.Arena.{Arena, slot_at, new_arena}
 use Rattle.arena_base.specs.Entries.{ArenaView, Slots, entries_from, entries}
@@ -237,6 +238,13 @@ module _ {P K U Gen : Type 0} (number : K → Option ℕ) (may_refuse : P → Li
     by : (IsOk r ⊎ HasRefusable may_refuse key (entries source)) → ⊥
     by (inl ok) = false≢true (sym (ap is_ok is) ∙ ok)
     by (inr refused) = none_among refused.before refused.after (key refused.pointer, refused.value) (sym (ap (entries_from 1) (no_slots none)) ∙ refused.stored)
+
+-- A result with the same error is beyond the maximum alike.
+pub same_refusal : {A B X : Type 0} (r : Result A ReallocationError) (e : ReallocationError) → r ≡ Err e → (r ≡ Err refused.BeyondMaxCapacity) ↔ X → (let q : Result B ReallocationError = Err e in q ≡ Err refused.BeyondMaxCapacity) ↔ X
+same_refusal {B = B} r e is known = (
+  (λ same. known.0 (let h = same in cc)),
+  λ x. let h = known.1 x in let same : e ≡ refused.BeyondMaxCapacity = cc in ap (λ (why : ReallocationError). let q : Result B ReallocationError = Err why in q) same,
+)
 
 -- What follows from a success and from either sort of refusal.
 pub either_way : {X E A B C D N : Type 0} (r : Result X E) → (A → B → C) → (D → C) → (N → C) → OnOk r A → OnOk r B → OnErr r (D ⊎ N) → C

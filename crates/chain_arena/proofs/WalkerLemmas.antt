@@ -2,7 +2,7 @@
 use Rattle.std.proofs.Common.{◌≡◌, ℕ, zero, suc, List, [], ◌∷◌, Option, None, Some, refl, ap, ap₂, sym, ◌∙◌, subst, IfSome, arith}
 use Rattle.std.specs.Prelude.{◌-◌}
 use Rattle.std.specs.Option.{option_map}
-use Rattle.chain_laws.specs.Chains.{IsWellLinked, HasLink, next_in, next_of, prev_in}
+use Rattle.chain_laws.specs.Chains.{IsWellLinked, HasLink, next_in, next_of, prev_in, prev_of}
 use Rattle.chain_laws.specs.Walks.{step_back, step_forward}
 use Rattle.chain_laws.proofs.InterlinkLemmas.Inverses.{if_other, if_same, one_some}
 use Rattle.arena_base.specs.Arena.{Arena, entry_at}
@@ -35,7 +35,7 @@ module _ {Gen T : Type 0} (a : Arena Gen (LinkView T)) where
   }
 
   -- A walker with no next link passes nothing.
-  nowhere : (left start : ℕ) → links_ahead a left start None None ≡ []
+  pub nowhere : (left start : ℕ) → links_ahead a left start None None ≡ []
   nowhere zero start = refl
   nowhere (suc left) start = refl
 
@@ -48,6 +48,14 @@ module _ {Gen T : Type 0} (a : Arena Gen (LinkView T)) where
         let less : n ≡ suc n - 1 = omega arith in
         ap (λ (o : Option (Gen × LinkView T)). elim o [ None ↦ [] | Some f ↦ (i, f) ∷ ahead (next_of (link_map a) i) n ]) stored
         ∙ ap₂ (λ (next : Option ℕ) (left : ℕ). (i, e) ∷ ahead next left) (ap (λ (o : Option (Gen × LinkView T)). next_in (option_map interlinks_of o)) stored) less
+
+    -- A walker going back passes the link before it.
+    pub passes_back : (left : ℕ) (prev : Option ℕ) → (left ≡ 0 → ⊥) → prev ≡ e.1.prev → links_ahead a left start None (Some i) ≡ (i, e) ∷ links_ahead a (left - 1) start None prev
+    passes_back zero prev some named = absurd (some refl)
+    passes_back (suc n) prev some named =
+        let less : n ≡ suc n - 1 = omega arith in
+        ap (λ (o : Option (Gen × LinkView T)). elim o [ None ↦ [] | Some f ↦ (i, f) ∷ links_ahead a n start None (prev_of (link_map a) i) ]) stored
+        ∙ ap₂ (λ (before : Option ℕ) (left : ℕ). (i, e) ∷ links_ahead a left start None before) (ap (λ (o : Option (Gen × LinkView T)). prev_in (option_map interlinks_of o)) stored ∙ sym named) less
 
     -- The current link is the last, before the start of a cyclic chain.
     pub passes_last : (left : ℕ) (next : Option ℕ) → (left ≡ 0 → ⊥) → next ≡ e.1.next → next ≡ Some start → links_ahead a left start (Some i) back ≡ (i, e) ∷ links_ahead a 0 start next back

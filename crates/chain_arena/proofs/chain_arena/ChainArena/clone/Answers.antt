@@ -1,13 +1,37 @@
 -- The cloned links have the same view as the source's links.
-use Rattle.std.proofs.Common.{length, refl, ap, sym, ◌∙◌, subst}
-use Rattle.arena_base.specs.Arena.{Arena, new_arena, IsWithinReach}
+use Rattle.std.proofs.Common.{◌≡◌, ◌↔◌, Err, length, refl, ap, sym, ◌∙◌, subst, subst₂}
+use Rattle.arena_ptr.specs.SlotStack.{IsBeyond}
+use Rattle.arena_ptr.specs.declared.errors.ReallocationError.TheVariants as refused
+use Rattle.arena_base.specs.Arena.{Arena, new_arena, IsWithinReach, HasCapacityFor}
 use Rattle.arena_base.proofs.SlotCopyLemmas.{on_ok_is}
 use Rattle.chain_arena.specs.LinkCopies.{IsClone}
 use Rattle.chain_links.specs.ChainArena.{LinkView}
 use Rattle.chain_links.specs.Links.{link_view, links_view}
 use Rattle.chain_links.proofs.MappedArenaLemmas.{length-with_each}
-use Rattle.chain_arena.proofs.LinkCopyLemmas.{clone_agrees, is_clone_of, no_capacity_needed}
+use Rattle.chain_arena.proofs.InsertEntryLemmas.{ok_apart}
+use Rattle.chain_arena.proofs.LinkCopyLemmas.{same_refusal, clone_agrees, is_clone_of, no_capacity_needed}
 use Rattle.chain_arena.proofs.chain_arena.ChainArena.clone.Goals as goal
+
+pub returns-in-Err-clause-beyond : goal.returns-in-Err-clause-beyond
+returns-in-Err-clause-beyond g c =
+    let made = c.clone_from_by-done in
+    let none = ap (λ a. a.maximum) (c.new-arena.ensures.more.none refl) in
+    let slots = sym (length-with_each (link_view g.P.Inx.InxKey.packed_number) c.self.inside.arena) ∙ ap (λ a. length a.slots) c.self.view_is in
+    same_refusal made.result.0 c.in-Err.why c.in-Err.is (subst₂ (λ most n. (made.result.0 ≡ Err refused.BeyondMaxCapacity) ↔ IsBeyond most n) none slots made.ensures.beyond)
+
+pub returns-in-Ok-clause-beyond : goal.returns-in-Ok-clause-beyond
+returns-in-Ok-clause-beyond g c =
+    let made = c.clone_from_by-done in
+    let none = ap (λ a. a.maximum) (c.new-arena.ensures.more.none refl) in
+    let slots = sym (length-with_each (link_view g.P.Inx.InxKey.packed_number) c.self.inside.arena) ∙ ap (λ a. length a.slots) c.self.view_is in
+    let known = subst₂ (λ most n. (made.result.0 ≡ Err refused.BeyondMaxCapacity) ↔ IsBeyond most n) none slots made.ensures.beyond in
+    ((λ is. absurd (ok_apart _ _ is)), λ beyond. absurd (ok_apart c.in-Ok.field-0 _ (sym c.in-Ok.is ∙ known.1 beyond)))
+
+pub returns-in-Ok-clause-capacity : goal.returns-in-Ok-clause-capacity
+returns-in-Ok-clause-capacity g c =
+    let made = c.clone_from_by-done in
+    let slots = sym (length-with_each (link_view g.P.Inx.InxKey.packed_number) c.self.inside.arena) ∙ ap (λ a. length a.slots) c.self.view_is in
+    subst (λ n. HasCapacityFor g.P.Inx.InxKey.greatest n made.new.self) slots (on_ok_is made.result.0 _ c.in-Ok.is made.ensures.ok)
 
 pub returns-in-Err-clause-no_capacity : goal.returns-in-Err-clause-no_capacity
 returns-in-Err-clause-no_capacity g c none =

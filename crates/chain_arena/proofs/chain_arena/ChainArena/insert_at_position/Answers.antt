@@ -41,17 +41,13 @@ proved_unreachable-assume_proved-requires g c =
     let full : entry_count a ≡ a.capacity = c.in-Err.ensures.refused.0 refl in
     absurd (omega (arith, within_capacity, full, entry_count-links_view packed a))
 
-pub update_neighbors-requires : goal.update_neighbors-requires
-update_neighbors-requires g c =
-    let packed = g.P.Inx.InxKey.packed_number in
-    let a = c.self.inside.arena in
-    let b = c.insert_within_capacity.new.self in
-    let in_links = rw (← c.self.view_is) at c.requires.position in
-    let at = ap (λ p. p.0) {y = (next_index a, a.counter)} c.in-Ok.ensures.ptr in
-    record {
-      before = before_stored packed g.P.Inx.InxKey.number a b c.args.position c.link_in.result c.invariants.ensures.listed c.self.invariant in_links (g.P.PtrKey.key c.in-Ok.p).0 at c.in-Ok.ensures.ok;
-      after = after_stored packed g.P.Inx.InxKey.number a b c.args.position c.link_in.result c.invariants.ensures.listed c.self.invariant in_links (g.P.PtrKey.key c.in-Ok.p).0 at c.in-Ok.ensures.ok;
-    }
+pub update_neighbors-requires-clause-before : goal.update_neighbors-requires-clause-before
+update_neighbors-requires-clause-before g c =
+    before_stored g.P.Inx.InxKey.packed_number g.P.Inx.InxKey.number c.self.inside.arena c.insert_within_capacity.new.self c.args.position c.link_in.result c.invariants.ensures.listed c.self.invariant (rw (← c.self.view_is) at c.requires.position) (g.P.PtrKey.key c.in-Ok.p).0 (ap (λ p. p.0) {y = (next_index c.self.inside.arena, c.self.inside.arena.counter)} c.in-Ok.ensures.ptr) c.in-Ok.ensures.ok
+
+pub update_neighbors-requires-clause-after : goal.update_neighbors-requires-clause-after
+update_neighbors-requires-clause-after g c =
+    after_stored g.P.Inx.InxKey.packed_number g.P.Inx.InxKey.number c.self.inside.arena c.insert_within_capacity.new.self c.args.position c.link_in.result c.invariants.ensures.listed c.self.invariant (rw (← c.self.view_is) at c.requires.position) (g.P.PtrKey.key c.in-Ok.p).0 (ap (λ p. p.0) {y = (next_index c.self.inside.arena, c.self.inside.arena.counter)} c.in-Ok.ensures.ptr) c.in-Ok.ensures.ok
 
 pub invariant_of-self : goal.invariant_of-self
 invariant_of-self g c =

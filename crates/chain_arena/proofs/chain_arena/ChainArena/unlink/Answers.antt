@@ -4,9 +4,6 @@ use Rattle.chain_links.specs.Links.{links_view}
 use Rattle.chain_arena.proofs.LinkRemovalLemmas.{agreed_after, removal_of}
 use Rattle.chain_arena.proofs.chain_arena.ChainArena.unlink.Goals as goal
 
-pub remove_link_at-requires : goal.remove_link_at-requires
-remove_link_at-requires g c = c.self.invariant
-
 pub invariant_of-self : goal.invariant_of-self
 invariant_of-self g c =
     let packed = g.P.Inx.InxKey.packed_number in

@@ -33,18 +33,18 @@ pair g c = (c.self.invariant.both (g.P.Inx.InxKey.number c.in-Some.before) (g.P.
 is_cut : (g : Over) (c : After-link_pairs g) → cut_links g c ≡ with_link_map (links g c) (without_pair (link_map (links g c)) (g.P.Inx.InxKey.number c.in-Some.before) (g.P.PtrKey.key c.args.p).0)
 is_cut g c = c.link_pairs.ensures ∙ ap (λ (i : ℕ). with_link_map (links g c) (without_pair (link_map (links g c)) (g.P.Inx.InxKey.number c.in-Some.before) i)) c.inx.ensures
 
-pub link_pairs-requires : goal.link_pairs-requires
-link_pairs-requires g c =
+pub link_pairs-requires-clause-first_prev : goal.link_pairs-requires-clause-first_prev
+link_pairs-requires-clause-first_prev g c =
     let s = link_map (links_view g.P.Inx.InxKey.packed_number c.self.inside.arena) in
     let p = (g.P.PtrKey.key c.args.p).0 in
     let before = g.P.Inx.InxKey.number c.in-Some.before in
-    let at : prev_of s p ≡ Some before = sym (c.in-Some.ensures.neighbor (c.in-Some.ensures.some refl)) in
-    record {
-      first_prev = next_valid s before p ((c.self.invariant.both before p).1 at);
-      first_next = tt;
-      second_prev = tt;
-      second_next = subst (HasLink s) (sym c.inx.ensures) (prev_valid s p before at);
-    }
+    next_valid s before p ((c.self.invariant.both before p).1 (sym (c.in-Some.ensures.neighbor (c.in-Some.ensures.some refl))))
+
+pub link_pairs-requires-clause-second_next : goal.link_pairs-requires-clause-second_next
+link_pairs-requires-clause-second_next g c =
+    let s = link_map (links_view g.P.Inx.InxKey.packed_number c.self.inside.arena) in
+    let p = (g.P.PtrKey.key c.args.p).0 in
+    subst (HasLink s) (sym c.inx.ensures) (prev_valid s p (g.P.Inx.InxKey.number c.in-Some.before) (sym (c.in-Some.ensures.neighbor (c.in-Some.ensures.some refl))))
 
 pub invariant_of-self : goal.invariant_of-self
 invariant_of-self g c = agrees_cut (links g c) (cut_links g c) _ _ (is_cut g c) c.self.invariant (pair g c)

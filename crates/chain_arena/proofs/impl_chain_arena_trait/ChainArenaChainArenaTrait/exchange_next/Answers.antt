@@ -43,20 +43,31 @@ is_exchanged g c =
     ∙ (ap₂ (λ (i j : ℕ). with_link_map s (with_neighbors (with_neighbors (link_map s) (Some i) (Some (g.P.Inx.InxKey.number c.in-Some-next_of_link.after_q))) (Some j) (Some (g.P.Inx.InxKey.number c.in-Some.after_p)))) c.inx-i.ensures c.inx-j.ensures
     ∙ ap₂ (λ (a b : Option ℕ). with_link_map s (with_neighbors (with_neighbors (link_map s) (Some (g.P.PtrKey.key c.args.p).0) b) (Some (g.P.PtrKey.key c.args.q).0) a)) (after_p g c) (after_q g c))
 
-pub link_pairs-requires : goal.link_pairs-requires
-link_pairs-requires g c =
-    let number = g.P.Inx.InxKey.number in
+pub link_pairs-requires-clause-first_prev : goal.link_pairs-requires-clause-first_prev
+link_pairs-requires-clause-first_prev g c =
     let s = link_map (links_view g.P.Inx.InxKey.packed_number c.self.inside.arena) in
     let p = (g.P.PtrKey.key c.args.p).0 in
+    subst (HasLink s) (sym c.inx-i.ensures) (next_valid s p (g.P.Inx.InxKey.number c.in-Some.after_p) (sym (c.in-Some.ensures.neighbor (c.in-Some.ensures.some refl))))
+
+pub link_pairs-requires-clause-first_next : goal.link_pairs-requires-clause-first_next
+link_pairs-requires-clause-first_next g c =
+    let s = link_map (links_view g.P.Inx.InxKey.packed_number c.self.inside.arena) in
     let q = (g.P.PtrKey.key c.args.q).0 in
-    let after_one : next_of s p ≡ Some (number c.in-Some.after_p) = sym (c.in-Some.ensures.neighbor (c.in-Some.ensures.some refl)) in
-    let after_other : next_of s q ≡ Some (number c.in-Some-next_of_link.after_q) = sym (c.in-Some-next_of_link.ensures.neighbor (c.in-Some-next_of_link.ensures.some refl)) in
-    record {
-      first_prev = subst (HasLink s) (sym c.inx-i.ensures) (next_valid s p _ after_one);
-      first_next = prev_valid s _ q ((c.self.invariant.both q _).0 after_other);
-      second_prev = subst (HasLink s) (sym c.inx-j.ensures) (next_valid s q _ after_other);
-      second_next = prev_valid s _ p ((c.self.invariant.both p _).0 after_one);
-    }
+    let after = g.P.Inx.InxKey.number c.in-Some-next_of_link.after_q in
+    prev_valid s after q ((c.self.invariant.both q after).0 (sym (c.in-Some-next_of_link.ensures.neighbor (c.in-Some-next_of_link.ensures.some refl))))
+
+pub link_pairs-requires-clause-second_prev : goal.link_pairs-requires-clause-second_prev
+link_pairs-requires-clause-second_prev g c =
+    let s = link_map (links_view g.P.Inx.InxKey.packed_number c.self.inside.arena) in
+    let q = (g.P.PtrKey.key c.args.q).0 in
+    subst (HasLink s) (sym c.inx-j.ensures) (next_valid s q (g.P.Inx.InxKey.number c.in-Some-next_of_link.after_q) (sym (c.in-Some-next_of_link.ensures.neighbor (c.in-Some-next_of_link.ensures.some refl))))
+
+pub link_pairs-requires-clause-second_next : goal.link_pairs-requires-clause-second_next
+link_pairs-requires-clause-second_next g c =
+    let s = link_map (links_view g.P.Inx.InxKey.packed_number c.self.inside.arena) in
+    let p = (g.P.PtrKey.key c.args.p).0 in
+    let after = g.P.Inx.InxKey.number c.in-Some.after_p in
+    prev_valid s after p ((c.self.invariant.both p after).0 (sym (c.in-Some.ensures.neighbor (c.in-Some.ensures.some refl))))
 
 pub invariant_of-self : goal.invariant_of-self
 invariant_of-self g c = agrees_exchange (links g c) (exchanged_links g c) _ _ (is_exchanged g c) c.self.invariant (valid_p g c) (valid_q g c)
