@@ -9,6 +9,9 @@ use Rattle.chain_compaction.proofs.PermutationLoopLemmas.{rounds_start, rounds_c
 use Rattle.chain_compaction.proofs.LinkLoanLemmas.{same_then, counts_on, capacity_then, maximum_then}
 use Rattle.chain_compaction.proofs.permute.settle_block.Goals as goal
 
+pub settle_each-left-requires : goal.settle_each-left-requires
+settle_each-left-requires g c = c.requires
+
 pub loop-left-init : goal.loop-left-init
 loop-left-init g c =
     let first = c.settle_each-left.ensures in
