@@ -22,6 +22,10 @@ loop-k-init g c =
 pub inx_at-i-requires : goal.inx_at-i-requires
 inx_at-i-requires g c = omega (arith, c.slots-k-end.ensures, c.requires.fits)
 
+-- The type parameters of the call are those of the function.
+pub read_link-was-requires : goal.read_link-was-requires
+read_link-was-requires g c κs = λ outlives. outlives
+
 pub read_ahead-ahead-requires : goal.read_ahead-ahead-requires
 read_ahead-ahead-requires g c =
     let same = c.loop-k.invariant.order.relinked.long in
