@@ -15,7 +15,7 @@ settle_each-left-requires g c = c.requires
 
 -- What each type parameter outlives, the types made of them do.
 pub slots-reads_ahead-requires : goal.slots-reads_ahead-requires
-slots-reads_ahead-requires g _ κs = λ o. search (⊑_meet, ⊑_static, o.0, o.1.0, o.1.1.0, o.1.1.1.0, o.1.1.1.1.0, o.1.1.1.1.1.0, o.1.1.1.1.1.1.0, o.1.1.1.1.1.1.1) depth 16
+slots-reads_ahead-requires g _ κs = λ o. search (⊑_meet, ⊑_static, o.0, o.1.0, o.1.1.0, o.1.1.1.0) depth 16
 
 pub loop-left-init : goal.loop-left-init
 loop-left-init g c =
