@@ -4,7 +4,8 @@ use Rattle.std.specs.Prelude.{slice_index_or}
 use Rattle.std.specs.Option.{option_map}
 use Rattle.std.proofs.lemmas.List.{append-nil, reverse-append}
 use Rattle.std.proofs.lemmas.Bool.{le-leb, lt-leb}
-use Rattle.arena_base.specs.Entries.{entries_from, key_at, first_key, last_key}
+use Rattle.arena_base.specs.Arena.{slot_at}
+use Rattle.arena_base.specs.Entries.{entries_from, key_at, first_key, last_key, IsNextEntry}
 use Rattle.arena_base.specs.Advancers.{entries_at_or_above, entries_at_or_below}
 
 -- The first, or else the second.
@@ -95,3 +96,55 @@ module _ {Gen T : Type 0} where
   -- The entries ahead by descending index end at a position.
   pub ahead_down : (slots : List (Option (Gen × T))) (to : ℕ) → entries_from 1 (take to slots) ≡ entries_at_or_below to (entries_from 1 slots)
   ahead_down slots to = sym (entries_at_or_below-take slots to 1 to (omega arith))
+
+  -- The entries from a position on are that of its slot, if any, and those from the next one on.
+  entries_from-drop : (slots : List (Option (Gen × T))) (i k : ℕ) → k < length slots
+      → entries_from i (drop k slots) ≡ entry_list i (slice_index_or slots k None) ++ entries_from (suc i) (drop (suc k) slots)
+  entries_from-drop [] i k below = absurd (omega (arith, below))
+  entries_from-drop (None ∷ slots) i zero below = refl
+  entries_from-drop (Some e ∷ slots) i zero below = refl
+  entries_from-drop (s ∷ slots) i (suc k) below = entries_from-drop slots i k (omega (arith, below))
+
+  -- No entry is at a position past the slots.
+  pub entries_from-past : (slots : List (Option (Gen × T))) (i k : ℕ) → length slots ≤ k → entries_from i (drop k slots) ≡ []
+  entries_from-past [] i zero past = refl
+  entries_from-past [] i (suc k) past = refl
+  entries_from-past (s ∷ slots) i zero past = absurd (omega (arith, past))
+  entries_from-past (s ∷ slots) i (suc k) past = entries_from-past slots i k (omega (arith, past))
+
+  -- Without an entry at a position, the entries are those from the next one on.
+  pub entries_from-step : (slots : List (Option (Gen × T))) (k n : ℕ) → suc k ≡ n → k < length slots → None ≡ option_map (key_at n) (slice_index_or slots k None)
+      → entries_from n (drop k slots) ≡ entries_from (n + 1) (drop n slots)
+  entries_from-step slots k n at below none =
+      let more : suc n ≡ n + 1 = omega arith in
+      entries_from-drop slots n k below
+      ∙ (ap (λ o. entry_list n o ++ entries_from (suc n) (drop (suc k) slots)) (is_none (slice_index_or slots k None) none) ∙ (λ i. entries_from (more i) (drop (at i) slots)))
+    where
+      is_none : (o : Option (Gen × T)) → None ≡ option_map (key_at n) o → o ≡ None
+      is_none None is = refl
+      is_none (Some e) is = absurd (cc)
+
+  -- An entry at a position is the next one.
+  pub next_entry : (slots : List (Option (Gen × T))) (from k n : ℕ) (p : ℕ × Gen) (t : T) → suc k ≡ n → k < length slots → entries_from (from + 1) (drop from slots) ≡ entries_from n (drop k slots)
+      → Some p ≡ option_map (key_at n) (slice_index_or slots k None) → Some t ≡ option_map (λ e. e.1) (slice_index_or slots k None) → IsNextEntry slots from n p t
+  next_entry slots from k n p t at below same key value =
+      let more : suc n ≡ n + 1 = omega arith in
+      let there = is_some (slice_index_or slots k None) key value in
+      record {
+        index = there.0;
+        stored = ap (slot_at slots) (sym at) ∙ there.1;
+        first = same
+            ∙ (entries_from-drop slots n k below
+            ∙ (ap (λ o. entry_list n o ++ entries_from (suc n) (drop (suc k) slots)) there.1 ∙ (λ i. ((sym there.0 i, p.1), t) ∷ entries_from (more i) (drop (at i) slots))));
+      }
+    where
+      is_some : (o : Option (Gen × T)) → Some p ≡ option_map (key_at n) o → Some t ≡ option_map (λ e. e.1) o → (p.0 ≡ n) × (o ≡ Some (p.1, t))
+      is_some None key value = absurd (cc)
+      is_some (Some e) key value =
+          let pointer : p ≡ (n, e.0) = cc in
+          let item : t ≡ e.1 = cc in
+          (ap (λ q. q.0) pointer, λ i. Some ((sym pointer i).1, sym item i))
+
+  -- An entry that is next after a step is next before it.
+  pub next_entry-step : (slots : List (Option (Gen × T))) (from k n : ℕ) (p : ℕ × Gen) (t : T) → entries_from (from + 1) (drop from slots) ≡ entries_from (k + 1) (drop k slots) → IsNextEntry slots k n p t → IsNextEntry slots from n p t
+  next_entry-step slots from k n p t same next = record { index = next.index; stored = next.stored; first = same ∙ next.first }

@@ -23,6 +23,9 @@ loop-start-init g c =
       counts = counts_none old.arena.now old.placed old.touched;
     }
 
+pub overflow_sub-slots : goal.overflow_sub-slots
+overflow_sub-slots g c = omega (arith, c.loop-start.invariant.reached)
+
 pub settle_block-requires : goal.settle_block-requires
 settle_block-requires g c =
     let same = c.loop-start.invariant.passed.length in
@@ -34,6 +37,9 @@ settle_block-requires g c =
       within = c.loop-start.invariant.passed.within;
       unplaced = c.loop-start.invariant.unplaced;
     }
+
+pub overflow_add-start : goal.overflow_add-start
+overflow_add-start g c = omega (arith, c.min-count.ensures, c.loop-start.invariant.reached)
 
 pub loop-start-preserved : goal.loop-start-preserved
 loop-start-preserved g c =

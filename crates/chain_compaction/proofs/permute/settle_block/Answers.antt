@@ -1,5 +1,6 @@
 -- `settle_block` reads before a round of moves and makes it, until the list of positions is empty.
 use Rattle.std.proofs.Common.{◌+◌, ◌-◌, length, slice_index, sym, ap, ◌∙◌, subst, arith}
+use contract.BorrowLft.{⊑_meet, ⊑_static}
 use Rattle.arena_base.specs.Arena.{slot_at}
 use Rattle.arena_base.specs.DetachedSlots.{DetachedView}
 use Rattle.chain_compaction.specs.Permutations.{IsInBlock, waiting_count, destination_of, Settles, IsWorkOn}
@@ -8,6 +9,13 @@ use Rattle.chain_compaction.proofs.PermutationStepLemmas.{settle_reads, settling
 use Rattle.chain_compaction.proofs.PermutationLoopLemmas.{rounds_start, rounds_continue, rounds_stop}
 use Rattle.chain_compaction.proofs.LinkLoanLemmas.{same_then, counts_on, capacity_then, maximum_then}
 use Rattle.chain_compaction.proofs.permute.settle_block.Goals as goal
+
+pub settle_each-left-requires : goal.settle_each-left-requires
+settle_each-left-requires g c = c.requires
+
+-- What each type parameter outlives, the types made of them do.
+pub slots-reads_ahead-requires : goal.slots-reads_ahead-requires
+slots-reads_ahead-requires g _ κs = λ o. search (⊑_meet, ⊑_static, o.0, o.1.0, o.1.1.0, o.1.1.1.0) depth 16
 
 pub loop-left-init : goal.loop-left-init
 loop-left-init g c =

@@ -19,3 +19,10 @@ returns-else-is_full g c =
       err = tt;
       after = refl;
     }
+
+-- The type parameters of the calls are those of the function.
+pub is_full-requires : goal.is_full-requires
+is_full-requires g c κs = λ outlives. outlives
+
+pub grow_to-requires : goal.grow_to-requires
+grow_to-requires g c κs = λ outlives. outlives

@@ -1,5 +1,7 @@
 -- The paragraph is separated and put after `q`.
-use Rattle.std.proofs.Common.{ap, ◌∙◌}
+use Rattle.std.proofs.Common.{◌≡◌, ap, ◌∙◌, sym, refl}
+use Rattle.std.proofs.lemmas.Bool.{false≢true}
+use Rattle.arena_base.specs.Arena.{IsValid}
 use Rattle.chain_traits.proofs.GenericRemovalLemmas.{same_entry}
 use Rattle.chain_examples.proofs.ItemMoveLemmas.{moved_after, keeps_moved}
 use Rattle.chain_examples.proofs.documents.Documents.move_after.Goals as goal
@@ -14,3 +16,29 @@ returns-clause-others g c = keeps_moved g.A.ArenaTrait.entry g.A.ChainArenaTrait
 
 pub returns-clause-paragraphs : goal.returns-clause-paragraphs
 returns-clause-paragraphs g c = same_entry (λ x. (g.A.ArenaTrait.view x).entries) g.A.ArenaTrait.entry g.met.A.ArenaTrait.finds c.args.self.now c.put_after.new.self (ap (λ s. s.entries) (c.put_after.ensures.view_after ∙ c.set_apart.ensures.view_after))
+
+pub returns-clause-view_after : goal.returns-clause-view_after
+returns-clause-view_after g c = c.put_after.ensures.view_after ∙ c.set_apart.ensures.view_after
+
+pub returns-clause-some : goal.returns-clause-some
+returns-clause-some g c =
+    let valid : IsValid (g.A.ArenaTrait.entry c.args.self.now) (g.P.PtrKey.key c.args.q) = rw (← c.self.view_is) (c.contains.ensures.0 c.if-not-contains.false) in (
+      λ _. (
+        c.in_ok-set_apart.ensures.some.0 refl,
+        valid,
+        λ equal. false≢true (sym c.if-is_same.false ∙ (c.is_same.ensures ∙ (g.met.P.PtrKey.same_is_equal c.args.p c.args.q).1 (g.met.P.PtrKey.same_key c.args.p c.args.q equal))),
+      ),
+      λ _. refl,
+    )
+
+pub returns-in_err-set_apart : goal.returns-in_err-set_apart
+returns-in_err-set_apart g c =
+    let same : c.set_apart.new.self ≡ c.args.self.now = c.in_err-set_apart.ensures.none in
+    rw (c.from_residual.ensures, same) (record {
+      some = (λ is. absurd (cc), λ all. absurd (let apart = c.in_err-set_apart.ensures.some.1 all.0 in cc));
+      texts = tt;
+      others = λ items absent is. is;
+      paragraphs = refl;
+      view_after = refl;
+      none = refl;
+    })

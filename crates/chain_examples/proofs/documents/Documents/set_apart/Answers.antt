@@ -15,3 +15,16 @@ returns-clause-others g c = keeps_alone g.A.ArenaTrait.entry g.A.ChainArenaTrait
 pub returns-in_err-before-clause-texts : goal.returns-in_err-before-clause-texts
 returns-in_err-before-clause-texts g c = λ t before after is.
     absurd (let some = c.in_err-before.ensures.some.1 (in_a_text g.A.ArenaTrait.entry g.A.ChainArenaTrait.interlinks c.args.self.now (g.P.PtrKey.key c.args.p) t before after is) in cc)
+
+-- The type parameters of the calls are those of the function.
+pub beside-requires : goal.beside-requires
+beside-requires g c κs = λ outlives. outlives
+
+pub split_before-requires : goal.split_before-requires
+split_before-requires g c κs = λ outlives. outlives
+
+pub split_after-requires : goal.split_after-requires
+split_after-requires g c κs = λ outlives. outlives
+
+pub close-requires : goal.close-requires
+close-requires g c κs = λ outlives. outlives

@@ -38,3 +38,7 @@ returns g c = record {
       (g.met.A.ChainArenaTrait.links_are_entries c.self.inside.corners) (g.met.A.ArenaTrait.finds c.self.inside.corners)) (g.P.PtrKey.key c.args.u) (g.P.PtrKey.key c.args.v) ((done g c).0 some).0 c.exchange_next.ensures.agreed is changed) (λ same. ap g.A.ChainArenaTrait.interlinks same));
   none = rw (← c.self.view_is) c.exchange_next.ensures.none;
 }
+
+-- The type parameters of the calls are those of the function.
+pub exchange_next-requires : goal.exchange_next-requires
+exchange_next-requires g c κs = λ outlives. outlives

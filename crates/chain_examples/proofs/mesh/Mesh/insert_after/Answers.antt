@@ -49,3 +49,15 @@ returns-clause-beyond g c =
 
 pub returns-clause-greatest : goal.returns-clause-greatest
 returns-clause-greatest g c = rw (← c.self.view_is) c.insert_reallocating.ensures.greatest
+
+pub returns-clause-link : goal.returns-clause-link
+returns-clause-link g c =
+    let a = c.self.inside.corners in
+    let link = c.insert_reallocating.ensures.link in
+    rw (← c.self.view_is) (
+      λ is valid. link.0 is (valid, valid_link (g.A.ChainArenaTrait.interlinks a) (g.A.ArenaTrait.entry a) (g.A.ArenaTrait.view a).entries (g.met.A.ChainArenaTrait.links_are_entries a) (g.met.A.ArenaTrait.finds a) (g.P.PtrKey.key c.args.corner) valid),
+      λ invalid. link.1 (λ may. invalid may.0),
+    )
+
+pub returns-clause-error : goal.returns-clause-error
+returns-clause-error g c = c.insert_reallocating.ensures.error

@@ -1,9 +1,20 @@
--- Pointers that are the same have the same key.
-use Rattle.std.proofs.Common.{ap, sym, ◌∙◌}
+-- Two valid corners are read, unless they are the same.
+use Rattle.std.proofs.Common.{refl, sym, ◌∙◌}
+use Rattle.std.proofs.lemmas.Bool.{false≢true}
 use Rattle.chain_examples.proofs.mesh.Mesh.points.Goals as goal
 
-pub returns-then-is_same-clause-some : goal.returns-then-is_same-clause-some
-returns-then-is_same-clause-some g c = (
-  λ some. absurd (let h = some in cc),
-  λ valid. absurd (valid.2 (ap g.P.PtrKey.key ((g.met.P.PtrKey.same_is_equal c.args.u c.args.v).0 (sym c.is_same.ensures ∙ c.if-is_same.true)))),
+pub returns-clause-some : goal.returns-clause-some
+returns-clause-some g c = rw (← c.self.view_is) (
+  λ _. (
+    c.in_ok-a.ensures.some.0 refl,
+    c.in_ok-b.ensures.some.0 refl,
+    λ equal. false≢true (sym c.if-is_same.false ∙ (c.is_same.ensures ∙ (g.met.P.PtrKey.same_is_equal c.args.u c.args.v).1 (g.met.P.PtrKey.same_key c.args.u c.args.v equal))),
+  ),
+  λ _. refl,
 )
+
+pub returns-clause-first : goal.returns-clause-first
+returns-clause-first g c = rw (← c.self.view_is) c.in_ok-a.ensures.value
+
+pub returns-clause-second : goal.returns-clause-second
+returns-clause-second g c = rw (← c.self.view_is) c.in_ok-b.ensures.value

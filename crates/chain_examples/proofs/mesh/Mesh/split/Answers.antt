@@ -1,5 +1,7 @@
 -- After reserving for two, both corners are still stored and linked.
-use Rattle.std.proofs.Common.{◌≡◌, List, ap}
+use Rattle.std.proofs.Common.{◌≡◌, ◌+◌, List, ap, refl, ◌∙◌, arith}
+use Rattle.arena_base.specs.Entries.{count}
+use Rattle.std.proofs.lemmas.Bool.{false≢true}
 use Rattle.chain_traits.proofs.GenericRemovalLemmas.{same_entry}
 use Rattle.chain_examples.specs.Lists.{Item, IsRing}
 use Rattle.chain_examples.proofs.RingLemmas.{ring_viewed}
@@ -23,3 +25,54 @@ returns-in_ok-reserve-in-Some-clause-bridged g c = λ s t x y one two apart. c.s
 
 pub returns-in_ok-reserve-in-Some-clause-others : goal.returns-in_ok-reserve-in-Some-clause-others
 returns-in_ok-reserve-in-Some-clause-others g c = λ items absent is. c.split_within_capacity.ensures.others items absent (view_after g c items is)
+
+pub returns-in_ok-reserve-in-Some-clause-some : goal.returns-in_ok-reserve-in-Some-clause-some
+returns-in_ok-reserve-in-Some-clause-some g c = c.in-Some.ensures.some
+
+pub returns-in_ok-reserve-in-Some-clause-corners : goal.returns-in_ok-reserve-in-Some-clause-corners
+returns-in_ok-reserve-in-Some-clause-corners g c = rw (← same g c) c.split_within_capacity.ensures.corners
+
+pub returns-in_ok-reserve-in-Some-clause-size : goal.returns-in_ok-reserve-in-Some-clause-size
+returns-in_ok-reserve-in-Some-clause-size g c = c.split_within_capacity.ensures.size ∙ ap (λ s. count s + 2) c.reserve.ensures.after
+
+pub returns-in_ok-reserve-in-Some-clause-within_capacity : goal.returns-in_ok-reserve-in-Some-clause-within_capacity
+returns-in_ok-reserve-in-Some-clause-within_capacity g c = λ less. let kept = c.reserve.ensures.within less in (refl, c.split_within_capacity.ensures.capacity ∙ ap (λ a. (g.A.ArenaTrait.view a).capacity) kept.1)
+
+pub returns-in_ok-reserve-in-Some-clause-grown : goal.returns-in_ok-reserve-in-Some-clause-grown
+returns-in_ok-reserve-in-Some-clause-grown g c = rw (c.split_within_capacity.ensures.maximum, c.split_within_capacity.ensures.capacity) c.in_ok-reserve-in-Some.ensures.grown
+
+pub returns-in_ok-reserve-in-Some-clause-maximum : goal.returns-in_ok-reserve-in-Some-clause-maximum
+returns-in_ok-reserve-in-Some-clause-maximum g c = c.split_within_capacity.ensures.maximum ∙ ap (λ s. s.maximum) c.reserve.ensures.after
+
+pub split_within_capacity-requires : goal.split_within_capacity-requires
+split_within_capacity-requires g c =
+    let after = c.reserve.ensures.after in
+    let entry = same_entry (λ x. (g.A.ArenaTrait.view x).entries) g.A.ArenaTrait.entry g.met.A.ArenaTrait.finds c.args.self.now c.reserve.new.self (ap (λ s. s.entries) after) in
+    record {
+      capacity = omega (arith, ap count after, c.in_ok-reserve-in-Some.ensures.grown.fits);
+      first = rw entry c.in-Some.ensures.first;
+      second = rw entry c.in-Some.ensures.second;
+    }
+
+pub returns-in_ok-reserve-in-Some-clause-beyond : goal.returns-in_ok-reserve-in-Some-clause-beyond
+returns-in_ok-reserve-in-Some-clause-beyond g c = (λ is. absurd (cc), λ past. let refused = c.in_ok-reserve-in-Some.ensures.beyond.1 past.1 in absurd (cc))
+
+pub returns-in_ok-reserve-in-Some-clause-greatest : goal.returns-in_ok-reserve-in-Some-clause-greatest
+returns-in_ok-reserve-in-Some-clause-greatest g c = λ less. let refused = c.in_ok-reserve-in-Some.ensures.greatest less in absurd (cc)
+
+pub returns-in-None : goal.returns-in-None
+returns-in-None g c = record {
+  some = c.in-None.ensures.some;
+  rings = tt;
+  bridged = tt;
+  corners = tt;
+  others = λ items absent is. is;
+  size = tt;
+  none = refl;
+  within_capacity = λ less. (refl, refl);
+  grown = tt;
+  maximum = refl;
+  beyond = (λ is. absurd (cc), λ past. let both = c.in-None.ensures.some.1 past.0 in absurd (false≢true both));
+  greatest = λ less. refl;
+  err = tt;
+}

@@ -64,3 +64,13 @@ returns-in_err-task-clause-none g c =
       λ among. no_task (g.A.ArenaTrait.entry a) (g.A.ChainArenaTrait.interlinks a) (option_map g.P.PtrKey.key c.self.inside.current) _ p c.self.invariant
           (λ valid. let is = removal.valid valid in let none = ap is_some c.in_err-task.was in let both = sym is ∙ none in cc) (subst (IsAmong p) (sym (ap (λ (q : Queue g.row.P-Gen.Denot g.row.T.Denot). q.order) c.self.view_is)) among),
     )
+
+-- The type parameters of the calls are those of the function.
+pub current_without-next-requires : goal.current_without-next-requires
+current_without-next-requires g c κs = λ outlives. outlives
+
+pub agrees-requires : goal.agrees-requires
+agrees-requires g c κs = λ outlives. outlives
+
+pub remove-requires : goal.remove-requires
+remove-requires g c κs = λ outlives. outlives

@@ -23,3 +23,7 @@ returns-clause-greatest g c = rw (← (size g c).tasks) c.reserve.ensures.greate
 
 pub returns-clause-ok : goal.returns-clause-ok
 returns-clause-ok g c = rw (← (size g c).tasks) c.reserve.ensures.ok
+
+-- The type parameters of the calls are those of the function.
+pub reserve-requires : goal.reserve-requires
+reserve-requires g c κs = λ outlives. outlives

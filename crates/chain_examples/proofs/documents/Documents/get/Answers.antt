@@ -1,0 +1,5 @@
+-- The arena reads the paragraph.
+use Rattle.chain_examples.proofs.documents.Documents.get.Goals as goal
+
+pub returns : goal.returns
+returns g c = rw (← c.self.view_is) (record { some = c.get.ensures.some; paragraph = c.get.ensures.value })
