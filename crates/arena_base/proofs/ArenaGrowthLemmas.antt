@@ -1,7 +1,7 @@
 -- The reach of an arena's growth.
 use Rattle.std.proofs.Common.{◌≡◌, ℕ, ◌<◌, ◌≤◌, Option, Result, Ok, Err, OnOk, OnErr, ◌⊎◌, inl, inr, refl, sym, subst}
 use Rattle.std.proofs.lemmas.Bool.Decides.{leb_tells}
-use Rattle.arena_base.specs.Arena.{Arena, IsWithinReach}
+use Rattle.arena_traits.specs.Arena.{Arena, IsWithinReach}
 
 -- A stack keeps its capacity, or reaches one that its growth may reach.
 pub stack_reach : {X E A May : Type 0} {n old new : ℕ} (r : Result X E) → (n ≤ old → A × (new ≡ old)) → OnOk r (old < n → May) → OnErr r (new ≡ old)

@@ -5,15 +5,15 @@ use Rattle.std.specs.List.{range_with_len}
 use Rattle.std.specs.Fn.{Mut}
 use Rattle.std.proofs.lemmas.List.Elements.{All-nil, All-cons}
 use denote.Ref.{MutBor}
-use Rattle.arena_base.specs.Arena.{Arena, with_counter}
-use Rattle.arena_base.specs.Entries.{entries_from, entries, index_of, view_of}
+use Rattle.arena_traits.specs.Arena.{Arena, with_counter}
+use Rattle.arena_traits.specs.Entries.{entries_from, entries, index_of, view_of}
 use Rattle.arena_base.specs.DetachedSlots.{DetachedView, before_cut, without_free_end, free_from, held_of, arena_without_slots, arena_after_return}
-use Rattle.arena_base.specs.Compressions.{IsCompressed, VisitsAll, counter_after_compression}
+use Rattle.arena_traits.specs.Compressions.{IsCompressed, VisitsAll, counter_after_compression}
 use Rattle.arena_base.specs.GatheredSlots.{with_front, AreClosed, IsGathered, with_totals, arena_of_values}
 use Rattle.arena_base.proofs.HoleClosingLemmas.{entries-closed, length-with_front}
 use Rattle.arena_base.proofs.TrimLemmas.{free_from-total}
-use Rattle.arena_base.proofs.ArenaViewLemmas.{length-entries}
-use Rattle.arena_base.proofs.ClosureLemmas.{visits_keep_count}
+use Rattle.arena_traits.proofs.ArenaViewLemmas.{length-entries}
+use Rattle.arena_traits.proofs.ClosureLemmas.{visits_keep_count}
 
 module _ {Gen T : Type 0} (g : Gen) where
   -- Trimming removes the free slots of closed slots.

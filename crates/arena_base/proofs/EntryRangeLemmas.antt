@@ -4,9 +4,9 @@ use Rattle.std.specs.Prelude.{slice_index_or}
 use Rattle.std.specs.Option.{option_map}
 use Rattle.std.proofs.lemmas.List.{append-nil, reverse-append}
 use Rattle.std.proofs.lemmas.Bool.{le-leb, lt-leb}
-use Rattle.arena_base.specs.Arena.{slot_at}
-use Rattle.arena_base.specs.Entries.{entries_from, key_at, first_key, last_key, IsNextEntry}
-use Rattle.arena_base.specs.Advancers.{entries_at_or_above, entries_at_or_below}
+use Rattle.arena_traits.specs.Arena.{slot_at}
+use Rattle.arena_traits.specs.Entries.{entries_from, key_at, first_key, last_key, IsNextEntry}
+use Rattle.arena_traits.specs.Advancers.{entries_at_or_above, entries_at_or_below}
 
 -- The first, or else the second.
 abbrev pub first_of : {K : Type 0} → Option K → Option K → Option K

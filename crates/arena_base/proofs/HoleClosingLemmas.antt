@@ -8,10 +8,10 @@ use Rattle.std.specs.Fn.{Mut}
 use Rattle.std.proofs.lemmas.List.{append-nil, map-append, length-append, length-map, length-replicate, length-drop, drop_all}
 use Rattle.std.proofs.lemmas.Fn.{FoldsTo-push}
 use denote.Ref.{MutBor}
-use Rattle.arena_base.specs.Arena.{Arena, slot_at, with_slot}
-use Rattle.arena_base.specs.Entries.{entries_from}
+use Rattle.arena_traits.specs.Arena.{Arena, slot_at, with_slot}
+use Rattle.arena_traits.specs.Entries.{entries_from}
 use Rattle.arena_base.specs.DetachedSlots.{DetachedView, IsPacked, with_touch, with_placement}
-use Rattle.arena_base.specs.Compressions.{Visit, IsVisit, VisitsAll}
+use Rattle.arena_traits.specs.Compressions.{Visit, IsVisit, VisitsAll}
 use Rattle.arena_base.specs.GatheredSlots.{with_front, AreClosed, with_totals}
 use Rattle.arena_base.proofs.TrimLemmas.{drop-at}
 

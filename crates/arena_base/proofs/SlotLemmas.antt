@@ -1,10 +1,9 @@
 -- Reads and writes of slots, by position and by index.
 use Rattle.std.proofs.Common.{◌≡◌, ℕ, zero, suc, ◌+◌, ◌<◌, List, [], ◌∷◌, ◌++◌, length, map, Option, None, Some, refl, ap, sym, ◌∙◌, subst, arith, inl, inr, ◌⊎◌}
 use Rattle.std.specs.Prelude.{IsSome, true, false, count_by, is_some, cond, slice_index_or, slice_get, slice_set}
-use Rattle.std.proofs.lemmas.List.{length-set}
 use Rattle.std.proofs.lemmas.List.Sums.{sum_by-cons}
 use Rattle.arena_ptr.specs.declared.packed_option.PackedOption.{PackedOption}
-use Rattle.arena_base.specs.Arena.{slot_at, with_slot}
+use Rattle.arena_traits.specs.Arena.{slot_at, with_slot}
 use Rattle.arena_base.specs.Slots.{item_at, entry_of, entry_in, allocated_slot, free_slot, with_generation_in, with_generation_at, freed_slot}
 use Rattle.arena_base.specs.declared.slot.ArenaSlot.{ArenaSlot}
 use Rattle.arena_base.specs.declared.slot.ArenaSlot.TheVariants.{Allocated, Free}
@@ -39,9 +38,6 @@ module _ {X : Type 0} where
   slice_get-below (z ∷ xs) zero x is = omega arith
   slice_get-below (z ∷ xs) (suc k) x is = let below = slice_get-below xs k x is in omega (arith, below)
 
-  pub slice_got-below : (xs : List X) (k : ℕ) (x : X) → Some x ≡ slice_get xs k → k < length xs
-  slice_got-below xs k x is = slice_get-below xs k x (sym is)
-
   pub item_at-set-other : (xs : List X) (k n : ℕ) (x : X) → (suc k ≡ n → ⊥) → item_at (slice_set xs k x) n ≡ item_at xs n
   item_at-set-other xs k zero x other = refl
   item_at-set-other xs k (suc m) x other = slice_get-set-other xs k m x (λ e. other (ap suc e))
@@ -53,10 +49,6 @@ module _ {X : Type 0} where
   -- An index is its position plus one.
   pub at_position : (xs : List X) (k n : ℕ) → k + 1 ≡ n → item_at xs n ≡ slice_get xs k
   at_position xs k n is = let at : suc k ≡ n = omega (arith, is) in subst (λ i. item_at xs i ≡ slice_get xs k) at refl
-
-  pub length-with_slot : (xs : List X) (n : ℕ) (x : X) → length (with_slot xs n x) ≡ length xs
-  length-with_slot xs zero x = refl
-  length-with_slot xs (suc k) x = length-set xs k x
 
   pub with_slot-position : (xs : List X) (k n : ℕ) (x : X) → k + 1 ≡ n → with_slot xs n x ≡ slice_set xs k x
   with_slot-position xs k n x is = let at : suc k ≡ n = omega (arith, is) in subst (λ i. with_slot xs i x ≡ slice_set xs k x) at refl

@@ -4,8 +4,8 @@ use Rattle.std.specs.Prelude.{slice_index_or, All, min}
 use Rattle.std.proofs.lemmas.List.Elements.{All-nil, All-cons}
 use Rattle.arena_ptr.specs.Numbers.{IsWithin}
 use Rattle.arena_ptr.specs.SlotStack.{IsWithinMaximum}
-use Rattle.arena_base.specs.Arena.{Arena, IsMember, AreDistinct, IsListed, IsCapacityFor}
-use Rattle.arena_base.specs.Entries.{entries_from, entries, index_of, CoverSlots}
+use Rattle.arena_traits.specs.Arena.{Arena, IsMember, AreDistinct, IsListed, IsCapacityFor}
+use Rattle.arena_traits.specs.Entries.{entries_from, entries, index_of, CoverSlots}
 
 -- A number is in an append exactly if it is in one of the lists.
 IsMember-append : (xs ys : List ℕ) (n : ℕ) → IsMember xs n ⊎ IsMember ys n → IsMember (xs ++ ys) n

@@ -4,8 +4,8 @@ use Rattle.std.specs.Option.{option_map}
 use Rattle.std.specs.Borrow.{Bor}
 use Rattle.std.specs.List.{FoldsTo}
 use Rattle.std.specs.Fn.{Mut, Called}
-use Rattle.arena_base.specs.Arena.{Arena, with_capacity_of}
-use Rattle.arena_base.specs.Entries.{ArenaView, Slots, entries, without_slots}
+use Rattle.arena_traits.specs.Arena.{Arena, with_capacity_of}
+use Rattle.arena_traits.specs.Entries.{ArenaView, Slots, entries, without_slots}
 
 -- A value that was made: the entry's pointer, the value passed, and the value returned.
 pub record Copied (P U T : Type 0) : Type 0 where

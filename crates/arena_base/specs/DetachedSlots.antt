@@ -2,7 +2,7 @@
 use Rattle.std.specs.Prelude.{◌≡◌, ℕ, suc, ◌+◌, ◌-◌, ◌^◌, ◌≤◌, ◌<◌, min, List, [], ◌∷◌, Option, None, Some, IsSome}
 use Rattle.std.specs.Option.{option_map}
 use Rattle.std.specs.Borrow.{Bor}
-use Rattle.arena_base.specs.Arena.{Arena, slot_at, with_slot}
+use Rattle.arena_traits.specs.Arena.{Arena, slot_at, with_slot}
 
 -- The slots that a compactor holds, with the capacity and the maximum of their stack.
 pub record DetachedView (Gen T : Type 0) : Type 0 where

@@ -2,10 +2,10 @@
 use Rattle.std.specs.Prelude.{◌≡◌, ℕ, ◌+◌, List, [], ◌++◌, map, replicate, length, Option, None, Some}
 use Rattle.std.specs.Fn.{Mut}
 use denote.Ref.{MutBor}
-use Rattle.arena_base.specs.Arena.{Arena}
-use Rattle.arena_base.specs.Entries.{entries}
+use Rattle.arena_traits.specs.Arena.{Arena}
+use Rattle.arena_traits.specs.Entries.{entries}
 use Rattle.arena_base.specs.DetachedSlots.{DetachedView}
-use Rattle.arena_base.specs.Compressions.{VisitsAll}
+use Rattle.arena_traits.specs.Compressions.{VisitsAll}
 
 module _ {Gen T : Type 0} where
   -- Entries of one generation with these values, followed by `slots`.

@@ -1,10 +1,4 @@
-pub mod Arena
-pub mod Entries
-pub mod Advancers
 pub mod Slots
-pub mod AdvancerLaws
-pub mod EntryLaws
 pub mod DetachedSlots
-pub mod Compressions
 pub mod GatheredSlots
 pub mod Copies

@@ -2,10 +2,9 @@
 ghost use Rattle.std.specs.Prelude.{◌≡◌, if◌then◌else◌};
 
 use crate::arena::Arena;
-use crate::cursor::Cursor;
 use crate::slot::{ArenaSlot, number_of};
-use crate::traits::Advancer;
 use arena_ptr::{PtrKey, SlotStack};
+use arena_traits::{Advancer, Cursor};
 use std::marker::PhantomData;
 
 /// An advancer over the valid pointers of an arena, by ascending or descending index.
@@ -50,10 +49,10 @@ impl<P: PtrKey, T: Drop, S: SlotStack<Item = ArenaSlot<P, T>>> Advancer<Arena<P,
     for PtrAdvancer<P> {
     ghost use Rattle.std.specs.Prelude.{◌≡◌};
     ghost use Rattle.std.specs.Option.{option_map};
-    ghost use Rattle.arena_base.specs.Entries.{entries};
-    ghost use Rattle.arena_base.specs.Advancers.{IsAdvance};
-    ghost use Rattle.arena_base.specs.AdvancerLaws.{nowhere_stays};
-    ghost use Rattle.arena_base.specs.declared.cursor.Cursor.TheVariants.{Nowhere};
+    ghost use Rattle.arena_traits.specs.Entries.{entries};
+    ghost use Rattle.arena_traits.specs.Advancers.{IsAdvance};
+    ghost use Rattle.arena_traits.specs.AdvancerLaws.{nowhere_stays};
+    ghost use Rattle.arena_traits.specs.declared.cursor.Cursor.TheVariants.{Nowhere};
 
     type Item = P;
 

@@ -4,12 +4,11 @@ ghost use Rattle.std.specs.Option.{option_map};
 ghost use Rattle.arena_ptr.specs.SlotStack.{IsBeyond};
 ghost use Rattle.arena_ptr.specs.Invalidation.{invalidation_option, invalidation_result};
 ghost use Rattle.arena_base.specs.Slots.{entry_of, ThreadsFreeList};
-ghost use Rattle.arena_base.specs.Entries.{entries, entries_from, key_at, first_key, last_key, IsNextEntry};
-ghost use Rattle.arena_base.specs.Advancers.{ahead};
+ghost use Rattle.arena_traits.specs.Entries.{entries, entries_from, key_at, first_key, last_key, IsNextEntry};
+ghost use Rattle.arena_traits.specs.Advancers.{ahead};
 ghost use Rattle.arena_base.specs.DetachedSlots.{held_of, arena_without_slots, arena_after_return, IsPacked, with_placement, with_touch};
-ghost use Rattle.arena_base.specs.Arena.{entry_at, entry_count, next_index, insert_next, remove_at, invalidate_at, with_counter, with_capacity_of, with_maximum, new_arena, HasCapacityFor, ReachesCapacity, IsWithinReach};
+ghost use Rattle.arena_traits.specs.Arena.{entry_at, entry_count, next_index, insert_next, remove_at, invalidate_at, with_counter, with_capacity_of, with_maximum, new_arena, HasCapacityFor, ReachesCapacity, IsWithinReach};
 
-use crate::cursor::Cursor;
 use crate::detached_slots::DetachedSlots;
 use crate::free_list::{relist, trim};
 use crate::slot::{ArenaSlot, PackedInx, fill, inx_at, position_of, regenerate_at, vacate_at};
@@ -19,6 +18,7 @@ use arena_ptr::{
     MaxCapacityReductionError, NotWithinCapacityError, PtrKey, ReallocationError, SetMaxCapacity,
     SlotStack,
 };
+use arena_traits::{Cursor, outcome, with_overflow};
 use std::marker::Model;
 use std::mem;
 
@@ -47,7 +47,7 @@ pub struct Arena<
 }
 
 impl<P: PtrKey, T: Drop, S: SlotStack<Item = ArenaSlot<P, T>>> Model for Arena<P, T, S> {
-    ghost use Rattle.arena_base.specs.Arena.{Arena as State};
+    ghost use Rattle.arena_traits.specs.Arena.{Arena as State};
 
     ghost Value = { State P.Gen T };
 
@@ -440,28 +440,6 @@ fn refusal(maximum: Option<usize>, n: usize) -> ReallocationError
             }
         }
         None => ReallocationError::AllocError,
-    }
-}
-
-/// Returns `t` as an `InvalidationResult` with this overflow.
-pub fn outcome<T>(overflow: bool, t: T) -> InvalidationResult<T>
-    ensures { result ≡ invalidation_result overflow (Some t) }
-{
-    if overflow {
-        InvalidationResult::GenerationOverflow(t)
-    } else {
-        InvalidationResult::Success(t)
-    }
-}
-
-/// Returns `t` as an `InvalidationOption` with this overflow.
-pub fn with_overflow<T>(overflow: bool, t: T) -> InvalidationOption<T>
-    ensures { result ≡ invalidation_option overflow t }
-{
-    if overflow {
-        InvalidationOption::GenerationOverflow(t)
-    } else {
-        InvalidationOption::Success(t)
     }
 }
 

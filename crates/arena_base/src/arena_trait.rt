@@ -2,28 +2,28 @@
 ghost use Rattle.std.specs.Prelude.{◌≡◌, ◌≤◌, ◌<◌, ◌+◌, ◌^◌, length, All, IfSome};
 ghost use Rattle.arena_ptr.specs.Invalidation.{value_within, is_overflow_result, invalidation_option};
 ghost use Rattle.std.specs.Option.{option_map};
-ghost use Rattle.arena_base.specs.Arena.{counter_after_clear, overflows_after_clear, entry_count, with_counter, HasCapacityFor, IsListed};
-ghost use Rattle.arena_base.specs.Compressions.{counter_after_compression, overflows_after_compression};
+ghost use Rattle.arena_traits.specs.Arena.{counter_after_clear, overflows_after_clear, entry_count, with_counter, HasCapacityFor, IsListed};
+ghost use Rattle.arena_traits.specs.Compressions.{counter_after_compression, overflows_after_compression};
 ghost use Rattle.arena_ptr.specs.Numbers.{IsWithin};
-ghost use Rattle.arena_base.specs.Entries.{entries, view_of, index_of, CoverSlots};
+ghost use Rattle.arena_traits.specs.Entries.{entries, view_of, index_of, CoverSlots};
 
 use crate::advancer::PtrAdvancer;
-use crate::arena::{Arena, outcome, with_overflow};
+use crate::arena::Arena;
 use crate::slot::{ArenaSlot, number_of, position_of};
-use crate::traits::{ArenaTrait, CompactArenaTrait};
 use arena_ptr::{
     AllocError, GenKey, InvalidationOption, InvalidationResult, InxKey, PtrKey, ReallocationError,
     SlotStack,
 };
+use arena_traits::{ArenaTrait, CompactArenaTrait, outcome, with_overflow};
 use std::alloc::Global;
 
 impl<P: PtrKey, T: Drop, S: SlotStack<Item = ArenaSlot<P, T>>> ArenaTrait<P, T> for Arena<P, T, S> {
     ghost use Rattle.std.specs.Prelude.{◌≡◌};
-    ghost use Rattle.arena_base.specs.Arena.{entry_at, with_capacity_of, IsWithinReach, IsNewWithCapacity, with_value, invalidate_at, remove_at, arena_after_clear};
+    ghost use Rattle.arena_traits.specs.Arena.{entry_at, with_capacity_of, IsWithinReach, IsNewWithCapacity, with_value, invalidate_at, remove_at, arena_after_clear};
     ghost use Rattle.std.specs.Option.{option_map};
-    ghost use Rattle.arena_base.specs.Entries.{view_of, entries};
-    ghost use Rattle.arena_base.specs.EntryLaws.{entries_ascend, found-entries};
-    ghost use Rattle.arena_base.specs.AdvancerLaws.{until_none};
+    ghost use Rattle.arena_traits.specs.Entries.{view_of, entries};
+    ghost use Rattle.arena_traits.specs.EntryLaws.{entries_ascend, found-entries};
+    ghost use Rattle.arena_traits.specs.AdvancerLaws.{until_none};
 
     type PtrAdvancer = PtrAdvancer<P>;
 

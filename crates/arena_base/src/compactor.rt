@@ -3,7 +3,7 @@ ghost use Rattle.std.specs.Prelude.{◌≡◌, ◌≢◌, ◌≤◌, ◌<◌, �
 ghost use Rattle.std.specs.Option.{option_map, option_copied_mut};
 ghost use Rattle.std.specs.Borrow.{LendsSo, follows_so, sem};
 ghost use mathlib.Core.Option.{none};
-ghost use Rattle.arena_base.specs.Arena.{slot_at};
+ghost use Rattle.arena_traits.specs.Arena.{slot_at};
 ghost use Rattle.arena_base.specs.DetachedSlots.{DetachedView, borrowed_parts, with_placed_entry, held_of, IsTouched, IsWrittenAt, arena_without_slots, arena_after_return, IsPacked, with_touch, with_placement, saturating_increment};
 
 use crate::arena::Arena;

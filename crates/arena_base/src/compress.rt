@@ -1,17 +1,17 @@
 // Compaction of the entries to the indexes from 1, in the order of their indexes.
 ghost use Rattle.std.specs.Prelude.{◌≡◌, ◌≢◌, ◌≤◌, ◌<◌, ◌+◌, length, None, OnSome, IfNone};
 ghost use Rattle.std.specs.Option.{option_map};
-ghost use Rattle.arena_base.specs.Arena.{slot_at};
-ghost use Rattle.arena_base.specs.Entries.{entries_from};
+ghost use Rattle.arena_traits.specs.Arena.{slot_at};
+ghost use Rattle.arena_traits.specs.Entries.{entries_from};
 ghost use Rattle.arena_base.specs.DetachedSlots.{with_placed_entry, IsPacked, with_touch, with_placement};
-ghost use Rattle.arena_base.specs.Compressions.{VisitsAll};
+ghost use Rattle.arena_traits.specs.Compressions.{VisitsAll};
 ghost use Rattle.arena_base.specs.GatheredSlots.{AreClosed, IsGathered, with_totals};
 
 use crate::arena::Arena;
 use crate::compactor::{Compactor, SlotAccess};
-use crate::proved_unreachable;
 use crate::slot::{ArenaSlot, inx_at};
 use arena_ptr::{PtrKey, SlotStack};
+use arena_traits::proved_unreachable;
 
 // Moves the entry at index `from`, if there is one, to index `to`, free or its own. Sets its
 // generation and returns the old one.

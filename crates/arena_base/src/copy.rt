@@ -1,16 +1,16 @@
 // Copying of an arena into another, with other values.
 ghost use Rattle.std.specs.Prelude.{◌≡◌, ◌≤◌, ◌↔◌, ◌⊎◌, [], map, length, IsOk, OnOk, OnErr, Err};
 ghost use Rattle.arena_ptr.specs.SlotStack.{IsBeyond};
-ghost use Rattle.arena_base.specs.Arena.{HasCapacityFor, IsWithinReach};
+ghost use Rattle.arena_traits.specs.Arena.{HasCapacityFor, IsWithinReach};
 ghost use Rattle.arena_base.specs.Slots.{entry_of, without_values};
-ghost use Rattle.arena_base.specs.Entries.{entries, entries_from};
+ghost use Rattle.arena_traits.specs.Entries.{entries, entries_from};
 ghost use Rattle.arena_base.specs.Copies.{CopiesBy, HasRefusable, HasSlotsOf, IsAbandonedCopy};
 
 use crate::arena::Arena;
-use crate::proved_unreachable;
+use crate::copy_traits::{ArenaCloneFromWith, ValueMap};
 use crate::slot::{ArenaSlot, inx_at};
-use crate::traits::{ArenaCloneFromWith, ArenaTrait, ValueMap};
 use arena_ptr::{AllocError, InxKey, PtrKey, ReallocationError, SlotStack};
+use arena_traits::{ArenaTrait, proved_unreachable};
 
 /// A `ValueMap` by a closure, which is called with the pointer and the value of each entry.
 #[derive(Drop)]
@@ -133,7 +133,7 @@ impl<P: PtrKey, T: Drop, S: SlotStack<Item = ArenaSlot<P, T>>> Arena<P, T, S> {
 impl<P: PtrKey, T: Drop, S: SlotStack<Item = ArenaSlot<P, T>>> ArenaCloneFromWith<P, T>
     for Arena<P, T, S> {
     ghost use Rattle.arena_base.specs.Copies.{HasSlotsOf};
-    ghost use Rattle.arena_base.specs.Arena.{IsWithinReach};
+    ghost use Rattle.arena_traits.specs.Arena.{IsWithinReach};
 
     ghost copies = { λ _ source old new. HasSlotsOf source old new × IsWithinReach S.may_reach
         (length source.slots) old new };

@@ -2,12 +2,12 @@
 ghost use Rattle.std.specs.Prelude.{◌≡◌, ◌≢◌, ◌≤◌, ◌<◌, None, OnSome, IsSome, length};
 ghost use Rattle.std.specs.Option.{option_map, option_copied_mut};
 ghost use Rattle.std.specs.Borrow.{LendsSo, sem};
-ghost use Rattle.arena_base.specs.Arena.{slot_at};
+ghost use Rattle.arena_traits.specs.Arena.{slot_at};
 ghost use Rattle.arena_base.specs.DetachedSlots.{DetachedView, borrowed_parts, with_placed_entry, held_with_value};
 
-use crate::proved_unreachable;
 use crate::slot::{ArenaSlot, position_of, put_at, regenerate_at, vacate_at};
 use arena_ptr::{InxKey, PtrKey, SlotStack};
+use arena_traits::proved_unreachable;
 use std::marker::Model;
 
 #[derive(Drop)]

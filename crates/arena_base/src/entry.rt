@@ -1,7 +1,7 @@
 // An insertion whose pointer is known before its value.
 ghost use Rattle.std.specs.Prelude.{◌≡◌, ◌↔◌, ◌<◌, IsErr, IfOk};
 ghost use Rattle.std.specs.Borrow.{RestsIfErr, sem};
-ghost use Rattle.arena_base.specs.Arena.{entry_count, next_index, insert_next};
+ghost use Rattle.arena_traits.specs.Arena.{entry_count, next_index, insert_next};
 
 use crate::arena::Arena;
 use crate::slot::ArenaSlot;

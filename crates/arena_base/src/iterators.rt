@@ -1,13 +1,13 @@
 // Iterators over the entries of an arena, by ascending index. Each passes every slot once.
 ghost use Rattle.std.specs.Prelude.{◌≡◌, ◌+◌, [], ◌∷◌, drop, IfNone, IfSome};
 ghost use Rattle.arena_ptr.specs.Invalidation.{value_within};
-ghost use Rattle.arena_base.specs.Entries.{entries_from};
+ghost use Rattle.arena_traits.specs.Entries.{entries_from};
 ghost use Rattle.std.specs.Iterator.{YieldsFirstBy, item_count};
 
 use crate::arena::Arena;
-use crate::proved_unreachable;
 use crate::slot::ArenaSlot;
 use arena_ptr::{HeapStack, InvalidationResult, PtrKey, SlotStack};
+use arena_traits::proved_unreachable;
 use std::marker::Model;
 
 impl<P: PtrKey, T: Drop, S: SlotStack<Item = ArenaSlot<P, T>>> Arena<P, T, S> {
@@ -64,7 +64,7 @@ impl<'a, P: PtrKey, T: Drop, S: SlotStack<Item = ArenaSlot<P, T>>> Model for Ite
 
     ghost Value = { List ((ℕ × P.Gen) × T) };
 
-    ghost use Rattle.arena_base.specs.Entries.{entries_from};
+    ghost use Rattle.arena_traits.specs.Entries.{entries_from};
 
     ghost view = { λ it. entries_from (it.next + 1) (drop it.next it.arena.now.slots) };
 }
@@ -107,7 +107,7 @@ impl<P: PtrKey, T: Drop, S: SlotStack<Item = ArenaSlot<P, T>>> Model for Capacit
 
     ghost Value = { List ((ℕ × P.Gen) × T) };
 
-    ghost use Rattle.arena_base.specs.Entries.{entries_from};
+    ghost use Rattle.arena_traits.specs.Entries.{entries_from};
 
     ghost view = { λ it. entries_from (it.next + 1) (drop it.next it.arena.slots) };
 }
@@ -132,7 +132,7 @@ impl<P: PtrKey, T: Drop, S: SlotStack<Item = ArenaSlot<P, T>>> Iterator for Capa
 
 impl<P: PtrKey, T: Drop, S: SlotStack<Item = ArenaSlot<P, T>>> IntoIterator for Arena<P, T, S> {
     ghost use Rattle.std.specs.Prelude.{◌≡◌};
-    ghost use Rattle.arena_base.specs.Entries.{entries};
+    ghost use Rattle.arena_traits.specs.Entries.{entries};
 
     type Item = (P, T);
 
@@ -151,7 +151,7 @@ impl<P: PtrKey, T: Drop, S: SlotStack<Item = ArenaSlot<P, T>>> IntoIterator for 
 impl<'a, P: PtrKey, T: Drop, S: SlotStack<Item = ArenaSlot<P, T>>> IntoIterator
     for &'a Arena<P, T, S> {
     ghost use Rattle.std.specs.Prelude.{◌≡◌};
-    ghost use Rattle.arena_base.specs.Entries.{entries};
+    ghost use Rattle.arena_traits.specs.Entries.{entries};
 
     type Item = (P, &'a T);
 

@@ -8,24 +8,23 @@ mod arena_trait;
 mod compactor;
 mod compress;
 mod copy;
-mod cursor;
+mod copy_traits;
 mod detached_slots;
 mod entry;
-mod entry_laws;
 mod free_list;
-mod hint;
 mod iterators;
 mod slot;
 mod tally;
-mod traits;
 
 pub use advancer::PtrAdvancer;
-pub use arena::{Arena, outcome, with_overflow};
+pub use arena::Arena;
+pub use arena_traits::{
+    Advancer, ArenaTrait, CompactArenaTrait, assume_proved, entries_determine_occupancy, outcome,
+    proved_unreachable, with_overflow,
+};
 pub use compactor::{Compactor, SlotAccess, Work};
 pub use copy::ClosureMap;
+pub use copy_traits::{ArenaCloneFromWith, ValueMap};
 pub use entry::ArenaInsertEntry;
-pub use entry_laws::entries_determine_occupancy;
-pub use hint::assume_proved;
 pub use iterators::{CapacityDrain, Iter};
 pub use slot::{ArenaSlot, inx_at};
-pub use traits::{Advancer, ArenaCloneFromWith, ArenaTrait, CompactArenaTrait, ValueMap};

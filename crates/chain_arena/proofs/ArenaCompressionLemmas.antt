@@ -8,9 +8,9 @@ use Rattle.chain_laws.specs.Chains.{IsWellLinked}
 use Rattle.chain_laws.specs.Renamings.{IsRenaming}
 use Rattle.chain_laws.specs.Arrangements.{place_in}
 use Rattle.chain_laws.proofs.RenamingLemmas.Chains.{renaming_agrees}
-use Rattle.arena_base.specs.Arena.{Arena, with_counter}
-use Rattle.arena_base.specs.Entries.{entries, index_of, view_of}
-use Rattle.arena_base.specs.Compressions.{IsCompressed, VisitsAll, counter_after_compression}
+use Rattle.arena_traits.specs.Arena.{Arena, with_counter}
+use Rattle.arena_traits.specs.Entries.{entries, index_of, view_of}
+use Rattle.arena_traits.specs.Compressions.{IsCompressed, VisitsAll, counter_after_compression}
 use Rattle.arena_base.specs.GatheredSlots.{IsGathered, arena_of_values}
 use Rattle.arena_base.proofs.CompactedArenaLemmas.{compressing}
 use Rattle.chain_links.specs.ChainArena.{LinkView, on_value, link_value, link_map, values_of}

@@ -9,7 +9,7 @@ use Rattle.chain_laws.proofs.CutLemmas.Pairs.{cut_agrees, cut_takes_a_pair}
 use Rattle.chain_laws.proofs.CutLemmas.Chains.{cut_cuts}
 use Rattle.chain_laws.proofs.ExchangeLemmas.Pairs.{exchanged_agrees, exchanged_in_pairs}
 use Rattle.chain_laws.proofs.ExchangeLemmas.Chains.{exchanged_exchanges}
-use Rattle.arena_base.specs.Arena.{Arena}
+use Rattle.arena_traits.specs.Arena.{Arena}
 use Rattle.chain_links.specs.ChainArena.{LinkView, link_map, values_of, with_link_map, IsCut, IsExchange}
 use Rattle.chain_linking.proofs.LinkWriteLemmas.{FitsLinks-twice, link_map-with_link_map, values_of-with_link_map}
 

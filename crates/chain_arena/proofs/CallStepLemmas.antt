@@ -18,9 +18,9 @@ use Rattle.chain_laws.specs.Chains.{LinkMap, prev_of, next_of}
 use Rattle.chain_laws.specs.Insertions.{InsertKind, link_before, link_after, InsertsPairs, Inserts}
 use Rattle.chain_laws.specs.Walks.{IsWalk, TakesWalk}
 use Rattle.chain_laws.proofs.WalkLemmas.Drains.{walk_is_taken}
-use Rattle.arena_base.specs.Arena.{IsValid, IsCapacityFor, HasCapacityFor, entry_at, entry_count, next_index, with_capacity_of, invalidate_at, overflows_after_clear}
-use Rattle.arena_base.specs.Compressions.{overflows_after_compression}
-use Rattle.arena_base.specs.Entries.{count, view_after_invalidation, HasFreeCapacity, NeedsBeyondMaximum}
+use Rattle.arena_traits.specs.Arena.{IsValid, IsCapacityFor, HasCapacityFor, entry_at, entry_count, next_index, with_capacity_of, invalidate_at, overflows_after_clear}
+use Rattle.arena_traits.specs.Compressions.{overflows_after_compression}
+use Rattle.arena_traits.specs.Entries.{count, view_after_invalidation, HasFreeCapacity, NeedsBeyondMaximum}
 use Rattle.chain_links.specs.ChainArena.{LinkView, on_value, link_map, value_view, entry, link_value, insert_as, link_at, CanConnect, CanExchange, IsJoin, IsCut, IsExchange, IsRemoval}
 use Rattle.chain_links.proofs.ArenaInsertionLemmas.{values-count}
 use Rattle.chain_arena.specs.Drains.{walk_left, without_each}

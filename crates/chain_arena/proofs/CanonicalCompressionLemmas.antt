@@ -11,10 +11,10 @@ use Rattle.chain_laws.proofs.RenamingLemmas.Chains.{renaming_agrees}
 use Rattle.chain_laws.proofs.ChainLemmas.NeighborPairs.{chains_from_pairs}
 use Rattle.chain_laws.proofs.RenamingLemmas.ChainRuns.{canonical_arranges, arranges_chains_in_runs}
 use Rattle.chain_laws.proofs.RenamingLemmas.LeastIndexOrder.{least_index_order_is_canonical}
-use Rattle.arena_base.specs.Arena.{Arena, slot_at, with_counter}
-use Rattle.arena_base.specs.Entries.{entries_from, entries, found, view_of}
-use Rattle.arena_base.specs.EntryLaws.{found-entries}
-use Rattle.arena_base.specs.Compressions.{counter_after_compression, values_in}
+use Rattle.arena_traits.specs.Arena.{Arena, slot_at, with_counter}
+use Rattle.arena_traits.specs.Entries.{entries_from, entries, found, view_of}
+use Rattle.arena_traits.specs.EntryLaws.{found-entries}
+use Rattle.arena_traits.specs.Compressions.{counter_after_compression, values_in}
 use Rattle.arena_base.specs.GatheredSlots.{with_front, arena_of_values}
 use Rattle.arena_base.proofs.CompactedArenaLemmas.{length-slots, indexes-with_front, generations-with_front}
 use Rattle.chain_links.specs.ChainArena.{LinkView, on_value, link_value, interlinks_of, link_map, value_view, entry, values_of, ptr_at}

@@ -9,9 +9,9 @@ use Rattle.chain_laws.specs.Chains.{LinkMap, IsWellLinked, HasLink, prev_in, nex
 use Rattle.chain_laws.specs.Removals.{with_removal}
 use Rattle.chain_laws.specs.Walks.{IsWalk, rest_start, rest_start_of, walk_from, with_removals, TakesWalk}
 use Rattle.chain_laws.proofs.WalkLemmas.Drains.{walk_from-walk, walk_from-none, walk_from-next, walk_is_taken}
-use Rattle.arena_base.specs.Arena.{Arena, entry_at, remove_at}
-use Rattle.arena_base.specs.Arena.{IsValid}
-use Rattle.arena_base.proofs.SlotLemmas.{length-with_slot}
+use Rattle.arena_traits.specs.Arena.{Arena, entry_at, remove_at}
+use Rattle.arena_traits.specs.Arena.{IsValid}
+use Rattle.arena_traits.proofs.ArenaViewLemmas.{length-with_slot}
 use Rattle.chain_links.specs.ChainArena.{LinkView, link_map, on_value, link_value as held_value, interlinks_of, values_of, link_of, link_at, remove_link}
 use Rattle.chain_links.specs.Insertions.{nonzero_index}
 use Rattle.chain_links.specs.Links.{link_view}

@@ -10,7 +10,7 @@ use Rattle.chain_laws.specs.Walks.{IsWalk}
 use Rattle.chain_laws.proofs.WalkLemmas.WalkBack.{length_among}
 use Rattle.chain_laws.proofs.WalkLemmas.Members.{has_walk, walk_valid, walk_once}
 use Rattle.chain_laws.proofs.WalkLemmas.Walker.{walk_passed}
-use Rattle.arena_base.specs.Arena.{Arena, entry_at, entry_count}
+use Rattle.arena_traits.specs.Arena.{Arena, entry_at, entry_count}
 use Rattle.chain_links.specs.ChainArena.{LinkView, interlinks_of, link_map, IsWalkOf}
 use Rattle.chain_links.specs.Walkers.{links_at, links_ahead}
 use Rattle.chain_links.proofs.ArenaInsertionLemmas.{link_map-within, some_entry}

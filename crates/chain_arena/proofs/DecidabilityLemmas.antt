@@ -5,7 +5,7 @@ use Rattle.std.proofs.lemmas.Bool.{cases_eq, false≢true}
 use Rattle.std.proofs.lemmas.Option.{none-some}
 use Rattle.chain_laws.specs.Chains.{LinkMap, Interlinks, HasLink, prev_of, next_of}
 use Rattle.chain_laws.specs.Insertions.{InsertKind, disconnected, single_link_cyclic, chain_end, chain_start, next_to, prev_to, at_interlink, bridge}
-use Rattle.arena_base.specs.Arena.{Arena}
+use Rattle.arena_traits.specs.Arena.{Arena}
 use Rattle.chain_links.specs.ChainArena.{LinkView, link_map, entry, values_of}
 use Rattle.chain_links.specs.Kinds.{LinkName, HasName, MayInsert}
 use Rattle.chain_arena.proofs.ValueLoanLemmas.{valid_or_not}

@@ -15,7 +15,7 @@ use Rattle.arena_ptr.specs.declared.packed_option.PackedOption.{PackedOption}
 use Rattle.chain_laws.specs.Cuts.{without_pair}
 use Rattle.chain_laws.specs.Insertions.{InsertKind}
 use Rattle.chain_laws.proofs.WalkLemmas.Walker.{no_other_walk}
-use Rattle.arena_base.specs.Arena.{IsValid, entry_at, entry_count, with_capacity_of}
+use Rattle.arena_traits.specs.Arena.{IsValid, entry_at, entry_count, with_capacity_of}
 use Rattle.chain_links.specs.ChainArena.{LinkView, on_value, link_map, entry, link_value, insert_as, with_link_map}
 use Rattle.chain_arena.specs.Drains.{without_each}
 use Rattle.chain_links.specs.Links.{link_view, pair_view}

@@ -4,7 +4,7 @@ use Rattle.std.specs.Prelude.{slice_set, slice_index_or}
 use Rattle.std.proofs.lemmas.List.Elements.{All-cons, All-nil, All-weaker}
 use Rattle.arena_ptr.specs.Invalidation.{value_in}
 use Rattle.arena_ptr.specs.declared.invalidation.InvalidationOption.{InvalidationOption}
-use Rattle.arena_base.specs.Arena.{Arena, entry_at, slot_at, with_slot, IsValid}
+use Rattle.arena_traits.specs.Arena.{Arena, entry_at, slot_at, with_slot, IsValid}
 use Rattle.chain_links.specs.ChainArena.{LinkView, entry, values_of, remove_link, link_value as held_value, on_value}
 use Rattle.chain_links.specs.declared.links.LinkBody.{LinkBody}
 use Rattle.chain_links.proofs.MappedArenaLemmas.{entry_at-with_each}

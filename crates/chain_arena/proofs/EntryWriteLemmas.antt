@@ -3,13 +3,13 @@ use Rattle.std.proofs.Common.{◌≡◌, ℕ, Option, None, Some, refl, ap, ap�
 use Rattle.std.specs.Prelude.{IfSome, IsSome}
 use Rattle.std.specs.Option.{option_map}
 use Rattle.chain_laws.specs.Chains.{IsWellLinked}
-use Rattle.arena_base.specs.Arena.{Arena, entry_at, with_slot, with_value, invalidate_at, arena_after_clear}
-use Rattle.arena_base.specs.Entries.{view_of, view_with_value, view_after_invalidation, view_after_clear}
+use Rattle.arena_traits.specs.Arena.{Arena, entry_at, with_slot, with_value, invalidate_at, arena_after_clear}
+use Rattle.arena_traits.specs.Entries.{view_of, view_with_value, view_after_invalidation, view_after_clear}
 use Rattle.chain_links.specs.declared.links.LinkBody.{LinkBody}
 use Rattle.chain_links.specs.ChainArena.{on_value, LinkView, link_value, with_link_value, values_of, link_map, with_value_at}
 use Rattle.chain_links.specs.Links.{link_view, links_view, pair_view}
 use Rattle.chain_links.proofs.MappedArenaLemmas.{with_each-with_value, with_each-invalidate_at, with_each-cleared}
-use Rattle.arena_base.proofs.ArenaViewLemmas.{viewed_written, viewed_renewed, viewed_cleared}
+use Rattle.arena_traits.proofs.ArenaViewLemmas.{viewed_written, viewed_renewed, viewed_cleared}
 use Rattle.chain_links.proofs.LinkStateLemmas.{entry_at-links_view}
 use Rattle.chain_linking.proofs.UnlinkLemmas.{link_map-written, link_map-renewed}
 

@@ -7,7 +7,7 @@ use Rattle.arena_ptr.specs.declared.errors.ReallocationError.{ReallocationError}
 use Rattle.arena_ptr.specs.declared.errors.ReallocationError.TheVariants as refused
 use Rattle.chain_laws.specs.Chains.{IsWellLinked}
 use Rattle.chain_laws.specs.Insertions.{IsInsertPosition}
-use Rattle.arena_base.specs.Arena.{IsCapacityFor, ReachesCapacity, entry_count, next_index, with_capacity_of}
+use Rattle.arena_traits.specs.Arena.{IsCapacityFor, ReachesCapacity, entry_count, next_index, with_capacity_of}
 use Rattle.chain_links.specs.ChainArena.{link_map}
 use Rattle.chain_links.specs.declared.kinds.InsertKindBody.{InsertKindBody}
 use Rattle.chain_linking.specs.InsertPositions.{before_in, after_in}

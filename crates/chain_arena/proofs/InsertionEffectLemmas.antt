@@ -5,9 +5,9 @@ use Rattle.chain_laws.specs.Joins.{with_lone, with_neighbors}
 use Rattle.chain_laws.specs.Insertions.{InsertKind, CanInsert, IsInsertPosition, link_before, link_after, with_insertion, InsertsPairs, Inserts}
 use Rattle.chain_laws.proofs.InsertionLemmas.Pairs.{kind_position, inserted_agrees, inserted_in_pairs}
 use Rattle.chain_laws.proofs.InsertionLemmas.Chains.{inserted_inserts}
-use Rattle.arena_base.specs.Arena.{Arena, without_first, IsListed, first_or_next, next_index, insert_next, with_capacity_of}
-use Rattle.arena_base.specs.Entries.{Slots, view_of, entries, count}
-use Rattle.arena_base.proofs.ArenaViewLemmas.{length-entries, count-filled}
+use Rattle.arena_traits.specs.Arena.{Arena, without_first, IsListed, first_or_next, next_index, insert_next, with_capacity_of}
+use Rattle.arena_traits.specs.Entries.{Slots, view_of, entries, count}
+use Rattle.arena_traits.proofs.ArenaViewLemmas.{length-entries, count-filled}
 use Rattle.chain_links.specs.ChainArena.{LinkView, link_value, values_of, value_view, entry, link_map, lone, insert_lone, insert_between, insert_as}
 use Rattle.chain_links.specs.Insertions.{IsInsertion, IsInsertionBetween}
 use Rattle.chain_links.proofs.MappedArenaLemmas.{with_each-insert_next, length-with_each, listed-with_each}

@@ -10,8 +10,8 @@ use Rattle.std.specs.Fn.{Mut}
 use Rattle.arena_ptr.specs.declared.errors.ReallocationError.{ReallocationError}
 use Rattle.arena_ptr.specs.declared.errors.ReallocationError.TheVariants as refused
 use Rattle.chain_laws.specs.Chains.{Interlinks, IsWellLinked}
-use Rattle.arena_base.specs.Arena.{Arena, slot_at, new_arena}
-use Rattle.arena_base.specs.Entries.{ArenaView, Slots, entries_from, entries}
+use Rattle.arena_traits.specs.Arena.{Arena, slot_at, new_arena}
+use Rattle.arena_traits.specs.Entries.{ArenaView, Slots, entries_from, entries}
 use Rattle.arena_base.specs.Copies.{Copied, Makes, CopiesBy, IsCopyBy, IsCopyCall, HasRefusable, HasSlotsOf, IsAbandonedCopy, generations}
 use Rattle.chain_links.specs.declared.links.LinkBody.{LinkBody}
 use Rattle.chain_links.specs.ChainArena.{LinkView, on_value, interlinks_in, interlinks_of, link_map, values_of}

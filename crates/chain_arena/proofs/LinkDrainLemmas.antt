@@ -8,11 +8,11 @@ use Rattle.arena_ptr.specs.Numbers.{IsWithin}
 use Rattle.arena_ptr.specs.Invalidation.{value_in, is_overflow, value_within, is_overflow_result, invalidation_result, invalidation_option}
 use Rattle.arena_ptr.specs.declared.invalidation.InvalidationOption.{InvalidationOption}
 use Rattle.arena_ptr.specs.declared.invalidation.InvalidationResult.{InvalidationResult}
-use Rattle.arena_base.specs.Arena.{Arena, IsValid, entry_at}
-use Rattle.arena_base.specs.Entries.{ArenaView, entries, entries_from, index_of, found, without_index, first_key, AscendsFrom}
-use Rattle.arena_base.specs.Entries.{view_after_removal}
-use Rattle.arena_base.specs.EntryLaws.{entries_ascend, found-entries}
-use Rattle.arena_base.specs.Advancers.{entries_at_or_above}
+use Rattle.arena_traits.specs.Arena.{Arena, IsValid, entry_at}
+use Rattle.arena_traits.specs.Entries.{ArenaView, entries, entries_from, index_of, found, without_index, first_key, AscendsFrom}
+use Rattle.arena_traits.specs.Entries.{view_after_removal}
+use Rattle.arena_traits.specs.EntryLaws.{entries_ascend, found-entries}
+use Rattle.arena_traits.specs.Advancers.{entries_at_or_above}
 use Rattle.chain_links.specs.ChainArena.{LinkView, values_of, value_view, remove_link}
 use Rattle.chain_traits.proofs.GenericArenaLemmas.{entries_at_or_above-ascends}
 use Rattle.chain_arena.specs.Drains.{entries_left, without_each, IsLinkDrainStep}

@@ -6,8 +6,8 @@ use Rattle.arena_ptr.specs.Invalidation.{value_within, is_overflow_result, inval
 use Rattle.arena_ptr.specs.declared.invalidation.InvalidationResult.{InvalidationResult}
 use Rattle.arena_ptr.specs.declared.invalidation.InvalidationResult.TheVariants.{Success, GenerationOverflow, InvalidPtr}
 use Rattle.chain_laws.specs.Chains.{IsWellLinked}
-use Rattle.arena_base.specs.Arena.{IsValid, entry_at}
-use Rattle.arena_base.specs.Entries.{view_after_removal}
+use Rattle.arena_traits.specs.Arena.{IsValid, entry_at}
+use Rattle.arena_traits.specs.Entries.{view_after_removal}
 use Rattle.chain_links.specs.ChainArena.{LinkView, on_value, link_map, value_view, entry, link_value, link_at, remove_link, IsRemoval}
 use Rattle.chain_links.specs.Links.{held_in, link_view, pair_view}
 use Rattle.chain_links.specs.declared.links.LinkBody.{LinkBody}

@@ -10,8 +10,8 @@ use Rattle.arena_ptr.specs.declared.errors.ReallocationError.{ReallocationError}
 use Rattle.arena_ptr.specs.declared.errors.ReallocationError.TheVariants as refused
 use Rattle.chain_laws.specs.Chains.{IsWellLinked}
 use Rattle.chain_laws.specs.Insertions.{InsertKind, IsInsertPosition}
-use Rattle.arena_base.specs.Arena.{Arena, IsCapacityFor, IsListed, HasCapacityFor, ReachesCapacity, IsWithinReach, entry_count, next_index, with_capacity_of}
-use Rattle.arena_base.specs.Entries.{count, HasFreeCapacity, NeedsBeyondMaximum}
+use Rattle.arena_traits.specs.Arena.{Arena, IsCapacityFor, IsListed, HasCapacityFor, ReachesCapacity, IsWithinReach, entry_count, next_index, with_capacity_of}
+use Rattle.arena_traits.specs.Entries.{count, HasFreeCapacity, NeedsBeyondMaximum}
 use Rattle.chain_links.specs.ChainArena.{link_map, value_view, entry, insert_between, insert_as}
 use Rattle.chain_links.specs.Kinds.{names_in}
 use Rattle.chain_links.specs.Links.{links_view}

@@ -6,9 +6,9 @@ use Rattle.std.specs.List.{AllByRecursion}
 use Rattle.std.proofs.lemmas.List.Elements.{recursion_from_All}
 use Rattle.arena_ptr.specs.Invalidation.{value_in}
 use Rattle.arena_ptr.specs.declared.invalidation.InvalidationOption.{InvalidationOption}
-use Rattle.arena_base.specs.Arena.{Arena, slot_at}
-use Rattle.arena_base.specs.Entries.{entries, found}
-use Rattle.arena_base.specs.EntryLaws.{entries_ascend, found-entries}
+use Rattle.arena_traits.specs.Arena.{Arena, slot_at}
+use Rattle.arena_traits.specs.Entries.{entries, found}
+use Rattle.arena_traits.specs.EntryLaws.{entries_ascend, found-entries}
 use Rattle.chain_links.specs.ChainArena.{LinkView, on_value, link_value, interlinks_of, link_map, value_view, entry, values_of}
 use Rattle.chain_links.specs.CanonicalLayouts.{IsCanonicalLayout}
 use Rattle.chain_links.proofs.MappedArenaLemmas.{is_some-map, entry_at-with_each}

@@ -4,13 +4,13 @@ use Rattle.std.specs.Prelude.{slice_index_or, slice_set, Result, Ok, Err}
 use Rattle.std.specs.Option.{option_map}
 use Rattle.std.proofs.lemmas.List.{append-nil, map-append}
 use Rattle.std.proofs.lemmas.Bool.{lt-leb, eq-eqb, ne_eqb}
-use Rattle.arena_base.specs.Arena.{Arena, IsValid, slot_at, with_slot, entry_at}
-use Rattle.arena_base.specs.Entries.{found, with_replacement, first_key, AscendsFrom}
-use Rattle.arena_base.specs.EntryLaws.{entries_ascend, found-entries}
-use Rattle.arena_base.specs.Advancers.{entries_at_or_above, ahead, cursor_after, IsAdvance}
-use Rattle.arena_base.specs.Compressions.{values_in}
-use Rattle.arena_base.specs.declared.cursor.Cursor.{Cursor}
-use Rattle.arena_base.specs.declared.cursor.Cursor.TheVariants.{Up}
+use Rattle.arena_traits.specs.Arena.{Arena, IsValid, slot_at, with_slot, entry_at}
+use Rattle.arena_traits.specs.Entries.{found, with_replacement, first_key, AscendsFrom}
+use Rattle.arena_traits.specs.EntryLaws.{entries_ascend, found-entries}
+use Rattle.arena_traits.specs.Advancers.{entries_at_or_above, ahead, cursor_after, IsAdvance}
+use Rattle.arena_traits.specs.Compressions.{values_in}
+use Rattle.arena_traits.specs.declared.cursor.Cursor.{Cursor}
+use Rattle.arena_traits.specs.declared.cursor.Cursor.TheVariants.{Up}
 use Rattle.chain_links.specs.ChainArena.{LinkView, on_value, with_each, with_link_value, with_value_at, values_of, link_map, value_view, entry}
 use Rattle.chain_arena.specs.Recasts.{link_without_value, AreAllRecast, IsRecast, IsRecastAt}
 use Rattle.chain_traits.proofs.GenericArenaLemmas.{entries_at_or_above-ascends}

@@ -14,10 +14,10 @@ use Rattle.chain_laws.specs.Renamings.{IsRenaming}
 use Rattle.chain_laws.specs.Arrangements.{place_in}
 use Rattle.chain_laws.proofs.RenamingLemmas.Chains.{renaming_is_determined}
 use Rattle.chain_laws.proofs.ChainLemmas.Partitions.{no_others}
-use Rattle.arena_base.specs.Arena.{entry_at}
-use Rattle.arena_base.specs.Compressions.{values_in, AreFilledAnew}
-use Rattle.arena_base.specs.Entries.{Slots, entries, index_of, found}
-use Rattle.arena_base.specs.EntryLaws.{found-entries}
+use Rattle.arena_traits.specs.Arena.{entry_at}
+use Rattle.arena_traits.specs.Compressions.{values_in, AreFilledAnew}
+use Rattle.arena_traits.specs.Entries.{Slots, entries, index_of, found}
+use Rattle.arena_traits.specs.EntryLaws.{found-entries}
 use Rattle.chain_links.specs.ChainArena.{link_map, value_view, entry, link_value, values_of, link_of, remove_link, IsJoin, IsCut, IsExchange, IsRemoval}
 use Rattle.chain_arena.specs.Drains.{without_each}
 use Rattle.chain_arena.specs.Effects.{Links, GrowsToFit, stays, grown, IsCompression, IsCanonicalCompression, ReportsOverflow}

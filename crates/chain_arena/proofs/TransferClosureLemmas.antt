@@ -10,7 +10,7 @@ use Rattle.std.proofs.lemmas.List.Elements.{All-push, All-nil}
 use Rattle.arena_ptr.specs.Invalidation.{value_in, is_overflow}
 use Rattle.arena_ptr.specs.declared.invalidation.InvalidationOption.{InvalidationOption}
 use Rattle.chain_laws.proofs.ListLemmas.Ranges.{range_last}
-use Rattle.arena_base.specs.Entries.{ArenaView, found}
+use Rattle.arena_traits.specs.Entries.{ArenaView, found}
 use Rattle.chain_arena.specs.Drains.{after_times}
 use Rattle.chain_arena.specs.Transfers.{Carried, old_index, overflows}
 

@@ -4,8 +4,8 @@ use Rattle.std.specs.Fn.{Mut}
 use Rattle.arena_ptr.specs.SlotStack.{IsBeyond}
 use Rattle.arena_ptr.specs.declared.invalidation.InvalidationOption.{InvalidationOption}
 use Rattle.chain_laws.specs.Chains.{LinkMap}
-use Rattle.arena_base.specs.Arena.{Arena, HasCapacityFor, IsWithinReach, arena_after_clear, with_capacity_of, with_counter}
-use Rattle.arena_base.specs.Entries.{ArenaView}
+use Rattle.arena_traits.specs.Arena.{Arena, HasCapacityFor, IsWithinReach, arena_after_clear, with_capacity_of, with_counter}
+use Rattle.arena_traits.specs.Entries.{ArenaView}
 use Rattle.chain_links.specs.ChainArena.{LinkView}
 use Rattle.chain_arena.specs.Transfers.{IsTransfer}
 

@@ -20,10 +20,10 @@ use Rattle.chain_laws.proofs.ChainLemmas.Partitions.{the_chains}
 use Rattle.chain_laws.proofs.TransferLemmas.Source.{items_left}
 use Rattle.chain_laws.proofs.TransferLemmas.Target.{all_items-append, items_arranged, arranged-length, arranged_between}
 use Rattle.chain_laws.proofs.RenamingLemmas.ChainRuns.{runs_are_renumbered}
-use Rattle.arena_base.specs.Arena.{Arena, IsListed, entry_count, next_index}
-use Rattle.arena_base.specs.Entries.{ArenaView, found, view_after_removal, AscendsFrom}
-use Rattle.arena_base.specs.declared.cursor.Cursor.{Cursor}
-use Rattle.arena_base.specs.declared.cursor.Cursor.TheVariants.{Up}
+use Rattle.arena_traits.specs.Arena.{Arena, IsListed, entry_count, next_index}
+use Rattle.arena_traits.specs.Entries.{ArenaView, found, view_after_removal, AscendsFrom}
+use Rattle.arena_traits.specs.declared.cursor.Cursor.{Cursor}
+use Rattle.arena_traits.specs.declared.cursor.Cursor.TheVariants.{Up}
 use Rattle.chain_links.specs.ChainArena.{LinkView, link_map, insert_between}
 use Rattle.chain_arena.specs.Drains.{after_times}
 use Rattle.chain_arena.specs.Transfers.{Carried, old_index, entries_removed, AreEnds, IsTransfer}

@@ -14,9 +14,9 @@ use Rattle.chain_laws.proofs.ListLemmas.Members.{filled-IsMember}
 use Rattle.chain_laws.proofs.ChainLemmas.Uniqueness.{chain_valid, chain_filled}
 use Rattle.chain_laws.proofs.TransferLemmas.Source.{items_of, least_is_next, first_is_taken}
 use Rattle.chain_laws.proofs.RemovalLemmas.Pairs.{HasLink-removed}
-use Rattle.arena_base.specs.Entries.{ArenaView, found, without_index, view_after_removal, AscendsFrom}
-use Rattle.arena_base.specs.declared.cursor.Cursor.{Cursor}
-use Rattle.arena_base.specs.declared.cursor.Cursor.TheVariants.{Up}
+use Rattle.arena_traits.specs.Entries.{ArenaView, found, without_index, view_after_removal, AscendsFrom}
+use Rattle.arena_traits.specs.declared.cursor.Cursor.{Cursor}
+use Rattle.arena_traits.specs.declared.cursor.Cursor.TheVariants.{Up}
 use Rattle.chain_arena.specs.Drains.{after_times}
 use Rattle.chain_arena.specs.Transfers.{entries_removed}
 use Rattle.chain_traits.specs.DrainOrder.{IsNextChain}

@@ -7,8 +7,8 @@ use Rattle.chain_laws.specs.Insertions.{IsInsertPosition, with_insertion}
 use Rattle.chain_laws.specs.Arrangements.{in_runs}
 use Rattle.chain_laws.specs.Transfer.{with_appended, end_before, end_after}
 use Rattle.chain_laws.proofs.TransferLemmas.Target.{last_is_appended}
-use Rattle.arena_base.specs.Arena.{Arena, IsListed, slot_at, entry_count, slots_after_insertion, first_or_next, next_index, without_first}
-use Rattle.arena_base.specs.Entries.{entries, entries_from}
+use Rattle.arena_traits.specs.Arena.{Arena, IsListed, slot_at, entry_count, slots_after_insertion, first_or_next, next_index, without_first}
+use Rattle.arena_traits.specs.Entries.{entries, entries_from}
 use Rattle.chain_links.specs.ChainArena.{LinkView, link_value, values_of, interlinks_of, link_map, lone, insert_lone, insert_between}
 use Rattle.chain_links.proofs.MappedArenaLemmas.{length-with_each}
 use Rattle.chain_links.proofs.LinkStateLemmas.{length-with_link_map}

@@ -3,7 +3,7 @@ use Rattle.std.proofs.Common.{◌≡◌, ◌↔◌, ◌⊎◌, inl, inr, ℕ, Bo
 use Rattle.std.specs.Prelude.{IfSome, IsSome}
 use Rattle.std.specs.Option.{option_map, option_copied_mut}
 use denote.MutBor.{MutBor}
-use Rattle.arena_base.specs.Arena.{Arena, entry_at, IsValid}
+use Rattle.arena_traits.specs.Arena.{Arena, entry_at, IsValid}
 use Rattle.chain_links.specs.declared.links.LinkBody.{LinkBody}
 use Rattle.chain_links.specs.ChainArena.{on_value, values_of}
 use Rattle.chain_links.specs.Links.{held_in, links_view}

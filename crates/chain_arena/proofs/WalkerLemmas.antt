@@ -5,7 +5,7 @@ use Rattle.std.specs.Option.{option_map}
 use Rattle.chain_laws.specs.Chains.{IsWellLinked, HasLink, next_in, next_of, prev_in, prev_of}
 use Rattle.chain_laws.specs.Walks.{step_back, step_forward}
 use Rattle.chain_laws.proofs.InterlinkLemmas.Inverses.{if_other, if_same, one_some}
-use Rattle.arena_base.specs.Arena.{Arena, entry_at}
+use Rattle.arena_traits.specs.Arena.{Arena, entry_at}
 use Rattle.chain_links.specs.ChainArena.{LinkView, link_map, interlinks_of}
 use Rattle.chain_links.specs.Walkers.{index_and_entry, links_ahead}
 use Rattle.chain_linking.proofs.NeighborLemmas.{next_named, prev_named}

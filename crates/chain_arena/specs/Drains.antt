@@ -3,9 +3,9 @@ use Rattle.std.specs.Prelude.{◌≡◌, ℕ, zero, suc, Bool, List, [], ◌∷�
 use Rattle.arena_ptr.specs.Invalidation.{value_in, is_overflow}
 use Rattle.arena_ptr.specs.declared.invalidation.InvalidationOption.{InvalidationOption}
 use Rattle.chain_laws.specs.Walks.{walk_from}
-use Rattle.arena_base.specs.Arena.{Arena, entry_at}
-use Rattle.arena_base.specs.Entries.{entries}
-use Rattle.arena_base.specs.Advancers.{entries_at_or_above}
+use Rattle.arena_traits.specs.Arena.{Arena, entry_at}
+use Rattle.arena_traits.specs.Entries.{entries}
+use Rattle.arena_traits.specs.Advancers.{entries_at_or_above}
 use Rattle.chain_links.specs.ChainArena.{LinkView, link_map, values_of, remove_link}
 use Rattle.chain_links.specs.Insertions.{nonzero_index}
 use Rattle.chain_links.specs.Links.{link_view}

@@ -7,9 +7,9 @@ use Rattle.arena_ptr.specs.declared.invalidation.InvalidationResult.{Invalidatio
 use Rattle.arena_ptr.specs.declared.invalidation.InvalidationResult.TheVariants.{Success, GenerationOverflow, InvalidPtr}
 use Rattle.chain_laws.specs.Insertions.{InsertKind, link_before, link_after, InsertsPairs, Inserts}
 use Rattle.chain_laws.specs.Walks.{IsWalk, TakesWalk}
-use Rattle.arena_base.specs.Arena.{Arena, IsValid, HasCapacityFor, next_index, with_capacity_of}
-use Rattle.arena_base.specs.Compressions.{IsCompressed, values_in}
-use Rattle.arena_base.specs.Entries.{entries}
+use Rattle.arena_traits.specs.Arena.{Arena, IsValid, HasCapacityFor, next_index, with_capacity_of}
+use Rattle.arena_traits.specs.Compressions.{IsCompressed, values_in}
+use Rattle.arena_traits.specs.Entries.{entries}
 use Rattle.chain_links.specs.CanonicalLayouts.{IsCanonicalLayout}
 use Rattle.chain_links.specs.ChainArena.{LinkView, link_map, entry, values_of, value_view, insert_as}
 use Rattle.chain_links.specs.Kinds.{names_in, by_index, MayInsert}

@@ -2,8 +2,8 @@
 use Rattle.std.specs.Prelude.{◌≡◌, ℕ, Option}
 use Rattle.std.specs.Borrow.{Bor}
 use Rattle.std.specs.Fn.{Mut}
-use Rattle.arena_base.specs.Arena.{Arena, new_arena}
-use Rattle.arena_base.specs.Entries.{entries}
+use Rattle.arena_traits.specs.Arena.{Arena, new_arena}
+use Rattle.arena_traits.specs.Entries.{entries}
 use Rattle.arena_base.specs.Copies.{CopiesBy, IsCopyCall, HasRefusable, HasSlotsOf}
 use Rattle.chain_links.specs.declared.links.LinkBody.{LinkBody}
 use Rattle.chain_links.specs.ChainArena.{LinkView, interlinks_in, link_map, values_of}

@@ -8,8 +8,8 @@ use Rattle.arena_ptr.specs.declared.errors.ReallocationError.{ReallocationError}
 use Rattle.arena_ptr.specs.declared.errors.ReallocationError.TheVariants as refused
 use Rattle.chain_laws.specs.Chains.{IsWellLinked}
 use Rattle.chain_laws.specs.Insertions.{link_before, link_after}
-use Rattle.arena_base.specs.Arena.{IsCapacityFor, ReachesCapacity, IsListed, entry_count, next_index, with_capacity_of}
-use Rattle.arena_base.specs.Entries.{count, NeedsBeyondMaximum}
+use Rattle.arena_traits.specs.Arena.{IsCapacityFor, ReachesCapacity, IsListed, entry_count, next_index, with_capacity_of}
+use Rattle.arena_traits.specs.Entries.{count, NeedsBeyondMaximum}
 use Rattle.chain_links.specs.CallEffects.{GainsLink, IsFull, SucceedsWithinCapacity}
 use Rattle.chain_links.specs.ChainArena.{link_map, value_view, entry, insert_as, insert_between}
 use Rattle.chain_links.specs.Insertions.{IsInsertionBetween}

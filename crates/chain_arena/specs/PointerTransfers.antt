@@ -4,8 +4,8 @@ use Rattle.std.specs.Fn.{Mut}
 use Rattle.arena_ptr.specs.Invalidation.{value_in}
 use Rattle.arena_ptr.specs.declared.invalidation.InvalidationOption.{InvalidationOption}
 use Rattle.chain_laws.specs.Chains.{LinkMap}
-use Rattle.arena_base.specs.Arena.{Arena}
-use Rattle.arena_base.specs.Entries.{ArenaView}
+use Rattle.arena_traits.specs.Arena.{Arena}
+use Rattle.arena_traits.specs.Entries.{ArenaView}
 use Rattle.chain_links.specs.ChainArena.{LinkView, entry}
 use Rattle.chain_compaction.specs.PointerMoves.{AreMoved, FindsEntries, HasLinksWhere}
 use Rattle.chain_arena.specs.Transfers.{Carried, IsTransfer}

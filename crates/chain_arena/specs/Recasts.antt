@@ -1,8 +1,8 @@
 -- A recast of a chain arena changes its values and nothing else.
 use Rattle.std.specs.Prelude.{◌≡◌, ℕ, List, [], ◌∷◌, ◌++◌, Some, Result, Ok, Err}
-use Rattle.arena_base.specs.Arena.{Arena}
-use Rattle.arena_base.specs.Entries.{with_replacement}
-use Rattle.arena_base.specs.Compressions.{values_in}
+use Rattle.arena_traits.specs.Arena.{Arena}
+use Rattle.arena_traits.specs.Entries.{with_replacement}
+use Rattle.arena_traits.specs.Compressions.{values_in}
 use Rattle.chain_links.specs.ChainArena.{LinkView, new_link, with_each, with_value_at, link_map, value_view, entry}
 
 -- A link without its value.

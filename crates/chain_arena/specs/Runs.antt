@@ -6,7 +6,7 @@ use Rattle.arena_ptr.specs.declared.errors.ReallocationError.TheVariants as refu
 use Rattle.arena_ptr.specs.declared.invalidation.InvalidationResult.{InvalidationResult}
 use Rattle.arena_ptr.specs.declared.invalidation.InvalidationResult.TheVariants.{Success, GenerationOverflow, InvalidPtr}
 use Rattle.arena_ptr.specs.declared.packed_option.PackedOption.{PackedOption}
-use Rattle.arena_base.specs.Arena.{entry_count, with_capacity_of}
+use Rattle.arena_traits.specs.Arena.{entry_count, with_capacity_of}
 use Rattle.chain_links.specs.Links.{link_view, pair_view}
 use Rattle.chain_arena.specs.Effects.{Links}
 use Rattle.chain_arena.specs.PointerKinds.{PointerKind}

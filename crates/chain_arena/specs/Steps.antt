@@ -11,8 +11,8 @@ use Rattle.arena_ptr.specs.declared.errors.ReallocationError.TheVariants as refu
 use Rattle.arena_ptr.specs.declared.invalidation.InvalidationResult.{InvalidationResult}
 use Rattle.chain_laws.specs.Chains.{prev_of, next_of}
 use Rattle.chain_laws.specs.Insertions.{InsertKind}
-use Rattle.arena_base.specs.Arena.{IsValid, entry_at, entry_count, with_capacity_of, with_counter, invalidate_at, arena_after_clear, overflows_after_clear}
-use Rattle.arena_base.specs.Compressions.{overflows_after_compression}
+use Rattle.arena_traits.specs.Arena.{IsValid, entry_at, entry_count, with_capacity_of, with_counter, invalidate_at, arena_after_clear, overflows_after_clear}
+use Rattle.arena_traits.specs.Compressions.{overflows_after_compression}
 use Rattle.chain_links.specs.ChainArena.{link_map, entry, insert_as, CanConnect, CanExchange, IsJoin, IsCut, IsExchange, IsRemoval}
 use Rattle.chain_links.specs.Links.{link_view}
 use Rattle.chain_links.specs.declared.kinds.InsertKindBody.{InsertKindBody}

@@ -10,8 +10,8 @@ use Rattle.chain_laws.specs.Insertions.{IsInsertPosition}
 use Rattle.chain_laws.specs.Transfer.{end_before, end_after}
 use Rattle.chain_laws.specs.Renamings.{IsRenaming}
 use Rattle.chain_laws.specs.Arrangements.{place_in, IsLeastIndexOrder}
-use Rattle.arena_base.specs.Arena.{Arena, next_index}
-use Rattle.arena_base.specs.Entries.{ArenaView, entries, found, view_after_removal}
+use Rattle.arena_traits.specs.Arena.{Arena, next_index}
+use Rattle.arena_traits.specs.Entries.{ArenaView, entries, found, view_after_removal}
 use Rattle.chain_links.specs.ChainArena.{LinkView, link_map, values_of, insert_between}
 use Rattle.chain_links.specs.CanonicalLayouts.{IsCanonicalLayout}
 

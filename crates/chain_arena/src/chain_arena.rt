@@ -4,9 +4,9 @@ ghost use Rattle.chain_laws.specs.Neighbors.{HasOneSetOfChains};
 ghost use Rattle.std.specs.Option.{option_map};
 ghost use Rattle.arena_ptr.specs.Invalidation.{value_within, invalidation_option, invalidation_result};
 ghost use Rattle.arena_ptr.specs.Numbers.{IsWithin};
-ghost use Rattle.arena_base.specs.Arena.{entry_at, entry_count, with_counter, with_maximum, HasCapacityFor, IsListed, IsValid};
-ghost use Rattle.arena_base.specs.Entries.{count, index_of};
-ghost use Rattle.arena_base.specs.Compressions.{overflows_after_compression};
+ghost use Rattle.arena_traits.specs.Arena.{entry_at, entry_count, with_counter, with_maximum, HasCapacityFor, IsListed, IsValid};
+ghost use Rattle.arena_traits.specs.Entries.{count, index_of};
+ghost use Rattle.arena_traits.specs.Compressions.{overflows_after_compression};
 ghost use Rattle.arena_base.specs.Slots.{entry_of, ThreadsFreeList};
 ghost use Rattle.chain_links.specs.ChainArena.{entry, value_view, link_map, IsRemoval, IsWalkOf};
 ghost use Rattle.chain_links.specs.Kinds.{names_in};
@@ -51,7 +51,7 @@ pub struct ChainArena<
 impl<P: PtrKey, T: Drop, S: SlotStack<Item = ArenaSlot<P, LinkNoGen<P, T>>>> Model
     for ChainArena<P, T, S> {
     ghost use Rattle.chain_laws.specs.Chains.{IsWellLinked};
-    ghost use Rattle.arena_base.specs.Arena.{Arena as State};
+    ghost use Rattle.arena_traits.specs.Arena.{Arena as State};
     ghost use Rattle.chain_links.specs.ChainArena.{LinkView, link_map};
 
     ghost Value = { State P.Gen (LinkView T) };

@@ -6,7 +6,7 @@ ghost use Rattle.std.specs.Iterator.{item_count};
 ghost use Rattle.arena_ptr.specs.Invalidation.{value_in, is_overflow};
 ghost use Rattle.chain_laws.specs.Chains.{IsWellLinked};
 ghost use Rattle.chain_laws.specs.Walks.{rest_start, IsWalk, TakesWalk};
-ghost use Rattle.arena_base.specs.Arena.{IsValid};
+ghost use Rattle.arena_traits.specs.Arena.{IsValid};
 ghost use Rattle.chain_links.specs.ChainArena.{entry, link_map};
 ghost use Rattle.chain_links.specs.Insertions.{nonzero_index};
 ghost use Rattle.chain_arena.specs.DrainLaws.{DrainGivesTheWalk};

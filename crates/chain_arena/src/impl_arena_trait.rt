@@ -4,8 +4,8 @@ ghost use Rattle.std.specs.Option.{option_map};
 ghost use Rattle.arena_ptr.specs.Invalidation.{value_within, is_overflow_result};
 ghost use Rattle.chain_laws.specs.Neighbors.{HasOneSetOfChains};
 ghost use Rattle.arena_ptr.specs.Numbers.{IsWithin};
-ghost use Rattle.arena_base.specs.Arena.{entry_count, HasCapacityFor, IsListed};
-ghost use Rattle.arena_base.specs.Entries.{index_of, CoverSlots};
+ghost use Rattle.arena_traits.specs.Arena.{entry_count, HasCapacityFor, IsListed};
+ghost use Rattle.arena_traits.specs.Entries.{index_of, CoverSlots};
 ghost use Rattle.chain_links.specs.ChainArena.{value_view, link_map};
 
 use crate::chain_arena::ChainArena;
@@ -22,11 +22,11 @@ use std::alloc::Global;
 impl<P: PtrKey, T: Drop, S: SlotStack<Item = ArenaSlot<P, LinkNoGen<P, T>>>> ArenaTrait<P, T>
     for ChainArena<P, T, S> {
     ghost use Rattle.std.specs.Prelude.{◌≡◌};
-    ghost use Rattle.arena_base.specs.Arena.{entry_at, with_capacity_of, IsWithinReach, IsNewWithCapacity, invalidate_at, arena_after_clear};
+    ghost use Rattle.arena_traits.specs.Arena.{entry_at, with_capacity_of, IsWithinReach, IsNewWithCapacity, invalidate_at, arena_after_clear};
     ghost use Rattle.std.specs.Option.{option_map};
-    ghost use Rattle.arena_base.specs.Entries.{view_of, entries};
-    ghost use Rattle.arena_base.specs.EntryLaws.{entries_ascend, found-entries};
-    ghost use Rattle.arena_base.specs.AdvancerLaws.{until_none};
+    ghost use Rattle.arena_traits.specs.Entries.{view_of, entries};
+    ghost use Rattle.arena_traits.specs.EntryLaws.{entries_ascend, found-entries};
+    ghost use Rattle.arena_traits.specs.AdvancerLaws.{until_none};
     ghost use Rattle.chain_links.specs.ChainArena.{link_map, values_of, with_value_at, IsRemoval};
     ghost use Rattle.chain_compaction.specs.LinkCompressions.{ClosesHoles};
 
@@ -206,10 +206,10 @@ impl<P: PtrKey, T: Drop, S: SlotStack<Item = ArenaSlot<P, LinkNoGen<P, T>>>> Adv
 > for PtrAdvancer<P> {
     ghost use Rattle.std.specs.Prelude.{◌≡◌};
     ghost use Rattle.std.specs.Option.{option_map};
-    ghost use Rattle.arena_base.specs.Entries.{entries};
-    ghost use Rattle.arena_base.specs.Advancers.{IsAdvance};
-    ghost use Rattle.arena_base.specs.AdvancerLaws.{nowhere_stays};
-    ghost use Rattle.arena_base.specs.declared.cursor.Cursor.TheVariants.{Nowhere};
+    ghost use Rattle.arena_traits.specs.Entries.{entries};
+    ghost use Rattle.arena_traits.specs.Advancers.{IsAdvance};
+    ghost use Rattle.arena_traits.specs.AdvancerLaws.{nowhere_stays};
+    ghost use Rattle.arena_traits.specs.declared.cursor.Cursor.TheVariants.{Nowhere};
     ghost use Rattle.chain_links.specs.ChainArena.{values_of};
 
     type Item = P;

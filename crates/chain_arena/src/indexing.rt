@@ -2,7 +2,7 @@
 ghost use Rattle.std.specs.Prelude.{◌≡◌, IsSome, Some};
 ghost use Rattle.std.specs.Option.{option_map};
 ghost use Rattle.std.specs.Borrow.{Lends, sem};
-ghost use Rattle.arena_base.specs.Arena.{IsValid};
+ghost use Rattle.arena_traits.specs.Arena.{IsValid};
 ghost use Rattle.chain_links.specs.ChainArena.{entry, with_value_at};
 
 use crate::chain_arena::ChainArena;
@@ -48,7 +48,7 @@ impl<P: PtrKey, T: Drop, S: SlotStack<Item = ArenaSlot<P, LinkNoGen<P, T>>>> Cha
 /// Access to a value by its link's pointer, which has to be valid.
 impl<P: PtrKey, T: Drop, S: SlotStack<Item = ArenaSlot<P, LinkNoGen<P, T>>>> Index<P>
     for ChainArena<P, T, S> {
-    ghost use Rattle.arena_base.specs.Arena.{IsValid};
+    ghost use Rattle.arena_traits.specs.Arena.{IsValid};
     ghost use Rattle.chain_links.specs.ChainArena.{entry};
 
     type Output = T;

@@ -3,7 +3,7 @@ ghost use Rattle.std.specs.Prelude.{◌≡◌, ◌<◌};
 ghost use Rattle.std.specs.Result.{ForOk};
 ghost use Rattle.chain_laws.specs.Chains.{IsWellLinked};
 ghost use Rattle.chain_laws.specs.Insertions.{IsInsertPosition};
-ghost use Rattle.arena_base.specs.Arena.{entry_count, next_index};
+ghost use Rattle.arena_traits.specs.Arena.{entry_count, next_index};
 ghost use Rattle.chain_links.specs.ChainArena.{link_map};
 ghost use Rattle.chain_linking.specs.InsertPositions.{before_in, after_in};
 ghost use Rattle.chain_arena.specs.NewLinks.{GrowsByOne, position_unless_refused, refusal_of, FindsPositionGrowing, FindsPositionWithin, IsInsertedIn, InsertsAt};

@@ -4,7 +4,7 @@ ghost use Rattle.std.specs.Borrow.{RestsIfErr, sem};
 ghost use Rattle.std.specs.Option.{option_map};
 ghost use Rattle.arena_ptr.specs.Numbers.{IsWithin};
 ghost use Rattle.chain_laws.specs.Insertions.{IsInsertPosition, link_before, link_after};
-ghost use Rattle.arena_base.specs.Arena.{entry_count, next_index, with_capacity_of, ReachesCapacity};
+ghost use Rattle.arena_traits.specs.Arena.{entry_count, next_index, with_capacity_of, ReachesCapacity};
 ghost use Rattle.chain_links.specs.ChainArena.{entry, link_map, insert_between};
 ghost use Rattle.chain_links.specs.Insertions.{nonzero_index};
 ghost use Rattle.chain_linking.specs.InsertPositions.{before_in, after_in};

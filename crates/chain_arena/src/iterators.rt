@@ -1,7 +1,7 @@
 // Iterators over all links of a chain arena, each once, in ascending index order.
 ghost use Rattle.std.specs.Prelude.{◌≡◌, ◌<◌, ◌^◌, length};
 ghost use Rattle.std.specs.Iterator.{YieldsFirstBy, item_count};
-ghost use Rattle.arena_base.specs.Entries.{entries};
+ghost use Rattle.arena_traits.specs.Entries.{entries};
 ghost use Rattle.chain_links.specs.ChainArena.{values_of};
 ghost use Rattle.chain_links.specs.Links.{entry_views};
 
@@ -90,7 +90,7 @@ fn links_of<P: PtrKey, T: Drop, S: SlotStack<Item = ArenaSlot<P, LinkNoGen<P, T>
 impl<P: PtrKey, T: Drop, S: SlotStack<Item = ArenaSlot<P, LinkNoGen<P, T>>>> IntoIterator
     for ChainArena<P, T, S> {
     ghost use Rattle.std.specs.Prelude.{◌≡◌, ◌<◌, ◌^◌, length};
-    ghost use Rattle.arena_base.specs.Entries.{entries};
+    ghost use Rattle.arena_traits.specs.Entries.{entries};
     ghost use Rattle.chain_links.specs.Links.{entry_views};
 
     type Item = (P, LinkNoGen<P, T>);
@@ -118,7 +118,7 @@ where
     <P::Inx as InxKey>::Word: 'a,
 {
     ghost use Rattle.std.specs.Prelude.{◌≡◌, ◌<◌, ◌^◌, length};
-    ghost use Rattle.arena_base.specs.Entries.{entries};
+    ghost use Rattle.arena_traits.specs.Entries.{entries};
     ghost use Rattle.chain_links.specs.Links.{entry_views};
 
     type Item = (P, &'a LinkNoGen<P, T>);

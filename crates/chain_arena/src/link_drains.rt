@@ -2,7 +2,7 @@
 ghost use Rattle.std.specs.Prelude.{◌≡◌, [], length, map, IfNone, IfSome};
 ghost use Rattle.std.specs.Iterator.{item_count};
 ghost use Rattle.std.specs.Option.{option_map};
-ghost use Rattle.arena_base.specs.Entries.{entries, first_key, index_of};
+ghost use Rattle.arena_traits.specs.Entries.{entries, first_key, index_of};
 ghost use Rattle.chain_links.specs.ChainArena.{values_of};
 ghost use Rattle.chain_arena.specs.Drains.{entries_left, without_each, IsLinkDrainStep, LinkDrainSteps, CountsUp};
 

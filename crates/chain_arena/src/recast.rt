@@ -1,5 +1,5 @@
 // The recast of the values of a chain arena.
-ghost use Rattle.arena_base.specs.Arena.{IsValid};
+ghost use Rattle.arena_traits.specs.Arena.{IsValid};
 ghost use Rattle.chain_links.specs.ChainArena.{entry};
 ghost use Rattle.chain_arena.specs.Recasts.{IsRecastAt};
 

@@ -2,8 +2,8 @@
 ghost use Rattle.std.specs.Prelude.{◌≡◌, ◌↔◌, ◌≤◌, ◌<◌, ◌+◌, ℕ, [], IsOk, OnOk, OnErr, Err, None, Some};
 ghost use Rattle.arena_ptr.specs.SlotStack.{IsBeyond};
 ghost use Rattle.chain_laws.specs.Transfer.{end_before, end_after};
-ghost use Rattle.arena_base.specs.Arena.{HasCapacityFor, IsWithinReach, IsListed, with_capacity_of, entry_count, next_index};
-ghost use Rattle.arena_base.specs.Entries.{count};
+ghost use Rattle.arena_traits.specs.Arena.{HasCapacityFor, IsWithinReach, IsListed, with_capacity_of, entry_count, next_index};
+ghost use Rattle.arena_traits.specs.Entries.{count};
 ghost use Rattle.chain_linking.specs.InsertPositions.{before_in, after_in};
 ghost use Rattle.chain_compaction.specs.PointerMoves.{CompressionMovesPointers, CompressionHasMoves};
 ghost use Rattle.chain_arena.specs.Transfers.{ArrangesAlike, IsTransfer, AreEnds, HasPositionAtEnd, with_link_at_end};

@@ -1,6 +1,6 @@
 -- Bookmarks replaced through a table of moves follow their items.
 use Rattle.std.proofs.Common.{◌≡◌, ◌↔◌, ℕ, Bool, true, false, if◌then◌else◌, List, [], ◌∷◌, map, Contains, Option, None, Some, option_map, option_and_then, refl, sym, ◌∙◌, subst}
-use Rattle.arena_base.specs.Arena.{slot_at, IsValid}
+use Rattle.arena_traits.specs.Arena.{slot_at, IsValid}
 use Rattle.chain_compaction.specs.PointerMoves.{ArePointerMoves}
 use Rattle.chain_arena_examples.specs.Renumbering.{IsFollowed, AreFollowed}
 use Rattle.chain_arena_examples.specs.MoveTables.{target_from, new_pointer_of}

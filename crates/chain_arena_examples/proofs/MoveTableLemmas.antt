@@ -8,8 +8,8 @@ use Rattle.std.proofs.lemmas.List.Elements.{Contains-append_right}
 use Rattle.chain_laws.specs.Chains.{IsMember, AreDistinct}
 use Rattle.chain_laws.proofs.InterlinkLemmas.Inverses.{if_same, if_other}
 use Rattle.std.specs.Prelude.{slice_set}
-use Rattle.arena_base.specs.Arena.{slot_at, with_slot}
-use Rattle.arena_base.proofs.SlotLemmas.{length-with_slot}
+use Rattle.arena_traits.specs.Arena.{slot_at, with_slot}
+use Rattle.arena_traits.proofs.ArenaViewLemmas.{length-with_slot}
 use Rattle.chain_links.proofs.ArenaInsertionLemmas.{slot_at-written}
 use Rattle.chain_arena_examples.specs.MoveTables.{with_move, with_moves}
 

@@ -9,8 +9,8 @@ use Rattle.chain_laws.specs.Renamings.{IsRenaming}
 use Rattle.chain_laws.specs.Arrangements.{place_in}
 use Rattle.chain_laws.proofs.ChainLemmas.Partitions.{no_others}
 use Rattle.chain_laws.proofs.RenamingLemmas.Positions.{place-numbers}
-use Rattle.arena_base.specs.Arena.{Arena, IsValid}
-use Rattle.arena_base.specs.Entries.{found}
+use Rattle.arena_traits.specs.Arena.{Arena, IsValid}
+use Rattle.arena_traits.specs.Entries.{found}
 use Rattle.chain_links.specs.CanonicalLayouts.{IsCanonicalLayout}
 use Rattle.chain_links.specs.ChainArena.{LinkView, link_value, values_of, entry, value_view, link_map}
 use Rattle.chain_links.proofs.ArenaInsertionLemmas.{slots-within}

@@ -1,6 +1,6 @@
 -- Tables of moves, each stored at the index of its old pointer.
 use Rattle.std.specs.Prelude.{ℕ, Bool, if◌then◌else◌, List, fold, Option, None, Some}
-use Rattle.arena_base.specs.Arena.{slot_at, with_slot}
+use Rattle.arena_traits.specs.Arena.{slot_at, with_slot}
 
 module _ {P Gen : Type 0} (key : P → ℕ × Gen) where
   -- The table with one move written into it.

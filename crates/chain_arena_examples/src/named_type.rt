@@ -2,8 +2,8 @@
 //! `docs/PROOF_GUIDE.md`.
 
 ghost use Rattle.std.specs.Prelude.{◌≡◌, ◌↔◌, None, Some, Err, IsSome, IfSome, IsOk, IfOk, OnErr};
-ghost use Rattle.arena_base.specs.Arena.{IsValid};
-ghost use Rattle.arena_base.specs.Entries.{HasFreeCapacity};
+ghost use Rattle.arena_traits.specs.Arena.{IsValid};
+ghost use Rattle.arena_traits.specs.Entries.{HasFreeCapacity};
 ghost use Rattle.arena_ptr.specs.ToolPtr.{key_of};
 ghost use Rattle.chain_laws.specs.Chains.{next_of};
 ghost use Rattle.chain_laws.specs.Neighbors.{AreNeighbors};

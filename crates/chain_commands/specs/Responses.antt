@@ -18,7 +18,7 @@ use Rattle.arena_ptr.specs.declared.invalidation.InvalidationOption.TheVariants 
 use Rattle.arena_ptr.specs.declared.invalidation.InvalidationResult.{InvalidationResult}
 use Rattle.arena_ptr.specs.declared.invalidation.InvalidationResult.TheVariants as result
 use Rattle.arena_ptr.specs.declared.tool_ptr.ToolPtr.{ToolPtr}
-use Rattle.arena_base.specs.Arena.{Arena, IsValid, entry_count}
+use Rattle.arena_traits.specs.Arena.{Arena, IsValid, entry_count}
 use Rattle.chain_links.specs.ChainArena as chain
 use Rattle.chain_links.specs.ChainArena.{LinkView, link_map, value_view, entry, IsWalkOf}
 use Rattle.chain_compaction.specs.Layouts.{AreAllMoves}

@@ -2,7 +2,7 @@
 ghost use Rattle.std.specs.Prelude.{◌≡◌, ℕ, List, [], ◌++◌, OnOk, OnErr, IfErr, IfSome, IfNone, All, take, length, Option, None, IfOk, ◌<◌, ◌≤◌, vec_len};
 ghost use Rattle.std.specs.Io.KnownBytes.{Appends, Consumes, Keeps, IsAtEnd};
 ghost use Rattle.arena_ptr.specs.Generations.{two32};
-ghost use Rattle.arena_base.specs.Arena.{new_arena};
+ghost use Rattle.arena_traits.specs.Arena.{new_arena};
 ghost use Rattle.chain_commands.specs.Responses.{ToolLinks};
 ghost use Rattle.chain_commands.specs.Progress.{TranscribesOne, ExtendsProgress, EndsFirst, IsNoEnd};
 ghost use Rattle.chain_commands.specs.Transcripts.{Ends};

@@ -7,9 +7,9 @@ use Rattle.chain_laws.specs.Chains.{IsMember, AreDistinct}
 use Rattle.chain_laws.specs.Arrangements.{place_from}
 use Rattle.chain_laws.proofs.WalkLemmas.WalkBack.{length_among}
 use Rattle.chain_laws.proofs.RenamingLemmas.Positions.{place-same, place-other, place-has}
-use Rattle.arena_base.specs.Arena.{Arena, slot_at, entry_count}
-use Rattle.arena_base.specs.Entries.{entries_from, index_of}
-use Rattle.arena_base.proofs.ArenaViewLemmas.{length-entries}
+use Rattle.arena_traits.specs.Arena.{Arena, slot_at, entry_count}
+use Rattle.arena_traits.specs.Entries.{entries_from, index_of}
+use Rattle.arena_traits.proofs.ArenaViewLemmas.{length-entries}
 
 module _ {Gen X : Type 0} where
   -- The indexes of the entries in slots ascend.

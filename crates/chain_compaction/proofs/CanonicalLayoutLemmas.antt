@@ -15,7 +15,7 @@ use Rattle.chain_laws.proofs.ListLemmas.Ranges.{range-IsMember}
 use Rattle.chain_laws.proofs.RenamingLemmas.Positions.{place-within, place-has, has-place, place-numbers, places_are_apart}
 use Rattle.chain_laws.proofs.RenamingLemmas.ChainRuns.{canonical_arranges}
 use Rattle.chain_laws.proofs.RenamingLemmas.LeastIndexOrder.{least_index_order_is_canonical}
-use Rattle.arena_base.specs.Arena.{Arena, slot_at}
+use Rattle.arena_traits.specs.Arena.{Arena, slot_at}
 use Rattle.arena_base.specs.DetachedSlots.{DetachedView, IsPacked, without_free_end, held_of, arena_without_slots, arena_after_return}
 use Rattle.arena_base.specs.GatheredSlots.{with_totals, with_front}
 use Rattle.chain_links.specs.declared.links.LinkBody.{LinkBody}

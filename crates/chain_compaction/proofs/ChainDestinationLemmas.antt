@@ -16,7 +16,7 @@ use Rattle.chain_laws.proofs.ChainLemmas.Uniqueness.{chain_once}
 use Rattle.chain_laws.proofs.InterlinkLemmas.Inverses.{if_same, if_other, one_some}
 use Rattle.chain_laws.proofs.RenamingLemmas.Positions.{place-last, place-before_last, place-append, place-same}
 use Rattle.chain_laws.proofs.RenamingLemmas.ChainRuns.{range_with_len-append}
-use Rattle.arena_base.specs.Arena.{Arena, slot_at}
+use Rattle.arena_traits.specs.Arena.{Arena, slot_at}
 use Rattle.arena_base.specs.DetachedSlots.{DetachedView, held_with_value}
 use Rattle.chain_links.specs.declared.links.LinkBody.{LinkBody}
 use Rattle.chain_links.specs.ChainArena.{LinkView, on_value, ptr_at}

@@ -15,7 +15,7 @@ use Rattle.chain_laws.proofs.ChainLemmas.NeighborPairs.{chains_from_pairs}
 use Rattle.chain_laws.proofs.ChainLemmas.Partitions.{the_chains}
 use Rattle.chain_laws.proofs.TransferLemmas.Target.{all_items-append}
 use Rattle.chain_laws.proofs.RenamingLemmas.Positions.{has-place, place-none, place-front, place-append}
-use Rattle.arena_base.specs.Arena.{Arena, slot_at}
+use Rattle.arena_traits.specs.Arena.{Arena, slot_at}
 use Rattle.arena_base.specs.DetachedSlots.{DetachedView}
 use Rattle.chain_links.specs.declared.links.LinkBody.{LinkBody}
 use Rattle.chain_links.specs.ChainArena.{on_value, ptr_at}

@@ -9,10 +9,10 @@ use denote.Ref.{MutBor}
 use Rattle.chain_laws.specs.Chains.{LinkMap}
 use Rattle.chain_laws.specs.Renamings.{IsRenaming}
 use Rattle.chain_laws.specs.Arrangements.{place_in}
-use Rattle.arena_base.specs.Arena.{Arena, slot_at}
-use Rattle.arena_base.specs.Entries.{entries_from, entries, index_of}
+use Rattle.arena_traits.specs.Arena.{Arena, slot_at}
+use Rattle.arena_traits.specs.Entries.{entries_from, entries, index_of}
 use Rattle.arena_base.specs.DetachedSlots.{DetachedView, before_cut, without_free_end, free_from, held_of, arena_without_slots, arena_after_return}
-use Rattle.arena_base.specs.Compressions.{VisitsAll}
+use Rattle.arena_traits.specs.Compressions.{VisitsAll}
 use Rattle.arena_base.specs.GatheredSlots.{AreClosed, IsGathered, arena_of_values, with_totals}
 use Rattle.arena_base.proofs.CompactedArenaLemmas.{gathers, few_entries}
 use Rattle.chain_links.specs.declared.links.LinkBody.{LinkBody}

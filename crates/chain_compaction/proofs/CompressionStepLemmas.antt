@@ -9,10 +9,10 @@ use Rattle.chain_laws.specs.Chains.{IsWellLinked}
 use Rattle.chain_laws.specs.Renamings.{IsRenaming}
 use Rattle.chain_laws.specs.Arrangements.{place_in}
 use Rattle.chain_laws.specs.Moves.{with_link_moved, CanMove}
-use Rattle.arena_base.specs.Arena.{Arena, slot_at}
-use Rattle.arena_base.specs.Entries.{entries_from}
+use Rattle.arena_traits.specs.Arena.{Arena, slot_at}
+use Rattle.arena_traits.specs.Entries.{entries_from}
 use Rattle.arena_base.specs.DetachedSlots.{DetachedView, IsPacked, with_placed_entry, held_with_value, with_touch}
-use Rattle.arena_base.specs.Compressions.{IsVisit, VisitsAll}
+use Rattle.arena_traits.specs.Compressions.{IsVisit, VisitsAll}
 use Rattle.arena_base.specs.GatheredSlots.{AreClosed}
 use Rattle.arena_base.proofs.HoleClosingLemmas.{IsClosing, none_there, brought_stored, closing_free, closing_frees, closing_brings, closing_visits, closing_counts, closing_closes, closing_packs, next_slot}
 use Rattle.chain_links.specs.declared.links.LinkBody.{LinkBody}

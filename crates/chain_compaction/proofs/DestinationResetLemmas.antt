@@ -5,7 +5,7 @@ use Rattle.std.specs.Option.{option_map, option_and_then}
 use Rattle.std.proofs.Math.Decide.{ℕ_discrete}
 use Rattle.std.proofs.lemmas.List.{length-map}
 use Rattle.chain_laws.proofs.InterlinkLemmas.Inverses.{if_same, if_other}
-use Rattle.arena_base.specs.Arena.{Arena, slot_at}
+use Rattle.arena_traits.specs.Arena.{Arena, slot_at}
 use Rattle.arena_base.specs.DetachedSlots.{DetachedView, held_with_value, with_touch}
 use Rattle.arena_base.specs.GatheredSlots.{with_totals}
 use Rattle.chain_links.specs.declared.links.LinkBody.{LinkBody}

@@ -1,9 +1,9 @@
 -- The slots after a link gets a destination or other interlinks.
 use Rattle.std.proofs.Common.{◌≡◌, ℕ, length, Option, None, Some, refl, sym, ap, ◌∙◌, subst}
 use Rattle.std.specs.Option.{option_map}
-use Rattle.arena_base.specs.Arena.{slot_at}
+use Rattle.arena_traits.specs.Arena.{slot_at}
 use Rattle.arena_base.specs.DetachedSlots.{DetachedView, held_with_value}
-use Rattle.arena_base.proofs.SlotLemmas.{length-with_slot}
+use Rattle.arena_traits.proofs.ArenaViewLemmas.{length-with_slot}
 use Rattle.chain_links.specs.declared.links.LinkBody.{LinkBody}
 use Rattle.chain_links.specs.Links.{link_view}
 use Rattle.chain_compaction.specs.Destinations.{IsDirectedAt, IsRelinkedAt, IsRingClosed}

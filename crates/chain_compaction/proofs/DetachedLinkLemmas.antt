@@ -10,10 +10,10 @@ use Rattle.chain_laws.specs.Joins.{with_next_at, with_prev_at, with_next, with_p
 use Rattle.chain_laws.specs.Moves.{moved_index, with_link_moved, with_link_placed, CanMove}
 use Rattle.chain_laws.proofs.InterlinkLemmas.Inverses.{if_same, if_other, one_some}
 use Rattle.chain_laws.proofs.RenamingLemmas.Moves.{neighbors_determine_a_move}
-use Rattle.arena_base.specs.Arena.{Arena, slot_at, with_slot}
+use Rattle.arena_traits.specs.Arena.{Arena, slot_at, with_slot}
 use Rattle.arena_base.specs.DetachedSlots.{DetachedView, with_placed_entry, held_with_value, with_touch, with_placement}
 use Rattle.arena_base.specs.GatheredSlots.{with_totals}
-use Rattle.arena_base.proofs.SlotLemmas.{length-with_slot}
+use Rattle.arena_traits.proofs.ArenaViewLemmas.{length-with_slot}
 use Rattle.chain_links.specs.declared.links.LinkBody.{LinkBody}
 use Rattle.chain_links.specs.ChainArena.{on_value, interlinks_in}
 use Rattle.chain_links.specs.Links.{link_view, held_in}

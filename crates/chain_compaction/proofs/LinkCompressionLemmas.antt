@@ -8,8 +8,8 @@ use Rattle.chain_laws.specs.Renamings.{IsRenaming}
 use Rattle.chain_laws.specs.Arrangements.{place_in}
 use Rattle.chain_laws.specs.Moves.{with_link_moved, CanMove, IsGathering}
 use Rattle.chain_laws.proofs.RenamingLemmas.HoleClosing.{gathering_begins, gathering_skips, gathering_continues, gathering_ends}
-use Rattle.arena_base.specs.Arena.{slot_at}
-use Rattle.arena_base.specs.Entries.{entries_from, index_of}
+use Rattle.arena_traits.specs.Arena.{slot_at}
+use Rattle.arena_traits.specs.Entries.{entries_from, index_of}
 use Rattle.arena_base.proofs.EntryRangeLemmas.{entry_list, entries_from-take, take-all}
 use Rattle.chain_links.specs.declared.links.LinkBody.{LinkBody}
 use Rattle.chain_links.specs.ChainArena.{on_value}

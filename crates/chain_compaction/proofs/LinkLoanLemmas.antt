@@ -3,7 +3,7 @@ use Rattle.std.proofs.Common.{◌≡◌, ℕ, Option, None, Some, sym, ap, ◌�
 use Rattle.std.specs.Prelude.{OnSome}
 use Rattle.std.specs.Option.{option_map, option_copied_mut}
 use denote.Ref.{MutBor}
-use Rattle.arena_base.specs.Arena.{slot_at}
+use Rattle.arena_traits.specs.Arena.{slot_at}
 use Rattle.arena_base.specs.DetachedSlots.{held_with_value, with_touch, saturating_increment}
 use Rattle.arena_base.specs.declared.compactor.Compactor.{Compactor}
 use Rattle.chain_compaction.specs.WorkCounts.{CountsWork}

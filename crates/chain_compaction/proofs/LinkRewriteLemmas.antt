@@ -8,9 +8,9 @@ use mathlib.Core.Path.{fun_ext}
 use Rattle.chain_laws.specs.Chains.{IsMember}
 use Rattle.chain_laws.proofs.ListLemmas.Members.{IsMember-left, IsMember-right, IsMember-parts, IsMember-or_not}
 use Rattle.chain_laws.proofs.InterlinkLemmas.Inverses.{if_same, if_other}
-use Rattle.arena_base.specs.Arena.{slot_at}
+use Rattle.arena_traits.specs.Arena.{slot_at}
 use Rattle.arena_base.specs.DetachedSlots.{DetachedView, held_with_value}
-use Rattle.arena_base.proofs.SlotLemmas.{length-with_slot}
+use Rattle.arena_traits.proofs.ArenaViewLemmas.{length-with_slot}
 use Rattle.chain_links.specs.declared.links.LinkBody.{LinkBody}
 use Rattle.chain_links.specs.ChainArena.{LinkView, on_value, ptr_at}
 use Rattle.chain_links.specs.Links.{link_view, pair_view}

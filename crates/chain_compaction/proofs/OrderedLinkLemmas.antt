@@ -12,9 +12,9 @@ use Rattle.chain_laws.proofs.ListLemmas.Ranges.{IsMember-range, range-IsMember}
 use Rattle.chain_laws.proofs.RenamingLemmas.ChainRuns.{canonical_arranges, range_with_len-append}
 use Rattle.chain_laws.proofs.RenamingLemmas.LeastIndexOrder.{least_index_order_rests, places_rest}
 use Rattle.chain_laws.proofs.RenamingLemmas.Positions.{place-has}
-use Rattle.arena_base.specs.Arena.{Arena, slot_at, with_slot}
+use Rattle.arena_traits.specs.Arena.{Arena, slot_at, with_slot}
 use Rattle.arena_base.specs.DetachedSlots.{DetachedView, IsPacked, with_placed_entry}
-use Rattle.arena_base.proofs.SlotLemmas.{length-with_slot}
+use Rattle.arena_traits.proofs.ArenaViewLemmas.{length-with_slot}
 use Rattle.chain_links.specs.declared.links.LinkBody.{LinkBody}
 use Rattle.chain_links.specs.ChainArena.{LinkView, ptr_at}
 use Rattle.chain_links.specs.Links.{link_view, pair_view}

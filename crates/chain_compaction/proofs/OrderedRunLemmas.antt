@@ -14,7 +14,7 @@ use Rattle.chain_laws.proofs.ChainLemmas.LinkedLists.{reports_both}
 use Rattle.chain_laws.proofs.ListLemmas.Ranges.{range-IsMember, AreDistinct-range}
 use Rattle.chain_laws.proofs.RenamingLemmas.ChainRuns.{range_with_len-append}
 use Rattle.chain_laws.proofs.TransferLemmas.Target.{all_items-append}
-use Rattle.arena_base.specs.Arena.{slot_at}
+use Rattle.arena_traits.specs.Arena.{slot_at}
 use Rattle.arena_base.specs.DetachedSlots.{DetachedView}
 use Rattle.chain_links.specs.declared.links.LinkBody.{LinkBody}
 use Rattle.chain_links.proofs.ArenaInsertionLemmas.{slots-within}

@@ -2,7 +2,7 @@
 use Rattle.std.proofs.Common.{◌≡◌, ℕ, zero, suc, ◌+◌, ◌*◌, ◌⊎◌, inl, inr, ◌<◌, ◌≤◌, List, length, Option, None, Some, Bool, true, false, leb, refl, ◌∙◌, subst, arith}
 use Rattle.std.specs.Prelude.{if◌then◌else◌}
 use Rattle.std.proofs.lemmas.Bool.Decides.{leb_tells}
-use Rattle.arena_base.specs.Arena.{Arena, slot_at}
+use Rattle.arena_traits.specs.Arena.{Arena, slot_at}
 use Rattle.arena_base.specs.DetachedSlots.{with_touch, with_placement}
 use Rattle.chain_compaction.specs.DetachedLinks.{IsWork}
 use Rattle.chain_compaction.specs.Permutations.{Waits, HaveMoved, CanMoveAll, IsInBlock, IsSettling, ArePassed, waiting_count, IsWorkOn, IsWorkInRounds}

@@ -12,9 +12,9 @@ use Rattle.chain_laws.specs.Chains as chains
 use Rattle.chain_laws.specs.Chains.{LinkMap, Interlinks, IsMember, AreDistinct, all_items}
 use Rattle.chain_laws.specs.Arrangements.{IsLeastIndexOrder}
 use Rattle.chain_laws.proofs.ChainLemmas.Partitions.{no_others}
-use Rattle.arena_base.specs.Arena.{IsValid}
-use Rattle.arena_base.specs.Entries.{found, index_of, AscendsFrom}
-use Rattle.arena_base.specs.Compressions.{values_in}
+use Rattle.arena_traits.specs.Arena.{IsValid}
+use Rattle.arena_traits.specs.Entries.{found, index_of, AscendsFrom}
+use Rattle.arena_traits.specs.Compressions.{values_in}
 use Rattle.chain_links.specs.ChainArena.{ptr_at}
 use Rattle.chain_links.proofs.MappedArenaLemmas.{generation_is}
 use Rattle.chain_compaction.specs.Layouts.{AreAllMoves}

@@ -5,7 +5,7 @@ use Rattle.std.specs.Option.{option_map}
 use Rattle.std.proofs.lemmas.List.Sums.{sum_by-set, sum_by-cons}
 use Rattle.chain_laws.specs.Chains.{Interlinks}
 use Rattle.chain_laws.proofs.InterlinkLemmas.Inverses.{if_same, if_other}
-use Rattle.arena_base.specs.Arena.{slot_at, with_slot}
+use Rattle.arena_traits.specs.Arena.{slot_at, with_slot}
 use Rattle.chain_compaction.specs.Permutations.{Waits, waits, waiting_count}
 use Rattle.chain_links.proofs.ArenaInsertionLemmas.{slot_at-written, slots-within}
 

@@ -3,11 +3,11 @@ use Rattle.std.proofs.Common.{◌≡◌, ◌↔◌, ℕ, suc, List, [], ◌∷�
 use Rattle.std.specs.Prelude.{reverse, cond, leb}
 use Rattle.std.specs.Option.{option_map}
 use Rattle.std.proofs.lemmas.List.{reverse-append, map-append}
-use Rattle.arena_base.specs.Arena.{Arena}
-use Rattle.arena_base.specs.Entries.{entries_from, entries, first_key, last_key}
-use Rattle.arena_base.specs.Advancers.{entries_at_or_above, entries_at_or_below, ahead, IsAdvance}
-use Rattle.arena_base.specs.declared.cursor.Cursor.{Cursor}
-use Rattle.arena_base.specs.declared.cursor.Cursor.TheVariants.{Up, Down, Nowhere}
+use Rattle.arena_traits.specs.Arena.{Arena}
+use Rattle.arena_traits.specs.Entries.{entries_from, entries, first_key, last_key}
+use Rattle.arena_traits.specs.Advancers.{entries_at_or_above, entries_at_or_below, ahead, IsAdvance}
+use Rattle.arena_traits.specs.declared.cursor.Cursor.{Cursor}
+use Rattle.arena_traits.specs.declared.cursor.Cursor.TheVariants.{Up, Down, Nowhere}
 use Rattle.chain_links.specs.ChainArena.{on_value, with_each, link_value, values_of}
 use Rattle.chain_links.specs.declared.links.LinkBody.{LinkBody}
 use Rattle.chain_links.specs.Links.{link_view, held_in, held_entries, links_view, pair_view, entry_views}

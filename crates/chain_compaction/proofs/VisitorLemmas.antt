@@ -7,8 +7,8 @@ use Rattle.std.proofs.lemmas.List.{length-map}
 use Rattle.std.proofs.lemmas.List.FromFn.{length-range_with_len}
 use Rattle.chain_laws.specs.Chains.{LinkMap, all_items}
 use Rattle.chain_laws.proofs.ChainLemmas.Partitions.{no_others}
-use Rattle.arena_base.specs.Entries.{ArenaView, found, index_of}
-use Rattle.arena_base.specs.Compressions.{values_in}
+use Rattle.arena_traits.specs.Entries.{ArenaView, found, index_of}
+use Rattle.arena_traits.specs.Compressions.{values_in}
 use Rattle.arena_base.proofs.FoldLemmas.{folds_viewed}
 use Rattle.chain_links.specs.ChainArena.{ptr_at}
 use Rattle.chain_compaction.specs.Layouts.{IsPairListed, ReportsAll, ReportsLayout, AreAllMoves, IsReportedMove}

@@ -1,6 +1,6 @@
 -- A compactor's counts agree with the totals of its arena.
 use Rattle.std.proofs.Common.{◌≡◌, ℕ, ◌+◌, refl, ap, ◌∙◌, arith}
-use Rattle.arena_base.specs.Arena.{Arena}
+use Rattle.arena_traits.specs.Arena.{Arena}
 use Rattle.arena_base.specs.DetachedSlots.{saturating_increment, with_touch, with_placement}
 use Rattle.chain_compaction.specs.WorkCounts.{saturating_count, HasCounted, CountsOn}
 

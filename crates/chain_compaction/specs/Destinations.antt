@@ -3,7 +3,7 @@ use Rattle.std.specs.Prelude.{◌≡◌, ℕ, ◌+◌, ◌*◌, ◌≤◌, ◌�
 use Rattle.std.specs.Option.{option_map, option_and_then}
 use Rattle.chain_laws.specs.Chains.{LinkMap, Chain, linear, cyclic, items, IsMember, IsChain, first_or}
 use Rattle.chain_laws.specs.Arrangements.{place_from, place_in, IsLeastIndexOrder}
-use Rattle.arena_base.specs.Arena.{Arena, slot_at}
+use Rattle.arena_traits.specs.Arena.{Arena, slot_at}
 use Rattle.arena_base.specs.DetachedSlots.{DetachedView, held_with_value}
 use Rattle.arena_base.specs.declared.compactor.Compactor.{Compactor}
 use Rattle.chain_links.specs.ChainArena.{LinkView, on_value, ptr_at}

@@ -3,8 +3,8 @@ use Rattle.std.specs.Prelude.{◌≡◌, ℕ, ◌≤◌, Bool, true, false, List
 use Rattle.std.specs.Option.{option_map}
 use Rattle.chain_laws.specs.Chains.{LinkMap, Interlinks}
 use Rattle.chain_laws.specs.Joins.{with_next_at, with_prev_at}
-use Rattle.arena_base.specs.Arena.{Arena, slot_at}
-use Rattle.arena_base.specs.Entries.{entries_from, index_of}
+use Rattle.arena_traits.specs.Arena.{Arena, slot_at}
+use Rattle.arena_traits.specs.Entries.{entries_from, index_of}
 use Rattle.arena_base.specs.DetachedSlots.{DetachedView}
 use Rattle.arena_base.specs.GatheredSlots.{with_totals}
 use Rattle.chain_links.specs.declared.links.LinkBody.{LinkBody}

@@ -6,8 +6,8 @@ use Rattle.std.specs.List.{FoldsTo, range_with_len}
 use Rattle.chain_laws.specs.Chains.{LinkMap}
 use Rattle.chain_laws.specs.Renamings.{IsRenaming}
 use Rattle.chain_laws.specs.Arrangements.{place_in, IsLeastIndexOrder}
-use Rattle.arena_base.specs.Arena.{Arena}
-use Rattle.arena_base.specs.Entries.{ArenaView, found}
+use Rattle.arena_traits.specs.Arena.{Arena}
+use Rattle.arena_traits.specs.Entries.{ArenaView, found}
 use Rattle.arena_base.specs.GatheredSlots.{arena_of_values}
 use Rattle.chain_links.specs.ChainArena.{LinkView, link_map, entry, values_of, ptr_at}
 

@@ -4,9 +4,9 @@ use Rattle.std.specs.Fn.{Mut}
 use denote.Ref.{MutBor}
 use Rattle.chain_laws.specs.Renamings.{IsRenaming}
 use Rattle.chain_laws.specs.Arrangements.{place_in}
-use Rattle.arena_base.specs.Arena.{Arena}
-use Rattle.arena_base.specs.Entries.{entries, index_of}
-use Rattle.arena_base.specs.Compressions.{VisitsAll}
+use Rattle.arena_traits.specs.Arena.{Arena}
+use Rattle.arena_traits.specs.Entries.{entries, index_of}
+use Rattle.arena_traits.specs.Compressions.{VisitsAll}
 use Rattle.arena_base.specs.GatheredSlots.{arena_of_values}
 use Rattle.chain_links.specs.ChainArena.{LinkView, link_map, values_of}
 

@@ -1,7 +1,7 @@
 -- Links arranged canonically in the slots that a compactor holds.
 use Rattle.std.specs.Prelude.{◌≡◌, ℕ, ◌+◌, ◌*◌, ◌⊎◌, Bool, if◌then◌else◌, List, length, Option, None, Some}
 use Rattle.chain_laws.specs.Arrangements.{place_in, IsLeastIndexOrder}
-use Rattle.arena_base.specs.Arena.{Arena, slot_at}
+use Rattle.arena_traits.specs.Arena.{Arena, slot_at}
 use Rattle.arena_base.specs.DetachedSlots.{DetachedView, IsPacked}
 use Rattle.chain_links.specs.ChainArena.{LinkView, ptr_at}
 use Rattle.chain_links.specs.declared.links.LinkBody.{LinkBody}

@@ -1,7 +1,7 @@
 -- Entries moved to their destinations by exchanges of slots.
 use Rattle.std.specs.Prelude.{◌≡◌, ◌≢◌, ℕ, ◌+◌, ◌*◌, ◌⊎◌, ◌<◌, ◌≤◌, Bool, List, length, slice_index, Option, None, Some, count_by, is_some}
 use Rattle.std.specs.Option.{option_and_then}
-use Rattle.arena_base.specs.Arena.{Arena, slot_at}
+use Rattle.arena_traits.specs.Arena.{Arena, slot_at}
 use Rattle.chain_links.specs.declared.links.LinkBody.{LinkBody}
 use Rattle.chain_compaction.specs.DetachedLinks.{IsWork}
 

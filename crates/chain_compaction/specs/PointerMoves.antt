@@ -1,8 +1,8 @@
 -- Values whose pointers change, stated by pointer.
 use Rattle.std.specs.Prelude.{◌≡◌, ℕ, Bool, List, map, All, Contains, Option, is_some}
 use Rattle.chain_laws.specs.Chains.{LinkMap, AreDistinct}
-use Rattle.arena_base.specs.Arena.{IsValid}
-use Rattle.arena_base.specs.Entries.{ArenaView, found}
+use Rattle.arena_traits.specs.Arena.{IsValid}
+use Rattle.arena_traits.specs.Entries.{ArenaView, found}
 use Rattle.chain_links.specs.CanonicalLayouts.{IsCanonicalLayout}
 use Rattle.chain_compaction.specs.Layouts.{AreAllMoves}
 

@@ -1,6 +1,6 @@
 -- What a compactor has counted, besides the totals of its arena.
 use Rattle.std.specs.Prelude.{◌≡◌, ℕ, ◌-◌, ◌^◌, min}
-use Rattle.arena_base.specs.Arena.{Arena}
+use Rattle.arena_traits.specs.Arena.{Arena}
 use Rattle.arena_base.specs.GatheredSlots.{with_totals}
 use Rattle.arena_base.specs.declared.compactor.Compactor.{Compactor}
 

@@ -11,8 +11,8 @@ use Rattle.chain_laws.proofs.ChainLemmas.Frame.{cut_keeps_others}
 use Rattle.chain_laws.proofs.ListLemmas.MemberLaws.{once_in_middle}
 use Rattle.chain_laws.proofs.ListLemmas.Members.{last_or-append, IsMember-left, IsMember-right, IsMember-parts}
 use Rattle.chain_laws.proofs.InterlinkLemmas.Inverses.{one_some}
-use Rattle.arena_base.specs.Arena.{IsValid}
-use Rattle.arena_base.specs.Entries.{index_of, first_key, last_key}
+use Rattle.arena_traits.specs.Arena.{IsValid}
+use Rattle.arena_traits.specs.Entries.{index_of, first_key, last_key}
 use Rattle.chain_links.specs.ChainArena.{CanConnect, ptr_at}
 use Rattle.chain_examples.specs.Lists.{Item, AreEntries, indexes, IsText, KeepsWithout}
 use Rattle.chain_examples.specs.Texts.{EndsIn, BeginsWith, AreJoined}

@@ -4,7 +4,7 @@ use Rattle.std.specs.Prelude.{is_some, Bool, true, false, cond, ◌==◌}
 use Rattle.std.proofs.lemmas.List.{map-append}
 use Rattle.chain_laws.specs.Chains.{IsMember, AreDistinct}
 use Rattle.chain_laws.proofs.ListLemmas.Members.{IsMember-left, IsMember-right}
-use Rattle.arena_base.specs.Entries.{index_of, found, AscendsFrom}
+use Rattle.arena_traits.specs.Entries.{index_of, found, AscendsFrom}
 use Rattle.chain_examples.specs.Lists.{Item, AreEntries, indexes}
 
 module _ {Gen T : Type 0} where

@@ -6,7 +6,7 @@ use Rattle.chain_laws.specs.Chains.{LinkMap, linear, IsMember, AreDistinct}
 use Rattle.chain_laws.proofs.ChainLemmas.MemberLaws.{chains_share_each}
 use Rattle.chain_laws.proofs.ListLemmas.Members.{AreDistinct-apart}
 use Rattle.chain_laws.proofs.InterlinkLemmas.Inverses.{one_some}
-use Rattle.arena_base.specs.Entries.{index_of, first_key, last_key}
+use Rattle.arena_traits.specs.Entries.{index_of, first_key, last_key}
 use Rattle.chain_examples.specs.Lists.{Item, indexes, IsText, KeepsWithout}
 use Rattle.chain_examples.specs.Texts.{EndsIn, BeginsWith, AreJoined, IsClosed, IsSeparated, IsPutAfter, IsMovedAfter}
 use Rattle.chain_examples.proofs.DocumentLemmas.{StoredWith, last_apart, last_is, filled, apart, has_left, has_right, has_parts}

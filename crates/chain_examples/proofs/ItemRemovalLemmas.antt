@@ -3,7 +3,7 @@ use Rattle.std.proofs.Common.{◌≡◌, ◌≢◌, ℕ, List, [], ◌∷◌, �
 use Rattle.std.specs.Prelude.{is_some, true, IfSome, OnSome}
 use Rattle.chain_laws.specs.Chains.{LinkMap, Chain, items, IsChain, IsWellLinked}
 use Rattle.chain_laws.specs.Removals.{Removes}
-use Rattle.arena_base.specs.Entries.{ArenaView}
+use Rattle.arena_traits.specs.Entries.{ArenaView}
 use Rattle.chain_traits.proofs.GenericRemovalLemmas.{TakesEntry}
 use Rattle.chain_examples.specs.Lists.{KeepsWithout, Leaves}
 use Rattle.chain_examples.specs.Rings.{AllCyclic}

@@ -7,7 +7,7 @@ use Rattle.chain_laws.specs.Insertions.{InsertKind, Inserts, link_before, link_a
 use Rattle.chain_laws.specs.Frame.{IsDisjointFrom, indexes_of_kind}
 use Rattle.chain_laws.proofs.ChainLemmas.Frame.{insertion_keeps_others}
 use Rattle.chain_laws.proofs.ListLemmas.MemberLaws.{once_in_middle}
-use Rattle.arena_base.specs.Entries.{index_of}
+use Rattle.arena_traits.specs.Entries.{index_of}
 use Rattle.chain_links.specs.ChainArena.{IsInserted}
 use Rattle.chain_examples.specs.Lists.{Item, AreEntries, indexes, IsListOf, KeepsWithout, InsertsAfter, InsertsBefore, Leaves}
 use Rattle.chain_examples.proofs.ItemListLemmas.{are_stored-append, are_stored-left, are_stored-right, are_stored-frame, stored_kept}

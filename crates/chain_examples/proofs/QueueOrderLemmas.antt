@@ -10,8 +10,8 @@ use Rattle.chain_laws.specs.Chains.{LinkMap, cyclic, IsChain, IsMember, AreDisti
 use Rattle.chain_laws.specs.Removals.{Removes}
 use Rattle.chain_laws.proofs.ChainLemmas.Rotations.{rotated}
 use Rattle.chain_laws.proofs.ListLemmas.Members.{IsMember-parts, IsMember-rotated, AreDistinct-rotated}
-use Rattle.arena_base.specs.Arena.{IsValid}
-use Rattle.arena_base.specs.Entries.{ArenaView, count, HasFreeCapacity, index_of, first_key, found, AscendsFrom}
+use Rattle.arena_traits.specs.Arena.{IsValid}
+use Rattle.arena_traits.specs.Entries.{ArenaView, count, HasFreeCapacity, index_of, first_key, found, AscendsFrom}
 use Rattle.chain_laws.specs.Insertions.{single_link_cyclic, prev_to}
 use Rattle.chain_links.specs.CallEffects.{GainsLink}
 use Rattle.chain_laws.proofs.WalkLemmas.WalkBack.{length_among}

@@ -3,8 +3,8 @@ use Rattle.std.proofs.Common.{◌≡◌, ◌≢◌, ℕ, inl, inr, List, [], ◌
 use Rattle.std.specs.Prelude.{is_some, IfSome}
 use Rattle.std.specs.Option.{option_map}
 use Rattle.chain_laws.specs.Chains.{LinkMap, cyclic, IsChain, IsMember, AreDistinct}
-use Rattle.arena_base.specs.Arena.{IsValid}
-use Rattle.arena_base.specs.Entries.{ArenaView, count, found, with_replacement, view_with_value, AscendsFrom}
+use Rattle.arena_traits.specs.Arena.{IsValid}
+use Rattle.arena_traits.specs.Entries.{ArenaView, count, found, with_replacement, view_with_value, AscendsFrom}
 use Rattle.chain_examples.specs.Lists.{Item, indexes, IsQueueOrder}
 use Rattle.chain_examples.specs.QueueOrder.{Queue, IsAmong, with_task}
 use Rattle.chain_examples.proofs.ItemListLemmas.{are_stored-some}

@@ -5,7 +5,7 @@ use Rattle.std.specs.Option.{option_map}
 use Rattle.std.proofs.lemmas.Bool.{cases_eq, eq-eqb, ne_eqb}
 use Rattle.std.proofs.lemmas.List.{map-append}
 use Rattle.chain_laws.specs.Chains.{LinkMap, linear, IsChain, IsMember, AreDistinct}
-use Rattle.arena_base.specs.Entries.{ArenaView, found, first_key, index_of, with_replacement, view_with_value}
+use Rattle.arena_traits.specs.Entries.{ArenaView, found, first_key, index_of, with_replacement, view_with_value}
 use Rattle.chain_examples.specs.Lists.{Item, AreEntries, indexes}
 use Rattle.chain_examples.specs.Texts.{HasNewValue}
 use Rattle.chain_examples.proofs.ItemListLemmas.{are_stored-append, are_stored-left, are_stored-right, are_stored-frame}

@@ -2,7 +2,7 @@
 use Rattle.std.specs.Prelude.{◌≡◌, ◌≢◌, ℕ, List, [], ◌∷◌, ◌++◌, map, Option, Some, is_some, true}
 use Rattle.chain_laws.specs.Chains.{LinkMap, Chain, linear, cyclic, IsChain, IsMember}
 use Rattle.chain_laws.specs.Frame.{IsDisjointFrom}
-use Rattle.arena_base.specs.Entries.{index_of, first_key}
+use Rattle.arena_traits.specs.Entries.{index_of, first_key}
 
 -- An item: its pointer's index and generation, and its value.
 abbrev pub Item : Type 0 → Type 0 → Type 0

@@ -2,7 +2,7 @@
 use Rattle.std.specs.Prelude.{◌≡◌, ◌⊎◌, ℕ, zero, suc, List, [], ◌∷◌, ◌++◌, Option, None, Some}
 use Rattle.std.specs.Option.{option_map}
 use Rattle.chain_laws.specs.Chains.{LinkMap, next_of}
-use Rattle.arena_base.specs.Entries.{first_key, with_replacement}
+use Rattle.arena_traits.specs.Entries.{first_key, with_replacement}
 use Rattle.chain_examples.specs.Lists.{Item, IsQueueOrder}
 
 -- A run queue: its tasks in turn, the current one first, its capacity, and the limit of that, if

@@ -1,7 +1,7 @@
 -- The effect on texts of splits, joins and moves of items.
 use Rattle.std.specs.Prelude.{◌≡◌, ◌≢◌, ℕ, List, [], ◌∷◌, ◌++◌, Option, IfSome}
 use Rattle.chain_laws.specs.Chains.{LinkMap, linear, IsMember, AreDistinct}
-use Rattle.arena_base.specs.Entries.{ArenaView, first_key, last_key, view_with_value}
+use Rattle.arena_traits.specs.Entries.{ArenaView, first_key, last_key, view_with_value}
 use Rattle.chain_examples.specs.Lists.{Item, indexes, IsText, KeepsWithout}
 
 module _ {A Gen T : Type 0} (entry : A → ℕ → Option (Gen × T)) (links : A → LinkMap) (arena : A) where

@@ -2,8 +2,8 @@
 
 ghost use Rattle.std.specs.Prelude.{◌≡◌, ◌↔◌, ◌≤◌, ◌<◌, ◌+◌, IsOk, OnOk, IsErr, OnErr, Err};
 ghost use Rattle.arena_ptr.specs.SlotStack.{IsBeyond};
-ghost use Rattle.arena_base.specs.Arena.{IsCapacityFor};
-ghost use Rattle.arena_base.specs.Entries.{count, with_capacity};
+ghost use Rattle.arena_traits.specs.Arena.{IsCapacityFor};
+ghost use Rattle.arena_traits.specs.Entries.{count, with_capacity};
 
 use arena_ptr::{InxKey, PtrKey, ReallocationError};
 use chain_traits::ChainArenaTrait;

@@ -4,8 +4,8 @@ ghost use Rattle.std.specs.Prelude.{◌≡◌, ◌≢◌, ◌↔◌, ℕ, ◌+�
 ghost use Rattle.std.specs.Option.{option_map};
 ghost use Rattle.arena_ptr.specs.SlotStack.{IsBeyond, IsWithinMaximum};
 ghost use Rattle.chain_laws.specs.Chains.{cyclic};
-ghost use Rattle.arena_base.specs.Arena.{IsCapacityFor, IsValid};
-ghost use Rattle.arena_base.specs.Entries.{count, view_after_removal, first_key, with_capacity, HasFreeCapacity, NeedsBeyondMaximum};
+ghost use Rattle.arena_traits.specs.Arena.{IsCapacityFor, IsValid};
+ghost use Rattle.arena_traits.specs.Entries.{count, view_after_removal, first_key, with_capacity, HasFreeCapacity, NeedsBeyondMaximum};
 ghost use Rattle.chain_links.specs.CallEffects.{SucceedsWithinCapacity};
 ghost use Rattle.chain_links.specs.ChainArena.{IsInserted};
 ghost use Rattle.chain_examples.specs.Lists.{Item, IsRing, KeepsWithout, InsertsAfter, InsertsBefore, Leaves};

@@ -4,8 +4,8 @@ ghost use Rattle.std.specs.Prelude.{◌≡◌, ◌↔◌, ◌<◌, ◌≤◌, �
 ghost use Rattle.std.specs.Option.{option_map, option_or};
 ghost use Rattle.std.specs.Borrow.{LendsSo, sem};
 ghost use Rattle.arena_ptr.specs.SlotStack.{IsBeyond, IsWithinMaximum};
-ghost use Rattle.arena_base.specs.Arena.{IsCapacityFor, IsValid};
-ghost use Rattle.arena_base.specs.Entries.{count, first_key, found, NeedsBeyondMaximum};
+ghost use Rattle.arena_traits.specs.Arena.{IsCapacityFor, IsValid};
+ghost use Rattle.arena_traits.specs.Entries.{count, first_key, found, NeedsBeyondMaximum};
 ghost use Rattle.chain_laws.specs.Chains.{IsMember};
 ghost use Rattle.chain_links.specs.CallEffects.{SucceedsWithinCapacity};
 ghost use Rattle.chain_examples.specs.QueueOrder.{AppendsTask, IsAmong, IsCancelled, IsFirstWithout, rotation, with_task};
@@ -34,7 +34,7 @@ pub struct RunQueue<P: PtrKey, T: Drop, A: ChainArenaTrait<P, T> + Drop> {
 
 impl<P: PtrKey, T: Drop, A: ChainArenaTrait<P, T> + Drop> Model for RunQueue<P, T, A> {
     ghost use Rattle.std.specs.Option.{option_map};
-    ghost use Rattle.arena_base.specs.Entries.{count};
+    ghost use Rattle.arena_traits.specs.Entries.{count};
     ghost use Rattle.chain_examples.specs.Lists.{IsQueueOrder};
     ghost use Rattle.chain_examples.specs.QueueOrder.{Queue, queue_order};
 

@@ -4,7 +4,7 @@ use Rattle.std.specs.Prelude.{◌-◌}
 use Rattle.std.specs.Option.{option_map}
 use Rattle.chain_laws.specs.Chains.{LinkMap}
 use Rattle.chain_laws.specs.Walks.{Walker, next_step}
-use Rattle.arena_base.specs.Arena.{Arena, IsValid, entry_at}
+use Rattle.arena_traits.specs.Arena.{Arena, IsValid, entry_at}
 use Rattle.chain_links.specs.ChainArena.{LinkView, link_map, entry, link_value, on_value}
 use Rattle.chain_links.specs.Walkers.{index_and_entry, IsPassing}
 use Rattle.chain_links.proofs.MappedArenaLemmas.{entry_at-with_each}

@@ -10,7 +10,7 @@ use Rattle.chain_laws.proofs.InterlinkLemmas.Inverses.{if_same, if_other}
 use Rattle.chain_laws.proofs.JoinLemmas.Chains.{joined_agrees, joined_adds_a_pair, joined_connects}
 use Rattle.chain_links.specs.declared.links.LinkBody.{LinkBody}
 use Rattle.chain_links.specs.Links.{link_view, pair_view, links_view}
-use Rattle.arena_base.specs.Arena.{Arena, entry_at}
+use Rattle.arena_traits.specs.Arena.{Arena, entry_at}
 use Rattle.chain_links.specs.ChainArena.{on_value, LinkView, link_value, link_map, values_of, with_link_map, interlinks_of, CanConnect, IsLinkAt, ptr_at}
 use Rattle.chain_links.proofs.MappedArenaLemmas.{IsValidPtr, entry_at-with_each, IsValidPtr-with_each}
 use Rattle.chain_links.proofs.LinkStateLemmas.{entry_at-links_view}

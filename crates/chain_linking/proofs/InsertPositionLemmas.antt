@@ -7,7 +7,7 @@ use Rattle.chain_laws.specs.Chains.{LinkMap, Interlinks, HasLink, next_in, prev_
 use Rattle.chain_laws.specs.Insertions.{InsertKind, chain_end, chain_start, next_to, prev_to, at_interlink}
 use Rattle.chain_links.specs.declared.links.LinkBody.{LinkBody}
 use Rattle.chain_links.specs.Links.{link_view, pair_view, links_view}
-use Rattle.arena_base.specs.Arena.{Arena, entry_at}
+use Rattle.arena_traits.specs.Arena.{Arena, entry_at}
 use Rattle.chain_links.specs.ChainArena.{on_value, link_map, entry, interlinks_in, interlinks_of}
 use Rattle.chain_links.specs.Kinds.{LinkName, HasName, MayInsert}
 use Rattle.chain_links.proofs.LinkStateLemmas.{entry_at-links_view}

@@ -12,7 +12,7 @@ use Rattle.chain_laws.proofs.ChainLemmas.LinkedLists.{link}
 use Rattle.chain_laws.proofs.InsertionLemmas.Writes.{with_link, inserted_by_writes, ringed_by_writes}
 use Rattle.chain_links.specs.declared.links.LinkBody.{LinkBody}
 use Rattle.chain_links.specs.Links.{link_view, links_view}
-use Rattle.arena_base.specs.Arena.{Arena, entry_at, next_index, insert_next, IsListed}
+use Rattle.arena_traits.specs.Arena.{Arena, entry_at, next_index, insert_next, IsListed}
 use Rattle.chain_linking.specs.declared.insert_position.InsertPosition.{InsertPosition}
 use Rattle.chain_linking.specs.declared.insert_position.InsertPosition.TheVariants.{Itself, Between}
 use Rattle.chain_linking.specs.InsertPositions.{before_in, after_in, named_before, named_after}

@@ -10,7 +10,7 @@ use mathlib.Core.Path.{fun_ext}
 use Rattle.chain_laws.proofs.InterlinkLemmas.Inverses.{if_same, if_other, one_some}
 use Rattle.chain_links.specs.declared.links.LinkBody.{LinkBody}
 use Rattle.chain_links.specs.Links.{link_view, pair_view, links_view}
-use Rattle.arena_base.specs.Arena.{Arena, entry_at, with_value}
+use Rattle.arena_traits.specs.Arena.{Arena, entry_at, with_value}
 use Rattle.chain_links.specs.ChainArena.{on_value, link_value, values_of, LinkView, link_map, relink, with_link_map, interlinks_of, interlinks_in, with_interlinks}
 use Rattle.chain_links.proofs.MappedArenaLemmas.{is_some-map, entry_at-with_each, length-with_each}
 use Rattle.chain_links.proofs.LinkStateLemmas.{is_relinked, entry_at-with_link_map, entry_at-with_value, entry_at-links_view, length-with_value, length-links_view, length-with_link_map}

@@ -12,7 +12,7 @@ use Rattle.chain_links.specs.declared.links.LinkBody.{LinkBody}
 use Rattle.chain_links.specs.Links.{links_view, pair_view}
 use Rattle.chain_links.specs.ChainArena.{LinkView, entry, link_map, with_link_map, interlinks_of}
 use Rattle.chain_links.proofs.LinkStateLemmas.{entry_at-links_view, no_entry}
-use Rattle.arena_base.specs.Arena.{Arena, entry_at, IsValid}
+use Rattle.arena_traits.specs.Arena.{Arena, entry_at, IsValid}
 use Rattle.chain_linking.specs.ChainArenaLaws.{links_exist}
 use Rattle.chain_linking.proofs.LinkWriteLemmas.{FitsLinks, FitsLinks-link_map, link_map-with_link_map}
 

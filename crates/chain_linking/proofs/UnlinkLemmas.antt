@@ -4,18 +4,18 @@ use Rattle.std.specs.Prelude.{◌==◌, if◌then◌else◌}
 use Rattle.std.proofs.lemmas.Bool.{cases_eq}
 use Rattle.std.specs.Option.{option_map}
 use mathlib.Core.Path.{fun_ext}
-use Rattle.arena_base.proofs.ArenaViewLemmas.{value_within-made}
+use Rattle.arena_traits.proofs.ArenaViewLemmas.{value_within-made}
 use Rattle.chain_laws.specs.Chains.{LinkMap, IsWellLinked, prev_of, next_of}
 use Rattle.chain_laws.specs.Joins.{with_neighbors, with_next, with_prev}
 use Rattle.chain_laws.specs.Removals.{without_link, with_removal, Removes, RemovesPairs}
 use Rattle.chain_laws.proofs.InterlinkLemmas.Inverses.{if_same, if_other}
 use Rattle.chain_laws.proofs.RemovalLemmas.Pairs.{removed_agrees, removed_in_pairs}
 use Rattle.chain_laws.proofs.RemovalLemmas.Chains.{removed_removes}
-use Rattle.arena_base.specs.Arena.{Arena, entry_at, remove_at, invalidate_at}
-use Rattle.arena_base.specs.Entries.{view_of}
-use Rattle.arena_base.specs.Entries.{view_after_removal}
+use Rattle.arena_traits.specs.Arena.{Arena, entry_at, remove_at, invalidate_at}
+use Rattle.arena_traits.specs.Entries.{view_of}
+use Rattle.arena_traits.specs.Entries.{view_after_removal}
 use Rattle.chain_links.specs.ChainArena.{on_value, LinkView, link_value, with_link_value, link_map, with_link_map, interlinks_of, values_of, with_value_at, remove_link}
-use Rattle.arena_base.proofs.ArenaViewLemmas as seeing
+use Rattle.arena_traits.proofs.ArenaViewLemmas as seeing
 use Rattle.chain_links.proofs.ArenaInsertionLemmas.{map-if}
 use Rattle.chain_links.proofs.MappedArenaLemmas.{with_each-remove_at}
 use Rattle.chain_links.proofs.LinkStateLemmas.{slot_at-changed}

@@ -4,7 +4,7 @@ use Rattle.std.specs.Option.{option_map}
 use Rattle.std.proofs.Common.{refl, subst}
 use Rattle.chain_laws.specs.Chains.{LinkMap}
 use Rattle.chain_laws.specs.Walks.{Walker, next_step}
-use Rattle.arena_base.specs.Arena.{Arena, entry_at}
+use Rattle.arena_traits.specs.Arena.{Arena, entry_at}
 use Rattle.chain_links.specs.Walkers.{IsPassing}
 use Rattle.chain_links.specs.ChainArena.{LinkView, link_map, values_of, on_value, link_value, interlinks_of}
 

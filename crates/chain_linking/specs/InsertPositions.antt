@@ -3,7 +3,7 @@ use Rattle.std.specs.Prelude.{◌≡◌, ◌↔◌, ℕ, IsSome, IfSome, Option,
 use Rattle.std.specs.Option.{option_map}
 use Rattle.chain_laws.specs.Chains.{LinkMap, prev_of, next_of}
 use Rattle.chain_laws.specs.Insertions.{InsertKind, link_before, link_after}
-use Rattle.arena_base.specs.Arena.{Arena}
+use Rattle.arena_traits.specs.Arena.{Arena}
 use Rattle.chain_links.specs.ChainArena.{LinkView, link_map, entry}
 use Rattle.chain_links.specs.Kinds.{LinkName, HasName, MayInsert, by_index}
 use Rattle.chain_linking.specs.declared.insert_position.InsertPosition.{InsertPosition}

@@ -3,7 +3,7 @@ use Rattle.std.specs.Prelude.{◌≡◌, ◌≢◌, ℕ, IfSome, Option, None, S
 use Rattle.std.specs.Option.{option_map}
 use Rattle.chain_laws.specs.Chains.{LinkMap, HasLink, prev_of, next_of}
 use Rattle.chain_laws.specs.Joins.{with_next_at, with_prev_at, with_neighbors}
-use Rattle.arena_base.specs.Arena.{Arena, IsValid}
+use Rattle.arena_traits.specs.Arena.{Arena, IsValid}
 use Rattle.chain_links.specs.ChainArena.{LinkView, link_map, with_link_map}
 
 -- Two optional indexes as numbers.

@@ -2,7 +2,7 @@
 use Rattle.std.specs.Prelude.{◌≡◌, ℕ, suc, Option, None, Some, IfSome}
 use Rattle.std.specs.Option.{option_map}
 use Rattle.chain_laws.specs.Walks.{next_step}
-use Rattle.arena_base.specs.Arena.{Arena}
+use Rattle.arena_traits.specs.Arena.{Arena}
 use Rattle.chain_links.specs.ChainArena.{LinkView, link_map, entry}
 use Rattle.chain_links.specs.Walkers.{walker_of}
 

@@ -2,7 +2,7 @@
 ghost use Rattle.std.specs.Prelude.{◌≡◌, IsSome, IfSome, None};
 ghost use Rattle.std.specs.Option.{option_map, option_and_then};
 ghost use Rattle.arena_ptr.specs.Invalidation.{value_within, invalidation_result};
-ghost use Rattle.arena_base.specs.Arena.{entry_at};
+ghost use Rattle.arena_traits.specs.Arena.{entry_at};
 ghost use Rattle.chain_laws.specs.Chains.{IsWellLinked, HasLink};
 ghost use Rattle.chain_links.specs.ChainArena.{link_map, remove_link, entry, named_by, ptr_at};
 ghost use Rattle.chain_links.specs.Links.{links_view, pair_view};

@@ -1,7 +1,7 @@
 // The next step of a walker along a chain of a plain arena.
 ghost use Rattle.std.specs.Prelude.{◌≡◌, IfSome, IfNone};
 ghost use Rattle.std.specs.Option.{option_map};
-ghost use Rattle.arena_base.specs.Arena.{entry_at, IsValid};
+ghost use Rattle.arena_traits.specs.Arena.{entry_at, IsValid};
 ghost use Rattle.chain_links.specs.ChainArena.{entry};
 ghost use Rattle.chain_links.specs.Links.{links_view};
 ghost use Rattle.chain_links.specs.Walkers.{item_view, index_and_entry};

@@ -9,13 +9,13 @@ use Rattle.chain_laws.specs.Joins.{with_lone}
 use Rattle.chain_laws.proofs.InterlinkLemmas.Inverses.{if_same, if_other}
 use Rattle.chain_links.specs.declared.links.LinkBody.{LinkBody}
 use Rattle.chain_links.specs.Links.{link_view, links_view}
-use Rattle.arena_base.specs.Arena.{Arena, slot_at, with_slot, slots_after_insertion, first_or_next, IsMember, IsListed, entry_at, entry_count, next_index, insert_next, with_capacity_of}
+use Rattle.arena_traits.specs.Arena.{Arena, slot_at, with_slot, slots_after_insertion, first_or_next, IsMember, IsListed, entry_at, entry_count, next_index, insert_next, with_capacity_of}
 use Rattle.chain_links.specs.ChainArena.{LinkView, link_value, values_of, link_map, IsInserted, interlinks_of, lone, insert_lone}
-use Rattle.arena_base.specs.Entries.{entries, count_with_next}
-use Rattle.arena_base.proofs.ArenaViewLemmas.{length-entries}
+use Rattle.arena_traits.specs.Entries.{entries, count_with_next}
+use Rattle.arena_traits.proofs.ArenaViewLemmas.{length-entries}
 use Rattle.chain_links.proofs.MappedArenaLemmas.{with_each-insert_next, entry_count-with_each, length-with_each, listed-with_each}
 use Rattle.chain_links.proofs.LinkStateLemmas.{if_suc}
-use Rattle.arena_base.proofs.SlotLemmas.{length-with_slot}
+use Rattle.arena_traits.proofs.ArenaViewLemmas.{length-with_slot}
 
 -- Lookup in a list with one item appended.
 slice_index_or-append : {X : Type 0} (xs : List (Option X)) (x : Option X) (k : ℕ) → slice_index_or (xs ++ x ∷ []) k None ≡ (if k == length xs then x else slice_index_or xs k None)

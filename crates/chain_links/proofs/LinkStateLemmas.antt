@@ -6,11 +6,11 @@ use Rattle.std.specs.Option.{option_map}
 use Rattle.std.proofs.lemmas.List.{ext_get_or}
 use Rattle.chain_laws.specs.Chains.{LinkMap}
 use Rattle.chain_laws.proofs.InterlinkLemmas.Inverses.{if_same, if_other}
-use Rattle.arena_base.proofs.SlotLemmas.{length-with_slot}
+use Rattle.arena_traits.proofs.ArenaViewLemmas.{length-with_slot}
 use Rattle.chain_links.proofs.MappedArenaLemmas.{entry_at-with_each, length-with_each}
 use Rattle.chain_links.specs.declared.links.LinkBody.{LinkBody}
 use Rattle.chain_links.specs.Links.{link_view, pair_view, links_view}
-use Rattle.arena_base.specs.Arena.{Arena, slot_at, with_slot, entry_at, with_value}
+use Rattle.arena_traits.specs.Arena.{Arena, slot_at, with_slot, entry_at, with_value}
 use Rattle.chain_links.specs.ChainArena.{LinkView, relink, relink_from, with_link_map}
 
 -- Numbers are equal exactly if their successors are.

@@ -4,7 +4,7 @@ use Rattle.std.specs.Prelude.{count_by, is_some, slice_index_or, if◌then◌els
 use Rattle.std.specs.Option.{option_map}
 use Rattle.std.proofs.lemmas.List.{length-map, map-append, map-set}
 use Rattle.std.proofs.lemmas.List.Sums.{sum_by-cons}
-use Rattle.arena_base.specs.Arena.{Arena, slot_at, with_slot, slots_after_insertion, entry_at, entry_count, insert_next, remove_at, invalidate_at, with_value, arena_after_clear, counter_after_clear, IsListed, IsValid}
+use Rattle.arena_traits.specs.Arena.{Arena, slot_at, with_slot, slots_after_insertion, entry_at, entry_count, insert_next, remove_at, invalidate_at, with_value, arena_after_clear, counter_after_clear, IsListed, IsValid}
 use Rattle.chain_links.specs.ChainArena.{on_value, with_each}
 
 -- A mapped option is `Some` exactly if the option is.

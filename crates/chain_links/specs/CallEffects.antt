@@ -4,7 +4,7 @@ use Rattle.std.specs.Option.{option_map}
 use Rattle.chain_laws.specs.Chains.{LinkMap}
 use Rattle.chain_laws.specs.Insertions.{InsertKind}
 use Rattle.chain_laws.specs.Removals.{with_removal}
-use Rattle.arena_base.specs.Entries.{ArenaView, count, HasFreeCapacity, view_after_removal}
+use Rattle.arena_traits.specs.Entries.{ArenaView, count, HasFreeCapacity, view_after_removal}
 use Rattle.chain_links.specs.ChainArena.{link_at}
 use Rattle.chain_links.specs.Insertions.{IsInsertion}
 use Rattle.chain_links.specs.Kinds.{LinkName, by_index}

@@ -5,8 +5,8 @@ use Rattle.std.specs.List.{range_with_len}
 use Rattle.chain_laws.specs.Chains.{LinkMap, AreChains}
 use Rattle.chain_laws.specs.Renamings.{IsRenaming}
 use Rattle.chain_laws.specs.Arrangements.{place_in, in_runs, IsLeastIndexOrder}
-use Rattle.arena_base.specs.Entries.{ArenaView, Slots, found, index_of}
-use Rattle.arena_base.specs.Compressions.{counter_after_compression, values_in, AreFilledAnew, IfKnown}
+use Rattle.arena_traits.specs.Entries.{ArenaView, Slots, found, index_of}
+use Rattle.arena_traits.specs.Compressions.{counter_after_compression, values_in, AreFilledAnew, IfKnown}
 
 -- If the slots are known, `count` links fill that many slots, none is freed, and each was placed
 -- once. There were at most four touches per old slot plus twelve per link.

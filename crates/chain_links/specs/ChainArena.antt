@@ -8,8 +8,8 @@ use Rattle.chain_laws.specs.Cuts.{without_pair, Cuts, TakesPair}
 use Rattle.chain_laws.specs.Exchanges.{with_exchange, Exchanges, ExchangesPairs}
 use Rattle.chain_laws.specs.Joins.{with_next_at, with_prev_at, with_join, AddsPair, Connects}
 use Rattle.chain_laws.specs.Insertions.{InsertKind, with_insertion, with_insertion_as}
-use Rattle.arena_base.specs.Arena.{Arena, with_slot, entry_at, next_index, insert_next, remove_at, IsValid}
-use Rattle.arena_base.specs.Entries.{ArenaView, view_of}
+use Rattle.arena_traits.specs.Arena.{Arena, with_slot, entry_at, next_index, insert_next, remove_at, IsValid}
+use Rattle.arena_traits.specs.Entries.{ArenaView, view_of}
 
 -- A generation and a value, with a function applied to the value.
 abbrev pub on_value : {Gen X Y : Type 0} → (X → Y) → Gen × X → Gen × Y

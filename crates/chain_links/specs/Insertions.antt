@@ -3,7 +3,7 @@ use Rattle.std.specs.Prelude.{◌≡◌, ℕ, zero, suc, ◌+◌, length, IfSome
 use Rattle.std.specs.Option.{option_map}
 use Rattle.chain_laws.specs.Chains.{LinkMap}
 use Rattle.chain_laws.specs.Insertions.{InsertKind, link_before, link_after, with_insertion, InsertsPairs, Inserts}
-use Rattle.arena_base.specs.Entries.{ArenaView, next_slot, with_next_filled}
+use Rattle.arena_traits.specs.Entries.{ArenaView, next_slot, with_next_filled}
 use Rattle.chain_links.specs.ChainArena.{IsInserted}
 
 -- A number as an optional index, 0 for none.

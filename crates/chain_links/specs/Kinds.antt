@@ -3,7 +3,7 @@ use Rattle.std.specs.Prelude.{ℕ, IsSome, Option, None, Some}
 use Rattle.chain_laws.specs.Chains.{LinkMap}
 use Rattle.chain_laws.specs.Insertions.{InsertKind, disconnected, single_link_cyclic, chain_end, chain_start, next_to, prev_to, at_interlink, bridge}
 use Rattle.chain_laws.specs.Insertions.{CanInsert}
-use Rattle.arena_base.specs.Arena.{IsValid}
+use Rattle.arena_traits.specs.Arena.{IsValid}
 use Rattle.chain_links.specs.declared.kinds.InsertKindBody.{InsertKindBody}
 use Rattle.chain_links.specs.declared.kinds.InsertKindBody.TheVariants as kinds
 use Rattle.chain_links.specs.declared.kinds.NamedKind.{NamedKind}

@@ -1,7 +1,7 @@
 -- Links as contracts see them, with interlinks as numbers.
 use Rattle.std.specs.Prelude.{ℕ, List, map, Option}
 use Rattle.std.specs.Borrow.{Bor}
-use Rattle.arena_base.specs.Arena.{Arena}
+use Rattle.arena_traits.specs.Arena.{Arena}
 use Rattle.chain_links.specs.ChainArena.{LinkView, on_value, with_each}
 use Rattle.chain_links.specs.declared.links.LinkBody.{LinkBody}
 

@@ -5,7 +5,7 @@ use Rattle.std.specs.Borrow.{Bor}
 use Rattle.chain_laws.specs.Chains.{LinkMap}
 use Rattle.chain_laws.specs.Walks.{Walker, walk_ahead, step_of}
 use Rattle.chain_links.specs.declared.links.LinkBody.{LinkBody}
-use Rattle.arena_base.specs.Arena.{Arena, entry_at, IsValid}
+use Rattle.arena_traits.specs.Arena.{Arena, entry_at, IsValid}
 use Rattle.chain_links.specs.ChainArena.{LinkView, link_map}
 use Rattle.chain_links.specs.Links.{link_view}
 

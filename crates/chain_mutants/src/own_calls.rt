@@ -1,6 +1,6 @@
 // Forwarding wrappers of calls that no trait has, or whose contract states more than the trait's.
 ghost use Rattle.std.specs.Prelude.{◌≡◌, ◌≤◌, ◌+◌, IsOk, OnSome, OnOk};
-ghost use Rattle.arena_base.specs.Entries.{count};
+ghost use Rattle.arena_traits.specs.Entries.{count};
 ghost use Rattle.chain_arena.specs.Drains.{walk_left, without_each};
 ghost use Rattle.chain_arena.specs.Transfers.{IsTransfer};
 

@@ -1,6 +1,6 @@
 -- A lemma of insertion by a vacant entry.
 use Rattle.std.proofs.Common.{◌≡◌, ℕ, Option, ap, ap₂, sym, ◌∙◌}
-use Rattle.arena_base.specs.Arena.{Arena, with_capacity_of}
+use Rattle.arena_traits.specs.Arena.{Arena, with_capacity_of}
 use Rattle.chain_links.specs.ChainArena.{LinkView, insert_between}
 
 -- A growth and then the insertion give the arena of the insertion alone, up to capacity.

@@ -11,7 +11,7 @@ use Rattle.chain_laws.proofs.ListLemmas.Members.{IsMember-right}
 use Rattle.chain_laws.proofs.WalkLemmas.Members.{has_walk, walk_valid, walk_once}
 use Rattle.chain_laws.proofs.WalkLemmas.Steps.{step_ahead}
 use Rattle.chain_laws.proofs.WalkLemmas.Walker.{walk_passed}
-use Rattle.arena_base.specs.Entries.{found, index_of}
+use Rattle.arena_traits.specs.Entries.{found, index_of}
 use Rattle.chain_laws.proofs.WalkLemmas.WalkBack.{length_among}
 use Rattle.chain_traits.proofs.GenericArenaLemmas.{valid_some, valid_has, links_within}
 

@@ -10,11 +10,11 @@ use Rattle.chain_laws.specs.Chains as chains
 use Rattle.chain_laws.specs.Chains.{LinkMap, Interlinks, IsWellLinked, IsMember}
 use Rattle.chain_laws.specs.ChainStart.{IsBack}
 use Rattle.chain_laws.proofs.WalkLemmas.WalkBack.{back_is_short}
-use Rattle.arena_base.specs.Arena.{IsValid}
-use Rattle.arena_base.specs.Entries.{found, first_key, index_of, AscendsFrom}
-use Rattle.arena_base.specs.Advancers.{entries_at_or_above, IsAdvanceUntilNone}
-use Rattle.arena_base.specs.declared.cursor.Cursor.{Cursor}
-use Rattle.arena_base.specs.declared.cursor.Cursor.TheVariants.{Up}
+use Rattle.arena_traits.specs.Arena.{IsValid}
+use Rattle.arena_traits.specs.Entries.{found, first_key, index_of, AscendsFrom}
+use Rattle.arena_traits.specs.Advancers.{entries_at_or_above, IsAdvanceUntilNone}
+use Rattle.arena_traits.specs.declared.cursor.Cursor.{Cursor}
+use Rattle.arena_traits.specs.declared.cursor.Cursor.TheVariants.{Up}
 
 module _ {Gen T : Type 0} where
   -- Entries that rise from an index are at or above it.

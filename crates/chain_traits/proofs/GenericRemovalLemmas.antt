@@ -5,9 +5,9 @@ use Rattle.std.specs.Option.{option_map}
 use Rattle.chain_laws.specs.Chains.{LinkMap, IsWellLinked}
 use Rattle.chain_laws.specs.Removals.{with_removal, Removes}
 use Rattle.chain_laws.proofs.RemovalLemmas.Chains.{removed_removes}
-use Rattle.arena_base.specs.Arena.{IsValid}
-use Rattle.arena_base.specs.Entries.{ArenaView, count, found, without_index, AscendsFrom, view_after_removal}
-use Rattle.arena_base.proofs.EntrySearchLemmas.{found-gone, found-kept}
+use Rattle.arena_traits.specs.Arena.{IsValid}
+use Rattle.arena_traits.specs.Entries.{ArenaView, count, found, without_index, AscendsFrom, view_after_removal}
+use Rattle.arena_traits.proofs.EntrySearchLemmas.{found-gone, found-kept}
 
 module _ {Gen T : Type 0} where
   -- A removal empties its index and changes no other entry.

@@ -13,8 +13,8 @@ use Rattle.chain_laws.proofs.RenamingLemmas.Chains.{renaming_is_determined}
 use Rattle.chain_laws.proofs.RenamingLemmas.LeastIndexOrder.{layout_rests}
 use Rattle.chain_laws.proofs.ChainLemmas.Partitions.{no_others}
 use Rattle.chain_laws.proofs.RenamingLemmas.ChainRuns.{items_in_runs, runs_are_renumbered}
-use Rattle.arena_base.specs.Entries.{found, index_of}
-use Rattle.arena_base.specs.Compressions.{values_in}
+use Rattle.arena_traits.specs.Entries.{found, index_of}
+use Rattle.arena_traits.specs.Compressions.{values_in}
 use Rattle.chain_traits.specs.CompressionLaws.{SecondCompressionMovesNothing}
 
 -- Runs of runs are the same runs.

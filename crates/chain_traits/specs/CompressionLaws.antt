@@ -1,8 +1,8 @@
 -- A second canonical compression moves no link.
 use Rattle.std.specs.Prelude.{◌≡◌, Bool, map}
 use Rattle.chain_laws.specs.Chains.{LinkMap}
-use Rattle.arena_base.specs.Entries.{ArenaView, index_of}
-use Rattle.arena_base.specs.Compressions.{values_in}
+use Rattle.arena_traits.specs.Entries.{ArenaView, index_of}
+use Rattle.arena_traits.specs.Compressions.{values_in}
 use Rattle.chain_links.specs.CanonicalLayouts.{IsCanonicalLayout}
 
 -- Each link keeps its index, its value and its interlinks.

@@ -2,9 +2,9 @@
 use Rattle.std.specs.Prelude.{◌≡◌, ℕ, ◌+◌, ◌≤◌, Bool, is_some, IsSome}
 use Rattle.chain_laws.specs.Chains.{LinkMap, prev_of}
 use Rattle.chain_laws.specs.ChainStart.{IsStart}
-use Rattle.arena_base.specs.Entries.{ArenaView, found}
-use Rattle.arena_base.specs.declared.cursor.Cursor.{Cursor}
-use Rattle.arena_base.specs.declared.cursor.Cursor.TheVariants.{Up}
+use Rattle.arena_traits.specs.Entries.{ArenaView, found}
+use Rattle.arena_traits.specs.declared.cursor.Cursor.{Cursor}
+use Rattle.arena_traits.specs.declared.cursor.Cursor.TheVariants.{Up}
 
 -- The next chain is that of the link of least index. `here` is its start if it is linear, and that
 -- link if it is cyclic; `ring` is whether it is cyclic. The advancer goes on behind the link of

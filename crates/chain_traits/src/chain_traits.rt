@@ -10,9 +10,9 @@ ghost use Rattle.chain_laws.specs.Joins.{with_join, Connects};
 ghost use Rattle.chain_laws.specs.Removals.{with_removal, Removes};
 ghost use Rattle.chain_laws.specs.Renamings.{IsRenaming};
 ghost use Rattle.chain_laws.specs.Arrangements.{place_in};
-ghost use Rattle.arena_base.specs.Arena.{IsValid, IsCapacityFor};
-ghost use Rattle.arena_base.specs.Entries.{count, index_of, NeedsBeyondMaximum};
-ghost use Rattle.arena_base.specs.Compressions.{overflows_after_compression};
+ghost use Rattle.arena_traits.specs.Arena.{IsValid, IsCapacityFor};
+ghost use Rattle.arena_traits.specs.Entries.{count, index_of, NeedsBeyondMaximum};
+ghost use Rattle.arena_traits.specs.Compressions.{overflows_after_compression};
 ghost use Rattle.chain_links.specs.ChainArena.{link_at, on_value, CanConnect, CanExchange, IsLinkAt};
 ghost use Rattle.chain_links.specs.CallEffects.{GainsLink, IsFull, LosesLink, SucceedsWithinCapacity, YieldsLink};
 ghost use Rattle.chain_links.specs.Kinds.{names_in, MayInsert};
@@ -21,11 +21,11 @@ ghost use Rattle.chain_links.specs.Links.{link_view, borrowed_link};
 ghost use Rattle.chain_laws.specs.Walks.{Walker, walker_at};
 ghost use Rattle.chain_links.specs.Walkers.{IsPassing};
 
-use arena_base::{Advancer, ArenaTrait};
 use arena_ptr::{
     ChainInsertionError, GenKey, InvalidationOption, InvalidationResult, InxKey, PtrKey,
     ReallocationError,
 };
+use arena_traits::{Advancer, ArenaTrait};
 use chain_links::{Link, LinkInsertKind, LinkNoGen};
 
 /// An arena whose entries are links, each in one linear or cyclic chain.

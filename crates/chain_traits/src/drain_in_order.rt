@@ -6,13 +6,13 @@ ghost use Rattle.chain_laws.specs.Chains.{IsWellLinked, prev_of, next_of};
 ghost use Rattle.chain_laws.specs.Removals.{with_removal};
 ghost use Rattle.chain_laws.specs.Walks.{step_forward};
 ghost use Rattle.chain_laws.specs.ChainStart.{IsStart};
-ghost use Rattle.arena_base.specs.Entries.{view_after_removal, AscendsFrom};
-ghost use Rattle.arena_base.specs.declared.cursor.Cursor.{Cursor};
+ghost use Rattle.arena_traits.specs.Entries.{view_after_removal, AscendsFrom};
+ghost use Rattle.arena_traits.specs.declared.cursor.Cursor.{Cursor};
 ghost use Rattle.chain_traits.specs.DrainOrder.{IsNextChain};
 
 use crate::chain_traits::ChainArenaTrait;
-use arena_base::{Advancer, proved_unreachable, with_overflow};
 use arena_ptr::{InvalidationOption, InxKey, PtrKey};
+use arena_traits::{Advancer, proved_unreachable, with_overflow};
 use chain_links::walk_direction::step_on;
 
 // Returns the index of the link before the link at `i`.

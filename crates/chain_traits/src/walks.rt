@@ -1,12 +1,12 @@
 //! Walks along one chain, in any arena of links.
 ghost use Rattle.std.specs.Prelude.{◌≡◌, ◌↔◌, IsSome, IfSome, IfOk, All, map};
 ghost use Rattle.chain_laws.specs.Walks.{IsWalk, passes_ahead, walker_at};
-ghost use Rattle.arena_base.specs.Arena.{IsValid};
-ghost use Rattle.arena_base.specs.Entries.{count};
+ghost use Rattle.arena_traits.specs.Arena.{IsValid};
+ghost use Rattle.arena_traits.specs.Entries.{count};
 
 use crate::chain_traits::ChainArenaTrait;
-use arena_base::Advancer;
 use arena_ptr::{InxKey, PtrKey};
+use arena_traits::Advancer;
 use std::alloc::{AllocError, Global};
 
 /// States that an advancer along the chain of `p` passes the walk from `p`, while the arena stays

@@ -2,7 +2,7 @@
 ghost use Rattle.std.specs.Prelude.{◌↔◌, IsSome};
 ghost use Rattle.chain_laws.specs.Chains.{next_of};
 ghost use Rattle.chain_laws.specs.Removals.{Removes};
-ghost use Rattle.arena_base.specs.Arena.{IsValid};
+ghost use Rattle.arena_traits.specs.Arena.{IsValid};
 
 use arena_ptr::{InvalidationResult, PtrKey};
 use chain_links::LinkNoGen;

@@ -2,9 +2,9 @@
 use Rattle.std.specs.Prelude.{◌≡◌, ℕ, List, Option, None, Some, OnSome}
 use Rattle.std.specs.Option.{option_map}
 use Rattle.std.proofs.Common.{subst, sym}
-use Rattle.arena_base.specs.Advancers.{IsAdvanceUntilNone}
-use Rattle.arena_base.specs.declared.cursor.Cursor.{Cursor}
-use Rattle.arena_base.specs.declared.cursor.Cursor.TheVariants.{Up, Down, Nowhere}
+use Rattle.arena_traits.specs.Advancers.{IsAdvanceUntilNone}
+use Rattle.arena_traits.specs.declared.cursor.Cursor.{Cursor}
+use Rattle.arena_traits.specs.declared.cursor.Cursor.TheVariants.{Up, Down, Nowhere}
 
 pub until_none_after : {P Gen T V : Type 0} (es : List ((ℕ × Gen) × T)) (cursor : Cursor) (key : P → ℕ × Gen) (returned : Option P) (cursor_of : V → Cursor) (mid after : V)
     → OnSome returned (after ≡ mid) → IsAdvanceUntilNone es cursor (option_map key returned) (cursor_of mid) → IsAdvanceUntilNone es cursor (option_map key returned) (cursor_of after)

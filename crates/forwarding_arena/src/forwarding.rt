@@ -2,11 +2,11 @@
 //!
 //! It knows only the contract of that arena, so it is an arena of links by the trait clauses alone.
 
-use arena_base::{Advancer, ArenaTrait, CompactArenaTrait};
 use arena_ptr::{
     AllocError, ChainInsertionError, InvalidationOption, InvalidationResult, PtrKey,
     ReallocationError,
 };
+use arena_traits::{Advancer, ArenaTrait, CompactArenaTrait};
 use chain_links::{Link, LinkInsertKind, LinkNoGen};
 use chain_traits::ChainArenaTrait;
 use std::alloc::Global;
@@ -231,8 +231,8 @@ impl<P: PtrKey, T: Drop, A: ChainArenaTrait<P, T>> ChainArenaTrait<P, T> for For
     ghost use Rattle.std.specs.Prelude.{◌≡◌, ◌≢◌, ◌↔◌, ◌⊎◌, ◌+◌, IsTrue, IfOk, OnOk, IsErr, IfErr, OnErr, Err};
     ghost use Rattle.arena_ptr.specs.declared.errors.ChainInsertionError.TheVariants as failed;
     ghost use Rattle.chain_laws.specs.Chains.{IsWellLinked};
-    ghost use Rattle.arena_base.specs.Arena.{IsCapacityFor};
-    ghost use Rattle.arena_base.specs.Entries.{count, NeedsBeyondMaximum};
+    ghost use Rattle.arena_traits.specs.Arena.{IsCapacityFor};
+    ghost use Rattle.arena_traits.specs.Entries.{count, NeedsBeyondMaximum};
     ghost use Rattle.chain_links.specs.CallEffects.{GainsLink, IsFull, SucceedsWithinCapacity};
     ghost use Rattle.chain_links.specs.Kinds.{names_in, MayInsert};
 

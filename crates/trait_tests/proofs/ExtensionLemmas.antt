@@ -7,9 +7,9 @@ use Rattle.chain_laws.specs.Joins.{with_join, with_lone}
 use Rattle.chain_laws.proofs.JoinLemmas.LoneLinks.{with_lone_adds, next_of-with_lone, prev_of-with_lone}
 use Rattle.chain_laws.proofs.JoinLemmas.Chains.{joined_connects}
 use Rattle.chain_laws.proofs.ChainLemmas.Uniqueness.{chain_valid}
-use Rattle.arena_base.specs.Arena.{IsValid}
-use Rattle.arena_base.specs.Entries.{found, without_index, AscendsFrom}
-use Rattle.arena_base.proofs.EntrySearchLemmas.{found-gone, found-kept}
+use Rattle.arena_traits.specs.Arena.{IsValid}
+use Rattle.arena_traits.specs.Entries.{found, without_index, AscendsFrom}
+use Rattle.arena_traits.proofs.EntrySearchLemmas.{found-gone, found-kept}
 use Rattle.trait_tests.specs.Extensions.{Extends}
 use Rattle.chain_links.specs.ChainArena.{IsInserted, CanConnect}
 

@@ -1,6 +1,6 @@
 // Inherent calls of arenas as rows of tables, generic over the types of pointers and slots.
 ghost use Rattle.std.specs.Prelude.{◌≤◌, ◌↔◌, IsTrue, IsSome};
-ghost use Rattle.arena_base.specs.Arena.{slot_at};
+ghost use Rattle.arena_traits.specs.Arena.{slot_at};
 
 use crate::tests::entries::enter;
 use crate::tests::pointers::Numbered;

@@ -3,7 +3,7 @@
 ghost use Rattle.std.specs.Prelude.{◌≡◌, [], length};
 ghost use Rattle.std.specs.Iterator.{IsFinite};
 ghost use Rattle.arena_ptr.specs.Generations.{after32};
-ghost use Rattle.arena_base.specs.Entries.{entries};
+ghost use Rattle.arena_traits.specs.Entries.{entries};
 ghost use Rattle.chain_links.specs.ChainArena.{values_of};
 ghost use Rattle.chain_arena.specs.Drains.{CountsUp};
 

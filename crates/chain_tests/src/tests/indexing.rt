@@ -2,7 +2,7 @@
 
 ghost use Rattle.std.specs.Prelude.{◌≡◌};
 ghost use Rattle.arena_ptr.specs.ToolPtr.{key_of};
-ghost use Rattle.arena_base.specs.Arena.{IsValid};
+ghost use Rattle.arena_traits.specs.Arena.{IsValid};
 ghost use Rattle.chain_links.specs.ChainArena.{entry, with_value_at};
 
 use super::{ChainsOver, Slot};

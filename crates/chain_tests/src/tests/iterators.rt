@@ -2,7 +2,7 @@
 
 ghost use Rattle.std.specs.Prelude.{◌≡◌, IfOk, map};
 ghost use Rattle.arena_ptr.specs.Indexes.{number_of_inx32};
-ghost use Rattle.arena_base.specs.Entries.{entries, index_of};
+ghost use Rattle.arena_traits.specs.Entries.{entries, index_of};
 
 use super::{ChainsOver, Slot, fresh, text, text_of_all};
 use arena_base::Iter;

@@ -4,7 +4,7 @@ ghost use Rattle.std.specs.Prelude.{◌≡◌, ◌↔◌, ℕ, IsSome, IfSome, I
 ghost use Rattle.chain_laws.specs.Chains.{next_of};
 ghost use Rattle.chain_laws.specs.Neighbors.{HasOneSetOfChains};
 ghost use Rattle.chain_laws.specs.Joins.{with_join, with_lone};
-ghost use Rattle.arena_base.specs.Arena.{IsValid};
+ghost use Rattle.arena_traits.specs.Arena.{IsValid};
 ghost use Rattle.trait_tests.specs.Extensions.{Extends};
 ghost use Rattle.chain_links.specs.ChainArena.{IsInserted};
 

@@ -2,7 +2,7 @@
 use Rattle.std.proofs.Common.{◌≡◌, ◌+◌, ◌≤◌, length, refl, sym, ap, ◌∙◌, arith, of_calls}
 use Rattle.arena_base.specs.GatheredSlots.{with_totals}
 use Rattle.std.specs.Option.{option_copied_mut}
-use Rattle.arena_base.specs.Arena.{slot_at}
+use Rattle.arena_traits.specs.Arena.{slot_at}
 use Rattle.arena_base.proofs.HoleClosingLemmas.{none_there, closing_length, closing_begins, closing_free, brought_stored, closing_frees, closing_brings, closing_visits, closing_counts, closing_closes, closing_packs, totals_begin, totals_read, totals_brought}
 use Rattle.arena_base.proofs.compress.compact_entries.Goals.{in-Some+in-Some-value_mut, in_default}
 use Rattle.arena_base.proofs.compress.compact_entries.Goals as goal
@@ -30,8 +30,8 @@ move_entry-requires-clause-free g c differs =
     closing_free g.F.FnMut g.P.PtrKey.key c.args.generation c.args.map c.args.compactor.now.held.slots c.loop-k.k c.loop-k.count c.loop-k.map c.loop-k.compactor.held.slots c.loop-k.invariant.closing
     (g.P.Inx.InxKey.number c.inx_at-from.result) (g.P.Inx.InxKey.number c.inx_at-to.result) c.inx_at-from.ensures c.inx_at-to.ensures differs
 
-pub assume_proved-requires : goal.assume_proved-requires
-assume_proved-requires g c = absurd (
+pub proved_unreachable-assume_proved-requires : goal.proved_unreachable-assume_proved-requires
+proved_unreachable-assume_proved-requires g c = absurd (
     let number = g.P.Inx.InxKey.number in
     let old = c.args.compactor.now.held.slots in
     brought_stored g.F.FnMut g.P.PtrKey.key c.args.generation c.args.map old c.loop-k.k c.loop-k.count c.loop-k.map c.loop-k.compactor.held.slots c.loop-k.invariant.closing (omega arith)

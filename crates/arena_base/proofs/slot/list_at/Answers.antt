@@ -3,8 +3,8 @@ use Rattle.std.proofs.Common.{◌≡◌, None, Some, ◌∙◌, ap}
 use Rattle.arena_base.proofs.FreeListLemmas.{there}
 use Rattle.arena_base.proofs.slot.list_at.Goals as goal
 
-pub assume_proved-requires : goal.assume_proved-requires
-assume_proved-requires g c = absurd (
+pub proved_unreachable-assume_proved-requires : goal.proved_unreachable-assume_proved-requires
+proved_unreachable-assume_proved-requires g c = absurd (
     let slot = there (g.S.SlotStack.items c.args.slots.now) c.args.k c.requires.in_bounds in
     let both : None ≡ Some slot.0 = c.in-None.ensures.value ∙ slot.1 in cc)
 

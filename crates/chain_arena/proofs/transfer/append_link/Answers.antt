@@ -1,6 +1,6 @@
 use Rattle.std.proofs.Common.{◌≡◌, ◌+◌, sym, ◌∙◌, subst}
 use Rattle.chain_laws.specs.Transfer.{end_before, end_after}
-use Rattle.arena_base.specs.Arena.{next_index}
+use Rattle.arena_traits.specs.Arena.{next_index}
 use Rattle.chain_arena.specs.Transfers.{AreEnds}
 use Rattle.chain_arena.proofs.NewLinkLemmas.{inserted_between}
 use Rattle.chain_arena.proofs.transfer.append_link.Goals as goal

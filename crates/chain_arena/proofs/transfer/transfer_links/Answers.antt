@@ -2,8 +2,8 @@
 use Rattle.std.proofs.Common.{◌≡◌, ◌+◌, ℕ, true, Option, None, Some, refl, sym, ap, ◌∙◌, subst, length, arith, of_calls}
 use Rattle.std.specs.Prelude.{is_some, IfSome}
 use Rattle.std.specs.Option.{option_map}
-use Rattle.arena_base.specs.Arena.{Arena, next_index}
-use Rattle.arena_base.specs.Entries.{found}
+use Rattle.arena_traits.specs.Arena.{Arena, next_index}
+use Rattle.arena_traits.specs.Entries.{found}
 use Rattle.chain_arena.specs.Transfers.{AreEnds}
 use Rattle.chain_traits.proofs.GenericArenaLemmas.{links_within}
 use Rattle.chain_arena.proofs.TransferLoopLemmas.{IsCarrying, carrying_begins, agrees_left, cursor_up, some_left, stored_on, carries_next_link, next_index_at, bounds_at, position_at, capacity_at, carries_link, carries_all}

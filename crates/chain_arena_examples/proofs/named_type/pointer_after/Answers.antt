@@ -3,7 +3,7 @@ use Rattle.std.proofs.Common.{◌≡◌, Some, sym, ap, ◌∙◌, subst}
 use Rattle.std.specs.Prelude.{IfSome, is_some}
 use Rattle.chain_laws.specs.Chains.{next_of}
 use Rattle.chain_laws.proofs.ChainLemmas.LinkedLists.{prev_valid}
-use Rattle.arena_base.specs.Arena.{IsValid}
+use Rattle.arena_traits.specs.Arena.{IsValid}
 use Rattle.arena_ptr.specs.ToolPtr.{key_of}
 use Rattle.chain_links.specs.ChainArena.{entry, link_map}
 use Rattle.chain_linking.specs.ChainArenaLaws.{links_exist}

@@ -1,6 +1,6 @@
 -- `number_all` numbers the next chain, or passes a slot where none begins.
 use Rattle.std.proofs.Common.{◌+◌, ◌-◌, ◌∙◌, length, refl, ap, arith}
-use Rattle.arena_base.specs.Arena.{slot_at}
+use Rattle.arena_traits.specs.Arena.{slot_at}
 use Rattle.chain_compaction.proofs.SlotCountLemmas.{at_end}
 use Rattle.chain_compaction.proofs.DetachedLinkLemmas.{work-touched, work-more}
 use Rattle.chain_compaction.proofs.LinkLoanLemmas.{same_then, counts_on}

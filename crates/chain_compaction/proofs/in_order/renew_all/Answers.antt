@@ -1,6 +1,6 @@
 -- `renew_all` sets the generation of one more link, and the visitor sees it.
 use Rattle.std.proofs.Common.{◌≡◌, ◌+◌, ◌*◌, length, refl, arith}
-use Rattle.arena_base.specs.Arena.{slot_at}
+use Rattle.arena_traits.specs.Arena.{slot_at}
 use Rattle.chain_links.specs.ChainArena.{ptr_at}
 use Rattle.chain_compaction.proofs.ChainDestinationLemmas.{reports_none}
 use Rattle.chain_compaction.proofs.DetachedLinkLemmas.{work-none, work-touched, work-with_placed_entry, work-more}

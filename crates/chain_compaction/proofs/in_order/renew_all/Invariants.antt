@@ -1,7 +1,7 @@
 -- The links up to k have the generation, and the visitor has seen them.
 use Rattle.std.proofs.Common.{◌≡◌, ◌*◌}
 use Rattle.std.specs.List.{range_with_len}
-use Rattle.arena_base.specs.Arena.{slot_at}
+use Rattle.arena_traits.specs.Arena.{slot_at}
 use Rattle.chain_links.specs.ChainArena.{ptr_at}
 use Rattle.chain_compaction.specs.DetachedLinks.{IsWork}
 use Rattle.chain_compaction.specs.Layouts.{ReportsMoves}

@@ -1,6 +1,6 @@
 -- `settle_each` moves the link at one more slot, and lists the slot if a link may still wait there.
 use Rattle.std.proofs.Common.{◌≡◌, ◌∙◌, ◌+◌, ◌-◌, ℕ, false, List, sym, ap, subst, arith}
-use Rattle.arena_base.specs.Arena.{slot_at}
+use Rattle.arena_traits.specs.Arena.{slot_at}
 use Rattle.chain_compaction.specs.Permutations.{IsInBlock, ListsWaiting, waiting_count, destination_of, Settles, IsWorkOn}
 use Rattle.chain_compaction.proofs.BlockTurnLemmas.{listing_skips, listing_grows, touches_add, touches_skip, next_in_block, below_64}
 use Rattle.chain_compaction.proofs.PermutationStepLemmas.{settling_continues}

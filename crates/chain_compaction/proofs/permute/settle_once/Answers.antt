@@ -2,7 +2,7 @@
 use Rattle.std.proofs.Common.{◌≡◌, ℕ, Bool, true, false, Some, refl, sym, ap, ◌∙◌, subst, arith}
 use Rattle.std.specs.Prelude.{not}
 use Rattle.std.specs.Option.{option_map}
-use Rattle.arena_base.specs.Arena.{slot_at}
+use Rattle.arena_traits.specs.Arena.{slot_at}
 use Rattle.arena_base.specs.DetachedSlots.{with_placed_entry}
 use Rattle.chain_compaction.specs.Permutations.{Waits, IsSettling, waiting_count, destination_of, Settles, IsWorkOn}
 use Rattle.chain_compaction.specs.Destinations.{destination_at}

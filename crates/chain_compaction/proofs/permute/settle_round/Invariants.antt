@@ -1,6 +1,6 @@
 -- The moves so far, the positions that are left, and the work.
 use Rattle.std.proofs.Common.{◌≡◌, ◌≤◌, ◌+◌, ◌-◌}
-use Rattle.arena_base.specs.Arena.{slot_at}
+use Rattle.arena_traits.specs.Arena.{slot_at}
 use Rattle.chain_compaction.specs.WorkCounts.{CountsWork}
 use Rattle.chain_compaction.specs.Permutations.{IsInBlock, IsSettling, ListsWaiting, waiting_count, destination_of, Settles, IsWorkOn}
 use Rattle.chain_compaction.proofs.permute.settle_round.Given as goal

@@ -1,6 +1,6 @@
 -- `read_link` touches one slot, and returns what the entry contains.
 use Rattle.std.proofs.Common.{◌∙◌}
-use Rattle.arena_base.specs.Arena.{slot_at}
+use Rattle.arena_traits.specs.Arena.{slot_at}
 use Rattle.chain_compaction.proofs.SlotReadLemmas.{has_read, entry_reported, nothing_reported}
 use Rattle.chain_compaction.proofs.slot_access.read_link.Goals as goal
 

@@ -3,7 +3,7 @@ use Rattle.std.proofs.Common.{◌≡◌, ◌∙◌, ap, sym, subst, ℕ, Some}
 use Rattle.std.specs.Option.{option_map, option_and_then}
 use Rattle.chain_laws.specs.Chains.{next_of}
 use Rattle.chain_links.specs.ChainArena.{ptr_at}
-use Rattle.arena_base.specs.Arena.{IsValid}
+use Rattle.arena_traits.specs.Arena.{IsValid}
 use Rattle.chain_examples.proofs.QueueOrderLemmas.{next_is}
 use Rattle.chain_examples.proofs.queue.after.Goals as goal
 

@@ -1,7 +1,7 @@
 -- Proof by cases on the second task in turn.
 use Rattle.std.proofs.Common.{◌≡◌, ◌∙◌, ap, sym, ◌∷◌, ◌++◌, [], Some}
 use Rattle.std.specs.Option.{option_map}
-use Rattle.arena_base.specs.Entries.{first_key}
+use Rattle.arena_traits.specs.Entries.{first_key}
 use Rattle.chain_examples.proofs.QueueOrderLemmas.{after_alone, after_other, some_second}
 use Rattle.chain_examples.proofs.queue.other_after.Goals as goal
 

@@ -3,7 +3,7 @@ use Rattle.std.proofs.Common.{◌≡◌, ℕ, Option, None, Some, refl, sym, ap,
 use Rattle.std.specs.Prelude.{IfSome, is_some}
 use Rattle.chain_laws.specs.Chains.{next_of}
 use Rattle.chain_laws.proofs.ChainLemmas.LinkedLists.{prev_valid}
-use Rattle.arena_base.specs.Arena.{IsValid}
+use Rattle.arena_traits.specs.Arena.{IsValid}
 use Rattle.chain_traits.proofs.NeighborPointerLemmas.{was_read, none_read}
 use Rattle.chain_examples.proofs.tutorial.after.Goals as goal
 

@@ -4,7 +4,7 @@ use Rattle.std.proofs.lemmas.Bool.{false≢true}
 use Rattle.chain_laws.specs.Chains.{HasLink}
 use Rattle.chain_laws.specs.Joins.{with_next_at, with_prev_at}
 use Rattle.chain_links.specs.Links.{links_view}
-use Rattle.arena_base.specs.Arena.{Arena}
+use Rattle.arena_traits.specs.Arena.{Arena}
 use Rattle.chain_links.specs.ChainArena.{LinkView, with_link_map, link_map}
 use Rattle.chain_linking.proofs.ConnectionLemmas.{named_may, named_may_not, taken_back}
 use Rattle.chain_linking.proofs.NeighborLemmas.{valid_link}

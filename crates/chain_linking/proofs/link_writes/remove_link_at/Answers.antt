@@ -3,8 +3,8 @@ use Rattle.std.proofs.Common.{of_calls, ◌≡◌, None, Some, sym, ap, ◌∙�
 use Rattle.std.specs.Prelude.{is_some}
 use Rattle.std.specs.Option.{option_map}
 use Rattle.arena_ptr.specs.Invalidation.{value_within}
-use Rattle.arena_base.specs.Arena.{entry_at}
-use Rattle.arena_base.proofs.ArenaViewLemmas.{value_within-made}
+use Rattle.arena_traits.specs.Arena.{entry_at}
+use Rattle.arena_traits.proofs.ArenaViewLemmas.{value_within-made}
 use Rattle.chain_links.specs.Links.{links_view, link_view, pair_view}
 use Rattle.chain_links.proofs.LinkStateLemmas.{entry_at-links_view}
 use Rattle.chain_links.proofs.MappedArenaLemmas.{with_each-remove_at}

@@ -4,7 +4,7 @@ use Rattle.std.specs.Option.{option_map, option_copied_mut}
 use Rattle.chain_laws.specs.Joins.{with_prev}
 use Rattle.arena_ptr.specs.declared.packed_option.PackedOption.{PackedOption}
 use Rattle.chain_links.specs.declared.links.LinkBody.{LinkBody}
-use Rattle.arena_base.specs.Arena.{with_value}
+use Rattle.arena_traits.specs.Arena.{with_value}
 use Rattle.chain_links.specs.Links.{links_view, link_view}
 use Rattle.chain_links.specs.ChainArena.{interlinks_in, with_interlinks}
 use Rattle.chain_linking.proofs.NeighborLemmas.{nothing_named}

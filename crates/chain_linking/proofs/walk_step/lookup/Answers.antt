@@ -1,7 +1,7 @@
 -- The pointer to the link at an index is valid.
 use Rattle.std.proofs.Common.{◌≡◌, of_calls, refl, ap, ◌∙◌, sym, subst}
 use Rattle.std.specs.Option.{option_map}
-use Rattle.arena_base.specs.Arena.{IsValid}
+use Rattle.arena_traits.specs.Arena.{IsValid}
 use Rattle.chain_links.specs.ChainArena.{entry}
 use Rattle.chain_links.specs.Links.{link_view, links_view, pair_view}
 use Rattle.chain_links.proofs.LinkStateLemmas.{entry_at-links_view}

@@ -1,6 +1,6 @@
 -- The passed pointers are the walk, of which nothing is left.
 use Rattle.std.proofs.Common.{◌≡◌, None, refl, sym, ap, ◌∙◌, subst, arith}
-use Rattle.arena_base.specs.Arena.{IsValid}
+use Rattle.arena_traits.specs.Arena.{IsValid}
 use Rattle.chain_laws.specs.Walks.{IsWalk, passes_ahead}
 use Rattle.chain_laws.proofs.WalkLemmas.Steps.{first_ahead, step_left}
 use Rattle.chain_traits.proofs.AdvancerWalkLemmas.{all_with_last, walk_whole, passed_on}

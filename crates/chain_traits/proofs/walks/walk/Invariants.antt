@@ -1,7 +1,7 @@
 -- The passed pointers and those ahead are together the walk.
 use Rattle.std.proofs.Common.{◌≡◌, ◌++◌, map}
 use Rattle.std.specs.Prelude.{All}
-use Rattle.arena_base.specs.Arena.{IsValid}
+use Rattle.arena_traits.specs.Arena.{IsValid}
 use Rattle.chain_laws.specs.Walks.{passes_ahead}
 use Rattle.chain_traits.proofs.walks.walk.Given as goal
 

@@ -1,6 +1,6 @@
 -- The entries ahead start or end at a position.
 use Rattle.std.proofs.Common.{◌∙◌, ap}
-use Rattle.arena_base.specs.Entries.{first_key, last_key}
+use Rattle.arena_traits.specs.Entries.{first_key, last_key}
 use Rattle.arena_base.proofs.EntryRangeLemmas.{ahead_up, ahead_down}
 use Rattle.arena_base.proofs.arena.Arena.find.Goals as goal
 

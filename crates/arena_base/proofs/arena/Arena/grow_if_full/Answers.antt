@@ -1,6 +1,6 @@
 -- An arena that is not full has fewer entries than its capacity.
 use Rattle.std.proofs.Common.{◌≡◌, ◌<◌, false, true, sym, ◌∙◌, refl, inl, arith}
-use Rattle.arena_base.specs.Arena.{entry_count}
+use Rattle.arena_traits.specs.Arena.{entry_count}
 use Rattle.arena_base.proofs.arena.Arena.grow_if_full.Goals as goal
 
 pub returns-else-is_full : goal.returns-else-is_full

@@ -1,6 +1,6 @@
 -- The entry is inserted after growth.
 use Rattle.std.proofs.Common.{◌≡◌, ◌+◌, Result, Err, false, true, refl, ap, ◌∙◌}
-use Rattle.arena_base.specs.Arena.{entry_count, next_index, insert_next}
+use Rattle.arena_traits.specs.Arena.{entry_count, next_index, insert_next}
 use Rattle.arena_base.proofs.ArenaModelLemmas.{inserted_grown, capacity_grown}
 use Rattle.arena_base.proofs.arena.Arena.insert_reallocating.Goals as goal
 

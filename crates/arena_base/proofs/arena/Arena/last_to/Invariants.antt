@@ -1,6 +1,6 @@
 -- No entry is between this position and the last one.
 use Rattle.std.proofs.Common.{◌≡◌, take}
-use Rattle.arena_base.specs.Entries.{entries_from, last_key}
+use Rattle.arena_traits.specs.Entries.{entries_from, last_key}
 use Rattle.arena_base.proofs.arena.Arena.last_to.Given as goal
 
 abbrev pub invariant-loop-k : goal.invariant-loop-k

@@ -1,9 +1,9 @@
 -- No slot remains.
 use Rattle.std.proofs.Common.{ap, ◌∙◌}
-use Rattle.arena_base.specs.Arena.{arena_after_clear}
+use Rattle.arena_traits.specs.Arena.{arena_after_clear}
 use Rattle.arena_base.specs.Slots.{freed_of}
-use Rattle.arena_base.specs.Entries.{view_of}
-use Rattle.arena_base.proofs.ArenaViewLemmas.{length-entries, viewed_cleared}
+use Rattle.arena_traits.specs.Entries.{view_of}
+use Rattle.arena_traits.proofs.ArenaViewLemmas.{length-entries, viewed_cleared}
 use Rattle.arena_base.proofs.SoundnessLemmas.{none_sound}
 use Rattle.arena_base.proofs.ArenaModelLemmas.{cleared_view}
 use Rattle.arena_base.proofs.arena_trait.ArenaArenaTrait.clear.Goals as goal

@@ -1,7 +1,7 @@
 -- The entries are compacted, each with the counter that was set before.
 use Rattle.std.proofs.Common.{refl, ap, ◌∙◌, length}
-use Rattle.arena_base.specs.Entries.{entries}
-use Rattle.arena_base.specs.Compressions.{counter_after_compression}
+use Rattle.arena_traits.specs.Entries.{entries}
+use Rattle.arena_traits.specs.Compressions.{counter_after_compression}
 use Rattle.arena_base.proofs.CompactedArenaLemmas.{compressing, compressing_visits}
 use Rattle.arena_base.proofs.arena_trait.ArenaArenaTrait.compress_with.Goals as goal
 

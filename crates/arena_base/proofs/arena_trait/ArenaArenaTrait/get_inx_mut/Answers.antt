@@ -1,12 +1,12 @@
 -- The arena gets the value written to the lent slot.
 use Rattle.std.proofs.Common.{refl, sym, ◌∙◌, ap}
 use Rattle.std.specs.Option.{option_map}
-use Rattle.arena_base.specs.Arena.{with_value}
+use Rattle.arena_traits.specs.Arena.{with_value}
 use Rattle.arena_base.specs.Slots.{entry_in, with_value_in}
-use Rattle.arena_base.specs.Entries.{view_of}
+use Rattle.arena_traits.specs.Entries.{view_of}
 use Rattle.arena_base.proofs.SlotLemmas.{entry_at-position, slice_set-itself}
 use Rattle.arena_base.proofs.SoundnessLemmas.{lent, closed}
-use Rattle.arena_base.proofs.ArenaViewLemmas.{viewed_written}
+use Rattle.arena_traits.proofs.ArenaViewLemmas.{viewed_written}
 use Rattle.arena_base.proofs.ArenaModelLemmas.{lent_view, kept_view}
 use Rattle.arena_ptr.proofs.OptionLemmas.{on_some}
 use Rattle.arena_base.proofs.arena_trait.ArenaArenaTrait.get_inx_mut.Goals as goal

@@ -1,6 +1,6 @@
 -- The view follows from the arena.
 use Rattle.std.proofs.Common.{Some, refl}
-use Rattle.arena_base.proofs.ArenaViewLemmas.{renewed_key, value_within-made}
+use Rattle.arena_traits.proofs.ArenaViewLemmas.{renewed_key, value_within-made}
 use Rattle.arena_base.proofs.arena_trait.ArenaArenaTrait.invalidate.Goals as goal
 
 pub returns-clause-valid : goal.returns-clause-valid

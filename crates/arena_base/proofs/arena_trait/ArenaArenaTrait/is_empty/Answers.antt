@@ -1,7 +1,7 @@
 -- There are no entries exactly if none are counted.
 use Rattle.std.proofs.Common.{◌≡◌, length, sym, ◌∙◌, ap, eq-eqb, rules}
-use Rattle.arena_base.specs.Arena.{entry_count}
-use Rattle.arena_base.proofs.ArenaViewLemmas.{length-entries, no_entries}
+use Rattle.arena_traits.specs.Arena.{entry_count}
+use Rattle.arena_traits.proofs.ArenaViewLemmas.{length-entries, no_entries}
 use Rattle.arena_base.proofs.arena_trait.ArenaArenaTrait.is_empty.Goals as goal
 
 pub returns : goal.returns

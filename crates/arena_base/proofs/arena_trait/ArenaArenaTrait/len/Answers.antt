@@ -4,7 +4,7 @@ use Rattle.std.proofs.lemmas.List.{length-map}
 use Rattle.arena_base.specs.Slots.{entry_of}
 use Rattle.arena_base.proofs.FreeListLemmas.{listed}
 use Rattle.arena_base.proofs.SlotPartitionLemmas.{entries_within, they_fill, capacity_for}
-use Rattle.arena_base.proofs.ArenaViewLemmas.{length-entries_from}
+use Rattle.arena_traits.proofs.ArenaViewLemmas.{length-entries_from}
 use Rattle.arena_base.proofs.arena_trait.ArenaArenaTrait.len.Goals as goal
 
 pub returns : goal.returns

@@ -1,6 +1,6 @@
 -- Only the capacity grows.
 use Rattle.std.proofs.Common.{ap, arith}
-use Rattle.arena_base.specs.Entries.{view_of}
+use Rattle.arena_traits.specs.Entries.{view_of}
 use Rattle.arena_base.proofs.SlotCopyLemmas.{on_ok}
 use Rattle.arena_base.proofs.arena_trait.ArenaArenaTrait.reallocate_min_capacity.Goals as goal
 

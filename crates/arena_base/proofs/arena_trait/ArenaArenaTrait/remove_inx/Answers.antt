@@ -1,7 +1,7 @@
 -- The view follows from the arena.
 use Rattle.std.proofs.Common.{◌∙◌, ap}
-use Rattle.arena_base.specs.Entries.{view_of}
-use Rattle.arena_base.proofs.ArenaViewLemmas.{viewed_removed}
+use Rattle.arena_traits.specs.Entries.{view_of}
+use Rattle.arena_traits.proofs.ArenaViewLemmas.{viewed_removed}
 use Rattle.arena_base.proofs.arena_trait.ArenaArenaTrait.remove_inx.Goals as goal
 
 pub returns-clause-valid : goal.returns-clause-valid

@@ -4,8 +4,8 @@ use Rattle.arena_base.proofs.DetachedSlotLemmas.{held_brought, brought_there, br
 use Rattle.arena_base.proofs.SlotLemmas.{slice_index_or-map}
 use Rattle.arena_base.proofs.detached_slots.DetachedSlots.bring.Goals as goal
 
-pub assume_proved-requires : goal.assume_proved-requires
-assume_proved-requires g c = absurd (
+pub proved_unreachable-assume_proved-requires : goal.proved_unreachable-assume_proved-requires
+proved_unreachable-assume_proved-requires g c = absurd (
     let items = g.S.SlotStack.items c.self.inside.slots in
     brought_there items c.args.self.now.slots (ap (λ h. h.slots) c.self.view_is) c.position_of.result (g.P.Inx.InxKey.number c.args.from) c.position_of.ensures c.in-None.ensures.entry c.requires.entry)
 

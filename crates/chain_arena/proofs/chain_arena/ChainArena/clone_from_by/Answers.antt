@@ -1,7 +1,7 @@
 -- The links made from the source's links name the same neighbors.
 use Rattle.std.proofs.Common.{◌≤◌, ap, subst, sym}
 use Rattle.chain_laws.specs.Chains.{IsWellLinked}
-use Rattle.arena_base.specs.Arena.{IsWithinReach}
+use Rattle.arena_traits.specs.Arena.{IsWithinReach}
 use Rattle.arena_base.proofs.SlotCopyLemmas.{either_as, on_err_either, on_ok_both}
 use Rattle.chain_links.specs.ChainArena.{link_map}
 use Rattle.chain_links.specs.Links.{link_view, links_view}

@@ -2,8 +2,8 @@
 use Rattle.std.proofs.Common.{◌≡◌, ℕ, ap, sym, ◌∙◌, subst, arith}
 use Rattle.std.specs.Option.{option_map}
 use Rattle.arena_ptr.specs.Invalidation.{value_within}
-use Rattle.arena_base.specs.Arena.{entry_at}
-use Rattle.arena_base.specs.Entries.{view_after_removal}
+use Rattle.arena_traits.specs.Arena.{entry_at}
+use Rattle.arena_traits.specs.Entries.{view_after_removal}
 use Rattle.chain_links.specs.ChainArena.{value_view, values_of, remove_link}
 use Rattle.chain_arena.proofs.ChainDrainLemmas.{nonzero_index-is}
 use Rattle.chain_arena.proofs.LinkRemovalLemmas.{value_alone_known, viewed_at, removal_at}

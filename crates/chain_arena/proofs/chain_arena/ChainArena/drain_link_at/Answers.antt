@@ -2,8 +2,8 @@
 use Rattle.std.proofs.Common.{◌≡◌, ℕ, Option, Some, ap, sym, ◌∙◌, subst, arith, of_calls}
 use Rattle.std.specs.Option.{option_map}
 use Rattle.arena_ptr.specs.Invalidation.{value_within, invalidation_option}
-use Rattle.arena_base.specs.Arena.{entry_at}
-use Rattle.arena_base.specs.Entries.{view_after_removal}
+use Rattle.arena_traits.specs.Arena.{entry_at}
+use Rattle.arena_traits.specs.Entries.{view_after_removal}
 use Rattle.chain_links.specs.ChainArena.{entry, value_view, values_of, remove_link}
 use Rattle.chain_arena.proofs.LinkRemovalLemmas.{value_known, value_alone_known, viewed_at, removal_at}
 use Rattle.chain_arena.proofs.LinkDrainLemmas.{drained_first, first_valid, stored_first, overflow_known, IsBehind, is_behind}

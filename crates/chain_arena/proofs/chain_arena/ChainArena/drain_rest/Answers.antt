@@ -1,7 +1,7 @@
 -- Each step keeps the arena that removing the remaining links gives.
 use Rattle.std.proofs.Common.{◌≡◌, rules, refl, ap, map, ◌∙◌, subst}
 use Rattle.std.proofs.lemmas.List.{length-map}
-use Rattle.arena_base.specs.Entries.{entries, index_of}
+use Rattle.arena_traits.specs.Entries.{entries, index_of}
 use Rattle.chain_links.specs.ChainArena.{values_of}
 use Rattle.chain_arena.specs.Drains.{entries_left, without_each, CountsUp}
 use Rattle.chain_arena.proofs.ChainDrainLemmas.{without_each-counts}

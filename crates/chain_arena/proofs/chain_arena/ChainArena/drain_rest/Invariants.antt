@@ -1,6 +1,6 @@
 -- Removing the remaining links gives the arena that removing all links gives.
 use Rattle.std.proofs.Common.{◌≡◌, length, map}
-use Rattle.arena_base.specs.Entries.{index_of}
+use Rattle.arena_traits.specs.Entries.{index_of}
 use Rattle.chain_arena.specs.Drains.{entries_left, without_each}
 use Rattle.chain_arena.proofs.chain_arena.ChainArena.drain_rest.Given as goal
 

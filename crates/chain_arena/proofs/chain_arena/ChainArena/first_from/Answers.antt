@@ -1,6 +1,6 @@
 -- From a number that is no index, no link is left.
 use Rattle.std.proofs.Common.{ap, sym}
-use Rattle.arena_base.specs.Entries.{first_key}
+use Rattle.arena_traits.specs.Entries.{first_key}
 use Rattle.chain_arena.proofs.LinkDrainLemmas.{none_left}
 use Rattle.chain_arena.proofs.chain_arena.ChainArena.first_from.Goals as goal
 

@@ -3,7 +3,7 @@ use Rattle.std.proofs.Common.{◌≡◌, ◌<◌, refl, sym, ap, subst, arith}
 use Rattle.chain_laws.specs.Chains.{IsWellLinked}
 use Rattle.chain_laws.specs.Insertions.{IsInsertPosition}
 use Rattle.chain_laws.proofs.InsertionLemmas.Pairs.{position_between}
-use Rattle.arena_base.specs.Arena.{entry_count, next_index}
+use Rattle.arena_traits.specs.Arena.{entry_count, next_index}
 use Rattle.chain_links.specs.Links.{links_view}
 use Rattle.chain_linking.specs.InsertPositions.{before_in, after_in}
 use Rattle.chain_links.specs.ChainArena.{link_map, insert_between}

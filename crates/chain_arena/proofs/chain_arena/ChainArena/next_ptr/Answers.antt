@@ -1,6 +1,6 @@
 -- The pointer is that of the next link.
 use Rattle.std.proofs.Common.{ap, ◌∙◌}
-use Rattle.arena_base.specs.Arena.{next_index}
+use Rattle.arena_traits.specs.Arena.{next_index}
 use Rattle.chain_arena.proofs.NewLinkLemmas.{next_viewed}
 use Rattle.chain_arena.proofs.chain_arena.ChainArena.next_ptr.Goals as goal
 

@@ -3,7 +3,7 @@ use Rattle.std.proofs.Common.{of_calls, arith, ◌≡◌, ℕ, ◌<◌, List, �
 use Rattle.std.specs.Prelude.{◌-◌}
 use Rattle.std.specs.Option.{option_map}
 use Rattle.std.proofs.lemmas.Bool.{false≢true}
-use Rattle.arena_base.specs.Arena.{entry_at}
+use Rattle.arena_traits.specs.Arena.{entry_at}
 use Rattle.chain_laws.proofs.InterlinkLemmas.Inverses.{one_some}
 use Rattle.chain_links.specs.ChainArena.{LinkView}
 use Rattle.chain_links.specs.Links.{link_view, links_view}

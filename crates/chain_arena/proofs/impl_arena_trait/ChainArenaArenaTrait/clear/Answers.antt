@@ -1,8 +1,8 @@
 -- `clear` leaves no link.
 use Rattle.std.proofs.Common.{ap, sym, ◌∙◌}
 use Rattle.arena_ptr.specs.Invalidation.{invalidation_option}
-use Rattle.arena_base.specs.Arena.{overflows_after_clear}
-use Rattle.arena_base.proofs.ArenaViewLemmas.{length-entries}
+use Rattle.arena_traits.specs.Arena.{overflows_after_clear}
+use Rattle.arena_traits.proofs.ArenaViewLemmas.{length-entries}
 use Rattle.chain_links.proofs.ArenaInsertionLemmas.{count-values}
 use Rattle.chain_arena.proofs.EntryWriteLemmas.{cleared-view_after}
 use Rattle.chain_arena.proofs.impl_arena_trait.ChainArenaArenaTrait.clear.Goals as goal

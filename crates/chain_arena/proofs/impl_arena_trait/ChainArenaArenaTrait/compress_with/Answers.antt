@@ -1,9 +1,9 @@
 -- The links are moved to the front, each with the counter, which was set before.
 use Rattle.std.proofs.Common.{length, refl, ap, sym, ◌∙◌}
 use Rattle.arena_ptr.specs.Invalidation.{invalidation_option}
-use Rattle.arena_base.specs.Entries.{entries}
-use Rattle.arena_base.specs.Compressions.{overflows_after_compression}
-use Rattle.arena_base.proofs.ArenaViewLemmas.{length-entries}
+use Rattle.arena_traits.specs.Entries.{entries}
+use Rattle.arena_traits.specs.Compressions.{overflows_after_compression}
+use Rattle.arena_traits.proofs.ArenaViewLemmas.{length-entries}
 use Rattle.chain_links.specs.Links.{links_view}
 use Rattle.chain_arena.proofs.ArenaCompressionLemmas.{links_compressed, links_visited, positions_closed, links_agree}
 use Rattle.chain_links.proofs.ArenaInsertionLemmas.{count-values}

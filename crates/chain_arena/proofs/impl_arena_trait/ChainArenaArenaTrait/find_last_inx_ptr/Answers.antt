@@ -1,6 +1,6 @@
 -- The same pointers are valid as in the arena of links.
 use Rattle.std.proofs.Common.{ap, sym, ◌∙◌}
-use Rattle.arena_base.specs.Entries.{entries, last_key}
+use Rattle.arena_traits.specs.Entries.{entries, last_key}
 use Rattle.chain_links.specs.Links.{held_in}
 use Rattle.chain_compaction.proofs.ValueViewLemmas.{last-with_each, values_of-links_view}
 use Rattle.chain_arena.proofs.impl_arena_trait.ChainArenaArenaTrait.find_last_inx_ptr.Goals as goal

@@ -1,6 +1,6 @@
 -- `get_mut` lends the value at the index of a valid pointer.
 use Rattle.std.proofs.Common.{refl}
-use Rattle.arena_base.specs.Arena.{entry_at}
+use Rattle.arena_traits.specs.Arena.{entry_at}
 use Rattle.chain_links.specs.ChainArena.{values_of}
 use Rattle.chain_arena.proofs.ValueLoanLemmas.{lent_some, lent_value}
 use Rattle.chain_arena.proofs.impl_arena_trait.ChainArenaArenaTrait.get_mut.Goals as goal

@@ -1,7 +1,7 @@
 -- There are as many values as links.
 use Rattle.std.proofs.Common.{◌≡◌, ◌↔◌, [], subst}
 use Rattle.std.specs.Prelude.{IsTrue}
-use Rattle.arena_base.specs.Entries.{entries}
+use Rattle.arena_traits.specs.Entries.{entries}
 use Rattle.chain_links.specs.Links.{held_in}
 use Rattle.chain_compaction.proofs.ValueViewLemmas.{empty-with_each, values_of-links_view}
 use Rattle.chain_arena.proofs.impl_arena_trait.ChainArenaArenaTrait.is_empty.Goals as goal

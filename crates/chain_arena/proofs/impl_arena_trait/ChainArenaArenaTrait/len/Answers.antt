@@ -1,6 +1,6 @@
 -- The links are well linked, so there is one set of chains.
 use Rattle.std.proofs.Common.{◌≤◌, sym, ◌∙◌, subst, arith}
-use Rattle.arena_base.specs.Arena.{HasCapacityFor}
+use Rattle.arena_traits.specs.Arena.{HasCapacityFor}
 use Rattle.chain_links.specs.Links.{links_view}
 use Rattle.chain_links.specs.ChainArena.{values_of, link_map}
 use Rattle.chain_links.proofs.LinkStateLemmas.{length-links_view}

@@ -1,8 +1,8 @@
 -- The advancer passes the same pointers as in the arena of links.
 use Rattle.std.proofs.Common.{subst}
 use Rattle.std.specs.Option.{option_map}
-use Rattle.arena_base.specs.Entries.{entries}
-use Rattle.arena_base.specs.Advancers.{IsAdvance}
+use Rattle.arena_traits.specs.Entries.{entries}
+use Rattle.arena_traits.specs.Advancers.{IsAdvance}
 use Rattle.chain_links.specs.Links.{held_in}
 use Rattle.chain_compaction.proofs.ValueViewLemmas.{lookup-with_each, values_of-links_view}
 use Rattle.chain_arena.proofs.impl_arena_trait.PtrAdvancerAdvancerChainArena.advance.Goals as goal

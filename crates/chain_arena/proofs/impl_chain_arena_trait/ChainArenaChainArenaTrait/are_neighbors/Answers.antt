@@ -2,7 +2,7 @@
 use Rattle.std.proofs.Common.{◌↔◌, Some, sym, ap, ◌∙◌}
 use Rattle.std.specs.Prelude.{is_some, IsTrue}
 use Rattle.chain_laws.specs.Neighbors.{AreNeighbors}
-use Rattle.arena_base.specs.Arena.{IsValid}
+use Rattle.arena_traits.specs.Arena.{IsValid}
 use Rattle.chain_links.specs.Links.{links_view}
 use Rattle.chain_links.specs.ChainArena.{entry, link_map}
 use Rattle.chain_links.proofs.MappedArenaLemmas.{is_some-map}

@@ -3,8 +3,8 @@ use Rattle.std.proofs.Common.{◌≡◌, ◌↔◌, ℕ, Option, None, Some, ref
 use Rattle.std.specs.Prelude.{IsSome, OnSome, IfNone}
 use Rattle.chain_laws.specs.Chains.{IsWellLinked}
 use Rattle.chain_laws.specs.Joins.{with_join}
-use Rattle.arena_base.specs.Arena.{entry_at}
-use Rattle.arena_base.specs.Entries.{view_of}
+use Rattle.arena_traits.specs.Arena.{entry_at}
+use Rattle.arena_traits.specs.Entries.{view_of}
 use Rattle.chain_links.specs.Links.{links_view}
 use Rattle.chain_links.specs.ChainArena.{values_of, CanConnect, with_link_map, link_map}
 use Rattle.chain_linking.proofs.ConnectionLemmas.{links, joined-values, joined-agrees, joined-pair, joined-chains}

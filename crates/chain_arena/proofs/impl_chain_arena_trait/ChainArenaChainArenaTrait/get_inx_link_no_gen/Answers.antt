@@ -2,7 +2,7 @@
 use Rattle.std.proofs.Common.{◌≡◌, ℕ, Option, Some, None, refl, sym, ap, ◌∙◌}
 use Rattle.std.specs.Borrow.{Bor}
 use Rattle.std.specs.Option.{option_map}
-use Rattle.arena_base.specs.Arena.{Arena, entry_at, borrowed_entry}
+use Rattle.arena_traits.specs.Arena.{Arena, entry_at, borrowed_entry}
 use Rattle.chain_links.specs.declared.links.LinkBody.{LinkBody}
 use Rattle.chain_links.specs.Links.{link_view, links_view, borrowed_link}
 use Rattle.chain_links.specs.ChainArena.{on_value, link_map, entry, link_at}

@@ -3,7 +3,7 @@ use Rattle.std.proofs.Common.{Option, ℕ, refl, ap, sym, ◌∙◌, subst}
 use Rattle.std.specs.Prelude.{IfSome}
 use Rattle.std.specs.Option.{option_and_then}
 use Rattle.chain_laws.specs.Chains.{HasLink}
-use Rattle.arena_base.specs.Arena.{entry_at}
+use Rattle.arena_traits.specs.Arena.{entry_at}
 use Rattle.chain_links.specs.Links.{links_view}
 use Rattle.chain_links.specs.ChainArena.{ptr_at, link_map, values_of}
 use Rattle.chain_linking.proofs.ConnectionLemmas.{link_at_ptr, next_of-view_after, prev_of-view_after, same_valid}

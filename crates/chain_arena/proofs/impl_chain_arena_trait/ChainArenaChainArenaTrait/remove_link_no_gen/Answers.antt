@@ -4,7 +4,7 @@ use Rattle.std.proofs.lemmas.Bool.{false≢true}
 use Rattle.std.specs.Option.{option_map}
 use Rattle.std.specs.Prelude.{is_some}
 use Rattle.arena_ptr.specs.Invalidation.{value_within}
-use Rattle.arena_base.specs.Arena.{IsValid}
+use Rattle.arena_traits.specs.Arena.{IsValid}
 use Rattle.chain_links.specs.ChainArena.{entry}
 use Rattle.chain_links.specs.Links.{link_view}
 use Rattle.chain_links.proofs.MappedArenaLemmas.{is_some-map}

@@ -2,7 +2,7 @@
 use Rattle.std.proofs.Common.{refl, ap, ◌∙◌, sym, subst₂}
 use Rattle.chain_laws.specs.Insertions.{IsInsertPosition}
 use Rattle.chain_laws.proofs.InsertionLemmas.Positions.{position_had}
-use Rattle.arena_base.specs.Arena.{next_index, with_capacity_of}
+use Rattle.arena_traits.specs.Arena.{next_index, with_capacity_of}
 use Rattle.chain_links.specs.ChainArena.{link_map, insert_between}
 use Rattle.chain_links.specs.Insertions.{nonzero_index}
 use Rattle.chain_arena.proofs.NewLinkLemmas.{inserted_between}

@@ -1,6 +1,6 @@
 -- The values up to the position of the advancer are recast.
 use Rattle.std.proofs.Common.{length}
-use Rattle.arena_base.specs.Advancers.{ahead}
+use Rattle.arena_traits.specs.Advancers.{ahead}
 use Rattle.chain_links.specs.ChainArena.{value_view}
 use Rattle.chain_arena.proofs.RecastLemmas.{IsRecasting}
 use Rattle.chain_arena.proofs.recast.ChainArenaRecast.recast.Given as goal

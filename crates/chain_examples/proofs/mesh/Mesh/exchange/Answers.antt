@@ -1,7 +1,7 @@
 -- Both corners have a next one, so the exchange is possible.
 use Rattle.std.proofs.Common.{◌≡◌, ap, ◌∙◌}
 use Rattle.std.specs.Prelude.{◌↔◌, IsSome}
-use Rattle.arena_base.specs.Arena.{IsValid}
+use Rattle.arena_traits.specs.Arena.{IsValid}
 use Rattle.chain_traits.proofs.GenericArenaLemmas.{some_valid}
 use Rattle.chain_traits.proofs.GenericRemovalLemmas.{same_entry}
 use Rattle.chain_traits.proofs.OutcomeLemmas.{either_some}

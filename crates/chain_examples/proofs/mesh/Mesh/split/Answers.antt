@@ -1,6 +1,6 @@
 -- After reserving for two, both corners are still stored and linked.
 use Rattle.std.proofs.Common.{◌≡◌, ◌+◌, List, ap, refl, ◌∙◌, arith}
-use Rattle.arena_base.specs.Entries.{count}
+use Rattle.arena_traits.specs.Entries.{count}
 use Rattle.std.proofs.lemmas.Bool.{false≢true}
 use Rattle.chain_traits.proofs.GenericRemovalLemmas.{same_entry}
 use Rattle.chain_examples.specs.Lists.{Item, IsRing}

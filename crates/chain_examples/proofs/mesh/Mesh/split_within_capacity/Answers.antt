@@ -1,6 +1,6 @@
 -- Copies are inserted beside `u` and `v`, then the successors of `v` and of `u`'s copy exchanged.
 use Rattle.std.proofs.Common.{◌+◌, ◌∙◌, ap, sym, subst, ◌∷◌, [], arith}
-use Rattle.arena_base.specs.Entries.{count}
+use Rattle.arena_traits.specs.Entries.{count}
 use Rattle.chain_examples.specs.Rings.{AreCopied}
 use Rattle.chain_examples.proofs.ItemListLemmas.{stored_kept}
 use Rattle.chain_examples.proofs.RingLemmas.{splits, bridges, copies_added, keeps_split}

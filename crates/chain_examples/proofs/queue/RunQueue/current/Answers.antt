@@ -1,6 +1,6 @@
 -- The current task is the first in turn.
 use Rattle.std.proofs.Common.{◌∙◌, ap}
-use Rattle.arena_base.specs.Entries.{first_key}
+use Rattle.arena_traits.specs.Entries.{first_key}
 use Rattle.chain_examples.specs.QueueOrder.{Queue}
 use Rattle.chain_examples.proofs.queue.RunQueue.current.Goals as goal
 

@@ -2,7 +2,7 @@
 use Rattle.std.proofs.Common.{ap, sym, ◌∙◌, map}
 use Rattle.std.proofs.lemmas.Simd.{map-map}
 use Rattle.arena_ptr.specs.PackedOptions.{zero_is_none}
-use Rattle.arena_base.specs.Entries.{index_of}
+use Rattle.arena_traits.specs.Entries.{index_of}
 use Rattle.chain_links.specs.ChainArena.{on_value}
 use Rattle.chain_links.specs.Links.{link_view}
 use Rattle.chain_tests.proofs.tests.iterators.indexes.Goals as goal

@@ -1,7 +1,7 @@
 -- The indexes pushed so far and those of the remaining links are all indexes.
 use Rattle.std.proofs.Common.{◌≡◌, ◌++◌, map}
 use Rattle.arena_ptr.specs.Indexes.{number_of_inx32}
-use Rattle.arena_base.specs.Entries.{entries, index_of}
+use Rattle.arena_traits.specs.Entries.{entries, index_of}
 use Rattle.chain_tests.proofs.tests.iterators.indexes.Given as goal
 
 abbrev pub invariant-loop-p : goal.invariant-loop-p

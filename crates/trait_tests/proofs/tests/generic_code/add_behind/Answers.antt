@@ -3,8 +3,8 @@ use Rattle.std.proofs.Common.{◌≡◌, false, Option, None, Some, refl, ap, sy
 use Rattle.std.specs.Prelude.{is_some, IfNone}
 use Rattle.std.proofs.lemmas.Bool.{false≢true}
 use Rattle.chain_laws.specs.Removals.{with_removal}
-use Rattle.arena_base.specs.Arena.{IsValid}
-use Rattle.arena_base.specs.Entries.{without_index}
+use Rattle.arena_traits.specs.Arena.{IsValid}
+use Rattle.arena_traits.specs.Entries.{without_index}
 use Rattle.chain_laws.proofs.RemovalLemmas.Pairs.{removed_of_lone}
 use Rattle.chain_laws.proofs.InsertionLemmas.Writes.{alone_by_writes}
 use Rattle.trait_tests.proofs.ExtensionLemmas.{taken_back, not_reported, joinable, extends, ended, some_holds}

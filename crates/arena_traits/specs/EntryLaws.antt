@@ -2,8 +2,8 @@
 use Rattle.std.specs.Prelude.{◌≡◌, ℕ, zero, suc, ◌+◌, ◌<◌, ◌≤◌, cond, List, [], ◌∷◌, Option, None, Some, slice_index_or}
 use Rattle.std.proofs.Common.{refl, ap, ◌∙◌, arith}
 use Rattle.std.proofs.lemmas.Bool.{eq-eqb, ne_eqb}
-use Rattle.arena_base.specs.Arena.{Arena, entry_at}
-use Rattle.arena_base.specs.Entries.{entries_from, entries, found, AscendsFrom}
+use Rattle.arena_traits.specs.Arena.{Arena, entry_at}
+use Rattle.arena_traits.specs.Entries.{entries_from, entries, found, AscendsFrom}
 
 module _ {Gen T : Type 0} where
   ascends_later : (i j : ℕ) (slots : List (Option (Gen × T))) → i ≤ j → AscendsFrom i (entries_from j slots)

@@ -3,10 +3,10 @@
 use Rattle.std.specs.Prelude.{◌≡◌, ℕ, List, [], ◌∷◌, Option, None, Some}
 use Rattle.std.specs.Option.{option_map}
 use Rattle.std.proofs.Common.{refl, ap, ◌∙◌}
-use Rattle.arena_base.specs.Advancers.{IsAdvance, IsAdvanceUntilNone, ahead}
-use Rattle.arena_base.specs.Entries.{first_key}
-use Rattle.arena_base.specs.declared.cursor.Cursor.{Cursor}
-use Rattle.arena_base.specs.declared.cursor.Cursor.TheVariants.{Up, Down, Nowhere}
+use Rattle.arena_traits.specs.Advancers.{IsAdvance, IsAdvanceUntilNone, ahead}
+use Rattle.arena_traits.specs.Entries.{first_key}
+use Rattle.arena_traits.specs.declared.cursor.Cursor.{Cursor}
+use Rattle.arena_traits.specs.declared.cursor.Cursor.TheVariants.{Up, Down, Nowhere}
 
 pub nowhere_stays : {P Gen T : Type 0} (key : P → ℕ × Gen) (es : List ((ℕ × Gen) × T)) (cursor : Cursor) (returned : Option P) (after : Cursor)
     → cursor ≡ Nowhere → IsAdvance es cursor (option_map key returned) after → (returned ≡ None) × (after ≡ Nowhere)

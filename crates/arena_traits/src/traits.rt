@@ -5,17 +5,12 @@ ghost use Rattle.std.specs.Borrow.{LendsSo, sem};
 ghost use Rattle.arena_ptr.specs.Numbers.{IsWithin};
 ghost use Rattle.arena_ptr.specs.SlotStack.{IsBeyond, IsWithinMaximum};
 ghost use Rattle.arena_ptr.specs.Invalidation.{value_within, invalidation_result, invalidation_option};
-ghost use Rattle.arena_base.specs.Arena.{IsCapacityFor, IsValid, borrowed_entry, overflows_after_clear};
-ghost use Rattle.arena_base.specs.Entries.{ArenaView, CoverSlots, index_of, IsNew, found, AscendsFrom, first_key, last_key, view_after_removal, view_after_invalidation, view_with_value, view_after_clear, with_capacity};
-ghost use Rattle.arena_base.specs.Advancers.{IsAdvanceUntilNone};
-ghost use Rattle.arena_base.specs.Entries.{entries};
-ghost use Rattle.arena_base.specs.Copies.{IsCopy, IsCopyBy, HasRefusable, IsAbandonedView};
-ghost use Rattle.arena_base.specs.Compressions.{IsCompressed, VisitsAll, overflows_after_compression, values_in};
-ghost use Rattle.arena_base.specs.declared.cursor.Cursor.{Cursor};
+ghost use Rattle.arena_traits.specs.Arena.{IsCapacityFor, IsValid, borrowed_entry, overflows_after_clear};
+ghost use Rattle.arena_traits.specs.Entries.{ArenaView, CoverSlots, index_of, IsNew, found, AscendsFrom, first_key, last_key, view_after_removal, view_after_invalidation, view_with_value, view_after_clear, with_capacity};
+ghost use Rattle.arena_traits.specs.Advancers.{IsAdvanceUntilNone};
+ghost use Rattle.arena_traits.specs.Compressions.{IsCompressed, VisitsAll, overflows_after_compression, values_in};
+ghost use Rattle.arena_traits.specs.declared.cursor.Cursor.{Cursor};
 
-use crate::arena::Arena;
-use crate::copy::ClosureMap;
-use crate::slot::ArenaSlot;
 use arena_ptr::{
     AllocError, GenKey, InvalidationOption, InvalidationResult, InxKey, PtrKey, ReallocationError,
     SlotStack,
@@ -317,112 +312,3 @@ pub trait ArenaTrait<P: PtrKey, T: Drop> {
 ///
 /// Port of `CompactArenaTrait`, a marker without functions.
 pub trait CompactArenaTrait<P: PtrKey, T: Drop>: ArenaTrait<P, T> {}
-
-/// A source of the values for a copy of an arena, made one after another.
-///
-/// It serves where a closure cannot: where more than a closure makes the values, or where one may
-/// be refused.
-pub trait ValueMap<P, U, T>: Drop {
-    // It can make a value now, and then another.
-    ghost is_ready: { Self → Type 0 };
-
-    // It has made a value from a pointer and a value.
-    ghost makes: { Self → P → U → T → Self → Type 0 };
-
-    // A value may be refused for a pointer and a value.
-    ghost may_refuse: { P → U → Type 0 };
-
-    /// Returns the value for the copy of an entry, given the entry's pointer and value in the
-    /// source.
-    ///
-    /// # Errors
-    ///
-    /// `AllocError`: memory for the value was refused.
-    fn map_value(&mut self, p: P, u: &U) -> Result<T, AllocError>
-        requires { is_ready self.old }
-        ensures made { IfOk result (λ t. makes self.old p u.now t self.new) }
-        ensures ready { OnOk result (is_ready self.new) }
-        ensures refused { OnErr result (may_refuse p u.now) };
-}
-
-/// An arena that can become a copy of an `Arena`, with values made from the values there.
-///
-/// Port of `ArenaCloneFromWith`.
-pub trait ArenaCloneFromWith<P: PtrKey, T: Drop>: ArenaTrait<P, T> {
-    ghost use Rattle.arena_base.specs.Arena.{Arena as State};
-
-    // An arena's own guarantee beyond its view, when the second arena became the third as a copy of
-    // the first.
-    ghost copies: { (U : Type 0) → State P.Gen U → Self → Self
-        → Type 0 } = { λ _ _ _ _. ⊤ };
-
-    /// Becomes a copy of `source`, with values made by `values`, which is returned.
-    ///
-    /// Indexes, generations, counter, number of slots and freed list are the source's. `values` is
-    /// called once for each entry of the source, by ascending index, and can be called again
-    /// afterwards. Old entries are dropped. The arena grows only if the source has more slots than
-    /// its capacity.
-    ///
-    /// # Errors
-    ///
-    /// - `BeyondMaxCapacity`: the source has more slots than the maximum.
-    /// - `AllocError`: an allocation failed.
-    ///
-    /// Nothing changes on error, and `values` is not called. But if memory for a value was refused,
-    /// the arena has no entries and slots left.
-    fn clone_from_by<U: Drop, S1: SlotStack<Item = ArenaSlot<P, U>>, M: ValueMap<P, U, T>>(
-        &mut self,
-        source: &Arena<P, U, S1>,
-        values: M,
-    ) -> (Result<(), ReallocationError>, M)
-        requires { M.is_ready values }
-        ensures within { length source.now.slots ≤ (Self.view self.old).capacity →
-            (IsOk result.0 ⊎ HasRefusable M.may_refuse P.key (entries source.now))
-            × ((Self.view self.new).capacity ≡ (Self.view self.old).capacity) }
-        ensures beyond { (result.0 ≡ Err ReallocationError.BeyondMaxCapacity)
-            ↔ IsBeyond (Self.view self.old).maximum (length source.now.slots) }
-        ensures unchanged { result.0 ≡ Err ReallocationError.BeyondMaxCapacity
-            → (self.new ≡ self.old) × (result.1 ≡ values) }
-        ensures ok { OnOk result.0 (IsCapacityFor P.Inx.greatest (Self.view self.new).maximum
-            (length source.now.slots) (Self.view self.new).capacity) }
-        ensures copied { OnOk result.0 (IsCopyBy M.makes P.key values source.now
-            (Self.view self.old) (Self.view self.new) result.1) }
-        ensures ready { OnOk result.0 (M.is_ready result.1) }
-        ensures never_less { (Self.view self.old).capacity ≤ (Self.view self.new).capacity }
-        ensures err { OnErr result.0 (((self.new ≡ self.old) × (result.1 ≡ values))
-            ⊎ (HasRefusable M.may_refuse P.key (entries source.now)
-            × IsAbandonedView (Self.view self.old) (Self.view self.new))) }
-        ensures more { OnOk result.0 (copies U source.now self.old self.new) };
-
-    /// Becomes a copy of `source` as by `clone_from_by`, with the values that `map` returns.
-    ///
-    /// `map` is called for each entry of the source, by ascending index.
-    ///
-    /// # Errors
-    ///
-    /// - `BeyondMaxCapacity`: the source has more slots than the maximum.
-    /// - `AllocError`: an allocation failed.
-    ///
-    /// Nothing changes on error.
-    final fn clone_from_with<
-        U: Drop,
-        S1: SlotStack<Item = ArenaSlot<P, U>>,
-        F: FnMut(P, &U) -> T + Drop,
-    >(&mut self, source: &Arena<P, U, S1>, map: F) -> Result<(), ReallocationError>
-        requires { F.IsAlwaysCallable map }
-        ensures within { length source.now.slots ≤ (Self.view self.old).capacity
-            → IsOk result × ((Self.view self.new).capacity ≡ (Self.view self.old).capacity) }
-        ensures beyond { (result ≡ Err ReallocationError.BeyondMaxCapacity)
-            ↔ IsBeyond (Self.view self.old).maximum (length source.now.slots) }
-        ensures ok { OnOk result (IsCapacityFor P.Inx.greatest (Self.view self.new).maximum
-            (length source.now.slots) (Self.view self.new).capacity) }
-        ensures copied { OnOk result (IsCopy F.FnMut P.key map source.now (Self.view self.old)
-            (Self.view self.new)) }
-        ensures never_less { (Self.view self.old).capacity ≤ (Self.view self.new).capacity }
-        ensures err { OnErr result (self.new ≡ self.old) }
-        ensures more { OnOk result (copies U source.now self.old self.new) }
-    {
-        let (done, _) = self.clone_from_by(source, ClosureMap { map });
-        done
-    }
-}

@@ -4,8 +4,8 @@ use Rattle.std.specs.Option.{option_map}
 use Rattle.std.specs.List.{FoldsTo, range_with_len}
 use Rattle.std.specs.Fn.{Mut, Called}
 use denote.Ref.{MutBor}
-use Rattle.arena_base.specs.Arena.{counter_after_clear, overflows_after_clear}
-use Rattle.arena_base.specs.Entries.{ArenaView, Slots, index_of}
+use Rattle.arena_traits.specs.Arena.{counter_after_clear, overflows_after_clear}
+use Rattle.arena_traits.specs.Entries.{ArenaView, Slots, index_of}
 
 -- The counter after `count` entries were compressed. A reset restarts it; otherwise it stays if
 -- there are no entries.

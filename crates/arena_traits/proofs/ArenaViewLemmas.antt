@@ -3,11 +3,16 @@ use Rattle.std.proofs.Common.{◌≡◌, ℕ, zero, suc, ◌+◌, ◌<◌, ◌�
 use Rattle.std.specs.Prelude.{is_some, count_by, slice_index_or, slice_set}
 use Rattle.std.specs.Option.{option_map}
 use Rattle.std.proofs.lemmas.Bool.{eq-eqb, ne_eqb}
+use Rattle.std.proofs.lemmas.List.{length-set}
 use Rattle.std.proofs.lemmas.List.Sums.{sum_by-cons, sum_by-set}
 use Rattle.arena_ptr.specs.Invalidation.{value_within, invalidation_result}
-use Rattle.arena_base.specs.Arena.{Arena, IsMember, slots_after_insertion, entry_count, slot_at, with_slot, remove_at, invalidate_at, with_value, arena_after_clear, counter_after_clear}
-use Rattle.arena_base.specs.Entries.{ArenaView, entries_from, entries, view_of, without_index, with_replacement, view_after_removal, view_after_invalidation, view_with_value, view_after_clear}
-use Rattle.arena_base.proofs.SlotLemmas.{length-with_slot}
+use Rattle.arena_traits.specs.Arena.{Arena, IsMember, slots_after_insertion, entry_count, slot_at, with_slot, remove_at, invalidate_at, with_value, arena_after_clear, counter_after_clear}
+use Rattle.arena_traits.specs.Entries.{ArenaView, entries_from, entries, view_of, without_index, with_replacement, view_after_removal, view_after_invalidation, view_with_value, view_after_clear}
+
+module _ {X : Type 0} where
+  pub length-with_slot : (xs : List X) (n : ℕ) (x : X) → length (with_slot xs n x) ≡ length xs
+  length-with_slot xs zero x = refl
+  length-with_slot xs (suc k) x = length-set xs k x
 
 module _ {Gen T : Type 0} where
   pub length-entries_from : (i : ℕ) (slots : List (Option (Gen × T))) → length (entries_from i slots) ≡ count_by is_some slots

@@ -1,8 +1,8 @@
 -- The results of an advancer over entries by ascending index.
 use Rattle.std.specs.Prelude.{◌≡◌, ℕ, ◌+◌, ◌-◌, ⊤, cond, leb, List, [], ◌∷◌, reverse, Option, None, Some}
-use Rattle.arena_base.specs.Entries.{first_key}
-use Rattle.arena_base.specs.declared.cursor.Cursor.{Cursor}
-use Rattle.arena_base.specs.declared.cursor.Cursor.TheVariants.{Up, Down, Nowhere}
+use Rattle.arena_traits.specs.Entries.{first_key}
+use Rattle.arena_traits.specs.declared.cursor.Cursor.{Cursor}
+use Rattle.arena_traits.specs.declared.cursor.Cursor.TheVariants.{Up, Down, Nowhere}
 
 -- The cursor past an index.
 abbrev pub cursor_past : Cursor → ℕ → Cursor

@@ -4,7 +4,7 @@ use Rattle.std.specs.Prelude.{◌≡◌, ◌↔◌, ℕ, suc, ◌+◌, ◌<◌, 
 use Rattle.std.specs.Option.{option_map}
 use Rattle.arena_ptr.specs.Numbers.{IsWithin}
 use Rattle.arena_ptr.specs.SlotStack.{IsBeyond}
-use Rattle.arena_base.specs.Arena.{Arena, slot_at, IsMember, AreDistinct, first_or_next, without_first, counter_after_clear}
+use Rattle.arena_traits.specs.Arena.{Arena, slot_at, IsMember, AreDistinct, first_or_next, without_first, counter_after_clear}
 
 -- The number of slots, the freed list, first to be used first, and the totals of placements and
 -- touches.

@@ -4,7 +4,7 @@ use Rattle.std.specs.List.{FoldsTo}
 use Rattle.std.specs.Fn.{Mut}
 use Rattle.std.proofs.lemmas.List.{length-map}
 use denote.Ref.{MutBor}
-use Rattle.arena_base.specs.Compressions.{Visit, IsVisit, VisitsAll, values_in}
+use Rattle.arena_traits.specs.Compressions.{Visit, IsVisit, VisitsAll, values_in}
 
 module _ {F P T Gen : Type 0} (g : Mut F (P × (MutBor T × (P × Unit {0}))) (Unit {0} × (MutBor T × Unit {0}))) (key : P → ℕ × Gen) where
   -- The number of entries stays.

@@ -2,7 +2,7 @@
 use Rattle.std.proofs.Common.{◌≡◌, ◌≢◌, ℕ, suc, ◌<◌, List, [], ◌∷◌, None, Some, refl, ap, sym, ◌∙◌, arith, ⊎_elim}
 use Rattle.std.specs.Prelude.{◌==◌, cond}
 use Rattle.std.proofs.lemmas.Bool.{cases_eq, eq-eqb, ne_eqb}
-use Rattle.arena_base.specs.Entries.{found, without_index, AscendsFrom}
+use Rattle.arena_traits.specs.Entries.{found, without_index, AscendsFrom}
 
 module _ {Gen T : Type 0} where
   at_first : (e : (ℕ × Gen) × T) (i : ℕ) (es : List ((ℕ × Gen) × T)) → e.0.0 ≡ i → found i (e ∷ es) ≡ Some (e.0.1, e.1)

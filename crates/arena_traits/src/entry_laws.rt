@@ -1,6 +1,6 @@
 // Laws that hold for the entries of any arena.
 ghost use Rattle.std.specs.Prelude.{◌≡◌, ◌≢◌, ℕ, None};
-ghost use Rattle.arena_base.specs.Entries.{without_index};
+ghost use Rattle.arena_traits.specs.Entries.{without_index};
 
 use crate::traits::ArenaTrait;
 use arena_ptr::PtrKey;

@@ -1,7 +1,7 @@
 -- The values that the map makes are those that the closure returns.
 use Rattle.arena_base.specs.Copies.{IsCopyCall}
 use Rattle.arena_base.proofs.SlotCopyLemmas.{copy_by, on_err_by, on_ok, surely}
-use Rattle.arena_base.proofs.traits.ArenaCloneFromWith.clone_from_with.Goals as goal
+use Rattle.arena_base.proofs.copy_traits.ArenaCloneFromWith.clone_from_with.Goals as goal
 
 pub returns-clause-within : goal.returns-clause-within
 returns-clause-within g c few = surely (λ never. never.refusable) (c.clone_from_by-done.ensures.within few)

@@ -1,8 +1,8 @@
 -- A lookup among the entries finds the entry at an index.
 use Rattle.std.proofs.Common.{ap, sym, ◌∙◌}
-use Rattle.arena_base.specs.Entries.{found}
-use Rattle.arena_base.proofs.EntrySearchLemmas.{found-gone, found-kept}
-use Rattle.arena_base.proofs.entry_laws.entries_determine_occupancy.Goals as goal
+use Rattle.arena_traits.specs.Entries.{found}
+use Rattle.arena_traits.proofs.EntrySearchLemmas.{found-gone, found-kept}
+use Rattle.arena_traits.proofs.entry_laws.entries_determine_occupancy.Goals as goal
 
 pub returns-clause-same : goal.returns-clause-same
 returns-clause-same g c a b i is =

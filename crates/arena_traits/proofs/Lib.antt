@@ -1,0 +1,3 @@
+pub mod EntrySearchLemmas
+pub mod ArenaViewLemmas
+pub mod ClosureLemmas

@@ -1,0 +1,6 @@
+pub mod Arena
+pub mod Entries
+pub mod Advancers
+pub mod AdvancerLaws
+pub mod EntryLaws
+pub mod Compressions
