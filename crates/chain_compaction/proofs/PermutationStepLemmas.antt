@@ -221,11 +221,6 @@ module _ {Gen K T : Type 0} (number : K → Option ℕ) (g : Gen) (i d : ℕ) (b
   pub entry_there : is_some (slot_at before.slots i) ≡ true
   entry_there = ap (λ (o : Option (Gen × LinkBody K T)). is_some o) who.1.stored
 
-  -- After the exchange, the second slot is occupied.
-  pub placed_there : exchanged ≡ with_placed_entry before i d g → is_some (slot_at exchanged.slots d) ≡ true
-  placed_there moved = ap (λ (h : DetachedView Gen (LinkBody K T)). is_some (slot_at h.slots d)) moved
-      ∙ ap (λ (o : Option (Gen × LinkBody K T)). is_some o) (exchanged_entry number g before.slots i d who.0 who.1 bounds.0 bounds.1)
-
   module _ (moved : exchanged ≡ with_placed_entry before i d g) (emptied : IsDirectedAt number d None exchanged after) where
     stored_link : Some who.0.1 ≡ option_map (λ (e : Gen × LinkBody K T). e.1) (slot_at exchanged.slots d)
     stored_link = sym (ap (λ (h : DetachedView Gen (LinkBody K T)). option_map (λ (e : Gen × LinkBody K T). e.1) (slot_at h.slots d)) moved

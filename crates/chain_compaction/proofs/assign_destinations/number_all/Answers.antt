@@ -19,19 +19,6 @@ loop-k-init g c =
       counts = counts_none now.arena.now now.placed now.touched;
     }
 
-pub inx_at-i-requires : goal.inx_at-i-requires
-inx_at-i-requires g c = omega (arith, c.slots-k-end.ensures, c.requires.fits)
-
--- The type parameters of the call are those of the function.
-pub read_link-was-requires : goal.read_link-was-requires
-read_link-was-requires g c κs = λ outlives. outlives
-
-pub read_ahead-ahead-requires : goal.read_ahead-ahead-requires
-read_ahead-ahead-requires g c =
-    let same = c.loop-k.invariant.order.relinked.long in
-    let kept = ap (λ h. length h.slots) c.read_link-was.ensures.was_read.held in
-    record { at = omega (arith, same, kept, c.slots-k-end.ensures); fits = omega (arith, same, kept, c.requires.fits) }
-
 pub start_at-start-requires : goal.start_at-start-requires
 start_at-start-requires g c =
     let old = c.args.compactor.now in

@@ -23,23 +23,22 @@ loop-start-init g c =
       counts = counts_none old.arena.now old.placed old.touched;
     }
 
-pub overflow_sub-slots : goal.overflow_sub-slots
-overflow_sub-slots g c = omega (arith, c.loop-start.invariant.reached)
+pub settle_block-requires-clause-count : goal.settle_block-requires-clause-count
+settle_block-requires-clause-count g c = omega (arith, c.min-count.ensures)
 
-pub settle_block-requires : goal.settle_block-requires
-settle_block-requires g c =
-    let same = c.loop-start.invariant.passed.length in
+pub settle_block-requires-clause-block : goal.settle_block-requires-clause-block
+settle_block-requires-clause-block g c =
     let reached : c.loop-start.start ≤ c.slots-slots.result = c.loop-start.invariant.reached in
-    record {
-      count = omega (arith, c.min-count.ensures);
-      block = omega (arith, c.min-count.ensures, same, reached, c.slots-slots.ensures);
-      fits = omega (arith, same, c.requires.fits);
-      within = c.loop-start.invariant.passed.within;
-      unplaced = c.loop-start.invariant.unplaced;
-    }
+    omega (arith, c.min-count.ensures, c.loop-start.invariant.passed.length, reached, c.slots-slots.ensures)
 
-pub overflow_add-start : goal.overflow_add-start
-overflow_add-start g c = omega (arith, c.min-count.ensures, c.loop-start.invariant.reached)
+pub settle_block-requires-clause-fits : goal.settle_block-requires-clause-fits
+settle_block-requires-clause-fits g c = omega (arith, c.loop-start.invariant.passed.length, c.requires.fits)
+
+pub settle_block-requires-clause-within : goal.settle_block-requires-clause-within
+settle_block-requires-clause-within g c = c.loop-start.invariant.passed.within
+
+pub settle_block-requires-clause-unplaced : goal.settle_block-requires-clause-unplaced
+settle_block-requires-clause-unplaced g c = c.loop-start.invariant.unplaced
 
 pub loop-start-preserved : goal.loop-start-preserved
 loop-start-preserved g c =

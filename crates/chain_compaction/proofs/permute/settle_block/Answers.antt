@@ -1,6 +1,5 @@
 -- `settle_block` reads before a round of moves and makes it, until the list of positions is empty.
 use Rattle.std.proofs.Common.{◌+◌, ◌-◌, length, slice_index, sym, ap, ◌∙◌, subst, arith}
-use contract.BorrowLft.{⊑_meet, ⊑_static}
 use Rattle.arena_traits.specs.Arena.{slot_at}
 use Rattle.arena_base.specs.DetachedSlots.{DetachedView}
 use Rattle.chain_compaction.specs.Permutations.{IsInBlock, waiting_count, destination_of, Settles, IsWorkOn}
@@ -9,13 +8,6 @@ use Rattle.chain_compaction.proofs.PermutationStepLemmas.{settle_reads, settling
 use Rattle.chain_compaction.proofs.PermutationLoopLemmas.{rounds_start, rounds_continue, rounds_stop}
 use Rattle.chain_compaction.proofs.LinkLoanLemmas.{same_then, counts_on, capacity_then, maximum_then}
 use Rattle.chain_compaction.proofs.permute.settle_block.Goals as goal
-
-pub settle_each-left-requires : goal.settle_each-left-requires
-settle_each-left-requires g c = c.requires
-
--- What each type parameter outlives, the types made of them do.
-pub slots-reads_ahead-requires : goal.slots-reads_ahead-requires
-slots-reads_ahead-requires g _ κs = λ o. search (⊑_meet, ⊑_static, o.0, o.1.0, o.1.1.0, o.1.1.1.0) depth 16
 
 pub loop-left-init : goal.loop-left-init
 loop-left-init g c =
@@ -31,30 +23,58 @@ loop-left-init g c =
       counts = first.counts;
     }
 
-pub read_destinations-reads_ahead-requires : goal.read_destinations-reads_ahead-requires
-read_destinations-reads_ahead-requires g c =
-    let lists = c.loop-left.invariant.lists in
-    record {
-      left = omega (arith, lists.few, c.requires.count);
-      within = λ p low. below_bound (slice_index c.loop-left.positions p) (c.args.start + c.args.count) (length c.args.compactor.now.held.slots) g.P.Inx.InxKey.greatest (lists.within p low).1 c.requires.block c.requires.fits;
-    }
+pub read_destinations-reads_ahead-requires-clause-left : goal.read_destinations-reads_ahead-requires-clause-left
+read_destinations-reads_ahead-requires-clause-left g c = omega (arith, c.loop-left.invariant.lists.few, c.requires.count)
 
-pub settle_round-left-requires : goal.settle_round-left-requires
-settle_round-left-requires g c =
+pub read_destinations-reads_ahead-requires-clause-within : goal.read_destinations-reads_ahead-requires-clause-within
+read_destinations-reads_ahead-requires-clause-within g c = λ p low. below_bound (slice_index c.loop-left.positions p) (c.args.start + c.args.count) (length c.args.compactor.now.held.slots) g.P.Inx.InxKey.greatest (c.loop-left.invariant.lists.within p low).1 c.requires.block c.requires.fits
+
+pub settle_round-left-requires-clause-count : goal.settle_round-left-requires-clause-count
+settle_round-left-requires-clause-count g c = c.requires.count
+
+pub settle_round-left-requires-clause-block : goal.settle_round-left-requires-clause-block
+settle_round-left-requires-clause-block g c =
     let packed_number = g.P.Inx.InxKey.packed_number in
     let target = destination_of packed_number in
     let inv = c.loop-left.invariant in
     let kept = c.read_destinations-reads_ahead.ensures.held in
     let here = settle_reads target (Settles packed_number c.args.generation) c.args.start c.args.count c.loop-left.positions c.loop-left.left c.args.compactor.now.held c.loop-left.compactor.held c.read_destinations-reads_ahead.new.compactor.held kept
     inv.lists inv.settles inv.capacity inv.maximum in
-    record {
-      count = c.requires.count;
-      block = omega (arith, here.settles.length, c.requires.block);
-      fits = omega (arith, here.settles.length, c.requires.fits);
-      within = here.settles.within c.requires.within;
-      lists = here.lists;
-      unplaced = inv.unplaced ∙ ap (λ (h : DetachedView _ _). waiting_count target h.slots) (sym kept);
-    }
+    omega (arith, here.settles.length, c.requires.block)
+
+pub settle_round-left-requires-clause-fits : goal.settle_round-left-requires-clause-fits
+settle_round-left-requires-clause-fits g c =
+    let packed_number = g.P.Inx.InxKey.packed_number in
+    let target = destination_of packed_number in
+    let inv = c.loop-left.invariant in
+    let kept = c.read_destinations-reads_ahead.ensures.held in
+    let here = settle_reads target (Settles packed_number c.args.generation) c.args.start c.args.count c.loop-left.positions c.loop-left.left c.args.compactor.now.held c.loop-left.compactor.held c.read_destinations-reads_ahead.new.compactor.held kept
+    inv.lists inv.settles inv.capacity inv.maximum in
+    omega (arith, here.settles.length, c.requires.fits)
+
+pub settle_round-left-requires-clause-within : goal.settle_round-left-requires-clause-within
+settle_round-left-requires-clause-within g c =
+    let packed_number = g.P.Inx.InxKey.packed_number in
+    let target = destination_of packed_number in
+    let inv = c.loop-left.invariant in
+    let kept = c.read_destinations-reads_ahead.ensures.held in
+    let here = settle_reads target (Settles packed_number c.args.generation) c.args.start c.args.count c.loop-left.positions c.loop-left.left c.args.compactor.now.held c.loop-left.compactor.held c.read_destinations-reads_ahead.new.compactor.held kept
+    inv.lists inv.settles inv.capacity inv.maximum in
+    here.settles.within c.requires.within
+
+pub settle_round-left-requires-clause-lists : goal.settle_round-left-requires-clause-lists
+settle_round-left-requires-clause-lists g c =
+    let packed_number = g.P.Inx.InxKey.packed_number in
+    let target = destination_of packed_number in
+    let inv = c.loop-left.invariant in
+    let kept = c.read_destinations-reads_ahead.ensures.held in
+    let here = settle_reads target (Settles packed_number c.args.generation) c.args.start c.args.count c.loop-left.positions c.loop-left.left c.args.compactor.now.held c.loop-left.compactor.held c.read_destinations-reads_ahead.new.compactor.held kept
+    inv.lists inv.settles inv.capacity inv.maximum in
+    here.lists
+
+pub settle_round-left-requires-clause-unplaced : goal.settle_round-left-requires-clause-unplaced
+settle_round-left-requires-clause-unplaced g c =
+    c.loop-left.invariant.unplaced ∙ ap (λ (h : DetachedView _ _). waiting_count (destination_of g.P.Inx.InxKey.packed_number) h.slots) (sym c.read_destinations-reads_ahead.ensures.held)
 
 pub loop-left-preserved : goal.loop-left-preserved
 loop-left-preserved g c =

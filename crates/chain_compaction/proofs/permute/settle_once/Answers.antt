@@ -6,7 +6,7 @@ use Rattle.arena_traits.specs.Arena.{slot_at}
 use Rattle.arena_base.specs.DetachedSlots.{with_placed_entry}
 use Rattle.chain_compaction.specs.Permutations.{Waits, IsSettling, waiting_count, destination_of, Settles, IsWorkOn}
 use Rattle.chain_compaction.specs.Destinations.{destination_at}
-use Rattle.chain_compaction.proofs.PermutationStepLemmas.{settling_begins, one_less_after, settles_after, fewer_after, none_after, capacity_after, maximum_after, none_waits, from_within, to_within, entry_there, placed_there}
+use Rattle.chain_compaction.proofs.PermutationStepLemmas.{settling_begins, one_less_after, settles_after, fewer_after, none_after, capacity_after, maximum_after, none_waits}
 use Rattle.chain_compaction.proofs.PermutationLoopLemmas.{work_on-moves, work_on-reads, work_on-either}
 use Rattle.chain_compaction.proofs.LinkLoanLemmas.{same_then, counts_on}
 use Rattle.chain_compaction.proofs.WorkCountLemmas.{counts_place}
@@ -15,45 +15,6 @@ use Rattle.chain_compaction.proofs.permute.settle_once.Goals as goal
 not_false : (b : Bool) → not b ≡ false → b ≡ true
 not_false true is = refl
 not_false false is = cc
-
-pub place-requires : goal.place-requires
-place-requires g c =
-    let packed_number = g.P.Inx.InxKey.packed_number in
-    let i = g.P.Inx.InxKey.number c.args.i in
-    let d = g.P.Inx.InxKey.number c.in-Some.to in
-    let old = c.args.compactor.now.held in
-    let is : Some d ≡ destination_at packed_number old.slots i
-    = sym (ap (option_map g.P.Inx.InxKey.number) c.in-Some.is) ∙ c.read_link-destination.ensures.destination in
-    rw c.read_link-destination.ensures.was_read.held (record {
-      from = from_within packed_number c.args.generation i d old old old is c.requires.within;
-      to = to_within packed_number c.args.generation i d old old old is c.requires.within;
-      entry = entry_there packed_number c.args.generation i d old old old is c.requires.within;
-    })
-
-pub remove_destination_at-requires : goal.remove_destination_at-requires
-remove_destination_at-requires g c =
-    let packed_number = g.P.Inx.InxKey.packed_number in
-    let i = g.P.Inx.InxKey.number c.args.i in
-    let d = g.P.Inx.InxKey.number c.in-Some.to in
-    let old = c.args.compactor.now in
-    let placed = c.place.new.self in
-    let is : Some d ≡ destination_at packed_number old.held.slots i
-    = sym (ap (option_map g.P.Inx.InxKey.number) c.in-Some.is) ∙ c.read_link-destination.ensures.destination in
-    placed_there packed_number c.args.generation i d old.held placed.held placed.held is c.requires.within (c.place.ensures.held ∙ ap (λ h. with_placed_entry h i d c.args.generation) c.read_link-destination.ensures.was_read.held)
-
-pub overflow_sub-unplaced : goal.overflow_sub-unplaced
-overflow_sub-unplaced g c =
-    let packed_number = g.P.Inx.InxKey.packed_number in
-    let i = g.P.Inx.InxKey.number c.args.i in
-    let d = g.P.Inx.InxKey.number c.in-Some.to in
-    let old = c.args.compactor.now in
-    let placed = c.place.new.self in
-    let after = c.remove_destination_at.new.compactor in
-    let is : Some d ≡ destination_at packed_number old.held.slots i
-    = sym (ap (option_map g.P.Inx.InxKey.number) c.in-Some.is) ∙ c.read_link-destination.ensures.destination in
-    let moved : placed.held ≡ with_placed_entry old.held i d c.args.generation
-    = c.place.ensures.held ∙ ap (λ h. with_placed_entry h i d c.args.generation) c.read_link-destination.ensures.was_read.held in
-    omega (arith, c.requires.unplaced, one_less_after packed_number c.args.generation i d old.held placed.held after.held is c.requires.within moved c.remove_destination_at.ensures.directed)
 
 pub returns-in-Some : goal.returns-in-Some
 returns-in-Some g c =
@@ -110,10 +71,3 @@ returns-in-None g c =
       unplaced = c.requires.unplaced ∙ ap (waiting_count target) (sym slots);
       counts = read.was_read.counts;
     }
-
--- The type parameters of the calls are those of the function.
-pub read_link-destination-requires : goal.read_link-destination-requires
-read_link-destination-requires g c κs = λ outlives. outlives
-
-pub is_same-requires : goal.is_same-requires
-is_same-requires g c κs = λ outlives. outlives

@@ -31,25 +31,16 @@ loop-turn-init g c =
 pub bounds-positions-turn : goal.bounds-positions-turn
 bounds-positions-turn g c = turn_within c.loop-turn.turn c.loop-turn.rest c.args.count c.loop-turn-test.true c.loop-turn.invariant.lists.few c.requires.count
 
-pub bounds-positions-turn-in-loop-turn : goal.bounds-positions-turn-in-loop-turn
-bounds-positions-turn-in-loop-turn g c = turn_within c.loop-turn.turn c.loop-turn.rest c.args.count c.loop-turn-test.true c.loop-turn.invariant.lists.few c.requires.count
-
 pub inx_at-requires : goal.inx_at-requires
 inx_at-requires g c =
     let within = c.loop-turn.invariant.lists.within c.loop-turn.turn c.loop-turn-test.true in
     below_bound (slice_index c.loop-turn.positions c.loop-turn.turn) (c.args.start + c.args.count) (length c.args.compactor.now.held.slots) g.P.Inx.InxKey.greatest within.1 c.requires.block c.requires.fits
 
-pub settle_once-requires : goal.settle_once-requires
-settle_once-requires g c = record { within = c.loop-turn.invariant.settles.within c.requires.within; unplaced = c.loop-turn.invariant.unplaced }
+pub settle_once-requires-clause-within : goal.settle_once-requires-clause-within
+settle_once-requires-clause-within g c = c.loop-turn.invariant.settles.within c.requires.within
 
-pub overflow_add-turn : goal.overflow_add-turn
-overflow_add-turn g c = omega (arith, c.loop-turn.invariant.lists.few, c.requires.count)
-
-pub bounds-positions-rest : goal.bounds-positions-rest
-bounds-positions-rest g c = omega (arith, c.loop-turn.invariant.lists.few, c.requires.count)
-
-pub bounds-positions-turn-else-settle_once : goal.bounds-positions-turn-else-settle_once
-bounds-positions-turn-else-settle_once g c = turn_within c.loop-turn.turn c.loop-turn.rest c.args.count c.loop-turn-test.true c.loop-turn.invariant.lists.few c.requires.count
+pub settle_once-requires-clause-unplaced : goal.settle_once-requires-clause-unplaced
+settle_once-requires-clause-unplaced g c = c.loop-turn.invariant.unplaced
 
 pub loop-turn-preserved-then-settle_once : goal.loop-turn-preserved-then-settle_once
 loop-turn-preserved-then-settle_once g c =

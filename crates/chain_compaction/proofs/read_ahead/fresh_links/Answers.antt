@@ -19,6 +19,3 @@ loop-j-preserved g c =
       ];
       read = reads_more c.args.compactor.now c.loop-j.compactor c.walk_from-is_listed.new.compactor c.loop-j.j inv.read c.walk_from-is_listed.ensures;
     }
-
-pub walk_from-is_listed-requires : goal.walk_from-is_listed-requires
-walk_from-is_listed-requires g c κs = λ outlives. outlives

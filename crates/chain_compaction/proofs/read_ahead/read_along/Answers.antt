@@ -5,10 +5,6 @@ use Rattle.chain_compaction.proofs.ReadAheadLemmas.{reads_then}
 use Rattle.chain_compaction.proofs.read_ahead.read_along.Goals as goal
 use Rattle.chain_compaction.proofs.read_ahead.read_along.Goals.{in-Some, in-None}
 
--- The type parameters of the call are those of the function.
-pub step_at-requires : goal.step_at-requires
-step_at-requires g c κs = λ outlives. outlives
-
 pub loop-reads-preserved : goal.loop-reads-preserved
 loop-reads-preserved g c =
     let inv = c.loop-reads.invariant in

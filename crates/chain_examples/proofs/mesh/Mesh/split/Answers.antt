@@ -44,15 +44,18 @@ returns-in_ok-reserve-in-Some-clause-grown g c = rw (c.split_within_capacity.ens
 pub returns-in_ok-reserve-in-Some-clause-maximum : goal.returns-in_ok-reserve-in-Some-clause-maximum
 returns-in_ok-reserve-in-Some-clause-maximum g c = c.split_within_capacity.ensures.maximum ∙ ap (λ s. s.maximum) c.reserve.ensures.after
 
-pub split_within_capacity-requires : goal.split_within_capacity-requires
-split_within_capacity-requires g c =
-    let after = c.reserve.ensures.after in
-    let entry = same_entry (λ x. (g.A.ArenaTrait.view x).entries) g.A.ArenaTrait.entry g.met.A.ArenaTrait.finds c.args.self.now c.reserve.new.self (ap (λ s. s.entries) after) in
-    record {
-      capacity = omega (arith, ap count after, c.in_ok-reserve-in-Some.ensures.grown.fits);
-      first = rw entry c.in-Some.ensures.first;
-      second = rw entry c.in-Some.ensures.second;
-    }
+pub split_within_capacity-requires-clause-capacity : goal.split_within_capacity-requires-clause-capacity
+split_within_capacity-requires-clause-capacity g c = omega (arith, ap count c.reserve.ensures.after, c.in_ok-reserve-in-Some.ensures.grown.fits)
+
+pub split_within_capacity-requires-clause-first : goal.split_within_capacity-requires-clause-first
+split_within_capacity-requires-clause-first g c =
+    let entry = same_entry (λ x. (g.A.ArenaTrait.view x).entries) g.A.ArenaTrait.entry g.met.A.ArenaTrait.finds c.args.self.now c.reserve.new.self (ap (λ s. s.entries) c.reserve.ensures.after) in
+    rw entry c.in-Some.ensures.first
+
+pub split_within_capacity-requires-clause-second : goal.split_within_capacity-requires-clause-second
+split_within_capacity-requires-clause-second g c =
+    let entry = same_entry (λ x. (g.A.ArenaTrait.view x).entries) g.A.ArenaTrait.entry g.met.A.ArenaTrait.finds c.args.self.now c.reserve.new.self (ap (λ s. s.entries) c.reserve.ensures.after) in
+    rw entry c.in-Some.ensures.second
 
 pub returns-in_ok-reserve-in-Some-clause-beyond : goal.returns-in_ok-reserve-in-Some-clause-beyond
 returns-in_ok-reserve-in-Some-clause-beyond g c = (λ is. absurd (cc), λ past. let refused = c.in_ok-reserve-in-Some.ensures.beyond.1 past.1 in absurd (cc))
