@@ -1,11 +1,11 @@
 // An iterator over the links of one chain.
-ghost use Rattle.std.specs.Prelude.{◌≡◌, Some};
+ghost use Rattle.std.specs.Prelude.{◌≡◌, Some, IfSome};
 ghost use Rattle.std.specs.Option.{option_map};
 ghost use Rattle.std.specs.Iterator.{YieldsFirstBy, item_count};
+ghost use Rattle.chain_laws.specs.Chains.{IsWellLinked, HasLink};
 ghost use Rattle.chain_links.specs.ChainArena.{link_map};
 ghost use Rattle.chain_links.specs.Links.{links_view};
 ghost use Rattle.chain_links.specs.Walkers.{links_ahead, item_view};
-ghost use Rattle.chain_arena.specs.Iterators.{IsOnLinks};
 
 use arena_base::{Arena, ArenaSlot, ArenaTrait, proved_unreachable};
 use arena_ptr::{HeapStack, PtrKey, SlotStack};
@@ -69,8 +69,11 @@ impl<'a, P: PtrKey, T: Drop, S: SlotStack<Item = ArenaSlot<P, LinkNoGen<P, T>>>>
         back: Option<P::Inx>,
         left: usize,
     ) -> Self
-        requires { IsOnLinks (link_map (links_view P.Inx.packed_number arena.now))
-            (Some (P.Inx.number start)) (option_map P.Inx.number back) }
+        requires agrees { IsWellLinked (link_map (links_view P.Inx.packed_number arena.now)) }
+        requires onward { HasLink (link_map (links_view P.Inx.packed_number arena.now))
+            (P.Inx.number start) }
+        requires behind { IfSome (option_map P.Inx.number back)
+            (HasLink (link_map (links_view P.Inx.packed_number arena.now))) }
         ensures { result ≡ links_ahead (links_view P.Inx.packed_number arena.now) left
             (P.Inx.number start)
             (Some (P.Inx.number start)) (option_map P.Inx.number back) }

@@ -15,7 +15,7 @@ use arena_ptr::{
 };
 use chain_linking::connection::join;
 use chain_linking::insert_position::{is_index, next_of as next_of_link, prev_of as prev_of_link};
-use chain_linking::link_writes::{link_pairs, neighbor};
+use chain_linking::link_writes::{link_pairs, neighbors};
 use chain_links::kinds::Name;
 use chain_links::{Link, LinkInsertKind, LinkNoGen};
 use chain_traits::ChainArenaTrait;
@@ -106,11 +106,7 @@ impl<P: PtrKey, T: Drop, S: SlotStack<Item = ArenaSlot<P, LinkNoGen<P, T>>>> Cha
 
     fn get_link(&self, p: P) -> Option<Link<P, &T>> {
         match self.arena.get(p) {
-            Some(link) => {
-                let prev = neighbor(&self.arena, link.prev());
-                let next = neighbor(&self.arena, link.next());
-                Some(Link::new((prev, next), &link.t))
-            }
+            Some(link) => Some(Link::new(neighbors(&self.arena, link), &link.t)),
             None => None,
         }
     }

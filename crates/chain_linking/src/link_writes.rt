@@ -5,7 +5,7 @@ ghost use Rattle.arena_ptr.specs.Invalidation.{value_within, invalidation_result
 ghost use Rattle.arena_traits.specs.Arena.{entry_at};
 ghost use Rattle.chain_laws.specs.Chains.{IsWellLinked, HasLink};
 ghost use Rattle.chain_links.specs.ChainArena.{link_map, remove_link, entry, named_by, ptr_at};
-ghost use Rattle.chain_links.specs.Links.{links_view, pair_view};
+ghost use Rattle.chain_links.specs.Links.{link_view, links_view, pair_view};
 ghost use Rattle.chain_linking.specs.InsertPositions.{before_in, after_in};
 ghost use Rattle.chain_linking.specs.LinkWrites.{arena_with_next, arena_with_prev, arena_with_pair, arena_with_pairs, numbers, WereBeside};
 
@@ -15,8 +15,8 @@ use arena_base::{Arena, ArenaSlot, ArenaTrait, outcome, proved_unreachable};
 use arena_ptr::{InvalidationResult, InxKey, PtrKey, SlotStack};
 use chain_links::{LinkNoGen, link_access};
 
-/// Returns the current pointer to the link that an interlink names.
-pub fn neighbor<P: PtrKey, T: Drop, S: SlotStack<Item = ArenaSlot<P, LinkNoGen<P, T>>>>(
+// Returns the current pointer to the link that an interlink names.
+fn neighbor<P: PtrKey, T: Drop, S: SlotStack<Item = ArenaSlot<P, LinkNoGen<P, T>>>>(
     arena: &Arena<P, LinkNoGen<P, T>, S>,
     i: Option<P::Inx>,
 ) -> Option<P>
@@ -32,6 +32,25 @@ pub fn neighbor<P: PtrKey, T: Drop, S: SlotStack<Item = ArenaSlot<P, LinkNoGen<P
         },
         None => None,
     }
+}
+
+/// Returns the current pointers to the links before and after a link.
+pub fn neighbors<P: PtrKey, T: Drop, S: SlotStack<Item = ArenaSlot<P, LinkNoGen<P, T>>>>(
+    arena: &Arena<P, LinkNoGen<P, T>, S>,
+    link: &LinkNoGen<P, T>,
+) -> (Option<P>, Option<P>)
+    requires prev { IfSome (link_view P.Inx.packed_number link.now).prev
+        (HasLink (link_map (links_view P.Inx.packed_number arena.now))) }
+    requires next { IfSome (link_view P.Inx.packed_number link.now).next
+        (HasLink (link_map (links_view P.Inx.packed_number arena.now))) }
+    ensures prev { option_map P.key result.0 ≡ option_and_then
+        (ptr_at (entry (links_view P.Inx.packed_number arena.now)))
+        (link_view P.Inx.packed_number link.now).prev }
+    ensures next { option_map P.key result.1 ≡ option_and_then
+        (ptr_at (entry (links_view P.Inx.packed_number arena.now)))
+        (link_view P.Inx.packed_number link.now).next }
+{
+    (neighbor(arena, link.prev()), neighbor(arena, link.next()))
 }
 
 /// Sets the index after the link at `i`, if `i` is an index.

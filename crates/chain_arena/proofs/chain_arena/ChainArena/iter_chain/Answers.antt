@@ -10,18 +10,22 @@ use Rattle.chain_linking.proofs.ConnectionLemmas.{prev_of-view_after, same_valid
 use Rattle.chain_linking.proofs.NeighborLemmas.{prev_named}
 use Rattle.chain_arena.proofs.chain_arena.ChainArena.iter_chain.Goals as goal
 
-pub new-requires : goal.new-requires
-new-requires g c =
+pub new-requires-clause-agrees : goal.new-requires-clause-agrees
+new-requires-clause-agrees g c = c.self.invariant
+
+pub new-requires-clause-onward : goal.new-requires-clause-onward
+new-requires-clause-onward g c =
+    let number = g.P.Inx.InxKey.packed_number in
+    let a = c.self.inside.arena in
+    subst (HasLink (link_map (links_view number a))) (sym c.inx.ensures) (valid_at number a (g.P.PtrKey.key c.args.p) c.in-Some.link.now c.in-Some.ensures.value)
+
+pub new-requires-clause-behind : goal.new-requires-clause-behind
+new-requires-clause-behind g c =
     let number = g.P.Inx.InxKey.packed_number in
     let a = c.self.inside.arena in
     let s = link_map (links_view number a) in
     let p = g.P.PtrKey.key c.args.p in
-    let at = c.in-Some.ensures.value in
-    record {
-      agrees = c.self.invariant;
-      onward = subst (HasLink s) (sym c.inx.ensures) (valid_at number a p c.in-Some.link.now at);
-      behind = subst (λ (o : Option ℕ). IfSome o (HasLink s)) (prev_of-view_after number a p c.in-Some.link.now at ∙ sym c.prev.ensures) (prev_named s p.0 c.self.invariant);
-    }
+    subst (λ (o : Option ℕ). IfSome o (HasLink s)) (prev_of-view_after number a p c.in-Some.link.now c.in-Some.ensures.value ∙ sym c.prev.ensures) (prev_named s p.0 c.self.invariant)
 
 pub returns-in-Some : goal.returns-in-Some
 returns-in-Some g c =
