@@ -38,8 +38,8 @@ pub fn compress_canonical_counted<
     arena.compress_canonical_counted(reset)
 }
 
-/// Forwards to `ChainArena::transfer_canonical_reallocating`, under the clauses on both arenas and on
-/// success within the capacity.
+/// Forwards to `ChainArena::transfer_canonical_reallocating`, under the clauses on both arenas and
+/// on success within the capacity.
 pub fn transfer_canonical_reallocating<
     P: PtrKey,
     T: Drop,

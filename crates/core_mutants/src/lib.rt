@@ -1,6 +1,8 @@
-//! Forwarding wrappers for functions of the crates below `chain_arena`. Each has the clauses of the
-//! original contract that its mutants break: each edit of `must-fail/` replaces a body with a mutant
-//! that these clauses reject, with little to prove.
+//! Forwarding wrappers for functions of the crates below `chain_arena`.
+//!
+//! Each has the clauses of the original contract that its mutants break. Each edit of `must-fail/`
+//! replaces a body with a mutant and checks that these clauses reject it; little has to be proved
+//! here for that.
 #![tactic(auto)]
 
 mod layouts;
