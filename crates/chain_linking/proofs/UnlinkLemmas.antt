@@ -1,11 +1,11 @@
 -- Removals and the other calls on entries in the state of a chain arena.
-use Rattle.std.proofs.Common.{◌≡◌, ℕ, Bool, true, false, Option, None, Some, refl, ap, ap₂, sym, ◌∙◌, subst, ⊎_elim}
-use Rattle.std.specs.Prelude.{◌==◌, if◌then◌else◌}
+use Rattle.std.proofs.Common.{◌≡◌, ◌≢◌, ℕ, Bool, true, false, Option, None, Some, refl, ap, ap₂, sym, ◌∙◌, subst, ⊎_elim}
+use Rattle.std.specs.Prelude.{◌==◌, if◌then◌else◌, IfSome}
 use Rattle.std.proofs.lemmas.Bool.{cases_eq}
 use Rattle.std.specs.Option.{option_map}
 use mathlib.Core.Path.{fun_ext}
 use Rattle.arena_traits.proofs.ArenaViewLemmas.{value_within-made}
-use Rattle.chain_laws.specs.Chains.{LinkMap, IsWellLinked, prev_of, next_of}
+use Rattle.chain_laws.specs.Chains.{LinkMap, IsWellLinked, HasLink, prev_of, next_of}
 use Rattle.chain_laws.specs.Joins.{with_neighbors, with_next, with_prev}
 use Rattle.chain_laws.specs.Removals.{without_link, with_removal, Removes, RemovesPairs}
 use Rattle.chain_laws.proofs.InterlinkLemmas.Inverses.{if_same, if_other}
@@ -19,9 +19,16 @@ use Rattle.arena_traits.proofs.ArenaViewLemmas as seeing
 use Rattle.chain_links.proofs.ArenaInsertionLemmas.{map-if}
 use Rattle.chain_links.proofs.MappedArenaLemmas.{with_each-remove_at}
 use Rattle.chain_links.proofs.LinkStateLemmas.{slot_at-changed}
-use Rattle.chain_linking.specs.LinkWrites.{WereBeside}
 use Rattle.chain_linking.proofs.NeighborLemmas.{apart_named, next_named, prev_named}
 use Rattle.chain_linking.proofs.LinkWriteLemmas.{FitsLinks, FitsLinks-linked, with_link_map-own, link_map-with_link_map, values_of-with_link_map}
+
+-- u and v were beside the link removed from i: they have links, or both are i, which was alone
+-- in a ring.
+pub record WereBeside (link_map : LinkMap) (i : ℕ) (u v : Option ℕ) : Type 0 where
+  pub gone : link_map i ≡ None
+  pub before : u ≢ Some i → IfSome u (HasLink link_map)
+  pub after : u ≢ Some i → IfSome v (HasLink link_map)
+  pub ring : u ≡ Some i → v ≡ Some i
 
 same_if : {X : Type 0} (b : Bool) (x y : X) → x ≡ y → (if b then x else y) ≡ y
 same_if true x y same = same
@@ -118,5 +125,5 @@ module _ {Gen T : Type 0} where
       }
 
   -- A link alone in a ring is removed without a write.
-  pub ring_gone : (a : Arena Gen (LinkView T)) (i : ℕ) (u v : Option ℕ) → WereBeside (link_map a) i u v → u ≡ Some i → a ≡ with_link_map a (with_neighbors (link_map a) u v)
-  ring_gone a i u v were same = with_link_map-own a ∙ ap (with_link_map a) (sym (linked_nowhere (link_map a) i were.gone) ∙ ap₂ (λ (x y : Option ℕ). with_neighbors (link_map a) x y) (sym same) (sym (were.ring same)))
+  pub ring_gone : (a : Arena Gen (LinkView T)) (i : ℕ) (u v : Option ℕ) → link_map a i ≡ None → (u ≡ Some i → v ≡ Some i) → u ≡ Some i → a ≡ with_link_map a (with_neighbors (link_map a) u v)
+  ring_gone a i u v gone ring same = with_link_map-own a ∙ ap (with_link_map a) (sym (linked_nowhere (link_map a) i gone) ∙ ap₂ (λ (x y : Option ℕ). with_neighbors (link_map a) x y) (sym same) (sym (ring same)))

@@ -1,7 +1,7 @@
 -- Writes to interlinks in the state of an arena, which change nothing else.
-use Rattle.std.specs.Prelude.{◌≡◌, ◌≢◌, ℕ, IfSome, Option, None, Some}
+use Rattle.std.specs.Prelude.{◌≡◌, ℕ, Option, None}
 use Rattle.std.specs.Option.{option_map}
-use Rattle.chain_laws.specs.Chains.{LinkMap, HasLink, prev_of, next_of}
+use Rattle.chain_laws.specs.Chains.{LinkMap, prev_of, next_of}
 use Rattle.chain_laws.specs.Joins.{with_next_at, with_prev_at, with_neighbors}
 use Rattle.arena_traits.specs.Arena.{Arena, IsValid}
 use Rattle.chain_links.specs.ChainArena.{LinkView, link_map, with_link_map}
@@ -37,11 +37,3 @@ module _ {Gen T : Type 0} (entry : ℕ → Option (Gen × T)) (interlinks : Link
   pub record IsValidStart : Type 0 where
     pub valid : IsValid entry p
     pub start : prev_of interlinks p.0 ≡ None
-
--- u and v were beside the link removed from i: they have links, or both are i, which was alone
--- in a ring.
-pub record WereBeside (link_map : LinkMap) (i : ℕ) (u v : Option ℕ) : Type 0 where
-  pub gone : link_map i ≡ None
-  pub before : u ≢ Some i → IfSome u (HasLink link_map)
-  pub after : u ≢ Some i → IfSome v (HasLink link_map)
-  pub ring : u ≡ Some i → v ≡ Some i

@@ -16,8 +16,10 @@ pub fn is_end<P: PtrKey, T: Drop, S: SlotStack<Item = ArenaSlot<P, LinkNoGen<P, 
     arena: &Arena<P, LinkNoGen<P, T>, S>,
     p: P,
 ) -> bool
-    ensures { IsTrue result ↔ IsValidEnd (entry (links_view P.Inx.packed_number arena.now))
+    ensures value { IsTrue result ↔ IsValidEnd (entry (links_view P.Inx.packed_number arena.now))
         (link_map (links_view P.Inx.packed_number arena.now)) (P.key p) }
+    ensures occupied { IsTrue result
+        → HasLink (link_map (links_view P.Inx.packed_number arena.now)) (P.key p).0 }
 {
     match arena.get(p) {
         Some(link) => link.next().is_none(),
@@ -30,8 +32,10 @@ pub fn is_start<P: PtrKey, T: Drop, S: SlotStack<Item = ArenaSlot<P, LinkNoGen<P
     arena: &Arena<P, LinkNoGen<P, T>, S>,
     p: P,
 ) -> bool
-    ensures { IsTrue result ↔ IsValidStart (entry (links_view P.Inx.packed_number arena.now))
+    ensures value { IsTrue result ↔ IsValidStart (entry (links_view P.Inx.packed_number arena.now))
         (link_map (links_view P.Inx.packed_number arena.now)) (P.key p) }
+    ensures occupied { IsTrue result
+        → HasLink (link_map (links_view P.Inx.packed_number arena.now)) (P.key p).0 }
 {
     match arena.get(p) {
         Some(link) => link.prev().is_none(),

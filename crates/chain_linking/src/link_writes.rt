@@ -1,5 +1,5 @@
 // Reads and writes links at indexes that are proved occupied, so no write checks for a link.
-ghost use Rattle.std.specs.Prelude.{◌≡◌, IsSome, IfSome, None};
+ghost use Rattle.std.specs.Prelude.{◌≡◌, ◌≢◌, IsSome, IfSome, Some, None};
 ghost use Rattle.std.specs.Option.{option_map, option_and_then};
 ghost use Rattle.arena_ptr.specs.Invalidation.{value_within, invalidation_result};
 ghost use Rattle.arena_traits.specs.Arena.{entry_at};
@@ -7,7 +7,7 @@ ghost use Rattle.chain_laws.specs.Chains.{IsWellLinked, HasLink};
 ghost use Rattle.chain_links.specs.ChainArena.{link_map, remove_link, entry, named_by, ptr_at};
 ghost use Rattle.chain_links.specs.Links.{link_view, links_view, pair_view};
 ghost use Rattle.chain_linking.specs.InsertPositions.{before_in, after_in};
-ghost use Rattle.chain_linking.specs.LinkWrites.{arena_with_next, arena_with_prev, arena_with_pair, arena_with_pairs, numbers, WereBeside};
+ghost use Rattle.chain_linking.specs.LinkWrites.{arena_with_next, arena_with_prev, arena_with_pair, arena_with_pairs, numbers};
 
 use crate::insert_position::InsertPosition;
 use crate::new_link::neighbors_of_position;
@@ -34,7 +34,7 @@ fn neighbor<P: PtrKey, T: Drop, S: SlotStack<Item = ArenaSlot<P, LinkNoGen<P, T>
     }
 }
 
-/// Returns the current pointers to the links before and after a link.
+/// Returns the current pointers to the links before and after a link, both of which must exist.
 pub fn neighbors<P: PtrKey, T: Drop, S: SlotStack<Item = ArenaSlot<P, LinkNoGen<P, T>>>>(
     arena: &Arena<P, LinkNoGen<P, T>, S>,
     link: &LinkNoGen<P, T>,
@@ -95,6 +95,27 @@ pub fn set_prev<P: PtrKey, T: Drop, S: SlotStack<Item = ArenaSlot<P, LinkNoGen<P
     }
 }
 
+// Sets the index after the link at `before`, and then the index before the link at `after`.
+fn write_beside<P: PtrKey, T: Drop, S: SlotStack<Item = ArenaSlot<P, LinkNoGen<P, T>>>>(
+    arena: &mut Arena<P, LinkNoGen<P, T>, S>,
+    before: Option<P::Inx>,
+    next: Option<P::Inx>,
+    after: Option<P::Inx>,
+    prev: Option<P::Inx>,
+)
+    requires before { IfSome (option_map P.Inx.number before)
+        (HasLink (link_map (links_view P.Inx.packed_number arena.old))) }
+    requires after { IfSome (option_map P.Inx.number after)
+        (HasLink (link_map (links_view P.Inx.packed_number arena.old))) }
+    ensures { links_view P.Inx.packed_number arena.new ≡ arena_with_prev
+        (arena_with_next (links_view P.Inx.packed_number arena.old)
+        (option_map P.Inx.number before) (option_map P.Inx.number next))
+        (option_map P.Inx.number after) (option_map P.Inx.number prev) }
+{
+    set_next(arena, before, next);
+    set_prev(arena, after, prev);
+}
+
 /// Links `next` after `prev`. If either is `None`, only the other link is written.
 pub fn link_pair<P: PtrKey, T: Drop, S: SlotStack<Item = ArenaSlot<P, LinkNoGen<P, T>>>>(
     arena: &mut Arena<P, LinkNoGen<P, T>, S>,
@@ -109,8 +130,7 @@ pub fn link_pair<P: PtrKey, T: Drop, S: SlotStack<Item = ArenaSlot<P, LinkNoGen<
         (links_view P.Inx.packed_number arena.old) (option_map P.Inx.number prev)
         (option_map P.Inx.number next) }
 {
-    set_next(arena, prev, next);
-    set_prev(arena, next, prev);
+    write_beside(arena, prev, next, next, prev);
 }
 
 /// Links two pairs, one after another, each as `link_pair` does.
@@ -152,8 +172,7 @@ pub fn update_neighbors<P: PtrKey, T: Drop, S: SlotStack<Item = ArenaSlot<P, Lin
 {
     let i = p.inx();
     let (prev, next) = neighbors_of_position(position, i);
-    set_next(arena, prev, Some(i));
-    set_prev(arena, next, Some(i));
+    write_beside(arena, prev, Some(i), next, Some(i));
 }
 
 // Links the former neighbors of the link removed from `i`, unless it was its own neighbor.
@@ -163,8 +182,15 @@ fn connect_former_neighbors<P: PtrKey, T: Drop, S: SlotStack<Item = ArenaSlot<P,
     prev: Option<P::Inx>,
     next: Option<P::Inx>,
 )
-    requires { WereBeside (link_map (links_view P.Inx.packed_number arena.old)) (P.Inx.number i)
-        (option_map P.Inx.number prev) (option_map P.Inx.number next) }
+    requires gone { link_map (links_view P.Inx.packed_number arena.old) (P.Inx.number i) ≡ None }
+    requires before { option_map P.Inx.number prev ≢ Some (P.Inx.number i)
+        → IfSome (option_map P.Inx.number prev)
+        (HasLink (link_map (links_view P.Inx.packed_number arena.old))) }
+    requires after { option_map P.Inx.number prev ≢ Some (P.Inx.number i)
+        → IfSome (option_map P.Inx.number next)
+        (HasLink (link_map (links_view P.Inx.packed_number arena.old))) }
+    requires ring { option_map P.Inx.number prev ≡ Some (P.Inx.number i)
+        → option_map P.Inx.number next ≡ Some (P.Inx.number i) }
     ensures { links_view P.Inx.packed_number arena.new ≡ arena_with_pair
         (links_view P.Inx.packed_number arena.old) (option_map P.Inx.number prev)
         (option_map P.Inx.number next) }

@@ -11,5 +11,5 @@ returns-then-not-is_same g c = rw c.in-Some.is c.link_pair.ensures
 pub returns-else-not-is_same : goal.returns-else-not-is_same
 returns-else-not-is_same g c =
     let number = g.P.Inx.InxKey.number in
-    ring_gone (links_view g.P.Inx.InxKey.packed_number c.args.arena.now) (number c.args.i) (option_map number c.args.prev) (option_map number c.args.next) c.requires
+    ring_gone (links_view g.P.Inx.InxKey.packed_number c.args.arena.now) (number c.args.i) (option_map number c.args.prev) (option_map number c.args.next) c.requires.gone c.requires.ring
     (rw c.in-Some.is (ap (λ i. Some (number i)) ((g.met.P.Inx.InxKey.same_is_equal c.in-Some.before c.args.i).0 (sym c.is_same.ensures ∙ c.if-not-is_same.false))))

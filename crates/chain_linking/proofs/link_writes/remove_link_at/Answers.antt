@@ -9,11 +9,16 @@ use Rattle.chain_links.specs.Links.{links_view, link_view, pair_view}
 use Rattle.chain_links.proofs.LinkStateLemmas.{entry_at-links_view}
 use Rattle.chain_links.proofs.MappedArenaLemmas.{with_each-remove_at}
 use Rattle.chain_linking.proofs.ConnectionLemmas.{prev_of-view_after, next_of-view_after}
-use Rattle.chain_linking.proofs.UnlinkLemmas.{removal_by_steps, were_beside}
+use Rattle.chain_links.specs.ChainArena.{link_map}
+use Rattle.chain_linking.proofs.UnlinkLemmas.{WereBeside, removal_by_steps, were_beside}
 use Rattle.chain_linking.proofs.link_writes.remove_link_at.Goals as goal
+use Rattle.chain_linking.proofs.link_writes.remove_link_at.Goals.{After-next}
+use Rattle.chain_linking.proofs.link_writes.remove_link_at.Given.{Over}
 
-pub connect_former_neighbors-requires : goal.connect_former_neighbors-requires
-connect_former_neighbors-requires g c =
+beside : (g : Over) (c : After-next g)
+    → WereBeside (link_map (links_view g.P.Inx.InxKey.packed_number c.remove_inx.new.self)) (g.P.Inx.InxKey.number c.args.i)
+    (option_map g.P.Inx.InxKey.number c.prev.result) (option_map g.P.Inx.InxKey.number c.next.result)
+beside g c =
     let number = g.P.Inx.InxKey.number in
     let packed = g.P.Inx.InxKey.packed_number in
     let a = c.args.arena.now in
@@ -25,6 +30,18 @@ connect_former_neighbors-requires g c =
     were_beside g.P.Gen.GenKey.following (links_view packed a) (links_view packed c.remove_inx.new.self) n _ _
     (ap (links_view packed) (c.remove_inx.ensures.more (ap is_some stored)) ∙ with_each-remove_at (link_view packed) g.P.Gen.GenKey.following a n) c.requires
     (named_prev ∙ sym (prev_of-view_after packed a (n, c.in-Some.generation) link stored)) (named_next ∙ sym (next_of-view_after packed a (n, c.in-Some.generation) link stored))
+
+pub connect_former_neighbors-requires-clause-gone : goal.connect_former_neighbors-requires-clause-gone
+connect_former_neighbors-requires-clause-gone g c = (beside g c).gone
+
+pub connect_former_neighbors-requires-clause-before : goal.connect_former_neighbors-requires-clause-before
+connect_former_neighbors-requires-clause-before g c = (beside g c).before
+
+pub connect_former_neighbors-requires-clause-after : goal.connect_former_neighbors-requires-clause-after
+connect_former_neighbors-requires-clause-after g c = (beside g c).after
+
+pub connect_former_neighbors-requires-clause-ring : goal.connect_former_neighbors-requires-clause-ring
+connect_former_neighbors-requires-clause-ring g c = (beside g c).ring
 
 pub returns-in-Some-clause-returned : goal.returns-in-Some-clause-returned
 returns-in-Some-clause-returned g c =
