@@ -4,10 +4,21 @@ use Rattle.arena_traits.specs.Arena.{slot_at}
 use Rattle.arena_base.specs.DetachedSlots.{DetachedView}
 use Rattle.chain_compaction.specs.Permutations.{IsInBlock, waiting_count, destination_of, Settles, IsWorkOn}
 use Rattle.chain_compaction.proofs.BlockTurnLemmas.{listing_ends, sum_decreases-round, touches_round, none_left, below_bound}
-use Rattle.chain_compaction.proofs.PermutationStepLemmas.{settle_reads, settling_joins}
+use Rattle.chain_compaction.proofs.PermutationStepLemmas.{IsBlockRead, settle_reads, settling_joins}
 use Rattle.chain_compaction.proofs.PermutationLoopLemmas.{rounds_start, rounds_continue, rounds_stop}
 use Rattle.chain_compaction.proofs.LinkLoanLemmas.{same_then, counts_on, capacity_then, maximum_then}
+use Rattle.chain_compaction.proofs.permute.settle_block.Given.{Over}
+use Rattle.chain_compaction.proofs.permute.settle_block.Goals.{After-settle_round-arg-in-loop-left-1}
 use Rattle.chain_compaction.proofs.permute.settle_block.Goals as goal
+
+-- The positions and the moves so far, after the reads before a round.
+here : (g : Over) (c : After-settle_round-arg-in-loop-left-1 g) → IsBlockRead (destination_of g.P.Inx.InxKey.packed_number) (Settles g.P.Inx.InxKey.packed_number c.args.generation) c.args.start c.args.count
+    c.loop-left.positions c.loop-left.left c.args.compactor.now.held c.loop-left.compactor.held c.read_destinations-reads_ahead.new.compactor.held
+here g c =
+    let packed_number = g.P.Inx.InxKey.packed_number in
+    let inv = c.loop-left.invariant in
+    settle_reads (destination_of packed_number) (Settles packed_number c.args.generation) c.args.start c.args.count c.loop-left.positions c.loop-left.left c.args.compactor.now.held c.loop-left.compactor.held
+    c.read_destinations-reads_ahead.new.compactor.held c.read_destinations-reads_ahead.ensures.held inv.lists inv.settles inv.capacity inv.maximum
 
 pub loop-left-init : goal.loop-left-init
 loop-left-init g c =
@@ -33,44 +44,16 @@ pub settle_round-left-requires-clause-count : goal.settle_round-left-requires-cl
 settle_round-left-requires-clause-count g c = c.requires.count
 
 pub settle_round-left-requires-clause-block : goal.settle_round-left-requires-clause-block
-settle_round-left-requires-clause-block g c =
-    let packed_number = g.P.Inx.InxKey.packed_number in
-    let target = destination_of packed_number in
-    let inv = c.loop-left.invariant in
-    let kept = c.read_destinations-reads_ahead.ensures.held in
-    let here = settle_reads target (Settles packed_number c.args.generation) c.args.start c.args.count c.loop-left.positions c.loop-left.left c.args.compactor.now.held c.loop-left.compactor.held c.read_destinations-reads_ahead.new.compactor.held kept
-    inv.lists inv.settles inv.capacity inv.maximum in
-    omega (arith, here.settles.length, c.requires.block)
+settle_round-left-requires-clause-block g c = omega (arith, (here g c).settles.length, c.requires.block)
 
 pub settle_round-left-requires-clause-fits : goal.settle_round-left-requires-clause-fits
-settle_round-left-requires-clause-fits g c =
-    let packed_number = g.P.Inx.InxKey.packed_number in
-    let target = destination_of packed_number in
-    let inv = c.loop-left.invariant in
-    let kept = c.read_destinations-reads_ahead.ensures.held in
-    let here = settle_reads target (Settles packed_number c.args.generation) c.args.start c.args.count c.loop-left.positions c.loop-left.left c.args.compactor.now.held c.loop-left.compactor.held c.read_destinations-reads_ahead.new.compactor.held kept
-    inv.lists inv.settles inv.capacity inv.maximum in
-    omega (arith, here.settles.length, c.requires.fits)
+settle_round-left-requires-clause-fits g c = omega (arith, (here g c).settles.length, c.requires.fits)
 
 pub settle_round-left-requires-clause-within : goal.settle_round-left-requires-clause-within
-settle_round-left-requires-clause-within g c =
-    let packed_number = g.P.Inx.InxKey.packed_number in
-    let target = destination_of packed_number in
-    let inv = c.loop-left.invariant in
-    let kept = c.read_destinations-reads_ahead.ensures.held in
-    let here = settle_reads target (Settles packed_number c.args.generation) c.args.start c.args.count c.loop-left.positions c.loop-left.left c.args.compactor.now.held c.loop-left.compactor.held c.read_destinations-reads_ahead.new.compactor.held kept
-    inv.lists inv.settles inv.capacity inv.maximum in
-    here.settles.within c.requires.within
+settle_round-left-requires-clause-within g c = (here g c).settles.within c.requires.within
 
 pub settle_round-left-requires-clause-lists : goal.settle_round-left-requires-clause-lists
-settle_round-left-requires-clause-lists g c =
-    let packed_number = g.P.Inx.InxKey.packed_number in
-    let target = destination_of packed_number in
-    let inv = c.loop-left.invariant in
-    let kept = c.read_destinations-reads_ahead.ensures.held in
-    let here = settle_reads target (Settles packed_number c.args.generation) c.args.start c.args.count c.loop-left.positions c.loop-left.left c.args.compactor.now.held c.loop-left.compactor.held c.read_destinations-reads_ahead.new.compactor.held kept
-    inv.lists inv.settles inv.capacity inv.maximum in
-    here.lists
+settle_round-left-requires-clause-lists g c = (here g c).lists
 
 pub settle_round-left-requires-clause-unplaced : goal.settle_round-left-requires-clause-unplaced
 settle_round-left-requires-clause-unplaced g c =

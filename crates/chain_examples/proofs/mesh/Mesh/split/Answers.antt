@@ -6,7 +6,7 @@ use Rattle.chain_traits.proofs.GenericRemovalLemmas.{same_entry}
 use Rattle.chain_examples.specs.Lists.{Item, IsRing}
 use Rattle.chain_examples.proofs.RingLemmas.{ring_viewed}
 use Rattle.chain_examples.proofs.mesh.Mesh.split.Given.{Over}
-use Rattle.chain_examples.proofs.mesh.Mesh.split.Goals.{After-split_within_capacity}
+use Rattle.chain_examples.proofs.mesh.Mesh.split.Goals.{After-split_within_capacity, After-split_within_capacity-arg-1}
 use Rattle.chain_examples.proofs.mesh.Mesh.split.Goals as goal
 
 module _ (g : Over) (c : After-split_within_capacity g) where
@@ -47,15 +47,15 @@ returns-in_ok-reserve-in-Some-clause-maximum g c = c.split_within_capacity.ensur
 pub split_within_capacity-requires-clause-capacity : goal.split_within_capacity-requires-clause-capacity
 split_within_capacity-requires-clause-capacity g c = omega (arith, ap count c.reserve.ensures.after, c.in_ok-reserve-in-Some.ensures.grown.fits)
 
+-- The growth before a split keeps the entries.
+still : (g : Over) (c : After-split_within_capacity-arg-1 g) → g.A.ArenaTrait.entry c.reserve.new.self ≡ g.A.ArenaTrait.entry c.args.self.now
+still g c = same_entry (λ x. (g.A.ArenaTrait.view x).entries) g.A.ArenaTrait.entry g.met.A.ArenaTrait.finds c.args.self.now c.reserve.new.self (ap (λ s. s.entries) c.reserve.ensures.after)
+
 pub split_within_capacity-requires-clause-first : goal.split_within_capacity-requires-clause-first
-split_within_capacity-requires-clause-first g c =
-    let entry = same_entry (λ x. (g.A.ArenaTrait.view x).entries) g.A.ArenaTrait.entry g.met.A.ArenaTrait.finds c.args.self.now c.reserve.new.self (ap (λ s. s.entries) c.reserve.ensures.after) in
-    rw entry c.in-Some.ensures.first
+split_within_capacity-requires-clause-first g c = rw (still g c) c.in-Some.ensures.first
 
 pub split_within_capacity-requires-clause-second : goal.split_within_capacity-requires-clause-second
-split_within_capacity-requires-clause-second g c =
-    let entry = same_entry (λ x. (g.A.ArenaTrait.view x).entries) g.A.ArenaTrait.entry g.met.A.ArenaTrait.finds c.args.self.now c.reserve.new.self (ap (λ s. s.entries) c.reserve.ensures.after) in
-    rw entry c.in-Some.ensures.second
+split_within_capacity-requires-clause-second g c = rw (still g c) c.in-Some.ensures.second
 
 pub returns-in_ok-reserve-in-Some-clause-beyond : goal.returns-in_ok-reserve-in-Some-clause-beyond
 returns-in_ok-reserve-in-Some-clause-beyond g c = (λ is. absurd (cc), λ past. let refused = c.in_ok-reserve-in-Some.ensures.beyond.1 past.1 in absurd (cc))
