@@ -2,8 +2,11 @@
 use Rattle.std.proofs.Common.{rules}
 use Rattle.core_mutants.proofs.layouts.arrange.Goals as goal
 
-pub arrange-done-requires : goal.arrange-done-requires
-arrange-done-requires g c = record { ready = c.requires.ready; agree = c.requires.agree }
+pub arrange-done-requires-clause-ready : goal.arrange-done-requires-clause-ready
+arrange-done-requires-clause-ready g c = c.requires.ready
+
+pub arrange-done-requires-clause-agree : goal.arrange-done-requires-clause-agree
+arrange-done-requires-clause-agree g c = c.requires.agree
 
 pub returns : goal.returns
 returns g c = search rules fits 100
