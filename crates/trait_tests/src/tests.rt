@@ -1,7 +1,6 @@
 mod advancers;
 mod any_arena;
 mod arena_text;
-mod generic_code;
 mod inherent_calls;
 mod limits;
 mod parser;

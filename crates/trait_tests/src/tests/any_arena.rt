@@ -73,5 +73,5 @@ fn check_over<P: Numbered, S: SlotStack<Item = Slot<P>>>(rt: &impl Abort, alloc:
 #[test]
 fn chain_arenas_and_forwarding_arenas(rt: HostRuntime) {
     check_over::<ToolPtr, HeapStack<Slot<ToolPtr>>>(&rt, rt.alloc());
-    check_over::<ToolPtr, ChunkStack<Slot<ToolPtr>>>(&rt, rt.alloc());
+    check_chains::<ToolPtr, ChunkStack<Slot<ToolPtr>>>(&rt, rt.alloc());
 }

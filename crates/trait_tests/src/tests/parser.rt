@@ -33,7 +33,6 @@ pub(super) enum Do {
     LinkNoGenInx,
     Along,
     AlongAll,
-    CountOfLinks,
     // All links, and advancers over arenas that change.
     All,
     Changes,
@@ -47,7 +46,6 @@ pub(super) enum Do {
     Exchange,
     RemoveLink,
     Canonical,
-    AddBehind,
     TakeNext,
     // Changes of any arena. `ClearAndReserve` reports whether the capacity is kept, `CompressWith`
     // the closure's arguments.
@@ -148,7 +146,7 @@ const LOOKUPS: [(&str, Do); 14] = [
     ("AdvanceEmpty", Do::AdvanceEmpty),
 ];
 
-const LINK_LOOKUPS: [(&str, Do); 11] = [
+const LINK_LOOKUPS: [(&str, Do); 10] = [
     ("CanInsert", Do::CanInsert),
     ("Neighbors", Do::Neighbors),
     ("NeighborsInx", Do::NeighborsInx),
@@ -157,12 +155,11 @@ const LINK_LOOKUPS: [(&str, Do); 11] = [
     ("LinkNoGenInx", Do::LinkNoGenInx),
     ("Along", Do::Along),
     ("AlongAll", Do::AlongAll),
-    ("CountOfLinks", Do::CountOfLinks),
     ("All", Do::All),
     ("Changes", Do::Changes),
 ];
 
-const LINK_CHANGES: [(&str, Do); 11] = [
+const LINK_CHANGES: [(&str, Do); 10] = [
     ("Insert", Do::Insert),
     ("InsertMany", Do::InsertMany),
     ("InsertWithin", Do::InsertWithin),
@@ -172,7 +169,6 @@ const LINK_CHANGES: [(&str, Do); 11] = [
     ("Exchange", Do::Exchange),
     ("RemoveLink", Do::RemoveLink),
     ("Canonical", Do::Canonical),
-    ("AddBehind", Do::AddBehind),
     ("TakeNext", Do::TakeNext),
 ];
 

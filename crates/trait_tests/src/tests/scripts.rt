@@ -1,7 +1,6 @@
 //! Calls on arenas of links as lines of texts, each with the text of its result.
 
 use super::advancers::{changes_met, met, met_along};
-use super::generic_code::{add_behind, count_of_links, remove_and_step};
 use super::parser::{Do, ParsedCall};
 use super::transfers::run_transfer;
 use super::{At, Numbered, add_lone, number, numbers, rows_of, same, text};
@@ -115,6 +114,14 @@ fn bare_removal<P: PtrKey>(
     }
 }
 
+// Removes the link at an index, and returns the index of the next link, 0 for none.
+fn take_next<P: PtrKey, A: ChainArenaTrait<P, u32>>(arena: &mut A, i: P::Inx) -> u32 {
+    match arena.remove_inx_link_no_gen(i).allow() {
+        Some((_, link)) => index_number(link.next()),
+        None => 0,
+    }
+}
+
 fn lookup<P: Numbered, A: ChainArenaTrait<P, u32> + Drop>(
     alloc: Global,
     arena: &A,
@@ -180,7 +187,6 @@ fn link_walk_reply<P: Numbered, A: ChainArenaTrait<P, u32>>(
     match parsed.call {
         Do::Along => text(alloc, met_along(arena, parsed.p)),
         Do::AlongAll => text(alloc, walk(arena, alloc, parsed.p)),
-        Do::CountOfLinks => text(alloc, count_of_links(arena)),
         Do::All => text(alloc, rows_of(alloc, arena)),
         _ => None,
     }
@@ -212,8 +218,7 @@ fn change_links<P: Numbered, A: ChainArenaTrait<P, u32> + CompactArenaTrait<P, u
     match parsed.call {
         Do::RemoveLink => text(alloc, bare_removal::<P>(arena.remove_link_no_gen(parsed.p))),
         Do::Canonical => text(alloc, arena.compress_canonical(parsed.n > 0)),
-        Do::AddBehind => text(alloc, add_behind(arena, parsed.p, parsed.t)),
-        Do::TakeNext => text(alloc, index_number(remove_and_step(arena, parsed.i))),
+        Do::TakeNext => text(alloc, take_next(arena, parsed.i)),
         Do::CarryOut | Do::CarryAsFive | Do::CarryToFull | Do::CarryToBare => {
             run_transfer(alloc, arena, parsed.call, parsed.n)
         }

@@ -51,18 +51,18 @@ Remove 2 2 = InvalidPtr
 Invalidate 2 2 = InvalidPtr
 All = [((1, 2), 1, (0, 0), (0, 0))]
 # What removals return and leave.
-# a list of three, by generic code
+# a list of three
 Insert Disconnected 10 = Ok(P0[1](2))
-AddBehind 1 2 20 = Ok(Some(P0[2](2)))
-AddBehind 2 2 30 = Ok(Some(P0[3](2)))
+Insert ChainEnd 1 2 20 = Ok(P0[2](2))
+Insert ChainEnd 2 2 30 = Ok(P0[3](2))
 All = [((1, 2), 10, (0, 0), (2, 2)), ((2, 2), 20, (1, 2), (3, 2)), ((3, 2), 30, (2, 2), (0, 0))]
-AddBehind 1 2 40 = Ok(None)
+Insert ChainEnd 1 2 40 = Err(FailedLinkRequirement)
 Len = 3
 RemoveLink 2 2 = Success((1, 3, 20))
-AddBehind 2 2 50 = Ok(None)
-AddBehind 3 2 60 = Ok(Some(P0[2](4)))
-All = [((1, 2), 10, (0, 0), (3, 2)), ((2, 4), 60, (3, 2), (0, 0)), ((3, 2), 30, (1, 2), (2, 4))]
-CountOfLinks = 3
+Insert ChainEnd 2 2 50 = Err(FailedLinkRequirement)
+Insert ChainEnd 3 2 60 = Ok(P0[2](3))
+All = [((1, 2), 10, (0, 0), (3, 2)), ((2, 3), 60, (3, 2), (0, 0)), ((3, 2), 30, (1, 2), (2, 3))]
+Len = 3
 # the first link of a cycle of two is removed: the other one is its own neighbor
 InsertMany 2 = 2
 Connect 1 2 2 2 = Some(())
