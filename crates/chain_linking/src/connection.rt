@@ -16,7 +16,8 @@ pub fn is_end<P: PtrKey, T: Drop, S: SlotStack<Item = ArenaSlot<P, LinkNoGen<P, 
     arena: &Arena<P, LinkNoGen<P, T>, S>,
     p: P,
 ) -> bool
-    ensures value { IsTrue result ↔ IsValidEnd (entry (links_view P.Inx.packed_number arena.now))
+    ensures value { IsTrue result
+        ↔ IsValidEnd (entry (links_view P.Inx.packed_number arena.now))
         (link_map (links_view P.Inx.packed_number arena.now)) (P.key p) }
     ensures occupied { IsTrue result
         → HasLink (link_map (links_view P.Inx.packed_number arena.now)) (P.key p).0 }
@@ -32,7 +33,8 @@ pub fn is_start<P: PtrKey, T: Drop, S: SlotStack<Item = ArenaSlot<P, LinkNoGen<P
     arena: &Arena<P, LinkNoGen<P, T>, S>,
     p: P,
 ) -> bool
-    ensures value { IsTrue result ↔ IsValidStart (entry (links_view P.Inx.packed_number arena.now))
+    ensures value { IsTrue result
+        ↔ IsValidStart (entry (links_view P.Inx.packed_number arena.now))
         (link_map (links_view P.Inx.packed_number arena.now)) (P.key p) }
     ensures occupied { IsTrue result
         → HasLink (link_map (links_view P.Inx.packed_number arena.now)) (P.key p).0 }

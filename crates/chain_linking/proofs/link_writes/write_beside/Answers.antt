@@ -1,5 +1,5 @@
 -- The first write removes no link.
-use Rattle.std.proofs.Common.{Option, ap, ◌∙◌}
+use Rattle.std.proofs.Common.{ap, ◌∙◌}
 use Rattle.std.specs.Option.{option_map}
 use Rattle.chain_laws.specs.Joins.{with_next_at}
 use Rattle.chain_links.specs.Links.{links_view}
