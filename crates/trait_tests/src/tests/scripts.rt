@@ -3,9 +3,9 @@
 use super::advancers::{changes_met, met, met_along};
 use super::parser::{Do, ParsedCall};
 use super::transfers::run_transfer;
-use super::{At, Numbered, add_lone, number, numbers, rows_of, same, text};
+use super::{At, Numbered, add_lone, number_or_zero, numbers, rows_of, same, text};
 use arena_base::{Advancer, ArenaTrait, CompactArenaTrait};
-use arena_ptr::{AllocError, InvalidationOption, InvalidationResult, InxKey, PtrKey};
+use arena_ptr::{AllocError, InvalidationOption, InvalidationResult, PtrKey};
 use chain_arena::{ChainArenaTrait, Link, LinkNoGen};
 use chain_traits::walks::walk;
 use std::alloc::Global;
@@ -68,17 +68,10 @@ fn entry_value<P: Numbered, T: Drop>(entry: Option<(P::Gen, T)>) -> Option<(u32,
     }
 }
 
-fn index_number<I: InxKey>(i: Option<I>) -> u32 {
-    match i {
-        Some(i) => number(i),
-        None => 0,
-    }
-}
-
 // Returns a link's neighbors as indexes, and its value.
 fn bare<P: PtrKey>(link: &LinkNoGen<P, u32>) -> (u32, u32, u32) {
     let (prev, next) = link.prev_next();
-    (index_number(prev), index_number(next), link.t)
+    (number_or_zero(prev), number_or_zero(next), link.t)
 }
 
 // Returns a link's neighbors as pointers, and its value.
@@ -117,7 +110,7 @@ fn bare_removal<P: PtrKey>(
 // Removes the link at an index, and returns the index of the next link, 0 for none.
 fn take_next<P: PtrKey, A: ChainArenaTrait<P, u32>>(arena: &mut A, i: P::Inx) -> u32 {
     match arena.remove_inx_link_no_gen(i).allow() {
-        Some((_, link)) => index_number(link.next()),
+        Some((_, link)) => number_or_zero(link.next()),
         None => 0,
     }
 }
