@@ -100,8 +100,13 @@ fn count(n: usize) -> u32 {
     u32::try_from(n).unwrap_or(u32::MAX)
 }
 
+// Returns a number as a size. The greatest number is the greatest size.
 fn size(n: u32) -> usize {
-    usize::try_from(n).unwrap_or(usize::MAX)
+    if n == u32::MAX {
+        usize::MAX
+    } else {
+        usize::try_from(n).unwrap_or(usize::MAX)
+    }
 }
 
 // Returns 1 for true.

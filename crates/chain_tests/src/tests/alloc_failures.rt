@@ -15,7 +15,6 @@ use arena_base::ArenaTrait;
 use arena_ptr::SlotStack;
 use std::alloc::Global;
 use std::process::Abort;
-use test_types::FailingStack;
 
 // Calls that need more capacity than a full arena has.
 const GROWTHS: [Do; 7] = [
@@ -198,17 +197,24 @@ fn run_transfer<S: SlotStack<Item = Slot>>(rt: &impl Abort, alloc: Global) -> (b
 }
 
 // Compares a stack that refuses the transfer at first with one that does not.
-fn check_carried<S: SlotStack<Item = Slot>>(rt: &impl Abort, alloc: Global) {
+fn check_carried<F: SlotStack<Item = Slot>, S: SlotStack<Item = Slot>>(
+    rt: &impl Abort,
+    alloc: Global,
+) {
     let (_, want) = run_transfer::<S>(rt, alloc);
-    let got = run_transfer::<FailingStack<S>>(rt, alloc);
+    let got = run_transfer::<F>(rt, alloc);
     same(rt, "refused at first", got, (true, want));
 }
 
-// Checks refusals over any stack. The first call of a list is refused, and the second is not.
-pub(super) fn check_refusals<S: SlotStack<Item = Slot>>(rt: &impl Abort, alloc: Global) {
-    check_growths::<ChainsOver<FailingStack<S>>, ChainsOver<S>>(rt, alloc);
-    check_carried::<S>(rt, alloc);
-    check_refused_list::<FailingStack<S>>(rt, alloc);
+// Checks refusals over a stack `F` that refuses every other growth of `S`. The first call of a list
+// is refused, and the second is not.
+pub(super) fn check_refusals<F: SlotStack<Item = Slot>, S: SlotStack<Item = Slot>>(
+    rt: &impl Abort,
+    alloc: Global,
+) {
+    check_growths::<ChainsOver<F>, ChainsOver<S>>(rt, alloc);
+    check_carried::<F, S>(rt, alloc);
+    check_refused_list::<F>(rt, alloc);
 }
 
 // Checks each call that may request memory: if any one request is refused, nothing changes, and a
@@ -221,21 +227,20 @@ fn check_bearing<A: RunsCalls + Drop>(rt: &impl Abort, alloc: Global, begin: Do)
     }
 }
 
-fn check_bearing_links<S: SlotStack<Item = Slot>>(rt: &impl Abort, alloc: Global) {
+pub(super) fn check_requests<S: SlotStack<Item = Slot>>(rt: &impl Abort, alloc: Global) {
     for begin in [Do::Fill, Do::Dig] {
         check_bearing::<ChainsOver<S>>(rt, alloc, begin);
     }
     let _ = run_transfer::<S>(rt, alloc);
 }
 
-// Checks also a copy to a plain arena, which is not refused twice.
-pub(super) fn check_requests<S: SlotStack<Item = Slot>, A: PlainArena>(
+// Checks a copy to a plain arena, which is not refused twice.
+pub(super) fn check_copy_requests<S: SlotStack<Item = Slot>, A: PlainArena>(
     rt: &impl Abort,
     alloc: Global,
 ) {
-    check_bearing_links::<S>(rt, alloc);
-    let [first, _, second, _] = copied_twice::<S, A>(alloc, &mut A::new(alloc));
-    let is_copied = first.contains("(Ok(())") || second.contains("(Ok(())");
+    let texts = copied_twice::<S, A>(alloc, &mut A::new(alloc));
+    let is_copied = texts[0].contains("(Ok(())") || texts[2].contains("(Ok(())");
     same(rt, "a copy", is_copied, true);
 }
 

@@ -1,6 +1,6 @@
 //! Runs the tests of links of numbers over each stack.
 
-use super::alloc_failures::{check_refusals, check_requests, next_is_refused};
+use super::alloc_failures::{check_copy_requests, check_refusals, check_requests, next_is_refused};
 use super::call_lists::{check_every_reply, check_lists};
 use super::canonical::{check_bounds, layouts};
 use super::consistency::{check_accepted, check_rows};
@@ -54,10 +54,40 @@ fn check_calls<S: SlotStack<Item = Slot>>(rt: &impl Abort, alloc: Global) {
     plays_on::<ChainsOver<S>>(rt, alloc, copies());
 }
 
+// Runs the copies to a plain arena over a stack that refuses every other growth, or of which each
+// request for memory may be refused.
+fn check_plain<S: SlotStack<Item = Slot>, R: SlotStack<Item = Bare>>(
+    rt: &impl Abort,
+    alloc: Global,
+    refuses: bool,
+) {
+    if refuses {
+        check_refused_copies::<S, Plain<R>>(rt, alloc);
+    } else {
+        check_copy_requests::<S, Plain<R>>(rt, alloc);
+    }
+}
+
 fn check_refused_copies<S: SlotStack<Item = Slot>, A: PlainArena>(rt: &impl Abort, alloc: Global) {
-    check_refusals::<S>(rt, alloc);
     check_refused_copy::<S, A>(rt, alloc);
     check_refused_beside_holes::<S, A>(rt, alloc);
+}
+
+// Checks refusals over a stack `F` of links that refuses every other growth of `S`.
+fn check_refusing<F: SlotStack<Item = Slot>, S: SlotStack<Item = Slot>, R: SlotStack<Item = Bare>>(
+    rt: &impl Abort,
+    alloc: Global,
+) {
+    check_refusals::<F, S>(rt, alloc);
+    check_plain::<S, R>(rt, alloc, true);
+}
+
+fn check_all_requests<S: SlotStack<Item = Slot>, R: SlotStack<Item = Bare>>(
+    rt: &impl Abort,
+    alloc: Global,
+) {
+    check_requests::<S>(rt, alloc);
+    check_plain::<S, R>(rt, alloc, false);
 }
 
 fn check_no_requests<S: SlotStack<Item = Slot>>(rt: &impl Abort, alloc: Global) {
@@ -72,8 +102,8 @@ fn check<S: SlotStack<Item = Slot>, R: SlotStack<Item = Bare>>(
 ) {
     match part {
         Part::Calls => check_calls::<S>(rt, alloc),
-        Part::Refusals => check_refused_copies::<S, Plain<FailingStack<R>>>(rt, alloc),
-        Part::Requests => check_requests::<S, Plain<R>>(rt, alloc),
+        Part::Refusals => check_refusing::<FailingStack<S>, S, FailingStack<R>>(rt, alloc),
+        Part::Requests => check_all_requests::<S, R>(rt, alloc),
         Part::NoRequests => check_no_requests::<S>(rt, alloc),
     }
 }

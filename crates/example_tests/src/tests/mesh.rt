@@ -164,30 +164,53 @@ fn change<P: Named, A: ChainArenaTrait<P, u32> + Drop>(
         Op::Cut => done(mesh.cut(p, q)),
         Op::Merge => done(mesh.merge(p, q)),
         Op::Remove => removed(mesh.remove(p)),
-        Op::Reserve => flag(is_reserved(mesh.reserve(3)) && mesh.capacity() >= 3),
-        Op::StartWithin => {
-            let capacity = mesh.capacity();
-            let started = number_of(mesh.start(m).ok());
-            if mesh.capacity() == capacity {
-                started
-            } else {
-                0
-            }
-        }
-        Op::Count => count(mesh.len()),
-        Op::IsNew => {
-            flag(mesh.is_empty() && mesh.capacity() == 0 && mesh.max_capacity().is_none())
-        }
+        Op::StartWithin => start_within(mesh, m),
+        _ => reserve_or_look_up(mesh, op),
     }
 }
 
-// Returns the first row that does not hold: a call yields its number, at least on a second attempt,
-// and then the corners are as they should be. So a refusal changes nothing.
+// Returns the new corner's pointer, or 0 if it is refused or the capacity changes.
+fn start_within<P: Named, A: ChainArenaTrait<P, u32> + Drop>(
+    mesh: &mut Polygons<P, A>,
+    point: u32,
+) -> u32 {
+    let capacity = mesh.capacity();
+    let started = number_of(mesh.start(point).ok());
+    if mesh.capacity() == capacity {
+        started
+    } else {
+        0
+    }
+}
+
+fn reserve_or_look_up<P: Named, A: ChainArenaTrait<P, u32> + Drop>(
+    mesh: &mut Polygons<P, A>,
+    op: Op,
+) -> u32 {
+    match op {
+        Op::Reserve => flag(is_reserved(mesh.reserve(3)) && mesh.capacity() >= 3),
+        Op::IsNew => {
+            flag(mesh.is_empty() && mesh.capacity() == 0 && mesh.max_capacity().is_none())
+        }
+        _ => count(mesh.len()),
+    }
+}
+
+// Returns whether a call yields its number, at least on a second attempt, and then the corners are
+// as they should be. So a refusal changes nothing.
+fn holds<P: Named, A: ChainArenaTrait<P, u32> + Drop>(
+    mesh: &mut Polygons<P, A>,
+    row: &Row,
+) -> bool {
+    let is_done = change(mesh, row) == row.3 || change(mesh, row) == row.3;
+    is_done && contents(mesh, &CORNERS) == row.4 && contents(mesh, &OTHERS) == row.5
+}
+
+// Returns the first row that does not hold.
 fn first_wrong<P: Named, A: ChainArenaTrait<P, u32> + Drop>(alloc: Global, rows: &[Row]) -> Wrong {
     let mut mesh = Polygons::<P, A>::new(alloc);
     for (place, row) in rows.iter().enumerate() {
-        let is_done = change(&mut mesh, row) == row.3 || change(&mut mesh, row) == row.3;
-        if !is_done || contents(&mesh, &CORNERS) != row.4 || contents(&mesh, &OTHERS) != row.5 {
+        if !holds(&mut mesh, row) {
             return Some(place);
         }
     }

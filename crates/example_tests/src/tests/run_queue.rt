@@ -26,9 +26,8 @@ enum Op {
     // The task, which `Write` replaces, or 0 if there is none.
     Read,
     Write,
-    // 1 if the queue has, or gets, capacity for this many more tasks, or for the greatest number.
+    // 1 if the queue has, or gets, capacity for this many more tasks.
     Reserve,
-    ReserveAll,
     // The number of tasks; 1 if there are none; 1 if the capacity suffices for them, without a
     // maximum.
     Count,
@@ -51,7 +50,7 @@ const ROWS: [Row; 31] = [
     (Op::Next, 0, 0, 0, 0),
     (Op::IsEmpty, 0, 0, 1, 0),
     (Op::Reserve, 3, 0, 1, 0),
-    (Op::ReserveAll, 0, 0, 0, 0),
+    (Op::Reserve, u32::MAX, 0, 0, 0),
     (Op::Spawn, 0, 4, 0x12, 4),
     (Op::Spawn, 0, 5, 0x22, 54),
     (Op::Spawn, 0, 6, 0x32, 564),
@@ -138,17 +137,29 @@ fn change<P: Named, A: ChainArenaTrait<P, u32> + Drop>(
     row: &Row,
 ) -> u32 {
     let (op, n, task, _, _) = *row;
-    let (p, n) = (P::at(n), size(n));
+    let p = P::at(n);
     match op {
         Op::Spawn => number_of(queue.spawn(task).ok()),
         Op::Next => number_of(queue.next()),
-        Op::Turns => turns(queue, n),
+        Op::Turns => turns(queue, size(n)),
         Op::Cancel => removed(queue.cancel(p)),
         Op::Write => write(queue, p, task),
-        Op::Reserve => {
-            flag(is_reserved(queue.reserve(n)) && queue.capacity() - queue.len() >= n)
-        }
-        Op::ReserveAll => flag(is_reserved(queue.reserve(usize::MAX))),
+        Op::Reserve => reserve(queue, size(n)),
+        _ => drain_or_look_up(alloc, queue, op, p),
+    }
+}
+
+fn reserve<P: Named, A: ChainArenaTrait<P, u32> + Drop>(queue: &mut Queue<P, A>, n: usize) -> u32 {
+    flag(is_reserved(queue.reserve(n)) && queue.capacity() - queue.len() >= n)
+}
+
+fn drain_or_look_up<P: Named, A: ChainArenaTrait<P, u32> + Drop>(
+    alloc: Global,
+    queue: &mut Queue<P, A>,
+    op: Op,
+    p: P,
+) -> u32 {
+    match op {
         Op::Drain => drain(alloc, queue),
         Op::DrainRefused => flag(queue.drain_all(NoMemory).is_err()),
         _ => look_up(queue, op, p),
@@ -168,8 +179,19 @@ fn look_up<P: Named, A: ChainArenaTrait<P, u32> + Drop>(queue: &Queue<P, A>, op:
     }
 }
 
-// Returns the first row that does not hold: a call yields its number, at least on a second attempt,
-// and then the tasks are as they should be. So a refusal changes nothing.
+// Returns whether a call yields its number, at least on a second attempt, and then the tasks are as
+// they should be. So a refusal changes nothing.
+fn holds<P: Named, A: ChainArenaTrait<P, u32> + Drop>(
+    alloc: Global,
+    queue: &mut Queue<P, A>,
+    row: &Row,
+) -> bool {
+    let is_done = change(alloc, queue, row) == row.3 || change(alloc, queue, row) == row.3;
+    let count = queue.len();
+    is_done && turns(queue, count) == row.4
+}
+
+// Returns the first row that does not hold.
 pub(super) fn wrong<P: Named, A: ChainArenaTrait<P, u32> + Drop>(
     alloc: Global,
     refuses: bool,
@@ -177,10 +199,7 @@ pub(super) fn wrong<P: Named, A: ChainArenaTrait<P, u32> + Drop>(
     let mut queue = Queue::<P, A>::new(alloc);
     let rows: &[Row] = if refuses { &REFUSED } else { &ROWS };
     for (place, row) in rows.iter().enumerate() {
-        let is_done = change(alloc, &mut queue, row) == row.3
-            || change(alloc, &mut queue, row) == row.3;
-        let count = queue.len();
-        if !is_done || turns(&mut queue, count) != row.4 {
+        if !holds(alloc, &mut queue, row) {
             return Some(place);
         }
     }
