@@ -1,5 +1,5 @@
-//! Tests of the lower crates: numbers, pointers, results, slot stacks, the arena over them,
-//! and links.
+//! Tests of numbers, pointers, stacks and links, of plain arenas, and of arenas of links by their
+//! traits.
 #![tactic(auto)]
 
 #[cfg(test)]

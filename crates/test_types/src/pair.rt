@@ -1,9 +1,10 @@
 //! Pointers that are a pair of any index and any generation.
 
 use arena_ptr::{Ptr, PtrGen, PtrInx};
+use std::fmt;
 
 /// A pointer of an index and a generation of any types.
-#[derive(Clone, Copy, Debug, PartialEq, Eq, PartialOrd, Ord, Hash)]
+#[derive(Clone, Copy, PartialEq, Eq, PartialOrd, Ord, Hash)]
 pub struct Pair<I, G> {
     inx: I,
     generation: G,
@@ -65,5 +66,13 @@ impl<I: PtrInx, G: PtrGen> Ptr for Pair<I, G> {
 
     fn _from_raw(inx: I, generation: G) -> Self {
         Pair { inx, generation }
+    }
+}
+
+impl<I: PtrInx, G: PtrGen> fmt::Debug for Pair<I, G> {
+    /// Writes the index, then the generation in parentheses if there is one, as `1(2)`.
+    fn fmt<W: fmt::Write>(&self, f: &mut fmt::Formatter<W>) -> fmt::Result {
+        self.inx.fmt_hex(f)?;
+        self.generation.fmt_gen(f)
     }
 }

@@ -1,163 +1,186 @@
-// Tests of arenas with a maximum, and of values and growths that are refused.
-use crate::tests::calls::check_scripts;
-use crate::tests::pointers::{Numbered, SmallPtr};
-use crate::tests::scripts::{Call, Row, RunsCalls, run_rows};
-use crate::tests::support::{Slot, equal};
-use arena_base::{Arena, ArenaSlot, ArenaTrait};
-use arena_ptr::{
-    HeapStack, LimitStack, LimitedStack, MaxCapacityReductionError, PtrKey, SetMaxCapacity,
-    SlotStack,
-};
+//! Tests of other pointers (greatest index, greatest generation, wide indexes, no generations) and
+//! of a maximum.
+
+use super::pointers::{BarePtr, SmallPtr, TinyPtr, WidePtr};
+use super::scripts::plays;
+use super::{Numbered, Slot, limited};
+use arena_base::{ArenaSlot, ArenaTrait};
+use arena_ptr::{ChunkStack, HeapStack, LimitStack, LimitedStack, PtrKey, SlotStack};
+use chain_arena::{ChainArena, ChainArenaTrait, LinkInsertKind, LinkNoGen};
 use std::alloc::Global;
 use std::process::Abort;
 use std::rc::Rc;
-use test_types::FailingStack;
 
-// A slot for a shared value, whose strong count is the number of its copies.
-type Shared<P> = ArenaSlot<P, Rc<u8>>;
+const INDEXES: &str = "\
+# 255 links fill it
+InsertMany 255 = 255
+Capacities = (255, 255)
+Insert Disconnected 256 = Err(AllocError)
+Reserve 256 = Err(AllocError)
+Capacities = (255, 255)
+# capacity up to the greatest index, where doubling would be more, and in a new arena
+Reserve 255 = Ok(())
+Capacities = (0, 255)
+WithMinCapacity 200 = Ok((true, true))
+WithMinCapacity 255 = Ok((true, true))
+WithMinCapacity 256 = Err(AllocError)
+# the same beside a link
+InsertMany 1 = 1
+Reserve 255 = Ok(())
+Capacities = (1, 255)
+# a link of a ring of two is removed; the next one has its index and an equal pointer
+Insert Disconnected 1 = Ok(1)
+Insert Disconnected 2 = Ok(2)
+Connect 1 0 2 0 = Some(())
+Connect 2 0 1 0 = Some(())
+All = [((1, 0), 1, (2, 0), (2, 0)), ((2, 0), 2, (1, 0), (1, 0))]
+Remove 2 0 = Success(2)
+Link 2 0 = None
+All = [((1, 0), 1, (1, 0), (1, 0))]
+Insert Disconnected 9 = Ok(2)
+Link 2 0 = Some(((0, 0), (0, 0), 9))
+All = [((1, 0), 1, (1, 0), (1, 0)), ((2, 0), 9, (0, 0), (0, 0))]
+# no generations
+InsertMany 2 = 2
+Connect 1 2 2 2 = Some(())
+Connect 2 2 1 2 = Some(())
+CarryOut 3 = (Ok(()), [(1, 1, false, P0[1](3)), (2, 2, false, P0[2](3))]) ({P0[1](3): {2, 2} 11, P0[2](3): {1, 1} 22}, Gen32 { number: 3 }, Some(1000), true)
+Len = 0
+Counter = Some(0)
+";
 
-// Two slots at most, which are used up.
-static WITHIN: [Row; 4] = [
-    (Call::Insert(1), "Ok(1.2)"),
-    (Call::Insert(2), "Ok(2.2)"),
-    (Call::Insert(3), "Err(BeyondMaxCapacity)"),
-    (Call::InsertWithin(3), "Err(NotWithinCapacityError)"),
-];
+const GENERATIONS: &str = "\
+# the counter overflows by a removal, and once more by a clear; a clear of no links leaves it
+Insert Disconnected 1 = Ok(1(2))
+Insert Disconnected 2 = Ok(2(2))
+SetGeneration 255 = ()
+Counter = Some(255)
+Remove 1 2 = GenerationOverflow(1)
+Counter = Some(2)
+SetGeneration 255 = ()
+Clear = GenerationOverflow(())
+Clear = Success(())
+Counter = Some(2)
+# the counter overflows by a compression, after which each link has the counter
+SetGeneration 255 = ()
+Insert Disconnected 1 = Ok(1(ff))
+Insert Disconnected 2 = Ok(2(ff))
+Canonical 0 = GenerationOverflow(())
+Counter = Some(2)
+All = [((1, 2), 1, (0, 0), (0, 0)), ((2, 2), 2, (0, 0), (0, 0))]
+# the counter overflows by the second link of a drained chain
+SetGeneration 254 = ()
+InsertMany 2 = 2
+Connect 1 254 2 254 = Some(())
+DrainTwo 1 254 = [Some(false), Some(true)]
+IsEmpty = true
+Counter = Some(2)
+# the greatest generation
+SetGeneration 254 = ()
+InsertMany 2 = 2
+CarryOut 2 = (Ok(()), [(1(fe), 1, false, P0[1](2)), (2(fe), 2, true, P0[2](2))]) ({P0[1](2): {(start), (end)} 11, P0[2](2): {(start), (end)} 22}, Gen32 { number: 2 }, Some(1000), true)
+Len = 0
+Counter = Some(2)
+";
 
-// A copy of three slots, one of them free, is refused.
-static COPIED: [Row; 4] = [
-    (Call::Insert(5), "Ok(1.2)"),
-    (Call::CopyHole, "(Err(BeyondMaxCapacity), 1, 0)"),
-    (Call::Get(1, 2), "Some(5)"),
-    (Call::Insert(6), "Ok(2.2)"),
-];
+// An 8-bit index under a maximum of 255.
+const UNDER_255: &str = "\
+InsertMany 255 = 255
+Insert Disconnected 256 = Err(BeyondMaxCapacity)
+";
 
-// What both tables leave.
-static USED_UP: [Row; 3] = [
-    (Call::Len, "2"),
-    (Call::Capacity, "2"),
-    (Call::Maximum, "Some(2)"),
-];
+// An 8-bit index under a maximum of two. The maximum is tested first, but a new arena has none.
+const UNDER_TWO: &str = "\
+Reserve 256 = Err(BeyondMaxCapacity)
+WithMinCapacity 256 = Err(AllocError)
+";
 
-// Checks each call under a maximum of two, which cannot be lowered then.
-fn check_within<A: RunsCalls + SetMaxCapacity + Drop>(
+// Wide indexes: a chain of 3 and 1, and a lone link between them.
+const WIDE: &str = "\
+# wide indexes
+InsertMany 3 = 3
+Connect 3 2 1 2 = Some(())
+CarryOut 7 = (Ok(()), [(3(2), 3, false, P0[1](7)), (1(2), 1, false, P0[2](7)), (2(2), 2, false, P0[3](7))]) ({P0[1](7): {(start), 2} 13, P0[2](7): {1, (end)} 21, P0[3](7): {(start), (end)} 32}, Gen32 { number: 7 }, Some(1000), true)
+Len = 0
+Counter = Some(5)
+";
+
+const TWO_INDEXES: &str = "\
+# two links form a ring, and a third one is refused since no index is left
+Capacities = (0, 0)
+Insert Disconnected 1 = Ok(1)
+Insert Disconnected 2 = Ok(2)
+Connect 1 0 2 0 = Some(())
+Connect 2 0 1 0 = Some(())
+Insert Disconnected 3 = Err(AllocError)
+All = [((1, 0), 1, (2, 0), (2, 0)), ((2, 0), 2, (1, 0), (1, 0))]
+Link 1 0 = Some(((2, 0), (2, 0), 1))
+Link 2 0 = Some(((1, 0), (1, 0), 2))
+";
+
+fn plays_at<P: Numbered, S: SlotStack<Item = Slot<P>>>(
     rt: &impl Abort,
     alloc: Global,
-    rows: &[Row],
+    table: &str,
 ) {
-    let mut arena = A::fresh(alloc);
-    equal(rt, "a maximum", arena.set_max_capacity(2), Ok(()));
-    run_rows(rt, alloc, &mut arena, rows);
-    let less = arena.set_max_capacity(1);
-    equal(rt, "less", less, Err(MaxCapacityReductionError));
-    run_rows(rt, alloc, &mut arena, &USED_UP);
+    let mut arena: ChainArena<P, u32, S> = ChainArena::new(alloc);
+    plays(rt, alloc, &mut arena, table);
 }
 
-fn check_limited<A: RunsCalls + SetMaxCapacity + Drop>(rt: &impl Abort, alloc: Global) {
-    check_scripts::<A>(rt, alloc);
-    check_within::<A>(rt, alloc, &WITHIN);
-    check_within::<A>(rt, alloc, &COPIED);
-}
-
-fn check_refused<A: RunsCalls + Drop>(rt: &impl Abort, alloc: Global) {
-    run_rows(rt, alloc, &mut A::fresh(alloc), &EVERY_OTHER);
-}
-
-// Offers 600 values to an arena, which drops those that it refuses.
-fn pass_many<P: PtrKey, S: SlotStack<Item = Shared<P>>>(
-    rt: &impl Abort,
-    arena: &mut Arena<P, Rc<u8>, S>,
-    value: &Rc<u8>,
-) {
-    for _ in 0..300 {
-        let _ = arena.insert_within_capacity(value.clone().expect(rt, "one more"));
-        let _ = arena.insert_reallocating(value.clone().expect(rt, "one more"));
-    }
-}
-
-// Offers them to a new arena, and returns its length and the number of copies.
-fn passed_values<P: PtrKey, S: LimitStack<Item = Shared<P>>>(
+fn plays_under<P: Numbered, S: LimitStack<Item = Slot<P>>>(
     rt: &impl Abort,
     alloc: Global,
     most: usize,
-) -> (usize, usize) {
-    let value = Rc::new(alloc, 5).ok().expect(rt, "memory");
-    let mut arena: Arena<P, Rc<u8>, S> = Arena::new(alloc);
-    let _ = arena.set_max_capacity(most);
-    pass_many(rt, &mut arena, &value);
-    (arena.len(), Rc::strong_count(&value))
-}
-
-// A refused value is dropped: only the values in the arena and the original are left.
-fn check_values<P: PtrKey, S: LimitStack<Item = Shared<P>>>(rt: &impl Abort, alloc: Global) {
-    equal(
-        rt,
-        "two values",
-        passed_values::<P, S>(rt, alloc, 2),
-        (2, 3),
-    );
-    equal(
-        rt,
-        "all values",
-        passed_values::<P, S>(rt, alloc, 1000),
-        (255, 256),
-    );
-}
-
-// The first request for an allocation fails, then every other one. A refused call has made one
-// request.
-static EVERY_OTHER: [Row; 25] = [
-    (Call::New, "every other request is refused"),
-    (Call::Insert(1), "Err(AllocError)"),
-    (Call::Insert(1), "Ok(1.2)"),
-    (Call::Insert(2), "Err(AllocError)"),
-    (Call::Insert(2), "Ok(2.2)"),
-    (Call::Reserve(3), "Err(AllocError)"),
-    (Call::Reserve(3), "Ok(())"),
-    // Two of the three insertions into the source of the copy are refused too.
-    (Call::CopyHole, "(Ok(()), 1, 1)"),
-    (Call::Reserve(9), "Err(AllocError)"),
-    (Call::Capacity, "4"),
-    (Call::Born(3), "None"),
-    (
-        Call::New,
-        "a refusal beside free slots keeps them and their order",
-    ),
-    (Call::InsertMany(4), "2"),
-    (Call::Insert(5), "Err(AllocError)"),
-    (Call::Insert(5), "Ok(3.2)"),
-    (Call::Insert(6), "Ok(4.2)"),
-    (Call::Remove(1, 2), "Success(1)"),
-    (Call::Remove(3, 2), "Success(5)"),
-    (Call::Reserve(9), "Err(AllocError)"),
-    (Call::Capacity, "4"),
-    (Call::Slots, "4"),
-    (Call::DetachedView, "[(2.2, 3), (4.2, 6)]"),
-    (Call::Insert(7), "Ok(3.4)"),
-    (Call::Insert(8), "Ok(1.4)"),
-    (Call::Counter, "Some(4)"),
-];
-
-// Runs each script over a plain stack and one with an optional maximum, and tests refusals. One
-// test names all types, since naming them is the cost.
-fn check_arenas<
-    P: Numbered,
-    H: SlotStack<Item = Slot<P>>,
-    L: LimitStack<Item = Slot<P>>,
-    V: LimitStack<Item = Shared<P>>,
->(rt: &impl Abort, alloc: Global) {
-    check_scripts::<Arena<P, u32, H>>(rt, alloc);
-    check_limited::<Arena<P, u32, L>>(rt, alloc);
-    check_refused::<Arena<P, u32, FailingStack<H>>>(rt, alloc);
-    check_values::<P, V>(rt, alloc);
+    table: &str,
+) {
+    let mut arena: ChainArena<P, u32, S> = limited(alloc, most);
+    plays(rt, alloc, &mut arena, table);
 }
 
 #[test]
-fn arenas_over_both_stacks(rt: HostRuntime) {
-    check_arenas::<
-        SmallPtr,
-        HeapStack<Slot<SmallPtr>>,
-        LimitedStack<Slot<SmallPtr>>,
-        LimitedStack<Shared<SmallPtr>>,
-    >(&rt, rt.alloc());
+fn an_index_of_8_bits_under_a_maximum(rt: HostRuntime) {
+    for (most, table) in [(255, UNDER_255), (2, UNDER_TWO)] {
+        plays_under::<BarePtr, LimitedStack<Slot<BarePtr>>>(&rt, rt.alloc(), most, table);
+    }
+}
+
+// Each arena is passed to the body of the rows once, since that is the cost.
+#[test]
+fn other_pointers(rt: HostRuntime) {
+    let alloc = rt.alloc();
+    plays_at::<BarePtr, HeapStack<Slot<BarePtr>>>(&rt, alloc, INDEXES);
+    plays_at::<BarePtr, ChunkStack<Slot<BarePtr>>>(&rt, alloc, INDEXES);
+    plays_at::<SmallPtr, HeapStack<Slot<SmallPtr>>>(&rt, alloc, GENERATIONS);
+    plays_at::<TinyPtr, HeapStack<Slot<TinyPtr>>>(&rt, alloc, TWO_INDEXES);
+    plays_at::<WidePtr, LimitedStack<Slot<WidePtr>>>(&rt, alloc, WIDE);
+}
+
+// A slot for a shared value, whose strong count is the number of its copies.
+type Shared<P> = ArenaSlot<P, LinkNoGen<P, Rc<u8>>>;
+
+// Offers 300 values to an arena with a maximum. Returns its length and the number of copies.
+fn passed_values<P: PtrKey, S: LimitStack<Item = Shared<P>>>(
+    alloc: Global,
+    most: usize,
+) -> (usize, usize) {
+    let Ok(value) = Rc::new(alloc, 5) else {
+        return (0, 0);
+    };
+    let mut arena: ChainArena<P, Rc<u8>, S> = limited(alloc, most);
+    for _ in 0..300 {
+        if let Ok(one) = value.clone() {
+            let _ = arena.insert_reallocating(LinkInsertKind::Disconnected, one);
+        }
+    }
+    (arena.len(), Rc::strong_count(&value))
+}
+
+// A refused value is dropped, by a maximum of two or by the index type. Only the values in the
+// arena and the original are left.
+#[test]
+fn refused_values_are_dropped(rt: HostRuntime) {
+    for (most, left) in [(2, (2, 3)), (1000, (255, 256))] {
+        let passed = passed_values::<BarePtr, LimitedStack<Shared<BarePtr>>>(rt.alloc(), most);
+        assert!(rt; passed == left);
+    }
 }

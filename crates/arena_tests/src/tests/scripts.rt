@@ -1,103 +1,16 @@
-// Calls of arenas as rows of tables, each with the text of its result.
-use crate::tests::copies::copied_hole;
-use crate::tests::pointers::Numbered;
-use crate::tests::support::{Slot, at, index, same, text};
-use arena_base::{Advancer, ArenaCloneFromWith, ArenaTrait};
-use arena_ptr::{InvalidationOption, PtrKey, ReallocationError, SlotStack};
+//! Calls on arenas as lines of texts, each with the text of its result.
+
+use super::advancers::{changes_met, met, met_along};
+use super::parser::{Do, ParsedCall};
+use super::transfers::run_transfer;
+use super::{At, Numbered, add_lone, number_or_zero, numbers, rows_of, same, text};
+use arena_base::{Advancer, ArenaTrait, CompactArenaTrait};
+use arena_ptr::{AllocError, InvalidationOption, InvalidationResult, PtrKey};
+use chain_arena::{ChainArenaTrait, Link, LinkNoGen};
+use chain_traits::walks::walk;
 use std::alloc::Global;
 use std::mem;
 use std::process::Abort;
-
-// A call on an arena. A pointer is its index and its generation.
-#[derive(Clone, Copy)]
-pub(super) enum Call {
-    // Makes a new arena. The text names the rows that follow.
-    New,
-    // Whether an arena made with this minimum capacity is empty and has it.
-    Born(usize),
-    // Reads through the trait.
-    Len,
-    IsEmpty,
-    Capacity,
-    HasCapacity(usize),
-    Maximum,
-    Counter,
-    Contains(u8, u8),
-    Get(u8, u8),
-    GetInx(u8),
-    // The first and the last pointer.
-    Ends,
-    // The first three results of an advancer, of one from an index on, and of an empty one.
-    Advance,
-    AdvanceFrom(u8, bool),
-    AdvanceEmpty,
-    // The pointers and values found by index.
-    DetachedView,
-    // Changes through the trait.
-    Write(u8, u8, u32),
-    WriteInx(u8, u32),
-    Invalidate(u8, u8),
-    Remove(u8, u8),
-    RemoveInx(u8),
-    // A clear, then a reservation of the old capacity: both results, and whether the capacity is
-    // kept.
-    ClearAndReserve,
-    // A compression, and one whose closure adds the number of its call to each value: the result,
-    // and the closure's arguments.
-    Compress(bool),
-    CompressWith(bool),
-    Reserve(usize),
-    // Calls of the arena itself.
-    Insert(u32),
-    InsertMany(u32),
-    InsertWithin(u32),
-    // The pointer of a vacant entry that gets a value or is dropped.
-    Enter(Option<u32>),
-    Generation,
-    SetGeneration(u8),
-    IncGeneration,
-    Slots,
-    Entries,
-    // Drains the entries and consumes the arena.
-    Drain,
-    // A compactor reads the value at an index, overwritten first if another is given. It moves the
-    // entry to another index with a generation, if that is a slot.
-    Compact(u8, u8, u8, Option<u32>),
-    DropCompactor,
-    ForgetCompactor,
-    // A copy of the entries 1, 2 and 3 without the second: ten times each value, plus the number of
-    // the closure's call. Yields the result, the number of entries and the number of calls.
-    CopyHole,
-}
-
-// A call with the text of its result.
-pub(super) type Row = (Call, &'static str);
-
-// Returns the entries of an arena, read by index.
-fn entry_list<P: PtrKey, A: ArenaTrait<P, u32>>(alloc: Global, arena: &A) -> Vec<(P, u32)> {
-    let mut entries = Vec::new(alloc);
-    for n in 1..=u8::MAX {
-        let i = index::<P>(n);
-        if let Some((generation, t)) = arena.get_inx(i) {
-            let _ = entries.push((P::_from_raw(i, generation), *t));
-        }
-    }
-    entries
-}
-
-fn with_number<P: Numbered, T: Drop>(entry: Option<(P::Gen, T)>) -> Option<(u8, T)> {
-    match entry {
-        Some((generation, t)) => Some((P::number_of(generation), t)),
-        None => None,
-    }
-}
-
-fn number_of<P: Numbered>(generation: Option<P::Gen>) -> Option<u8> {
-    match generation {
-        Some(generation) => Some(P::number_of(generation)),
-        None => None,
-    }
-}
 
 pub(super) fn overwrite(slot: Option<&mut u32>, value: u32) -> Option<u32> {
     match slot {
@@ -106,27 +19,26 @@ pub(super) fn overwrite(slot: Option<&mut u32>, value: u32) -> Option<u32> {
     }
 }
 
-type Three<P> = (Option<P>, Option<P>, Option<P>);
-
-fn thrice<P: PtrKey, C, A: Advancer<C, Item = P>>(mut advancer: A, collection: &C) -> Three<P> {
-    (
-        advancer.advance(collection),
-        advancer.advance(collection),
-        advancer.advance(collection),
-    )
+fn new_with_capacity<P: PtrKey, A: ArenaTrait<P, u32> + Drop>(
+    alloc: Global,
+    n: usize,
+) -> Result<(bool, bool), AllocError> {
+    let new_with_capacity = A::with_min_capacity(alloc, n)?;
+    Ok((
+        new_with_capacity.is_empty(),
+        new_with_capacity.capacity() >= n,
+    ))
 }
 
-// Runs an advancer by ascending index, one from an index on, or an empty one.
-fn run_advancer<P: PtrKey, A: ArenaTrait<P, u32>>(arena: &A, call: Call, i: P::Inx) -> Three<P> {
-    match call {
-        Call::AdvanceFrom(_, rev) => thrice(arena.advancer_inx(i, rev), arena),
-        Call::AdvanceEmpty => thrice(A::PtrAdvancer::empty(), arena),
-        _ => thrice(arena.advancer(), arena),
-    }
+// Clears an arena, and returns whether its capacity is kept.
+fn clear<P: PtrKey, A: ArenaTrait<P, u32>>(arena: &mut A) -> (InvalidationOption<()>, bool) {
+    let capacity = arena.capacity();
+    let outcome = arena.clear();
+    (outcome, arena.capacity() == capacity)
 }
 
-// Compresses with a closure that adds the number of its call to each value, and lists its
-// arguments.
+// Compresses, adds ten times the number of the closure's call to each value, and lists what the
+// closure was given.
 fn compress_and_list<P: PtrKey, A: ArenaTrait<P, u32>>(
     alloc: Global,
     arena: &mut A,
@@ -134,149 +46,243 @@ fn compress_and_list<P: PtrKey, A: ArenaTrait<P, u32>>(
 ) -> (InvalidationOption<()>, Vec<(P, u32, P)>) {
     let mut visited = Vec::new(alloc);
     let mut calls = 0u32;
-    let outcome = arena.compress_with(reset, |from: P, t: &mut u32, to: P| {
-        let _ = visited.push((from, *t, to));
-        calls = calls.saturating_add(1);
+    let outcome = arena.compress_with(reset, |p: P, t: &mut u32, q: P| {
+        let _ = visited.push((p, *t, q));
+        calls = calls.saturating_add(10);
         *t = t.saturating_add(calls);
     });
     (outcome, visited)
 }
 
-// Returns the pointer that a call names, as two numbers. An index alone, or none, has generation 2.
-fn pointer_numbers(call: Call) -> (u8, u8) {
-    match call {
-        Call::Contains(i, g) | Call::Get(i, g) | Call::Write(i, g, _) => (i, g),
-        Call::Invalidate(i, g) | Call::Remove(i, g) => (i, g),
-        Call::GetInx(i) | Call::AdvanceFrom(i, _) => (i, 2),
-        Call::WriteInx(i, _) | Call::RemoveInx(i) => (i, 2),
-        _ => (1, 2),
+fn generation_number<P: Numbered>(generation: Option<P::Gen>) -> Option<u32> {
+    match generation {
+        Some(generation) => Some(P::number_of(generation)),
+        None => None,
     }
 }
 
-fn run_lookup<P: Numbered, A: ArenaTrait<P, u32>>(
-    alloc: Global,
-    arena: &A,
-    call: Call,
-    p: P,
-) -> String {
-    match call {
-        Call::Len => text(alloc, arena.len()),
-        Call::IsEmpty => text(alloc, arena.is_empty()),
-        Call::Capacity => text(alloc, arena.capacity()),
-        Call::HasCapacity(n) => text(alloc, arena.capacity() >= n),
-        Call::Maximum => text(alloc, arena.max_capacity()),
-        Call::Counter => text(alloc, number_of::<P>(arena.singular_generation())),
-        Call::Contains(..) => text(alloc, arena.contains(p)),
-        Call::Get(..) => text(alloc, arena.get(p)),
-        Call::GetInx(_) => text(alloc, with_number::<P, &u32>(arena.get_inx(p.inx()))),
-        _ => run_walk(alloc, arena, call, p),
+fn entry_value<P: Numbered, T: Drop>(entry: Option<(P::Gen, T)>) -> Option<(u32, T)> {
+    match entry {
+        Some((generation, t)) => Some((P::number_of(generation), t)),
+        None => None,
     }
 }
 
-fn run_walk<P: Numbered, A: ArenaTrait<P, u32>>(
+// Returns a link's neighbors as indexes, and its value.
+fn bare<P: PtrKey>(link: &LinkNoGen<P, u32>) -> (u32, u32, u32) {
+    let (prev, next) = link.prev_next();
+    (number_or_zero(prev), number_or_zero(next), link.t)
+}
+
+// Returns a link's neighbors as pointers, and its value.
+fn with_pointers<P: Numbered>(link: Option<Link<P, &u32>>) -> Option<(At, At, u32)> {
+    match link {
+        Some(link) => {
+            let (prev, next) = link.prev_next();
+            Some((numbers(prev), numbers(next), *link.t))
+        }
+        None => None,
+    }
+}
+
+fn bare_at<P: Numbered, A: ChainArenaTrait<P, u32>>(
+    arena: &A,
+    i: P::Inx,
+) -> Option<(u32, (u32, u32, u32))> {
+    match arena.get_inx_link_no_gen(i) {
+        Some((generation, link)) => Some((P::number_of(generation), bare::<P>(link))),
+        None => None,
+    }
+}
+
+fn bare_removal<P: PtrKey>(
+    outcome: InvalidationResult<LinkNoGen<P, u32>>,
+) -> InvalidationResult<(u32, u32, u32)> {
+    match outcome {
+        InvalidationResult::Success(link) => InvalidationResult::Success(bare::<P>(&link)),
+        InvalidationResult::GenerationOverflow(link) => {
+            InvalidationResult::GenerationOverflow(bare::<P>(&link))
+        }
+        InvalidationResult::InvalidPtr => InvalidationResult::InvalidPtr,
+    }
+}
+
+// Removes the link at an index, and returns the index of the next link, 0 for none.
+fn take_next<P: PtrKey, A: ChainArenaTrait<P, u32>>(arena: &mut A, i: P::Inx) -> u32 {
+    match arena.remove_inx_link_no_gen(i).allow() {
+        Some((_, link)) => number_or_zero(link.next()),
+        None => 0,
+    }
+}
+
+fn lookup<P: Numbered, A: ArenaTrait<P, u32> + Drop>(
     alloc: Global,
     arena: &A,
-    call: Call,
-    p: P,
-) -> String {
-    match call {
-        Call::Ends => {
+    parsed: ParsedCall<P>,
+) -> Option<String> {
+    match parsed.call {
+        Do::Len => text(alloc, arena.len()),
+        Do::IsEmpty => text(alloc, arena.is_empty()),
+        Do::HasCapacity => text(alloc, arena.capacity() >= parsed.n as usize),
+        Do::Maximum => text(alloc, arena.max_capacity()),
+        Do::Counter => text(alloc, generation_number::<P>(arena.singular_generation())),
+        Do::Contains => text(alloc, arena.contains(parsed.p)),
+        Do::Get => text(alloc, arena.get(parsed.p)),
+        Do::GetInx => text(alloc, entry_value::<P, &u32>(arena.get_inx(parsed.i))),
+        _ => walk_reply(alloc, arena, parsed),
+    }
+}
+
+fn walk_reply<P: Numbered, A: ArenaTrait<P, u32> + Drop>(
+    alloc: Global,
+    arena: &A,
+    parsed: ParsedCall<P>,
+) -> Option<String> {
+    match parsed.call {
+        Do::Ends => {
             let ends = (arena.find_first_inx_ptr(), arena.find_last_inx_ptr());
             text(alloc, ends)
         }
-        Call::DetachedView => text(alloc, entry_list(alloc, arena)),
-        _ => text(alloc, run_advancer(arena, call, p.inx())),
+        Do::Advance => text(alloc, met(arena.advancer(), arena, parsed.n)),
+        Do::AdvanceFrom => {
+            let advancer = arena.advancer_inx(parsed.i, parsed.t > 0);
+            text(alloc, met(advancer, arena, 2))
+        }
+        Do::AdvanceEmpty => text(alloc, A::PtrAdvancer::empty().advance(arena)),
+        Do::WithMinCapacity => text(alloc, new_with_capacity::<P, A>(alloc, parsed.n as usize)),
+        Do::Capacities => text(alloc, (arena.len(), arena.capacity())),
+        _ => None,
     }
 }
 
-fn born<P: PtrKey, A: ArenaTrait<P, u32> + Drop>(alloc: Global, n: usize) -> Option<(bool, bool)> {
-    match A::with_min_capacity(alloc, n) {
-        Ok(arena) => Some((arena.is_empty(), arena.capacity() >= n)),
-        Err(_) => None,
-    }
-}
-
-// Clears an arena and reserves its old capacity: both results, and whether the capacity is kept.
-fn clear_and_reserve<P: PtrKey, A: ArenaTrait<P, u32>>(
-    arena: &mut A,
-) -> (InvalidationOption<()>, Result<(), ReallocationError>, bool) {
-    let capacity = arena.capacity();
-    let outcome = arena.clear();
-    let again = arena.reallocate_min_capacity(capacity);
-    (outcome, again, arena.capacity() == capacity)
-}
-
-fn run_change<P: Numbered, A: ArenaTrait<P, u32> + Drop>(
+// Runs a call of the trait of arenas.
+pub(super) fn run_arena_call<P: Numbered, A: ArenaTrait<P, u32> + Drop>(
     alloc: Global,
     arena: &mut A,
-    call: Call,
-    p: P,
-) -> String {
-    match call {
-        Call::Born(n) => text(alloc, born::<P, A>(alloc, n)),
-        Call::Write(_, _, value) => text(alloc, overwrite(arena.get_mut(p), value)),
-        Call::WriteInx(_, value) => { text(alloc, overwrite(arena.get_inx_mut(p.inx()), value)) }
-        Call::Invalidate(..) => text(alloc, arena.invalidate(p)),
-        Call::Remove(..) => text(alloc, arena.remove(p)),
-        Call::RemoveInx(_) => {
-            let removed = arena.remove_inx(p.inx()).allow();
-            text(alloc, with_number::<P, u32>(removed))
+    parsed: ParsedCall<P>,
+) -> Option<String> {
+    match parsed.call {
+        Do::Write => text(alloc, overwrite(arena.get_mut(parsed.p), parsed.t)),
+        Do::WriteInx => text(alloc, overwrite(arena.get_inx_mut(parsed.i), parsed.t)),
+        Do::Remove => text(alloc, arena.remove(parsed.p)),
+        Do::RemoveInx => {
+            let removed = arena.remove_inx(parsed.i).allow();
+            text(alloc, entry_value::<P, u32>(removed))
         }
-        other => run_whole_change(alloc, arena, other, p),
+        Do::Invalidate => text(alloc, arena.invalidate(parsed.p)),
+        _ => change_whole(alloc, arena, parsed),
     }
 }
 
-fn run_whole_change<P: Numbered, A: ArenaTrait<P, u32> + Drop>(
+fn change_whole<P: Numbered, A: ArenaTrait<P, u32> + Drop>(
     alloc: Global,
     arena: &mut A,
-    call: Call,
-    p: P,
-) -> String {
-    match call {
-        Call::ClearAndReserve => text(alloc, clear_and_reserve(arena)),
-        Call::Compress(reset) => text(alloc, arena.compress(reset)),
-        Call::CompressWith(reset) => text(alloc, compress_and_list(alloc, arena, reset)),
-        Call::Reserve(n) => text(alloc, arena.reallocate_min_capacity(n)),
-        other => run_lookup(alloc, arena, other, p),
+    parsed: ParsedCall<P>,
+) -> Option<String> {
+    match parsed.call {
+        Do::Clear => text(alloc, arena.clear()),
+        Do::ClearAndReserve => text(alloc, clear(arena)),
+        Do::Reserve => text(alloc, arena.reallocate_min_capacity(parsed.n as usize)),
+        Do::Compress => text(alloc, arena.compress(parsed.n > 0)),
+        Do::CompressWith => text(alloc, compress_and_list(alloc, arena, parsed.n > 0)),
+        _ => lookup(alloc, arena, parsed),
     }
 }
 
-// Runs a call of the traits on the pointer that it names, or a copy of an arena over stack `R`.
-pub(super) fn run_trait_call<
-    P: Numbered,
-    R: SlotStack<Item = Slot<P>>,
-    A: ArenaCloneFromWith<P, u32> + Drop,
->(alloc: Global, arena: &mut A, call: Call) -> String {
-    match call {
-        Call::CopyHole => text(alloc, copied_hole::<P, R, A>(alloc, arena)),
-        other => {
-            let (i, g) = pointer_numbers(other);
-            run_change(alloc, arena, other, at(i, g))
+fn link_reply<P: Numbered, A: ChainArenaTrait<P, u32> + Drop>(
+    alloc: Global,
+    arena: &mut A,
+    parsed: ParsedCall<P>,
+) -> Option<String> {
+    match parsed.call {
+        Do::CanInsert => text(alloc, arena.can_insert(parsed.kind)),
+        Do::Neighbors => text(alloc, arena.are_neighbors(parsed.p, parsed.q)),
+        Do::NeighborsInx => text(alloc, arena.are_neighbors_inx(parsed.i, parsed.j)),
+        Do::Link => text(alloc, with_pointers(arena.get_link(parsed.p))),
+        Do::LinkNoGen => text(alloc, arena.get_link_no_gen(parsed.p).is_some()),
+        Do::LinkNoGenInx => text(alloc, bare_at(arena, parsed.i)),
+        _ => link_walk_reply(alloc, arena, parsed),
+    }
+}
+
+fn link_walk_reply<P: Numbered, A: ChainArenaTrait<P, u32> + Drop>(
+    alloc: Global,
+    arena: &mut A,
+    parsed: ParsedCall<P>,
+) -> Option<String> {
+    match parsed.call {
+        Do::Along => text(alloc, met_along(arena, parsed.p)),
+        Do::AlongAll => text(alloc, walk(arena, alloc, parsed.p)),
+        Do::All => text(alloc, rows_of(alloc, arena)),
+        Do::Changes => text(alloc, changes_met::<P, A>(alloc)),
+        _ => run_arena_call(alloc, arena, parsed),
+    }
+}
+
+// Runs a call of the traits of arenas of links.
+pub(super) fn run_call<P: Numbered, A: ChainArenaTrait<P, u32> + CompactArenaTrait<P, u32> + Drop>(
+    alloc: Global,
+    arena: &mut A,
+    parsed: ParsedCall<P>,
+) -> Option<String> {
+    match parsed.call {
+        Do::Insert => text(alloc, arena.insert_reallocating(parsed.kind, parsed.t)),
+        Do::InsertMany => text(alloc, add_lone(arena, parsed.n)),
+        Do::InsertWithin => text(alloc, arena.insert_within_capacity(parsed.kind, parsed.t)),
+        Do::Connect => text(alloc, arena.connect(parsed.p, parsed.q)),
+        Do::BreakPrev => text(alloc, arena.break_prev(parsed.p)),
+        Do::BreakNext => text(alloc, arena.break_next(parsed.p)),
+        Do::Exchange => text(alloc, arena.exchange_next(parsed.p, parsed.q)),
+        _ => change_links(alloc, arena, parsed),
+    }
+}
+
+fn change_links<P: Numbered, A: ChainArenaTrait<P, u32> + CompactArenaTrait<P, u32> + Drop>(
+    alloc: Global,
+    arena: &mut A,
+    parsed: ParsedCall<P>,
+) -> Option<String> {
+    match parsed.call {
+        Do::RemoveLink => text(alloc, bare_removal::<P>(arena.remove_link_no_gen(parsed.p))),
+        Do::Canonical => text(alloc, arena.compress_canonical(parsed.n > 0)),
+        Do::TakeNext => text(alloc, take_next(arena, parsed.i)),
+        Do::CarryOut | Do::CarryAsFive | Do::CarryToFull | Do::CarryToBare => {
+            run_transfer(alloc, arena, parsed.call, parsed.n)
         }
+        _ => link_reply(alloc, arena, parsed),
     }
 }
 
 // An arena that runs calls.
 pub(super) trait RunsCalls {
-    fn fresh(alloc: Global) -> Self;
+    // Replaces the arena with a new one.
+    fn renew(&mut self, alloc: Global);
 
-    fn run_call(&mut self, alloc: Global, call: Call) -> String;
+    // Returns the text of a call's result, if there is such a call and memory for the text.
+    fn run_call(&mut self, alloc: Global, call: &str) -> Option<String>;
 }
 
-pub(super) fn run_rows<A: RunsCalls + Drop>(
-    rt: &impl Abort,
-    alloc: Global,
-    arena: &mut A,
-    rows: &[Row],
-) {
-    let mut name = "";
-    for (call, want) in rows {
-        if let Call::New = call {
-            *arena = A::fresh(alloc);
-            name = want;
-        } else {
-            let got = arena.run_call(alloc, *call);
-            same(rt, name, got.as_str(), want);
+// Replaces the arena, or checks the result of a call.
+fn plays_line<A: RunsCalls>(rt: &impl Abort, alloc: Global, arena: &mut A, line: &str) {
+    match line.split_once(" = ") {
+        Some((call, want)) => {
+            let got = arena.run_call(alloc, call).expect(rt, "a reply");
+            same(rt, line, got.as_str(), want);
+        }
+        None => {
+            assert!(rt; line.starts_with('#'));
+            arena.renew(alloc);
         }
     }
+}
+
+pub(super) fn plays<A: RunsCalls>(rt: &impl Abort, alloc: Global, arena: &mut A, table: &str) {
+    let mut rest = table;
+    for _ in 0..table.len() {
+        if let Some((line, after)) = rest.split_once('\n') {
+            plays_line(rt, alloc, arena, line);
+            rest = after;
+        }
+    }
+    assert!(rt; rest.is_empty());
 }

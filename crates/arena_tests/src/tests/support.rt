@@ -1,18 +1,7 @@
-// Helpers of the tests: comparisons, texts of results, and values that must exist.
-ghost use Rattle.std.specs.Iterator.{IsFinite};
-
-use crate::tests::pointers::Numbered;
-use arena_base::ArenaSlot;
-use arena_ptr::{Gen8, Gen32, Gen64, Inx8, Inx32, Inx64, InxKey, PtrKey};
-use std::alloc::{AllocError, Global};
-use std::fmt::Debug;
+// Helpers of the tests: comparisons, and numbers that must exist.
+use arena_ptr::{Gen8, Gen32, Gen64, Inx8, Inx32, Inx64};
+use std::alloc::AllocError;
 use std::process::Abort;
-
-pub(super) type Slot<P> = ArenaSlot<P, u32>;
-
-pub(super) fn same(rt: &impl Abort, what: &str, got: &str, want: &str) {
-    assert!(rt; got == want, "{what}: {got}, not {want}");
-}
 
 // Checks a value without showing it: texts of values would need more types at each call.
 pub(super) fn equal<T: PartialEq + Drop>(rt: &impl Abort, what: &str, got: T, want: T) {
@@ -45,28 +34,6 @@ pub(super) fn is_text(written: Result<String, AllocError>, want: &str) -> bool {
     }
 }
 
-// Returns a result as `Debug` writes it. After an allocation failure it is empty, which no test
-// expects. So it needs no `Abort`, which each of its steps would name.
-pub(super) fn text<T: Debug + Drop>(alloc: Global, outcome: T) -> String {
-    match format!(in alloc; "{outcome:?}") {
-        Ok(text) => text,
-        Err(_) => String::new(alloc),
-    }
-}
-
-pub(super) fn text_of_all<T: Debug + Drop, I: Iterator<Item = T> + Drop>(
-    alloc: Global,
-    items: I,
-) -> String
-    requires { I.can_next items × IsFinite (I.remaining items) }
-{
-    let all: Result<Vec<T>, AllocError> = items.collect(alloc);
-    match all {
-        Ok(all) => text(alloc, all),
-        Err(_) => String::new(alloc),
-    }
-}
-
 pub(super) fn inx8(rt: &impl Abort, n: u8) -> Inx8 {
     Inx8::new(n).expect(rt, "an index")
 }
@@ -89,16 +56,4 @@ pub(super) fn gen32(rt: &impl Abort, n: u32) -> Gen32 {
 
 pub(super) fn gen64(rt: &impl Abort, n: u64) -> Gen64 {
     Gen64::new(n).expect(rt, "a generation")
-}
-
-// Returns the index of a number; zero gives the invalid pointer's index.
-pub(super) fn index<P: PtrKey>(n: u8) -> P::Inx {
-    match P::Inx::try_from_usize(n as usize) {
-        Some(i) => i,
-        None => P::invalid().inx(),
-    }
-}
-
-pub(super) fn at<P: Numbered>(inx: u8, generation: u8) -> P {
-    P::_from_raw(index::<P>(inx), P::generation_of(generation))
 }

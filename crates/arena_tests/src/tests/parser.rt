@@ -1,4 +1,4 @@
-//! The parser of the lines that are calls on an arena of links.
+//! The parser of the lines that are calls on an arena.
 
 use super::{Numbered, at, index};
 use arena_ptr::PtrKey;
@@ -48,7 +48,8 @@ pub(super) enum Do {
     Canonical,
     TakeNext,
     // Changes of any arena. `ClearAndReserve` reports whether the capacity is kept, `CompressWith`
-    // the closure's arguments.
+    // the closure's arguments. `Insert`, `InsertMany` and `InsertWithin` are calls of a plain arena,
+    // too.
     Write,
     WriteInx,
     Remove,
@@ -57,6 +58,7 @@ pub(super) enum Do {
     Clear,
     ClearAndReserve,
     Reserve,
+    Compress,
     CompressWith,
     // Transfers of all links, with a generation, to other pointers. The targets are one with two
     // links, an empty one where each value is 5, and two that refuse.
@@ -68,6 +70,22 @@ pub(super) enum Do {
     // drain.
     DrainTwo,
     SetGeneration,
+    // Calls of a plain arena. A vacant entry is filled, or dropped. `Slots` counts the slots,
+    // `Entries` lists the entries, and `Drain` leaves a new arena. `Compact` moves an entry to a
+    // second pointer, and `CompactWriting` first overwrites its value. `CopyHole` copies three
+    // entries without the second.
+    Generation,
+    IncGeneration,
+    InsertByEntry,
+    DropEntry,
+    Slots,
+    Entries,
+    Drain,
+    Compact,
+    CompactWriting,
+    DropCompactor,
+    ForgetCompactor,
+    CopyHole,
 }
 
 // The words of a line: name, kind, the first four numbers, and the last number, which is a new
@@ -172,7 +190,7 @@ const LINK_CHANGES: [(&str, Do); 10] = [
     ("TakeNext", Do::TakeNext),
 ];
 
-const CHANGES: [(&str, Do); 15] = [
+const CHANGES: [(&str, Do); 16] = [
     ("Write", Do::Write),
     ("WriteInx", Do::WriteInx),
     ("Remove", Do::Remove),
@@ -181,6 +199,7 @@ const CHANGES: [(&str, Do); 15] = [
     ("Clear", Do::Clear),
     ("ClearAndReserve", Do::ClearAndReserve),
     ("Reserve", Do::Reserve),
+    ("Compress", Do::Compress),
     ("CompressWith", Do::CompressWith),
     ("CarryOut", Do::CarryOut),
     ("CarryAsFive", Do::CarryAsFive),
@@ -188,6 +207,21 @@ const CHANGES: [(&str, Do); 15] = [
     ("CarryToBare", Do::CarryToBare),
     ("DrainTwo", Do::DrainTwo),
     ("SetGeneration", Do::SetGeneration),
+];
+
+const PLAIN_CALLS: [(&str, Do); 12] = [
+    ("Generation", Do::Generation),
+    ("IncGeneration", Do::IncGeneration),
+    ("InsertByEntry", Do::InsertByEntry),
+    ("DropEntry", Do::DropEntry),
+    ("Slots", Do::Slots),
+    ("Entries", Do::Entries),
+    ("Drain", Do::Drain),
+    ("Compact", Do::Compact),
+    ("CompactWriting", Do::CompactWriting),
+    ("DropCompactor", Do::DropCompactor),
+    ("ForgetCompactor", Do::ForgetCompactor),
+    ("CopyHole", Do::CopyHole),
 ];
 
 fn found(table: &[(&str, Do)], name: &str) -> Option<Do> {
@@ -199,25 +233,19 @@ fn found(table: &[(&str, Do)], name: &str) -> Option<Do> {
     None
 }
 
-fn lookup_of(name: &str) -> Option<Do> {
-    match found(&LOOKUPS, name) {
-        None => found(&LINK_LOOKUPS, name),
-        call => call,
-    }
-}
-
-fn change_of(name: &str) -> Option<Do> {
-    match found(&LINK_CHANGES, name) {
-        None => found(&CHANGES, name),
-        call => call,
-    }
-}
-
 fn call_of(name: &str) -> Option<Do> {
-    match lookup_of(name) {
-        None => change_of(name),
-        call => call,
+    for table in [
+        &LOOKUPS[..],
+        &LINK_LOOKUPS,
+        &LINK_CHANGES,
+        &CHANGES,
+        &PLAIN_CALLS,
+    ] {
+        if let Some(call) = found(table, name) {
+            return Some(call);
+        }
     }
+    None
 }
 
 // Returns the kind of an insertion by pointers. An empty word is a lone link.

@@ -1,0 +1,124 @@
+//! Tests of plain arenas: over a plain stack, under a maximum, and with refused growths.
+
+use super::plain_calls::PlainSlot;
+use super::plain_rows::{
+    COMPACTORS, COMPRESSIONS, COPIED_BEYOND, COPY, EACH_CALL, EVERY_OTHER, NEXT_POINTERS, REUSED,
+    USED_UP, WITHIN_TWO,
+};
+use super::pointers::{BarePtr, SmallPtr};
+use super::scripts::{RunsCalls, plays};
+use super::support::equal;
+use super::{Numbered, same};
+use arena_base::{Arena, ArenaSlot, ArenaTrait};
+use arena_ptr::{
+    HeapStack, LimitStack, LimitedStack, MaxCapacityReductionError, PtrKey, SetMaxCapacity,
+    SlotStack,
+};
+use std::alloc::Global;
+use std::process::Abort;
+use std::rc::Rc;
+use test_types::FailingStack;
+
+const EACH: [&str; 5] = [EACH_CALL, NEXT_POINTERS, COMPACTORS, COMPRESSIONS, COPY];
+
+// Runs tables on a new arena over a stack.
+fn plays_plain<P: Numbered, S: SlotStack<Item = PlainSlot<P>>>(
+    rt: &impl Abort,
+    alloc: Global,
+    tables: &[&str],
+) {
+    let mut arena: Arena<P, u32, S> = Arena::new(alloc);
+    for table in tables {
+        plays(rt, alloc, &mut arena, table);
+    }
+}
+
+// Runs a table under a maximum of two, which cannot be lowered then.
+fn plays_within_two<A: RunsCalls + SetMaxCapacity>(
+    rt: &impl Abort,
+    alloc: Global,
+    arena: &mut A,
+    table: &str,
+) {
+    equal(rt, "a maximum", arena.set_max_capacity(2), Ok(()));
+    plays(rt, alloc, arena, table);
+    let less = arena.set_max_capacity(1);
+    equal(rt, "less", less, Err(MaxCapacityReductionError));
+    plays(rt, alloc, arena, USED_UP);
+}
+
+fn check_limits<P: Numbered, S: LimitStack<Item = PlainSlot<P>>>(rt: &impl Abort, alloc: Global) {
+    plays_plain::<P, S>(rt, alloc, &EACH);
+    for table in [WITHIN_TWO, COPIED_BEYOND] {
+        let mut arena: Arena<P, u32, S> = Arena::new(alloc);
+        plays_within_two(rt, alloc, &mut arena, table);
+    }
+}
+
+// A slot for a shared value, whose strong count is the number of its copies.
+type Shared<P> = ArenaSlot<P, Rc<u8>>;
+
+// Offers 600 values to an arena, which drops those that it refuses.
+fn pass_many<P: PtrKey, S: SlotStack<Item = Shared<P>>>(
+    arena: &mut Arena<P, Rc<u8>, S>,
+    value: &Rc<u8>,
+) {
+    for _ in 0..300 {
+        if let Ok(one) = value.clone() {
+            let _ = arena.insert_within_capacity(one);
+        }
+        if let Ok(one) = value.clone() {
+            let _ = arena.insert_reallocating(one);
+        }
+    }
+}
+
+// Offers them to a new arena with a maximum, and returns its length and the number of copies.
+fn passed_values<P: PtrKey, S: LimitStack<Item = Shared<P>>>(
+    alloc: Global,
+    most: usize,
+) -> (usize, usize) {
+    let Ok(value) = Rc::new(alloc, 5) else {
+        return (0, 0);
+    };
+    let mut arena: Arena<P, Rc<u8>, S> = Arena::new(alloc);
+    let _ = arena.set_max_capacity(most);
+    pass_many(&mut arena, &value);
+    (arena.len(), Rc::strong_count(&value))
+}
+
+// A refused value is dropped: only the values in the arena and the original are left.
+fn check_values<P: PtrKey, S: LimitStack<Item = Shared<P>>>(rt: &impl Abort, alloc: Global) {
+    for (most, left) in [(2, (2, 3)), (1000, (255, 256))] {
+        same(rt, "values", passed_values::<P, S>(alloc, most), left);
+    }
+}
+
+// Runs each table over a plain stack and one with an optional maximum, and tests refusals. One test
+// names all types, since naming them is the cost.
+fn check_arenas<
+    P: Numbered,
+    H: SlotStack<Item = PlainSlot<P>>,
+    L: LimitStack<Item = PlainSlot<P>>,
+    V: LimitStack<Item = Shared<P>>,
+>(rt: &impl Abort, alloc: Global) {
+    plays_plain::<P, H>(rt, alloc, &EACH);
+    plays_plain::<P, FailingStack<H>>(rt, alloc, &[EVERY_OTHER]);
+    check_limits::<P, L>(rt, alloc);
+    check_values::<P, V>(rt, alloc);
+}
+
+#[test]
+fn plain_arenas_over_both_stacks(rt: HostRuntime) {
+    check_arenas::<
+        SmallPtr,
+        HeapStack<PlainSlot<SmallPtr>>,
+        LimitedStack<PlainSlot<SmallPtr>>,
+        LimitedStack<Shared<SmallPtr>>,
+    >(&rt, rt.alloc());
+}
+
+#[test]
+fn plain_arenas_of_pointers_without_generations(rt: HostRuntime) {
+    plays_plain::<BarePtr, HeapStack<PlainSlot<BarePtr>>>(&rt, rt.alloc(), &[REUSED]);
+}
