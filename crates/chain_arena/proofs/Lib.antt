@@ -25,5 +25,4 @@ pub mod CanonicalCompressionLemmas
 pub mod NewLinkLemmas
 pub mod InsertEntryLemmas
 pub mod PointerTransferLemmas
-pub mod WalkerLemmas
 pub mod DrainLawLemmas

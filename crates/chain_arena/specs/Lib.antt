@@ -9,5 +9,4 @@ pub mod Recasts
 pub mod Growths
 pub mod NewLinks
 pub mod PointerTransfers
-pub mod Iterators
 pub mod DrainLaws

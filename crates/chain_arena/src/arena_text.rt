@@ -2,24 +2,10 @@
 
 use crate::chain_arena::ChainArena;
 use arena_base::ArenaSlot;
-use arena_ptr::{Ptr, PtrGen, PtrInx, SlotStack};
+use arena_ptr::{Ptr, SlotStack};
+use chain_linking::links_text::fmt_links;
 use chain_links::LinkNoGen;
 use std::fmt;
-
-// A pointer by the name of its type, its index, and its generation if it has one.
-#[derive(Clone, Copy)]
-struct PtrText<P>(P);
-
-impl<P: Ptr> fmt::Debug for PtrText<P> {
-    fn fmt<F: fmt::Write>(&self, f: &mut fmt::Formatter<F>) -> fmt::Result {
-        let PtrText(p) = *self;
-        f.write_str(P::name())?;
-        f.write_str("[")?;
-        p.inx().fmt_hex(f)?;
-        f.write_str("]")?;
-        p.generation().fmt_gen(f)
-    }
-}
 
 /// Formats all links in ascending index order, as `{P0[1](2): {(start), (end)} "A"}`.
 ///
@@ -27,10 +13,6 @@ impl<P: Ptr> fmt::Debug for PtrText<P> {
 impl<P: Ptr, T: fmt::Debug + Drop, S: SlotStack<Item = ArenaSlot<P, LinkNoGen<P, T>>>> fmt::Debug
     for ChainArena<P, T, S> {
     fn fmt<F: fmt::Write>(&self, f: &mut fmt::Formatter<F>) -> fmt::Result {
-        let mut map = f.debug_map();
-        for (p, link) in self.iter_link_no_gen() {
-            map.entry(&PtrText(p), link);
-        }
-        map.finish()
+        fmt_links(self.iter_link_no_gen(), f)
     }
 }

@@ -16,7 +16,6 @@ ghost use Rattle.chain_compaction.specs.PointerMoves.{ArePointerMoves};
 ghost use Rattle.chain_links.specs.CanonicalLayouts.{IsCanonicalLayout};
 ghost use Rattle.chain_links.specs.Links.{pair_view};
 
-use crate::chain_iterators::ChainIter;
 use crate::visitors::{MapVisitor, MoveLister};
 use arena_base::{Arena, ArenaSlot, ArenaTrait, Work};
 use arena_ptr::{
@@ -25,6 +24,8 @@ use arena_ptr::{
 };
 use chain_compaction::canonical::arrange;
 use chain_compaction::visitor::Visitor;
+use chain_linking::ChainIter;
+use chain_linking::chain_iterators::iter_from;
 use chain_linking::insert_position::{InsertPosition, position_of_kind};
 use chain_linking::link_writes::remove_link_at;
 use chain_links::kinds::by_names;
@@ -74,7 +75,7 @@ impl<P: PtrKey, T: Drop, S: SlotStack<Item = ArenaSlot<P, LinkNoGen<P, T>>>> Cha
         ensures count { IfSome result (λ links. length links ≤ entry_count self.now) }
     {
         match self.arena.get(p) {
-            Some(link) => Some(ChainIter::new(&self.arena, p.inx(), link.prev(), self.arena.len())),
+            Some(link) => Some(iter_from(&self.arena, p.inx(), link.prev(), self.arena.len())),
             None => None,
         }
     }

@@ -39,7 +39,6 @@ pub mod calls;
 mod chain_advancer;
 mod chain_arena;
 mod chain_drains;
-mod chain_iterators;
 mod copy;
 mod from_arena;
 mod impl_arena_trait;
@@ -59,8 +58,7 @@ pub use chain_advancer::ChainPtrAdvancer;
 pub use chain_arena::ChainArena;
 pub use chain_compaction::visitor::Visitor;
 pub use chain_drains::{ChainDrain, drain_gives_the_walk};
-pub use chain_iterators::ChainIter;
-pub use chain_linking::links_agree;
+pub use chain_linking::{ChainIter, links_agree};
 pub use chain_links::{
     InsertKindBody, Link, LinkBody, LinkInsertKind, LinkNoGen, links_compare_by_neighbors,
 };

@@ -6,3 +6,4 @@ pub mod InsertPositionLemmas
 pub mod LinkInsertionLemmas
 pub mod LinkWriteLemmas
 pub mod UnlinkLemmas
+pub mod WalkerLemmas

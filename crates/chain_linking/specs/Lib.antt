@@ -3,3 +3,4 @@ pub mod LinkWrites
 pub mod WalkSteps
 pub mod Consistency
 pub mod ChainArenaLaws
+pub mod Iterators

@@ -54,23 +54,28 @@ fn check_calls<S: SlotStack<Item = Slot>>(rt: &impl Abort, alloc: Global) {
     plays_on::<ChainsOver<S>>(rt, alloc, copies());
 }
 
-// Runs the copies to a plain arena over a stack that refuses every other growth, or of which each
-// request for memory may be refused.
-fn check_plain<S: SlotStack<Item = Slot>, R: SlotStack<Item = Bare>>(
+// Runs the copies to a plain arena that refuses every other growth, or of which each request for
+// memory may be refused.
+fn check_copies<S: SlotStack<Item = Slot>, A: PlainArena>(
     rt: &impl Abort,
     alloc: Global,
     refuses: bool,
 ) {
     if refuses {
-        check_refused_copies::<S, Plain<R>>(rt, alloc);
+        check_refused_copy::<S, A>(rt, alloc);
+        check_refused_beside_holes::<S, A>(rt, alloc);
     } else {
-        check_copy_requests::<S, Plain<R>>(rt, alloc);
+        check_copy_requests::<S, A>(rt, alloc);
     }
 }
 
-fn check_refused_copies<S: SlotStack<Item = Slot>, A: PlainArena>(rt: &impl Abort, alloc: Global) {
-    check_refused_copy::<S, A>(rt, alloc);
-    check_refused_beside_holes::<S, A>(rt, alloc);
+// Runs them at a plain arena over any stack.
+fn check_plain<S: SlotStack<Item = Slot>, R: SlotStack<Item = Bare>>(
+    rt: &impl Abort,
+    alloc: Global,
+    refuses: bool,
+) {
+    check_copies::<S, Plain<R>>(rt, alloc, refuses);
 }
 
 // Checks refusals over a stack `F` of links that refuses every other growth of `S`.

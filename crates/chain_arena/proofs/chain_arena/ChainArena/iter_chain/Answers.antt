@@ -10,17 +10,17 @@ use Rattle.chain_linking.proofs.ConnectionLemmas.{prev_of-view_after, same_valid
 use Rattle.chain_linking.proofs.NeighborLemmas.{prev_named}
 use Rattle.chain_arena.proofs.chain_arena.ChainArena.iter_chain.Goals as goal
 
-pub new-requires-clause-agrees : goal.new-requires-clause-agrees
-new-requires-clause-agrees g c = c.self.invariant
+pub iter_from-requires-clause-agrees : goal.iter_from-requires-clause-agrees
+iter_from-requires-clause-agrees g c = c.self.invariant
 
-pub new-requires-clause-onward : goal.new-requires-clause-onward
-new-requires-clause-onward g c =
+pub iter_from-requires-clause-onward : goal.iter_from-requires-clause-onward
+iter_from-requires-clause-onward g c =
     let number = g.P.Inx.InxKey.packed_number in
     let a = c.self.inside.arena in
     subst (HasLink (link_map (links_view number a))) (sym c.inx.ensures) (valid_at number a (g.P.PtrKey.key c.args.p) c.in-Some.link.now c.in-Some.ensures.value)
 
-pub new-requires-clause-behind : goal.new-requires-clause-behind
-new-requires-clause-behind g c =
+pub iter_from-requires-clause-behind : goal.iter_from-requires-clause-behind
+iter_from-requires-clause-behind g c =
     let number = g.P.Inx.InxKey.packed_number in
     let a = c.self.inside.arena in
     let s = link_map (links_view number a) in
@@ -34,8 +34,8 @@ returns-in-Some g c =
     let links = links_view number a in
     let p = g.P.PtrKey.key c.args.p in
     let at = c.in-Some.ensures.value in
-    let walk : IsWalkOf links p.0 c.new.result =
-    walker-walk links p.0 _ _ _ _ c.new.ensures (c.len.ensures.entries ∙ sym (entry_count-links_view number a)) c.inx.ensures (c.prev.ensures ∙ sym (prev_of-view_after number a p c.in-Some.link.now at)) c.self.invariant (valid_at number a p c.in-Some.link.now at) in
+    let walk : IsWalkOf links p.0 c.iter_from.result =
+    walker-walk links p.0 _ _ _ _ c.iter_from.ensures (c.len.ensures.entries ∙ sym (entry_count-links_view number a)) c.inx.ensures (c.prev.ensures ∙ sym (prev_of-view_after number a p c.in-Some.link.now at)) c.self.invariant (valid_at number a p c.in-Some.link.now at) in
     rw (← c.self.view_is) (record {
       some = (λ _. (same_valid number a p).0 (c.in-Some.ensures.some.0 refl), λ _. refl);
       walk = walk;

@@ -7,10 +7,10 @@ ghost use Rattle.chain_links.specs.ChainArena.{link_map};
 ghost use Rattle.chain_links.specs.Links.{links_view};
 ghost use Rattle.chain_links.specs.Walkers.{links_ahead, item_view};
 
+use crate::insert_position::is_index;
+use crate::walk_step::lookup;
 use arena_base::{Arena, ArenaSlot, ArenaTrait, proved_unreachable};
 use arena_ptr::{HeapStack, PtrKey, SlotStack};
-use chain_linking::insert_position::is_index;
-use chain_linking::walk_step::lookup;
 use chain_links::LinkNoGen;
 use std::marker::Model;
 
@@ -46,7 +46,7 @@ impl<'a, P: PtrKey, T: Drop, S: SlotStack<Item = ArenaSlot<P, LinkNoGen<P, T>>>>
 
     ghost use Rattle.chain_links.specs.Links.{links_view};
     ghost use Rattle.chain_links.specs.Walkers.{links_ahead};
-    ghost use Rattle.chain_arena.specs.Iterators.{IsOnLinks};
+    ghost use Rattle.chain_linking.specs.Iterators.{IsOnLinks};
 
     ghost view = { λ it. links_ahead (links_view P.Inx.packed_number it.arena.now) it.left
         (P.Inx.number it.start)
@@ -56,35 +56,29 @@ impl<'a, P: PtrKey, T: Drop, S: SlotStack<Item = ArenaSlot<P, LinkNoGen<P, T>>>>
         (option_map P.Inx.number it.forth) (option_map P.Inx.number it.back) };
 }
 
-impl<'a, P: PtrKey, T: Drop, S: SlotStack<Item = ArenaSlot<P, LinkNoGen<P, T>>>> ChainIter<
-    'a,
-    P,
-    T,
-    S,
-> {
-    // Returns an iterator whose next link is at `start`, with the link at `back` before it.
-    pub(crate) fn new(
-        arena: &'a Arena<P, LinkNoGen<P, T>, S>,
-        start: P::Inx,
-        back: Option<P::Inx>,
-        left: usize,
-    ) -> Self
-        requires agrees { IsWellLinked (link_map (links_view P.Inx.packed_number arena.now)) }
-        requires onward { HasLink (link_map (links_view P.Inx.packed_number arena.now))
-            (P.Inx.number start) }
-        requires behind { IfSome (option_map P.Inx.number back)
-            (HasLink (link_map (links_view P.Inx.packed_number arena.now))) }
-        ensures { result ≡ links_ahead (links_view P.Inx.packed_number arena.now) left
-            (P.Inx.number start)
-            (Some (P.Inx.number start)) (option_map P.Inx.number back) }
-    {
-        ChainIter {
-            arena,
-            start,
-            forth: Some(start),
-            back,
-            left,
-        }
+/// Returns an iterator over at most `left` links: the one at `start`, those after it to the end or
+/// once around, and then those from `back` to the start.
+pub fn iter_from<P: PtrKey, T: Drop, S: SlotStack<Item = ArenaSlot<P, LinkNoGen<P, T>>>>(
+    arena: &Arena<P, LinkNoGen<P, T>, S>,
+    start: P::Inx,
+    back: Option<P::Inx>,
+    left: usize,
+) -> ChainIter<'_, P, T, S>
+    requires agrees { IsWellLinked (link_map (links_view P.Inx.packed_number arena.now)) }
+    requires onward { HasLink (link_map (links_view P.Inx.packed_number arena.now))
+        (P.Inx.number start) }
+    requires behind { IfSome (option_map P.Inx.number back)
+        (HasLink (link_map (links_view P.Inx.packed_number arena.now))) }
+    ensures { result ≡ links_ahead (links_view P.Inx.packed_number arena.now) left
+        (P.Inx.number start)
+        (Some (P.Inx.number start)) (option_map P.Inx.number back) }
+{
+    ChainIter {
+        arena,
+        start,
+        forth: Some(start),
+        back,
+        left,
     }
 }
 

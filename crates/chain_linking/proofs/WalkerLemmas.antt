@@ -9,7 +9,7 @@ use Rattle.arena_traits.specs.Arena.{Arena, entry_at}
 use Rattle.chain_links.specs.ChainArena.{LinkView, link_map, interlinks_of}
 use Rattle.chain_links.specs.Walkers.{index_and_entry, links_ahead}
 use Rattle.chain_linking.proofs.NeighborLemmas.{next_named, prev_named}
-use Rattle.chain_arena.specs.Iterators.{IsOnLinks}
+use Rattle.chain_linking.specs.Iterators.{IsOnLinks}
 
 module _ {Gen T : Type 0} (i : ℕ) where
   -- A lookup that reports a link reports the entry at the index.

@@ -8,9 +8,9 @@ use Rattle.chain_laws.proofs.InterlinkLemmas.Inverses.{one_some}
 use Rattle.chain_links.specs.ChainArena.{LinkView}
 use Rattle.chain_links.specs.Links.{link_view, links_view}
 use Rattle.chain_links.specs.Walkers.{index_and_entry, links_ahead}
-use Rattle.chain_arena.proofs.WalkerLemmas.{behind_stored, nowhere, passes_back, read_some, onward_stored, passes_last, passes_on}
-use Rattle.chain_arena.proofs.chain_iterators.ChainIterIterator.next.Goals.{then-is_index, else-is_index}
-use Rattle.chain_arena.proofs.chain_iterators.ChainIterIterator.next.Goals as goal
+use Rattle.chain_linking.proofs.WalkerLemmas.{behind_stored, nowhere, passes_back, read_some, onward_stored, passes_last, passes_on}
+use Rattle.chain_linking.proofs.chain_iterators.ChainIterIterator.next.Goals.{then-is_index, else-is_index}
+use Rattle.chain_linking.proofs.chain_iterators.ChainIterIterator.next.Goals as goal
 
 -- Fewer links are left after one was passed.
 shorter : {X : Type 0} (x : X) (s t : List X) → s ≡ x ∷ t → length t < length s
