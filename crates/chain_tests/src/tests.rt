@@ -43,8 +43,13 @@ type ChainsOver<S> = ChainArena<ToolPtr, u32, S>;
 // A pointer as its index and its generation.
 type At = (u32, u32);
 
-fn same<T: PartialEq + Debug + Drop>(rt: &impl Abort, what: &str, got: T, want: T) {
+fn same(rt: &impl Abort, what: &str, got: &str, want: &str) {
     assert_eq!(rt; got, want, "{what}");
+}
+
+// Checks a condition. Values are compared to one, since `same` at their types would cost more.
+fn holds(rt: &impl Abort, what: &str, condition: bool) {
+    assert!(rt; condition, "{what}");
 }
 
 // Returns a result as `Debug` writes it, on a second attempt if the first allocation fails. After

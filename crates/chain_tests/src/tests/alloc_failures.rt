@@ -10,7 +10,7 @@ use super::copies::with_a_hole;
 use super::plain_copies::{PlainArena, copied_twice};
 use super::scripts::{Do, Kind, RunsCalls, Script, plays_all};
 use super::stacks::{Part, in_blocks, over_heap, under_maxima};
-use super::{ChainsOver, Slot, generation, same};
+use super::{ChainsOver, Slot, generation, holds, same, text};
 use arena_base::ArenaTrait;
 use arena_ptr::SlotStack;
 use std::alloc::Global;
@@ -87,38 +87,34 @@ fn begun<A: RunsCalls>(alloc: Global, begin: Do) -> A {
     arena
 }
 
-// All that an arena reports: links, counter, capacity, and all slots.
-type Texts = (String, String, String);
-
-fn arena_texts<A: RunsCalls>(alloc: Global, arena: &mut A) -> Texts {
+// Returns all that an arena reports: links, counter, capacity, and all slots.
+fn arena_text<A: RunsCalls>(alloc: Global, arena: &mut A) -> String {
     let links = arena.run_call(alloc, Do::Debug);
     let capacities = arena.run_call(alloc, Do::Capacities);
-    (links, capacities, arena.run_call(alloc, Do::SlotsListed))
+    let slots = arena.run_call(alloc, Do::SlotsListed);
+    text(alloc, (links, capacities, slots))
 }
 
-// Returns whether a call is refused at first, and the arena and the next pointer after it. Checks
+// Returns whether a call is refused at first, and the arena with the next pointer after it. Checks
 // that a refusal changes nothing, and that a second attempt succeeds.
 fn run_growth<A: RunsCalls + Drop>(
     rt: &impl Abort,
     alloc: Global,
     begin: Do,
     call: Do,
-) -> (bool, Texts, String) {
+) -> (bool, String) {
     let mut arena: A = begun(alloc, begin);
-    let before = arena_texts(alloc, &mut arena);
+    let before = arena_text(alloc, &mut arena);
     let refused = is_refused(alloc, &mut arena, call);
     if refused {
-        let after = arena_texts(alloc, &mut arena);
-        same(rt, "nothing has changed", after, before);
+        let after = arena_text(alloc, &mut arena);
+        same(rt, "nothing has changed", after.as_str(), before.as_str());
         let again = is_refused(alloc, &mut arena, call);
-        same(rt, "once more", again, false);
+        holds(rt, "once more", !again);
     }
-    let after = arena_texts(alloc, &mut arena);
-    (
-        refused,
-        after,
-        arena.run_call(alloc, Do::InsertWithin(Kind::Disconnected, 7)),
-    )
+    let after = arena_text(alloc, &mut arena);
+    let next = arena.run_call(alloc, Do::InsertWithin(Kind::Disconnected, 7));
+    (refused, text(alloc, (after, next)))
 }
 
 // Checks that calls without requests for memory succeed. Returns whether the next growth is
@@ -127,7 +123,7 @@ pub(super) fn next_is_refused<A: RunsCalls + Drop>(rt: &impl Abort, alloc: Globa
     let mut arena: A = begun(alloc, Do::Fill);
     for call in NO_GROWTHS {
         let refused = is_refused(alloc, &mut arena, call);
-        same(rt, "allocates nothing", refused, false);
+        holds(rt, "allocates nothing", !refused);
     }
     is_refused(alloc, &mut arena, Do::Reserve(100))
 }
@@ -140,9 +136,10 @@ fn check_grown<A: RunsCalls + Drop, B: RunsCalls + Drop>(
     calls: &[Do],
 ) {
     for call in calls {
-        let (_, listing, next) = run_growth::<B>(rt, alloc, begin, *call);
-        let got = run_growth::<A>(rt, alloc, begin, *call);
-        same(rt, "refused at first", got, (true, listing, next));
+        let (_, want) = run_growth::<B>(rt, alloc, begin, *call);
+        let (refused, got) = run_growth::<A>(rt, alloc, begin, *call);
+        holds(rt, "refused at first", refused);
+        same(rt, "the arena then", got.as_str(), want.as_str());
     }
 }
 
@@ -154,18 +151,17 @@ fn check_growths<A: RunsCalls + Drop, B: RunsCalls + Drop>(rt: &impl Abort, allo
     for call in BIRTHS {
         let first = is_refused(alloc, &mut arena, call);
         let second = is_refused(alloc, &mut arena, call);
-        same(rt, "refused each time", (first, second), (true, true));
+        holds(rt, "refused each time", first && second);
     }
     plays_all::<A>(rt, alloc, refused_scripts());
     let next = next_is_refused::<A>(rt, alloc);
-    same(rt, "the next growth is refused", next, true);
+    holds(rt, "the next growth is refused", next);
 }
 
-type BothTexts = (Texts, Texts);
-
-fn both_texts<A: RunsCalls>(alloc: Global, source: &mut A, target: &mut A) -> BothTexts {
-    let first = arena_texts(alloc, source);
-    (first, arena_texts(alloc, target))
+fn text_of_both<A: RunsCalls>(alloc: Global, source: &mut A, target: &mut A) -> String {
+    let first = arena_text(alloc, source);
+    let second = arena_text(alloc, target);
+    text(alloc, (first, second))
 }
 
 // Returns whether a transfer is refused at first. Checks that a refusal changes neither arena, and
@@ -176,24 +172,24 @@ fn is_carried_later<S: SlotStack<Item = Slot>>(
     source: &mut ChainsOver<S>,
     target: &mut ChainsOver<S>,
 ) -> bool {
-    let before = both_texts(alloc, source, target);
+    let before = text_of_both(alloc, source, target);
     let refused = carry_over(source, target, generation(9)).is_err();
     if refused {
-        let after = both_texts(alloc, source, target);
-        same(rt, "neither has changed", after, before);
-        let again = carry_over(source, target, generation(9));
-        same(rt, "once more", again, Ok(()));
+        let after = text_of_both(alloc, source, target);
+        same(rt, "neither has changed", after.as_str(), before.as_str());
+        let again = carry_over(source, target, generation(9)).is_err();
+        holds(rt, "once more", !again);
     }
     refused
 }
 
 // Returns whether a transfer of many links between arenas with holes is refused at first, and both
 // arenas after it.
-fn run_transfer<S: SlotStack<Item = Slot>>(rt: &impl Abort, alloc: Global) -> (bool, BothTexts) {
+fn run_transfer<S: SlotStack<Item = Slot>>(rt: &impl Abort, alloc: Global) -> (bool, String) {
     let mut source: ChainsOver<S> = with_a_hole(alloc, 70);
     let mut target: ChainsOver<S> = begun(alloc, Do::Dig);
     let refused = is_carried_later(rt, alloc, &mut source, &mut target);
-    (refused, both_texts(alloc, &mut source, &mut target))
+    (refused, text_of_both(alloc, &mut source, &mut target))
 }
 
 // Compares a stack that refuses the transfer at first with one that does not.
@@ -202,8 +198,9 @@ fn check_carried<F: SlotStack<Item = Slot>, S: SlotStack<Item = Slot>>(
     alloc: Global,
 ) {
     let (_, want) = run_transfer::<S>(rt, alloc);
-    let got = run_transfer::<F>(rt, alloc);
-    same(rt, "refused at first", got, (true, want));
+    let (refused, got) = run_transfer::<F>(rt, alloc);
+    holds(rt, "refused at first", refused);
+    same(rt, "both arenas then", got.as_str(), want.as_str());
 }
 
 // Checks refusals over a stack `F` that refuses every other growth of `S`. The first call of a list
@@ -241,7 +238,7 @@ pub(super) fn check_copy_requests<S: SlotStack<Item = Slot>, A: PlainArena>(
 ) {
     let texts = copied_twice::<S, A>(alloc, &mut A::new(alloc));
     let is_copied = texts[0].contains("(Ok(())") || texts[2].contains("(Ok(())");
-    same(rt, "a copy", is_copied, true);
+    holds(rt, "a copy", is_copied);
 }
 
 #[test]

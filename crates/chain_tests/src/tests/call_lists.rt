@@ -1,7 +1,7 @@
 //! Tests of lists of calls and their replies.
 
 use super::scripts::{Do, Kind, Line, lookup};
-use super::{ChainsOver, Slot, at, fresh, fresh_limited, generation, index, same, text};
+use super::{ChainsOver, Slot, at, fresh, fresh_limited, generation, holds, index, same, text};
 use arena_base::ArenaTrait;
 use arena_ptr::{AllocError, LimitStack, SlotStack, ToolPtr};
 use chain_arena::{Call, LinkInsertKind, Reply, run_calls};
@@ -90,7 +90,7 @@ fn replies<S: SlotStack<Item = Slot>>(
         };
         same(rt, what, got.as_str(), *want);
     }
-    same(rt, what, replies.next().is_none(), true);
+    holds(rt, what, replies.next().is_none());
 }
 
 fn insertion_count(replies: &[Reply<ToolPtr, u32>]) -> usize {

@@ -1,7 +1,7 @@
 //! Tests of plain arenas of links, which become chain arenas if their interlinks are consistent.
 
 use super::scripts::{Do, Kind, Line, plays};
-use super::{At, ChainsOver, Slot, add_plain, at, fresh_plain, same, to_chain_arena};
+use super::{At, ChainsOver, Slot, add_plain, at, fresh_plain, holds, to_chain_arena};
 use arena_base::{Arena, ArenaTrait};
 use arena_ptr::{SlotStack, ToolPtr};
 use chain_arena::{LinkNoGen, links_agree};
@@ -69,7 +69,7 @@ pub(super) fn check_rows<S: SlotStack<Item = Slot>>(rt: &impl Abort, alloc: Glob
         let count = links.len().saturating_sub(gone.len());
         let refusal = if agree { None } else { Some(REFUSAL) };
         let arena = plain::<S>(alloc, links, gone);
-        same(rt, what, agreement(arena), (count, agree, refusal));
+        holds(rt, what, agreement(arena) == (count, agree, refusal));
     }
 }
 

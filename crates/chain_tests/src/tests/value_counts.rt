@@ -1,7 +1,7 @@
 //! Tests that no value is lost or cloned twice, by values that count themselves and their clones.
 
 use super::setup::SlotOf;
-use super::{add_plain, at, fresh, fresh_plain, insert_or_invalid, remove, same, to_chain_arena};
+use super::{add_plain, at, fresh, fresh_plain, holds, insert_or_invalid, remove, to_chain_arena};
 use arena_base::{Arena, ArenaSlot, ArenaTrait};
 use arena_ptr::{ChunkStack, HeapStack, LimitedStack, PtrKey, SlotStack, ToolPtr};
 use chain_arena::{Call, ChainArena, ChainArenaTrait, LinkInsertKind, LinkNoGen, apply};
@@ -152,14 +152,14 @@ fn cloned_once_more<S: SlotStack<Item = SlotOf<Counted>>>(
 fn check_counts<S: SlotStack<Item = SlotOf<Counted>>>(rt: &impl Abort, alloc: Global) {
     for take in [0, 1, 5] {
         let left = left_by_a_drain::<S>(rt, alloc, take);
-        same(rt, "links and values", left, (1, 2));
+        holds(rt, "links and values", left == (1, 2));
     }
     for (next, want) in [(2, (true, 1)), (0, (false, 3))] {
         let left = left_by_a_refusal::<S>(rt, alloc, next);
-        same(rt, "refused, and values", left, want);
+        holds(rt, "refused, and values", left == want);
     }
     let made = cloned_once_more::<S>(rt, alloc);
-    same(rt, "a clone", made, [(0, 1, 4), (2, 3, 5)]);
+    holds(rt, "a clone", made == [(0, 1, 4), (2, 3, 5)]);
 }
 
 #[test]

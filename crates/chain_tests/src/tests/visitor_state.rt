@@ -1,7 +1,7 @@
 //! Tests that visitors and value maps are returned in the state they reached.
 
 use super::plain_copies::PlainArena;
-use super::{ChainsOver, Slot, fresh_limited, lone_links, remove, same, text};
+use super::{ChainsOver, Slot, fresh_limited, holds, lone_links, remove, same, text};
 use arena_base::{ArenaTrait, ValueMap};
 use arena_ptr::{AllocError, LimitStack, ReallocationError, SlotStack, ToolPtr};
 use chain_arena::{LinkNoGen, Visitor};
@@ -118,7 +118,7 @@ pub(super) fn check_counted<S: SlotStack<Item = Slot>, A: PlainArena>(
         let reply = counted_over(alloc, count, &mut target);
         same(rt, "over one link", reply.as_str(), want);
         let reply = counted_to_plain::<S, A>(alloc, count);
-        same(rt, "to a plain arena", reply, plain);
+        holds(rt, "to a plain arena", reply == plain);
     }
 }
 
