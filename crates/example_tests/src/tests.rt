@@ -22,15 +22,10 @@ use chain_traits::ChainArenaTrait;
 use forwarding_arena::ForwardingArena;
 use own_calls::OwnCalls;
 use std::alloc::Global;
-use std::fmt::Debug;
 use std::process::Abort;
 use test_types::FailingStack;
 
 type Slot = ArenaSlot<ToolPtr, LinkNoGen<ToolPtr, u32>>;
-
-fn same<T: PartialEq + Debug + Drop>(rt: &impl Abort, what: &str, got: T, want: T) {
-    assert_eq!(rt; got, want, "{what}");
-}
 
 // A pointer that is written as a number of two hexadecimal digits, its index and its generation.
 // Generic code costs less than code that names a type of pointers.
@@ -137,21 +132,20 @@ enum Part {
 // compared in few places.
 type Wrong = Option<usize>;
 
-// What is wrong with a queue, meshes and texts.
-type AllWrong = (Wrong, [Wrong; 3], Wrong);
+// What is wrong with a queue, three meshes and texts.
+type AllWrong = [Wrong; 5];
+
+const RIGHT: AllWrong = [None; 5];
 
 fn all_wrong<P: Named, A: ChainArenaTrait<P, u32> + Drop>(
     alloc: Global,
     refuses: bool,
 ) -> AllWrong {
-    (
-        run_queue::wrong::<P, A>(alloc, refuses),
-        mesh::wrong::<P, A>(alloc, refuses),
-        documents::wrong(
-            &mut Documents::<P, u32, A>::new(alloc),
-            documents::rows(refuses),
-        ),
-    )
+    let queue = run_queue::wrong::<P, A>(alloc, refuses);
+    let [square, hole, corner] = mesh::wrong::<P, A>(alloc, refuses);
+    let mut texts = Documents::<P, u32, A>::new(alloc);
+    let documents = documents::wrong(&mut texts, documents::rows(refuses));
+    [queue, square, hole, corner, documents]
 }
 
 fn all_wrong_by_forwarding<P: Named, A: ChainArenaTrait<P, u32> + Drop>(
@@ -161,29 +155,44 @@ fn all_wrong_by_forwarding<P: Named, A: ChainArenaTrait<P, u32> + Drop>(
     all_wrong::<P, ForwardingArena<A>>(alloc, refuses)
 }
 
-// What is wrong with an arena and with its forwarding arena, and with bookmarks, and whether the
-// calls with a given allocator are right.
-type Results = (AllWrong, AllWrong, Wrong, bool);
+// Returns a first row as wrong, unless `is_right`.
+fn wrong_unless(is_right: bool) -> Wrong {
+    if is_right { None } else { Some(0) }
+}
 
-const RIGHT: Results = ((None, [None; 3], None), (None, [None; 3], None), None, true);
-
-fn results<P: Named, A: OwnCalls<P>>(alloc: Global, part: Part) -> Results {
+// Returns what is wrong with an arena, with its forwarding arena, and then with bookmarks, or with
+// the calls with a given allocator.
+fn results<P: Named, A: OwnCalls<P>>(alloc: Global, part: Part) -> [AllWrong; 3] {
     let refuses = match part {
         Part::Rows => false,
         Part::Refusals => true,
-        Part::NoMemory => return (RIGHT.0, RIGHT.1, None, no_memory::are_right::<P, A>(alloc)),
+        Part::NoMemory => {
+            let calls = wrong_unless(no_memory::are_right::<P, A>(alloc));
+            return [RIGHT, RIGHT, [calls, None, None, None, None]];
+        }
     };
     let own = all_wrong::<P, A>(alloc, refuses);
     let forwarded = all_wrong_by_forwarding::<P, A>(alloc, refuses);
-    let (bookmarks, are_right) = bookmarks::wrong::<P, A>(alloc);
-    (own, forwarded, bookmarks, are_right)
+    let (edits, are_right) = bookmarks::wrong::<P, A>(alloc);
+    [
+        own,
+        forwarded,
+        [edits, wrong_unless(are_right), None, None, None],
+    ]
+}
+
+fn none_wrong(rt: &impl Abort, tables: &[Wrong]) {
+    for (table, wrong) in tables.iter().enumerate() {
+        assert!(rt; wrong.is_none(), "table {table}, row {wrong:?}");
+    }
 }
 
 // Runs a part at a chain arena. Only this body names it, since naming it is the cost. Over any
 // stack it costs less than over one.
 fn check_examples<S: SlotStack<Item = Slot>>(rt: &impl Abort, alloc: Global, part: Part) {
-    let results = results::<ToolPtr, ChainArena<ToolPtr, u32, S>>(alloc, part);
-    same(rt, "results", results, RIGHT);
+    for tables in &results::<ToolPtr, ChainArena<ToolPtr, u32, S>>(alloc, part) {
+        none_wrong(rt, tables);
+    }
 }
 
 // The heap stack is named here alone, too.
