@@ -1,5 +1,6 @@
 //! Tests of plain arenas: over a plain stack, under a maximum, and with refused growths.
 
+use super::Numbered;
 use super::plain_calls::PlainSlot;
 use super::plain_rows::{
     COMPACTORS, COMPRESSIONS, COPIED_BEYOND, COPY, EACH_CALL, EVERY_OTHER, NEXT_POINTERS, REUSED,
@@ -8,7 +9,6 @@ use super::plain_rows::{
 use super::pointers::{BarePtr, SmallPtr};
 use super::scripts::{RunsCalls, plays};
 use super::support::equal;
-use super::{Numbered, same};
 use arena_base::{Arena, ArenaSlot, ArenaTrait};
 use arena_ptr::{
     HeapStack, LimitStack, LimitedStack, MaxCapacityReductionError, PtrKey, SetMaxCapacity,
@@ -90,7 +90,7 @@ fn passed_values<P: PtrKey, S: LimitStack<Item = Shared<P>>>(
 // A refused value is dropped: only the values in the arena and the original are left.
 fn check_values<P: PtrKey, S: LimitStack<Item = Shared<P>>>(rt: &impl Abort, alloc: Global) {
     for (most, left) in [(2, (2, 3)), (1000, (255, 256))] {
-        same(rt, "values", passed_values::<P, S>(alloc, most), left);
+        equal(rt, "values", passed_values::<P, S>(alloc, most), left);
     }
 }
 
