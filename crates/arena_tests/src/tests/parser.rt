@@ -48,8 +48,7 @@ pub(super) enum Do {
     Canonical,
     TakeNext,
     // Changes of any arena. `ClearAndReserve` reports whether the capacity is kept, `CompressWith`
-    // the closure's arguments. `Insert`, `InsertMany` and `InsertWithin` are calls of a plain arena,
-    // too.
+    // the closure's arguments. A plain arena has `Insert`, `InsertMany` and `InsertWithin`, too.
     Write,
     WriteInx,
     Remove,

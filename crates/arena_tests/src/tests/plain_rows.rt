@@ -173,8 +173,8 @@ Get 1 2 = Some(11)
 AdvanceEmpty = None
 ";
 
-// Compressions, of which `CompressWith` adds ten times the number of the closure's call to each value.
-// The old pointers are invalid, and the next index follows the entries.
+// Compressions, of which `CompressWith` adds ten times the number of the closure's call to each
+// value. The old pointers are invalid, and the next index follows the entries.
 pub(super) const COMPRESSIONS: &str = "\
 # a hole is closed
 Insert 10 = Ok(1(2))
