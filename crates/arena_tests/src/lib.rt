@@ -1,5 +1,4 @@
-//! Tests of numbers, pointers, stacks and links, of plain arenas, and of arenas of links by their
-//! traits.
+//! Tests of plain arenas, and of arenas of links by their traits.
 #![tactic(auto)]
 
 #[cfg(test)]

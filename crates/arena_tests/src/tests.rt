@@ -1,24 +1,15 @@
 mod advancers;
 mod any_arena;
 mod arena_text;
-mod indexes_and_generations;
 mod inherent_calls;
 mod limits;
-mod link_order;
 mod link_sizes;
-mod link_text;
-mod links;
 mod parser;
 mod plain_arenas;
 mod plain_calls;
 mod plain_rows;
-mod pointer_text;
 mod pointers;
-mod recasters;
-mod results;
 mod scripts;
-mod stacks;
-mod support;
 mod trait_calls;
 mod transfers;
 
@@ -111,6 +102,10 @@ impl<I: PtrInx, G: Counted> Numbered for Pair<I, G> {
 
 fn same(rt: &impl Abort, what: &str, got: &str, want: &str) {
     assert_eq!(rt; got, want, "{what}");
+}
+
+fn holds(rt: &impl Abort, what: &str, condition: bool) {
+    assert!(rt; condition, "{what}");
 }
 
 fn text<T: Debug + Drop>(alloc: Global, outcome: T) -> Option<String> {

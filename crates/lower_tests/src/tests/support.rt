@@ -3,6 +3,10 @@ use arena_ptr::{Gen8, Gen32, Gen64, Inx8, Inx32, Inx64};
 use std::alloc::AllocError;
 use std::process::Abort;
 
+pub(super) fn same(rt: &impl Abort, what: &str, got: &str, want: &str) {
+    assert_eq!(rt; got, want, "{what}");
+}
+
 // Checks a value without showing it: texts of values would need more types at each call.
 pub(super) fn equal<T: PartialEq + Drop>(rt: &impl Abort, what: &str, got: T, want: T) {
     assert!(rt; got == want, "{what}");

@@ -1,7 +1,7 @@
 //! Tests of the texts of links.
 
 use super::links::{At, NONE, pointer};
-use super::same;
+use super::support::same;
 use arena_ptr::{Inx32, Ptr, ToolPtr};
 use chain_links::{Link, LinkNoGen};
 use std::alloc::Global;
