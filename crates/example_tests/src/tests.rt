@@ -155,7 +155,7 @@ fn all_wrong_by_forwarding<P: Named, A: ChainArenaTrait<P, u32> + Drop>(
     all_wrong::<P, ForwardingArena<A>>(alloc, refuses)
 }
 
-// Returns a first row as wrong, unless `is_right`.
+// Returns `None` if `is_right`, else the first row.
 fn wrong_unless(is_right: bool) -> Wrong {
     if is_right { None } else { Some(0) }
 }

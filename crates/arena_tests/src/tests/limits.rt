@@ -156,10 +156,10 @@ fn other_pointers(rt: HostRuntime) {
 }
 
 // A slot for a shared value, whose strong count is the number of its copies.
-type Shared<P> = ArenaSlot<P, LinkNoGen<P, Rc<u8>>>;
+type SharedLink<P> = ArenaSlot<P, LinkNoGen<P, Rc<u8>>>;
 
 // Offers 300 values to an arena with a maximum. Returns its length and the number of copies.
-fn passed_values<P: PtrKey, S: LimitStack<Item = Shared<P>>>(
+fn passed_links<P: PtrKey, S: LimitStack<Item = SharedLink<P>>>(
     alloc: Global,
     most: usize,
 ) -> (usize, usize) {
@@ -180,7 +180,7 @@ fn passed_values<P: PtrKey, S: LimitStack<Item = Shared<P>>>(
 #[test]
 fn refused_values_are_dropped(rt: HostRuntime) {
     for (most, left) in [(2, (2, 3)), (1000, (255, 256))] {
-        let passed = passed_values::<BarePtr, LimitedStack<Shared<BarePtr>>>(rt.alloc(), most);
+        let passed = passed_links::<BarePtr, LimitedStack<SharedLink<BarePtr>>>(rt.alloc(), most);
         assert!(rt; passed == left);
     }
 }

@@ -53,10 +53,10 @@ fn check_limits<P: Numbered, S: LimitStack<Item = PlainSlot<P>>>(rt: &impl Abort
 }
 
 // A slot for a shared value, whose strong count is the number of its copies.
-type Shared<P> = ArenaSlot<P, Rc<u8>>;
+type SharedEntry<P> = ArenaSlot<P, Rc<u8>>;
 
 // Offers 600 values to an arena, which drops those that it refuses.
-fn pass_many<P: PtrKey, S: SlotStack<Item = Shared<P>>>(
+fn pass_many<P: PtrKey, S: SlotStack<Item = SharedEntry<P>>>(
     arena: &mut Arena<P, Rc<u8>, S>,
     value: &Rc<u8>,
 ) {
@@ -71,7 +71,7 @@ fn pass_many<P: PtrKey, S: SlotStack<Item = Shared<P>>>(
 }
 
 // Offers them to a new arena with a maximum, and returns its length and the number of copies.
-fn passed_values<P: PtrKey, S: LimitStack<Item = Shared<P>>>(
+fn passed_entries<P: PtrKey, S: LimitStack<Item = SharedEntry<P>>>(
     alloc: Global,
     most: usize,
 ) -> (usize, usize) {
@@ -85,9 +85,9 @@ fn passed_values<P: PtrKey, S: LimitStack<Item = Shared<P>>>(
 }
 
 // A refused value is dropped: only the values in the arena and the original are left.
-fn check_values<P: PtrKey, S: LimitStack<Item = Shared<P>>>(rt: &impl Abort, alloc: Global) {
+fn check_values<P: PtrKey, S: LimitStack<Item = SharedEntry<P>>>(rt: &impl Abort, alloc: Global) {
     for (most, left) in [(2, (2, 3)), (1000, (255, 256))] {
-        let passed = passed_values::<P, S>(alloc, most);
+        let passed = passed_entries::<P, S>(alloc, most);
         holds(rt, "values", passed == left);
     }
 }
@@ -98,7 +98,7 @@ fn check_arenas<
     P: Numbered,
     H: SlotStack<Item = PlainSlot<P>>,
     L: LimitStack<Item = PlainSlot<P>>,
-    V: LimitStack<Item = Shared<P>>,
+    V: LimitStack<Item = SharedEntry<P>>,
 >(rt: &impl Abort, alloc: Global) {
     plays_plain::<P, H>(rt, alloc, &EACH);
     plays_plain::<P, FailingStack<H>>(rt, alloc, &[EVERY_OTHER]);
@@ -112,7 +112,7 @@ fn plain_arenas_over_both_stacks(rt: HostRuntime) {
         SmallPtr,
         HeapStack<PlainSlot<SmallPtr>>,
         LimitedStack<PlainSlot<SmallPtr>>,
-        LimitedStack<Shared<SmallPtr>>,
+        LimitedStack<SharedEntry<SmallPtr>>,
     >(&rt, rt.alloc());
 }
 

@@ -205,12 +205,12 @@ fn run_compactor_call<P: Numbered, S: SlotStack<Item = PlainSlot<P>>>(
         Do::CompactWriting => { text(alloc, compact(arena, parsed.i, parsed.q, Some(parsed.t))) }
         Do::DropCompactor => text(alloc, compactor_idle(arena, false)),
         Do::ForgetCompactor => text(alloc, compactor_idle(arena, true)),
-        _ => run_call_of_the_trait(alloc, arena, parsed),
+        _ => run_trait_call(alloc, arena, parsed),
     }
 }
 
 // Runs a call of the trait. Only here generic code gets a plain arena.
-fn run_call_of_the_trait<P: Numbered, S: SlotStack<Item = PlainSlot<P>>>(
+fn run_trait_call<P: Numbered, S: SlotStack<Item = PlainSlot<P>>>(
     alloc: Global,
     arena: &mut Arena<P, u32, S>,
     parsed: ParsedCall<P>,

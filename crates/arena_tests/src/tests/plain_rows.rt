@@ -90,6 +90,7 @@ Remove 2 2 = Success(20)
 AdvanceFrom 2 0 = [(3, 2), (0, 0), (0, 0), (0, 0), (0, 0)]
 AdvanceFrom 2 1 = [(1, 2), (0, 0), (0, 0), (0, 0), (0, 0)]
 AdvanceFrom 3 1 = [(3, 2), (1, 2), (0, 0), (0, 0), (0, 0)]
+Advance 5 = [(1, 2), (3, 2), (0, 0), (0, 0), (0, 0)]
 # all entries by ascending index
 InsertMany 5 = 5
 Ends = (Some(1(2)), Some(5(2)))

@@ -198,7 +198,7 @@ fn reserve_or_look_up<P: Named, A: ChainArenaTrait<P, u32> + Drop>(
 
 // Returns whether a call yields its number, at least on a second attempt, and then the corners are
 // as they should be. So a refusal changes nothing.
-fn holds<P: Named, A: ChainArenaTrait<P, u32> + Drop>(
+fn row_holds<P: Named, A: ChainArenaTrait<P, u32> + Drop>(
     mesh: &mut Polygons<P, A>,
     row: &Row,
 ) -> bool {
@@ -210,7 +210,7 @@ fn holds<P: Named, A: ChainArenaTrait<P, u32> + Drop>(
 fn first_wrong<P: Named, A: ChainArenaTrait<P, u32> + Drop>(alloc: Global, rows: &[Row]) -> Wrong {
     let mut mesh = Polygons::<P, A>::new(alloc);
     for (place, row) in rows.iter().enumerate() {
-        if !holds(&mut mesh, row) {
+        if !row_holds(&mut mesh, row) {
             return Some(place);
         }
     }

@@ -181,7 +181,7 @@ fn look_up<P: Named, A: ChainArenaTrait<P, u32> + Drop>(queue: &Queue<P, A>, op:
 
 // Returns whether a call yields its number, at least on a second attempt, and then the tasks are as
 // they should be. So a refusal changes nothing.
-fn holds<P: Named, A: ChainArenaTrait<P, u32> + Drop>(
+fn row_holds<P: Named, A: ChainArenaTrait<P, u32> + Drop>(
     alloc: Global,
     queue: &mut Queue<P, A>,
     row: &Row,
@@ -199,7 +199,7 @@ pub(super) fn wrong<P: Named, A: ChainArenaTrait<P, u32> + Drop>(
     let mut queue = Queue::<P, A>::new(alloc);
     let rows: &[Row] = if refuses { &REFUSED } else { &ROWS };
     for (place, row) in rows.iter().enumerate() {
-        if !holds(alloc, &mut queue, row) {
+        if !row_holds(alloc, &mut queue, row) {
             return Some(place);
         }
     }
