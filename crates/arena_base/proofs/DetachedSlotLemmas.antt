@@ -4,7 +4,7 @@ use Rattle.std.specs.Prelude.{true, false, IsSome, slice_index_or, slice_get, sl
 use Rattle.std.specs.Option.{option_map}
 use Rattle.std.proofs.Math.Decide.{ℕ_discrete}
 use Rattle.std.proofs.lemmas.List.{length-map, length-set, map-set, set-set, get_or-set_same, get_or-set_other}
-use Rattle.arena_ptr.specs.declared.packed_option.PackedOption.{PackedOption}
+use Rattle.arena_core.specs.declared.packed_option.PackedOption.{PackedOption}
 use Rattle.arena_traits.specs.Arena.{slot_at, with_slot}
 use Rattle.arena_base.specs.DetachedSlots.{DetachedView, with_placed_entry, held_with_value}
 use Rattle.arena_base.specs.Slots.{entry_of, entry_in, allocated_slot, free_slot, with_value_in, with_generation_in, with_generation_at, detached_view}

@@ -2,7 +2,7 @@
 use Rattle.std.proofs.Common.{◌≡◌, ℕ, zero, suc, ◌<◌, ◌≤◌, List, [], ◌∷◌, length, map, Option, None, Some, refl, ap, sym, ◌∙◌, arith}
 use Rattle.std.specs.Prelude.{slice_get}
 use Rattle.std.proofs.lemmas.List.{length-map}
-use Rattle.arena_ptr.specs.declared.packed_option.PackedOption.{PackedOption}
+use Rattle.arena_core.specs.declared.packed_option.PackedOption.{PackedOption}
 use Rattle.arena_traits.specs.Arena.{slot_at, IsListed}
 use Rattle.arena_base.specs.Slots.{item_at, entry_of, entry_in, free_slot, arena_of, IsSound}
 use Rattle.arena_base.specs.declared.slot.ArenaSlot.{ArenaSlot}

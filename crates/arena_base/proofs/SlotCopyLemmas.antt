@@ -4,7 +4,7 @@ use Rattle.std.specs.Prelude.{slice_get, min}
 use Rattle.std.specs.List.{FoldsTo}
 use Rattle.std.proofs.lemmas.List.{append-nil, map-append, length-map, drop_all}
 use Rattle.std.proofs.lemmas.Fn.{FoldsTo-push}
-use Rattle.arena_ptr.specs.declared.packed_option.PackedOption.{PackedOption}
+use Rattle.arena_core.specs.declared.packed_option.PackedOption.{PackedOption}
 use Rattle.arena_traits.specs.Arena.{Arena, IsCapacityFor, with_capacity_of}
 use Rattle.arena_traits.specs.Entries.{ArenaView, entries_from, entries, view_of}
 use Rattle.arena_base.specs.Slots.{entry_of, allocated_slot, free_slot, without_value, without_values, freed_of, arena_of, IsSound}

@@ -2,7 +2,7 @@
 use Rattle.std.proofs.Common.{◌≡◌, ℕ, zero, suc, ◌+◌, ◌<◌, List, [], ◌∷◌, ◌++◌, length, map, Option, None, Some, refl, ap, sym, ◌∙◌, subst, arith, inl, inr, ◌⊎◌}
 use Rattle.std.specs.Prelude.{IsSome, true, false, count_by, is_some, cond, slice_index_or, slice_get, slice_set}
 use Rattle.std.proofs.lemmas.List.Sums.{sum_by-cons}
-use Rattle.arena_ptr.specs.declared.packed_option.PackedOption.{PackedOption}
+use Rattle.arena_core.specs.declared.packed_option.PackedOption.{PackedOption}
 use Rattle.arena_traits.specs.Arena.{slot_at, with_slot}
 use Rattle.arena_base.specs.Slots.{item_at, entry_of, entry_in, allocated_slot, free_slot, with_generation_in, with_generation_at, freed_slot}
 use Rattle.arena_base.specs.declared.slot.ArenaSlot.{ArenaSlot}

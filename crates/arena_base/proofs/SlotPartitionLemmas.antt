@@ -2,8 +2,8 @@
 use Rattle.std.proofs.Common.{◌≡◌, ℕ, zero, suc, ◌+◌, ◌<◌, ◌≤◌, List, [], ◌∷◌, ◌++◌, length, map, Option, None, Some, refl, ap, sym, ◌∙◌, arith, rules, inl, inr, ◌⊎◌}
 use Rattle.std.specs.Prelude.{slice_index_or, All, min}
 use Rattle.std.proofs.lemmas.List.Elements.{All-nil, All-cons}
-use Rattle.arena_ptr.specs.Numbers.{IsWithin}
-use Rattle.arena_ptr.specs.SlotStack.{IsWithinMaximum}
+use Rattle.arena_core.specs.Numbers.{IsWithin}
+use Rattle.arena_core.specs.SlotStack.{IsWithinMaximum}
 use Rattle.arena_traits.specs.Arena.{Arena, IsMember, AreDistinct, IsListed, IsCapacityFor}
 use Rattle.arena_traits.specs.Entries.{entries_from, entries, index_of, CoverSlots}
 

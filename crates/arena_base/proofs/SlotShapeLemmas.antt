@@ -4,7 +4,7 @@ use Rattle.std.specs.Prelude.{slice_get, is_some}
 use Rattle.std.specs.Option.{option_map}
 use Rattle.std.proofs.lemmas.List.{length-map}
 use Rattle.std.proofs.lemmas.List.Sums.{sum_by-cons}
-use Rattle.arena_ptr.specs.declared.packed_option.PackedOption.{PackedOption}
+use Rattle.arena_core.specs.declared.packed_option.PackedOption.{PackedOption}
 use Rattle.arena_base.specs.Slots.{item_at, entry_of, free_slot, without_value, without_values, IsFreeList, IsSound}
 use Rattle.arena_base.specs.Copies.{generations}
 use Rattle.arena_base.specs.declared.slot.ArenaSlot.{ArenaSlot}

@@ -1,7 +1,7 @@
 -- The representation of an arena in its slots. Public clauses cite `entry_of` and
 -- `ThreadsFreeList`.
 use Rattle.std.specs.Prelude.{◌≡◌, ℕ, zero, suc, ◌+◌, ◌≤◌, ⊤, List, [], ◌∷◌, map, min, length, count_by, is_some, slice_get, Option, None, Some}
-use Rattle.arena_ptr.specs.declared.packed_option.PackedOption.{PackedOption}
+use Rattle.arena_core.specs.declared.packed_option.PackedOption.{PackedOption}
 use Rattle.arena_base.specs.DetachedSlots.{DetachedView}
 use Rattle.arena_traits.specs.Arena.{Arena, IsMember, AreDistinct}
 use Rattle.arena_base.specs.declared.slot.ArenaSlot.{ArenaSlot}

@@ -3,7 +3,7 @@ ghost use Rattle.std.specs.Prelude.{◌≡◌, if◌then◌else◌};
 
 use crate::arena::Arena;
 use crate::slot::{ArenaSlot, number_of};
-use arena_ptr::{PtrKey, SlotStack};
+use arena_core::{PtrKey, SlotStack};
 use arena_traits::{Advancer, Cursor};
 use std::marker::PhantomData;
 

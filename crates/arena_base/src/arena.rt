@@ -1,8 +1,8 @@
 // The generational arena and its inherent functions.
 ghost use Rattle.std.specs.Prelude.{◌≡◌, [], min, ◌<◌, ◌≤◌, ◌+◌, ◌↔◌, IsTrue, IsSome, IfSome, IfNone, IsErr, IfOk, IsOk, OnOk, OnErr, Some, None, Ok, Err, length, drop, take, slice_index_or, map, ◌^◌};
 ghost use Rattle.std.specs.Option.{option_map};
-ghost use Rattle.arena_ptr.specs.SlotStack.{IsBeyond};
-ghost use Rattle.arena_ptr.specs.Invalidation.{invalidation_option, invalidation_result};
+ghost use Rattle.arena_core.specs.SlotStack.{IsBeyond};
+ghost use Rattle.arena_core.specs.Invalidation.{invalidation_option, invalidation_result};
 ghost use Rattle.arena_base.specs.Slots.{entry_of, ThreadsFreeList};
 ghost use Rattle.arena_traits.specs.Entries.{entries, entries_from, key_at, first_key, last_key, IsNextEntry};
 ghost use Rattle.arena_traits.specs.Advancers.{ahead};
@@ -13,7 +13,7 @@ use crate::detached_slots::DetachedSlots;
 use crate::free_list::{relist, trim};
 use crate::slot::{ArenaSlot, PackedInx, fill, inx_at, position_of, regenerate_at, vacate_at};
 use crate::tally::Tally;
-use arena_ptr::{
+use arena_core::{
     GenKey, HeapStack, InvalidationOption, InvalidationResult, InxKey, LimitStack,
     MaxCapacityReductionError, NotWithinCapacityError, PtrKey, ReallocationError, SetMaxCapacity,
     SlotStack,

@@ -1,16 +1,16 @@
 // The implementation of the arena traits for `Arena`.
 ghost use Rattle.std.specs.Prelude.{◌≡◌, ◌≤◌, ◌<◌, ◌+◌, ◌^◌, length, All, IfSome};
-ghost use Rattle.arena_ptr.specs.Invalidation.{value_within, is_overflow_result, invalidation_option};
+ghost use Rattle.arena_core.specs.Invalidation.{value_within, is_overflow_result, invalidation_option};
 ghost use Rattle.std.specs.Option.{option_map};
 ghost use Rattle.arena_traits.specs.Arena.{counter_after_clear, overflows_after_clear, entry_count, with_counter, HasCapacityFor, IsListed};
 ghost use Rattle.arena_traits.specs.Compressions.{counter_after_compression, overflows_after_compression};
-ghost use Rattle.arena_ptr.specs.Numbers.{IsWithin};
+ghost use Rattle.arena_core.specs.Numbers.{IsWithin};
 ghost use Rattle.arena_traits.specs.Entries.{entries, view_of, index_of, CoverSlots};
 
 use crate::advancer::PtrAdvancer;
 use crate::arena::Arena;
 use crate::slot::{ArenaSlot, number_of, position_of};
-use arena_ptr::{
+use arena_core::{
     AllocError, GenKey, InvalidationOption, InvalidationResult, InxKey, PtrKey, ReallocationError,
     SlotStack,
 };

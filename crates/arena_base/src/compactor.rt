@@ -9,7 +9,7 @@ ghost use Rattle.arena_base.specs.DetachedSlots.{DetachedView, borrowed_parts, w
 use crate::arena::Arena;
 use crate::detached_slots::{DetachedSlots, LendsValue};
 use crate::slot::ArenaSlot;
-use arena_ptr::{HeapStack, PtrKey, SlotStack};
+use arena_core::{HeapStack, PtrKey, SlotStack};
 
 /// The work of a compactor: the number of placements, and of other accesses to slots.
 ///

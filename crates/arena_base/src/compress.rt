@@ -10,7 +10,7 @@ ghost use Rattle.arena_base.specs.GatheredSlots.{AreClosed, IsGathered, with_tot
 use crate::arena::Arena;
 use crate::compactor::{Compactor, SlotAccess};
 use crate::slot::{ArenaSlot, inx_at};
-use arena_ptr::{PtrKey, SlotStack};
+use arena_core::{PtrKey, SlotStack};
 use arena_traits::proved_unreachable;
 
 // Moves the entry at index `from`, if there is one, to index `to`, free or its own. Sets its

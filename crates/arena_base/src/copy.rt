@@ -1,6 +1,6 @@
 // Copying of an arena into another, with other values.
 ghost use Rattle.std.specs.Prelude.{◌≡◌, ◌≤◌, ◌↔◌, ◌⊎◌, [], map, length, IsOk, OnOk, OnErr, Err};
-ghost use Rattle.arena_ptr.specs.SlotStack.{IsBeyond};
+ghost use Rattle.arena_core.specs.SlotStack.{IsBeyond};
 ghost use Rattle.arena_traits.specs.Arena.{HasCapacityFor, IsWithinReach};
 ghost use Rattle.arena_base.specs.Slots.{entry_of, without_values};
 ghost use Rattle.arena_traits.specs.Entries.{entries, entries_from};
@@ -9,7 +9,7 @@ ghost use Rattle.arena_base.specs.Copies.{CopiesBy, HasRefusable, HasSlotsOf, Is
 use crate::arena::Arena;
 use crate::copy_traits::{ArenaCloneFromWith, ValueMap};
 use crate::slot::{ArenaSlot, inx_at};
-use arena_ptr::{AllocError, InxKey, PtrKey, ReallocationError, SlotStack};
+use arena_core::{AllocError, InxKey, PtrKey, ReallocationError, SlotStack};
 use arena_traits::{ArenaTrait, proved_unreachable};
 
 /// A `ValueMap` by a closure, which is called with the pointer and the value of each entry.

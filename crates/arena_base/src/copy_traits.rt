@@ -1,6 +1,6 @@
 // The traits of copies of an arena.
 ghost use Rattle.std.specs.Prelude.{◌≡◌, ◌≤◌, ◌↔◌, ◌⊎◌, ⊤, length, IsOk, IfOk, OnOk, OnErr, Err};
-ghost use Rattle.arena_ptr.specs.SlotStack.{IsBeyond};
+ghost use Rattle.arena_core.specs.SlotStack.{IsBeyond};
 ghost use Rattle.arena_traits.specs.Arena.{IsCapacityFor};
 ghost use Rattle.arena_traits.specs.Entries.{entries};
 ghost use Rattle.arena_base.specs.Copies.{IsCopy, IsCopyBy, HasRefusable, IsAbandonedView};
@@ -8,7 +8,7 @@ ghost use Rattle.arena_base.specs.Copies.{IsCopy, IsCopyBy, HasRefusable, IsAban
 use crate::arena::Arena;
 use crate::copy::ClosureMap;
 use crate::slot::ArenaSlot;
-use arena_ptr::{AllocError, PtrKey, ReallocationError, SlotStack};
+use arena_core::{AllocError, PtrKey, ReallocationError, SlotStack};
 use arena_traits::ArenaTrait;
 
 /// A source of the values for a copy of an arena, made one after another.

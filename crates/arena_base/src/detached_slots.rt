@@ -6,7 +6,7 @@ ghost use Rattle.arena_traits.specs.Arena.{slot_at};
 ghost use Rattle.arena_base.specs.DetachedSlots.{DetachedView, borrowed_parts, with_placed_entry, held_with_value};
 
 use crate::slot::{ArenaSlot, position_of, put_at, regenerate_at, vacate_at};
-use arena_ptr::{InxKey, PtrKey, SlotStack};
+use arena_core::{InxKey, PtrKey, SlotStack};
 use arena_traits::proved_unreachable;
 use std::marker::Model;
 

@@ -5,7 +5,7 @@ ghost use Rattle.arena_traits.specs.Arena.{entry_count, next_index, insert_next}
 
 use crate::arena::Arena;
 use crate::slot::ArenaSlot;
-use arena_ptr::{HeapStack, NotWithinCapacityError, PtrKey, SlotStack};
+use arena_core::{HeapStack, NotWithinCapacityError, PtrKey, SlotStack};
 
 /// A vacant entry, whose pointer is known before its value. Dropping it changes nothing.
 ///

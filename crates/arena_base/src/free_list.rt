@@ -4,7 +4,7 @@ ghost use Rattle.arena_base.specs.Slots.{entry_of, IsSound};
 ghost use Rattle.arena_base.specs.DetachedSlots.{without_free_end, free_from};
 
 use crate::slot::{ArenaSlot, PackedInx, is_free_at, list_at};
-use arena_ptr::{InxKey, PtrKey, SlotStack};
+use arena_core::{InxKey, PtrKey, SlotStack};
 
 // Removes the free slots at the end.
 pub(crate) fn trim<P: PtrKey, T: Drop, S: SlotStack<Item = ArenaSlot<P, T>>>(slots: &mut S)

@@ -1,12 +1,12 @@
 // Iterators over the entries of an arena, by ascending index. Each passes every slot once.
 ghost use Rattle.std.specs.Prelude.{◌≡◌, ◌+◌, [], ◌∷◌, drop, IfNone, IfSome};
-ghost use Rattle.arena_ptr.specs.Invalidation.{value_within};
+ghost use Rattle.arena_core.specs.Invalidation.{value_within};
 ghost use Rattle.arena_traits.specs.Entries.{entries_from};
 ghost use Rattle.std.specs.Iterator.{YieldsFirstBy, item_count};
 
 use crate::arena::Arena;
 use crate::slot::ArenaSlot;
-use arena_ptr::{HeapStack, InvalidationResult, PtrKey, SlotStack};
+use arena_core::{HeapStack, InvalidationResult, PtrKey, SlotStack};
 use arena_traits::proved_unreachable;
 use std::marker::Model;
 

@@ -4,7 +4,7 @@ ghost use Rattle.std.specs.Option.{option_map, option_copied_mut};
 ghost use Rattle.std.specs.Borrow.{LendsIf, sem};
 ghost use Rattle.arena_base.specs.Slots.{entry_of, entry_in, with_value_in, with_generation_in, with_generation_at, IsFree, free_slot, allocated_slot, freed_slot};
 
-use arena_ptr::{InxKey, PackedOption, PtrKey, SlotStack};
+use arena_core::{InxKey, PackedOption, PtrKey, SlotStack};
 use arena_traits::proved_unreachable;
 use std::mem;
 

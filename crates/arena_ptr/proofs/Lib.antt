@@ -1,4 +1,3 @@
-pub mod OptionLemmas
 mod BlockLemmas
 mod ChunkStackLemmas
 mod BlockSwapLemmas

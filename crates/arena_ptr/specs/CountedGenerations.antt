@@ -2,7 +2,7 @@
 use Rattle.std.specs.Prelude.{◌≡◌, ℕ, zero, suc, ◌≤◌}
 use Rattle.std.proofs.Common.{ap, arith}
 use Rattle.std.proofs.lemmas.Grind.{common_steps}
-use Rattle.arena_ptr.specs.Numbers.{next_number}
+use Rattle.arena_core.specs.Numbers.{next_number}
 
 module _ {Gen : Type 0} (first : Gen) (following : Gen → Gen) where
   -- The generation after `n` steps.

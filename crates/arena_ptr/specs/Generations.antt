@@ -1,7 +1,7 @@
 -- The number of a generation, the generation after it, and whether that one wraps to two.
 use Rattle.std.specs.Prelude.{◌≡◌, ℕ, ◌==◌, ◌↔◌, Bool, true}
 use Rattle.std.proofs.Common.{lit≤}
-use Rattle.arena_ptr.specs.Numbers.{IsWithin, IsWithin-prop, next_number, next_within, next_after_greatest, same_made, eq_is_same_number}
+use Rattle.arena_core.specs.Numbers.{IsWithin, IsWithin-prop, next_number, next_within, next_after_greatest, same_made, eq_is_same_number}
 use Rattle.arena_ptr.specs.declared.generation.gen8.Gen8.{Gen8}
 use Rattle.arena_ptr.specs.declared.generation.gen32.Gen32.{Gen32}
 use Rattle.arena_ptr.specs.declared.generation.gen64.Gen64.{Gen64}

@@ -1,6 +1,6 @@
 -- The number of an index of each type.
 use Rattle.std.specs.Prelude.{◌≡◌, ℕ, ◌==◌, ◌↔◌, true}
-use Rattle.arena_ptr.specs.Numbers.{IsWithin, IsWithin-prop, same_made, eq_is_same_number}
+use Rattle.arena_core.specs.Numbers.{IsWithin, IsWithin-prop, same_made, eq_is_same_number}
 use Rattle.arena_ptr.specs.declared.index.inx8.Inx8.{Inx8}
 use Rattle.arena_ptr.specs.declared.index.inx32.Inx32.{Inx32}
 use Rattle.arena_ptr.specs.declared.index.inx64.Inx64.{Inx64}

@@ -1,12 +1,6 @@
-pub mod Numbers
-pub mod PackedOptions
 pub mod Indexes
 pub mod Generations
 pub mod ToolPtr
-pub mod Invalidation
-pub mod PointerText
-pub mod SlotStack
-pub mod SlotVectors
 pub mod LimitedStack
 pub mod CountedGenerations
 pub mod Blocks

@@ -2,7 +2,7 @@
 use Rattle.std.specs.Prelude.{◌≡◌, ℕ, vec_capacity}
 use Rattle.std.specs.Vec.{with_item}
 use Rattle.std.proofs.Common.{ap}
-use Rattle.arena_ptr.specs.SlotStack.{IsWithinMaximum, IsWithinMaximum-prop}
+use Rattle.arena_core.specs.SlotStack.{IsWithinMaximum, IsWithinMaximum-prop}
 use Rattle.arena_ptr.specs.declared.limited_stack.LimitedStack.{LimitedStack}
 
 -- The stack after `e` is written at position `i`.

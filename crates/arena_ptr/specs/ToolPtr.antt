@@ -4,7 +4,7 @@ use Rattle.std.proofs.Common.{ap, rules}
 use Rattle.std.proofs.lemmas.Bool.{and_from}
 use Rattle.arena_ptr.specs.Indexes.{number_of_inx32, same_inx32, eq_is_same_inx32}
 use Rattle.arena_ptr.specs.Generations.{number_of_gen32, eq_is_same_gen32}
-use Rattle.arena_ptr.specs.PointerText.{hexadecimal, in_parentheses}
+use Rattle.arena_core.specs.PointerText.{hexadecimal, in_parentheses}
 use Rattle.arena_ptr.specs.declared.generation.gen32.Gen32.{Gen32}
 use Rattle.arena_ptr.specs.declared.tool_ptr.ToolPtr.{ToolPtr}
 

@@ -3,8 +3,7 @@ ghost use Rattle.std.specs.Option.{option_copied, option_copied_mut};
 ghost use Rattle.std.specs.Borrow.{LendsSo, sem};
 ghost use Rattle.arena_ptr.specs.Blocks.{AreFilled, AreFilled-prop, items_in, slots_for};
 
-use crate::errors::ReallocationError;
-use crate::slot_stack::SlotStack;
+use arena_core::{ReallocationError, SlotStack};
 use std::alloc::{AllocError, Global};
 use std::mem;
 

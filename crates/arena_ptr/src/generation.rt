@@ -1,8 +1,7 @@
-// Generations of 8, 32 and 64 bits, and the empty generation `()`.
+// Generations of 8, 32 and 64 bits.
 mod gen32;
 mod gen64;
 mod gen8;
-mod unit;
 
 pub use gen8::Gen8;
 pub use gen32::Gen32;

@@ -1,11 +1,11 @@
 ghost use Rattle.std.specs.Prelude.{◌≡◌, OnSome, slice_get, vec_capacity};
 ghost use Rattle.std.specs.Option.{option_copied_mut};
 ghost use Rattle.std.specs.Borrow.{LendsSo, sem};
-ghost use Rattle.arena_ptr.specs.SlotStack.{IsWithinMaximum, IsWithinMaximum-prop};
+ghost use Rattle.arena_core.specs.SlotStack.{IsWithinMaximum, IsWithinMaximum-prop};
 
-use crate::errors::{MaxCapacityReductionError, ReallocationError};
-use crate::slot_stack::{LimitStack, SetMaxCapacity, SlotStack};
-use crate::slots;
+use arena_core::{
+    LimitStack, MaxCapacityReductionError, ReallocationError, SetMaxCapacity, SlotStack, slots,
+};
 use std::alloc::Global;
 
 /// A slot stack in one heap block, with a maximum once one is set.
@@ -37,8 +37,8 @@ impl<E> LimitedStack<E> {
 impl<E: Drop> SlotStack for LimitedStack<E> {
     ghost use Rattle.std.specs.Prelude.{◌*◌, max, None, refl};
     ghost use Rattle.arena_ptr.specs.LimitedStack.{with_item_at};
-    ghost use Rattle.arena_ptr.specs.SlotStack.{min_with_maximum};
-    ghost use Rattle.arena_ptr.specs.SlotVectors.{slots_have_capacity, slots_fit};
+    ghost use Rattle.arena_core.specs.SlotStack.{min_with_maximum};
+    ghost use Rattle.arena_core.specs.SlotVectors.{slots_have_capacity, slots_fit};
 
     type Item = E;
 

@@ -2,7 +2,7 @@ ghost use Rattle.std.specs.Prelude.{◌≡◌, codes};
 
 use crate::generation::Gen32;
 use crate::index::Inx32;
-use crate::ptr::{Ptr, PtrGen, PtrInx};
+use arena_core::{Ptr, PtrGen, PtrInx};
 use std::fmt;
 
 /// The pointer type of the program, with a 32-bit index, a 32-bit generation and the name `P0`.

@@ -5,7 +5,7 @@ use Rattle.std.specs.Option.{option_map}
 use Rattle.std.proofs.lemmas.Bool.{eq-eqb, ne_eqb}
 use Rattle.std.proofs.lemmas.List.{length-set}
 use Rattle.std.proofs.lemmas.List.Sums.{sum_by-cons, sum_by-set}
-use Rattle.arena_ptr.specs.Invalidation.{value_within, invalidation_result}
+use Rattle.arena_core.specs.Invalidation.{value_within, invalidation_result}
 use Rattle.arena_traits.specs.Arena.{Arena, IsMember, slots_after_insertion, entry_count, slot_at, with_slot, remove_at, invalidate_at, with_value, arena_after_clear, counter_after_clear}
 use Rattle.arena_traits.specs.Entries.{ArenaView, entries_from, entries, view_of, without_index, with_replacement, view_after_removal, view_after_invalidation, view_with_value, view_after_clear}
 

@@ -3,7 +3,7 @@ use Rattle.std.specs.Prelude.{◌≡◌, ℕ, zero, suc, ◌+◌, ◌≤◌, ◌
 use Rattle.std.specs.Prelude.{Option, None, Some}
 use Rattle.std.specs.Option.{option_map}
 use Rattle.std.specs.Borrow.{Bor}
-use Rattle.arena_ptr.specs.SlotStack.{IsWithinMaximum}
+use Rattle.arena_core.specs.SlotStack.{IsWithinMaximum}
 
 -- Slot `k` has index `k + 1`, and holds an entry (generation and value) or none. An insertion takes
 -- the counter as its generation, and as its index the first of the freed list, if there is one.

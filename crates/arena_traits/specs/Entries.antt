@@ -2,8 +2,8 @@
 -- view of an arena that generic code has.
 use Rattle.std.specs.Prelude.{◌≡◌, ◌↔◌, ℕ, suc, ◌+◌, ◌<◌, ◌≤◌, ◌==◌, ⊤, cond, List, [], ◌∷◌, ◌++◌, map, reverse, length, drop, Option, None, Some, IfSome}
 use Rattle.std.specs.Option.{option_map}
-use Rattle.arena_ptr.specs.Numbers.{IsWithin}
-use Rattle.arena_ptr.specs.SlotStack.{IsBeyond}
+use Rattle.arena_core.specs.Numbers.{IsWithin}
+use Rattle.arena_core.specs.SlotStack.{IsBeyond}
 use Rattle.arena_traits.specs.Arena.{Arena, slot_at, IsMember, AreDistinct, first_or_next, without_first, counter_after_clear}
 
 -- The number of slots, the freed list, first to be used first, and the totals of placements and

@@ -3,7 +3,7 @@ ghost use Rattle.std.specs.Prelude.{◌≡◌, ◌≢◌, ℕ, None};
 ghost use Rattle.arena_traits.specs.Entries.{without_index};
 
 use crate::traits::ArenaTrait;
-use arena_ptr::PtrKey;
+use arena_core::PtrKey;
 
 /// Proves that the entry list of any arena determines the entry at each index (`same`).
 ///

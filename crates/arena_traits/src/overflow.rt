@@ -1,8 +1,8 @@
 // Results that report whether the counter overflowed.
 ghost use Rattle.std.specs.Prelude.{◌≡◌, Some};
-ghost use Rattle.arena_ptr.specs.Invalidation.{invalidation_result, invalidation_option};
+ghost use Rattle.arena_core.specs.Invalidation.{invalidation_result, invalidation_option};
 
-use arena_ptr::{InvalidationOption, InvalidationResult};
+use arena_core::{InvalidationOption, InvalidationResult};
 
 /// Returns `t` as an `InvalidationResult` with this overflow.
 pub fn outcome<T>(overflow: bool, t: T) -> InvalidationResult<T>

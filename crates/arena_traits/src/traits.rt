@@ -2,16 +2,16 @@
 ghost use Rattle.std.specs.Prelude.{◌≡◌, ℕ, ◌<◌, ◌≤◌, ◌+◌, ◌^◌, ◌↔◌, ◌⊎◌, ⊤, [], length, All, IsTrue, IsSome, IfSome, OnSome, IsOk, IfOk, IsErr, OnOk, OnErr, Some, None, Option, if◌then◌else◌};
 ghost use Rattle.std.specs.Option.{option_map, option_copied_mut};
 ghost use Rattle.std.specs.Borrow.{LendsSo, sem};
-ghost use Rattle.arena_ptr.specs.Numbers.{IsWithin};
-ghost use Rattle.arena_ptr.specs.SlotStack.{IsBeyond, IsWithinMaximum};
-ghost use Rattle.arena_ptr.specs.Invalidation.{value_within, invalidation_result, invalidation_option};
+ghost use Rattle.arena_core.specs.Numbers.{IsWithin};
+ghost use Rattle.arena_core.specs.SlotStack.{IsBeyond, IsWithinMaximum};
+ghost use Rattle.arena_core.specs.Invalidation.{value_within, invalidation_result, invalidation_option};
 ghost use Rattle.arena_traits.specs.Arena.{IsCapacityFor, IsValid, borrowed_entry, overflows_after_clear};
 ghost use Rattle.arena_traits.specs.Entries.{ArenaView, CoverSlots, index_of, IsNew, found, AscendsFrom, first_key, last_key, view_after_removal, view_after_invalidation, view_with_value, view_after_clear, with_capacity};
 ghost use Rattle.arena_traits.specs.Advancers.{IsAdvanceUntilNone};
 ghost use Rattle.arena_traits.specs.Compressions.{IsCompressed, VisitsAll, overflows_after_compression, values_in};
 ghost use Rattle.arena_traits.specs.declared.cursor.Cursor.{Cursor};
 
-use arena_ptr::{
+use arena_core::{
     AllocError, GenKey, InvalidationOption, InvalidationResult, InxKey, PtrKey, ReallocationError,
     SlotStack,
 };

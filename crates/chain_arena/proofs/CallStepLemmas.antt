@@ -4,16 +4,16 @@ use Rattle.std.specs.Prelude.{is_some, IsSome, IsTrue, IsOk, IfOk, IfErr, IfSome
 use Rattle.std.specs.Option.{option_map}
 use Rattle.std.proofs.lemmas.Bool.{cases_lt, false≢true}
 use Rattle.std.proofs.lemmas.Option.{none-some}
-use Rattle.arena_ptr.specs.Invalidation.{value_within, invalidation_result, invalidation_option}
-use Rattle.arena_ptr.specs.SlotStack.{IsBeyond}
-use Rattle.arena_ptr.specs.declared.errors.ChainInsertionError.{ChainInsertionError}
-use Rattle.arena_ptr.specs.declared.errors.ChainInsertionError.TheVariants as failed
-use Rattle.arena_ptr.specs.declared.errors.ReallocationError.{ReallocationError}
-use Rattle.arena_ptr.specs.declared.errors.ReallocationError.TheVariants as refused
-use Rattle.arena_ptr.specs.declared.packed_option.PackedOption.{PackedOption}
-use Rattle.arena_ptr.specs.declared.invalidation.InvalidationOption.{InvalidationOption}
-use Rattle.arena_ptr.specs.declared.invalidation.InvalidationResult.{InvalidationResult}
-use Rattle.arena_ptr.specs.declared.invalidation.InvalidationResult.TheVariants.{Success, GenerationOverflow, InvalidPtr}
+use Rattle.arena_core.specs.Invalidation.{value_within, invalidation_result, invalidation_option}
+use Rattle.arena_core.specs.SlotStack.{IsBeyond}
+use Rattle.arena_core.specs.declared.errors.ChainInsertionError.{ChainInsertionError}
+use Rattle.arena_core.specs.declared.errors.ChainInsertionError.TheVariants as failed
+use Rattle.arena_core.specs.declared.errors.ReallocationError.{ReallocationError}
+use Rattle.arena_core.specs.declared.errors.ReallocationError.TheVariants as refused
+use Rattle.arena_core.specs.declared.packed_option.PackedOption.{PackedOption}
+use Rattle.arena_core.specs.declared.invalidation.InvalidationOption.{InvalidationOption}
+use Rattle.arena_core.specs.declared.invalidation.InvalidationResult.{InvalidationResult}
+use Rattle.arena_core.specs.declared.invalidation.InvalidationResult.TheVariants.{Success, GenerationOverflow, InvalidPtr}
 use Rattle.chain_laws.specs.Chains.{LinkMap, prev_of, next_of}
 use Rattle.chain_laws.specs.Insertions.{InsertKind, link_before, link_after, InsertsPairs, Inserts}
 use Rattle.chain_laws.specs.Walks.{IsWalk, TakesWalk}

@@ -2,9 +2,9 @@
 use Rattle.std.proofs.Common.{◌≡◌, ℕ, zero, suc, ◌<◌, arith, Bool, true, false, List, [], ◌∷◌, length, Option, None, Some, refl, ap, ap₂, sym, ◌∙◌, subst}
 use Rattle.std.specs.Prelude.{is_some}
 use Rattle.std.specs.Option.{option_map}
-use Rattle.arena_ptr.specs.Invalidation.{value_in, is_overflow, value_within, is_overflow_result, invalidation_result}
-use Rattle.arena_ptr.specs.declared.invalidation.InvalidationOption.{InvalidationOption}
-use Rattle.arena_ptr.specs.declared.invalidation.InvalidationResult.{InvalidationResult}
+use Rattle.arena_core.specs.Invalidation.{value_in, is_overflow, value_within, is_overflow_result, invalidation_result}
+use Rattle.arena_core.specs.declared.invalidation.InvalidationOption.{InvalidationOption}
+use Rattle.arena_core.specs.declared.invalidation.InvalidationResult.{InvalidationResult}
 use Rattle.chain_laws.specs.Chains.{LinkMap, IsWellLinked, HasLink, prev_in, next_in}
 use Rattle.chain_laws.specs.Removals.{with_removal}
 use Rattle.chain_laws.specs.Walks.{IsWalk, rest_start, rest_start_of, walk_from, with_removals, TakesWalk}

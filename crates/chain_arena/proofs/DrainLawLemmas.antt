@@ -2,8 +2,8 @@
 use Rattle.std.proofs.Common.{◌≡◌, ℕ, zero, suc, Bool, List, [], ◌∷◌, map, Option, None, Some, sym, ap, ◌∙◌}
 use Rattle.std.specs.Prelude.{slice_set, slice_index_or}
 use Rattle.std.proofs.lemmas.List.Elements.{All-cons, All-nil, All-weaker}
-use Rattle.arena_ptr.specs.Invalidation.{value_in}
-use Rattle.arena_ptr.specs.declared.invalidation.InvalidationOption.{InvalidationOption}
+use Rattle.arena_core.specs.Invalidation.{value_in}
+use Rattle.arena_core.specs.declared.invalidation.InvalidationOption.{InvalidationOption}
 use Rattle.arena_traits.specs.Arena.{Arena, entry_at, slot_at, with_slot, IsValid}
 use Rattle.chain_links.specs.ChainArena.{LinkView, entry, values_of, remove_link, link_value as held_value, on_value}
 use Rattle.chain_links.specs.declared.links.LinkBody.{LinkBody}

@@ -1,9 +1,9 @@
 -- Results of insertions and of their growths.
 use Rattle.std.proofs.Common.{◌≡◌, ◌↔◌, refl, Result, Ok, Err, OnOk, OnErr, IsErr}
 use Rattle.std.specs.Prelude.{IsOk, IfOk}
-use Rattle.arena_ptr.specs.declared.errors.ReallocationError.TheVariants as refused
-use Rattle.arena_ptr.specs.declared.errors.ChainInsertionError.{ChainInsertionError}
-use Rattle.arena_ptr.specs.declared.errors.ChainInsertionError.TheVariants as failed
+use Rattle.arena_core.specs.declared.errors.ReallocationError.TheVariants as refused
+use Rattle.arena_core.specs.declared.errors.ChainInsertionError.{ChainInsertionError}
+use Rattle.arena_core.specs.declared.errors.ChainInsertionError.TheVariants as failed
 use Rattle.chain_arena.specs.Growths.{growth_of}
 
 -- What holds of an insertion's result holds of its growth's result.

@@ -7,8 +7,8 @@ use Rattle.std.specs.List.{FoldsTo}
 use Rattle.std.proofs.lemmas.List.{map-append}
 use Rattle.std.specs.Borrow.{Bor}
 use Rattle.std.specs.Fn.{Mut}
-use Rattle.arena_ptr.specs.declared.errors.ReallocationError.{ReallocationError}
-use Rattle.arena_ptr.specs.declared.errors.ReallocationError.TheVariants as refused
+use Rattle.arena_core.specs.declared.errors.ReallocationError.{ReallocationError}
+use Rattle.arena_core.specs.declared.errors.ReallocationError.TheVariants as refused
 use Rattle.chain_laws.specs.Chains.{Interlinks, IsWellLinked}
 use Rattle.arena_traits.specs.Arena.{Arena, slot_at, new_arena}
 use Rattle.arena_traits.specs.Entries.{ArenaView, Slots, entries_from, entries}

@@ -4,10 +4,10 @@ use Rattle.std.specs.Prelude.{cond, leb, min, ◌==◌, All, slice_index_or}
 use Rattle.std.specs.Option.{option_map}
 use Rattle.std.proofs.lemmas.Bool.{leb-true, leb-false, le-leb, lt-leb, eq-eqb, ne_eqb}
 use Rattle.std.proofs.lemmas.List.Elements.{All-head, All-tail}
-use Rattle.arena_ptr.specs.Numbers.{IsWithin}
-use Rattle.arena_ptr.specs.Invalidation.{value_in, is_overflow, value_within, is_overflow_result, invalidation_result, invalidation_option}
-use Rattle.arena_ptr.specs.declared.invalidation.InvalidationOption.{InvalidationOption}
-use Rattle.arena_ptr.specs.declared.invalidation.InvalidationResult.{InvalidationResult}
+use Rattle.arena_core.specs.Numbers.{IsWithin}
+use Rattle.arena_core.specs.Invalidation.{value_in, is_overflow, value_within, is_overflow_result, invalidation_result, invalidation_option}
+use Rattle.arena_core.specs.declared.invalidation.InvalidationOption.{InvalidationOption}
+use Rattle.arena_core.specs.declared.invalidation.InvalidationResult.{InvalidationResult}
 use Rattle.arena_traits.specs.Arena.{Arena, IsValid, entry_at}
 use Rattle.arena_traits.specs.Entries.{ArenaView, entries, entries_from, index_of, found, without_index, first_key, AscendsFrom}
 use Rattle.arena_traits.specs.Entries.{view_after_removal}

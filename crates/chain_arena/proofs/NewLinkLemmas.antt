@@ -3,11 +3,11 @@ use Rattle.std.proofs.Common.{◌≡◌, length, ◌≢◌, ◌↔◌, ◌⊎◌
 use Rattle.std.specs.Prelude.{IsOk, IfOk, IfErr}
 use Rattle.std.specs.Result.{ForOk}
 use Rattle.std.proofs.lemmas.Bool.{false≢true}
-use Rattle.arena_ptr.specs.SlotStack.{IsBeyond, IsWithinMaximum}
-use Rattle.arena_ptr.specs.declared.errors.ChainInsertionError.{ChainInsertionError}
-use Rattle.arena_ptr.specs.declared.errors.ChainInsertionError.TheVariants as failed
-use Rattle.arena_ptr.specs.declared.errors.ReallocationError.{ReallocationError}
-use Rattle.arena_ptr.specs.declared.errors.ReallocationError.TheVariants as refused
+use Rattle.arena_core.specs.SlotStack.{IsBeyond, IsWithinMaximum}
+use Rattle.arena_core.specs.declared.errors.ChainInsertionError.{ChainInsertionError}
+use Rattle.arena_core.specs.declared.errors.ChainInsertionError.TheVariants as failed
+use Rattle.arena_core.specs.declared.errors.ReallocationError.{ReallocationError}
+use Rattle.arena_core.specs.declared.errors.ReallocationError.TheVariants as refused
 use Rattle.chain_laws.specs.Chains.{IsWellLinked}
 use Rattle.chain_laws.specs.Insertions.{InsertKind, IsInsertPosition}
 use Rattle.arena_traits.specs.Arena.{Arena, IsCapacityFor, IsListed, HasCapacityFor, ReachesCapacity, IsWithinReach, entry_count, next_index, with_capacity_of}

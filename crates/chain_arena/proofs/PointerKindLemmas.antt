@@ -1,7 +1,7 @@
 -- The kind of pointers that a pointer type's bounds give.
-use Rattle.arena_ptr.specs.declared.keys.GenKey as generations
-use Rattle.arena_ptr.specs.declared.keys.InxKey as indexes
-use Rattle.arena_ptr.specs.declared.keys.PtrKey as pointers
+use Rattle.arena_core.specs.declared.keys.GenKey as generations
+use Rattle.arena_core.specs.declared.keys.InxKey as indexes
+use Rattle.arena_core.specs.declared.keys.PtrKey as pointers
 use Rattle.chain_arena.specs.PointerKinds.{PointerKind}
 
 abbrev pub kind_by : {P I Gen W : Type 0} → pointers.Ghosts P I Gen W → indexes.Ghosts I W → generations.Ghosts Gen → PointerKind P I Gen W

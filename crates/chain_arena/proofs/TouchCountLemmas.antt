@@ -4,11 +4,11 @@ use Rattle.std.specs.Prelude.{All}
 use Rattle.std.specs.Option.{option_map}
 use Rattle.std.proofs.lemmas.List.{ext_get_or}
 use Rattle.std.proofs.lemmas.List.Elements.{All-head, All-tail}
-use Rattle.arena_ptr.specs.declared.errors.ChainInsertionError.{ChainInsertionError}
-use Rattle.arena_ptr.specs.declared.errors.ChainInsertionError.TheVariants as failed
-use Rattle.arena_ptr.specs.declared.errors.ReallocationError.{ReallocationError}
-use Rattle.arena_ptr.specs.declared.invalidation.InvalidationResult.{InvalidationResult}
-use Rattle.arena_ptr.specs.declared.invalidation.InvalidationResult.TheVariants.{Success, GenerationOverflow, InvalidPtr}
+use Rattle.arena_core.specs.declared.errors.ChainInsertionError.{ChainInsertionError}
+use Rattle.arena_core.specs.declared.errors.ChainInsertionError.TheVariants as failed
+use Rattle.arena_core.specs.declared.errors.ReallocationError.{ReallocationError}
+use Rattle.arena_core.specs.declared.invalidation.InvalidationResult.{InvalidationResult}
+use Rattle.arena_core.specs.declared.invalidation.InvalidationResult.TheVariants.{Success, GenerationOverflow, InvalidPtr}
 use Rattle.chain_laws.specs.Chains.{LinkMap, all_items}
 use Rattle.chain_laws.specs.Renamings.{IsRenaming}
 use Rattle.chain_laws.specs.Arrangements.{place_in}

@@ -7,8 +7,8 @@ use Rattle.std.specs.List.{FoldsTo, range_with_len}
 use Rattle.std.proofs.lemmas.Fn.{FoldsTo-push}
 use Rattle.std.proofs.lemmas.List.{map-append, length-append}
 use Rattle.std.proofs.lemmas.List.Elements.{All-push, All-nil}
-use Rattle.arena_ptr.specs.Invalidation.{value_in, is_overflow}
-use Rattle.arena_ptr.specs.declared.invalidation.InvalidationOption.{InvalidationOption}
+use Rattle.arena_core.specs.Invalidation.{value_in, is_overflow}
+use Rattle.arena_core.specs.declared.invalidation.InvalidationOption.{InvalidationOption}
 use Rattle.chain_laws.proofs.ListLemmas.Ranges.{range_last}
 use Rattle.arena_traits.specs.Entries.{ArenaView, found}
 use Rattle.chain_arena.specs.Drains.{after_times}

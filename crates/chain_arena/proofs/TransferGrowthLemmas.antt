@@ -1,8 +1,8 @@
 -- A transfer into an arena that was grown and cleared.
 use Rattle.std.proofs.Common.{◌≡◌, ◌↔◌, Bool, ℕ, ◌≤◌, Option, ap, sym, ◌∙◌, subst}
 use Rattle.std.specs.Fn.{Mut}
-use Rattle.arena_ptr.specs.SlotStack.{IsBeyond}
-use Rattle.arena_ptr.specs.declared.invalidation.InvalidationOption.{InvalidationOption}
+use Rattle.arena_core.specs.SlotStack.{IsBeyond}
+use Rattle.arena_core.specs.declared.invalidation.InvalidationOption.{InvalidationOption}
 use Rattle.chain_laws.specs.Chains.{LinkMap}
 use Rattle.arena_traits.specs.Arena.{Arena, HasCapacityFor, IsWithinReach, arena_after_clear, with_capacity_of, with_counter}
 use Rattle.arena_traits.specs.Entries.{ArenaView}

@@ -4,8 +4,8 @@ use Rattle.std.specs.Prelude.{is_some, IfSome, IfNone}
 use Rattle.std.specs.Option.{option_map, option_and}
 use Rattle.std.specs.Fn.{Mut, Called}
 use Rattle.std.proofs.lemmas.List.{length-map, map-append}
-use Rattle.arena_ptr.specs.Invalidation.{value_in, is_overflow}
-use Rattle.arena_ptr.specs.declared.invalidation.InvalidationOption.{InvalidationOption}
+use Rattle.arena_core.specs.Invalidation.{value_in, is_overflow}
+use Rattle.arena_core.specs.declared.invalidation.InvalidationOption.{InvalidationOption}
 use Rattle.chain_laws.specs.Chains.{LinkMap, Chain, all_items, IsMember, AreDistinct, HasLinksWithin, IsWellLinked, AreChains, first_or, next_of}
 use Rattle.chain_laws.specs.Neighbors.{AreTheChains}
 use Rattle.chain_laws.specs.Insertions.{IsInsertPosition}

@@ -1,7 +1,7 @@
 -- The items that a drain of a chain yields, from first to last.
 use Rattle.std.specs.Prelude.{◌≡◌, ℕ, Bool, Option, List, [], ◌∷◌, map, All}
-use Rattle.arena_ptr.specs.Invalidation.{value_in}
-use Rattle.arena_ptr.specs.declared.invalidation.InvalidationOption.{InvalidationOption}
+use Rattle.arena_core.specs.Invalidation.{value_in}
+use Rattle.arena_core.specs.declared.invalidation.InvalidationOption.{InvalidationOption}
 use Rattle.arena_traits.specs.Arena.{Arena, IsValid}
 use Rattle.chain_links.specs.ChainArena.{LinkView, entry}
 use Rattle.chain_links.specs.declared.links.LinkBody.{LinkBody}

@@ -1,7 +1,7 @@
 -- Drains of a chain and of all links: what is left to remove, and the steps.
 use Rattle.std.specs.Prelude.{◌≡◌, ℕ, zero, suc, Bool, List, [], ◌∷◌, length, MatchOption, Option, Some}
-use Rattle.arena_ptr.specs.Invalidation.{value_in, is_overflow}
-use Rattle.arena_ptr.specs.declared.invalidation.InvalidationOption.{InvalidationOption}
+use Rattle.arena_core.specs.Invalidation.{value_in, is_overflow}
+use Rattle.arena_core.specs.declared.invalidation.InvalidationOption.{InvalidationOption}
 use Rattle.chain_laws.specs.Walks.{walk_from}
 use Rattle.arena_traits.specs.Arena.{Arena, entry_at}
 use Rattle.arena_traits.specs.Entries.{entries}

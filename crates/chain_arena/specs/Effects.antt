@@ -1,10 +1,10 @@
 -- The effects of calls on an arena of links, and their errors.
 use Rattle.std.specs.Prelude.{◌≡◌, ℕ, ◌<◌, ◌≤◌, min, Bool, true, false, List, length}
-use Rattle.arena_ptr.specs.SlotStack.{IsBeyond}
-use Rattle.arena_ptr.specs.declared.errors.ReallocationError.{ReallocationError}
-use Rattle.arena_ptr.specs.declared.errors.ReallocationError.TheVariants as refused
-use Rattle.arena_ptr.specs.declared.invalidation.InvalidationResult.{InvalidationResult}
-use Rattle.arena_ptr.specs.declared.invalidation.InvalidationResult.TheVariants.{Success, GenerationOverflow, InvalidPtr}
+use Rattle.arena_core.specs.SlotStack.{IsBeyond}
+use Rattle.arena_core.specs.declared.errors.ReallocationError.{ReallocationError}
+use Rattle.arena_core.specs.declared.errors.ReallocationError.TheVariants as refused
+use Rattle.arena_core.specs.declared.invalidation.InvalidationResult.{InvalidationResult}
+use Rattle.arena_core.specs.declared.invalidation.InvalidationResult.TheVariants.{Success, GenerationOverflow, InvalidPtr}
 use Rattle.chain_laws.specs.Insertions.{InsertKind, link_before, link_after, InsertsPairs, Inserts}
 use Rattle.chain_laws.specs.Walks.{IsWalk, TakesWalk}
 use Rattle.arena_traits.specs.Arena.{Arena, IsValid, HasCapacityFor, next_index, with_capacity_of}

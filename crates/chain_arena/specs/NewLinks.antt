@@ -1,11 +1,11 @@
 -- Insertion positions of a kind with capacity for one more link, and insertions there.
 use Rattle.std.specs.Prelude.{◌≡◌, ◌≢◌, ◌↔◌, ◌⊎◌, ℕ, ◌+◌, ◌<◌, Option, Result, Ok, Err, OnOk, IfOk, OnErr, IfErr, IsErr}
 use Rattle.std.specs.Result.{result_map_both}
-use Rattle.arena_ptr.specs.SlotStack.{IsBeyond}
-use Rattle.arena_ptr.specs.declared.errors.ChainInsertionError.{ChainInsertionError}
-use Rattle.arena_ptr.specs.declared.errors.ChainInsertionError.TheVariants as failed
-use Rattle.arena_ptr.specs.declared.errors.ReallocationError.{ReallocationError}
-use Rattle.arena_ptr.specs.declared.errors.ReallocationError.TheVariants as refused
+use Rattle.arena_core.specs.SlotStack.{IsBeyond}
+use Rattle.arena_core.specs.declared.errors.ChainInsertionError.{ChainInsertionError}
+use Rattle.arena_core.specs.declared.errors.ChainInsertionError.TheVariants as failed
+use Rattle.arena_core.specs.declared.errors.ReallocationError.{ReallocationError}
+use Rattle.arena_core.specs.declared.errors.ReallocationError.TheVariants as refused
 use Rattle.chain_laws.specs.Chains.{IsWellLinked}
 use Rattle.chain_laws.specs.Insertions.{link_before, link_after}
 use Rattle.arena_traits.specs.Arena.{IsCapacityFor, ReachesCapacity, IsListed, entry_count, next_index, with_capacity_of}

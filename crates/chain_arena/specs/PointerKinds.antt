@@ -1,6 +1,6 @@
 -- Types of pointers, as contracts see them.
 use Rattle.std.specs.Prelude.{ℕ, Bool, Option}
-use Rattle.arena_ptr.specs.declared.packed_option.PackedOption.{PackedOption}
+use Rattle.arena_core.specs.declared.packed_option.PackedOption.{PackedOption}
 
 -- A type of pointers: the numbers of its indexes, and the order of its generations.
 pub record PointerKind (P I Gen W : Type 0) : Type 0 where

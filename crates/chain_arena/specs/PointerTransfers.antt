@@ -1,8 +1,8 @@
 -- Transfers, stated by pointer.
 use Rattle.std.specs.Prelude.{◌≡◌, ℕ, Bool, Option}
 use Rattle.std.specs.Fn.{Mut}
-use Rattle.arena_ptr.specs.Invalidation.{value_in}
-use Rattle.arena_ptr.specs.declared.invalidation.InvalidationOption.{InvalidationOption}
+use Rattle.arena_core.specs.Invalidation.{value_in}
+use Rattle.arena_core.specs.declared.invalidation.InvalidationOption.{InvalidationOption}
 use Rattle.chain_laws.specs.Chains.{LinkMap}
 use Rattle.arena_traits.specs.Arena.{Arena}
 use Rattle.arena_traits.specs.Entries.{ArenaView}

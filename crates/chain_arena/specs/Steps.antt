@@ -2,13 +2,13 @@
 -- arena unchanged, and is tested before the errors below it. Left open are only refusals of memory,
 -- how far a growth goes, and how many slots a compression touches.
 use Rattle.std.specs.Prelude.{◌≡◌, ℕ, ◌+◌, ◌<◌, ◌≤◌, Bool, true, false, List, [], ◌∷◌, Option, None, Some, Result, Ok, Err}
-use Rattle.arena_ptr.specs.Invalidation.{invalidation_option}
-use Rattle.arena_ptr.specs.declared.packed_option.PackedOption.{PackedOption}
-use Rattle.arena_ptr.specs.declared.errors.ChainInsertionError.{ChainInsertionError}
-use Rattle.arena_ptr.specs.declared.errors.ChainInsertionError.TheVariants as failed
-use Rattle.arena_ptr.specs.declared.errors.ReallocationError.{ReallocationError}
-use Rattle.arena_ptr.specs.declared.errors.ReallocationError.TheVariants as refused
-use Rattle.arena_ptr.specs.declared.invalidation.InvalidationResult.{InvalidationResult}
+use Rattle.arena_core.specs.Invalidation.{invalidation_option}
+use Rattle.arena_core.specs.declared.packed_option.PackedOption.{PackedOption}
+use Rattle.arena_core.specs.declared.errors.ChainInsertionError.{ChainInsertionError}
+use Rattle.arena_core.specs.declared.errors.ChainInsertionError.TheVariants as failed
+use Rattle.arena_core.specs.declared.errors.ReallocationError.{ReallocationError}
+use Rattle.arena_core.specs.declared.errors.ReallocationError.TheVariants as refused
+use Rattle.arena_core.specs.declared.invalidation.InvalidationResult.{InvalidationResult}
 use Rattle.chain_laws.specs.Chains.{prev_of, next_of}
 use Rattle.chain_laws.specs.Insertions.{InsertKind}
 use Rattle.arena_traits.specs.Arena.{IsValid, entry_at, entry_count, with_capacity_of, with_counter, invalidate_at, arena_after_clear, overflows_after_clear}

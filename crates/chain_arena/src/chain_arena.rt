@@ -2,8 +2,8 @@ ghost use Rattle.std.specs.Prelude.{◌≡◌, ◌≤◌, ◌+◌, ◌↔◌, le
 ghost use Rattle.chain_laws.specs.Chains.{IsWellLinked};
 ghost use Rattle.chain_laws.specs.Neighbors.{HasOneSetOfChains};
 ghost use Rattle.std.specs.Option.{option_map};
-ghost use Rattle.arena_ptr.specs.Invalidation.{value_within, invalidation_option, invalidation_result};
-ghost use Rattle.arena_ptr.specs.Numbers.{IsWithin};
+ghost use Rattle.arena_core.specs.Invalidation.{value_within, invalidation_option, invalidation_result};
+ghost use Rattle.arena_core.specs.Numbers.{IsWithin};
 ghost use Rattle.arena_traits.specs.Arena.{entry_at, entry_count, with_counter, with_maximum, HasCapacityFor, IsListed, IsValid};
 ghost use Rattle.arena_traits.specs.Entries.{count, index_of};
 ghost use Rattle.arena_traits.specs.Compressions.{overflows_after_compression};

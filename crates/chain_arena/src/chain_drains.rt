@@ -3,7 +3,7 @@ ghost use Rattle.std.specs.Prelude.{◌≡◌, ◌↔◌, [], length, IsSome, If
 ghost use Rattle.std.specs.Borrow.{RestsIfNone, sem};
 ghost use Rattle.std.specs.Option.{option_map};
 ghost use Rattle.std.specs.Iterator.{item_count};
-ghost use Rattle.arena_ptr.specs.Invalidation.{value_in, is_overflow};
+ghost use Rattle.arena_core.specs.Invalidation.{value_in, is_overflow};
 ghost use Rattle.chain_laws.specs.Chains.{IsWellLinked};
 ghost use Rattle.chain_laws.specs.Walks.{rest_start, IsWalk, TakesWalk};
 ghost use Rattle.arena_traits.specs.Arena.{IsValid};

@@ -1,6 +1,6 @@
 // Copies of a chain arena.
 ghost use Rattle.std.specs.Prelude.{◌≡◌, ◌≤◌, ◌↔◌, ◌⊎◌, [], length, IsOk, IfOk, OnOk, OnErr, Err};
-ghost use Rattle.arena_ptr.specs.SlotStack.{IsBeyond};
+ghost use Rattle.arena_core.specs.SlotStack.{IsBeyond};
 ghost use Rattle.chain_laws.specs.Chains.{IsWellLinked};
 ghost use Rattle.arena_traits.specs.Arena.{HasCapacityFor, IsCapacityFor, IsWithinReach, new_arena};
 ghost use Rattle.arena_base.specs.Copies.{IsCopyBy, IsCopyCall, IsAbandonedCopy, IsAbandonedView};

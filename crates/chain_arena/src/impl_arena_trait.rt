@@ -1,9 +1,9 @@
 // The implementation of `ArenaTrait`: a chain arena as an arena of values.
 ghost use Rattle.std.specs.Prelude.{◌≡◌, ◌≤◌, ◌<◌, ◌+◌, ◌^◌, length, All, IfSome};
 ghost use Rattle.std.specs.Option.{option_map};
-ghost use Rattle.arena_ptr.specs.Invalidation.{value_within, is_overflow_result};
+ghost use Rattle.arena_core.specs.Invalidation.{value_within, is_overflow_result};
 ghost use Rattle.chain_laws.specs.Neighbors.{HasOneSetOfChains};
-ghost use Rattle.arena_ptr.specs.Numbers.{IsWithin};
+ghost use Rattle.arena_core.specs.Numbers.{IsWithin};
 ghost use Rattle.arena_traits.specs.Arena.{entry_count, HasCapacityFor, IsListed};
 ghost use Rattle.arena_traits.specs.Entries.{index_of, CoverSlots};
 ghost use Rattle.chain_links.specs.ChainArena.{value_view, link_map};

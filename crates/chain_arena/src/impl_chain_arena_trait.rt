@@ -1,7 +1,7 @@
 // The implementation of `ChainArenaTrait`: a chain arena as an arena of links.
 ghost use Rattle.std.specs.Prelude.{◌≡◌, ◌↔◌, IsTrue};
 ghost use Rattle.std.specs.Option.{option_map};
-ghost use Rattle.arena_ptr.specs.Invalidation.{value_within, is_overflow_result};
+ghost use Rattle.arena_core.specs.Invalidation.{value_within, is_overflow_result};
 ghost use Rattle.chain_arena.specs.Effects.{MayInsertInto};
 ghost use Rattle.chain_arena.specs.Growths.{growth_of};
 ghost use Rattle.chain_arena.specs.NewLinks.{InsertsAllowed, InsertsReallocating, InsertsWithinCapacity};

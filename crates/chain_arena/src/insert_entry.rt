@@ -2,7 +2,7 @@
 ghost use Rattle.std.specs.Prelude.{◌≡◌, ◌≢◌, ◌↔◌, ◌<◌, ◌≤◌, ◌+◌, ◌⊎◌, IsErr, IfOk, IfErr, IsOkAnd, Err};
 ghost use Rattle.std.specs.Borrow.{RestsIfErr, sem};
 ghost use Rattle.std.specs.Option.{option_map};
-ghost use Rattle.arena_ptr.specs.Numbers.{IsWithin};
+ghost use Rattle.arena_core.specs.Numbers.{IsWithin};
 ghost use Rattle.chain_laws.specs.Insertions.{IsInsertPosition, link_before, link_after};
 ghost use Rattle.arena_traits.specs.Arena.{entry_count, next_index, with_capacity_of, ReachesCapacity};
 ghost use Rattle.chain_links.specs.ChainArena.{entry, link_map, insert_between};

@@ -1,6 +1,6 @@
 // The transfer of all links of another arena, chain by chain.
 ghost use Rattle.std.specs.Prelude.{◌≡◌, ◌↔◌, ◌≤◌, ◌<◌, ◌+◌, ℕ, [], IsOk, OnOk, OnErr, Err, None, Some};
-ghost use Rattle.arena_ptr.specs.SlotStack.{IsBeyond};
+ghost use Rattle.arena_core.specs.SlotStack.{IsBeyond};
 ghost use Rattle.chain_laws.specs.Transfer.{end_before, end_after};
 ghost use Rattle.arena_traits.specs.Arena.{HasCapacityFor, IsWithinReach, IsListed, with_capacity_of, entry_count, next_index};
 ghost use Rattle.arena_traits.specs.Entries.{count};

@@ -3,8 +3,8 @@ use Rattle.std.proofs.Common.{◌≡◌, ℕ, ◌+◌, ◌*◌, ◌<◌, ◌≤�
 use Rattle.std.specs.List.{concat}
 use Rattle.std.proofs.lemmas.Fmt.{length-decimal-le}
 use Rattle.arena_ptr.specs.ToolPtr.{key_of}
-use Rattle.arena_ptr.specs.declared.invalidation.InvalidationOption.{InvalidationOption}
-use Rattle.arena_ptr.specs.declared.invalidation.InvalidationOption.TheVariants as option
+use Rattle.arena_core.specs.declared.invalidation.InvalidationOption.{InvalidationOption}
+use Rattle.arena_core.specs.declared.invalidation.InvalidationOption.TheVariants as option
 use Rattle.arena_ptr.specs.declared.tool_ptr.ToolPtr.{ToolPtr}
 use Rattle.chain_commands.specs.Responses.{pointer_text, move_text, moves_text, overflow_text, greatest_index}
 

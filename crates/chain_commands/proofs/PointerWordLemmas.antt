@@ -1,7 +1,7 @@
 -- Numbers and pointers stated by words.
 use Rattle.std.proofs.Common.{◌≡◌, ℕ, ◌^◌, ◌<◌, ◌≤◌, ◌↔◌, Bool, true, false, leb, Option, Some, None, IsSome, IfSome, option_and_then, refl, sym, ap, ◌∙◌, arith}
 use Rattle.std.proofs.lemmas.Bool.{le-leb, leb-true, false≢true}
-use Rattle.arena_ptr.specs.Numbers.{IsWithin}
+use Rattle.arena_core.specs.Numbers.{IsWithin}
 use Rattle.arena_ptr.specs.Indexes.{number_of_inx32, same_inx32}
 use Rattle.arena_ptr.specs.Generations.{number_of_gen32, same_gen32}
 use Rattle.arena_ptr.specs.declared.index.inx32.Inx32.{Inx32}

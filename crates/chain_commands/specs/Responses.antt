@@ -5,18 +5,18 @@ use Rattle.std.specs.String.{string_capacity}
 use Rattle.std.specs.declared.alloc.Global.{Global}
 use Rattle.arena_ptr.specs.Generations.{number_of_gen32, two32, after32, is_greatest32}
 use Rattle.arena_ptr.specs.Indexes.{number_of_inx32}
-use Rattle.arena_ptr.specs.PackedOptions.{zero_is_none}
+use Rattle.arena_core.specs.PackedOptions.{zero_is_none}
 use Rattle.arena_ptr.specs.ToolPtr.{key_of}
-use Rattle.arena_ptr.specs.declared.errors.ChainInsertionError.{ChainInsertionError}
-use Rattle.arena_ptr.specs.declared.errors.ChainInsertionError.TheVariants as failed
-use Rattle.arena_ptr.specs.declared.errors.ReallocationError.{ReallocationError}
-use Rattle.arena_ptr.specs.declared.errors.ReallocationError.TheVariants as refused
+use Rattle.arena_core.specs.declared.errors.ChainInsertionError.{ChainInsertionError}
+use Rattle.arena_core.specs.declared.errors.ChainInsertionError.TheVariants as failed
+use Rattle.arena_core.specs.declared.errors.ReallocationError.{ReallocationError}
+use Rattle.arena_core.specs.declared.errors.ReallocationError.TheVariants as refused
 use Rattle.arena_ptr.specs.declared.generation.gen32.Gen32.{Gen32}
 use Rattle.arena_ptr.specs.declared.index.inx32.Inx32.{Inx32}
-use Rattle.arena_ptr.specs.declared.invalidation.InvalidationOption.{InvalidationOption}
-use Rattle.arena_ptr.specs.declared.invalidation.InvalidationOption.TheVariants as option
-use Rattle.arena_ptr.specs.declared.invalidation.InvalidationResult.{InvalidationResult}
-use Rattle.arena_ptr.specs.declared.invalidation.InvalidationResult.TheVariants as result
+use Rattle.arena_core.specs.declared.invalidation.InvalidationOption.{InvalidationOption}
+use Rattle.arena_core.specs.declared.invalidation.InvalidationOption.TheVariants as option
+use Rattle.arena_core.specs.declared.invalidation.InvalidationResult.{InvalidationResult}
+use Rattle.arena_core.specs.declared.invalidation.InvalidationResult.TheVariants as result
 use Rattle.arena_ptr.specs.declared.tool_ptr.ToolPtr.{ToolPtr}
 use Rattle.arena_traits.specs.Arena.{Arena, IsValid, entry_count}
 use Rattle.chain_links.specs.ChainArena as chain

@@ -6,7 +6,7 @@ use Rattle.std.specs.List.{slice_split, before_first, after_first}
 use Rattle.std.specs.Str.{all_ascii_digits}
 use Rattle.std.specs.Str.Parse.{digits_value}
 use Rattle.std.proofs.lemmas.Bool.{leb-true}
-use Rattle.arena_ptr.specs.Numbers.{IsWithin}
+use Rattle.arena_core.specs.Numbers.{IsWithin}
 use Rattle.arena_ptr.specs.declared.index.inx32.Inx32.{Inx32}
 use Rattle.arena_ptr.specs.declared.generation.gen32.Gen32.{Gen32}
 use Rattle.arena_ptr.specs.declared.tool_ptr.ToolPtr.{ToolPtr}

@@ -11,7 +11,7 @@ use Rattle.chain_laws.proofs.ListLemmas.MemberLaws.{once_in_middle}
 use Rattle.chain_laws.proofs.InterlinkLemmas.Inverses.{one_some}
 use Rattle.chain_laws.proofs.ChainLemmas.MemberLaws.{chains_share_each, members_are_links}
 use Rattle.chain_laws.proofs.ExchangeLemmas.Pairs.{exchanged_with_itself}
-use Rattle.arena_ptr.specs.Numbers.{IsWithin}
+use Rattle.arena_core.specs.Numbers.{IsWithin}
 use Rattle.arena_traits.specs.Arena.{IsValid}
 use Rattle.arena_traits.specs.Entries.{index_of, found, first_key}
 use Rattle.chain_links.specs.ChainArena.{CanExchange, IsInserted, ptr_at}

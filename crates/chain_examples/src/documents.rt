@@ -3,7 +3,7 @@
 ghost use Rattle.std.specs.Prelude.{◌≡◌, ◌≢◌, ◌↔◌, ℕ, ◌+◌, ◌<◌, ◌≤◌, List, [], ◌∷◌, ◌++◌, IsTrue, IsSome, IfSome, OnSome, IfNone, IsOk, IfOk, OnOk, IsErr, IfErr, OnErr, Some, None, Err};
 ghost use Rattle.std.specs.Option.{option_map};
 ghost use Rattle.std.specs.Borrow.{Lends, LendsSo, sem};
-ghost use Rattle.arena_ptr.specs.SlotStack.{IsBeyond, IsWithinMaximum};
+ghost use Rattle.arena_core.specs.SlotStack.{IsBeyond, IsWithinMaximum};
 ghost use Rattle.chain_laws.specs.Chains.{linear, IsMember, next_of, prev_of};
 ghost use Rattle.arena_traits.specs.Arena.{IsCapacityFor, IsValid};
 ghost use Rattle.arena_traits.specs.Entries.{count, view_after_removal, first_key, last_key, with_capacity, NeedsBeyondMaximum};

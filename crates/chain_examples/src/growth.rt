@@ -1,7 +1,7 @@
 //! `reserve` for any arena of links.
 
 ghost use Rattle.std.specs.Prelude.{◌≡◌, ◌↔◌, ◌≤◌, ◌<◌, ◌+◌, IsOk, OnOk, IsErr, OnErr, Err};
-ghost use Rattle.arena_ptr.specs.SlotStack.{IsBeyond};
+ghost use Rattle.arena_core.specs.SlotStack.{IsBeyond};
 ghost use Rattle.arena_traits.specs.Arena.{IsCapacityFor};
 ghost use Rattle.arena_traits.specs.Entries.{count, with_capacity};
 

@@ -3,7 +3,7 @@
 ghost use Rattle.std.specs.Prelude.{◌≡◌, ◌↔◌, ◌<◌, ◌≤◌, ◌+◌, ℕ, List, [], ◌∷◌, ◌++◌, length, map, IsTrue, IsSome, IfSome, OnSome, IfNone, IsOk, IfOk, OnOk, IsErr, OnErr, Some, None, Err};
 ghost use Rattle.std.specs.Option.{option_map, option_or};
 ghost use Rattle.std.specs.Borrow.{LendsSo, sem};
-ghost use Rattle.arena_ptr.specs.SlotStack.{IsBeyond, IsWithinMaximum};
+ghost use Rattle.arena_core.specs.SlotStack.{IsBeyond, IsWithinMaximum};
 ghost use Rattle.arena_traits.specs.Arena.{IsCapacityFor, IsValid};
 ghost use Rattle.arena_traits.specs.Entries.{count, first_key, found, NeedsBeyondMaximum};
 ghost use Rattle.chain_laws.specs.Chains.{IsMember};

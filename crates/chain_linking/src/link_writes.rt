@@ -1,7 +1,7 @@
 // Reads and writes links at indexes that are proved occupied, so no write checks for a link.
 ghost use Rattle.std.specs.Prelude.{◌≡◌, ◌≢◌, IsSome, IfSome, Some, None};
 ghost use Rattle.std.specs.Option.{option_map, option_and_then};
-ghost use Rattle.arena_ptr.specs.Invalidation.{value_within, invalidation_result};
+ghost use Rattle.arena_core.specs.Invalidation.{value_within, invalidation_result};
 ghost use Rattle.arena_traits.specs.Arena.{entry_at};
 ghost use Rattle.chain_laws.specs.Chains.{IsWellLinked, HasLink};
 ghost use Rattle.chain_links.specs.ChainArena.{link_map, remove_link, entry, named_by, ptr_at};

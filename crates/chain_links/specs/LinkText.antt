@@ -1,7 +1,7 @@
 -- The texts of links, for a formatter without options.
 use Rattle.std.specs.Prelude.{ℕ, List, ◌++◌, Option, None, Some, codes}
 use Rattle.std.specs.Fmt.{option_append}
-use Rattle.arena_ptr.specs.PointerText.{hexadecimal}
+use Rattle.arena_core.specs.PointerText.{hexadecimal}
 
 -- An index in hexadecimal, or the text `none`.
 abbrev pub index_text : List ℕ → Option ℕ → List ℕ

@@ -3,7 +3,7 @@ use Rattle.std.proofs.Common.{◌≡◌, ℕ, ◌≤◌, List, [], ◌∷◌, �
 use Rattle.std.specs.Prelude.{is_some, All}
 use Rattle.std.proofs.lemmas.List.{length-map, append-nil}
 use Rattle.std.proofs.lemmas.List.Elements.{All-append, All-cons, All-nil}
-use Rattle.arena_ptr.specs.Numbers.{IsWithin}
+use Rattle.arena_core.specs.Numbers.{IsWithin}
 use Rattle.chain_laws.specs.Chains as chains
 use Rattle.chain_laws.specs.Chains.{LinkMap, IsWellLinked, prev_of}
 use Rattle.chain_laws.specs.Walks.{Walker, IsWalk, walk_ahead, passes_ahead, step_of}

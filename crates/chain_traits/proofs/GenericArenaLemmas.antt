@@ -5,7 +5,7 @@ use Rattle.std.specs.List.{AllByRecursion}
 use Rattle.std.proofs.lemmas.List.{length-map}
 use Rattle.std.proofs.lemmas.List.Elements.{recursion_from_All}
 use Rattle.std.proofs.lemmas.Bool.{eqb-true, eq-eqb, le-leb}
-use Rattle.arena_ptr.specs.Numbers.{IsWithin}
+use Rattle.arena_core.specs.Numbers.{IsWithin}
 use Rattle.chain_laws.specs.Chains as chains
 use Rattle.chain_laws.specs.Chains.{LinkMap, Interlinks, IsWellLinked, IsMember}
 use Rattle.chain_laws.specs.ChainStart.{IsBack}

@@ -1,7 +1,7 @@
 ghost use Rattle.std.specs.Prelude.{◌≡◌, ◌≢◌, ◌↔◌, ◌<◌, ◌≤◌, ◌+◌, ◌⊎◌, ⊤, ℕ, is_some, Option, map, length, All, IsTrue, IsSome, IfSome, OnSome, IfNone, IfOk, IsErr, IfErr, OnOk, OnErr, Err, None};
 ghost use Rattle.std.specs.Option.{option_map};
-ghost use Rattle.arena_ptr.specs.Numbers.{IsWithin};
-ghost use Rattle.arena_ptr.specs.Invalidation.{value_within, invalidation_option, invalidation_result};
+ghost use Rattle.arena_core.specs.Numbers.{IsWithin};
+ghost use Rattle.arena_core.specs.Invalidation.{value_within, invalidation_option, invalidation_result};
 ghost use Rattle.chain_laws.specs.Chains.{LinkMap, IsWellLinked, HasLinksWithin, prev_of, next_of};
 ghost use Rattle.chain_laws.specs.Cuts.{without_pair, Cuts};
 ghost use Rattle.chain_laws.specs.Exchanges.{with_exchange, Exchanges};

@@ -1,7 +1,7 @@
 // Removes the links of any arena of links, chain by chain.
 ghost use Rattle.std.specs.Prelude.{◌≡◌, ◌≢◌, ℕ, [], IsSome, IfSome, IfNone, None, Some};
 ghost use Rattle.std.specs.Option.{option_map};
-ghost use Rattle.arena_ptr.specs.Invalidation.{value_in, is_overflow};
+ghost use Rattle.arena_core.specs.Invalidation.{value_in, is_overflow};
 ghost use Rattle.chain_laws.specs.Chains.{IsWellLinked, prev_of, next_of};
 ghost use Rattle.chain_laws.specs.Removals.{with_removal};
 ghost use Rattle.chain_laws.specs.Walks.{step_forward};

@@ -229,7 +229,7 @@ impl<P: PtrKey, T: Drop, A: CompactArenaTrait<P, T>> CompactArenaTrait<P, T>
 
 impl<P: PtrKey, T: Drop, A: ChainArenaTrait<P, T>> ChainArenaTrait<P, T> for ForwardingArena<A> {
     ghost use Rattle.std.specs.Prelude.{◌≡◌, ◌≢◌, ◌↔◌, ◌⊎◌, ◌+◌, IsTrue, IfOk, OnOk, IsErr, IfErr, OnErr, Err};
-    ghost use Rattle.arena_ptr.specs.declared.errors.ChainInsertionError.TheVariants as failed;
+    ghost use Rattle.arena_core.specs.declared.errors.ChainInsertionError.TheVariants as failed;
     ghost use Rattle.chain_laws.specs.Chains.{IsWellLinked};
     ghost use Rattle.arena_traits.specs.Arena.{IsCapacityFor};
     ghost use Rattle.arena_traits.specs.Entries.{count, NeedsBeyondMaximum};

@@ -1,7 +1,7 @@
 ghost use Rattle.std.specs.Prelude.{◌≡◌, ◌≤◌, ◌↔◌, IsSome, IfSome};
-ghost use Rattle.arena_ptr.specs.Numbers.{IsWithin};
+ghost use Rattle.arena_core.specs.Numbers.{IsWithin};
 
-use crate::ptr::PtrGen;
+use arena_core::PtrGen;
 use std::fmt;
 
 /// A 32-bit generation, from 1 to 4,294,967,295.
@@ -41,7 +41,7 @@ impl Gen32 {
 impl PtrGen for Gen32 {
     ghost use Rattle.std.specs.Fmt.{WritesOnOk};
     ghost use Rattle.arena_ptr.specs.Generations.{number_of_gen32, two32, after32, is_greatest32, begins_again32, eq_is_same_gen32};
-    ghost use Rattle.arena_ptr.specs.PointerText.{in_parentheses};
+    ghost use Rattle.arena_core.specs.PointerText.{in_parentheses};
 
     ghost first = { two32 };
 

@@ -1,7 +1,7 @@
 ghost use Rattle.std.specs.Prelude.{◌≡◌, ◌≤◌, ◌↔◌, IsSome, IfSome};
-ghost use Rattle.arena_ptr.specs.Numbers.{IsWithin};
+ghost use Rattle.arena_core.specs.Numbers.{IsWithin};
 
-use crate::ptr::PtrGen;
+use arena_core::PtrGen;
 use std::fmt;
 
 /// A 64-bit generation, from 1 to 18,446,744,073,709,551,615.
@@ -41,7 +41,7 @@ impl Gen64 {
 impl PtrGen for Gen64 {
     ghost use Rattle.std.specs.Fmt.{WritesOnOk};
     ghost use Rattle.arena_ptr.specs.Generations.{number_of_gen64, two64, after64, is_greatest64, begins_again64, eq_is_same_gen64};
-    ghost use Rattle.arena_ptr.specs.PointerText.{in_parentheses};
+    ghost use Rattle.arena_core.specs.PointerText.{in_parentheses};
 
     ghost first = { two64 };
 

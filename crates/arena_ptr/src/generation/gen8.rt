@@ -1,7 +1,7 @@
 ghost use Rattle.std.specs.Prelude.{◌≡◌, ◌≤◌, ◌↔◌, IsSome, IfSome};
-ghost use Rattle.arena_ptr.specs.Numbers.{IsWithin};
+ghost use Rattle.arena_core.specs.Numbers.{IsWithin};
 
-use crate::ptr::PtrGen;
+use arena_core::PtrGen;
 use std::fmt;
 
 /// An 8-bit generation, from 1 to 255.
@@ -41,7 +41,7 @@ impl Gen8 {
 impl PtrGen for Gen8 {
     ghost use Rattle.std.specs.Fmt.{WritesOnOk};
     ghost use Rattle.arena_ptr.specs.Generations.{number_of_gen8, two8, after8, is_greatest8, begins_again8, eq_is_same_gen8};
-    ghost use Rattle.arena_ptr.specs.PointerText.{in_parentheses};
+    ghost use Rattle.arena_core.specs.PointerText.{in_parentheses};
 
     ghost first = { two8 };
 

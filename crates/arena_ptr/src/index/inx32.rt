@@ -1,8 +1,7 @@
 ghost use Rattle.std.specs.Prelude.{◌≡◌, ◌≤◌, ◌↔◌, IsSome, IfSome};
-ghost use Rattle.arena_ptr.specs.Numbers.{IsWithin};
+ghost use Rattle.arena_core.specs.Numbers.{IsWithin};
 
-use crate::packed_option::PackedOption;
-use crate::ptr::PtrInx;
+use arena_core::{PackedOption, PtrInx};
 use std::fmt;
 
 /// A 32-bit index, from 1 to 4,294,967,295.
@@ -41,7 +40,7 @@ impl Inx32 {
 impl PtrInx for Inx32 {
     ghost use Rattle.std.specs.Option.{option_map};
     ghost use Rattle.std.proofs.Common.{lit<};
-    ghost use Rattle.arena_ptr.specs.PackedOptions.{zero_is_none, same_zero_is_none};
+    ghost use Rattle.arena_core.specs.PackedOptions.{zero_is_none, same_zero_is_none};
     ghost use Rattle.arena_ptr.specs.Indexes.{number_of_inx32, same_inx32, eq_is_same_inx32};
 
     type Word = u32;

@@ -1,8 +1,7 @@
 ghost use Rattle.std.specs.Prelude.{◌≡◌, ◌≤◌, ◌↔◌, IsSome, IfSome};
-ghost use Rattle.arena_ptr.specs.Numbers.{IsWithin};
+ghost use Rattle.arena_core.specs.Numbers.{IsWithin};
 
-use crate::packed_option::PackedOption;
-use crate::ptr::PtrInx;
+use arena_core::{PackedOption, PtrInx};
 use std::fmt;
 
 /// A 64-bit index, from 1 to 18,446,744,073,709,551,615.
@@ -41,7 +40,7 @@ impl Inx64 {
 impl PtrInx for Inx64 {
     ghost use Rattle.std.specs.Option.{option_map};
     ghost use Rattle.std.proofs.Common.{lit<};
-    ghost use Rattle.arena_ptr.specs.PackedOptions.{zero_is_none, same_zero_is_none};
+    ghost use Rattle.arena_core.specs.PackedOptions.{zero_is_none, same_zero_is_none};
     ghost use Rattle.arena_ptr.specs.Indexes.{number_of_inx64, same_inx64, eq_is_same_inx64};
 
     type Word = u64;

@@ -1,8 +1,7 @@
 ghost use Rattle.std.specs.Prelude.{◌≡◌, ◌≤◌, ◌↔◌, IsSome, IfSome};
-ghost use Rattle.arena_ptr.specs.Numbers.{IsWithin};
+ghost use Rattle.arena_core.specs.Numbers.{IsWithin};
 
-use crate::packed_option::PackedOption;
-use crate::ptr::PtrInx;
+use arena_core::{PackedOption, PtrInx};
 use std::fmt;
 
 /// An 8-bit index, from 1 to 255.
@@ -41,7 +40,7 @@ impl Inx8 {
 impl PtrInx for Inx8 {
     ghost use Rattle.std.specs.Option.{option_map};
     ghost use Rattle.std.proofs.Common.{lit<};
-    ghost use Rattle.arena_ptr.specs.PackedOptions.{zero_is_none, same_zero_is_none};
+    ghost use Rattle.arena_core.specs.PackedOptions.{zero_is_none, same_zero_is_none};
     ghost use Rattle.arena_ptr.specs.Indexes.{number_of_inx8, same_inx8, eq_is_same_inx8};
 
     type Word = u8;

@@ -2,7 +2,7 @@
 use Rattle.std.proofs.Common.{of_calls, ◌≡◌, None, Some, sym, ap, ◌∙◌}
 use Rattle.std.specs.Prelude.{is_some}
 use Rattle.std.specs.Option.{option_map}
-use Rattle.arena_ptr.specs.Invalidation.{value_within}
+use Rattle.arena_core.specs.Invalidation.{value_within}
 use Rattle.arena_traits.specs.Arena.{entry_at}
 use Rattle.arena_traits.proofs.ArenaViewLemmas.{value_within-made}
 use Rattle.chain_links.specs.Links.{links_view, link_view, pair_view}

@@ -2,7 +2,7 @@
 use Rattle.std.proofs.Common.{refl, sym, ap, ◌∙◌}
 use Rattle.std.specs.Option.{option_map, option_copied_mut}
 use Rattle.chain_laws.specs.Joins.{with_prev}
-use Rattle.arena_ptr.specs.declared.packed_option.PackedOption.{PackedOption}
+use Rattle.arena_core.specs.declared.packed_option.PackedOption.{PackedOption}
 use Rattle.chain_links.specs.declared.links.LinkBody.{LinkBody}
 use Rattle.arena_traits.specs.Arena.{with_value}
 use Rattle.chain_links.specs.Links.{links_view, link_view}

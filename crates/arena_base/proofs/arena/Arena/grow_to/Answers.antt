@@ -1,6 +1,6 @@
 -- The stack grows, or reports why not.
 use Rattle.std.proofs.Common.{refl, ap, arith}
-use Rattle.arena_ptr.specs.SlotStack.{IsWithinMaximum}
+use Rattle.arena_core.specs.SlotStack.{IsWithinMaximum}
 use Rattle.arena_base.specs.Slots.{arena_of, freed_of}
 use Rattle.arena_base.proofs.SlotCopyLemmas.{on_ok, on_err}
 use Rattle.arena_base.proofs.SlotPartitionLemmas.{capacity_for}

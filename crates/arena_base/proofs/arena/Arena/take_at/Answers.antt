@@ -1,7 +1,7 @@
 -- The entry's slot becomes first in the freed list.
 use Rattle.std.proofs.Common.{◌≡◌, ◌-◌, Some, None, true, false, sym, ◌∙◌, ap, arith}
 use Rattle.std.specs.Prelude.{slice_get, is_some}
-use Rattle.arena_ptr.specs.Invalidation.{invalidation_result}
+use Rattle.arena_core.specs.Invalidation.{invalidation_result}
 use Rattle.arena_traits.specs.Arena.{entry_at, remove_at}
 use Rattle.arena_base.proofs.SlotLemmas.{entry_at-position, allocated-at}
 use Rattle.arena_base.proofs.SoundnessLemmas.{slot_vacated, closed, some_taken}

@@ -8,7 +8,7 @@ use Rattle.arena_base.proofs.SlotLemmas.{entry_at-position, slice_set-itself}
 use Rattle.arena_base.proofs.SoundnessLemmas.{lent, closed}
 use Rattle.arena_traits.proofs.ArenaViewLemmas.{viewed_written}
 use Rattle.arena_base.proofs.ArenaModelLemmas.{lent_view, kept_view}
-use Rattle.arena_ptr.proofs.OptionLemmas.{on_some}
+use Rattle.arena_core.proofs.OptionLemmas.{on_some}
 use Rattle.arena_base.proofs.arena_trait.ArenaArenaTrait.get_inx_mut.Goals as goal
 
 pub invariant_of-self-lent : goal.invariant_of-self-lent

@@ -5,7 +5,7 @@ use Rattle.arena_base.specs.DetachedSlots.{held_with_value}
 use Rattle.arena_base.specs.Slots.{entry_in, with_value_in}
 use Rattle.arena_base.proofs.SlotLemmas.{entry_at-position, slice_set-itself}
 use Rattle.arena_base.proofs.DetachedSlotLemmas.{held_lent}
-use Rattle.arena_ptr.proofs.OptionLemmas.{on_some}
+use Rattle.arena_core.proofs.OptionLemmas.{on_some}
 use Rattle.arena_base.proofs.detached_slots.DetachedSlotsLendsValue.value_mut.Goals as goal
 
 pub returns-in-Some : goal.returns-in-Some

@@ -1,4 +1,4 @@
-use Rattle.arena_ptr.proofs.OptionLemmas.{read_same}
+use Rattle.arena_core.proofs.OptionLemmas.{read_same}
 use Rattle.arena_ptr.proofs.chunk_stack.ChunkStackSlotStack.get_mut.Goals as goal
 
 pub returns : goal.returns

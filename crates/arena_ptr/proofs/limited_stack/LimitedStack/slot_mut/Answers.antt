@@ -3,7 +3,7 @@ use Rattle.std.proofs.lemmas.Option.{slice_get_past, slice_get_read}
 use Rattle.std.specs.List.{slice_get, IsItemAtMut}
 use Rattle.std.specs.Option.{option_copied_mut}
 use Rattle.arena_ptr.specs.LimitedStack.{same_within}
-use Rattle.arena_ptr.proofs.OptionLemmas.{on_some}
+use Rattle.arena_core.proofs.OptionLemmas.{on_some}
 use Rattle.arena_ptr.proofs.limited_stack.LimitedStack.slot_mut.Goals as goal
 
 -- The reference reads item `i`.

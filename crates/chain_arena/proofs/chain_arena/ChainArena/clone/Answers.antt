@@ -1,7 +1,7 @@
 -- The cloned links have the same view as the source's links.
 use Rattle.std.proofs.Common.{◌≡◌, ◌↔◌, Err, length, refl, ap, sym, ◌∙◌, subst, subst₂}
-use Rattle.arena_ptr.specs.SlotStack.{IsBeyond}
-use Rattle.arena_ptr.specs.declared.errors.ReallocationError.TheVariants as refused
+use Rattle.arena_core.specs.SlotStack.{IsBeyond}
+use Rattle.arena_core.specs.declared.errors.ReallocationError.TheVariants as refused
 use Rattle.arena_traits.specs.Arena.{Arena, new_arena, IsWithinReach, HasCapacityFor}
 use Rattle.arena_base.proofs.SlotCopyLemmas.{on_ok_is}
 use Rattle.chain_arena.specs.LinkCopies.{IsClone}

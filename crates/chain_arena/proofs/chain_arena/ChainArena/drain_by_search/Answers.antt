@@ -1,7 +1,7 @@
 -- `drain_by_search` removes the first remaining link.
 use Rattle.std.proofs.Common.{◌≡◌, ℕ, ap, sym, ◌∙◌, subst, arith}
 use Rattle.std.specs.Option.{option_map}
-use Rattle.arena_ptr.specs.Invalidation.{value_within}
+use Rattle.arena_core.specs.Invalidation.{value_within}
 use Rattle.arena_traits.specs.Arena.{entry_at}
 use Rattle.arena_traits.specs.Entries.{view_after_removal}
 use Rattle.chain_links.specs.ChainArena.{value_view, values_of, remove_link}

@@ -1,7 +1,7 @@
 -- The link removed at an index was the first one from it on.
 use Rattle.std.proofs.Common.{◌≡◌, ℕ, Option, Some, ap, sym, ◌∙◌, subst, arith, of_calls}
 use Rattle.std.specs.Option.{option_map}
-use Rattle.arena_ptr.specs.Invalidation.{value_within, invalidation_option}
+use Rattle.arena_core.specs.Invalidation.{value_within, invalidation_option}
 use Rattle.arena_traits.specs.Arena.{entry_at}
 use Rattle.arena_traits.specs.Entries.{view_after_removal}
 use Rattle.chain_links.specs.ChainArena.{entry, value_view, values_of, remove_link}

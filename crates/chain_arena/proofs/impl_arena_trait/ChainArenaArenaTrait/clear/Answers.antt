@@ -1,6 +1,6 @@
 -- `clear` leaves no link.
 use Rattle.std.proofs.Common.{ap, sym, ◌∙◌}
-use Rattle.arena_ptr.specs.Invalidation.{invalidation_option}
+use Rattle.arena_core.specs.Invalidation.{invalidation_option}
 use Rattle.arena_traits.specs.Arena.{overflows_after_clear}
 use Rattle.arena_traits.proofs.ArenaViewLemmas.{length-entries}
 use Rattle.chain_links.proofs.ArenaInsertionLemmas.{count-values}

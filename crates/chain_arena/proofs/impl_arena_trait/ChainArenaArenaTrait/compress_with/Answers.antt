@@ -1,6 +1,6 @@
 -- The links are moved to the front, each with the counter, which was set before.
 use Rattle.std.proofs.Common.{length, refl, ap, sym, ◌∙◌}
-use Rattle.arena_ptr.specs.Invalidation.{invalidation_option}
+use Rattle.arena_core.specs.Invalidation.{invalidation_option}
 use Rattle.arena_traits.specs.Entries.{entries}
 use Rattle.arena_traits.specs.Compressions.{overflows_after_compression}
 use Rattle.arena_traits.proofs.ArenaViewLemmas.{length-entries}

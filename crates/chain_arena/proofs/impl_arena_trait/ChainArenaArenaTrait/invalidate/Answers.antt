@@ -3,7 +3,7 @@ use Rattle.std.proofs.Common.{ap, sym, subst, ⊎_elim}
 use Rattle.chain_laws.specs.Chains.{IsWellLinked}
 use Rattle.chain_links.specs.ChainArena.{link_map}
 use Rattle.chain_links.specs.Links.{links_view}
-use Rattle.arena_ptr.specs.Invalidation.{value_within}
+use Rattle.arena_core.specs.Invalidation.{value_within}
 use Rattle.chain_linking.proofs.ConnectionLemmas.{same_valid}
 use Rattle.chain_arena.proofs.ValueLoanLemmas.{valid_or_not}
 use Rattle.chain_arena.proofs.EntryWriteLemmas.{renewed-state, renewed-link_map, renewed-known}

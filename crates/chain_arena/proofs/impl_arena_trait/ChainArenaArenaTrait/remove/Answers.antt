@@ -1,7 +1,7 @@
 -- `remove` removes the link and links its neighbors.
 use Rattle.std.proofs.Common.{ap, ◌∙◌}
 use Rattle.std.specs.Prelude.{is_some}
-use Rattle.arena_ptr.specs.Invalidation.{value_within}
+use Rattle.arena_core.specs.Invalidation.{value_within}
 use Rattle.chain_links.proofs.MappedArenaLemmas.{is_some-map}
 use Rattle.chain_arena.proofs.LinkRemovalLemmas.{removal_at, same_overflow, viewed_at, taken_at, value_alone_known}
 use Rattle.chain_arena.proofs.impl_arena_trait.ChainArenaArenaTrait.remove.Goals as goal

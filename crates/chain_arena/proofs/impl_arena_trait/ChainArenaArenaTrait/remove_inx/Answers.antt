@@ -1,6 +1,6 @@
 -- `remove_inx` removes the link and links its neighbors.
 use Rattle.std.proofs.Common.{◌∙◌}
-use Rattle.arena_ptr.specs.Invalidation.{value_within}
+use Rattle.arena_core.specs.Invalidation.{value_within}
 use Rattle.chain_arena.proofs.LinkRemovalLemmas.{none_taken, removal_there, same_overflow, viewed_there, value_known}
 use Rattle.chain_arena.proofs.impl_arena_trait.ChainArenaArenaTrait.remove_inx.Goals as goal
 

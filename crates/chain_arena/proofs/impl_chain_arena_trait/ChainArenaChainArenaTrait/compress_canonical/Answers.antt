@@ -1,6 +1,6 @@
 -- Whether the counter overflows depends on the number of links, as many as values.
 use Rattle.std.proofs.Common.{sym, ap, ◌∙◌}
-use Rattle.arena_ptr.specs.Invalidation.{invalidation_option}
+use Rattle.arena_core.specs.Invalidation.{invalidation_option}
 use Rattle.arena_traits.specs.Compressions.{overflows_after_compression}
 use Rattle.chain_links.proofs.ArenaInsertionLemmas.{values-count}
 use Rattle.chain_arena.proofs.impl_chain_arena_trait.ChainArenaChainArenaTrait.compress_canonical.Goals as goal

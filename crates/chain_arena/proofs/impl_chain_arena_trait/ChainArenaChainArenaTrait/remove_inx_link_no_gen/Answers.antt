@@ -1,5 +1,5 @@
 -- `remove_inx_link_no_gen` removes the link and links its neighbors.
-use Rattle.arena_ptr.specs.Invalidation.{value_within}
+use Rattle.arena_core.specs.Invalidation.{value_within}
 use Rattle.chain_arena.proofs.LinkRemovalLemmas.{link_known, none_taken, removal_there, viewed_there}
 use Rattle.chain_arena.proofs.impl_chain_arena_trait.ChainArenaChainArenaTrait.remove_inx_link_no_gen.Goals as goal
 

@@ -1,7 +1,7 @@
 -- At first the indexes of all links remain.
 use Rattle.std.proofs.Common.{ap, sym, ◌∙◌, map}
 use Rattle.std.proofs.lemmas.Simd.{map-map}
-use Rattle.arena_ptr.specs.PackedOptions.{zero_is_none}
+use Rattle.arena_core.specs.PackedOptions.{zero_is_none}
 use Rattle.arena_traits.specs.Entries.{index_of}
 use Rattle.chain_links.specs.ChainArena.{on_value}
 use Rattle.chain_links.specs.Links.{link_view}

@@ -1,7 +1,7 @@
 ghost use Rattle.std.specs.Prelude.{◌≡◌, ℕ, ◌+◌, ◌^◌, ◌<◌, ◌≤◌, ◌↔◌, ⊤, List, [], ◌∷◌, ◌++◌, length, take, swap, slice_get, slice_set, Option, Some, Ok, Err, IsOk, OnOk, OnErr, option_copied};
 ghost use Rattle.std.specs.Option.{option_copied_mut};
 ghost use Rattle.std.specs.Borrow.{LendsIf, sem};
-ghost use Rattle.arena_ptr.specs.SlotStack.{IsBeyond, IsWithinMaximum};
+ghost use Rattle.arena_core.specs.SlotStack.{IsBeyond, IsWithinMaximum};
 
 use crate::errors::{MaxCapacityReductionError, ReallocationError};
 use std::alloc::Global;

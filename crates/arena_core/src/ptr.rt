@@ -1,9 +1,9 @@
 ghost use Rattle.std.specs.Prelude.{◌≡◌, ℕ, ◌^◌, ◌<◌, ◌≤◌, ◌↔◌, IsSome, IfSome, Option, Some, Bool, true};
 ghost use Rattle.std.specs.Option.{option_map};
 ghost use Rattle.std.specs.Fmt.{WritesOnOk};
-ghost use Rattle.arena_ptr.specs.declared.packed_option.PackedOption.{PackedOption};
-ghost use Rattle.arena_ptr.specs.Numbers.{IsWithin};
-ghost use Rattle.arena_ptr.specs.PointerText.{hexadecimal};
+ghost use Rattle.arena_core.specs.declared.packed_option.PackedOption.{PackedOption};
+ghost use Rattle.arena_core.specs.Numbers.{IsWithin};
+ghost use Rattle.arena_core.specs.PointerText.{hexadecimal};
 
 use crate::packed_option::PackedOption;
 use std::fmt;
@@ -17,7 +17,7 @@ use std::hash::Hash;
 ///
 /// ```text
 /// ghost use Rattle.std.specs.Option.{option_map};
-/// ghost use Rattle.arena_ptr.specs.PackedOptions.{zero_is_none, same_zero_is_none};
+/// ghost use Rattle.arena_core.specs.PackedOptions.{zero_is_none, same_zero_is_none};
 ///
 /// type Word = u32;
 /// ghost packed_number = { zero_is_none };

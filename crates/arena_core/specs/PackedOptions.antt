@@ -1,7 +1,7 @@
 -- An optional index in a word with a spare number.
 use Rattle.std.specs.Prelude.{◌≡◌, ℕ, ◌==◌, Option, None, Some, zero, suc, refl, if◌then◌else◌}
 use Rattle.std.proofs.Common.{ap, rules}
-use Rattle.arena_ptr.specs.declared.packed_option.PackedOption.{PackedOption}
+use Rattle.arena_core.specs.declared.packed_option.PackedOption.{PackedOption}
 
 -- A word is the number of the index, or 0 for none.
 abbrev pub zero_is_none : {I : Type 0} → PackedOption I ℕ → Option ℕ

@@ -1,6 +1,6 @@
 ghost use Rattle.std.specs.Prelude.{◌≡◌, MatchOption, IsSomeAnd, None};
 ghost use Rattle.std.specs.Option.{ForSome};
-ghost use Rattle.arena_ptr.specs.Invalidation.{value_in, value_within, is_overflow, is_overflow_result};
+ghost use Rattle.arena_core.specs.Invalidation.{value_in, value_within, is_overflow, is_overflow_result};
 
 /// The result of an invalidation: a value, and whether the generation counter overflowed to two.
 ///

@@ -1,8 +1,8 @@
 // What arenas require of their pointers: less than the pointer traits, to keep their calls small.
 ghost use Rattle.std.specs.Prelude.{◌≡◌, ℕ, ◌^◌, ◌<◌, ◌≤◌, ◌↔◌, IsSome, IfSome, Option, Some, Bool, true};
 ghost use Rattle.std.specs.Option.{option_map};
-ghost use Rattle.arena_ptr.specs.declared.packed_option.PackedOption.{PackedOption};
-ghost use Rattle.arena_ptr.specs.Numbers.{IsWithin};
+ghost use Rattle.arena_core.specs.declared.packed_option.PackedOption.{PackedOption};
+ghost use Rattle.arena_core.specs.Numbers.{IsWithin};
 
 use crate::packed_option::PackedOption;
 use crate::ptr::{Ptr, PtrGen, PtrInx};

@@ -1,9 +1,9 @@
 -- The value of an invalidation result, and whether the counter overflowed.
 use Rattle.std.specs.Prelude.{Bool, true, false, Option, Some, None}
-use Rattle.arena_ptr.specs.declared.invalidation.InvalidationOption.{InvalidationOption}
-use Rattle.arena_ptr.specs.declared.invalidation.InvalidationOption.TheVariants as option
-use Rattle.arena_ptr.specs.declared.invalidation.InvalidationResult.{InvalidationResult}
-use Rattle.arena_ptr.specs.declared.invalidation.InvalidationResult.TheVariants as outcome
+use Rattle.arena_core.specs.declared.invalidation.InvalidationOption.{InvalidationOption}
+use Rattle.arena_core.specs.declared.invalidation.InvalidationOption.TheVariants as option
+use Rattle.arena_core.specs.declared.invalidation.InvalidationResult.{InvalidationResult}
+use Rattle.arena_core.specs.declared.invalidation.InvalidationResult.TheVariants as outcome
 
 module _ {T : Type 0} where
   abbrev pub value_in : InvalidationOption T → T

@@ -15,7 +15,7 @@ pub struct HeapStack<E> {
 impl<E: Drop> SlotStack for HeapStack<E> {
     ghost use Rattle.std.specs.Prelude.{◌≡◌, ◌*◌, max, None, vec_capacity, refl};
     ghost use Rattle.std.specs.Vec.{with_item as vec_with_item};
-    ghost use Rattle.arena_ptr.specs.SlotVectors.{slots_have_capacity, slots_fit};
+    ghost use Rattle.arena_core.specs.SlotVectors.{slots_have_capacity, slots_fit};
 
     type Item = E;
 

@@ -1,0 +1,6 @@
+pub mod Numbers
+pub mod PackedOptions
+pub mod Invalidation
+pub mod PointerText
+pub mod SlotStack
+pub mod SlotVectors

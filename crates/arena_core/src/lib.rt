@@ -1,0 +1,26 @@
+//! What arenas require: the traits of pointers and of stacks of slots, and the stack in one block;
+//! results, errors and recasting.
+#![tactic(auto)]
+
+mod errors;
+mod heap_stack;
+mod invalidation;
+mod keys;
+mod packed_option;
+mod ptr;
+mod recast;
+mod slot_stack;
+pub mod slots;
+mod unit_generation;
+
+pub use errors::{
+    AllocError, ChainInsertionError, MaxCapacityReductionError, NotWithinCapacityError,
+    ReallocationError,
+};
+pub use heap_stack::HeapStack;
+pub use invalidation::{InvalidationOption, InvalidationResult};
+pub use keys::{GenKey, InxKey, PtrKey};
+pub use packed_option::PackedOption;
+pub use ptr::{Ptr, PtrGen, PtrInx};
+pub use recast::{Recast, Recaster};
+pub use slot_stack::{LimitStack, SetMaxCapacity, SlotStack};
