@@ -305,8 +305,10 @@ impl<P: PtrKey, T: Drop, S: SlotStack<Item = ArenaSlot<P, T>>> Arena<P, T, S> {
         }
     }
 
-    // Returns the pointer of the next insertion.
-    pub(crate) fn next_ptr(&self) -> P
+    /// Returns the pointer of the next insertion within the capacity, as that of an entry.
+    ///
+    /// Not in `triple_arena`.
+    pub fn next_ptr(&self) -> P
         requires { entry_count self.now < self.now.capacity }
         ensures { P.key result ≡ (next_index self.now, self.now.counter) }
     {

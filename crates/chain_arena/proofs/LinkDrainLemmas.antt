@@ -1,21 +1,25 @@
 -- A drain of all links removes them step by step, in ascending order of index.
-use Rattle.std.proofs.Common.{◌≡◌, ℕ, zero, suc, ◌≤◌, ◌<◌, arith, Bool, true, false, List, [], ◌∷◌, map, length, ◌+◌, ◌⊎◌, inl, inr, ⊎_elim, Option, None, Some, refl, ap, sym, ◌∙◌}
-use Rattle.std.specs.Prelude.{cond, leb, min, ◌==◌, All, slice_index_or}
+use Rattle.std.proofs.Common.{◌≡◌, ℕ, zero, suc, ◌≤◌, ◌<◌, arith, Bool, true, false, List, [], ◌∷◌, map, length, ◌+◌, ◌⊎◌, inl, inr, ⊎_elim, Option, None, Some, refl, ap, sym, subst, ◌∙◌}
+use Rattle.std.specs.Prelude.{cond, leb, min, ◌==◌, All, is_some, slice_index_or}
 use Rattle.std.specs.Option.{option_map}
 use Rattle.std.proofs.lemmas.Bool.{leb-true, leb-false, le-leb, lt-leb, eq-eqb, ne_eqb}
 use Rattle.std.proofs.lemmas.List.Elements.{All-head, All-tail}
 use Rattle.arena_core.specs.Numbers.{IsWithin}
 use Rattle.arena_core.specs.Invalidation.{value_in, is_overflow, value_within, is_overflow_result, invalidation_result, invalidation_option}
 use Rattle.arena_core.specs.declared.invalidation.InvalidationOption.{InvalidationOption}
+use Rattle.arena_core.specs.declared.invalidation.InvalidationOption.TheVariants as option
 use Rattle.arena_core.specs.declared.invalidation.InvalidationResult.{InvalidationResult}
-use Rattle.arena_traits.specs.Arena.{Arena, IsValid, entry_at}
+use Rattle.arena_traits.specs.Arena.{Arena, entry_at}
 use Rattle.arena_traits.specs.Entries.{ArenaView, entries, entries_from, index_of, found, without_index, first_key, AscendsFrom}
 use Rattle.arena_traits.specs.Entries.{view_after_removal}
 use Rattle.arena_traits.specs.EntryLaws.{entries_ascend, found-entries}
 use Rattle.arena_traits.specs.Advancers.{entries_at_or_above}
-use Rattle.chain_links.specs.ChainArena.{LinkView, values_of, value_view, remove_link}
+use Rattle.chain_links.specs.ChainArena.{LinkView, IsRemoval, values_of, value_view, remove_link}
+use Rattle.chain_links.specs.Links.{pair_view}
+use Rattle.chain_links.specs.declared.links.LinkBody.{LinkBody}
+use Rattle.chain_arena.proofs.LinkRemovalLemmas.{value_known}
 use Rattle.chain_traits.proofs.GenericArenaLemmas.{entries_at_or_above-ascends}
-use Rattle.chain_arena.specs.Drains.{entries_left, without_each, IsLinkDrainStep}
+use Rattle.chain_arena.specs.Drains.{entries_left, without_each, IsLinkTaken, IsLinkDrainStep}
 use Rattle.chain_arena.proofs.ChainDrainLemmas.{is_overflow_result-made}
 use Rattle.chain_linking.proofs.UnlinkLemmas.{view_after-removed}
 
@@ -101,8 +105,8 @@ module _ {Gen T : Type 0} where
       let met = first_in (suc k) 1 p (entries (values_of a)) (entries_ascend (values_of a)) first in
       (met.value, sym (found-entries (values_of a) p.0) ∙ met.stored, met.left, omega (arith, met.from), met.behind)
 
-  pub first_valid : (a : Arena Gen (LinkView T)) (at : ℕ) (p : ℕ × Gen) → Some p ≡ first_key (entries_left a at) → IsValid (entry_at (values_of a)) p
-  first_valid a at p first = let met = first_left a at p first in record { value = met.0; stored = met.1 }
+  pub first_has : (a : Arena Gen (LinkView T)) (at : ℕ) (p : ℕ × Gen) → Some p ≡ first_key (entries_left a at) → entry_at (values_of a) p.0 ≡ None → ⊥
+  first_has a at p first none = let both = sym none ∙ (first_left a at p first).1 in cc
 
   -- Nothing is left from a number on that is no index.
   pub none_left : (greatest : ℕ) (a : Arena Gen (LinkView T)) (at : ℕ) → (IsWithin greatest at → ⊥) → All (λ e. IsWithin greatest (index_of e)) (entries (values_of a)) → entries_left a at ≡ []
@@ -165,9 +169,6 @@ module _ {P Gen T : Type 0} (key : P → ℕ × Gen) (following : Gen → Gen) (
     value_is : taken ≡ Some (first_left old at (key p) first).0
     value_is = value ∙ ap (option_map (λ (e : Gen × T). e.1)) (first_left old at (key p) first).1
 
-    pub drained_has : taken ≡ None → ⊥
-    drained_has none = let both = sym none ∙ value_is in cc
-
     -- The links left after the first one are left by the step.
     left_behind : IsBehind (key p).0 next → entries (values_of new) ≡ without_index (key p).0 (entries (values_of old)) → entries_at_or_above (key p).0 (without_index (key p).0 (entries (values_of old))) ≡ entries_left new next
     left_behind index es =
@@ -199,6 +200,49 @@ module _ {P Gen T : Type 0} (key : P → ℕ × Gen) (following : Gen → Gen) (
           overflow = ap is_overflow responded ∙ (is_overflow-made overflow (p, t) ∙ known);
           state = removal ∙ ap (λ (x : P × T). remove_link following old (key x.0).0) (sym item);
         }
+
+  -- What a removal returned is the link that was there.
+  pub link_taken : {K : Type 0} (packed : K → Option ℕ) (old new : Arena Gen (LinkView T)) (i : ℕ) (r : InvalidationResult (Gen × LinkBody K T)) (e : Gen × LinkBody K T) → value_within r ≡ Some e
+      → option_map (pair_view packed) (value_within r) ≡ entry_at old i → r ≡ invalidation_result (wraps old.counter) (value_within r) → (is_some (value_within r) ≡ true → IsRemoval following old i new)
+      → (p : P) → key p ≡ (i, e.0) → (overflow : Bool) → overflow ≡ is_overflow_result r → (gone : InvalidationOption (P × T)) → gone ≡ invalidation_option overflow (p, e.1.t) → IsLinkTaken key following wraps old i gone new
+  link_taken packed old new i r e has returned made removal p named overflow flag gone responded =
+      let item : value_in gone ≡ (p, e.1.t) = ap value_in responded ∙ value_in-made overflow (p, e.1.t) in
+      let keyed : key (value_in gone).0 ≡ (i, e.0) = ap (λ (x : P × T). key x.0) item ∙ named in
+      record {
+        index = ap (λ (k : ℕ × Gen). k.0) keyed;
+        stored = sym (value_known packed following old new i (value_within r) returned)
+            ∙ (ap (option_map (λ (x : Gen × LinkBody _ T). (x.0, x.1.t))) has
+            ∙ (ap (λ (h : Gen). let o : Option (Gen × T) = Some (h, e.1.t) in o) (sym (ap (λ (k : ℕ × Gen). k.1) keyed))
+            ∙ ap (λ (u : T). let o : Option (Gen × T) = Some ((key (value_in gone).0).1, u) in o) (sym (ap (λ (x : P × T). x.1) item))));
+        overflow = ap is_overflow responded ∙ (is_overflow-made overflow (p, e.1.t) ∙ (flag ∙ overflow_known (wraps old.counter) r e made has));
+        state = (removal (ap is_some has)).state;
+      }
+
+  -- The removal of the first remaining link by its index is a step.
+  taken_made : (gone : InvalidationOption (P × T)) → gone ≡ invalidation_option (is_overflow gone) ((value_in gone).0, (value_in gone).1)
+  taken_made (option.Success t) = refl
+  taken_made (option.GenerationOverflow t) = refl
+
+  pub taken_first : (old new : Arena Gen (LinkView T)) (at i next : ℕ) (gone : InvalidationOption (P × T)) → IsLinkTaken key following wraps old i gone new
+      → Some (key (value_in gone).0) ≡ first_key (entries_left old at) → IsBehind i next → IsLinkDrainStep key following wraps old at gone new next
+  taken_first old new at i next gone taken first behind =
+      let p = (value_in gone).0 in
+      let t = (value_in gone).1 in
+      let state : new ≡ remove_link following old (key p).0 = taken.state ∙ ap (remove_link following old) (sym taken.index) in
+      drained_first old new at next p first (Some t) (sym (ap (option_map (λ (e : Gen × T). e.1)) (ap (entry_at (values_of old)) taken.index ∙ taken.stored)))
+      t (is_overflow gone) gone (view_after-removed following old new (key p).0 state) state refl taken.overflow (taken_made gone) (subst (λ j. IsBehind j next) (sym taken.index) behind)
+
+  -- The link taken at the index of the first remaining link is that link.
+  pub same_first : (old new : Arena Gen (LinkView T)) (at i : ℕ) (p : P) (gone : InvalidationOption (P × T)) → (key p).0 ≡ i → Some (key p) ≡ first_key (entries_left old at)
+      → IsLinkTaken key following wraps old i gone new → Some (key (value_in gone).0) ≡ first_key (entries_left old at)
+  same_first old new at i p gone named first taken =
+      let met = (first_left old at (key p) first).1 in
+      let same = sym met ∙ (ap (entry_at (values_of old)) named ∙ taken.stored) in
+      let q = key (value_in gone).0 in
+      let both : Some (key p).1 ≡ Some q.1 = ap (option_map (λ (e : Gen × T). e.0)) same in
+      let generation : (key p).1 ≡ q.1 = cc in
+      let keyed : q ≡ key p = ap (λ (n : ℕ). let k : ℕ × Gen = (n, q.1) in k) (taken.index ∙ sym named) ∙ ap (λ (h : Gen). let k : ℕ × Gen = ((key p).0, h) in k) (sym generation) in
+      ap (λ (k : ℕ × Gen). let o : Option (ℕ × Gen) = Some k in o) keyed ∙ first
 
   -- A step keeps the arena that removing the remaining links gives.
   pub without_each-first : (old new : Arena Gen (LinkView T)) (at next : ℕ) (gone : InvalidationOption (P × T)) → IsLinkDrainStep key following wraps old at gone new next

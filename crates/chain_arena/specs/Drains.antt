@@ -6,7 +6,7 @@ use Rattle.chain_laws.specs.Walks.{walk_from}
 use Rattle.arena_traits.specs.Arena.{Arena, entry_at}
 use Rattle.arena_traits.specs.Entries.{entries}
 use Rattle.arena_traits.specs.Advancers.{entries_at_or_above}
-use Rattle.chain_links.specs.ChainArena.{LinkView, link_map, values_of, remove_link}
+use Rattle.chain_links.specs.ChainArena.{LinkView, entry, link_map, values_of, remove_link}
 use Rattle.chain_links.specs.Insertions.{nonzero_index}
 use Rattle.chain_links.specs.Links.{link_view}
 use Rattle.chain_links.specs.declared.links.LinkBody.{LinkBody}
@@ -53,6 +53,13 @@ module _ {P Gen K T : Type 0} (key : P → ℕ × Gen) (number : K → Option �
   DrainSteps old at returned new next = MatchOption returned ((walk_left old at ≡ []) × (new ≡ old) × (next ≡ at)) (λ gone. IsDrainStep old at gone new next)
 
 module _ {P Gen T : Type 0} (key : P → ℕ × Gen) (following : Gen → Gen) (wraps : Gen → Bool) where
+  -- The link at an index is removed, and its pointer and value are returned.
+  pub record IsLinkTaken (old : Arena Gen (LinkView T)) (i : ℕ) (returned : InvalidationOption (P × T)) (new : Arena Gen (LinkView T)) : Type 0 where
+    pub index : (key (value_in returned).0).0 ≡ i
+    pub stored : entry old i ≡ Some ((key (value_in returned).0).1, (value_in returned).1)
+    pub overflow : is_overflow returned ≡ wraps old.counter
+    pub state : new ≡ remove_link following old i
+
   -- A step of a drain of all links removes the first link that is left and returns it.
   pub record IsLinkDrainStep (old : Arena Gen (LinkView T)) (at : ℕ) (returned : InvalidationOption (P × T)) (new : Arena Gen (LinkView T)) (next : ℕ) : Type 0 where
     pub left : entries_left old at ≡ (key (value_in returned).0, (value_in returned).1) ∷ entries_left new next

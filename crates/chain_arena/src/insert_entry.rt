@@ -198,15 +198,11 @@ impl<P: PtrKey, T: Drop, S: SlotStack<Item = ArenaSlot<P, LinkNoGen<P, T>>>> Cha
         }
     }
 
-    fn next_ptr(&mut self) -> P
-        requires { entry_count self.old < self.old.capacity }
-        ensures key { P.key result ≡ (next_index self.old, self.old.counter) }
-        ensures same { self.new ≡ self.old }
+    fn next_ptr(&self) -> P
+        requires { entry_count self.now < self.now.capacity }
+        ensures { P.key result ≡ (next_index self.now, self.now.counter) }
     {
-        match self.arena.entry_insert_within_capacity() {
-            Ok(entry) => entry.ptr(),
-            Err(_) => unreachable!(),
-        }
+        self.arena.next_ptr()
     }
 
     fn entry_in(&mut self, position: InsertPosition<P::Inx>) -> ChainArenaInsertEntry<'_, P, T, S>

@@ -1,10 +1,10 @@
 // The removal of all links of an arena, one after another.
-ghost use Rattle.std.specs.Prelude.{◌≡◌, [], length, map, IfNone, IfSome};
+ghost use Rattle.std.specs.Prelude.{◌≡◌, [], length, map, None, IfNone, IfSome};
 ghost use Rattle.std.specs.Iterator.{item_count};
 ghost use Rattle.std.specs.Option.{option_map};
 ghost use Rattle.arena_traits.specs.Entries.{entries, first_key, index_of};
-ghost use Rattle.chain_links.specs.ChainArena.{values_of};
-ghost use Rattle.chain_arena.specs.Drains.{entries_left, without_each, IsLinkDrainStep, LinkDrainSteps, CountsUp};
+ghost use Rattle.chain_links.specs.ChainArena.{entry, values_of};
+ghost use Rattle.chain_arena.specs.Drains.{entries_left, without_each, IsLinkTaken, IsLinkDrainStep, LinkDrainSteps, CountsUp};
 
 use crate::chain_arena::ChainArena;
 use crate::insert_entry::number_or_zero;
@@ -59,8 +59,26 @@ impl<P: PtrKey, T: Drop, S: SlotStack<Item = ArenaSlot<P, LinkNoGen<P, T>>>> Cha
         }
     }
 
-    // Removes the link at an index, if there is one, and returns it after the next index. Inlined,
-    // so the result need not go through memory.
+    // Removes the link at an index, if there is one, and returns its pointer and value. Inlined, so
+    // the result need not go through memory.
+    #[inline(always)]
+    fn take_link(&mut self, i: P::Inx) -> Option<InvalidationOption<(P, T)>>
+        ensures none { IfNone result ((entry self.old (P.Inx.number i) ≡ None)
+            × (self.new ≡ self.old)) }
+        ensures some { IfSome result (λ gone. IsLinkTaken P.key P.Gen.following P.Gen.wraps self.old
+            (P.Inx.number i) gone self.new) }
+    {
+        let (entry, overflow) = self.unlink(i).overflowing();
+        match entry {
+            Some((generation, link)) => {
+                let p = P::_from_raw(i, generation);
+                Some(with_overflow(overflow, (p, link.t)))
+            }
+            None => None,
+        }
+    }
+
+    // Removes the link at an index, if there is one, and returns it after the next index.
     #[inline(always)]
     fn drain_link_at(&mut self, at: usize) -> Option<(usize, InvalidationOption<(P, T)>)>
         ensures none { IfNone result (self.new ≡ self.old) }
@@ -76,12 +94,8 @@ impl<P: PtrKey, T: Drop, S: SlotStack<Item = ArenaSlot<P, LinkNoGen<P, T>>>> Cha
 
         // With this fact LLVM tests the index against the number of slots only once.
         assume_proved(number_or_zero(Some(i)) == at);
-        let (entry, overflow) = self.unlink(i).overflowing();
-        match entry {
-            Some((generation, link)) => {
-                let p = P::_from_raw(i, generation);
-                Some((at.saturating_add(1), with_overflow(overflow, (p, link.t))))
-            }
+        match self.take_link(i) {
+            Some(gone) => Some((at.saturating_add(1), gone)),
             None => None,
         }
     }
@@ -109,12 +123,9 @@ impl<P: PtrKey, T: Drop, S: SlotStack<Item = ArenaSlot<P, LinkNoGen<P, T>>>> Cha
     {
         match self.first_from(at) {
             Some(p) => {
-                let (entry, overflow) = self.unlink(p.inx()).overflowing();
-                match entry {
-                    Some((_, link)) => {
-                        let behind = number_or_zero(Some(p.inx())).saturating_add(1);
-                        Some((behind, with_overflow(overflow, (p, link.t))))
-                    }
+                let i = p.inx();
+                match self.take_link(i) {
+                    Some(gone) => Some((number_or_zero(Some(i)).saturating_add(1), gone)),
                     None => proved_unreachable!(),
                 }
             }
