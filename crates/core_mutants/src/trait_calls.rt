@@ -3,8 +3,9 @@ ghost use Rattle.std.specs.Prelude.{◌↔◌, IsSome};
 ghost use Rattle.chain_laws.specs.Chains.{next_of};
 ghost use Rattle.chain_laws.specs.Removals.{Removes};
 ghost use Rattle.arena_traits.specs.Arena.{IsValid};
+ghost use Rattle.chain_links.specs.CanonicalLayouts.{IsCanonicalLayout};
 
-use arena_ptr::{InvalidationResult, PtrKey};
+use arena_ptr::{GenKey, InvalidationOption, InvalidationResult, PtrKey};
 use chain_links::LinkNoGen;
 use chain_traits::ChainArenaTrait;
 
@@ -25,4 +26,15 @@ pub fn remove_link_no_gen<P: PtrKey, T: Drop, A: ChainArenaTrait<P, T>>(
         → Removes (A.interlinks arena.old) (A.interlinks arena.new) (P.key p).0 }
 {
     arena.remove_link_no_gen(p)
+}
+
+/// Forwards to `ChainArenaTrait::compress_canonical`, under its clause on the layout.
+pub fn compress_canonical<P: PtrKey, T: Drop, A: ChainArenaTrait<P, T>>(
+    arena: &mut A,
+    reset: bool,
+) -> InvalidationOption<()>
+    ensures { IsCanonicalLayout P.Gen.first P.Gen.following reset (A.view arena.old)
+        (A.interlinks arena.old) (A.view arena.new) (A.interlinks arena.new) }
+{
+    arena.compress_canonical(reset)
 }
