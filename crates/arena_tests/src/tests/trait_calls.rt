@@ -63,6 +63,10 @@ Insert ChainEnd 2 2 50 = Err(FailedLinkRequirement)
 Insert ChainEnd 3 2 60 = Ok(P0[2](3))
 All = [((1, 2), 10, (0, 0), (3, 2)), ((2, 3), 60, (3, 2), (0, 0)), ((3, 2), 30, (1, 2), (2, 3))]
 Len = 3
+GetInx 1 = Some((2, 10))
+LinkNoGenInx 1 = Some((2, (0, 3, 10)))
+GetInx 4 = None
+LinkNoGenInx 4 = None
 # the first link of a cycle of two is removed: the other one is its own neighbor
 InsertMany 2 = 2
 Connect 1 2 2 2 = Some(())
