@@ -114,7 +114,7 @@ pub(super) fn entry_refusals<S: SlotStack<Item = Slot>>(
 
 // A clone does not take over a maximum of two, a copy of three slots is refused, and two links fill
 // the arena.
-static FULL: [Line; 14] = [
+static FULL: [Line; 16] = [
     (Do::Insert(Kind::Disconnected, 1), "Ok(P0[1](2))"),
     (Do::Maximum, "Some(2)"),
     (
@@ -126,6 +126,14 @@ static FULL: [Line; 14] = [
     (Do::Maximum, "Some(2)"),
     (Do::Insert(Kind::Disconnected, 2), "Ok(P0[2](2))"),
     (Do::Insert(Kind::Disconnected, 3), "Err(BeyondMaxCapacity)"),
+    (
+        Do::InsertIfAllowed(Kind::Disconnected, 3),
+        "Some(Err(BeyondMaxCapacity))",
+    ),
+    (
+        Do::InsertByAnyEntry(Kind::Disconnected, 3),
+        "Some(Err(BeyondMaxCapacity))",
+    ),
     (
         Do::InsertWithin(Kind::Disconnected, 3),
         "Err(NotWithinCapacity)",
