@@ -305,7 +305,7 @@ impl<P: PtrKey, T: Drop, S: SlotStack<Item = ArenaSlot<P, T>>> Arena<P, T, S> {
         }
     }
 
-    /// Returns the pointer of the next insertion within the capacity, as that of an entry.
+    /// Returns the pointer that the next insertion returns; there must be capacity for it.
     ///
     /// Not in `triple_arena`.
     pub fn next_ptr(&self) -> P

@@ -1,5 +1,6 @@
 //! The types below the arenas: indexes, generations, pointers, results and errors, slot stacks and
-//! recasting. What arenas require of them is in `arena_core`, whose items are exported here, too.
+//! recasting. What arenas require of them is in `arena_core`, whose types and traits are exported
+//! here.
 #![tactic(auto)]
 
 mod chunk_stack;
