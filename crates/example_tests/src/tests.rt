@@ -13,8 +13,8 @@ mod run_queue;
 
 use arena_base::ArenaSlot;
 use arena_ptr::{
-    ChunkStack, Gen32, HeapStack, Inx32, Ptr, PtrGen, PtrInx, PtrKey, ReallocationError, SlotStack,
-    ToolPtr,
+    ChainInsertionError, ChunkStack, Gen32, HeapStack, Inx32, Ptr, PtrGen, PtrInx, PtrKey,
+    ReallocationError, SlotStack, ToolPtr,
 };
 use chain_arena::{ChainArena, LinkNoGen};
 use chain_examples::Documents;
@@ -68,11 +68,32 @@ fn value_of(t: Option<&u32>) -> u32 {
     }
 }
 
-// Returns a removed value, or 0 for none.
-fn removed(t: Option<u32>) -> u32 {
-    match t {
-        Some(t) => t,
-        None => 0,
+// What a call yields. Functions that are generic in an arena return it and not its number, since
+// each call costs their proof more than that of others.
+#[derive(Drop)]
+enum Yield<P> {
+    Begun(Result<P, ReallocationError>),
+    Inserted(Result<P, ChainInsertionError>),
+    Split(Result<Option<(P, P)>, ReallocationError>),
+    Found(Option<P>),
+    Removed(Option<u32>),
+    Done(Option<()>),
+    Is(bool),
+    Count(usize),
+    Number(u32),
+}
+
+// Returns the number of what a call yields: 0 for an error or none, and 1 for what is done or true.
+// A split into two copies has the numbers of both.
+fn yielded<P: Named>(what: Yield<P>) -> u32 {
+    match what {
+        Yield::Begun(Ok(p)) | Yield::Inserted(Ok(p)) | Yield::Found(Some(p)) => p.number(),
+        Yield::Split(Ok(Some((p, q)))) => p.number().wrapping_mul(256).wrapping_add(q.number()),
+        Yield::Removed(Some(t)) => t,
+        Yield::Split(Ok(None)) | Yield::Done(Some(())) | Yield::Is(true) => 1,
+        Yield::Count(n) => u32::try_from(n).unwrap_or(u32::MAX),
+        Yield::Number(n) => n,
+        _ => 0,
     }
 }
 
@@ -83,18 +104,6 @@ fn is_reserved(made: Result<(), ReallocationError>) -> bool {
     }
 }
 
-// Returns 1 if a call is done.
-fn done(made: Option<()>) -> u32 {
-    match made {
-        Some(()) => 1,
-        None => 0,
-    }
-}
-
-fn count(n: usize) -> u32 {
-    u32::try_from(n).unwrap_or(u32::MAX)
-}
-
 // Returns a number as a size. The greatest number is the greatest size.
 fn size(n: u32) -> usize {
     if n == u32::MAX {
@@ -102,11 +111,6 @@ fn size(n: u32) -> usize {
     } else {
         usize::try_from(n).unwrap_or(usize::MAX)
     }
-}
-
-// Returns 1 for true.
-fn flag(is: bool) -> u32 {
-    u32::from(is)
 }
 
 // Appends a decimal digit to a number, which is how lists of values below 10 are written.

@@ -1,8 +1,7 @@
 //! Tests of texts: their paragraphs are inserted, moved and removed, and their parts rearranged.
 
 use super::{
-    Named, Wrong, count, done, flag, is_reserved, number_of, removed, value_of, with_digit,
-    with_hex_digit,
+    Named, Wrong, Yield, is_reserved, number_of, value_of, with_digit, with_hex_digit, yielded,
 };
 use chain_examples::Documents;
 use chain_traits::ChainArenaTrait;
@@ -103,11 +102,16 @@ fn contents<P: Named, A: ChainArenaTrait<P, u32> + Drop>(texts: &Texts<P, A>) ->
     let mut all = 0;
     for n in &PARAGRAPHS {
         let p = P::at(*n);
-        all = with_hex_digit(all, value_of(texts.get(p)));
-        all = with_hex_digit(all, number_of(texts.prev(p)) / 16);
-        all = with_hex_digit(all, number_of(texts.next(p)) / 16);
+        all = with_paragraph(all, texts.get(p), texts.prev(p), texts.next(p));
     }
     all
+}
+
+// Appends a paragraph and the indexes of the ones before and after it.
+fn with_paragraph<P: Named>(all: u64, t: Option<&u32>, prev: Option<P>, next: Option<P>) -> u64 {
+    let with_value = with_hex_digit(all, value_of(t));
+    let with_prev = with_hex_digit(with_value, number_of(prev) / 16);
+    with_hex_digit(with_prev, number_of(next) / 16)
 }
 
 // Returns the paragraphs from one on, or 0 for none.
@@ -141,37 +145,49 @@ fn write<P: Named, A: ChainArenaTrait<P, u32> + Drop>(
     }
 }
 
-// Inserts a paragraph, or looks up sizes, and returns what the call yields.
+// Inserts a paragraph, or looks up sizes.
 fn insert<P: Named, A: ChainArenaTrait<P, u32> + Drop>(
     texts: &mut Texts<P, A>,
     op: Op,
     p: P,
     t: u32,
-) -> u32 {
+) -> Yield<P> {
     match op {
-        Op::Begin => number_of(texts.begin(t).ok()),
-        Op::After => number_of(texts.insert_after(p, t).ok()),
-        Op::Before => number_of(texts.insert_before(p, t).ok()),
-        Op::Reserve => flag(is_reserved(texts.reserve(2)) && texts.capacity() - texts.len() >= 2),
-        Op::IsEmpty => flag(texts.is_empty()),
-        Op::HasMaximum => flag(texts.max_capacity().is_some()),
-        _ => count(texts.len()),
+        Op::Begin => Yield::Begun(texts.begin(t)),
+        Op::After => Yield::Inserted(texts.insert_after(p, t)),
+        Op::Before => Yield::Inserted(texts.insert_before(p, t)),
+        Op::Reserve => {
+            Yield::Is(is_reserved(texts.reserve(2)) && texts.capacity() - texts.len() >= 2)
+        }
+        Op::IsEmpty => Yield::Is(texts.is_empty()),
+        Op::HasMaximum => Yield::Is(texts.max_capacity().is_some()),
+        _ => Yield::Count(texts.len()),
     }
 }
 
-// Makes a call, and returns what it yields.
-fn change<P: Named, A: ChainArenaTrait<P, u32> + Drop>(texts: &mut Texts<P, A>, row: &Row) -> u32 {
+fn change<P: Named, A: ChainArenaTrait<P, u32> + Drop>(
+    texts: &mut Texts<P, A>,
+    row: &Row,
+) -> Yield<P> {
     let (op, n, m, _, _) = *row;
     let (p, q) = (P::at(n), P::at(m));
     match op {
-        Op::PartAfter => done(texts.split_after(p)),
-        Op::PartBefore => done(texts.split_before(p)),
-        Op::Join => done(texts.join(p, q)),
-        Op::Move => done(texts.move_after(p, q)),
-        Op::Remove => removed(texts.remove(p)),
-        Op::Write => flag(write(texts, p, m)),
+        Op::PartAfter => Yield::Done(texts.split_after(p)),
+        Op::PartBefore => Yield::Done(texts.split_before(p)),
+        Op::Join => Yield::Done(texts.join(p, q)),
+        Op::Move => Yield::Done(texts.move_after(p, q)),
+        Op::Remove => Yield::Removed(texts.remove(p)),
+        Op::Write => Yield::Is(write(texts, p, m)),
         _ => insert(texts, op, p, m),
     }
+}
+
+// Makes a call, and returns the number of what it yields.
+fn number_after<P: Named, A: ChainArenaTrait<P, u32> + Drop>(
+    texts: &mut Texts<P, A>,
+    row: &Row,
+) -> u32 {
+    yielded(change(texts, row))
 }
 
 // Returns the first row that does not hold: a call yields its number, at least on a second attempt,
@@ -181,7 +197,7 @@ pub(super) fn wrong<P: Named, A: ChainArenaTrait<P, u32> + Drop>(
     rows: &[Row],
 ) -> Wrong {
     for (place, row) in rows.iter().enumerate() {
-        let is_done = change(texts, row) == row.3 || change(texts, row) == row.3;
+        let is_done = number_after(texts, row) == row.3 || number_after(texts, row) == row.3;
         if !is_done || contents(texts) != row.4 {
             return Some(place);
         }

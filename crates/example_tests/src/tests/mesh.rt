@@ -1,8 +1,6 @@
 //! Tests of a mesh: a square is triangulated and merged again.
 
-use super::{
-    Named, Wrong, count, done, flag, is_reserved, number_of, removed, value_of, with_hex_digit,
-};
+use super::{Named, Wrong, Yield, is_reserved, number_of, value_of, with_hex_digit, yielded};
 use chain_examples::Mesh;
 use chain_traits::ChainArenaTrait;
 use std::alloc::Global;
@@ -132,68 +130,68 @@ fn contents<P: Named, A: ChainArenaTrait<P, u32> + Drop>(
     let mut all = 0;
     for n in corners {
         let p = P::at(*n);
-        all = with_hex_digit(all, value_of(mesh.get(p)));
-        all = with_hex_digit(all, number_of(mesh.next(p)) / 16);
+        all = with_corner(all, mesh.get(p), mesh.next(p));
     }
     all
 }
 
-fn split<P: Named, A: ChainArenaTrait<P, u32> + Drop>(
-    mesh: &mut Polygons<P, A>,
-    p: P,
-    q: P,
-) -> u32 {
-    match mesh.split(p, q) {
-        Ok(Some((c, d))) => c.number().wrapping_mul(256).wrapping_add(d.number()),
-        Ok(None) => 1,
-        Err(_) => 0,
-    }
+// Appends a point and the index of the next corner.
+fn with_corner<P: Named>(all: u64, point: Option<&u32>, next: Option<P>) -> u64 {
+    let with_point = with_hex_digit(all, value_of(point));
+    with_hex_digit(with_point, number_of(next) / 16)
 }
 
-// Makes a call, and returns what it yields.
 fn change<P: Named, A: ChainArenaTrait<P, u32> + Drop>(
     mesh: &mut Polygons<P, A>,
     row: &Row,
-) -> u32 {
+) -> Yield<P> {
     let (op, n, m, _, _, _) = *row;
     let (p, q) = (P::at(n), P::at(m));
     match op {
-        Op::Start => number_of(mesh.start(m).ok()),
-        Op::After => number_of(mesh.insert_after(p, m).ok()),
-        Op::Split => split(mesh, p, q),
-        Op::Cut => done(mesh.cut(p, q)),
-        Op::Merge => done(mesh.merge(p, q)),
-        Op::Remove => removed(mesh.remove(p)),
+        Op::Start => Yield::Begun(mesh.start(m)),
+        Op::After => Yield::Inserted(mesh.insert_after(p, m)),
+        Op::Split => Yield::Split(mesh.split(p, q)),
+        Op::Cut => Yield::Done(mesh.cut(p, q)),
+        Op::Merge => Yield::Done(mesh.merge(p, q)),
+        Op::Remove => Yield::Removed(mesh.remove(p)),
         Op::StartWithin => start_within(mesh, m),
         _ => reserve_or_look_up(mesh, op),
     }
 }
 
-// Returns the new corner's pointer, or 0 if it is refused or the capacity changes.
+// Returns the new corner, or 0 if the capacity changes.
 fn start_within<P: Named, A: ChainArenaTrait<P, u32> + Drop>(
     mesh: &mut Polygons<P, A>,
     point: u32,
-) -> u32 {
+) -> Yield<P> {
     let capacity = mesh.capacity();
-    let started = number_of(mesh.start(point).ok());
+    let started = mesh.start(point);
     if mesh.capacity() == capacity {
-        started
+        Yield::Begun(started)
     } else {
-        0
+        Yield::Number(0)
     }
 }
 
 fn reserve_or_look_up<P: Named, A: ChainArenaTrait<P, u32> + Drop>(
     mesh: &mut Polygons<P, A>,
     op: Op,
-) -> u32 {
+) -> Yield<P> {
     match op {
-        Op::Reserve => flag(is_reserved(mesh.reserve(3)) && mesh.capacity() >= 3),
+        Op::Reserve => Yield::Is(is_reserved(mesh.reserve(3)) && mesh.capacity() >= 3),
         Op::IsNew => {
-            flag(mesh.is_empty() && mesh.capacity() == 0 && mesh.max_capacity().is_none())
+            Yield::Is(mesh.is_empty() && mesh.capacity() == 0 && mesh.max_capacity().is_none())
         }
-        _ => count(mesh.len()),
+        _ => Yield::Count(mesh.len()),
     }
+}
+
+// Makes a call, and returns the number of what it yields.
+fn number_after<P: Named, A: ChainArenaTrait<P, u32> + Drop>(
+    mesh: &mut Polygons<P, A>,
+    row: &Row,
+) -> u32 {
+    yielded(change(mesh, row))
 }
 
 // Returns whether a call yields its number, at least on a second attempt, and then the corners are
@@ -202,7 +200,7 @@ fn row_holds<P: Named, A: ChainArenaTrait<P, u32> + Drop>(
     mesh: &mut Polygons<P, A>,
     row: &Row,
 ) -> bool {
-    let is_done = change(mesh, row) == row.3 || change(mesh, row) == row.3;
+    let is_done = number_after(mesh, row) == row.3 || number_after(mesh, row) == row.3;
     is_done && contents(mesh, &CORNERS) == row.4 && contents(mesh, &OTHERS) == row.5
 }
 

@@ -1,9 +1,7 @@
 //! Tests of a run queue: five tasks in turn, with cancellations.
 
 use super::no_memory::NoMemory;
-use super::{
-    Named, Wrong, count, flag, is_reserved, number_of, removed, size, value_of, with_digit,
-};
+use super::{Named, Wrong, Yield, is_reserved, size, value_of, with_digit, yielded};
 use chain_examples::RunQueue;
 use chain_traits::ChainArenaTrait;
 use std::alloc::Global;
@@ -135,22 +133,22 @@ fn change<P: Named, A: ChainArenaTrait<P, u32> + Drop>(
     alloc: Global,
     queue: &mut Queue<P, A>,
     row: &Row,
-) -> u32 {
+) -> Yield<P> {
     let (op, n, task, _, _) = *row;
     let p = P::at(n);
     match op {
-        Op::Spawn => number_of(queue.spawn(task).ok()),
-        Op::Next => number_of(queue.next()),
-        Op::Turns => turns(queue, size(n)),
-        Op::Cancel => removed(queue.cancel(p)),
-        Op::Write => write(queue, p, task),
-        Op::Reserve => reserve(queue, size(n)),
+        Op::Spawn => Yield::Begun(queue.spawn(task)),
+        Op::Next => Yield::Found(queue.next()),
+        Op::Turns => Yield::Number(turns(queue, size(n))),
+        Op::Cancel => Yield::Removed(queue.cancel(p)),
+        Op::Write => Yield::Number(write(queue, p, task)),
+        Op::Reserve => Yield::Is(reserve(queue, size(n))),
         _ => drain_or_look_up(alloc, queue, op, p),
     }
 }
 
-fn reserve<P: Named, A: ChainArenaTrait<P, u32> + Drop>(queue: &mut Queue<P, A>, n: usize) -> u32 {
-    flag(is_reserved(queue.reserve(n)) && queue.capacity() - queue.len() >= n)
+fn reserve<P: Named, A: ChainArenaTrait<P, u32> + Drop>(queue: &mut Queue<P, A>, n: usize) -> bool {
+    is_reserved(queue.reserve(n)) && queue.capacity() - queue.len() >= n
 }
 
 fn drain_or_look_up<P: Named, A: ChainArenaTrait<P, u32> + Drop>(
@@ -158,25 +156,38 @@ fn drain_or_look_up<P: Named, A: ChainArenaTrait<P, u32> + Drop>(
     queue: &mut Queue<P, A>,
     op: Op,
     p: P,
-) -> u32 {
+) -> Yield<P> {
     match op {
-        Op::Drain => drain(alloc, queue),
-        Op::DrainRefused => flag(queue.drain_all(NoMemory).is_err()),
+        Op::Drain => Yield::Number(drain(alloc, queue)),
+        Op::DrainRefused => Yield::Is(queue.drain_all(NoMemory).is_err()),
         _ => look_up(queue, op, p),
     }
 }
 
-fn look_up<P: Named, A: ChainArenaTrait<P, u32> + Drop>(queue: &Queue<P, A>, op: Op, p: P) -> u32 {
+fn look_up<P: Named, A: ChainArenaTrait<P, u32> + Drop>(
+    queue: &Queue<P, A>,
+    op: Op,
+    p: P,
+) -> Yield<P> {
     match op {
-        Op::Current => number_of(queue.current()),
-        Op::Read => value_of(queue.get(p)),
-        Op::IsEmpty => flag(queue.is_empty()),
+        Op::Current => Yield::Found(queue.current()),
+        Op::Read => Yield::Number(value_of(queue.get(p))),
+        Op::IsEmpty => Yield::Is(queue.is_empty()),
         Op::HasCapacity => {
-            flag(queue.capacity() >= queue.len() && queue.max_capacity().is_none())
+            Yield::Is(queue.capacity() >= queue.len() && queue.max_capacity().is_none())
         }
-        Op::Capacity => count(queue.capacity()),
-        _ => count(queue.len()),
+        Op::Capacity => Yield::Count(queue.capacity()),
+        _ => Yield::Count(queue.len()),
     }
+}
+
+// Makes a call, and returns the number of what it yields.
+fn number_after<P: Named, A: ChainArenaTrait<P, u32> + Drop>(
+    alloc: Global,
+    queue: &mut Queue<P, A>,
+    row: &Row,
+) -> u32 {
+    yielded(change(alloc, queue, row))
 }
 
 // Returns whether a call yields its number, at least on a second attempt, and then the tasks are as
@@ -186,7 +197,8 @@ fn row_holds<P: Named, A: ChainArenaTrait<P, u32> + Drop>(
     queue: &mut Queue<P, A>,
     row: &Row,
 ) -> bool {
-    let is_done = change(alloc, queue, row) == row.3 || change(alloc, queue, row) == row.3;
+    let is_done = number_after(alloc, queue, row) == row.3
+        || number_after(alloc, queue, row) == row.3;
     let count = queue.len();
     is_done && turns(queue, count) == row.4
 }
