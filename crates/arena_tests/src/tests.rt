@@ -12,6 +12,7 @@ mod pointers;
 mod scripts;
 mod trait_calls;
 mod transfers;
+mod value_counts;
 
 use arena_base::{Advancer, ArenaSlot, ArenaTrait};
 use arena_ptr::{

@@ -16,7 +16,6 @@ mod recast;
 mod scripts;
 mod setup;
 mod stacks;
-mod value_counts;
 mod visitor_state;
 
 ghost use Rattle.std.specs.Iterator.{IsFinite};

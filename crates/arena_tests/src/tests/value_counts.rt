@@ -1,10 +1,9 @@
 //! Tests that no value is lost or cloned twice, by values that count themselves and their clones.
 
-use super::setup::SlotOf;
-use super::{add_plain, at, fresh, fresh_plain, holds, insert_or_invalid, remove, to_chain_arena};
+use super::{at, holds};
 use arena_base::{Arena, ArenaSlot, ArenaTrait};
-use arena_ptr::{ChunkStack, HeapStack, LimitedStack, PtrKey, SlotStack, ToolPtr};
-use chain_arena::{Call, ChainArena, ChainArenaTrait, LinkInsertKind, LinkNoGen, apply};
+use arena_ptr::{ChunkStack, HeapStack, Inx32, LimitedStack, PtrKey, SlotStack, ToolPtr};
+use chain_arena::{Call, ChainArena, ChainArenaTrait, LinkBody, LinkInsertKind, LinkNoGen, apply};
 use std::alloc::{AllocError, Global};
 use std::cell::Cell;
 use std::marker::Model;
@@ -45,6 +44,11 @@ impl Clone for Counted {
     }
 }
 
+// A link of such a value, and a slot of it.
+type Valued = LinkNoGen<ToolPtr, Counted>;
+
+type Slot = ArenaSlot<ToolPtr, Valued>;
+
 type ValuesOver<S> = ChainArena<ToolPtr, Counted, S>;
 
 // Returns a count of no clones. Its strong count is one more than there are values.
@@ -58,16 +62,16 @@ fn value(rt: &impl Abort, clones: &Rc<Cell<u32>>, number: u32) -> Counted {
     Counted { number, clones }
 }
 
-fn lone_values<S: SlotStack<Item = SlotOf<Counted>>>(
+fn lone_values<S: SlotStack<Item = Slot>>(
     rt: &impl Abort,
     alloc: Global,
     clones: &Rc<Cell<u32>>,
     numbers: &[u32],
 ) -> ValuesOver<S> {
-    let mut arena: ValuesOver<S> = fresh(alloc);
+    let mut arena: ValuesOver<S> = ChainArena::new(alloc);
     for number in numbers {
         let value = value(rt, clones, *number);
-        insert_or_invalid(&mut arena, LinkInsertKind::Disconnected, value);
+        let _ = arena.insert_reallocating(LinkInsertKind::Disconnected, value);
     }
     arena
 }
@@ -89,7 +93,7 @@ fn link_and_drain<P: PtrKey, T: Drop, S: SlotStack<Item = ArenaSlot<P, LinkNoGen
 
 // Drains a chain of three beside a lone link. Returns the number of links left and the strong
 // count.
-fn left_by_a_drain<S: SlotStack<Item = SlotOf<Counted>>>(
+fn left_by_a_drain<S: SlotStack<Item = Slot>>(
     rt: &impl Abort,
     alloc: Global,
     take: usize,
@@ -102,22 +106,23 @@ fn left_by_a_drain<S: SlotStack<Item = SlotOf<Counted>>>(
 
 // Converts a plain arena of two links, the first of which has the next index `next`. Returns
 // whether that is refused, and the strong count then.
-fn left_by_a_refusal<S: SlotStack<Item = SlotOf<Counted>>>(
+fn left_by_a_refusal<S: SlotStack<Item = Slot>>(
     rt: &impl Abort,
     alloc: Global,
     next: u32,
 ) -> (bool, usize) {
     let clones = no_clones(rt, alloc);
-    let mut arena: Arena<ToolPtr, LinkNoGen<ToolPtr, Counted>, S> = fresh_plain(alloc);
+    let mut arena: Arena<ToolPtr, Valued, S> = Arena::new(alloc);
     for next in [next, 0] {
-        add_plain(&mut arena, (0, next), value(rt, &clones, 0));
+        let beside = (None, Inx32::new(next));
+        let _ = arena.insert_reallocating(LinkBody::new(beside, value(rt, &clones, 0)));
     }
-    let made = to_chain_arena(arena);
+    let made = ChainArena::from_arena(arena);
     (made.is_err(), Rc::strong_count(&clones))
 }
 
 // Returns a clone of an arena, if no value refuses, and its number of links.
-fn clone_and_count<S: SlotStack<Item = SlotOf<Counted>>>(
+fn clone_and_count<S: SlotStack<Item = Slot>>(
     alloc: Global,
     arena: &ValuesOver<S>,
 ) -> (usize, Option<ValuesOver<S>>) {
@@ -129,7 +134,7 @@ fn clone_and_count<S: SlotStack<Item = SlotOf<Counted>>>(
 
 // Clones an arena of the values 1, 2 and 3, where 2 refuses, and again without 2. Returns each time
 // the links of the clone, the clones of values so far, and the strong count while the clone exists.
-fn cloned_once_more<S: SlotStack<Item = SlotOf<Counted>>>(
+fn cloned_once_more<S: SlotStack<Item = Slot>>(
     rt: &impl Abort,
     alloc: Global,
 ) -> [(usize, u32, usize); 2] {
@@ -140,7 +145,7 @@ fn cloned_once_more<S: SlotStack<Item = SlotOf<Counted>>>(
         clones.get(),
         Rc::strong_count(&clones),
     );
-    remove(&mut arena, (2, 2));
+    arena.remove(at((2, 2)));
     let (count, copy) = clone_and_count(alloc, &arena);
     let made = (count, clones.get(), Rc::strong_count(&clones));
     drop(copy);
@@ -149,7 +154,7 @@ fn cloned_once_more<S: SlotStack<Item = SlotOf<Counted>>>(
 
 // After a drain only the lone link's value is left, and after a refused conversion none. A clone
 // clones each value once, and drops what was cloned before a refusal.
-fn check_counts<S: SlotStack<Item = SlotOf<Counted>>>(rt: &impl Abort, alloc: Global) {
+fn check_counts<S: SlotStack<Item = Slot>>(rt: &impl Abort, alloc: Global) {
     for take in [0, 1, 5] {
         let left = left_by_a_drain::<S>(rt, alloc, take);
         holds(rt, "links and values", left == (1, 2));
@@ -164,7 +169,7 @@ fn check_counts<S: SlotStack<Item = SlotOf<Counted>>>(rt: &impl Abort, alloc: Gl
 
 #[test]
 fn values_are_dropped_and_cloned_once(rt: HostRuntime) {
-    check_counts::<HeapStack<SlotOf<Counted>>>(&rt, rt.alloc());
-    check_counts::<LimitedStack<SlotOf<Counted>>>(&rt, rt.alloc());
-    check_counts::<ChunkStack<SlotOf<Counted>>>(&rt, rt.alloc());
+    check_counts::<HeapStack<Slot>>(&rt, rt.alloc());
+    check_counts::<LimitedStack<Slot>>(&rt, rt.alloc());
+    check_counts::<ChunkStack<Slot>>(&rt, rt.alloc());
 }
