@@ -26,7 +26,7 @@ fn start_at<P: PtrKey, T: Drop, S: SlotStack<Item = ArenaSlot<P, LinkNoGen<P, T>
     i: P::Inx,
     limit: usize,
 ) -> (P::Inx, usize)
-    requires { HasChainFrom (link_map_in P.Inx.packed_number compactor.old.held.slots)
+    requires chain { HasChainFrom (link_map_in P.Inx.packed_number compactor.old.held.slots)
         (P.Inx.number i) }
     ensures same_reference { compactor.new.arena.ghost_name ≡ compactor.old.arena.ghost_name }
     ensures start { IsStart (link_map_in P.Inx.packed_number compactor.old.held.slots)

@@ -280,7 +280,7 @@ fn insert_last<P: PtrKey, T: Drop, A: ChainArenaTrait<P, T>>(
     current: Option<P>,
     task: T,
 ) -> Result<P, ReallocationError>
-    requires { IfSome current (λ p. IsValid (A.entry tasks.old) (P.key p)) }
+    requires valid { IfSome current (λ p. IsValid (A.entry tasks.old) (P.key p)) }
     ensures last { IfOk result (λ p. AppendsTask A.entry A.interlinks tasks.old tasks.new
         (option_map P.key current) (option_map P.key (option_or current (Some p)))
         (P.key p, task)) }

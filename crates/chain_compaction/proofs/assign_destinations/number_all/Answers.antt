@@ -24,9 +24,11 @@ start_at-start-requires g c =
     let old = c.args.compactor.now in
     let now = c.loop-k.compactor in
     let lookup = c.read_link-was.ensures in
-    order_found g.P.Inx.InxKey.packed_number g.V.Visitor.sees g.P.PtrKey.key c.args.generation c.args.visitor old.held old.arena.now c.loop-k.visitor now.held now.arena.now c.loop-k.count c.loop-k.k c.loop-k.ahead.credit
-    c.loop-k.invariant.order (g.P.Inx.InxKey.number c.inx_at-i.result) c.inx_at-i.ensures (known_fresh g.P.Inx.InxKey.packed_number g.P.Inx.InxKey.number (slot_at now.held.slots (g.P.Inx.InxKey.number c.inx_at-i.result)) c.read_link-was.result.0 c.in-Some.field-0 c.read_link-was.result.3 c.in-Some.is lookup.generation lookup.destination c.in-None-destination.is)
-    c.read_ahead-ahead.new.compactor.held (c.read_ahead-ahead.ensures.read.held ∙ lookup.was_read.held)
+    record {
+      chain = order_found g.P.Inx.InxKey.packed_number g.V.Visitor.sees g.P.PtrKey.key c.args.generation c.args.visitor old.held old.arena.now c.loop-k.visitor now.held now.arena.now c.loop-k.count c.loop-k.k c.loop-k.ahead.credit
+          c.loop-k.invariant.order (g.P.Inx.InxKey.number c.inx_at-i.result) c.inx_at-i.ensures (known_fresh g.P.Inx.InxKey.packed_number g.P.Inx.InxKey.number (slot_at now.held.slots (g.P.Inx.InxKey.number c.inx_at-i.result)) c.read_link-was.result.0 c.in-Some.field-0 c.read_link-was.result.3 c.in-Some.is lookup.generation lookup.destination c.in-None-destination.is)
+          c.read_ahead-ahead.new.compactor.held (c.read_ahead-ahead.ensures.read.held ∙ lookup.was_read.held);
+    }
 
 pub number_chain-visited-requires-clause-ready : goal.number_chain-visited-requires-clause-ready
 number_chain-visited-requires-clause-ready g c = c.loop-k.invariant.ready

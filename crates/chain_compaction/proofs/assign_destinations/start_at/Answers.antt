@@ -94,5 +94,5 @@ loop-step-preserved g c =
 pub proved_unreachable-assume_proved-requires : goal.proved_unreachable-assume_proved-requires
 proved_unreachable-assume_proved-requires g c = absurd (
     let number = g.P.Inx.InxKey.number in
-    let few = back_within g.P.Inx.InxKey.packed_number c.args.compactor.now.held.slots (number c.args.i) c.loop-step.step (number c.loop-step.at) c.requires c.loop-step.invariant.back in
+    let few = back_within g.P.Inx.InxKey.packed_number c.args.compactor.now.held.slots (number c.args.i) c.loop-step.step (number c.loop-step.at) c.requires.chain c.loop-step.invariant.back in
     omega (arith, few))

@@ -6,11 +6,38 @@ use Rattle.arena_traits.specs.Arena.{slot_at}
 use Rattle.arena_base.specs.DetachedSlots.{with_placed_entry}
 use Rattle.chain_compaction.specs.Permutations.{Waits, IsSettling, waiting_count, destination_of, Settles, IsWorkOn}
 use Rattle.chain_compaction.specs.Destinations.{destination_at}
-use Rattle.chain_compaction.proofs.PermutationStepLemmas.{settling_begins, one_less_after, settles_after, fewer_after, none_after, capacity_after, maximum_after, none_waits}
+use Rattle.chain_compaction.proofs.PermutationStepLemmas.{settling_begins, from_within, to_within, entry_there, one_less_after, settles_after, fewer_after, none_after, capacity_after, maximum_after, none_waits}
 use Rattle.chain_compaction.proofs.PermutationLoopLemmas.{work_on-moves, work_on-reads, work_on-either}
 use Rattle.chain_compaction.proofs.LinkLoanLemmas.{same_then, counts_on}
 use Rattle.chain_compaction.proofs.WorkCountLemmas.{counts_place}
+use Rattle.chain_compaction.proofs.permute.settle_once.Given.{Over}
+use Rattle.chain_compaction.proofs.permute.settle_once.Goals.{In-Some}
 use Rattle.chain_compaction.proofs.permute.settle_once.Goals as goal
+
+-- The link's destination, as the slots show it.
+destination_is : (g : Over) (c : In-Some g) → Some (g.P.Inx.InxKey.number c.in-Some.to) ≡ destination_at g.P.Inx.InxKey.packed_number c.args.compactor.now.held.slots (g.P.Inx.InxKey.number c.args.i)
+destination_is g c = sym (ap (option_map g.P.Inx.InxKey.number) c.in-Some.is) ∙ c.read_link-destination.ensures.destination
+
+pub place-requires-clause-from : goal.place-requires-clause-from
+place-requires-clause-from g c =
+    let old = c.args.compactor.now.held in
+    rw c.read_link-destination.ensures.was_read.held (from_within g.P.Inx.InxKey.packed_number c.args.generation _ _ old old old (destination_is g (goal.at.place-requires-clause-from g c).In-Some) c.requires.within)
+
+pub place-requires-clause-to : goal.place-requires-clause-to
+place-requires-clause-to g c =
+    let old = c.args.compactor.now.held in
+    rw c.read_link-destination.ensures.was_read.held (to_within g.P.Inx.InxKey.packed_number c.args.generation _ _ old old old (destination_is g (goal.at.place-requires-clause-to g c).In-Some) c.requires.within)
+
+pub place-requires-clause-entry : goal.place-requires-clause-entry
+place-requires-clause-entry g c =
+    let old = c.args.compactor.now.held in
+    rw c.read_link-destination.ensures.was_read.held (entry_there g.P.Inx.InxKey.packed_number c.args.generation _ _ old old old (destination_is g (goal.at.place-requires-clause-entry g c).In-Some) c.requires.within)
+
+pub overflow_sub-unplaced : goal.overflow_sub-unplaced
+overflow_sub-unplaced g c =
+    let old = c.args.compactor.now.held in
+    let moved = c.place.ensures.held ∙ ap (λ h. with_placed_entry h (g.P.Inx.InxKey.number c.args.i) (g.P.Inx.InxKey.number c.in-Some.to) c.args.generation) c.read_link-destination.ensures.was_read.held in
+    omega (arith, c.requires.unplaced, one_less_after g.P.Inx.InxKey.packed_number c.args.generation _ _ old c.place.new.self.held c.remove_destination_at.new.compactor.held (destination_is g (goal.at.overflow_sub-unplaced g c).In-Some) c.requires.within moved c.remove_destination_at.ensures.directed)
 
 not_false : (b : Bool) → not b ≡ false → b ≡ true
 not_false true is = refl

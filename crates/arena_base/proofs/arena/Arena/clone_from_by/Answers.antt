@@ -1,12 +1,22 @@
 -- The slots are like the source's, so its freed list is valid.
-use Rattle.std.proofs.Common.{◌≡◌, length, min, false, true, refl, sym, ap, ◌∙◌, arith, inl, inr}
+use Rattle.std.proofs.Common.{◌≡◌, Result, Ok, Err, length, min, false, true, refl, sym, ap, ◌∙◌, arith, inl, inr}
 use Rattle.std.proofs.lemmas.List.{length-map}
+use Rattle.arena_core.specs.declared.errors.ReallocationError.{ReallocationError}
+use Rattle.arena_core.specs.declared.errors.ReallocationError.TheVariants as error
 use Rattle.arena_base.specs.Slots.{entry_of}
 use Rattle.arena_base.proofs.SoundnessLemmas.{closed, none_sound}
 use Rattle.arena_base.proofs.SlotShapeLemmas.{sound_too}
 use Rattle.arena_base.proofs.SlotCopyLemmas.{has_slots_of, copy_abandoned, on_err_is, on_ok_is, equal_capacity}
 use Rattle.arena_base.proofs.ArenaGrowthLemmas.{same_reach, stays_within_reach}
 use Rattle.arena_base.proofs.arena.Arena.clone_from_by.Goals as goal
+
+-- `Ok` is not an error.
+ok_is_no_error : {A E : Type 0} {a : A} {e : E} → Ok a ≡ Err e → ⊥
+ok_is_no_error is = cc
+
+-- The two errors differ.
+errors_differ : {A : Type 0} (r : Result A ReallocationError) → r ≡ Err error.AllocError → r ≡ Err error.BeyondMaxCapacity → ⊥
+errors_differ r is also = cc
 
 pub invariant_of-self : goal.invariant_of-self
 invariant_of-self g c =
@@ -28,8 +38,8 @@ returns-in-Ok-copied g c =
     let within_capacity : min (g.S.SlotStack.capacity c.copy_slots-copied.new.slots) greatest ≡ c.reallocate_min_capacity.new.self.capacity = ap (λ n. min n greatest) stays ∙ ap (λ a. a.capacity) c.self.view_is in
     record {
       within = λ few. (inl refl, within_capacity ∙ ap (λ a. a.capacity) (grown.within (omega (arith, few, count))).1);
-      beyond = (λ is. cc, λ beyond. let never = grown.beyond.1 (rw count beyond) in cc);
-      unchanged = λ is. cc;
+      beyond = (λ is. absurd (ok_is_no_error is), λ beyond. absurd (ok_is_no_error (grown.beyond.1 (rw count beyond))));
+      unchanged = λ is. absurd (ok_is_no_error is);
       ok = (equal_capacity count within_capacity (limit ∙ ap (λ a. a.maximum) c.self.view_is) grown.ok, refl, g.met.S.SlotStack.within_maximum c.copy_slots-copied.new.slots);
       copied = rw (← c.source.view_is) (on_ok_is c.copy_slots-copied.result.0 _ c.in-Ok-copied.is c.copy_slots-copied.ensures.copies);
       ready = on_ok_is c.copy_slots-copied.result.0 _ c.in-Ok-copied.is c.copy_slots-copied.ensures.ready;
@@ -53,8 +63,8 @@ returns-in-Err-copied g c =
     let within_capacity : min (g.S.SlotStack.capacity c.truncate-in-Err-copied.new.self) greatest ≡ c.reallocate_min_capacity.new.self.capacity = ap (λ n. min n greatest) stays ∙ ap (λ a. a.capacity) c.self.view_is in
     record {
       within = λ few. (inr (rw (← c.source.view_is) (on_err_is c.copy_slots-copied.result.0 _ c.in-Err-copied.is c.copy_slots-copied.ensures.refused)), within_capacity ∙ ap (λ a. a.capacity) (grown.within (omega (arith, few, count))).1);
-      beyond = (λ is. cc, λ beyond. let never = grown.beyond.1 (rw count beyond) in cc);
-      unchanged = λ is. cc;
+      beyond = (λ is. absurd (errors_differ _ refl is), λ beyond. absurd (ok_is_no_error (grown.beyond.1 (rw count beyond))));
+      unchanged = λ is. absurd (errors_differ _ refl is);
       ok = tt;
       copied = tt;
       ready = tt;

@@ -1,5 +1,5 @@
 -- After reserving for two, both corners are still stored and linked.
-use Rattle.std.proofs.Common.{◌≡◌, ◌+◌, List, ap, refl, ◌∙◌, arith}
+use Rattle.std.proofs.Common.{◌≡◌, ◌+◌, List, Ok, Err, ap, refl, ◌∙◌, arith}
 use Rattle.arena_traits.specs.Entries.{count}
 use Rattle.std.proofs.lemmas.Bool.{false≢true}
 use Rattle.chain_traits.proofs.GenericRemovalLemmas.{same_entry}
@@ -8,6 +8,10 @@ use Rattle.chain_examples.proofs.RingLemmas.{ring_viewed}
 use Rattle.chain_examples.proofs.mesh.Mesh.split.Given.{Over}
 use Rattle.chain_examples.proofs.mesh.Mesh.split.Goals.{After-split_within_capacity, After-split_within_capacity-arg-1}
 use Rattle.chain_examples.proofs.mesh.Mesh.split.Goals as goal
+
+-- `Ok` is not an error.
+ok_is_no_error : {X E : Type 0} {x : X} {e : E} → Ok x ≡ Err e → ⊥
+ok_is_no_error is = cc
 
 module _ (g : Over) (c : After-split_within_capacity g) where
   same : g.A.ArenaTrait.entry c.reserve.new.self ≡ g.A.ArenaTrait.entry c.args.self.now
@@ -58,10 +62,10 @@ pub split_within_capacity-requires-clause-second : goal.split_within_capacity-re
 split_within_capacity-requires-clause-second g c = rw (still g c) c.in-Some.ensures.second
 
 pub returns-in_ok-reserve-in-Some-clause-beyond : goal.returns-in_ok-reserve-in-Some-clause-beyond
-returns-in_ok-reserve-in-Some-clause-beyond g c = (λ is. absurd (cc), λ past. let refused = c.in_ok-reserve-in-Some.ensures.beyond.1 past.1 in absurd (cc))
+returns-in_ok-reserve-in-Some-clause-beyond g c = (λ is. absurd (ok_is_no_error is), λ past. absurd (ok_is_no_error (c.in_ok-reserve-in-Some.ensures.beyond.1 past.1)))
 
 pub returns-in_ok-reserve-in-Some-clause-greatest : goal.returns-in_ok-reserve-in-Some-clause-greatest
-returns-in_ok-reserve-in-Some-clause-greatest g c = λ less. let refused = c.in_ok-reserve-in-Some.ensures.greatest less in absurd (cc)
+returns-in_ok-reserve-in-Some-clause-greatest g c = λ less. absurd (false≢true (c.in_ok-reserve-in-Some.ensures.greatest less))
 
 pub returns-in-None : goal.returns-in-None
 returns-in-None g c = record {
@@ -75,7 +79,7 @@ returns-in-None g c = record {
   within_capacity = λ less. (refl, refl);
   grown = tt;
   maximum = refl;
-  beyond = (λ is. absurd (cc), λ past. let both = c.in-None.ensures.some.1 past.0 in absurd (false≢true both));
+  beyond = (λ is. absurd (ok_is_no_error is), λ past. let both = c.in-None.ensures.some.1 past.0 in absurd (false≢true both));
   greatest = λ less. refl;
   err = tt;
 }

@@ -9,7 +9,7 @@ use Rattle.chain_examples.proofs.queue.RunQueue.spawn.Goals.{After-or-self-insid
 use Rattle.chain_examples.proofs.queue.RunQueue.spawn.Goals as goal
 
 pub insert_last-added-requires : goal.insert_last-added-requires
-insert_last-added-requires g c = valid_current (g.A.ArenaTrait.entry c.self.inside.tasks) (g.A.ChainArenaTrait.interlinks c.self.inside.tasks) g.P.PtrKey.key c.self.inside.current _ c.self.invariant
+insert_last-added-requires g c = record { valid = valid_current (g.A.ArenaTrait.entry c.self.inside.tasks) (g.A.ChainArenaTrait.interlinks c.self.inside.tasks) g.P.PtrKey.key c.self.inside.current _ c.self.invariant }
 
 it : (g : Over) (c : After-or-self-inside g) → IsTaskAdded g.A.ArenaTrait.view g.A.ArenaTrait.entry g.A.ChainArenaTrait.interlinks g.met.A.ArenaTrait.ascends g.met.A.ArenaTrait.finds g.P.PtrKey.key c.self.inside.tasks c.insert_last-added.new.tasks c.self.inside.current c.args.task c.insert_last-added.result c.or-self-inside.result
 it g c = rw (c.or-self-inside.ensures, c.ok.ensures.value) (task_added g.A.ArenaTrait.view g.A.ArenaTrait.entry g.A.ChainArenaTrait.interlinks g.met.A.ArenaTrait.ascends g.met.A.ArenaTrait.finds g.P.PtrKey.key c.self.inside.tasks c.insert_last-added.new.tasks c.self.inside.current c.args.task
