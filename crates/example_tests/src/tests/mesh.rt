@@ -25,7 +25,8 @@ enum Op {
     Remove,
     // 1 if there is capacity for this many more corners.
     Reserve,
-    // The number of corners; 1 if there are none, without capacity and without a maximum.
+    // The number of corners, 0 if `is_empty`; 1 if there are none, without capacity and without a
+    // maximum.
     Count,
     IsNew,
 }
@@ -192,7 +193,11 @@ fn reserve_or_look_up<P: Named, A: ChainArenaTrait<P, u32> + Drop>(
         Op::IsNew => {
             flag(mesh.is_empty() && mesh.capacity() == 0 && mesh.max_capacity().is_none())
         }
-        _ => count(mesh.len()),
+        _ => if mesh.is_empty() {
+            0
+        } else {
+            count(mesh.len())
+        },
     }
 }
 
