@@ -202,7 +202,9 @@ Reserve 300 = Ok(())
 CarryToBare 300 = (Err(AllocError), []) ({Bare[1]: {1, 1} 5, Bare[2]: {2, 2} 6}, (), Some(300), true)
 CarryToBare 2 = (Err(AllocError), []) ({Bare[1]: {1, 1} 5, Bare[2]: {2, 2} 6}, (), Some(2), true)
 HasCapacity 300 = true
-Len = 256
+Remove 256 2 = Success(256)
+CarryToBare 2 = (Err(BeyondMaxCapacity), []) ({Bare[1]: {1, 1} 5, Bare[2]: {2, 2} 6}, (), Some(2), true)
+Len = 255
 Along 3 2 = Some([(3, 2), (1, 2), (0, 0), (0, 0), (0, 0)])
-Counter = Some(2)
+Counter = Some(3)
 ";
