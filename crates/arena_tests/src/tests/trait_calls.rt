@@ -281,6 +281,7 @@ Connect 1 2 2 2 = Some(())
 Connect 2 2 3 2 = Some(())
 Connect 3 2 4 2 = Some(())
 Along 2 2 = Some([(2, 2), (3, 2), (4, 2), (1, 2), (0, 0)])
+Along 3 2 = Some([(3, 2), (4, 2), (2, 2), (1, 2), (0, 0)])
 # once around a ring, then `None`; `None` for no link
 InsertMany 3 = 3
 Connect 1 2 2 2 = Some(())
@@ -348,6 +349,13 @@ InsertMany 3 = 3
 Connect 3 2 1 2 = Some(())
 Canonical 0 = Success(())
 All = [((1, 3), 3, (0, 0), (2, 3)), ((2, 3), 1, (1, 3), (0, 0)), ((3, 3), 2, (0, 0), (0, 0))]
+# a chain of 4, 1, 2 and 3, each of whose links is moved
+InsertMany 4 = 4
+Connect 4 2 1 2 = Some(())
+Connect 1 2 2 2 = Some(())
+Connect 2 2 3 2 = Some(())
+Canonical 0 = Success(())
+All = [((1, 3), 4, (0, 0), (2, 3)), ((2, 3), 1, (1, 3), (3, 3)), ((3, 3), 2, (2, 3), (4, 3)), ((4, 3), 3, (3, 3), (0, 0))]
 # a linear chain and a cycle
 InsertMany 4 = 4
 Connect 1 2 4 2 = Some(())
