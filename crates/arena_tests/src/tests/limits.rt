@@ -58,6 +58,10 @@ Counter = Some(255)
 Remove 1 2 = GenerationOverflow(1)
 Counter = Some(2)
 SetGeneration 255 = ()
+Insert Disconnected 3 = Ok(1(ff))
+RemoveInx 1 = GenerationOverflow((255, 3))
+Counter = Some(2)
+SetGeneration 255 = ()
 Clear = GenerationOverflow(())
 Clear = Success(())
 Counter = Some(2)
@@ -93,6 +97,12 @@ Insert Disconnected 256 = Err(BeyondMaxCapacity)
 const UNDER_TWO: &str = "\
 Reserve 256 = Err(BeyondMaxCapacity)
 WithMinCapacity 256 = Err(AllocError)
+";
+
+// An 8-bit index under a maximum of 256, which there are no indexes for.
+const UNDER_256: &str = "\
+Reserve 256 = Err(AllocError)
+Reserve 257 = Err(BeyondMaxCapacity)
 ";
 
 // Wide indexes: a chain of 3 and 1, and a lone link between them.
@@ -139,7 +149,7 @@ fn plays_under<P: Numbered, S: LimitStack<Item = Slot<P>>>(
 
 #[test]
 fn an_index_of_8_bits_under_a_maximum(rt: HostRuntime) {
-    for (most, table) in [(255, UNDER_255), (2, UNDER_TWO)] {
+    for (most, table) in [(255, UNDER_255), (2, UNDER_TWO), (256, UNDER_256)] {
         plays_under::<BarePtr, LimitedStack<Slot<BarePtr>>>(&rt, rt.alloc(), most, table);
     }
 }

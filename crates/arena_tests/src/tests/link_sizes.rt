@@ -1,9 +1,11 @@
-//! Tests of how many bytes a slot takes, and that links are `Copy` if their values are.
+//! Tests of how many bytes a slot takes, and that links are `Copy` if their values are, as kinds of
+//! insertion are.
 ghost use Rattle.std.specs.Prelude.{◌≡◌};
 
 use arena_base::ArenaSlot;
 use arena_ptr::{Ptr, ToolPtr};
-use chain_links::LinkNoGen;
+use chain_links::{LinkInsertKind, LinkNoGen};
+use std::alloc::AllocError;
 
 // A slot of links has the tag, the generation, the two interlinks, the destination and the value,
 // four bytes each.
@@ -25,4 +27,7 @@ fn slots_are_small_and_links_are_copied(rt: HostRuntime) {
     assert!(rt; slot_size() == 24);
     let (link, again) = twice::<ToolPtr, u32>(LinkNoGen::<ToolPtr, u32>::new((None, None), 7));
     assert!(rt; (link.t, again.t) == (7, 7));
+    let kind: LinkInsertKind<ToolPtr> = LinkInsertKind::SingleLinkCyclic;
+    let copy: Result<LinkInsertKind<ToolPtr>, AllocError> = kind.clone();
+    assert!(rt; copy == Ok(kind));
 }

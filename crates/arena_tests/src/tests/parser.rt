@@ -24,7 +24,8 @@ pub(super) enum Do {
     Capacities,
     AdvanceFrom,
     AdvanceEmpty,
-    // Reads of the trait of arenas of links. `Along` steps five times, `AlongAll` to the end.
+    // Reads of the trait of arenas of links. `Along` steps five times, `AlongAll` to the end, and
+    // `AlongEmpty` is one step of an advancer along no chain.
     CanInsert,
     Neighbors,
     NeighborsInx,
@@ -33,6 +34,7 @@ pub(super) enum Do {
     LinkNoGenInx,
     Along,
     AlongAll,
+    AlongEmpty,
     // All links, and advancers over arenas that change.
     All,
     Changes,
@@ -163,7 +165,7 @@ const LOOKUPS: [(&str, Do); 14] = [
     ("AdvanceEmpty", Do::AdvanceEmpty),
 ];
 
-const LINK_LOOKUPS: [(&str, Do); 10] = [
+const LINK_LOOKUPS: [(&str, Do); 11] = [
     ("CanInsert", Do::CanInsert),
     ("Neighbors", Do::Neighbors),
     ("NeighborsInx", Do::NeighborsInx),
@@ -172,6 +174,7 @@ const LINK_LOOKUPS: [(&str, Do); 10] = [
     ("LinkNoGenInx", Do::LinkNoGenInx),
     ("Along", Do::Along),
     ("AlongAll", Do::AlongAll),
+    ("AlongEmpty", Do::AlongEmpty),
     ("All", Do::All),
     ("Changes", Do::Changes),
 ];

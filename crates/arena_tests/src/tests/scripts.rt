@@ -107,6 +107,13 @@ fn bare_removal<P: PtrKey>(
     }
 }
 
+// Returns a removal's result with the generation as a number.
+fn numbered_removal<P: Numbered>(
+    outcome: InvalidationResult<(P::Gen, u32)>,
+) -> InvalidationResult<(u32, u32)> {
+    outcome.map(|(generation, t)| (P::number_of(generation), t))
+}
+
 // Removes the link at an index, and returns the index of the next link, 0 for none.
 fn take_next<P: PtrKey, A: ChainArenaTrait<P, u32>>(arena: &mut A, i: P::Inx) -> u32 {
     match arena.remove_inx_link_no_gen(i).allow() {
@@ -166,8 +173,8 @@ pub(super) fn run_arena_call<P: Numbered, A: ArenaTrait<P, u32> + Drop>(
         Do::WriteInx => text(alloc, overwrite(arena.get_inx_mut(parsed.i), parsed.t)),
         Do::Remove => text(alloc, arena.remove(parsed.p)),
         Do::RemoveInx => {
-            let removed = arena.remove_inx(parsed.i).allow();
-            text(alloc, entry_value::<P, u32>(removed))
+            let removed = arena.remove_inx(parsed.i);
+            text(alloc, numbered_removal::<P>(removed))
         }
         Do::Invalidate => text(alloc, arena.invalidate(parsed.p)),
         _ => change_whole(alloc, arena, parsed),
@@ -213,6 +220,7 @@ fn link_walk_reply<P: Numbered, A: ChainArenaTrait<P, u32> + Drop>(
     match parsed.call {
         Do::Along => text(alloc, met_along(arena, parsed.p)),
         Do::AlongAll => text(alloc, walk(arena, alloc, parsed.p)),
+        Do::AlongEmpty => text(alloc, A::ChainPtrAdvancer::empty().advance(arena)),
         Do::All => text(alloc, rows_of(alloc, arena)),
         Do::Changes => text(alloc, changes_met::<P, A>(alloc)),
         _ => run_arena_call(alloc, arena, parsed),

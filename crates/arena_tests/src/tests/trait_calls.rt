@@ -102,7 +102,7 @@ TakeNext 2 = 3
 All = [((1, 2), 1, (3, 2), (3, 2)), ((3, 2), 3, (1, 2), (1, 2))]
 TakeNext 3 = 1
 All = [((1, 2), 1, (1, 2), (1, 2))]
-RemoveInx 1 = Some((2, 1))
+RemoveInx 1 = Success((2, 1))
 IsEmpty = true
 # a link that gets a new generation stays in its chain
 InsertMany 2 = 2
@@ -125,6 +125,18 @@ Insert Bridge 1 2 1 2 2 = Ok(P0[2](2))
 Insert PrevToInx 1 3 = Ok(P0[3](2))
 Insert AtInterlinkInx 3 1 4 = Ok(P0[4](2))
 All = [((1, 2), 1, (4, 2), (2, 2)), ((2, 2), 2, (1, 2), (3, 2)), ((3, 2), 3, (2, 2), (4, 2)), ((4, 2), 4, (3, 2), (1, 2))]
+# a bridge goes from the end of a chain to the start of another, and not the other way
+InsertMany 4 = 4
+Connect 1 2 2 2 = Some(())
+Connect 3 2 4 2 = Some(())
+CanInsert Bridge 3 2 2 2 = false
+Insert Bridge 3 2 2 2 0 = Err(FailedLinkRequirement)
+CanInsert Bridge 2 2 3 2 = true
+Insert Bridge 2 2 3 2 5 = Ok(P0[5](2))
+All = [((1, 2), 1, (0, 0), (2, 2)), ((2, 2), 2, (1, 2), (5, 2)), ((3, 2), 3, (5, 2), (4, 2)), ((4, 2), 4, (3, 2), (0, 0)), ((5, 2), 5, (2, 2), (3, 2))]
+Insert ChainStartInx 1 6 = Ok(P0[6](2))
+Insert PrevTo 3 2 7 = Ok(P0[7](2))
+All = [((1, 2), 1, (6, 2), (2, 2)), ((2, 2), 2, (1, 2), (5, 2)), ((3, 2), 3, (7, 2), (4, 2)), ((4, 2), 4, (3, 2), (0, 0)), ((5, 2), 5, (2, 2), (7, 2)), ((6, 2), 6, (0, 0), (1, 2)), ((7, 2), 7, (5, 2), (3, 2))]
 # a lone link is connected to itself, and another is inserted between
 InsertMany 1 = 1
 Connect 1 2 1 2 = Some(())
@@ -269,6 +281,7 @@ Connect 1 2 2 2 = Some(())
 Connect 2 2 3 2 = Some(())
 Connect 3 2 4 2 = Some(())
 Along 2 2 = Some([(2, 2), (3, 2), (4, 2), (1, 2), (0, 0)])
+Along 3 2 = Some([(3, 2), (4, 2), (2, 2), (1, 2), (0, 0)])
 # once around a ring, then `None`; `None` for no link
 InsertMany 3 = 3
 Connect 1 2 2 2 = Some(())
@@ -276,6 +289,7 @@ Connect 2 2 3 2 = Some(())
 Connect 3 2 1 2 = Some(())
 Along 2 2 = Some([(2, 2), (3, 2), (1, 2), (0, 0), (0, 0)])
 AlongAll 3 2 = Ok(Some([P0[3](2), P0[1](2), P0[2](2)]))
+AlongEmpty = None
 Along 9 2 = None
 # values read and written
 InsertMany 3 = 3
@@ -335,6 +349,13 @@ InsertMany 3 = 3
 Connect 3 2 1 2 = Some(())
 Canonical 0 = Success(())
 All = [((1, 3), 3, (0, 0), (2, 3)), ((2, 3), 1, (1, 3), (0, 0)), ((3, 3), 2, (0, 0), (0, 0))]
+# a chain of 4, 1, 2 and 3, each of whose links is moved
+InsertMany 4 = 4
+Connect 4 2 1 2 = Some(())
+Connect 1 2 2 2 = Some(())
+Connect 2 2 3 2 = Some(())
+Canonical 0 = Success(())
+All = [((1, 3), 4, (0, 0), (2, 3)), ((2, 3), 1, (1, 3), (3, 3)), ((3, 3), 2, (2, 3), (4, 3)), ((4, 3), 3, (3, 3), (0, 0))]
 # a linear chain and a cycle
 InsertMany 4 = 4
 Connect 1 2 4 2 = Some(())
@@ -369,6 +390,7 @@ pub(super) const NONE_THEN_NONE: &str = "\
 InsertMany 2 = 2
 Connect 1 2 2 2 = Some(())
 Advance 4 = [(1, 2), (2, 2), (0, 0), (0, 0), (0, 0)]
+AdvanceFrom 3 0 = [(0, 0), (0, 0), (0, 0), (0, 0), (0, 0)]
 ";
 
 // After its first `None`, an advancer begins anew.
@@ -377,4 +399,5 @@ pub(super) const NONE_THEN_AGAIN: &str = "\
 InsertMany 2 = 2
 Connect 1 2 2 2 = Some(())
 Advance 4 = [(1, 2), (2, 2), (0, 0), (1, 2), (0, 0)]
+AdvanceFrom 3 0 = [(0, 0), (1, 2), (0, 0), (0, 0), (0, 0)]
 ";

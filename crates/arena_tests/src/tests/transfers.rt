@@ -177,6 +177,12 @@ Connect 1 2 4 2 = Some(())
 Connect 2 2 3 2 = Some(())
 Connect 3 2 2 2 = Some(())
 CarryAsFive 7 = (Ok(()), [(P0[1](2), 1, false, P0[1](7)), (P0[4](2), 4, false, P0[2](7)), (P0[2](2), 2, false, P0[3](7)), (P0[3](2), 3, false, P0[4](7))]) ({P0[1](7): {(start), 2} 5, P0[2](7): {1, (end)} 5, P0[3](7): {4, 4} 5, P0[4](7): {3, 3} 5}, Gen32 { number: 7 }, Some(1000), true)
+# a ring of three
+InsertMany 3 = 3
+Connect 1 2 2 2 = Some(())
+Connect 2 2 3 2 = Some(())
+Connect 3 2 1 2 = Some(())
+CarryOut 5 = (Ok(()), [(P0[1](2), 1, false, P0[1](5)), (P0[2](2), 2, false, P0[2](5)), (P0[3](2), 3, false, P0[3](5))]) ({P0[1](5): {3, 2} 11, P0[2](5): {1, 3} 22, P0[3](5): {2, 1} 33}, Gen32 { number: 5 }, Some(1000), true)
 # an empty source
 CarryOut 9 = (Ok(()), []) ({}, Gen32 { number: 9 }, Some(1000), true)
 Len = 0
@@ -196,7 +202,9 @@ Reserve 300 = Ok(())
 CarryToBare 300 = (Err(AllocError), []) ({Bare[1]: {1, 1} 5, Bare[2]: {2, 2} 6}, (), Some(300), true)
 CarryToBare 2 = (Err(AllocError), []) ({Bare[1]: {1, 1} 5, Bare[2]: {2, 2} 6}, (), Some(2), true)
 HasCapacity 300 = true
-Len = 256
+Remove 256 2 = Success(256)
+CarryToBare 2 = (Err(BeyondMaxCapacity), []) ({Bare[1]: {1, 1} 5, Bare[2]: {2, 2} 6}, (), Some(2), true)
+Len = 255
 Along 3 2 = Some([(3, 2), (1, 2), (0, 0), (0, 0), (0, 0)])
-Counter = Some(2)
+Counter = Some(3)
 ";

@@ -49,26 +49,60 @@ const NO_GROWTHS: [Do; 9] = [
     Do::CarryIn(2),
 ];
 
-// A new arena that refuses every other growth.
-static REFUSED: [Script; 1] = [(
-    "links that are carried over: neither arena has changed, and then both have",
-    0,
-    &[],
-    &[
-        (
-            Do::CarryIn(2),
-            "(Err(AllocError), {P0[1](2): {(start), (end)} 1, P0[2](2): {(start), (end)} 2})",
-        ),
-        (Do::Debug, "{}"),
-        (Do::Counter, "Some(Gen32 { number: 2 })"),
-        (Do::CarryIn(2), "(Ok(()), {})"),
-        (
-            Do::Debug,
-            "{P0[1](7): {(start), (end)} 1, P0[2](7): {(start), (end)} 2}",
-        ),
-        (Do::Counter, "Some(Gen32 { number: 7 })"),
-    ],
-)];
+// New arenas that refuse every other growth.
+static REFUSED: [Script; 3] = [
+    (
+        "links that are carried over: neither arena has changed, and then both have",
+        0,
+        &[],
+        &[
+            (
+                Do::CarryIn(2),
+                "(Err(AllocError), {P0[1](2): {(start), (end)} 1, P0[2](2): {(start), (end)} 2})",
+            ),
+            (Do::Debug, "{}"),
+            (Do::Counter, "Some(Gen32 { number: 2 })"),
+            (Do::CarryIn(2), "(Ok(()), {})"),
+            (
+                Do::Debug,
+                "{P0[1](7): {(start), (end)} 1, P0[2](7): {(start), (end)} 2}",
+            ),
+            (Do::Counter, "Some(Gen32 { number: 7 })"),
+        ],
+    ),
+    (
+        "a link inserted after can_insert on the second attempt",
+        0,
+        &[],
+        &[
+            (
+                Do::InsertIfAllowed(Kind::Disconnected, 1),
+                "Some(Err(AllocError))",
+            ),
+            (
+                Do::InsertIfAllowed(Kind::Disconnected, 1),
+                "Some(Ok(P0[1](2)))",
+            ),
+            (Do::Debug, "{P0[1](2): {(start), (end)} 1}"),
+        ],
+    ),
+    (
+        "a link inserted by a vacant entry on the second attempt",
+        0,
+        &[],
+        &[
+            (
+                Do::InsertByAnyEntry(Kind::Disconnected, 1),
+                "Some(Err(AllocError))",
+            ),
+            (
+                Do::InsertByAnyEntry(Kind::Disconnected, 1),
+                "Some(Ok(P0[1](2)))",
+            ),
+            (Do::Debug, "{P0[1](2): {(start), (end)} 1}"),
+        ],
+    ),
+];
 
 fn refused_scripts() -> &'static [Script] {
     &REFUSED

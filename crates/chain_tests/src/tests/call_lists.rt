@@ -147,6 +147,11 @@ static RUN: [List; 1] = [(
         (Do::RemoveLinkInx(1), "InvalidPtr"),
         (Do::Clear, "Success(())"),
         (Do::Insert(Kind::Disconnected, 30), "Ok(P0[1](4))"),
+        (Do::Insert(Kind::ChainEnd((1, 4)), 40), "Ok(P0[2](4))"),
+        (Do::Insert(Kind::ChainEnd((2, 4)), 50), "Ok(P0[3](4))"),
+        (Do::BreakNext((2, 4)), "true"),
+        (Do::DrainTaking((1, 4), 5), "Some(2)"),
+        (Do::Debug, "{P0[3](4): {(start), (end)} 50}"),
     ],
 )];
 

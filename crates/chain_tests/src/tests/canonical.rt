@@ -120,7 +120,7 @@ const BEHIND_A_HOLE: Script = (
 );
 
 // Scripts, and lines that follow them.
-static LAYOUTS: [(Script, &[&[Line]]); 6] = [
+static LAYOUTS: [(Script, &[&[Line]]); 7] = [
     (
         BEHIND_A_HOLE,
         &[&[(Do::Compress(false), "Success(())"), (Do::Slots, "3")]],
@@ -175,6 +175,19 @@ static LAYOUTS: [(Script, &[&[Line]]); 6] = [
                 "Ok((Success(()), [(P0[3](2), P0[1](3)), (P0[1](2), P0[2](3)), (P0[2](2), P0[3](3))]))",
             )],
         ],
+    ),
+    (
+        ("chains in order", 3, &[(1, 2)], &[]),
+        &[&[
+            (
+                Do::MovesVisited(false),
+                "(Success(()), [(P0[1](2), P0[1](3)), (P0[2](2), P0[2](3)), (P0[3](2), P0[3](3))])",
+            ),
+            (
+                Do::MovesListed(true),
+                "Ok((Success(()), [(P0[1](3), P0[1](2)), (P0[2](3), P0[2](2)), (P0[3](3), P0[3](2))]))",
+            ),
+        ]],
     ),
     (
         BEHIND_HOLES,

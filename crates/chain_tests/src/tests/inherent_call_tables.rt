@@ -372,7 +372,7 @@ static VACANT_ENTRIES: [Script; 6] = [
             (Do::InsertByEntry(Kind::Disconnected, 7), "Ok(P0[1](2))"),
             (Do::Len, "1"),
             (Do::Counter, "Some(Gen32 { number: 2 })"),
-            (Do::Get((1, 2)), "Some(7)"),
+            (Do::Debug, "{P0[1](2): {(start), (end)} 7}"),
         ],
     ),
     (
@@ -419,15 +419,45 @@ static VACANT_ENTRIES: [Script; 6] = [
     ),
 ];
 
+// Links inserted between two others, and by vacant entries after removals.
+static FILLED_ENTRIES: [Script; 1] = [(
+    "insertions between two links",
+    3,
+    &[(1, 2)],
+    &[
+        (
+            Do::InsertIfAllowed(Kind::NextTo((1, 2)), 4),
+            "Some(Ok(P0[4](2)))",
+        ),
+        (Do::Remove((3, 2)), "Success(3)"),
+        (Do::EntryRefusals(Kind::NextTo((1, 2))), "[None, None]"),
+        (Do::InsertByEntry(Kind::NextTo((1, 2)), 5), "Ok(P0[3](3))"),
+        (
+            Do::Debug,
+            "{P0[1](2): {(start), 3} 1, P0[2](2): {4, (end)} 2, P0[3](3): {1, 4} 5, P0[4](2): {3, 2} 4}",
+        ),
+        (Do::Remove((3, 3)), "Success(5)"),
+        (
+            Do::InsertByAnyEntry(Kind::NextTo((4, 2)), 6),
+            "Some(Ok(P0[3](4)))",
+        ),
+        (
+            Do::Debug,
+            "{P0[1](2): {(start), 4} 1, P0[2](2): {3, (end)} 2, P0[3](4): {4, 2} 6, P0[4](2): {1, 3} 4}",
+        ),
+    ],
+)];
+
 // Returns all tables. Only this body names them, since each step of a body lists what the body
 // names. Each is small, since listing a static costs the square of its size.
-pub(super) fn tables() -> [&'static [Script]; 9] {
+pub(super) fn tables() -> [&'static [Script]; 10] {
     [
         &WALKS,
         &FURTHER_WALKS,
         &LOOPS,
         &FURTHER_LOOPS,
         &VACANT_ENTRIES,
+        &FILLED_ENTRIES,
         &CHAIN_DRAINS,
         &FURTHER_CHAIN_DRAINS,
         &DRAINS,

@@ -79,9 +79,10 @@ fn counted_over<S: SlotStack<Item = Slot>>(
 // The error of a copy, the calls of the value map, and the number of entries then.
 type Report = (Option<ReallocationError>, u32, usize);
 
-// Copies lone links into a plain arena.
+// Copies lone links into a plain arena of one entry.
 fn counted_to_plain<S: SlotStack<Item = Slot>, A: PlainArena>(alloc: Global, count: u32) -> Report {
     let mut target = A::new(alloc);
+    target.add(9);
     let source: ChainsOver<S> = lone_links(alloc, count);
     let (outcome, map) = source.clone_to_arena_by(&mut target, Counting { calls: 0 });
     (outcome.err(), map.calls, target.len())

@@ -23,7 +23,8 @@ enum Op {
     Remove,
     // 1 if there is capacity for this many more corners.
     Reserve,
-    // The number of corners; 1 if there are none, without capacity and without a maximum.
+    // The number of corners, 0 if `is_empty`; 1 if there are none, without capacity and without a
+    // maximum.
     Count,
     IsNew,
 }
@@ -182,7 +183,11 @@ fn reserve_or_look_up<P: Named, A: ChainArenaTrait<P, u32> + Drop>(
         Op::IsNew => {
             Yield::Is(mesh.is_empty() && mesh.capacity() == 0 && mesh.max_capacity().is_none())
         }
-        _ => Yield::Count(mesh.len()),
+        _ => if mesh.is_empty() {
+            Yield::Number(0)
+        } else {
+            Yield::Count(mesh.len())
+        },
     }
 }
 

@@ -1,7 +1,8 @@
 //! Tests of a run queue: five tasks in turn, with cancellations.
 
 use super::no_memory::NoMemory;
-use super::{Named, Wrong, Yield, is_reserved, size, value_of, with_digit, yielded};
+use super::{Named, Wrong, Yield, size, value_of, with_digit, yielded};
+use arena_ptr::ReallocationError;
 use chain_examples::RunQueue;
 use chain_traits::ChainArenaTrait;
 use std::alloc::Global;
@@ -24,7 +25,7 @@ enum Op {
     // The task, which `Write` replaces, or 0 if there is none.
     Read,
     Write,
-    // 1 if the queue has, or gets, capacity for this many more tasks.
+    // 1 if the queue has, or gets, capacity for this many more tasks, and 0 if memory is refused.
     Reserve,
     // The number of tasks; 1 if there are none; 1 if the capacity suffices for them, without a
     // maximum.
@@ -44,7 +45,7 @@ type Row = (Op, u32, u32, u32, u32);
 
 // The first task is current. The third is canceled while another is current, and the fifth while it
 // is itself.
-const ROWS: [Row; 31] = [
+const ROWS: [Row; 32] = [
     (Op::Next, 0, 0, 0, 0),
     (Op::IsEmpty, 0, 0, 1, 0),
     (Op::Reserve, 3, 0, 1, 0),
@@ -71,6 +72,7 @@ const ROWS: [Row; 31] = [
     (Op::Write, 0x32, 9, 0, 974),
     (Op::Read, 0x22, 0, 9, 974),
     (Op::Reserve, 7, 0, 1, 974),
+    (Op::Reserve, u32::MAX, 0, 0, 974),
     (Op::Next, 0, 0, 0x22, 749),
     (Op::DrainRefused, 0, 0, 1, 749),
     (Op::Drain, 0, 0, 974, 0),
@@ -142,13 +144,22 @@ fn change<P: Named, A: ChainArenaTrait<P, u32> + Drop>(
         Op::Turns => Yield::Number(turns(queue, size(n))),
         Op::Cancel => Yield::Removed(queue.cancel(p)),
         Op::Write => Yield::Number(write(queue, p, task)),
-        Op::Reserve => Yield::Is(reserve(queue, size(n))),
+        Op::Reserve => Yield::Number(reserve(queue, size(n))),
         _ => drain_or_look_up(alloc, queue, op, p),
     }
 }
 
-fn reserve<P: Named, A: ChainArenaTrait<P, u32> + Drop>(queue: &mut Queue<P, A>, n: usize) -> bool {
-    is_reserved(queue.reserve(n)) && queue.capacity() - queue.len() >= n
+// Returns 1, or 2 if the capacity does not suffice then; 0 if memory is refused, or 3 by a maximum.
+fn reserve<P: Named, A: ChainArenaTrait<P, u32> + Drop>(queue: &mut Queue<P, A>, n: usize) -> u32 {
+    match queue.reserve(n) {
+        Ok(()) => if queue.capacity() - queue.len() >= n {
+            1
+        } else {
+            2
+        },
+        Err(ReallocationError::AllocError) => 0,
+        Err(ReallocationError::BeyondMaxCapacity) => 3,
+    }
 }
 
 fn drain_or_look_up<P: Named, A: ChainArenaTrait<P, u32> + Drop>(

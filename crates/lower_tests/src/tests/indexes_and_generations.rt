@@ -32,11 +32,12 @@ fn counts<G: PtrGen>(near: G, last: G, second: G) -> [bool; 4] {
     ]
 }
 
-fn is_made_of<P: Ptr>(p: P, inx: P::Inx, generation: P::Gen) -> [bool; 3] {
+fn is_made_of<P: Ptr>(p: P, inx: P::Inx, generation: P::Gen) -> [bool; 4] {
     [
         p.inx() == inx,
         p.generation() == generation,
         P::_from_raw(inx, generation) == p,
+        arena_ptr::PtrKey::is_same(p, P::invalid()) == (p == P::invalid()),
     ]
 }
 

@@ -37,9 +37,9 @@ fn with_pointers(parts: Parts) -> Link<ToolPtr, u32> {
     Link::new((pointer((prev, 2)), pointer((next, 2))), t)
 }
 
-// Returns whether `l` is below `m` by each comparison.
-fn is_below<L: Ord>(l: &L, m: &L) -> bool {
-    l < m && m > l && l != m && l.cmp(m).is_lt() && m.cmp(l).is_gt()
+// Returns whether `l` is below `m` by each comparison, and has another hash.
+fn is_below<L: Ord + Hash>(l: &L, m: &L) -> bool {
+    l < m && m > l && l != m && l.cmp(m).is_lt() && m.cmp(l).is_gt() && hash_of(l) != hash_of(m)
 }
 
 // Returns whether `l` equals `m` by each comparison.
@@ -58,13 +58,22 @@ fn ascends(low: Parts, high: Parts) -> bool {
     is_below(&bare(low), &bare(high)) && is_below(&with_pointers(low), &with_pointers(high))
 }
 
-// Returns whether a link equals one of the same parts, and its clone.
-fn equals(parts: Parts) -> bool {
-    match bare(parts).clone() {
-        Ok(copy) => is_same(&bare(parts), &copy)
-            && is_same(&with_pointers(parts), &with_pointers(parts)),
+fn equals_its_clone<L: Ord + Hash + Clone + Drop>(l: &L) -> bool {
+    match l.clone() {
+        Ok(copy) => is_same(l, &copy),
         Err(_) => false,
     }
+}
+
+// Returns whether a link equals its clone, with and without generations.
+fn equals(parts: Parts) -> bool {
+    equals_its_clone(&bare(parts)) && equals_its_clone(&with_pointers(parts))
+}
+
+// Returns whether a link has these neighbors, as pointers and as indexes.
+fn has_neighbors(link: &Link<ToolPtr, u32>, (prev, next, _): Parts) -> bool {
+    link.prev_next() == (pointer((prev, 2)), pointer((next, 2)))
+        && link.no_gen_ref().prev_next() == (inx(prev), inx(next))
 }
 
 #[test]
@@ -74,7 +83,7 @@ fn links_order_by_neighbors_then_values(rt: HostRuntime) {
         if let Some(low) = last {
             assert!(rt; ascends(low, parts));
         }
-        assert!(rt; equals(parts));
+        assert!(rt; equals(parts) && has_neighbors(&with_pointers(parts), parts));
         last = Some(parts);
     }
 }

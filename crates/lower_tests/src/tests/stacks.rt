@@ -211,6 +211,7 @@ static MAXIMA: [Maximum; 7] = [
             Call::Fill(0, false),
             Call::Is(5, 5, Some(7)),
             Call::Items(&[0, 1, 2, 3, 4]),
+            Call::Reserve(5, Ok(false)),
             Call::Push(5, Ok(true)),
             Call::Is(6, 7, Some(7)),
             Call::Items(&[0, 1, 2, 3, 4, 5]),
@@ -289,8 +290,9 @@ static DOUBLED: [Call; 6] = [
 // Reads at the end of 1000 numbers and beyond, and edits that leave four and keep the capacity.
 // Then growths beyond the capacity for one item, and one too large for any allocation, which
 // changes nothing.
-static EDITS: [Call; 21] = [
+static EDITS: [Call; 22] = [
     Call::Is(1000, 1024, None),
+    Call::Reserve(1024, Ok(false)),
     Call::Read(999, Some(999)),
     Call::Read(1000, None),
     Call::Replace(1, 70, Some(1)),
