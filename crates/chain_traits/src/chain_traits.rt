@@ -112,15 +112,15 @@ pub trait ChainArenaTrait<P: PtrKey, T: Drop>: ArenaTrait<P, T> {
             (names_in P.key P.Inx.number kind)) }
         ensures inserted { IfOk result (λ p. GainsLink Self.view Self.entry interlinks
             (names_in P.key P.Inx.number kind) t self.old (P.key p) self.new) }
-        ensures agreed { IsWellLinked (interlinks self.old) }
+        ensures full { (result ≡ Err ChainInsertionError.NotWithinCapacity)
+            ↔ (MayInsert (Self.entry self.old) (interlinks self.old)
+            (names_in P.key P.Inx.number kind) × IsFull (Self.view self.old)) }
         ensures capacity { (Self.view self.new).capacity ≡ (Self.view self.old).capacity }
+        ensures agreed { IsWellLinked (interlinks self.old) }
         ensures err { OnErr result (self.new ≡ self.old) }
         ensures link { (result ≡ Err ChainInsertionError.FailedLinkRequirement)
             ↔ ¬ MayInsert (Self.entry self.old) (interlinks self.old)
             (names_in P.key P.Inx.number kind) }
-        ensures full { (result ≡ Err ChainInsertionError.NotWithinCapacity)
-            ↔ (MayInsert (Self.entry self.old) (interlinks self.old)
-            (names_in P.key P.Inx.number kind) × IsFull (Self.view self.old)) }
         ensures error { IfErr result (λ e. (e ≡ ChainInsertionError.FailedLinkRequirement)
             ⊎ (e ≡ ChainInsertionError.NotWithinCapacity)) };
 
@@ -146,12 +146,6 @@ pub trait ChainArenaTrait<P: PtrKey, T: Drop>: ArenaTrait<P, T> {
             (names_in P.key P.Inx.number kind)) }
         ensures inserted { IfOk result (λ p. GainsLink Self.view Self.entry interlinks
             (names_in P.key P.Inx.number kind) t self.old (P.key p) self.new) }
-        ensures agreed { IsWellLinked (interlinks self.old) }
-        ensures err { OnErr result (self.new ≡ self.old) }
-        ensures link { (result ≡ Err ChainInsertionError.FailedLinkRequirement)
-            ↔ ¬ MayInsert (Self.entry self.old) (interlinks self.old)
-            (names_in P.key P.Inx.number kind) }
-        ensures error { IfErr result (λ e. e ≢ ChainInsertionError.NotWithinCapacity) }
         ensures within_capacity { MayInsert (Self.entry self.old) (interlinks self.old)
             (names_in P.key P.Inx.number kind) → SucceedsWithinCapacity (Self.view self.old) result
             (Self.view self.new) }
@@ -160,7 +154,13 @@ pub trait ChainArenaTrait<P: PtrKey, T: Drop>: ArenaTrait<P, T> {
         ensures beyond { (result ≡ Err ChainInsertionError.BeyondMaxCapacity)
             ↔ (MayInsert (Self.entry self.old) (interlinks self.old)
             (names_in P.key P.Inx.number kind) × NeedsBeyondMaximum (Self.view self.old)) }
-        ensures greatest { count (Self.view self.old) ≡ P.Inx.greatest → IsErr result };
+        ensures greatest { count (Self.view self.old) ≡ P.Inx.greatest → IsErr result }
+        ensures agreed { IsWellLinked (interlinks self.old) }
+        ensures err { OnErr result (self.new ≡ self.old) }
+        ensures link { (result ≡ Err ChainInsertionError.FailedLinkRequirement)
+            ↔ ¬ MayInsert (Self.entry self.old) (interlinks self.old)
+            (names_in P.key P.Inx.number kind) }
+        ensures error { IfErr result (λ e. e ≢ ChainInsertionError.NotWithinCapacity) };
 
     /// Inserts a link of a kind that may be inserted (`can_insert`), as `insert_reallocating` does.
     ///

@@ -282,15 +282,15 @@ impl<P: PtrKey, T: Drop, A: ChainArenaTrait<P, T>> ChainArenaTrait<P, T> for For
             (names_in P.key P.Inx.number kind)) }
         ensures inserted { IfOk result (λ p. GainsLink A.view A.entry A.interlinks
             (names_in P.key P.Inx.number kind) t self.old.inner (P.key p) self.new.inner) }
-        ensures agreed { IsWellLinked (A.interlinks self.old.inner) }
+        ensures full { (result ≡ Err ChainInsertionError.NotWithinCapacity)
+            ↔ (MayInsert (A.entry self.old.inner) (A.interlinks self.old.inner)
+            (names_in P.key P.Inx.number kind) × IsFull (A.view self.old.inner)) }
         ensures capacity { (A.view self.new.inner).capacity ≡ (A.view self.old.inner).capacity }
+        ensures agreed { IsWellLinked (A.interlinks self.old.inner) }
         ensures err { OnErr result (self.new ≡ self.old) }
         ensures link { (result ≡ Err ChainInsertionError.FailedLinkRequirement)
             ↔ ¬ MayInsert (A.entry self.old.inner) (A.interlinks self.old.inner)
             (names_in P.key P.Inx.number kind) }
-        ensures full { (result ≡ Err ChainInsertionError.NotWithinCapacity)
-            ↔ (MayInsert (A.entry self.old.inner) (A.interlinks self.old.inner)
-            (names_in P.key P.Inx.number kind) × IsFull (A.view self.old.inner)) }
         ensures error { IfErr result (λ e. (e ≡ ChainInsertionError.FailedLinkRequirement)
             ⊎ (e ≡ ChainInsertionError.NotWithinCapacity)) }
     {
@@ -306,12 +306,6 @@ impl<P: PtrKey, T: Drop, A: ChainArenaTrait<P, T>> ChainArenaTrait<P, T> for For
             (names_in P.key P.Inx.number kind)) }
         ensures inserted { IfOk result (λ p. GainsLink A.view A.entry A.interlinks
             (names_in P.key P.Inx.number kind) t self.old.inner (P.key p) self.new.inner) }
-        ensures agreed { IsWellLinked (A.interlinks self.old.inner) }
-        ensures err { OnErr result (self.new ≡ self.old) }
-        ensures link { (result ≡ Err ChainInsertionError.FailedLinkRequirement)
-            ↔ ¬ MayInsert (A.entry self.old.inner) (A.interlinks self.old.inner)
-            (names_in P.key P.Inx.number kind) }
-        ensures error { IfErr result (λ e. e ≢ ChainInsertionError.NotWithinCapacity) }
         ensures within_capacity { MayInsert (A.entry self.old.inner) (A.interlinks self.old.inner)
             (names_in P.key P.Inx.number kind)
             → SucceedsWithinCapacity (A.view self.old.inner) result
@@ -322,6 +316,12 @@ impl<P: PtrKey, T: Drop, A: ChainArenaTrait<P, T>> ChainArenaTrait<P, T> for For
             ↔ (MayInsert (A.entry self.old.inner) (A.interlinks self.old.inner)
             (names_in P.key P.Inx.number kind) × NeedsBeyondMaximum (A.view self.old.inner)) }
         ensures greatest { count (A.view self.old.inner) ≡ P.Inx.greatest → IsErr result }
+        ensures agreed { IsWellLinked (A.interlinks self.old.inner) }
+        ensures err { OnErr result (self.new ≡ self.old) }
+        ensures link { (result ≡ Err ChainInsertionError.FailedLinkRequirement)
+            ↔ ¬ MayInsert (A.entry self.old.inner) (A.interlinks self.old.inner)
+            (names_in P.key P.Inx.number kind) }
+        ensures error { IfErr result (λ e. e ≢ ChainInsertionError.NotWithinCapacity) }
     {
         self.inner.insert_reallocating(kind, t)
     }
