@@ -282,6 +282,29 @@ impl<P: PtrKey, T: Drop, A: ChainArenaTrait<P, T> + Drop> Mesh<P, T, A> {
     {
         self.corners.exchange_next(u, v)
     }
+
+    // Splits as `split` does, within the capacity. `both` holds the points of `u` and `v`.
+    fn split_within_capacity(&mut self, u: P, v: P, both: (T, T)) -> (P, P)
+        requires capacity { count (A.view self.old) + 2 ≤ (A.view self.old).capacity }
+        requires first { A.entry self.old (P.key u).0 ≡ Some ((P.key u).1, both.0) }
+        requires second { A.entry self.old (P.key v).0 ≡ Some ((P.key v).1, both.1) }
+        ensures rings { IsSplit A.entry A.interlinks self.old self.new
+            (P.key u) (P.key v) (P.key result.0) (P.key result.1) }
+        ensures bridged { IsBridged A.entry A.interlinks self.old self.new
+            (P.key u) (P.key v) (P.key result.0) (P.key result.1) }
+        ensures corners { AreCopied (A.entry self.old) (A.entry self.new)
+            (P.key u) (P.key v) (P.key result.0) (P.key result.1) }
+        ensures others { KeepsWithout A.entry A.interlinks cyclic self.old self.new
+            (P.key u ∷ P.key v ∷ []) }
+        ensures size { count (A.view self.new) ≡ count (A.view self.old) + 2 }
+        ensures capacity { (A.view self.new).capacity ≡ (A.view self.old).capacity }
+        ensures maximum { (A.view self.new).maximum ≡ (A.view self.old).maximum }
+    {
+        let first = add_before(&mut self.corners, u, both.0);
+        let second = add_after(&mut self.corners, v, both.1);
+        self.exchange(v, first);
+        (first, second)
+    }
 }
 
 impl<P: PtrKey, T: Copy + Drop, A: ChainArenaTrait<P, T> + Drop> Mesh<P, T, A> {
@@ -341,29 +364,6 @@ impl<P: PtrKey, T: Copy + Drop, A: ChainArenaTrait<P, T> + Drop> Mesh<P, T, A> {
             }
             None => Ok(None),
         }
-    }
-
-    // Splits as `split` does, within the capacity. `both` holds the points of `u` and `v`.
-    fn split_within_capacity(&mut self, u: P, v: P, both: (T, T)) -> (P, P)
-        requires capacity { count (A.view self.old) + 2 ≤ (A.view self.old).capacity }
-        requires first { A.entry self.old (P.key u).0 ≡ Some ((P.key u).1, both.0) }
-        requires second { A.entry self.old (P.key v).0 ≡ Some ((P.key v).1, both.1) }
-        ensures rings { IsSplit A.entry A.interlinks self.old self.new
-            (P.key u) (P.key v) (P.key result.0) (P.key result.1) }
-        ensures bridged { IsBridged A.entry A.interlinks self.old self.new
-            (P.key u) (P.key v) (P.key result.0) (P.key result.1) }
-        ensures corners { AreCopied (A.entry self.old) (A.entry self.new)
-            (P.key u) (P.key v) (P.key result.0) (P.key result.1) }
-        ensures others { KeepsWithout A.entry A.interlinks cyclic self.old self.new
-            (P.key u ∷ P.key v ∷ []) }
-        ensures size { count (A.view self.new) ≡ count (A.view self.old) + 2 }
-        ensures capacity { (A.view self.new).capacity ≡ (A.view self.old).capacity }
-        ensures maximum { (A.view self.new).maximum ≡ (A.view self.old).maximum }
-    {
-        let first = add_before(&mut self.corners, u, both.0);
-        let second = add_after(&mut self.corners, v, both.1);
-        self.exchange(v, first);
-        (first, second)
     }
 
     // Returns the points of two corners, or `None` if either is not valid or both are the same.
