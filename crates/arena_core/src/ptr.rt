@@ -1,4 +1,4 @@
-ghost use Rattle.std.specs.Prelude.{◌≡◌, ℕ, ◌^◌, ◌<◌, ◌≤◌, ◌↔◌, IsSome, IfSome, Option, Some, Bool, true};
+ghost use Rattle.std.specs.Prelude.{◌≡◌, ℕ, ◌^◌, ◌<◌, ◌≤◌, ◌↔◌, IsSome, IfSome, List, Option, Some, Bool, true};
 ghost use Rattle.std.specs.Option.{option_map};
 ghost use Rattle.std.specs.Fmt.{WritesOnOk};
 ghost use Rattle.arena_core.specs.declared.packed_option.PackedOption.{PackedOption};
@@ -131,6 +131,9 @@ pub trait PtrGen: Copy + Eq + Ord + Hash + Debug {
     // Whether a generation is the greatest, after which counting starts again.
     ghost wraps: { Self → Bool };
 
+    // The text of a generation, as `fmt_gen` writes it.
+    ghost text: { Self → List ℕ };
+
     /// Returns the first generation that an arena gives.
     fn two() -> Self
         ensures { result ≡ first };
@@ -142,7 +145,8 @@ pub trait PtrGen: Copy + Eq + Ord + Hash + Debug {
 
     /// Writes `(`, the generation in lower-case hexadecimal and `)`, ignoring the caller's format.
     /// Writes nothing for `()`.
-    fn fmt_gen<W: fmt::Write>(self, f: &mut fmt::Formatter<W>) -> fmt::Result;
+    fn fmt_gen<W: fmt::Write>(self, f: &mut fmt::Formatter<W>) -> fmt::Result
+        ensures { WritesOnOk W.write_str_gives f.old result (text self) f.new };
 
     ghost begins_again: { (g : Self) → wraps g ≡ true → following g ≡ first };
 
@@ -164,8 +168,11 @@ pub trait Ptr: Copy + Eq + Ord + Hash + Debug {
     // The index as a number, and the generation, which determine the pointer.
     ghost key: { Self → ℕ × Self.Gen };
 
+    ghost type_name: { List ℕ };
+
     /// Returns the name of the pointer type, with which a pointer's text begins.
-    fn name() -> &'static str;
+    fn name() -> &'static str
+        ensures { result.now ≡ type_name };
 
     /// Returns a placeholder pointer with index 1.
     ///

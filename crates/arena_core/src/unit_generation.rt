@@ -4,7 +4,7 @@ use crate::ptr::PtrGen;
 use std::fmt;
 
 impl PtrGen for () {
-    ghost use Rattle.std.specs.Prelude.{false};
+    ghost use Rattle.std.specs.Prelude.{false, []};
     ghost use Rattle.std.proofs.Common.{refl, rules};
 
     ghost first = { tt };
@@ -12,6 +12,8 @@ impl PtrGen for () {
     ghost following = { λ g. g };
 
     ghost wraps = { λ _. false };
+
+    ghost text = { λ _. [] };
 
     ghost begins_again = { λ _ _. refl };
 

@@ -25,15 +25,15 @@ impl Ptr for ToolPtr {
 
     ghost key = { key_of };
 
+    ghost type_name = { codes "P0" };
+
     ghost index_within = { λ p. p.inx.in_range };
 
     ghost same_key = { same_tool_ptr };
 
     ghost eq_is_same = { eq_is_same_tool_ptr };
 
-    fn name() -> &'static str
-        ensures { result.now ≡ codes "P0" }
-    {
+    fn name() -> &'static str {
         "P0"
     }
 

@@ -12,13 +12,15 @@ pub struct Pair<I, G> {
 
 impl<I: PtrInx, G: PtrGen> Ptr for Pair<I, G> {
     ghost use Rattle.std.proofs.Common.{ap, rules};
-    ghost use Rattle.std.specs.Prelude.{◌≡◌, ℕ, true};
+    ghost use Rattle.std.specs.Prelude.{◌≡◌, ℕ, codes, true};
 
     type Inx = I;
 
     type Gen = G;
 
     ghost key = { λ p. (I.number p.inx, p.generation) };
+
+    ghost type_name = { codes "Bare" };
 
     ghost index_within = { λ p. (I.at_least_one p.inx, I.at_most_greatest p.inx) };
 

@@ -39,7 +39,6 @@ impl Gen32 {
 }
 
 impl PtrGen for Gen32 {
-    ghost use Rattle.std.specs.Fmt.{WritesOnOk};
     ghost use Rattle.arena_ptr.specs.Generations.{number_of_gen32, two32, after32, is_greatest32, begins_again32, eq_is_same_gen32};
     ghost use Rattle.arena_core.specs.PointerText.{in_parentheses};
 
@@ -48,6 +47,8 @@ impl PtrGen for Gen32 {
     ghost following = { after32 };
 
     ghost wraps = { is_greatest32 };
+
+    ghost text = { λ g. in_parentheses (number_of_gen32 g) };
 
     ghost begins_again = { begins_again32 };
 
@@ -70,10 +71,7 @@ impl PtrGen for Gen32 {
         }
     }
 
-    fn fmt_gen<W: fmt::Write>(self, f: &mut fmt::Formatter<W>) -> fmt::Result
-        ensures { WritesOnOk W.write_str_gives f.old result (in_parentheses (number_of_gen32 self))
-            f.new }
-    {
+    fn fmt_gen<W: fmt::Write>(self, f: &mut fmt::Formatter<W>) -> fmt::Result {
         write!(f, "({:x})", self.number)
     }
 }

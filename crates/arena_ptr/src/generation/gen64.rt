@@ -39,7 +39,6 @@ impl Gen64 {
 }
 
 impl PtrGen for Gen64 {
-    ghost use Rattle.std.specs.Fmt.{WritesOnOk};
     ghost use Rattle.arena_ptr.specs.Generations.{number_of_gen64, two64, after64, is_greatest64, begins_again64, eq_is_same_gen64};
     ghost use Rattle.arena_core.specs.PointerText.{in_parentheses};
 
@@ -48,6 +47,8 @@ impl PtrGen for Gen64 {
     ghost following = { after64 };
 
     ghost wraps = { is_greatest64 };
+
+    ghost text = { λ g. in_parentheses (number_of_gen64 g) };
 
     ghost begins_again = { begins_again64 };
 
@@ -70,10 +71,7 @@ impl PtrGen for Gen64 {
         }
     }
 
-    fn fmt_gen<W: fmt::Write>(self, f: &mut fmt::Formatter<W>) -> fmt::Result
-        ensures { WritesOnOk W.write_str_gives f.old result (in_parentheses (number_of_gen64 self))
-            f.new }
-    {
+    fn fmt_gen<W: fmt::Write>(self, f: &mut fmt::Formatter<W>) -> fmt::Result {
         write!(f, "({:x})", self.number)
     }
 }

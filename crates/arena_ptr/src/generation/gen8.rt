@@ -39,7 +39,6 @@ impl Gen8 {
 }
 
 impl PtrGen for Gen8 {
-    ghost use Rattle.std.specs.Fmt.{WritesOnOk};
     ghost use Rattle.arena_ptr.specs.Generations.{number_of_gen8, two8, after8, is_greatest8, begins_again8, eq_is_same_gen8};
     ghost use Rattle.arena_core.specs.PointerText.{in_parentheses};
 
@@ -48,6 +47,8 @@ impl PtrGen for Gen8 {
     ghost following = { after8 };
 
     ghost wraps = { is_greatest8 };
+
+    ghost text = { λ g. in_parentheses (number_of_gen8 g) };
 
     ghost begins_again = { begins_again8 };
 
@@ -70,10 +71,7 @@ impl PtrGen for Gen8 {
         }
     }
 
-    fn fmt_gen<W: fmt::Write>(self, f: &mut fmt::Formatter<W>) -> fmt::Result
-        ensures { WritesOnOk W.write_str_gives f.old result (in_parentheses (number_of_gen8 self))
-            f.new }
-    {
+    fn fmt_gen<W: fmt::Write>(self, f: &mut fmt::Formatter<W>) -> fmt::Result {
         write!(f, "({:x})", self.number)
     }
 }
