@@ -20,10 +20,8 @@ use std::alloc::Global;
 impl<P: PtrKey, T: Drop, S: SlotStack<Item = ArenaSlot<P, T>>> ArenaTrait<P, T> for Arena<P, T, S> {
     ghost use Rattle.std.specs.Prelude.{◌≡◌};
     ghost use Rattle.arena_traits.specs.Arena.{entry_at, with_capacity_of, IsWithinReach, IsNewWithCapacity, with_value, invalidate_at, remove_at, arena_after_clear};
-    ghost use Rattle.std.specs.Option.{option_map};
-    ghost use Rattle.arena_traits.specs.Entries.{view_of, entries};
+    ghost use Rattle.arena_traits.specs.Entries.{view_of};
     ghost use Rattle.arena_traits.specs.EntryLaws.{entries_ascend, found-entries};
-    ghost use Rattle.arena_traits.specs.AdvancerLaws.{until_none};
 
     type PtrAdvancer = PtrAdvancer<P>;
 
@@ -51,8 +49,7 @@ impl<P: PtrKey, T: Drop, S: SlotStack<Item = ArenaSlot<P, T>>> ArenaTrait<P, T> 
 
     ghost finds = { found-entries };
 
-    ghost advances = { λ a b arena returned given. until_none (entries arena) a.cursor
-        (option_map P.key returned) b.cursor given };
+    ghost advances = { λ a b arena returned given. given };
 
     fn new(alloc: Global) -> Self {
         Arena::over(S::new(alloc))

@@ -36,12 +36,3 @@ module _ {Gen T : Type 0} where
   pub record IsAdvance (es : List ((ℕ × Gen) × T)) (cursor : Cursor) (returned : Option (ℕ × Gen)) (after : Cursor) : Type 0 where
     pub first : returned ≡ first_key (ahead cursor es)
     pub moves : after ≡ cursor_after cursor returned
-
-  -- The law of a call of any advancer. It does not state the cursor after the result none, or any
-  -- call at the end.
-  abbrev pub IsAdvanceUntilNone : List ((ℕ × Gen) × T) → Cursor → Option (ℕ × Gen) → Cursor → Type 0
-  IsAdvanceUntilNone es (Up i) (Some p) after = IsAdvance es (Up i) (Some p) after
-  IsAdvanceUntilNone es (Down i) (Some p) after = IsAdvance es (Down i) (Some p) after
-  IsAdvanceUntilNone es (Up i) None after = ahead (Up i) es ≡ []
-  IsAdvanceUntilNone es (Down i) None after = ahead (Down i) es ≡ []
-  IsAdvanceUntilNone es Nowhere returned after = ⊤

@@ -7,7 +7,7 @@ ghost use Rattle.arena_core.specs.SlotStack.{IsBeyond, IsWithinMaximum};
 ghost use Rattle.arena_core.specs.Invalidation.{value_within, invalidation_result, invalidation_option};
 ghost use Rattle.arena_traits.specs.Arena.{IsCapacityFor, IsValid, borrowed_entry, overflows_after_clear};
 ghost use Rattle.arena_traits.specs.Entries.{ArenaView, CoverSlots, index_of, IsNew, found, AscendsFrom, first_key, last_key, view_after_removal, view_after_invalidation, view_with_value, view_after_clear, with_capacity};
-ghost use Rattle.arena_traits.specs.Advancers.{IsAdvanceUntilNone};
+ghost use Rattle.arena_traits.specs.Advancers.{IsAdvance};
 ghost use Rattle.arena_traits.specs.Compressions.{IsCompressed, VisitsAll, overflows_after_compression, values_in};
 ghost use Rattle.arena_traits.specs.declared.cursor.Cursor.{Cursor};
 
@@ -188,8 +188,8 @@ pub trait ArenaTrait<P: PtrKey, T: Drop> {
 
     /// Returns an advancer by ascending index.
     ///
-    /// Up to its first `None`, each call returns the valid pointer of least index above the last
-    /// one, in the arena given to that call. If there is none it returns `None`.
+    /// Each call returns the valid pointer of least index above the last one, in the arena given to
+    /// that call. If there is none it returns `None`, and so does each later call.
     fn advancer(&self) -> Self::PtrAdvancer
         ensures { cursor result ≡ Cursor.Up 1 };
 
@@ -304,7 +304,7 @@ pub trait ArenaTrait<P: PtrKey, T: Drop> {
     ghost finds: { (a : Self) (i : ℕ) → found i (view a).entries ≡ entry a i };
 
     ghost advances: { (a b : Self.PtrAdvancer) (c : Self) (r : Option P)
-        → Self.PtrAdvancer.gives a c r b → IsAdvanceUntilNone (view c).entries (cursor a)
+        → Self.PtrAdvancer.gives a c r b → IsAdvance (view c).entries (cursor a)
         (option_map P.key r) (cursor b) };
 }
 

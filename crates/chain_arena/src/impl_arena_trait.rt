@@ -23,10 +23,8 @@ impl<P: PtrKey, T: Drop, S: SlotStack<Item = ArenaSlot<P, LinkNoGen<P, T>>>> Are
     for ChainArena<P, T, S> {
     ghost use Rattle.std.specs.Prelude.{◌≡◌};
     ghost use Rattle.arena_traits.specs.Arena.{entry_at, with_capacity_of, IsWithinReach, IsNewWithCapacity, invalidate_at, arena_after_clear};
-    ghost use Rattle.std.specs.Option.{option_map};
-    ghost use Rattle.arena_traits.specs.Entries.{view_of, entries};
+    ghost use Rattle.arena_traits.specs.Entries.{view_of};
     ghost use Rattle.arena_traits.specs.EntryLaws.{entries_ascend, found-entries};
-    ghost use Rattle.arena_traits.specs.AdvancerLaws.{until_none};
     ghost use Rattle.chain_links.specs.ChainArena.{link_map, values_of, with_value_at, IsRemoval};
     ghost use Rattle.chain_compaction.specs.LinkCompressions.{ClosesHoles};
 
@@ -58,8 +56,7 @@ impl<P: PtrKey, T: Drop, S: SlotStack<Item = ArenaSlot<P, LinkNoGen<P, T>>>> Are
 
     ghost finds = { λ a. found-entries (values_of a) };
 
-    ghost advances = { λ a b arena returned given. until_none (entries (values_of arena)) a.cursor
-        (option_map P.key returned) b.cursor given };
+    ghost advances = { λ a b arena returned given. given };
 
     fn new(alloc: Global) -> Self {
         ChainArena {

@@ -12,7 +12,7 @@ use Rattle.chain_laws.specs.ChainStart.{IsBack}
 use Rattle.chain_laws.proofs.WalkLemmas.WalkBack.{back_is_short}
 use Rattle.arena_traits.specs.Arena.{IsValid}
 use Rattle.arena_traits.specs.Entries.{found, first_key, index_of, AscendsFrom}
-use Rattle.arena_traits.specs.Advancers.{entries_at_or_above, IsAdvanceUntilNone}
+use Rattle.arena_traits.specs.Advancers.{entries_at_or_above, IsAdvance}
 use Rattle.arena_traits.specs.declared.cursor.Cursor.{Cursor}
 use Rattle.arena_traits.specs.declared.cursor.Cursor.TheVariants.{Up}
 
@@ -58,15 +58,21 @@ module _ {Gen T : Type 0} where
       })
 
   -- An advancer from where the entries begin returns the first.
-  pub next_is : (es : List ((ℕ × Gen) × T)) (lookup after : Cursor) (from : ℕ) (p : ℕ × Gen) → lookup ≡ Up from → AscendsFrom from es → IsAdvanceUntilNone es lookup (Some p) after
+  pub next_is : (es : List ((ℕ × Gen) × T)) (lookup after : Cursor) (from : ℕ) (p : ℕ × Gen) → lookup ≡ Up from → AscendsFrom from es → IsAdvance es lookup (Some p) after
       → IsLeast es p.0 × (after ≡ Up (p.0 + 1))
   next_is es lookup after from p up ascends given =
-      let at = subst (λ (l : Cursor). IsAdvanceUntilNone es l (Some p) after) up given in
+      let at = subst (λ (l : Cursor). IsAdvance es l (Some p) after) up given in
       (first_least from p es ascends (at.first ∙ ap first_key (entries_at_or_above-ascends from from es (le_refl from) ascends)), at.moves)
 
-  pub none_is : (es : List ((ℕ × Gen) × T)) (lookup after : Cursor) (from : ℕ) → lookup ≡ Up from → AscendsFrom from es → IsAdvanceUntilNone es lookup None after → es ≡ []
+  -- Without a first key there are no entries.
+  no_first : (es : List ((ℕ × Gen) × T)) → None ≡ first_key es → es ≡ []
+  no_first [] none = refl
+  no_first (e ∷ es) none = cc
+
+  pub none_is : (es : List ((ℕ × Gen) × T)) (lookup after : Cursor) (from : ℕ) → lookup ≡ Up from → AscendsFrom from es → IsAdvance es lookup None after → es ≡ []
   none_is es lookup after from up ascends given =
-      sym (entries_at_or_above-ascends from from es (le_refl from) ascends) ∙ subst (λ (l : Cursor). IsAdvanceUntilNone es l None after) up given
+      let at = subst (λ (l : Cursor). IsAdvance es l None after) up given in
+      no_first es (at.first ∙ ap first_key (entries_at_or_above-ascends from from es (le_refl from) ascends))
 
 module _ {Gen T : Type 0} (interlinks : LinkMap) (entry : ℕ → Option (Gen × T)) (es : List ((ℕ × Gen) × T)) (stored : (i : ℕ) → is_some (interlinks i) ≡ is_some (entry i))
     (was_read : (i : ℕ) → found i es ≡ entry i) where

@@ -18,56 +18,12 @@ pub struct ForwardingArena<A> {
 }
 
 /// An advancer that forwards to another advancer.
-///
-/// It may have a second one, with which it goes on after its first `None`: no trait restricts an
-/// advancer of an arena then.
 #[derive(Drop)]
 pub struct ForwardingAdvancer<V> {
     inner: V,
-    again: Option<V>,
 }
 
 impl<A, V: Advancer<A>> Advancer<ForwardingArena<A>> for ForwardingAdvancer<V> {
-    ghost use Rattle.std.specs.Prelude.{◌≡◌, OnSome, None};
-    ghost use Rattle.std.proofs.Common.{subst, sym};
-
-    type Item = V::Item;
-
-    ghost gives = { λ a arena returned b. (mid : V) × V.gives a.inner arena.inner returned mid
-        × OnSome returned (b.inner ≡ mid) × (a.again ≡ None → (b.inner ≡ mid) × (b.again ≡ None)) };
-
-    ghost is_spent = { λ a. V.is_spent a.inner × (a.again ≡ None) };
-
-    ghost stays_spent = { λ a b arena returned spent given.
-        let still = V.stays_spent a.inner given.0 arena.inner returned spent.0 given.1 in
-        let kept = given.3 spent.1 in
-        (still.0, (subst V.is_spent (sym kept.0) still.1, kept.1)) };
-
-    fn advance(&mut self, collection: &ForwardingArena<A>) -> Option<V::Item> {
-        let returned = self.inner.advance(&collection.inner);
-        if returned.is_none() {
-            if let Some(again) = self.again.take() {
-                self.inner = again;
-            }
-        }
-        returned
-    }
-
-    fn empty() -> Self {
-        ForwardingAdvancer {
-            inner: V::empty(),
-            again: None,
-        }
-    }
-}
-
-/// An advancer along a chain that forwards to another.
-#[derive(Drop)]
-pub struct ForwardingWalk<V> {
-    inner: V,
-}
-
-impl<A, V: Advancer<A>> Advancer<ForwardingArena<A>> for ForwardingWalk<V> {
     type Item = V::Item;
 
     ghost gives = { λ a arena returned b. V.gives a.inner arena.inner returned b.inner };
@@ -83,13 +39,11 @@ impl<A, V: Advancer<A>> Advancer<ForwardingArena<A>> for ForwardingWalk<V> {
     }
 
     fn empty() -> Self {
-        ForwardingWalk { inner: V::empty() }
+        ForwardingAdvancer { inner: V::empty() }
     }
 }
 
 impl<P: PtrKey, T: Drop, A: ArenaTrait<P, T>> ArenaTrait<P, T> for ForwardingArena<A> {
-    ghost use Rattle.forwarding_arena.specs.ForwardedAdvancers.{until_none_after};
-
     type PtrAdvancer = ForwardingAdvancer<A::PtrAdvancer>;
 
     ghost view = { λ w. A.view w.inner };
@@ -116,9 +70,7 @@ impl<P: PtrKey, T: Drop, A: ArenaTrait<P, T>> ArenaTrait<P, T> for ForwardingAre
 
     ghost finds = { λ w. A.finds w.inner };
 
-    ghost advances = { λ a b w returned given. until_none_after (A.view w.inner).entries
-        (A.cursor a.inner) P.key returned A.cursor given.0 b.inner given.2
-        (A.advances a.inner given.0 w.inner returned given.1) };
+    ghost advances = { λ a b w returned given. A.advances a.inner b.inner w.inner returned given };
 
     fn new(alloc: Global) -> Self {
         ForwardingArena {
@@ -188,14 +140,12 @@ impl<P: PtrKey, T: Drop, A: ArenaTrait<P, T>> ArenaTrait<P, T> for ForwardingAre
     fn advancer(&self) -> ForwardingAdvancer<A::PtrAdvancer> {
         ForwardingAdvancer {
             inner: self.inner.advancer(),
-            again: Some(self.inner.advancer()),
         }
     }
 
     fn advancer_inx(&self, i: P::Inx, rev: bool) -> ForwardingAdvancer<A::PtrAdvancer> {
         ForwardingAdvancer {
             inner: self.inner.advancer_inx(i, rev),
-            again: Some(self.inner.advancer()),
         }
     }
 
@@ -236,7 +186,7 @@ impl<P: PtrKey, T: Drop, A: ChainArenaTrait<P, T>> ChainArenaTrait<P, T> for For
     ghost use Rattle.chain_links.specs.CallEffects.{GainsLink, IsFull, SucceedsWithinCapacity};
     ghost use Rattle.chain_links.specs.Kinds.{names_in, MayInsert};
 
-    type ChainPtrAdvancer = ForwardingWalk<A::ChainPtrAdvancer>;
+    type ChainPtrAdvancer = ForwardingAdvancer<A::ChainPtrAdvancer>;
 
     ghost interlinks = { λ w. A.interlinks w.inner };
 
@@ -364,9 +314,9 @@ impl<P: PtrKey, T: Drop, A: ChainArenaTrait<P, T>> ChainArenaTrait<P, T> for For
         self.inner.get_inx_link_no_gen(i)
     }
 
-    fn advancer_chain(&self, p: P) -> Option<ForwardingWalk<A::ChainPtrAdvancer>> {
+    fn advancer_chain(&self, p: P) -> Option<ForwardingAdvancer<A::ChainPtrAdvancer>> {
         match self.inner.advancer_chain(p) {
-            Some(inner) => Some(ForwardingWalk { inner }),
+            Some(inner) => Some(ForwardingAdvancer { inner }),
             None => None,
         }
     }

@@ -3,4 +3,4 @@
 
 mod forwarding;
 
-pub use forwarding::{ForwardingAdvancer, ForwardingArena, ForwardingWalk};
+pub use forwarding::{ForwardingAdvancer, ForwardingArena};

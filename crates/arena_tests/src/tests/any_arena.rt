@@ -2,7 +2,7 @@
 
 use super::parser::parse_call;
 use super::scripts::{RunsCalls, plays, run_call};
-use super::trait_calls::{NONE_THEN_AGAIN, NONE_THEN_NONE, ROWS};
+use super::trait_calls::ROWS;
 use super::transfers::TRANSFERS;
 use super::{Numbered, Slot};
 use arena_base::{ArenaTrait, CompactArenaTrait};
@@ -34,16 +34,15 @@ impl<P: Numbered, A: ChainArenaTrait<P, u32> + CompactArenaTrait<P, u32> + Drop>
     }
 }
 
-// Runs all rows, and those of an advancer after its first `None`.
-fn check_all<A: RunsCalls>(rt: &impl Abort, alloc: Global, arena: &mut A, after_none: &str) {
+// Runs all rows.
+fn check_all<A: RunsCalls>(rt: &impl Abort, alloc: Global, arena: &mut A) {
     plays(rt, alloc, arena, ROWS);
     plays(rt, alloc, arena, TRANSFERS);
-    plays(rt, alloc, arena, after_none);
 }
 
 fn check_chains<P: Numbered, S: SlotStack<Item = Slot<P>>>(rt: &impl Abort, alloc: Global) {
     let mut arena: ChainArena<P, u32, S> = ChainArena::new(alloc);
-    check_all(rt, alloc, &mut arena, NONE_THEN_NONE);
+    check_all(rt, alloc, &mut arena);
 }
 
 fn check_forwarding<P: Numbered, A: ChainArenaTrait<P, u32> + CompactArenaTrait<P, u32> + Drop>(
@@ -54,7 +53,7 @@ fn check_forwarding<P: Numbered, A: ChainArenaTrait<P, u32> + CompactArenaTrait<
         arena: ForwardingArena::<A>::new(alloc),
         pointer: PhantomData,
     };
-    check_all(rt, alloc, &mut arena, NONE_THEN_AGAIN);
+    check_all(rt, alloc, &mut arena);
 }
 
 fn check_forwarding_of_chains<P: Numbered, S: SlotStack<Item = Slot<P>>>(

@@ -311,6 +311,11 @@ Ends = (Some(P0[1](2)), Some(P0[3](2)))
 Advance 3 = [(1, 2), (3, 2), (0, 0), (0, 0), (0, 0)]
 AdvanceFrom 2 0 = [(3, 2), (0, 0), (0, 0), (0, 0), (0, 0)]
 AdvanceFrom 2 1 = [(1, 2), (0, 0), (0, 0), (0, 0), (0, 0)]
+# after its first `None` an advancer returns `None` again
+InsertMany 2 = 2
+Connect 1 2 2 2 = Some(())
+Advance 4 = [(1, 2), (2, 2), (0, 0), (0, 0), (0, 0)]
+AdvanceFrom 3 0 = [(0, 0), (0, 0), (0, 0), (0, 0), (0, 0)]
 # the capacity, and the counter after a clear of all links
 InsertMany 2 = 2
 Connect 1 2 2 2 = Some(())
@@ -382,22 +387,4 @@ Remove 1 2 = Success(1)
 CompressWith 0 = (Success(()), [(P0[2](2), 2, P0[1](4)), (P0[3](2), 3, P0[2](4)), (P0[4](2), 4, P0[3](4))])
 All = [((1, 4), 12, (1, 4), (1, 4)), ((2, 4), 23, (0, 0), (3, 4)), ((3, 4), 34, (2, 4), (0, 0))]
 Insert Disconnected 9 = Ok(P0[4](4))
-";
-
-// After its first `None`, an advancer returns `None` again.
-pub(super) const NONE_THEN_NONE: &str = "\
-# nothing after the last
-InsertMany 2 = 2
-Connect 1 2 2 2 = Some(())
-Advance 4 = [(1, 2), (2, 2), (0, 0), (0, 0), (0, 0)]
-AdvanceFrom 3 0 = [(0, 0), (0, 0), (0, 0), (0, 0), (0, 0)]
-";
-
-// After its first `None`, an advancer begins anew.
-pub(super) const NONE_THEN_AGAIN: &str = "\
-# the first one again after the last
-InsertMany 2 = 2
-Connect 1 2 2 2 = Some(())
-Advance 4 = [(1, 2), (2, 2), (0, 0), (1, 2), (0, 0)]
-AdvanceFrom 3 0 = [(0, 0), (1, 2), (0, 0), (0, 0), (0, 0)]
 ";
