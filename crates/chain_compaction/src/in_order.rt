@@ -69,6 +69,7 @@ pub(crate) fn is_in_order<P: PtrKey, T: Drop, S: SlotStack<Item = ArenaSlot<P, L
     requires fits { length compactor.old.held.slots ≤ P.Inx.greatest }
     requires agree { IsWellLinked (link_map_in P.Inx.packed_number compactor.old.held.slots) }
     ensures read { HasReadSlots compactor.old compactor.new links }
+    ensures unread { links < length compactor.old.held.slots → compactor.new ≡ compactor.old }
     ensures canonical { OnTrue result (IsCanonical
         (link_map_in P.Inx.packed_number compactor.old.held.slots)
         (range_with_len 1 (length compactor.old.held.slots))) }
