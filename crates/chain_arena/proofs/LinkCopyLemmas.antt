@@ -1,7 +1,7 @@
 -- Copies of an arena of links: their interlinks, values and views.
 use Rattle.std.proofs.Common.{◌≡◌, ◌↔◌, ℕ, zero, suc, ◌≤◌, List, [], ◌∷◌, ◌++◌, length, map, Option, None, Some, Result, Ok, Err, OnOk, OnErr, IsOk, ◌⊎◌, inl, inr, arith, refl, ap, sym, ◌∙◌, subst}
 use Rattle.std.specs.Prelude.{is_ok}
-use Rattle.std.specs.Option.{option_map}
+use Rattle.std.specs.Option.{option_map, option_and_then}
 use Rattle.std.proofs.lemmas.Bool.{false≢true}
 use Rattle.std.specs.List.{FoldsTo}
 use Rattle.std.proofs.lemmas.List.{map-append}
@@ -15,7 +15,7 @@ use Rattle.arena_traits.specs.Entries.{ArenaView, Slots, entries_from, entries}
 use Rattle.arena_base.specs.Copies.{Copied, Makes, CopiesBy, IsCopyBy, IsCopyCall, HasRefusable, HasSlotsOf, IsAbandonedCopy, generations}
 use Rattle.chain_links.specs.declared.links.LinkBody.{LinkBody}
 use Rattle.chain_links.specs.ChainArena.{LinkView, on_value, interlinks_in, interlinks_of, link_map, values_of}
-use Rattle.chain_links.specs.Links.{link_view, links_view, pair_view, held_in}
+use Rattle.chain_links.specs.Links.{link_view, links_view, pair_view, held_in, destination_of, AreAtRest}
 use Rattle.chain_arena.specs.LinkCopies.{MakesLink, MakesOf, RefusesOf, IsLinkCopyBy, IsClone}
 use Rattle.arena_base.proofs.SlotCopyLemmas.{made_by, copy_by}
 use Rattle.arena_base.proofs.FoldLemmas.{folds_viewed, folds_mapped}
@@ -132,6 +132,13 @@ module _ {Gen K T : Type 0} (number : K → Option ℕ) where
       both None = refl
       both (Some e) = refl
 
+-- The destination of a link, and none.
+abbrev body_destination : {K T : Type 0} → (K → Option ℕ) → LinkBody K T → Option ℕ
+body_destination number l = number l.destination
+
+abbrev no_destination : {K T : Type 0} → LinkBody K T → Option ℕ
+no_destination l = None
+
 -- The links of a copy are made from the source's links.
 module _ {V F P K U T Gen : Type 0} (number : K → Option ℕ) (makes : F → P → LinkView U → T → F → Type 0) (see : V → F) (key : P → ℕ × Gen) (f last : V) (source : Arena Gen (LinkBody K U)) (old new : Arena Gen (LinkBody K T))
     (made : CopiesBy (λ v p u t w. MakesLink number makes (see v) p u t (see w)) key f (entries source) (entries new) last) (has : HasSlotsOf source old new) where
@@ -157,6 +164,20 @@ module _ {V F P K U T Gen : Type 0} (number : K → Option ℕ) (makes : F → P
 
   pub agrees_copied : IsWellLinked (link_map (links_view number source)) → IsWellLinked (link_map (links_view number new))
   agrees_copied agrees = subst IsWellLinked (sym interlinks_copied) agrees
+
+  pub copied_at_rest : AreAtRest number new.slots
+  copied_at_rest = record { none = λ i. by (slot_at new.slots i) (slot_at source.slots i) (sym (slot_at-map (on_value (body_destination number)) new.slots i) ∙ (ap (λ slots. slot_at slots i) alike ∙ slot_at-map (on_value no_destination) source.slots i)) }
+    where
+      alike : map (option_map (on_value (body_destination number))) new.slots ≡ map (option_map (on_value no_destination)) source.slots
+      alike = slots_alike no_destination (body_destination number) 1 source.slots new.slots has.generations
+          (copies_alike (λ v p u t w. MakesLink number makes (see v) p u t (see w)) no_destination (body_destination number) (λ v p u t w m. m.at_rest) key f last (entries source) (entries new) made)
+
+      by : (o : Option (Gen × LinkBody K T)) (s : Option (Gen × LinkBody K U)) → option_map (on_value (body_destination number)) o ≡ option_map (on_value no_destination) s → option_and_then (destination_of number) o ≡ None
+      by None s same = refl
+      by (Some x) None same = absurd (let h = same in cc)
+      by (Some x) (Some y) same =
+          let pair : on_value (body_destination number) x ≡ on_value no_destination y = let h = same in cc in
+          ap (λ (p : Gen × Option ℕ). p.1) pair
 
 -- A copy made from links is one made from the links as contracts see them.
 module _ {F P K U T Gen : Type 0} (number : K → Option ℕ) (makes : F → P → LinkBody K U → T → F → Type 0) (key : P → ℕ × Gen) (f last : F) (source : Arena Gen (LinkBody K U)) (old new : ArenaView Gen T) where

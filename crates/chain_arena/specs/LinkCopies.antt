@@ -7,13 +7,14 @@ use Rattle.arena_traits.specs.Entries.{entries}
 use Rattle.arena_base.specs.Copies.{CopiesBy, IsCopyCall, HasRefusable, HasSlotsOf}
 use Rattle.chain_links.specs.declared.links.LinkBody.{LinkBody}
 use Rattle.chain_links.specs.ChainArena.{LinkView, interlinks_in, link_map, values_of}
-use Rattle.chain_links.specs.Links.{link_view, links_view}
+use Rattle.chain_links.specs.Links.{link_view, links_view, IsAtRest}
 
--- A link has the neighbors of another, and a value made from a pointer and that link, which takes
--- the maker from `f` to `next`.
+-- A link has the neighbors of another, no destination, and a value made from a pointer and that
+-- link, which takes the maker from `f` to `next`.
 pub record MakesLink {F P K U T : Type 0} (number : K → Option ℕ) (makes : F → P → LinkView U → T → F → Type 0) (f : F) (p : P) (u : LinkBody K U) (t : LinkBody K T) (next : F) : Type 0 where
   pub interlinks : interlinks_in (link_view number t) ≡ interlinks_in (link_view number u)
   pub value : makes f p (link_view number u) t.t next
+  pub at_rest : IsAtRest number t
 
 -- `makes`, stated on the views of its arguments.
 pub record MakesOf {F P V U T : Type 0} (value_from : V → U) (makes : F → P → V → T → F → Type 0) (f : F) (p : P) (u : U) (t : T) (next : F) : Type 0 where

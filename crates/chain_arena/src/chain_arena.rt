@@ -36,8 +36,9 @@ use std::marker::Model;
 /// A generational arena whose entries are linked into any number of doubly linked chains, linear or
 /// cyclic.
 ///
-/// Pointers are typed and carry a generation. The invariant is local: the interlinks agree. That
-/// each link is then in exactly one chain is a law of the crate `chain_laws`.
+/// Pointers are typed and carry a generation. The invariant is local: the interlinks agree, and no
+/// link has a destination, which a compression sets and removes. That each link is then in exactly
+/// one chain is a law of the crate `chain_laws`.
 ///
 /// Port of `triple_arena::ChainArena`.
 #[derive(Drop)]
@@ -51,17 +52,15 @@ pub struct ChainArena<
 
 impl<P: PtrKey, T: Drop, S: SlotStack<Item = ArenaSlot<P, LinkNoGen<P, T>>>> Model
     for ChainArena<P, T, S> {
-    ghost use Rattle.chain_laws.specs.Chains.{IsWellLinked};
     ghost use Rattle.arena_traits.specs.Arena.{Arena as State};
-    ghost use Rattle.chain_links.specs.ChainArena.{LinkView, link_map};
+    ghost use Rattle.chain_links.specs.ChainArena.{LinkView};
+    ghost use Rattle.chain_links.specs.Links.{links_view, IsChainArena};
 
     ghost Value = { State P.Gen (LinkView T) };
 
-    ghost use Rattle.chain_links.specs.Links.{links_view};
-
     ghost view = { λ a. links_view P.Inx.packed_number a.arena };
 
-    ghost invariant = { λ a. IsWellLinked (link_map (links_view P.Inx.packed_number a.arena)) };
+    ghost invariant = { λ a. IsChainArena P.Inx.packed_number a.arena };
 }
 
 impl<P: PtrKey, T: Drop, S: SlotStack<Item = ArenaSlot<P, LinkNoGen<P, T>>>> ChainArena<P, T, S> {
@@ -96,7 +95,7 @@ impl<P: PtrKey, T: Drop, S: SlotStack<Item = ArenaSlot<P, LinkNoGen<P, T>>>> Cha
         // The capacity is the lesser of the stack's capacity and the greatest index.
         ensures capacity { HasCapacityFor P.Inx.greatest (length self.now.slots) self.now }
     {
-        // Naming the field opens the invariant of the type, that the interlinks agree.
+        // Naming the field opens the invariant of the type.
         let _ = &self.arena;
         self.len();
     }

@@ -7,14 +7,16 @@ ghost use Rattle.chain_links.specs.Links.{links_view};
 use crate::chain_arena::ChainArena;
 use arena_base::{Arena, ArenaSlot};
 use arena_ptr::{InxKey, PtrKey, SlotStack};
+use chain_linking::destinations::clear_destinations;
 use chain_linking::links_agree;
 use chain_links::LinkNoGen;
 
 impl<P: PtrKey, T: Drop, S: SlotStack<Item = ArenaSlot<P, LinkNoGen<P, T>>>> ChainArena<P, T, S> {
     /// Converts an arena of links to a chain arena.
     ///
-    /// Indexes, generations, counter, slots, freed list and interlinks stay. Does not allocate.
-    /// Takes time proportional to the slots, which is not proved.
+    /// Indexes, generations, counter, slots, freed list and interlinks stay. A destination that a
+    /// link has, from a compression, is removed. Does not allocate. Takes time proportional to the
+    /// slots, which is not proved.
     ///
     /// # Errors
     ///
@@ -29,6 +31,8 @@ impl<P: PtrKey, T: Drop, S: SlotStack<Item = ArenaSlot<P, LinkNoGen<P, T>>>> Cha
         ensures refused { IfErr result (λ e. e.now ≡ codes "interlink transitivity does not hold") }
     {
         if links_agree(&arena) {
+            let mut arena = arena;
+            clear_destinations(&mut arena);
             Ok(ChainArena { arena })
         } else {
             Err("interlink transitivity does not hold")

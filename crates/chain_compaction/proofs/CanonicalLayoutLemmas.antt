@@ -20,13 +20,13 @@ use Rattle.arena_base.specs.DetachedSlots.{DetachedView, IsPacked, without_free_
 use Rattle.arena_base.specs.GatheredSlots.{with_totals, with_front}
 use Rattle.chain_links.specs.declared.links.LinkBody.{LinkBody}
 use Rattle.chain_links.specs.ChainArena.{LinkView, on_value, link_value, interlinks_of, link_map, values_of, entry, ptr_at}
-use Rattle.chain_links.specs.Links.{pair_view, links_view}
+use Rattle.chain_links.specs.Links.{pair_view, links_view, destination_of, destination_at, AreAtRest}
 use Rattle.chain_compaction.specs.DetachedLinks.{body_interlinks, link_map_in, IsWork}
 use Rattle.chain_compaction.specs.WorkCounts.{HasCounted}
 use Rattle.chain_compaction.specs.Layouts.{ReportsMoves, AreArranged}
-use Rattle.chain_compaction.specs.Permutations.{Waits, HaveMoved, CanMoveAll, AreMovedToFront, destination_of, Settles}
+use Rattle.chain_compaction.specs.Permutations.{Waits, HaveMoved, CanMoveAll, AreMovedToFront, Settles}
 use Rattle.chain_compaction.specs.OrderedLinks.{AreAllPlaced}
-use Rattle.chain_compaction.specs.Destinations.{held_view, renamed_link, renamed_held, destination_at, AreAllNumbered}
+use Rattle.chain_compaction.specs.Destinations.{held_view, renamed_link, renamed_held, AreAllNumbered}
 use Rattle.chain_links.proofs.MappedArenaLemmas.{slot_at-map}
 use Rattle.chain_links.proofs.ArenaInsertionLemmas.{some_entry, slots-within}
 use Rattle.arena_base.proofs.PackedSlotLemmas.{packed-none_free}
@@ -179,27 +179,20 @@ module _ {Gen K T : Type 0} (number : K → Option ℕ) where
   pub agree-held : (a : Arena Gen (LinkBody K T)) (held : DetachedView Gen (LinkBody K T)) → held ≡ held_of a → IsWellLinked (link_map (links_view number a)) → IsWellLinked (link_map_in number held.slots)
   agree-held a held is agrees = subst IsWellLinked (sym (ap (λ (h : DetachedView Gen (LinkBody K T)). link_map_in number h.slots) is ∙ link_map-view_after (held_of a))) agrees
 
-module _ {F P Gen K T : Type 0} (g : F → P → P → F → Type 0) (key : P → ℕ × Gen) (f last : F) (number : K → Option ℕ) (generation : Gen) (h0 h1 h2 : DetachedView Gen (LinkBody K T))
-    (a1 a2 : Arena Gen (LinkBody K T)) (total : ℕ) (emptied : held_view number h1 ≡ held_view number h0) (numbered : AreAllNumbered number g key generation f last h1 h2 a1 a2 total) where
+module _ {F P Gen K T : Type 0} (g : F → P → P → F → Type 0) (key : P → ℕ × Gen) (f last : F) (number : K → Option ℕ) (generation : Gen) (h0 h2 : DetachedView Gen (LinkBody K T))
+    (a0 a2 : Arena Gen (LinkBody K T)) (total : ℕ) (numbered : AreAllNumbered number g key generation f last h0 h2 a0 a2 total) where
   abbrev first_slots : List (Option (Gen × LinkView T))
   first_slots = (held_view number h0).slots
-
-  first_order : IsLeastIndexOrder (link_map_in number h0.slots) numbered.indexes
-  first_order =
-      subst (λ (s : LinkMap). IsLeastIndexOrder s numbered.indexes) (link_map-view_after number h1 ∙ (ap (λ (h : DetachedView Gen (LinkView T)). reported_slots h.slots) emptied ∙ sym (link_map-view_after number h0))) numbered.order
 
   first_arranges : IsArrangement (reported_slots first_slots) numbered.indexes
   first_arranges =
       subst (λ (s : LinkMap). IsArrangement s numbered.indexes) (link_map-view_after number h0)
-      (canonical_arranges (link_map_in number h0.slots) numbered.indexes (least_index_order_is_canonical (link_map_in number h0.slots) numbered.indexes first_order))
-
-  all_renamed : held_view number h2 ≡ renamed_held (place_in numbered.indexes) (held_view number h0)
-  all_renamed = numbered.renamed ∙ ap (renamed_held (place_in numbered.indexes)) emptied
+      (canonical_arranges (link_map_in number h0.slots) numbered.indexes (least_index_order_is_canonical (link_map_in number h0.slots) numbered.indexes numbered.order))
 
   renamed_there : (i : ℕ) → option_map (pair_view number) (slot_at h2.slots i) ≡ option_map (on_value (renamed_link (place_in numbered.indexes))) (slot_at first_slots i)
   renamed_there i =
       sym (slot_at-map (pair_view number) h2.slots i)
-      ∙ (ap (λ (h : DetachedView Gen (LinkView T)). slot_at h.slots i) all_renamed ∙ slot_at-map (on_value (renamed_link (place_in numbered.indexes))) first_slots i)
+      ∙ (ap (λ (h : DetachedView Gen (LinkView T)). slot_at h.slots i) numbered.renamed ∙ slot_at-map (on_value (renamed_link (place_in numbered.indexes))) first_slots i)
 
   each_placed : (i : ℕ) (e : Gen × LinkBody K T) → slot_at h2.slots i ≡ Some e → IsMember numbered.indexes i
   each_placed i e s = by (slot_at first_slots i) refl (sym (ap (option_map (pair_view number)) s) ∙ renamed_there i)
@@ -215,14 +208,11 @@ module _ {F P Gen K T : Type 0} (g : F → P → P → F → Type 0) (key : P �
   links_to_front = moved_to_front number h2.slots numbered.indexes first_arranges.once numbered.destinations each_placed
 
   links_counted : count_by is_some h2.slots ≡ length numbered.indexes
-  links_counted = count-stored (record a1 { slots = h2.slots }) numbered.indexes first_arranges.once each_placed (has_entry number h2.slots numbered.indexes first_arranges.once numbered.destinations each_placed)
+  links_counted = count-stored (record a0 { slots = h2.slots }) numbered.indexes first_arranges.once each_placed (has_entry number h2.slots numbered.indexes first_arranges.once numbered.destinations each_placed)
 
   -- The number of slots is unchanged.
-  first-length : length h1.slots ≡ length h0.slots
-  first-length = length-view_after number h1 h0 emptied
-
-  second-length : length h2.slots ≡ length h0.slots
-  second-length = length-renamed number (place_in numbered.indexes) h2 h0 all_renamed
+  same-length : length h2.slots ≡ length h0.slots
+  same-length = length-renamed number (place_in numbered.indexes) h2 h0 numbered.renamed
 
   -- After the links have moved.
   module _ (h3 : DetachedView Gen (LinkBody K T)) (moved : HaveMoved (destination_of number) (Settles number generation) (slot_at h2.slots) (slot_at h3.slots)) where
@@ -241,25 +231,27 @@ module _ {F P Gen K T : Type 0} (g : F → P → P → F → Type 0) (key : P �
         link_is {e} {h} both = ap (link_or e.1) both
 
     -- All links are placed.
-    pub links_placed : (a0 a3 : Arena Gen (LinkBody K T)) → h3.stack_capacity ≡ h2.stack_capacity → h3.maximum ≡ h2.maximum → a1 ≡ with_totals a0 0 (length h0.slots)
+    pub links_placed : (a3 : Arena Gen (LinkBody K T)) → h3.stack_capacity ≡ h2.stack_capacity → h3.maximum ≡ h2.maximum
         → IsWork a2 a3 (count_by is_some h2.slots) (4 * count_by is_some h2.slots + length h2.slots) → AreAllPlaced number g key generation f last h0 h3 a0 a3 total 9
-    links_placed a0 a3 capacity maximum emptying moving = record {
+    links_placed a3 capacity maximum moving = record {
       indexes = numbered.indexes;
-      order = first_order;
+      order = numbered.order;
       counted = numbered.counted;
       placed = all_sent;
       packed = subst (IsPacked h3.slots) (sym numbered.counted) (front-packed (destination_of number) (Settles number generation) (length numbered.indexes) h2.slots h3.slots links_to_front moved);
-      capacity = capacity ∙ ap (λ (h : DetachedView Gen (LinkView T)). h.stack_capacity) all_renamed;
-      maximum = maximum ∙ ap (λ (h : DetachedView Gen (LinkView T)). h.maximum) all_renamed;
-      reports = subst (λ (p : ℕ → Option (ℕ × Gen)). ReportsMoves g key p generation 1 f numbered.indexes last) pointers numbered.reports;
-      work =
-          let first : IsWork a0 a1 0 (length h0.slots) = record { touches = length h0.slots; few = omega arith; arena = emptying } in
-          work-more (work-more first numbered.work 0 (3 * length h0.slots + 5 * length numbered.indexes) refl (omega (arith, first-length)))
-          moving (length numbered.indexes) (4 * length h0.slots + 9 * length numbered.indexes) (omega (arith, links_counted)) (omega (arith, links_counted, second-length));
+      capacity = capacity ∙ ap (λ (h : DetachedView Gen (LinkView T)). h.stack_capacity) numbered.renamed;
+      maximum = maximum ∙ ap (λ (h : DetachedView Gen (LinkView T)). h.maximum) numbered.renamed;
+      reports = numbered.reports;
+      work = work-more numbered.work moving (length numbered.indexes) (4 * length h0.slots + 9 * length numbered.indexes) (omega (arith, links_counted)) (omega (arith, links_counted, same-length));
     }
+
+    -- No link has a destination.
+    pub links_at_rest : AreAtRest number h3.slots
+    links_at_rest = record { none = λ j. by j (slot_at h3.slots j) refl }
       where
-        pointers : ptr_at (slot_at h1.slots) ≡ ptr_at (slot_at h0.slots)
-        pointers = fun_ext (λ i. ptr-view_after number h1 i ∙ (ap (λ (h : DetachedView Gen (LinkView T)). ptr_at (slot_at (map (option_map (on_value link_value)) h.slots)) i) emptied ∙ sym (ptr-view_after number h0 i)))
+        by : (j : ℕ) (o : Option (Gen × LinkBody K T)) → slot_at h3.slots j ≡ o → destination_at number h3.slots j ≡ None
+        by j None is = ap (option_and_then (destination_of number)) is
+        by j (Some e) is = ap (option_and_then (destination_of number)) is ∙ (moved.back j e is).settled.empty
 
 -- ---- links that were read before
 

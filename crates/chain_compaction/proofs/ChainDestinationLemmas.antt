@@ -20,11 +20,10 @@ use Rattle.arena_traits.specs.Arena.{Arena, slot_at}
 use Rattle.arena_base.specs.DetachedSlots.{DetachedView, held_with_value}
 use Rattle.chain_links.specs.declared.links.LinkBody.{LinkBody}
 use Rattle.chain_links.specs.ChainArena.{LinkView, on_value, ptr_at}
-use Rattle.chain_links.specs.Links.{link_view, pair_view}
+use Rattle.chain_links.specs.Links.{link_view, pair_view, destination_of, destination_at}
 use Rattle.chain_compaction.specs.DetachedLinks.{body_interlinks, link_map_in, IsWork}
 use Rattle.chain_compaction.specs.Layouts.{ReportsMoves}
-use Rattle.chain_compaction.specs.Permutations.{destination_of}
-use Rattle.chain_compaction.specs.Destinations.{renamed_link, number_after, held_view, destination_at, AreNumbered, IsRelinkedAt, IsRingClosed, AreRelinked, CanNumber, IsChainNumbered}
+use Rattle.chain_compaction.specs.Destinations.{renamed_link, number_after, held_view, AreNumbered, IsRelinkedAt, IsRingClosed, AreRelinked, CanNumber, IsChainNumbered}
 use Rattle.chain_compaction.proofs.SlotCountLemmas.{count-mapped}
 use Rattle.chain_compaction.proofs.DetachedLinkLemmas.{work-none, work-more}
 use Rattle.chain_compaction.proofs.LinkRewriteLemmas.{viewed_as, destination_written, written_own, viewed_at, relinked_none, relinked_as, relinked_more, relinked_over}

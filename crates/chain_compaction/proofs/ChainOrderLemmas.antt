@@ -19,11 +19,10 @@ use Rattle.arena_traits.specs.Arena.{Arena, slot_at}
 use Rattle.arena_base.specs.DetachedSlots.{DetachedView}
 use Rattle.chain_links.specs.declared.links.LinkBody.{LinkBody}
 use Rattle.chain_links.specs.ChainArena.{on_value, ptr_at}
-use Rattle.chain_links.specs.Links.{pair_view}
+use Rattle.chain_links.specs.Links.{pair_view, destination_of, destination_at}
 use Rattle.chain_compaction.specs.DetachedLinks.{body_interlinks, link_map_in, IsWork}
 use Rattle.chain_compaction.specs.Layouts.{ReportsMoves}
-use Rattle.chain_compaction.specs.Permutations.{destination_of}
-use Rattle.chain_compaction.specs.Destinations.{HasChainFrom, renamed_link, destination_at, is_fresh, AreNumbered, AreRelinked, CanNumber, IsChainNumbered, AreAllNumbered}
+use Rattle.chain_compaction.specs.Destinations.{HasChainFrom, renamed_link, is_fresh, AreNumbered, AreRelinked, CanNumber, IsChainNumbered, AreAllNumbered}
 use Rattle.chain_links.proofs.ArenaInsertionLemmas.{slots-within}
 use Rattle.chain_compaction.proofs.DetachedLinkLemmas.{work-none, work-more, work-few}
 use Rattle.chain_compaction.proofs.ArrangementLemmas.{count-stored}

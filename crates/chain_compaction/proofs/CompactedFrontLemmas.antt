@@ -6,8 +6,8 @@ use Rattle.arena_traits.specs.Arena.{slot_at}
 use Rattle.arena_base.specs.DetachedSlots.{IsPacked, without_free_end}
 use Rattle.chain_links.specs.declared.links.LinkBody.{LinkBody}
 use Rattle.chain_links.specs.ChainArena.{LinkView}
-use Rattle.chain_links.specs.Links.{link_view, pair_view}
-use Rattle.chain_compaction.specs.Permutations.{Waits, HaveMoved, AreMovedToFront, destination_of, Settles}
+use Rattle.chain_links.specs.Links.{link_view, pair_view, destination_of}
+use Rattle.chain_compaction.specs.Permutations.{Waits, HaveMoved, AreMovedToFront, Settles}
 use Rattle.std.proofs.lemmas.List.{length-take-le}
 use Rattle.arena_base.proofs.PackedSlotLemmas.{packed-trimmed}
 use Rattle.chain_links.proofs.MappedArenaLemmas.{slot_at-map}

@@ -1,7 +1,7 @@
 -- An arena of links after they are moved to the front and the slots given back.
 use Rattle.std.proofs.Common.{◌≡◌, ℕ, zero, suc, ◌+◌, ◌*◌, ◌≤◌, List, [], ◌∷◌, length, map, Option, None, Some, refl, ap, sym, ◌∙◌, subst, arith}
 use Rattle.std.specs.Prelude.{slice_index_or, min}
-use Rattle.std.specs.Option.{option_map}
+use Rattle.std.specs.Option.{option_map, option_and_then}
 use Rattle.std.specs.Fn.{Mut}
 use Rattle.std.proofs.lemmas.List.{length-map}
 use mathlib.Core.Path.{fun_ext}
@@ -17,7 +17,7 @@ use Rattle.arena_base.specs.GatheredSlots.{AreClosed, IsGathered, arena_of_value
 use Rattle.arena_base.proofs.CompactedArenaLemmas.{gathers, few_entries}
 use Rattle.chain_links.specs.declared.links.LinkBody.{LinkBody}
 use Rattle.chain_links.specs.ChainArena.{on_value, with_each, interlinks_of, link_map, values_of}
-use Rattle.chain_links.specs.Links.{held_in, links_view, pair_view}
+use Rattle.chain_links.specs.Links.{held_in, links_view, pair_view, destination_of, destination_at, AreAtRest}
 use Rattle.chain_compaction.specs.DetachedLinks.{held_values, body_interlinks, link_map_in, indexes_in, IsWork}
 use Rattle.chain_compaction.specs.LinkCompressions.{AreGathered}
 use Rattle.chain_links.proofs.LinkStateLemmas.{entry_at-links_view}
@@ -67,6 +67,10 @@ module _ {Gen K T : Type 0} (number : K → Option ℕ) where
 
   link_map-trimmed : (slots : List (Option (Gen × LinkBody K T))) → link_map_in number (without_free_end slots) ≡ link_map_in number slots
   link_map-trimmed slots = fun_ext (λ i. ap (option_map (body_interlinks number)) (slot_at-trimmed slots i))
+
+  -- Links without destinations have none in the slots that are given back.
+  pub returned_at_rest : (held slots : List (Option (Gen × LinkBody K T))) → slots ≡ without_free_end held → AreAtRest number held → AreAtRest number slots
+  returned_at_rest held slots is rest = record { none = λ i. ap (λ s. destination_at number s i) is ∙ (ap (option_and_then (destination_of number)) (slot_at-trimmed held i) ∙ rest.none i) }
 
 -- The values of an arena whose slots are given back.
 values-returned : {Gen K T : Type 0} (greatest : ℕ) (a : Arena Gen (LinkBody K T)) (held : DetachedView Gen (LinkBody K T)) → with_each held_in (arena_after_return greatest a held) ≡ arena_after_return greatest (with_each held_in a) (held_values held)

@@ -26,10 +26,6 @@ module _ {Gen K T : Type 0} where
       none = λ empty. absurd (let both = stored ∙ sym empty in cc);
     }
 
-    -- There is no link to direct.
-    pub directs_none : new ≡ old → None ≡ option_map (λ (e : Gen × LinkBody K T). e.1) (slot_at old.slots i) → IsDirectedAt number i target old new
-    directs_none same empty = record { there = λ m there. absurd (let both = there ∙ sym empty in cc); none = λ e. same }
-
   module _ (number : K → Option ℕ) (i : ℕ) (prev next target : Option ℕ) (old new : DetachedView Gen (LinkBody K T)) where
     -- A link got other interlinks and a destination.
     pub links_both : (l m n w : LinkBody K T) → Some l ≡ link_at old i → new ≡ held_with_value old i w → number m.prev ≡ prev → m ≡ record l { prev = m.prev } → number n.next ≡ next → n ≡ record m { next = n.next }

@@ -15,7 +15,6 @@ pub mod VisitorLemmas
 pub mod DestinationWriteLemmas
 pub mod WalkBackLemmas
 pub mod LinkRewriteLemmas
-pub mod DestinationResetLemmas
 pub mod ArrangementLemmas
 pub mod CanonicalLayoutLemmas
 pub mod SlotReadLemmas

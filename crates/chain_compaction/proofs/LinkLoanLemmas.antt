@@ -1,11 +1,14 @@
 -- Links that a compactor lends for writing.
-use Rattle.std.proofs.Common.{◌≡◌, ℕ, Option, None, Some, sym, ap, ◌∙◌}
+use Rattle.std.proofs.Common.{◌≡◌, ℕ, Option, None, Some, sym, ap, ◌∙◌, subst}
 use Rattle.std.specs.Prelude.{OnSome}
 use Rattle.std.specs.Option.{option_map, option_copied_mut}
 use denote.Ref.{MutBor}
 use Rattle.arena_traits.specs.Arena.{slot_at}
 use Rattle.arena_base.specs.DetachedSlots.{held_with_value, with_touch, saturating_increment}
 use Rattle.arena_base.specs.declared.compactor.Compactor.{Compactor}
+use Rattle.chain_links.specs.declared.links.LinkBody.{LinkBody}
+use Rattle.chain_links.specs.Links.{AreAtRest, StayAtRest}
+use Rattle.chain_links.proofs.RestLemmas.{written_at_rest}
 use Rattle.chain_compaction.specs.WorkCounts.{CountsWork}
 use Rattle.chain_compaction.proofs.WorkCountLemmas.{counts_touch, counts_then}
 
@@ -54,6 +57,11 @@ module _ {P T S Inx Gen Word : Type 0} (old new : Compactor P T S Inx Gen Word) 
     arena = kept.1.1;
     counts = counts_touch old.arena.now new.arena.now old.placed new.placed old.touched new.touched kept.1.1 kept.1.2 kept.1.3;
   }
+
+-- A link that is overwritten by one with the same destination leaves links without destinations so.
+pub overwritten_rests : {P K T S Inx Gen Word : Type 0} (number : K → Option ℕ) (old new : Compactor P (LinkBody K T) S Inx Gen Word) (i : ℕ) (link w : LinkBody K T) → IsOverwritten old new i link w
+    → number w.destination ≡ number link.destination → StayAtRest number old.held.slots new.held.slots
+overwritten_rests number old new i link w wrote same rest = subst (λ held. AreAtRest number held.slots) (sym wrote.held) (written_at_rest number old.held.slots i link w (sym wrote.stored) same rest)
 
 -- Two calls after one another.
 module _ {P T S Inx Gen Word : Type 0} (a b c : Compactor P T S Inx Gen Word) where

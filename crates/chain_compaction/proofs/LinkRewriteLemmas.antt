@@ -13,9 +13,8 @@ use Rattle.arena_base.specs.DetachedSlots.{DetachedView, held_with_value}
 use Rattle.arena_traits.proofs.ArenaViewLemmas.{length-with_slot}
 use Rattle.chain_links.specs.declared.links.LinkBody.{LinkBody}
 use Rattle.chain_links.specs.ChainArena.{LinkView, on_value, ptr_at}
-use Rattle.chain_links.specs.Links.{link_view, pair_view}
-use Rattle.chain_compaction.specs.Permutations.{destination_of}
-use Rattle.chain_compaction.specs.Destinations.{renamed_link, renamed_held, held_view, destination_at, AreRelinked}
+use Rattle.chain_links.specs.Links.{link_view, pair_view, destination_of, destination_at}
+use Rattle.chain_compaction.specs.Destinations.{renamed_link, renamed_held, held_view, AreRelinked}
 use Rattle.chain_links.proofs.MappedArenaLemmas.{slot_at-map}
 use Rattle.chain_links.proofs.LinkStateLemmas.{slot_at-changed}
 

@@ -21,7 +21,7 @@ use Rattle.chain_links.specs.Links.{link_view, pair_view}
 use Rattle.chain_links.proofs.MappedArenaLemmas.{slot_at-map}
 use Rattle.chain_compaction.specs.DetachedLinks.{body_interlinks, link_map_in, IsWork}
 use Rattle.chain_compaction.specs.Layouts.{ReportsMoves}
-use Rattle.chain_compaction.specs.Destinations.{held_view, renamed_link, IsDirectedAt}
+use Rattle.chain_compaction.specs.Destinations.{held_view, renamed_link}
 use Rattle.chain_compaction.specs.OrderedLinks.{AreAllPlaced}
 use Rattle.chain_compaction.proofs.ChainDestinationLemmas.{reports_one, reports_then, stored_at}
 use Rattle.chain_compaction.proofs.DetachedLinkLemmas.{work-few}
@@ -29,83 +29,31 @@ use Rattle.chain_compaction.proofs.SlotCountLemmas.{slot_at-same, slot_at-other,
 
 -- ---- the loop over all slots
 
--- The links up to index k have the generation, perhaps other destinations, and nothing else changed.
+-- The links up to index k have the generation, and nothing else changed.
 pub record AreRenewed {Gen K T : Type 0} (generation : Gen) (old now : DetachedView Gen (LinkBody K T)) (k : ℕ) : Type 0 where
-  pub there : (j : ℕ) → j ≤ k → (destination : LinkBody K T → K)
-      × (slot_at now.slots j ≡ option_map (λ e. (generation, record e.1 { destination = destination e.1 })) (slot_at old.slots j))
+  pub there : (j : ℕ) → j ≤ k → slot_at now.slots j ≡ option_map (λ e. (generation, e.1)) (slot_at old.slots j)
   pub stay : (j : ℕ) → k < j → slot_at now.slots j ≡ slot_at old.slots j
   pub long : length now.slots ≡ length old.slots
   pub capacity : now.stack_capacity ≡ old.stack_capacity
   pub maximum : now.maximum ≡ old.maximum
 
--- After the destination of the link at i was removed, another slot is the same.
-record AreOthersKept {Gen K T : Type 0} (i : ℕ) (placed next : DetachedView Gen (LinkBody K T)) : Type 0 where
-  other : (j : ℕ) → j ≢ i → slot_at next.slots j ≡ slot_at placed.slots j
-  long : length next.slots ≡ length placed.slots
-  capacity : next.stack_capacity ≡ placed.stack_capacity
-  maximum : next.maximum ≡ placed.maximum
-
-module _ {Gen K T : Type 0} (number : K → Option ℕ) (generation : Gen) (i : ℕ) (placed next : DetachedView Gen (LinkBody K T)) (low : 1 ≤ i) (high : i ≤ length placed.slots) (directed : IsDirectedAt number i None placed next) where
-  abbrev Entry : Type 0
-  Entry = Gen × LinkBody K T
-
-  link_in : (o : Option Entry) → slot_at placed.slots i ≡ o → option_map (λ (e : Entry). e.1) o ≡ option_map (λ (e : Entry). e.1) (slot_at placed.slots i)
-  link_in o is = sym (ap (option_map (λ (e : Entry). e.1)) is)
-
-  others_kept : AreOthersKept i placed next
-  others_kept = by (slot_at placed.slots i) refl
-    where
-      by : (o : Option Entry) → slot_at placed.slots i ≡ o → AreOthersKept i placed next
-      by None is =
-          let same = directed.none (link_in None is) in
-          record {
-            other = λ j differs. ap (λ (h : DetachedView Gen (LinkBody K T)). slot_at h.slots j) same;
-            long = ap (λ (h : DetachedView Gen (LinkBody K T)). length h.slots) same;
-            capacity = ap (λ (h : DetachedView Gen (LinkBody K T)). h.stack_capacity) same;
-            maximum = ap (λ (h : DetachedView Gen (LinkBody K T)). h.maximum) same;
-          }
-      by (Some e) is =
-          let w = directed.there e.1 (link_in (Some e) is) in
-          record {
-            other = λ j differs. ap (λ (h : DetachedView Gen (LinkBody K T)). slot_at h.slots j) w.3 ∙ slot_at-other placed.slots i j _ low high differs;
-            long = ap (λ (h : DetachedView Gen (LinkBody K T)). length h.slots) w.3 ∙ length-with_slot placed.slots i _;
-            capacity = ap (λ (h : DetachedView Gen (LinkBody K T)). h.stack_capacity) w.3;
-            maximum = ap (λ (h : DetachedView Gen (LinkBody K T)). h.maximum) w.3;
-          }
-
-  -- The link at i has another destination, if there is one.
-  redirected : (s : Option Entry) → slot_at placed.slots i ≡ option_map (λ (e : Entry). (generation, e.1)) s
-      → (destination : LinkBody K T → K) × (slot_at next.slots i ≡ option_map (λ (e : Entry). let f : Entry = (generation, record e.1 { destination = destination e.1 }) in f) s)
-  redirected None is =
-      let same = directed.none (link_in None is) in
-      (λ l. l.destination, ap (λ (h : DetachedView Gen (LinkBody K T)). slot_at h.slots i) same ∙ is)
-  redirected (Some e) is =
-      let w = directed.there e.1 (link_in (Some (generation, e.1)) is) in (
-        λ l. w.0.destination,
-        ap (λ (h : DetachedView Gen (LinkBody K T)). slot_at h.slots i) w.3
-            ∙ (slot_at-same placed.slots i _ low high
-            ∙ (ap (option_map (λ (x : Entry). let f : Entry = (x.0, w.0) in f)) is
-            ∙ ap (λ (l : LinkBody K T). let o : Option Entry = Some (generation, l) in o) w.2)),
-      )
-
-module _ {Gen K T : Type 0} (number : K → Option ℕ) (generation : Gen) (old : DetachedView Gen (LinkBody K T)) where
+module _ {Gen K T : Type 0} (generation : Gen) (old : DetachedView Gen (LinkBody K T)) where
   pub renewed_begins : AreRenewed generation old old 0
   renewed_begins = record { there = first; stay = λ j high. refl; long = refl; capacity = refl; maximum = refl }
     where
-      first : (j : ℕ) → j ≤ 0 → (destination : LinkBody K T → K)
-          × (slot_at old.slots j ≡ option_map (λ (e : Gen × LinkBody K T). let f : Gen × LinkBody K T = (generation, record e.1 { destination = destination e.1 }) in f) (slot_at old.slots j))
-      first zero low = (λ l. l.destination, refl)
+      first : (j : ℕ) → j ≤ 0 → slot_at old.slots j ≡ option_map (λ (e : Gen × LinkBody K T). (generation, e.1)) (slot_at old.slots j)
+      first zero low = refl
       first (suc k) low = absurd (omega (arith, low))
 
   -- One more link has the generation.
-  pub renewed_continues : (now read placed next : DetachedView Gen (LinkBody K T)) (k i : ℕ) → i ≡ k + 1 → k < length old.slots → AreRenewed generation old now k → read ≡ now
-      → placed ≡ with_placed_entry read i i generation → IsDirectedAt number i None placed next → AreRenewed generation old next (k + 1)
-  renewed_continues now read placed next k i is inside r same wrote directed = record {
+  pub renewed_continues : (now read placed : DetachedView Gen (LinkBody K T)) (k i : ℕ) → i ≡ k + 1 → k < length old.slots → AreRenewed generation old now k → read ≡ now
+      → placed ≡ with_placed_entry read i i generation → AreRenewed generation old placed (k + 1)
+  renewed_continues now read placed k i is inside r same wrote = record {
     there = λ j low. there j low (ℕ_discrete j i);
     stay = λ j high. other j (omega (arith, high, is)) ∙ r.stay j (omega (arith, high));
-    long = kept.long ∙ (long_placed ∙ r.long);
-    capacity = kept.capacity ∙ (ap (λ (h : DetachedView Gen (LinkBody K T)). h.stack_capacity) wrote_now ∙ r.capacity);
-    maximum = kept.maximum ∙ (ap (λ (h : DetachedView Gen (LinkBody K T)). h.maximum) wrote_now ∙ r.maximum);
+    long = long_placed ∙ r.long;
+    capacity = ap (λ (h : DetachedView Gen (LinkBody K T)). h.stack_capacity) wrote_now ∙ r.capacity;
+    maximum = ap (λ (h : DetachedView Gen (LinkBody K T)). h.maximum) wrote_now ∙ r.maximum;
   }
     where
       wrote_now : placed ≡ with_placed_entry now i i generation
@@ -123,28 +71,18 @@ module _ {Gen K T : Type 0} (number : K → Option ℕ) (generation : Gen) (old 
       long_placed : length placed.slots ≡ length now.slots
       long_placed = ap (λ (h : DetachedView Gen (LinkBody K T)). length h.slots) wrote_now ∙ (length-with_slot middle i _ ∙ length-with_slot now.slots i _)
 
-      within_placed : i ≤ length placed.slots
-      within_placed = omega (arith, long_placed, within)
-
-      kept : AreOthersKept i placed next
-      kept = others_kept number generation i placed next (omega (arith, is)) within_placed directed
-
       own : slot_at placed.slots i ≡ option_map (λ (e : Gen × LinkBody K T). (generation, e.1)) (slot_at old.slots i)
       own = ap (λ (h : DetachedView Gen (LinkBody K T)). slot_at h.slots i) wrote_now
           ∙ (slot_at-same middle i _ (omega (arith, is)) within_middle ∙ ap (option_map (λ (e : Gen × LinkBody K T). (generation, e.1))) (r.stay i (omega (arith, is))))
 
-      other : (j : ℕ) → j ≢ i → slot_at next.slots j ≡ slot_at now.slots j
+      other : (j : ℕ) → j ≢ i → slot_at placed.slots j ≡ slot_at now.slots j
       other j differs =
-          kept.other j differs
-          ∙ (ap (λ (h : DetachedView Gen (LinkBody K T)). slot_at h.slots j) wrote_now
-          ∙ (slot_at-other middle i j _ (omega (arith, is)) within_middle differs ∙ slot_at-other now.slots i j _ (omega (arith, is)) within differs))
+          ap (λ (h : DetachedView Gen (LinkBody K T)). slot_at h.slots j) wrote_now
+          ∙ (slot_at-other middle i j _ (omega (arith, is)) within_middle differs ∙ slot_at-other now.slots i j _ (omega (arith, is)) within differs)
 
-      there : (j : ℕ) → j ≤ k + 1 → Dec (j ≡ i) → (destination : LinkBody K T → K)
-          × (slot_at next.slots j ≡ option_map (λ (e : Gen × LinkBody K T). let f : Gen × LinkBody K T = (generation, record e.1 { destination = destination e.1 }) in f) (slot_at old.slots j))
-      there j low (yes e) =
-          let w = redirected number generation i placed next (omega (arith, is)) within_placed directed (slot_at old.slots i) own in
-          (w.0, ap (slot_at next.slots) e ∙ (w.1 ∙ sym (ap (λ (n : ℕ). option_map (λ (e : Gen × LinkBody K T). let f : Gen × LinkBody K T = (generation, record e.1 { destination = w.0 e.1 }) in f) (slot_at old.slots n)) e)))
-      there j low (no differs) = let before = r.there j (omega (arith, low, differs, is)) in (before.0, other j differs ∙ before.1)
+      there : (j : ℕ) → j ≤ k + 1 → Dec (j ≡ i) → slot_at placed.slots j ≡ option_map (λ (e : Gen × LinkBody K T). (generation, e.1)) (slot_at old.slots j)
+      there j low (yes e) = ap (slot_at placed.slots) e ∙ (own ∙ sym (ap (λ (n : ℕ). option_map (λ (e : Gen × LinkBody K T). (generation, e.1)) (slot_at old.slots n)) e))
+      there j low (no differs) = other j differs ∙ r.there j (omega (arith, low, differs, is))
 
 -- The generation that was read is the first one.
 pub renewed_read : {Gen K T : Type 0} (generation : Gen) (old now : DetachedView Gen (LinkBody K T)) (k i : ℕ) (r : Option Gen) (was : Gen) → i ≡ k + 1 → AreRenewed generation old now k
@@ -230,10 +168,9 @@ module _ {F P Gen K T : Type 0} (number : K → Option ℕ) (g : F → P → P �
       by None is = absurd (let both = sym viewed ∙ ap (option_map (pair_view number)) is in cc)
       by (Some e) is =
           let view : pair_view number e ≡ x = some_same (sym (ap (option_map (pair_view number)) is) ∙ viewed) in
-          let now_at = renewed.there i within.1 in
           ap (slot_at (held_view number new).slots) same
           ∙ (slot_at-map (pair_view number) new.slots i
-          ∙ (ap (option_map (pair_view number)) (now_at.1 ∙ ap (option_map (λ (e : Gen × LinkBody K T). let f : Gen × LinkBody K T = (generation, record e.1 { destination = now_at.0 e.1 }) in f)) is)
+          ∙ (ap (option_map (pair_view number)) (renewed.there i within.1 ∙ ap (option_map (λ (e : Gen × LinkBody K T). (generation, e.1))) is)
           ∙ (ap (λ (l : LinkView T). let o : Option (Gen × LinkView T) = Some (generation, l) in o) (sym (same_link i e is))
           ∙ ap (λ (y : Gen × LinkView T). let o : Option (Gen × LinkView T) = Some (generation, renamed_link (place_in (range_with_len 1 slots)) y.1) in o) view)))
 
@@ -243,8 +180,7 @@ module _ {F P Gen K T : Type 0} (number : K → Option ℕ) (g : F → P → P �
       taken : (i : ℕ) → 1 ≤ i → i ≤ slots → IsSome (slot_at new.slots i)
       taken i low high =
           let e = stored_at number old.slots i ((arranges.valid i).1 (range-IsMember 1 slots i low (omega (arith, high)))) in
-          let now_at = renewed.there i high in
-          ap is_some (now_at.1 ∙ ap (option_map (λ (e : Gen × LinkBody K T). let f : Gen × LinkBody K T = (generation, record e.1 { destination = now_at.0 e.1 }) in f)) e.1)
+          ap is_some (renewed.there i high ∙ ap (option_map (λ (e : Gen × LinkBody K T). (generation, e.1))) e.1)
 
       free : (i : ℕ) → slots < i → slot_at new.slots i ≡ None
       free i above = by (slot_at new.slots i) refl
@@ -253,7 +189,7 @@ module _ {F P Gen K T : Type 0} (number : K → Option ℕ) (g : F → P → P �
           by None is = refl
           by (Some e) is = absurd (let inside = stored-within new.slots i e is in let long = renewed.long in omega (arith, inside.1, long, above))
 
-  placed_all : ReportsMoves g key (ptr_at (slot_at old.slots)) generation 1 f (range_with_len 1 slots) last → IsWork before after slots (2 * slots) → AreAllPlaced number g key generation f last old new before after slots 2
+  placed_all : ReportsMoves g key (ptr_at (slot_at old.slots)) generation 1 f (range_with_len 1 slots) last → IsWork before after slots slots → AreAllPlaced number g key generation f last old new before after slots 1
   placed_all reports work =
       let long = length-range_with_len 1 slots in
       record {
@@ -265,14 +201,14 @@ module _ {F P Gen K T : Type 0} (number : K → Option ℕ) (g : F → P → P �
         capacity = renewed.capacity;
         maximum = renewed.maximum;
         reports = reports;
-        work = subst (λ (n : ℕ). IsWork before after n (4 * slots + 2 * length (range_with_len 1 slots))) (sym long) (work-few work _ (omega arith));
+        work = subst (λ (n : ℕ). IsWork before after n (4 * slots + 1 * length (range_with_len 1 slots))) (sym long) (work-few work _ (omega arith));
       }
 
 -- After the loop all links are placed.
 pub all_renewed : {F P Gen K T : Type 0} (number : K → Option ℕ) (g : F → P → P → F → Type 0) (key : P → ℕ × Gen) (generation : Gen) (f last : F) (old new : DetachedView Gen (LinkBody K T)) (before after : Arena Gen (LinkBody K T))
     → IsWellLinked (link_map_in number old.slots) → IsCanonical (link_map_in number old.slots) (range_with_len 1 (length old.slots)) → (k count : ℕ) → k ≡ length old.slots → count ≡ length old.slots → AreRenewed generation old new k
-    → ReportsMoves g key (ptr_at (slot_at old.slots)) generation 1 f (range_with_len 1 k) last → IsWork before after k (2 * k) → AreAllPlaced number g key generation f last old new before after count 2
+    → ReportsMoves g key (ptr_at (slot_at old.slots)) generation 1 f (range_with_len 1 k) last → IsWork before after k k → AreAllPlaced number g key generation f last old new before after count 1
 all_renewed number g key generation f last old new before after agree canonical k count all counts renewed reports work =
-    subst (λ (n : ℕ). AreAllPlaced number g key generation f last old new before after n 2) (sym counts)
+    subst (λ (n : ℕ). AreAllPlaced number g key generation f last old new before after n 1) (sym counts)
     (placed_all number g key generation f last old new before after agree canonical (subst (AreRenewed generation old new) all renewed)
-    (subst (λ (n : ℕ). ReportsMoves g key (ptr_at (slot_at old.slots)) generation 1 f (range_with_len 1 n) last) all reports) (subst (λ (n : ℕ). IsWork before after n (2 * n)) all work))
+    (subst (λ (n : ℕ). ReportsMoves g key (ptr_at (slot_at old.slots)) generation 1 f (range_with_len 1 n) last) all reports) (subst (λ (n : ℕ). IsWork before after n n) all work))

@@ -9,10 +9,11 @@ use Rattle.arena_traits.specs.Arena.{slot_at, with_slot}
 use Rattle.arena_base.specs.DetachedSlots.{DetachedView, with_placed_entry, held_with_value}
 use Rattle.arena_traits.proofs.ArenaViewLemmas.{length-with_slot}
 use Rattle.chain_links.specs.declared.links.LinkBody.{LinkBody}
-use Rattle.chain_compaction.specs.Permutations.{Waits, IsSettledAt, WaitsWithin, IsInBlock, IsSettling, ListsWaiting, waiting_count, waits, destination_of, Settles}
-use Rattle.chain_compaction.specs.Destinations.{destination_at, IsDirectedAt}
+use Rattle.chain_compaction.specs.Permutations.{Waits, IsSettledAt, WaitsWithin, IsInBlock, IsSettling, ListsWaiting, waiting_count, waits, Settles}
+use Rattle.chain_compaction.specs.Destinations.{IsDirectedAt}
 use Rattle.chain_compaction.proofs.SlotCountLemmas.{slot_at-same, slot_at-other, stored-within, count-with_slot, mark, one_if}
 use Rattle.chain_compaction.proofs.SlotSwapLemmas.{moving_continues, arrived_from, waited_there}
+use Rattle.chain_links.specs.Links.{destination_of, destination_at}
 
 -- A settled entry has no destination.
 pub settled_rests : {Gen K T : Type 0} (number : K → Option ℕ) (g : Gen) (e f : Gen × LinkBody K T) → Settles number g e f → destination_of number f ≡ None

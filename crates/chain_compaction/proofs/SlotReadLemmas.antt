@@ -8,9 +8,9 @@ use Rattle.chain_laws.specs.Chains.{prev_in, next_in}
 use Rattle.chain_links.specs.declared.links.LinkBody.{LinkBody}
 use Rattle.chain_compaction.specs.DetachedLinks.{body_interlinks}
 use Rattle.chain_compaction.specs.SlotReads.{HasReadSlot}
-use Rattle.chain_compaction.specs.Permutations.{destination_of}
 use Rattle.chain_compaction.specs.Destinations.{is_fresh}
 use Rattle.chain_compaction.proofs.WorkCountLemmas.{counts_touch}
+use Rattle.chain_links.specs.Links.{destination_of}
 
 module _ {P T S Inx Gen Word : Type 0} where
   -- A read is one touch, and keeps the slots.

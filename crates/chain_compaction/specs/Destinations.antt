@@ -7,10 +7,9 @@ use Rattle.arena_traits.specs.Arena.{Arena, slot_at}
 use Rattle.arena_base.specs.DetachedSlots.{DetachedView, held_with_value}
 use Rattle.arena_base.specs.declared.compactor.Compactor.{Compactor}
 use Rattle.chain_links.specs.ChainArena.{LinkView, on_value, ptr_at}
-use Rattle.chain_links.specs.Links.{link_view, pair_view}
+use Rattle.chain_links.specs.Links.{link_view, pair_view, destination_of, destination_at}
 use Rattle.chain_compaction.specs.DetachedLinks.{link_map_in, IsWork}
 use Rattle.chain_compaction.specs.Layouts.{ReportsMoves}
-use Rattle.chain_compaction.specs.Permutations.{destination_of}
 use Rattle.chain_links.specs.declared.links.LinkBody.{LinkBody}
 
 -- i is in a linear chain, or a cyclic one is written from it.
@@ -38,10 +37,6 @@ module _ {Gen K T : Type 0} (number : K → Option ℕ) where
   abbrev pub held_view : DetachedView Gen (LinkBody K T) → DetachedView Gen (LinkView T)
   held_view held = record { slots = map (option_map (pair_view number)) held.slots; stack_capacity = held.stack_capacity; maximum = held.maximum }
 
-  -- The destination of the link at an index.
-  abbrev pub destination_at : List (Option (Gen × LinkBody K T)) → ℕ → Option ℕ
-  destination_at slots i = option_and_then (destination_of number) (slot_at slots i)
-
   -- Whether a slot holds a link without a destination.
   abbrev pub is_fresh : Option (Gen × LinkBody K T) → Bool
   is_fresh None = false
@@ -49,7 +44,7 @@ module _ {Gen K T : Type 0} (number : K → Option ℕ) where
 
   -- `count` links have destinations: their places in `done`.
   pub record AreNumbered (slots : List (Option (Gen × LinkBody K T))) (count : ℕ) (done : List ℕ) : Type 0 where
-    pub destinations : (j : ℕ) → destination_at slots j ≡ place_in done j
+    pub destinations : (j : ℕ) → destination_at number slots j ≡ place_in done j
     pub counts : count ≡ length done
 
   -- The destination of the link at i, if any, was set or removed, and nothing else changed.
@@ -107,7 +102,7 @@ module _ {Gen K T : Type 0} (number : K → Option ℕ) where
       pub indexes : List ℕ
       pub order : IsLeastIndexOrder (link_map_in number old.slots) indexes
       pub counted : count ≡ length indexes
-      pub destinations : (j : ℕ) → destination_at new.slots j ≡ place_in indexes j
+      pub destinations : (j : ℕ) → destination_at number new.slots j ≡ place_in indexes j
       pub renamed : held_view new ≡ renamed_held (place_in indexes) (held_view old)
       pub reports : ReportsMoves g key (ptr_at (slot_at old.slots)) generation 1 f indexes last
       pub work : IsWork before after 0 (2 * length old.slots + 5 * length indexes)

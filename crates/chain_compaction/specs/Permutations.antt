@@ -98,10 +98,6 @@ module _ {E : Type 0} where
     pub each : (d : ℕ) → 1 ≤ d → d ≤ n → (i : ℕ) × (e : E) × Waits goal (slot_at old) i e d
 
 module _ {Gen K T : Type 0} where
-  -- The destination of an entry.
-  abbrev pub destination_of : (K → Option ℕ) → Gen × LinkBody K T → Option ℕ
-  destination_of number e = number e.1.destination
-
   -- What an entry becomes at its destination: it has the generation and no destination, and nothing
   -- else changed.
   pub record Settles (number : K → Option ℕ) (g : Gen) (e f : Gen × LinkBody K T) : Type 0 where

@@ -6,7 +6,8 @@ ghost use Rattle.chain_laws.specs.Chains.{Chain, linear, cyclic, IsMember, IsCha
 ghost use Rattle.chain_laws.specs.ChainStart.{IsStart};
 ghost use Rattle.chain_compaction.specs.DetachedLinks.{link_map_in, IsWork};
 ghost use Rattle.chain_compaction.specs.WorkCounts.{CountsWork};
-ghost use Rattle.chain_compaction.specs.Destinations.{HasChainFrom, number_after, destination_at, IsRingClosed, CanNumber, NumbersFrom, AreAllNumbered};
+ghost use Rattle.chain_compaction.specs.Destinations.{HasChainFrom, number_after, IsRingClosed, CanNumber, NumbersFrom, AreAllNumbered};
+ghost use Rattle.chain_links.specs.Links.{destination_at, AreAtRest};
 
 use crate::read_ahead::{ReadAhead, read_ahead, read_on};
 use crate::slot_access::{read_link, relink_at};
@@ -182,8 +183,7 @@ pub fn number_all<
     requires links { links ≡ count_by is_some compactor.old.held.slots }
     requires fits { length compactor.old.held.slots ≤ P.Inx.greatest }
     requires agree { IsWellLinked (link_map_in P.Inx.packed_number compactor.old.held.slots) }
-    requires empty { (j : ℕ) → destination_at P.Inx.packed_number compactor.old.held.slots j
-        ≡ None }
+    requires at_rest { AreAtRest P.Inx.packed_number compactor.old.held.slots }
     ensures ready { V.is_ready result.0 }
     ensures same_reference { compactor.new.arena.ghost_name ≡ compactor.old.arena.ghost_name }
     ensures numbered { AreAllNumbered P.Inx.packed_number V.sees P.key generation visitor result.0

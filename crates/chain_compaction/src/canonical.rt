@@ -1,43 +1,20 @@
 // Canonical compression in place: each chain at consecutive indexes, one chain after another from
 // index 1 on.
-ghost use Rattle.std.specs.Prelude.{◌≡◌, ◌≤◌, ◌+◌, ℕ, None, length, count_by, is_some};
+ghost use Rattle.std.specs.Prelude.{◌≡◌, ◌≤◌, ◌+◌, length, count_by, is_some};
 ghost use Rattle.chain_laws.specs.Chains.{IsWellLinked};
-ghost use Rattle.arena_base.specs.GatheredSlots.{with_totals};
-ghost use Rattle.chain_links.specs.ChainArena.{link_map};
-ghost use Rattle.chain_links.specs.Links.{links_view};
+ghost use Rattle.chain_links.specs.Links.{links_view, AreAtRest, IsChainArena};
 ghost use Rattle.chain_compaction.specs.WorkCounts.{CountsWork};
 ghost use Rattle.chain_compaction.specs.Layouts.{AreArranged};
 ghost use Rattle.chain_compaction.specs.DetachedLinks.{link_map_in};
-ghost use Rattle.chain_compaction.specs.Destinations.{held_view, destination_at};
 ghost use Rattle.chain_compaction.specs.OrderedLinks.{AreAllPlaced};
 
 use crate::assign_destinations::number_all;
 use crate::in_order::{is_in_order, renew_all};
 use crate::permute::move_all;
-use crate::slot_access::set_destination_at;
 use crate::visitor::Visitor;
-use arena_base::{Arena, ArenaSlot, ArenaTrait, Compactor, Work, inx_at};
+use arena_base::{Arena, ArenaSlot, ArenaTrait, Compactor, Work};
 use arena_ptr::{PtrKey, SlotStack};
 use chain_links::LinkNoGen;
-
-/// Removes the destinations of all links.
-pub fn clear_destinations<P: PtrKey, T: Drop, S: SlotStack<Item = ArenaSlot<P, LinkNoGen<P, T>>>>(
-    compactor: &mut Compactor<'_, P, LinkNoGen<P, T>, S>,
-)
-    requires fits { length compactor.old.held.slots ≤ P.Inx.greatest }
-    ensures same_reference { compactor.new.arena.ghost_name ≡ compactor.old.arena.ghost_name }
-    ensures view_after { held_view P.Inx.packed_number compactor.new.held
-        ≡ held_view P.Inx.packed_number
-        compactor.old.held }
-    ensures empty { (j : ℕ) → destination_at P.Inx.packed_number compactor.new.held.slots j ≡ None }
-    ensures totals { compactor.new.arena.now ≡ with_totals compactor.old.arena.now 0
-        (length compactor.old.held.slots) }
-    ensures counts { CountsWork compactor.old compactor.new }
-{
-    for k in 0..compactor.slots() {
-        set_destination_at(compactor, inx_at::<P>(k), None);
-    }
-}
 
 // Assigns each link its destination and moves it there. Returns the visitor and the number of
 // links, which is `links`.
@@ -57,14 +34,15 @@ fn arrange_by_moves<
     requires links { links ≡ count_by is_some compactor.old.held.slots }
     requires fits { length compactor.old.held.slots ≤ P.Inx.greatest }
     requires agree { IsWellLinked (link_map_in P.Inx.packed_number compactor.old.held.slots) }
+    requires at_rest { AreAtRest P.Inx.packed_number compactor.old.held.slots }
     ensures ready { V.is_ready result.0 }
     ensures same_reference { compactor.new.arena.ghost_name ≡ compactor.old.arena.ghost_name }
     ensures placed { AreAllPlaced P.Inx.packed_number V.sees P.key generation visitor result.0
         compactor.old.held compactor.new.held compactor.old.arena.now compactor.new.arena.now
         result.1 9 }
+    ensures at_rest { AreAtRest P.Inx.packed_number compactor.new.held.slots }
     ensures counts { CountsWork compactor.old compactor.new }
 {
-    clear_destinations(compactor);
     let (visitor, count) = number_all(compactor, links, generation, visitor);
     move_all(compactor, links, generation);
     (visitor, count)
@@ -82,11 +60,13 @@ fn place_all<P: PtrKey, T: Drop, S: SlotStack<Item = ArenaSlot<P, LinkNoGen<P, T
     requires links { links ≡ count_by is_some compactor.old.held.slots }
     requires fits { length compactor.old.held.slots ≤ P.Inx.greatest }
     requires agree { IsWellLinked (link_map_in P.Inx.packed_number compactor.old.held.slots) }
+    requires at_rest { AreAtRest P.Inx.packed_number compactor.old.held.slots }
     ensures ready { V.is_ready result.0 }
     ensures same_reference { compactor.new.arena.ghost_name ≡ compactor.old.arena.ghost_name }
     ensures placed { AreAllPlaced P.Inx.packed_number V.sees P.key generation visitor result.0
         compactor.old.held compactor.new.held compactor.old.arena.now compactor.new.arena.now
         result.1 10 }
+    ensures at_rest { AreAtRest P.Inx.packed_number compactor.new.held.slots }
     ensures counts { CountsWork compactor.old compactor.new }
 {
     if is_in_order(compactor, links) {
@@ -101,7 +81,9 @@ fn place_all<P: PtrKey, T: Drop, S: SlotStack<Item = ArenaSlot<P, LinkNoGen<P, T
 /// Each link is moved to its destination, names the destinations of its neighbors, and gets the
 /// counter as its generation. The visitor sees each link's old and new pointer, and is then ready
 /// for others. Afterwards every slot is occupied. Links that are arranged canonically already stay
-/// in their slots: each gets the counter as its generation and loses its destination.
+/// in their slots, and each gets the counter as its generation.
+///
+/// No link has a destination before, and none has one afterwards.
 pub fn arrange<
     P: PtrKey,
     T: Drop,
@@ -109,10 +91,11 @@ pub fn arrange<
     V: Visitor<P>,
 >(arena: &mut Arena<P, LinkNoGen<P, T>, S>, visitor: V) -> (V, Work)
     requires ready { V.is_ready visitor }
-    requires agree { IsWellLinked (link_map (links_view P.Inx.packed_number arena.old)) }
+    requires links { IsChainArena P.Inx.packed_number arena.old }
     ensures ready { V.is_ready result.0 }
     ensures arranged { AreArranged V.sees P.key visitor result.0
         (links_view P.Inx.packed_number arena.old) (links_view P.Inx.packed_number arena.new) }
+    ensures at_rest { AreAtRest P.Inx.packed_number arena.new.slots }
     ensures placed { arena.new.placed ≡ arena.old.placed + result.1.placed }
     ensures touched { arena.new.touched ≡ arena.old.touched + result.1.touched }
 {

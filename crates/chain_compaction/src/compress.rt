@@ -11,7 +11,7 @@ ghost use Rattle.arena_base.specs.DetachedSlots.{with_placed_entry, IsPacked, wi
 ghost use Rattle.arena_traits.specs.Compressions.{VisitsAll};
 ghost use Rattle.arena_base.specs.GatheredSlots.{AreClosed};
 ghost use Rattle.chain_links.specs.ChainArena.{link_map};
-ghost use Rattle.chain_links.specs.Links.{links_view};
+ghost use Rattle.chain_links.specs.Links.{links_view, StayAtRest};
 ghost use Rattle.chain_compaction.specs.DetachedLinks.{held_values, link_map_in, with_neighbor, indexes_in, IsWork};
 ghost use Rattle.chain_compaction.specs.CompressionSteps.{IsLinkMove, IsClosingWork};
 ghost use Rattle.chain_compaction.specs.LinkCompressions.{AreGathered};
@@ -44,6 +44,8 @@ fn set_neighbor<P: PtrKey, T: Drop, S: SlotStack<Item = ArenaSlot<P, LinkNoGen<P
     ensures links { link_map_in P.Inx.packed_number compactor.new.held.slots
         ≡ with_neighbor before (link_map_in P.Inx.packed_number compactor.old.held.slots)
         (option_map P.Inx.number i) (Some (P.Inx.number named)) }
+    ensures at_rest { StayAtRest P.Inx.packed_number compactor.old.held.slots
+        compactor.new.held.slots }
     ensures work { IsWork compactor.old.arena.now compactor.new.arena.now 0 1 }
 {
     match i {
@@ -80,6 +82,8 @@ fn move_link<P: PtrKey, T: Drop, S: SlotStack<Item = ArenaSlot<P, LinkNoGen<P, T
         (IsLinkMove (link_map_in P.Inx.packed_number compactor.old.held.slots)
         (link_map_in P.Inx.packed_number compactor.new.held.slots)
         (P.Inx.number from) (P.Inx.number to)) }
+    ensures at_rest { StayAtRest P.Inx.packed_number compactor.old.held.slots
+        compactor.new.held.slots }
     ensures work { OnSome result (IsWork compactor.old.arena.now compactor.new.arena.now 1 3) }
     ensures none { IfNone result ((compactor.new.held ≡ compactor.old.held)
         × (compactor.new.arena.now ≡ with_touch compactor.old.arena.now)) }
@@ -117,6 +121,8 @@ fn compact_links<
     ensures renamed { IsRenaming (place_in (indexes_in (held_values compactor.old.held).slots))
         (link_map_in P.Inx.packed_number compactor.old.held.slots)
         (link_map_in P.Inx.packed_number compactor.new.held.slots) }
+    ensures at_rest { StayAtRest P.Inx.packed_number compactor.old.held.slots
+        compactor.new.held.slots }
     ensures work { IsClosingWork compactor.old.held compactor.old.arena.now
         compactor.new.arena.now }
 {
@@ -154,8 +160,9 @@ pub fn gather<
 >(arena: &mut Arena<P, LinkNoGen<P, T>, S>, map: F)
     requires callable { F.IsAlwaysCallable map }
     requires agree { IsWellLinked (link_map (links_view P.Inx.packed_number arena.old)) }
-    ensures { AreGathered F.FnMut P.key map (links_view P.Inx.packed_number arena.old)
+    ensures gathered { AreGathered F.FnMut P.key map (links_view P.Inx.packed_number arena.old)
         (links_view P.Inx.packed_number arena.new) }
+    ensures at_rest { StayAtRest P.Inx.packed_number arena.old.slots arena.new.slots }
 {
     arena.invariants();
     let generation = arena.generation();

@@ -5,12 +5,13 @@ ghost use Rattle.std.specs.List.{range_with_len};
 ghost use Rattle.std.specs.Option.{option_map};
 ghost use Rattle.chain_laws.specs.Chains.{IsWellLinked};
 ghost use Rattle.chain_laws.specs.Arrangements.{IsCanonical};
+ghost use Rattle.chain_links.specs.Links.{StayAtRest};
 ghost use Rattle.chain_compaction.specs.DetachedLinks.{link_map_in};
 ghost use Rattle.chain_compaction.specs.OrderedLinks.{IsStartAfter, AreAllPlaced};
 ghost use Rattle.chain_compaction.specs.SlotReads.{HasReadSlots};
 ghost use Rattle.chain_compaction.specs.WorkCounts.{CountsWork};
 
-use crate::slot_access::{read_link, set_destination_at};
+use crate::slot_access::read_link;
 use crate::visitor::Visitor;
 use arena_base::{ArenaSlot, Compactor, SlotAccess, inx_at, proved_unreachable};
 use arena_ptr::{InxKey, PtrKey, SlotStack};
@@ -95,8 +96,7 @@ pub(crate) fn is_in_order<P: PtrKey, T: Drop, S: SlotStack<Item = ArenaSlot<P, L
     start == slots
 }
 
-/// Sets the generation of each link and removes its destination, each in its own slot. Returns the
-/// visitor and the number of links.
+/// Sets the generation of each link, in its own slot. Returns the visitor and the number of links.
 ///
 /// The links are arranged canonically already. Each is placed once, and the visitor sees its old
 /// and new pointer, in ascending order of index.
@@ -119,7 +119,9 @@ pub(crate) fn renew_all<
     ensures same_reference { compactor.new.arena.ghost_name ≡ compactor.old.arena.ghost_name }
     ensures placed { AreAllPlaced P.Inx.packed_number V.sees P.key generation visitor result.0
         compactor.old.held compactor.new.held compactor.old.arena.now compactor.new.arena.now
-        result.1 2 }
+        result.1 1 }
+    ensures at_rest { StayAtRest P.Inx.packed_number compactor.old.held.slots
+        compactor.new.held.slots }
     ensures counts { CountsWork compactor.old compactor.new }
 {
     let slots = compactor.slots();
@@ -129,7 +131,6 @@ pub(crate) fn renew_all<
         match was {
             Some(was) => {
                 compactor.place(i, i, generation);
-                set_destination_at(compactor, i, None);
                 visitor.visit(P::_from_raw(i, was), P::_from_raw(i, generation));
             }
             None => proved_unreachable!(),

@@ -7,7 +7,8 @@ ghost use Rattle.arena_base.specs.DetachedSlots.{with_touch};
 ghost use Rattle.chain_compaction.specs.WorkCounts.{CountsWork};
 ghost use Rattle.chain_compaction.specs.DetachedLinks.{link_map_in};
 ghost use Rattle.chain_compaction.specs.SlotReads.{HasReadSlot};
-ghost use Rattle.chain_compaction.specs.Destinations.{destination_at, IsDirectedAt, IsRelinkedAt};
+ghost use Rattle.chain_compaction.specs.Destinations.{IsDirectedAt, IsRelinkedAt};
+ghost use Rattle.chain_links.specs.Links.{destination_at};
 
 use arena_base::{ArenaSlot, Compactor, SlotAccess, proved_unreachable};
 use arena_ptr::{InxKey, PtrKey, SlotStack};
@@ -41,24 +42,6 @@ pub(crate) fn read_link<P: PtrKey, T: Drop, S: SlotStack<Item = ArenaSlot<P, Lin
             link_access::destination_of(link),
         ),
         None => (None, None, None, None),
-    }
-}
-
-// Sets or removes the destination of the link at `i`, if any.
-pub(crate) fn set_destination_at<
-    P: PtrKey,
-    T: Drop,
-    S: SlotStack<Item = ArenaSlot<P, LinkNoGen<P, T>>>,
->(compactor: &mut Compactor<'_, P, LinkNoGen<P, T>, S>, i: P::Inx, destination: Option<P::Inx>)
-    ensures same_reference { compactor.new.arena.ghost_name ≡ compactor.old.arena.ghost_name }
-    ensures directed { IsDirectedAt P.Inx.packed_number (P.Inx.number i)
-        (option_map P.Inx.number destination) compactor.old.held compactor.new.held }
-    ensures arena { compactor.new.arena.now ≡ with_touch compactor.old.arena.now }
-    ensures counts { CountsWork compactor.old compactor.new }
-{
-    match compactor.value_mut(i) {
-        Some(link) => link_access::set_destination(link, destination),
-        None => {}
     }
 }
 

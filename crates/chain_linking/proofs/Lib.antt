@@ -1,5 +1,6 @@
 pub mod AdvancerLemmas
 pub mod ConsistencyLemmas
+pub mod DestinationLemmas
 pub mod ConnectionLemmas
 pub mod NeighborLemmas
 pub mod InsertPositionLemmas

@@ -3,7 +3,7 @@ ghost use Rattle.std.specs.Prelude.{◌≡◌, ◌↔◌, IsTrue, IsSome, IfSome
 ghost use Rattle.std.specs.Option.{option_map};
 ghost use Rattle.chain_laws.specs.Chains.{HasLink};
 ghost use Rattle.chain_links.specs.ChainArena.{link_map, entry, CanConnect};
-ghost use Rattle.chain_links.specs.Links.{links_view};
+ghost use Rattle.chain_links.specs.Links.{links_view, StayAtRest};
 ghost use Rattle.chain_linking.specs.LinkWrites.{arena_with_next, arena_with_pair, IsValidEnd, IsValidStart};
 
 use crate::link_writes;
@@ -73,9 +73,10 @@ fn set_next<P: PtrKey, T: Drop, S: SlotStack<Item = ArenaSlot<P, LinkNoGen<P, T>
     i: Option<P::Inx>,
     next: Option<P::Inx>,
 )
-    ensures { links_view P.Inx.packed_number arena.new ≡ arena_with_next
+    ensures links { links_view P.Inx.packed_number arena.new ≡ arena_with_next
         (links_view P.Inx.packed_number arena.old) (option_map P.Inx.number i)
         (option_map P.Inx.number next) }
+    ensures at_rest { StayAtRest P.Inx.packed_number arena.old.slots arena.new.slots }
 {
     let i = occupied_index(arena, i);
     link_writes::set_next(arena, i, next);
@@ -88,8 +89,9 @@ fn clear_next<P: PtrKey, T: Drop, S: SlotStack<Item = ArenaSlot<P, LinkNoGen<P, 
     arena: &mut Arena<P, LinkNoGen<P, T>, S>,
     i: P::Inx,
 )
-    ensures { links_view P.Inx.packed_number arena.new ≡ arena_with_next
+    ensures links { links_view P.Inx.packed_number arena.new ≡ arena_with_next
         (links_view P.Inx.packed_number arena.old) (Some (P.Inx.number i)) None }
+    ensures at_rest { StayAtRest P.Inx.packed_number arena.old.slots arena.new.slots }
 {
     set_next(arena, Some(i), None);
 }
@@ -109,6 +111,7 @@ pub fn join<P: PtrKey, T: Drop, S: SlotStack<Item = ArenaSlot<P, LinkNoGen<P, T>
         (links_view P.Inx.packed_number arena.old) (Some (P.key p).0) (Some (P.key q).0)) }
     ensures none { IfNone result (links_view P.Inx.packed_number arena.new
         ≡ links_view P.Inx.packed_number arena.old) }
+    ensures at_rest { StayAtRest P.Inx.packed_number arena.old.slots arena.new.slots }
 {
     let (i, j) = (p.inx(), q.inx());
     if !is_end(arena, p) {

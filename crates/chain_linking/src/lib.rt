@@ -5,6 +5,7 @@
 pub mod chain_iterators;
 pub mod connection;
 pub mod consistency;
+pub mod destinations;
 pub mod insert_position;
 pub mod link_writes;
 pub mod links_text;

@@ -5,7 +5,7 @@ ghost use Rattle.arena_core.specs.Invalidation.{value_within, invalidation_resul
 ghost use Rattle.arena_traits.specs.Arena.{entry_at};
 ghost use Rattle.chain_laws.specs.Chains.{IsWellLinked, HasLink};
 ghost use Rattle.chain_links.specs.ChainArena.{link_map, remove_link, entry, named_by, ptr_at};
-ghost use Rattle.chain_links.specs.Links.{link_view, links_view, pair_view};
+ghost use Rattle.chain_links.specs.Links.{link_view, links_view, pair_view, StayAtRest};
 ghost use Rattle.chain_linking.specs.InsertPositions.{before_in, after_in};
 ghost use Rattle.chain_linking.specs.LinkWrites.{arena_with_next, arena_with_prev, arena_with_pair, arena_with_pairs, numbers};
 
@@ -61,9 +61,10 @@ pub fn set_next<P: PtrKey, T: Drop, S: SlotStack<Item = ArenaSlot<P, LinkNoGen<P
 )
     requires { IfSome (option_map P.Inx.number i)
         (HasLink (link_map (links_view P.Inx.packed_number arena.old))) }
-    ensures { links_view P.Inx.packed_number arena.new ≡ arena_with_next
+    ensures links { links_view P.Inx.packed_number arena.new ≡ arena_with_next
         (links_view P.Inx.packed_number arena.old) (option_map P.Inx.number i)
         (option_map P.Inx.number next) }
+    ensures at_rest { StayAtRest P.Inx.packed_number arena.old.slots arena.new.slots }
 {
     match i {
         Some(i) => match arena.get_inx_mut(i) {
@@ -82,9 +83,10 @@ pub fn set_prev<P: PtrKey, T: Drop, S: SlotStack<Item = ArenaSlot<P, LinkNoGen<P
 )
     requires { IfSome (option_map P.Inx.number i)
         (HasLink (link_map (links_view P.Inx.packed_number arena.old))) }
-    ensures { links_view P.Inx.packed_number arena.new ≡ arena_with_prev
+    ensures links { links_view P.Inx.packed_number arena.new ≡ arena_with_prev
         (links_view P.Inx.packed_number arena.old) (option_map P.Inx.number i)
         (option_map P.Inx.number prev) }
+    ensures at_rest { StayAtRest P.Inx.packed_number arena.old.slots arena.new.slots }
 {
     match i {
         Some(i) => match arena.get_inx_mut(i) {
@@ -107,10 +109,11 @@ fn write_beside<P: PtrKey, T: Drop, S: SlotStack<Item = ArenaSlot<P, LinkNoGen<P
         (HasLink (link_map (links_view P.Inx.packed_number arena.old))) }
     requires after { IfSome (option_map P.Inx.number after)
         (HasLink (link_map (links_view P.Inx.packed_number arena.old))) }
-    ensures { links_view P.Inx.packed_number arena.new ≡ arena_with_prev
+    ensures links { links_view P.Inx.packed_number arena.new ≡ arena_with_prev
         (arena_with_next (links_view P.Inx.packed_number arena.old)
         (option_map P.Inx.number before) (option_map P.Inx.number next))
         (option_map P.Inx.number after) (option_map P.Inx.number prev) }
+    ensures at_rest { StayAtRest P.Inx.packed_number arena.old.slots arena.new.slots }
 {
     set_next(arena, before, next);
     set_prev(arena, after, prev);
@@ -126,9 +129,10 @@ pub fn link_pair<P: PtrKey, T: Drop, S: SlotStack<Item = ArenaSlot<P, LinkNoGen<
         (HasLink (link_map (links_view P.Inx.packed_number arena.old))) }
     requires next { IfSome (option_map P.Inx.number next)
         (HasLink (link_map (links_view P.Inx.packed_number arena.old))) }
-    ensures { links_view P.Inx.packed_number arena.new ≡ arena_with_pair
+    ensures links { links_view P.Inx.packed_number arena.new ≡ arena_with_pair
         (links_view P.Inx.packed_number arena.old) (option_map P.Inx.number prev)
         (option_map P.Inx.number next) }
+    ensures at_rest { StayAtRest P.Inx.packed_number arena.old.slots arena.new.slots }
 {
     write_beside(arena, prev, next, next, prev);
 }
@@ -147,9 +151,10 @@ pub fn link_pairs<P: PtrKey, T: Drop, S: SlotStack<Item = ArenaSlot<P, LinkNoGen
         (HasLink (link_map (links_view P.Inx.packed_number arena.old))) }
     requires second_next { IfSome (option_map P.Inx.number second.1)
         (HasLink (link_map (links_view P.Inx.packed_number arena.old))) }
-    ensures { links_view P.Inx.packed_number arena.new ≡ arena_with_pairs
+    ensures links { links_view P.Inx.packed_number arena.new ≡ arena_with_pairs
         (links_view P.Inx.packed_number arena.old) (numbers P.Inx.number first)
         (numbers P.Inx.number second) }
+    ensures at_rest { StayAtRest P.Inx.packed_number arena.old.slots arena.new.slots }
 {
     link_pair(arena, first.0, first.1);
     link_pair(arena, second.0, second.1);
@@ -165,10 +170,11 @@ pub fn update_neighbors<P: PtrKey, T: Drop, S: SlotStack<Item = ArenaSlot<P, Lin
         (HasLink (link_map (links_view P.Inx.packed_number arena.old))) }
     requires after { IfSome (after_in P.Inx.number position (P.key p).0)
         (HasLink (link_map (links_view P.Inx.packed_number arena.old))) }
-    ensures { links_view P.Inx.packed_number arena.new ≡ named_by
+    ensures links { links_view P.Inx.packed_number arena.new ≡ named_by
         (links_view P.Inx.packed_number arena.old)
         (before_in P.Inx.number position (P.key p).0) (after_in P.Inx.number position (P.key p).0)
         (P.key p).0 }
+    ensures at_rest { StayAtRest P.Inx.packed_number arena.old.slots arena.new.slots }
 {
     let i = p.inx();
     let (prev, next) = neighbors_of_position(position, i);
@@ -191,9 +197,10 @@ fn connect_former_neighbors<P: PtrKey, T: Drop, S: SlotStack<Item = ArenaSlot<P,
         (HasLink (link_map (links_view P.Inx.packed_number arena.old))) }
     requires ring { option_map P.Inx.number prev ≡ Some (P.Inx.number i)
         → option_map P.Inx.number next ≡ Some (P.Inx.number i) }
-    ensures { links_view P.Inx.packed_number arena.new ≡ arena_with_pair
+    ensures links { links_view P.Inx.packed_number arena.new ≡ arena_with_pair
         (links_view P.Inx.packed_number arena.old) (option_map P.Inx.number prev)
         (option_map P.Inx.number next) }
+    ensures at_rest { StayAtRest P.Inx.packed_number arena.old.slots arena.new.slots }
 {
     match prev {
         Some(before) => {
@@ -221,6 +228,7 @@ pub fn remove_link_at<P: PtrKey, T: Drop, S: SlotStack<Item = ArenaSlot<P, LinkN
     ensures valid { IsSome (value_within result) → links_view P.Inx.packed_number arena.new
         ≡ remove_link P.Gen.following (links_view P.Inx.packed_number arena.old) (P.Inx.number i) }
     ensures invalid { value_within result ≡ None → arena.new ≡ arena.old }
+    ensures at_rest { StayAtRest P.Inx.packed_number arena.old.slots arena.new.slots }
 {
     let (entry, overflow) = arena.remove_inx(i).overflowing();
     match entry {

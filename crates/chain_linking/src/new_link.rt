@@ -2,7 +2,7 @@
 ghost use Rattle.std.specs.Prelude.{◌≡◌};
 ghost use Rattle.std.specs.Option.{option_map};
 ghost use Rattle.chain_links.specs.ChainArena.{new_link};
-ghost use Rattle.chain_links.specs.Links.{link_view};
+ghost use Rattle.chain_links.specs.Links.{link_view, IsAtRest};
 ghost use Rattle.chain_linking.specs.InsertPositions.{before_in, after_in, named_before, named_after};
 
 use crate::insert_position::InsertPosition;
@@ -13,8 +13,10 @@ use chain_links::{LinkBody, LinkNoGen};
 ///
 /// A link that is its own neighbor names none yet, since its index is not known.
 pub fn link_in<P: PtrKey, T>(position: InsertPosition<P::Inx>, t: T) -> LinkNoGen<P, T>
-    ensures { link_view P.Inx.packed_number result ≡ new_link t (named_before P.Inx.number position)
+    ensures link { link_view P.Inx.packed_number result ≡ new_link t
+        (named_before P.Inx.number position)
         (named_after P.Inx.number position) }
+    ensures at_rest { IsAtRest P.Inx.packed_number result }
 {
     match position {
         InsertPosition::Itself => LinkBody::new((None, None), t),

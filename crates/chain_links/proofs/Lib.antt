@@ -1,3 +1,4 @@
 pub mod ArenaInsertionLemmas
 pub mod MappedArenaLemmas
 pub mod LinkStateLemmas
+pub mod RestLemmas

@@ -1,8 +1,10 @@
 -- Links as contracts see them, with interlinks as numbers.
-use Rattle.std.specs.Prelude.{ℕ, List, map, Option}
+use Rattle.std.specs.Prelude.{◌≡◌, ℕ, List, map, Option, None}
+use Rattle.std.specs.Option.{option_and_then}
 use Rattle.std.specs.Borrow.{Bor}
-use Rattle.arena_traits.specs.Arena.{Arena}
-use Rattle.chain_links.specs.ChainArena.{LinkView, on_value, with_each}
+use Rattle.chain_laws.specs.Chains.{IsWellLinked}
+use Rattle.arena_traits.specs.Arena.{Arena, slot_at}
+use Rattle.chain_links.specs.ChainArena.{LinkView, on_value, with_each, link_map}
 use Rattle.chain_links.specs.declared.links.LinkBody.{LinkBody}
 
 module _ {K T : Type 0} where
@@ -12,6 +14,10 @@ module _ {K T : Type 0} where
   -- The value of a link.
   abbrev pub held_in : LinkBody K T → T
   held_in link = link.t
+
+  -- The link has no destination: it is not to be moved.
+  abbrev pub IsAtRest : (K → Option ℕ) → LinkBody K T → Type 0
+  IsAtRest number link = number link.destination ≡ None
 
 -- The index of a pointer, by its key.
 abbrev pub index_in : {P Gen : Type 0} → (P → ℕ × Gen) → P → ℕ
@@ -36,3 +42,25 @@ module _ {Gen K T : Type 0} where
   -- Entries with the values of links alone.
   abbrev pub held_entries : List ((ℕ × Gen) × LinkBody K T) → List ((ℕ × Gen) × T)
   held_entries es = map (on_value held_in) es
+
+module _ {Gen K T : Type 0} (number : K → Option ℕ) where
+  -- The index that a link is to be moved to, if one is set.
+  abbrev pub destination_of : Gen × LinkBody K T → Option ℕ
+  destination_of e = number e.1.destination
+
+  -- The destination of the link at an index.
+  abbrev pub destination_at : List (Option (Gen × LinkBody K T)) → ℕ → Option ℕ
+  destination_at slots i = option_and_then destination_of (slot_at slots i)
+
+  -- No link has a destination.
+  pub record AreAtRest (slots : List (Option (Gen × LinkBody K T))) : Type 0 where
+    pub none : (i : ℕ) → destination_at slots i ≡ None
+
+  -- If no link had a destination, none has one now.
+  abbrev pub StayAtRest : List (Option (Gen × LinkBody K T)) → List (Option (Gen × LinkBody K T)) → Type 0
+  StayAtRest old new = AreAtRest old → AreAtRest new
+
+  -- What holds in every chain arena: the interlinks agree, and no link has a destination.
+  pub record IsChainArena (a : Arena Gen (LinkBody K T)) : Type 0 where
+    pub agree : IsWellLinked (link_map (links_view number a))
+    pub at_rest : AreAtRest a.slots

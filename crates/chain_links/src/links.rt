@@ -1,7 +1,7 @@
 // Links with their interlinks as packed indexes or as pointers.
-ghost use Rattle.std.specs.Prelude.{◌≡◌, None};
+ghost use Rattle.std.specs.Prelude.{◌≡◌, ℕ, Option, None};
 ghost use Rattle.std.specs.Option.{option_map};
-ghost use Rattle.chain_links.specs.Links.{link_view, index_in};
+ghost use Rattle.chain_links.specs.Links.{link_view, index_in, IsAtRest};
 
 use arena_ptr::{InxKey, PackedOption, PtrKey, ToolPtr};
 use std::alloc::AllocError;
@@ -12,7 +12,7 @@ pub struct LinkBody<K: Vacant, T> {
     pub(crate) prev: K,
     pub(crate) next: K,
 
-    // The index that the link is to be moved to, during a compression.
+    // The index that the link is to be moved to. `None` except during a canonical compression.
     pub(crate) destination: K,
 
     /// The value.
@@ -21,11 +21,17 @@ pub struct LinkBody<K: Vacant, T> {
 
 /// A type that stores an optional index.
 pub trait Vacant: Copy {
+    // The number of the stored index, if there is one.
+    ghost number: { Self → Option ℕ };
+
     /// Returns the value that stores no index.
-    fn vacant() -> Self;
+    fn vacant() -> Self
+        ensures { number result ≡ None };
 }
 
 impl<W: Copy, I: InxKey<Word = W>> Vacant for PackedOption<I, W> {
+    ghost number = { I.packed_number };
+
     fn vacant() -> Self {
         I::pack(None)
     }
@@ -34,8 +40,10 @@ impl<W: Copy, I: InxKey<Word = W>> Vacant for PackedOption<I, W> {
 // A clone has no destination.
 impl<K: Vacant, T: Clone> Clone for LinkBody<K, T> {
     ghost use Rattle.std.specs.Prelude.{◌≡◌};
+    ghost use Rattle.chain_links.specs.Links.{IsAtRest};
 
-    ghost is_clone = { λ l m. (m.prev ≡ l.prev) × (m.next ≡ l.next) × T.is_clone l.t m.t };
+    ghost is_clone = { λ l m. (m.prev ≡ l.prev) × (m.next ≡ l.next) × T.is_clone l.t m.t
+        × IsAtRest K.number m };
 
     ghost is_infallible = { λ l. T.is_infallible l.t };
 
@@ -85,13 +93,14 @@ impl<W: Copy, I: InxKey<Word = W>, T> LinkBody<PackedOption<I, W>, T> {
 
     /// Creates a link from its interlinks and its value.
     pub fn new(prev_next: (Option<I>, Option<I>), t: T) -> Self
-        ensures { link_view I.packed_number result
+        ensures link { link_view I.packed_number result
             ≡ record {
               prev = option_map I.number prev_next.0;
               next = option_map I.number
                   prev_next.1;
               value = t;
             } }
+        ensures at_rest { IsAtRest I.packed_number result }
     {
         LinkBody {
             prev: I::pack(prev_next.0),
@@ -169,13 +178,14 @@ impl<P: Copy, T> Link<P, T> {
 impl<P: PtrKey, T> Link<P, T> {
     /// Converts to a link without the generations of its neighbors.
     pub fn no_gen(self) -> LinkNoGen<P, T>
-        ensures { link_view P.Inx.packed_number result
+        ensures link { link_view P.Inx.packed_number result
             ≡ record {
               prev = option_map (index_in P.key) self.prev;
               next = option_map
                   (index_in P.key) self.next;
               value = self.t;
             } }
+        ensures at_rest { IsAtRest P.Inx.packed_number result }
     {
         LinkBody::new((index_of(self.prev), index_of(self.next)), self.t)
     }
@@ -187,6 +197,7 @@ impl<P: PtrKey, T> Link<P, T> {
         ensures next { (link_view P.Inx.packed_number result).next ≡ option_map
             (index_in P.key) self.now.next }
         ensures value { result.t.now ≡ self.now.t }
+        ensures at_rest { IsAtRest P.Inx.packed_number result }
     {
         LinkBody::new((index_of(self.prev), index_of(self.next)), &self.t)
     }

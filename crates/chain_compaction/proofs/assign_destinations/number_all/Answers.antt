@@ -15,7 +15,7 @@ loop-k-init g c =
     record {
       ready = c.requires.ready;
       same_reference = refl {a = now.arena.ghost_name};
-      order = order_begins g.P.Inx.InxKey.packed_number g.V.Visitor.sees g.P.PtrKey.key c.args.generation c.args.visitor now.held now.arena.now c.requires.agree c.requires.empty c.new-ahead.result.credit (omega (arith, c.new-ahead.ensures, c.slots.ensures));
+      order = order_begins g.P.Inx.InxKey.packed_number g.V.Visitor.sees g.P.PtrKey.key c.args.generation c.args.visitor now.held now.arena.now c.requires.agree c.requires.at_rest.none c.new-ahead.result.credit (omega (arith, c.new-ahead.ensures, c.slots.ensures));
       counts = counts_none now.arena.now now.placed now.touched;
     }
 

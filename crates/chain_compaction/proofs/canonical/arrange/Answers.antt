@@ -1,10 +1,15 @@
 -- `arrange` places all links, leaves no free slot, and returns the arena's work.
-use Rattle.std.proofs.Common.{rules, ◌≡◌, ◌+◌, sym, ap, ◌∙◌}
+use Rattle.std.proofs.Common.{rules, ◌≡◌, ◌+◌, sym, ap, ◌∙◌, subst}
+use Rattle.chain_links.specs.Links.{AreAtRest}
 use Rattle.chain_compaction.proofs.CanonicalLayoutLemmas.{counted_first, agree-held, links_arranged, work_known}
+use Rattle.chain_compaction.proofs.CompactedLinkLemmas.{returned_at_rest}
 use Rattle.chain_compaction.proofs.canonical.arrange.Goals as goal
 
 pub place_all-visitor-requires-clause-agree : goal.place_all-visitor-requires-clause-agree
-place_all-visitor-requires-clause-agree g c = agree-held g.P.Inx.InxKey.packed_number c.args.arena.now c.compactor-compactor.result.held c.compactor-compactor.ensures.held c.requires.agree
+place_all-visitor-requires-clause-agree g c = agree-held g.P.Inx.InxKey.packed_number c.args.arena.now c.compactor-compactor.result.held c.compactor-compactor.ensures.held c.requires.links.agree
+
+pub place_all-visitor-requires-clause-at_rest : goal.place_all-visitor-requires-clause-at_rest
+place_all-visitor-requires-clause-at_rest g c = subst (λ held. AreAtRest g.P.Inx.InxKey.packed_number held.slots) (sym c.compactor-compactor.ensures.held) c.requires.links.at_rest
 
 pub returns : goal.returns
 returns g c =
@@ -26,6 +31,7 @@ returns g c =
       arranged =
           links_arranged g.V.Visitor.sees g.P.PtrKey.key c.args.visitor done.result.0 number generation old lent.held now.held first.ensures.held lent.arena.now now.arena.now done.result.1 done.ensures.placed
           g.P.Inx.InxKey.greatest g.S.SlotStack.initial_maximum first.ensures.arena c.len-links.ensures.capacity.1 c.generation-generation.ensures _ (search rules);
+      at_rest = returned_at_rest number now.held.slots _ (search rules) done.ensures.at_rest;
       placed = search rules;
       touched = search rules;
     }

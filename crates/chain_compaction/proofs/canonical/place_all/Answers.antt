@@ -1,6 +1,7 @@
 -- `place_all` renews the links or moves them, after a test that reads each link at most once.
 use Rattle.std.specs.Prelude.{count_by, is_some}
-use Rattle.std.proofs.Common.{sym, ap, ◌∙◌, arith}
+use Rattle.std.proofs.Common.{sym, ap, ◌∙◌, subst, arith}
+use Rattle.chain_links.specs.Links.{AreAtRest}
 use Rattle.chain_compaction.proofs.CanonicalLayoutLemmas.{placed_after_reads}
 use Rattle.chain_compaction.proofs.LinkLoanLemmas.{same_then, counts_on}
 use Rattle.chain_compaction.proofs.canonical.place_all.Goals as goal
@@ -20,7 +21,8 @@ returns-then-is_in_order g c =
       same_reference = same_then old test new read.same_reference done.same_reference;
       placed =
           placed_after_reads g.V.Visitor.sees g.P.PtrKey.key c.args.visitor c.renew_all.result.0 g.P.Inx.InxKey.packed_number c.args.generation old.held test.held new.held read.held
-          old.arena.now test.arena.now new.arena.now c.renew_all.result.1 2 c.args.links c.requires.links read.work done.placed 10 (omega arith);
+          old.arena.now test.arena.now new.arena.now c.renew_all.result.1 1 c.args.links c.requires.links read.work done.placed 10 (omega arith);
+      at_rest = done.at_rest (subst (λ held. AreAtRest g.P.Inx.InxKey.packed_number held.slots) (sym read.held) c.requires.at_rest);
       counts = counts_on old test new read.counts done.counts;
     }
 
@@ -37,5 +39,6 @@ returns-else-is_in_order g c =
       placed =
           placed_after_reads g.V.Visitor.sees g.P.PtrKey.key c.args.visitor c.arrange_by_moves.result.0 g.P.Inx.InxKey.packed_number c.args.generation old.held test.held new.held read.held
           old.arena.now test.arena.now new.arena.now c.arrange_by_moves.result.1 9 c.args.links c.requires.links read.work done.placed 10 (omega arith);
+      at_rest = done.at_rest;
       counts = counts_on old test new read.counts done.counts;
     }

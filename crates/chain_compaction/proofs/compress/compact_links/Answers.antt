@@ -5,7 +5,7 @@ use Rattle.chain_links.proofs.ArenaInsertionLemmas.{slots-within}
 use Rattle.chain_compaction.specs.DetachedLinks.{slot_values, body_interlinks}
 use Rattle.chain_compaction.proofs.DetachedLinkLemmas.{work-none}
 use Rattle.chain_compaction.proofs.LinkCompressionLemmas.{gathered_begins}
-use Rattle.chain_compaction.proofs.LinkLoanLemmas.{lent, lent_none}
+use Rattle.chain_compaction.proofs.LinkLoanLemmas.{lent, lent_none, overwritten_rests}
 use Rattle.chain_compaction.proofs.CompressionStepLemmas.{free_to, passes, skips, capacity_kept, maximum_kept, stored_there, brings, arrives, capacity_on, maximum_on, ends_closed, ends_packed, ends_visits, ends_renamed, ends_work, work_skips, work_brings}
 use Rattle.chain_compaction.proofs.compress.compact_links.Goals as goal
 
@@ -20,6 +20,7 @@ loop-k-init g c =
       maximum = refl;
       closing = closing_begins g.F.FnMut g.P.PtrKey.key c.args.generation c.args.map (slot_values old.held.slots);
       gathered = gathered_begins number old.held.slots c.requires.agree (slots-within (body_interlinks number) old.held.slots);
+      at_rest = λ rest. rest;
       work = work-none old.arena.now 0;
     }
 
@@ -57,6 +58,7 @@ loop-k-preserved-in-None g c =
           c.move_link.result c.in-None.is made.returned mid.held c.in-None.ensures.none.0;
       gathered = skips g.F.FnMut key c.args.generation number c.args.map c.loop-k.map old.held now.held c.requires.agree c.loop-k.k c.loop-k.count at.closing at.gathered c.slots-k-end.result c.slots-k-end.ensures c.loop-k-test.true from c.inx_at-from.ensures
           c.move_link.result c.in-None.is made.returned mid.held c.in-None.ensures.none.0;
+      at_rest = λ rest. made.at_rest (at.at_rest rest);
       work = work_skips old.arena.now now.arena.now mid.arena.now c.loop-k.k c.loop-k.count at.work c.in-None.ensures.none.1;
     }
 
@@ -89,6 +91,7 @@ loop-k-preserved g c =
           (record { lent = _; lends = refl; back = _; called = c.map.ensures; leaves = refl });
       gathered = arrives g.F.FnMut key c.args.generation number c.args.map c.loop-k.map old.held now.held c.requires.agree c.loop-k.k c.loop-k.count at.closing at.gathered c.slots-k-end.result c.slots-k-end.ensures c.loop-k-test.true from c.inx_at-from.ensures
           to c.inx_at-to.ensures c.in-Some.was moves.returned mid.held moves.values new.held link value wrote.stored wrote.held moves.moves;
+      at_rest = λ rest. overwritten_rests number mid new to link left wrote refl (moves.at_rest (at.at_rest rest));
       work = work_brings old.arena.now now.arena.now mid.arena.now c.loop-k.k c.loop-k.count at.work new.arena.now moves.work wrote.arena;
     }
 
@@ -105,5 +108,6 @@ returns g c =
       packed = ends_packed g.F.FnMut key c.args.generation number c.args.map c.loop-k.map old.held now.held c.requires.agree c.loop-k.k c.loop-k.count inv.closing inv.gathered c.slots-k-end.result c.slots-k-end.ensures c.loop-k.auto.k-end c.loop-k-test.false;
       visits = ends_visits g.F.FnMut key c.args.generation number c.args.map c.loop-k.map old.held now.held c.requires.agree c.loop-k.k c.loop-k.count inv.closing inv.gathered c.slots-k-end.result c.slots-k-end.ensures c.loop-k.auto.k-end c.loop-k-test.false;
       renamed = ends_renamed g.F.FnMut key c.args.generation number c.args.map c.loop-k.map old.held now.held c.requires.agree c.loop-k.k c.loop-k.count inv.closing inv.gathered c.slots-k-end.result c.slots-k-end.ensures c.loop-k.auto.k-end c.loop-k-test.false;
+      at_rest = inv.at_rest;
       work = ends_work g.F.FnMut key c.args.generation number c.args.map c.loop-k.map old.held now.held c.requires.agree c.loop-k.k c.loop-k.count inv.closing inv.gathered c.slots-k-end.result c.slots-k-end.ensures c.loop-k.auto.k-end c.loop-k-test.false old.arena.now now.arena.now inv.work;
     }

@@ -2,6 +2,7 @@
 use Rattle.std.proofs.Common.{◌≡◌, ◌+◌, ◌*◌}
 use denote.Param.Always.{always_mut}
 use Rattle.arena_base.proofs.HoleClosingLemmas.{IsClosing}
+use Rattle.chain_links.specs.Links.{StayAtRest}
 use Rattle.chain_compaction.specs.DetachedLinks.{slot_values, IsWork}
 use Rattle.chain_compaction.proofs.LinkCompressionLemmas.{AreGathered}
 use Rattle.chain_compaction.proofs.compress.compact_links.Given as goal
@@ -14,5 +15,6 @@ invariant-loop-k g l = record {
   maximum : l.compactor.held.maximum ≡ l.fn.compactor.held.maximum;
   closing : IsClosing g.F.FnMut g.P.PtrKey.key l.generation l.fn.map (slot_values l.fn.compactor.held.slots) l.k l.count l.map (slot_values l.compactor.held.slots);
   gathered : AreGathered g.P.Inx.InxKey.packed_number l.fn.compactor.held.slots l.compactor.held.slots l.k l.count;
+  at_rest : StayAtRest g.P.Inx.InxKey.packed_number l.fn.compactor.held.slots l.compactor.held.slots;
   work : IsWork l.fn.compactor.arena.now l.compactor.arena.now l.count (l.k + 3 * l.count);
 }

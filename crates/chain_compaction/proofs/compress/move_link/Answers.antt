@@ -1,6 +1,8 @@
 -- `move_link` places the link and updates its neighbors.
-use Rattle.std.proofs.Common.{sym, ◌∙◌}
+use Rattle.std.proofs.Common.{sym, ◌∙◌, subst}
 use Rattle.std.specs.Option.{option_map}
+use Rattle.chain_links.specs.Links.{AreAtRest}
+use Rattle.chain_links.proofs.RestLemmas.{placed_at_rest}
 use Rattle.chain_compaction.proofs.DetachedLinkLemmas.{entry-view_after, move-values, move-links, work-moved}
 use Rattle.chain_compaction.proofs.compress.move_link.Goals as goal
 
@@ -32,6 +34,8 @@ returns g c =
           (option_map number c.index_now.result) (option_map number c.index_now-2.result) (option_map number c.read_link-was.result.1) (option_map number c.read_link-was.result.2)
           (g.met.P.Inx.InxKey.at_least_one c.args.from) c.requires.from (g.met.P.Inx.InxKey.at_least_one c.args.to) c.requires.to
           lookup.prev lookup.next c.index_now.ensures c.index_now-2.ensures next.links prev.links;
+      at_rest = λ rest. prev.at_rest (next.at_rest (subst (λ held. AreAtRest packed_number held.slots) (sym places.held)
+          (placed_at_rest packed_number was_read.slots from to c.args.generation (subst (λ held. AreAtRest packed_number held.slots) (sym lookup.was_read.held) rest))));
       work = work-moved lookup.was_read.arena places.arena next.work prev.work;
       none = tt;
     }
@@ -44,6 +48,7 @@ returns-in-None g c =
       returned = sym c.in-None.is ∙ lookup.generation;
       values = tt;
       moves = tt;
+      at_rest = λ rest. subst (λ held. AreAtRest g.P.Inx.InxKey.packed_number held.slots) (sym lookup.was_read.held) rest;
       work = tt;
       none = (lookup.was_read.held, lookup.was_read.arena);
     }

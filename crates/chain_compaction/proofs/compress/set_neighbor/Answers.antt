@@ -1,8 +1,9 @@
 -- `set_neighbor` writes the link, if there is one.
-use Rattle.std.proofs.Common.{Some, refl}
+use Rattle.std.proofs.Common.{Some, refl, ap, sym, subst}
+use Rattle.chain_links.specs.Links.{AreAtRest}
 use Rattle.chain_compaction.specs.DetachedLinks.{link_map_in}
 use Rattle.chain_compaction.proofs.DetachedLinkLemmas.{work-none, work-touched}
-use Rattle.chain_compaction.proofs.LinkLoanLemmas.{lent, lent_none}
+use Rattle.chain_compaction.proofs.LinkLoanLemmas.{lent, lent_none, overwritten_rests}
 use Rattle.chain_compaction.proofs.NeighborUpdateLemmas.{states_none, kept_values, states_nowhere, prev_values, states_prev, next_values, states_next}
 use Rattle.chain_compaction.proofs.compress.set_neighbor.Goals as goal
 
@@ -20,6 +21,7 @@ returns-then-before g c =
     record {
       same_reference = wrote.same_reference;
       values = prev_values number packed old.held new.held c.args.before c.args.i target c.in-Some.i c.in-Some.is link left wrote.stored wrote.held c.if-before.true c.set_prev.ensures.rest;
+      at_rest = overwritten_rests packed old new i link left wrote (ap (λ l. packed l.destination) c.set_prev.ensures.rest);
       links = states_prev number packed old.held new.held c.args.before c.args.i target c.in-Some.i c.in-Some.is link left wrote.stored wrote.held c.if-before.true c.set_prev.ensures.rest c.set_prev.ensures.prev;
       work = work-touched old.arena.now new.arena.now wrote.arena;
     }
@@ -38,6 +40,7 @@ returns-else-before g c =
     record {
       same_reference = wrote.same_reference;
       values = next_values number packed old.held new.held c.args.before c.args.i target c.in-Some.i c.in-Some.is link left wrote.stored wrote.held c.if-before.false c.set_next.ensures.rest;
+      at_rest = overwritten_rests packed old new i link left wrote (ap (λ l. packed l.destination) c.set_next.ensures.rest);
       links = states_next number packed old.held new.held c.args.before c.args.i target c.in-Some.i c.in-Some.is link left wrote.stored wrote.held c.if-before.false c.set_next.ensures.rest c.set_next.ensures.next;
       work = work-touched old.arena.now new.arena.now wrote.arena;
     }
@@ -53,6 +56,7 @@ returns-in-None-value_mut g c =
     record {
       same_reference = kept.same_reference;
       values = kept_values number packed old.held new.held c.args.before c.args.i (Some (number c.args.named)) c.in-Some.i c.in-Some.is kept.held;
+      at_rest = λ rest. subst (λ held. AreAtRest packed held.slots) (sym kept.held) rest;
       links = states_nowhere number packed old.held new.held c.args.before c.args.i (Some (number c.args.named)) c.in-Some.i c.in-Some.is kept.held kept.none;
       work = work-touched old.arena.now new.arena.now kept.arena;
     }
@@ -64,6 +68,7 @@ returns-in-None g c =
     record {
       same_reference = refl;
       values = refl;
+      at_rest = λ rest. rest;
       links = states_none number (link_map_in g.P.Inx.InxKey.packed_number old.held.slots) c.args.before c.args.i (Some (number c.args.named)) c.in-None.is;
       work = work-none old.arena.now 1;
     }

@@ -1,7 +1,9 @@
 -- `renew_all` sets the generation of one more link, and the visitor sees it.
-use Rattle.std.proofs.Common.{◌≡◌, ◌+◌, ◌*◌, length, refl, arith}
+use Rattle.std.proofs.Common.{◌≡◌, ◌+◌, length, refl, sym, subst, arith}
 use Rattle.arena_traits.specs.Arena.{slot_at}
 use Rattle.chain_links.specs.ChainArena.{ptr_at}
+use Rattle.chain_links.specs.Links.{AreAtRest}
+use Rattle.chain_links.proofs.RestLemmas.{placed_at_rest}
 use Rattle.chain_compaction.proofs.ChainDestinationLemmas.{reports_none}
 use Rattle.chain_compaction.proofs.DetachedLinkLemmas.{work-none, work-touched, work-with_placed_entry, work-more}
 use Rattle.chain_compaction.proofs.LinkLoanLemmas.{same_then, counts_on}
@@ -15,8 +17,9 @@ loop-k-init g c =
     record {
       ready = c.requires.ready;
       same_reference = refl;
-      renewed = renewed_begins g.P.Inx.InxKey.packed_number c.args.generation now.held;
+      renewed = renewed_begins c.args.generation now.held;
       reports = reports_none g.V.Visitor.sees g.P.PtrKey.key (ptr_at (slot_at now.held.slots)) c.args.generation 1 c.args.visitor;
+      at_rest = λ rest. rest;
       work = work-none now.arena.now 0;
       counts = counts_none now.arena.now now.placed now.touched;
     }
@@ -33,21 +36,21 @@ loop-k-preserved g c =
     let old = c.args.compactor.now in
     let now = c.loop-k.compactor in
     let read = c.read_link-was.new.compactor in
-    let placed = c.place.new.self in
-    let new = c.set_destination_at.new.compactor in
-    let emptied = c.set_destination_at.ensures in
+    let new = c.place.new.self in
+    let number = g.P.Inx.InxKey.packed_number in
     let i = g.P.Inx.InxKey.number c.inx_at-i.result in
     record {
       ready = c.visit.ensures.ready;
-      same_reference = same_then old now new inv.same_reference (same_then now read new lookup.was_read.same_reference (same_then read placed new c.place.ensures.same_reference emptied.same_reference));
-      renewed = renewed_continues g.P.Inx.InxKey.packed_number c.args.generation old.held now.held read.held placed.held new.held c.loop-k.k i c.inx_at-i.ensures (omega arith) inv.renewed lookup.was_read.held c.place.ensures.held
-          emptied.directed;
+      same_reference = same_then old now new inv.same_reference (same_then now read new lookup.was_read.same_reference c.place.ensures.same_reference);
+      renewed = renewed_continues c.args.generation old.held now.held read.held new.held c.loop-k.k i c.inx_at-i.ensures (omega arith) inv.renewed lookup.was_read.held c.place.ensures.held;
       reports = reports_more g.V.Visitor.sees g.P.PtrKey.key (ptr_at (slot_at old.held.slots)) c.args.generation c.args.visitor c.loop-k.visitor c.visit.new.self c.loop-k.k i c.in-Some.was c._from_raw.result c._from_raw-in-Some.result c.inx_at-i.ensures
           inv.reports c._from_raw.ensures (renewed_read c.args.generation old.held now.held c.loop-k.k i c.read_link-was.result.0 c.in-Some.was c.inx_at-i.ensures inv.renewed c.in-Some.is lookup.generation) c._from_raw-in-Some.ensures c.visit.ensures.view_after;
-      work = work-more inv.work (work-more (work-more (work-touched now.arena.now read.arena.now lookup.was_read.arena) (work-with_placed_entry read.arena.now placed.arena.now c.place.ensures.arena) 1 1 refl (omega arith))
-          (work-touched placed.arena.now new.arena.now emptied.arena) 1 2 refl (omega arith)) (c.loop-k.k + 1) (2 * (c.loop-k.k + 1)) refl (omega arith);
-      counts = counts_on old now new inv.counts (counts_on now read new lookup.was_read.counts (counts_on read placed new
-          (counts_place read.arena.now placed.arena.now read.placed placed.placed read.touched placed.touched c.place.ensures.arena c.place.ensures.placed c.place.ensures.touched) emptied.counts));
+      at_rest = λ rest. subst (λ held. AreAtRest number held.slots) (sym c.place.ensures.held)
+          (placed_at_rest number read.held.slots i i c.args.generation (subst (λ held. AreAtRest number held.slots) (sym lookup.was_read.held) (inv.at_rest rest)));
+      work = work-more inv.work (work-more (work-touched now.arena.now read.arena.now lookup.was_read.arena) (work-with_placed_entry read.arena.now new.arena.now c.place.ensures.arena) 1 1 refl (omega arith))
+          (c.loop-k.k + 1) (c.loop-k.k + 1) refl (omega arith);
+      counts = counts_on old now new inv.counts (counts_on now read new lookup.was_read.counts
+          (counts_place read.arena.now new.arena.now read.placed new.placed read.touched new.touched c.place.ensures.arena c.place.ensures.placed c.place.ensures.touched));
     }
 
 pub returns-clause-placed : goal.returns-clause-placed

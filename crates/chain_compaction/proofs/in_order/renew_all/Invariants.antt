@@ -1,8 +1,9 @@
 -- The links up to k have the generation, and the visitor has seen them.
-use Rattle.std.proofs.Common.{◌≡◌, ◌*◌}
+use Rattle.std.proofs.Common.{◌≡◌}
 use Rattle.std.specs.List.{range_with_len}
 use Rattle.arena_traits.specs.Arena.{slot_at}
 use Rattle.chain_links.specs.ChainArena.{ptr_at}
+use Rattle.chain_links.specs.Links.{StayAtRest}
 use Rattle.chain_compaction.specs.DetachedLinks.{IsWork}
 use Rattle.chain_compaction.specs.Layouts.{ReportsMoves}
 use Rattle.chain_compaction.specs.WorkCounts.{CountsWork}
@@ -15,6 +16,7 @@ invariant-loop-k g l = record {
   same_reference : l.compactor.arena.ghost_name ≡ l.fn.compactor.arena.ghost_name;
   renewed : AreRenewed l.fn.generation l.fn.compactor.held l.compactor.held l.k;
   reports : ReportsMoves g.V.Visitor.sees g.P.PtrKey.key (ptr_at (slot_at l.fn.compactor.held.slots)) l.fn.generation 1 l.fn.visitor (range_with_len 1 l.k) l.visitor;
-  work : IsWork l.fn.compactor.arena.now l.compactor.arena.now l.k (2 * l.k);
+  at_rest : StayAtRest g.P.Inx.InxKey.packed_number l.fn.compactor.held.slots l.compactor.held.slots;
+  work : IsWork l.fn.compactor.arena.now l.compactor.arena.now l.k l.k;
   counts : CountsWork l.fn.compactor l.compactor;
 }

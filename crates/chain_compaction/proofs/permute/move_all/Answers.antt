@@ -1,12 +1,13 @@
 -- `move_all` settles one more block, and all in the end.
 use Rattle.std.proofs.Common.{◌≡◌, ℕ, ◌+◌, ◌≤◌, length, refl, sym, ◌∙◌, subst, arith}
-use Rattle.chain_compaction.specs.Permutations.{ArePassed, waiting_count, destination_of, Settles, IsWorkInRounds}
+use Rattle.chain_compaction.specs.Permutations.{ArePassed, waiting_count, Settles, IsWorkInRounds}
 use Rattle.chain_compaction.proofs.SlotCountLemmas.{waiting-all}
 use Rattle.chain_compaction.proofs.PermutationStepLemmas.{settled_rests}
 use Rattle.chain_compaction.proofs.PermutationLoopLemmas.{passing_begins, passing_continues, passing_stops, passing_ends, passing_leaves_none, rounds_begin, rounds_then, rounds_stop, rounds_end}
 use Rattle.chain_compaction.proofs.LinkLoanLemmas.{same_then, counts_on, capacity_then, maximum_then}
 use Rattle.chain_compaction.proofs.WorkCountLemmas.{counts_none}
 use Rattle.chain_compaction.proofs.permute.move_all.Goals as goal
+use Rattle.chain_links.specs.Links.{destination_of}
 
 pub loop-start-init : goal.loop-start-init
 loop-start-init g c =

@@ -1,8 +1,9 @@
 -- The slots up to start are settled.
 use Rattle.std.proofs.Common.{◌≡◌, ◌≤◌, ◌-◌}
 use Rattle.chain_compaction.specs.WorkCounts.{CountsWork}
-use Rattle.chain_compaction.specs.Permutations.{ArePassed, waiting_count, destination_of, Settles, IsWorkInRounds}
+use Rattle.chain_compaction.specs.Permutations.{ArePassed, waiting_count, Settles, IsWorkInRounds}
 use Rattle.chain_compaction.proofs.permute.move_all.Given as goal
+use Rattle.chain_links.specs.Links.{destination_of}
 
 abbrev pub invariant-loop-start : goal.invariant-loop-start
 invariant-loop-start g l =

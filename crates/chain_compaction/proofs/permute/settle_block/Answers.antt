@@ -2,7 +2,7 @@
 use Rattle.std.proofs.Common.{◌+◌, ◌-◌, length, slice_index, sym, ap, ◌∙◌, subst, arith}
 use Rattle.arena_traits.specs.Arena.{slot_at}
 use Rattle.arena_base.specs.DetachedSlots.{DetachedView}
-use Rattle.chain_compaction.specs.Permutations.{IsInBlock, waiting_count, destination_of, Settles, IsWorkOn}
+use Rattle.chain_compaction.specs.Permutations.{IsInBlock, waiting_count, Settles, IsWorkOn}
 use Rattle.chain_compaction.proofs.BlockTurnLemmas.{listing_ends, sum_decreases-round, touches_round, none_left, below_bound}
 use Rattle.chain_compaction.proofs.PermutationStepLemmas.{IsBlockRead, settle_reads, settling_joins}
 use Rattle.chain_compaction.proofs.PermutationLoopLemmas.{rounds_start, rounds_continue, rounds_stop}
@@ -10,6 +10,7 @@ use Rattle.chain_compaction.proofs.LinkLoanLemmas.{same_then, counts_on, capacit
 use Rattle.chain_compaction.proofs.permute.settle_block.Given.{Over}
 use Rattle.chain_compaction.proofs.permute.settle_block.Goals.{After-settle_round-arg-in-loop-left-1}
 use Rattle.chain_compaction.proofs.permute.settle_block.Goals as goal
+use Rattle.chain_links.specs.Links.{destination_of}
 
 -- The positions and the moves so far, after the reads before a round.
 here : (g : Over) (c : After-settle_round-arg-in-loop-left-1 g) → IsBlockRead (destination_of g.P.Inx.InxKey.packed_number) (Settles g.P.Inx.InxKey.packed_number c.args.generation) c.args.start c.args.count

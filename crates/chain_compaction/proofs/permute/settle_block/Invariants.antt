@@ -2,8 +2,9 @@
 use Rattle.std.proofs.Common.{◌≡◌, ◌+◌, ◌-◌}
 use Rattle.arena_traits.specs.Arena.{slot_at}
 use Rattle.chain_compaction.specs.WorkCounts.{CountsWork}
-use Rattle.chain_compaction.specs.Permutations.{IsInBlock, IsSettling, ListsWaiting, waiting_count, destination_of, Settles, IsWorkInRounds}
+use Rattle.chain_compaction.specs.Permutations.{IsInBlock, IsSettling, ListsWaiting, waiting_count, Settles, IsWorkInRounds}
 use Rattle.chain_compaction.proofs.permute.settle_block.Given as goal
+use Rattle.chain_links.specs.Links.{destination_of}
 
 abbrev pub invariant-loop-left : goal.invariant-loop-left
 invariant-loop-left g l =

@@ -1,13 +1,14 @@
 -- `settle_each` moves the link at one more slot, and lists the slot if a link may still wait there.
 use Rattle.std.proofs.Common.{◌≡◌, ◌∙◌, ◌+◌, ◌-◌, ℕ, false, List, sym, ap, subst, arith}
 use Rattle.arena_traits.specs.Arena.{slot_at}
-use Rattle.chain_compaction.specs.Permutations.{IsInBlock, ListsWaiting, waiting_count, destination_of, Settles, IsWorkOn}
+use Rattle.chain_compaction.specs.Permutations.{IsInBlock, ListsWaiting, waiting_count, Settles, IsWorkOn}
 use Rattle.chain_compaction.proofs.BlockTurnLemmas.{listing_skips, listing_grows, touches_add, touches_skip, next_in_block, below_64}
 use Rattle.chain_compaction.proofs.PermutationStepLemmas.{settling_continues}
 use Rattle.chain_compaction.proofs.PermutationLoopLemmas.{work_on-after}
 use Rattle.chain_compaction.proofs.LinkLoanLemmas.{same_then, counts_on, capacity_then, maximum_then}
 use Rattle.chain_compaction.proofs.permute.settle_each.Goals as goal
 use Rattle.chain_compaction.proofs.permute.settle_each.Goals.{then-settle_once, else-settle_once}
+use Rattle.chain_links.specs.Links.{destination_of}
 
 pub loop-k-preserved : goal.loop-k-preserved
 loop-k-preserved g c =

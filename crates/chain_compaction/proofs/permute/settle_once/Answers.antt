@@ -4,8 +4,7 @@ use Rattle.std.specs.Prelude.{not}
 use Rattle.std.specs.Option.{option_map}
 use Rattle.arena_traits.specs.Arena.{slot_at}
 use Rattle.arena_base.specs.DetachedSlots.{with_placed_entry}
-use Rattle.chain_compaction.specs.Permutations.{Waits, IsSettling, waiting_count, destination_of, Settles, IsWorkOn}
-use Rattle.chain_compaction.specs.Destinations.{destination_at}
+use Rattle.chain_compaction.specs.Permutations.{Waits, IsSettling, waiting_count, Settles, IsWorkOn}
 use Rattle.chain_compaction.proofs.PermutationStepLemmas.{settling_begins, from_within, to_within, entry_there, one_less_after, settles_after, fewer_after, none_after, capacity_after, maximum_after, none_waits}
 use Rattle.chain_compaction.proofs.PermutationLoopLemmas.{work_on-moves, work_on-reads, work_on-either}
 use Rattle.chain_compaction.proofs.LinkLoanLemmas.{same_then, counts_on}
@@ -13,6 +12,7 @@ use Rattle.chain_compaction.proofs.WorkCountLemmas.{counts_place}
 use Rattle.chain_compaction.proofs.permute.settle_once.Given.{Over}
 use Rattle.chain_compaction.proofs.permute.settle_once.Goals.{In-Some}
 use Rattle.chain_compaction.proofs.permute.settle_once.Goals as goal
+use Rattle.chain_links.specs.Links.{destination_of, destination_at}
 
 -- The link's destination, as the slots show it.
 destination_is : (g : Over) (c : In-Some g) → Some (g.P.Inx.InxKey.number c.in-Some.to) ≡ destination_at g.P.Inx.InxKey.packed_number c.args.compactor.now.held.slots (g.P.Inx.InxKey.number c.args.i)

@@ -1,13 +1,14 @@
 -- `settle_round` moves one more link of the block, or shortens the list of its positions.
 use Rattle.std.proofs.Common.{◌+◌, ◌-◌, length, slice_index, refl, subst, arith}
 use Rattle.arena_traits.specs.Arena.{slot_at}
-use Rattle.chain_compaction.specs.Permutations.{IsInBlock, waiting_count, destination_of, Settles, IsWorkOn}
+use Rattle.chain_compaction.specs.Permutations.{IsInBlock, waiting_count, Settles, IsWorkOn}
 use Rattle.chain_compaction.proofs.BlockTurnLemmas.{turn_in_block, listing_stays, listing_shrinks, sum_decreases-moved, sum_decreases-shortened, touches_stay, touches_continue, none_more, one_less_left, below_bound, turn_within}
 use Rattle.chain_compaction.proofs.PermutationStepLemmas.{settling_begins, settling_continues}
 use Rattle.chain_compaction.proofs.PermutationLoopLemmas.{work_on-begins, work_on-after}
 use Rattle.chain_compaction.proofs.LinkLoanLemmas.{same_then, counts_on, capacity_then, maximum_then}
 use Rattle.chain_compaction.proofs.WorkCountLemmas.{counts_none}
 use Rattle.chain_compaction.proofs.permute.settle_round.Goals as goal
+use Rattle.chain_links.specs.Links.{destination_of}
 
 pub loop-turn-init : goal.loop-turn-init
 loop-turn-init g c =

@@ -15,7 +15,7 @@ named a b is first second = is ∙ ap₂ (λ (x y : ℕ). with_link_map a (with_
 pub returns-then-not-is_start-clause-some : goal.returns-then-not-is_start-clause-some
 returns-then-not-is_start-clause-some g c = (
   λ h. absurd (false≢true h),
-  λ can. absurd (named_may_not _ _ _ _ (named _ _ c.set_next.ensures c.inx-i.ensures c.inx-j.ensures) (λ is. false≢true (sym c.if-not-is_start.true ∙ c.is_start.ensures.value.1 is)) can),
+  λ can. absurd (named_may_not _ _ _ _ (named _ _ c.set_next.ensures.links c.inx-i.ensures c.inx-j.ensures) (λ is. false≢true (sym c.if-not-is_start.true ∙ c.is_start.ensures.value.1 is)) can),
 )
 
 pub returns-then-not-is_start-clause-none : goal.returns-then-not-is_start-clause-none
@@ -25,12 +25,12 @@ returns-then-not-is_start-clause-none g c =
     let d = links_view g.P.Inx.InxKey.packed_number c.clear_next.new.arena in
     let end = c.is_end.ensures.value.0 c.if-not-is_end.false in
     let back : d ≡ with_link_map b (with_next_at (link_map b) (Some (g.P.PtrKey.key c.args.p).0) None) =
-    c.clear_next.ensures ∙ ap (λ (i : ℕ). with_link_map b (with_next_at (link_map b) (Some i) None)) c.inx-i.ensures in
-    taken_back a b (g.P.PtrKey.key c.args.p) (g.P.PtrKey.key c.args.q) (named _ _ c.set_next.ensures c.inx-i.ensures c.inx-j.ensures) d end.end back
+    c.clear_next.ensures.links ∙ ap (λ (i : ℕ). with_link_map b (with_next_at (link_map b) (Some i) None)) c.inx-i.ensures in
+    taken_back a b (g.P.PtrKey.key c.args.p) (g.P.PtrKey.key c.args.q) (named _ _ c.set_next.ensures.links c.inx-i.ensures c.inx-j.ensures) d end.end back
 
 pub returns-clause-some : goal.returns-clause-some
 returns-clause-some g c =
-    let may = named_may _ _ _ _ (named _ _ c.set_next.ensures c.inx-i.ensures c.inx-j.ensures) (c.is_end.ensures.value.0 c.if-not-is_end.false) (c.is_start.ensures.value.0 c.if-not-is_start.false) in
+    let may = named_may _ _ _ _ (named _ _ c.set_next.ensures.links c.inx-i.ensures c.inx-j.ensures) (c.is_end.ensures.value.0 c.if-not-is_end.false) (c.is_start.ensures.value.0 c.if-not-is_start.false) in
     (λ _. may, λ _. refl)
 
 pub returns-clause-joined : goal.returns-clause-joined
@@ -41,5 +41,5 @@ returns-clause-joined g c =
     let p = (g.P.PtrKey.key c.args.p).0 in
     let q = (g.P.PtrKey.key c.args.q).0 in
     let second : d ≡ with_link_map b (with_prev_at (link_map b) (Some q) (Some p)) =
-    c.set_prev.ensures ∙ ap₂ (λ (i j : ℕ). with_link_map b (with_prev_at (link_map b) (Some j) (Some i))) c.inx-i.ensures c.inx-j.ensures in
-    linked_by_writes a b d (Some p) (Some q) (named _ _ c.set_next.ensures c.inx-i.ensures c.inx-j.ensures) second
+    c.set_prev.ensures.links ∙ ap₂ (λ (i j : ℕ). with_link_map b (with_prev_at (link_map b) (Some j) (Some i))) c.inx-i.ensures c.inx-j.ensures in
+    linked_by_writes a b d (Some p) (Some q) (named _ _ c.set_next.ensures.links c.inx-i.ensures c.inx-j.ensures) second

@@ -13,7 +13,7 @@ link_pair-requires-2-clause-prev g c =
     let a = links_view g.P.Inx.InxKey.packed_number c.args.arena.now in
     let prev = option_map number c.args.first.0 in
     let next = option_map number c.args.first.1 in
-    still_named a (links_view g.P.Inx.InxKey.packed_number c.link_pair.new.arena) (with_neighbors (link_map a) prev next) (option_map number c.args.second.0) (FitsLinks-linked a prev next) c.link_pair.ensures c.requires.second_prev
+    still_named a (links_view g.P.Inx.InxKey.packed_number c.link_pair.new.arena) (with_neighbors (link_map a) prev next) (option_map number c.args.second.0) (FitsLinks-linked a prev next) c.link_pair.ensures.links c.requires.second_prev
 
 pub link_pair-requires-2-clause-next : goal.link_pair-requires-2-clause-next
 link_pair-requires-2-clause-next g c =
@@ -21,11 +21,11 @@ link_pair-requires-2-clause-next g c =
     let a = links_view g.P.Inx.InxKey.packed_number c.args.arena.now in
     let prev = option_map number c.args.first.0 in
     let next = option_map number c.args.first.1 in
-    still_named a (links_view g.P.Inx.InxKey.packed_number c.link_pair.new.arena) (with_neighbors (link_map a) prev next) (option_map number c.args.second.1) (FitsLinks-linked a prev next) c.link_pair.ensures c.requires.second_next
+    still_named a (links_view g.P.Inx.InxKey.packed_number c.link_pair.new.arena) (with_neighbors (link_map a) prev next) (option_map number c.args.second.1) (FitsLinks-linked a prev next) c.link_pair.ensures.links c.requires.second_next
 
-pub returns : goal.returns
-returns g c =
+pub returns-clause-links : goal.returns-clause-links
+returns-clause-links g c =
     let number = g.P.Inx.InxKey.number in
     let packed_number = g.P.Inx.InxKey.packed_number in
     arena_with_pairs (links_view packed_number c.args.arena.now) (links_view packed_number c.link_pair.new.arena) (links_view packed_number c.link_pair-2.new.arena)
-    (option_map number c.args.first.0) (option_map number c.args.first.1) (option_map number c.args.second.0) (option_map number c.args.second.1) c.link_pair.ensures c.link_pair-2.ensures
+    (option_map number c.args.first.0) (option_map number c.args.first.1) (option_map number c.args.second.0) (option_map number c.args.second.1) c.link_pair.ensures.links c.link_pair-2.ensures.links

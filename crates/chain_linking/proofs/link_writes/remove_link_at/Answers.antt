@@ -1,13 +1,14 @@
 -- The link is removed, and its former neighbors are linked.
-use Rattle.std.proofs.Common.{of_calls, ◌≡◌, None, Some, sym, ap, ◌∙◌}
+use Rattle.std.proofs.Common.{of_calls, ◌≡◌, None, Some, refl, sym, ap, ◌∙◌, subst}
 use Rattle.std.specs.Prelude.{is_some}
 use Rattle.std.specs.Option.{option_map}
 use Rattle.arena_core.specs.Invalidation.{value_within}
 use Rattle.arena_traits.specs.Arena.{entry_at}
 use Rattle.arena_traits.proofs.ArenaViewLemmas.{value_within-made}
-use Rattle.chain_links.specs.Links.{links_view, link_view, pair_view}
+use Rattle.chain_links.specs.Links.{links_view, link_view, pair_view, AreAtRest}
 use Rattle.chain_links.proofs.LinkStateLemmas.{entry_at-links_view}
 use Rattle.chain_links.proofs.MappedArenaLemmas.{with_each-remove_at}
+use Rattle.chain_links.proofs.RestLemmas.{set_at_rest}
 use Rattle.chain_linking.proofs.ConnectionLemmas.{prev_of-view_after, next_of-view_after}
 use Rattle.chain_links.specs.ChainArena.{link_map}
 use Rattle.chain_linking.proofs.UnlinkLemmas.{WereBeside, removal_by_steps, were_beside}
@@ -65,9 +66,17 @@ returns-in-Some-clause-valid g c =
     λ _. removal_by_steps g.P.Gen.GenKey.following (links_view packed a) (links_view packed c.remove_inx.new.self) (links_view packed c.connect_former_neighbors.new.arena) n
     (option_map number c.prev.result) (option_map number c.next.result)
     (ap (links_view packed) (c.remove_inx.ensures.more (ap is_some stored)) ∙ with_each-remove_at (link_view packed) g.P.Gen.GenKey.following a n)
-    c.connect_former_neighbors.ensures
+    c.connect_former_neighbors.ensures.links
     (named_prev ∙ sym (prev_of-view_after packed a (n, c.in-Some.generation) link stored))
     (named_next ∙ sym (next_of-view_after packed a (n, c.in-Some.generation) link stored))
+
+pub returns-in-Some-clause-at_rest : goal.returns-in-Some-clause-at_rest
+returns-in-Some-clause-at_rest g c =
+    let packed = g.P.Inx.InxKey.packed_number in
+    let a = c.args.arena.now in
+    let n = g.P.Inx.InxKey.number c.args.i in
+    let stored : entry_at a n ≡ Some (c.in-Some.generation, c.in-Some.link) = sym c.remove_inx.ensures.returned ∙ (sym (ap (λ x. x.0) c.overflowing-entry.ensures) ∙ c.in-Some.is) in
+    λ rest. c.connect_former_neighbors.ensures.at_rest (subst (λ b. AreAtRest packed b.slots) (sym (c.remove_inx.ensures.more (ap is_some stored))) (set_at_rest packed a.slots n None refl rest))
 
 pub returns-in-None-clause-returned : goal.returns-in-None-clause-returned
 returns-in-None-clause-returned g c =

@@ -1,18 +1,19 @@
 -- The index has a link, and the borrowed link is written.
-use Rattle.std.proofs.Common.{refl, sym, ap, ◌∙◌}
+use Rattle.std.proofs.Common.{refl, sym, ap, ◌∙◌, subst}
 use Rattle.std.specs.Option.{option_map, option_copied_mut}
 use Rattle.chain_laws.specs.Joins.{with_prev}
 use Rattle.arena_core.specs.declared.packed_option.PackedOption.{PackedOption}
 use Rattle.chain_links.specs.declared.links.LinkBody.{LinkBody}
 use Rattle.arena_traits.specs.Arena.{with_value}
-use Rattle.chain_links.specs.Links.{links_view, link_view}
+use Rattle.chain_links.specs.Links.{links_view, link_view, AreAtRest}
 use Rattle.chain_links.specs.ChainArena.{interlinks_in, with_interlinks}
 use Rattle.chain_linking.proofs.NeighborLemmas.{nothing_named}
+use Rattle.chain_links.proofs.RestLemmas.{written_at_rest}
 use Rattle.chain_linking.proofs.LinkWriteLemmas.{IsWrite, links_view-write, with_link_map-own}
 use Rattle.chain_linking.proofs.link_writes.set_prev.Goals as goal
 
-pub returns-in-Some-get_inx_mut : goal.returns-in-Some-get_inx_mut
-returns-in-Some-get_inx_mut g c =
+pub returns-in-Some-get_inx_mut-clause-links : goal.returns-in-Some-get_inx_mut-clause-links
+returns-in-Some-get_inx_mut-clause-links g c =
     let number = g.P.Inx.InxKey.number in
     let packed_number = g.P.Inx.InxKey.packed_number in
     let a = c.args.arena.now in
@@ -26,10 +27,20 @@ returns-in-Some-get_inx_mut g c =
     ∙ links_view-write packed_number a n c.in-Some-get_inx_mut.link.now write (with_prev (option_map number c.args.prev)) _ says
     (sym c.get_inx_mut.ensures.value ∙ ap option_copied_mut c.in-Some-get_inx_mut.is) (λ i. refl)))
 
+pub returns-in-Some-get_inx_mut-clause-at_rest : goal.returns-in-Some-get_inx_mut-clause-at_rest
+returns-in-Some-get_inx_mut-clause-at_rest g c =
+    let packed_number = g.P.Inx.InxKey.packed_number in
+    let a = c.args.arena.now in
+    let n = g.P.Inx.InxKey.number c.in-Some.i in
+    let held = rw c.in-Some-get_inx_mut.is at (c.get_inx_mut.follows.holds c.set_prev.new.link) in
+    let stored = sym c.get_inx_mut.ensures.value ∙ ap option_copied_mut c.in-Some-get_inx_mut.is in
+    λ rest. subst (λ b. AreAtRest packed_number b.slots) (sym held.1)
+    (written_at_rest packed_number a.slots n c.in-Some-get_inx_mut.link.now c.set_prev.new.link stored (ap (λ l. packed_number l.destination) c.set_prev.ensures.rest) rest)
+
 pub proved_unreachable-assume_proved-requires : goal.proved_unreachable-assume_proved-requires
 proved_unreachable-assume_proved-requires g c = absurd (
     nothing_named g.P.Inx.InxKey.packed_number c.args.arena.now (g.P.Inx.InxKey.number c.in-Some.i)
     (sym c.get_inx_mut.ensures.value ∙ ap option_copied_mut c.in-None-get_inx_mut.is) (rw c.in-Some.is at c.requires))
 
-pub returns-in-None : goal.returns-in-None
-returns-in-None g c = rw c.in-None.is (with_link_map-own (links_view g.P.Inx.InxKey.packed_number c.args.arena.now))
+pub returns-in-None-clause-links : goal.returns-in-None-clause-links
+returns-in-None-clause-links g c = rw c.in-None.is (with_link_map-own (links_view g.P.Inx.InxKey.packed_number c.args.arena.now))

@@ -9,7 +9,7 @@ use Rattle.chain_links.specs.ChainArena.{LinkView}
 use Rattle.chain_links.specs.Links.{link_view, links_view}
 use Rattle.chain_links.proofs.MappedArenaLemmas.{length-with_each}
 use Rattle.chain_arena.proofs.InsertEntryLemmas.{ok_apart}
-use Rattle.chain_arena.proofs.LinkCopyLemmas.{same_refusal, clone_agrees, is_clone_of, no_capacity_needed}
+use Rattle.chain_arena.proofs.LinkCopyLemmas.{same_refusal, clone_agrees, copied_at_rest, is_clone_of, no_capacity_needed}
 use Rattle.chain_arena.proofs.chain_arena.ChainArena.clone.Goals as goal
 
 pub returns-in-Err-clause-beyond : goal.returns-in-Err-clause-beyond
@@ -41,8 +41,13 @@ returns-in-Err-clause-no_capacity g c none =
 pub invariant_of-result : goal.invariant_of-result
 invariant_of-result g c =
     let made = c.clone_from_by-done in
-    clone_agrees g.P.Inx.InxKey.packed_number g.T.Clone.is_clone c.requires.clones_equal g.P.PtrKey.key _ made.result.1 c.self.inside.arena c.new-arena.result made.new.self
-    (on_ok_is made.result.0 _ c.in-Ok.is made.ensures.copied) (on_ok_is made.result.0 _ c.in-Ok.is made.ensures.slots) c.self.invariant
+    let number = g.P.Inx.InxKey.packed_number in
+    let copied = on_ok_is made.result.0 _ c.in-Ok.is made.ensures.copied in
+    let slots = on_ok_is made.result.0 _ c.in-Ok.is made.ensures.slots in
+    record {
+      agree = clone_agrees number g.T.Clone.is_clone c.requires.clones_equal g.P.PtrKey.key _ made.result.1 c.self.inside.arena c.new-arena.result made.new.self copied slots c.self.invariant.agree;
+      at_rest = copied_at_rest number (λ _ _ u t _. g.T.Clone.is_clone u.value t) (λ h. h) g.P.PtrKey.key _ made.result.1 c.self.inside.arena c.new-arena.result made.new.self copied slots;
+    }
 
 pub returns-in-Ok-clause-copied : goal.returns-in-Ok-clause-copied
 returns-in-Ok-clause-copied g c =

@@ -1,13 +1,12 @@
 -- The links made from the source's links name the same neighbors.
 use Rattle.std.proofs.Common.{◌≤◌, ap, subst, sym}
-use Rattle.chain_laws.specs.Chains.{IsWellLinked}
 use Rattle.arena_traits.specs.Arena.{IsWithinReach}
 use Rattle.arena_base.proofs.SlotCopyLemmas.{either_as, on_err_either, on_ok_both}
-use Rattle.chain_links.specs.ChainArena.{link_map}
-use Rattle.chain_links.specs.Links.{link_view, links_view}
+use Rattle.chain_links.specs.Links.{link_view, links_view, AreAtRest, IsChainArena}
+use Rattle.chain_links.proofs.RestLemmas.{nothing_at_rest}
 use Rattle.chain_links.proofs.MappedArenaLemmas.{length-with_each}
 use Rattle.chain_arena.specs.LinkCopies.{MakesOf}
-use Rattle.chain_arena.proofs.LinkCopyLemmas.{agrees_copied, either_way, copy_abandoned_agrees, link_copied, refusable_viewed}
+use Rattle.chain_arena.proofs.LinkCopyLemmas.{agrees_copied, copied_at_rest, either_way, copy_abandoned_agrees, link_copied, refusable_viewed}
 use Rattle.chain_arena.proofs.chain_arena.ChainArena.clone_from_by.Goals as goal
 
 pub invariant_of-self : goal.invariant_of-self
@@ -17,9 +16,18 @@ invariant_of-self g c =
     let old = c.self.inside.arena in
     let called = c.clone_from_by-done in
     let new = called.new.self in
-    either_way called.result.0 (λ made has. agrees_copied number (MakesOf (link_view number) g.M.ValueMap.makes) (λ m. m.values) g.P.PtrKey.key _ called.result.1 source old new made has c.source.invariant)
-    (λ same. subst (λ a. IsWellLinked (link_map (links_view number a))) (sym same.0) c.self.invariant)
-    (λ gave_up. copy_abandoned_agrees (links_view number old) (links_view number new) (ap (links_view number) gave_up.1)) called.ensures.copied called.ensures.slots called.ensures.err
+    let makes = MakesOf (link_view number) g.M.ValueMap.makes in
+    either_way called.result.0
+    (λ made has. record {
+      agree = agrees_copied number makes (λ m. m.values) g.P.PtrKey.key _ called.result.1 source old new made has c.source.invariant.agree;
+      at_rest = copied_at_rest number makes (λ m. m.values) g.P.PtrKey.key _ called.result.1 source old new made has;
+    })
+    (λ same. subst (IsChainArena number) (sym same.0) c.self.invariant)
+    (λ gave_up. record {
+      agree = copy_abandoned_agrees (links_view number old) (links_view number new) (ap (links_view number) gave_up.1);
+      at_rest = subst (λ a. AreAtRest number a.slots) (sym gave_up.1) (nothing_at_rest number);
+    })
+    called.ensures.copied called.ensures.slots called.ensures.err
 
 pub returns-clause-within : goal.returns-clause-within
 returns-clause-within g c =

@@ -1,10 +1,10 @@
 -- The links are arranged, each with the counter, which was set before.
-use Rattle.std.proofs.Common.{◌+◌, length, refl, ap, sym, ◌∙◌}
+use Rattle.std.proofs.Common.{◌+◌, length, refl, ap, sym, ◌∙◌, subst}
 use Rattle.arena_core.specs.Invalidation.{invalidation_option}
 use Rattle.arena_traits.specs.Entries.{entries}
 use Rattle.arena_traits.specs.Compressions.{overflows_after_compression}
 use Rattle.arena_traits.proofs.ArenaViewLemmas.{length-entries}
-use Rattle.chain_links.specs.Links.{links_view}
+use Rattle.chain_links.specs.Links.{links_view, IsChainArena}
 use Rattle.chain_arena.proofs.CanonicalCompressionLemmas.{arranged_agree, arranged_canonical, arranged_stack_capacity, arranged_reported}
 use Rattle.chain_links.proofs.ArenaInsertionLemmas.{count-values, entry_count-links_view}
 use Rattle.chain_arena.proofs.chain_arena.ChainArena.compress_canonical_by.Goals as goal
@@ -12,8 +12,16 @@ use Rattle.chain_arena.proofs.chain_arena.ChainArena.compress_canonical_by.Goals
 pub invariant_of-self : goal.invariant_of-self
 invariant_of-self g c =
     let view_after = links_view g.P.Inx.InxKey.packed_number in
-    arranged_agree g.V.Visitor.sees g.P.PtrKey.key c.args.visitor c.arrange-visitor.result.0 _ (view_after c.self.inside.arena) (view_after c.begin_generation-overflow.new.self) (view_after c.arrange-visitor.new.arena)
-    (ap view_after c.begin_generation-overflow.ensures.after) c.arrange-visitor.ensures.arranged c.self.invariant
+    record {
+      agree =
+          arranged_agree g.V.Visitor.sees g.P.PtrKey.key c.args.visitor c.arrange-visitor.result.0 _ (view_after c.self.inside.arena) (view_after c.begin_generation-overflow.new.self) (view_after c.arrange-visitor.new.arena)
+          (ap view_after c.begin_generation-overflow.ensures.after) c.arrange-visitor.ensures.arranged c.self.invariant.agree;
+      at_rest = c.arrange-visitor.ensures.at_rest;
+    }
+
+pub arrange-visitor-requires-clause-links : goal.arrange-visitor-requires-clause-links
+arrange-visitor-requires-clause-links g c =
+    subst (IsChainArena g.P.Inx.InxKey.packed_number) (sym c.begin_generation-overflow.ensures.after) (record { agree = c.self.invariant.agree; at_rest = c.self.invariant.at_rest })
 
 pub returns : goal.returns
 returns g c =
@@ -35,5 +43,5 @@ returns g c =
       overflow = c.begin_generation-overflow.ensures.overflow ∙ ap (λ n. invalidation_option (overflows_after_compression g.P.Gen.GenKey.wraps c.args.reset n a.counter) tt) (length-entries a ∙ sym (entry_count-links_view number a));
       placed = made.placed ∙ ap (λ x. x.placed + c.arrange-visitor.result.1.placed) c.begin_generation-overflow.ensures.after;
       touched = made.touched ∙ ap (λ x. x.touched + c.arrange-visitor.result.1.touched) c.begin_generation-overflow.ensures.after;
-      agreed = c.self.invariant;
+      agreed = c.self.invariant.agree;
     })

@@ -11,7 +11,7 @@ use Rattle.chain_linking.proofs.NeighborLemmas.{prev_named}
 use Rattle.chain_arena.proofs.chain_arena.ChainArena.iter_chain.Goals as goal
 
 pub iter_from-requires-clause-agrees : goal.iter_from-requires-clause-agrees
-iter_from-requires-clause-agrees g c = c.self.invariant
+iter_from-requires-clause-agrees g c = c.self.invariant.agree
 
 pub iter_from-requires-clause-onward : goal.iter_from-requires-clause-onward
 iter_from-requires-clause-onward g c =
@@ -25,7 +25,7 @@ iter_from-requires-clause-behind g c =
     let a = c.self.inside.arena in
     let s = link_map (links_view number a) in
     let p = g.P.PtrKey.key c.args.p in
-    subst (λ (o : Option ℕ). IfSome o (HasLink s)) (prev_of-view_after number a p c.in-Some.link.now c.in-Some.ensures.value ∙ sym c.prev.ensures) (prev_named s p.0 c.self.invariant)
+    subst (λ (o : Option ℕ). IfSome o (HasLink s)) (prev_of-view_after number a p c.in-Some.link.now c.in-Some.ensures.value ∙ sym c.prev.ensures) (prev_named s p.0 c.self.invariant.agree)
 
 pub returns-in-Some : goal.returns-in-Some
 returns-in-Some g c =
@@ -35,7 +35,7 @@ returns-in-Some g c =
     let p = g.P.PtrKey.key c.args.p in
     let at = c.in-Some.ensures.value in
     let walk : IsWalkOf links p.0 c.iter_from.result =
-    walker-walk links p.0 _ _ _ _ c.iter_from.ensures (c.len.ensures.entries ∙ sym (entry_count-links_view number a)) c.inx.ensures (c.prev.ensures ∙ sym (prev_of-view_after number a p c.in-Some.link.now at)) c.self.invariant (valid_at number a p c.in-Some.link.now at) in
+    walker-walk links p.0 _ _ _ _ c.iter_from.ensures (c.len.ensures.entries ∙ sym (entry_count-links_view number a)) c.inx.ensures (c.prev.ensures ∙ sym (prev_of-view_after number a p c.in-Some.link.now at)) c.self.invariant.agree (valid_at number a p c.in-Some.link.now at) in
     rw (← c.self.view_is) (record {
       some = (λ _. (same_valid number a p).0 (c.in-Some.ensures.some.0 refl), λ _. refl);
       walk = walk;

@@ -8,7 +8,10 @@ pub invariant_of-self : goal.invariant_of-self
 invariant_of-self g c =
     let packed = g.P.Inx.InxKey.packed_number in
     let made = c.remove_link_at.ensures in
-    agreed_after g.P.Gen.GenKey.following (links_view packed c.self.inside.arena) (links_view packed c.remove_link_at.new.arena) _ _ made.valid (λ none. ap (links_view packed) (made.invalid none)) c.self.invariant
+    record {
+      agree = agreed_after g.P.Gen.GenKey.following (links_view packed c.self.inside.arena) (links_view packed c.remove_link_at.new.arena) _ _ made.valid (λ none. ap (links_view packed) (made.invalid none)) c.self.invariant.agree;
+      at_rest = made.at_rest c.self.invariant.at_rest;
+    }
 
 pub returns : goal.returns
 returns g c =
@@ -18,7 +21,7 @@ returns g c =
     rw (← c.self.view_is) (record {
       returned = made.returned;
       overflow = made.overflow;
-      removal = λ some. removal_of g.P.Gen.GenKey.following (links_view packed a) (links_view packed c.remove_link_at.new.arena) (g.P.Inx.InxKey.number c.args.i) c.self.invariant (made.valid some);
+      removal = λ some. removal_of g.P.Gen.GenKey.following (links_view packed a) (links_view packed c.remove_link_at.new.arena) (g.P.Inx.InxKey.number c.args.i) c.self.invariant.agree (made.valid some);
       invalid = λ none. ap (links_view packed) (made.invalid none);
-      agreed = c.self.invariant;
+      agreed = c.self.invariant.agree;
     })

@@ -1,7 +1,8 @@
 -- A write to the borrowed link writes its value.
-use Rattle.std.proofs.Common.{refl, ap, sym, ◌∙◌}
+use Rattle.std.proofs.Common.{refl, ap, sym, ◌∙◌, subst}
 use Rattle.std.specs.Option.{option_map}
-use Rattle.chain_links.specs.Links.{held_in, links_view}
+use Rattle.chain_links.specs.Links.{held_in, links_view, AreAtRest}
+use Rattle.chain_links.proofs.RestLemmas.{written_at_rest}
 use Rattle.chain_arena.proofs.ValueLoanLemmas.{value_there}
 use Rattle.chain_arena.proofs.EntryWriteLemmas.{written-state, written-link_map, written-agrees, written-view_after}
 use Rattle.chain_arena.proofs.impl_arena_trait.ChainArenaArenaTrait.get_inx_mut.Goals as goal
@@ -9,7 +10,15 @@ use Rattle.chain_arena.proofs.impl_arena_trait.ChainArenaArenaTrait.get_inx_mut.
 pub invariant_of-self-lent : goal.invariant_of-self-lent
 invariant_of-self-lent g c w =
     let held = rw c.in-Some.is at (c.get_inx_mut.follows.holds (record c.in-Some.link.now { t = w })) in
-    written-agrees g.P.Inx.InxKey.packed_number c.self.inside.arena _ (g.P.Inx.InxKey.number c.args.i) c.in-Some.link.now w (sym c.in-Some.ensures.value) held.1 c.self.invariant
+    let number = g.P.Inx.InxKey.packed_number in
+    let a = c.self.inside.arena in
+    let n = g.P.Inx.InxKey.number c.args.i in
+    let link = c.in-Some.link.now in
+    let stored = sym c.in-Some.ensures.value in
+    record {
+      agree = written-agrees number a _ n link w stored held.1 c.self.invariant.agree;
+      at_rest = subst (λ b. AreAtRest number b.slots) (sym held.1) (written_at_rest number a.slots n link (record link { t = w }) stored refl c.self.invariant.at_rest);
+    }
 
 pub returns-in-Some : goal.returns-in-Some
 returns-in-Some g c =

@@ -1,8 +1,8 @@
 -- The link has a new generation, and stays in its chain.
 use Rattle.std.proofs.Common.{ap, sym, subst, ⊎_elim}
 use Rattle.chain_laws.specs.Chains.{IsWellLinked}
-use Rattle.chain_links.specs.ChainArena.{link_map}
-use Rattle.chain_links.specs.Links.{links_view}
+use Rattle.chain_links.specs.Links.{links_view, AreAtRest, IsChainArena}
+use Rattle.chain_links.proofs.RestLemmas.{renewed_at_rest}
 use Rattle.arena_core.specs.Invalidation.{value_within}
 use Rattle.chain_linking.proofs.ConnectionLemmas.{same_valid}
 use Rattle.chain_arena.proofs.ValueLoanLemmas.{valid_or_not}
@@ -12,10 +12,18 @@ use Rattle.chain_arena.proofs.impl_arena_trait.ChainArenaArenaTrait.invalidate.G
 pub invariant_of-self : goal.invariant_of-self
 invariant_of-self g c =
     let p = g.P.PtrKey.key c.args.p in
+    let number = g.P.Inx.InxKey.packed_number in
+    let following = g.P.Gen.GenKey.following in
+    let a = c.self.inside.arena in
     ⊎_elim
-    (λ valid. subst IsWellLinked (sym (renewed-link_map g.P.Inx.InxKey.packed_number g.P.Gen.GenKey.following c.self.inside.arena _ _ (c.invalidate.ensures.more valid))) c.self.invariant)
-    (λ invalid. subst (λ a. IsWellLinked (link_map (links_view g.P.Inx.InxKey.packed_number a))) (sym (c.invalidate.ensures.invalid invalid).1) c.self.invariant)
-    (valid_or_not _ g.met.P.Gen.GenKey.same_is_equal c.self.inside.arena p)
+    (λ valid.
+    let is = c.invalidate.ensures.more valid in
+    record {
+      agree = subst IsWellLinked (sym (renewed-link_map number following a _ _ is)) c.self.invariant.agree;
+      at_rest = subst (λ b. AreAtRest number b.slots) (sym is) (renewed_at_rest number a.slots p.0 (following a.counter) c.self.invariant.at_rest);
+    })
+    (λ invalid. subst (IsChainArena number) (sym (c.invalidate.ensures.invalid invalid).1) c.self.invariant)
+    (valid_or_not _ g.met.P.Gen.GenKey.same_is_equal a p)
 
 pub returns : goal.returns
 returns g c =

@@ -24,7 +24,7 @@ returns g c =
       indexes = entries_within (values_of links).slots greatest (subst (λ n. n ≤ greatest) (sym (length-values number a)) (omega (arith, known.capacity.0.fits, known.capacity.0.at_most_greatest)));
       filled = they_fill (values_of links) (listed-values number a known.listed) a.placed a.touched;
       links = known.entries ∙ sym (entry_count-links_view number a);
-      chains = one_set (link_map links) _ c.self.invariant (link_map-within links);
+      chains = one_set (link_map links) _ c.self.invariant.agree (link_map-within links);
       listed = listed-links_view number a known.listed;
       capacity = subst (λ n. HasCapacityFor greatest n links) (sym (length-links_view number a)) known.capacity;
     })

@@ -31,7 +31,7 @@ pair g c = known g c
 
 -- The links written are the cut.
 is_cut : (g : Over) (c : After-link_pairs g) → cut_links g c ≡ with_link_map (links g c) (without_pair (link_map (links g c)) (g.P.PtrKey.key c.args.p).0 (g.P.Inx.InxKey.number c.in-Some.after))
-is_cut g c = c.link_pairs.ensures ∙ ap (λ (i : ℕ). with_link_map (links g c) (without_pair (link_map (links g c)) i (g.P.Inx.InxKey.number c.in-Some.after))) c.inx.ensures
+is_cut g c = c.link_pairs.ensures.links ∙ ap (λ (i : ℕ). with_link_map (links g c) (without_pair (link_map (links g c)) i (g.P.Inx.InxKey.number c.in-Some.after))) c.inx.ensures
 
 pub link_pairs-requires-clause-first_prev : goal.link_pairs-requires-clause-first_prev
 link_pairs-requires-clause-first_prev g c =
@@ -44,10 +44,13 @@ link_pairs-requires-clause-second_next g c =
     let s = link_map (links_view g.P.Inx.InxKey.packed_number c.self.inside.arena) in
     let p = (g.P.PtrKey.key c.args.p).0 in
     let after = g.P.Inx.InxKey.number c.in-Some.after in
-    prev_valid s after p ((c.self.invariant.both p after).0 (sym (c.in-Some.ensures.neighbor (c.in-Some.ensures.some refl))))
+    prev_valid s after p ((c.self.invariant.agree.both p after).0 (sym (c.in-Some.ensures.neighbor (c.in-Some.ensures.some refl))))
 
 pub invariant_of-self : goal.invariant_of-self
-invariant_of-self g c = agrees_cut (links g c) (cut_links g c) _ _ (is_cut g c) c.self.invariant (pair g c)
+invariant_of-self g c = record {
+  agree = agrees_cut (links g c) (cut_links g c) _ _ (is_cut g c) c.self.invariant.agree (pair g c);
+  at_rest = c.link_pairs.ensures.at_rest c.self.invariant.at_rest;
+}
 
 pub returns-in-Some : goal.returns-in-Some
 returns-in-Some g c =
@@ -63,7 +66,7 @@ returns-in-Some g c =
       chains = at_known _ _ _ at (cut_known a b i j is (pair g c)).chains;
       view_after = ap (λ x. view_of x) (cut_values a b i j is);
       none = tt;
-      agreed = c.self.invariant;
+      agreed = c.self.invariant.agree;
       more = at_known _ _ _ at (cut_known a b i j is (pair g c));
     })
 
@@ -74,6 +77,6 @@ returns-in-None g c = rw (← c.self.view_is) (record {
   chains = tt;
   view_after = tt;
   none = refl;
-  agreed = c.self.invariant;
+  agreed = c.self.invariant.agree;
   more = tt;
 })

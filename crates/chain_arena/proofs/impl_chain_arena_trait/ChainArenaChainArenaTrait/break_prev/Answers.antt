@@ -27,18 +27,18 @@ known : (g : Over) (c : After-link_pairs g) → prev_of (link_map (links g c)) (
 known g c = sym (c.in-Some.ensures.neighbor (c.in-Some.ensures.some refl))
 
 pair : (g : Over) (c : After-link_pairs g) → AreNeighbors (link_map (links g c)) (g.P.Inx.InxKey.number c.in-Some.before) (g.P.PtrKey.key c.args.p).0
-pair g c = (c.self.invariant.both (g.P.Inx.InxKey.number c.in-Some.before) (g.P.PtrKey.key c.args.p).0).1 (known g c)
+pair g c = (c.self.invariant.agree.both (g.P.Inx.InxKey.number c.in-Some.before) (g.P.PtrKey.key c.args.p).0).1 (known g c)
 
 -- The links written are the cut.
 is_cut : (g : Over) (c : After-link_pairs g) → cut_links g c ≡ with_link_map (links g c) (without_pair (link_map (links g c)) (g.P.Inx.InxKey.number c.in-Some.before) (g.P.PtrKey.key c.args.p).0)
-is_cut g c = c.link_pairs.ensures ∙ ap (λ (i : ℕ). with_link_map (links g c) (without_pair (link_map (links g c)) (g.P.Inx.InxKey.number c.in-Some.before) i)) c.inx.ensures
+is_cut g c = c.link_pairs.ensures.links ∙ ap (λ (i : ℕ). with_link_map (links g c) (without_pair (link_map (links g c)) (g.P.Inx.InxKey.number c.in-Some.before) i)) c.inx.ensures
 
 pub link_pairs-requires-clause-first_prev : goal.link_pairs-requires-clause-first_prev
 link_pairs-requires-clause-first_prev g c =
     let s = link_map (links_view g.P.Inx.InxKey.packed_number c.self.inside.arena) in
     let p = (g.P.PtrKey.key c.args.p).0 in
     let before = g.P.Inx.InxKey.number c.in-Some.before in
-    next_valid s before p ((c.self.invariant.both before p).1 (sym (c.in-Some.ensures.neighbor (c.in-Some.ensures.some refl))))
+    next_valid s before p ((c.self.invariant.agree.both before p).1 (sym (c.in-Some.ensures.neighbor (c.in-Some.ensures.some refl))))
 
 pub link_pairs-requires-clause-second_next : goal.link_pairs-requires-clause-second_next
 link_pairs-requires-clause-second_next g c =
@@ -47,7 +47,10 @@ link_pairs-requires-clause-second_next g c =
     subst (HasLink s) (sym c.inx.ensures) (prev_valid s p (g.P.Inx.InxKey.number c.in-Some.before) (sym (c.in-Some.ensures.neighbor (c.in-Some.ensures.some refl))))
 
 pub invariant_of-self : goal.invariant_of-self
-invariant_of-self g c = agrees_cut (links g c) (cut_links g c) _ _ (is_cut g c) c.self.invariant (pair g c)
+invariant_of-self g c = record {
+  agree = agrees_cut (links g c) (cut_links g c) _ _ (is_cut g c) c.self.invariant.agree (pair g c);
+  at_rest = c.link_pairs.ensures.at_rest c.self.invariant.at_rest;
+}
 
 pub returns-in-Some : goal.returns-in-Some
 returns-in-Some g c =
@@ -63,7 +66,7 @@ returns-in-Some g c =
       chains = at_known _ _ _ at (cut_known a b i j is (pair g c)).chains;
       view_after = ap (λ x. view_of x) (cut_values a b i j is);
       none = tt;
-      agreed = c.self.invariant;
+      agreed = c.self.invariant.agree;
       more = at_known _ _ _ at (cut_known a b i j is (pair g c));
     })
 
@@ -74,6 +77,6 @@ returns-in-None g c = rw (← c.self.view_is) (record {
   chains = tt;
   view_after = tt;
   none = refl;
-  agreed = c.self.invariant;
+  agreed = c.self.invariant.agree;
   more = tt;
 })

@@ -23,7 +23,10 @@ module _ {X Gen T : Type 0} (a b : Links Gen T) (p q : ℕ × Gen) where
   known (Some x) may is states = states (may.0 refl) is
 
 pub invariant_of-self : goal.invariant_of-self
-invariant_of-self g c = agrees_after _ _ _ _ c.join.result c.join.ensures.some c.join.ensures.joined c.join.ensures.none c.self.invariant
+invariant_of-self g c = record {
+  agree = agrees_after _ _ _ _ c.join.result c.join.ensures.some c.join.ensures.joined c.join.ensures.none c.self.invariant.agree;
+  at_rest = c.join.ensures.at_rest c.self.invariant.at_rest;
+}
 
 pub returns : goal.returns
 returns g c =
@@ -39,7 +42,7 @@ returns g c =
       joined = known a b p q o may is (λ may is. links a b p q may is);
       view_after = known a b p q o may is (λ may is. ap (λ x. view_of x) (joined-values a b p q may is));
       none = c.join.ensures.none;
-      agreed = c.self.invariant;
+      agreed = c.self.invariant.agree;
       chains = known a b p q o may is (λ may is. joined-chains a b p q may is);
       more = known a b p q o may is (λ may is. record { state = is; links = links a b p q may is; pair = joined-pair a b p q may is; chains = joined-chains a b p q may is });
     })

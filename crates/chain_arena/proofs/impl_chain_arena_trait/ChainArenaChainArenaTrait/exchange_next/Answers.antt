@@ -39,7 +39,7 @@ valid_q g c = next_valid (link_map (links g c)) _ _ (sym (after_q g c))
 is_exchanged : (g : Over) (c : After-link_pairs g) → exchanged_links g c ≡ with_link_map (links g c) (with_exchange (link_map (links g c)) (g.P.PtrKey.key c.args.p).0 (g.P.PtrKey.key c.args.q).0)
 is_exchanged g c =
     let s = links g c in
-    c.link_pairs.ensures
+    c.link_pairs.ensures.links
     ∙ (ap₂ (λ (i j : ℕ). with_link_map s (with_neighbors (with_neighbors (link_map s) (Some i) (Some (g.P.Inx.InxKey.number c.in-Some-next_of_link.after_q))) (Some j) (Some (g.P.Inx.InxKey.number c.in-Some.after_p)))) c.inx-i.ensures c.inx-j.ensures
     ∙ ap₂ (λ (a b : Option ℕ). with_link_map s (with_neighbors (with_neighbors (link_map s) (Some (g.P.PtrKey.key c.args.p).0) b) (Some (g.P.PtrKey.key c.args.q).0) a)) (after_p g c) (after_q g c))
 
@@ -54,7 +54,7 @@ link_pairs-requires-clause-first_next g c =
     let s = link_map (links_view g.P.Inx.InxKey.packed_number c.self.inside.arena) in
     let q = (g.P.PtrKey.key c.args.q).0 in
     let after = g.P.Inx.InxKey.number c.in-Some-next_of_link.after_q in
-    prev_valid s after q ((c.self.invariant.both q after).0 (sym (c.in-Some-next_of_link.ensures.neighbor (c.in-Some-next_of_link.ensures.some refl))))
+    prev_valid s after q ((c.self.invariant.agree.both q after).0 (sym (c.in-Some-next_of_link.ensures.neighbor (c.in-Some-next_of_link.ensures.some refl))))
 
 pub link_pairs-requires-clause-second_prev : goal.link_pairs-requires-clause-second_prev
 link_pairs-requires-clause-second_prev g c =
@@ -67,10 +67,13 @@ link_pairs-requires-clause-second_next g c =
     let s = link_map (links_view g.P.Inx.InxKey.packed_number c.self.inside.arena) in
     let p = (g.P.PtrKey.key c.args.p).0 in
     let after = g.P.Inx.InxKey.number c.in-Some.after_p in
-    prev_valid s after p ((c.self.invariant.both p after).0 (sym (c.in-Some.ensures.neighbor (c.in-Some.ensures.some refl))))
+    prev_valid s after p ((c.self.invariant.agree.both p after).0 (sym (c.in-Some.ensures.neighbor (c.in-Some.ensures.some refl))))
 
 pub invariant_of-self : goal.invariant_of-self
-invariant_of-self g c = agrees_exchange (links g c) (exchanged_links g c) _ _ (is_exchanged g c) c.self.invariant (valid_p g c) (valid_q g c)
+invariant_of-self g c = record {
+  agree = agrees_exchange (links g c) (exchanged_links g c) _ _ (is_exchanged g c) c.self.invariant.agree (valid_p g c) (valid_q g c);
+  at_rest = c.link_pairs.ensures.at_rest c.self.invariant.at_rest;
+}
 
 pub returns-in-Some-next_of_link : goal.returns-in-Some-next_of_link
 returns-in-Some-next_of_link g c =
@@ -85,11 +88,11 @@ returns-in-Some-next_of_link g c =
         λ _. refl,
       );
       exchanged = exchange_reports a b i j is;
-      chains = (exchange_known a b i j is c.self.invariant (valid_p g c) (valid_q g c)).chains;
+      chains = (exchange_known a b i j is c.self.invariant.agree (valid_p g c) (valid_q g c)).chains;
       view_after = ap (λ x. view_of x) (exchange_values a b i j is);
       none = tt;
-      agreed = c.self.invariant;
-      more = exchange_known a b i j is c.self.invariant (valid_p g c) (valid_q g c);
+      agreed = c.self.invariant.agree;
+      more = exchange_known a b i j is c.self.invariant.agree (valid_p g c) (valid_q g c);
     })
 
 pub returns-in-None-next_of_link : goal.returns-in-None-next_of_link
@@ -99,7 +102,7 @@ returns-in-None-next_of_link g c = rw (← c.self.view_is) (record {
   chains = tt;
   view_after = tt;
   none = refl;
-  agreed = c.self.invariant;
+  agreed = c.self.invariant.agree;
   more = tt;
 })
 
@@ -110,6 +113,6 @@ returns-in-None g c = rw (← c.self.view_is) (record {
   chains = tt;
   view_after = tt;
   none = refl;
-  agreed = c.self.invariant;
+  agreed = c.self.invariant.agree;
   more = tt;
 })

@@ -23,5 +23,5 @@ lent {K} {Gen} {T} number a i r stored =
 pub returns : goal.returns
 returns g c = rw (← c.self.view_is) (record {
   link = lent g.P.Inx.InxKey.packed_number c.self.inside.arena (g.P.Inx.InxKey.number c.args.i) c.get_inx.result c.get_inx.ensures;
-  agree = c.self.invariant;
+  agree = c.self.invariant.agree;
 })

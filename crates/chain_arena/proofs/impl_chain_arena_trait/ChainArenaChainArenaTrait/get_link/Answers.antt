@@ -14,7 +14,7 @@ neighbors-requires-clause-prev g c =
     let a = c.self.inside.arena in
     let p = g.P.PtrKey.key c.args.p in
     let s = link_map (links_view number a) in
-    subst (λ (o : Option ℕ). IfSome o (HasLink s)) (prev_of-view_after number a p c.in-Some.link.now c.in-Some.ensures.value) (prev_named s p.0 c.self.invariant)
+    subst (λ (o : Option ℕ). IfSome o (HasLink s)) (prev_of-view_after number a p c.in-Some.link.now c.in-Some.ensures.value) (prev_named s p.0 c.self.invariant.agree)
 
 pub neighbors-requires-clause-next : goal.neighbors-requires-clause-next
 neighbors-requires-clause-next g c =
@@ -22,7 +22,7 @@ neighbors-requires-clause-next g c =
     let a = c.self.inside.arena in
     let p = g.P.PtrKey.key c.args.p in
     let s = link_map (links_view number a) in
-    subst (λ (o : Option ℕ). IfSome o (HasLink s)) (next_of-view_after number a p c.in-Some.link.now c.in-Some.ensures.value) (next_named s p.0 c.self.invariant)
+    subst (λ (o : Option ℕ). IfSome o (HasLink s)) (next_of-view_after number a p c.in-Some.link.now c.in-Some.ensures.value) (next_named s p.0 c.self.invariant.agree)
 
 pub returns-in-Some : goal.returns-in-Some
 returns-in-Some g c =
@@ -34,10 +34,10 @@ returns-in-Some g c =
       some = (λ _. same.0 (c.in-Some.ensures.some.0 refl), λ _. refl);
       link = rw (c.new.ensures.prev, c.new.ensures.next, c.new.ensures.value)
           (link_at_ptr number a p c.in-Some.link.now _ _ c.in-Some.ensures.value c.neighbors.ensures.prev c.neighbors.ensures.next);
-      agree = c.self.invariant;
+      agree = c.self.invariant.agree;
     })
 
 pub returns-in-None : goal.returns-in-None
 returns-in-None g c =
     let same = same_valid g.P.Inx.InxKey.packed_number c.self.inside.arena (g.P.PtrKey.key c.args.p) in
-    rw (← c.self.view_is) (record { some = (λ h. same.0 (c.in-None.ensures.some.0 h), λ valid. c.in-None.ensures.some.1 (same.1 valid)); link = tt; agree = c.self.invariant })
+    rw (← c.self.view_is) (record { some = (λ h. same.0 (c.in-None.ensures.some.0 h), λ valid. c.in-None.ensures.some.1 (same.1 valid)); link = tt; agree = c.self.invariant.agree })
