@@ -3,7 +3,6 @@ mod link_order;
 mod link_text;
 mod links;
 mod pointer_text;
-mod recasters;
 mod results;
 mod stacks;
 mod support;

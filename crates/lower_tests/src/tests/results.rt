@@ -1,7 +1,6 @@
-// Tests of the results of calls that invalidate, and of the errors.
+// Tests of the results of calls that invalidate.
 use crate::tests::support::equal;
-use arena_ptr::{AllocError, InvalidationOption, InvalidationResult};
-use std::alloc;
+use arena_ptr::{InvalidationOption, InvalidationResult};
 
 fn is_above_three(n: i32) -> bool {
     n > 3
@@ -65,10 +64,4 @@ fn a_result_may_own_its_value(rt: HostRuntime) {
     let outcome = InvalidationResult::GenerationOverflow(owned);
     let want = InvalidationResult::GenerationOverflow(1);
     equal(&rt, "the length", outcome.map(|v| v.len()), want);
-}
-
-#[test]
-fn refused_memory_of_std_is_an_error_here(rt: HostRuntime) {
-    let error = AllocError::from(alloc::AllocError);
-    equal(&rt, "the error", error, AllocError);
 }

@@ -8,6 +8,7 @@ use arena_ptr::{
 use std::alloc::Global;
 use std::mem;
 use std::process::Abort;
+use std::rc::Rc;
 use test_types::FailingStack;
 
 // Appends an item, growing the stack first if it is full, and returns whether it grew.
@@ -363,32 +364,39 @@ fn growths<S: SlotStack<Item = u32>>(alloc: Global) -> [usize; 1] {
     [failed]
 }
 
-// Pushes four items that own memory, drops two, and replaces one. Returns whether the replaced item
-// and those left are as expected.
-fn owners<S: SlotStack<Item = Vec<i32>>>(alloc: Global) -> [bool; 3] {
-    let mut stack = S::new(alloc);
-    for k in 1..5 {
-        if let Ok(item) = Vec::from_array(alloc, [k, k + 1]) {
-            let _ = push(&mut stack, item);
+// Lengths to which a stack of 70 items is truncated in turn. A stack in blocks has two blocks then.
+const LENGTHS: [usize; 7] = [70, 66, 64, 3, 1, 1, 0];
+
+// Pushes 70 copies of a shared value, and returns how many there are.
+fn push_copies<S: SlotStack<Item = Rc<u8>>>(stack: &mut S, value: &Rc<u8>) -> usize {
+    for _ in 0..70 {
+        if let Ok(copy) = value.clone() {
+            let _ = push(stack, copy);
         }
     }
-    if stack.len() == 4 {
-        stack.truncate(2);
-    }
-    let empty = Vec::new(stack.allocator());
-    let was = replace(&mut stack, 0, empty);
-    [
-        is_list(was.as_ref(), &[1, 2]),
-        is_list(stack.get(0), &[]),
-        is_list(stack.get(1), &[2, 3]),
-    ]
+    Rc::strong_count(value)
 }
 
-fn is_list(item: Option<&Vec<i32>>, want: &[i32]) -> bool {
-    match item {
-        Some(list) => list.as_slice() == want,
-        None => false,
+// Truncates a stack to a length, and returns how many copies are left.
+fn copies_left<S: SlotStack<Item = Rc<u8>>>(stack: &mut S, value: &Rc<u8>, n: usize) -> usize {
+    if n <= stack.len() {
+        stack.truncate(n);
     }
+    Rc::strong_count(value)
+}
+
+// Returns whether each truncation drops the items behind the rest, once. The value counts, too.
+fn drops_the_rest<S: SlotStack<Item = Rc<u8>>>(alloc: Global) -> bool {
+    let Ok(value) = Rc::new(alloc, 5) else {
+        return false;
+    };
+    let mut stack = S::new(alloc);
+    let mut are_dropped = push_copies(&mut stack, &value) == 71;
+    for n in LENGTHS {
+        let is_right = copies_left(&mut stack, &value, n) == n.saturating_add(1);
+        are_dropped = are_dropped && is_right;
+    }
+    are_dropped
 }
 
 // Capacity grows in blocks of 64. Then fills a new stack in few growths, since each adds a block:
@@ -418,25 +426,27 @@ static IN_BLOCKS: [Call; 22] = [
     Call::FillInFew(1000, 16),
 ];
 
-// Grows by several blocks at once: all or none are added, and a second call succeeds.
-// `tools/test_alloc_failures` refuses each request in turn.
-fn adds_blocks<S: SlotStack<Item = u32>>(stack: &mut S) -> [bool; 3] {
-    let want = if stack.reserve_to(300).is_ok() {
-        320
-    } else {
-        0
-    };
-    [
+// Grows by several blocks at once: all or none are added, and a second call succeeds. Returns
+// whether the first one does.
+fn adds_blocks<S: SlotStack<Item = u32>>(rt: &impl Abort, stack: &mut S) -> bool {
+    let is_grown = stack.reserve_to(300).is_ok();
+    let want = if is_grown { 320 } else { 0 };
+    let are_right = [
         shape(stack) == (0, want, None),
         stack.reserve_to(300).is_ok(),
         shape(stack) == (0, 320, None),
-    ]
+    ];
+    all(rt, "all or none", &are_right);
+    is_grown
 }
 
+// Where one request is refused, as by `tools/test_alloc_failures`, one of two stacks grows at once.
 #[test]
 fn blocks_or_none(rt: HostRuntime) {
-    let mut stack = ChunkStack::<u32>::new(rt.alloc());
-    all(&rt, "all or none", &adds_blocks(&mut stack));
+    let mut one = ChunkStack::<u32>::new(rt.alloc());
+    let mut other = ChunkStack::<u32>::new(rt.alloc());
+    let (first, second) = (adds_blocks(&rt, &mut one), adds_blocks(&rt, &mut other));
+    all(&rt, "one of two grows", &[first || second]);
 }
 
 fn lists<S: SlotStack<Item = u32>>(alloc: Global, growths: &[Call]) -> [usize; 2] {
@@ -465,15 +475,12 @@ fn stacks_of_numbers(rt: HostRuntime) {
 }
 
 #[test]
-fn items_that_own_memory_are_dropped(rt: HostRuntime) {
-    all(
-        &rt,
-        "of a stack",
-        &owners::<HeapStack<Vec<i32>>>(rt.alloc()),
-    );
-    all(
-        &rt,
-        "in blocks",
-        &owners::<ChunkStack<Vec<i32>>>(rt.alloc()),
-    );
+fn a_truncation_drops_the_rest(rt: HostRuntime) {
+    let alloc = rt.alloc();
+    let are_dropped = [
+        drops_the_rest::<HeapStack<Rc<u8>>>(alloc),
+        drops_the_rest::<LimitedStack<Rc<u8>>>(alloc),
+        drops_the_rest::<ChunkStack<Rc<u8>>>(alloc),
+    ];
+    all(&rt, "each stack", &are_dropped);
 }
