@@ -13,8 +13,8 @@ mod run_queue;
 
 use arena_base::ArenaSlot;
 use arena_ptr::{
-    ChainInsertionError, ChunkStack, Gen32, HeapStack, Inx32, Ptr, PtrGen, PtrInx, PtrKey,
-    ReallocationError, SlotStack, ToolPtr,
+    ChainInsertionError, ChunkStack, Gen32, HeapStack, Inx32, LimitedStack, Ptr, PtrGen, PtrInx,
+    PtrKey, ReallocationError, SlotStack, ToolPtr,
 };
 use chain_arena::{ChainArena, LinkNoGen};
 use chain_examples::Documents;
@@ -23,7 +23,7 @@ use forwarding_arena::ForwardingArena;
 use own_calls::OwnCalls;
 use std::alloc::Global;
 use std::process::Abort;
-use test_types::FailingStack;
+use test_types::{EightSlots, FailingStack};
 
 type Slot = ArenaSlot<ToolPtr, LinkNoGen<ToolPtr, u32>>;
 
@@ -129,6 +129,8 @@ enum Part {
     Rows,
     // The calls that are refused where each growth is refused once.
     Refusals,
+    // The calls that grow an arena with a maximum of eight.
+    WithinEight,
     NoMemory,
 }
 
@@ -141,22 +143,19 @@ type AllWrong = [Wrong; 5];
 
 const RIGHT: AllWrong = [None; 5];
 
-fn all_wrong<P: Named, A: ChainArenaTrait<P, u32> + Drop>(
-    alloc: Global,
-    refuses: bool,
-) -> AllWrong {
-    let queue = run_queue::wrong::<P, A>(alloc, refuses);
-    let [square, hole, corner] = mesh::wrong::<P, A>(alloc, refuses);
+fn all_wrong<P: Named, A: ChainArenaTrait<P, u32> + Drop>(alloc: Global, part: Part) -> AllWrong {
+    let queue = run_queue::wrong::<P, A>(alloc, part);
+    let [square, hole, corner] = mesh::wrong::<P, A>(alloc, part);
     let mut texts = Documents::<P, u32, A>::new(alloc);
-    let documents = documents::wrong(&mut texts, documents::rows(refuses));
+    let documents = documents::wrong(&mut texts, documents::rows(part));
     [queue, square, hole, corner, documents]
 }
 
 fn all_wrong_by_forwarding<P: Named, A: ChainArenaTrait<P, u32> + Drop>(
     alloc: Global,
-    refuses: bool,
+    part: Part,
 ) -> AllWrong {
-    all_wrong::<P, ForwardingArena<A>>(alloc, refuses)
+    all_wrong::<P, ForwardingArena<A>>(alloc, part)
 }
 
 // Returns `None` if `is_right`, else the first row.
@@ -164,24 +163,33 @@ fn wrong_unless(is_right: bool) -> Wrong {
     if is_right { None } else { Some(0) }
 }
 
-// Returns what is wrong with an arena, with its forwarding arena, and then with bookmarks, or with
-// the calls with a given allocator.
+// Returns the capacity of a new arena for eight links, or 0 if it is refused.
+fn first_capacity<P: Named, A: ChainArenaTrait<P, u32> + Drop>(alloc: Global) -> usize {
+    match A::with_min_capacity(alloc, 8) {
+        Ok(arena) => arena.capacity(),
+        Err(_) => 0,
+    }
+}
+
+// Returns what is wrong with an arena, with its forwarding arena, and then with bookmarks and a new
+// arena, or with the calls with a given allocator.
 fn results<P: Named, A: OwnCalls<P>>(alloc: Global, part: Part) -> [AllWrong; 3] {
-    let refuses = match part {
-        Part::Rows => false,
-        Part::Refusals => true,
+    let is_made = match part {
+        Part::WithinEight => first_capacity::<P, A>(alloc) == 8,
         Part::NoMemory => {
             let calls = wrong_unless(no_memory::are_right::<P, A>(alloc));
             return [RIGHT, RIGHT, [calls, None, None, None, None]];
         }
+        _ => true,
     };
-    let own = all_wrong::<P, A>(alloc, refuses);
-    let forwarded = all_wrong_by_forwarding::<P, A>(alloc, refuses);
+    let own = all_wrong::<P, A>(alloc, part);
+    let forwarded = all_wrong_by_forwarding::<P, A>(alloc, part);
     let (edits, are_right) = bookmarks::wrong::<P, A>(alloc);
+    let marks = wrong_unless(are_right);
     [
         own,
         forwarded,
-        [edits, wrong_unless(are_right), None, None, None],
+        [edits, marks, wrong_unless(is_made), None, None],
     ]
 }
 
@@ -215,6 +223,11 @@ fn each_growth_is_refused_once(rt: HostRuntime) {
     for part in [Part::Refusals, Part::Rows] {
         check_examples::<FailingStack<HeapStack<Slot>>>(&rt, rt.alloc(), part);
     }
+}
+
+#[test]
+fn an_arena_grows_within_its_maximum(rt: HostRuntime) {
+    check_examples::<EightSlots<LimitedStack<Slot>>>(&rt, rt.alloc(), Part::WithinEight);
 }
 
 #[test]

@@ -1,7 +1,8 @@
 //! Tests of texts: their paragraphs are inserted, moved and removed, and their parts rearranged.
 
 use super::{
-    Named, Wrong, Yield, is_reserved, number_of, value_of, with_digit, with_hex_digit, yielded,
+    Named, Part, Wrong, Yield, is_reserved, number_of, value_of, with_digit, with_hex_digit,
+    yielded,
 };
 use chain_examples::Documents;
 use chain_traits::ChainArenaTrait;
@@ -90,10 +91,24 @@ const REFUSED: [Row; 4] = [
     (Op::Reserve, 0, 0, 1, 0x100_000_000_000),
 ];
 
+// Growths within a maximum of eight: to 1, 2 and 4 for a new paragraph, and to 5 or more by
+// `reserve`.
+const WITHIN_EIGHT: [Row; 5] = [
+    (Op::Begin, 0, 1, 0x12, 0x100_000_000_000),
+    (Op::After, 0x12, 3, 0x22, 0x102_310_000_000),
+    (Op::Before, 0x22, 2, 0x32, 0x103_330_212_000),
+    (Op::Reserve, 0, 0, 1, 0x103_330_212_000),
+    (Op::HasMaximum, 0, 0, 1, 0x103_330_212_000),
+];
+
 const PARAGRAPHS: [u32; 4] = [0x12, 0x22, 0x32, 0x42];
 
-pub(super) fn rows(refuses: bool) -> &'static [Row] {
-    if refuses { &REFUSED } else { &ROWS }
+pub(super) fn rows(part: Part) -> &'static [Row] {
+    match part {
+        Part::Refusals => &REFUSED,
+        Part::WithinEight => &WITHIN_EIGHT,
+        _ => &ROWS,
+    }
 }
 
 // Returns each paragraph, and the indexes of the ones before and after it, in three hexadecimal

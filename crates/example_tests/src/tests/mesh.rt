@@ -1,6 +1,6 @@
 //! Tests of a mesh: a square is triangulated and merged again.
 
-use super::{Named, Wrong, Yield, is_reserved, number_of, value_of, with_hex_digit, yielded};
+use super::{Named, Part, Wrong, Yield, is_reserved, number_of, value_of, with_hex_digit, yielded};
 use chain_examples::Mesh;
 use chain_traits::ChainArenaTrait;
 use std::alloc::Global;
@@ -123,6 +123,23 @@ const REFUSED: [Row; 4] = [
     (Op::Reserve, 3, 0, 1, 0x11_00_00_00_00_00, 0),
 ];
 
+// Growths within a maximum of eight: to 1, 2 and 4 for a new corner, and to 6 or more for the copies
+// of a split. A ninth corner is refused.
+const WITHIN_EIGHT: [Row; 6] = [
+    (Op::Start, 0, 1, 0x12, 0x11_00_00_00_00_00, 0),
+    (Op::After, 0x12, 2, 0x22, 0x12_21_00_00_00_00, 0),
+    (Op::After, 0x22, 3, 0x32, 0x12_23_31_00_00_00, 0),
+    (Op::After, 0x32, 4, 0x42, 0x12_23_34_41_00_00, 0),
+    (Op::Split, 0x12, 0x32, 0x5262, 0x12_23_31_45_16_34, 0),
+    (Op::Reserve, 3, 0, 0, 0x12_23_31_45_16_34, 0),
+];
+
+// The same by `reserve`, beside a corner.
+const RESERVED_WITHIN_EIGHT: [Row; 2] = [
+    (Op::Start, 0, 1, 0x12, 0x11_00_00_00_00_00, 0),
+    (Op::Reserve, 3, 0, 1, 0x11_00_00_00_00_00, 0),
+];
+
 // Returns the point of each corner, and the index of the next corner, in two hexadecimal digits.
 fn contents<P: Named, A: ChainArenaTrait<P, u32> + Drop>(
     mesh: &Polygons<P, A>,
@@ -223,14 +240,16 @@ fn first_wrong<P: Named, A: ChainArenaTrait<P, u32> + Drop>(alloc: Global, rows:
 
 pub(super) fn wrong<P: Named, A: ChainArenaTrait<P, u32> + Drop>(
     alloc: Global,
-    refuses: bool,
+    part: Part,
 ) -> [Wrong; 3] {
-    if refuses {
-        return [first_wrong::<P, A>(alloc, &REFUSED), None, None];
-    }
+    let [first, second, third]: [&[Row]; 3] = match part {
+        Part::Refusals => [&REFUSED, &[], &[]],
+        Part::WithinEight => [&WITHIN_EIGHT, &RESERVED_WITHIN_EIGHT, &[]],
+        _ => [&ROWS, &BESIDE_A_HOLE, &ONE_CORNER],
+    };
     [
-        first_wrong::<P, A>(alloc, &ROWS),
-        first_wrong::<P, A>(alloc, &BESIDE_A_HOLE),
-        first_wrong::<P, A>(alloc, &ONE_CORNER),
+        first_wrong::<P, A>(alloc, first),
+        first_wrong::<P, A>(alloc, second),
+        first_wrong::<P, A>(alloc, third),
     ]
 }

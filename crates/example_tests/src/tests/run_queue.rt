@@ -1,7 +1,7 @@
 //! Tests of a run queue: five tasks in turn, with cancellations.
 
 use super::no_memory::NoMemory;
-use super::{Named, Wrong, Yield, size, value_of, with_digit, yielded};
+use super::{Named, Part, Wrong, Yield, size, value_of, with_digit, yielded};
 use arena_ptr::ReallocationError;
 use chain_examples::RunQueue;
 use chain_traits::ChainArenaTrait;
@@ -90,6 +90,27 @@ const REFUSED: [Row; 7] = [
     (Op::Capacity, 0, 0, 1, 4),
     (Op::Reserve, 3, 0, 1, 4),
 ];
+
+// Growths up to a maximum of eight: to 1 and 6 by `spawn`, to 3 and 8 by `reserve`. More is refused.
+const WITHIN_EIGHT: [Row; 9] = [
+    (Op::Spawn, 0, 4, 0x12, 4),
+    (Op::Reserve, 2, 0, 1, 4),
+    (Op::Capacity, 0, 0, 3, 4),
+    (Op::Spawn, 0, 5, 0x22, 54),
+    (Op::Spawn, 0, 6, 0x32, 564),
+    (Op::Spawn, 0, 7, 0x42, 5674),
+    (Op::Reserve, 4, 0, 1, 5674),
+    (Op::Capacity, 0, 0, 8, 5674),
+    (Op::Reserve, 5, 0, 3, 5674),
+];
+
+fn rows(part: Part) -> &'static [Row] {
+    match part {
+        Part::Refusals => &REFUSED,
+        Part::WithinEight => &WITHIN_EIGHT,
+        _ => &ROWS,
+    }
+}
 
 // Makes steps, and returns the tasks that become current.
 fn turns<P: Named, A: ChainArenaTrait<P, u32> + Drop>(
@@ -217,11 +238,10 @@ fn row_holds<P: Named, A: ChainArenaTrait<P, u32> + Drop>(
 // Returns the first row that does not hold.
 pub(super) fn wrong<P: Named, A: ChainArenaTrait<P, u32> + Drop>(
     alloc: Global,
-    refuses: bool,
+    part: Part,
 ) -> Wrong {
     let mut queue = Queue::<P, A>::new(alloc);
-    let rows: &[Row] = if refuses { &REFUSED } else { &ROWS };
-    for (place, row) in rows.iter().enumerate() {
+    for (place, row) in rows(part).iter().enumerate() {
         if !row_holds(alloc, &mut queue, row) {
             return Some(place);
         }
