@@ -3,7 +3,6 @@ mod any_arena;
 mod arena_text;
 mod inherent_calls;
 mod limits;
-mod link_sizes;
 mod parser;
 mod plain_arenas;
 mod plain_calls;
@@ -13,6 +12,8 @@ mod scripts;
 mod trait_calls;
 mod transfers;
 mod value_counts;
+
+ghost use Rattle.std.specs.Prelude.{◌≡◌};
 
 use arena_base::{Advancer, ArenaSlot, ArenaTrait};
 use arena_ptr::{
@@ -26,6 +27,14 @@ use test_types::Pair;
 
 // A slot of a link of a number.
 type Slot<P> = ArenaSlot<P, LinkNoGen<P, u32>>;
+
+// Its tag, generation, two interlinks, destination and value take four bytes each. No test calls
+// this, since the clause is proved.
+fn slot_size() -> usize
+    ensures { result ≡ 24 }
+{
+    size_of::<Slot<ToolPtr>>()
+}
 
 type Chains = ChainArena<ToolPtr, u32>;
 

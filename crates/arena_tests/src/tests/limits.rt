@@ -87,8 +87,10 @@ Len = 0
 Counter = Some(2)
 ";
 
-// An 8-bit index under a maximum of 255.
+// An 8-bit index under a maximum of 255, which is reached by growth to 100, 200 and 255.
 const UNDER_255: &str = "\
+Reserve 100 = Ok(())
+Capacities = (0, 100)
 InsertMany 255 = 255
 Insert Disconnected 256 = Err(BeyondMaxCapacity)
 ";

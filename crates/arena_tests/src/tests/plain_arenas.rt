@@ -2,8 +2,8 @@
 
 use super::plain_calls::PlainSlot;
 use super::plain_rows::{
-    COMPACTORS, COMPRESSIONS, COPIED_BEYOND, COPY, EACH_CALL, EVERY_OTHER, NEXT_POINTERS, REUSED,
-    USED_UP, WITHIN_TWO,
+    COMPACTORS, COMPRESSIONS, COPIED_BEYOND, COPIED_WITHIN, COPY, EACH_CALL, EVERY_OTHER,
+    NEXT_POINTERS, REUSED, USED_UP, WITHIN_TWO,
 };
 use super::pointers::{BarePtr, SmallPtr};
 use super::scripts::{RunsCalls, plays};
@@ -29,26 +29,33 @@ fn plays_plain<P: Numbered, S: SlotStack<Item = PlainSlot<P>>>(
     }
 }
 
-// Runs a table under a maximum of two, which cannot be lowered then.
-fn plays_within_two<A: RunsCalls + SetMaxCapacity>(
+// Maxima, and tables on a new arena with that maximum, which cannot be lowered after the first.
+const LIMITED: [(usize, [&str; 2]); 3] = [
+    (2, [WITHIN_TWO, USED_UP]),
+    (2, [COPIED_BEYOND, USED_UP]),
+    (3, [COPIED_WITHIN, ""]),
+];
+
+fn plays_within<A: RunsCalls + SetMaxCapacity>(
     rt: &impl Abort,
     alloc: Global,
     arena: &mut A,
-    table: &str,
+    most: usize,
+    tables: [&str; 2],
 ) {
-    let limit = arena.set_max_capacity(2);
+    let limit = arena.set_max_capacity(most);
     holds(rt, "a maximum", limit.is_ok());
-    plays(rt, alloc, arena, table);
+    plays(rt, alloc, arena, tables[0]);
     let less = arena.set_max_capacity(1);
     holds(rt, "no less maximum", less.is_err());
-    plays(rt, alloc, arena, USED_UP);
+    plays(rt, alloc, arena, tables[1]);
 }
 
 fn check_limits<P: Numbered, S: LimitStack<Item = PlainSlot<P>>>(rt: &impl Abort, alloc: Global) {
     plays_plain::<P, S>(rt, alloc, &EACH);
-    for table in [WITHIN_TWO, COPIED_BEYOND] {
+    for (most, tables) in LIMITED {
         let mut arena: Arena<P, u32, S> = Arena::new(alloc);
-        plays_within_two(rt, alloc, &mut arena, table);
+        plays_within(rt, alloc, &mut arena, most, tables);
     }
 }
 

@@ -272,6 +272,8 @@ IsEmpty = true
 
 // Two slots at most, which are used up.
 pub(super) const WITHIN_TWO: &str = "\
+Reserve 1 = Ok(())
+Capacities = (0, 1)
 Insert 1 = Ok(1(2))
 Insert 2 = Ok(2(2))
 Insert 3 = Err(BeyondMaxCapacity)
@@ -286,7 +288,15 @@ Get 1 2 = Some(5)
 Insert 6 = Ok(2(2))
 ";
 
-// What both leave.
+// A copy of three slots grows an arena to a maximum of three.
+pub(super) const COPIED_WITHIN: &str = "\
+CopyHole = (Ok(()), 2, 2)
+Insert 7 = Ok(2(3))
+Capacities = (3, 3)
+Maximum = Some(3)
+";
+
+// What the two tables for two slots leave.
 pub(super) const USED_UP: &str = "\
 Len = 2
 Capacities = (2, 2)

@@ -1,8 +1,10 @@
 //! Tests that no value is lost or cloned twice, by values that count themselves and their clones.
 
 use super::{at, holds};
-use arena_base::{Arena, ArenaSlot, ArenaTrait};
-use arena_ptr::{ChunkStack, HeapStack, Inx32, LimitedStack, PtrKey, SlotStack, ToolPtr};
+use arena_base::{Arena, ArenaCloneFromWith, ArenaSlot, ArenaTrait};
+use arena_ptr::{
+    ChunkStack, Gen32, HeapStack, Inx32, LimitedStack, PtrGen, PtrKey, SlotStack, ToolPtr,
+};
 use chain_arena::{Call, ChainArena, ChainArenaTrait, LinkBody, LinkInsertKind, LinkNoGen, apply};
 use std::alloc::{AllocError, Global};
 use std::cell::Cell;
@@ -48,6 +50,8 @@ impl Clone for Counted {
 type Valued = LinkNoGen<ToolPtr, Counted>;
 
 type Slot = ArenaSlot<ToolPtr, Valued>;
+
+type PlainSlot = ArenaSlot<ToolPtr, Counted>;
 
 type ValuesOver<S> = ChainArena<ToolPtr, Counted, S>;
 
@@ -121,6 +125,70 @@ fn left_by_a_refusal<S: SlotStack<Item = Slot>>(
     (made.is_err(), Rc::strong_count(&clones))
 }
 
+// What replaces the values of an arena: none, a copy of others, or others that are transferred.
+#[derive(Clone, Copy)]
+enum Replacement {
+    Nothing,
+    Copy,
+    Transfer,
+}
+
+// Copies an arena over another, with values of the same count.
+fn copy_over<S: SlotStack<Item = Slot>>(
+    rt: &impl Abort,
+    source: &ValuesOver<S>,
+    target: &mut ValuesOver<S>,
+    clones: &Rc<Cell<u32>>,
+) {
+    let _ = target.clone_from_with(source, |_, link: &Valued| value(rt, clones, link.t.number));
+}
+
+// Transfers all links of an arena to another. Generic over pointers and values, as
+// `link_and_drain`.
+fn carry_over<P: PtrKey, T: Drop, S: SlotStack<Item = ArenaSlot<P, LinkNoGen<P, T>>>>(
+    source: &mut ChainArena<P, T, S>,
+    target: &mut ChainArena<P, T, S>,
+    now: P::Gen,
+) {
+    let _ = target.transfer_canonical_reallocating(now, source, |_, value, _| value.allow());
+}
+
+// Replaces three values by a copy or a transfer of two others, or by none. Returns the strong
+// counts of the three and of the others.
+fn left_by_a_replacement<S: SlotStack<Item = Slot>>(
+    rt: &impl Abort,
+    alloc: Global,
+    by: Replacement,
+) -> (usize, usize) {
+    let (old, new) = (no_clones(rt, alloc), no_clones(rt, alloc));
+    let mut target: ValuesOver<S> = lone_values(rt, alloc, &old, &[0, 0, 0]);
+    let mut source: ValuesOver<S> = lone_values(rt, alloc, &new, &[0, 0]);
+    match by {
+        Replacement::Nothing => {
+            target.clear();
+        }
+        Replacement::Copy => copy_over(rt, &source, &mut target, &new),
+        Replacement::Transfer => carry_over(&mut source, &mut target, Gen32::two()),
+    }
+    (Rc::strong_count(&old), Rc::strong_count(&new))
+}
+
+// Copies two values over one of a plain arena. Returns the strong counts of the one and of the two.
+fn left_by_a_plain_copy<S: SlotStack<Item = Slot>, R: SlotStack<Item = PlainSlot>>(
+    rt: &impl Abort,
+    alloc: Global,
+) -> (usize, usize) {
+    let (old, new) = (no_clones(rt, alloc), no_clones(rt, alloc));
+    let mut target: Arena<ToolPtr, Counted, R> = Arena::new(alloc);
+    let _ = target.insert_reallocating(value(rt, &old, 0));
+    let source: ValuesOver<S> = lone_values(rt, alloc, &new, &[0, 0]);
+    let _ = source.clone_to_arena(
+        &mut target,
+        |_, link: &Valued| value(rt, &new, link.t.number),
+    );
+    (Rc::strong_count(&old), Rc::strong_count(&new))
+}
+
 // Returns a clone of an arena, if no value refuses, and its number of links.
 fn clone_and_count<S: SlotStack<Item = Slot>>(
     alloc: Global,
@@ -152,9 +220,32 @@ fn cloned_once_more<S: SlotStack<Item = Slot>>(
     [refused, made]
 }
 
+// An arena that is cleared, or a target of a copy or a transfer, drops what it held.
+const REPLACEMENTS: [(Replacement, (usize, usize)); 3] = [
+    (Replacement::Nothing, (1, 3)),
+    (Replacement::Copy, (1, 5)),
+    (Replacement::Transfer, (1, 3)),
+];
+
+fn check_replacements<S: SlotStack<Item = Slot>, R: SlotStack<Item = PlainSlot>>(
+    rt: &impl Abort,
+    alloc: Global,
+) {
+    for (by, want) in REPLACEMENTS {
+        let left = left_by_a_replacement::<S>(rt, alloc, by);
+        holds(rt, "the old values and the new ones", left == want);
+    }
+    let left = left_by_a_plain_copy::<S, R>(rt, alloc);
+    holds(rt, "a plain copy", left == (1, 5));
+}
+
 // After a drain only the lone link's value is left, and after a refused conversion none. A clone
 // clones each value once, and drops what was cloned before a refusal.
-fn check_counts<S: SlotStack<Item = Slot>>(rt: &impl Abort, alloc: Global) {
+fn check_counts<S: SlotStack<Item = Slot>, R: SlotStack<Item = PlainSlot>>(
+    rt: &impl Abort,
+    alloc: Global,
+) {
+    check_replacements::<S, R>(rt, alloc);
     for take in [0, 1, 5] {
         let left = left_by_a_drain::<S>(rt, alloc, take);
         holds(rt, "links and values", left == (1, 2));
@@ -169,7 +260,7 @@ fn check_counts<S: SlotStack<Item = Slot>>(rt: &impl Abort, alloc: Global) {
 
 #[test]
 fn values_are_dropped_and_cloned_once(rt: HostRuntime) {
-    check_counts::<HeapStack<Slot>>(&rt, rt.alloc());
-    check_counts::<LimitedStack<Slot>>(&rt, rt.alloc());
-    check_counts::<ChunkStack<Slot>>(&rt, rt.alloc());
+    check_counts::<HeapStack<Slot>, HeapStack<PlainSlot>>(&rt, rt.alloc());
+    check_counts::<LimitedStack<Slot>, LimitedStack<PlainSlot>>(&rt, rt.alloc());
+    check_counts::<ChunkStack<Slot>, ChunkStack<PlainSlot>>(&rt, rt.alloc());
 }
