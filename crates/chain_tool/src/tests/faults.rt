@@ -1,11 +1,10 @@
 //! Tests of the exit status and of the text on standard error at each fault.
 
-use crate::{reason, respond_to_input};
-use chain_commands::ToolError;
+use crate::status::respond_to_input;
 use std::alloc::Global;
 use std::io;
-use std::io::{ErrorKind, Read, Write, sink};
-use std::process::{Abort, ExitCode};
+use std::io::{BufWriter, ErrorKind, Read, Write, sink};
+use std::process::{Abort, ExitCode, Termination};
 
 /// A reader and writer whose every operation fails.
 #[derive(Drop)]
@@ -27,33 +26,36 @@ impl Write for Failing {
     }
 }
 
-/// Returns whether a run ends with this status and writes this text to standard error.
-fn ends<R: Read + Drop, W: Write + Drop>(
+/// Checks that a run ends with this status and writes this text to standard error.
+fn check<R: Read + Drop, W: Write + Drop>(
+    rt: &(impl Abort + Eprint),
     alloc: Global,
     mut reader: R,
-    writer: W,
-    status: ExitCode,
-    words: &str,
-) -> bool {
+    writer: io::Result<W>,
+    want: (ExitCode, &str),
+) {
     let mut errors = Vec::new(alloc);
-    let ended = respond_to_input(alloc, &mut reader, writer, &mut errors);
-    ended == status && errors.as_slice() == words.as_bytes()
+    let status = respond_to_input(alloc, &mut reader, writer, &mut errors);
+    let is_reported = status.report(rt) == want.0 && errors.as_slice() == want.1.as_bytes();
+    assert!(rt; is_reported, "{}", want.1);
 }
 
 #[test]
 fn a_fault_is_reported(rt: HostRuntime) {
     let alloc = rt.alloc();
     let lines = "len\n".as_bytes();
-    assert!(rt; ends(alloc, lines, sink(), ExitCode::SUCCESS, ""));
-    let words = "chain_tool: cannot read\n";
-    assert!(rt; ends(alloc, Failing, sink(), ExitCode::FAILURE, words));
-    let words = "chain_tool: cannot write\n";
-    assert!(rt; ends(alloc, lines, Failing, ExitCode::FAILURE, words));
+    check(&rt, alloc, lines, Ok(sink()), (ExitCode::SUCCESS, ""));
+    let want = (ExitCode::FAILURE, "chain_tool: cannot read\n");
+    check(&rt, alloc, Failing, Ok(sink()), want);
+    let want = (ExitCode::FAILURE, "chain_tool: cannot write\n");
+    check(&rt, alloc, lines, BufWriter::new(alloc, Failing), want);
+    let refused: io::Result<Failing> = Err(io::Error::from(ErrorKind::OutOfMemory));
+    let want = (ExitCode::FAILURE, "chain_tool: no memory\n");
+    check(&rt, alloc, lines, refused, want);
 }
 
 #[test]
 fn a_fault_that_cannot_be_reported(rt: HostRuntime) {
-    let ended = respond_to_input(rt.alloc(), &mut Failing, sink(), &mut Failing);
-    assert!(rt; ended == ExitCode::FAILURE);
-    assert!(rt; reason(ToolError::Memory) == "chain_tool: no memory\n");
+    let status = respond_to_input(rt.alloc(), &mut Failing, Ok(sink()), &mut Failing);
+    assert!(rt; status.report(&rt) == ExitCode::FAILURE);
 }

@@ -264,19 +264,34 @@ fn is_beginning(written: &str, want: &str) -> bool {
     want.starts_with(before) && (before.is_empty() || before.ends_with('\n'))
 }
 
-/// Returns whether a run on the sample has read all, with output for each line. A run that ends
-/// with an allocation failure needs output only for the first lines.
-/// `tools/test_alloc_failures` refuses each request in turn.
-fn is_sample(ended: Result<(), ToolError>, unread: usize, answered: &[u8]) -> bool {
+/// Whether what a run did is allowed where one request for memory may be refused, and whether it
+/// did all.
+type Outcome = (bool, bool);
+
+/// Checks two runs. One request is refused in both at most, as by `tools/test_alloc_failures`, so
+/// one of them does all. With ample memory both do.
+fn check_both(rt: &impl Abort, runs: [Outcome; 2]) {
+    let [
+        (is_first_right, is_first_whole),
+        (is_second_right, is_second_whole),
+    ] = runs;
+    holds(rt, "each run", is_first_right && is_second_right);
+    holds(rt, "one of two", is_first_whole || is_second_whole);
+}
+
+/// Returns the outcome of a run on the sample. A run that ends with an allocation failure needs
+/// output only for the first lines, any other must read all and have output for each line.
+fn outcome_of(ended: Result<(), ToolError>, unread: usize, answered: &[u8]) -> Outcome {
     let (_, output) = SAMPLE;
     let Ok(answered) = str::from_utf8(answered) else {
-        return false;
+        return (false, false);
     };
     let is_so = match ended {
         Ok(()) => unread == 0 && answered.split('\n').count() == 12,
         Err(why) => why == ToolError::Memory,
     };
-    is_so && is_beginning(answered, output)
+    let is_right = is_so && is_beginning(answered, output);
+    (is_right, ended.is_ok() && answered == output)
 }
 
 fn written_of(size: usize, left: usize) -> usize
@@ -303,35 +318,43 @@ fn run_to_buffer<S: SlotStack<Item = Slot>>(
     (result, reader.len(), written_of(200, buffer.len()))
 }
 
-fn sample_on<S: SlotStack<Item = Slot>>(alloc: Global) -> bool {
+fn sample_on<S: SlotStack<Item = Slot>>(alloc: Global) -> Outcome {
     let mut arena = LinksOver::<S>::new(alloc);
     let mut written = [0u8; 200];
     let (result, unread, count) = run_to_buffer(alloc, &mut arena, SAMPLE.0, &mut written);
-    is_sample(result, unread, &written[..count])
+    outcome_of(result, unread, &written[..count])
 }
 
-fn sample(alloc: Global) -> bool {
+fn sample(alloc: Global) -> Outcome {
     let (input, _) = SAMPLE;
     let mut reader = input.as_bytes();
     let mut written = [0u8; 200];
     let mut buffer = written.as_mut_slice();
     let result = run(alloc, &mut reader, &mut buffer);
     let count = written_of(200, buffer.len());
-    is_sample(result, reader.len(), &written[..count])
+    outcome_of(result, reader.len(), &written[..count])
+}
+
+fn check_samples<S: SlotStack<Item = Slot>>(rt: &impl Abort, alloc: Global) {
+    check_both(rt, [sample_on::<S>(alloc), sample_on::<S>(alloc)]);
 }
 
 #[test]
 fn a_sample_or_its_beginning(rt: HostRuntime) {
-    assert!(rt; sample(rt.alloc()));
-    assert!(rt; sample_on::<HeapStack<Slot>>(rt.alloc()));
-    assert!(rt; sample_on::<LimitedStack<Slot>>(rt.alloc()));
-    assert!(rt; sample_on::<ChunkStack<Slot>>(rt.alloc()));
+    check_both(&rt, [sample(rt.alloc()), sample(rt.alloc())]);
+    check_samples::<HeapStack<Slot>>(&rt, rt.alloc());
+    check_samples::<LimitedStack<Slot>>(&rt, rt.alloc());
+    check_samples::<ChunkStack<Slot>>(&rt, rt.alloc());
 }
 
+/// Inserts a link, on a second attempt if the first allocation is refused.
 fn insert_lone<S: SlotStack<Item = Slot>>(arena: &mut LinksOver<S>, t: u32) -> Option<ToolPtr> {
-    arena
-        .insert_reallocating(LinkInsertKind::Disconnected, t)
-        .ok()
+    for _ in 0..2 {
+        if let Ok(p) = arena.insert_reallocating(LinkInsertKind::Disconnected, t) {
+            return Some(p);
+        }
+    }
+    None
 }
 
 /// Returns whether the moves of one link are written, or else nothing is.
@@ -344,20 +367,26 @@ fn is_moved_or_not(ended: Result<(), ToolError>, written: &[u8]) -> bool {
     written == outcome.as_bytes()
 }
 
-/// Runs `moves` on an arena of one link, where memory may be refused: `tools/test_alloc_failures`
-/// refuses each request in turn. Returns whether the moves are written, or else the pointer is kept
-/// and nothing is written.
-fn moves_or_keeps<S: SlotStack<Item = Slot>>(alloc: Global) -> bool {
+/// Returns the outcome of `moves` on an arena of one link. Either the moves are written, or the
+/// pointer is kept and nothing is written.
+fn moves_or_keeps<S: SlotStack<Item = Slot>>(alloc: Global) -> Outcome {
     let mut arena = LinksOver::<S>::new(alloc);
     let Some(p) = insert_lone(&mut arena, 5) else {
-        return false;
+        return (false, false);
     };
     let mut written = [0u8; 200];
     let (result, _, count) = run_to_buffer(alloc, &mut arena, "moves keep\n", &mut written);
-    is_moved_or_not(result, &written[..count]) && arena.contains(p) == result.is_err()
+    let is_kept = arena.contains(p) == result.is_err();
+    let is_right = is_moved_or_not(result, &written[..count]) && is_kept;
+    (is_right, result.is_ok())
 }
 
 #[test]
 fn moves_or_nothing(rt: HostRuntime) {
-    assert!(rt; moves_or_keeps::<HeapStack<Slot>>(rt.alloc()));
+    let alloc = rt.alloc();
+    let runs = [
+        moves_or_keeps::<HeapStack<Slot>>(alloc),
+        moves_or_keeps::<HeapStack<Slot>>(alloc),
+    ];
+    check_both(&rt, runs);
 }
