@@ -2,7 +2,8 @@
 //! the first would have had.
 //!
 //! Here a stack refuses every other growth. `tools/test_alloc_failures` refuses each request for
-//! memory in turn, in the tests that allow it.
+//! memory in turn, in the tests that allow it. They require that one of two attempts or runs
+//! succeeds, so with ample memory each does.
 
 use super::call_lists::check_refused_list;
 use super::canonical::carry_over;
@@ -170,9 +171,9 @@ fn check_grown<A: RunsCalls + Drop, B: RunsCalls + Drop>(
     calls: &[Do],
 ) {
     for call in calls {
-        let (_, want) = run_growth::<B>(rt, alloc, begin, *call);
-        let (refused, got) = run_growth::<A>(rt, alloc, begin, *call);
-        holds(rt, "refused at first", refused);
+        let (other_refuses, want) = run_growth::<B>(rt, alloc, begin, *call);
+        let (refuses, got) = run_growth::<A>(rt, alloc, begin, *call);
+        holds(rt, "only one refuses", refuses && !other_refuses);
         same(rt, "the arena then", got.as_str(), want.as_str());
     }
 }
@@ -231,9 +232,9 @@ fn check_carried<F: SlotStack<Item = Slot>, S: SlotStack<Item = Slot>>(
     rt: &impl Abort,
     alloc: Global,
 ) {
-    let (_, want) = run_transfer::<S>(rt, alloc);
-    let (refused, got) = run_transfer::<F>(rt, alloc);
-    holds(rt, "refused at first", refused);
+    let (other_refuses, want) = run_transfer::<S>(rt, alloc);
+    let (refuses, got) = run_transfer::<F>(rt, alloc);
+    holds(rt, "only one refuses", refuses && !other_refuses);
     same(rt, "both arenas then", got.as_str(), want.as_str());
 }
 

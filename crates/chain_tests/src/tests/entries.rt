@@ -164,6 +164,28 @@ static FULL_STILL: [Line; 3] = [
     (Do::Maximum, "Some(2)"),
 ];
 
+// Growths within a maximum of eight: to 1, 2 and 4 for a link, and to 8 for a copy.
+static GROWN: [Line; 5] = [
+    (
+        Do::InsertIfAllowed(Kind::Disconnected, 1),
+        "Some(Ok(P0[1](2)))",
+    ),
+    (
+        Do::InsertByAnyEntry(Kind::Disconnected, 2),
+        "Some(Ok(P0[2](2)))",
+    ),
+    (Do::InsertByEntry(Kind::Disconnected, 3), "Ok(P0[3](2))"),
+    (
+        Do::CopyOver(5),
+        "(Ok(()), [(P0[1](2), {(start), 3} 1), (P0[3](2), {1, 4} 3), (P0[4](2), {3, 5} 4), (P0[5](2), {4, (end)} 5)])",
+    ),
+    (Do::Capacities, "(Some(Gen32 { number: 3 }), (8, Some(8)))"),
+];
+
+fn within_eight() -> &'static [Line] {
+    &GROWN
+}
+
 fn in_two_slots() -> [&'static [Line]; 2] {
     [&FULL, &FULL_STILL]
 }
@@ -177,4 +199,10 @@ pub(super) fn check_full<S: LimitStack<Item = Slot>>(rt: &impl Abort, alloc: Glo
     let less = arena.set_max_capacity(1);
     holds(rt, "no less maximum", less.is_err());
     plays(rt, alloc, "a maximum of two still", &mut arena, still);
+}
+
+// Checks that each call that grows an arena does so within its maximum.
+pub(super) fn check_growths<S: LimitStack<Item = Slot>>(rt: &impl Abort, alloc: Global) {
+    let mut arena: ChainsOver<S> = fresh_limited(rt, alloc, 8);
+    plays(rt, alloc, "a maximum of eight", &mut arena, within_eight());
 }

@@ -106,22 +106,42 @@ pub(super) fn check_refused_copy<S: SlotStack<Item = Slot>, A: PlainArena>(
     same_texts(rt, "refused, and copied", &got, want);
 }
 
-// Checks that both copies to an arena with a maximum of two are refused.
+// Maxima, and the texts of two copies of three slots. Under two both are refused, and under three
+// the first grows the arena.
+static LIMITED: [(usize, [&str; 4]); 2] = [
+    (
+        2,
+        [
+            "(Err(BeyondMaxCapacity), [])",
+            "(0, 0, Some(Gen32 { number: 2 }))",
+            "(Err(BeyondMaxCapacity), [])",
+            "(Some(P0[1](2)), (Some(9), None))",
+        ],
+    ),
+    (
+        3,
+        [
+            "(Ok(()), [(P0[1](2), {(start), 3} 1), (P0[3](2), {1, (end)} 3)])",
+            "(2, 3, Some(Gen32 { number: 3 }))",
+            "(Ok(()), [(P0[1](2), {(start), 3} 1), (P0[3](2), {1, (end)} 3)])",
+            "(Some(P0[2](3)), (Some(11), Some(23)))",
+        ],
+    ),
+];
+
+// Checks copies to an arena with each maximum.
 pub(super) fn check_limited_copy<S: SlotStack<Item = Slot>, A: PlainArena + SetMaxCapacity>(
     rt: &impl Abort,
     alloc: Global,
 ) {
-    let mut target = A::new(alloc);
-    let limit = target.set_max_capacity(2);
-    holds(rt, "a maximum of two", limit.is_ok());
-    let got = copied_twice::<S, A>(alloc, &mut target);
-    let want = [
-        "(Err(BeyondMaxCapacity), [])",
-        "(0, 0, Some(Gen32 { number: 2 }))",
-        "(Err(BeyondMaxCapacity), [])",
-        "(Some(P0[1](2)), (Some(9), None))",
-    ];
-    same_texts(rt, "refused twice", &got, want);
+    for row in &LIMITED {
+        let (most, want) = *row;
+        let mut target = A::new(alloc);
+        let limit = target.set_max_capacity(most);
+        holds(rt, "a maximum", limit.is_ok());
+        let got = copied_twice::<S, A>(alloc, &mut target);
+        same_texts(rt, "under a maximum", &got, want);
+    }
 }
 
 // Returns an arena of the values 1 to 8 without three. The freed list is 3, 5, 2.

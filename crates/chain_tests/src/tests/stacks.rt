@@ -5,14 +5,14 @@ use super::call_lists::{check_every_reply, check_lists};
 use super::canonical::{check_bounds, layouts};
 use super::consistency::{check_accepted, check_rows};
 use super::copies::copies;
-use super::entries::check_full;
+use super::entries::{check_full, check_growths};
 use super::inherent_call_tables::tables;
 use super::plain_copies::{
     PlainArena, check_limited_copy, check_refused_beside_holes, check_refused_copy,
 };
 use super::scripts::{RunsCalls, plays_all, plays_on};
 use super::visitor_state::{check_beyond_one, check_counted, check_kept};
-use super::{Bare, ChainsOver, Slot};
+use super::{Bare, ChainsOver, Slot, holds};
 use arena_base::Arena;
 use arena_ptr::{
     ChunkStack, HeapStack, LimitStack, LimitedStack, SetMaxCapacity, SlotStack, ToolPtr,
@@ -95,8 +95,11 @@ fn check_all_requests<S: SlotStack<Item = Slot>, R: SlotStack<Item = Bare>>(
     check_plain::<S, R>(rt, alloc, false);
 }
 
+// Checks calls that request no memory, and that one of two growths after them succeeds.
 fn check_no_requests<S: SlotStack<Item = Slot>>(rt: &impl Abort, alloc: Global) {
-    let _ = next_is_refused::<ChainsOver<S>>(rt, alloc);
+    let first = next_is_refused::<ChainsOver<S>>(rt, alloc);
+    let second = next_is_refused::<ChainsOver<S>>(rt, alloc);
+    holds(rt, "one of two growths", !first || !second);
 }
 
 // Runs a part over a stack of links, and over one of the values of a plain arena.
@@ -126,6 +129,7 @@ fn check_maxima<S: LimitStack<Item = Slot>, R: LimitStack<Item = Bare>>(
     alloc: Global,
 ) {
     check_full::<S>(rt, alloc);
+    check_growths::<S>(rt, alloc);
     check_every_reply::<S>(rt, alloc);
     check_beyond_one::<S>(rt, alloc);
     check_limited_copies::<S, Plain<R>>(rt, alloc);
