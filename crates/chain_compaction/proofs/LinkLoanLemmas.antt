@@ -10,12 +10,11 @@ use Rattle.chain_links.specs.declared.links.LinkBody.{LinkBody}
 use Rattle.chain_links.specs.Links.{AreAtRest, StayAtRest}
 use Rattle.chain_links.proofs.RestLemmas.{written_at_rest}
 use Rattle.chain_compaction.specs.WorkCounts.{CountsWork}
-use Rattle.chain_compaction.proofs.WorkCountLemmas.{counts_touch, counts_then}
+use Rattle.chain_compaction.proofs.WorkCountLemmas.{counts_touch}
 
 module _ {P T S Inx Gen Word : Type 0} (old new : Compactor P T S Inx Gen Word) (i : ℕ) where
   -- The value l at i was overwritten by w.
   pub record IsOverwritten (l w : T) : Type 0 where
-    pub same_reference : new.arena.ghost_name ≡ old.arena.ghost_name
     pub stored : Some l ≡ option_map (λ e. e.1) (slot_at old.held.slots i)
     pub held : new.held ≡ held_with_value old.held i w
     pub arena : new.arena.now ≡ with_touch old.arena.now
@@ -23,7 +22,6 @@ module _ {P T S Inx Gen Word : Type 0} (old new : Compactor P T S Inx Gen Word) 
 
   -- There was no value at i.
   pub record IsUntouched : Type 0 where
-    pub same_reference : new.arena.ghost_name ≡ old.arena.ghost_name
     pub none : None ≡ option_map (λ e. e.1) (slot_at old.held.slots i)
     pub held : new.held ≡ old.held
     pub arena : new.arena.now ≡ with_touch old.arena.now
@@ -35,11 +33,10 @@ module _ {P T S Inx Gen Word : Type 0} (old new : Compactor P T S Inx Gen Word) 
   pub lent : (lends : Option (MutBor T)) (m : MutBor T) (w : T) → lends ≡ Some m → option_copied_mut lends ≡ option_map (λ e. e.1) (slot_at old.held.slots i)
       → OnSome lends ((new.held ≡ held_with_value old.held i w) × Touched) → IsOverwritten m.now w
   lent lends m w is there wrote = record {
-    same_reference = made.1.0;
     stored = sym (ap option_copied_mut is) ∙ there;
     held = made.0;
     arena = made.1.1;
-    counts = counts_touch old.arena.now new.arena.now old.placed new.placed old.touched new.touched made.1.1 made.1.2 made.1.3;
+    counts = counts_touch old new made.1.0 made.1.1 made.1.2 made.1.3;
   }
     where
       by : (o : Option (MutBor T)) → o ≡ Some m → OnSome o ((new.held ≡ held_with_value old.held i w) × Touched) → (new.held ≡ held_with_value old.held i w) × Touched
@@ -51,11 +48,10 @@ module _ {P T S Inx Gen Word : Type 0} (old new : Compactor P T S Inx Gen Word) 
 
   pub lent_none : (lends : Option (MutBor T)) → lends ≡ None → option_copied_mut lends ≡ option_map (λ e. e.1) (slot_at old.held.slots i) → (new.held ≡ old.held) × Touched → IsUntouched
   lent_none lends is there kept = record {
-    same_reference = kept.1.0;
     none = sym (ap option_copied_mut is) ∙ there;
     held = kept.0;
     arena = kept.1.1;
-    counts = counts_touch old.arena.now new.arena.now old.placed new.placed old.touched new.touched kept.1.1 kept.1.2 kept.1.3;
+    counts = counts_touch old new kept.1.0 kept.1.1 kept.1.2 kept.1.3;
   }
 
 -- A link that is overwritten by one with the same destination leaves links without destinations so.
@@ -65,12 +61,6 @@ overwritten_rests number old new i link w wrote same rest = subst (λ held. AreA
 
 -- Two calls after one another.
 module _ {P T S Inx Gen Word : Type 0} (a b c : Compactor P T S Inx Gen Word) where
-  pub same_then : b.arena.ghost_name ≡ a.arena.ghost_name → c.arena.ghost_name ≡ b.arena.ghost_name → c.arena.ghost_name ≡ a.arena.ghost_name
-  same_then one two = two ∙ one
-
-  pub counts_on : CountsWork a b → CountsWork b c → CountsWork a c
-  counts_on one two = counts_then a.arena.now b.arena.now c.arena.now a.placed b.placed c.placed a.touched b.touched c.touched one two
-
   pub held_then : b.held ≡ a.held → c.held ≡ b.held → c.held ≡ a.held
   held_then one two = two ∙ one
 

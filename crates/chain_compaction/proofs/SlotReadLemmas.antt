@@ -17,7 +17,7 @@ module _ {P T S Inx Gen Word : Type 0} where
   pub has_read : (old new : Compactor P T S Inx Gen Word)
       → (new.held ≡ old.held) × ((new.arena.ghost_name ≡ old.arena.ghost_name) × (new.arena.now ≡ with_touch old.arena.now) × (new.placed ≡ old.placed) × (new.touched ≡ saturating_increment old.touched))
       → HasReadSlot old new
-  has_read old new h = record { same_reference = h.1.0; held = h.0; arena = h.1.1; counts = counts_touch _ _ _ _ _ _ h.1.1 h.1.2 h.1.3 }
+  has_read old new h = record { held = h.0; arena = h.1.1; counts = counts_touch old new h.1.0 h.1.1 h.1.2 h.1.3 }
 
 module _ {Gen K T : Type 0} (packed : K → Option ℕ) where
   -- An entry has its generation, its interlinks and its destination.

@@ -2,7 +2,8 @@
 use Rattle.std.proofs.Common.{◌≡◌, ℕ, ◌+◌, refl, ap, ◌∙◌, arith}
 use Rattle.arena_traits.specs.Arena.{Arena}
 use Rattle.arena_base.specs.DetachedSlots.{saturating_increment, with_touch, with_placement}
-use Rattle.chain_compaction.specs.WorkCounts.{saturating_count, HasCounted, CountsOn}
+use Rattle.arena_base.specs.declared.compactor.Compactor.{Compactor}
+use Rattle.chain_compaction.specs.WorkCounts.{saturating_count, HasCounted, CountsWork}
 
 -- One more is counted, up to the greatest count.
 counted_more : (n : ℕ) → saturating_increment (saturating_count n) ≡ saturating_count (n + 1)
@@ -13,17 +14,29 @@ module _ {Gen T : Type 0} where
   pub same_totals : (a : Arena Gen T) (p q t u : ℕ) → p ≡ q → t ≡ u → ◌≡◌ {A = Arena Gen T} (record a { placed = p; touched = t }) (record a { placed = q; touched = u })
   same_totals a p q t u e f = λ j. record a { placed = e j; touched = f j }
 
+  -- A new compactor has counted nothing.
+  pub counted_none : (a : Arena Gen T) → HasCounted a a 0 0
+  counted_none a = record {
+    placements = 0;
+    touches = 0;
+    arena = same_totals a a.placed (a.placed + 0) a.touched (a.touched + 0) (omega arith) (omega arith);
+    placements_counted = omega arith;
+    touches_counted = omega arith;
+  }
+
+module _ {V T S Inx Gen Word : Type 0} where
   -- Counts after no work.
-  pub counts_none : (a : Arena Gen T) (p t : ℕ) → CountsOn a a p t p t
-  counts_none a p t = record { on = λ first had. had }
+  pub counts_none : (a : Compactor V T S Inx Gen Word) → CountsWork a a
+  counts_none a = record { same_reference = refl; on = λ first had. had }
 
   -- Counts after two parts of the work.
-  pub counts_then : (a b c : Arena Gen T) (p q r t u v : ℕ) → CountsOn a b p t q u → CountsOn b c q u r v → CountsOn a c p t r v
-  counts_then a b c p q r t u v one two = record { on = λ first had. two.on first (one.on first had) }
+  pub counts_on : (a b c : Compactor V T S Inx Gen Word) → CountsWork a b → CountsWork b c → CountsWork a c
+  counts_on a b c one two = record { same_reference = two.same_reference ∙ one.same_reference; on = λ first had. two.on first (one.on first had) }
 
   -- Counts after a touch.
-  pub counts_touch : (a b : Arena Gen T) (p q t u : ℕ) → b ≡ with_touch a → q ≡ p → u ≡ saturating_increment t → CountsOn a b p t q u
-  counts_touch a b p q t u is same more = record {
+  pub counts_touch : (a b : Compactor V T S Inx Gen Word) → b.arena.ghost_name ≡ a.arena.ghost_name → b.arena.now ≡ with_touch a.arena.now → b.placed ≡ a.placed → b.touched ≡ saturating_increment a.touched → CountsWork a b
+  counts_touch a b reference is same more = record {
+    same_reference = reference;
     on = λ first had. record {
       placements = had.placements;
       touches = had.touches + 1;
@@ -34,8 +47,9 @@ module _ {Gen T : Type 0} where
   }
 
   -- Counts after a placement.
-  pub counts_place : (a b : Arena Gen T) (p q t u : ℕ) → b ≡ with_placement a → q ≡ saturating_increment p → u ≡ t → CountsOn a b p t q u
-  counts_place a b p q t u is more same = record {
+  pub counts_place : (a b : Compactor V T S Inx Gen Word) → b.arena.ghost_name ≡ a.arena.ghost_name → b.arena.now ≡ with_placement a.arena.now → b.placed ≡ saturating_increment a.placed → b.touched ≡ a.touched → CountsWork a b
+  counts_place a b reference is more same = record {
+    same_reference = reference;
     on = λ first had. record {
       placements = had.placements + 1;
       touches = had.touches;
@@ -43,14 +57,4 @@ module _ {Gen T : Type 0} where
       placements_counted = more ∙ (ap saturating_increment had.placements_counted ∙ counted_more had.placements);
       touches_counted = same ∙ had.touches_counted;
     };
-  }
-
-  -- A new compactor has counted nothing.
-  pub counted_none : (a : Arena Gen T) → HasCounted a a 0 0
-  counted_none a = record {
-    placements = 0;
-    touches = 0;
-    arena = same_totals a a.placed (a.placed + 0) a.touched (a.touched + 0) (omega arith) (omega arith);
-    placements_counted = omega arith;
-    touches_counted = omega arith;
   }

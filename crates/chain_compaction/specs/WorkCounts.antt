@@ -17,10 +17,7 @@ module _ {Gen T : Type 0} where
     pub placements_counted : placed ≡ saturating_count placements
     pub touches_counted : touched ≡ saturating_count touches
 
-  -- The counts of a compactor that had counted all work stay complete.
-  pub record CountsOn (old new : Arena Gen T) (old_placed old_touched new_placed new_touched : ℕ) : Type 0 where
-    pub on : (first : Arena Gen T) → HasCounted first old old_placed old_touched → HasCounted first new new_placed new_touched
-
--- A compactor that had counted all work still has.
-abbrev pub CountsWork : {P T S Inx Gen Word : Type 0} → Compactor P T S Inx Gen Word → Compactor P T S Inx Gen Word → Type 0
-CountsWork old new = CountsOn old.arena.now new.arena.now old.placed old.touched new.placed new.touched
+-- A compactor of the same arena, which still has counted all work if it had before.
+pub record CountsWork {V T S Inx Gen Word : Type 0} (old new : Compactor V T S Inx Gen Word) : Type 0 where
+  pub same_reference : new.arena.ghost_name ≡ old.arena.ghost_name
+  pub on : (first : Arena Gen T) → HasCounted first old.arena.now old.placed old.touched → HasCounted first new.arena.now new.placed new.touched

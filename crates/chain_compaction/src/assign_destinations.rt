@@ -29,7 +29,6 @@ fn start_at<P: PtrKey, T: Drop, S: SlotStack<Item = ArenaSlot<P, LinkNoGen<P, T>
 ) -> (P::Inx, usize)
     requires chain { HasChainFrom (link_map_in P.Inx.packed_number compactor.old.held.slots)
         (P.Inx.number i) }
-    ensures same_reference { compactor.new.arena.ghost_name ≡ compactor.old.arena.ghost_name }
     ensures start { IsStart (link_map_in P.Inx.packed_number compactor.old.held.slots)
         (P.Inx.number i)
         (P.Inx.number result.0) }
@@ -97,7 +96,6 @@ fn close_ring<P: PtrKey, T: Drop, S: SlotStack<Item = ArenaSlot<P, LinkNoGen<P, 
     named: Option<P::Inx>,
     last: Option<P::Inx>,
 )
-    ensures same_reference { compactor.new.arena.ghost_name ≡ compactor.old.arena.ghost_name }
     ensures closed { IsRingClosed P.Inx.packed_number (P.Inx.number start)
         (option_map P.Inx.number named) (option_map P.Inx.number last) compactor.old.held
         compactor.new.held }
@@ -134,7 +132,6 @@ fn number_chain<
     requires can { (done : List ℕ) × (c : Chain)
         × CanNumber P.Inx.packed_number compactor.old.held.slots (P.Inx.number start) before done
         c }
-    ensures same_reference { compactor.new.arena.ghost_name ≡ compactor.old.arena.ghost_name }
     ensures ready { V.is_ready result.0 }
     ensures numbered { NumbersFrom P.Inx.packed_number V.sees P.key generation
         (P.Inx.number start) visitor result.0 compactor.old compactor.new before result.1 }
@@ -185,7 +182,6 @@ pub fn number_all<
     requires agree { IsWellLinked (link_map_in P.Inx.packed_number compactor.old.held.slots) }
     requires at_rest { AreAtRest P.Inx.packed_number compactor.old.held.slots }
     ensures ready { V.is_ready result.0 }
-    ensures same_reference { compactor.new.arena.ghost_name ≡ compactor.old.arena.ghost_name }
     ensures numbered { AreAllNumbered P.Inx.packed_number V.sees P.key generation visitor result.0
         compactor.old.held compactor.new.held compactor.old.arena.now compactor.new.arena.now
         result.1 }

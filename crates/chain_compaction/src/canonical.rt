@@ -36,7 +36,6 @@ fn arrange_by_moves<
     requires agree { IsWellLinked (link_map_in P.Inx.packed_number compactor.old.held.slots) }
     requires at_rest { AreAtRest P.Inx.packed_number compactor.old.held.slots }
     ensures ready { V.is_ready result.0 }
-    ensures same_reference { compactor.new.arena.ghost_name ≡ compactor.old.arena.ghost_name }
     ensures placed { AreAllPlaced P.Inx.packed_number V.sees P.key generation visitor result.0
         compactor.old.held compactor.new.held compactor.old.arena.now compactor.new.arena.now
         result.1 9 }
@@ -62,7 +61,6 @@ fn place_all<P: PtrKey, T: Drop, S: SlotStack<Item = ArenaSlot<P, LinkNoGen<P, T
     requires agree { IsWellLinked (link_map_in P.Inx.packed_number compactor.old.held.slots) }
     requires at_rest { AreAtRest P.Inx.packed_number compactor.old.held.slots }
     ensures ready { V.is_ready result.0 }
-    ensures same_reference { compactor.new.arena.ghost_name ≡ compactor.old.arena.ghost_name }
     ensures placed { AreAllPlaced P.Inx.packed_number V.sees P.key generation visitor result.0
         compactor.old.held compactor.new.held compactor.old.arena.now compactor.new.arena.now
         result.1 10 }

@@ -116,7 +116,6 @@ pub(crate) fn renew_all<
     requires canonical { IsCanonical (link_map_in P.Inx.packed_number compactor.old.held.slots)
         (range_with_len 1 (length compactor.old.held.slots)) }
     ensures ready { V.is_ready result.0 }
-    ensures same_reference { compactor.new.arena.ghost_name ≡ compactor.old.arena.ghost_name }
     ensures placed { AreAllPlaced P.Inx.packed_number V.sees P.key generation visitor result.0
         compactor.old.held compactor.new.held compactor.old.arena.now compactor.new.arena.now
         result.1 1 }

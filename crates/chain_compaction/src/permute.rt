@@ -29,7 +29,6 @@ fn settle_once<P: PtrKey, T: Drop, S: SlotStack<Item = ArenaSlot<P, LinkNoGen<P,
     requires within { WaitsWithin (destination_of P.Inx.packed_number) compactor.old.held.slots }
     requires unplaced { unplaced.old
         ≡ waiting_count (destination_of P.Inx.packed_number) compactor.old.held.slots }
-    ensures same_reference { compactor.new.arena.ghost_name ≡ compactor.old.arena.ghost_name }
     ensures settles { IsSettling (destination_of P.Inx.packed_number)
         (Settles P.Inx.packed_number generation) (λ j. j ≡ P.Inx.number i)
         compactor.old.held.slots compactor.new.held.slots }
@@ -77,7 +76,6 @@ fn settle_each<P: PtrKey, T: Drop, S: SlotStack<Item = ArenaSlot<P, LinkNoGen<P,
     requires within { WaitsWithin (destination_of P.Inx.packed_number) compactor.old.held.slots }
     requires unplaced { unplaced.old
         ≡ waiting_count (destination_of P.Inx.packed_number) compactor.old.held.slots }
-    ensures same_reference { compactor.new.arena.ghost_name ≡ compactor.old.arena.ghost_name }
     ensures settles { IsSettling (destination_of P.Inx.packed_number)
         (Settles P.Inx.packed_number generation) (IsInBlock start count)
         compactor.old.held.slots compactor.new.held.slots }
@@ -131,7 +129,6 @@ fn settle_round<P: PtrKey, T: Drop, S: SlotStack<Item = ArenaSlot<P, LinkNoGen<P
         left (slot_at compactor.old.held.slots) }
     requires unplaced { unplaced.old
         ≡ waiting_count (destination_of P.Inx.packed_number) compactor.old.held.slots }
-    ensures same_reference { compactor.new.arena.ghost_name ≡ compactor.old.arena.ghost_name }
     ensures settles { IsSettling (destination_of P.Inx.packed_number)
         (Settles P.Inx.packed_number generation) (IsInBlock start count)
         compactor.old.held.slots compactor.new.held.slots }
@@ -190,7 +187,6 @@ fn settle_block<P: PtrKey, T: Drop, S: SlotStack<Item = ArenaSlot<P, LinkNoGen<P
     requires within { WaitsWithin (destination_of P.Inx.packed_number) compactor.old.held.slots }
     requires unplaced { unplaced.old
         ≡ waiting_count (destination_of P.Inx.packed_number) compactor.old.held.slots }
-    ensures same_reference { compactor.new.arena.ghost_name ≡ compactor.old.arena.ghost_name }
     ensures settles { IsSettling (destination_of P.Inx.packed_number)
         (Settles P.Inx.packed_number generation) (IsInBlock start count)
         compactor.old.held.slots compactor.new.held.slots }
@@ -234,7 +230,6 @@ pub fn move_all<P: PtrKey, T: Drop, S: SlotStack<Item = ArenaSlot<P, LinkNoGen<P
     requires fits { length compactor.old.held.slots ≤ P.Inx.greatest }
     requires links { links ≡ count_by is_some compactor.old.held.slots }
     requires can { CanMoveAll (destination_of P.Inx.packed_number) compactor.old.held.slots }
-    ensures same_reference { compactor.new.arena.ghost_name ≡ compactor.old.arena.ghost_name }
     ensures moved { HaveMoved (destination_of P.Inx.packed_number)
         (Settles P.Inx.packed_number generation)
         (slot_at compactor.old.held.slots) (slot_at compactor.new.held.slots) }

@@ -53,7 +53,6 @@ pub(crate) fn remove_destination_at<
     S: SlotStack<Item = ArenaSlot<P, LinkNoGen<P, T>>>,
 >(compactor: &mut Compactor<'_, P, LinkNoGen<P, T>, S>, i: P::Inx)
     requires { IsSome (slot_at compactor.old.held.slots (P.Inx.number i)) }
-    ensures same_reference { compactor.new.arena.ghost_name ≡ compactor.old.arena.ghost_name }
     ensures directed { IsDirectedAt P.Inx.packed_number (P.Inx.number i) None
         compactor.old.held compactor.new.held }
     ensures arena { compactor.new.arena.now ≡ with_touch compactor.old.arena.now }
@@ -73,7 +72,6 @@ pub(crate) fn relink_at<P: PtrKey, T: Drop, S: SlotStack<Item = ArenaSlot<P, Lin
     next: Option<P::Inx>,
     destination: P::Inx,
 )
-    ensures same_reference { compactor.new.arena.ghost_name ≡ compactor.old.arena.ghost_name }
     ensures relinked { IsRelinkedAt P.Inx.packed_number (P.Inx.number i)
         (option_map P.Inx.number prev)
         (option_map P.Inx.number next) (Some (P.Inx.number destination))

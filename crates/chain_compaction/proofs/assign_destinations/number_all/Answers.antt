@@ -3,10 +3,9 @@ use Rattle.std.proofs.Common.{◌+◌, ◌-◌, ◌∙◌, length, refl, ap, ari
 use Rattle.arena_traits.specs.Arena.{slot_at}
 use Rattle.chain_compaction.proofs.SlotCountLemmas.{at_end}
 use Rattle.chain_compaction.proofs.DetachedLinkLemmas.{work-touched, work-more}
-use Rattle.chain_compaction.proofs.LinkLoanLemmas.{same_then, counts_on}
 use Rattle.chain_compaction.proofs.SlotReadLemmas.{known_fresh, known_directed, known_none}
 use Rattle.chain_compaction.proofs.ChainOrderLemmas.{order_begins, order_ends, order_full, order_skips, order_found, order_can, order_continues}
-use Rattle.chain_compaction.proofs.WorkCountLemmas.{counts_none}
+use Rattle.chain_compaction.proofs.WorkCountLemmas.{counts_none, counts_on}
 use Rattle.chain_compaction.proofs.assign_destinations.number_all.Goals as goal
 
 pub loop-k-init : goal.loop-k-init
@@ -14,9 +13,8 @@ loop-k-init g c =
     let now = c.args.compactor.now in
     record {
       ready = c.requires.ready;
-      same_reference = refl {a = now.arena.ghost_name};
       order = order_begins g.P.Inx.InxKey.packed_number g.V.Visitor.sees g.P.PtrKey.key c.args.generation c.args.visitor now.held now.arena.now c.requires.agree c.requires.at_rest.none c.new-ahead.result.credit (omega (arith, c.new-ahead.ensures, c.slots.ensures));
-      counts = counts_none now.arena.now now.placed now.touched;
+      counts = counts_none now;
     }
 
 pub start_at-start-requires : goal.start_at-start-requires
@@ -63,7 +61,6 @@ loop-k-preserved-in-None g c =
     let mid = c.read_link-was.new.compactor in
     record {
       ready = at.ready;
-      same_reference = same_then old now mid at.same_reference lookup.was_read.same_reference;
       order = order_skips g.P.Inx.InxKey.packed_number g.V.Visitor.sees g.P.PtrKey.key c.args.generation c.args.visitor old.held old.arena.now c.loop-k.visitor now.held now.arena.now c.loop-k.count c.loop-k.k c.loop-k.ahead.credit
           at.order (g.P.Inx.InxKey.number c.inx_at-i.result) c.inx_at-i.ensures mid.held mid.arena.now lookup.was_read.held
           (known_none g.P.Inx.InxKey.packed_number (slot_at now.held.slots (g.P.Inx.InxKey.number c.inx_at-i.result)) c.read_link-was.result.0 c.in-None.is lookup.generation) (work-touched now.arena.now mid.arena.now lookup.was_read.arena);
@@ -79,7 +76,6 @@ loop-k-preserved-in-Some-destination g c =
     let mid = c.read_link-was.new.compactor in
     record {
       ready = at.ready;
-      same_reference = same_then old now mid at.same_reference lookup.was_read.same_reference;
       order = order_skips g.P.Inx.InxKey.packed_number g.V.Visitor.sees g.P.PtrKey.key c.args.generation c.args.visitor old.held old.arena.now c.loop-k.visitor now.held now.arena.now c.loop-k.count c.loop-k.k c.loop-k.ahead.credit
           at.order (g.P.Inx.InxKey.number c.inx_at-i.result) c.inx_at-i.ensures mid.held mid.arena.now lookup.was_read.held
           (known_directed g.P.Inx.InxKey.packed_number g.P.Inx.InxKey.number (slot_at now.held.slots (g.P.Inx.InxKey.number c.inx_at-i.result)) c.read_link-was.result.0 c.in-Some.field-0 c.read_link-was.result.3 c.in-Some-destination.field-0 c.in-Some.is lookup.generation lookup.destination c.in-Some-destination.is) (work-touched now.arena.now mid.arena.now lookup.was_read.arena);
@@ -102,8 +98,6 @@ loop-k-preserved g c =
     let new = c.number_chain-visited.new.compactor in
     record {
       ready = chain.ready;
-      same_reference = same_then old now new at.same_reference (same_then now mid new lookup.was_read.same_reference
-          (same_then mid behind new ahead.read.same_reference (same_then behind was_stored new start.same_reference chain.same_reference)));
       order = order_continues g.P.Inx.InxKey.packed_number g.V.Visitor.sees g.P.PtrKey.key c.args.generation c.args.visitor old.held old.arena.now c.loop-k.visitor now.held now.arena.now c.loop-k.count c.loop-k.k c.loop-k.ahead.credit
           at.order (g.P.Inx.InxKey.number c.inx_at-i.result) c.inx_at-i.ensures
           (known_fresh g.P.Inx.InxKey.packed_number g.P.Inx.InxKey.number (slot_at now.held.slots (g.P.Inx.InxKey.number c.inx_at-i.result)) c.read_link-was.result.0 c.in-Some.field-0 c.read_link-was.result.3 c.in-Some.is lookup.generation lookup.destination c.in-None-destination.is)
@@ -121,7 +115,6 @@ returns-then-count-links g c =
     let now = c.loop-k.compactor in
     record {
       ready = at.ready;
-      same_reference = at.same_reference;
       numbered = order_full g.P.Inx.InxKey.packed_number g.V.Visitor.sees g.P.PtrKey.key c.args.generation c.args.visitor old.held old.arena.now c.loop-k.visitor now.held now.arena.now c.loop-k.count c.loop-k.k c.loop-k.ahead.credit
           at.order (c.if-count-links.true ∙ c.requires.links) (omega (arith, c.slots-k-end.ensures, c.loop-k.auto.k-end));
       counts = at.counts;
@@ -134,7 +127,6 @@ returns g c =
     let now = c.loop-k.compactor in
     record {
       ready = at.ready;
-      same_reference = at.same_reference;
       numbered = order_ends g.P.Inx.InxKey.packed_number g.V.Visitor.sees g.P.PtrKey.key c.args.generation c.args.visitor old.held old.arena.now c.loop-k.visitor now.held now.arena.now c.loop-k.count c.loop-k.k c.loop-k.ahead.credit
           at.order (at_end c.loop-k.k c.slots-k-end.result (length old.held.slots) c.slots-k-end.ensures c.loop-k.auto.k-end c.loop-k-test.false);
       counts = at.counts;

@@ -6,8 +6,7 @@ use Rattle.chain_laws.specs.Chains.{Chain}
 use Rattle.chain_compaction.specs.Destinations.{CanNumber, IsRelinkedAt, number_after}
 use Rattle.chain_compaction.proofs.DestinationWriteLemmas.{linked_long, linked_read}
 use Rattle.chain_compaction.proofs.DetachedLinkLemmas.{work-twice}
-use Rattle.chain_compaction.proofs.LinkLoanLemmas.{same_then, counts_on}
-use Rattle.chain_compaction.proofs.WorkCountLemmas.{counts_none}
+use Rattle.chain_compaction.proofs.WorkCountLemmas.{counts_none, counts_on}
 use Rattle.chain_compaction.proofs.ChainDestinationLemmas.{IsWalking, walk_begins, walk_first, walk_ends, walk_capacity, walk_more, walk_returns, walk_continues}
 use Rattle.chain_compaction.proofs.assign_destinations.number_chain.Goals.{In-Some, After-relink_at}
 use Rattle.chain_compaction.proofs.assign_destinations.number_chain.Given.{Over}
@@ -34,10 +33,9 @@ loop-on-init g c =
     let now = c.args.compactor.now in
     record {
       ready = c.requires.ready;
-      same_reference = refl;
       long = refl;
       walks = λ done l can. walk_begins g.P.Inx.InxKey.packed_number g.V.Visitor.sees g.P.PtrKey.key c.args.generation c.args.visitor now.held now.arena.now _ c.args.before done l can;
-      counts = counts_none now.arena.now now.placed now.touched;
+      counts = counts_none now;
     }
 
 pub inx_at-destination-requires : goal.inx_at-destination-requires
@@ -100,7 +98,6 @@ loop-on-preserved g c =
     let new = c.relink_at.new.compactor in
     record {
       ready = c.visit.ensures.ready;
-      same_reference = same_then c.args.compactor.now now new at.same_reference (same_then now c.read_link.new.compactor new lookup.was_read.same_reference links_both.same_reference);
       long = long_now g wrote;
       walks = λ done l can.
           walk_continues g.P.Inx.InxKey.packed_number g.V.Visitor.sees g.P.PtrKey.key c.args.generation c.args.visitor c.args.compactor.now.held c.args.compactor.now.arena.now (g.P.Inx.InxKey.number c.args.start) c.args.before done l can c.loop-on.visitor c.loop-on.compactor.held c.loop-on.compactor.arena.now c.loop-on.count
@@ -120,7 +117,6 @@ returns g c =
     let new = c.close_ring.new.compactor in
     record {
       ready = at.ready;
-      same_reference = same_then old now new at.same_reference c.close_ring.ensures.same_reference;
       numbered = λ done l can.
           walk_ends g.P.Inx.InxKey.packed_number g.V.Visitor.sees g.P.PtrKey.key c.args.generation c.args.visitor old.held old.arena.now (g.P.Inx.InxKey.number c.args.start) c.args.before done l can c.loop-on.visitor now.held now.arena.now c.loop-on.count
           (option_map g.P.Inx.InxKey.number c.loop-on.named) (option_map g.P.Inx.InxKey.number c.loop-on.prev)

@@ -13,7 +13,6 @@ invariant-loop-on g l =
     let number = g.P.Inx.InxKey.packed_number in
     record {
       ready : g.V.Visitor.is_ready l.visitor;
-      same_reference : l.compactor.arena.ghost_name ≡ l.fn.compactor.arena.ghost_name;
       long : length l.compactor.held.slots ≡ length l.fn.compactor.held.slots;
       walks : (done : List ℕ) (c : Chain) → CanNumber number l.fn.compactor.held.slots (g.P.Inx.InxKey.number l.fn.start) l.fn.before done c
           → IsWalking number g.V.Visitor.sees g.P.PtrKey.key l.fn.generation l.fn.visitor l.visitor l.fn.compactor.held l.compactor.held l.fn.compactor.arena.now l.compactor.arena.now

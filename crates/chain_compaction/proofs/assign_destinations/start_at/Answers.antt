@@ -6,8 +6,8 @@ use Rattle.chain_laws.proofs.WalkLemmas.WalkBack.{back_begins, back_continues, b
 use Rattle.chain_compaction.specs.DetachedLinks.{link_map_in}
 use Rattle.chain_compaction.proofs.WalkBackLemmas.{lookups_linear, lookups_cyclic, back_within}
 use Rattle.chain_compaction.proofs.DetachedLinkLemmas.{work-none, work-touched, work-more}
-use Rattle.chain_compaction.proofs.LinkLoanLemmas.{same_then, held_then, counts_on}
-use Rattle.chain_compaction.proofs.WorkCountLemmas.{counts_none}
+use Rattle.chain_compaction.proofs.LinkLoanLemmas.{held_then}
+use Rattle.chain_compaction.proofs.WorkCountLemmas.{counts_none, counts_on}
 use Rattle.chain_compaction.proofs.assign_destinations.start_at.Goals as goal
 
 not_both : (b : Bool) → b ≡ true → b ≡ false → ⊥
@@ -17,12 +17,11 @@ pub loop-step-init : goal.loop-step-init
 loop-step-init g c =
     let old = c.args.compactor.now in
     record {
-      same_reference = refl;
       held = refl;
       back = back_begins (link_map_in g.P.Inx.InxKey.packed_number old.held.slots) (g.P.Inx.InxKey.number c.args.i);
       few = omega arith;
       work = work-none old.arena.now 0;
-      counts = counts_none old.arena.now old.placed old.touched;
+      counts = counts_none old;
     }
 
 pub returns-then-is_same : goal.returns-then-is_same
@@ -38,7 +37,6 @@ returns-then-is_same g c =
     let known = c.is_same.ensures in
     let same = (g.met.P.Inx.InxKey.same_is_equal c.in-Some.k c.args.i).0 (sym known ∙ c.if-is_same.true) in
     record {
-      same_reference = same_then old now new at.same_reference lookup.was_read.same_reference;
       start = back_wraps_around reported (number c.args.i) c.loop-step.step (number c.loop-step.at) at.back
           (sym arrived ∙ (sym lookup.prev ∙ ap (option_map number) c.in-Some.is ∙ ap (λ k. Some (number k)) same));
       ahead = at.few;
@@ -59,7 +57,6 @@ returns-in-None g c =
     let reported = link_map_in g.P.Inx.InxKey.packed_number c.args.compactor.now.held.slots in
     let arrived = ap (λ h. prev_of (link_map_in g.P.Inx.InxKey.packed_number h.slots) (number c.loop-step.at)) at.held in
     record {
-      same_reference = same_then old now new at.same_reference lookup.was_read.same_reference;
       start = back_ends reported (number c.args.i) c.loop-step.step (number c.loop-step.at) at.back (sym arrived ∙ (sym lookup.prev ∙ ap (option_map number) c.in-None.is));
       ahead = at.few;
       held = held_then old now new at.held lookup.was_read.held;
@@ -81,7 +78,6 @@ loop-step-preserved g c =
     let next = c.read_on-next.new.compactor in
     let known = c.is_same.ensures in
     record {
-      same_reference = same_then old new next (same_then old now new at.same_reference lookup.was_read.same_reference) on.read.same_reference;
       held = held_then old new next (held_then old now new at.held lookup.was_read.held) on.read.held;
       back = back_continues (link_map_in packed_number c.args.compactor.now.held.slots) (number c.args.i) c.loop-step.step (number c.loop-step.at) (number c.in-Some.k) at.back
           (sym (ap (λ h. prev_of (link_map_in packed_number h.slots) (number c.loop-step.at)) at.held) ∙ sym c.read_link-before.ensures.prev ∙ ap (option_map number) c.in-Some.is)

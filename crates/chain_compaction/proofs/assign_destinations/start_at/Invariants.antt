@@ -9,7 +9,6 @@ abbrev pub invariant-loop-step : goal.invariant-loop-step
 invariant-loop-step g l =
     let number = g.P.Inx.InxKey.number in
     record {
-      same_reference : l.compactor.arena.ghost_name ≡ l.fn.compactor.arena.ghost_name;
       held : l.compactor.held ≡ l.fn.compactor.held;
       back : IsBack (link_map_in g.P.Inx.InxKey.packed_number l.fn.compactor.held.slots) (number l.i) l.step (number l.at);
       few : l.reads ≤ l.limit;

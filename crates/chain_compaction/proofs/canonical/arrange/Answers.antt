@@ -26,6 +26,7 @@ returns g c =
     (done.ensures.counts.on lent.arena.now (counted_first lent.arena.now lent.placed lent.touched first.ensures.placed first.ensures.touched)) first.ensures.fits g.met.P.Inx.InxKey.greatest_fits in
     let placed : now.arena.now.placed ≡ old.placed + c.finish_packed.result.placed = known.0 ∙ ap (λ n. old.placed + n) (sym c.finish_packed.ensures.placed) in
     let touched : now.arena.now.touched ≡ old.touched + c.finish_packed.result.touched = known.1 ∙ ap (λ n. old.touched + n) (sym c.finish_packed.ensures.touched) in
+    let same_reference = done.ensures.counts.same_reference in
     record {
       ready = done.ensures.ready;
       arranged =

@@ -1,7 +1,7 @@
 -- `arrange_by_moves` moves each link to its destination, and leaves no free slot between them.
 use Rattle.std.proofs.Common.{sym, ◌∙◌, arith}
 use Rattle.chain_compaction.proofs.CanonicalLayoutLemmas.{length-renamed, count-renamed, links_can_move, links_placed, links_at_rest}
-use Rattle.chain_compaction.proofs.LinkLoanLemmas.{same_then, counts_on}
+use Rattle.chain_compaction.proofs.WorkCountLemmas.{counts_on}
 use Rattle.chain_compaction.proofs.canonical.arrange_by_moves.Goals as goal
 
 pub move_all-requires-clause-fits : goal.move_all-requires-clause-fits
@@ -27,7 +27,6 @@ returns g c =
     let number = c.number_all-visitor.ensures in
     record {
       ready = number.ready;
-      same_reference = same_then old numbered moved number.same_reference c.move_all.ensures.same_reference;
       placed =
           links_placed g.V.Visitor.sees g.P.PtrKey.key c.args.visitor c.number_all-visitor.result.0 g.P.Inx.InxKey.packed_number c.args.generation old.held numbered.held
           old.arena.now numbered.arena.now c.number_all-visitor.result.1 number.numbered moved.held c.move_all.ensures.moved

@@ -3,7 +3,7 @@ use Rattle.std.specs.Prelude.{count_by, is_some}
 use Rattle.std.proofs.Common.{sym, ap, ◌∙◌, subst, arith}
 use Rattle.chain_links.specs.Links.{AreAtRest}
 use Rattle.chain_compaction.proofs.CanonicalLayoutLemmas.{placed_after_reads}
-use Rattle.chain_compaction.proofs.LinkLoanLemmas.{same_then, counts_on}
+use Rattle.chain_compaction.proofs.WorkCountLemmas.{counts_on}
 use Rattle.chain_compaction.proofs.canonical.place_all.Goals as goal
 
 pub arrange_by_moves-requires-clause-links : goal.arrange_by_moves-requires-clause-links
@@ -18,7 +18,6 @@ returns-then-is_in_order g c =
     let done = c.renew_all.ensures in
     record {
       ready = done.ready;
-      same_reference = same_then old test new read.same_reference done.same_reference;
       placed =
           placed_after_reads g.V.Visitor.sees g.P.PtrKey.key c.args.visitor c.renew_all.result.0 g.P.Inx.InxKey.packed_number c.args.generation old.held test.held new.held read.held
           old.arena.now test.arena.now new.arena.now c.renew_all.result.1 1 c.args.links c.requires.links read.work done.placed 10 (omega arith);
@@ -35,7 +34,6 @@ returns-else-is_in_order g c =
     let done = c.arrange_by_moves.ensures in
     record {
       ready = done.ready;
-      same_reference = same_then old test new read.same_reference done.same_reference;
       placed =
           placed_after_reads g.V.Visitor.sees g.P.PtrKey.key c.args.visitor c.arrange_by_moves.result.0 g.P.Inx.InxKey.packed_number c.args.generation old.held test.held new.held read.held
           old.arena.now test.arena.now new.arena.now c.arrange_by_moves.result.1 9 c.args.links c.requires.links read.work done.placed 10 (omega arith);

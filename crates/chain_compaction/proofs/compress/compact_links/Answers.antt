@@ -80,7 +80,7 @@ loop-k-preserved g c =
     let wrote = lent mid new to c.value_mut.result c.in-Some-value_mut.link left c.in-Some-value_mut.is c.value_mut.ensures.value (c.value_mut.follows.holds left) in
     record {
       callable = search of_calls;
-      same_reference = wrote.same_reference ∙ (moves.same_reference ∙ at.same_reference);
+      same_reference = wrote.counts.same_reference ∙ (moves.same_reference ∙ at.same_reference);
       capacity = capacity_on g.F.FnMut key c.args.generation number c.args.map c.loop-k.map old.held now.held c.requires.agree c.loop-k.k c.loop-k.count at.closing at.gathered c.slots-k-end.result c.slots-k-end.ensures c.loop-k-test.true from c.inx_at-from.ensures
           to c.inx_at-to.ensures c.in-Some.was moves.returned mid.held moves.values new.held link value wrote.stored wrote.held at.capacity;
       maximum = maximum_on g.F.FnMut key c.args.generation number c.args.map c.loop-k.map old.held now.held c.requires.agree c.loop-k.k c.loop-k.count at.closing at.gathered c.slots-k-end.result c.slots-k-end.ensures c.loop-k-test.true from c.inx_at-from.ensures

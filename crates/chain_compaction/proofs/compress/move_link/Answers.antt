@@ -27,7 +27,7 @@ returns g c =
     let next = c.set_neighbor.ensures in
     let prev = c.set_neighbor-2.ensures in
     record {
-      same_reference = prev.same_reference ∙ (next.same_reference ∙ (places.same_reference ∙ lookup.was_read.same_reference));
+      same_reference = prev.same_reference ∙ (next.same_reference ∙ (places.same_reference ∙ lookup.was_read.counts.same_reference));
       returned = sym c.in-Some.is ∙ lookup.generation;
       values = move-values packed_number old was_read brought known new from to c.args.generation lookup.was_read.held places.held next.values prev.values;
       moves = move-links packed_number old was_read brought known new from to c.args.generation lookup.was_read.held places.held
@@ -44,7 +44,7 @@ pub returns-in-None : goal.returns-in-None
 returns-in-None g c =
     let lookup = c.read_link-was.ensures in
     record {
-      same_reference = lookup.was_read.same_reference;
+      same_reference = lookup.was_read.counts.same_reference;
       returned = sym c.in-None.is ∙ lookup.generation;
       values = tt;
       moves = tt;

@@ -19,7 +19,7 @@ returns-then-before g c =
     let new = c.value_mut.follows.lender left in
     let wrote = lent old new i c.value_mut.result c.in-Some-value_mut.link left c.in-Some-value_mut.is c.value_mut.ensures.value (c.value_mut.follows.holds left) in
     record {
-      same_reference = wrote.same_reference;
+      same_reference = wrote.counts.same_reference;
       values = prev_values number packed old.held new.held c.args.before c.args.i target c.in-Some.i c.in-Some.is link left wrote.stored wrote.held c.if-before.true c.set_prev.ensures.rest;
       at_rest = overwritten_rests packed old new i link left wrote (ap (λ l. packed l.destination) c.set_prev.ensures.rest);
       links = states_prev number packed old.held new.held c.args.before c.args.i target c.in-Some.i c.in-Some.is link left wrote.stored wrote.held c.if-before.true c.set_prev.ensures.rest c.set_prev.ensures.prev;
@@ -38,7 +38,7 @@ returns-else-before g c =
     let new = c.value_mut.follows.lender left in
     let wrote = lent old new i c.value_mut.result c.in-Some-value_mut.link left c.in-Some-value_mut.is c.value_mut.ensures.value (c.value_mut.follows.holds left) in
     record {
-      same_reference = wrote.same_reference;
+      same_reference = wrote.counts.same_reference;
       values = next_values number packed old.held new.held c.args.before c.args.i target c.in-Some.i c.in-Some.is link left wrote.stored wrote.held c.if-before.false c.set_next.ensures.rest;
       at_rest = overwritten_rests packed old new i link left wrote (ap (λ l. packed l.destination) c.set_next.ensures.rest);
       links = states_next number packed old.held new.held c.args.before c.args.i target c.in-Some.i c.in-Some.is link left wrote.stored wrote.held c.if-before.false c.set_next.ensures.rest c.set_next.ensures.next;
@@ -54,7 +54,7 @@ returns-in-None-value_mut g c =
     let new = c.value_mut.follows.lender-at-none in
     let kept = lent_none old new i c.value_mut.result c.in-None-value_mut.is c.value_mut.ensures.value c.value_mut.follows.holds-at-none in
     record {
-      same_reference = kept.same_reference;
+      same_reference = kept.counts.same_reference;
       values = kept_values number packed old.held new.held c.args.before c.args.i (Some (number c.args.named)) c.in-Some.i c.in-Some.is kept.held;
       at_rest = λ rest. subst (λ held. AreAtRest packed held.slots) (sym kept.held) rest;
       links = states_nowhere number packed old.held new.held c.args.before c.args.i (Some (number c.args.named)) c.in-Some.i c.in-Some.is kept.held kept.none;

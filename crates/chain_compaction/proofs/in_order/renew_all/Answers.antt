@@ -6,9 +6,8 @@ use Rattle.chain_links.specs.Links.{AreAtRest}
 use Rattle.chain_links.proofs.RestLemmas.{placed_at_rest}
 use Rattle.chain_compaction.proofs.ChainDestinationLemmas.{reports_none}
 use Rattle.chain_compaction.proofs.DetachedLinkLemmas.{work-none, work-touched, work-with_placed_entry, work-more}
-use Rattle.chain_compaction.proofs.LinkLoanLemmas.{same_then, counts_on}
 use Rattle.chain_compaction.proofs.OrderedLinkLemmas.{renewed_begins, renewed_continues, renewed_read, stored_in_order, reports_more, all_renewed}
-use Rattle.chain_compaction.proofs.WorkCountLemmas.{counts_none, counts_place}
+use Rattle.chain_compaction.proofs.WorkCountLemmas.{counts_none, counts_place, counts_on}
 use Rattle.chain_compaction.proofs.in_order.renew_all.Goals as goal
 
 pub loop-k-init : goal.loop-k-init
@@ -16,12 +15,11 @@ loop-k-init g c =
     let now = c.args.compactor.now in
     record {
       ready = c.requires.ready;
-      same_reference = refl;
       renewed = renewed_begins c.args.generation now.held;
       reports = reports_none g.V.Visitor.sees g.P.PtrKey.key (ptr_at (slot_at now.held.slots)) c.args.generation 1 c.args.visitor;
       at_rest = λ rest. rest;
       work = work-none now.arena.now 0;
-      counts = counts_none now.arena.now now.placed now.touched;
+      counts = counts_none now;
     }
 
 pub proved_unreachable-assume_proved-requires : goal.proved_unreachable-assume_proved-requires
@@ -41,7 +39,6 @@ loop-k-preserved g c =
     let i = g.P.Inx.InxKey.number c.inx_at-i.result in
     record {
       ready = c.visit.ensures.ready;
-      same_reference = same_then old now new inv.same_reference (same_then now read new lookup.was_read.same_reference c.place.ensures.same_reference);
       renewed = renewed_continues c.args.generation old.held now.held read.held new.held c.loop-k.k i c.inx_at-i.ensures (omega arith) inv.renewed lookup.was_read.held c.place.ensures.held;
       reports = reports_more g.V.Visitor.sees g.P.PtrKey.key (ptr_at (slot_at old.held.slots)) c.args.generation c.args.visitor c.loop-k.visitor c.visit.new.self c.loop-k.k i c.in-Some.was c._from_raw.result c._from_raw-in-Some.result c.inx_at-i.ensures
           inv.reports c._from_raw.ensures (renewed_read c.args.generation old.held now.held c.loop-k.k i c.read_link-was.result.0 c.in-Some.was c.inx_at-i.ensures inv.renewed c.in-Some.is lookup.generation) c._from_raw-in-Some.ensures c.visit.ensures.view_after;
@@ -50,7 +47,7 @@ loop-k-preserved g c =
       work = work-more inv.work (work-more (work-touched now.arena.now read.arena.now lookup.was_read.arena) (work-with_placed_entry read.arena.now new.arena.now c.place.ensures.arena) 1 1 refl (omega arith))
           (c.loop-k.k + 1) (c.loop-k.k + 1) refl (omega arith);
       counts = counts_on old now new inv.counts (counts_on now read new lookup.was_read.counts
-          (counts_place read.arena.now new.arena.now read.placed new.placed read.touched new.touched c.place.ensures.arena c.place.ensures.placed c.place.ensures.touched));
+          (counts_place read new c.place.ensures.same_reference c.place.ensures.arena c.place.ensures.placed c.place.ensures.touched));
     }
 
 pub returns-clause-placed : goal.returns-clause-placed

@@ -13,7 +13,6 @@ use Rattle.chain_compaction.proofs.in_order.renew_all.Given as goal
 abbrev pub invariant-loop-k : goal.invariant-loop-k
 invariant-loop-k g l = record {
   ready : g.V.Visitor.is_ready l.visitor;
-  same_reference : l.compactor.arena.ghost_name ≡ l.fn.compactor.arena.ghost_name;
   renewed : AreRenewed l.fn.generation l.fn.compactor.held l.compactor.held l.k;
   reports : ReportsMoves g.V.Visitor.sees g.P.PtrKey.key (ptr_at (slot_at l.fn.compactor.held.slots)) l.fn.generation 1 l.fn.visitor (range_with_len 1 l.k) l.visitor;
   at_rest : StayAtRest g.P.Inx.InxKey.packed_number l.fn.compactor.held.slots l.compactor.held.slots;

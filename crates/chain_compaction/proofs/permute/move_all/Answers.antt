@@ -4,8 +4,8 @@ use Rattle.chain_compaction.specs.Permutations.{ArePassed, waiting_count, Settle
 use Rattle.chain_compaction.proofs.SlotCountLemmas.{waiting-all}
 use Rattle.chain_compaction.proofs.PermutationStepLemmas.{settled_rests}
 use Rattle.chain_compaction.proofs.PermutationLoopLemmas.{passing_begins, passing_continues, passing_stops, passing_ends, passing_leaves_none, rounds_begin, rounds_then, rounds_stop, rounds_end}
-use Rattle.chain_compaction.proofs.LinkLoanLemmas.{same_then, counts_on, capacity_then, maximum_then}
-use Rattle.chain_compaction.proofs.WorkCountLemmas.{counts_none}
+use Rattle.chain_compaction.proofs.LinkLoanLemmas.{capacity_then, maximum_then}
+use Rattle.chain_compaction.proofs.WorkCountLemmas.{counts_none, counts_on}
 use Rattle.chain_compaction.proofs.permute.move_all.Goals as goal
 use Rattle.chain_links.specs.Links.{destination_of}
 
@@ -15,13 +15,12 @@ loop-start-init g c =
     let old = c.args.compactor.now in
     record {
       reached = omega arith;
-      same_reference = refl;
       passed = passing_begins (destination_of packed_number) (Settles packed_number c.args.generation) (settled_rests packed_number c.args.generation) old.held.slots c.requires.can;
       capacity = refl;
       maximum = refl;
       work = rounds_begin old.arena.now (waiting_count (destination_of packed_number) old.held.slots);
       unplaced = c.requires.links ∙ sym (waiting-all (destination_of packed_number) old.held.slots c.requires.can.each);
-      counts = counts_none old.arena.now old.placed old.touched;
+      counts = counts_none old;
     }
 
 pub settle_block-requires-clause-count : goal.settle_block-requires-clause-count
@@ -53,7 +52,6 @@ loop-start-preserved g c =
     let count = c.min-count.result in
     record {
       reached = omega (arith, c.min-count.ensures, inv.reached);
-      same_reference = same_then old now next inv.same_reference after.same_reference;
       passed = passing_continues (destination_of packed_number) (Settles packed_number c.args.generation) (settled_rests packed_number c.args.generation) old.held.slots now.held.slots next.held.slots
           start count inv.passed after.settles after.none;
       capacity = capacity_then old now next inv.capacity after.capacity;
@@ -78,7 +76,6 @@ returns-after-loop-start g c =
     let inv = c.loop-start.invariant in
     let passed = subst (ArePassed target settles old.held.slots now.held.slots) all inv.passed in
     record {
-      same_reference = inv.same_reference;
       moved = passing_ends target settles rests old.held.slots now.held.slots passed;
       length = inv.passed.length;
       capacity = inv.capacity;
@@ -98,7 +95,6 @@ returns-else-unplaced-gt0 g c =
     let settles = Settles g.P.Inx.InxKey.packed_number c.args.generation in
     let rests = settled_rests g.P.Inx.InxKey.packed_number c.args.generation in
     record {
-      same_reference = inv.same_reference;
       moved = passing_ends target settles rests old.held.slots now.held.slots (passing_stops target settles rests old.held.slots now.held.slots c.loop-start.start inv.passed none);
       length = inv.passed.length;
       capacity = inv.capacity;

@@ -10,7 +10,6 @@ invariant-loop-start g l =
     let packed_number = g.P.Inx.InxKey.packed_number in
     record {
       reached : l.start ≤ l.slots;
-      same_reference : l.compactor.arena.ghost_name ≡ l.fn.compactor.arena.ghost_name;
       passed : ArePassed (destination_of packed_number) (Settles packed_number l.generation) l.fn.compactor.held.slots l.compactor.held.slots l.start;
       capacity : l.compactor.held.stack_capacity ≡ l.fn.compactor.held.stack_capacity;
       maximum : l.compactor.held.maximum ≡ l.fn.compactor.held.maximum;

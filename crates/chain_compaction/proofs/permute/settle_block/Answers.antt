@@ -6,11 +6,12 @@ use Rattle.chain_compaction.specs.Permutations.{IsInBlock, waiting_count, Settle
 use Rattle.chain_compaction.proofs.BlockTurnLemmas.{listing_ends, sum_decreases-round, touches_round, none_left, below_bound}
 use Rattle.chain_compaction.proofs.PermutationStepLemmas.{IsBlockRead, settle_reads, settling_joins}
 use Rattle.chain_compaction.proofs.PermutationLoopLemmas.{rounds_start, rounds_continue, rounds_stop}
-use Rattle.chain_compaction.proofs.LinkLoanLemmas.{same_then, counts_on, capacity_then, maximum_then}
+use Rattle.chain_compaction.proofs.LinkLoanLemmas.{capacity_then, maximum_then}
 use Rattle.chain_compaction.proofs.permute.settle_block.Given.{Over}
 use Rattle.chain_compaction.proofs.permute.settle_block.Goals.{After-settle_round-arg-in-loop-left-1}
 use Rattle.chain_compaction.proofs.permute.settle_block.Goals as goal
 use Rattle.chain_links.specs.Links.{destination_of}
+use Rattle.chain_compaction.proofs.WorkCountLemmas.{counts_on}
 
 -- The positions and the moves so far, after the reads before a round.
 here : (g : Over) (c : After-settle_round-arg-in-loop-left-1 g) → IsBlockRead (destination_of g.P.Inx.InxKey.packed_number) (Settles g.P.Inx.InxKey.packed_number c.args.generation) c.args.start c.args.count
@@ -25,7 +26,6 @@ pub loop-left-init : goal.loop-left-init
 loop-left-init g c =
     let first = c.settle_each-left.ensures in
     record {
-      same_reference = first.same_reference;
       settles = first.settles;
       lists = first.lists;
       capacity = first.capacity;
@@ -77,7 +77,6 @@ loop-left-preserved g c =
     let waited = ap (λ (h : DetachedView _ _). waiting_count target h.slots) read.held in
     let work = subst (λ (h : DetachedView _ _). IsWorkOn was_read.arena.now next.arena.now (waiting_count target h.slots) (waiting_count target next.held.slots) (left - rest)) read.held round.work in
     record {
-      same_reference = same_then old was_read next (same_then old now was_read inv.same_reference read.same_reference) round.same_reference;
       settles = settling_joins target (Settles packed_number c.args.generation) (IsInBlock c.args.start c.args.count) old.held.slots was_read.held.slots next.held.slots here.settles round.settles;
       lists = round.lists;
       capacity = capacity_then old was_read next here.capacity round.capacity;
@@ -101,7 +100,6 @@ returns g c =
     let inv = c.loop-left.invariant in
     let now = c.loop-left.compactor in
     record {
-      same_reference = inv.same_reference;
       settles = inv.settles;
       none = listing_ends target c.args.start c.args.count c.loop-left.positions c.loop-left.left (slot_at now.held.slots) inv.lists (none_left c.loop-left.left c.loop-left-test.false);
       capacity = inv.capacity;

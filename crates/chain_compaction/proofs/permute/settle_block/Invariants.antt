@@ -10,7 +10,6 @@ abbrev pub invariant-loop-left : goal.invariant-loop-left
 invariant-loop-left g l =
     let packed_number = g.P.Inx.InxKey.packed_number in
     record {
-      same_reference : l.compactor.arena.ghost_name ≡ l.fn.compactor.arena.ghost_name;
       settles : IsSettling (destination_of packed_number) (Settles packed_number l.generation) (IsInBlock l.start l.count) l.fn.compactor.held.slots l.compactor.held.slots;
       lists : ListsWaiting (destination_of packed_number) l.start l.count l.positions l.left (slot_at l.compactor.held.slots);
       capacity : l.compactor.held.stack_capacity ≡ l.fn.compactor.held.stack_capacity;

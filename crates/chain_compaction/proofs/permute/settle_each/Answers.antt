@@ -5,10 +5,11 @@ use Rattle.chain_compaction.specs.Permutations.{IsInBlock, ListsWaiting, waiting
 use Rattle.chain_compaction.proofs.BlockTurnLemmas.{listing_skips, listing_grows, touches_add, touches_skip, next_in_block, below_64}
 use Rattle.chain_compaction.proofs.PermutationStepLemmas.{settling_continues}
 use Rattle.chain_compaction.proofs.PermutationLoopLemmas.{work_on-after}
-use Rattle.chain_compaction.proofs.LinkLoanLemmas.{same_then, counts_on, capacity_then, maximum_then}
+use Rattle.chain_compaction.proofs.LinkLoanLemmas.{capacity_then, maximum_then}
 use Rattle.chain_compaction.proofs.permute.settle_each.Goals as goal
 use Rattle.chain_compaction.proofs.permute.settle_each.Goals.{then-settle_once, else-settle_once}
 use Rattle.chain_links.specs.Links.{destination_of}
+use Rattle.chain_compaction.proofs.WorkCountLemmas.{counts_on}
 
 pub loop-k-preserved : goal.loop-k-preserved
 loop-k-preserved g c =
@@ -31,7 +32,6 @@ loop-k-preserved g c =
     (rw is at step.none) in
     let grows = listing_grows target c.args.start positions k left i (slot_at now.held.slots) (slot_at next.held.slots) inv.lists c.inx_at.ensures step.settles.stays low in
     record {
-      same_reference = same_then old now next inv.same_reference step.same_reference;
       settles = settling_continues target (Settles packed_number c.args.generation) (IsInBlock c.args.start c.args.count) i old.held.slots now.held.slots next.held.slots inside inv.settles step.settles;
       lists = elim c.if-settle_once.branch [
         | then-settle_once w ↦ subst (λ (l : ℕ). ListsWaiting target c.args.start (k + 1) c.if-settle_once.positions l (slot_at next.held.slots)) (sym w.left-is)

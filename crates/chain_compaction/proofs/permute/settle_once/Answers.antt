@@ -7,8 +7,7 @@ use Rattle.arena_base.specs.DetachedSlots.{with_placed_entry}
 use Rattle.chain_compaction.specs.Permutations.{Waits, IsSettling, waiting_count, Settles, IsWorkOn}
 use Rattle.chain_compaction.proofs.PermutationStepLemmas.{settling_begins, from_within, to_within, entry_there, one_less_after, settles_after, fewer_after, none_after, capacity_after, maximum_after, none_waits}
 use Rattle.chain_compaction.proofs.PermutationLoopLemmas.{work_on-moves, work_on-reads, work_on-either}
-use Rattle.chain_compaction.proofs.LinkLoanLemmas.{same_then, counts_on}
-use Rattle.chain_compaction.proofs.WorkCountLemmas.{counts_place}
+use Rattle.chain_compaction.proofs.WorkCountLemmas.{counts_place, counts_on}
 use Rattle.chain_compaction.proofs.permute.settle_once.Given.{Over}
 use Rattle.chain_compaction.proofs.permute.settle_once.Goals.{In-Some}
 use Rattle.chain_compaction.proofs.permute.settle_once.Goals as goal
@@ -61,7 +60,6 @@ returns-in-Some g c =
     = c.place.ensures.held ∙ ap (λ h. with_placed_entry h i d c.args.generation) was_read.held in
     let less = one_less_after packed_number c.args.generation i d old.held placed.held after.held is c.requires.within moved emptied.directed in
     record {
-      same_reference = same_then old placed after (same_then old read placed was_read.same_reference c.place.ensures.same_reference) emptied.same_reference;
       settles = settles_after packed_number c.args.generation i d old.held placed.held after.held is c.requires.within moved emptied.directed;
       none = none_after packed_number c.args.generation i d old.held placed.held after.held is c.requires.within moved emptied.directed (not c.is_same.result)
           (λ is. ap g.P.Inx.InxKey.number ((g.met.P.Inx.InxKey.same_is_equal c.in-Some.to c.args.i).0 (sym c.is_same.ensures ∙ not_false c.is_same.result is)));
@@ -72,7 +70,7 @@ returns-in-Some g c =
           (work_on-moves old.arena.now read.arena.now placed.arena.now after.arena.now (waiting_count target old.held.slots) (waiting_count target after.held.slots) was_read.arena c.place.ensures.arena emptied.arena less);
       unplaced = omega (arith, c.requires.unplaced, less);
       counts = counts_on old placed after (counts_on old read placed was_read.counts
-          (counts_place read.arena.now placed.arena.now read.placed placed.placed read.touched placed.touched c.place.ensures.arena c.place.ensures.placed c.place.ensures.touched)) emptied.counts;
+          (counts_place read placed c.place.ensures.same_reference c.place.ensures.arena c.place.ensures.placed c.place.ensures.touched)) emptied.counts;
     }
 
 pub returns-in-None : goal.returns-in-None
@@ -86,7 +84,6 @@ returns-in-None g c =
     let kept : after.held ≡ old.held = read.was_read.held in
     let slots = ap (λ h. h.slots) kept in
     record {
-      same_reference = read.was_read.same_reference;
       settles = subst (IsSettling target (Settles packed_number c.args.generation) (λ (j : ℕ). j ≡ i) old.held.slots) (sym slots)
           (settling_begins target (Settles packed_number c.args.generation) (λ (j : ℕ). j ≡ i) old.held.slots);
       none = subst (λ s. (d : ℕ) (e : _) → Waits target (slot_at s) i e d → ⊥) (sym slots)

@@ -5,8 +5,8 @@ use Rattle.chain_compaction.specs.Permutations.{IsInBlock, waiting_count, Settle
 use Rattle.chain_compaction.proofs.BlockTurnLemmas.{turn_in_block, listing_stays, listing_shrinks, sum_decreases-moved, sum_decreases-shortened, touches_stay, touches_continue, none_more, one_less_left, below_bound, turn_within}
 use Rattle.chain_compaction.proofs.PermutationStepLemmas.{settling_begins, settling_continues}
 use Rattle.chain_compaction.proofs.PermutationLoopLemmas.{work_on-begins, work_on-after}
-use Rattle.chain_compaction.proofs.LinkLoanLemmas.{same_then, counts_on, capacity_then, maximum_then}
-use Rattle.chain_compaction.proofs.WorkCountLemmas.{counts_none}
+use Rattle.chain_compaction.proofs.LinkLoanLemmas.{capacity_then, maximum_then}
+use Rattle.chain_compaction.proofs.WorkCountLemmas.{counts_none, counts_on}
 use Rattle.chain_compaction.proofs.permute.settle_round.Goals as goal
 use Rattle.chain_links.specs.Links.{destination_of}
 
@@ -16,7 +16,6 @@ loop-turn-init g c =
     let target = destination_of packed_number in
     let now = c.args.compactor.now in
     record {
-      same_reference = refl;
       settles = settling_begins target (Settles packed_number c.args.generation) (IsInBlock c.args.start c.args.count) now.held.slots;
       lists = c.requires.lists;
       few = omega arith;
@@ -26,7 +25,7 @@ loop-turn-init g c =
       maximum = refl;
       work = subst (IsWorkOn now.arena.now now.arena.now (waiting_count target now.held.slots) (waiting_count target now.held.slots)) (none_more c.args.left) (work_on-begins now.arena.now (waiting_count target now.held.slots));
       unplaced = c.requires.unplaced;
-      counts = counts_none now.arena.now now.placed now.touched;
+      counts = counts_none now;
     }
 
 pub bounds-positions-turn : goal.bounds-positions-turn
@@ -57,7 +56,6 @@ loop-turn-preserved-then-settle_once g c =
     let next = c.settle_once.new.compactor in
     let inside = turn_in_block target c.args.start c.args.count c.loop-turn.positions rest turn i (slot_at now.held.slots) (slot_at next.held.slots) inv.lists c.loop-turn-test.true c.inx_at.ensures step.settles.stays in
     record {
-      same_reference = same_then old now next inv.same_reference step.same_reference;
       settles = settling_continues target (Settles packed_number c.args.generation) (IsInBlock c.args.start c.args.count) i old.held.slots now.held.slots next.held.slots inside inv.settles step.settles;
       lists = listing_stays target c.args.start c.args.count c.loop-turn.positions rest turn i (slot_at now.held.slots) (slot_at next.held.slots) inv.lists c.loop-turn-test.true c.inx_at.ensures step.settles.stays;
       few = omega (arith, inv.few);
@@ -85,7 +83,6 @@ loop-turn-preserved g c =
     let next = c.settle_once.new.compactor in
     let inside = turn_in_block target c.args.start c.args.count c.loop-turn.positions rest turn i (slot_at now.held.slots) (slot_at next.held.slots) inv.lists c.loop-turn-test.true c.inx_at.ensures step.settles.stays in
     record {
-      same_reference = same_then old now next inv.same_reference step.same_reference;
       settles = settling_continues target (Settles packed_number c.args.generation) (IsInBlock c.args.start c.args.count) i old.held.slots now.held.slots next.held.slots inside inv.settles step.settles;
       lists = listing_shrinks target c.args.start c.args.count c.loop-turn.positions rest turn i (slot_at now.held.slots) (slot_at next.held.slots) inv.lists c.loop-turn-test.true c.inx_at.ensures step.settles.stays
           (rest - 1) (one_less_left rest (omega (arith, c.loop-turn-test.true))) c.requires.count step.none;
@@ -115,7 +112,6 @@ pub returns : goal.returns
 returns g c =
     let inv = c.loop-turn.invariant in
     record {
-      same_reference = inv.same_reference;
       settles = inv.settles;
       lists = inv.lists;
       fewer = inv.few;

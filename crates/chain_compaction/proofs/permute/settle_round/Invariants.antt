@@ -10,7 +10,6 @@ abbrev pub invariant-loop-turn : goal.invariant-loop-turn
 invariant-loop-turn g l =
     let packed_number = g.P.Inx.InxKey.packed_number in
     record {
-      same_reference : l.compactor.arena.ghost_name ≡ l.fn.compactor.arena.ghost_name;
       settles : IsSettling (destination_of packed_number) (Settles packed_number l.generation) (IsInBlock l.start l.count) l.fn.compactor.held.slots l.compactor.held.slots;
       lists : ListsWaiting (destination_of packed_number) l.start l.count l.positions l.rest (slot_at l.compactor.held.slots);
       few : l.rest ≤ l.left;

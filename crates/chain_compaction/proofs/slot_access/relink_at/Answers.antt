@@ -17,7 +17,6 @@ returns-in-Some g c =
     let new = c.value_mut.follows.lender left in
     let wrote = lent old new i c.value_mut.result c.in-Some.link left c.in-Some.is c.value_mut.ensures.value (c.value_mut.follows.holds left) in
     record {
-      same_reference = wrote.same_reference;
       relinked = links_both g.P.Inx.InxKey.packed_number i (option_map number c.args.prev) (option_map number c.args.next) (Some (number c.args.destination)) old.held new.held link before after left wrote.stored wrote.held
           c.set_prev.ensures.prev c.set_prev.ensures.rest c.set_next.ensures.next c.set_next.ensures.rest c.set_destination.ensures.destination c.set_destination.ensures.rest;
       arena = wrote.arena;
@@ -32,7 +31,6 @@ returns-in-None g c =
     let new = c.value_mut.follows.lender-at-none in
     let kept = lent_none old new i c.value_mut.result c.in-None.is c.value_mut.ensures.value c.value_mut.follows.holds-at-none in
     record {
-      same_reference = kept.same_reference;
       relinked = links_none g.P.Inx.InxKey.packed_number i (option_map number c.args.prev) (option_map number c.args.next) (Some (number c.args.destination)) old.held new.held kept.held kept.none;
       arena = kept.arena;
       counts = kept.counts;
