@@ -99,7 +99,6 @@ module _ {P I Gen T : Type 0} (key : P → ℕ × Gen) (number : I → ℕ) (old
   pub record InsertsWithinCapacity (result : Result P ChainInsertionError) : Type 0 where
     pub may : OnOk result (MayInsertInto key number old kind)
     pub inserted : IfOk result (λ p. GainsLink value_view entry link_map (names_in key number kind) t old (key p) new)
-    pub agreed : IsWellLinked (link_map old)
     pub capacity : (value_view new).capacity ≡ (value_view old).capacity
     pub err : OnErr result (new ≡ old)
     pub link : (result ≡ Err failed.FailedLinkRequirement) ↔ (MayInsertInto key number old kind → ⊥)
@@ -114,7 +113,6 @@ module _ {P I Gen T : Type 0} (key : P → ℕ × Gen) (number : I → ℕ) (old
     pub record InsertsReallocating (result : Result P ChainInsertionError) : Type 0 where
       pub may : OnOk result (MayInsertInto key number old kind)
       pub inserted : IfOk result (λ p. GainsLink value_view entry link_map (names_in key number kind) t old (key p) new)
-      pub agreed : IsWellLinked (link_map old)
       pub err : OnErr result (new ≡ old)
       pub link : (result ≡ Err failed.FailedLinkRequirement) ↔ (MayInsertInto key number old kind → ⊥)
       pub error : IfErr result (λ e. e ≢ failed.NotWithinCapacity)
@@ -130,7 +128,6 @@ module _ {P I Gen T : Type 0} (key : P → ℕ × Gen) (number : I → ℕ) (old
     -- The effects of `insert`, given a kind that may be inserted.
     pub record InsertsAllowed (result : Result P ReallocationError) : Type 0 where
       pub inserted : IfOk result (λ p. GainsLink value_view entry link_map (names_in key number kind) t old (key p) new)
-      pub agreed : IsWellLinked (link_map old)
       pub err : OnErr result (new ≡ old)
       pub within_capacity : SucceedsWithinCapacity (value_view old) result (value_view new)
       pub grown : OnOk result (IsCapacityFor most (value_view new).maximum (count (value_view old) + 1) (value_view new).capacity)

@@ -119,7 +119,6 @@ impl<P: PtrKey, T: Drop, S: SlotStack<Item = ArenaSlot<P, LinkNoGen<P, T>>>> Cha
         ensures removal { IsSome (value_within result)
             → IsRemoval P.Gen.following self.old (P.Inx.number i) self.new }
         ensures invalid { value_within result ≡ None → self.new ≡ self.old }
-        ensures agreed { IsWellLinked (link_map self.old) }
     {
         remove_link_at(&mut self.arena, i)
     }
@@ -176,7 +175,6 @@ impl<P: PtrKey, T: Drop, S: SlotStack<Item = ArenaSlot<P, LinkNoGen<P, T>>>> Cha
             tt }
         ensures placed { self.new.placed ≡ self.old.placed + result.2.placed }
         ensures touched { self.new.touched ≡ self.old.touched + result.2.touched }
-        ensures agreed { IsWellLinked (link_map self.old) }
     {
         let overflow = self.arena.begin_generation(reset);
         let (visitor, work) = arrange(&mut self.arena, visitor);
@@ -203,7 +201,6 @@ impl<P: PtrKey, T: Drop, S: SlotStack<Item = ArenaSlot<P, LinkNoGen<P, T>>>> Cha
         ensures overflow { result ≡ invalidation_option
             (overflows_after_compression P.Gen.wraps reset (entry_count self.old) self.old.counter)
             tt }
-        ensures agreed { IsWellLinked (link_map self.old) }
     {
         let (overflow, _, _) = self.compress_canonical_by(reset, MapVisitor { map });
         overflow
@@ -234,7 +231,6 @@ impl<P: PtrKey, T: Drop, S: SlotStack<Item = ArenaSlot<P, LinkNoGen<P, T>>>> Cha
             (λ r. r.0 ≡ invalidation_option (overflows_after_compression P.Gen.wraps reset
             (entry_count self.old) self.old.counter) tt) }
         ensures err { OnErr result (self.new ≡ self.old) }
-        ensures agreed { IsWellLinked (link_map self.old) }
     {
         let moves = Vec::with_capacity(alloc, self.len())?;
         let (overflow, listing, _) = self.compress_canonical_by(reset, MoveLister { moves });
@@ -255,7 +251,6 @@ impl<P: PtrKey, T: Drop, S: SlotStack<Item = ArenaSlot<P, LinkNoGen<P, T>>>> Cha
             tt }
         ensures placed { self.new.placed ≡ self.old.placed + result.1.placed }
         ensures touched { self.new.touched ≡ self.old.touched + result.1.touched }
-        ensures agreed { IsWellLinked (link_map self.old) }
     {
         let (overflow, _, work) = self.compress_canonical_by(
             reset,

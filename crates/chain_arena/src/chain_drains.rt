@@ -83,7 +83,6 @@ impl<P: PtrKey, T: Drop, S: SlotStack<Item = ArenaSlot<P, LinkNoGen<P, T>>>> Cha
         ensures some { IfSome result
             (λ e. IsDrainStep P.key P.Inx.packed_number P.Gen.following P.Gen.wraps self.old at e.1
             self.new e.0) }
-        ensures agreed { IsWellLinked (link_map self.old) }
     {
         self.invariants();
         match self.index_at(at) {

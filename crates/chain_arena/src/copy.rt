@@ -89,7 +89,6 @@ impl<P: PtrKey, T: Drop, S: SlotStack<Item = ArenaSlot<P, LinkNoGen<P, T>>>> Cha
         ensures err { OnErr result.0 (((self.new ≡ self.old) × (result.1 ≡ values))
             ⊎ (HasRefusableLink P.Inx.packed_number M.may_refuse P.key source.now
             × IsAbandonedCopy self.old self.new)) }
-        ensures agreed { IsWellLinked (link_map source.now) }
     {
         let (done, links) = self
             .arena
@@ -127,7 +126,6 @@ impl<P: PtrKey, T: Drop, S: SlotStack<Item = ArenaSlot<P, LinkNoGen<P, T>>>> Cha
         ensures never_less { self.old.capacity ≤ self.new.capacity }
         ensures reached { IsWithinReach S.may_reach (length source.now.slots) self.old self.new }
         ensures err { OnErr result (self.new ≡ self.old) }
-        ensures agreed { IsWellLinked (link_map source.now) }
     {
         let (done, _) = self.clone_from_by(source, ClosureMap { map });
         done
@@ -258,7 +256,6 @@ impl<P: PtrKey, T: Clone, S: SlotStack<Item = ArenaSlot<P, LinkNoGen<P, T>>>> Ch
             (new_arena P.Gen.first S.initial_maximum)) }
         ensures no_capacity { self.now.slots ≡ [] → IfOk result (λ copy. copy.stack_capacity ≡ 0)
             × IsOk result }
-        ensures agreed { IsWellLinked (link_map self.now) }
     {
         let mut arena: Arena<P, LinkNoGen<P, T>, S> = Arena::new(alloc);
         let (done, _) = arena.clone_from_by(&self.arena, LinkClones);

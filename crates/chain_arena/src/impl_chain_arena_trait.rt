@@ -169,7 +169,6 @@ impl<P: PtrKey, T: Drop, S: SlotStack<Item = ArenaSlot<P, LinkNoGen<P, T>>>> Cha
     }
 
     fn remove_link_no_gen(&mut self, p: P) -> InvalidationResult<LinkNoGen<P, T>> {
-        self.invariants();
         if self.contains(p) {
             link_alone(self.unlink(p.inx()))
         } else {

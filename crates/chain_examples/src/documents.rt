@@ -139,6 +139,7 @@ impl<P: PtrKey, T: Drop, A: ChainArenaTrait<P, T> + Drop> Documents<P, T, A> {
         ensures maximum { (A.view self.new).maximum ≡ (A.view self.old).maximum }
         ensures err { OnErr result (self.new ≡ self.old) }
     {
+        self.paragraphs.agrees();
         self.paragraphs
             .insert(LinkInsertKind::Disconnected, paragraph)
     }
@@ -273,6 +274,7 @@ impl<P: PtrKey, T: Drop, A: ChainArenaTrait<P, T> + Drop> Documents<P, T, A> {
         ensures maximum { (A.view self.new).maximum ≡ (A.view self.old).maximum }
         ensures err { OnErr result (self.new ≡ self.old) }
     {
+        self.paragraphs.agrees();
         self.paragraphs
             .insert_reallocating(LinkInsertKind::NextTo(p), paragraph)
     }
@@ -309,6 +311,7 @@ impl<P: PtrKey, T: Drop, A: ChainArenaTrait<P, T> + Drop> Documents<P, T, A> {
         ensures maximum { (A.view self.new).maximum ≡ (A.view self.old).maximum }
         ensures err { OnErr result (self.new ≡ self.old) }
     {
+        self.paragraphs.agrees();
         self.paragraphs
             .insert_reallocating(LinkInsertKind::PrevTo(p), paragraph)
     }
@@ -348,6 +351,7 @@ impl<P: PtrKey, T: Drop, A: ChainArenaTrait<P, T> + Drop> Documents<P, T, A> {
         ensures view_after { A.view self.new ≡ A.view self.old }
         ensures none { IfNone result (self.new ≡ self.old) }
     {
+        self.paragraphs.agrees();
         self.paragraphs.break_next(p)
     }
 
@@ -364,6 +368,7 @@ impl<P: PtrKey, T: Drop, A: ChainArenaTrait<P, T> + Drop> Documents<P, T, A> {
         ensures view_after { A.view self.new ≡ A.view self.old }
         ensures none { IfNone result (self.new ≡ self.old) }
     {
+        self.paragraphs.agrees();
         self.paragraphs.break_prev(p)
     }
 

@@ -169,6 +169,7 @@ impl<P: PtrKey, T: Drop, A: ChainArenaTrait<P, T> + Drop> Mesh<P, T, A> {
         ensures greatest { count (A.view self.old) ≡ P.Inx.greatest → IsErr result }
         ensures err { OnErr result (self.new ≡ self.old) }
     {
+        self.corners.agrees();
         self.corners.insert(LinkInsertKind::SingleLinkCyclic, point)
     }
 
@@ -202,6 +203,7 @@ impl<P: PtrKey, T: Drop, A: ChainArenaTrait<P, T> + Drop> Mesh<P, T, A> {
         ensures greatest { count (A.view self.old) ≡ P.Inx.greatest → IsErr result }
         ensures err { OnErr result (self.new ≡ self.old) }
     {
+        self.corners.agrees();
         self.corners
             .insert_reallocating(LinkInsertKind::NextTo(corner), point)
     }
@@ -280,6 +282,7 @@ impl<P: PtrKey, T: Drop, A: ChainArenaTrait<P, T> + Drop> Mesh<P, T, A> {
         ensures itself { P.key u ≡ P.key v → A.interlinks self.new ≡ A.interlinks self.old }
         ensures none { IfNone result (self.new ≡ self.old) }
     {
+        self.corners.agrees();
         self.corners.exchange_next(u, v)
     }
 
@@ -401,6 +404,7 @@ fn add_before<P: PtrKey, T: Drop, A: ChainArenaTrait<P, T>>(corners: &mut A, u: 
     ensures maximum { (A.view corners.new).maximum ≡ (A.view corners.old).maximum }
 {
     corners.invariants();
+    corners.agrees();
     match corners.insert(LinkInsertKind::PrevTo(u), t) {
         Ok(p) => p,
         Err(_) => unreachable!(),
@@ -422,6 +426,7 @@ fn add_after<P: PtrKey, T: Drop, A: ChainArenaTrait<P, T>>(corners: &mut A, v: P
     ensures capacity { (A.view corners.new).capacity ≡ (A.view corners.old).capacity }
     ensures maximum { (A.view corners.new).maximum ≡ (A.view corners.old).maximum }
 {
+    corners.agrees();
     match corners.insert(LinkInsertKind::NextTo(v), t) {
         Ok(p) => p,
         Err(_) => unreachable!(),

@@ -116,7 +116,6 @@ pub trait ChainArenaTrait<P: PtrKey, T: Drop>: ArenaTrait<P, T> {
             ↔ (MayInsert (Self.entry self.old) (interlinks self.old)
             (names_in P.key P.Inx.number kind) × IsFull (Self.view self.old)) }
         ensures capacity { (Self.view self.new).capacity ≡ (Self.view self.old).capacity }
-        ensures agreed { IsWellLinked (interlinks self.old) }
         ensures err { OnErr result (self.new ≡ self.old) }
         ensures link { (result ≡ Err ChainInsertionError.FailedLinkRequirement)
             ↔ ¬ MayInsert (Self.entry self.old) (interlinks self.old)
@@ -155,7 +154,6 @@ pub trait ChainArenaTrait<P: PtrKey, T: Drop>: ArenaTrait<P, T> {
             ↔ (MayInsert (Self.entry self.old) (interlinks self.old)
             (names_in P.key P.Inx.number kind) × NeedsBeyondMaximum (Self.view self.old)) }
         ensures greatest { count (Self.view self.old) ≡ P.Inx.greatest → IsErr result }
-        ensures agreed { IsWellLinked (interlinks self.old) }
         ensures err { OnErr result (self.new ≡ self.old) }
         ensures link { (result ≡ Err ChainInsertionError.FailedLinkRequirement)
             ↔ ¬ MayInsert (Self.entry self.old) (interlinks self.old)
@@ -177,7 +175,6 @@ pub trait ChainArenaTrait<P: PtrKey, T: Drop>: ArenaTrait<P, T> {
             (names_in P.key P.Inx.number kind) }
         ensures inserted { IfOk result (λ p. GainsLink Self.view Self.entry interlinks
             (names_in P.key P.Inx.number kind) t self.old (P.key p) self.new) }
-        ensures agreed { IsWellLinked (interlinks self.old) }
         ensures err { OnErr result (self.new ≡ self.old) }
         ensures within_capacity { SucceedsWithinCapacity (Self.view self.old) result
             (Self.view self.new) }
@@ -259,7 +256,6 @@ pub trait ChainArenaTrait<P: PtrKey, T: Drop>: ArenaTrait<P, T> {
             (P.key p).0 (P.key q).0) }
         ensures view_after { OnSome result (Self.view self.new ≡ Self.view self.old) }
         ensures none { IfNone result (self.new ≡ self.old) }
-        ensures agreed { IsWellLinked (interlinks self.old) }
         ensures more { OnSome result (connects self.old (P.key p).0 (P.key q).0 self.new) };
 
     /// Disconnects a link from its previous link: a linear chain becomes two, a cyclic chain
@@ -279,7 +275,6 @@ pub trait ChainArenaTrait<P: PtrKey, T: Drop>: ArenaTrait<P, T> {
             (λ a. Cuts (interlinks self.old) (interlinks self.new) a (P.key p).0)) }
         ensures view_after { OnSome result (Self.view self.new ≡ Self.view self.old) }
         ensures none { IfNone result (self.new ≡ self.old) }
-        ensures agreed { IsWellLinked (interlinks self.old) }
         ensures more { OnSome result (IfSome (prev_of (interlinks self.old) (P.key p).0)
             (λ a. breaks self.old a (P.key p).0 self.new)) };
 
@@ -299,7 +294,6 @@ pub trait ChainArenaTrait<P: PtrKey, T: Drop>: ArenaTrait<P, T> {
             (λ b. Cuts (interlinks self.old) (interlinks self.new) (P.key p).0 b)) }
         ensures view_after { OnSome result (Self.view self.new ≡ Self.view self.old) }
         ensures none { IfNone result (self.new ≡ self.old) }
-        ensures agreed { IsWellLinked (interlinks self.old) }
         ensures more { OnSome result (IfSome (next_of (interlinks self.old) (P.key p).0)
             (λ b. breaks self.old (P.key p).0 b self.new)) };
 
@@ -319,7 +313,6 @@ pub trait ChainArenaTrait<P: PtrKey, T: Drop>: ArenaTrait<P, T> {
             (P.key p).0 (P.key q).0) }
         ensures view_after { OnSome result (Self.view self.new ≡ Self.view self.old) }
         ensures none { IfNone result (self.new ≡ self.old) }
-        ensures agreed { IsWellLinked (interlinks self.old) }
         ensures more { OnSome result (exchanges self.old (P.key p).0 (P.key q).0 self.new) };
 
     /// Removes a link and returns it with the interlinks that it had.
@@ -340,7 +333,6 @@ pub trait ChainArenaTrait<P: PtrKey, T: Drop>: ArenaTrait<P, T> {
             (λ g. result ≡ invalidation_result (P.Gen.wraps g) (value_within result)) }
         ensures invalid { ¬ IsValid (Self.entry self.old) (P.key p) → (value_within result ≡ None)
             × (self.new ≡ self.old) }
-        ensures agreed { IsWellLinked (interlinks self.old) }
         ensures more { IsValid (Self.entry self.old) (P.key p)
             → Self.removes self.old (P.key p).0 self.new };
 
@@ -363,7 +355,6 @@ pub trait ChainArenaTrait<P: PtrKey, T: Drop>: ArenaTrait<P, T> {
         ensures chains { IsSome (Self.entry self.old (P.Inx.number i))
             → Removes (interlinks self.old) (interlinks self.new) (P.Inx.number i) }
         ensures invalid { Self.entry self.old (P.Inx.number i) ≡ None → self.new ≡ self.old }
-        ensures agreed { IsWellLinked (interlinks self.old) }
         ensures more { IsSome (Self.entry self.old (P.Inx.number i))
             → Self.removes self.old (P.Inx.number i) self.new };
 
@@ -383,7 +374,6 @@ pub trait ChainArenaTrait<P: PtrKey, T: Drop>: ArenaTrait<P, T> {
         ensures overflow { IfSome (Self.view self.old).counter
             (λ g. result ≡ invalidation_option (overflows_after_compression P.Gen.wraps reset
             (length (Self.view self.old).entries) g) tt) }
-        ensures agreed { IsWellLinked (interlinks self.old) }
         ensures more { compresses_canonically self.old self.new };
 
     // A call of an advancer along a chain takes the next step of its walk, in the arena of that

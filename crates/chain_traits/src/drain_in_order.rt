@@ -167,7 +167,6 @@ fn take_link<Q: PtrKey, U: Drop, A: ChainArenaTrait<Q, U>>(
         ≡ view_after_removal Q.Gen.following (A.view source.old) (Q.Inx.number i) }
     ensures links { A.interlinks source.new ≡ with_removal (A.interlinks source.old)
         (Q.Inx.number i) }
-    ensures agreed { IsWellLinked (A.interlinks source.old) }
 {
     let (entry, overflow) = source.remove_inx_link_no_gen(i).overflowing();
     match entry {

@@ -236,7 +236,6 @@ impl<P: PtrKey, T: Drop, A: ChainArenaTrait<P, T>> ChainArenaTrait<P, T> for For
             ↔ (MayInsert (A.entry self.old.inner) (A.interlinks self.old.inner)
             (names_in P.key P.Inx.number kind) × IsFull (A.view self.old.inner)) }
         ensures capacity { (A.view self.new.inner).capacity ≡ (A.view self.old.inner).capacity }
-        ensures agreed { IsWellLinked (A.interlinks self.old.inner) }
         ensures err { OnErr result (self.new ≡ self.old) }
         ensures link { (result ≡ Err ChainInsertionError.FailedLinkRequirement)
             ↔ ¬ MayInsert (A.entry self.old.inner) (A.interlinks self.old.inner)
@@ -266,7 +265,6 @@ impl<P: PtrKey, T: Drop, A: ChainArenaTrait<P, T>> ChainArenaTrait<P, T> for For
             ↔ (MayInsert (A.entry self.old.inner) (A.interlinks self.old.inner)
             (names_in P.key P.Inx.number kind) × NeedsBeyondMaximum (A.view self.old.inner)) }
         ensures greatest { count (A.view self.old.inner) ≡ P.Inx.greatest → IsErr result }
-        ensures agreed { IsWellLinked (A.interlinks self.old.inner) }
         ensures err { OnErr result (self.new ≡ self.old) }
         ensures link { (result ≡ Err ChainInsertionError.FailedLinkRequirement)
             ↔ ¬ MayInsert (A.entry self.old.inner) (A.interlinks self.old.inner)
@@ -281,7 +279,6 @@ impl<P: PtrKey, T: Drop, A: ChainArenaTrait<P, T>> ChainArenaTrait<P, T> for For
             (names_in P.key P.Inx.number kind) }
         ensures inserted { IfOk result (λ p. GainsLink A.view A.entry A.interlinks
             (names_in P.key P.Inx.number kind) t self.old.inner (P.key p) self.new.inner) }
-        ensures agreed { IsWellLinked (A.interlinks self.old.inner) }
         ensures err { OnErr result (self.new ≡ self.old) }
         ensures within_capacity { SucceedsWithinCapacity (A.view self.old.inner) result
             (A.view self.new.inner) }

@@ -17,7 +17,7 @@ pub returns-clause-others : goal.returns-clause-others
 returns-clause-others g c =
     let gained = c.in-Ok.ensures.inserted in
     keeps_others g.A.ArenaTrait.entry g.A.ChainArenaTrait.interlinks cyclic (λ l. refl) c.args.corners.now c.insert.new.self (g.P.PtrKey.key c.in-Ok.p) c.args.t gained.entries (next_to (g.P.PtrKey.key c.args.v).0)
-    c.insert.ensures.agreed (g.met.A.ChainArenaTrait.links_are_entries c.args.corners.now (g.P.PtrKey.key c.in-Ok.p).0) gained.chains
+    c.agrees.ensures (g.met.A.ChainArenaTrait.links_are_entries c.args.corners.now (g.P.PtrKey.key c.in-Ok.p).0) gained.chains
 
 pub returns-clause-corner : goal.returns-clause-corner
 returns-clause-corner g c = c.in-Ok.ensures.inserted.entries

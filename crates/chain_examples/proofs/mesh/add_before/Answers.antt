@@ -17,7 +17,7 @@ pub returns-clause-others : goal.returns-clause-others
 returns-clause-others g c =
     let gained = c.in-Ok.ensures.inserted in
     keeps_others g.A.ArenaTrait.entry g.A.ChainArenaTrait.interlinks cyclic (λ l. refl) c.args.corners.now c.insert.new.self (g.P.PtrKey.key c.in-Ok.p) c.args.t gained.entries (prev_to (g.P.PtrKey.key c.args.u).0)
-    c.insert.ensures.agreed (g.met.A.ChainArenaTrait.links_are_entries c.args.corners.now (g.P.PtrKey.key c.in-Ok.p).0) gained.chains
+    c.agrees.ensures (g.met.A.ChainArenaTrait.links_are_entries c.args.corners.now (g.P.PtrKey.key c.in-Ok.p).0) gained.chains
 
 pub returns-clause-corner : goal.returns-clause-corner
 returns-clause-corner g c = c.in-Ok.ensures.inserted.entries
@@ -32,7 +32,7 @@ pub returns-clause-all_cyclic : goal.returns-clause-all_cyclic
 returns-clause-all_cyclic g c =
     let a = c.args.corners.now in
     let u = g.P.PtrKey.key c.args.u in
-    cyclic_before (g.A.ChainArenaTrait.interlinks a) (g.A.ChainArenaTrait.interlinks c.insert.new.self) _ (g.P.PtrKey.key c.in-Ok.p).0 u.0 c.in-Ok.ensures.inserted.pairs c.insert.ensures.agreed
+    cyclic_before (g.A.ChainArenaTrait.interlinks a) (g.A.ChainArenaTrait.interlinks c.insert.new.self) _ (g.P.PtrKey.key c.in-Ok.p).0 u.0 c.in-Ok.ensures.inserted.pairs c.agrees.ensures
     (links_within (g.A.ChainArenaTrait.interlinks a) (g.A.ArenaTrait.entry a) (g.A.ArenaTrait.view a).entries (g.met.A.ChainArenaTrait.links_are_entries a) (g.met.A.ArenaTrait.finds a) _ c.invariants.ensures.indexes)
     (valid_link (g.A.ChainArenaTrait.interlinks a) (g.A.ArenaTrait.entry a) (g.A.ArenaTrait.view a).entries (g.met.A.ChainArenaTrait.links_are_entries a) (g.met.A.ArenaTrait.finds a) u c.requires.valid)
 

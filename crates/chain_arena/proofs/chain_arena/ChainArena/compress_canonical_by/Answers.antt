@@ -43,5 +43,4 @@ returns g c =
       overflow = c.begin_generation-overflow.ensures.overflow ∙ ap (λ n. invalidation_option (overflows_after_compression g.P.Gen.GenKey.wraps c.args.reset n a.counter) tt) (length-entries a ∙ sym (entry_count-links_view number a));
       placed = made.placed ∙ ap (λ x. x.placed + c.arrange-visitor.result.1.placed) c.begin_generation-overflow.ensures.after;
       touched = made.touched ∙ ap (λ x. x.touched + c.arrange-visitor.result.1.touched) c.begin_generation-overflow.ensures.after;
-      agreed = c.self.invariant.agree;
     })

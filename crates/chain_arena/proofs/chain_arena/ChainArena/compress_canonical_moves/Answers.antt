@@ -1,12 +1,8 @@
 -- The capacity suffices for all pairs, so each is listed.
 use Rattle.std.proofs.Common.{arith}
-use Rattle.chain_laws.proofs.ChainLemmas.NeighborPairs.{agrees_from_pairs}
 use Rattle.chain_compaction.proofs.VisitorLemmas.{listed_all}
 use Rattle.chain_arena.proofs.PointerTransferLemmas.{arena_moves_pointers}
 use Rattle.chain_arena.proofs.chain_arena.ChainArena.compress_canonical_moves.Goals as goal
-
-pub returns-in_err-moves-clause-agreed : goal.returns-in_err-moves-clause-agreed
-returns-in_err-moves-clause-agreed g c = let all = c.len.ensures.chains in agrees_from_pairs _ all.chains all.are.interlinks
 
 pub returns-clause-moves : goal.returns-clause-moves
 returns-clause-moves g c =

@@ -12,10 +12,9 @@ returns-in-Some-entry g c =
       none = tt;
       some =
           drained_step g.P.PtrKey.key packed g.P.Gen.GenKey.following g.P.Gen.GenKey.wraps c.args.self.now c.remove_inx_link_no_gen.new.self c.args.at (number c.in-Some.i) c.drain_item.result.0
-          c.remove_inx_link_no_gen.result c.in-Some.ensures.some removal.agreed removal.returned c.in-Some-entry.entry c.overflowing-entry.result.1 c.drain_item.result.1
+          c.remove_inx_link_no_gen.result c.in-Some.ensures.some c.invariants.ensures.agree removal.returned c.in-Some-entry.entry c.overflowing-entry.result.1 c.drain_item.result.1
           removal.overflow (λ stored. (removal.more stored).state) (sym (ap (λ x. x.0) c.overflowing-entry.ensures) ∙ c.in-Some-entry.is) (ap (λ x. x.1) c.overflowing-entry.ensures)
           yields.ptr yields.link yields.overflow yields.next;
-      agreed = removal.agreed;
     }
 
 pub returns-in-None-entry : goal.returns-in-None-entry
@@ -23,7 +22,6 @@ returns-in-None-entry g c =
     let removal = c.remove_inx_link_no_gen.ensures in record {
       none =
           drained_none g.P.PtrKey.key g.P.Inx.InxKey.packed_number g.P.Gen.GenKey.following g.P.Gen.GenKey.wraps c.args.self.now c.remove_inx_link_no_gen.new.self c.args.at (g.P.Inx.InxKey.number c.in-Some.i) c.args.at
-          c.remove_inx_link_no_gen.result c.in-Some.ensures.some removal.agreed removal.returned (sym (ap (λ x. x.0) c.overflowing-entry.ensures) ∙ c.in-None-entry.is) removal.invalid;
+          c.remove_inx_link_no_gen.result c.in-Some.ensures.some c.invariants.ensures.agree removal.returned (sym (ap (λ x. x.0) c.overflowing-entry.ensures) ∙ c.in-None-entry.is) removal.invalid;
       some = tt;
-      agreed = removal.agreed;
     }

@@ -23,5 +23,4 @@ returns g c =
       overflow = made.overflow;
       removal = λ some. removal_of g.P.Gen.GenKey.following (links_view packed a) (links_view packed c.remove_link_at.new.arena) (g.P.Inx.InxKey.number c.args.i) c.self.invariant.agree (made.valid some);
       invalid = λ none. ap (links_view packed) (made.invalid none);
-      agreed = c.self.invariant.agree;
     })

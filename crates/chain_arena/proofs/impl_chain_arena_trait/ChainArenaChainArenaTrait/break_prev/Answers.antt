@@ -66,7 +66,6 @@ returns-in-Some g c =
       chains = at_known _ _ _ at (cut_known a b i j is (pair g c)).chains;
       view_after = ap (λ x. view_of x) (cut_values a b i j is);
       none = tt;
-      agreed = c.self.invariant.agree;
       more = at_known _ _ _ at (cut_known a b i j is (pair g c));
     })
 
@@ -77,6 +76,5 @@ returns-in-None g c = rw (← c.self.view_is) (record {
   chains = tt;
   view_after = tt;
   none = refl;
-  agreed = c.self.invariant.agree;
   more = tt;
 })

@@ -42,7 +42,6 @@ returns g c =
       joined = known a b p q o may is (λ may is. links a b p q may is);
       view_after = known a b p q o may is (λ may is. ap (λ x. view_of x) (joined-values a b p q may is));
       none = c.join.ensures.none;
-      agreed = c.self.invariant.agree;
       chains = known a b p q o may is (λ may is. joined-chains a b p q may is);
       more = known a b p q o may is (λ may is. record { state = is; links = links a b p q may is; pair = joined-pair a b p q may is; chains = joined-chains a b p q may is });
     })

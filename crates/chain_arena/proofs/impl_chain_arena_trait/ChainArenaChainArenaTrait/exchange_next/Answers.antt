@@ -91,7 +91,6 @@ returns-in-Some-next_of_link g c =
       chains = (exchange_known a b i j is c.self.invariant.agree (valid_p g c) (valid_q g c)).chains;
       view_after = ap (λ x. view_of x) (exchange_values a b i j is);
       none = tt;
-      agreed = c.self.invariant.agree;
       more = exchange_known a b i j is c.self.invariant.agree (valid_p g c) (valid_q g c);
     })
 
@@ -102,7 +101,6 @@ returns-in-None-next_of_link g c = rw (← c.self.view_is) (record {
   chains = tt;
   view_after = tt;
   none = refl;
-  agreed = c.self.invariant.agree;
   more = tt;
 })
 
@@ -113,6 +111,5 @@ returns-in-None g c = rw (← c.self.view_is) (record {
   chains = tt;
   view_after = tt;
   none = refl;
-  agreed = c.self.invariant.agree;
   more = tt;
 })

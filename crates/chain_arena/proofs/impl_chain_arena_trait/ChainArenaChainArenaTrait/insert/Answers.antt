@@ -8,7 +8,6 @@ returns g c =
     let known = c.insert_reallocating.ensures in
     rw c.growth_of.ensures (record {
       inserted = growth-if_ok _ r known.inserted;
-      agreed = known.agreed;
       err = growth-on_err _ r known.err;
       within_capacity = λ within_capacity. let is = known.within_capacity c.requires within_capacity in (growth-is_ok r is.0, is.1);
       grown = growth-on_ok _ r known.grown;

@@ -25,7 +25,6 @@ returns g c =
     let t = known g c in record {
       may = t.may;
       inserted = t.inserted;
-      agreed = c.position_with_growth-checked.ensures.agreed;
       err = t.err;
       link = t.link;
       error = t.error;

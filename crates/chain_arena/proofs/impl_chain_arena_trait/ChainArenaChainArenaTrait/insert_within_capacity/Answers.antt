@@ -24,7 +24,6 @@ returns g c =
     let t = known g c in record {
       may = t.may;
       inserted = t.inserted;
-      agreed = c.position_within_capacity-checked.ensures.agree;
       capacity = t.capacity;
       err = t.err;
       link = t.link;

@@ -17,7 +17,6 @@ returns g c =
       overflow = made.overflow;
       valid = λ stored. (viewed_there packed following a b i taken made.returned made.removal stored, (removal stored).links);
       invalid = λ none. made.invalid (none_taken packed following a b i taken made.returned none);
-      agreed = made.agreed;
       chains = λ stored. (removal stored).chains;
       more = removal;
     }

@@ -33,7 +33,6 @@ returns-then-contains g c =
       );
       overflow = same_overflow (λ e. e.1) (g.P.Gen.GenKey.wraps a.counter) c.unlink.result c.link_alone.result alone.value alone.overflow made.overflow;
       invalid = λ invalid. absurd (invalid was_stored);
-      agreed = made.agreed;
       chains = λ _. removal.chains;
       more = λ _. removal;
     })
@@ -45,7 +44,6 @@ returns-else-contains g c =
       valid = λ valid. absurd (no valid);
       overflow = refl;
       invalid = λ _. (refl, refl);
-      agreed = c.invariants.ensures.agree;
       chains = λ valid. absurd (no valid);
       more = λ valid. absurd (no valid);
     }

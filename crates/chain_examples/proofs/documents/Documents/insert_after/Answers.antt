@@ -18,7 +18,7 @@ returns g c =
       paragraph = rw (← c.self.view_is) (if_ok c.insert_reallocating.result c.insert_reallocating.ensures.inserted (λ q gained. gained.entries));
       others = rw (← c.self.view_is) (if_ok c.insert_reallocating.result c.insert_reallocating.ensures.inserted (λ q gained.
           keeps_others g.A.ArenaTrait.entry g.A.ChainArenaTrait.interlinks linear (λ l. refl) c.self.inside.paragraphs c.insert_reallocating.new.self (g.P.PtrKey.key q) c.args.paragraph gained.entries (next_to (g.P.PtrKey.key c.args.p).0)
-          c.insert_reallocating.ensures.agreed (g.met.A.ChainArenaTrait.links_are_entries c.self.inside.paragraphs (g.P.PtrKey.key q).0) gained.chains));
+          c.agrees.ensures (g.met.A.ChainArenaTrait.links_are_entries c.self.inside.paragraphs (g.P.PtrKey.key q).0) gained.chains));
       size = rw (← c.self.view_is) (if_ok c.insert_reallocating.result c.insert_reallocating.ensures.inserted (λ q gained. gained.more));
       link = rw (← c.self.view_is) (
         λ failed valid. c.insert_reallocating.ensures.link.0 failed (valid, linked valid),

@@ -19,7 +19,7 @@ pub returns : goal.returns
 returns g c = record {
   some = rw (← c.self.view_is) c.break_next.ensures.some;
   texts = rw (← c.self.view_is) (ends_in g.A.ArenaTrait.entry g.A.ChainArenaTrait.interlinks c.self.inside.paragraphs c.break_next.new.self (g.P.PtrKey.key c.args.p) (break g c));
-  others = rw (← c.self.view_is) (keeps_ended g.A.ArenaTrait.entry g.A.ChainArenaTrait.interlinks c.self.inside.paragraphs c.break_next.new.self (g.P.PtrKey.key c.args.p) c.break_next.ensures.agreed (break g c));
+  others = rw (← c.self.view_is) (keeps_ended g.A.ArenaTrait.entry g.A.ChainArenaTrait.interlinks c.self.inside.paragraphs c.break_next.new.self (g.P.PtrKey.key c.args.p) c.agrees.ensures (break g c));
   paragraphs = either_some c.break_next.result c.break_next.ensures.view_after c.break_next.ensures.none (λ some view_after. same_entry (λ x. (g.A.ArenaTrait.view x).entries) g.A.ArenaTrait.entry g.met.A.ArenaTrait.finds c.self.inside.paragraphs c.break_next.new.self (ap (λ s. s.entries) view_after)) (λ same. ap g.A.ArenaTrait.entry same) ∙ ap g.A.ArenaTrait.entry c.self.view_is;
   view_after = either_some c.break_next.result c.break_next.ensures.view_after c.break_next.ensures.none (λ some view_after. view_after) (λ same. ap g.A.ArenaTrait.view same) ∙ ap g.A.ArenaTrait.view c.self.view_is;
   none = rw (← c.self.view_is) c.break_next.ensures.none;

@@ -35,7 +35,7 @@ returns g c = record {
   view_after = either_some c.exchange_next.result c.exchange_next.ensures.view_after c.exchange_next.ensures.none (λ some view_after. view_after) (λ same. ap g.A.ArenaTrait.view same) ∙ ap g.A.ArenaTrait.view c.self.view_is;
   itself = rw (← c.self.view_is) (λ is. either_some c.exchange_next.result c.exchange_next.ensures.exchanged c.exchange_next.ensures.none
       (λ some changed. exchanged_itself g.A.ArenaTrait.entry g.A.ChainArenaTrait.interlinks c.self.inside.corners c.exchange_next.new.self (some_valid (g.A.ChainArenaTrait.interlinks c.self.inside.corners) (g.A.ArenaTrait.entry c.self.inside.corners) (g.A.ArenaTrait.view c.self.inside.corners).entries
-      (g.met.A.ChainArenaTrait.links_are_entries c.self.inside.corners) (g.met.A.ArenaTrait.finds c.self.inside.corners)) (g.P.PtrKey.key c.args.u) (g.P.PtrKey.key c.args.v) ((done g c).0 some).0 c.exchange_next.ensures.agreed is changed) (λ same. ap g.A.ChainArenaTrait.interlinks same));
+      (g.met.A.ChainArenaTrait.links_are_entries c.self.inside.corners) (g.met.A.ArenaTrait.finds c.self.inside.corners)) (g.P.PtrKey.key c.args.u) (g.P.PtrKey.key c.args.v) ((done g c).0 some).0 c.agrees.ensures is changed) (λ same. ap g.A.ChainArenaTrait.interlinks same));
   none = rw (← c.self.view_is) c.exchange_next.ensures.none;
 }
 

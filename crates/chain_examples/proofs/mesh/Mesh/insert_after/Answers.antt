@@ -15,7 +15,7 @@ returns-clause-ring g c = rw (← c.self.view_is) (if_ok c.insert_reallocating.r
 pub returns-clause-others : goal.returns-clause-others
 returns-clause-others g c = rw (← c.self.view_is) (if_ok c.insert_reallocating.result c.insert_reallocating.ensures.inserted (λ q gained.
     keeps_others g.A.ArenaTrait.entry g.A.ChainArenaTrait.interlinks cyclic (λ l. refl) c.self.inside.corners c.insert_reallocating.new.self (g.P.PtrKey.key q) c.args.point gained.entries (next_to (g.P.PtrKey.key c.args.corner).0)
-    c.insert_reallocating.ensures.agreed (g.met.A.ChainArenaTrait.links_are_entries c.self.inside.corners (g.P.PtrKey.key q).0) gained.chains))
+    c.agrees.ensures (g.met.A.ChainArenaTrait.links_are_entries c.self.inside.corners (g.P.PtrKey.key q).0) gained.chains))
 
 pub returns-clause-within_capacity : goal.returns-clause-within_capacity
 returns-clause-within_capacity g c =

@@ -18,7 +18,7 @@ returns g c = record {
   ring = if_ok c.insert.result c.insert.ensures.inserted (λ q gained. record { chain = gained.chains.ring refl refl; are_stored = (gained.entries.stored, tt) });
   corner = rw (← c.self.view_is) (if_ok c.insert.result c.insert.ensures.inserted (λ q gained. gained.entries));
   others = rw (← c.self.view_is) (if_ok c.insert.result c.insert.ensures.inserted (λ q gained.
-      keeps_others g.A.ArenaTrait.entry g.A.ChainArenaTrait.interlinks cyclic (λ l. refl) c.self.inside.corners c.insert.new.self (g.P.PtrKey.key q) c.args.point gained.entries single_link_cyclic c.insert.ensures.agreed
+      keeps_others g.A.ArenaTrait.entry g.A.ChainArenaTrait.interlinks cyclic (λ l. refl) c.self.inside.corners c.insert.new.self (g.P.PtrKey.key q) c.args.point gained.entries single_link_cyclic c.agrees.ensures
       (g.met.A.ChainArenaTrait.links_are_entries c.self.inside.corners (g.P.PtrKey.key q).0) gained.chains));
   size = rw (← c.self.view_is) (if_ok c.insert.result c.insert.ensures.inserted (λ q gained. gained.more));
   within_capacity = rw (← c.self.view_is) c.insert.ensures.within_capacity;
