@@ -1,7 +1,5 @@
 // The canonical compaction of chains.
-ghost use Rattle.chain_laws.specs.Chains.{IsWellLinked};
-ghost use Rattle.chain_links.specs.ChainArena.{link_map};
-ghost use Rattle.chain_links.specs.Links.{links_view};
+ghost use Rattle.chain_links.specs.Links.{links_view, IsChainArena};
 ghost use Rattle.chain_compaction.specs.Layouts.{AreArranged};
 
 use arena_base::{Arena, ArenaSlot, Work};
@@ -18,7 +16,7 @@ pub fn arrange<
     V: Visitor<P>,
 >(arena: &mut Arena<P, LinkNoGen<P, T>, S>, visitor: V) -> (V, Work)
     requires ready { V.is_ready visitor }
-    requires agree { IsWellLinked (link_map (links_view P.Inx.packed_number arena.old)) }
+    requires links { IsChainArena P.Inx.packed_number arena.old }
     ensures arranged { AreArranged V.sees P.key visitor result.0
         (links_view P.Inx.packed_number arena.old) (links_view P.Inx.packed_number arena.new) }
 {
