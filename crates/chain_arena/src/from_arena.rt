@@ -14,9 +14,9 @@ use chain_links::LinkNoGen;
 impl<P: PtrKey, T: Drop, S: SlotStack<Item = ArenaSlot<P, LinkNoGen<P, T>>>> ChainArena<P, T, S> {
     /// Converts an arena of links to a chain arena.
     ///
-    /// Indexes, generations, counter, slots, freed list and interlinks stay. A destination that a
-    /// link has, from a compression, is removed. Does not allocate. Takes time proportional to the
-    /// slots, which is not proved.
+    /// Indexes, generations, counter, slots, freed list and interlinks stay. Any destination that
+    /// `chain_links::link_access` has set in a link is removed. Does not allocate. Takes time
+    /// proportional to the slots, which is not proved.
     ///
     /// # Errors
     ///

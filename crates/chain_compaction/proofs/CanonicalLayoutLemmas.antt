@@ -33,7 +33,7 @@ use Rattle.arena_base.proofs.PackedSlotLemmas.{packed-none_free}
 use Rattle.chain_compaction.proofs.DetachedLinkLemmas.{work-more, work-few}
 use Rattle.chain_compaction.proofs.CompactedLinkLemmas.{without_free_end-map, slot_at-trimmed}
 use Rattle.chain_compaction.proofs.CompactedFrontLemmas.{front-packed, packed-length, moved_viewed}
-use Rattle.chain_compaction.proofs.ChainDestinationLemmas.{length-view_after, stored_at}
+use Rattle.chain_compaction.proofs.ChainDestinationLemmas.{stored_at}
 use Rattle.chain_compaction.proofs.WorkCountLemmas.{counted_none}
 use Rattle.chain_compaction.proofs.SlotCountLemmas.{count-mapped}
 use Rattle.chain_compaction.proofs.ArrangementLemmas.{count-stored, slots-filled, values-filled}
@@ -169,11 +169,6 @@ module _ {Gen K T : Type 0} (number : K → Option ℕ) where
       twice : (o : Option (Gen × LinkBody K T)) → option_map {U = ℕ × Gen} (λ (e : Gen × LinkBody K T). (i, e.0)) o ≡ option_map {U = ℕ × Gen} (λ (e : Gen × T). (i, e.0)) (option_map (on_value link_value) (option_map (pair_view number) o))
       twice None = refl
       twice (Some e) = refl
-
-  -- Links with the same view are well linked alike.
-  pub agree-view_after : (before after : DetachedView Gen (LinkBody K T)) → held_view number after ≡ held_view number before → IsWellLinked (link_map_in number before.slots) → IsWellLinked (link_map_in number after.slots)
-  agree-view_after before after same agrees =
-      subst IsWellLinked (link_map-view_after before ∙ (ap (λ (h : DetachedView Gen (LinkView T)). reported_slots h.slots) (sym same) ∙ sym (link_map-view_after after))) agrees
 
   -- Links that were taken out of an arena are well linked as they were there.
   pub agree-held : (a : Arena Gen (LinkBody K T)) (held : DetachedView Gen (LinkBody K T)) → held ≡ held_of a → IsWellLinked (link_map (links_view number a)) → IsWellLinked (link_map_in number held.slots)

@@ -1,10 +1,10 @@
 -- The walk that gives the links of a chain their destinations: its beginning, its steps and its
 -- end.
 use Rattle.std.proofs.Common.{◌≡◌, ◌≢◌, ℕ, suc, ◌+◌, ◌*◌, ◌<◌, ◌≤◌, ◌⊎◌, inl, inr, List, [], ◌∷◌, ◌++◌, length, map, Option, None, Some, refl, sym, ap, ap₂, ◌∙◌, subst, append_assoc, arith}
-use Rattle.std.specs.Prelude.{◌==◌, if◌then◌else◌, count_by, is_some}
+use Rattle.std.specs.Prelude.{◌==◌, if◌then◌else◌}
 use Rattle.std.specs.Option.{option_map, option_and_then}
 use Rattle.std.specs.List.{FoldsTo, range_with_len}
-use Rattle.std.proofs.lemmas.List.{length-append, length-map, map-append, append-nil}
+use Rattle.std.proofs.lemmas.List.{length-append, map-append, append-nil}
 use Rattle.std.proofs.Math.Decide.{ℕ_discrete}
 use mathlib.Core.Path.{fun_ext}
 use Rattle.chain_laws.specs.Chains.{LinkMap, Interlinks, Chain, linear, cyclic, items, IsMember, AreDistinct, IsChain, HasLink, AreLinked, first_or, last_or, prev_in, next_in, next_of}
@@ -23,8 +23,7 @@ use Rattle.chain_links.specs.ChainArena.{LinkView, on_value, ptr_at}
 use Rattle.chain_links.specs.Links.{link_view, pair_view, destination_of, destination_at}
 use Rattle.chain_compaction.specs.DetachedLinks.{body_interlinks, link_map_in, IsWork}
 use Rattle.chain_compaction.specs.Layouts.{ReportsMoves}
-use Rattle.chain_compaction.specs.Destinations.{renamed_link, number_after, held_view, AreNumbered, IsRelinkedAt, IsRingClosed, AreRelinked, CanNumber, IsChainNumbered}
-use Rattle.chain_compaction.proofs.SlotCountLemmas.{count-mapped}
+use Rattle.chain_compaction.specs.Destinations.{renamed_link, number_after, AreNumbered, IsRelinkedAt, IsRingClosed, AreRelinked, CanNumber, IsChainNumbered}
 use Rattle.chain_compaction.proofs.DetachedLinkLemmas.{work-none, work-more}
 use Rattle.chain_compaction.proofs.LinkRewriteLemmas.{viewed_as, destination_written, written_own, viewed_at, relinked_none, relinked_as, relinked_more, relinked_over}
 
@@ -93,14 +92,6 @@ module _ {F P Gen : Type 0} (g : F → P → P → F → Type 0) (key : P → �
 -- ---- slots in which links get destinations
 
 module _ {Gen K T : Type 0} (number : K → Option ℕ) where
-  -- Two views that are the same have as many slots.
-  pub length-view_after : (a b : DetachedView Gen (LinkBody K T)) → held_view number a ≡ held_view number b → length a.slots ≡ length b.slots
-  length-view_after a b same = sym (length-map a.slots (option_map (pair_view number))) ∙ (ap (λ (h : DetachedView Gen (LinkView T)). length h.slots) same ∙ length-map b.slots (option_map (pair_view number)))
-
-  -- The same number of links is seen.
-  pub count-view_after : (a b : DetachedView Gen (LinkBody K T)) → held_view number a ≡ held_view number b → count_by is_some a.slots ≡ count_by is_some b.slots
-  count-view_after a b same = sym (count-mapped (pair_view number) a.slots) ∙ (ap (λ (h : DetachedView Gen (LinkView T)). count_by is_some h.slots) same ∙ count-mapped (pair_view number) b.slots)
-
   -- The entry of a link.
   pub stored_at : (slots : List (Option (Gen × LinkBody K T))) (i : ℕ) → HasLink (link_map_in number slots) i → (e : Gen × LinkBody K T) × (slot_at slots i ≡ Some e)
   stored_at slots i v = by (slot_at slots i) refl v.links

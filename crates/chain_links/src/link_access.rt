@@ -1,6 +1,7 @@
 //! Reads and writes the private fields of a link, for the crates that link and move links.
 //!
-//! `chain_arena` does not export this module, so a link that a caller can see has no destination.
+//! `chain_arena` does not export this module; a link of a chain arena has no destination between
+//! calls (`IsChainArena`).
 ghost use Rattle.std.specs.Prelude.{◌≡◌, None};
 ghost use Rattle.std.specs.Option.{option_map};
 
