@@ -14,7 +14,7 @@ use Rattle.arena_traits.specs.Entries.{entries_from}
 use Rattle.arena_base.specs.DetachedSlots.{DetachedView, IsPacked, with_placed_entry, held_with_value, with_touch}
 use Rattle.arena_traits.specs.Compressions.{IsVisit, VisitsAll}
 use Rattle.arena_base.specs.GatheredSlots.{AreClosed}
-use Rattle.arena_base.proofs.HoleClosingLemmas.{IsClosing, none_there, brought_stored, closing_free, closing_frees, closing_brings, closing_visits, closing_counts, closing_closes, closing_packs, next_slot}
+use Rattle.arena_base.proofs.HoleClosingLemmas.{IsClosing, none_there, brought_stored, closing_length, closing_free, closing_frees, closing_brings, closing_visits, closing_counts, closing_closes, closing_packs, next_slot}
 use Rattle.chain_links.specs.declared.links.LinkBody.{LinkBody}
 use Rattle.chain_links.specs.ChainArena.{on_value}
 use Rattle.chain_links.specs.Links.{held_in}
@@ -33,6 +33,18 @@ module _ {F P Gen K T : Type 0} (g : Mut F (P × (MutBor T × (P × Unit {0}))) 
 
     within : k < length (slot_values old.slots)
     within = let long : length (slot_values old.slots) ≡ length old.slots = length-map old.slots (option_map (on_value held_in)) in omega (arith, inside, long)
+
+    -- Both slots of a move exist.
+    long : length now.slots ≡ length old.slots
+    long =
+        sym (length-map now.slots (option_map (on_value held_in)))
+        ∙ (closing_length g key generation first (slot_values old.slots) k count f (slot_values now.slots) closing (omega (arith, within)) ∙ length-map old.slots (option_map (on_value held_in)))
+
+    pub from_within : from ≤ length now.slots
+    from_within = omega (arith, at_from, inside, long)
+
+    pub to_within : (to : ℕ) → to ≡ count + 1 → to ≤ length now.slots
+    to_within to at_to = omega (arith, at_to, closing.passed, inside, long)
 
     -- The slot that the link is moved to is free, or its own.
     pub free_to : (to : ℕ) → to ≡ count + 1 → to ≢ from → slot_at now.slots to ≡ None

@@ -63,9 +63,3 @@ overwritten_rests number old new i link w wrote same rest = subst (λ held. AreA
 module _ {P T S Inx Gen Word : Type 0} (a b c : Compactor P T S Inx Gen Word) where
   pub held_then : b.held ≡ a.held → c.held ≡ b.held → c.held ≡ a.held
   held_then one two = two ∙ one
-
-  pub capacity_then : b.held.stack_capacity ≡ a.held.stack_capacity → c.held.stack_capacity ≡ b.held.stack_capacity → c.held.stack_capacity ≡ a.held.stack_capacity
-  capacity_then one two = two ∙ one
-
-  pub maximum_then : b.held.maximum ≡ a.held.maximum → c.held.maximum ≡ b.held.maximum → c.held.maximum ≡ a.held.maximum
-  maximum_then one two = two ∙ one

@@ -3,7 +3,7 @@ use Rattle.std.proofs.Common.{◌≡◌, ℕ, ◌+◌, refl, ap, ◌∙◌, arit
 use Rattle.arena_traits.specs.Arena.{Arena}
 use Rattle.arena_base.specs.DetachedSlots.{saturating_increment, with_touch, with_placement}
 use Rattle.arena_base.specs.declared.compactor.Compactor.{Compactor}
-use Rattle.chain_compaction.specs.WorkCounts.{saturating_count, HasCounted, CountsWork}
+use Rattle.chain_compaction.specs.WorkCounts.{saturating_count, HasCounted, CountsWork, ChangesOnlySlots}
 
 -- One more is counted, up to the greatest count.
 counted_more : (n : ℕ) → saturating_increment (saturating_count n) ≡ saturating_count (n + 1)
@@ -58,3 +58,19 @@ module _ {V T S Inx Gen Word : Type 0} where
       touches_counted = same ∙ had.touches_counted;
     };
   }
+
+  -- No change.
+  pub slots_stay : (a : Compactor V T S Inx Gen Word) → ChangesOnlySlots a a
+  slots_stay a = record { capacity = refl; maximum = refl; counts = counts_none a }
+
+  -- Two changes after one another.
+  pub slots_on : (a b c : Compactor V T S Inx Gen Word) → ChangesOnlySlots a b → ChangesOnlySlots b c → ChangesOnlySlots a c
+  slots_on a b c one two = record {
+    capacity = two.capacity ∙ one.capacity;
+    maximum = two.maximum ∙ one.maximum;
+    counts = counts_on a b c one.counts two.counts;
+  }
+
+  -- The same slots.
+  pub slots_held : (a b : Compactor V T S Inx Gen Word) → b.held ≡ a.held → CountsWork a b → ChangesOnlySlots a b
+  slots_held a b same counts = record { capacity = λ j. (same j).stack_capacity; maximum = λ j. (same j).maximum; counts = counts }

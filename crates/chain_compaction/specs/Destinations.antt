@@ -1,6 +1,7 @@
 -- Links whose destinations are their places in a list.
 use Rattle.std.specs.Prelude.{◌≡◌, ℕ, ◌+◌, ◌*◌, ◌≤◌, ◌⊎◌, Bool, false, List, ◌∷◌, ◌++◌, map, length, Option, None, Some, is_none}
 use Rattle.std.specs.Option.{option_map, option_and_then}
+use Rattle.chain_laws.specs.ChainStart.{IsStart}
 use Rattle.chain_laws.specs.Chains.{LinkMap, Chain, linear, cyclic, items, IsMember, IsChain, first_or}
 use Rattle.chain_laws.specs.Arrangements.{place_from, place_in, IsLeastIndexOrder}
 use Rattle.arena_traits.specs.Arena.{Arena, slot_at}
@@ -10,6 +11,7 @@ use Rattle.chain_links.specs.ChainArena.{LinkView, on_value, ptr_at}
 use Rattle.chain_links.specs.Links.{link_view, pair_view, destination_of, destination_at}
 use Rattle.chain_compaction.specs.DetachedLinks.{link_map_in, IsWork}
 use Rattle.chain_compaction.specs.Layouts.{ReportsMoves}
+use Rattle.chain_compaction.specs.WorkCounts.{CountsWork}
 use Rattle.chain_links.specs.declared.links.LinkBody.{LinkBody}
 
 -- i is in a linear chain, or a cyclic one is written from it.
@@ -81,6 +83,25 @@ module _ {Gen K T : Type 0} (number : K → Option ℕ) where
     pub apart : (j : ℕ) → IsMember (items c) j → IsMember done j → ⊥
     pub fits : length done + length (items c) ≤ length slots
 
+  -- The chain of i is numbered from `start`. Besides `reads` links of at most `limit`, at most as
+  -- many slots were read as it has links.
+  abbrev pub FindsStart : {V S I W : Type 0} → (old new : Compactor V (LinkBody K T) S I Gen W) → (i start limit reads : ℕ) → Type 0
+  FindsStart old new i start limit reads = record {
+    start : IsStart (link_map_in number old.held.slots) i start;
+    ahead : reads ≤ limit;
+    held : new.held ≡ old.held;
+    linear : (xs : List ℕ) → IsChain (link_map_in number old.held.slots) (linear xs) → IsMember xs i → IsWork old.arena.now new.arena.now 0 (length xs + reads);
+    cyclic : (xs : List ℕ) → IsChain (link_map_in number old.held.slots) (cyclic (i ∷ xs)) → IsWork old.arena.now new.arena.now 0 (length xs + 1 + reads);
+    counts : CountsWork old new;
+  }
+
+  -- A chain may be numbered from `start`, after `before` links. There are at most `greatest` slots.
+  abbrev pub CanNumberFrom : {V S I W : Type 0} → ℕ → Compactor V (LinkBody K T) S I Gen W → (start before : ℕ) → Type 0
+  CanNumberFrom greatest now start before = record {
+    fits : length now.held.slots ≤ greatest;
+    can : (done : List ℕ) × (c : Chain) × CanNumber now.held.slots start before done c;
+  }
+
   module _ {F P : Type 0} (g : F → P → P → F → Type 0) (key : P → ℕ × Gen) where
     -- The chain is numbered after `done`, its interlinks name destinations, and the visitor has
     -- seen its links.
@@ -90,11 +111,14 @@ module _ {Gen K T : Type 0} (number : K → Option ℕ) where
       pub reports : ReportsMoves g key (ptr_at (slot_at old.slots)) generation (length done + 1) f (items c) last
       pub work : IsWork before after 0 (3 * length (items c))
 
-    -- A chain that may be numbered from `start`, after `before` links, is numbered, and `count`
-    -- links are then.
-    abbrev pub NumbersFrom : {V S I W : Type 0} → Gen → ℕ → F → F → (old new : Compactor V (LinkBody K T) S I Gen W) → ℕ → ℕ → Type 0
-    NumbersFrom generation start f last old new before count = (done : List ℕ) (c : Chain) → CanNumber old.held.slots start before done c
-        → IsChainNumbered generation f last old.held new.held old.arena.now new.arena.now count done c
+    -- A compactor has counted its work. If a chain could be numbered from `start`, after `before`
+    -- links, it is numbered now, and `count` links are.
+    abbrev pub NumbersChain : {V S I W : Type 0} → Gen → ℕ → F → F → (old new : Compactor V (LinkBody K T) S I Gen W) → ℕ → ℕ → Type 0
+    NumbersChain generation start f last old new before count = record {
+      numbered : (done : List ℕ) (c : Chain) → CanNumber old.held.slots start before done c
+          → IsChainNumbered generation f last old.held new.held old.arena.now new.arena.now count done c;
+      counts : CountsWork old new;
+    }
 
     -- All `count` links are numbered, in the least-index order of their chains. Their interlinks
     -- name destinations, and the visitor has seen them in that order.
@@ -106,3 +130,10 @@ module _ {Gen K T : Type 0} (number : K → Option ℕ) where
       pub renamed : held_view new ≡ renamed_held (place_in indexes) (held_view old)
       pub reports : ReportsMoves g key (ptr_at (slot_at old.slots)) generation 1 f indexes last
       pub work : IsWork before after 0 (2 * length old.slots + 5 * length indexes)
+
+    -- A compactor has numbered all links, of which there are `count`, and has counted the work.
+    abbrev pub NumbersAll : {V S I W : Type 0} → Gen → F → F → (old new : Compactor V (LinkBody K T) S I Gen W) → ℕ → Type 0
+    NumbersAll generation f last old new count = record {
+      numbered : AreAllNumbered generation f last old.held new.held old.arena.now new.arena.now count;
+      counts : CountsWork old new;
+    }

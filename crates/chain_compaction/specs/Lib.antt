@@ -8,3 +8,5 @@ pub mod Permutations
 pub mod Destinations
 pub mod PointerMoves
 pub mod OrderedLinks
+pub mod BlockMoves
+pub mod LinkPasses

@@ -3,11 +3,14 @@ use Rattle.std.specs.Prelude.{◌≡◌, ℕ, ◌+◌, ◌*◌, ◌⊎◌, Bool,
 use Rattle.chain_laws.specs.Arrangements.{place_in, IsLeastIndexOrder}
 use Rattle.arena_traits.specs.Arena.{Arena, slot_at}
 use Rattle.arena_base.specs.DetachedSlots.{DetachedView, IsPacked}
+use Rattle.arena_base.specs.declared.compactor.Compactor.{Compactor}
 use Rattle.chain_links.specs.ChainArena.{LinkView, ptr_at}
+use Rattle.chain_links.specs.Links.{StayAtRest}
 use Rattle.chain_links.specs.declared.links.LinkBody.{LinkBody}
 use Rattle.chain_compaction.specs.DetachedLinks.{link_map_in, IsWork}
 use Rattle.chain_compaction.specs.Layouts.{ReportsMoves}
 use Rattle.chain_compaction.specs.Destinations.{held_view, renamed_link}
+use Rattle.chain_compaction.specs.WorkCounts.{CountsWork}
 
 -- In a run of links from position `start` on, the link at position k names the one at position
 -- k + 1, or it is the last one: then the next run starts at `after`.
@@ -31,3 +34,12 @@ module _ {F P Gen K T : Type 0} (number : K → Option ℕ) (g : F → P → P �
     pub maximum : new.maximum ≡ old.maximum
     pub reports : ReportsMoves g key (ptr_at (slot_at old.slots)) generation 1 f indexes last
     pub work : IsWork before after (length indexes) (4 * length old.slots + most * length indexes)
+
+  -- A compactor has placed all links, of which there are `count`, and has counted the work. If no
+  -- link had a destination, none has one now.
+  abbrev pub PlacesLinks : {S I W : Type 0} → Gen → F → F → (old new : Compactor P (LinkBody K T) S I Gen W) → ℕ → ℕ → Type 0
+  PlacesLinks generation f last old new count most = record {
+    placed : AreAllPlaced generation f last old.held new.held old.arena.now new.arena.now count most;
+    at_rest : StayAtRest number old.held.slots new.held.slots;
+    counts : CountsWork old new;
+  }

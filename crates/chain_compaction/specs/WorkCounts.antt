@@ -1,4 +1,4 @@
--- What a compactor has counted, besides the totals of its arena.
+-- What a compactor has counted, besides the totals of its arena, and what it keeps.
 use Rattle.std.specs.Prelude.{◌≡◌, ℕ, ◌-◌, ◌^◌, min}
 use Rattle.arena_traits.specs.Arena.{Arena}
 use Rattle.arena_base.specs.GatheredSlots.{with_totals}
@@ -21,3 +21,10 @@ module _ {Gen T : Type 0} where
 pub record CountsWork {V T S Inx Gen Word : Type 0} (old new : Compactor V T S Inx Gen Word) : Type 0 where
   pub same_reference : new.arena.ghost_name ≡ old.arena.ghost_name
   pub on : (first : Arena Gen T) → HasCounted first old.arena.now old.placed old.touched → HasCounted first new.arena.now new.placed new.touched
+
+-- Nothing changed but slots and counts: a compactor of the same arena has the same capacity and
+-- maximum, and still has counted all work if it had before.
+pub record ChangesOnlySlots {V T S Inx Gen Word : Type 0} (old new : Compactor V T S Inx Gen Word) : Type 0 where
+  pub capacity : new.held.stack_capacity ≡ old.held.stack_capacity
+  pub maximum : new.held.maximum ≡ old.held.maximum
+  pub counts : CountsWork old new

@@ -1,13 +1,11 @@
 // Numbering of chains by their least index, linear ones from their start, cyclic ones from their
 // least index.
-ghost use Rattle.std.specs.Prelude.{◌≡◌, ◌≤◌, ◌<◌, ℕ, ◌+◌, length, count_by, is_some, List, ◌∷◌, None, IsSome};
+ghost use Rattle.std.specs.Prelude.{◌≡◌, ◌<◌, IsSome};
 ghost use Rattle.std.specs.Option.{option_map};
-ghost use Rattle.chain_laws.specs.Chains.{Chain, linear, cyclic, IsMember, IsChain, IsWellLinked};
-ghost use Rattle.chain_laws.specs.ChainStart.{IsStart};
 ghost use Rattle.chain_compaction.specs.DetachedLinks.{link_map_in, IsWork};
 ghost use Rattle.chain_compaction.specs.WorkCounts.{CountsWork};
-ghost use Rattle.chain_compaction.specs.Destinations.{HasChainFrom, number_after, IsRingClosed, CanNumber, NumbersFrom, AreAllNumbered};
-ghost use Rattle.chain_links.specs.Links.{destination_at, AreAtRest};
+ghost use Rattle.chain_compaction.specs.Destinations.{HasChainFrom, number_after, IsRingClosed, FindsStart, CanNumberFrom, NumbersChain, NumbersAll};
+ghost use Rattle.chain_compaction.specs.LinkPasses.{CanArrange};
 
 use crate::read_ahead::{ReadAhead, read_ahead, read_on};
 use crate::slot_access::{read_link, relink_at};
@@ -29,20 +27,8 @@ fn start_at<P: PtrKey, T: Drop, S: SlotStack<Item = ArenaSlot<P, LinkNoGen<P, T>
 ) -> (P::Inx, usize)
     requires chain { HasChainFrom (link_map_in P.Inx.packed_number compactor.old.held.slots)
         (P.Inx.number i) }
-    ensures start { IsStart (link_map_in P.Inx.packed_number compactor.old.held.slots)
-        (P.Inx.number i)
-        (P.Inx.number result.0) }
-    ensures ahead { result.1 ≤ limit }
-    ensures held { compactor.new.held ≡ compactor.old.held }
-    ensures linear { (xs : List ℕ)
-        → IsChain (link_map_in P.Inx.packed_number compactor.old.held.slots)
-        (linear xs) → IsMember xs (P.Inx.number i)
-        → IsWork compactor.old.arena.now compactor.new.arena.now 0 (length xs + result.1) }
-    ensures cyclic { (xs : List ℕ)
-        → IsChain (link_map_in P.Inx.packed_number compactor.old.held.slots)
-        (cyclic (P.Inx.number i ∷ xs))
-        → IsWork compactor.old.arena.now compactor.new.arena.now 0 (length xs + 1 + result.1) }
-    ensures counts { CountsWork compactor.old compactor.new }
+    ensures { FindsStart P.Inx.packed_number compactor.old compactor.new (P.Inx.number i)
+        (P.Inx.number result.0) limit result.1 }
 {
     let mut at = i;
     let mut on = Some(i);
@@ -128,14 +114,11 @@ fn number_chain<
     mut visitor: V,
 ) -> (V, usize)
     requires ready { V.is_ready visitor }
-    requires fits { length compactor.old.held.slots ≤ P.Inx.greatest }
-    requires can { (done : List ℕ) × (c : Chain)
-        × CanNumber P.Inx.packed_number compactor.old.held.slots (P.Inx.number start) before done
-        c }
+    requires chain { CanNumberFrom P.Inx.packed_number P.Inx.greatest compactor.old
+        (P.Inx.number start) before }
     ensures ready { V.is_ready result.0 }
-    ensures numbered { NumbersFrom P.Inx.packed_number V.sees P.key generation
+    ensures chain { NumbersChain P.Inx.packed_number V.sees P.key generation
         (P.Inx.number start) visitor result.0 compactor.old compactor.new before result.1 }
-    ensures counts { CountsWork compactor.old compactor.new }
 {
     let mut count = before;
     let mut prev = None;
@@ -177,15 +160,10 @@ pub fn number_all<
     mut visitor: V,
 ) -> (V, usize)
     requires ready { V.is_ready visitor }
-    requires links { links ≡ count_by is_some compactor.old.held.slots }
-    requires fits { length compactor.old.held.slots ≤ P.Inx.greatest }
-    requires agree { IsWellLinked (link_map_in P.Inx.packed_number compactor.old.held.slots) }
-    requires at_rest { AreAtRest P.Inx.packed_number compactor.old.held.slots }
+    requires can { CanArrange P.Inx.packed_number P.Inx.greatest compactor.old links }
     ensures ready { V.is_ready result.0 }
-    ensures numbered { AreAllNumbered P.Inx.packed_number V.sees P.key generation visitor result.0
-        compactor.old.held compactor.new.held compactor.old.arena.now compactor.new.arena.now
-        result.1 }
-    ensures counts { CountsWork compactor.old compactor.new }
+    ensures links { NumbersAll P.Inx.packed_number V.sees P.key generation visitor result.0
+        compactor.old compactor.new result.1 }
 {
     let mut count = 0;
     let mut ahead = ReadAhead::new(compactor.slots());

@@ -1,12 +1,10 @@
 // Canonical compression in place: each chain at consecutive indexes, one chain after another from
 // index 1 on.
-ghost use Rattle.std.specs.Prelude.{◌≡◌, ◌≤◌, ◌+◌, length, count_by, is_some};
-ghost use Rattle.chain_laws.specs.Chains.{IsWellLinked};
+ghost use Rattle.std.specs.Prelude.{◌≡◌, ◌+◌};
 ghost use Rattle.chain_links.specs.Links.{links_view, AreAtRest, IsChainArena};
-ghost use Rattle.chain_compaction.specs.WorkCounts.{CountsWork};
 ghost use Rattle.chain_compaction.specs.Layouts.{AreArranged};
-ghost use Rattle.chain_compaction.specs.DetachedLinks.{link_map_in};
-ghost use Rattle.chain_compaction.specs.OrderedLinks.{AreAllPlaced};
+ghost use Rattle.chain_compaction.specs.LinkPasses.{CanArrange};
+ghost use Rattle.chain_compaction.specs.OrderedLinks.{PlacesLinks};
 
 use crate::assign_destinations::number_all;
 use crate::in_order::{is_in_order, renew_all};
@@ -31,16 +29,10 @@ fn arrange_by_moves<
     visitor: V,
 ) -> (V, usize)
     requires ready { V.is_ready visitor }
-    requires links { links ≡ count_by is_some compactor.old.held.slots }
-    requires fits { length compactor.old.held.slots ≤ P.Inx.greatest }
-    requires agree { IsWellLinked (link_map_in P.Inx.packed_number compactor.old.held.slots) }
-    requires at_rest { AreAtRest P.Inx.packed_number compactor.old.held.slots }
+    requires can { CanArrange P.Inx.packed_number P.Inx.greatest compactor.old links }
     ensures ready { V.is_ready result.0 }
-    ensures placed { AreAllPlaced P.Inx.packed_number V.sees P.key generation visitor result.0
-        compactor.old.held compactor.new.held compactor.old.arena.now compactor.new.arena.now
-        result.1 9 }
-    ensures at_rest { AreAtRest P.Inx.packed_number compactor.new.held.slots }
-    ensures counts { CountsWork compactor.old compactor.new }
+    ensures links { PlacesLinks P.Inx.packed_number V.sees P.key generation visitor result.0
+        compactor.old compactor.new result.1 9 }
 {
     let (visitor, count) = number_all(compactor, links, generation, visitor);
     move_all(compactor, links, generation);
@@ -56,16 +48,10 @@ fn place_all<P: PtrKey, T: Drop, S: SlotStack<Item = ArenaSlot<P, LinkNoGen<P, T
     visitor: V,
 ) -> (V, usize)
     requires ready { V.is_ready visitor }
-    requires links { links ≡ count_by is_some compactor.old.held.slots }
-    requires fits { length compactor.old.held.slots ≤ P.Inx.greatest }
-    requires agree { IsWellLinked (link_map_in P.Inx.packed_number compactor.old.held.slots) }
-    requires at_rest { AreAtRest P.Inx.packed_number compactor.old.held.slots }
+    requires can { CanArrange P.Inx.packed_number P.Inx.greatest compactor.old links }
     ensures ready { V.is_ready result.0 }
-    ensures placed { AreAllPlaced P.Inx.packed_number V.sees P.key generation visitor result.0
-        compactor.old.held compactor.new.held compactor.old.arena.now compactor.new.arena.now
-        result.1 10 }
-    ensures at_rest { AreAtRest P.Inx.packed_number compactor.new.held.slots }
-    ensures counts { CountsWork compactor.old compactor.new }
+    ensures links { PlacesLinks P.Inx.packed_number V.sees P.key generation visitor result.0
+        compactor.old compactor.new result.1 10 }
 {
     if is_in_order(compactor, links) {
         renew_all(compactor, generation, visitor)

@@ -1,20 +1,13 @@
 // Compression of links to the indexes from 1 on, in the order of their indexes.
-ghost use Rattle.std.specs.Prelude.{◌≡◌, ◌≢◌, ◌≤◌, length, None, Some, OnSome, IfNone};
+ghost use Rattle.std.specs.Prelude.{◌≡◌};
 ghost use Rattle.std.specs.Option.{option_map};
 ghost use Rattle.chain_laws.specs.Chains.{IsWellLinked};
-ghost use Rattle.chain_laws.specs.Renamings.{IsRenaming};
-ghost use Rattle.chain_laws.specs.Arrangements.{place_in};
 ghost use Rattle.chain_laws.specs.Moves.{moved_index};
-ghost use Rattle.arena_traits.specs.Arena.{slot_at};
-ghost use Rattle.arena_traits.specs.Entries.{entries_from};
-ghost use Rattle.arena_base.specs.DetachedSlots.{with_placed_entry, IsPacked, with_touch};
-ghost use Rattle.arena_traits.specs.Compressions.{VisitsAll};
-ghost use Rattle.arena_base.specs.GatheredSlots.{AreClosed};
 ghost use Rattle.chain_links.specs.ChainArena.{link_map};
 ghost use Rattle.chain_links.specs.Links.{links_view, StayAtRest};
-ghost use Rattle.chain_compaction.specs.DetachedLinks.{held_values, link_map_in, with_neighbor, indexes_in, IsWork};
-ghost use Rattle.chain_compaction.specs.CompressionSteps.{IsLinkMove, IsClosingWork};
+ghost use Rattle.chain_compaction.specs.CompressionSteps.{SetsNeighbor, CanBring, MovesLink, CompactsLinks};
 ghost use Rattle.chain_compaction.specs.LinkCompressions.{AreGathered};
+ghost use Rattle.chain_compaction.specs.LinkPasses.{AreSoundLinks};
 
 use crate::slot_access::read_link;
 use arena_base::{Arena, ArenaSlot, Compactor, SlotAccess, inx_at, proved_unreachable};
@@ -39,14 +32,8 @@ fn set_neighbor<P: PtrKey, T: Drop, S: SlotStack<Item = ArenaSlot<P, LinkNoGen<P
     before: bool,
     named: P::Inx,
 )
-    ensures same_reference { compactor.new.arena.ghost_name ≡ compactor.old.arena.ghost_name }
-    ensures values { held_values compactor.new.held ≡ held_values compactor.old.held }
-    ensures links { link_map_in P.Inx.packed_number compactor.new.held.slots
-        ≡ with_neighbor before (link_map_in P.Inx.packed_number compactor.old.held.slots)
-        (option_map P.Inx.number i) (Some (P.Inx.number named)) }
-    ensures at_rest { StayAtRest P.Inx.packed_number compactor.old.held.slots
-        compactor.new.held.slots }
-    ensures work { IsWork compactor.old.arena.now compactor.new.arena.now 0 1 }
+    ensures { SetsNeighbor P.Inx.packed_number before (option_map P.Inx.number i)
+        (P.Inx.number named) compactor.old compactor.new }
 {
     match i {
         Some(i) => match compactor.value_mut(i) {
@@ -69,24 +56,9 @@ fn move_link<P: PtrKey, T: Drop, S: SlotStack<Item = ArenaSlot<P, LinkNoGen<P, T
     to: P::Inx,
     generation: P::Gen,
 ) -> Option<P::Gen>
-    requires from { P.Inx.number from ≤ length compactor.old.held.slots }
-    requires to { P.Inx.number to ≤ length compactor.old.held.slots }
-    requires free { P.Inx.number to ≢ P.Inx.number from
-        → slot_at compactor.old.held.slots (P.Inx.number to) ≡ None }
-    ensures same_reference { compactor.new.arena.ghost_name ≡ compactor.old.arena.ghost_name }
-    ensures returned { result ≡ option_map (λ e. e.0)
-        (slot_at compactor.old.held.slots (P.Inx.number from)) }
-    ensures values { OnSome result (held_values compactor.new.held ≡ with_placed_entry
-        (held_values compactor.old.held) (P.Inx.number from) (P.Inx.number to) generation) }
-    ensures moves { OnSome result
-        (IsLinkMove (link_map_in P.Inx.packed_number compactor.old.held.slots)
-        (link_map_in P.Inx.packed_number compactor.new.held.slots)
-        (P.Inx.number from) (P.Inx.number to)) }
-    ensures at_rest { StayAtRest P.Inx.packed_number compactor.old.held.slots
-        compactor.new.held.slots }
-    ensures work { OnSome result (IsWork compactor.old.arena.now compactor.new.arena.now 1 3) }
-    ensures none { IfNone result ((compactor.new.held ≡ compactor.old.held)
-        × (compactor.new.arena.now ≡ with_touch compactor.old.arena.now)) }
+    requires { CanBring (P.Inx.number from) (P.Inx.number to) compactor.old }
+    ensures { MovesLink P.Inx.packed_number (P.Inx.number from) (P.Inx.number to) generation
+        compactor.old compactor.new result }
 {
     let (was, prev, next, _) = read_link(compactor, from);
     let was = match was {
@@ -109,22 +81,9 @@ fn compact_links<
     F: FnMut(P, &mut T, P) + Drop,
 >(compactor: &mut Compactor<'_, P, LinkNoGen<P, T>, S>, generation: P::Gen, mut map: F) -> usize
     requires callable { F.IsAlwaysCallable map }
-    requires fits { length compactor.old.held.slots ≤ P.Inx.greatest }
-    requires agree { IsWellLinked (link_map_in P.Inx.packed_number compactor.old.held.slots) }
-    ensures same_reference { compactor.new.arena.ghost_name ≡ compactor.old.arena.ghost_name }
-    ensures closed { AreClosed generation (held_values compactor.old.held)
-        (held_values compactor.new.held) }
-    ensures packed { IsPacked compactor.new.held.slots result }
-    ensures visits { VisitsAll F.FnMut P.key map
-        (entries_from 1 (held_values compactor.old.held).slots)
-        (entries_from 1 (held_values compactor.new.held).slots) }
-    ensures renamed { IsRenaming (place_in (indexes_in (held_values compactor.old.held).slots))
-        (link_map_in P.Inx.packed_number compactor.old.held.slots)
-        (link_map_in P.Inx.packed_number compactor.new.held.slots) }
-    ensures at_rest { StayAtRest P.Inx.packed_number compactor.old.held.slots
-        compactor.new.held.slots }
-    ensures work { IsClosingWork compactor.old.held compactor.old.arena.now
-        compactor.new.arena.now }
+    requires sound { AreSoundLinks P.Inx.packed_number P.Inx.greatest compactor.old }
+    ensures { CompactsLinks P.Inx.packed_number F.FnMut P.key generation map compactor.old
+        compactor.new result }
 {
     let mut count = 0;
     for k in 0..compactor.slots() {

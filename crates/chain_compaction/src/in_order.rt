@@ -1,15 +1,10 @@
 // Links that are arranged canonically already: the check for it, and their renewal in place.
 ghost use Rattle.std.specs.Prelude.{◌≡◌, ◌≤◌, ◌<◌, ◌+◌, length, is_some, IfSome, if◌then◌else◌};
 ghost use Rattle.std.specs.Bool.{OnTrue};
-ghost use Rattle.std.specs.List.{range_with_len};
 ghost use Rattle.std.specs.Option.{option_map};
-ghost use Rattle.chain_laws.specs.Chains.{IsWellLinked};
-ghost use Rattle.chain_laws.specs.Arrangements.{IsCanonical};
-ghost use Rattle.chain_links.specs.Links.{StayAtRest};
-ghost use Rattle.chain_compaction.specs.DetachedLinks.{link_map_in};
-ghost use Rattle.chain_compaction.specs.OrderedLinks.{IsStartAfter, AreAllPlaced};
+ghost use Rattle.chain_compaction.specs.LinkPasses.{AreSoundLinks, AreInOrder, CanRenew};
+ghost use Rattle.chain_compaction.specs.OrderedLinks.{IsStartAfter, PlacesLinks};
 ghost use Rattle.chain_compaction.specs.SlotReads.{HasReadSlots};
-ghost use Rattle.chain_compaction.specs.WorkCounts.{CountsWork};
 
 use crate::slot_access::read_link;
 use crate::visitor::Visitor;
@@ -67,13 +62,10 @@ pub(crate) fn is_in_order<P: PtrKey, T: Drop, S: SlotStack<Item = ArenaSlot<P, L
     compactor: &mut Compactor<'_, P, LinkNoGen<P, T>, S>,
     links: usize,
 ) -> bool
-    requires fits { length compactor.old.held.slots ≤ P.Inx.greatest }
-    requires agree { IsWellLinked (link_map_in P.Inx.packed_number compactor.old.held.slots) }
+    requires { AreSoundLinks P.Inx.packed_number P.Inx.greatest compactor.old }
     ensures read { HasReadSlots compactor.old compactor.new links }
     ensures unread { links < length compactor.old.held.slots → compactor.new ≡ compactor.old }
-    ensures canonical { OnTrue result (IsCanonical
-        (link_map_in P.Inx.packed_number compactor.old.held.slots)
-        (range_with_len 1 (length compactor.old.held.slots))) }
+    ensures canonical { OnTrue result (AreInOrder P.Inx.packed_number compactor.old) }
 {
     let slots = compactor.slots();
     if links != slots {
@@ -111,17 +103,10 @@ pub(crate) fn renew_all<
     mut visitor: V,
 ) -> (V, usize)
     requires ready { V.is_ready visitor }
-    requires fits { length compactor.old.held.slots ≤ P.Inx.greatest }
-    requires agree { IsWellLinked (link_map_in P.Inx.packed_number compactor.old.held.slots) }
-    requires canonical { IsCanonical (link_map_in P.Inx.packed_number compactor.old.held.slots)
-        (range_with_len 1 (length compactor.old.held.slots)) }
+    requires can { CanRenew P.Inx.packed_number P.Inx.greatest compactor.old }
     ensures ready { V.is_ready result.0 }
-    ensures placed { AreAllPlaced P.Inx.packed_number V.sees P.key generation visitor result.0
-        compactor.old.held compactor.new.held compactor.old.arena.now compactor.new.arena.now
-        result.1 1 }
-    ensures at_rest { StayAtRest P.Inx.packed_number compactor.old.held.slots
-        compactor.new.held.slots }
-    ensures counts { CountsWork compactor.old compactor.new }
+    ensures links { PlacesLinks P.Inx.packed_number V.sees P.key generation visitor result.0
+        compactor.old compactor.new result.1 1 }
 {
     let slots = compactor.slots();
     for k in 0..slots {

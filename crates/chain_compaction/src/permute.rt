@@ -1,10 +1,7 @@
 // Moves of links to their destinations along the cycles of the permutation, each link placed once.
-ghost use Rattle.std.specs.Prelude.{◌≡◌, ◌<◌, ◌≤◌, ◌+◌, ◌*◌, ◌-◌, ℕ, length, count_by, is_some, if◌then◌else◌};
-ghost use Rattle.std.specs.Bool.{OnTrue, OnFalse};
 ghost use Rattle.arena_traits.specs.Arena.{slot_at};
-ghost use Rattle.chain_compaction.specs.DetachedLinks.{IsWork};
-ghost use Rattle.chain_compaction.specs.WorkCounts.{CountsWork};
-ghost use Rattle.chain_compaction.specs.Permutations.{Waits, WaitsWithin, IsInBlock, IsSettling, ListsWaiting, HaveMoved, CanMoveAll, waiting_count, Settles, IsWorkOn, IsWorkInRounds};
+ghost use Rattle.chain_compaction.specs.BlockMoves.{CanSettle, CanSettleBlock, CanMoveLinks, SettlesAt, SettlesListed, SettlesBlock, MovesLinks};
+ghost use Rattle.chain_compaction.specs.Permutations.{ListsWaiting};
 ghost use Rattle.chain_links.specs.Links.{destination_of};
 
 use crate::read_ahead::read_destinations;
@@ -26,27 +23,9 @@ fn settle_once<P: PtrKey, T: Drop, S: SlotStack<Item = ArenaSlot<P, LinkNoGen<P,
     generation: P::Gen,
     unplaced: &mut usize,
 ) -> bool
-    requires within { WaitsWithin (destination_of P.Inx.packed_number) compactor.old.held.slots }
-    requires unplaced { unplaced.old
-        ≡ waiting_count (destination_of P.Inx.packed_number) compactor.old.held.slots }
-    ensures settles { IsSettling (destination_of P.Inx.packed_number)
-        (Settles P.Inx.packed_number generation) (λ j. j ≡ P.Inx.number i)
-        compactor.old.held.slots compactor.new.held.slots }
-    ensures none { OnFalse result ((d : ℕ) (e : _)
-        → Waits (destination_of P.Inx.packed_number) (slot_at compactor.new.held.slots)
-        (P.Inx.number i) e d → ⊥) }
-    ensures fewer { OnTrue result
-        (waiting_count (destination_of P.Inx.packed_number) compactor.new.held.slots + 1
-        ≡ waiting_count (destination_of P.Inx.packed_number) compactor.old.held.slots) }
-    ensures capacity { compactor.new.held.stack_capacity ≡ compactor.old.held.stack_capacity }
-    ensures maximum { compactor.new.held.maximum ≡ compactor.old.held.maximum }
-    ensures work { IsWorkOn compactor.old.arena.now compactor.new.arena.now
-        (waiting_count (destination_of P.Inx.packed_number) compactor.old.held.slots)
-        (waiting_count (destination_of P.Inx.packed_number) compactor.new.held.slots)
-        (if result then 0 else 1) }
-    ensures unplaced { unplaced.new
-        ≡ waiting_count (destination_of P.Inx.packed_number) compactor.new.held.slots }
-    ensures counts { CountsWork compactor.old compactor.new }
+    requires { CanSettle P.Inx.packed_number compactor.old unplaced.old }
+    ensures { SettlesAt P.Inx.packed_number generation (P.Inx.number i) compactor.old compactor.new
+        unplaced.new result }
 {
     let (_, _, _, destination) = read_link(compactor, i);
     match destination {
@@ -70,29 +49,10 @@ fn settle_each<P: PtrKey, T: Drop, S: SlotStack<Item = ArenaSlot<P, LinkNoGen<P,
     generation: P::Gen,
     unplaced: &mut usize,
 ) -> ([usize; 64], usize)
-    requires count { count ≤ 64 }
-    requires block { start + count ≤ length compactor.old.held.slots }
-    requires fits { length compactor.old.held.slots ≤ P.Inx.greatest }
-    requires within { WaitsWithin (destination_of P.Inx.packed_number) compactor.old.held.slots }
-    requires unplaced { unplaced.old
-        ≡ waiting_count (destination_of P.Inx.packed_number) compactor.old.held.slots }
-    ensures settles { IsSettling (destination_of P.Inx.packed_number)
-        (Settles P.Inx.packed_number generation) (IsInBlock start count)
-        compactor.old.held.slots compactor.new.held.slots }
-    ensures lists { ListsWaiting (destination_of P.Inx.packed_number) start count result.0 result.1
-        (slot_at compactor.new.held.slots) }
-    ensures moved { result.1
-        + waiting_count (destination_of P.Inx.packed_number) compactor.new.held.slots
-        ≤ waiting_count (destination_of P.Inx.packed_number) compactor.old.held.slots }
-    ensures capacity { compactor.new.held.stack_capacity ≡ compactor.old.held.stack_capacity }
-    ensures maximum { compactor.new.held.maximum ≡ compactor.old.held.maximum }
-    ensures work { IsWorkOn compactor.old.arena.now compactor.new.arena.now
-        (waiting_count (destination_of P.Inx.packed_number) compactor.old.held.slots)
-        (waiting_count (destination_of P.Inx.packed_number) compactor.new.held.slots)
-        (count - result.1) }
-    ensures unplaced { unplaced.new
-        ≡ waiting_count (destination_of P.Inx.packed_number) compactor.new.held.slots }
-    ensures counts { CountsWork compactor.old compactor.new }
+    requires { CanSettleBlock P.Inx.packed_number P.Inx.greatest start count compactor.old
+        unplaced.old }
+    ensures { SettlesListed P.Inx.packed_number generation start count compactor.old compactor.new
+        unplaced.new count result.0 result.1 }
 {
     let mut positions = [0; 64];
     let mut left = 0;
@@ -121,32 +81,12 @@ fn settle_round<P: PtrKey, T: Drop, S: SlotStack<Item = ArenaSlot<P, LinkNoGen<P
     generation: P::Gen,
     unplaced: &mut usize,
 ) -> usize
-    requires count { count ≤ 64 }
-    requires block { start + count ≤ length compactor.old.held.slots }
-    requires fits { length compactor.old.held.slots ≤ P.Inx.greatest }
-    requires within { WaitsWithin (destination_of P.Inx.packed_number) compactor.old.held.slots }
+    requires can { CanSettleBlock P.Inx.packed_number P.Inx.greatest start count compactor.old
+        unplaced.old }
     requires lists { ListsWaiting (destination_of P.Inx.packed_number) start count positions.old
         left (slot_at compactor.old.held.slots) }
-    requires unplaced { unplaced.old
-        ≡ waiting_count (destination_of P.Inx.packed_number) compactor.old.held.slots }
-    ensures settles { IsSettling (destination_of P.Inx.packed_number)
-        (Settles P.Inx.packed_number generation) (IsInBlock start count)
-        compactor.old.held.slots compactor.new.held.slots }
-    ensures lists { ListsWaiting (destination_of P.Inx.packed_number) start count positions.new
-        result (slot_at compactor.new.held.slots) }
-    ensures fewer { result ≤ left }
-    ensures moved { result
-        + waiting_count (destination_of P.Inx.packed_number) compactor.new.held.slots
-        ≤ waiting_count (destination_of P.Inx.packed_number) compactor.old.held.slots }
-    ensures capacity { compactor.new.held.stack_capacity ≡ compactor.old.held.stack_capacity }
-    ensures maximum { compactor.new.held.maximum ≡ compactor.old.held.maximum }
-    ensures work { IsWorkOn compactor.old.arena.now compactor.new.arena.now
-        (waiting_count (destination_of P.Inx.packed_number) compactor.old.held.slots)
-        (waiting_count (destination_of P.Inx.packed_number) compactor.new.held.slots)
-        (left - result) }
-    ensures unplaced { unplaced.new
-        ≡ waiting_count (destination_of P.Inx.packed_number) compactor.new.held.slots }
-    ensures counts { CountsWork compactor.old compactor.new }
+    ensures { SettlesListed P.Inx.packed_number generation start count compactor.old compactor.new
+        unplaced.new left positions.new result }
 {
     let mut rest = left;
     let mut turn = 0;
@@ -181,25 +121,10 @@ fn settle_block<P: PtrKey, T: Drop, S: SlotStack<Item = ArenaSlot<P, LinkNoGen<P
     generation: P::Gen,
     unplaced: &mut usize,
 )
-    requires count { count ≤ 64 }
-    requires block { start + count ≤ length compactor.old.held.slots }
-    requires fits { length compactor.old.held.slots ≤ P.Inx.greatest }
-    requires within { WaitsWithin (destination_of P.Inx.packed_number) compactor.old.held.slots }
-    requires unplaced { unplaced.old
-        ≡ waiting_count (destination_of P.Inx.packed_number) compactor.old.held.slots }
-    ensures settles { IsSettling (destination_of P.Inx.packed_number)
-        (Settles P.Inx.packed_number generation) (IsInBlock start count)
-        compactor.old.held.slots compactor.new.held.slots }
-    ensures none { (j d : ℕ) (e : _) → IsInBlock start count j
-        → Waits (destination_of P.Inx.packed_number) (slot_at compactor.new.held.slots) j e d → ⊥ }
-    ensures capacity { compactor.new.held.stack_capacity ≡ compactor.old.held.stack_capacity }
-    ensures maximum { compactor.new.held.maximum ≡ compactor.old.held.maximum }
-    ensures work { IsWorkInRounds compactor.old.arena.now compactor.new.arena.now
-        (waiting_count (destination_of P.Inx.packed_number) compactor.old.held.slots)
-        (waiting_count (destination_of P.Inx.packed_number) compactor.new.held.slots) count 0 }
-    ensures unplaced { unplaced.new
-        ≡ waiting_count (destination_of P.Inx.packed_number) compactor.new.held.slots }
-    ensures counts { CountsWork compactor.old compactor.new }
+    requires { CanSettleBlock P.Inx.packed_number P.Inx.greatest start count compactor.old
+        unplaced.old }
+    ensures { SettlesBlock P.Inx.packed_number generation start count compactor.old compactor.new
+        unplaced.new }
 {
     let (mut positions, mut left) = settle_each(compactor, start, count, generation, unplaced);
     let mut reads_ahead = compactor.slots() >= 2_097_152;
@@ -227,19 +152,8 @@ pub fn move_all<P: PtrKey, T: Drop, S: SlotStack<Item = ArenaSlot<P, LinkNoGen<P
     links: usize,
     generation: P::Gen,
 )
-    requires fits { length compactor.old.held.slots ≤ P.Inx.greatest }
-    requires links { links ≡ count_by is_some compactor.old.held.slots }
-    requires can { CanMoveAll (destination_of P.Inx.packed_number) compactor.old.held.slots }
-    ensures moved { HaveMoved (destination_of P.Inx.packed_number)
-        (Settles P.Inx.packed_number generation)
-        (slot_at compactor.old.held.slots) (slot_at compactor.new.held.slots) }
-    ensures length { length compactor.new.held.slots ≡ length compactor.old.held.slots }
-    ensures capacity { compactor.new.held.stack_capacity ≡ compactor.old.held.stack_capacity }
-    ensures maximum { compactor.new.held.maximum ≡ compactor.old.held.maximum }
-    ensures work { IsWork compactor.old.arena.now compactor.new.arena.now
-        (count_by is_some compactor.old.held.slots)
-        (4 * count_by is_some compactor.old.held.slots + length compactor.old.held.slots) }
-    ensures counts { CountsWork compactor.old compactor.new }
+    requires { CanMoveLinks P.Inx.packed_number P.Inx.greatest compactor.old links }
+    ensures { MovesLinks P.Inx.packed_number generation compactor.old compactor.new }
 {
     let slots = compactor.slots();
     let mut start = 0;

@@ -4,6 +4,7 @@
 // chains are walked in turn, so that these waits overlap, and their links are then in the cache.
 // Before a round of moves the slots of all destinations are read, for the same reason.
 ghost use Rattle.std.specs.Prelude.{◌≡◌, ◌≤◌, ◌<◌, ◌+◌, ◌*◌, ◌-◌, ℕ, length, slice_index};
+ghost use Rattle.chain_compaction.specs.LinkPasses.{HasPosition};
 ghost use Rattle.chain_compaction.specs.SlotReads.{HasReadSlot, HasReadSlots};
 
 use crate::slot_access::read_link;
@@ -128,8 +129,7 @@ fn fresh_links<P: PtrKey, T: Drop, S: SlotStack<Item = ArenaSlot<P, LinkNoGen<P,
     compactor: &mut Compactor<'_, P, LinkNoGen<P, T>, S>,
     k: usize,
 ) -> ([usize; 16], usize, usize)
-    requires at { k < length compactor.old.held.slots }
-    requires fits { length compactor.old.held.slots ≤ P.Inx.greatest }
+    requires { HasPosition P.Inx.greatest k compactor.old }
     ensures count { result.1 ≤ 16 }
     ensures few { result.2 ≤ 64 }
     ensures read { HasReadSlots compactor.old compactor.new result.2 }
@@ -208,8 +208,7 @@ pub(crate) fn read_ahead<P: PtrKey, T: Drop, S: SlotStack<Item = ArenaSlot<P, Li
     next: Option<P::Inx>,
     ahead: ReadAhead,
 ) -> ReadAhead
-    requires at { k < length compactor.old.held.slots }
-    requires fits { length compactor.old.held.slots ≤ P.Inx.greatest }
+    requires { HasPosition P.Inx.greatest k compactor.old }
     ensures fewer { result.credit ≤ ahead.credit }
     ensures read { HasReadSlots compactor.old compactor.new (ahead.credit - result.credit) }
 {

@@ -13,7 +13,7 @@ loop-k-init g c =
     let now = c.args.compactor.now in
     record {
       ready = c.requires.ready;
-      order = order_begins g.P.Inx.InxKey.packed_number g.V.Visitor.sees g.P.PtrKey.key c.args.generation c.args.visitor now.held now.arena.now c.requires.agree c.requires.at_rest.none c.new-ahead.result.credit (omega (arith, c.new-ahead.ensures, c.slots.ensures));
+      order = order_begins g.P.Inx.InxKey.packed_number g.V.Visitor.sees g.P.PtrKey.key c.args.generation c.args.visitor now.held now.arena.now c.requires.can.agree c.requires.can.at_rest.none c.new-ahead.result.credit (omega (arith, c.new-ahead.ensures, c.slots.ensures));
       counts = counts_none now;
     }
 
@@ -31,26 +31,27 @@ start_at-start-requires g c =
 pub number_chain-visited-requires-clause-ready : goal.number_chain-visited-requires-clause-ready
 number_chain-visited-requires-clause-ready g c = c.loop-k.invariant.ready
 
-pub number_chain-visited-requires-clause-fits : goal.number_chain-visited-requires-clause-fits
-number_chain-visited-requires-clause-fits g c =
-    omega (
-      arith,
-      c.loop-k.invariant.order.relinked.long,
-      ap (λ h. length h.slots) c.read_link-was.ensures.was_read.held,
-      ap (λ h. length h.slots) c.read_ahead-ahead.ensures.read.held,
-      ap (λ h. length h.slots) c.start_at-start.ensures.held,
-      c.requires.fits,
-    )
-
-pub number_chain-visited-requires-clause-can : goal.number_chain-visited-requires-clause-can
-number_chain-visited-requires-clause-can g c =
+pub number_chain-visited-requires-clause-chain : goal.number_chain-visited-requires-clause-chain
+number_chain-visited-requires-clause-chain g c =
     let old = c.args.compactor.now in
     let now = c.loop-k.compactor in
     let lookup = c.read_link-was.ensures in
     let start = c.start_at-start.ensures in
-    order_can g.P.Inx.InxKey.packed_number g.V.Visitor.sees g.P.PtrKey.key c.args.generation c.args.visitor old.held old.arena.now c.loop-k.visitor now.held now.arena.now c.loop-k.count c.loop-k.k c.loop-k.ahead.credit
-    c.loop-k.invariant.order (g.P.Inx.InxKey.number c.inx_at-i.result) c.inx_at-i.ensures (known_fresh g.P.Inx.InxKey.packed_number g.P.Inx.InxKey.number (slot_at now.held.slots (g.P.Inx.InxKey.number c.inx_at-i.result)) c.read_link-was.result.0 c.in-Some.field-0 c.read_link-was.result.3 c.in-Some.is lookup.generation lookup.destination c.in-None-destination.is)
-    c.read_ahead-ahead.new.compactor.held (c.read_ahead-ahead.ensures.read.held ∙ lookup.was_read.held) c.start_at-start.new.compactor.held start.held (g.P.Inx.InxKey.number c.start_at-start.result.0) start.start
+    record {
+      fits =
+          omega (
+            arith,
+            c.loop-k.invariant.order.relinked.long,
+            ap (λ h. length h.slots) lookup.was_read.held,
+            ap (λ h. length h.slots) c.read_ahead-ahead.ensures.read.held,
+            ap (λ h. length h.slots) start.held,
+            c.requires.can.fits,
+          );
+      can =
+          order_can g.P.Inx.InxKey.packed_number g.V.Visitor.sees g.P.PtrKey.key c.args.generation c.args.visitor old.held old.arena.now c.loop-k.visitor now.held now.arena.now c.loop-k.count c.loop-k.k c.loop-k.ahead.credit
+          c.loop-k.invariant.order (g.P.Inx.InxKey.number c.inx_at-i.result) c.inx_at-i.ensures (known_fresh g.P.Inx.InxKey.packed_number g.P.Inx.InxKey.number (slot_at now.held.slots (g.P.Inx.InxKey.number c.inx_at-i.result)) c.read_link-was.result.0 c.in-Some.field-0 c.read_link-was.result.3 c.in-Some.is lookup.generation lookup.destination c.in-None-destination.is)
+          c.read_ahead-ahead.new.compactor.held (c.read_ahead-ahead.ensures.read.held ∙ lookup.was_read.held) c.start_at-start.new.compactor.held start.held (g.P.Inx.InxKey.number c.start_at-start.result.0) start.start;
+    }
 
 pub loop-k-preserved-in-None : goal.loop-k-preserved-in-None
 loop-k-preserved-in-None g c =
@@ -104,8 +105,8 @@ loop-k-preserved g c =
           behind.held (ahead.read.held ∙ lookup.was_read.held) was_stored.held start.held (g.P.Inx.InxKey.number c.start_at-start.result.0) start.start behind.arena.now was_stored.arena.now new.arena.now
           c.number_chain-visited.result.0 new.held c.number_chain-visited.result.1 reads c.start_at-start.result.1 c.with_numbered-ahead.result.credit
           (work-more (work-touched now.arena.now mid.arena.now lookup.was_read.arena) ahead.read.work 0 (1 + reads) refl (omega arith))
-          (omega (arith, ahead.fewer, start.ahead, c.without_reads-ahead.ensures, c.with_numbered-ahead.ensures, c.saturating_sub.ensures)) start.linear start.cyclic chain.numbered;
-      counts = counts_on old now new at.counts (counts_on now mid new lookup.was_read.counts (counts_on mid behind new ahead.read.counts (counts_on behind was_stored new start.counts chain.counts)));
+          (omega (arith, ahead.fewer, start.ahead, c.without_reads-ahead.ensures, c.with_numbered-ahead.ensures, c.saturating_sub.ensures)) start.linear start.cyclic chain.chain.numbered;
+      counts = counts_on old now new at.counts (counts_on now mid new lookup.was_read.counts (counts_on mid behind new ahead.read.counts (counts_on behind was_stored new start.counts chain.chain.counts)));
     }
 
 pub returns-then-count-links : goal.returns-then-count-links
@@ -115,9 +116,11 @@ returns-then-count-links g c =
     let now = c.loop-k.compactor in
     record {
       ready = at.ready;
-      numbered = order_full g.P.Inx.InxKey.packed_number g.V.Visitor.sees g.P.PtrKey.key c.args.generation c.args.visitor old.held old.arena.now c.loop-k.visitor now.held now.arena.now c.loop-k.count c.loop-k.k c.loop-k.ahead.credit
-          at.order (c.if-count-links.true ∙ c.requires.links) (omega (arith, c.slots-k-end.ensures, c.loop-k.auto.k-end));
-      counts = at.counts;
+      links = record {
+        numbered = order_full g.P.Inx.InxKey.packed_number g.V.Visitor.sees g.P.PtrKey.key c.args.generation c.args.visitor old.held old.arena.now c.loop-k.visitor now.held now.arena.now c.loop-k.count c.loop-k.k c.loop-k.ahead.credit
+            at.order (c.if-count-links.true ∙ c.requires.can.links) (omega (arith, c.slots-k-end.ensures, c.loop-k.auto.k-end));
+        counts = at.counts;
+      };
     }
 
 pub returns : goal.returns
@@ -127,7 +130,9 @@ returns g c =
     let now = c.loop-k.compactor in
     record {
       ready = at.ready;
-      numbered = order_ends g.P.Inx.InxKey.packed_number g.V.Visitor.sees g.P.PtrKey.key c.args.generation c.args.visitor old.held old.arena.now c.loop-k.visitor now.held now.arena.now c.loop-k.count c.loop-k.k c.loop-k.ahead.credit
-          at.order (at_end c.loop-k.k c.slots-k-end.result (length old.held.slots) c.slots-k-end.ensures c.loop-k.auto.k-end c.loop-k-test.false);
-      counts = at.counts;
+      links = record {
+        numbered = order_ends g.P.Inx.InxKey.packed_number g.V.Visitor.sees g.P.PtrKey.key c.args.generation c.args.visitor old.held old.arena.now c.loop-k.visitor now.held now.arena.now c.loop-k.count c.loop-k.k c.loop-k.ahead.credit
+            at.order (at_end c.loop-k.k c.slots-k-end.result (length old.held.slots) c.slots-k-end.ensures c.loop-k.auto.k-end c.loop-k-test.false);
+        counts = at.counts;
+      };
     }

@@ -1,5 +1,4 @@
 -- The chains with an index up to k have destinations, and the visitor has seen their links.
-use Rattle.std.proofs.Common.{◌≡◌}
 use Rattle.chain_compaction.specs.WorkCounts.{CountsWork}
 use Rattle.chain_compaction.proofs.ChainOrderLemmas.{IsOrdering}
 use Rattle.chain_compaction.proofs.assign_destinations.number_all.Given as goal

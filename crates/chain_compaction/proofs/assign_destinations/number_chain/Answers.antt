@@ -24,7 +24,7 @@ walk_at g c done l can =
 -- Fewer links are numbered than there are slots.
 capacity_at : (g : Over) (c : In-Some g) → c.loop-on.count < length c.args.compactor.now.held.slots
 capacity_at g c =
-    let can = c.requires.can in
+    let can = c.requires.chain.can in
     walk_capacity g.P.Inx.InxKey.packed_number g.V.Visitor.sees g.P.PtrKey.key c.args.generation c.args.visitor c.args.compactor.now.held c.args.compactor.now.arena.now (g.P.Inx.InxKey.number c.args.start) c.args.before can.0 can.1 can.2 c.loop-on.visitor c.loop-on.compactor.held c.loop-on.compactor.arena.now c.loop-on.count
     (option_map g.P.Inx.InxKey.number c.loop-on.named) (option_map g.P.Inx.InxKey.number c.loop-on.prev) (g.P.Inx.InxKey.number c.in-Some.i) (walk_at g c can.0 can.1 can.2)
 
@@ -39,13 +39,13 @@ loop-on-init g c =
     }
 
 pub inx_at-destination-requires : goal.inx_at-destination-requires
-inx_at-destination-requires g c = omega (arith, capacity_at g c, c.requires.fits)
+inx_at-destination-requires g c = omega (arith, capacity_at g c, c.requires.chain.fits)
 
 pub after_it-after-requires-clause-first : goal.after_it-after-requires-clause-first
 after_it-after-requires-clause-first g c =
-    let can = c.requires.can in
+    let can = c.requires.chain.can in
     let enough = walk_first g.P.Inx.InxKey.packed_number g.V.Visitor.sees g.P.PtrKey.key c.args.generation c.args.visitor c.args.compactor.now.held c.args.compactor.now.arena.now (g.P.Inx.InxKey.number c.args.start) c.args.before can.0 can.1 can.2 in
-    omega (arith, enough, c.requires.fits)
+    omega (arith, enough, c.requires.chain.fits)
 
 some_there : {X : Type 0} (o : Option X) → IsSome o → (x : X) × (o ≡ Some x)
 some_there None some = let both : false ≡ true = some in absurd (cc)
@@ -55,17 +55,17 @@ some_there (Some x) some = (x, refl)
 pub after_it-after-requires-clause-next : goal.after_it-after-requires-clause-next
 after_it-after-requires-clause-next g c some =
     let next = (goal.at.after_it-after-requires-clause-next g c).In-Some in
-    let can = c.requires.can in
+    let can = c.requires.chain.can in
     let on = some_there c.step_on-on.result some in
     let enough = walk_more g.P.Inx.InxKey.packed_number g.V.Visitor.sees g.P.PtrKey.key c.args.generation c.args.visitor c.args.compactor.now.held c.args.compactor.now.arena.now (g.P.Inx.InxKey.number c.args.start) c.args.before can.0 can.1 can.2 c.loop-on.visitor c.loop-on.compactor.held c.loop-on.compactor.arena.now c.loop-on.count
     (option_map g.P.Inx.InxKey.number c.loop-on.named) (option_map g.P.Inx.InxKey.number c.loop-on.prev) (g.P.Inx.InxKey.number c.in-Some.i) (walk_at g next can.0 can.1 can.2)
     (option_map g.P.Inx.InxKey.number c.read_link.result.2) (option_map g.P.Inx.InxKey.number c.step_on-on.result) c.read_link.ensures.next c.step_on-on.ensures (g.P.Inx.InxKey.number on.0) (ap (option_map g.P.Inx.InxKey.number) on.1) in
-    omega (arith, enough, c.requires.fits)
+    omega (arith, enough, c.requires.chain.fits)
 
 pub proved_unreachable-assume_proved-requires : goal.proved_unreachable-assume_proved-requires
 proved_unreachable-assume_proved-requires g c = absurd (
     let next = (goal.at.proved_unreachable-assume_proved-requires g c).In-Some in
-    let can = c.requires.can in
+    let can = c.requires.chain.can in
     walk_returns g.P.Inx.InxKey.packed_number g.V.Visitor.sees g.P.PtrKey.key c.args.generation c.args.visitor c.args.compactor.now.held c.args.compactor.now.arena.now (g.P.Inx.InxKey.number c.args.start) c.args.before can.0 can.1 can.2 c.loop-on.visitor c.loop-on.compactor.held c.loop-on.compactor.arena.now c.loop-on.count
     (option_map g.P.Inx.InxKey.number c.loop-on.named) (option_map g.P.Inx.InxKey.number c.loop-on.prev) (g.P.Inx.InxKey.number c.in-Some.i) (walk_at g next can.0 can.1 can.2)
     (sym c.in-None.is ∙ c.read_link.ensures.generation))
@@ -104,9 +104,9 @@ loop-on-preserved g c =
           (option_map g.P.Inx.InxKey.number c.loop-on.named) (option_map g.P.Inx.InxKey.number c.loop-on.prev) (g.P.Inx.InxKey.number c.in-Some.i) (walk_at g next done l can)
           (option_map g.P.Inx.InxKey.number c.read_link.result.2) (option_map g.P.Inx.InxKey.number c.step_on-on.result) lookup.next c.step_on-on.ensures
           (g.P.Inx.InxKey.number c.inx_at-destination.result) new.held new.arena.now c.in-Some-was.was c._from_raw.result c._from_raw-in-Some-was.result c.visit.new.self
-          (linked_now g wrote) c.inx_at-destination.ensures (work-twice now.arena.now c.read_link.new.compactor.arena.now new.arena.now lookup.was_read.arena links_both.arena)
+          (linked_now g wrote) c.inx_at-destination.ensures (work-twice now.arena.now c.read_link.new.compactor.arena.now new.arena.now lookup.was_read.arena links_both.touched.arena)
           (sym c.in-Some-was.is ∙ lookup.generation) c._from_raw.ensures c._from_raw-in-Some-was.ensures c.visit.ensures.view_after;
-      counts = counts_on c.args.compactor.now now new at.counts (counts_on now c.read_link.new.compactor new lookup.was_read.counts links_both.counts);
+      counts = counts_on c.args.compactor.now now new at.counts (counts_on now c.read_link.new.compactor new lookup.was_read.counts links_both.touched.counts);
     }
 
 pub returns : goal.returns
@@ -117,12 +117,14 @@ returns g c =
     let new = c.close_ring.new.compactor in
     record {
       ready = at.ready;
-      numbered = λ done l can.
-          walk_ends g.P.Inx.InxKey.packed_number g.V.Visitor.sees g.P.PtrKey.key c.args.generation c.args.visitor old.held old.arena.now (g.P.Inx.InxKey.number c.args.start) c.args.before done l can c.loop-on.visitor now.held now.arena.now c.loop-on.count
-          (option_map g.P.Inx.InxKey.number c.loop-on.named) (option_map g.P.Inx.InxKey.number c.loop-on.prev)
-          (subst (λ o. IsWalking g.P.Inx.InxKey.packed_number g.V.Visitor.sees g.P.PtrKey.key c.args.generation c.args.visitor c.loop-on.visitor old.held now.held
-          old.arena.now now.arena.now c.loop-on.count (g.P.Inx.InxKey.number c.args.start) (option_map g.P.Inx.InxKey.number o) (option_map g.P.Inx.InxKey.number c.loop-on.named) (option_map g.P.Inx.InxKey.number c.loop-on.prev) done l)
-          c.in_default.is (at.walks done l can))
-          new.held c.close_ring.ensures.closed new.arena.now c.close_ring.ensures.work;
-      counts = counts_on old now new at.counts c.close_ring.ensures.counts;
+      chain = record {
+        numbered = λ done l can.
+            walk_ends g.P.Inx.InxKey.packed_number g.V.Visitor.sees g.P.PtrKey.key c.args.generation c.args.visitor old.held old.arena.now (g.P.Inx.InxKey.number c.args.start) c.args.before done l can c.loop-on.visitor now.held now.arena.now c.loop-on.count
+            (option_map g.P.Inx.InxKey.number c.loop-on.named) (option_map g.P.Inx.InxKey.number c.loop-on.prev)
+            (subst (λ o. IsWalking g.P.Inx.InxKey.packed_number g.V.Visitor.sees g.P.PtrKey.key c.args.generation c.args.visitor c.loop-on.visitor old.held now.held
+            old.arena.now now.arena.now c.loop-on.count (g.P.Inx.InxKey.number c.args.start) (option_map g.P.Inx.InxKey.number o) (option_map g.P.Inx.InxKey.number c.loop-on.named) (option_map g.P.Inx.InxKey.number c.loop-on.prev) done l)
+            c.in_default.is (at.walks done l can))
+            new.held c.close_ring.ensures.closed new.arena.now c.close_ring.ensures.work;
+        counts = counts_on old now new at.counts c.close_ring.ensures.counts;
+      };
     }

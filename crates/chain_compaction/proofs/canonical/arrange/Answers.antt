@@ -5,11 +5,13 @@ use Rattle.chain_compaction.proofs.CanonicalLayoutLemmas.{counted_first, agree-h
 use Rattle.chain_compaction.proofs.CompactedLinkLemmas.{returned_at_rest}
 use Rattle.chain_compaction.proofs.canonical.arrange.Goals as goal
 
-pub place_all-visitor-requires-clause-agree : goal.place_all-visitor-requires-clause-agree
-place_all-visitor-requires-clause-agree g c = agree-held g.P.Inx.InxKey.packed_number c.args.arena.now c.compactor-compactor.result.held c.compactor-compactor.ensures.held c.requires.links.agree
-
-pub place_all-visitor-requires-clause-at_rest : goal.place_all-visitor-requires-clause-at_rest
-place_all-visitor-requires-clause-at_rest g c = subst (λ held. AreAtRest g.P.Inx.InxKey.packed_number held.slots) (sym c.compactor-compactor.ensures.held) c.requires.links.at_rest
+pub place_all-visitor-requires-clause-can : goal.place_all-visitor-requires-clause-can
+place_all-visitor-requires-clause-can g c = record {
+  links = search rules;
+  fits = search rules;
+  agree = agree-held g.P.Inx.InxKey.packed_number c.args.arena.now c.compactor-compactor.result.held c.compactor-compactor.ensures.held c.requires.links.agree;
+  at_rest = subst (λ held. AreAtRest g.P.Inx.InxKey.packed_number held.slots) (sym c.compactor-compactor.ensures.held) c.requires.links.at_rest;
+}
 
 pub returns : goal.returns
 returns g c =
@@ -21,18 +23,18 @@ returns g c =
     let done = c.place_all-visitor in
     let now = done.new.compactor in
     let known =
-    work_known g.V.Visitor.sees g.P.PtrKey.key c.args.visitor done.result.0 number generation old lent.held now.held first.ensures.held lent.arena.now now.arena.now done.result.1 done.ensures.placed
+    work_known g.V.Visitor.sees g.P.PtrKey.key c.args.visitor done.result.0 number generation old lent.held now.held first.ensures.held lent.arena.now now.arena.now done.result.1 done.ensures.links.placed
     g.P.Inx.InxKey.greatest g.S.SlotStack.initial_maximum first.ensures.arena now.placed now.touched
-    (done.ensures.counts.on lent.arena.now (counted_first lent.arena.now lent.placed lent.touched first.ensures.placed first.ensures.touched)) first.ensures.fits g.met.P.Inx.InxKey.greatest_fits in
+    (done.ensures.links.counts.on lent.arena.now (counted_first lent.arena.now lent.placed lent.touched first.ensures.placed first.ensures.touched)) first.ensures.fits g.met.P.Inx.InxKey.greatest_fits in
     let placed : now.arena.now.placed ≡ old.placed + c.finish_packed.result.placed = known.0 ∙ ap (λ n. old.placed + n) (sym c.finish_packed.ensures.placed) in
     let touched : now.arena.now.touched ≡ old.touched + c.finish_packed.result.touched = known.1 ∙ ap (λ n. old.touched + n) (sym c.finish_packed.ensures.touched) in
-    let same_reference = done.ensures.counts.same_reference in
+    let same_reference = done.ensures.links.counts.same_reference in
     record {
       ready = done.ensures.ready;
       arranged =
-          links_arranged g.V.Visitor.sees g.P.PtrKey.key c.args.visitor done.result.0 number generation old lent.held now.held first.ensures.held lent.arena.now now.arena.now done.result.1 done.ensures.placed
+          links_arranged g.V.Visitor.sees g.P.PtrKey.key c.args.visitor done.result.0 number generation old lent.held now.held first.ensures.held lent.arena.now now.arena.now done.result.1 done.ensures.links.placed
           g.P.Inx.InxKey.greatest g.S.SlotStack.initial_maximum first.ensures.arena c.len-links.ensures.capacity.1 c.generation-generation.ensures _ (search rules);
-      at_rest = returned_at_rest number now.held.slots _ (search rules) done.ensures.at_rest;
+      at_rest = returned_at_rest number now.held.slots _ (search rules) (done.ensures.links.at_rest (subst (λ held. AreAtRest number held.slots) (sym first.ensures.held) c.requires.links.at_rest));
       placed = search rules;
       touched = search rules;
     }

@@ -4,13 +4,14 @@ use denote.Param.Always.{always_mut}
 use Rattle.arena_base.proofs.HoleClosingLemmas.{IsClosing}
 use Rattle.chain_links.specs.Links.{StayAtRest}
 use Rattle.chain_compaction.specs.DetachedLinks.{slot_values, IsWork}
+use Rattle.chain_compaction.specs.WorkCounts.{CountsWork}
 use Rattle.chain_compaction.proofs.LinkCompressionLemmas.{AreGathered}
 use Rattle.chain_compaction.proofs.compress.compact_links.Given as goal
 
 abbrev pub invariant-loop-k : goal.invariant-loop-k
 invariant-loop-k g l = record {
   callable : always_mut g.F.FnMut l.map;
-  same_reference : l.compactor.arena.ghost_name ≡ l.fn.compactor.arena.ghost_name;
+  counts : CountsWork l.fn.compactor l.compactor;
   capacity : l.compactor.held.stack_capacity ≡ l.fn.compactor.held.stack_capacity;
   maximum : l.compactor.held.maximum ≡ l.fn.compactor.held.maximum;
   closing : IsClosing g.F.FnMut g.P.PtrKey.key l.generation l.fn.map (slot_values l.fn.compactor.held.slots) l.k l.count l.map (slot_values l.compactor.held.slots);

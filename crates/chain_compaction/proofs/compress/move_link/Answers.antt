@@ -4,6 +4,7 @@ use Rattle.std.specs.Option.{option_map}
 use Rattle.chain_links.specs.Links.{AreAtRest}
 use Rattle.chain_links.proofs.RestLemmas.{placed_at_rest}
 use Rattle.chain_compaction.proofs.DetachedLinkLemmas.{entry-view_after, move-values, move-links, work-moved}
+use Rattle.chain_compaction.proofs.WorkCountLemmas.{counts_place, counts_on}
 use Rattle.chain_compaction.proofs.compress.move_link.Goals as goal
 
 pub bring-requires-clause-entry : goal.bring-requires-clause-entry
@@ -17,25 +18,26 @@ returns g c =
     let packed_number = g.P.Inx.InxKey.packed_number in
     let from = number c.args.from in
     let to = number c.args.to in
-    let old = c.args.compactor.now.held in
-    let was_read = c.read_link-was.new.compactor.held in
-    let brought = c.bring.new.self.held in
-    let known = c.set_neighbor.new.compactor.held in
-    let new = c.set_neighbor-2.new.compactor.held in
+    let first = c.args.compactor.now in
+    let was_read = c.read_link-was.new.compactor in
+    let brought = c.bring.new.self in
+    let known = c.set_neighbor.new.compactor in
+    let last = c.set_neighbor-2.new.compactor in
     let lookup = c.read_link-was.ensures in
     let places = c.bring.ensures in
     let next = c.set_neighbor.ensures in
     let prev = c.set_neighbor-2.ensures in
     record {
-      same_reference = prev.same_reference ∙ (next.same_reference ∙ (places.same_reference ∙ lookup.was_read.counts.same_reference));
+      counts = counts_on first known last (counts_on first brought known (counts_on first was_read brought lookup.was_read.counts
+          (counts_place was_read brought places.same_reference places.arena places.placed places.touched)) next.counts) prev.counts;
       returned = sym c.in-Some.is ∙ lookup.generation;
-      values = move-values packed_number old was_read brought known new from to c.args.generation lookup.was_read.held places.held next.values prev.values;
-      moves = move-links packed_number old was_read brought known new from to c.args.generation lookup.was_read.held places.held
+      values = move-values packed_number first.held was_read.held brought.held known.held last.held from to c.args.generation lookup.was_read.held places.held next.values prev.values;
+      moves = move-links packed_number first.held was_read.held brought.held known.held last.held from to c.args.generation lookup.was_read.held places.held
           (option_map number c.index_now.result) (option_map number c.index_now-2.result) (option_map number c.read_link-was.result.1) (option_map number c.read_link-was.result.2)
-          (g.met.P.Inx.InxKey.at_least_one c.args.from) c.requires.from (g.met.P.Inx.InxKey.at_least_one c.args.to) c.requires.to
+          (g.met.P.Inx.InxKey.at_least_one c.args.from) c.requires.from_within (g.met.P.Inx.InxKey.at_least_one c.args.to) c.requires.to_within
           lookup.prev lookup.next c.index_now.ensures c.index_now-2.ensures next.links prev.links;
       at_rest = λ rest. prev.at_rest (next.at_rest (subst (λ held. AreAtRest packed_number held.slots) (sym places.held)
-          (placed_at_rest packed_number was_read.slots from to c.args.generation (subst (λ held. AreAtRest packed_number held.slots) (sym lookup.was_read.held) rest))));
+          (placed_at_rest packed_number was_read.held.slots from to c.args.generation (subst (λ held. AreAtRest packed_number held.slots) (sym lookup.was_read.held) rest))));
       work = work-moved lookup.was_read.arena places.arena next.work prev.work;
       none = tt;
     }
@@ -44,7 +46,7 @@ pub returns-in-None : goal.returns-in-None
 returns-in-None g c =
     let lookup = c.read_link-was.ensures in
     record {
-      same_reference = lookup.was_read.counts.same_reference;
+      counts = lookup.was_read.counts;
       returned = sym c.in-None.is ∙ lookup.generation;
       values = tt;
       moves = tt;

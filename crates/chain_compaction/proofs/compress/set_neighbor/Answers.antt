@@ -5,6 +5,7 @@ use Rattle.chain_compaction.specs.DetachedLinks.{link_map_in}
 use Rattle.chain_compaction.proofs.DetachedLinkLemmas.{work-none, work-touched}
 use Rattle.chain_compaction.proofs.LinkLoanLemmas.{lent, lent_none, overwritten_rests}
 use Rattle.chain_compaction.proofs.NeighborUpdateLemmas.{states_none, kept_values, states_nowhere, prev_values, states_prev, next_values, states_next}
+use Rattle.chain_compaction.proofs.WorkCountLemmas.{counts_none}
 use Rattle.chain_compaction.proofs.compress.set_neighbor.Goals as goal
 
 pub returns-then-before : goal.returns-then-before
@@ -19,7 +20,7 @@ returns-then-before g c =
     let new = c.value_mut.follows.lender left in
     let wrote = lent old new i c.value_mut.result c.in-Some-value_mut.link left c.in-Some-value_mut.is c.value_mut.ensures.value (c.value_mut.follows.holds left) in
     record {
-      same_reference = wrote.counts.same_reference;
+      counts = wrote.counts;
       values = prev_values number packed old.held new.held c.args.before c.args.i target c.in-Some.i c.in-Some.is link left wrote.stored wrote.held c.if-before.true c.set_prev.ensures.rest;
       at_rest = overwritten_rests packed old new i link left wrote (ap (λ l. packed l.destination) c.set_prev.ensures.rest);
       links = states_prev number packed old.held new.held c.args.before c.args.i target c.in-Some.i c.in-Some.is link left wrote.stored wrote.held c.if-before.true c.set_prev.ensures.rest c.set_prev.ensures.prev;
@@ -38,7 +39,7 @@ returns-else-before g c =
     let new = c.value_mut.follows.lender left in
     let wrote = lent old new i c.value_mut.result c.in-Some-value_mut.link left c.in-Some-value_mut.is c.value_mut.ensures.value (c.value_mut.follows.holds left) in
     record {
-      same_reference = wrote.counts.same_reference;
+      counts = wrote.counts;
       values = next_values number packed old.held new.held c.args.before c.args.i target c.in-Some.i c.in-Some.is link left wrote.stored wrote.held c.if-before.false c.set_next.ensures.rest;
       at_rest = overwritten_rests packed old new i link left wrote (ap (λ l. packed l.destination) c.set_next.ensures.rest);
       links = states_next number packed old.held new.held c.args.before c.args.i target c.in-Some.i c.in-Some.is link left wrote.stored wrote.held c.if-before.false c.set_next.ensures.rest c.set_next.ensures.next;
@@ -54,7 +55,7 @@ returns-in-None-value_mut g c =
     let new = c.value_mut.follows.lender-at-none in
     let kept = lent_none old new i c.value_mut.result c.in-None-value_mut.is c.value_mut.ensures.value c.value_mut.follows.holds-at-none in
     record {
-      same_reference = kept.counts.same_reference;
+      counts = kept.counts;
       values = kept_values number packed old.held new.held c.args.before c.args.i (Some (number c.args.named)) c.in-Some.i c.in-Some.is kept.held;
       at_rest = λ rest. subst (λ held. AreAtRest packed held.slots) (sym kept.held) rest;
       links = states_nowhere number packed old.held new.held c.args.before c.args.i (Some (number c.args.named)) c.in-Some.i c.in-Some.is kept.held kept.none;
@@ -66,7 +67,7 @@ returns-in-None g c =
     let number = g.P.Inx.InxKey.number in
     let old = c.args.compactor.now in
     record {
-      same_reference = refl;
+      counts = counts_none old;
       values = refl;
       at_rest = λ rest. rest;
       links = states_none number (link_map_in g.P.Inx.InxKey.packed_number old.held.slots) c.args.before c.args.i (Some (number c.args.named)) c.in-None.is;

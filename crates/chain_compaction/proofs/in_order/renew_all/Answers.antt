@@ -25,7 +25,7 @@ loop-k-init g c =
 pub proved_unreachable-assume_proved-requires : goal.proved_unreachable-assume_proved-requires
 proved_unreachable-assume_proved-requires g c = absurd (
     stored_in_order g.P.Inx.InxKey.packed_number c.args.generation c.args.compactor.now.held c.loop-k.compactor.held c.loop-k.k (g.P.Inx.InxKey.number c.inx_at-i.result) c.read_link-was.result.0 c.inx_at-i.ensures (omega arith)
-    c.requires.canonical c.loop-k.invariant.renewed c.in-None.is c.read_link-was.ensures.generation)
+    c.requires.can.canonical c.loop-k.invariant.renewed c.in-None.is c.read_link-was.ensures.generation)
 
 pub loop-k-preserved : goal.loop-k-preserved
 loop-k-preserved g c =
@@ -50,12 +50,17 @@ loop-k-preserved g c =
           (counts_place read new c.place.ensures.same_reference c.place.ensures.arena c.place.ensures.placed c.place.ensures.touched));
     }
 
-pub returns-clause-placed : goal.returns-clause-placed
-returns-clause-placed g c =
+pub returns-clause-links : goal.returns-clause-links
+returns-clause-links g c =
     let inv = c.loop-k.invariant in
     let old = c.args.compactor.now in
     let now = c.loop-k.compactor in
     let slots = length old.held.slots in
     let all : c.loop-k.k ≡ slots = omega arith in
-    all_renewed g.P.Inx.InxKey.packed_number g.V.Visitor.sees g.P.PtrKey.key c.args.generation c.args.visitor c.loop-k.visitor old.held now.held old.arena.now now.arena.now c.requires.agree c.requires.canonical
-    c.loop-k.k c.slots-slots.result all c.slots-slots.ensures inv.renewed inv.reports inv.work
+    record {
+      placed =
+          all_renewed g.P.Inx.InxKey.packed_number g.V.Visitor.sees g.P.PtrKey.key c.args.generation c.args.visitor c.loop-k.visitor old.held now.held old.arena.now now.arena.now c.requires.can.agree c.requires.can.canonical
+          c.loop-k.k c.slots-slots.result all c.slots-slots.ensures inv.renewed inv.reports inv.work;
+      at_rest = inv.at_rest;
+      counts = inv.counts;
+    }

@@ -1,5 +1,4 @@
 -- The links up to k have the generation, and the visitor has seen them.
-use Rattle.std.proofs.Common.{◌≡◌}
 use Rattle.std.specs.List.{range_with_len}
 use Rattle.arena_traits.specs.Arena.{slot_at}
 use Rattle.chain_links.specs.ChainArena.{ptr_at}

@@ -4,8 +4,7 @@ use Rattle.chain_compaction.specs.Permutations.{ArePassed, waiting_count, Settle
 use Rattle.chain_compaction.proofs.SlotCountLemmas.{waiting-all}
 use Rattle.chain_compaction.proofs.PermutationStepLemmas.{settled_rests}
 use Rattle.chain_compaction.proofs.PermutationLoopLemmas.{passing_begins, passing_continues, passing_stops, passing_ends, passing_leaves_none, rounds_begin, rounds_then, rounds_stop, rounds_end}
-use Rattle.chain_compaction.proofs.LinkLoanLemmas.{capacity_then, maximum_then}
-use Rattle.chain_compaction.proofs.WorkCountLemmas.{counts_none, counts_on}
+use Rattle.chain_compaction.proofs.WorkCountLemmas.{slots_stay, slots_on}
 use Rattle.chain_compaction.proofs.permute.move_all.Goals as goal
 use Rattle.chain_links.specs.Links.{destination_of}
 
@@ -16,29 +15,22 @@ loop-start-init g c =
     record {
       reached = omega arith;
       passed = passing_begins (destination_of packed_number) (Settles packed_number c.args.generation) (settled_rests packed_number c.args.generation) old.held.slots c.requires.can;
-      capacity = refl;
-      maximum = refl;
+      kept = slots_stay old;
       work = rounds_begin old.arena.now (waiting_count (destination_of packed_number) old.held.slots);
       unplaced = c.requires.links ∙ sym (waiting-all (destination_of packed_number) old.held.slots c.requires.can.each);
-      counts = counts_none old;
     }
 
-pub settle_block-requires-clause-count : goal.settle_block-requires-clause-count
-settle_block-requires-clause-count g c = omega (arith, c.min-count.ensures)
-
-pub settle_block-requires-clause-block : goal.settle_block-requires-clause-block
-settle_block-requires-clause-block g c =
+pub settle_block-requires : goal.settle_block-requires
+settle_block-requires g c =
+    let passed = c.loop-start.invariant.passed in
     let reached : c.loop-start.start ≤ c.slots-slots.result = c.loop-start.invariant.reached in
-    omega (arith, c.min-count.ensures, c.loop-start.invariant.passed.length, reached, c.slots-slots.ensures)
-
-pub settle_block-requires-clause-fits : goal.settle_block-requires-clause-fits
-settle_block-requires-clause-fits g c = omega (arith, c.loop-start.invariant.passed.length, c.requires.fits)
-
-pub settle_block-requires-clause-within : goal.settle_block-requires-clause-within
-settle_block-requires-clause-within g c = c.loop-start.invariant.passed.within
-
-pub settle_block-requires-clause-unplaced : goal.settle_block-requires-clause-unplaced
-settle_block-requires-clause-unplaced g c = c.loop-start.invariant.unplaced
+    record {
+      few = omega (arith, c.min-count.ensures);
+      block = omega (arith, c.min-count.ensures, passed.length, reached, c.slots-slots.ensures);
+      fits = omega (arith, passed.length, c.requires.fits);
+      within = passed.within;
+      unplaced = c.loop-start.invariant.unplaced;
+    }
 
 pub loop-start-preserved : goal.loop-start-preserved
 loop-start-preserved g c =
@@ -54,12 +46,10 @@ loop-start-preserved g c =
       reached = omega (arith, c.min-count.ensures, inv.reached);
       passed = passing_continues (destination_of packed_number) (Settles packed_number c.args.generation) (settled_rests packed_number c.args.generation) old.held.slots now.held.slots next.held.slots
           start count inv.passed after.settles after.none;
-      capacity = capacity_then old now next inv.capacity after.capacity;
-      maximum = maximum_then old now next inv.maximum after.maximum;
+      kept = slots_on old now next inv.kept after.kept;
       work = rounds_then old.arena.now now.arena.now next.arena.now (waiting_count (destination_of packed_number) old.held.slots) (waiting_count (destination_of packed_number) now.held.slots)
           (waiting_count (destination_of packed_number) next.held.slots) start count (start + count) inv.work after.work refl;
       unplaced = after.unplaced;
-      counts = counts_on old now next inv.counts after.counts;
     }
 
 pub loop-start-smaller : goal.loop-start-smaller
@@ -78,11 +68,9 @@ returns-after-loop-start g c =
     record {
       moved = passing_ends target settles rests old.held.slots now.held.slots passed;
       length = inv.passed.length;
-      capacity = inv.capacity;
-      maximum = inv.maximum;
+      kept = inv.kept;
       work = rounds_end old.arena.now now.arena.now _ _ _ (length old.held.slots) (subst (λ (n : ℕ). IsWorkInRounds old.arena.now now.arena.now (waiting_count target old.held.slots) (waiting_count target now.held.slots) n 0) all inv.work)
           (passing_leaves_none target settles rests old.held.slots now.held.slots passed) (waiting-all target old.held.slots c.requires.can.each);
-      counts = inv.counts;
     }
 
 pub returns-else-unplaced-gt0 : goal.returns-else-unplaced-gt0
@@ -97,9 +85,7 @@ returns-else-unplaced-gt0 g c =
     record {
       moved = passing_ends target settles rests old.held.slots now.held.slots (passing_stops target settles rests old.held.slots now.held.slots c.loop-start.start inv.passed none);
       length = inv.passed.length;
-      capacity = inv.capacity;
-      maximum = inv.maximum;
+      kept = inv.kept;
       work = rounds_end old.arena.now now.arena.now _ _ _ (length old.held.slots) (rounds_stop old.arena.now now.arena.now _ _ c.loop-start.start (length old.held.slots) 0 (omega (arith, inv.reached, c.slots-slots.ensures)) inv.work)
           none (waiting-all target old.held.slots c.requires.can.each);
-      counts = inv.counts;
     }

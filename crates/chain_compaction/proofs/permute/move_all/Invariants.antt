@@ -1,6 +1,6 @@
 -- The slots up to start are settled.
 use Rattle.std.proofs.Common.{◌≡◌, ◌≤◌, ◌-◌}
-use Rattle.chain_compaction.specs.WorkCounts.{CountsWork}
+use Rattle.chain_compaction.specs.WorkCounts.{ChangesOnlySlots}
 use Rattle.chain_compaction.specs.Permutations.{ArePassed, waiting_count, Settles, IsWorkInRounds}
 use Rattle.chain_compaction.proofs.permute.move_all.Given as goal
 use Rattle.chain_links.specs.Links.{destination_of}
@@ -11,11 +11,9 @@ invariant-loop-start g l =
     record {
       reached : l.start ≤ l.slots;
       passed : ArePassed (destination_of packed_number) (Settles packed_number l.generation) l.fn.compactor.held.slots l.compactor.held.slots l.start;
-      capacity : l.compactor.held.stack_capacity ≡ l.fn.compactor.held.stack_capacity;
-      maximum : l.compactor.held.maximum ≡ l.fn.compactor.held.maximum;
+      kept : ChangesOnlySlots l.fn.compactor l.compactor;
       work : IsWorkInRounds l.fn.compactor.arena.now l.compactor.arena.now (waiting_count (destination_of packed_number) l.fn.compactor.held.slots) (waiting_count (destination_of packed_number) l.compactor.held.slots) l.start 0;
       unplaced : l.unplaced ≡ waiting_count (destination_of packed_number) l.compactor.held.slots;
-      counts : CountsWork l.fn.compactor l.compactor;
     }
 
 abbrev pub decreases-loop-start : goal.decreases-loop-start

@@ -6,12 +6,11 @@ use Rattle.chain_compaction.specs.Permutations.{IsInBlock, waiting_count, Settle
 use Rattle.chain_compaction.proofs.BlockTurnLemmas.{listing_ends, sum_decreases-round, touches_round, none_left, below_bound}
 use Rattle.chain_compaction.proofs.PermutationStepLemmas.{IsBlockRead, settle_reads, settling_joins}
 use Rattle.chain_compaction.proofs.PermutationLoopLemmas.{rounds_start, rounds_continue, rounds_stop}
-use Rattle.chain_compaction.proofs.LinkLoanLemmas.{capacity_then, maximum_then}
 use Rattle.chain_compaction.proofs.permute.settle_block.Given.{Over}
 use Rattle.chain_compaction.proofs.permute.settle_block.Goals.{After-settle_round-arg-in-loop-left-1}
 use Rattle.chain_compaction.proofs.permute.settle_block.Goals as goal
 use Rattle.chain_links.specs.Links.{destination_of}
-use Rattle.chain_compaction.proofs.WorkCountLemmas.{counts_on}
+use Rattle.chain_compaction.proofs.WorkCountLemmas.{slots_on, slots_held}
 
 -- The positions and the moves so far, after the reads before a round.
 here : (g : Over) (c : After-settle_round-arg-in-loop-left-1 g) → IsBlockRead (destination_of g.P.Inx.InxKey.packed_number) (Settles g.P.Inx.InxKey.packed_number c.args.generation) c.args.start c.args.count
@@ -20,7 +19,7 @@ here g c =
     let packed_number = g.P.Inx.InxKey.packed_number in
     let inv = c.loop-left.invariant in
     settle_reads (destination_of packed_number) (Settles packed_number c.args.generation) c.args.start c.args.count c.loop-left.positions c.loop-left.left c.args.compactor.now.held c.loop-left.compactor.held
-    c.read_destinations-reads_ahead.new.compactor.held c.read_destinations-reads_ahead.ensures.held inv.lists inv.settles inv.capacity inv.maximum
+    c.read_destinations-reads_ahead.new.compactor.held c.read_destinations-reads_ahead.ensures.held inv.lists inv.settles inv.kept.capacity inv.kept.maximum
 
 pub loop-left-init : goal.loop-left-init
 loop-left-init g c =
@@ -28,37 +27,28 @@ loop-left-init g c =
     record {
       settles = first.settles;
       lists = first.lists;
-      capacity = first.capacity;
-      maximum = first.maximum;
+      kept = first.kept;
       work = rounds_start c.args.compactor.now.arena.now c.settle_each-left.new.compactor.arena.now _ _ _ c.settle_each-left.result.1 first.work first.moved;
       unplaced = first.unplaced;
-      counts = first.counts;
     }
 
 pub read_destinations-reads_ahead-requires-clause-left : goal.read_destinations-reads_ahead-requires-clause-left
-read_destinations-reads_ahead-requires-clause-left g c = omega (arith, c.loop-left.invariant.lists.few, c.requires.count)
+read_destinations-reads_ahead-requires-clause-left g c = omega (arith, c.loop-left.invariant.lists.few, c.requires.few)
 
 pub read_destinations-reads_ahead-requires-clause-within : goal.read_destinations-reads_ahead-requires-clause-within
 read_destinations-reads_ahead-requires-clause-within g c = λ p low. below_bound (slice_index c.loop-left.positions p) (c.args.start + c.args.count) (length c.args.compactor.now.held.slots) g.P.Inx.InxKey.greatest (c.loop-left.invariant.lists.within p low).1 c.requires.block c.requires.fits
 
-pub settle_round-left-requires-clause-count : goal.settle_round-left-requires-clause-count
-settle_round-left-requires-clause-count g c = c.requires.count
-
-pub settle_round-left-requires-clause-block : goal.settle_round-left-requires-clause-block
-settle_round-left-requires-clause-block g c = omega (arith, (here g c).settles.length, c.requires.block)
-
-pub settle_round-left-requires-clause-fits : goal.settle_round-left-requires-clause-fits
-settle_round-left-requires-clause-fits g c = omega (arith, (here g c).settles.length, c.requires.fits)
-
-pub settle_round-left-requires-clause-within : goal.settle_round-left-requires-clause-within
-settle_round-left-requires-clause-within g c = (here g c).settles.within c.requires.within
+pub settle_round-left-requires-clause-can : goal.settle_round-left-requires-clause-can
+settle_round-left-requires-clause-can g c = record {
+  few = c.requires.few;
+  block = omega (arith, (here g c).settles.length, c.requires.block);
+  fits = omega (arith, (here g c).settles.length, c.requires.fits);
+  within = (here g c).settles.within c.requires.within;
+  unplaced = c.loop-left.invariant.unplaced ∙ ap (λ (h : DetachedView _ _). waiting_count (destination_of g.P.Inx.InxKey.packed_number) h.slots) (sym c.read_destinations-reads_ahead.ensures.held);
+}
 
 pub settle_round-left-requires-clause-lists : goal.settle_round-left-requires-clause-lists
 settle_round-left-requires-clause-lists g c = (here g c).lists
-
-pub settle_round-left-requires-clause-unplaced : goal.settle_round-left-requires-clause-unplaced
-settle_round-left-requires-clause-unplaced g c =
-    c.loop-left.invariant.unplaced ∙ ap (λ (h : DetachedView _ _). waiting_count (destination_of g.P.Inx.InxKey.packed_number) h.slots) (sym c.read_destinations-reads_ahead.ensures.held)
 
 pub loop-left-preserved : goal.loop-left-preserved
 loop-left-preserved g c =
@@ -73,18 +63,16 @@ loop-left-preserved g c =
     let now = c.loop-left.compactor in
     let was_read = c.read_destinations-reads_ahead.new.compactor in
     let next = c.settle_round-left.new.compactor in
-    let here = settle_reads target (Settles packed_number c.args.generation) c.args.start c.args.count c.loop-left.positions left old.held now.held was_read.held read.held inv.lists inv.settles inv.capacity inv.maximum in
+    let here = settle_reads target (Settles packed_number c.args.generation) c.args.start c.args.count c.loop-left.positions left old.held now.held was_read.held read.held inv.lists inv.settles inv.kept.capacity inv.kept.maximum in
     let waited = ap (λ (h : DetachedView _ _). waiting_count target h.slots) read.held in
     let work = subst (λ (h : DetachedView _ _). IsWorkOn was_read.arena.now next.arena.now (waiting_count target h.slots) (waiting_count target next.held.slots) (left - rest)) read.held round.work in
     record {
       settles = settling_joins target (Settles packed_number c.args.generation) (IsInBlock c.args.start c.args.count) old.held.slots was_read.held.slots next.held.slots here.settles round.settles;
       lists = round.lists;
-      capacity = capacity_then old was_read next here.capacity round.capacity;
-      maximum = maximum_then old was_read next here.maximum round.maximum;
+      kept = slots_on old was_read next (slots_on old now was_read inv.kept (slots_held now was_read read.held read.counts)) round.kept;
       work = rounds_continue old.arena.now now.arena.now was_read.arena.now next.arena.now (waiting_count target old.held.slots) (waiting_count target now.held.slots) (waiting_count target next.held.slots)
           (c.args.count - left) left (left - rest) (c.args.count - rest) rest inv.work read.work work (touches_round c.args.count left rest inv.lists.few round.fewer) (omega (arith, round.moved, waited));
       unplaced = round.unplaced;
-      counts = counts_on old was_read next (counts_on old now was_read inv.counts read.counts) round.counts;
     }
 
 pub loop-left-smaller : goal.loop-left-smaller
@@ -102,9 +90,7 @@ returns g c =
     record {
       settles = inv.settles;
       none = listing_ends target c.args.start c.args.count c.loop-left.positions c.loop-left.left (slot_at now.held.slots) inv.lists (none_left c.loop-left.left c.loop-left-test.false);
-      capacity = inv.capacity;
-      maximum = inv.maximum;
+      kept = inv.kept;
       work = rounds_stop c.args.compactor.now.arena.now now.arena.now _ _ (c.args.count - c.loop-left.left) c.args.count c.loop-left.left (omega arith) inv.work;
       unplaced = inv.unplaced;
-      counts = inv.counts;
     }

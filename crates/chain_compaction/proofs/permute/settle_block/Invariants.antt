@@ -1,7 +1,7 @@
 -- The moves so far, the positions that are left, and the work.
 use Rattle.std.proofs.Common.{◌≡◌, ◌+◌, ◌-◌}
 use Rattle.arena_traits.specs.Arena.{slot_at}
-use Rattle.chain_compaction.specs.WorkCounts.{CountsWork}
+use Rattle.chain_compaction.specs.WorkCounts.{ChangesOnlySlots}
 use Rattle.chain_compaction.specs.Permutations.{IsInBlock, IsSettling, ListsWaiting, waiting_count, Settles, IsWorkInRounds}
 use Rattle.chain_compaction.proofs.permute.settle_block.Given as goal
 use Rattle.chain_links.specs.Links.{destination_of}
@@ -12,11 +12,9 @@ invariant-loop-left g l =
     record {
       settles : IsSettling (destination_of packed_number) (Settles packed_number l.generation) (IsInBlock l.start l.count) l.fn.compactor.held.slots l.compactor.held.slots;
       lists : ListsWaiting (destination_of packed_number) l.start l.count l.positions l.left (slot_at l.compactor.held.slots);
-      capacity : l.compactor.held.stack_capacity ≡ l.fn.compactor.held.stack_capacity;
-      maximum : l.compactor.held.maximum ≡ l.fn.compactor.held.maximum;
+      kept : ChangesOnlySlots l.fn.compactor l.compactor;
       work : IsWorkInRounds l.fn.compactor.arena.now l.compactor.arena.now (waiting_count (destination_of packed_number) l.fn.compactor.held.slots) (waiting_count (destination_of packed_number) l.compactor.held.slots) (l.count - l.left) l.left;
       unplaced : l.unplaced ≡ waiting_count (destination_of packed_number) l.compactor.held.slots;
-      counts : CountsWork l.fn.compactor l.compactor;
     }
 
 abbrev pub decreases-loop-left : goal.decreases-loop-left

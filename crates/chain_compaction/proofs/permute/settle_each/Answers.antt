@@ -5,11 +5,10 @@ use Rattle.chain_compaction.specs.Permutations.{IsInBlock, ListsWaiting, waiting
 use Rattle.chain_compaction.proofs.BlockTurnLemmas.{listing_skips, listing_grows, touches_add, touches_skip, next_in_block, below_64}
 use Rattle.chain_compaction.proofs.PermutationStepLemmas.{settling_continues}
 use Rattle.chain_compaction.proofs.PermutationLoopLemmas.{work_on-after}
-use Rattle.chain_compaction.proofs.LinkLoanLemmas.{capacity_then, maximum_then}
 use Rattle.chain_compaction.proofs.permute.settle_each.Goals as goal
 use Rattle.chain_compaction.proofs.permute.settle_each.Goals.{then-settle_once, else-settle_once}
 use Rattle.chain_links.specs.Links.{destination_of}
-use Rattle.chain_compaction.proofs.WorkCountLemmas.{counts_on}
+use Rattle.chain_compaction.proofs.WorkCountLemmas.{slots_on}
 
 pub loop-k-preserved : goal.loop-k-preserved
 loop-k-preserved g c =
@@ -25,7 +24,7 @@ loop-k-preserved g c =
     let now = c.loop-k.compactor in
     let next = c.settle_once.new.compactor in
     let inside = next_in_block c.args.start c.args.count k i c.inx_at.ensures c.loop-k-test.true in
-    let low = below_64 k c.args.count c.loop-k-test.true c.requires.count in
+    let low = below_64 k c.args.count c.loop-k-test.true c.requires.few in
     let worked = λ (more all : ℕ) (further : IsWorkOn now.arena.now next.arena.now (waiting_count target now.held.slots) (waiting_count target next.held.slots) more). work_on-after old.arena.now now.arena.now next.arena.now
     (waiting_count target old.held.slots) (waiting_count target now.held.slots) (waiting_count target next.held.slots) (k - left) more all inv.work further in
     let skips = λ (is : c.settle_once.result ≡ false). listing_skips target c.args.start positions k left i (slot_at now.held.slots) (slot_at next.held.slots) inv.lists c.inx_at.ensures step.settles.stays
@@ -43,17 +42,29 @@ loop-k-preserved g c =
         | then-settle_once w ↦ omega (arith, inv.moved, w.left-is, rw w.if-settle_once.true at step.fewer)
         | else-settle_once w ↦ omega (arith, inv.moved, w.left-is, step.work.count)
       ];
-      capacity = capacity_then old now next inv.capacity step.capacity;
-      maximum = maximum_then old now next inv.maximum step.maximum;
+      kept = slots_on old now next inv.kept step.kept;
       work = elim c.if-settle_once.branch [
         | then-settle_once w ↦ worked 0 ((k + 1) - c.if-settle_once.left) (rw w.if-settle_once.true at step.work) (touches_add k left ∙ ap (λ (l : ℕ). (k + 1) - l) (sym w.left-is))
         | else-settle_once w ↦ worked 1 ((k + 1) - c.if-settle_once.left) (rw w.if-settle_once.false at step.work) (touches_skip k left inv.lists.few ∙ ap (λ (l : ℕ). (k + 1) - l) (sym w.left-is))
       ];
       unplaced = step.unplaced;
-      counts = counts_on old now next inv.counts step.counts;
     }
 
-pub returns-clause-lists : goal.returns-clause-lists
-returns-clause-lists g c =
+pub returns : goal.returns
+returns g c =
     let all : c.loop-k.k ≡ c.args.count = omega arith in
-    subst (λ (n : ℕ). ListsWaiting (destination_of g.P.Inx.InxKey.packed_number) c.args.start n c.loop-k.positions c.loop-k.left (slot_at c.loop-k.compactor.held.slots)) all c.loop-k.invariant.lists
+    let packed_number = g.P.Inx.InxKey.packed_number in
+    let target = destination_of packed_number in
+    let inv = c.loop-k.invariant in
+    let old = c.args.compactor.now in
+    let now = c.loop-k.compactor in
+    let lists = subst (λ (n : ℕ). ListsWaiting target c.args.start n c.loop-k.positions c.loop-k.left (slot_at now.held.slots)) all inv.lists in
+    record {
+      settles = inv.settles;
+      lists = lists;
+      fewer = lists.few;
+      moved = inv.moved;
+      kept = inv.kept;
+      work = subst (λ (n : ℕ). IsWorkOn old.arena.now now.arena.now (waiting_count target old.held.slots) (waiting_count target now.held.slots) (n - c.loop-k.left)) all inv.work;
+      unplaced = inv.unplaced;
+    }

@@ -1,7 +1,7 @@
 -- The moves so far, the list of the slots at which a link may still wait, and the work.
 use Rattle.std.proofs.Common.{◌≡◌, ◌≤◌, ◌+◌, ◌-◌}
 use Rattle.arena_traits.specs.Arena.{slot_at}
-use Rattle.chain_compaction.specs.WorkCounts.{CountsWork}
+use Rattle.chain_compaction.specs.WorkCounts.{ChangesOnlySlots}
 use Rattle.chain_compaction.specs.Permutations.{IsInBlock, IsSettling, ListsWaiting, waiting_count, Settles, IsWorkOn}
 use Rattle.chain_compaction.proofs.permute.settle_each.Given as goal
 use Rattle.chain_links.specs.Links.{destination_of}
@@ -13,9 +13,7 @@ invariant-loop-k g l =
       settles : IsSettling (destination_of packed_number) (Settles packed_number l.generation) (IsInBlock l.start l.count) l.fn.compactor.held.slots l.compactor.held.slots;
       lists : ListsWaiting (destination_of packed_number) l.start l.k l.positions l.left (slot_at l.compactor.held.slots);
       moved : l.left + waiting_count (destination_of packed_number) l.compactor.held.slots ≤ waiting_count (destination_of packed_number) l.fn.compactor.held.slots;
-      capacity : l.compactor.held.stack_capacity ≡ l.fn.compactor.held.stack_capacity;
-      maximum : l.compactor.held.maximum ≡ l.fn.compactor.held.maximum;
+      kept : ChangesOnlySlots l.fn.compactor l.compactor;
       work : IsWorkOn l.fn.compactor.arena.now l.compactor.arena.now (waiting_count (destination_of packed_number) l.fn.compactor.held.slots) (waiting_count (destination_of packed_number) l.compactor.held.slots) (l.k - l.left);
       unplaced : l.unplaced ≡ waiting_count (destination_of packed_number) l.compactor.held.slots;
-      counts : CountsWork l.fn.compactor l.compactor;
     }

@@ -7,7 +7,7 @@ use Rattle.arena_base.specs.DetachedSlots.{with_placed_entry}
 use Rattle.chain_compaction.specs.Permutations.{Waits, IsSettling, waiting_count, Settles, IsWorkOn}
 use Rattle.chain_compaction.proofs.PermutationStepLemmas.{settling_begins, from_within, to_within, entry_there, one_less_after, settles_after, fewer_after, none_after, capacity_after, maximum_after, none_waits}
 use Rattle.chain_compaction.proofs.PermutationLoopLemmas.{work_on-moves, work_on-reads, work_on-either}
-use Rattle.chain_compaction.proofs.WorkCountLemmas.{counts_place, counts_on}
+use Rattle.chain_compaction.proofs.WorkCountLemmas.{counts_place, counts_on, slots_held}
 use Rattle.chain_compaction.proofs.permute.settle_once.Given.{Over}
 use Rattle.chain_compaction.proofs.permute.settle_once.Goals.{In-Some}
 use Rattle.chain_compaction.proofs.permute.settle_once.Goals as goal
@@ -64,13 +64,15 @@ returns-in-Some g c =
       none = none_after packed_number c.args.generation i d old.held placed.held after.held is c.requires.within moved emptied.directed (not c.is_same.result)
           (λ is. ap g.P.Inx.InxKey.number ((g.met.P.Inx.InxKey.same_is_equal c.in-Some.to c.args.i).0 (sym c.is_same.ensures ∙ not_false c.is_same.result is)));
       fewer = fewer_after packed_number c.args.generation i d old.held placed.held after.held is c.requires.within moved emptied.directed (not c.is_same.result);
-      capacity = capacity_after packed_number c.args.generation i d old.held placed.held after.held is c.requires.within moved emptied.directed;
-      maximum = maximum_after packed_number c.args.generation i d old.held placed.held after.held is c.requires.within moved emptied.directed;
+      kept = record {
+        capacity = capacity_after packed_number c.args.generation i d old.held placed.held after.held is c.requires.within moved emptied.directed;
+        maximum = maximum_after packed_number c.args.generation i d old.held placed.held after.held is c.requires.within moved emptied.directed;
+        counts = counts_on old placed after (counts_on old read placed was_read.counts
+            (counts_place read placed c.place.ensures.same_reference c.place.ensures.arena c.place.ensures.placed c.place.ensures.touched)) emptied.touched.counts;
+      };
       work = work_on-either old.arena.now after.arena.now (waiting_count target old.held.slots) (waiting_count target after.held.slots) (not c.is_same.result)
-          (work_on-moves old.arena.now read.arena.now placed.arena.now after.arena.now (waiting_count target old.held.slots) (waiting_count target after.held.slots) was_read.arena c.place.ensures.arena emptied.arena less);
+          (work_on-moves old.arena.now read.arena.now placed.arena.now after.arena.now (waiting_count target old.held.slots) (waiting_count target after.held.slots) was_read.arena c.place.ensures.arena emptied.touched.arena less);
       unplaced = omega (arith, c.requires.unplaced, less);
-      counts = counts_on old placed after (counts_on old read placed was_read.counts
-          (counts_place read placed c.place.ensures.same_reference c.place.ensures.arena c.place.ensures.placed c.place.ensures.touched)) emptied.counts;
     }
 
 pub returns-in-None : goal.returns-in-None
@@ -89,9 +91,7 @@ returns-in-None g c =
       none = subst (λ s. (d : ℕ) (e : _) → Waits target (slot_at s) i e d → ⊥) (sym slots)
           (none_waits target old.held.slots i (sym (ap (option_map g.P.Inx.InxKey.number) c.in-None.is) ∙ read.destination));
       fewer = tt;
-      capacity = λ j. (kept j).stack_capacity;
-      maximum = λ j. (kept j).maximum;
+      kept = slots_held old after kept read.was_read.counts;
       work = subst (λ s. IsWorkOn old.arena.now after.arena.now (waiting_count target old.held.slots) (waiting_count target s) 1) (sym slots) (work_on-reads old.arena.now after.arena.now (waiting_count target old.held.slots) read.was_read.arena);
       unplaced = c.requires.unplaced ∙ ap (waiting_count target) (sym slots);
-      counts = read.was_read.counts;
     }

@@ -1,12 +1,11 @@
 -- `settle_round` moves one more link of the block, or shortens the list of its positions.
-use Rattle.std.proofs.Common.{◌+◌, ◌-◌, length, slice_index, refl, subst, arith}
+use Rattle.std.proofs.Common.{◌+◌, ◌-◌, length, slice_index, subst, arith}
 use Rattle.arena_traits.specs.Arena.{slot_at}
 use Rattle.chain_compaction.specs.Permutations.{IsInBlock, waiting_count, Settles, IsWorkOn}
 use Rattle.chain_compaction.proofs.BlockTurnLemmas.{turn_in_block, listing_stays, listing_shrinks, sum_decreases-moved, sum_decreases-shortened, touches_stay, touches_continue, none_more, one_less_left, below_bound, turn_within}
 use Rattle.chain_compaction.proofs.PermutationStepLemmas.{settling_begins, settling_continues}
 use Rattle.chain_compaction.proofs.PermutationLoopLemmas.{work_on-begins, work_on-after}
-use Rattle.chain_compaction.proofs.LinkLoanLemmas.{capacity_then, maximum_then}
-use Rattle.chain_compaction.proofs.WorkCountLemmas.{counts_none, counts_on}
+use Rattle.chain_compaction.proofs.WorkCountLemmas.{slots_stay, slots_on}
 use Rattle.chain_compaction.proofs.permute.settle_round.Goals as goal
 use Rattle.chain_links.specs.Links.{destination_of}
 
@@ -21,26 +20,21 @@ loop-turn-init g c =
       few = omega arith;
       reached = omega arith;
       moved = omega arith;
-      capacity = refl;
-      maximum = refl;
+      kept = slots_stay now;
       work = subst (IsWorkOn now.arena.now now.arena.now (waiting_count target now.held.slots) (waiting_count target now.held.slots)) (none_more c.args.left) (work_on-begins now.arena.now (waiting_count target now.held.slots));
-      unplaced = c.requires.unplaced;
-      counts = counts_none now;
+      unplaced = c.requires.can.unplaced;
     }
 
 pub bounds-positions-turn : goal.bounds-positions-turn
-bounds-positions-turn g c = turn_within c.loop-turn.turn c.loop-turn.rest c.args.count c.loop-turn-test.true c.loop-turn.invariant.lists.few c.requires.count
+bounds-positions-turn g c = turn_within c.loop-turn.turn c.loop-turn.rest c.args.count c.loop-turn-test.true c.loop-turn.invariant.lists.few c.requires.can.few
 
 pub inx_at-requires : goal.inx_at-requires
 inx_at-requires g c =
     let within = c.loop-turn.invariant.lists.within c.loop-turn.turn c.loop-turn-test.true in
-    below_bound (slice_index c.loop-turn.positions c.loop-turn.turn) (c.args.start + c.args.count) (length c.args.compactor.now.held.slots) g.P.Inx.InxKey.greatest within.1 c.requires.block c.requires.fits
+    below_bound (slice_index c.loop-turn.positions c.loop-turn.turn) (c.args.start + c.args.count) (length c.args.compactor.now.held.slots) g.P.Inx.InxKey.greatest within.1 c.requires.can.block c.requires.can.fits
 
-pub settle_once-requires-clause-within : goal.settle_once-requires-clause-within
-settle_once-requires-clause-within g c = c.loop-turn.invariant.settles.within c.requires.within
-
-pub settle_once-requires-clause-unplaced : goal.settle_once-requires-clause-unplaced
-settle_once-requires-clause-unplaced g c = c.loop-turn.invariant.unplaced
+pub settle_once-requires : goal.settle_once-requires
+settle_once-requires g c = record { within = c.loop-turn.invariant.settles.within c.requires.can.within; unplaced = c.loop-turn.invariant.unplaced }
 
 pub loop-turn-preserved-then-settle_once : goal.loop-turn-preserved-then-settle_once
 loop-turn-preserved-then-settle_once g c =
@@ -61,12 +55,10 @@ loop-turn-preserved-then-settle_once g c =
       few = omega (arith, inv.few);
       reached = omega (arith, inv.reached, c.loop-turn-test.true);
       moved = omega (arith, inv.moved, step.fewer);
-      capacity = capacity_then old now next inv.capacity step.capacity;
-      maximum = maximum_then old now next inv.maximum step.maximum;
+      kept = slots_on old now next inv.kept step.kept;
       work = work_on-after old.arena.now now.arena.now next.arena.now (waiting_count target old.held.slots) (waiting_count target now.held.slots) (waiting_count target next.held.slots)
           (c.args.left - rest) 0 (c.args.left - rest) inv.work step.work (touches_stay c.args.left rest);
       unplaced = step.unplaced;
-      counts = counts_on old now next inv.counts step.counts;
     }
 
 pub loop-turn-preserved : goal.loop-turn-preserved
@@ -85,16 +77,14 @@ loop-turn-preserved g c =
     record {
       settles = settling_continues target (Settles packed_number c.args.generation) (IsInBlock c.args.start c.args.count) i old.held.slots now.held.slots next.held.slots inside inv.settles step.settles;
       lists = listing_shrinks target c.args.start c.args.count c.loop-turn.positions rest turn i (slot_at now.held.slots) (slot_at next.held.slots) inv.lists c.loop-turn-test.true c.inx_at.ensures step.settles.stays
-          (rest - 1) (one_less_left rest (omega (arith, c.loop-turn-test.true))) c.requires.count step.none;
+          (rest - 1) (one_less_left rest (omega (arith, c.loop-turn-test.true))) c.requires.can.few step.none;
       few = omega (arith, inv.few);
       reached = omega (arith, inv.reached, c.loop-turn-test.true);
       moved = omega (arith, inv.moved, step.work.count);
-      capacity = capacity_then old now next inv.capacity step.capacity;
-      maximum = maximum_then old now next inv.maximum step.maximum;
+      kept = slots_on old now next inv.kept step.kept;
       work = work_on-after old.arena.now now.arena.now next.arena.now (waiting_count target old.held.slots) (waiting_count target now.held.slots) (waiting_count target next.held.slots)
           (c.args.left - rest) 1 (c.args.left - (rest - 1)) inv.work step.work (touches_continue c.args.left rest (omega (arith, c.loop-turn-test.true)) inv.few);
       unplaced = step.unplaced;
-      counts = counts_on old now next inv.counts step.counts;
     }
 
 pub loop-turn-smaller-then-settle_once : goal.loop-turn-smaller-then-settle_once
@@ -116,9 +106,7 @@ returns g c =
       lists = inv.lists;
       fewer = inv.few;
       moved = omega (arith, inv.moved, inv.reached, c.loop-turn-test.false);
-      capacity = inv.capacity;
-      maximum = inv.maximum;
+      kept = inv.kept;
       work = inv.work;
       unplaced = inv.unplaced;
-      counts = inv.counts;
     }

@@ -1,7 +1,7 @@
 -- The moves so far, the positions that are left, and the work.
 use Rattle.std.proofs.Common.{◌≡◌, ◌≤◌, ◌+◌, ◌-◌}
 use Rattle.arena_traits.specs.Arena.{slot_at}
-use Rattle.chain_compaction.specs.WorkCounts.{CountsWork}
+use Rattle.chain_compaction.specs.WorkCounts.{ChangesOnlySlots}
 use Rattle.chain_compaction.specs.Permutations.{IsInBlock, IsSettling, ListsWaiting, waiting_count, Settles, IsWorkOn}
 use Rattle.chain_compaction.proofs.permute.settle_round.Given as goal
 use Rattle.chain_links.specs.Links.{destination_of}
@@ -15,11 +15,9 @@ invariant-loop-turn g l =
       few : l.rest ≤ l.left;
       reached : l.turn ≤ l.rest;
       moved : l.turn + waiting_count (destination_of packed_number) l.compactor.held.slots ≤ waiting_count (destination_of packed_number) l.fn.compactor.held.slots;
-      capacity : l.compactor.held.stack_capacity ≡ l.fn.compactor.held.stack_capacity;
-      maximum : l.compactor.held.maximum ≡ l.fn.compactor.held.maximum;
+      kept : ChangesOnlySlots l.fn.compactor l.compactor;
       work : IsWorkOn l.fn.compactor.arena.now l.compactor.arena.now (waiting_count (destination_of packed_number) l.fn.compactor.held.slots) (waiting_count (destination_of packed_number) l.compactor.held.slots) (l.left - l.rest);
       unplaced : l.unplaced ≡ waiting_count (destination_of packed_number) l.compactor.held.slots;
-      counts : CountsWork l.fn.compactor l.compactor;
     }
 
 abbrev pub decreases-loop-turn : goal.decreases-loop-turn

@@ -19,8 +19,7 @@ returns-in-Some g c =
     record {
       relinked = links_both g.P.Inx.InxKey.packed_number i (option_map number c.args.prev) (option_map number c.args.next) (Some (number c.args.destination)) old.held new.held link before after left wrote.stored wrote.held
           c.set_prev.ensures.prev c.set_prev.ensures.rest c.set_next.ensures.next c.set_next.ensures.rest c.set_destination.ensures.destination c.set_destination.ensures.rest;
-      arena = wrote.arena;
-      counts = wrote.counts;
+      touched = record { arena = wrote.arena; counts = wrote.counts };
     }
 
 pub returns-in-None : goal.returns-in-None
@@ -32,6 +31,5 @@ returns-in-None g c =
     let kept = lent_none old new i c.value_mut.result c.in-None.is c.value_mut.ensures.value c.value_mut.follows.holds-at-none in
     record {
       relinked = links_none g.P.Inx.InxKey.packed_number i (option_map number c.args.prev) (option_map number c.args.next) (Some (number c.args.destination)) old.held new.held kept.held kept.none;
-      arena = kept.arena;
-      counts = kept.counts;
+      touched = record { arena = kept.arena; counts = kept.counts };
     }

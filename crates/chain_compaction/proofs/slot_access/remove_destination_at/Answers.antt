@@ -15,6 +15,5 @@ returns g c =
     let wrote = lent old new i c.value_mut.result c.in-Some.link left c.in-Some.is c.value_mut.ensures.value (c.value_mut.follows.holds left) in
     record {
       directed = directs g.P.Inx.InxKey.packed_number i None old.held new.held link left wrote.stored wrote.held sets.destination sets.rest;
-      arena = wrote.arena;
-      counts = wrote.counts;
+      touched = record { arena = wrote.arena; counts = wrote.counts };
     }
