@@ -12,6 +12,10 @@ abbrev pub item_at : {X : Type 0} → List X → ℕ → Option X
 item_at items zero = None
 item_at items (suc k) = slice_get items k
 
+-- A stack keeps its capacity and its maximum.
+abbrev pub KeepsBounds : {S : Type 0} → (S → ℕ) → (S → Option ℕ) → S → S → Type 0
+KeepsBounds capacity maximum old new = (capacity new ≡ capacity old) × (maximum new ≡ maximum old)
+
 module _ {P T Inx Gen Word : Type 0} where
   -- The entry of a slot.
   abbrev pub entry_of : ArenaSlot P T Inx Gen Word → Option (Gen × T)

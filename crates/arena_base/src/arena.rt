@@ -1,13 +1,14 @@
 // The generational arena and its inherent functions.
-ghost use Rattle.std.specs.Prelude.{◌≡◌, [], min, ◌<◌, ◌≤◌, ◌+◌, ◌↔◌, IsTrue, IsSome, IfSome, IfNone, IsErr, IfOk, IsOk, OnOk, OnErr, Some, None, Ok, Err, length, drop, take, slice_index_or, map, ◌^◌};
+ghost use Rattle.std.specs.Prelude.{◌≡◌, [], min, ◌<◌, ◌≤◌, ◌+◌, ◌↔◌, IsTrue, IsSome, IfSome, IfNone, OnErr, Some, None, length, drop, take, slice_index_or, map, ◌^◌};
 ghost use Rattle.std.specs.Option.{option_map};
 ghost use Rattle.arena_core.specs.SlotStack.{IsBeyond};
 ghost use Rattle.arena_core.specs.Invalidation.{invalidation_option, invalidation_result};
 ghost use Rattle.arena_base.specs.Slots.{entry_of, ThreadsFreeList};
+ghost use Rattle.arena_base.specs.Growths.{GrowsArenaFor, GrowsArenaForOneMore, InsertsGrowing, InsertsIfFree};
 ghost use Rattle.arena_traits.specs.Entries.{entries, entries_from, key_at, first_key, last_key, IsNextEntry};
 ghost use Rattle.arena_traits.specs.Advancers.{ahead};
 ghost use Rattle.arena_base.specs.DetachedSlots.{held_of, arena_without_slots, arena_after_return, IsPacked, with_placement, with_touch};
-ghost use Rattle.arena_traits.specs.Arena.{entry_at, entry_count, next_index, insert_next, remove_at, invalidate_at, with_counter, with_capacity_of, with_maximum, new_arena, HasCapacityFor, ReachesCapacity, IsWithinReach};
+ghost use Rattle.arena_traits.specs.Arena.{entry_at, entry_count, next_index, insert_next, remove_at, invalidate_at, with_counter, with_maximum, new_arena, HasCapacityFor};
 
 use crate::detached_slots::DetachedSlots;
 use crate::free_list::{relist, trim};
@@ -126,9 +127,7 @@ impl<P: PtrKey, T: Drop, S: SlotStack<Item = ArenaSlot<P, T>>> Arena<P, T, S> {
     /// `NotWithinCapacityError`: there are as many entries as the capacity. Nothing changes then,
     /// and the value is dropped.
     pub fn insert_within_capacity(&mut self, t: T) -> Result<P, NotWithinCapacityError>
-        ensures refused { IsErr result ↔ (entry_count self.old ≡ self.old.capacity) }
-        ensures ptr { IfOk result (λ p. P.key p ≡ (next_index self.old, self.old.counter)) }
-        ensures ok { OnOk result (self.new ≡ insert_next self.old t) }
+        ensures outcome { InsertsIfFree P.key self.old t result self.new }
         ensures err { OnErr result (self.new ≡ self.old) }
     {
         if self.is_full() {
@@ -149,17 +148,9 @@ impl<P: PtrKey, T: Drop, S: SlotStack<Item = ArenaSlot<P, T>>> Arena<P, T, S> {
     ///
     /// Nothing changes on error, and the value is dropped.
     pub fn insert_reallocating(&mut self, t: T) -> Result<P, ReallocationError>
-        ensures ptr { IfOk result (λ p. P.key p ≡ (next_index self.old, self.old.counter)) }
-        ensures ok { OnOk result (self.new ≡ with_capacity_of (insert_next self.old t) self.new) }
-        ensures grown { OnOk result (ReachesCapacity S.may_reach P.Inx.greatest
-            (entry_count self.old + 1) self.old self.new) }
+        ensures outcome { InsertsGrowing S.may_reach P.Inx.greatest P.key self.old t result
+            self.new }
         ensures err { OnErr result (self.new ≡ self.old) }
-        ensures within_capacity { entry_count self.old < self.old.capacity
-            → IsOk result × (self.new ≡ insert_next self.old t) }
-        ensures beyond { (result ≡ Err ReallocationError.BeyondMaxCapacity) ↔
-            ((entry_count self.old ≡ self.old.capacity) × IsBeyond self.old.maximum
-            (entry_count self.old + 1)) }
-        ensures greatest { entry_count self.old ≡ P.Inx.greatest → IsErr result }
     {
         match self.grow_if_full() {
             Ok(()) => Ok(self.insert_here(t)),
@@ -169,17 +160,9 @@ impl<P: PtrKey, T: Drop, S: SlotStack<Item = ArenaSlot<P, T>>> Arena<P, T, S> {
 
     // Grows a full arena to a capacity for one more entry.
     fn grow_if_full(&mut self) -> Result<(), ReallocationError>
-        ensures within_capacity { entry_count self.old < self.old.capacity
-            → IsOk result × (self.new ≡ self.old) }
-        ensures beyond { (result ≡ Err ReallocationError.BeyondMaxCapacity) ↔
-            ((entry_count self.old ≡ self.old.capacity) × IsBeyond self.old.maximum
-            (entry_count self.old + 1)) }
-        ensures greatest { entry_count self.old ≡ P.Inx.greatest → IsErr result }
-        ensures ok { OnOk result (ReachesCapacity S.may_reach P.Inx.greatest
-            (entry_count self.old + 1)
-            self.old self.new) }
+        ensures outcome { GrowsArenaForOneMore S.may_reach P.Inx.greatest self.old result
+            self.new }
         ensures err { OnErr result (self.new ≡ self.old) }
-        ensures after { self.new ≡ with_capacity_of self.old self.new }
     {
         if self.is_full() {
             self.grow_to(self.len + 1)
@@ -201,14 +184,8 @@ impl<P: PtrKey, T: Drop, S: SlotStack<Item = ArenaSlot<P, T>>> Arena<P, T, S> {
     #[cold]
     #[inline(never)]
     pub(crate) fn grow_to(&mut self, n: usize) -> Result<(), ReallocationError>
-        ensures beyond { (result ≡ Err ReallocationError.BeyondMaxCapacity)
-            ↔ IsBeyond self.old.maximum n }
-        ensures greatest { P.Inx.greatest < n → IsErr result }
-        ensures ok { OnOk result (ReachesCapacity S.may_reach P.Inx.greatest n self.old self.new) }
-        ensures reached { IsWithinReach S.may_reach n self.old self.new }
+        ensures outcome { GrowsArenaFor S.may_reach P.Inx.greatest n self.old result self.new }
         ensures err { OnErr result (self.new ≡ self.old) }
-        ensures after { self.new ≡ with_capacity_of self.old self.new }
-        ensures never_less { self.old.capacity ≤ self.new.capacity }
     {
         if n > P::Inx::greatest() {
             return Err(refusal(self.slots.max_capacity(), n));

@@ -2,7 +2,7 @@
 ghost use Rattle.std.specs.Prelude.{◌≡◌, ◌≤◌, ◌↔◌, ◌⊎◌, [], map, length, IsOk, OnOk, OnErr, Err};
 ghost use Rattle.arena_core.specs.SlotStack.{IsBeyond};
 ghost use Rattle.arena_traits.specs.Arena.{HasCapacityFor, IsWithinReach};
-ghost use Rattle.arena_base.specs.Slots.{entry_of, without_values};
+ghost use Rattle.arena_base.specs.Slots.{entry_of, without_values, KeepsBounds};
 ghost use Rattle.arena_traits.specs.Entries.{entries, entries_from};
 ghost use Rattle.arena_base.specs.Copies.{CopiesBy, HasRefusable, HasSlotsOf, IsAbandonedCopy};
 
@@ -54,8 +54,7 @@ fn copy_slots<
         (CopiesBy M.makes P.key values (entries_from 1 (map entry_of (S1.items source.now)))
         (entries_from 1 (map entry_of (S.items slots.new))) result.1) }
     ensures ready { OnOk result.0 (M.is_ready result.1) }
-    ensures capacity { S.capacity slots.new ≡ S.capacity slots.old }
-    ensures maximum { S.maximum slots.new ≡ S.maximum slots.old }
+    ensures bounds { KeepsBounds S.capacity S.maximum slots.old slots.new }
     ensures refused { OnErr result.0
         (HasRefusable M.may_refuse P.key (entries_from 1 (map entry_of (S1.items source.now)))) }
 {

@@ -1,6 +1,6 @@
 // Rebuilding of the freed list after entries were moved.
 ghost use Rattle.std.specs.Prelude.{◌≡◌, ◌≤◌, map, length};
-ghost use Rattle.arena_base.specs.Slots.{entry_of, IsSound};
+ghost use Rattle.arena_base.specs.Slots.{entry_of, IsSound, KeepsBounds};
 ghost use Rattle.arena_base.specs.DetachedSlots.{without_free_end, free_from};
 
 use crate::slot::{ArenaSlot, PackedInx, is_free_at, list_at};
@@ -11,8 +11,7 @@ pub(crate) fn trim<P: PtrKey, T: Drop, S: SlotStack<Item = ArenaSlot<P, T>>>(slo
     ensures items { map entry_of (S.items slots.new)
         ≡ without_free_end (map entry_of (S.items slots.old)) }
     ensures length { length (S.items slots.new) ≤ length (S.items slots.old) }
-    ensures capacity { S.capacity slots.new ≡ S.capacity slots.old }
-    ensures maximum { S.maximum slots.new ≡ S.maximum slots.old }
+    ensures bounds { KeepsBounds S.capacity S.maximum slots.old slots.new }
 {
     let mut count = slots.len();
     while count > 0 && is_free_at::<P, T, S>(slots, count - 1) {
@@ -29,8 +28,7 @@ pub(crate) fn relist<P: PtrKey, T: Drop, S: SlotStack<Item = ArenaSlot<P, T>>>(
     ensures entries { map entry_of (S.items slots.new) ≡ map entry_of (S.items slots.old) }
     ensures sound { IsSound P.Inx.packed_number (S.items slots.new) P.Inx.greatest result.0 result.1
         (free_from 1 (map entry_of (S.items slots.old))) }
-    ensures capacity { S.capacity slots.new ≡ S.capacity slots.old }
-    ensures maximum { S.maximum slots.new ≡ S.maximum slots.old }
+    ensures bounds { KeepsBounds S.capacity S.maximum slots.old slots.new }
 {
     let mut len = 0;
     let mut head = P::Inx::pack(None);

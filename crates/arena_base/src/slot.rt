@@ -2,7 +2,7 @@
 ghost use Rattle.std.specs.Prelude.{◌≡◌, ◌+◌, ◌<◌, length, slice_get, slice_set, Some, None, OnSome, IfNone, is_none};
 ghost use Rattle.std.specs.Option.{option_map, option_copied_mut};
 ghost use Rattle.std.specs.Borrow.{LendsIf, sem};
-ghost use Rattle.arena_base.specs.Slots.{entry_of, entry_in, with_value_in, with_generation_in, with_generation_at, IsFree, free_slot, allocated_slot, freed_slot};
+ghost use Rattle.arena_base.specs.Slots.{entry_of, entry_in, with_value_in, with_generation_in, with_generation_at, IsFree, free_slot, allocated_slot, freed_slot, KeepsBounds};
 
 use arena_core::{InxKey, PackedOption, PtrKey, SlotStack};
 use arena_traits::proved_unreachable;
@@ -104,8 +104,7 @@ pub(crate) fn fill<P: PtrKey, T: Drop, S: SlotStack<Item = ArenaSlot<P, T>>>(
     ensures was { slice_get (S.items slots.old) k ≡ Some (free_slot result) }
     ensures items { S.items slots.new ≡ slice_set (S.items slots.old) k
         (allocated_slot generation t) }
-    ensures capacity { S.capacity slots.new ≡ S.capacity slots.old }
-    ensures maximum { S.maximum slots.new ≡ S.maximum slots.old }
+    ensures bounds { KeepsBounds S.capacity S.maximum slots.old slots.new }
 {
     match slots.get_mut(k) {
         Some(slot) => {
@@ -131,8 +130,7 @@ pub(crate) fn vacate_at<P: PtrKey, T: Drop, S: SlotStack<Item = ArenaSlot<P, T>>
     ensures some { OnSome result (S.items slots.new ≡ slice_set (S.items slots.old) k
         (free_slot next)) }
     ensures none { IfNone result (S.items slots.new ≡ S.items slots.old) }
-    ensures capacity { S.capacity slots.new ≡ S.capacity slots.old }
-    ensures maximum { S.maximum slots.new ≡ S.maximum slots.old }
+    ensures bounds { KeepsBounds S.capacity S.maximum slots.old slots.new }
 {
     match slots.get_mut(k) {
         Some(slot) => slot.vacate(next),
@@ -150,8 +148,7 @@ pub(crate) fn put_at<P: PtrKey, T: Drop, S: SlotStack<Item = ArenaSlot<P, T>>>(
     requires { k < length (S.items slots.old) }
     ensures items { S.items slots.new ≡ slice_set (S.items slots.old) k
         (allocated_slot generation t) }
-    ensures capacity { S.capacity slots.new ≡ S.capacity slots.old }
-    ensures maximum { S.maximum slots.new ≡ S.maximum slots.old }
+    ensures bounds { KeepsBounds S.capacity S.maximum slots.old slots.new }
 {
     match slots.get_mut(k) {
         Some(slot) => {
@@ -168,8 +165,7 @@ pub(crate) fn regenerate_at<P: PtrKey, T: Drop, S: SlotStack<Item = ArenaSlot<P,
     generation: P::Gen,
 )
     ensures items { S.items slots.new ≡ with_generation_at (S.items slots.old) k generation }
-    ensures capacity { S.capacity slots.new ≡ S.capacity slots.old }
-    ensures maximum { S.maximum slots.new ≡ S.maximum slots.old }
+    ensures bounds { KeepsBounds S.capacity S.maximum slots.old slots.new }
 {
     match slots.get_mut(k) {
         Some(slot) => slot.set_generation(generation),
@@ -201,8 +197,7 @@ pub(crate) fn list_at<P: PtrKey, T: Drop, S: SlotStack<Item = ArenaSlot<P, T>>>(
     requires fits { k < P.Inx.greatest }
     ensures index { P.Inx.packed_number result ≡ Some (k + 1) }
     ensures items { S.items slots.new ≡ slice_set (S.items slots.old) k (free_slot next) }
-    ensures capacity { S.capacity slots.new ≡ S.capacity slots.old }
-    ensures maximum { S.maximum slots.new ≡ S.maximum slots.old }
+    ensures bounds { KeepsBounds S.capacity S.maximum slots.old slots.new }
 {
     match slots.get_mut(k) {
         Some(slot) => {

@@ -4,3 +4,4 @@ pub mod Advancers
 pub mod AdvancerLaws
 pub mod EntryLaws
 pub mod Compressions
+pub mod Growth

@@ -44,8 +44,7 @@ returns g c =
       alike = copied_alike g.M.ValueMap.makes g.P.PtrKey.key c.args.values old c.loop-k.k c.loop-k.values slots at.copying (omega arith);
       copies = copied_all g.M.ValueMap.makes g.P.PtrKey.key c.args.values old c.loop-k.k c.loop-k.values slots at.copying (omega arith);
       ready = at.ready;
-      capacity = at.capacity;
-      maximum = at.most;
+      bounds = (at.capacity, at.most);
       refused = tt;
     }
 
@@ -56,8 +55,7 @@ returns-in-Err g c =
       alike = tt;
       copies = tt;
       ready = tt;
-      capacity = at.capacity;
-      maximum = at.most;
+      bounds = (at.capacity, at.most);
       refused =
           copying_refused g.M.ValueMap.makes g.P.PtrKey.key c.args.values (g.S1.SlotStack.items c.args.source.now) c.loop-k.k c.loop-k.values (g.S.SlotStack.items c.loop-k.slots) at.copying c.in-Allocated.generation c.in-Allocated.u c._from_raw.result g.M.ValueMap.may_refuse
           (sym c.in-Some.ensures ∙ ap (λ s. Some s) c.in-Allocated.is) (c._from_raw.ensures ∙ ap (λ n. (n, c.in-Allocated.generation)) c.inx_at.ensures) c.in-Err.ensures.refused;

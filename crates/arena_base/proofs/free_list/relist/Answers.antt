@@ -12,8 +12,8 @@ loop-k-preserved-then-is_free_at g c =
     record {
       long = ap length c.list_at-head.ensures.items ∙ (length-set items k _ ∙ at.long);
       few = omega (arith, at.few);
-      capacity = c.list_at-head.ensures.capacity ∙ at.capacity;
-      most = c.list_at-head.ensures.maximum ∙ at.most;
+      capacity = c.list_at-head.ensures.bounds.0 ∙ at.capacity;
+      most = c.list_at-head.ensures.bounds.1 ∙ at.most;
       listing = listing_frees g.P.Inx.InxKey.packed_number at.listing k c.list_at-head.result (omega arith) (omega (arith, at.few, at.long)) (sym c.is_free_at.ensures ∙ c.if-is_free_at.true) c.list_at-head.ensures.index c.list_at-head.ensures.items;
     }
 
@@ -36,6 +36,5 @@ returns g c =
     record {
       entries = at.listing.same;
       sound = listing_ends g.P.Inx.InxKey.packed_number (rw none at at.listing) (omega (arith, at.long, c.requires));
-      capacity = at.capacity;
-      maximum = at.most;
+      bounds = (at.capacity, at.most);
     }

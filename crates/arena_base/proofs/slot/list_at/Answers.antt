@@ -12,6 +12,5 @@ pub returns : goal.returns
 returns g c = record {
   index = c.pack.ensures ∙ ap (λ n. Some n) c.inx_at.ensures;
   items = g.met.S.SlotStack.items_written c.args.slots.now c.args.k _;
-  capacity = g.met.S.SlotStack.capacity_written c.args.slots.now c.args.k _;
-  maximum = g.met.S.SlotStack.maximum_written c.args.slots.now c.args.k _;
+  bounds = (g.met.S.SlotStack.capacity_written c.args.slots.now c.args.k _, g.met.S.SlotStack.maximum_written c.args.slots.now c.args.k _);
 }

@@ -10,13 +10,11 @@ returns-in-Some g c =
     record {
       items = rw (g.met.S.SlotStack.items_written slots c.args.k slot, c.set_generation.ensures)
           (with_generation_at-set (g.S.SlotStack.items slots) c.args.k c.in-Some.slot.now c.args.generation (sym c.in-Some.ensures.value));
-      capacity = g.met.S.SlotStack.capacity_written slots c.args.k slot;
-      maximum = g.met.S.SlotStack.maximum_written slots c.args.k slot;
+      bounds = (g.met.S.SlotStack.capacity_written slots c.args.k slot, g.met.S.SlotStack.maximum_written slots c.args.k slot);
     }
 
 pub returns-in-None : goal.returns-in-None
 returns-in-None g c = record {
   items = with_generation_at-none (g.S.SlotStack.items c.args.slots.now) c.args.k c.args.generation c.in-None.ensures.value;
-  capacity = refl;
-  maximum = refl;
+  bounds = (refl, refl);
 }

@@ -26,9 +26,8 @@ returns-in-Some g c =
       entry = made.entry ∙ sym (ap entry_in is);
       some = if_some c.vacate.result (λ e some. written ∙ ap (slice_set items k) (made.after ∙ freed_slot-taken slot c.args.next e (sym made.entry ∙ some)));
       none = if_none c.vacate.result (λ none. written ∙ (ap (slice_set items k) (made.after ∙ freed_slot-free slot c.args.next (sym made.entry ∙ none)) ∙ slice_set-itself items k slot is));
-      capacity = g.met.S.SlotStack.capacity_written slots k c.vacate.new.self;
-      maximum = g.met.S.SlotStack.maximum_written slots k c.vacate.new.self;
+      bounds = (g.met.S.SlotStack.capacity_written slots k c.vacate.new.self, g.met.S.SlotStack.maximum_written slots k c.vacate.new.self);
     }
 
 pub returns-in-None : goal.returns-in-None
-returns-in-None g c = record { entry = ap entry_in c.in-None.ensures.value; some = tt; none = refl; capacity = refl; maximum = refl }
+returns-in-None g c = record { entry = ap entry_in c.in-None.ensures.value; some = tt; none = refl; bounds = (refl, refl) }

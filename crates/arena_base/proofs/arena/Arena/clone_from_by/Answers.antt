@@ -33,8 +33,8 @@ returns-in-Ok-copied g c =
     let self = c.self.inside in
     let grown = c.in-Ok.ensures in
     let count : c.len.result ≡ length c.args.source.now.slots = c.len.ensures ∙ (sym (length-map (g.S1.SlotStack.items source.slots) entry_of) ∙ ap (λ a. length a.slots) c.source.view_is) in
-    let stays : g.S.SlotStack.capacity c.copy_slots-copied.new.slots ≡ g.S.SlotStack.capacity self.slots = c.copy_slots-copied.ensures.capacity ∙ c.truncate.ensures.capacity in
-    let limit : g.S.SlotStack.maximum c.copy_slots-copied.new.slots ≡ g.S.SlotStack.maximum self.slots = c.copy_slots-copied.ensures.maximum ∙ c.truncate.ensures.maximum in
+    let stays : g.S.SlotStack.capacity c.copy_slots-copied.new.slots ≡ g.S.SlotStack.capacity self.slots = c.copy_slots-copied.ensures.bounds.0 ∙ c.truncate.ensures.capacity in
+    let limit : g.S.SlotStack.maximum c.copy_slots-copied.new.slots ≡ g.S.SlotStack.maximum self.slots = c.copy_slots-copied.ensures.bounds.1 ∙ c.truncate.ensures.maximum in
     let within_capacity : min (g.S.SlotStack.capacity c.copy_slots-copied.new.slots) greatest ≡ c.reallocate_min_capacity.new.self.capacity = ap (λ n. min n greatest) stays ∙ ap (λ a. a.capacity) c.self.view_is in
     record {
       within = λ few. (inl refl, within_capacity ∙ ap (λ a. a.capacity) (grown.within (omega (arith, few, count))).1);
@@ -58,8 +58,8 @@ returns-in-Err-copied g c =
     let self = c.self.inside in
     let grown = c.in-Ok.ensures in
     let count : c.len.result ≡ length c.args.source.now.slots = c.len.ensures ∙ (sym (length-map (g.S1.SlotStack.items source.slots) entry_of) ∙ ap (λ a. length a.slots) c.source.view_is) in
-    let stays : g.S.SlotStack.capacity c.truncate-in-Err-copied.new.self ≡ g.S.SlotStack.capacity self.slots = c.truncate-in-Err-copied.ensures.capacity ∙ (c.copy_slots-copied.ensures.capacity ∙ c.truncate.ensures.capacity) in
-    let limit : g.S.SlotStack.maximum c.truncate-in-Err-copied.new.self ≡ g.S.SlotStack.maximum self.slots = c.truncate-in-Err-copied.ensures.maximum ∙ (c.copy_slots-copied.ensures.maximum ∙ c.truncate.ensures.maximum) in
+    let stays : g.S.SlotStack.capacity c.truncate-in-Err-copied.new.self ≡ g.S.SlotStack.capacity self.slots = c.truncate-in-Err-copied.ensures.capacity ∙ (c.copy_slots-copied.ensures.bounds.0 ∙ c.truncate.ensures.capacity) in
+    let limit : g.S.SlotStack.maximum c.truncate-in-Err-copied.new.self ≡ g.S.SlotStack.maximum self.slots = c.truncate-in-Err-copied.ensures.maximum ∙ (c.copy_slots-copied.ensures.bounds.1 ∙ c.truncate.ensures.maximum) in
     let within_capacity : min (g.S.SlotStack.capacity c.truncate-in-Err-copied.new.self) greatest ≡ c.reallocate_min_capacity.new.self.capacity = ap (λ n. min n greatest) stays ∙ ap (λ a. a.capacity) c.self.view_is in
     record {
       within = λ few. (inr (rw (← c.source.view_is) (on_err_is c.copy_slots-copied.result.0 _ c.in-Err-copied.is c.copy_slots-copied.ensures.refused)), within_capacity ∙ ap (λ a. a.capacity) (grown.within (omega (arith, few, count))).1);

@@ -16,7 +16,7 @@ invariant_of-self g c =
     elim c.match-unpack.branch [
       | in-Some w ↦ rw w.self-inside-is
           (filled_freed_view packed_number c.self.invariant inside.counter capacity _ maximum _ inside.placed.count _ inside.touched.count w.position_of.result _ w.fill-self-inside.result c.args.t (g.S.SlotStack.items w.fill-self-inside.new.slots)
-          (sym w.in-Some.ensures) w.position_of.ensures w.fill-self-inside.ensures.was w.fill-self-inside.ensures.items w.fill-self-inside.ensures.capacity w.fill-self-inside.ensures.maximum (rw w.self-inside-is at c.one_more-self-inside.ensures)).0
+          (sym w.in-Some.ensures) w.position_of.ensures w.fill-self-inside.ensures.was w.fill-self-inside.ensures.items w.fill-self-inside.ensures.bounds.0 w.fill-self-inside.ensures.bounds.1 (rw w.self-inside-is at c.one_more-self-inside.ensures)).0
       | in-None w ↦ rw w.self-inside-is
           (filled_next_view packed_number c.self.invariant inside.counter capacity _ maximum _ inside.placed.count _ inside.touched.count c.args.t (g.S.SlotStack.items w.push_within.new.self)
           (sym w.in-None.ensures) less w.push_within.ensures.items w.push_within.ensures.capacity w.push_within.ensures.maximum (rw w.self-inside-is at c.one_more-self-inside.ensures)).0
@@ -34,7 +34,7 @@ returns-clause-after g c =
     elim c.match-unpack.branch [
       | in-Some w ↦ rw w.self-inside-is
           ((filled_freed_view packed_number c.self.invariant inside.counter capacity _ maximum _ inside.placed.count _ inside.touched.count w.position_of.result _ w.fill-self-inside.result c.args.t (g.S.SlotStack.items w.fill-self-inside.new.slots)
-          (sym w.in-Some.ensures) w.position_of.ensures w.fill-self-inside.ensures.was w.fill-self-inside.ensures.items w.fill-self-inside.ensures.capacity w.fill-self-inside.ensures.maximum (rw w.self-inside-is at c.one_more-self-inside.ensures)).1 ∙ view_after)
+          (sym w.in-Some.ensures) w.position_of.ensures w.fill-self-inside.ensures.was w.fill-self-inside.ensures.items w.fill-self-inside.ensures.bounds.0 w.fill-self-inside.ensures.bounds.1 (rw w.self-inside-is at c.one_more-self-inside.ensures)).1 ∙ view_after)
       | in-None w ↦ rw w.self-inside-is ((filled_next_view packed_number c.self.invariant inside.counter capacity _ maximum _ inside.placed.count _ inside.touched.count c.args.t (g.S.SlotStack.items w.push_within.new.self)
           (sym w.in-None.ensures) less w.push_within.ensures.items w.push_within.ensures.capacity w.push_within.ensures.maximum (rw w.self-inside-is at c.one_more-self-inside.ensures)).1 ∙ view_after)
     ]

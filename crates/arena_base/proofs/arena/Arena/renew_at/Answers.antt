@@ -29,6 +29,6 @@ returns-clause-after g c =
     let is = allocated-at (slice_get items k) entry.0 entry.1 in
     let after = with_generation_at-set items k (allocated_slot entry.0.0 entry.0.1) c.generational_inc-generation.result.0 is in
     let sound = rewritten packed_number c.self.invariant k entry.0.0 c.generational_inc-generation.result.0 entry.0.1 entry.0.1 is in
-    rw (← c.self.view_is, c.regenerate_at.ensures.items, c.regenerate_at.ensures.capacity, c.regenerate_at.ensures.maximum, ← after, walked_all packed_number sound, c.generational_inc-generation.ensures.next)
+    rw (← c.self.view_is, c.regenerate_at.ensures.items, c.regenerate_at.ensures.bounds.0, c.regenerate_at.ensures.bounds.1, ← after, walked_all packed_number sound, c.generational_inc-generation.ensures.next)
     (viewed_renewed_slot items _ c.self.inside.counter g.P.Inx.InxKey.greatest (g.S.SlotStack.capacity c.self.inside.slots) (g.S.SlotStack.maximum c.self.inside.slots) c.self.inside.placed.count c.self.inside.touched.count
     g.P.Gen.GenKey.following k (number c.args.i) entry.0.0 entry.0.1 c.position_of.ensures is)

@@ -1,5 +1,5 @@
 -- Each passed position is free.
-use Rattle.std.proofs.Common.{◌<◌, length, Some, refl, ◌∙◌, ap, arith}
+use Rattle.std.proofs.Common.{◌<◌, length, refl, ◌∙◌, ap, arith}
 use Rattle.std.proofs.lemmas.List.{length-map}
 use Rattle.arena_base.specs.Slots.{entry_of}
 use Rattle.arena_base.proofs.EntryRangeLemmas.{entries_from-past, entries_from-step, next_entry}

@@ -32,7 +32,7 @@ returns-in-Some g c =
       returned = c.outcome.ensures ∙ (λ j. invalidation_result (overflow j) (sym was_stored j));
       some = λ _. vacated_view g.P.Inx.InxKey.packed_number c.self.invariant inside.counter c.generational_inc-generation.result.0 (g.S.SlotStack.capacity inside.slots) (g.S.SlotStack.capacity c.vacate_at.new.slots) (g.S.SlotStack.maximum inside.slots) (g.S.SlotStack.maximum c.vacate_at.new.slots) inside.placed.count _ inside.touched.count
           g.P.Gen.GenKey.following k n c.pack-self-inside.result _ _ (g.S.SlotStack.items c.vacate_at.new.slots) c.pack-self-inside.ensures c.position_of.ensures (allocated-at (slice_get items k) c.in-Some.entry c.in-Some.ensures.entry)
-          c.in-Some.ensures.some c.vacate_at.ensures.capacity c.vacate_at.ensures.maximum c.generational_inc-generation.ensures.next c.one_more-self-inside.ensures
+          c.in-Some.ensures.some c.vacate_at.ensures.bounds.0 c.vacate_at.ensures.bounds.1 c.generational_inc-generation.ensures.next c.one_more-self-inside.ensures
           ∙ ap (λ a. remove_at g.P.Gen.GenKey.following a n) c.self.view_is;
       none = λ none. let both = sym was_stored ∙ none in cc;
     }
@@ -44,5 +44,5 @@ returns-in-None g c =
     record {
       returned = rw missing;
       some = λ some. let both : true ≡ false = sym some ∙ ap is_some missing in cc;
-      none = λ _. rw (c.in-None.ensures.none, c.vacate_at.ensures.capacity, c.vacate_at.ensures.maximum) c.self.view_is;
+      none = λ _. rw (c.in-None.ensures.none, c.vacate_at.ensures.bounds.0, c.vacate_at.ensures.bounds.1) c.self.view_is;
     }

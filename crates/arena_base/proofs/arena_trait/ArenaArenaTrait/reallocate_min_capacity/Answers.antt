@@ -1,20 +1,26 @@
 -- Only the capacity grows.
 use Rattle.std.proofs.Common.{ap, arith}
 use Rattle.arena_traits.specs.Entries.{view_of}
-use Rattle.arena_base.proofs.SlotCopyLemmas.{on_ok}
+use Rattle.arena_base.proofs.ArenaGrowthLemmas.{grown_beyond, grown_greatest, grown_capacity, grown_state, grown_reach, grown_least}
 use Rattle.arena_base.proofs.arena_trait.ArenaArenaTrait.reallocate_min_capacity.Goals as goal
 
 pub returns : goal.returns
 returns g c =
+    let may_reach = g.S.SlotStack.may_reach in
+    let greatest = g.P.Inx.InxKey.greatest in
+    let old = c.args.self.now in
+    let r = c.grow_to.result in
+    let new = c.grow_to.new.self in
     let made = c.grow_to.ensures in
     let within_capacity = ap (λ a. a.capacity) c.self.view_is in
+    let state = grown_state may_reach greatest old c.args.n r new made.outcome made.err in
     record {
       within = λ few. absurd (omega (arith, few, within_capacity, c.capacity.ensures, c.greatest.ensures.value, c.min.ensures));
-      beyond = made.beyond;
-      greatest = made.greatest;
-      ok = on_ok c.grow_to.result (λ has. has.capacity.0) made.ok;
+      beyond = grown_beyond may_reach greatest old c.args.n r new made.outcome;
+      greatest = grown_greatest may_reach greatest old c.args.n r new made.outcome;
+      ok = grown_capacity may_reach greatest old c.args.n r new made.outcome;
       err = made.err;
-      after = ap view_of made.after;
-      never_less = made.never_less;
-      more = (made.after, made.reached);
+      after = ap view_of state;
+      never_less = grown_least may_reach greatest old c.args.n r new made.outcome made.err;
+      more = (state, grown_reach may_reach greatest old c.args.n r new made.outcome made.err);
     }

@@ -28,6 +28,6 @@ returns g c =
     let slots = c.self.inside.slots in
     let items = g.S.SlotStack.items slots in
     let long = ap (λ h. length h.slots) c.self.view_is in
-    rw (← c.self.view_is, c.swap.ensures.items, c.swap.ensures.capacity, c.swap.ensures.maximum, c.regenerate_at.ensures.items, c.regenerate_at.ensures.capacity, c.regenerate_at.ensures.maximum)
+    rw (← c.self.view_is, c.swap.ensures.items, c.swap.ensures.capacity, c.swap.ensures.maximum, c.regenerate_at.ensures.items, c.regenerate_at.ensures.bounds.0, c.regenerate_at.ensures.bounds.1)
     (held_placed items (g.S.SlotStack.capacity slots) (g.S.SlotStack.maximum slots) c.position_of-from.result c.position_of.result (number c.args.from) (number c.args.to) c.args.generation c.position_of-from.ensures c.position_of.ensures
     (omega (arith, long, length-map items entry_of, c.position_of-from.ensures, c.requires.from)) (omega (arith, long, length-map items entry_of, c.position_of.ensures, c.requires.to)))
