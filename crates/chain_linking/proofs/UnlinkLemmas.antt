@@ -19,16 +19,9 @@ use Rattle.arena_traits.proofs.ArenaViewLemmas as seeing
 use Rattle.chain_links.proofs.ArenaInsertionLemmas.{map-if}
 use Rattle.chain_links.proofs.MappedArenaLemmas.{with_each-remove_at}
 use Rattle.chain_links.proofs.LinkStateLemmas.{slot_at-changed}
+use Rattle.chain_linking.specs.LinkWrites.{WereBeside}
 use Rattle.chain_linking.proofs.NeighborLemmas.{apart_named, next_named, prev_named}
 use Rattle.chain_linking.proofs.LinkWriteLemmas.{FitsLinks, FitsLinks-linked, with_link_map-own, link_map-with_link_map, values_of-with_link_map}
-
--- u and v were beside the link removed from i: they have links, or both are i, which was alone
--- in a ring.
-pub record WereBeside (link_map : LinkMap) (i : ℕ) (u v : Option ℕ) : Type 0 where
-  pub gone : link_map i ≡ None
-  pub before : u ≢ Some i → IfSome u (HasLink link_map)
-  pub after : u ≢ Some i → IfSome v (HasLink link_map)
-  pub ring : u ≡ Some i → v ≡ Some i
 
 same_if : {X : Type 0} (b : Bool) (x y : X) → x ≡ y → (if b then x else y) ≡ y
 same_if true x y same = same

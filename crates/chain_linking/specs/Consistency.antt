@@ -1,5 +1,6 @@
 -- The rule of interlinks, index by index.
-use Rattle.std.specs.Prelude.{◌≡◌, ℕ, Some}
+use Rattle.std.specs.Prelude.{◌≡◌, ℕ, Option, Some}
+use Rattle.std.specs.Option.{option_map}
 use Rattle.chain_laws.specs.Chains.{LinkMap, prev_of, next_of}
 
 -- The link after i, if any, has i before it.
@@ -14,3 +15,10 @@ IsWellLinkedBack link_map i = (j : ℕ) → prev_of link_map i ≡ Some j → ne
 pub record IsWellLinkedAt (link_map : LinkMap) (i : ℕ) : Type 0 where
   pub forth : IsWellLinkedForth link_map i
   pub back : IsWellLinkedBack link_map i
+
+-- The indexes before and after the link at i, both `None` if there is no link.
+abbrev pub AreNeighborsAt : {I : Type 0} → (I → ℕ) → LinkMap → ℕ → Option I × Option I → Type 0
+AreNeighborsAt number link_map i result = record {
+  prev : option_map number result.0 ≡ prev_of link_map i;
+  next : option_map number result.1 ≡ next_of link_map i;
+}

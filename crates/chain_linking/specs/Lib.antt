@@ -1,5 +1,7 @@
 pub mod InsertPositions
 pub mod LinkWrites
+pub mod Connections
+pub mod Destinations
 pub mod WalkSteps
 pub mod Consistency
 pub mod ChainArenaLaws

@@ -1,10 +1,16 @@
 -- Writes to interlinks in the state of an arena, which change nothing else.
-use Rattle.std.specs.Prelude.{◌≡◌, ℕ, Option, None}
-use Rattle.std.specs.Option.{option_map}
-use Rattle.chain_laws.specs.Chains.{LinkMap, prev_of, next_of}
+use Rattle.std.specs.Prelude.{◌≡◌, ◌≢◌, ℕ, Bool, IsSome, IfSome, Option, None, Some}
+use Rattle.std.specs.Option.{option_map, option_and_then}
+use Rattle.arena_core.specs.Invalidation.{value_within, invalidation_result}
+use Rattle.arena_core.specs.declared.invalidation.InvalidationResult.{InvalidationResult}
+use Rattle.chain_laws.specs.Chains.{LinkMap, HasLink, prev_of, next_of}
 use Rattle.chain_laws.specs.Joins.{with_next_at, with_prev_at, with_neighbors}
-use Rattle.arena_traits.specs.Arena.{Arena, IsValid}
-use Rattle.chain_links.specs.ChainArena.{LinkView, link_map, with_link_map}
+use Rattle.arena_traits.specs.Arena.{Arena, IsValid, entry_at}
+use Rattle.chain_links.specs.declared.links.LinkBody.{LinkBody}
+use Rattle.chain_links.specs.ChainArena.{LinkView, link_map, with_link_map, named_by, remove_link, entry, ptr_at}
+use Rattle.chain_links.specs.Links.{link_view, links_view, pair_view, StayAtRest}
+use Rattle.chain_linking.specs.InsertPositions.{before_in, after_in}
+use Rattle.chain_linking.specs.declared.insert_position.InsertPosition.{InsertPosition}
 
 -- Two optional indexes as numbers.
 abbrev pub numbers : {I : Type 0} → (I → ℕ) → Option I × Option I → Option ℕ × Option ℕ
@@ -37,3 +43,62 @@ module _ {Gen T : Type 0} (entry : ℕ → Option (Gen × T)) (interlinks : Link
   pub record IsValidStart : Type 0 where
     pub valid : IsValid entry p
     pub start : prev_of interlinks p.0 ≡ None
+
+-- u and v were beside the link removed from i: they have links, or both are i, which was alone
+-- in a ring.
+pub record WereBeside (link_map : LinkMap) (i : ℕ) (u v : Option ℕ) : Type 0 where
+  pub gone : link_map i ≡ None
+  pub before : u ≢ Some i → IfSome u (HasLink link_map)
+  pub after : u ≢ Some i → IfSome v (HasLink link_map)
+  pub ring : u ≡ Some i → v ≡ Some i
+
+module _ {Gen K T : Type 0} (packed : K → Option ℕ) where
+  -- The links become those of `after`. If none had a destination, none has one now.
+  abbrev pub LinksBecome : Arena Gen (LinkView T) → (old new : Arena Gen (LinkBody K T)) → Type 0
+  LinksBecome after old new = record {
+    links : links_view packed new ≡ after;
+    at_rest : StayAtRest packed old.slots new.slots;
+  }
+
+  -- The pointers are those of the links before and after a link.
+  abbrev pub PointsToNeighbors : {P : Type 0} → (P → ℕ × Gen) → Arena Gen (LinkBody K T) → LinkBody K T → Option P × Option P → Type 0
+  PointsToNeighbors key a link result = record {
+    prev : option_map key result.0 ≡ option_and_then (ptr_at (entry (links_view packed a))) (link_view packed link).prev;
+    next : option_map key result.1 ≡ option_and_then (ptr_at (entry (links_view packed a))) (link_view packed link).next;
+  }
+
+  -- The link at i, if any, is removed and returned as it was, and its former neighbors are linked.
+  abbrev pub TakesLinkAt : (wraps : Gen → Bool) (following : Gen → Gen) → ℕ → Arena Gen (LinkBody K T) → InvalidationResult (Gen × LinkBody K T) → Arena Gen (LinkBody K T) → Type 0
+  TakesLinkAt wraps following i old result new = record {
+    returned : option_map (pair_view packed) (value_within result) ≡ entry_at (links_view packed old) i;
+    overflow : result ≡ invalidation_result (wraps old.counter) (value_within result);
+    valid : IsSome (value_within result) → links_view packed new ≡ remove_link following (links_view packed old) i;
+    invalid : value_within result ≡ None → new ≡ old;
+    at_rest : StayAtRest packed old.slots new.slots;
+  }
+
+  module _ {I : Type 0} (number : I → ℕ) where
+    -- The `next` of the link at i, if i is an index, is written.
+    abbrev pub SetsNext : (i next : Option I) → (old new : Arena Gen (LinkBody K T)) → Type 0
+    SetsNext i next old new = LinksBecome (arena_with_next (links_view packed old) (option_map number i) (option_map number next)) old new
+
+    -- The `prev` of the link at i, if i is an index, is written.
+    abbrev pub SetsPrev : (i prev : Option I) → (old new : Arena Gen (LinkBody K T)) → Type 0
+    SetsPrev i prev old new = LinksBecome (arena_with_prev (links_view packed old) (option_map number i) (option_map number prev)) old new
+
+    -- The `next` of the link at `before` is written, then the `prev` of the link at `after`.
+    abbrev pub SetsBoth : (before next after prev : Option I) → (old new : Arena Gen (LinkBody K T)) → Type 0
+    SetsBoth before next after prev old new =
+        LinksBecome (arena_with_prev (arena_with_next (links_view packed old) (option_map number before) (option_map number next)) (option_map number after) (option_map number prev)) old new
+
+    -- `next` comes after `prev`.
+    abbrev pub LinksPair : (prev next : Option I) → (old new : Arena Gen (LinkBody K T)) → Type 0
+    LinksPair prev next old new = LinksBecome (arena_with_pair (links_view packed old) (option_map number prev) (option_map number next)) old new
+
+    -- The first pair is linked, then the second.
+    abbrev pub LinksPairs : (first second : Option I × Option I) → (old new : Arena Gen (LinkBody K T)) → Type 0
+    LinksPairs first second old new = LinksBecome (arena_with_pairs (links_view packed old) (numbers number first) (numbers number second)) old new
+
+    -- The links of the position name the new link at q.
+    abbrev pub NamesNewLink : InsertPosition I → ℕ → (old new : Arena Gen (LinkBody K T)) → Type 0
+    NamesNewLink position q old new = LinksBecome (named_by (links_view packed old) (before_in number position q) (after_in number position q) q) old new

@@ -1,10 +1,7 @@
 // Connects two links of a plain arena, and tests for the ends of its chains.
-ghost use Rattle.std.specs.Prelude.{◌≡◌, ◌↔◌, IsTrue, IsSome, IfSome, IfNone, OnSome, Some, None};
-ghost use Rattle.std.specs.Option.{option_map};
-ghost use Rattle.chain_laws.specs.Chains.{HasLink};
-ghost use Rattle.chain_links.specs.ChainArena.{link_map, entry, CanConnect};
-ghost use Rattle.chain_links.specs.Links.{links_view, StayAtRest};
-ghost use Rattle.chain_linking.specs.LinkWrites.{arena_with_next, arena_with_pair, IsValidEnd, IsValidStart};
+ghost use Rattle.std.specs.Prelude.{Some, None};
+ghost use Rattle.chain_linking.specs.Connections.{ReportsEnd, ReportsStart, IsOccupiedIndex, JoinsLinks};
+ghost use Rattle.chain_linking.specs.LinkWrites.{SetsNext};
 
 use crate::link_writes;
 use arena_base::{Arena, ArenaSlot, ArenaTrait};
@@ -16,11 +13,7 @@ pub fn is_end<P: PtrKey, T: Drop, S: SlotStack<Item = ArenaSlot<P, LinkNoGen<P, 
     arena: &Arena<P, LinkNoGen<P, T>, S>,
     p: P,
 ) -> bool
-    ensures value { IsTrue result
-        ↔ IsValidEnd (entry (links_view P.Inx.packed_number arena.now))
-        (link_map (links_view P.Inx.packed_number arena.now)) (P.key p) }
-    ensures occupied { IsTrue result
-        → HasLink (link_map (links_view P.Inx.packed_number arena.now)) (P.key p).0 }
+    ensures { ReportsEnd P.Inx.packed_number (P.key p) arena.now result }
 {
     match arena.get(p) {
         Some(link) => link.next().is_none(),
@@ -33,11 +26,7 @@ pub fn is_start<P: PtrKey, T: Drop, S: SlotStack<Item = ArenaSlot<P, LinkNoGen<P
     arena: &Arena<P, LinkNoGen<P, T>, S>,
     p: P,
 ) -> bool
-    ensures value { IsTrue result
-        ↔ IsValidStart (entry (links_view P.Inx.packed_number arena.now))
-        (link_map (links_view P.Inx.packed_number arena.now)) (P.key p) }
-    ensures occupied { IsTrue result
-        → HasLink (link_map (links_view P.Inx.packed_number arena.now)) (P.key p).0 }
+    ensures { ReportsStart P.Inx.packed_number (P.key p) arena.now result }
 {
     match arena.get(p) {
         Some(link) => link.prev().is_none(),
@@ -50,13 +39,7 @@ fn occupied_index<P: PtrKey, T: Drop, S: SlotStack<Item = ArenaSlot<P, LinkNoGen
     arena: &Arena<P, LinkNoGen<P, T>, S>,
     i: Option<P::Inx>,
 ) -> Option<P::Inx>
-    ensures stored { IfSome (option_map P.Inx.number result)
-        (HasLink (link_map (links_view P.Inx.packed_number arena.now))) }
-    ensures some { OnSome result (option_map P.Inx.number result ≡ option_map P.Inx.number i) }
-    ensures none { IfNone result
-        (IfSome (option_map P.Inx.number i)
-        (λ n. link_map (links_view P.Inx.packed_number arena.now) n
-        ≡ None)) }
+    ensures { IsOccupiedIndex P.Inx.packed_number P.Inx.number i arena.now result }
 {
     match i {
         Some(k) => match arena.get_inx(k) {
@@ -73,10 +56,7 @@ fn set_next<P: PtrKey, T: Drop, S: SlotStack<Item = ArenaSlot<P, LinkNoGen<P, T>
     i: Option<P::Inx>,
     next: Option<P::Inx>,
 )
-    ensures links { links_view P.Inx.packed_number arena.new ≡ arena_with_next
-        (links_view P.Inx.packed_number arena.old) (option_map P.Inx.number i)
-        (option_map P.Inx.number next) }
-    ensures at_rest { StayAtRest P.Inx.packed_number arena.old.slots arena.new.slots }
+    ensures { SetsNext P.Inx.packed_number P.Inx.number i next arena.old arena.new }
 {
     let i = occupied_index(arena, i);
     link_writes::set_next(arena, i, next);
@@ -89,9 +69,7 @@ fn clear_next<P: PtrKey, T: Drop, S: SlotStack<Item = ArenaSlot<P, LinkNoGen<P, 
     arena: &mut Arena<P, LinkNoGen<P, T>, S>,
     i: P::Inx,
 )
-    ensures links { links_view P.Inx.packed_number arena.new ≡ arena_with_next
-        (links_view P.Inx.packed_number arena.old) (Some (P.Inx.number i)) None }
-    ensures at_rest { StayAtRest P.Inx.packed_number arena.old.slots arena.new.slots }
+    ensures { SetsNext P.Inx.packed_number P.Inx.number (Some i) None arena.old arena.new }
 {
     set_next(arena, Some(i), None);
 }
@@ -105,13 +83,7 @@ pub fn join<P: PtrKey, T: Drop, S: SlotStack<Item = ArenaSlot<P, LinkNoGen<P, T>
     p: P,
     q: P,
 ) -> Option<()>
-    ensures some { IsSome result ↔ CanConnect (entry (links_view P.Inx.packed_number arena.old))
-        (link_map (links_view P.Inx.packed_number arena.old)) (P.key p) (P.key q) }
-    ensures joined { OnSome result (links_view P.Inx.packed_number arena.new ≡ arena_with_pair
-        (links_view P.Inx.packed_number arena.old) (Some (P.key p).0) (Some (P.key q).0)) }
-    ensures none { IfNone result (links_view P.Inx.packed_number arena.new
-        ≡ links_view P.Inx.packed_number arena.old) }
-    ensures at_rest { StayAtRest P.Inx.packed_number arena.old.slots arena.new.slots }
+    ensures { JoinsLinks P.Inx.packed_number (P.key p) (P.key q) arena.old result arena.new }
 {
     let (i, j) = (p.inx(), q.inx());
     if !is_end(arena, p) {

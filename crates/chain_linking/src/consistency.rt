@@ -1,8 +1,7 @@
 // Checks whether the interlinks of an arena of links are consistent.
-ghost use Rattle.std.specs.Prelude.{◌≡◌, ◌↔◌, IsTrue};
-ghost use Rattle.std.specs.Option.{option_map};
-ghost use Rattle.chain_laws.specs.Chains.{IsWellLinked, prev_of, next_of};
-ghost use Rattle.chain_linking.specs.Consistency.{IsWellLinkedForth, IsWellLinkedBack, IsWellLinkedAt};
+ghost use Rattle.std.specs.Prelude.{◌↔◌, IsTrue};
+ghost use Rattle.chain_laws.specs.Chains.{IsWellLinked};
+ghost use Rattle.chain_linking.specs.Consistency.{IsWellLinkedForth, IsWellLinkedBack, IsWellLinkedAt, AreNeighborsAt};
 ghost use Rattle.chain_links.specs.ChainArena.{link_map};
 ghost use Rattle.chain_links.specs.Links.{links_view};
 
@@ -16,10 +15,8 @@ pub fn neighbors_at<P: PtrKey, T: Drop, S: SlotStack<Item = ArenaSlot<P, LinkNoG
     arena: &Arena<P, LinkNoGen<P, T>, S>,
     i: P::Inx,
 ) -> (Option<P::Inx>, Option<P::Inx>)
-    ensures prev { option_map P.Inx.number result.0 ≡ prev_of
-        (link_map (links_view P.Inx.packed_number arena.now)) (P.Inx.number i) }
-    ensures next { option_map P.Inx.number result.1 ≡ next_of
-        (link_map (links_view P.Inx.packed_number arena.now)) (P.Inx.number i) }
+    ensures { AreNeighborsAt P.Inx.number (link_map (links_view P.Inx.packed_number arena.now))
+        (P.Inx.number i) result }
 {
     match arena.get_inx(i) {
         Some((_, link)) => link.prev_next(),

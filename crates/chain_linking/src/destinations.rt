@@ -1,6 +1,5 @@
 // Removes destinations, which no link of a chain arena has between calls.
-ghost use Rattle.std.specs.Prelude.{◌≡◌, ℕ, None};
-ghost use Rattle.chain_links.specs.Links.{links_view, destination_at, AreAtRest};
+ghost use Rattle.chain_linking.specs.Destinations.{ClearsDestination, ClearsDestinations};
 
 use arena_base::{Arena, ArenaSlot, ArenaTrait, inx_at};
 use arena_ptr::{PtrKey, SlotStack};
@@ -11,11 +10,7 @@ fn clear_destination<P: PtrKey, T: Drop, S: SlotStack<Item = ArenaSlot<P, LinkNo
     arena: &mut Arena<P, LinkNoGen<P, T>, S>,
     i: P::Inx,
 )
-    ensures links { links_view P.Inx.packed_number arena.new
-        ≡ links_view P.Inx.packed_number arena.old }
-    ensures cleared { destination_at P.Inx.packed_number arena.new.slots (P.Inx.number i) ≡ None }
-    ensures others { (j : ℕ) → destination_at P.Inx.packed_number arena.old.slots j ≡ None
-        → destination_at P.Inx.packed_number arena.new.slots j ≡ None }
+    ensures { ClearsDestination P.Inx.packed_number (P.Inx.number i) arena.old arena.new }
 {
     match arena.get_inx_mut(i) {
         Some(link) => link_access::set_destination(link, None),
@@ -28,9 +23,7 @@ fn clear_destination<P: PtrKey, T: Drop, S: SlotStack<Item = ArenaSlot<P, LinkNo
 pub fn clear_destinations<P: PtrKey, T: Drop, S: SlotStack<Item = ArenaSlot<P, LinkNoGen<P, T>>>>(
     arena: &mut Arena<P, LinkNoGen<P, T>, S>,
 )
-    ensures links { links_view P.Inx.packed_number arena.new
-        ≡ links_view P.Inx.packed_number arena.old }
-    ensures at_rest { AreAtRest P.Inx.packed_number arena.new.slots }
+    ensures { ClearsDestinations P.Inx.packed_number arena.old arena.new }
 {
     arena.invariants();
     for k in 0..arena.backing().len() {

@@ -1,11 +1,10 @@
 // Finds the insertion position of a kind: the two links that a new one comes between.
-ghost use Rattle.std.specs.Prelude.{◌≡◌, IsTrue, IsSome, IfSome, ◌↔◌, Some, None};
+ghost use Rattle.std.specs.Prelude.{◌≡◌, IsTrue, ◌↔◌, Some};
 ghost use Rattle.std.specs.Option.{option_map};
 ghost use Rattle.chain_laws.specs.Insertions.{chain_end, chain_start, next_to, prev_to, at_interlink, bridge};
-ghost use Rattle.chain_links.specs.ChainArena.{link_map, entry, interlinks_in};
-ghost use Rattle.chain_links.specs.Links.{links_view, link_view};
-ghost use Rattle.chain_links.specs.Kinds.{HasName, name_of, named_in};
-ghost use Rattle.chain_linking.specs.InsertPositions.{IsPositionIn, IsNextOf, IsPrevOf};
+ghost use Rattle.chain_links.specs.Links.{links_view};
+ghost use Rattle.chain_links.specs.Kinds.{name_of, named_in};
+ghost use Rattle.chain_linking.specs.InsertPositions.{IsLinkOf, IsPositionIn, IsNextOf, IsPrevOf};
 
 use arena_base::{Arena, ArenaSlot, ArenaTrait};
 use arena_ptr::{InxKey, PtrKey, SlotStack};
@@ -24,11 +23,7 @@ fn find<P: PtrKey, T: Drop, S: SlotStack<Item = ArenaSlot<P, LinkNoGen<P, T>>>>(
     arena: &Arena<P, LinkNoGen<P, T>, S>,
     name: Name<P, P::Inx>,
 ) -> Option<&LinkNoGen<P, T>>
-    ensures some { IsSome result ↔ HasName (entry (links_view P.Inx.packed_number arena.now))
-        (name_of P.key P.Inx.number name) }
-    ensures link { IfSome result (λ link. link_map (links_view P.Inx.packed_number arena.now)
-        (name_of P.key P.Inx.number name).0 ≡ Some
-        (interlinks_in (link_view P.Inx.packed_number link.now))) }
+    ensures { IsLinkOf P.Inx.packed_number arena.now (name_of P.key P.Inx.number name) result }
 {
     match name {
         Name::Pointer(p) => arena.get(p),
@@ -44,10 +39,8 @@ pub fn next_of<P: PtrKey, T: Drop, S: SlotStack<Item = ArenaSlot<P, LinkNoGen<P,
     arena: &Arena<P, LinkNoGen<P, T>, S>,
     name: Name<P, P::Inx>,
 ) -> Option<P::Inx>
-    ensures neighbor { IsNextOf P.Inx.number (links_view P.Inx.packed_number arena.now)
+    ensures { IsNextOf P.Inx.number (links_view P.Inx.packed_number arena.now)
         (name_of P.key P.Inx.number name) result }
-    ensures some { IsSome result → HasName (entry (links_view P.Inx.packed_number arena.now))
-        (name_of P.key P.Inx.number name) }
 {
     match find(arena, name) {
         Some(link) => link.next(),
@@ -60,10 +53,8 @@ pub fn prev_of<P: PtrKey, T: Drop, S: SlotStack<Item = ArenaSlot<P, LinkNoGen<P,
     arena: &Arena<P, LinkNoGen<P, T>, S>,
     name: Name<P, P::Inx>,
 ) -> Option<P::Inx>
-    ensures neighbor { IsPrevOf P.Inx.number (links_view P.Inx.packed_number arena.now)
+    ensures { IsPrevOf P.Inx.number (links_view P.Inx.packed_number arena.now)
         (name_of P.key P.Inx.number name) result }
-    ensures some { IsSome result → HasName (entry (links_view P.Inx.packed_number arena.now))
-        (name_of P.key P.Inx.number name) }
 {
     match find(arena, name) {
         Some(link) => link.prev(),

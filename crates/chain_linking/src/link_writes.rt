@@ -1,13 +1,11 @@
 // Reads and writes links at indexes that are proved occupied, so no write checks for a link.
-ghost use Rattle.std.specs.Prelude.{◌≡◌, ◌≢◌, IsSome, IfSome, Some, None};
+ghost use Rattle.std.specs.Prelude.{◌≡◌, IfSome};
 ghost use Rattle.std.specs.Option.{option_map, option_and_then};
-ghost use Rattle.arena_core.specs.Invalidation.{value_within, invalidation_result};
-ghost use Rattle.arena_traits.specs.Arena.{entry_at};
 ghost use Rattle.chain_laws.specs.Chains.{IsWellLinked, HasLink};
-ghost use Rattle.chain_links.specs.ChainArena.{link_map, remove_link, entry, named_by, ptr_at};
-ghost use Rattle.chain_links.specs.Links.{link_view, links_view, pair_view, StayAtRest};
+ghost use Rattle.chain_links.specs.ChainArena.{link_map, entry, ptr_at};
+ghost use Rattle.chain_links.specs.Links.{link_view, links_view};
 ghost use Rattle.chain_linking.specs.InsertPositions.{before_in, after_in};
-ghost use Rattle.chain_linking.specs.LinkWrites.{arena_with_next, arena_with_prev, arena_with_pair, arena_with_pairs, numbers};
+ghost use Rattle.chain_linking.specs.LinkWrites.{PointsToNeighbors, SetsNext, SetsPrev, SetsBoth, LinksPair, LinksPairs, NamesNewLink, WereBeside, TakesLinkAt};
 
 use crate::insert_position::InsertPosition;
 use crate::new_link::neighbors_of_position;
@@ -43,12 +41,7 @@ pub fn neighbors<P: PtrKey, T: Drop, S: SlotStack<Item = ArenaSlot<P, LinkNoGen<
         (HasLink (link_map (links_view P.Inx.packed_number arena.now))) }
     requires next { IfSome (link_view P.Inx.packed_number link.now).next
         (HasLink (link_map (links_view P.Inx.packed_number arena.now))) }
-    ensures prev { option_map P.key result.0 ≡ option_and_then
-        (ptr_at (entry (links_view P.Inx.packed_number arena.now)))
-        (link_view P.Inx.packed_number link.now).prev }
-    ensures next { option_map P.key result.1 ≡ option_and_then
-        (ptr_at (entry (links_view P.Inx.packed_number arena.now)))
-        (link_view P.Inx.packed_number link.now).next }
+    ensures { PointsToNeighbors P.Inx.packed_number P.key arena.now link.now result }
 {
     (neighbor(arena, link.prev()), neighbor(arena, link.next()))
 }
@@ -61,10 +54,7 @@ pub fn set_next<P: PtrKey, T: Drop, S: SlotStack<Item = ArenaSlot<P, LinkNoGen<P
 )
     requires { IfSome (option_map P.Inx.number i)
         (HasLink (link_map (links_view P.Inx.packed_number arena.old))) }
-    ensures links { links_view P.Inx.packed_number arena.new ≡ arena_with_next
-        (links_view P.Inx.packed_number arena.old) (option_map P.Inx.number i)
-        (option_map P.Inx.number next) }
-    ensures at_rest { StayAtRest P.Inx.packed_number arena.old.slots arena.new.slots }
+    ensures { SetsNext P.Inx.packed_number P.Inx.number i next arena.old arena.new }
 {
     match i {
         Some(i) => match arena.get_inx_mut(i) {
@@ -83,10 +73,7 @@ pub fn set_prev<P: PtrKey, T: Drop, S: SlotStack<Item = ArenaSlot<P, LinkNoGen<P
 )
     requires { IfSome (option_map P.Inx.number i)
         (HasLink (link_map (links_view P.Inx.packed_number arena.old))) }
-    ensures links { links_view P.Inx.packed_number arena.new ≡ arena_with_prev
-        (links_view P.Inx.packed_number arena.old) (option_map P.Inx.number i)
-        (option_map P.Inx.number prev) }
-    ensures at_rest { StayAtRest P.Inx.packed_number arena.old.slots arena.new.slots }
+    ensures { SetsPrev P.Inx.packed_number P.Inx.number i prev arena.old arena.new }
 {
     match i {
         Some(i) => match arena.get_inx_mut(i) {
@@ -109,11 +96,7 @@ fn write_beside<P: PtrKey, T: Drop, S: SlotStack<Item = ArenaSlot<P, LinkNoGen<P
         (HasLink (link_map (links_view P.Inx.packed_number arena.old))) }
     requires after { IfSome (option_map P.Inx.number after)
         (HasLink (link_map (links_view P.Inx.packed_number arena.old))) }
-    ensures links { links_view P.Inx.packed_number arena.new ≡ arena_with_prev
-        (arena_with_next (links_view P.Inx.packed_number arena.old)
-        (option_map P.Inx.number before) (option_map P.Inx.number next))
-        (option_map P.Inx.number after) (option_map P.Inx.number prev) }
-    ensures at_rest { StayAtRest P.Inx.packed_number arena.old.slots arena.new.slots }
+    ensures { SetsBoth P.Inx.packed_number P.Inx.number before next after prev arena.old arena.new }
 {
     set_next(arena, before, next);
     set_prev(arena, after, prev);
@@ -129,10 +112,7 @@ pub fn link_pair<P: PtrKey, T: Drop, S: SlotStack<Item = ArenaSlot<P, LinkNoGen<
         (HasLink (link_map (links_view P.Inx.packed_number arena.old))) }
     requires next { IfSome (option_map P.Inx.number next)
         (HasLink (link_map (links_view P.Inx.packed_number arena.old))) }
-    ensures links { links_view P.Inx.packed_number arena.new ≡ arena_with_pair
-        (links_view P.Inx.packed_number arena.old) (option_map P.Inx.number prev)
-        (option_map P.Inx.number next) }
-    ensures at_rest { StayAtRest P.Inx.packed_number arena.old.slots arena.new.slots }
+    ensures { LinksPair P.Inx.packed_number P.Inx.number prev next arena.old arena.new }
 {
     write_beside(arena, prev, next, next, prev);
 }
@@ -151,10 +131,7 @@ pub fn link_pairs<P: PtrKey, T: Drop, S: SlotStack<Item = ArenaSlot<P, LinkNoGen
         (HasLink (link_map (links_view P.Inx.packed_number arena.old))) }
     requires second_next { IfSome (option_map P.Inx.number second.1)
         (HasLink (link_map (links_view P.Inx.packed_number arena.old))) }
-    ensures links { links_view P.Inx.packed_number arena.new ≡ arena_with_pairs
-        (links_view P.Inx.packed_number arena.old) (numbers P.Inx.number first)
-        (numbers P.Inx.number second) }
-    ensures at_rest { StayAtRest P.Inx.packed_number arena.old.slots arena.new.slots }
+    ensures { LinksPairs P.Inx.packed_number P.Inx.number first second arena.old arena.new }
 {
     link_pair(arena, first.0, first.1);
     link_pair(arena, second.0, second.1);
@@ -170,11 +147,7 @@ pub fn update_neighbors<P: PtrKey, T: Drop, S: SlotStack<Item = ArenaSlot<P, Lin
         (HasLink (link_map (links_view P.Inx.packed_number arena.old))) }
     requires after { IfSome (after_in P.Inx.number position (P.key p).0)
         (HasLink (link_map (links_view P.Inx.packed_number arena.old))) }
-    ensures links { links_view P.Inx.packed_number arena.new ≡ named_by
-        (links_view P.Inx.packed_number arena.old)
-        (before_in P.Inx.number position (P.key p).0) (after_in P.Inx.number position (P.key p).0)
-        (P.key p).0 }
-    ensures at_rest { StayAtRest P.Inx.packed_number arena.old.slots arena.new.slots }
+    ensures { NamesNewLink P.Inx.packed_number P.Inx.number position (P.key p).0 arena.old arena.new }
 {
     let i = p.inx();
     let (prev, next) = neighbors_of_position(position, i);
@@ -188,19 +161,9 @@ fn connect_former_neighbors<P: PtrKey, T: Drop, S: SlotStack<Item = ArenaSlot<P,
     prev: Option<P::Inx>,
     next: Option<P::Inx>,
 )
-    requires gone { link_map (links_view P.Inx.packed_number arena.old) (P.Inx.number i) ≡ None }
-    requires before { option_map P.Inx.number prev ≢ Some (P.Inx.number i)
-        → IfSome (option_map P.Inx.number prev)
-        (HasLink (link_map (links_view P.Inx.packed_number arena.old))) }
-    requires after { option_map P.Inx.number prev ≢ Some (P.Inx.number i)
-        → IfSome (option_map P.Inx.number next)
-        (HasLink (link_map (links_view P.Inx.packed_number arena.old))) }
-    requires ring { option_map P.Inx.number prev ≡ Some (P.Inx.number i)
-        → option_map P.Inx.number next ≡ Some (P.Inx.number i) }
-    ensures links { links_view P.Inx.packed_number arena.new ≡ arena_with_pair
-        (links_view P.Inx.packed_number arena.old) (option_map P.Inx.number prev)
-        (option_map P.Inx.number next) }
-    ensures at_rest { StayAtRest P.Inx.packed_number arena.old.slots arena.new.slots }
+    requires { WereBeside (link_map (links_view P.Inx.packed_number arena.old)) (P.Inx.number i)
+        (option_map P.Inx.number prev) (option_map P.Inx.number next) }
+    ensures { LinksPair P.Inx.packed_number P.Inx.number prev next arena.old arena.new }
 {
     match prev {
         Some(before) => {
@@ -221,14 +184,8 @@ pub fn remove_link_at<P: PtrKey, T: Drop, S: SlotStack<Item = ArenaSlot<P, LinkN
     i: P::Inx,
 ) -> InvalidationResult<(P::Gen, LinkNoGen<P, T>)>
     requires { IsWellLinked (link_map (links_view P.Inx.packed_number arena.old)) }
-    ensures returned { option_map (pair_view P.Inx.packed_number) (value_within result) ≡ entry_at
-        (links_view P.Inx.packed_number arena.old) (P.Inx.number i) }
-    ensures overflow { result ≡ invalidation_result (P.Gen.wraps arena.old.counter)
-        (value_within result) }
-    ensures valid { IsSome (value_within result) → links_view P.Inx.packed_number arena.new
-        ≡ remove_link P.Gen.following (links_view P.Inx.packed_number arena.old) (P.Inx.number i) }
-    ensures invalid { value_within result ≡ None → arena.new ≡ arena.old }
-    ensures at_rest { StayAtRest P.Inx.packed_number arena.old.slots arena.new.slots }
+    ensures { TakesLinkAt P.Inx.packed_number P.Gen.wraps P.Gen.following (P.Inx.number i) arena.old
+        result arena.new }
 {
     let (entry, overflow) = arena.remove_inx(i).overflowing();
     match entry {

@@ -8,16 +8,14 @@ use Rattle.chain_linking.proofs.ConnectionLemmas.{starts, not_valid}
 use Rattle.chain_linking.proofs.NeighborLemmas.{valid_link}
 use Rattle.chain_linking.proofs.connection.is_start.Goals as goal
 
-pub returns-in-Some-clause-value : goal.returns-in-Some-clause-value
-returns-in-Some-clause-value g c =
-    starts g.P.Inx.InxKey.packed_number c.args.arena.now _ c.in-Some.link.now _ c.in-Some.ensures.value
-    (sym (ap is_some c.prev.ensures) ∙ (is_some-map _ c.prev.result ∙ c.is_none.ensures))
+pub returns-in-Some : goal.returns-in-Some
+returns-in-Some g c =
+    let value = starts g.P.Inx.InxKey.packed_number c.args.arena.now (g.P.PtrKey.key c.args.p) c.in-Some.link.now _ c.in-Some.ensures.value
+    (sym (ap is_some c.prev.ensures) ∙ (is_some-map _ c.prev.result ∙ c.is_none.ensures)) in
+    record { value = value; occupied = λ is. valid_link (links_view g.P.Inx.InxKey.packed_number c.args.arena.now) _ (value.0 is).valid }
 
-pub returns-in-Some-clause-occupied : goal.returns-in-Some-clause-occupied
-returns-in-Some-clause-occupied g c = λ is.
-    valid_link (links_view g.P.Inx.InxKey.packed_number c.args.arena.now) _
-    ((starts g.P.Inx.InxKey.packed_number c.args.arena.now (g.P.PtrKey.key c.args.p) c.in-Some.link.now _ c.in-Some.ensures.value
-    (sym (ap is_some c.prev.ensures) ∙ (is_some-map _ c.prev.result ∙ c.is_none.ensures))).0 is).valid
-
-pub returns-in-None-clause-value : goal.returns-in-None-clause-value
-returns-in-None-clause-value g c = (λ h. absurd (false≢true h), λ is. absurd (not_valid g.P.Inx.InxKey.packed_number c.args.arena.now _ (λ valid. false≢true (c.in-None.ensures.some.1 valid)) is.valid))
+pub returns-in-None : goal.returns-in-None
+returns-in-None g c = record {
+  value = (λ h. absurd (false≢true h), λ is. absurd (not_valid g.P.Inx.InxKey.packed_number c.args.arena.now _ (λ valid. false≢true (c.in-None.ensures.some.1 valid)) is.valid));
+  occupied = λ h. absurd (false≢true h);
+}

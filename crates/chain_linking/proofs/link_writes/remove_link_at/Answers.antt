@@ -2,6 +2,7 @@
 use Rattle.std.proofs.Common.{of_calls, ◌≡◌, None, Some, refl, sym, ap, ◌∙◌, subst}
 use Rattle.std.specs.Prelude.{is_some}
 use Rattle.std.specs.Option.{option_map}
+use Rattle.std.proofs.lemmas.Bool.{false≢true}
 use Rattle.arena_core.specs.Invalidation.{value_within}
 use Rattle.arena_traits.specs.Arena.{entry_at}
 use Rattle.arena_traits.proofs.ArenaViewLemmas.{value_within-made}
@@ -11,7 +12,8 @@ use Rattle.chain_links.proofs.MappedArenaLemmas.{with_each-remove_at}
 use Rattle.chain_links.proofs.RestLemmas.{set_at_rest}
 use Rattle.chain_linking.proofs.ConnectionLemmas.{prev_of-view_after, next_of-view_after}
 use Rattle.chain_links.specs.ChainArena.{link_map}
-use Rattle.chain_linking.proofs.UnlinkLemmas.{WereBeside, removal_by_steps, were_beside}
+use Rattle.chain_linking.specs.LinkWrites.{WereBeside}
+use Rattle.chain_linking.proofs.UnlinkLemmas.{removal_by_steps, were_beside}
 use Rattle.chain_linking.proofs.link_writes.remove_link_at.Goals as goal
 use Rattle.chain_linking.proofs.link_writes.remove_link_at.Goals.{After-next}
 use Rattle.chain_linking.proofs.link_writes.remove_link_at.Given.{Over}
@@ -32,56 +34,44 @@ beside g c =
     (ap (links_view packed) (c.remove_inx.ensures.more (ap is_some stored)) ∙ with_each-remove_at (link_view packed) g.P.Gen.GenKey.following a n) c.requires
     (named_prev ∙ sym (prev_of-view_after packed a (n, c.in-Some.generation) link stored)) (named_next ∙ sym (next_of-view_after packed a (n, c.in-Some.generation) link stored))
 
-pub connect_former_neighbors-requires-clause-gone : goal.connect_former_neighbors-requires-clause-gone
-connect_former_neighbors-requires-clause-gone g c = (beside g c).gone
+pub connect_former_neighbors-requires : goal.connect_former_neighbors-requires
+connect_former_neighbors-requires g c = beside g c
 
-pub connect_former_neighbors-requires-clause-before : goal.connect_former_neighbors-requires-clause-before
-connect_former_neighbors-requires-clause-before g c = (beside g c).before
-
-pub connect_former_neighbors-requires-clause-after : goal.connect_former_neighbors-requires-clause-after
-connect_former_neighbors-requires-clause-after g c = (beside g c).after
-
-pub connect_former_neighbors-requires-clause-ring : goal.connect_former_neighbors-requires-clause-ring
-connect_former_neighbors-requires-clause-ring g c = (beside g c).ring
-
-pub returns-in-Some-clause-returned : goal.returns-in-Some-clause-returned
-returns-in-Some-clause-returned g c =
-    let packed = g.P.Inx.InxKey.packed_number in
-    let a = c.args.arena.now in
-    let n = g.P.Inx.InxKey.number c.args.i in
-    let stored : entry_at a n ≡ Some (c.in-Some.generation, c.in-Some.link) = sym c.remove_inx.ensures.returned ∙ (sym (ap (λ x. x.0) c.overflowing-entry.ensures) ∙ c.in-Some.is) in
-    let found : value_within c.outcome.result ≡ Some (c.in-Some.generation, c.in-Some.link) = search (of_calls, value_within-made) in
-    ap (option_map (pair_view packed)) found ∙ sym (entry_at-links_view packed a n ∙ ap (option_map (pair_view packed)) stored)
-
-pub returns-in-Some-clause-valid : goal.returns-in-Some-clause-valid
-returns-in-Some-clause-valid g c =
+pub returns-in-Some : goal.returns-in-Some
+returns-in-Some g c =
     let number = g.P.Inx.InxKey.number in
     let packed = g.P.Inx.InxKey.packed_number in
     let a = c.args.arena.now in
     let n = number c.args.i in
     let link = c.in-Some.link in
     let stored : entry_at a n ≡ Some (c.in-Some.generation, link) = sym c.remove_inx.ensures.returned ∙ (sym (ap (λ x. x.0) c.overflowing-entry.ensures) ∙ c.in-Some.is) in
+    let found : value_within c.outcome.result ≡ Some (c.in-Some.generation, link) = search (of_calls, value_within-made) in
     let named_prev : option_map number c.prev.result ≡ packed link.prev = search of_calls in
     let named_next : option_map number c.next.result ≡ packed link.next = search of_calls in
-    λ _. removal_by_steps g.P.Gen.GenKey.following (links_view packed a) (links_view packed c.remove_inx.new.self) (links_view packed c.connect_former_neighbors.new.arena) n
-    (option_map number c.prev.result) (option_map number c.next.result)
-    (ap (links_view packed) (c.remove_inx.ensures.more (ap is_some stored)) ∙ with_each-remove_at (link_view packed) g.P.Gen.GenKey.following a n)
-    c.connect_former_neighbors.ensures.links
-    (named_prev ∙ sym (prev_of-view_after packed a (n, c.in-Some.generation) link stored))
-    (named_next ∙ sym (next_of-view_after packed a (n, c.in-Some.generation) link stored))
+    record {
+      returned = ap (option_map (pair_view packed)) found ∙ sym (entry_at-links_view packed a n ∙ ap (option_map (pair_view packed)) stored);
+      overflow = search (of_calls, value_within-made);
+      valid = λ _. removal_by_steps g.P.Gen.GenKey.following (links_view packed a) (links_view packed c.remove_inx.new.self) (links_view packed c.connect_former_neighbors.new.arena) n
+          (option_map number c.prev.result) (option_map number c.next.result)
+          (ap (links_view packed) (c.remove_inx.ensures.more (ap is_some stored)) ∙ with_each-remove_at (link_view packed) g.P.Gen.GenKey.following a n)
+          c.connect_former_neighbors.ensures.links
+          (named_prev ∙ sym (prev_of-view_after packed a (n, c.in-Some.generation) link stored))
+          (named_next ∙ sym (next_of-view_after packed a (n, c.in-Some.generation) link stored));
+      invalid = λ none. absurd (false≢true (sym (ap is_some none) ∙ ap is_some found));
+      at_rest = λ rest. c.connect_former_neighbors.ensures.at_rest (subst (λ b. AreAtRest packed b.slots) (sym (c.remove_inx.ensures.more (ap is_some stored))) (set_at_rest packed a.slots n None refl rest));
+    }
 
-pub returns-in-Some-clause-at_rest : goal.returns-in-Some-clause-at_rest
-returns-in-Some-clause-at_rest g c =
-    let packed = g.P.Inx.InxKey.packed_number in
-    let a = c.args.arena.now in
-    let n = g.P.Inx.InxKey.number c.args.i in
-    let stored : entry_at a n ≡ Some (c.in-Some.generation, c.in-Some.link) = sym c.remove_inx.ensures.returned ∙ (sym (ap (λ x. x.0) c.overflowing-entry.ensures) ∙ c.in-Some.is) in
-    λ rest. c.connect_former_neighbors.ensures.at_rest (subst (λ b. AreAtRest packed b.slots) (sym (c.remove_inx.ensures.more (ap is_some stored))) (set_at_rest packed a.slots n None refl rest))
-
-pub returns-in-None-clause-returned : goal.returns-in-None-clause-returned
-returns-in-None-clause-returned g c =
+pub returns-in-None : goal.returns-in-None
+returns-in-None g c =
     let packed = g.P.Inx.InxKey.packed_number in
     let a = c.args.arena.now in
     let n = g.P.Inx.InxKey.number c.args.i in
     let none : entry_at a n ≡ None = sym c.remove_inx.ensures.returned ∙ (sym (ap (λ x. x.0) c.overflowing-entry.ensures) ∙ c.in-None.is) in
-    sym (entry_at-links_view packed a n ∙ ap (option_map (pair_view packed)) none)
+    let same : c.remove_inx.new.self ≡ a = search of_calls in
+    record {
+      returned = sym (entry_at-links_view packed a n ∙ ap (option_map (pair_view packed)) none);
+      overflow = refl;
+      valid = λ some. absurd (false≢true some);
+      invalid = λ _. same;
+      at_rest = λ rest. subst (λ b. AreAtRest packed b.slots) (sym same) rest;
+    }

@@ -12,8 +12,8 @@ use Rattle.chain_links.proofs.RestLemmas.{written_at_rest}
 use Rattle.chain_linking.proofs.LinkWriteLemmas.{IsWrite, links_view-write, with_link_map-own}
 use Rattle.chain_linking.proofs.link_writes.set_next.Goals as goal
 
-pub returns-in-Some-get_inx_mut-clause-links : goal.returns-in-Some-get_inx_mut-clause-links
-returns-in-Some-get_inx_mut-clause-links g c =
+pub returns-in-Some-get_inx_mut : goal.returns-in-Some-get_inx_mut
+returns-in-Some-get_inx_mut g c =
     let number = g.P.Inx.InxKey.number in
     let packed_number = g.P.Inx.InxKey.packed_number in
     let a = c.args.arena.now in
@@ -22,25 +22,23 @@ returns-in-Some-get_inx_mut-clause-links g c =
     let write : LinkBody (PackedOption g.row.P-Inx.Denot g.row.P-Inx-Word.Denot) g.row.T.Denot → LinkBody (PackedOption g.row.P-Inx.Denot g.row.P-Inx-Word.Denot) g.row.T.Denot = λ l. record l { next = packed } in
     let says : IsWrite packed_number write (with_next (option_map number c.args.next)) = λ l. ap (λ o. with_interlinks (with_next o (interlinks_in (link_view packed_number l))) (link_view packed_number l)) c.set_next.ensures.next in
     let held = rw c.in-Some-get_inx_mut.is at (c.get_inx_mut.follows.holds c.set_next.new.link) in
-    rw c.in-Some.is (ap (links_view packed_number) held.1
-    ∙ (ap (λ l. links_view packed_number (with_value a n l)) c.set_next.ensures.rest
-    ∙ links_view-write packed_number a n c.in-Some-get_inx_mut.link.now write (with_next (option_map number c.args.next)) _ says
-    (sym c.get_inx_mut.ensures.value ∙ ap option_copied_mut c.in-Some-get_inx_mut.is) (λ i. refl)))
-
-pub returns-in-Some-get_inx_mut-clause-at_rest : goal.returns-in-Some-get_inx_mut-clause-at_rest
-returns-in-Some-get_inx_mut-clause-at_rest g c =
-    let packed_number = g.P.Inx.InxKey.packed_number in
-    let a = c.args.arena.now in
-    let n = g.P.Inx.InxKey.number c.in-Some.i in
-    let held = rw c.in-Some-get_inx_mut.is at (c.get_inx_mut.follows.holds c.set_next.new.link) in
     let stored = sym c.get_inx_mut.ensures.value ∙ ap option_copied_mut c.in-Some-get_inx_mut.is in
-    λ rest. subst (λ b. AreAtRest packed_number b.slots) (sym held.1)
-    (written_at_rest packed_number a.slots n c.in-Some-get_inx_mut.link.now c.set_next.new.link stored (ap (λ l. packed_number l.destination) c.set_next.ensures.rest) rest)
+    record {
+      links = rw c.in-Some.is (ap (links_view packed_number) held.1
+          ∙ (ap (λ l. links_view packed_number (with_value a n l)) c.set_next.ensures.rest
+          ∙ links_view-write packed_number a n c.in-Some-get_inx_mut.link.now write (with_next (option_map number c.args.next)) _ says
+          stored (λ i. refl)));
+      at_rest = λ rest. subst (λ b. AreAtRest packed_number b.slots) (sym held.1)
+          (written_at_rest packed_number a.slots n c.in-Some-get_inx_mut.link.now c.set_next.new.link stored (ap (λ l. packed_number l.destination) c.set_next.ensures.rest) rest);
+    }
 
 pub proved_unreachable-assume_proved-requires : goal.proved_unreachable-assume_proved-requires
 proved_unreachable-assume_proved-requires g c = absurd (
     nothing_named g.P.Inx.InxKey.packed_number c.args.arena.now (g.P.Inx.InxKey.number c.in-Some.i)
     (sym c.get_inx_mut.ensures.value ∙ ap option_copied_mut c.in-None-get_inx_mut.is) (rw c.in-Some.is at c.requires))
 
-pub returns-in-None-clause-links : goal.returns-in-None-clause-links
-returns-in-None-clause-links g c = rw c.in-None.is (with_link_map-own (links_view g.P.Inx.InxKey.packed_number c.args.arena.now))
+pub returns-in-None : goal.returns-in-None
+returns-in-None g c = record {
+  links = rw c.in-None.is (with_link_map-own (links_view g.P.Inx.InxKey.packed_number c.args.arena.now));
+  at_rest = λ rest. rest;
+}

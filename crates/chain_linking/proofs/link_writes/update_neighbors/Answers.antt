@@ -19,15 +19,18 @@ write_beside-requires-clause-after g c =
     let a = links_view g.P.Inx.InxKey.packed_number c.args.arena.now in
     subst (λ (v : Option ℕ). IfSome v (HasLink (link_map a))) (sym (c.neighbors_of_position-prev.ensures.after ∙ ap (after_in g.P.Inx.InxKey.number c.args.position) c.inx-i.ensures)) c.requires.after
 
-pub returns-clause-links : goal.returns-clause-links
-returns-clause-links g c =
+pub returns : goal.returns
+returns g c =
     let number = g.P.Inx.InxKey.number in
     let a = links_view g.P.Inx.InxKey.packed_number c.args.arena.now in
     let i = number c.inx-i.result in
     let q = (g.P.PtrKey.key c.args.p).0 in
     let before = before_in number c.args.position q in
     let after = after_in number c.args.position q in
-    named_by_writes a (arena_with_next a before (Some q)) (links_view g.P.Inx.InxKey.packed_number c.write_beside.new.arena) before after q refl
-    (c.write_beside.ensures.links
-    ∙ (ap₂ (λ (u v : Option ℕ). arena_with_prev (arena_with_next a u (Some i)) v (Some i)) (c.neighbors_of_position-prev.ensures.before ∙ ap (before_in number c.args.position) c.inx-i.ensures) (c.neighbors_of_position-prev.ensures.after ∙ ap (after_in number c.args.position) c.inx-i.ensures)
-    ∙ ap (λ (n : ℕ). arena_with_prev (arena_with_next a before (Some n)) after (Some n)) c.inx-i.ensures))
+    record {
+      links = named_by_writes a (arena_with_next a before (Some q)) (links_view g.P.Inx.InxKey.packed_number c.write_beside.new.arena) before after q refl
+          (c.write_beside.ensures.links
+          ∙ (ap₂ (λ (u v : Option ℕ). arena_with_prev (arena_with_next a u (Some i)) v (Some i)) (c.neighbors_of_position-prev.ensures.before ∙ ap (before_in number c.args.position) c.inx-i.ensures) (c.neighbors_of_position-prev.ensures.after ∙ ap (after_in number c.args.position) c.inx-i.ensures)
+          ∙ ap (λ (n : ℕ). arena_with_prev (arena_with_next a before (Some n)) after (Some n)) c.inx-i.ensures));
+      at_rest = c.write_beside.ensures.at_rest;
+    }

@@ -17,7 +17,10 @@ set_prev-requires g c =
     let next = option_map number c.args.next in
     still_named a (links_view g.P.Inx.InxKey.packed_number c.set_next.new.arena) (with_next_at (link_map a) before next) (option_map number c.args.after) (FitsLinks-with_next_at a (link_map a) before next (FitsLinks-link_map a)) c.set_next.ensures.links c.requires.after
 
-pub returns-clause-links : goal.returns-clause-links
-returns-clause-links g c =
+pub returns : goal.returns
+returns g c =
     let number = g.P.Inx.InxKey.number in
-    c.set_prev.ensures.links ∙ ap (λ a. arena_with_prev a (option_map number c.args.after) (option_map number c.args.prev)) c.set_next.ensures.links
+    record {
+      links = c.set_prev.ensures.links ∙ ap (λ a. arena_with_prev a (option_map number c.args.after) (option_map number c.args.prev)) c.set_next.ensures.links;
+      at_rest = λ rest. c.set_prev.ensures.at_rest (c.set_next.ensures.at_rest rest);
+    }
