@@ -1,9 +1,8 @@
 -- Each call is a step.
-use Rattle.std.proofs.Common.{◌≡◌, ◌≢◌, ◌↔◌, ◌⊎◌, inl, inr, ℕ, ◌+◌, ◌<◌, ◌≤◌, Bool, true, false, List, length, min, Option, None, Some, Result, Ok, Err, OnOk, OnErr, refl, sym, ap, ap₂, ◌∙◌, ⊎_elim, subst, arith}
-use Rattle.std.specs.Prelude.{is_some, IsSome, IsTrue, IsOk, IfOk, IfErr, IfSome, OnSome, IfNone}
+use Rattle.std.proofs.Common.{◌≡◌, ◌≢◌, ◌↔◌, ◌⊎◌, ℕ, ◌+◌, ◌<◌, ◌≤◌, Bool, true, false, List, length, min, Option, None, Some, Result, Ok, Err, OnOk, OnErr, refl, sym, ap, ap₂, ◌∙◌, ⊎_elim, subst, arith}
+use Rattle.std.specs.Prelude.{is_some, IsSome, IsOk, IfOk, IfSome, OnSome, IfNone}
 use Rattle.std.specs.Option.{option_map}
 use Rattle.std.proofs.lemmas.Bool.{cases_lt, false≢true}
-use Rattle.std.proofs.lemmas.Option.{none-some}
 use Rattle.arena_core.specs.Invalidation.{value_within, invalidation_result, invalidation_option}
 use Rattle.arena_core.specs.SlotStack.{IsBeyond}
 use Rattle.arena_core.specs.declared.errors.ChainInsertionError.{ChainInsertionError}
@@ -18,81 +17,60 @@ use Rattle.chain_laws.specs.Chains.{LinkMap, prev_of, next_of}
 use Rattle.chain_laws.specs.Insertions.{InsertKind, link_before, link_after, InsertsPairs, Inserts}
 use Rattle.chain_laws.specs.Walks.{IsWalk, TakesWalk}
 use Rattle.chain_laws.proofs.WalkLemmas.Drains.{walk_is_taken}
-use Rattle.arena_traits.specs.Arena.{IsValid, IsCapacityFor, HasCapacityFor, entry_at, entry_count, next_index, with_capacity_of, invalidate_at, overflows_after_clear}
+use Rattle.arena_traits.specs.Arena.{IsValid, IsCapacityFor, HasCapacityFor, entry_count, with_capacity_of, invalidate_at, overflows_after_clear}
 use Rattle.arena_traits.specs.Compressions.{overflows_after_compression}
-use Rattle.arena_traits.specs.Entries.{count, view_after_invalidation, HasFreeCapacity, NeedsBeyondMaximum}
-use Rattle.chain_links.specs.ChainArena.{LinkView, on_value, link_map, value_view, entry, link_value, insert_as, link_at, CanConnect, CanExchange, IsJoin, IsCut, IsExchange, IsRemoval}
+use Rattle.arena_traits.specs.Entries.{view_after_invalidation}
+use Rattle.arena_traits.specs.Growth.{IsFull}
+use Rattle.chain_links.specs.CallEffects.{ReportsOverflow, ConnectsLinks, BreaksPrev, BreaksNext, ExchangesNext, RemovesLink, RemovesLinkAt, GainsLink, InsertsLink, InsertsLinkWithin}
+use Rattle.chain_links.specs.Kinds.{names_in}
+use Rattle.chain_arena.specs.NewLinks.{IsNewLink}
+use Rattle.chain_links.specs.ChainArena.{on_value, link_map, value_view, entry, link_value, link_at, IsJoin, IsCut, IsExchange, IsRemoval}
 use Rattle.chain_links.proofs.ArenaInsertionLemmas.{values-count}
 use Rattle.chain_arena.specs.Drains.{walk_left, without_each}
 use Rattle.chain_links.specs.Links.{link_view}
-use Rattle.chain_arena.specs.Effects.{Links, stays, grown, IsDrained, IsAdded, ReportsOverflow}
+use Rattle.chain_arena.specs.Effects.{Links, GrowsStackToFit, stays, grown, IsDrained, IsAdded}
 use Rattle.chain_arena.specs.PointerKinds.{PointerKind}
-use Rattle.chain_arena.specs.Steps.{ConnectStep, BreakPrevStep, BreakNextStep, ExchangeStep, indexed_kind_of, MayInsertKind, InsertStep, InsertWithinStep, IsTaken, IsRenewed, RemoveStep, RemoveInxStep, InvalidateStep, ReserveStep}
+use Rattle.chain_arena.specs.Steps.{ConnectStep, BreakPrevStep, BreakNextStep, ExchangeStep, indexed_kind_of, InsertStep, InsertWithinStep, IsRemovedLink, IsRenewed, RemoveStep, RemoveInxStep, InvalidateStep, ReserveStep}
 use Rattle.chain_links.specs.declared.kinds.InsertKindBody.{InsertKindBody}
 use Rattle.chain_links.specs.declared.links.LinkBody.{LinkBody}
-use Rattle.chain_arena.proofs.DecidabilityLemmas.{Stable}
-use Rattle.chain_arena.proofs.NewLinkLemmas.{ReturnsInsertion}
+use Rattle.chain_arena.proofs.LinkRemovalLemmas.{reports}
 use Rattle.chain_arena.proofs.ChainDrainLemmas.{link_map-without_each, link_at-entry}
 use Rattle.chain_links.proofs.MappedArenaLemmas.{entry_at-with_each}
 
--- A call that is done exactly if it can be.
-done_is : (P : Bool → Type 0) {Can Done Same : Type 0} → (Can → Done → P true) → ((Can → ⊥) → Same → P false) → (r : Option Unit) → IsSome r ↔ Can → OnSome r Done → IfNone r Same → P (is_some r)
-done_is P made not_made (Some u) some done none = made (some.0 refl) done
-done_is P made not_made None some done none = not_made (λ can. false≢true (some.1 can)) none
-
-pub done_step : (P : Bool → Type 0) {Can Done Same : Type 0} → (Can → Done → P true) → ((Can → ⊥) → Same → P false) → (r : Option Unit) (b : Bool)
-    → IsSome r ↔ Can → OnSome r Done → IfNone r Same → b ≡ is_some r → P b
-done_step P made not_made r b some done none is = subst P (sym is) (done_is P made not_made r some done none)
-
 module _ {Gen T : Type 0} (old new : Links Gen T) where
   -- A join.
-  pub joins : (p q : ℕ × Gen) (r : Option Unit) (b : Bool) → IsSome r ↔ CanConnect (entry old) (link_map old) p q → OnSome r (IsJoin old new p.0 q.0) → IfNone r (new ≡ old) → b ≡ is_some r → ConnectStep old p q b new
-  joins p q r b some state none is = done_step (λ b. ConnectStep old p q b new) (λ can made. (can, made)) (λ no same. (no, same)) r b some state none is
+  pub joins : (p q : ℕ × Gen) (r : Option Unit) (b : Bool) → ConnectsLinks value_view entry link_map old p q r new → OnSome r (IsJoin old new p.0 q.0) → IfNone r (new ≡ old) → b ≡ is_some r → ConnectStep old p q b new
+  joins p q (Some done) b outcome state none is = subst (λ b. ConnectStep old p q b new) (sym is) (outcome.0, state)
+  joins p q None b outcome state none is = subst (λ b. ConnectStep old p q b new) (sym is) (outcome, none)
 
   -- A cut from the previous link.
-  pub breaks_prev : (p : ℕ × Gen) (r : Option Unit) (b : Bool) → IsSome r ↔ (IsValid (entry old) p × IsSome (prev_of (link_map old) p.0)) → OnSome r (IfSome (prev_of (link_map old) p.0) (λ a. IsCut old new a p.0))
+  pub breaks_prev : (p : ℕ × Gen) (r : Option Unit) (b : Bool) → BreaksPrev value_view entry link_map old p r new → OnSome r (IfSome (prev_of (link_map old) p.0) (λ a. IsCut old new a p.0))
       → IfNone r (new ≡ old) → b ≡ is_some r → BreakPrevStep old p b new
-  breaks_prev p r b some state none is = done_step (λ b. BreakPrevStep old p b new) (made (prev_of (link_map old) p.0) refl) (not_made (prev_of (link_map old) p.0) refl) r b some state none is
-    where
-      made : (o : Option ℕ) → prev_of (link_map old) p.0 ≡ o → IsValid (entry old) p × IsSome (prev_of (link_map old) p.0) → IfSome (prev_of (link_map old) p.0) (λ a. IsCut old new a p.0) → BreakPrevStep old p true new
-      made None at can done = absurd (false≢true (subst IsSome at can.1))
-      made (Some a) at can done = (can.0, a, at, subst (λ o. IfSome o (λ a. IsCut old new a p.0)) at done)
-
-      not_made : (o : Option ℕ) → prev_of (link_map old) p.0 ≡ o → (IsValid (entry old) p × IsSome (prev_of (link_map old) p.0) → ⊥) → new ≡ old → BreakPrevStep old p false new
-      not_made None at cannot same = (λ valid. at, same)
-      not_made (Some a) at cannot same = (λ valid. absurd (cannot (valid, ap (λ (o : Option ℕ). is_some o) at)), same)
+  breaks_prev p (Some done) b outcome state none is =
+      subst (λ b. BreakPrevStep old p b new) (sym is) (outcome.0, outcome.1, outcome.2, subst (λ o. IfSome o (λ a. IsCut old new a p.0)) outcome.2 state)
+  breaks_prev p None b outcome state none is = subst (λ b. BreakPrevStep old p b new) (sym is) (outcome, none)
 
   -- A cut from the next link.
-  pub breaks_next : (p : ℕ × Gen) (r : Option Unit) (b : Bool) → IsSome r ↔ (IsValid (entry old) p × IsSome (next_of (link_map old) p.0)) → OnSome r (IfSome (next_of (link_map old) p.0) (λ c. IsCut old new p.0 c))
+  pub breaks_next : (p : ℕ × Gen) (r : Option Unit) (b : Bool) → BreaksNext value_view entry link_map old p r new → OnSome r (IfSome (next_of (link_map old) p.0) (λ c. IsCut old new p.0 c))
       → IfNone r (new ≡ old) → b ≡ is_some r → BreakNextStep old p b new
-  breaks_next p r b some state none is = done_step (λ b. BreakNextStep old p b new) (made (next_of (link_map old) p.0) refl) (not_made (next_of (link_map old) p.0) refl) r b some state none is
-    where
-      made : (o : Option ℕ) → next_of (link_map old) p.0 ≡ o → IsValid (entry old) p × IsSome (next_of (link_map old) p.0) → IfSome (next_of (link_map old) p.0) (λ c. IsCut old new p.0 c) → BreakNextStep old p true new
-      made None at can done = absurd (false≢true (subst IsSome at can.1))
-      made (Some c) at can done = (can.0, c, at, subst (λ o. IfSome o (λ c. IsCut old new p.0 c)) at done)
-
-      not_made : (o : Option ℕ) → next_of (link_map old) p.0 ≡ o → (IsValid (entry old) p × IsSome (next_of (link_map old) p.0) → ⊥) → new ≡ old → BreakNextStep old p false new
-      not_made None at cannot same = (λ valid. at, same)
-      not_made (Some c) at cannot same = (λ valid. absurd (cannot (valid, ap (λ (o : Option ℕ). is_some o) at)), same)
+  breaks_next p (Some done) b outcome state none is =
+      subst (λ b. BreakNextStep old p b new) (sym is) (outcome.0, outcome.1, outcome.2, subst (λ o. IfSome o (λ c. IsCut old new p.0 c)) outcome.2 state)
+  breaks_next p None b outcome state none is = subst (λ b. BreakNextStep old p b new) (sym is) (outcome, none)
 
   -- An exchange.
-  pub exchanges : (p q : ℕ × Gen) (r : Option Unit) (b : Bool) → IsSome r ↔ CanExchange (entry old) (link_map old) p q → OnSome r (IsExchange old new p.0 q.0) → IfNone r (new ≡ old) → b ≡ is_some r → ExchangeStep old p q b new
-  exchanges p q r b some state none is = done_step (λ b. ExchangeStep old p q b new) (λ can made. (can, made)) (λ no same. (no, same)) r b some state none is
-
-not_overflowed : {A : Type 0} (b : Bool) (x : A) → Success x ≡ invalidation_result b (Some x) → b ≡ false
-not_overflowed true x known = absurd (let h = known in cc)
-not_overflowed false x known = refl
-
-overflowed : {A : Type 0} (b : Bool) (x : A) → GenerationOverflow x ≡ invalidation_result b (Some x) → b ≡ true
-overflowed true x known = refl
-overflowed false x known = absurd (let h = known in cc)
+  pub exchanges : (p q : ℕ × Gen) (r : Option Unit) (b : Bool) → ExchangesNext value_view entry link_map old p q r new → OnSome r (IsExchange old new p.0 q.0) → IfNone r (new ≡ old) → b ≡ is_some r → ExchangeStep old p q b new
+  exchanges p q (Some done) b outcome state none is = subst (λ b. ExchangeStep old p q b new) (sym is) (outcome.0, state)
+  exchanges p q None b outcome state none is = subst (λ b. ExchangeStep old p q b new) (sym is) (outcome, none)
 
 -- A result reports what was done, or else that nothing was.
-pub states : {X : Type 0} {Can Invalid : Type 0} (Done : X → Type 0) (overflow : Bool) (r : InvalidationResult X) → Can ⊎ (Can → ⊥) → r ≡ invalidation_result overflow (value_within r)
-    → (Can → IsSome (value_within r)) → (Can → (x : X) → value_within r ≡ Some x → Done x) → ((Can → ⊥) → (value_within r ≡ None) × Invalid) → ReportsOverflow Invalid overflow Done r
-states Done overflow (Success x) can known some done invalid = ⊎_elim (λ is. (not_overflowed overflow x known, done is x refl)) (λ no. absurd (let h = (invalid no).0 in cc)) can
-states Done overflow (GenerationOverflow x) can known some done invalid = ⊎_elim (λ is. (overflowed overflow x known, done is x refl)) (λ no. absurd (let h = (invalid no).0 in cc)) can
-states Done overflow InvalidPtr can known some done invalid = ⊎_elim (λ is. absurd (false≢true (some is))) (λ no. (invalid no).1) can
+pub states : {X Gen : Type 0} {Can Invalid : Type 0} (Done : X → Type 0) (wraps : Gen → Bool) (counter : Gen) (r : InvalidationResult X) → Can ⊎ (Can → ⊥) → r ≡ invalidation_result (wraps counter) (value_within r)
+    → (Can → IsSome (value_within r)) → (Can → (x : X) → value_within r ≡ Some x → Done x) → ((Can → ⊥) → (value_within r ≡ None) × Invalid) → ReportsOverflow wraps (Some counter) Invalid Done r
+states Done wraps counter r can known some done invalid = reports wraps counter _ Done r known
+    (λ none. ⊎_elim (λ is. absurd (none-some none (some is))) (λ no. (invalid no).1) can)
+    (λ x is. ⊎_elim (λ can. done can x is) (λ no. absurd (let h = (invalid no).0 in let both = sym is ∙ h in cc)) can)
+  where
+    none-some : {X : Type 0} {o : Option X} → o ≡ None → is_some o ≡ true → ⊥
+    none-some none some = let n = ap is_some none in let both = sym n ∙ some in absurd (cc)
 
 module _ {Gen T : Type 0} where
   -- A drain that took some links from a pointer's link on, and then the rest.
@@ -126,119 +104,79 @@ module _ {P I Gen W T : Type 0} (pointers : PointerKind P I Gen W) where
       lacking : old.capacity < n
       lacking = ⊎_elim (λ less. less) (λ enough. absurd (false≢true (within enough).0)) (cases_lt old.capacity n)
 
-module _ {P I Gen W T : Type 0} (pointers : PointerKind P I Gen W) (old new : Links Gen T) (kind : InsertKindBody P I) (t : T) (decides : Stable (MayInsertKind pointers old kind))
-    (links : ℕ) (counted : links ≡ count (value_view old)) (fits : links ≤ old.capacity) where
+module _ {P I Gen W T : Type 0} (pointers : PointerKind P I Gen W) (old new : Links Gen T) (kind : InsertKindBody P I) (t : T) (may_reach : ℕ → Option ℕ → ℕ → ℕ → Type 0) where
   abbrev by : InsertKind ℕ
   by = indexed_kind_of pointers kind
 
-  abbrev IsReturned : Result P ChainInsertionError → Type 0
-  IsReturned = ReturnsInsertion pointers.key pointers.number old kind t new
+  added : (p : P) → GainsLink value_view entry link_map (names_in pointers.key pointers.number kind) t old (pointers.key p) new → IsNewLink pointers.key pointers.number may_reach pointers.greatest old kind t p new → IsAdded pointers.key old by t p new
+  added p gained more =
+      let place = ap (λ (x : ℕ × Gen). x.0) more.pointer in record {
+        pointer = more.pointer;
+        state = more.state;
+        pairs = subst (λ q. InsertsPairs (link_map old) (link_map new) q (link_before (link_map old) by q) (link_after (link_map old) by q)) place gained.pairs;
+        chains = subst (λ q. Inserts (link_map old) (link_map new) q (link_before (link_map old) by q) (link_after (link_map old) by q)) place gained.chains;
+      }
 
-  -- A kind that is not refused for its links may be inserted.
-  may : (r : Result P ChainInsertionError) → (r ≡ Err failed.FailedLinkRequirement) ↔ (MayInsertKind pointers old kind → ⊥) → (r ≡ Err failed.FailedLinkRequirement → ⊥) → MayInsertKind pointers old kind
-  may r link other = decides (λ no. other (link.1 no))
+  -- A full arena has no capacity for one more link.
+  no_capacity : IsFull (value_view old) → old.capacity < entry_count old + 1
+  no_capacity full = let counted = values-count old in omega (arith, full, counted)
 
-  added : (p : P) → IsReturned (Ok p) → (pointers.key p).0 ≡ next_index old → new ≡ with_capacity_of (insert_as old by t) new → IsAdded pointers.key old by t p new
-  added p inserted place state = record {
-    pointer = ap₂ (λ (i : ℕ) (g : Gen). (i, g)) place inserted.generation;
-    state = state;
-    pairs = subst (λ q. InsertsPairs (link_map old) (link_map new) q (link_before (link_map old) by q) (link_after (link_map old) by q)) place inserted.pairs;
-    chains = subst (λ q. Inserts (link_map old) (link_map new) q (link_before (link_map old) by q) (link_after (link_map old) by q)) place inserted.chains;
-  }
-
-  -- In an arena without free capacity, one more link exceeds the capacity.
-  is_full : (more : Type 0) → (HasFreeCapacity (value_view old) → IsTrue false × more) → old.capacity < entry_count old + 1
-  is_full more within_capacity = let none : HasFreeCapacity (value_view old) → ⊥ = (λ left. false≢true (within_capacity left).0) in omega (arith, none, values-count old)
+  grows : (p : P) → IsNewLink pointers.key pointers.number may_reach pointers.greatest old kind t p new → GrowsStackToFit pointers.greatest (entry_count old + 1) old new
+  grows p more =
+      let counted = values-count old in
+      ⊎_elim
+      (λ less. let state = more.state_within_capacity (omega (arith, less, counted)) in stays (omega (arith, less)) (ap (λ (a : Links Gen T). a.capacity) state) (ap (λ (a : Links Gen T). a.stack_capacity) state))
+      (λ full. grown (omega (arith, full)) more.grown.capacity)
+      (cases_lt (entry_count old) old.capacity)
 
   -- An insertion that may grow.
-  pub inserts_growing : (r : Result P ChainInsertionError) (more : Type 0) → IsReturned r → OnErr r (new ≡ old) → (r ≡ Err failed.FailedLinkRequirement) ↔ (MayInsertKind pointers old kind → ⊥)
-      → IfErr r (λ e. e ≢ failed.NotWithinCapacity) → (MayInsertKind pointers old kind → HasFreeCapacity (value_view old) → IsOk r × more)
-      → (r ≡ Err failed.BeyondMaxCapacity) ↔ (MayInsertKind pointers old kind × NeedsBeyondMaximum (value_view old))
-      → IfOk r (λ p. (pointers.key p).0 ≡ next_index old) → OnOk r (new ≡ with_capacity_of (insert_as old by t) new)
-      → (MayInsertKind pointers old kind → entry_count old < old.capacity → new ≡ insert_as old by t) → OnOk r (HasCapacityFor pointers.greatest (entry_count old + 1) new) → InsertStep pointers old kind t r new
-  inserts_growing (Ok p) more inserted same link error within_capacity beyond place state runs_determined has_capacity =
-      let can = may (Ok p) link (λ failed. cc) in (
-        can,
-        added p inserted place state,
-        ⊎_elim
-            (λ less. stays (omega (arith, less)) (ap (λ (a : Links Gen T). a.capacity) (runs_determined can less)) (ap (λ (a : Links Gen T). a.stack_capacity) (runs_determined can less)))
-            (λ full. grown (omega (arith, full)) has_capacity)
-            (cases_lt (entry_count old) old.capacity),
-      )
-  inserts_growing (Err failed.FailedLinkRequirement) more inserted same link error within_capacity beyond place state runs_determined has_capacity = (link.0 refl, same)
-  inserts_growing (Err failed.NotWithinCapacity) more inserted same link error within_capacity beyond place state runs_determined has_capacity = error refl
-  inserts_growing (Err failed.AllocError) more inserted same link error within_capacity beyond place state runs_determined has_capacity =
-      let can = may (Err failed.AllocError) link (λ failed. cc) in
-      let full = is_full more (within_capacity can) in (
-        can,
-        (full, λ past. let failed = beyond.1 (can, (omega (arith, counted, fits, full, values-count old), subst (λ n. IsBeyond old.maximum (n + 1)) (sym (values-count old)) past)) in absurd (cc)),
-        same,
-      )
-  inserts_growing (Err failed.BeyondMaxCapacity) more inserted same link error within_capacity beyond place state runs_determined has_capacity =
-      let past = beyond.0 refl in
-      (past.0, (is_full more (within_capacity past.0), subst (λ n. IsBeyond old.maximum (n + 1)) (values-count old) past.1.1), same)
+  pub inserts_growing : (r : Result P ChainInsertionError) → InsertsLink value_view entry link_map pointers.key pointers.number pointers.greatest old kind t r new → OnErr r (new ≡ old)
+      → IfOk r (λ p. IsNewLink pointers.key pointers.number may_reach pointers.greatest old kind t p new) → InsertStep pointers old kind t r new
+  inserts_growing (Ok p) outcome same more = ((outcome.0, (added p outcome.1.0 more, grows p more)), tt)
+  inserts_growing (Err failed.FailedLinkRequirement) outcome same more = (outcome, same)
+  inserts_growing (Err failed.NotWithinCapacity) outcome same more = absurd outcome
+  inserts_growing (Err failed.AllocError) outcome same more =
+      ((outcome.0, (no_capacity outcome.1.0, λ past. outcome.1.1 (subst (λ n. IsBeyond old.maximum (n + 1)) (sym (values-count old)) past))), same)
+  inserts_growing (Err failed.BeyondMaxCapacity) outcome same more =
+      ((outcome.0, (no_capacity outcome.1.0, subst (λ n. IsBeyond old.maximum (n + 1)) (values-count old) outcome.1.1)), same)
 
   -- An insertion within the capacity.
-  pub inserts_within : (r : Result P ChainInsertionError) → IsReturned r → OnErr r (new ≡ old) → (r ≡ Err failed.FailedLinkRequirement) ↔ (MayInsertKind pointers old kind → ⊥)
-      → (r ≡ Err failed.NotWithinCapacity) ↔ (MayInsertKind pointers old kind × (count (value_view old) ≡ old.capacity)) → IfErr r (λ e. (e ≡ failed.FailedLinkRequirement) ⊎ (e ≡ failed.NotWithinCapacity))
-      → IfOk r (λ p. (pointers.key p).0 ≡ next_index old) → OnOk r (new ≡ insert_as old by t) → InsertWithinStep pointers old kind t r new
-  inserts_within (Ok p) inserted same link full error place state =
-      let can = may (Ok p) link (λ failed. cc) in
-      let within_capacity : count (value_view old) ≡ old.capacity → ⊥ = (λ equal. let failed = full.1 (can, equal) in absurd (cc)) in (
-        can,
-        omega (arith, counted, fits, within_capacity, values-count old),
-        added p inserted place (state ∙ sym (ap₂ (λ n m. record (insert_as old by t) { capacity = n; stack_capacity = m }) (ap (λ (a : Links Gen T). a.capacity) state) (ap (λ (a : Links Gen T). a.stack_capacity) state))),
-        state,
-      )
-  inserts_within (Err failed.FailedLinkRequirement) inserted same link full error place state = (link.0 refl, same)
-  inserts_within (Err failed.NotWithinCapacity) inserted same link full error place state =
-      let equal = (full.0 refl).1 in ((full.0 refl).0, omega (arith, equal, values-count old), same)
-  inserts_within (Err failed.AllocError) inserted same link full error place state = ⊎_elim (λ is. let h = is in absurd (cc)) (λ is. let h = is in absurd (cc)) error
-  inserts_within (Err failed.BeyondMaxCapacity) inserted same link full error place state = ⊎_elim (λ is. let h = is in absurd (cc)) (λ is. let h = is in absurd (cc)) error
+  pub inserts_within : (r : Result P ChainInsertionError) → InsertsLinkWithin value_view entry link_map pointers.key pointers.number old kind t r new → OnErr r (new ≡ old)
+      → IfOk r (λ p. IsNewLink pointers.key pointers.number may_reach pointers.greatest old kind t p new) → InsertWithinStep pointers old kind t r new
+  inserts_within (Ok p) outcome same more =
+      let less = outcome.1 in
+      let counted = values-count old in
+      ((outcome.0, omega (arith, less, counted), (added p outcome.2.0 more, more.state_within_capacity less)), tt)
+  inserts_within (Err failed.FailedLinkRequirement) outcome same more = (outcome, same)
+  inserts_within (Err failed.NotWithinCapacity) outcome same more =
+      let full = outcome.1 in
+      let counted = values-count old in
+      ((outcome.0, omega (arith, full, counted)), same)
+  inserts_within (Err failed.AllocError) outcome same more = absurd outcome
+  inserts_within (Err failed.BeyondMaxCapacity) outcome same more = absurd outcome
 
 module _ {P I Gen W T : Type 0} (pointers : PointerKind P I Gen W) (old new : Links Gen T) where
-  -- There is a link where there is a value.
-  some_link : (i : ℕ) (e : Gen × T) → entry old i ≡ Some e → is_some (entry_at old i) ≡ true
-  some_link i e stored = by (entry_at old i) (sym (entry_at-with_each link_value old i) ∙ stored)
-    where
-      by : (o : Option (Gen × LinkView T)) → option_map (on_value link_value) o ≡ Some e → is_some o ≡ true
-      by None is = absurd (none-some e is)
-      by (Some f) is = refl
-
   -- A removal by pointer.
-  pub removes_link : (p : ℕ × Gen) (r : InvalidationResult (LinkBody (PackedOption I W) T)) → IsValid (entry old) p ⊎ (IsValid (entry old) p → ⊥)
-      → (IsValid (entry old) p → option_map (λ (link : LinkBody (PackedOption I W) T). (p.1, link_view pointers.packed link)) (value_within r) ≡ link_at (entry old) (link_map old) p.0)
-      → (IsValid (entry old) p → IsRemoval pointers.following old p.0 new) → r ≡ invalidation_result (pointers.wraps old.counter) (value_within r)
-      → ((IsValid (entry old) p → ⊥) → (value_within r ≡ None) × (new ≡ old))
-      → RemoveStep pointers old p r new
-  removes_link p r decided known removal overflow invalid = states (λ link. IsTaken pointers old p.0 p.1 link new) (pointers.wraps old.counter) r decided overflow
-      (λ valid. responses (value_within r) (ap (λ (o : Option (Gen × LinkView T)). is_some o) (sym (link_at-entry old p.0) ∙ sym (known valid))) (some_link p.0 (p.1, valid.value) valid.stored))
-      (λ valid link is. record {
-        was_stored = sym (link_at-entry old p.0) ∙ (sym (known valid) ∙ ap (option_map (λ (l : LinkBody (PackedOption I W) T). (p.1, link_view pointers.packed l))) is);
-        removal = removal valid;
-      })
-      (λ no. ((invalid no).0, (no, (invalid no).1)))
-    where
-      responses : (o : Option (LinkBody (PackedOption I W) T)) → is_some (entry_at old p.0) ≡ is_some {T = Gen × LinkView T} (option_map (λ (l : LinkBody (PackedOption I W) T). (p.1, link_view pointers.packed l)) o) → is_some (entry_at old p.0) ≡ true → IsSome o
-      responses None same stored = sym same ∙ stored
-      responses (Some l) same stored = refl
+  pub removes_link : (p : ℕ × Gen) (r : InvalidationResult (LinkBody (PackedOption I W) T)) → RemovesLink value_view entry link_map pointers.packed pointers.following pointers.wraps old p r new
+      → IfNone (value_within r) (new ≡ old) → (IsValid (entry old) p → IsRemoval pointers.following old p.0 new) → RemoveStep pointers old p r new
+  removes_link p InvalidPtr outcome none removal = (outcome, none)
+  removes_link p (Success link) outcome none removal = (outcome.0, record { was_stored = sym (link_at-entry old p.0) ∙ outcome.1.1.0; removal = removal outcome.1.0 })
+  removes_link p (GenerationOverflow link) outcome none removal = (outcome.0, record { was_stored = sym (link_at-entry old p.0) ∙ outcome.1.1.0; removal = removal outcome.1.0 })
 
   -- A removal by index.
-  pub removes_inx : (i : ℕ) (r : InvalidationResult (Gen × LinkBody (PackedOption I W) T)) → option_map (on_value (link_view pointers.packed)) (value_within r) ≡ link_at (entry old) (link_map old) i
-      → (IsSome (entry old i) → IsRemoval pointers.following old i new) → r ≡ invalidation_result (pointers.wraps old.counter) (value_within r) → (entry old i ≡ None → new ≡ old)
-      → RemoveInxStep pointers old i r new
-  removes_inx i r known removal overflow invalid = by (value_within r) refl
+  pub removes_inx : (i : ℕ) (r : InvalidationResult (Gen × LinkBody (PackedOption I W) T)) → RemovesLinkAt value_view entry link_map pointers.packed pointers.following pointers.wraps old i r new
+      → IfNone (value_within r) (new ≡ old) → (IsSome (entry old i) → IsRemoval pointers.following old i new) → RemoveInxStep pointers old i r new
+  removes_inx i r outcome none removal = by r outcome none
     where
-      was_stored : (o : Option (Gen × LinkBody (PackedOption I W) T)) → value_within r ≡ o → entry_at old i ≡ option_map (on_value (link_view pointers.packed)) o
-      was_stored o is = sym (link_at-entry old i) ∙ (sym known ∙ ap (option_map (on_value (link_view pointers.packed))) is)
+      taken : (e : Gen × LinkBody (PackedOption I W) T) → link_at (entry old) (link_map old) i ≡ Some (e.0, link_view pointers.packed e.1) → IsRemovedLink pointers old i e.0 e.1 new
+      taken e is =
+          let stored = sym (link_at-entry old i) ∙ is in
+          record { was_stored = stored; removal = removal (ap is_some (entry_at-with_each link_value old i ∙ ap (option_map (on_value link_value)) stored)) }
 
-      held : (o : Option (Gen × LinkBody (PackedOption I W) T)) → value_within r ≡ o → entry old i ≡ option_map (on_value link_value) (option_map (on_value (link_view pointers.packed)) o)
-      held o is = entry_at-with_each link_value old i ∙ ap (option_map (on_value link_value)) (was_stored o is)
-
-      by : (o : Option (Gen × LinkBody (PackedOption I W) T)) → value_within r ≡ o → RemoveInxStep pointers old i r new
-      by None is = states {Can = ⊥} (λ e. IsTaken pointers old i e.0 e.1 new) (pointers.wraps old.counter) r (inr (λ no. no)) overflow (λ no. absurd no) (λ no. absurd no) (λ no. (is, (held None is, invalid (held None is))))
-      by (Some e) is = states {Can = Unit {0}} (λ e. IsTaken pointers old i e.0 e.1 new) (pointers.wraps old.counter) r (inl tt) overflow (λ _. ap is_some is)
-          (λ _ f now. record { was_stored = was_stored (Some f) now; removal = removal (ap is_some (held (Some e) is)) }) (λ no. absurd (no tt))
+      by : (r : InvalidationResult (Gen × LinkBody (PackedOption I W) T)) → RemovesLinkAt value_view entry link_map pointers.packed pointers.following pointers.wraps old i r new → IfNone (value_within r) (new ≡ old) → RemoveInxStep pointers old i r new
+      by InvalidPtr outcome none = (outcome, none)
+      by (Success e) outcome none = (outcome.0, taken e outcome.1.0)
+      by (GenerationOverflow e) outcome none = (outcome.0, taken e outcome.1.0)
 
   -- A new generation for a link.
   pub renews_link : (p : ℕ × Gen) (r : InvalidationResult P) → IsValid (entry old) p ⊎ (IsValid (entry old) p → ⊥)
@@ -246,7 +184,7 @@ module _ {P I Gen W T : Type 0} (pointers : PointerKind P I Gen W) (old new : Li
       → (r ≡ invalidation_result (pointers.wraps old.counter) (value_within r)) × IfSome (value_within r) (λ q. (pointers.key q).1 ≡ pointers.following old.counter)
       → ((IsValid (entry old) p → ⊥) → (value_within r ≡ None) × (new ≡ old)) → (IsValid (entry old) p → (new ≡ invalidate_at pointers.following old p.0) × (link_map new ≡ link_map old))
       → InvalidateStep pointers old p r new
-  renews_link p r decided valid counter invalid state = states (λ q. IsRenewed pointers old p q new) (pointers.wraps old.counter) r decided counter.0 (λ is. (valid is).1)
+  renews_link p r decided valid counter invalid state = states (λ q. IsRenewed pointers old p q new) pointers.wraps old.counter r decided counter.0 (λ is. (valid is).1)
       (λ is q at. (is, ap₂ (λ (i : ℕ) (g : Gen). (i, g)) (subst (λ o. IfSome o (λ q. ((pointers.key q).0 ≡ p.0) × (value_view new ≡ view_after_invalidation (value_view old) (pointers.key q)))) at (valid is).0).0 (subst (λ o. IfSome o (λ q. (pointers.key q).1 ≡ pointers.following old.counter)) at counter.1), (state is).0, (state is).1))
       (λ no. ((invalid no).0, (no, (invalid no).1)))
 

@@ -16,13 +16,15 @@ use Rattle.chain_laws.specs.Cuts.{without_pair}
 use Rattle.chain_laws.specs.Insertions.{InsertKind}
 use Rattle.chain_laws.proofs.WalkLemmas.Walker.{no_other_walk}
 use Rattle.arena_traits.specs.Arena.{IsValid, entry_at, entry_count, with_capacity_of}
-use Rattle.chain_links.specs.ChainArena.{LinkView, on_value, link_map, entry, link_value, insert_as, with_link_map}
+use Rattle.chain_links.specs.ChainArena.{LinkView, on_value, link_map, value_view, entry, link_value, insert_as, with_link_map}
 use Rattle.chain_arena.specs.Drains.{without_each}
 use Rattle.chain_links.specs.Links.{link_view, pair_view}
-use Rattle.chain_arena.specs.Effects.{Links, GrowsToFit, stays, grown, Refuses, ReportsOverflow, IsAdded}
+use Rattle.chain_arena.specs.Effects.{Links, GrowsStackToFit, stays, grown, IsAdded, HaveSameCapacity}
+use Rattle.arena_traits.specs.Growth.{RefusesToFit}
+use Rattle.chain_links.specs.CallEffects.{ReportsOverflow}
 use Rattle.chain_arena.specs.PointerKinds.{PointerKind}
-use Rattle.chain_arena.specs.Runs.{AreSameButTouched, AreSameButCapacityAndTouched, HaveSameCapacity, AreSameResults, AreSameReplies, refused_memory, capacity_needed, HasCapacityAlready, RunWithSameCapacity, EndSame, RunIsDetermined, StepIsDetermined, RunIsDeterminedByCapacity}
-use Rattle.chain_arena.specs.Steps.{ConnectStep, BreakPrevStep, BreakNextStep, ExchangeStep, indexed_kind_of, InsertStep, InsertWithinStep, IsTaken, IsRenewed, DrainChainStep, ReserveStep, Step, Run}
+use Rattle.chain_arena.specs.Runs.{AreSameButTouched, AreSameButCapacityAndTouched, AreSameResults, AreSameReplies, refused_memory, capacity_needed, HasCapacityAlready, RunWithSameCapacity, EndSame, RunIsDetermined, StepIsDetermined, RunIsDeterminedByCapacity}
+use Rattle.chain_arena.specs.Steps.{ConnectStep, BreakPrevStep, BreakNextStep, ExchangeStep, indexed_kind_of, InsertStep, InsertWithinStep, IsRemovedLink, IsRenewed, DrainChainStep, ReserveStep, Step, Run}
 use Rattle.chain_arena.specs.declared.calls.Call.{Call}
 use Rattle.chain_arena.specs.declared.calls.Call.TheVariants as call
 use Rattle.chain_arena.specs.declared.calls.Reply.{Reply}
@@ -30,7 +32,7 @@ use Rattle.chain_arena.specs.declared.calls.Reply.TheVariants as reply
 use Rattle.chain_links.specs.declared.kinds.InsertKindBody.{InsertKindBody}
 use Rattle.chain_links.specs.declared.links.LinkBody.{LinkBody}
 use Rattle.chain_links.proofs.MappedArenaLemmas.{entry_at-with_each}
-use Rattle.chain_arena.proofs.NewLinkLemmas.{not_beyond}
+use Rattle.arena_base.proofs.ArenaGrowthLemmas.{not_beyond}
 use Rattle.chain_arena.proofs.TouchCountLemmas.{touch, compression_same, layout_same, step_touched, run_touched}
 
 -- Two things equal to a third are equal.
@@ -46,7 +48,7 @@ same_but_touched {Gen} {T} a b is = is ∙ ap (λ (n : ℕ). touch n b) (sym (ap
 
 module _ {Gen T : Type 0} where
   -- A sufficient capacity stays.
-  capacity_stays : (greatest n : ℕ) (old new : Links Gen T) → n ≤ old.capacity → GrowsToFit greatest n old new → HaveSameCapacity new old
+  capacity_stays : (greatest n : ℕ) (old new : Links Gen T) → n ≤ old.capacity → GrowsStackToFit greatest n old new → HaveSameCapacity new old
   capacity_stays greatest n old new enough (stays within capacity stack_capacity) = (capacity, stack_capacity)
   capacity_stays greatest n old new enough (grown less within_capacity) = absurd (omega (arith, enough, less))
 
@@ -104,37 +106,37 @@ module _ {Gen T : Type 0} where
   kept_both old a b is_a is_b = same_but_capacity a b (same_but_touched a b (same is_a is_b))
 
   -- An arena that has grown is within the maximum.
-  made_within : (greatest n : ℕ) (old base new : Links Gen T) → base.maximum ≡ old.maximum → new ≡ with_capacity_of base new → GrowsToFit greatest n old new
-      → Refuses n old refused.BeyondMaxCapacity → ⊥
+  made_within : (greatest n : ℕ) (old base new : Links Gen T) → base.maximum ≡ old.maximum → new ≡ with_capacity_of base new → GrowsStackToFit greatest n old new
+      → RefusesToFit n (value_view old) refused.BeyondMaxCapacity → ⊥
   made_within greatest n old base new maximum is (stays within capacity stack_capacity) past = omega (arith, within, past.0)
   made_within greatest n old base new maximum is (grown less within_capacity) past =
       let most : new.maximum ≡ old.maximum = ap (λ (x : Links Gen T). x.maximum) is ∙ maximum in
       not_beyond old.maximum n new.capacity within_capacity.0.fits (subst (λ (o : Option ℕ). IsWithinMaximum o new.capacity) most within_capacity.0.within_maximum) past.1
 
   -- An arena that has grown is within the greatest index.
-  made_up_to : (greatest n : ℕ) (old new : Links Gen T) → GrowsToFit greatest n old new → Refuses n old refused.AllocError → n ≤ greatest
+  made_up_to : (greatest n : ℕ) (old new : Links Gen T) → GrowsStackToFit greatest n old new → RefusesToFit n (value_view old) refused.AllocError → n ≤ greatest
   made_up_to greatest n old new (stays within capacity stack_capacity) absent = absurd (omega (arith, within, absent.0))
   made_up_to greatest n old new (grown less roomy) absent = omega (arith, roomy.0.fits, roomy.0.at_most_greatest)
 
   -- An arena that has grown has more capacity than before.
-  made_more : (greatest n : ℕ) (old new other : Links Gen T) → GrowsToFit greatest n old new → Refuses n old refused.AllocError → other ≡ old → HaveSameCapacity new other → ⊥
+  made_more : (greatest n : ℕ) (old new other : Links Gen T) → GrowsStackToFit greatest n old new → RefusesToFit n (value_view old) refused.AllocError → other ≡ old → HaveSameCapacity new other → ⊥
   made_more greatest n old new other (stays within capacity stack_capacity) absent is within_capacity = omega (arith, within, absent.0)
   made_more greatest n old new other (grown less roomy) absent is within_capacity =
       let kept = ap (λ (x : Links Gen T). x.capacity) is in
       omega (arith, kept, roomy.0.fits, within_capacity.0, less)
 
 -- A result is determined.
-states_same : {X Y S : Type 0} {No : Type 0} (see : X → Y) (Done : X → S → Type 0) (overflow : Bool) (old a b : S) (r s : InvalidationResult X) → ((x : X) (c : S) → Done x c → No → ⊥)
-    → ((x y : X) → Done x a → Done y b → Same (see x) (see y) a b) → ReportsOverflow (No × (a ≡ old)) overflow (λ x. Done x a) r → ReportsOverflow (No × (b ≡ old)) overflow (λ x. Done x b) s → AreSameResults see r s × (a ≡ b)
-states_same see Done overflow old a b (Success x) (Success y) apart once one two = once x y one.1 two.1
-states_same see Done overflow old a b (GenerationOverflow x) (GenerationOverflow y) apart once one two = once x y one.1 two.1
-states_same see Done overflow old a b InvalidPtr InvalidPtr apart once one two = (tt, same one.1 two.1)
-states_same see Done overflow old a b (Success x) (GenerationOverflow y) apart once one two = absurd (false≢true (sym one.0 ∙ two.0))
-states_same see Done overflow old a b (GenerationOverflow x) (Success y) apart once one two = absurd (false≢true (sym two.0 ∙ one.0))
-states_same see Done overflow old a b (Success x) InvalidPtr apart once one two = absurd (apart x a one.1 two.0)
-states_same see Done overflow old a b (GenerationOverflow x) InvalidPtr apart once one two = absurd (apart x a one.1 two.0)
-states_same see Done overflow old a b InvalidPtr (Success y) apart once one two = absurd (apart y b two.1 one.0)
-states_same see Done overflow old a b InvalidPtr (GenerationOverflow y) apart once one two = absurd (apart y b two.1 one.0)
+states_same : {X Y S Gen : Type 0} {No : Type 0} (see : X → Y) (Done : X → S → Type 0) (wraps : Gen → Bool) (counter : Gen) (old a b : S) (r s : InvalidationResult X) → ((x : X) (c : S) → Done x c → No → ⊥)
+    → ((x y : X) → Done x a → Done y b → Same (see x) (see y) a b) → ReportsOverflow wraps (Some counter) (No × (a ≡ old)) (λ x. Done x a) r → ReportsOverflow wraps (Some counter) (No × (b ≡ old)) (λ x. Done x b) s → AreSameResults see r s × (a ≡ b)
+states_same see Done wraps counter old a b (Success x) (Success y) apart once one two = once x y one.1 two.1
+states_same see Done wraps counter old a b (GenerationOverflow x) (GenerationOverflow y) apart once one two = once x y one.1 two.1
+states_same see Done wraps counter old a b InvalidPtr InvalidPtr apart once one two = (tt, same one.1 two.1)
+states_same see Done wraps counter old a b (Success x) (GenerationOverflow y) apart once one two = absurd (false≢true (sym one.0 ∙ two.0))
+states_same see Done wraps counter old a b (GenerationOverflow x) (Success y) apart once one two = absurd (false≢true (sym two.0 ∙ one.0))
+states_same see Done wraps counter old a b (Success x) InvalidPtr apart once one two = absurd (apart x a one.1 two.0)
+states_same see Done wraps counter old a b (GenerationOverflow x) InvalidPtr apart once one two = absurd (apart x a one.1 two.0)
+states_same see Done wraps counter old a b InvalidPtr (Success y) apart once one two = absurd (apart y b two.1 one.0)
+states_same see Done wraps counter old a b InvalidPtr (GenerationOverflow y) apart once one two = absurd (apart y b two.1 one.0)
 
 -- Two results are the same if their whole values are.
 same_known : {X : Type 0} (r s : InvalidationResult X) → AreSameResults (λ x. x) r s → r ≡ s
@@ -188,19 +190,19 @@ module _ {P T I Gen W : Type 0} (pointers : PointerKind P I Gen W) (same_key : (
 
   inserts_within_same : (old a b : Links Gen T) (kind : InsertKindBody P I) (t : T) (r s : Result P ChainInsertionError)
       → InsertWithinStep pointers old kind t r a → InsertWithinStep pointers old kind t s b → Same r s a b
-  inserts_within_same old a b kind t (Ok p) (Ok q) one two = (ap Ok (same_pointer old a b (indexed_kind_of pointers kind) t p q one.2 two.2), same one.3 two.3)
-  inserts_within_same old a b kind t (Ok p) (Err failed.FailedLinkRequirement) one two = absurd (two.0 one.0)
-  inserts_within_same old a b kind t (Ok p) (Err failed.NotWithinCapacity) one two = absurd (omega (arith, one.1, two.1))
-  inserts_within_same old a b kind t (Err failed.FailedLinkRequirement) (Ok q) one two = absurd (one.0 two.0)
+  inserts_within_same old a b kind t (Ok p) (Ok q) one two = (ap Ok (same_pointer old a b (indexed_kind_of pointers kind) t p q one.0.2.0 two.0.2.0), same one.0.2.1 two.0.2.1)
+  inserts_within_same old a b kind t (Ok p) (Err failed.FailedLinkRequirement) one two = absurd (two.0 one.0.0)
+  inserts_within_same old a b kind t (Ok p) (Err failed.NotWithinCapacity) one two = absurd (omega (arith, one.0.1, two.0.1))
+  inserts_within_same old a b kind t (Err failed.FailedLinkRequirement) (Ok q) one two = absurd (one.0 two.0.0)
   inserts_within_same old a b kind t (Err failed.FailedLinkRequirement) (Err failed.FailedLinkRequirement) one two = (refl, same one.1 two.1)
-  inserts_within_same old a b kind t (Err failed.FailedLinkRequirement) (Err failed.NotWithinCapacity) one two = absurd (one.0 two.0)
-  inserts_within_same old a b kind t (Err failed.NotWithinCapacity) (Ok q) one two = absurd (omega (arith, two.1, one.1))
-  inserts_within_same old a b kind t (Err failed.NotWithinCapacity) (Err failed.FailedLinkRequirement) one two = absurd (two.0 one.0)
-  inserts_within_same old a b kind t (Err failed.NotWithinCapacity) (Err failed.NotWithinCapacity) one two = (refl, same one.2 two.2)
-  inserts_within_same old a b kind t (Err failed.BeyondMaxCapacity) s one two = absurd one
-  inserts_within_same old a b kind t (Err failed.AllocError) s one two = absurd one
-  inserts_within_same old a b kind t r (Err failed.BeyondMaxCapacity) one two = absurd two
-  inserts_within_same old a b kind t r (Err failed.AllocError) one two = absurd two
+  inserts_within_same old a b kind t (Err failed.FailedLinkRequirement) (Err failed.NotWithinCapacity) one two = absurd (one.0 two.0.0)
+  inserts_within_same old a b kind t (Err failed.NotWithinCapacity) (Ok q) one two = absurd (omega (arith, two.0.1, one.0.1))
+  inserts_within_same old a b kind t (Err failed.NotWithinCapacity) (Err failed.FailedLinkRequirement) one two = absurd (two.0 one.0.0)
+  inserts_within_same old a b kind t (Err failed.NotWithinCapacity) (Err failed.NotWithinCapacity) one two = (refl, same one.1 two.1)
+  inserts_within_same old a b kind t (Err failed.BeyondMaxCapacity) s one two = absurd one.0
+  inserts_within_same old a b kind t (Err failed.AllocError) s one two = absurd one.0
+  inserts_within_same old a b kind t r (Err failed.BeyondMaxCapacity) one two = absurd two.0
+  inserts_within_same old a b kind t r (Err failed.AllocError) one two = absurd two.0
 
   -- A drain is determined, since a walk is.
   drains_same : (old a b : Links Gen T) (p : ℕ × Gen) (take : ℕ) (r s : Option ℕ) → DrainChainStep pointers old p take r a → DrainChainStep pointers old p take s b → Same r s a b
@@ -224,28 +226,28 @@ module _ {P T I Gen W : Type 0} (pointers : PointerKind P I Gen W) (same_key : (
   inserts_apart : (old a b : Links Gen T) (kind : InsertKindBody P I) (t : T) (r s : Result P ChainInsertionError)
       → InsertStep pointers old kind t r a → InsertStep pointers old kind t s b → AlikeOrApart (entry_count old + 1) (reply.Inserted r) (reply.Inserted s) a b
   inserts_apart old a b kind t (Ok p) (Ok q) one two = inl (
-    ap (λ (x : P). reply.Inserted (Ok x)) (same_pointer old a b (indexed_kind_of pointers kind) t p q one.1 two.1),
-    both_but_capacity (insert_as old (indexed_kind_of pointers kind) t) a b one.1.state two.1.state,
+    ap (λ (x : P). reply.Inserted (Ok x)) (same_pointer old a b (indexed_kind_of pointers kind) t p q one.0.1.0 two.0.1.0),
+    both_but_capacity (insert_as old (indexed_kind_of pointers kind) t) a b one.0.1.0.state two.0.1.0.state,
   )
-  inserts_apart old a b kind t (Ok p) (Err failed.FailedLinkRequirement) one two = absurd (two.0 one.0)
-  inserts_apart old a b kind t (Ok p) (Err failed.BeyondMaxCapacity) one two = absurd (made_within pointers.greatest (entry_count old + 1) old (insert_as old (indexed_kind_of pointers kind) t) a refl one.1.state one.2 two.1)
+  inserts_apart old a b kind t (Ok p) (Err failed.FailedLinkRequirement) one two = absurd (two.0 one.0.0)
+  inserts_apart old a b kind t (Ok p) (Err failed.BeyondMaxCapacity) one two = absurd (made_within pointers.greatest (entry_count old + 1) old (insert_as old (indexed_kind_of pointers kind) t) a refl one.0.1.0.state one.0.1.1 two.0.1)
   inserts_apart old a b kind t (Ok p) (Err failed.AllocError) one two =
-      inr (made_up_to pointers.greatest (entry_count old + 1) old a one.2 two.1, (λ alike. false≢true alike), made_more pointers.greatest (entry_count old + 1) old a b one.2 two.1 two.2)
-  inserts_apart old a b kind t (Err failed.FailedLinkRequirement) (Ok q) one two = absurd (one.0 two.0)
+      inr (made_up_to pointers.greatest (entry_count old + 1) old a one.0.1.1 two.0.1, (λ alike. false≢true alike), made_more pointers.greatest (entry_count old + 1) old a b one.0.1.1 two.0.1 two.1)
+  inserts_apart old a b kind t (Err failed.FailedLinkRequirement) (Ok q) one two = absurd (one.0 two.0.0)
   inserts_apart old a b kind t (Err failed.FailedLinkRequirement) (Err failed.FailedLinkRequirement) one two = inl (refl, kept_both old a b one.1 two.1)
-  inserts_apart old a b kind t (Err failed.FailedLinkRequirement) (Err failed.BeyondMaxCapacity) one two = absurd (one.0 two.0)
-  inserts_apart old a b kind t (Err failed.FailedLinkRequirement) (Err failed.AllocError) one two = absurd (one.0 two.0)
-  inserts_apart old a b kind t (Err failed.BeyondMaxCapacity) (Ok q) one two = absurd (made_within pointers.greatest (entry_count old + 1) old (insert_as old (indexed_kind_of pointers kind) t) b refl two.1.state two.2 one.1)
-  inserts_apart old a b kind t (Err failed.BeyondMaxCapacity) (Err failed.FailedLinkRequirement) one two = absurd (two.0 one.0)
-  inserts_apart old a b kind t (Err failed.BeyondMaxCapacity) (Err failed.BeyondMaxCapacity) one two = inl (refl, kept_both old a b one.2 two.2)
-  inserts_apart old a b kind t (Err failed.BeyondMaxCapacity) (Err failed.AllocError) one two = absurd (two.1.1 one.1.1)
+  inserts_apart old a b kind t (Err failed.FailedLinkRequirement) (Err failed.BeyondMaxCapacity) one two = absurd (one.0 two.0.0)
+  inserts_apart old a b kind t (Err failed.FailedLinkRequirement) (Err failed.AllocError) one two = absurd (one.0 two.0.0)
+  inserts_apart old a b kind t (Err failed.BeyondMaxCapacity) (Ok q) one two = absurd (made_within pointers.greatest (entry_count old + 1) old (insert_as old (indexed_kind_of pointers kind) t) b refl two.0.1.0.state two.0.1.1 one.0.1)
+  inserts_apart old a b kind t (Err failed.BeyondMaxCapacity) (Err failed.FailedLinkRequirement) one two = absurd (two.0 one.0.0)
+  inserts_apart old a b kind t (Err failed.BeyondMaxCapacity) (Err failed.BeyondMaxCapacity) one two = inl (refl, kept_both old a b one.1 two.1)
+  inserts_apart old a b kind t (Err failed.BeyondMaxCapacity) (Err failed.AllocError) one two = absurd (two.0.1.1 one.0.1.1)
   inserts_apart old a b kind t (Err failed.AllocError) (Ok q) one two =
-      inr (made_up_to pointers.greatest (entry_count old + 1) old b two.2 one.1, (λ alike. false≢true (sym alike)), λ within_capacity. made_more pointers.greatest (entry_count old + 1) old b a two.2 one.1 one.2 (sym within_capacity.0, sym within_capacity.1))
-  inserts_apart old a b kind t (Err failed.AllocError) (Err failed.FailedLinkRequirement) one two = absurd (two.0 one.0)
-  inserts_apart old a b kind t (Err failed.AllocError) (Err failed.BeyondMaxCapacity) one two = absurd (one.1.1 two.1.1)
-  inserts_apart old a b kind t (Err failed.AllocError) (Err failed.AllocError) one two = inl (refl, kept_both old a b one.2 two.2)
-  inserts_apart old a b kind t (Err failed.NotWithinCapacity) s one two = absurd one
-  inserts_apart old a b kind t r (Err failed.NotWithinCapacity) one two = absurd two
+      inr (made_up_to pointers.greatest (entry_count old + 1) old b two.0.1.1 one.0.1, (λ alike. false≢true (sym alike)), λ within_capacity. made_more pointers.greatest (entry_count old + 1) old b a two.0.1.1 one.0.1 one.1 (sym within_capacity.0, sym within_capacity.1))
+  inserts_apart old a b kind t (Err failed.AllocError) (Err failed.FailedLinkRequirement) one two = absurd (two.0 one.0.0)
+  inserts_apart old a b kind t (Err failed.AllocError) (Err failed.BeyondMaxCapacity) one two = absurd (one.0.1.1 two.0.1.1)
+  inserts_apart old a b kind t (Err failed.AllocError) (Err failed.AllocError) one two = inl (refl, kept_both old a b one.1 two.1)
+  inserts_apart old a b kind t (Err failed.NotWithinCapacity) s one two = absurd one.0
+  inserts_apart old a b kind t r (Err failed.NotWithinCapacity) one two = absurd two.0
 
   reserves_apart : (old a b : Links Gen T) (n : ℕ) (r s : Result Unit ReallocationError) → ReserveStep pointers old n r a → ReserveStep pointers old n s b → AlikeOrApart n (reply.Reserved r) (reply.Reserved s) a b
   reserves_apart old a b n (Ok u) (Ok v) one two = inl (refl, both_but_capacity old a b one.0 two.0)
@@ -267,11 +269,11 @@ module _ {P T I Gen W : Type 0} (pointers : PointerKind P I Gen W) (same_key : (
 
   -- The capacity sufficed already, and is unchanged.
   inserts_in_capacity : (old new : Links Gen T) (kind : InsertKindBody P I) (t : T) (r : Result P ChainInsertionError) → entry_count old < old.capacity → InsertStep pointers old kind t r new → HaveSameCapacity new old
-  inserts_in_capacity old new kind t (Ok p) within_capacity step = capacity_stays pointers.greatest (entry_count old + 1) old new (omega (arith, within_capacity)) step.2
+  inserts_in_capacity old new kind t (Ok p) within_capacity step = capacity_stays pointers.greatest (entry_count old + 1) old new (omega (arith, within_capacity)) step.0.1.1
   inserts_in_capacity old new kind t (Err failed.FailedLinkRequirement) within_capacity step = capacity_kept old new step.1
-  inserts_in_capacity old new kind t (Err failed.BeyondMaxCapacity) within_capacity step = capacity_kept old new step.2
-  inserts_in_capacity old new kind t (Err failed.AllocError) within_capacity step = capacity_kept old new step.2
-  inserts_in_capacity old new kind t (Err failed.NotWithinCapacity) within_capacity step = absurd step
+  inserts_in_capacity old new kind t (Err failed.BeyondMaxCapacity) within_capacity step = capacity_kept old new step.1
+  inserts_in_capacity old new kind t (Err failed.AllocError) within_capacity step = capacity_kept old new step.1
+  inserts_in_capacity old new kind t (Err failed.NotWithinCapacity) within_capacity step = absurd step.0
 
   reserves_in_capacity : (old new : Links Gen T) (n : ℕ) (r : Result Unit ReallocationError) → n ≤ old.capacity → ReserveStep pointers old n r new → HaveSameCapacity new old
   reserves_in_capacity old new n (Ok done) within_capacity step = capacity_stays pointers.greatest n old new within_capacity step.1
@@ -289,18 +291,18 @@ module _ {P T I Gen W : Type 0} (pointers : PointerKind P I Gen W) (same_key : (
   step_same old (call.BreakNext p) r s a b within_capacity one two = responded_same reply.Done r s one.0 two.0 a b one.1 two.1 (breaks_next_same old a b (pointers.key p) one.0 two.0 one.2 two.2)
   step_same old (call.ExchangeNext p q) r s a b within_capacity one two = responded_same reply.Done r s one.0 two.0 a b one.1 two.1 (exchanges_same old a b (pointers.key p) (pointers.key q) one.0 two.0 one.2 two.2)
   step_same old (call.Remove p) r s a b within_capacity one two =
-      let both = states_same (link_view pointers.packed) (λ link c. IsTaken pointers old (pointers.key p).0 (pointers.key p).1 link c) (pointers.wraps old.counter) old a b one.0 two.0
+      let both = states_same (link_view pointers.packed) (λ link c. IsRemovedLink pointers old (pointers.key p).0 (pointers.key p).1 link c) pointers.wraps old.counter old a b one.0 two.0
       (λ link c taken cannot. cannot (record { value = link.t; stored = stored old (pointers.key p).0 (pointers.key p).1 link taken.was_stored }))
       (λ k l first second. (ap (λ (e : Gen × LinkView T). e.1) (same_entry old (pointers.key p).0 (pointers.key p).1 (pointers.key p).1 k l first.was_stored second.was_stored), same first.removal.state second.removal.state)) one.2 two.2 in
       (subst (λ x. AreSameReplies pointers.packed x s) (sym one.1) (subst (λ x. AreSameReplies pointers.packed (reply.Removed one.0) x) (sym two.1) both.0), same_but_touched a b both.1)
   step_same old (call.RemoveInx i) r s a b within_capacity one two =
-      let both = states_same (pair_view pointers.packed) (λ (e : Gen × LinkBody (PackedOption I W) T) c. IsTaken pointers old (pointers.number i) e.0 e.1 c) (pointers.wraps old.counter) old a b one.0 two.0
+      let both = states_same (pair_view pointers.packed) (λ (e : Gen × LinkBody (PackedOption I W) T) c. IsRemovedLink pointers old (pointers.number i) e.0 e.1 c) pointers.wraps old.counter old a b one.0 two.0
       (λ e c taken none. none-some _ (sym none ∙ stored old (pointers.number i) e.0 e.1 taken.was_stored))
       (λ k l first second. (same_entry old (pointers.number i) k.0 l.0 k.1 l.1 first.was_stored second.was_stored, same first.removal.state second.removal.state)) one.2 two.2 in
       (subst (λ x. AreSameReplies pointers.packed x s) (sym one.1) (subst (λ x. AreSameReplies pointers.packed (reply.RemovedInx one.0) x) (sym two.1) both.0), same_but_touched a b both.1)
   step_same old (call.Invalidate p) r s a b within_capacity one two =
       let both = states_same {No = IsValid (entry old) (pointers.key p) → ⊥} (λ (q : P). q) (λ (q : P) (c : Links Gen T). IsRenewed pointers old (pointers.key p) q c)
-      (pointers.wraps old.counter) old a b one.0 two.0 (λ q c done cannot. cannot done.0) (λ q m first second. (same_key q m (same first.1 second.1), same first.2 second.2)) one.2 two.2 in
+      pointers.wraps old.counter old a b one.0 two.0 (λ q c done cannot. cannot done.0) (λ q m first second. (same_key q m (same first.1 second.1), same first.2 second.2)) one.2 two.2 in
       responded_same reply.Renewed r s one.0 two.0 a b one.1 two.1 (same_known one.0 two.0 both.0, both.1)
   step_same old (call.DrainChain p take) r s a b within_capacity one two = responded_same reply.Drained r s one.0 two.0 a b one.1 two.1 (drains_same old a b (pointers.key p) take one.0 two.0 one.2 two.2)
   step_same old call.Clear r s a b within_capacity one two = (reports_same r s (same one.0 two.0), same_but_touched a b (same one.1 two.1))

@@ -13,7 +13,6 @@ pub mod TransferLoopLemmas
 pub mod TransferGrowthLemmas
 pub mod ValueLoanLemmas
 pub mod LinkDrainLemmas
-pub mod GrowthResultLemmas
 pub mod RecastLemmas
 pub mod CallRunLemmas
 pub mod CallStepLemmas

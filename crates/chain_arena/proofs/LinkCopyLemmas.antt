@@ -7,6 +7,7 @@ use Rattle.std.specs.List.{FoldsTo}
 use Rattle.std.proofs.lemmas.List.{map-append}
 use Rattle.std.specs.Borrow.{Bor}
 use Rattle.std.specs.Fn.{Mut}
+use Rattle.arena_core.specs.SlotStack.{IsBeyond}
 use Rattle.arena_core.specs.declared.errors.ReallocationError.{ReallocationError}
 use Rattle.arena_core.specs.declared.errors.ReallocationError.TheVariants as refused
 use Rattle.chain_laws.specs.Chains.{Interlinks, IsWellLinked}
@@ -16,7 +17,7 @@ use Rattle.arena_base.specs.Copies.{Copied, Makes, CopiesBy, IsCopyBy, IsCopyCal
 use Rattle.chain_links.specs.declared.links.LinkBody.{LinkBody}
 use Rattle.chain_links.specs.ChainArena.{LinkView, on_value, interlinks_in, interlinks_of, link_map, values_of}
 use Rattle.chain_links.specs.Links.{link_view, links_view, pair_view, held_in, destination_of, AreAtRest}
-use Rattle.chain_arena.specs.LinkCopies.{MakesLink, MakesOf, RefusesOf, IsLinkCopyBy, IsClone}
+use Rattle.chain_arena.specs.LinkCopies.{MakesLink, MakesOf, RefusesOf, IsLinkCopyBy, IsClone, CopiesOrRefuses, CopiesOrLacksCapacity, ClonesOrRefuses}
 use Rattle.arena_base.proofs.SlotCopyLemmas.{made_by, copy_by}
 use Rattle.arena_base.proofs.FoldLemmas.{folds_viewed, folds_mapped}
 use Rattle.chain_links.proofs.MappedArenaLemmas.{slot_at-map, length-with_each}
@@ -260,15 +261,49 @@ module _ {P K U Gen : Type 0} (number : K → Option ℕ) (may_refuse : P → Li
     by (inl ok) = false≢true (sym (ap is_ok is) ∙ ok)
     by (inr refused) = none_among refused.before refused.after (key refused.pointer, refused.value) (sym (ap (entries_from 1) (no_slots none)) ∙ refused.stored)
 
--- A result with the same error is beyond the maximum alike.
-pub same_refusal : {A B X : Type 0} (r : Result A ReallocationError) (e : ReallocationError) → r ≡ Err e → (r ≡ Err refused.BeyondMaxCapacity) ↔ X → (let q : Result B ReallocationError = Err e in q ≡ Err refused.BeyondMaxCapacity) ↔ X
-same_refusal {B = B} r e is known = (
-  (λ same. known.0 (let h = same in cc)),
-  λ x. let h = known.1 x in let same : e ≡ refused.BeyondMaxCapacity = cc in ap (λ (why : ReallocationError). let q : Result B ReallocationError = Err why in q) same,
-)
+-- A clone is refused as the copy to a new arena is.
+pub refuses_clone : {Gen T : Type 0} (may_reach : ℕ → Option ℕ → ℕ → ℕ → Type 0) (greatest : ℕ) (first : Gen) (maximum : Option ℕ) (source : Arena Gen (LinkView T)) (r : Result (Unit {0}) ReallocationError) (why : ReallocationError) → r ≡ Err why
+    → (r ≡ Err refused.BeyondMaxCapacity) ↔ IsBeyond maximum (length source.slots) → ClonesOrRefuses may_reach greatest first maximum source (Err why)
+refuses_clone may_reach greatest first maximum source r refused.BeyondMaxCapacity is known = known.0 is
+refuses_clone may_reach greatest first maximum source r refused.AllocError is known = λ over. let h = sym is ∙ known.1 over in absurd (cc)
 
 -- What follows from a success and from either sort of refusal.
 pub either_way : {X E A B C D N : Type 0} (r : Result X E) → (A → B → C) → (D → C) → (N → C) → OnOk r A → OnOk r B → OnErr r (D ⊎ N) → C
 either_way (Ok x) done refused gave_up a b d = done a b
 either_way (Err e) done refused gave_up a b (inl d) = refused d
 either_way (Err e) done refused gave_up a b (inr n) = gave_up n
+
+-- A fact on `Ok` from three others.
+pub on_ok_three : {X E A B C D : Type 0} (r : Result X E) → (A → B → C → D) → OnOk r A → OnOk r B → OnOk r C → OnOk r D
+on_ok_three (Ok x) all a b c = all a b c
+on_ok_three (Err e) all a b c = tt
+
+-- A fact on `Ok` from four others.
+pub on_ok_four : {X E A B C D F : Type 0} (r : Result X E) → (A → B → C → D → F) → OnOk r A → OnOk r B → OnOk r C → OnOk r D → OnOk r F
+on_ok_four (Ok x) all a b c d = all a b c d
+on_ok_four (Err e) all a b c d = tt
+
+-- Without a success, a value may be refused.
+refusable_at : {R : Type 0} (e : ReallocationError) → (let r : Result (Unit {0}) ReallocationError = Err e in IsOk r ⊎ R) → R
+refusable_at e (inl ok) = absurd (false≢true ok)
+refusable_at e (inr refusable) = refusable
+
+-- The outcome of a copy, from a fact on each result.
+pub copies_or_refuses : {R S N : Type 0} (C L : Type 0) (n capacity : ℕ) (maximum : Option ℕ) (r : Result (Unit {0}) ReallocationError) → (n ≤ capacity → (IsOk r ⊎ R) × N)
+    → (r ≡ Err refused.BeyondMaxCapacity) ↔ IsBeyond maximum n → (r ≡ Err refused.BeyondMaxCapacity → S) → OnOk r C → OnErr r (S ⊎ (R × L)) → CopiesOrRefuses n capacity maximum R C S L r
+copies_or_refuses C L n capacity maximum (Ok done) within beyond unchanged copied err = (copied, λ over. let h = beyond.1 over in absurd (cc))
+copies_or_refuses C L n capacity maximum (Err refused.BeyondMaxCapacity) within beyond unchanged copied err = (beyond.0 refl, unchanged refl, λ few. refusable_at refused.BeyondMaxCapacity (within few).0)
+copies_or_refuses C L n capacity maximum (Err refused.AllocError) within beyond unchanged copied err =
+    (err, (λ over. let h = beyond.1 over in absurd (cc)), λ few. refusable_at refused.AllocError (within few).0)
+
+-- What follows from the first case, where the second does not hold.
+kept_in : {S X K : Type 0} → (S → K) → (X → ⊥) → S ⊎ X → K
+kept_in kept never (inl same) = kept same
+kept_in kept never (inr lost) = absurd (never lost)
+
+-- Where no value is refused, an error means that the capacity does not suffice.
+pub copies_or_lacks : {R C S D K : Type 0} (L : Type 0) (n capacity : ℕ) (maximum : Option ℕ) (r : Result (Unit {0}) ReallocationError) → (R → ⊥) → (C → D) → (S → K)
+    → CopiesOrRefuses n capacity maximum R C S L r → CopiesOrLacksCapacity n capacity maximum D K r
+copies_or_lacks L n capacity maximum (Ok done) never made kept outcome = (made outcome.0, outcome.1)
+copies_or_lacks L n capacity maximum (Err refused.BeyondMaxCapacity) never made kept outcome = (outcome.0, kept outcome.1, λ few. never (outcome.2 few))
+copies_or_lacks L n capacity maximum (Err refused.AllocError) never made kept outcome = (kept_in kept (λ lost. never lost.0) outcome.0, outcome.1, λ few. never (outcome.2 few))

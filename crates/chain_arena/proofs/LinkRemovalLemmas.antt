@@ -1,6 +1,6 @@
 -- Effects of a removal of the link at an index.
 use Rattle.std.proofs.Common.{◌≡◌, ℕ, Bool, true, false, Option, None, Some, refl, ap, sym, ◌∙◌, subst}
-use Rattle.std.specs.Prelude.{is_some}
+use Rattle.std.specs.Prelude.{is_some, IfNone}
 use Rattle.std.specs.Option.{option_map}
 use Rattle.arena_core.specs.Invalidation.{value_within, is_overflow_result, invalidation_result}
 use Rattle.arena_core.specs.declared.invalidation.InvalidationResult.{InvalidationResult}
@@ -8,6 +8,7 @@ use Rattle.arena_core.specs.declared.invalidation.InvalidationResult.TheVariants
 use Rattle.chain_laws.specs.Chains.{IsWellLinked}
 use Rattle.arena_traits.specs.Arena.{IsValid, entry_at}
 use Rattle.arena_traits.specs.Entries.{view_after_removal}
+use Rattle.chain_links.specs.CallEffects.{ReportsOverflow, IsTaken}
 use Rattle.chain_links.specs.ChainArena.{LinkView, on_value, link_map, value_view, entry, link_value, link_at, remove_link, IsRemoval}
 use Rattle.chain_links.specs.Links.{held_in, link_view, pair_view}
 use Rattle.chain_links.specs.declared.links.LinkBody.{LinkBody}
@@ -16,6 +17,25 @@ use Rattle.chain_links.proofs.MappedArenaLemmas.{is_some-map}
 use Rattle.chain_linking.proofs.UnlinkLemmas.{passes_over, removed-agrees, removed-chains, removed-pairs, view_after-removed}
 use Rattle.chain_arena.specs.Effects.{Links}
 use Rattle.chain_arena.proofs.ChainDrainLemmas.{link_at-entry}
+
+-- The outcome of a removal or invalidation, from its value and whether the counter wraps.
+pub reports : {X Gen : Type 0} (wraps : Gen → Bool) (counter : Gen) (Invalid : Type 0) (Done : X → Type 0) (r : InvalidationResult X) → r ≡ invalidation_result (wraps counter) (value_within r)
+    → (value_within r ≡ None → Invalid) → ((x : X) → value_within r ≡ Some x → Done x) → ReportsOverflow wraps (Some counter) Invalid Done r
+reports wraps counter Invalid Done InvalidPtr known invalid done = invalid refl
+reports {X} wraps counter Invalid Done (Success x) known invalid done = (flag (wraps counter) known, done x refl)
+  where
+    flag : (b : Bool) → (let r : InvalidationResult X = Success x in r ≡ invalidation_result b (Some x)) → b ≡ false
+    flag false is = refl
+    flag true is = absurd (let h = is in cc)
+reports {X} wraps counter Invalid Done (GenerationOverflow x) known invalid done = (flag (wraps counter) known, done x refl)
+  where
+    flag : (b : Bool) → (let r : InvalidationResult X = GenerationOverflow x in r ≡ invalidation_result b (Some x)) → b ≡ true
+    flag false is = absurd (let h = is in cc)
+    flag true is = refl
+
+pub if_none : {X Y : Type 0} (o : Option X) → (o ≡ None → Y) → IfNone o Y
+if_none None so = so refl
+if_none (Some x) so = tt
 
 -- A result with a part of another's value has the same overflow flag.
 pub same_overflow : {X Y : Type 0} (f : X → Y) (b : Bool) (r : InvalidationResult X) (s : InvalidationResult Y) → value_within s ≡ option_map f (value_within r) → is_overflow_result s ≡ is_overflow_result r
@@ -82,6 +102,10 @@ module _ {Gen K T : Type 0} (packed : K → Option ℕ) (following : Gen → Gen
     by None is = refl
     by (Some e) is = absurd (let h = is in cc)
 
+  -- If nothing was taken, there is no entry.
+  pub none_there : taken ≡ None → entry a n ≡ None
+  none_there none = sym value ∙ ap (option_map (on_value held_in)) none
+
   some_taken : is_some (entry a n) ≡ true → is_some taken ≡ true
   some_taken stored = sym (is_some-map (on_value held_in) taken) ∙ (ap is_some value ∙ stored)
 
@@ -93,6 +117,14 @@ module _ {Gen K T : Type 0} (packed : K → Option ℕ) (following : Gen → Gen
     -- An existing link is removed.
     pub removal_there : is_some (entry a n) ≡ true → IsRemoval following a n b
     removal_there stored = removal (some_taken stored)
+
+    -- The link taken is removed and returned as it was.
+    pub is_taken : (e : Gen × LinkBody K T) → taken ≡ Some e → IsTaken value_view entry link_map packed following a n e.0 e.1 b
+    is_taken e is =
+        let known = removal (ap is_some is) in (
+          sym link_known ∙ ap (option_map (on_value (link_view packed))) is,
+          record { view_after = view_after-removed following a b n known.state; links = known.links; chains = known.chains },
+        )
 
     pub viewed_there : is_some (entry a n) ≡ true → value_view b ≡ view_after_removal following (value_view a) n
     viewed_there stored = view_after-removed following a b n (removal_there stored).state

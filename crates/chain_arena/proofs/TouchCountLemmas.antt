@@ -20,7 +20,8 @@ use Rattle.arena_traits.specs.Entries.{Slots, entries, index_of, found}
 use Rattle.arena_traits.specs.EntryLaws.{found-entries}
 use Rattle.chain_links.specs.ChainArena.{link_map, value_view, entry, link_value, values_of, link_of, remove_link, IsJoin, IsCut, IsExchange, IsRemoval}
 use Rattle.chain_arena.specs.Drains.{without_each}
-use Rattle.chain_arena.specs.Effects.{Links, GrowsToFit, stays, grown, IsCompression, IsCanonicalCompression, ReportsOverflow}
+use Rattle.chain_arena.specs.Effects.{Links, GrowsStackToFit, stays, grown, IsCompression, IsCanonicalCompression}
+use Rattle.chain_links.specs.CallEffects.{ReportsOverflow}
 use Rattle.chain_arena.specs.PointerKinds.{PointerKind}
 use Rattle.chain_arena.specs.Runs.{AreSameButTouched}
 use Rattle.chain_arena.specs.Steps.{ConnectStep, BreakPrevStep, BreakNextStep, ExchangeStep, InsertStep, InsertWithinStep, DrainChainStep, ReserveStep, Step, Run}
@@ -121,10 +122,10 @@ module _ {Gen T : Type 0} where
         (x.capacity ∙ sym y.capacity) (one.stack_capacity ∙ sym two.stack_capacity) (x.maximum ∙ sym y.maximum)
 
 -- What a result reports implies what follows from it.
-states_so : {X : Type 0} {No Not : Type 0} (Done Made : X → Type 0) (overflow : Bool) (r : InvalidationResult X) → (No → Not) → ((x : X) → Done x → Made x) → ReportsOverflow No overflow Done r → ReportsOverflow Not overflow Made r
-states_so Done Made overflow (Success x) not_made made known = (known.0, made x known.1)
-states_so Done Made overflow (GenerationOverflow x) not_made made known = (known.0, made x known.1)
-states_so Done Made overflow InvalidPtr not_made made known = not_made known
+states_so : {X Gen : Type 0} {No Not : Type 0} (Done Made : X → Type 0) (wraps : Gen → Bool) (counter : Gen) (r : InvalidationResult X) → (No → Not) → ((x : X) → Done x → Made x) → ReportsOverflow wraps (Some counter) No Done r → ReportsOverflow wraps (Some counter) Not Made r
+states_so Done Made wraps counter (Success x) not_made made known = (known.0, made x known.1)
+states_so Done Made wraps counter (GenerationOverflow x) not_made made known = (known.0, made x known.1)
+states_so Done Made wraps counter InvalidPtr not_made made known = not_made known
 
 -- Each step stays one with the touches set to n before and after.
 module _ (n : ℕ) where
@@ -164,7 +165,7 @@ module _ (n : ℕ) where
     exchanges_touched p q false step = (step.0, ap touch step.1)
     exchanges_touched p q true step = (step.0, exchange_touched p.0 q.0 step.1)
 
-    capacity_touched : (greatest m : ℕ) → GrowsToFit greatest m old new → GrowsToFit greatest m (touch old) (touch new)
+    capacity_touched : (greatest m : ℕ) → GrowsStackToFit greatest m old new → GrowsStackToFit greatest m (touch old) (touch new)
     capacity_touched greatest m (stays within capacity stack_capacity) = stays within capacity stack_capacity
     capacity_touched greatest m (grown less within_capacity) = grown less within_capacity
 
@@ -225,26 +226,21 @@ module _ (n : ℕ) where
 
     inserts_touched : (kind : InsertKindBody P I) (t : T) (r : Result P ChainInsertionError) → InsertStep pointers old kind t r new → InsertStep pointers (touch old) kind t r (touch new)
     inserts_touched kind t (Err failed.FailedLinkRequirement) step = (step.0, ap touch step.1)
-    inserts_touched kind t (Err failed.BeyondMaxCapacity) step = (step.0, step.1, ap touch step.2)
-    inserts_touched kind t (Err failed.AllocError) step = (step.0, step.1, ap touch step.2)
-    inserts_touched kind t (Err failed.NotWithinCapacity) step = step
-    inserts_touched kind t (Ok p) step = (
-      step.0,
-      record { pointer = step.1.pointer; state = ap touch step.1.state; pairs = step.1.pairs; chains = step.1.chains },
-      capacity_touched old new pointers.greatest _ step.2,
-    )
+    inserts_touched kind t (Err failed.BeyondMaxCapacity) step = (step.0, ap touch step.1)
+    inserts_touched kind t (Err failed.AllocError) step = (step.0, ap touch step.1)
+    inserts_touched kind t (Err failed.NotWithinCapacity) step = absurd step.0
+    inserts_touched kind t (Ok p) step =
+        let added = step.0.1.0 in
+        ((step.0.0, (record { pointer = added.pointer; state = ap touch added.state; pairs = added.pairs; chains = added.chains }, capacity_touched old new pointers.greatest _ step.0.1.1)), tt)
 
     inserts_within_touched : (kind : InsertKindBody P I) (t : T) (r : Result P ChainInsertionError) → InsertWithinStep pointers old kind t r new → InsertWithinStep pointers (touch old) kind t r (touch new)
     inserts_within_touched kind t (Err failed.FailedLinkRequirement) step = (step.0, ap touch step.1)
-    inserts_within_touched kind t (Err failed.NotWithinCapacity) step = (step.0, step.1, ap touch step.2)
-    inserts_within_touched kind t (Err failed.BeyondMaxCapacity) step = step
-    inserts_within_touched kind t (Err failed.AllocError) step = step
-    inserts_within_touched kind t (Ok p) step = (
-      step.0,
-      step.1,
-      record { pointer = step.2.pointer; state = ap touch step.2.state; pairs = step.2.pairs; chains = step.2.chains },
-      ap touch step.3,
-    )
+    inserts_within_touched kind t (Err failed.NotWithinCapacity) step = (step.0, ap touch step.1)
+    inserts_within_touched kind t (Err failed.BeyondMaxCapacity) step = absurd step.0
+    inserts_within_touched kind t (Err failed.AllocError) step = absurd step.0
+    inserts_within_touched kind t (Ok p) step =
+        let added = step.0.2.0 in
+        ((step.0.0, step.0.1, (record { pointer = added.pointer; state = ap touch added.state; pairs = added.pairs; chains = added.chains }, ap touch step.0.2.1)), tt)
 
     reserves_touched : (m : ℕ) (r : Result Unit ReallocationError) → ReserveStep pointers old m r new → ReserveStep pointers (touch old) m r (touch new)
     reserves_touched m (Ok done) step = (ap touch step.0, capacity_touched old new pointers.greatest m step.1)
@@ -262,16 +258,16 @@ module _ (n : ℕ) where
     step_touched old new (call.Remove p) r step = (
       step.0,
       step.1,
-      states_so _ _ (pointers.wraps old.counter) step.0 (λ no. (no.0, ap touch no.1))
+      states_so _ _ pointers.wraps old.counter step.0 (λ no. (no.0, ap touch no.1))
           (λ link taken. record { was_stored = taken.was_stored; removal = removal_touched old new pointers.following (pointers.key p).0 taken.removal }) step.2,
     )
     step_touched old new (call.RemoveInx i) r step = (
       step.0,
       step.1,
-      states_so _ _ (pointers.wraps old.counter) step.0 (λ no. (no.0, ap touch no.1))
+      states_so _ _ pointers.wraps old.counter step.0 (λ no. (no.0, ap touch no.1))
           (λ e taken. record { was_stored = taken.was_stored; removal = removal_touched old new pointers.following (pointers.number i) taken.removal }) step.2,
     )
-    step_touched old new (call.Invalidate p) r step = (step.0, step.1, states_so _ _ (pointers.wraps old.counter) step.0 (λ no. (no.0, ap touch no.1)) (λ q made. (made.0, made.1, ap touch made.2, made.3)) step.2)
+    step_touched old new (call.Invalidate p) r step = (step.0, step.1, states_so _ _ pointers.wraps old.counter step.0 (λ no. (no.0, ap touch no.1)) (λ q made. (made.0, made.1, ap touch made.2, made.3)) step.2)
     step_touched old new (call.DrainChain p take) r step = (step.0, step.1, drains_touched pointers old new (pointers.key p) take step.0 step.2)
     step_touched old new call.Clear r step = (step.0, ap touch step.1)
     step_touched old new (call.Compress reset) r step = (step.0, compression_touched old new pointers.first pointers.following reset step.1)

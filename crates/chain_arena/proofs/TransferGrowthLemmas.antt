@@ -1,23 +1,60 @@
 -- A transfer into an arena that was grown and cleared.
-use Rattle.std.proofs.Common.{◌≡◌, ◌↔◌, Bool, ℕ, ◌≤◌, Option, ap, sym, ◌∙◌, subst}
+use Rattle.std.proofs.Common.{◌≡◌, ◌↔◌, ◌<◌, ◌≤◌, inl, Bool, ℕ, Option, Result, Ok, Err, OnOk, OnErr, arith, length, refl, ap, sym, ◌∙◌, subst}
 use Rattle.std.specs.Fn.{Mut}
 use Rattle.arena_core.specs.SlotStack.{IsBeyond}
+use Rattle.arena_core.specs.declared.errors.ReallocationError.{ReallocationError}
+use Rattle.arena_core.specs.declared.errors.ReallocationError.TheVariants as refused
 use Rattle.arena_core.specs.declared.invalidation.InvalidationOption.{InvalidationOption}
 use Rattle.chain_laws.specs.Chains.{LinkMap}
-use Rattle.arena_traits.specs.Arena.{Arena, HasCapacityFor, IsWithinReach, arena_after_clear, with_capacity_of, with_counter}
+use Rattle.arena_traits.specs.Arena.{Arena, HasCapacityFor, IsCapacityFor, IsWithinReach, ReachesCapacity, arena_after_clear, with_capacity_of, with_counter}
 use Rattle.arena_traits.specs.Entries.{ArenaView}
+use Rattle.arena_base.proofs.ArenaGrowthLemmas.{not_beyond}
 use Rattle.chain_links.specs.ChainArena.{LinkView}
+use Rattle.chain_arena.specs.Effects.{IsEmptyWithCapacity, SucceedsOrRefuses}
 use Rattle.chain_arena.specs.Transfers.{IsTransfer}
 
--- A clause on a count is one on an equal count.
-pub beyond_at : {X : Type 0} (greatest n m : ℕ) (maximum : Option ℕ) → n ≡ m → X ↔ ((n ≤ greatest) × IsBeyond maximum n) → X ↔ ((m ≤ greatest) × IsBeyond maximum m)
-beyond_at {X} greatest n m maximum same known = subst (λ (k : ℕ). X ↔ ((k ≤ greatest) × IsBeyond maximum k)) same known
+-- A growth to capacity for n links, where the greatest index is tested before the maximum.
+module _ {Gen T : Type 0} (may_reach : ℕ → Option ℕ → ℕ → ℕ → Type 0) (greatest n : ℕ) where
+  -- The outcome of the growth, by the arenas before and after it.
+  abbrev Grows : Arena Gen (LinkView T) → Arena Gen (LinkView T) → Result (Unit {0}) ReallocationError → Type 0
+  Grows old new r = SucceedsOrRefuses n greatest old.maximum (ReachesCapacity may_reach greatest n old new) (new ≡ old) r
+
+  pub suffices : (old : Arena Gen (LinkView T)) → n ≤ old.capacity → HasCapacityFor greatest (length old.slots) old → Grows old old (Ok tt)
+  suffices old few held = (
+    record { capacity = (record { fits = few; at_most_greatest = held.0.at_most_greatest; within_maximum = held.0.within_maximum }, held.1, held.2); reached = inl refl },
+    omega (arith, few, held.0.at_most_greatest),
+    not_beyond old.maximum n old.capacity few held.0.within_maximum,
+  )
+
+  pub above_greatest : (old : Arena Gen (LinkView T)) → greatest < n → Grows old old (Err refused.AllocError)
+  above_greatest old over = ((λ within beyond. omega (arith, over, within)), refl)
+
+  pub grows_within : (old new : Arena Gen (LinkView T)) (r : Result (Unit {0}) ReallocationError) → n ≤ greatest → (r ≡ Err refused.BeyondMaxCapacity) ↔ IsBeyond old.maximum n
+      → OnOk r (IsCapacityFor greatest new.maximum n new.capacity) → OnErr r (new ≡ old) → IsWithinReach may_reach n old new → HasCapacityFor greatest (length new.slots) new → Grows old new r
+  grows_within old new (Ok success) within beyond ok err reached held = (record { capacity = (ok, held.1, held.2); reached = reached }, within, λ over. let h = beyond.1 over in absurd (cc))
+  grows_within old new (Err refused.BeyondMaxCapacity) within beyond ok err reached held = (within, beyond.0 refl, err)
+  grows_within old new (Err refused.AllocError) within beyond ok err reached held = ((λ _ over. let h = beyond.1 over in absurd (cc)), err)
+
+-- A refusal for a count is one for an equal count.
+pub refused_alike : {S K : Type 0} (greatest n m : ℕ) (maximum : Option ℕ) (why : ReallocationError) → n ≡ m → (S → K) → SucceedsOrRefuses n greatest maximum (Unit {0}) S (Err why) → SucceedsOrRefuses m greatest maximum (Unit {0}) K (Err why)
+refused_alike greatest n m maximum refused.BeyondMaxCapacity same kept outcome = (subst (λ (k : ℕ). k ≤ greatest) same outcome.0, subst (IsBeyond maximum) same outcome.1, kept outcome.2)
+refused_alike greatest n m maximum refused.AllocError same kept outcome = (subst (λ (k : ℕ). k ≤ greatest → IsBeyond maximum k → ⊥) same outcome.0, kept outcome.1)
 
 -- Before the transfer the arena is as after a growth, a clear and a new counter.
 module _ {Gen T : Type 0} (following : Gen → Gen) (generation : Gen) (old grown clear set new : Arena Gen (LinkView T)) (is_grown : grown ≡ with_capacity_of old grown)
     (is_clear : clear ≡ arena_after_clear following grown) (is_set : set ≡ with_counter clear generation) where
   emptied : set ≡ with_counter (arena_after_clear following (with_capacity_of old grown)) generation
   emptied = is_set ∙ (ap (λ (a : Arena Gen (LinkView T)). with_counter a generation) is_clear ∙ ap (λ (a : Arena Gen (LinkView T)). with_counter (arena_after_clear following a) generation) is_grown)
+
+  -- The cleared arena has no slots, and has the capacity of the grown one.
+  pub emptied_with : (greatest n m : ℕ) → n ≡ m → HasCapacityFor greatest n grown → IsEmptyWithCapacity greatest m set
+  emptied_with greatest n m same held =
+      let capacity : set.capacity ≡ grown.capacity = ap (λ (a : Arena Gen (LinkView T)). a.capacity) emptied in (
+        ap (λ (a : Arena Gen (LinkView T)). a.slots) emptied,
+        ap (λ (a : Arena Gen (LinkView T)). a.freed) emptied,
+        omega (arith, held.0.fits, same, capacity),
+        omega (arith, held.0.at_most_greatest, capacity),
+      )
 
   module _ {Q P G U F : Type 0} (key : Q → ℕ × G) (new_key : P → ℕ × Gen) (next : G → G) (wraps : G → Bool) (call : Mut F (Q × (InvalidationOption U × (P × Unit {0}))) T) (f : F) (source : ArenaView G U) (links : LinkMap) (source_after : ArenaView G U) where
     pub transferred_grown : IsTransfer key new_key next wraps call set.counter f source links source_after set new → IsTransfer key new_key next wraps call generation f source links source_after old new

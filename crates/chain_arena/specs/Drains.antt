@@ -1,10 +1,10 @@
 -- Drains of a chain and of all links: what is left to remove, and the steps.
-use Rattle.std.specs.Prelude.{◌≡◌, ℕ, zero, suc, Bool, List, [], ◌∷◌, length, MatchOption, Option, Some}
+use Rattle.std.specs.Prelude.{◌≡◌, ℕ, zero, suc, Bool, List, [], ◌∷◌, length, map, MatchOption, Option, Some}
 use Rattle.arena_core.specs.Invalidation.{value_in, is_overflow}
 use Rattle.arena_core.specs.declared.invalidation.InvalidationOption.{InvalidationOption}
-use Rattle.chain_laws.specs.Walks.{walk_from}
+use Rattle.chain_laws.specs.Walks.{walk_from, TakesWalk}
 use Rattle.arena_traits.specs.Arena.{Arena, entry_at}
-use Rattle.arena_traits.specs.Entries.{entries}
+use Rattle.arena_traits.specs.Entries.{entries, index_of}
 use Rattle.arena_traits.specs.Advancers.{entries_at_or_above}
 use Rattle.chain_links.specs.ChainArena.{LinkView, entry, link_map, values_of, remove_link}
 use Rattle.chain_links.specs.Insertions.{nonzero_index}
@@ -34,10 +34,23 @@ module _ {Gen T : Type 0} where
     pub stack_capacity : new.stack_capacity ≡ old.stack_capacity
     pub maximum : new.maximum ≡ old.maximum
 
+  -- The links of a walk are removed, in order. Every other chain stays.
+  abbrev pub RemovesWalk : (Gen → Gen) → Arena Gen (LinkView T) → List ℕ → Arena Gen (LinkView T) → Type 0
+  RemovesWalk following old walk new = (new ≡ without_each following old walk) × TakesWalk (link_map old) (link_map new) walk × CountsUp following (length walk) old new
+
+  -- The links with these entries are removed, in order. No link is left if they are all.
+  abbrev pub RemovesEntries : (Gen → Gen) → Arena Gen (LinkView T) → List ((ℕ × Gen) × T) → Arena Gen (LinkView T) → Type 0
+  RemovesEntries following old left new =
+      (new ≡ without_each following old (map index_of left)) × CountsUp following (length left) old new × (left ≡ entries (values_of old) → entries (values_of new) ≡ [])
+
   -- The entries from an index on, 0 for none, which a drain of all links has left.
   abbrev pub entries_left : Arena Gen (LinkView T) → ℕ → List ((ℕ × Gen) × T)
   entries_left a zero = []
   entries_left a (suc k) = entries_at_or_above (suc k) (entries (values_of a))
+
+-- The item for an entry removed at an index: its pointer and link, with the overflow.
+abbrev pub YieldsRemoved : {P Gen L : Type 0} → (P → ℕ × Gen) → ℕ → Gen × L → Bool → InvalidationOption (P × L) → Type 0
+YieldsRemoved key i entry overflow item = (key (value_in item).0 ≡ (i, entry.0)) × ((value_in item).1 ≡ entry.1) × (is_overflow item ≡ overflow)
 
 module _ {P Gen K T : Type 0} (key : P → ℕ × Gen) (number : K → Option ℕ) (following : Gen → Gen) (wraps : Gen → Bool) where
   -- A drain step removes the link at `at` and returns it; `next` is where its walk goes on.

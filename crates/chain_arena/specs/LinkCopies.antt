@@ -1,8 +1,11 @@
 -- Copies of a chain arena, with values made from the links of the source.
-use Rattle.std.specs.Prelude.{◌≡◌, ℕ, Option}
+use Rattle.std.specs.Prelude.{◌≡◌, ◌≤◌, ◌⊎◌, ℕ, length, Option, Result, Ok, Err}
 use Rattle.std.specs.Borrow.{Bor}
 use Rattle.std.specs.Fn.{Mut}
-use Rattle.arena_traits.specs.Arena.{Arena, new_arena}
+use Rattle.arena_core.specs.SlotStack.{IsBeyond}
+use Rattle.arena_core.specs.declared.errors.ReallocationError.{ReallocationError}
+use Rattle.arena_core.specs.declared.errors.ReallocationError.TheVariants as refused
+use Rattle.arena_traits.specs.Arena.{Arena, ReachesCapacity, new_arena}
 use Rattle.arena_traits.specs.Entries.{entries}
 use Rattle.arena_base.specs.Copies.{CopiesBy, IsCopyCall, HasRefusable, HasSlotsOf}
 use Rattle.chain_links.specs.declared.links.LinkBody.{LinkBody}
@@ -59,3 +62,30 @@ pub record IsCopyBelow {K T Gen A : Type 0} (number : K → Option ℕ) (copies 
   pub links : Arena Gen (LinkBody K T)
   pub view_after : links_view number links ≡ source
   pub copied : copies links old new
+
+-- A capacity is never less after a growth for `n` slots, and stays if it sufficed.
+abbrev pub GrowsIfShort : ℕ → ℕ → ℕ → Type 0
+GrowsIfShort n old new = (old ≤ new) × (n ≤ old → new ≡ old)
+
+-- The outcome of a copy of `n` slots into an arena of this capacity and maximum. The copy is made;
+-- or all stays the `same`, with the error `BeyondMaxCapacity` exactly if `n` is above the maximum;
+-- or the arena is `lost`, which happens only if a value may be refused.
+abbrev pub CopiesOrRefuses : ℕ → ℕ → Option ℕ → (refusable copied same lost : Type 0) → Result (Unit {0}) ReallocationError → Type 0
+CopiesOrRefuses n capacity maximum refusable copied same lost (Ok done) = copied × (IsBeyond maximum n → ⊥)
+CopiesOrRefuses n capacity maximum refusable copied same lost (Err refused.BeyondMaxCapacity) = IsBeyond maximum n × same × (n ≤ capacity → refusable)
+CopiesOrRefuses n capacity maximum refusable copied same lost (Err refused.AllocError) = (same ⊎ (refusable × lost)) × (IsBeyond maximum n → ⊥) × (n ≤ capacity → refusable)
+
+-- The outcome of a copy of `n` slots whose values are never refused. The copy is made; or the
+-- capacity does not suffice, and all stays the `same`.
+abbrev pub CopiesOrLacksCapacity : ℕ → ℕ → Option ℕ → (copied same : Type 0) → Result (Unit {0}) ReallocationError → Type 0
+CopiesOrLacksCapacity n capacity maximum copied same (Ok done) = copied × (IsBeyond maximum n → ⊥)
+CopiesOrLacksCapacity n capacity maximum copied same (Err refused.BeyondMaxCapacity) = IsBeyond maximum n × same × (n ≤ capacity → ⊥)
+CopiesOrLacksCapacity n capacity maximum copied same (Err refused.AllocError) = same × (IsBeyond maximum n → ⊥) × (n ≤ capacity → ⊥)
+
+-- The outcome of a clone over a new stack of this maximum: a clone with capacity for its slots, or
+-- the error `BeyondMaxCapacity` exactly if they are more than the maximum.
+abbrev pub ClonesOrRefuses : {Gen T : Type 0} → (ℕ → Option ℕ → ℕ → ℕ → Type 0) → ℕ → Gen → Option ℕ → Arena Gen (LinkView T) → Result (Arena Gen (LinkView T)) ReallocationError → Type 0
+ClonesOrRefuses may_reach greatest first maximum source (Ok copy) =
+    IsClone first maximum source copy × ReachesCapacity may_reach greatest (length source.slots) (new_arena first maximum) copy × (IsBeyond maximum (length source.slots) → ⊥)
+ClonesOrRefuses may_reach greatest first maximum source (Err refused.BeyondMaxCapacity) = IsBeyond maximum (length source.slots)
+ClonesOrRefuses may_reach greatest first maximum source (Err refused.AllocError) = IsBeyond maximum (length source.slots) → ⊥

@@ -8,7 +8,7 @@ use Rattle.arena_core.specs.declared.invalidation.InvalidationResult.TheVariants
 use Rattle.arena_core.specs.declared.packed_option.PackedOption.{PackedOption}
 use Rattle.arena_traits.specs.Arena.{entry_count, with_capacity_of}
 use Rattle.chain_links.specs.Links.{link_view, pair_view}
-use Rattle.chain_arena.specs.Effects.{Links}
+use Rattle.chain_arena.specs.Effects.{Links, HaveSameCapacity}
 use Rattle.chain_arena.specs.PointerKinds.{PointerKind}
 use Rattle.chain_arena.specs.Steps.{Step, Run}
 use Rattle.chain_arena.specs.declared.calls.Call.{Call}
@@ -24,10 +24,6 @@ module _ {Gen T : Type 0} where
   -- Arenas that are equal except for touches and the capacity.
   abbrev pub AreSameButCapacityAndTouched : Links Gen T → Links Gen T → Type 0
   AreSameButCapacityAndTouched a b = AreSameButTouched a (with_capacity_of b a)
-
-  -- Arenas of the same capacity.
-  abbrev pub HaveSameCapacity : Links Gen T → Links Gen T → Type 0
-  HaveSameCapacity a b = (a.capacity ≡ b.capacity) × (a.stack_capacity ≡ b.stack_capacity)
 
 -- Equal results, as `see` shows them.
 abbrev pub AreSameResults : {X Y : Type 0} → (X → Y) → InvalidationResult X → InvalidationResult X → Type 0

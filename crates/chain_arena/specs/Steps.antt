@@ -1,7 +1,7 @@
 -- The steps that calls make: the reply to each call, and the arena after it. An error leaves the
 -- arena unchanged, and is tested before the errors below it. Left open are only refusals of memory,
 -- how far a growth goes, and how many slots a compression touches.
-use Rattle.std.specs.Prelude.{◌≡◌, ℕ, ◌+◌, ◌<◌, ◌≤◌, Bool, true, false, List, [], ◌∷◌, Option, None, Some, Result, Ok, Err}
+use Rattle.std.specs.Prelude.{◌≡◌, ℕ, ◌+◌, ◌<◌, ◌≤◌, Bool, true, false, List, [], ◌∷◌, Option, None, Some, Result, Ok, Err, OnErr}
 use Rattle.arena_core.specs.Invalidation.{invalidation_option}
 use Rattle.arena_core.specs.declared.packed_option.PackedOption.{PackedOption}
 use Rattle.arena_core.specs.declared.errors.ChainInsertionError.{ChainInsertionError}
@@ -13,11 +13,13 @@ use Rattle.chain_laws.specs.Chains.{prev_of, next_of}
 use Rattle.chain_laws.specs.Insertions.{InsertKind}
 use Rattle.arena_traits.specs.Arena.{IsValid, entry_at, entry_count, with_capacity_of, with_counter, invalidate_at, arena_after_clear, overflows_after_clear}
 use Rattle.arena_traits.specs.Compressions.{overflows_after_compression}
-use Rattle.chain_links.specs.ChainArena.{link_map, entry, insert_as, CanConnect, CanExchange, IsJoin, IsCut, IsExchange, IsRemoval}
+use Rattle.arena_traits.specs.Growth.{RefusesToFit}
+use Rattle.chain_links.specs.ChainArena.{link_map, entry, value_view, insert_as, CanConnect, CanExchange, IsJoin, IsCut, IsExchange, IsRemoval}
 use Rattle.chain_links.specs.Links.{link_view}
 use Rattle.chain_links.specs.declared.kinds.InsertKindBody.{InsertKindBody}
 use Rattle.chain_links.specs.declared.links.LinkBody.{LinkBody}
-use Rattle.chain_arena.specs.Effects.{Links, GrowsToFit, Refuses, IsDrained, IsCompression, IsCanonicalCompression, indexed_kind, MayInsertInto, IsAdded, ReportsOverflow}
+use Rattle.chain_links.specs.CallEffects.{IsInsertionResult, IsInsertionWithinResult, ReportsOverflow}
+use Rattle.chain_arena.specs.Effects.{Links, GrowsStackToFit, IsDrained, IsCompression, IsCanonicalCompression, indexed_kind, MayInsertInto, IsAdded}
 use Rattle.chain_arena.specs.PointerKinds.{PointerKind}
 use Rattle.chain_arena.specs.declared.calls.Call.{Call}
 use Rattle.chain_arena.specs.declared.calls.Call.TheVariants as call
@@ -59,31 +61,27 @@ module _ {P I Gen W : Type 0} (pointers : PointerKind P I Gen W) where
 
     -- An insertion that may grow.
     abbrev pub InsertStep : Links Gen T → InsertKindBody P I → T → Result P ChainInsertionError → Links Gen T → Type 0
-    InsertStep old kind t (Err failed.FailedLinkRequirement) new = (MayInsertKind old kind → ⊥) × (new ≡ old)
-    InsertStep old kind t (Err failed.BeyondMaxCapacity) new = MayInsertKind old kind × Refuses (entry_count old + 1) old refused.BeyondMaxCapacity × (new ≡ old)
-    InsertStep old kind t (Err failed.AllocError) new = MayInsertKind old kind × Refuses (entry_count old + 1) old refused.AllocError × (new ≡ old)
-    InsertStep old kind t (Err failed.NotWithinCapacity) new = ⊥
-    InsertStep old kind t (Ok p) new = MayInsertKind old kind × IsAdded pointers.key old (indexed_kind_of kind) t p new × GrowsToFit pointers.greatest (entry_count old + 1) old new
+    InsertStep old kind t returned new =
+        IsInsertionResult (MayInsertKind old kind) (RefusesToFit (entry_count old + 1) (value_view old))
+        (λ p. IsAdded pointers.key old (indexed_kind_of kind) t p new × GrowsStackToFit pointers.greatest (entry_count old + 1) old new) returned × OnErr returned (new ≡ old)
 
     -- An insertion within the capacity.
     abbrev pub InsertWithinStep : Links Gen T → InsertKindBody P I → T → Result P ChainInsertionError → Links Gen T → Type 0
-    InsertWithinStep old kind t (Err failed.FailedLinkRequirement) new = (MayInsertKind old kind → ⊥) × (new ≡ old)
-    InsertWithinStep old kind t (Err failed.NotWithinCapacity) new = MayInsertKind old kind × (old.capacity ≤ entry_count old) × (new ≡ old)
-    InsertWithinStep old kind t (Err failed.BeyondMaxCapacity) new = ⊥
-    InsertWithinStep old kind t (Err failed.AllocError) new = ⊥
-    InsertWithinStep old kind t (Ok p) new = MayInsertKind old kind × (entry_count old < old.capacity) × IsAdded pointers.key old (indexed_kind_of kind) t p new × (new ≡ insert_as old (indexed_kind_of kind) t)
+    InsertWithinStep old kind t returned new =
+        IsInsertionWithinResult (MayInsertKind old kind) (entry_count old < old.capacity) (old.capacity ≤ entry_count old)
+        (λ p. IsAdded pointers.key old (indexed_kind_of kind) t p new × (new ≡ insert_as old (indexed_kind_of kind) t)) returned × OnErr returned (new ≡ old)
 
     -- The link at an index is removed, and returned as it was.
-    pub record IsTaken (old : Links Gen T) (i : ℕ) (g : Gen) (link : HeldLink T) (new : Links Gen T) : Type 0 where
+    pub record IsRemovedLink (old : Links Gen T) (i : ℕ) (g : Gen) (link : HeldLink T) (new : Links Gen T) : Type 0 where
       pub was_stored : entry_at old i ≡ Some (g, link_view pointers.packed link)
       pub removal : IsRemoval pointers.following old i new
 
     -- A removal, by pointer or by index.
     abbrev pub RemoveStep : Links Gen T → ℕ × Gen → InvalidationResult (HeldLink T) → Links Gen T → Type 0
-    RemoveStep old p returned new = ReportsOverflow ((IsValid (entry old) p → ⊥) × (new ≡ old)) (pointers.wraps old.counter) (λ link. IsTaken old p.0 p.1 link new) returned
+    RemoveStep old p returned new = ReportsOverflow pointers.wraps (Some old.counter) ((IsValid (entry old) p → ⊥) × (new ≡ old)) (λ link. IsRemovedLink old p.0 p.1 link new) returned
 
     abbrev pub RemoveInxStep : Links Gen T → ℕ → InvalidationResult (Gen × HeldLink T) → Links Gen T → Type 0
-    RemoveInxStep old i returned new = ReportsOverflow ((entry old i ≡ None) × (new ≡ old)) (pointers.wraps old.counter) (λ e. IsTaken old i e.0 e.1 new) returned
+    RemoveInxStep old i returned new = ReportsOverflow pointers.wraps (Some old.counter) ((entry old i ≡ None) × (new ≡ old)) (λ e. IsRemovedLink old i e.0 e.1 new) returned
 
     -- A link has the next generation, with this pointer, and stays in its chain.
     abbrev pub IsRenewed : Links Gen T → ℕ × Gen → P → Links Gen T → Type 0
@@ -91,7 +89,7 @@ module _ {P I Gen W : Type 0} (pointers : PointerKind P I Gen W) where
         IsValid (entry old) p × (pointers.key q ≡ (p.0, pointers.following old.counter)) × (new ≡ invalidate_at pointers.following old p.0) × (link_map new ≡ link_map old)
 
     abbrev pub InvalidateStep : Links Gen T → ℕ × Gen → InvalidationResult P → Links Gen T → Type 0
-    InvalidateStep old p returned new = ReportsOverflow ((IsValid (entry old) p → ⊥) × (new ≡ old)) (pointers.wraps old.counter) (λ q. IsRenewed old p q new) returned
+    InvalidateStep old p returned new = ReportsOverflow pointers.wraps (Some old.counter) ((IsValid (entry old) p → ⊥) × (new ≡ old)) (λ q. IsRenewed old p q new) returned
 
     -- A drain of a chain.
     abbrev pub DrainChainStep : Links Gen T → ℕ × Gen → ℕ → Option ℕ → Links Gen T → Type 0
@@ -100,8 +98,8 @@ module _ {P I Gen W : Type 0} (pointers : PointerKind P I Gen W) where
 
     -- A growth to capacity for n links.
     abbrev pub ReserveStep : Links Gen T → ℕ → Result Unit ReallocationError → Links Gen T → Type 0
-    ReserveStep old n (Err why) new = Refuses n old why × (new ≡ old)
-    ReserveStep old n (Ok done) new = (new ≡ with_capacity_of old new) × GrowsToFit pointers.greatest n old new
+    ReserveStep old n (Err why) new = RefusesToFit n (value_view old) why × (new ≡ old)
+    ReserveStep old n (Ok done) new = (new ≡ with_capacity_of old new) × GrowsStackToFit pointers.greatest n old new
 
     -- The reply that reports whether the counter overflowed.
     abbrev pub overflow_reply : Bool → Reply P T I Gen W

@@ -121,8 +121,6 @@ fn insert<P: PtrKey, T: Drop, S: SlotStack<Item = ArenaSlot<P, LinkNoGen<P, T>>>
 ) -> Result<P, ChainInsertionError>
     ensures { InsertStep ⟦<P as AnyPointer>⟧.kind arena.old kind t result arena.new }
 {
-    // There are at most as many links as the capacity.
-    arena.invariants();
     arena.insert_reallocating(kind, t)
 }
 
@@ -133,8 +131,6 @@ fn insert_within<P: PtrKey, T: Drop, S: SlotStack<Item = ArenaSlot<P, LinkNoGen<
 ) -> Result<P, ChainInsertionError>
     ensures { InsertWithinStep ⟦<P as AnyPointer>⟧.kind arena.old kind t result arena.new }
 {
-    // There are at most as many links as the capacity.
-    arena.invariants();
     arena.insert_within_capacity(kind, t)
 }
 

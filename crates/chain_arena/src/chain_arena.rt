@@ -1,20 +1,16 @@
-ghost use Rattle.std.specs.Prelude.{◌≡◌, ◌≤◌, ◌+◌, ◌↔◌, length, map, min, All, IsSome, IfSome, IfOk, OnOk, OnErr, None};
+ghost use Rattle.std.specs.Prelude.{◌≡◌, ◌≤◌, length, All, MatchOption, IfOk, OnErr};
 ghost use Rattle.chain_laws.specs.Chains.{IsWellLinked};
 ghost use Rattle.chain_laws.specs.Neighbors.{HasOneSetOfChains};
-ghost use Rattle.std.specs.Option.{option_map};
-ghost use Rattle.arena_core.specs.Invalidation.{value_within, invalidation_option, invalidation_result};
+ghost use Rattle.arena_core.specs.Invalidation.{invalidation_option};
 ghost use Rattle.arena_core.specs.Numbers.{IsWithin};
-ghost use Rattle.arena_traits.specs.Arena.{entry_at, entry_count, with_counter, with_maximum, HasCapacityFor, IsListed, IsValid};
+ghost use Rattle.arena_traits.specs.Arena.{entry_count, with_counter, with_maximum, HasCapacityFor, IsListed, IsValid};
 ghost use Rattle.arena_traits.specs.Entries.{count, index_of};
-ghost use Rattle.arena_traits.specs.Compressions.{overflows_after_compression};
-ghost use Rattle.arena_base.specs.Slots.{entry_of, ThreadsFreeList};
-ghost use Rattle.chain_links.specs.ChainArena.{entry, value_view, link_map, IsRemoval, IsWalkOf};
+ghost use Rattle.chain_links.specs.ChainArena.{entry, value_view, link_map, IsWalkOf};
 ghost use Rattle.chain_links.specs.Kinds.{names_in};
 ghost use Rattle.chain_linking.specs.InsertPositions.{IsPositionOf};
 ghost use Rattle.chain_compaction.specs.Layouts.{ReportsAll, ReportsLayout, AreAllMoves};
 ghost use Rattle.chain_compaction.specs.PointerMoves.{ArePointerMoves};
-ghost use Rattle.chain_links.specs.CanonicalLayouts.{IsCanonicalLayout};
-ghost use Rattle.chain_links.specs.Links.{pair_view};
+ghost use Rattle.chain_arena.specs.Effects.{RemovesAt, CompressesCanonically, AddsWork, IsBackedBy};
 
 use crate::visitors::{MapVisitor, MoveLister};
 use arena_base::{Arena, ArenaSlot, ArenaTrait, Work};
@@ -69,9 +65,9 @@ impl<P: PtrKey, T: Drop, S: SlotStack<Item = ArenaSlot<P, LinkNoGen<P, T>>>> Cha
     ///
     /// Port of `ChainArenaTrait::iter_chain`.
     pub fn iter_chain(&self, p: P) -> Option<ChainIter<'_, P, T, S>>
-        ensures some { IsSome result ↔ IsValid (entry self.now) (P.key p) }
-        ensures walk { IfSome result (IsWalkOf self.now (P.key p).0) }
-        ensures count { IfSome result (λ links. length links ≤ entry_count self.now) }
+        ensures { MatchOption result (IsValid (entry self.now) (P.key p) → ⊥)
+            (λ links. IsValid (entry self.now) (P.key p) × IsWalkOf self.now (P.key p).0 links
+            × (length links ≤ entry_count self.now)) }
     {
         match self.arena.get(p) {
             Some(link) => Some(iter_from(&self.arena, p.inx(), link.prev(), self.arena.len())),
@@ -112,13 +108,8 @@ impl<P: PtrKey, T: Drop, S: SlotStack<Item = ArenaSlot<P, LinkNoGen<P, T>>>> Cha
     }
 
     pub(crate) fn unlink(&mut self, i: P::Inx) -> InvalidationResult<(P::Gen, LinkNoGen<P, T>)>
-        ensures returned { option_map (pair_view P.Inx.packed_number) (value_within result)
-            ≡ entry_at self.old (P.Inx.number i) }
-        ensures overflow { result ≡ invalidation_result (P.Gen.wraps self.old.counter)
-            (value_within result) }
-        ensures removal { IsSome (value_within result)
-            → IsRemoval P.Gen.following self.old (P.Inx.number i) self.new }
-        ensures invalid { value_within result ≡ None → self.new ≡ self.old }
+        ensures { RemovesAt P.Inx.packed_number P.Gen.following P.Gen.wraps self.old
+            (P.Inx.number i) result self.new }
     {
         remove_link_at(&mut self.arena, i)
     }
@@ -162,19 +153,13 @@ impl<P: PtrKey, T: Drop, S: SlotStack<Item = ArenaSlot<P, LinkNoGen<P, T>>>> Cha
         visitor: V,
     ) -> (InvalidationOption<()>, V, Work)
         requires { V.is_ready visitor }
-        ensures canonical { IsCanonicalLayout P.Gen.first P.Gen.following reset
-            (value_view self.old)
-            (link_map self.old) (value_view self.new) (link_map self.new) }
-        ensures stack_capacity { self.new.stack_capacity ≡ self.old.stack_capacity }
+        ensures compressed { CompressesCanonically P.Gen.first P.Gen.following P.Gen.wraps reset
+            self.old result.0 self.new }
         ensures reports { ReportsAll V.sees P.key (value_view self.old)
             (link_map self.old) self.new.counter
             visitor result.1 }
         ensures ready { V.is_ready result.1 }
-        ensures overflow { result.0 ≡ invalidation_option
-            (overflows_after_compression P.Gen.wraps reset (entry_count self.old) self.old.counter)
-            tt }
-        ensures placed { self.new.placed ≡ self.old.placed + result.2.placed }
-        ensures touched { self.new.touched ≡ self.old.touched + result.2.touched }
+        ensures counted { AddsWork self.old result.2 self.new }
     {
         let overflow = self.arena.begin_generation(reset);
         let (visitor, work) = arrange(&mut self.arena, visitor);
@@ -191,16 +176,11 @@ impl<P: PtrKey, T: Drop, S: SlotStack<Item = ArenaSlot<P, LinkNoGen<P, T>>>> Cha
         map: F,
     ) -> InvalidationOption<()>
         requires { F.IsAlwaysCallable map }
-        ensures canonical { IsCanonicalLayout P.Gen.first P.Gen.following reset
-            (value_view self.old)
-            (link_map self.old) (value_view self.new) (link_map self.new) }
-        ensures stack_capacity { self.new.stack_capacity ≡ self.old.stack_capacity }
+        ensures compressed { CompressesCanonically P.Gen.first P.Gen.following P.Gen.wraps reset
+            self.old result self.new }
         ensures reports { ReportsLayout F.FnMut P.key (value_view self.old)
             (link_map self.old) self.new.counter
             map }
-        ensures overflow { result ≡ invalidation_option
-            (overflows_after_compression P.Gen.wraps reset (entry_count self.old) self.old.counter)
-            tt }
     {
         let (overflow, _, _) = self.compress_canonical_by(reset, MapVisitor { map });
         overflow
@@ -220,16 +200,12 @@ impl<P: PtrKey, T: Drop, S: SlotStack<Item = ArenaSlot<P, LinkNoGen<P, T>>>> Cha
         alloc: A,
         reset: bool,
     ) -> Result<(InvalidationOption<()>, Vec<(P, P), A>), AllocError>
-        ensures canonical { OnOk result (IsCanonicalLayout P.Gen.first P.Gen.following reset
-            (value_view self.old) (link_map self.old) (value_view self.new) (link_map self.new)) }
-        ensures stack_capacity { self.new.stack_capacity ≡ self.old.stack_capacity }
+        ensures compressed { IfOk result (λ r. CompressesCanonically P.Gen.first P.Gen.following
+            P.Gen.wraps reset self.old r.0 self.new) }
         ensures moves { IfOk result (λ r. AreAllMoves P.key (value_view self.old)
             (link_map self.old) self.new.counter r.1.items) }
         ensures by_pointer { IfOk result (λ r. ArePointerMoves P.key (entry self.old)
             (entry self.new) r.1.items) }
-        ensures overflow { IfOk result
-            (λ r. r.0 ≡ invalidation_option (overflows_after_compression P.Gen.wraps reset
-            (entry_count self.old) self.old.counter) tt) }
         ensures err { OnErr result (self.new ≡ self.old) }
     {
         let moves = Vec::with_capacity(alloc, self.len())?;
@@ -242,15 +218,9 @@ impl<P: PtrKey, T: Drop, S: SlotStack<Item = ArenaSlot<P, LinkNoGen<P, T>>>> Cha
     /// Each link is placed once. The slots are touched at most four times per old slot plus twelve
     /// times per link.
     pub fn compress_canonical_counted(&mut self, reset: bool) -> (InvalidationOption<()>, Work)
-        ensures canonical { IsCanonicalLayout P.Gen.first P.Gen.following reset
-            (value_view self.old)
-            (link_map self.old) (value_view self.new) (link_map self.new) }
-        ensures stack_capacity { self.new.stack_capacity ≡ self.old.stack_capacity }
-        ensures overflow { result.0 ≡ invalidation_option
-            (overflows_after_compression P.Gen.wraps reset (entry_count self.old) self.old.counter)
-            tt }
-        ensures placed { self.new.placed ≡ self.old.placed + result.1.placed }
-        ensures touched { self.new.touched ≡ self.old.touched + result.1.touched }
+        ensures compressed { CompressesCanonically P.Gen.first P.Gen.following P.Gen.wraps reset
+            self.old result.0 self.new }
+        ensures counted { AddsWork self.old result.1 self.new }
     {
         let (overflow, _, work) = self.compress_canonical_by(
             reset,
@@ -265,12 +235,8 @@ impl<P: PtrKey, T: Drop, S: SlotStack<Item = ArenaSlot<P, LinkNoGen<P, T>>>> Cha
     ///
     /// Port of `ChainArena::backing`.
     pub fn backing(&self) -> &S
-        ensures slots { map (option_map (pair_view P.Inx.packed_number))
-            (map entry_of (S.items result.now)) ≡ self.now.slots }
-        ensures freed { ThreadsFreeList P.Inx.packed_number (S.items result.now) self.now.freed }
-        ensures capacity { S.capacity result.now ≡ self.now.stack_capacity }
-        ensures arena_capacity { self.now.capacity ≡ min (S.capacity result.now) P.Inx.greatest }
-        ensures maximum { S.maximum result.now ≡ self.now.maximum }
+        ensures { IsBackedBy P.Inx.packed_number P.Inx.greatest (S.items result.now)
+            (S.capacity result.now) (S.maximum result.now) self.now }
     {
         self.arena.backing()
     }

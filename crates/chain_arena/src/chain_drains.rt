@@ -1,16 +1,14 @@
 // The removal of one chain, link by link.
-ghost use Rattle.std.specs.Prelude.{◌≡◌, ◌↔◌, [], length, IsSome, IfSome, IfNone};
+ghost use Rattle.std.specs.Prelude.{◌≡◌, [], IfSome, IfNone, MatchOption};
 ghost use Rattle.std.specs.Borrow.{RestsIfNone, sem};
 ghost use Rattle.std.specs.Option.{option_map};
 ghost use Rattle.std.specs.Iterator.{item_count};
-ghost use Rattle.arena_core.specs.Invalidation.{value_in, is_overflow};
-ghost use Rattle.chain_laws.specs.Chains.{IsWellLinked};
-ghost use Rattle.chain_laws.specs.Walks.{rest_start, IsWalk, TakesWalk};
+ghost use Rattle.chain_laws.specs.Walks.{rest_start, IsWalk};
 ghost use Rattle.arena_traits.specs.Arena.{IsValid};
 ghost use Rattle.chain_links.specs.ChainArena.{entry, link_map};
 ghost use Rattle.chain_links.specs.Insertions.{nonzero_index};
 ghost use Rattle.chain_arena.specs.DrainLaws.{DrainGivesTheWalk};
-ghost use Rattle.chain_arena.specs.Drains.{walk_left, without_each, IsDrainStep, DrainSteps, CountsUp};
+ghost use Rattle.chain_arena.specs.Drains.{walk_left, IsDrainStep, DrainSteps, RemovesWalk, YieldsRemoved};
 
 use crate::chain_arena::ChainArena;
 use crate::insert_entry::number_or_zero;
@@ -41,8 +39,12 @@ pub struct ChainDrain<
 impl<P: PtrKey, T: Drop, S: SlotStack<Item = ArenaSlot<P, LinkNoGen<P, T>>>> ChainArena<P, T, S> {
     ghost use Rattle.chain_arena.specs.contracts.chain_arena.ChainArena.{the_row as arena_row};
 
-    /// Returns a draining iterator over the chain of `p`, in walk order from `p`, or `None` if `p`
-    /// is not valid; nothing has changed then.
+    /// Returns an iterator that removes the links of the chain of `p`, or `None` if `p` is not
+    /// valid.
+    ///
+    /// It goes in walk order: from `p` to the end, then from the link before `p` back to the start;
+    /// a cyclic chain once around. Each step removes a link and returns it. Dropping the iterator
+    /// removes the links that are left. This call itself changes nothing.
     ///
     /// Port of `ChainArenaTrait::drain_chain`.
     pub fn drain_chain(&mut self, p: P) -> Option<ChainDrain<'_, P, T, S>>
@@ -50,12 +52,11 @@ impl<P: PtrKey, T: Drop, S: SlotStack<Item = ArenaSlot<P, LinkNoGen<P, T>>>> Cha
             (arena_row P.row T.row S.row P.Inx.row P.Gen.row P.Inx.Word.row
             P.PtrKey P.Inx.InxKey P.Gen.GenKey S.SlotStack)
             self.entry (λ d. d.arena.ghost_name) result (λ n. n ≡ self.old)) }
-        ensures some { IsSome result ↔ IsValid (entry self.old) (P.key p) }
-        ensures same_reference { IfSome result (λ d. d.arena.ghost_name ≡ self.entry.ghost_name) }
-        ensures arena { IfSome result (λ d. d.arena.now ≡ self.old) }
-        ensures at { IfSome result (λ d. d.at ≡ (P.key p).0) }
-        ensures walk { IfSome result (λ d. IsWalk (link_map self.old) (P.key p).0
-            (walk_left self.old (P.key p).0)) }
+        ensures drain { MatchOption result (IsValid (entry self.old) (P.key p) → ⊥)
+            (λ d. IsValid (entry self.old) (P.key p)
+            × (d.arena.ghost_name ≡ self.entry.ghost_name) × (d.arena.now ≡ self.old)
+            × (d.at ≡ (P.key p).0)
+            × IsWalk (link_map self.old) (P.key p).0 (walk_left self.old (P.key p).0)) }
     {
         self.invariants();
         if !self.contains(p) {
@@ -79,8 +80,7 @@ impl<P: PtrKey, T: Drop, S: SlotStack<Item = ArenaSlot<P, LinkNoGen<P, T>>>> Cha
     // Inlined, so the result need not go through memory.
     #[inline(always)]
     fn drain_at(&mut self, at: usize) -> Option<(usize, InvalidationOption<(P, LinkNoGen<P, T>)>)>
-        ensures none { IfNone result ((walk_left self.old at ≡ []) × (self.new ≡ self.old)) }
-        ensures some { IfSome result
+        ensures { MatchOption result ((walk_left self.old at ≡ []) × (self.new ≡ self.old))
             (λ e. IsDrainStep P.key P.Inx.packed_number P.Gen.following P.Gen.wraps self.old at e.1
             self.new e.0) }
     {
@@ -100,11 +100,7 @@ impl<P: PtrKey, T: Drop, S: SlotStack<Item = ArenaSlot<P, LinkNoGen<P, T>>>> Cha
     #[cold]
     #[inline(never)]
     fn drain_from(&mut self, from: usize)
-        ensures state { self.new ≡ without_each P.Gen.following self.old (walk_left self.old from) }
-        ensures taken { TakesWalk (link_map self.old) (link_map self.new)
-            (walk_left self.old from) }
-        ensures counts { CountsUp P.Gen.following (length (walk_left self.old from)) self.old
-            self.new }
+        ensures { RemovesWalk P.Gen.following self.old (walk_left self.old from) self.new }
     {
         self.invariants();
         let mut at = from;
@@ -124,9 +120,7 @@ fn drain_item<P: PtrKey, T>(
     ensures next { nonzero_index result.0 ≡ rest_start (P.Inx.number i)
         (P.Inx.packed_number entry.1.prev)
         (P.Inx.packed_number entry.1.next) }
-    ensures ptr { P.key (value_in result.1).0 ≡ (P.Inx.number i, entry.0) }
-    ensures link { (value_in result.1).1 ≡ entry.1 }
-    ensures overflow { is_overflow result.1 ≡ overflow }
+    ensures item { YieldsRemoved P.key (P.Inx.number i) entry overflow result.1 }
 {
     let (generation, link) = entry;
     let next = next_after_removal(i, link.prev(), link.next());
@@ -174,13 +168,8 @@ impl<'a, P: PtrKey, T: Drop, S: SlotStack<Item = ArenaSlot<P, LinkNoGen<P, T>>>>
 impl<'a, P: PtrKey, T: Drop, S: SlotStack<Item = ArenaSlot<P, LinkNoGen<P, T>>>> Drop
     for ChainDrain<'a, P, T, S> {
     fn drop(self)
-        ensures state { self.exit.0.now ≡ without_each P.Gen.following self.entry.arena.now
-            (walk_left self.entry.arena.now self.entry.at) }
-        ensures taken { TakesWalk (link_map self.entry.arena.now) (link_map self.exit.0.now)
-            (walk_left self.entry.arena.now self.entry.at) }
-        ensures counts { CountsUp P.Gen.following
-            (length (walk_left self.entry.arena.now self.entry.at)) self.entry.arena.now
-            self.exit.0.now }
+        ensures { RemovesWalk P.Gen.following self.entry.arena.now
+            (walk_left self.entry.arena.now self.entry.at) self.exit.0.now }
     {
         let ChainDrain { arena, at } = self;
         arena.drain_from(at);

@@ -1,12 +1,11 @@
 // Copies of a chain arena.
-ghost use Rattle.std.specs.Prelude.{◌≡◌, ◌≤◌, ◌↔◌, ◌⊎◌, [], length, IsOk, IfOk, OnOk, OnErr, Err};
-ghost use Rattle.arena_core.specs.SlotStack.{IsBeyond};
+ghost use Rattle.std.specs.Prelude.{◌≡◌, [], length, IsOk, IfOk};
 ghost use Rattle.chain_laws.specs.Chains.{IsWellLinked};
-ghost use Rattle.arena_traits.specs.Arena.{HasCapacityFor, IsCapacityFor, IsWithinReach, new_arena};
+ghost use Rattle.arena_traits.specs.Arena.{HasCapacityFor, IsCapacityFor, IsWithinReach};
 ghost use Rattle.arena_base.specs.Copies.{IsCopyBy, IsCopyCall, IsAbandonedCopy, IsAbandonedView};
 ghost use Rattle.chain_links.specs.ChainArena.{link_map};
 ghost use Rattle.chain_links.specs.Links.{link_view};
-ghost use Rattle.chain_arena.specs.LinkCopies.{MakesOf, HasRefusableLink, IsLinkCopy, IsLinkCopyBy, IsClone, IsCopyBelow};
+ghost use Rattle.chain_arena.specs.LinkCopies.{MakesOf, HasRefusableLink, IsLinkCopy, IsLinkCopyBy, IsCopyBelow, GrowsIfShort, CopiesOrRefuses, CopiesOrLacksCapacity, ClonesOrRefuses};
 
 use crate::chain_arena::ChainArena;
 use arena_base::{Arena, ArenaCloneFromWith, ArenaSlot, ArenaTrait, ClosureMap, ValueMap};
@@ -71,24 +70,17 @@ impl<P: PtrKey, T: Drop, S: SlotStack<Item = ArenaSlot<P, LinkNoGen<P, T>>>> Cha
         M: ValueMap<P, LinkNoGen<P, U>, T>,
     >(&mut self, source: &ChainArena<P, U, S1>, values: M) -> (Result<(), ReallocationError>, M)
         requires { M.is_ready values }
-        ensures within { length source.now.slots ≤ self.old.capacity →
-            (IsOk result.0 ⊎ HasRefusableLink P.Inx.packed_number M.may_refuse P.key source.now)
-            × (self.new.capacity ≡ self.old.capacity) }
-        ensures beyond { (result.0 ≡ Err ReallocationError.BeyondMaxCapacity)
-            ↔ IsBeyond self.old.maximum (length source.now.slots) }
-        ensures unchanged { result.0 ≡ Err ReallocationError.BeyondMaxCapacity
-            → (self.new ≡ self.old) × (result.1 ≡ values) }
-        ensures ok { OnOk result.0
-            (HasCapacityFor P.Inx.greatest (length source.now.slots) self.new) }
-        ensures copied { OnOk result.0
-            (IsLinkCopyBy (MakesOf (link_view P.Inx.packed_number) M.makes) P.key values source.now
-            self.old self.new result.1) }
-        ensures ready { OnOk result.0 (M.is_ready result.1) }
-        ensures never_less { self.old.capacity ≤ self.new.capacity }
+        ensures copied { CopiesOrRefuses (length source.now.slots) self.old.capacity
+            self.old.maximum
+            (HasRefusableLink P.Inx.packed_number M.may_refuse P.key source.now)
+            (HasCapacityFor P.Inx.greatest (length source.now.slots) self.new
+            × IsLinkCopyBy (MakesOf (link_view P.Inx.packed_number) M.makes) P.key values source.now
+            self.old self.new result.1 × M.is_ready result.1)
+            ((self.new ≡ self.old) × (result.1 ≡ values))
+            (IsAbandonedCopy self.old self.new) result.0 }
+        ensures capacity { GrowsIfShort (length source.now.slots) self.old.capacity
+            self.new.capacity }
         ensures reached { IsWithinReach S.may_reach (length source.now.slots) self.old self.new }
-        ensures err { OnErr result.0 (((self.new ≡ self.old) × (result.1 ≡ values))
-            ⊎ (HasRefusableLink P.Inx.packed_number M.may_refuse P.key source.now
-            × IsAbandonedCopy self.old self.new)) }
     {
         let (done, links) = self
             .arena
@@ -115,17 +107,14 @@ impl<P: PtrKey, T: Drop, S: SlotStack<Item = ArenaSlot<P, LinkNoGen<P, T>>>> Cha
         F: FnMut(P, &LinkNoGen<P, U>) -> T + Drop,
     >(&mut self, source: &ChainArena<P, U, S1>, map: F) -> Result<(), ReallocationError>
         requires { F.IsAlwaysCallable map }
-        ensures within { length source.now.slots ≤ self.old.capacity
-            → IsOk result × (self.new.capacity ≡ self.old.capacity) }
-        ensures beyond { (result ≡ Err ReallocationError.BeyondMaxCapacity)
-            ↔ IsBeyond self.old.maximum (length source.now.slots) }
-        ensures ok { OnOk result
-            (HasCapacityFor P.Inx.greatest (length source.now.slots) self.new) }
-        ensures copied { OnOk result
-            (IsLinkCopy F.FnMut P.Inx.packed_number P.key map source.now self.old self.new) }
-        ensures never_less { self.old.capacity ≤ self.new.capacity }
+        ensures copied { CopiesOrLacksCapacity (length source.now.slots) self.old.capacity
+            self.old.maximum
+            (HasCapacityFor P.Inx.greatest (length source.now.slots) self.new
+            × IsLinkCopy F.FnMut P.Inx.packed_number P.key map source.now self.old self.new)
+            (self.new ≡ self.old) result }
+        ensures capacity { GrowsIfShort (length source.now.slots) self.old.capacity
+            self.new.capacity }
         ensures reached { IsWithinReach S.may_reach (length source.now.slots) self.old self.new }
-        ensures err { OnErr result (self.new ≡ self.old) }
     {
         let (done, _) = self.clone_from_by(source, ClosureMap { map });
         done
@@ -150,25 +139,18 @@ impl<P: PtrKey, T: Drop, S: SlotStack<Item = ArenaSlot<P, LinkNoGen<P, T>>>> Cha
         M: ValueMap<P, LinkNoGen<P, T>, U>,
     >(&self, arena: &mut A, values: M) -> (Result<(), ReallocationError>, M)
         requires { M.is_ready values }
-        ensures within { length self.now.slots ≤ (A.view arena.old).capacity →
-            (IsOk result.0 ⊎ HasRefusableLink P.Inx.packed_number M.may_refuse P.key self.now)
-            × ((A.view arena.new).capacity ≡ (A.view arena.old).capacity) }
-        ensures beyond { (result.0 ≡ Err ReallocationError.BeyondMaxCapacity)
-            ↔ IsBeyond (A.view arena.old).maximum (length self.now.slots) }
-        ensures unchanged { result.0 ≡ Err ReallocationError.BeyondMaxCapacity
-            → (arena.new ≡ arena.old) × (result.1 ≡ values) }
-        ensures ok { OnOk result.0 (IsCapacityFor P.Inx.greatest (A.view arena.new).maximum
-            (length self.now.slots) (A.view arena.new).capacity) }
-        ensures copied { OnOk result.0
-            (IsCopyBy (MakesOf (link_view P.Inx.packed_number) M.makes) P.key values self.now
-            (A.view arena.old) (A.view arena.new) result.1) }
-        ensures ready { OnOk result.0 (M.is_ready result.1) }
-        ensures never_less { (A.view arena.old).capacity ≤ (A.view arena.new).capacity }
-        ensures err { OnErr result.0 (((arena.new ≡ arena.old) × (result.1 ≡ values))
-            ⊎ (HasRefusableLink P.Inx.packed_number M.may_refuse P.key self.now
-            × IsAbandonedView (A.view arena.old) (A.view arena.new))) }
-        ensures more { OnOk result.0
-            (IsCopyBelow P.Inx.packed_number (A.copies _) self.now arena.old arena.new) }
+        ensures copied { CopiesOrRefuses (length self.now.slots) (A.view arena.old).capacity
+            (A.view arena.old).maximum
+            (HasRefusableLink P.Inx.packed_number M.may_refuse P.key self.now)
+            (IsCapacityFor P.Inx.greatest (A.view arena.new).maximum (length self.now.slots)
+            (A.view arena.new).capacity
+            × IsCopyBy (MakesOf (link_view P.Inx.packed_number) M.makes) P.key values self.now
+            (A.view arena.old) (A.view arena.new) result.1 × M.is_ready result.1
+            × IsCopyBelow P.Inx.packed_number (A.copies _) self.now arena.old arena.new)
+            ((arena.new ≡ arena.old) × (result.1 ≡ values))
+            (IsAbandonedView (A.view arena.old) (A.view arena.new)) result.0 }
+        ensures capacity { GrowsIfShort (length self.now.slots) (A.view arena.old).capacity
+            (A.view arena.new).capacity }
     {
         arena.clone_from_by(&self.arena, values)
     }
@@ -192,19 +174,16 @@ impl<P: PtrKey, T: Drop, S: SlotStack<Item = ArenaSlot<P, LinkNoGen<P, T>>>> Cha
         F: FnMut(P, &LinkNoGen<P, T>) -> U + Drop,
     >(&self, arena: &mut A, map: F) -> Result<(), ReallocationError>
         requires { F.IsAlwaysCallable map }
-        ensures within { length self.now.slots ≤ (A.view arena.old).capacity
-            → IsOk result × ((A.view arena.new).capacity ≡ (A.view arena.old).capacity) }
-        ensures beyond { (result ≡ Err ReallocationError.BeyondMaxCapacity)
-            ↔ IsBeyond (A.view arena.old).maximum (length self.now.slots) }
-        ensures ok { OnOk result (IsCapacityFor P.Inx.greatest (A.view arena.new).maximum
-            (length self.now.slots) (A.view arena.new).capacity) }
-        ensures copied { OnOk result
-            ((last : F) × IsCopyBy (MakesOf (link_view P.Inx.packed_number) (IsCopyCall F.FnMut))
-            P.key map self.now (A.view arena.old) (A.view arena.new) last) }
-        ensures never_less { (A.view arena.old).capacity ≤ (A.view arena.new).capacity }
-        ensures err { OnErr result (arena.new ≡ arena.old) }
-        ensures more { OnOk result (IsCopyBelow P.Inx.packed_number (A.copies _) self.now arena.old
-            arena.new) }
+        ensures copied { CopiesOrLacksCapacity (length self.now.slots) (A.view arena.old).capacity
+            (A.view arena.old).maximum
+            (IsCapacityFor P.Inx.greatest (A.view arena.new).maximum (length self.now.slots)
+            (A.view arena.new).capacity
+            × ((last : F) × IsCopyBy (MakesOf (link_view P.Inx.packed_number) (IsCopyCall F.FnMut))
+            P.key map self.now (A.view arena.old) (A.view arena.new) last)
+            × IsCopyBelow P.Inx.packed_number (A.copies _) self.now arena.old arena.new)
+            (arena.new ≡ arena.old) result }
+        ensures capacity { GrowsIfShort (length self.now.slots) (A.view arena.old).capacity
+            (A.view arena.new).capacity }
     {
         let (done, _) = self.clone_to_arena_by(arena, ClosureMap { map });
         done
@@ -247,13 +226,8 @@ impl<P: PtrKey, T: Clone, S: SlotStack<Item = ArenaSlot<P, LinkNoGen<P, T>>>> Ch
     /// Port of `ChainArena::clone`.
     pub fn clone(&self, alloc: Global) -> Result<Self, ReallocationError>
         requires clones_equal { (x y : T) → T.is_clone x y → y ≡ x }
-        ensures beyond { (result ≡ Err ReallocationError.BeyondMaxCapacity)
-            ↔ IsBeyond S.initial_maximum (length self.now.slots) }
-        ensures copied { IfOk result (IsClone P.Gen.first S.initial_maximum self.now) }
-        ensures capacity { IfOk result
-            (HasCapacityFor P.Inx.greatest (length self.now.slots)) }
-        ensures reached { IfOk result (IsWithinReach S.may_reach (length self.now.slots)
-            (new_arena P.Gen.first S.initial_maximum)) }
+        ensures cloned { ClonesOrRefuses S.may_reach P.Inx.greatest P.Gen.first S.initial_maximum
+            self.now result }
         ensures no_capacity { self.now.slots ≡ [] → IfOk result (λ copy. copy.stack_capacity ≡ 0)
             × IsOk result }
     {

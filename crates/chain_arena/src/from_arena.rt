@@ -1,5 +1,5 @@
 // A chain arena from an arena of links.
-ghost use Rattle.std.specs.Prelude.{◌≡◌, ◌↔◌, IsOk, IfOk, IfErr, codes};
+ghost use Rattle.std.specs.Prelude.{◌≡◌, MatchResult, codes};
 ghost use Rattle.chain_laws.specs.Chains.{IsWellLinked};
 ghost use Rattle.chain_links.specs.ChainArena.{link_map};
 ghost use Rattle.chain_links.specs.Links.{links_view};
@@ -25,10 +25,11 @@ impl<P: PtrKey, T: Drop, S: SlotStack<Item = ArenaSlot<P, LinkNoGen<P, T>>>> Cha
     ///
     /// Port of `ChainArena::from_arena`.
     pub fn from_arena(arena: Arena<P, LinkNoGen<P, T>, S>) -> Result<Self, &'static str>
-        ensures decides { IsOk result
-            ↔ IsWellLinked (link_map (links_view P.Inx.packed_number arena)) }
-        ensures same { IfOk result (λ c. c ≡ links_view P.Inx.packed_number arena) }
-        ensures refused { IfErr result (λ e. e.now ≡ codes "interlink transitivity does not hold") }
+        ensures { MatchResult result
+            (λ c. IsWellLinked (link_map (links_view P.Inx.packed_number arena))
+            × (c ≡ links_view P.Inx.packed_number arena))
+            (λ e. (IsWellLinked (link_map (links_view P.Inx.packed_number arena)) → ⊥)
+            × (e.now ≡ codes "interlink transitivity does not hold")) }
     {
         if links_agree(&arena) {
             let mut arena = arena;

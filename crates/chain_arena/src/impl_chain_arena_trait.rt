@@ -1,10 +1,11 @@
 // The implementation of `ChainArenaTrait`: a chain arena as an arena of links.
-ghost use Rattle.std.specs.Prelude.{◌≡◌, ◌↔◌, IsTrue};
+ghost use Rattle.std.specs.Prelude.{◌≡◌, ◌↔◌, IsTrue, IfOk, OnErr};
 ghost use Rattle.std.specs.Option.{option_map};
 ghost use Rattle.arena_core.specs.Invalidation.{value_within, is_overflow_result};
-ghost use Rattle.chain_arena.specs.Effects.{MayInsertInto};
+ghost use Rattle.chain_links.specs.CallEffects.{MayInsertIn, InsertsLinkWithin, InsertsLink, InsertsAllowedLink};
+ghost use Rattle.chain_links.specs.ChainArena.{entry, value_view, link_map};
 ghost use Rattle.chain_arena.specs.Growths.{growth_of};
-ghost use Rattle.chain_arena.specs.NewLinks.{InsertsAllowed, InsertsReallocating, InsertsWithinCapacity};
+ghost use Rattle.chain_arena.specs.NewLinks.{IsNewLink};
 
 use crate::chain_advancer::ChainPtrAdvancer;
 use crate::chain_arena::ChainArena;
@@ -33,6 +34,8 @@ impl<P: PtrKey, T: Drop, S: SlotStack<Item = ArenaSlot<P, LinkNoGen<P, T>>>> Cha
 
     ghost walker = { λ a. walker_of P.Inx.number a.left a.start a.forth a.back };
 
+    ghost inserts = { IsNewLink P.key P.Inx.number S.may_reach P.Inx.greatest };
+
     ghost connects = { λ a i j b. IsJoin a b i j };
 
     ghost breaks = { λ a i j b. IsCut a b i j };
@@ -56,7 +59,8 @@ impl<P: PtrKey, T: Drop, S: SlotStack<Item = ArenaSlot<P, LinkNoGen<P, T>>>> Cha
     ghost compression_renames = { λ a b h. h.renamed };
 
     fn can_insert(&self, kind: LinkInsertKind<P>) -> bool
-        ensures { IsTrue result ↔ MayInsertInto P.key P.Inx.number self.now kind }
+        ensures { IsTrue result ↔ MayInsertIn entry link_map P.key P.Inx.number
+            self.now kind }
     {
         self.position_for(kind).is_some()
     }
@@ -68,7 +72,11 @@ impl<P: PtrKey, T: Drop, S: SlotStack<Item = ArenaSlot<P, LinkNoGen<P, T>>>> Cha
         kind: LinkInsertKind<P>,
         t: T,
     ) -> Result<P, ChainInsertionError>
-        ensures { InsertsWithinCapacity P.key P.Inx.number self.old kind t self.new result }
+        ensures outcome { InsertsLinkWithin value_view entry link_map P.key P.Inx.number
+            self.old kind t result self.new }
+        ensures err { OnErr result (self.new ≡ self.old) }
+        ensures more { IfOk result (λ p. IsNewLink P.key P.Inx.number S.may_reach
+            P.Inx.greatest self.old kind t p self.new) }
     {
         let checked = self.position_within_capacity(kind);
         self.insert_at(checked, t)
@@ -80,8 +88,11 @@ impl<P: PtrKey, T: Drop, S: SlotStack<Item = ArenaSlot<P, LinkNoGen<P, T>>>> Cha
         kind: LinkInsertKind<P>,
         t: T,
     ) -> Result<P, ChainInsertionError>
-        ensures { InsertsReallocating P.key P.Inx.number self.old kind t self.new S.may_reach
-            P.Inx.greatest result }
+        ensures outcome { InsertsLink value_view entry link_map P.key P.Inx.number
+            P.Inx.greatest self.old kind t result self.new }
+        ensures err { OnErr result (self.new ≡ self.old) }
+        ensures more { IfOk result (λ p. IsNewLink P.key P.Inx.number S.may_reach
+            P.Inx.greatest self.old kind t p self.new) }
     {
         let checked = self.position_with_growth(kind);
         self.insert_at(checked, t)
@@ -89,9 +100,12 @@ impl<P: PtrKey, T: Drop, S: SlotStack<Item = ArenaSlot<P, LinkNoGen<P, T>>>> Cha
 
     #[inline(always)]
     fn insert(&mut self, kind: LinkInsertKind<P>, t: T) -> Result<P, ReallocationError>
-        requires { MayInsertInto P.key P.Inx.number self.old kind }
-        ensures { InsertsAllowed P.key P.Inx.number self.old kind t self.new S.may_reach
-            P.Inx.greatest result }
+        requires { MayInsertIn entry link_map P.key P.Inx.number self.old kind }
+        ensures outcome { InsertsAllowedLink value_view entry link_map P.key P.Inx.number
+            P.Inx.greatest self.old kind t result self.new }
+        ensures err { OnErr result (self.new ≡ self.old) }
+        ensures more { IfOk result (λ p. IsNewLink P.key P.Inx.number S.may_reach
+            P.Inx.greatest self.old kind t p self.new) }
     {
         growth_of(self.insert_reallocating(kind, t))
     }

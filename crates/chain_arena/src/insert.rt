@@ -34,7 +34,8 @@ impl<P: PtrKey, T: Drop, S: SlotStack<Item = ArenaSlot<P, LinkNoGen<P, T>>>> Cha
         &self,
         kind: LinkInsertKind<P>,
     ) -> Result<InsertPosition<P::Inx>, ChainInsertionError>
-        ensures position { FindsPositionWithin P.key P.Inx.number self.now kind result }
+        ensures position { FindsPositionWithin P.key P.Inx.number S.may_reach P.Inx.greatest
+            self.now kind result }
         ensures agree { IsWellLinked (link_map self.now) }
     {
         match self.position_for(kind) {

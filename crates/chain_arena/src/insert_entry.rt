@@ -1,15 +1,18 @@
 // An insertion of a link whose pointer is known before its value.
-ghost use Rattle.std.specs.Prelude.{◌≡◌, ◌≢◌, ◌↔◌, ◌<◌, ◌≤◌, ◌+◌, ◌⊎◌, IsErr, IfOk, IfErr, IsOkAnd, Err};
+ghost use Rattle.std.specs.Prelude.{◌≡◌, ◌<◌, ◌≤◌, IfOk, Err};
 ghost use Rattle.std.specs.Borrow.{RestsIfErr, sem};
 ghost use Rattle.std.specs.Option.{option_map};
 ghost use Rattle.arena_core.specs.Numbers.{IsWithin};
-ghost use Rattle.chain_laws.specs.Insertions.{IsInsertPosition, link_before, link_after};
-ghost use Rattle.arena_traits.specs.Arena.{entry_count, next_index, with_capacity_of, ReachesCapacity};
-ghost use Rattle.chain_links.specs.ChainArena.{entry, link_map, insert_between};
+ghost use Rattle.chain_laws.specs.Insertions.{IsInsertPosition};
+ghost use Rattle.arena_traits.specs.Arena.{entry_count, next_index};
+ghost use Rattle.chain_links.specs.ChainArena.{link_map, value_view, insert_between};
 ghost use Rattle.chain_links.specs.Insertions.{nonzero_index};
 ghost use Rattle.chain_linking.specs.InsertPositions.{before_in, after_in};
-ghost use Rattle.chain_arena.specs.Effects.{indexed_kind, MayInsertInto};
-ghost use Rattle.chain_arena.specs.NewLinks.{IsInsertedBetween, RefusesOneMore};
+ghost use Rattle.chain_arena.specs.Effects.{MayInsertInto};
+ghost use Rattle.arena_traits.specs.Entries.{HasFreeCapacity};
+ghost use Rattle.arena_traits.specs.Growth.{IsFull, IsGrowthResult, RefusesOneMore};
+ghost use Rattle.chain_links.specs.CallEffects.{IsInsertionResult, IsInsertionWithinResult};
+ghost use Rattle.chain_arena.specs.NewLinks.{IsEntryFor, IsInsertedBetween};
 
 use crate::chain_arena::ChainArena;
 use arena_base::{ArenaSlot, ArenaTrait, proved_unreachable};
@@ -89,19 +92,11 @@ impl<P: PtrKey, T: Drop, S: SlotStack<Item = ArenaSlot<P, LinkNoGen<P, T>>>> Cha
             (arena_row P.row T.row S.row P.Inx.row P.Gen.row P.Inx.Word.row
             P.PtrKey P.Inx.InxKey P.Gen.GenKey S.SlotStack)
             self.entry (λ e. e.arena.ghost_name) result (λ n. n ≡ self.old)) }
-        ensures link { (result ≡ Err ChainInsertionError.FailedLinkRequirement)
-            ↔ ¬ MayInsertInto P.key P.Inx.number self.old kind }
-        ensures full { (result ≡ Err ChainInsertionError.NotWithinCapacity)
-            ↔ (MayInsertInto P.key P.Inx.number self.old kind
-            × (entry_count self.old ≡ self.old.capacity)) }
-        ensures error { IfErr result (λ e. (e ≡ ChainInsertionError.FailedLinkRequirement)
-            ⊎ (e ≡ ChainInsertionError.NotWithinCapacity)) }
+        ensures outcome { IsInsertionWithinResult (MayInsertInto P.key P.Inx.number self.old kind)
+            (HasFreeCapacity (value_view self.old)) (IsFull (value_view self.old))
+            (λ e. (e.arena.now ≡ self.old) × IsEntryFor P.key P.Inx.number S.may_reach
+            P.Inx.greatest self.old kind e.arena.now e.prev e.next) result }
         ensures same_reference { IfOk result (λ e. e.arena.ghost_name ≡ self.entry.ghost_name) }
-        ensures arena { IfOk result (λ e. e.arena.now ≡ self.old) }
-        ensures prev { IfOk result (λ e. nonzero_index e.prev ≡ link_before (link_map self.old)
-            (indexed_kind P.key P.Inx.number kind) (next_index self.old)) }
-        ensures next { IfOk result (λ e. nonzero_index e.next ≡ link_after (link_map self.old)
-            (indexed_kind P.key P.Inx.number kind) (next_index self.old)) }
     {
         match self.position_within_capacity(kind) {
             Ok(position) => Ok(self.entry_in(position)),
@@ -130,24 +125,10 @@ impl<P: PtrKey, T: Drop, S: SlotStack<Item = ArenaSlot<P, LinkNoGen<P, T>>>> Cha
             (arena_row P.row T.row S.row P.Inx.row P.Gen.row P.Inx.Word.row
             P.PtrKey P.Inx.InxKey P.Gen.GenKey S.SlotStack)
             self.entry (λ e. e.arena.ghost_name) result (λ n. n ≡ self.old)) }
-        ensures link { (result ≡ Err ChainInsertionError.FailedLinkRequirement)
-            ↔ ¬ MayInsertInto P.key P.Inx.number self.old kind }
-        ensures error { IfErr result (λ e. e ≢ ChainInsertionError.NotWithinCapacity) }
-        ensures within_capacity { MayInsertInto P.key P.Inx.number self.old kind
-            → entry_count self.old < self.old.capacity
-            → IsOkAnd result (λ e. e.arena.now ≡ self.old) }
-        ensures grown { IfOk result (λ e. ReachesCapacity S.may_reach P.Inx.greatest
-            (entry_count self.old + 1) self.old e.arena.now) }
-        ensures beyond { (result ≡ Err ChainInsertionError.BeyondMaxCapacity)
-            ↔ (MayInsertInto P.key P.Inx.number self.old kind
-            × RefusesOneMore self.old ReallocationError.BeyondMaxCapacity) }
-        ensures greatest { entry_count self.old ≡ P.Inx.greatest → IsErr result }
+        ensures outcome { IsInsertionResult (MayInsertInto P.key P.Inx.number self.old kind)
+            (RefusesOneMore (value_view self.old)) (λ e. IsEntryFor P.key P.Inx.number S.may_reach
+            P.Inx.greatest self.old kind e.arena.now e.prev e.next) result }
         ensures same_reference { IfOk result (λ e. e.arena.ghost_name ≡ self.entry.ghost_name) }
-        ensures arena { IfOk result (λ e. e.arena.now ≡ with_capacity_of self.old e.arena.now) }
-        ensures prev { IfOk result (λ e. nonzero_index e.prev ≡ link_before (link_map self.old)
-            (indexed_kind P.key P.Inx.number kind) (next_index self.old)) }
-        ensures next { IfOk result (λ e. nonzero_index e.next ≡ link_after (link_map self.old)
-            (indexed_kind P.key P.Inx.number kind) (next_index self.old)) }
     {
         match self.position_with_growth(kind) {
             Ok(position) => Ok(self.entry_in(position)),
@@ -175,19 +156,10 @@ impl<P: PtrKey, T: Drop, S: SlotStack<Item = ArenaSlot<P, LinkNoGen<P, T>>>> Cha
             (arena_row P.row T.row S.row P.Inx.row P.Gen.row P.Inx.Word.row
             P.PtrKey P.Inx.InxKey P.Gen.GenKey S.SlotStack)
             self.entry (λ e. e.arena.ghost_name) result (λ n. n ≡ self.old)) }
-        ensures within_capacity { entry_count self.old < self.old.capacity
-            → IsOkAnd result (λ e. e.arena.now ≡ self.old) }
-        ensures grown { IfOk result (λ e. ReachesCapacity S.may_reach P.Inx.greatest
-            (entry_count self.old + 1) self.old e.arena.now) }
-        ensures beyond { (result ≡ Err ReallocationError.BeyondMaxCapacity)
-            ↔ RefusesOneMore self.old ReallocationError.BeyondMaxCapacity }
-        ensures greatest { entry_count self.old ≡ P.Inx.greatest → IsErr result }
+        ensures outcome { IsGrowthResult (RefusesOneMore (value_view self.old))
+            (λ e. IsEntryFor P.key P.Inx.number S.may_reach P.Inx.greatest self.old kind
+            e.arena.now e.prev e.next) result }
         ensures same_reference { IfOk result (λ e. e.arena.ghost_name ≡ self.entry.ghost_name) }
-        ensures arena { IfOk result (λ e. e.arena.now ≡ with_capacity_of self.old e.arena.now) }
-        ensures prev { IfOk result (λ e. nonzero_index e.prev ≡ link_before (link_map self.old)
-            (indexed_kind P.key P.Inx.number kind) (next_index self.old)) }
-        ensures next { IfOk result (λ e. nonzero_index e.next ≡ link_after (link_map self.old)
-            (indexed_kind P.key P.Inx.number kind) (next_index self.old)) }
     {
         match self.position_for(kind) {
             Some(position) => match self.grow_if_full() {

@@ -80,8 +80,7 @@ impl<P: PtrKey, T: Drop, S: SlotStack<Item = ArenaSlot<P, LinkNoGen<P, T>>>> Cha
 fn links_of<P: PtrKey, T: Drop, S: SlotStack<Item = ArenaSlot<P, LinkNoGen<P, T>>>>(
     arena: &Arena<P, LinkNoGen<P, T>, S>,
 ) -> Iter<'_, P, LinkNoGen<P, T>, S>
-    ensures links { result ≡ entries arena.now }
-    ensures fits { length result < 2 ^ 64 }
+    ensures { (result ≡ entries arena.now) × (length result < 2 ^ 64) }
 {
     arena.invariants();
     arena.into_iter()

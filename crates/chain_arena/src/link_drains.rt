@@ -1,10 +1,10 @@
 // The removal of all links of an arena, one after another.
-ghost use Rattle.std.specs.Prelude.{◌≡◌, [], length, map, None, IfNone, IfSome};
+ghost use Rattle.std.specs.Prelude.{◌≡◌, [], None, MatchOption};
 ghost use Rattle.std.specs.Iterator.{item_count};
 ghost use Rattle.std.specs.Option.{option_map};
-ghost use Rattle.arena_traits.specs.Entries.{entries, first_key, index_of};
+ghost use Rattle.arena_traits.specs.Entries.{entries, first_key};
 ghost use Rattle.chain_links.specs.ChainArena.{entry, values_of};
-ghost use Rattle.chain_arena.specs.Drains.{entries_left, without_each, IsLinkTaken, IsLinkDrainStep, LinkDrainSteps, CountsUp};
+ghost use Rattle.chain_arena.specs.Drains.{entries_left, IsLinkTaken, IsLinkDrainStep, LinkDrainSteps, RemovesEntries};
 
 use crate::chain_arena::ChainArena;
 use crate::insert_entry::number_or_zero;
@@ -38,8 +38,8 @@ impl<P: PtrKey, T: Drop, S: SlotStack<Item = ArenaSlot<P, LinkNoGen<P, T>>>> Cha
     ///
     /// Port of `ChainArena::drain`.
     pub fn drain(&mut self) -> LinkDrain<'_, P, T, S>
-        ensures same_reference { result.arena.ghost_name ≡ self.entry.ghost_name }
-        ensures arena { result.arena.now ≡ self.old }
+        ensures holds { (result.arena.ghost_name ≡ self.entry.ghost_name)
+            × (result.arena.now ≡ self.old) }
         ensures left { entries_left self.old result.at ≡ entries (values_of self.old) }
     {
         LinkDrain { arena: self, at: 1 }
@@ -63,9 +63,8 @@ impl<P: PtrKey, T: Drop, S: SlotStack<Item = ArenaSlot<P, LinkNoGen<P, T>>>> Cha
     // the result need not go through memory.
     #[inline(always)]
     fn take_link(&mut self, i: P::Inx) -> Option<InvalidationOption<(P, T)>>
-        ensures none { IfNone result ((entry self.old (P.Inx.number i) ≡ None)
-            × (self.new ≡ self.old)) }
-        ensures some { IfSome result (λ gone. IsLinkTaken P.key P.Gen.following P.Gen.wraps self.old
+        ensures { MatchOption result ((entry self.old (P.Inx.number i) ≡ None)
+            × (self.new ≡ self.old)) (λ gone. IsLinkTaken P.key P.Gen.following P.Gen.wraps self.old
             (P.Inx.number i) gone self.new) }
     {
         let (entry, overflow) = self.unlink(i).overflowing();
@@ -81,8 +80,7 @@ impl<P: PtrKey, T: Drop, S: SlotStack<Item = ArenaSlot<P, LinkNoGen<P, T>>>> Cha
     // Removes the link at an index, if there is one, and returns it after the next index.
     #[inline(always)]
     fn drain_link_at(&mut self, at: usize) -> Option<(usize, InvalidationOption<(P, T)>)>
-        ensures none { IfNone result (self.new ≡ self.old) }
-        ensures some { IfSome result
+        ensures { MatchOption result (self.new ≡ self.old)
             (λ e. IsLinkDrainStep P.key P.Gen.following P.Gen.wraps self.old at e.1 self.new e.0) }
     {
         // No slot has an index above the greatest.
@@ -104,8 +102,7 @@ impl<P: PtrKey, T: Drop, S: SlotStack<Item = ArenaSlot<P, LinkNoGen<P, T>>>> Cha
     // In an arena without free slots it is at the index itself, so that slot is tested first.
     #[inline(always)]
     fn drain_first(&mut self, at: usize) -> Option<(usize, InvalidationOption<(P, T)>)>
-        ensures none { IfNone result ((entries_left self.old at ≡ []) × (self.new ≡ self.old)) }
-        ensures some { IfSome result
+        ensures { MatchOption result ((entries_left self.old at ≡ []) × (self.new ≡ self.old))
             (λ e. IsLinkDrainStep P.key P.Gen.following P.Gen.wraps self.old at e.1 self.new e.0) }
     {
         match self.drain_link_at(at) {
@@ -117,8 +114,7 @@ impl<P: PtrKey, T: Drop, S: SlotStack<Item = ArenaSlot<P, LinkNoGen<P, T>>>> Cha
     // Searches for the first link from an index on, and removes it as `drain_first` does.
     #[inline(always)]
     fn drain_by_search(&mut self, at: usize) -> Option<(usize, InvalidationOption<(P, T)>)>
-        ensures none { IfNone result ((entries_left self.old at ≡ []) × (self.new ≡ self.old)) }
-        ensures some { IfSome result
+        ensures { MatchOption result ((entries_left self.old at ≡ []) × (self.new ≡ self.old))
             (λ e. IsLinkDrainStep P.key P.Gen.following P.Gen.wraps self.old at e.1 self.new e.0) }
     {
         match self.first_from(at) {
@@ -136,12 +132,7 @@ impl<P: PtrKey, T: Drop, S: SlotStack<Item = ArenaSlot<P, LinkNoGen<P, T>>>> Cha
     #[cold]
     #[inline(never)]
     fn drain_rest(&mut self, from: usize)
-        ensures state { self.new ≡ without_each P.Gen.following self.old
-            (map index_of (entries_left self.old from)) }
-        ensures counts { CountsUp P.Gen.following (length (entries_left self.old from)) self.old
-            self.new }
-        ensures empties { entries_left self.old from ≡ entries (values_of self.old)
-            → entries (values_of self.new) ≡ [] }
+        ensures { RemovesEntries P.Gen.following self.old (entries_left self.old from) self.new }
     {
         let mut at = from;
         while let Some((next, _)) = self.drain_first(at) {
@@ -175,13 +166,8 @@ impl<'a, P: PtrKey, T: Drop, S: SlotStack<Item = ArenaSlot<P, LinkNoGen<P, T>>>>
 impl<'a, P: PtrKey, T: Drop, S: SlotStack<Item = ArenaSlot<P, LinkNoGen<P, T>>>> Drop
     for LinkDrain<'a, P, T, S> {
     fn drop(self)
-        ensures state { self.exit.0.now ≡ without_each P.Gen.following self.entry.arena.now
-            (map index_of (entries_left self.entry.arena.now self.entry.at)) }
-        ensures counts { CountsUp P.Gen.following
-            (length (entries_left self.entry.arena.now self.entry.at)) self.entry.arena.now
-            self.exit.0.now }
-        ensures empties { entries_left self.entry.arena.now self.entry.at ≡ entries
-            (values_of self.entry.arena.now) → entries (values_of self.exit.0.now) ≡ [] }
+        ensures { RemovesEntries P.Gen.following self.entry.arena.now
+            (entries_left self.entry.arena.now self.entry.at) self.exit.0.now }
     {
         let LinkDrain { arena, at } = self;
         arena.drain_rest(at);

@@ -1,11 +1,11 @@
 // The transfer of all links of another arena, chain by chain.
-ghost use Rattle.std.specs.Prelude.{◌≡◌, ◌↔◌, ◌≤◌, ◌<◌, ◌+◌, ℕ, [], IsOk, OnOk, OnErr, Err, None, Some};
-ghost use Rattle.arena_core.specs.SlotStack.{IsBeyond};
+ghost use Rattle.std.specs.Prelude.{◌≡◌, ◌≤◌, ◌<◌, ◌+◌, ℕ, IsOk};
 ghost use Rattle.chain_laws.specs.Transfer.{end_before, end_after};
-ghost use Rattle.arena_traits.specs.Arena.{HasCapacityFor, IsWithinReach, IsListed, with_capacity_of, entry_count, next_index};
+ghost use Rattle.arena_traits.specs.Arena.{ReachesCapacity, IsListed, with_capacity_of, entry_count, next_index};
 ghost use Rattle.arena_traits.specs.Entries.{count};
 ghost use Rattle.chain_linking.specs.InsertPositions.{before_in, after_in};
 ghost use Rattle.chain_compaction.specs.PointerMoves.{CompressionMovesPointers, CompressionHasMoves};
+ghost use Rattle.chain_arena.specs.Effects.{HaveSameCapacity, IsEmptyWithCapacity, SucceedsOrRefuses};
 ghost use Rattle.chain_arena.specs.Transfers.{ArrangesAlike, IsTransfer, AreEnds, HasPositionAtEnd, with_link_at_end};
 ghost use Rattle.chain_arena.specs.PointerTransfers.{TransferMovesPointers};
 
@@ -46,22 +46,15 @@ impl<P: PtrKey, T: Drop, S: SlotStack<Item = ArenaSlot<P, LinkNoGen<P, T>>>> Cha
         F: FnMut(Q, InvalidationOption<U>, P) -> T + Drop,
     >(&mut self, new_generation: P::Gen, source: &mut A, map: F) -> Result<(), ReallocationError>
         requires { F.IsAlwaysCallable map }
-        ensures transferred { OnOk result
+        ensures transferred { SucceedsOrRefuses (count (A.view source.old)) P.Inx.greatest
+            self.old.maximum
             (IsTransfer Q.key P.key Q.Gen.following Q.Gen.wraps F.FnMut new_generation map
-            (A.view source.old) (A.interlinks source.old) (A.view source.new) self.old self.new) }
-        ensures capacity { OnOk result
-            (HasCapacityFor P.Inx.greatest (count (A.view source.old)) self.new) }
-        ensures reached { OnOk result
-            (IsWithinReach S.may_reach (count (A.view source.old)) self.old self.new) }
+            (A.view source.old) (A.interlinks source.old) (A.view source.new) self.old self.new
+            × ReachesCapacity S.may_reach P.Inx.greatest (count (A.view source.old))
+            self.old self.new)
+            ((self.new ≡ self.old) × (source.new ≡ source.old)) result }
         ensures within { count (A.view source.old) ≤ self.old.capacity
-            → IsOk result × (self.new.capacity ≡ self.old.capacity)
-            × (self.new.stack_capacity ≡ self.old.stack_capacity) }
-        ensures greatest { P.Inx.greatest < count (A.view source.old)
-            → result ≡ Err ReallocationError.AllocError }
-        ensures beyond { (result ≡ Err ReallocationError.BeyondMaxCapacity)
-            ↔ ((count (A.view source.old) ≤ P.Inx.greatest) × IsBeyond self.old.maximum
-            (count (A.view source.old))) }
-        ensures err { OnErr result ((self.new ≡ self.old) × (source.new ≡ source.old)) }
+            → IsOk result × HaveSameCapacity self.new self.old }
     {
         match self.grow_to_hold(source.len()) {
             Ok(()) => {
@@ -76,13 +69,10 @@ impl<P: PtrKey, T: Drop, S: SlotStack<Item = ArenaSlot<P, LinkNoGen<P, T>>>> Cha
 
     // Grows to capacity for `n` links if it is less. Tests the greatest index before the maximum.
     fn grow_to_hold(&mut self, n: usize) -> Result<(), ReallocationError>
+        ensures grown { SucceedsOrRefuses n P.Inx.greatest self.old.maximum
+            (ReachesCapacity S.may_reach P.Inx.greatest n self.old self.new)
+            (self.new ≡ self.old) result }
         ensures within { n ≤ self.old.capacity → IsOk result × (self.new ≡ self.old) }
-        ensures greatest { P.Inx.greatest < n → result ≡ Err ReallocationError.AllocError }
-        ensures beyond { (result ≡ Err ReallocationError.BeyondMaxCapacity)
-            ↔ ((n ≤ P.Inx.greatest) × IsBeyond self.old.maximum n) }
-        ensures err { OnErr result (self.new ≡ self.old) }
-        ensures capacity { OnOk result (HasCapacityFor P.Inx.greatest n self.new) }
-        ensures reached { OnOk result (IsWithinReach S.may_reach n self.old self.new) }
         ensures after { self.new ≡ with_capacity_of self.old self.new }
     {
         if n <= self.capacity() {
@@ -109,15 +99,11 @@ fn transfer_links<
     F: FnMut(Q, InvalidationOption<U>, P) -> T + Drop,
 >(target: &mut ChainArena<P, T, S>, source: &mut A, mut map: F)
     requires callable { F.IsAlwaysCallable map }
-    requires slots { target.old.slots ≡ [] }
-    requires freed { target.old.freed ≡ [] }
-    requires capacity { count (A.view source.old) ≤ target.old.capacity }
-    requires greatest { target.old.capacity ≤ P.Inx.greatest }
+    requires empty { IsEmptyWithCapacity P.Inx.greatest (count (A.view source.old)) target.old }
     ensures transferred { IsTransfer Q.key P.key Q.Gen.following Q.Gen.wraps F.FnMut
         target.old.counter map (A.view source.old) (A.interlinks source.old)
         (A.view source.new) target.old target.new }
-    ensures capacity { target.new.capacity ≡ target.old.capacity }
-    ensures stack_capacity { target.new.stack_capacity ≡ target.old.stack_capacity }
+    ensures capacity { HaveSameCapacity target.new target.old }
 {
     source.agrees();
     let generation = target.generation();
@@ -156,10 +142,9 @@ fn pointer_at<P: PtrKey>(index: usize, generation: P::Gen) -> P
 // Returns the insertion position at the end of a chain: after its last link, and in a ring before
 // its first.
 fn position_at_end<I: InxKey>(ring: bool, ends: Option<(I, I)>) -> InsertPosition<I>
-    ensures before { (m q : ℕ) → AreEnds I.number ends m q
-        → before_in I.number result q ≡ end_before ring m q }
-    ensures after { (m q : ℕ) → AreEnds I.number ends m q
-        → after_in I.number result q ≡ end_after ring m q }
+    ensures { (m q : ℕ) → AreEnds I.number ends m q
+        → (before_in I.number result q ≡ end_before ring m q)
+        × (after_in I.number result q ≡ end_after ring m q) }
 {
     match ends {
         None => {

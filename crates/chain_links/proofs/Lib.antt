@@ -2,3 +2,4 @@ pub mod ArenaInsertionLemmas
 pub mod MappedArenaLemmas
 pub mod LinkStateLemmas
 pub mod RestLemmas
+pub mod CallEffectLemmas

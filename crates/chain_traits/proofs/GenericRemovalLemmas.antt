@@ -1,6 +1,6 @@
 -- The effects of a removal from any arena of links, if it removes anything.
 use Rattle.std.proofs.Common.{◌≡◌, ◌≢◌, ℕ, suc, ◌+◌, List, [], ◌∷◌, length, Bool, true, false, Option, None, Some, refl, sym, ap, ◌∙◌, subst, arith}
-use Rattle.std.specs.Prelude.{◌↔◌, is_some, cond, ◌==◌, IsSome, IfSome, OnSome, IfNone}
+use Rattle.std.specs.Prelude.{◌↔◌, is_some, cond, ◌==◌, IsSome, IfSome, IfNone}
 use Rattle.std.specs.Option.{option_map}
 use Rattle.chain_laws.specs.Chains.{LinkMap, IsWellLinked}
 use Rattle.chain_laws.specs.Removals.{with_removal, Removes}
@@ -80,18 +80,6 @@ module _ {A Gen T : Type 0} (view : A → ArenaView Gen T) (entry : A → ℕ �
         let same : t ≡ v.value = let h = r.value v in cc in
         subst (λ (u : T). entry old p.0 ≡ Some (p.1, u)) (sym same) v.stored
 
-    pub gone_of : (o : Option T) → TakesEntry old new p o → OnSome o (entry new p.0 ≡ None)
-    gone_of None r = tt
-    gone_of (Some t) r = (r.some refl).gone
-
-    pub less_of : (o : Option T) → TakesEntry old new p o → OnSome o (count (view old) ≡ count (view new) + 1)
-    less_of None r = tt
-    less_of (Some t) r = (r.some refl).less
-
     pub same_of : (o : Option T) → TakesEntry old new p o → IfNone o (new ≡ old)
     same_of None r = r.same refl
     same_of (Some t) r = tt
-
-    pub kept_of : (o : Option T) → TakesEntry old new p o → (i : ℕ) → i ≢ p.0 → entry new i ≡ entry old i
-    kept_of None r i other = ap (λ (a : A). entry a i) (r.same refl)
-    kept_of (Some t) r i other = (r.some refl).kept i other

@@ -1,7 +1,14 @@
--- Consequences of clauses on one outcome of a call.
+-- Consequences of the outcomes of calls.
 use Rattle.std.proofs.Common.{◌≡◌, Option, None, Some, refl}
 use Rattle.std.specs.Option.{option_map}
-use Rattle.std.specs.Prelude.{is_some, OnErr, OnOk, IfNone, IfSome, OnSome, IfOk, Result, Ok, Err, true}
+use Rattle.std.specs.Prelude.{is_some, OnErr, IfNone, IfSome, OnSome, IfOk, Result, Ok, Err, true}
+use Rattle.arena_core.specs.declared.errors.ChainInsertionError.{ChainInsertionError}
+use Rattle.arena_core.specs.declared.errors.ChainInsertionError.TheVariants as failed
+use Rattle.arena_core.specs.declared.errors.ReallocationError.{ReallocationError}
+use Rattle.arena_core.specs.declared.errors.ReallocationError.TheVariants as refused
+use Rattle.arena_traits.specs.Entries.{ArenaView}
+use Rattle.arena_traits.specs.Growth.{IsGrowthResult, IsFull, RefusesOneMore}
+use Rattle.chain_links.specs.CallEffects.{IsInsertionResult}
 
 -- Consequences of a fact on `Some` hold on `Some`.
 pub on_some : {R X Z : Type 0} (o : Option R) → OnSome o X → (X → Z) → OnSome o Z
@@ -13,30 +20,15 @@ pub on_none : {R X : Type 0} (o : Option R) → X → IfNone o X
 on_none None x = x
 on_none (Some r) x = tt
 
--- Consequences of two facts on `Some` hold on `Some`.
-pub on_both : {R X Y Z : Type 0} (o : Option R) → OnSome o X → OnSome o Y → (X → Y → Z) → OnSome o Z
-on_both None x y so = tt
-on_both (Some r) x y so = so x y
-
 -- Consequences of a fact on `Ok` hold on `Ok`.
 pub if_ok : {R E : Type 0} {X Z : R → Type 0} (o : Result R E) → IfOk o X → ((r : R) → X r → Z r) → IfOk o Z
 if_ok (Ok r) x so = so r x
 if_ok (Err e) x so = tt
 
--- Case analysis: a call returned `Ok`, or changed nothing.
-pub either_ok : {R E Y W Z : Type 0} {X : R → Type 0} (o : Result R E) → IfOk o X → OnOk o Y → OnErr o W → ((r : R) → X r → Y → Z) → (W → Z) → Z
-either_ok (Ok r) x y w so else_so = so r x y
-either_ok (Err e) x y w so else_so = else_so w
-
 -- Case analysis: a call returned `Some`, or changed nothing.
 pub either_some : {R X Y Z : Type 0} (o : Option R) → OnSome o X → IfNone o Y → (is_some o ≡ true → X → Z) → (Y → Z) → Z
 either_some None x y so else_so = else_so y
 either_some (Some r) x y so else_so = so refl x
-
--- A fact on `Some` holds if it is `Some`.
-pub holds : {R Z : Type 0} (o : Option R) → is_some o ≡ true → OnSome o Z → Z
-holds None some z = absurd (let h = some in cc)
-holds (Some r) some z = z
 
 -- A fact of a mapped outcome is one of the outcome, and back.
 pub if_mapped : {R S : Type 0} (X : S → Type 0) (f : R → S) (o : Option R) → IfSome (option_map f o) X → IfSome o (λ r. X (f r))
@@ -46,3 +38,33 @@ if_mapped X f (Some r) x = x
 pub from_mapped : {R S : Type 0} (X : S → Type 0) (f : R → S) (o : Option R) → IfSome o (λ r. X (f r)) → IfSome (option_map f o) X
 from_mapped X f None x = tt
 from_mapped X f (Some r) x = x
+
+module _ {P : Type 0} where
+  -- The outcome of a growth, by consequences of what it did.
+  pub growth_to : (refuses : ReallocationError → Type 0) (done done' : P → Type 0) (o : Result P ReallocationError) → IsGrowthResult refuses done o → ((p : P) → done p → done' p) → IsGrowthResult refuses done' o
+  growth_to refuses done done' (Ok p) is so = so p is
+  growth_to refuses done done' (Err e) is so = is
+
+  -- What a growth did holds on `Ok`.
+  pub grown_ok : (refuses : ReallocationError → Type 0) (done : P → Type 0) (o : Result P ReallocationError) → IsGrowthResult refuses done o → IfOk o done
+  grown_ok refuses done (Ok p) is = is
+  grown_ok refuses done (Err e) is = tt
+
+  -- Case analysis: a call grew the arena if needed, or changed nothing.
+  pub either_grown : {W Z : Type 0} (refuses : ReallocationError → Type 0) (done : P → Type 0) (o : Result P ReallocationError) → IsGrowthResult refuses done o → OnErr o W → ((p : P) → done p → Z) → (W → Z) → Z
+  either_grown refuses done (Ok p) is w so else_so = so p is
+  either_grown refuses done (Err e) is w so else_so = else_so w
+
+  -- The outcome of an insertion, by an equivalent requirement and consequences of what it does.
+  pub insertion_to : (may may' : Type 0) (refuses : ReallocationError → Type 0) (done done' : P → Type 0) (o : Result P ChainInsertionError) → IsInsertionResult may refuses done o → (may → may') → (may' → may)
+      → ((p : P) → done p → done' p) → IsInsertionResult may' refuses done' o
+  insertion_to may may' refuses done done' (Ok p) is to back so = (to is.0, so p is.1)
+  insertion_to may may' refuses done done' (Err failed.FailedLinkRequirement) is to back so = λ met. is (back met)
+  insertion_to may may' refuses done done' (Err failed.BeyondMaxCapacity) is to back so = (to is.0, is.1)
+  insertion_to may may' refuses done done' (Err failed.AllocError) is to back so = (to is.0, is.1)
+  insertion_to may may' refuses done done' (Err failed.NotWithinCapacity) is to back so = is
+
+-- One more entry is refused only where the arena is full.
+pub full_if_refused : {Gen T : Type 0} (s : ArenaView Gen T) (why : ReallocationError) → RefusesOneMore s why → IsFull s
+full_if_refused s refused.BeyondMaxCapacity is = is.0
+full_if_refused s refused.AllocError is = is.0

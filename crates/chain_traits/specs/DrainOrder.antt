@@ -1,8 +1,12 @@
--- The order in which the chains of an arena are drained.
-use Rattle.std.specs.Prelude.{◌≡◌, ℕ, ◌+◌, ◌≤◌, Bool, is_some, IsSome}
-use Rattle.chain_laws.specs.Chains.{LinkMap, prev_of}
+-- The order in which the links of an arena are drained, and what the removal of each returns.
+use Rattle.std.specs.Prelude.{◌≡◌, ◌≢◌, ℕ, [], ◌+◌, ◌≤◌, Bool, Option, None, Some, IfSome, IfNone, is_some, IsSome}
+use Rattle.arena_core.specs.Invalidation.{value_in, is_overflow}
+use Rattle.arena_core.specs.declared.invalidation.InvalidationOption.{InvalidationOption}
+use Rattle.chain_laws.specs.Chains.{LinkMap, IsWellLinked, prev_of, next_of}
 use Rattle.chain_laws.specs.ChainStart.{IsStart}
-use Rattle.arena_traits.specs.Entries.{ArenaView, found}
+use Rattle.chain_laws.specs.Removals.{with_removal}
+use Rattle.chain_laws.specs.Walks.{step_forward}
+use Rattle.arena_traits.specs.Entries.{ArenaView, found, view_after_removal, AscendsFrom}
 use Rattle.arena_traits.specs.declared.cursor.Cursor.{Cursor}
 use Rattle.arena_traits.specs.declared.cursor.Cursor.TheVariants.{Up}
 
@@ -16,3 +20,58 @@ pub record IsNextChain {Gen T : Type 0} (source : ArenaView Gen T) (interlinks :
   pub start : IsStart interlinks least here
   pub cyclic : ring ≡ is_some (prev_of interlinks here)
   pub cursor : after ≡ Up (least + 1)
+
+module _ {Gen T : Type 0} (entry : ℕ → Option (Gen × T)) where
+  -- A link is stored at `here`, and the chain of the link at i is written from there.
+  abbrev pub IsStoredStart : LinkMap → (i here : ℕ) → Type 0
+  IsStoredStart interlinks i here = record {
+    start : IsStart interlinks i here;
+    some : IsSome (entry here);
+  }
+
+  -- A link is stored at `here`, from which the next chain is written.
+  abbrev pub IsStoredNextChain : ArenaView Gen T → LinkMap → ℕ → Bool → Cursor → Type 0
+  IsStoredNextChain source interlinks here ring after = record {
+    next : IsNextChain source interlinks here ring after;
+    some : IsSome (entry here);
+  }
+
+module _ {Gen T : Type 0} (source : ArenaView Gen T) (interlinks : LinkMap) where
+  -- The links are well linked, there are some, and none is behind the cursor.
+  abbrev pub HasNextChain : Cursor → Type 0
+  HasNextChain cursor = record {
+    agree : IsWellLinked interlinks;
+    low : (from : ℕ) × (cursor ≡ Up from) × AscendsFrom from source.entries;
+    some : source.entries ≢ [];
+  }
+
+  module _ {Index : Type 0} (number : Index → ℕ) where
+    -- The links are well linked. A link is stored at `on`; if that is `None`, there is a next
+    -- chain.
+    abbrev pub CanTakeNext : (ℕ → Option (Gen × T)) → Option Index → Cursor → Type 0
+    CanTakeNext entry on cursor = record {
+      agree : IsWellLinked interlinks;
+      low : on ≡ None → (from : ℕ) × (cursor ≡ Up from) × AscendsFrom from source.entries;
+      some : on ≡ None → source.entries ≢ [];
+      stored : IfSome on (λ i. IsSome (entry (number i)));
+    }
+
+    -- The next link is the one at `on`, and the advancer stays. If `on` is `None`, it is the first
+    -- link of the next chain.
+    abbrev pub IsNextLink : Option Index → Bool → Cursor → ℕ → Bool → Cursor → Type 0
+    IsNextLink on ring before here is_cyclic after = record {
+      continues : IfSome on (λ i. (here ≡ number i) × (is_cyclic ≡ ring) × (after ≡ before));
+      begins : IfNone on (IsNextChain source interlinks here is_cyclic after);
+    }
+
+module _ {Gen T : Type 0} (following : Gen → Gen) (wraps : Gen → Bool) (entry : ℕ → Option (Gen × T)) (old new : ArenaView Gen T) (interlinks interlinks_after : LinkMap) where
+  -- The link at i was removed. Its generation and value were these, and `next` is the index of the
+  -- link after it, unless that is itself.
+  abbrev pub TakesLink : ℕ → Gen → InvalidationOption T → Option ℕ → Type 0
+  TakesLink i generation value next = record {
+    was_stored : entry i ≡ Some (generation, value_in value);
+    overflow : IfSome old.counter (λ g. is_overflow value ≡ wraps g);
+    next : next ≡ step_forward i (next_of interlinks i);
+    view_after : new ≡ view_after_removal following old i;
+    links : interlinks_after ≡ with_removal interlinks i;
+  }

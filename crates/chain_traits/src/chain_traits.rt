@@ -1,21 +1,18 @@
-ghost use Rattle.std.specs.Prelude.{◌≡◌, ◌≢◌, ◌↔◌, ◌<◌, ◌≤◌, ◌+◌, ◌⊎◌, ⊤, ℕ, is_some, Option, map, length, All, IsTrue, IsSome, IfSome, OnSome, IfNone, IfOk, IsErr, IfErr, OnOk, OnErr, Err, None};
+ghost use Rattle.std.specs.Prelude.{◌≡◌, ◌↔◌, ◌<◌, ◌≤◌, ⊤, ℕ, is_some, Option, map, length, All, IsTrue, IsSome, IfSome, OnSome, IfNone, IfOk, OnErr};
 ghost use Rattle.std.specs.Option.{option_map};
 ghost use Rattle.arena_core.specs.Numbers.{IsWithin};
-ghost use Rattle.arena_core.specs.Invalidation.{value_within, invalidation_option, invalidation_result};
-ghost use Rattle.chain_laws.specs.Chains.{LinkMap, IsWellLinked, HasLinksWithin, prev_of, next_of};
-ghost use Rattle.chain_laws.specs.Cuts.{without_pair, Cuts};
-ghost use Rattle.chain_laws.specs.Exchanges.{with_exchange, Exchanges};
+ghost use Rattle.arena_core.specs.Invalidation.{value_within, invalidation_option};
+ghost use Rattle.chain_laws.specs.Chains.{LinkMap, IsWellLinked, prev_of, next_of};
 ghost use Rattle.chain_laws.specs.Neighbors.{AreNeighbors, HasOneSetOfChains};
-ghost use Rattle.chain_laws.specs.Joins.{with_join, Connects};
-ghost use Rattle.chain_laws.specs.Removals.{with_removal, Removes};
+ghost use Rattle.chain_laws.specs.Removals.{with_removal};
 ghost use Rattle.chain_laws.specs.Renamings.{IsRenaming};
 ghost use Rattle.chain_laws.specs.Arrangements.{place_in};
-ghost use Rattle.arena_traits.specs.Arena.{IsValid, IsCapacityFor};
-ghost use Rattle.arena_traits.specs.Entries.{count, index_of, NeedsBeyondMaximum};
+ghost use Rattle.arena_traits.specs.Arena.{IsValid};
+ghost use Rattle.arena_traits.specs.Entries.{count, index_of};
 ghost use Rattle.arena_traits.specs.Compressions.{overflows_after_compression};
-ghost use Rattle.chain_links.specs.ChainArena.{link_at, on_value, CanConnect, CanExchange, IsLinkAt};
-ghost use Rattle.chain_links.specs.CallEffects.{GainsLink, IsFull, LosesLink, SucceedsWithinCapacity, YieldsLink};
-ghost use Rattle.chain_links.specs.Kinds.{names_in, MayInsert};
+ghost use Rattle.chain_links.specs.ChainArena.{link_at, IsLinkAt};
+ghost use Rattle.chain_links.specs.CallEffects.{MayInsertIn, InsertsLinkWithin, InsertsLink, InsertsAllowedLink, ConnectsLinks, BreaksPrev, BreaksNext, ExchangesNext, RemovesLink, RemovesLinkAt};
+ghost use Rattle.chain_links.specs.declared.kinds.InsertKindBody.{InsertKindBody};
 ghost use Rattle.chain_links.specs.CanonicalLayouts.{IsCanonicalLayout};
 ghost use Rattle.chain_links.specs.Links.{link_view, borrowed_link};
 ghost use Rattle.chain_laws.specs.Walks.{Walker, walker_at};
@@ -45,8 +42,11 @@ pub trait ChainArenaTrait<P: PtrKey, T: Drop>: ArenaTrait<P, T> {
     // The position of an advancer along a chain, and the most steps that it still makes.
     ghost walker: { Self.ChainPtrAdvancer → Walker };
 
-    // What an implementation knows besides of the arenas before and after `connect`, given the two
-    // indexes.
+    // What an implementation knows besides of an insertion: the arena before, the kind, the value,
+    // the pointer, and the arena after.
+    ghost inserts: { Self → InsertKindBody P P.Inx → T → P → Self → Type 0 } = { λ _ _ _ _ _. ⊤ };
+
+    // What it knows besides of the arenas before and after `connect`, given the two indexes.
     ghost connects: { Self → ℕ → ℕ → Self → Type 0 } = { λ _ _ _ _. ⊤ };
 
     // What it knows besides after `break_prev` or `break_next`, given the indexes of the link that
@@ -76,7 +76,6 @@ pub trait ChainArenaTrait<P: PtrKey, T: Drop>: ArenaTrait<P, T> {
     final fn invariants(&self)
         ensures agree { IsWellLinked (interlinks self.now) }
         ensures one { HasOneSetOfChains (interlinks self.now) }
-        ensures within { HasLinksWithin (interlinks self.now) P.Inx.greatest }
         ensures indexes { All (λ e. IsWithin P.Inx.greatest (index_of e))
             (Self.view self.now).entries }
         ensures fits { count (Self.view self.now) ≤ (Self.view self.now).capacity }
@@ -88,16 +87,18 @@ pub trait ChainArenaTrait<P: PtrKey, T: Drop>: ArenaTrait<P, T> {
     /// Returns whether a link of the given kind may be inserted: the requirement of the kind on the
     /// links beside it is met.
     fn can_insert(&self, kind: LinkInsertKind<P>) -> bool
-        ensures { IsTrue result ↔ MayInsert (Self.entry self.now) (interlinks self.now)
-            (names_in P.key P.Inx.number kind) };
+        ensures { IsTrue result ↔ MayInsertIn Self.entry interlinks P.key P.Inx.number self.now
+            kind };
 
     /// Inserts a link of the given kind within the capacity and returns its pointer.
     ///
-    /// The pointer has the counter as its generation. Does not allocate.
+    /// The pointer has the counter, which stays, as its generation. Does not allocate.
     ///
     /// # Errors
     ///
-    /// - `FailedLinkRequirement`: the requirement of `kind` is not met.
+    /// In the order in which they are tested:
+    ///
+    /// - `FailedLinkRequirement`: the requirement of `kind` is not met (`can_insert`).
     /// - `NotWithinCapacity`: there are as many links as the capacity.
     ///
     /// On error the arena is unchanged, and `t` is dropped.
@@ -108,30 +109,22 @@ pub trait ChainArenaTrait<P: PtrKey, T: Drop>: ArenaTrait<P, T> {
         kind: LinkInsertKind<P>,
         t: T,
     ) -> Result<P, ChainInsertionError>
-        ensures may { OnOk result (MayInsert (Self.entry self.old) (interlinks self.old)
-            (names_in P.key P.Inx.number kind)) }
-        ensures inserted { IfOk result (λ p. GainsLink Self.view Self.entry interlinks
-            (names_in P.key P.Inx.number kind) t self.old (P.key p) self.new) }
-        ensures full { (result ≡ Err ChainInsertionError.NotWithinCapacity)
-            ↔ (MayInsert (Self.entry self.old) (interlinks self.old)
-            (names_in P.key P.Inx.number kind) × IsFull (Self.view self.old)) }
-        ensures capacity { (Self.view self.new).capacity ≡ (Self.view self.old).capacity }
+        ensures outcome { InsertsLinkWithin Self.view Self.entry interlinks P.key P.Inx.number
+            self.old kind t result self.new }
         ensures err { OnErr result (self.new ≡ self.old) }
-        ensures link { (result ≡ Err ChainInsertionError.FailedLinkRequirement)
-            ↔ ¬ MayInsert (Self.entry self.old) (interlinks self.old)
-            (names_in P.key P.Inx.number kind) }
-        ensures error { IfErr result (λ e. (e ≡ ChainInsertionError.FailedLinkRequirement)
-            ⊎ (e ≡ ChainInsertionError.NotWithinCapacity)) };
+        ensures more { IfOk result (λ p. inserts self.old kind t p self.new) };
 
     /// Inserts a link of the given kind and returns its pointer; a full arena grows first.
     ///
-    /// The pointer has the counter as its generation.
+    /// The pointer has the counter, which stays, as its generation.
     ///
     /// # Errors
     ///
-    /// - `FailedLinkRequirement`: the requirement of `kind` is not met.
-    /// - `BeyondMaxCapacity`: the required growth exceeds the maximum.
-    /// - `AllocError`: the growth exceeds the greatest index, or an allocation failed.
+    /// In the order in which they are tested:
+    ///
+    /// - `FailedLinkRequirement`: the requirement of `kind` is not met (`can_insert`).
+    /// - `BeyondMaxCapacity`: one link more is above the maximum.
+    /// - `AllocError`: it is above the greatest index, or an allocation failed.
     ///
     /// On error the arena is unchanged, and `t` is dropped.
     ///
@@ -141,48 +134,29 @@ pub trait ChainArenaTrait<P: PtrKey, T: Drop>: ArenaTrait<P, T> {
         kind: LinkInsertKind<P>,
         t: T,
     ) -> Result<P, ChainInsertionError>
-        ensures may { OnOk result (MayInsert (Self.entry self.old) (interlinks self.old)
-            (names_in P.key P.Inx.number kind)) }
-        ensures inserted { IfOk result (λ p. GainsLink Self.view Self.entry interlinks
-            (names_in P.key P.Inx.number kind) t self.old (P.key p) self.new) }
-        ensures within_capacity { MayInsert (Self.entry self.old) (interlinks self.old)
-            (names_in P.key P.Inx.number kind) → SucceedsWithinCapacity (Self.view self.old) result
-            (Self.view self.new) }
-        ensures grown { OnOk result (IsCapacityFor P.Inx.greatest (Self.view self.new).maximum
-            (count (Self.view self.old) + 1) (Self.view self.new).capacity) }
-        ensures beyond { (result ≡ Err ChainInsertionError.BeyondMaxCapacity)
-            ↔ (MayInsert (Self.entry self.old) (interlinks self.old)
-            (names_in P.key P.Inx.number kind) × NeedsBeyondMaximum (Self.view self.old)) }
-        ensures greatest { count (Self.view self.old) ≡ P.Inx.greatest → IsErr result }
+        ensures outcome { InsertsLink Self.view Self.entry interlinks P.key P.Inx.number
+            P.Inx.greatest self.old kind t result self.new }
         ensures err { OnErr result (self.new ≡ self.old) }
-        ensures link { (result ≡ Err ChainInsertionError.FailedLinkRequirement)
-            ↔ ¬ MayInsert (Self.entry self.old) (interlinks self.old)
-            (names_in P.key P.Inx.number kind) }
-        ensures error { IfErr result (λ e. e ≢ ChainInsertionError.NotWithinCapacity) };
+        ensures more { IfOk result (λ p. inserts self.old kind t p self.new) };
 
     /// Inserts a link of a kind that may be inserted (`can_insert`), as `insert_reallocating` does.
     ///
     /// # Errors
     ///
-    /// - `BeyondMaxCapacity`: the required growth exceeds the maximum.
-    /// - `AllocError`: the growth exceeds the greatest index, or an allocation failed.
+    /// In the order in which they are tested:
+    ///
+    /// - `BeyondMaxCapacity`: one link more is above the maximum.
+    /// - `AllocError`: it is above the greatest index, or an allocation failed.
     ///
     /// On error the arena is unchanged, and `t` is dropped.
     ///
     /// Port of `ChainArenaTrait::insert`.
     fn insert(&mut self, kind: LinkInsertKind<P>, t: T) -> Result<P, ReallocationError>
-        requires { MayInsert (Self.entry self.old) (interlinks self.old)
-            (names_in P.key P.Inx.number kind) }
-        ensures inserted { IfOk result (λ p. GainsLink Self.view Self.entry interlinks
-            (names_in P.key P.Inx.number kind) t self.old (P.key p) self.new) }
+        requires { MayInsertIn Self.entry interlinks P.key P.Inx.number self.old kind }
+        ensures outcome { InsertsAllowedLink Self.view Self.entry interlinks P.key P.Inx.number
+            P.Inx.greatest self.old kind t result self.new }
         ensures err { OnErr result (self.new ≡ self.old) }
-        ensures within_capacity { SucceedsWithinCapacity (Self.view self.old) result
-            (Self.view self.new) }
-        ensures grown { OnOk result (IsCapacityFor P.Inx.greatest (Self.view self.new).maximum
-            (count (Self.view self.old) + 1) (Self.view self.new).capacity) }
-        ensures beyond { (result ≡ Err ReallocationError.BeyondMaxCapacity)
-            ↔ NeedsBeyondMaximum (Self.view self.old) }
-        ensures greatest { count (Self.view self.old) ≡ P.Inx.greatest → IsErr result };
+        ensures more { IfOk result (λ p. inserts self.old kind t p self.new) };
 
     /// Returns whether q follows p: both pointers are valid, and the next link of p is at the index
     /// of q.
@@ -217,8 +191,7 @@ pub trait ChainArenaTrait<P: PtrKey, T: Drop>: ArenaTrait<P, T> {
     fn get_link_no_gen(&self, p: P) -> Option<&LinkNoGen<P, T>>
         ensures some { IsSome result ↔ IsValid (Self.entry self.now) (P.key p) }
         ensures link { IfSome result (λ link. link_at (Self.entry self.now) (interlinks self.now)
-            (P.key p).0 ≡ Some ((P.key p).1, link_view P.Inx.packed_number link.now)) }
-        ensures agree { IsWellLinked (interlinks self.now) };
+            (P.key p).0 ≡ Some ((P.key p).1, link_view P.Inx.packed_number link.now)) };
 
     /// Returns the generation and the link at an index, or `None` if no link is there.
     ///
@@ -238,23 +211,17 @@ pub trait ChainArenaTrait<P: PtrKey, T: Drop>: ArenaTrait<P, T> {
     fn advancer_chain(&self, p: P) -> Option<Self::ChainPtrAdvancer>
         ensures some { IsSome result ↔ IsValid (Self.entry self.now) (P.key p) }
         ensures walker { IfSome result (λ v. walker v
-            ≡ walker_at (interlinks self.now) (count (Self.view self.now)) (P.key p).0) }
-        ensures agree { IsWellLinked (interlinks self.now) };
+            ≡ walker_at (interlinks self.now) (count (Self.view self.now)) (P.key p).0) };
 
     /// Connects p to q, so that q follows p: two chains become one, or one chain becomes cyclic.
     ///
-    /// Returns `Some` exactly if both pointers are valid, p has no next link and q no previous
-    /// link. Otherwise nothing changes.
+    /// If p is q, the link becomes a cyclic chain of its own. Returns `Some` exactly if both
+    /// pointers are valid, p has no next link and q no previous link. Otherwise nothing changes.
     ///
     /// Port of `ChainArenaTrait::connect`.
     fn connect(&mut self, p: P, q: P) -> Option<()>
-        ensures some { IsSome result ↔ CanConnect (Self.entry self.old) (interlinks self.old)
-            (P.key p) (P.key q) }
-        ensures joined { OnSome result (interlinks self.new ≡ with_join (interlinks self.old)
-            (P.key p).0 (P.key q).0) }
-        ensures chains { OnSome result (Connects (interlinks self.old) (interlinks self.new)
-            (P.key p).0 (P.key q).0) }
-        ensures view_after { OnSome result (Self.view self.new ≡ Self.view self.old) }
+        ensures outcome { ConnectsLinks Self.view Self.entry interlinks self.old (P.key p)
+            (P.key q) result self.new }
         ensures none { IfNone result (self.new ≡ self.old) }
         ensures more { OnSome result (connects self.old (P.key p).0 (P.key q).0 self.new) };
 
@@ -266,14 +233,8 @@ pub trait ChainArenaTrait<P: PtrKey, T: Drop>: ArenaTrait<P, T> {
     ///
     /// Port of `ChainArenaTrait::break_prev`.
     fn break_prev(&mut self, p: P) -> Option<()>
-        ensures some { IsSome result
-            ↔ (IsValid (Self.entry self.old) (P.key p)
-            × IsSome (prev_of (interlinks self.old) (P.key p).0)) }
-        ensures cut { OnSome result (IfSome (prev_of (interlinks self.old) (P.key p).0)
-            (λ a. interlinks self.new ≡ without_pair (interlinks self.old) a (P.key p).0)) }
-        ensures chains { OnSome result (IfSome (prev_of (interlinks self.old) (P.key p).0)
-            (λ a. Cuts (interlinks self.old) (interlinks self.new) a (P.key p).0)) }
-        ensures view_after { OnSome result (Self.view self.new ≡ Self.view self.old) }
+        ensures outcome { BreaksPrev Self.view Self.entry interlinks self.old (P.key p) result
+            self.new }
         ensures none { IfNone result (self.new ≡ self.old) }
         ensures more { OnSome result (IfSome (prev_of (interlinks self.old) (P.key p).0)
             (λ a. breaks self.old a (P.key p).0 self.new)) };
@@ -285,87 +246,62 @@ pub trait ChainArenaTrait<P: PtrKey, T: Drop>: ArenaTrait<P, T> {
     ///
     /// Port of `ChainArenaTrait::break_next`.
     fn break_next(&mut self, p: P) -> Option<()>
-        ensures some { IsSome result
-            ↔ (IsValid (Self.entry self.old) (P.key p)
-            × IsSome (next_of (interlinks self.old) (P.key p).0)) }
-        ensures cut { OnSome result (IfSome (next_of (interlinks self.old) (P.key p).0)
-            (λ b. interlinks self.new ≡ without_pair (interlinks self.old) (P.key p).0 b)) }
-        ensures chains { OnSome result (IfSome (next_of (interlinks self.old) (P.key p).0)
-            (λ b. Cuts (interlinks self.old) (interlinks self.new) (P.key p).0 b)) }
-        ensures view_after { OnSome result (Self.view self.new ≡ Self.view self.old) }
+        ensures outcome { BreaksNext Self.view Self.entry interlinks self.old (P.key p) result
+            self.new }
         ensures none { IfNone result (self.new ≡ self.old) }
         ensures more { OnSome result (IfSome (next_of (interlinks self.old) (P.key p).0)
             (λ b. breaks self.old (P.key p).0 b self.new)) };
 
     /// Exchanges the next links of p and q.
     ///
-    /// One chain becomes two, two become one, or two linear chains exchange their ends; if p is q,
-    /// nothing changes. Returns `Some` exactly if both pointers are valid and both links have a
-    /// next link. Otherwise nothing changes.
+    /// One chain becomes two, two become one, or two linear chains exchange what follows p and q.
+    /// If p is q, the chains stay as they are. Returns `Some` exactly if both pointers are valid
+    /// and both links have a next link. Otherwise nothing changes.
     ///
     /// Port of `ChainArenaTrait::exchange_next`.
     fn exchange_next(&mut self, p: P, q: P) -> Option<()>
-        ensures some { IsSome result ↔ CanExchange (Self.entry self.old) (interlinks self.old)
-            (P.key p) (P.key q) }
-        ensures exchanged { OnSome result (interlinks self.new ≡ with_exchange (interlinks self.old)
-            (P.key p).0 (P.key q).0) }
-        ensures chains { OnSome result (Exchanges (interlinks self.old) (interlinks self.new)
-            (P.key p).0 (P.key q).0) }
-        ensures view_after { OnSome result (Self.view self.new ≡ Self.view self.old) }
+        ensures outcome { ExchangesNext Self.view Self.entry interlinks self.old (P.key p)
+            (P.key q) result self.new }
         ensures none { IfNone result (self.new ≡ self.old) }
         ensures more { OnSome result (exchanges self.old (P.key p).0 (P.key q).0 self.new) };
 
-    /// Removes a link and returns it with the interlinks that it had.
+    /// Removes a link and returns it with the interlinks that it had, without their generations.
     ///
     /// Links its neighbors, so that the rest of its chain stays linear or cyclic, and increments
-    /// the counter. Returns `InvalidPtr` if `p` is not valid, and nothing has changed;
-    /// `GenerationOverflow` if the counter wrapped to two.
+    /// the counter. If that wraps to two, the link is removed and returned in
+    /// `GenerationOverflow`. Returns `InvalidPtr` if `p` is not valid; nothing changes then.
     ///
     /// Port of `ChainArenaTrait::remove_link_no_gen`.
     fn remove_link_no_gen(&mut self, p: P) -> InvalidationResult<LinkNoGen<P, T>>
-        ensures some { IsSome (value_within result) ↔ IsValid (Self.entry self.old) (P.key p) }
-        ensures valid { IsValid (Self.entry self.old) (P.key p)
-            → YieldsLink Self.view Self.entry interlinks P.Inx.packed_number P.Gen.following
-            (P.key p) self.old (value_within result) self.new }
-        ensures chains { IsValid (Self.entry self.old) (P.key p)
-            → Removes (interlinks self.old) (interlinks self.new) (P.key p).0 }
-        ensures overflow { IfSome (Self.view self.old).counter
-            (λ g. result ≡ invalidation_result (P.Gen.wraps g) (value_within result)) }
-        ensures invalid { ¬ IsValid (Self.entry self.old) (P.key p) → (value_within result ≡ None)
-            × (self.new ≡ self.old) }
+        ensures outcome { RemovesLink Self.view Self.entry interlinks P.Inx.packed_number
+            P.Gen.following P.Gen.wraps self.old (P.key p) result self.new }
+        ensures invalid { IfNone (value_within result) (self.new ≡ self.old) }
         ensures more { IsValid (Self.entry self.old) (P.key p)
             → Self.removes self.old (P.key p).0 self.new };
 
-    /// Removes the link at an index and returns its generation and the link with the interlinks
-    /// that it had.
+    /// Removes the link at an index and returns the link's generation, and the link with the
+    /// interlinks that it had, without their generations.
     ///
     /// Links its neighbors, so that the rest of its chain stays linear or cyclic, and increments
-    /// the counter. Returns `InvalidPtr` if no link is there, and nothing has changed;
-    /// `GenerationOverflow` if the counter wrapped to two.
+    /// the counter. If that wraps to two, the link is removed and returned in
+    /// `GenerationOverflow`. Returns `InvalidPtr` if no link is there; nothing changes then.
     ///
     /// Port of `ChainArenaTrait::remove_inx_link_no_gen`.
     fn remove_inx_link_no_gen(&mut self, i: P::Inx) -> InvalidationResult<(P::Gen, LinkNoGen<P, T>)>
-        ensures returned { option_map (on_value (link_view P.Inx.packed_number))
-            (value_within result)
-            ≡ link_at (Self.entry self.old) (interlinks self.old) (P.Inx.number i) }
-        ensures overflow { IfSome (Self.view self.old).counter
-            (λ g. result ≡ invalidation_result (P.Gen.wraps g) (value_within result)) }
-        ensures valid { IsSome (Self.entry self.old (P.Inx.number i))
-            → LosesLink Self.view interlinks P.Gen.following (P.Inx.number i) self.old self.new }
-        ensures chains { IsSome (Self.entry self.old (P.Inx.number i))
-            → Removes (interlinks self.old) (interlinks self.new) (P.Inx.number i) }
-        ensures invalid { Self.entry self.old (P.Inx.number i) ≡ None → self.new ≡ self.old }
+        ensures outcome { RemovesLinkAt Self.view Self.entry interlinks P.Inx.packed_number
+            P.Gen.following P.Gen.wraps self.old (P.Inx.number i) result self.new }
+        ensures invalid { IfNone (value_within result) (self.new ≡ self.old) }
         ensures more { IsSome (Self.entry self.old (P.Inx.number i))
             → Self.removes self.old (P.Inx.number i) self.new };
 
     /// Compacts the chains to the indexes from 1 on, each in one run of indexes in `next` order.
     ///
-    /// The chains are in the order of their least indexes, a linear chain from its start, a cyclic
-    /// chain from its least index. Each link keeps its value and neighbors, and has the counter as
-    /// its generation. The slots are exactly the links then. Does not allocate.
+    /// The chains are in the order of their old least indexes, a linear chain from its start, a
+    /// cyclic chain from its least index. Each link keeps its value and neighbors, and has the new
+    /// counter as its generation. No slot is free then, and the capacity stays. Does not allocate.
     ///
-    /// With `reset` the counter begins anew. Otherwise it is incremented if there are links;
-    /// `GenerationOverflow` is returned if it wrapped to two.
+    /// With `reset` the counter begins anew, at two. Otherwise it is incremented if there are
+    /// links; `GenerationOverflow` is returned if it wrapped to two.
     ///
     /// Port of `ChainArenaTrait::compress_canonical`.
     fn compress_canonical(&mut self, reset: bool) -> InvalidationOption<()>

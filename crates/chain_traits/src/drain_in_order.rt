@@ -1,14 +1,8 @@
 // Removes the links of any arena of links, chain by chain.
-ghost use Rattle.std.specs.Prelude.{◌≡◌, ◌≢◌, ℕ, [], IsSome, IfSome, IfNone, None, Some};
+ghost use Rattle.std.specs.Prelude.{◌≡◌, IsSome};
 ghost use Rattle.std.specs.Option.{option_map};
-ghost use Rattle.arena_core.specs.Invalidation.{value_in, is_overflow};
-ghost use Rattle.chain_laws.specs.Chains.{IsWellLinked, prev_of, next_of};
-ghost use Rattle.chain_laws.specs.Removals.{with_removal};
-ghost use Rattle.chain_laws.specs.Walks.{step_forward};
-ghost use Rattle.chain_laws.specs.ChainStart.{IsStart};
-ghost use Rattle.arena_traits.specs.Entries.{view_after_removal, AscendsFrom};
-ghost use Rattle.arena_traits.specs.declared.cursor.Cursor.{Cursor};
-ghost use Rattle.chain_traits.specs.DrainOrder.{IsNextChain};
+ghost use Rattle.chain_laws.specs.Chains.{IsWellLinked, prev_of};
+ghost use Rattle.chain_traits.specs.DrainOrder.{HasNextChain, CanTakeNext, IsNextLink, IsStoredNextChain, IsStoredStart, TakesLink};
 
 use crate::chain_traits::ChainArenaTrait;
 use arena_ptr::{InvalidationOption, InxKey, PtrKey};
@@ -29,8 +23,8 @@ fn before<Q: PtrKey, U: Drop, A: ChainArenaTrait<Q, U>>(source: &A, i: Q::Inx) -
 fn start_of<Q: PtrKey, U: Drop, A: ChainArenaTrait<Q, U>>(source: &A, i: Q::Inx) -> Q::Inx
     requires agree { IsWellLinked (A.interlinks source.now) }
     requires some { IsSome (A.entry source.now (Q.Inx.number i)) }
-    ensures start { IsStart (A.interlinks source.now) (Q.Inx.number i) (Q.Inx.number result) }
-    ensures some { IsSome (A.entry source.now (Q.Inx.number result)) }
+    ensures { IsStoredStart (A.entry source.now) (A.interlinks source.now) (Q.Inx.number i)
+        (Q.Inx.number result) }
 {
     let mut at = i;
     for step in 0..source.len() {
@@ -52,13 +46,9 @@ fn next_chain<Q: PtrKey, U: Drop, A: ChainArenaTrait<Q, U>>(
     source: &A,
     advancer: &mut A::PtrAdvancer,
 ) -> (Q::Inx, bool)
-    requires agree { IsWellLinked (A.interlinks source.now) }
-    requires low { (from : ℕ) × (A.cursor advancer.old ≡ Cursor.Up from)
-        × AscendsFrom from (A.view source.now).entries }
-    requires some { (A.view source.now).entries ≢ [] }
-    ensures next { IsNextChain (A.view source.now) (A.interlinks source.now)
+    requires { HasNextChain (A.view source.now) (A.interlinks source.now) (A.cursor advancer.old) }
+    ensures { IsStoredNextChain (A.entry source.now) (A.view source.now) (A.interlinks source.now)
         (Q.Inx.number result.0) result.1 (A.cursor advancer.new) }
-    ensures some { IsSome (A.entry source.now (Q.Inx.number result.0)) }
 {
     match advancer.advance(source) {
         Some(q) => {
@@ -92,15 +82,10 @@ fn next_link<Q: PtrKey, U: Drop, A: ChainArenaTrait<Q, U>>(
     on: Option<Q::Inx>,
     ring: bool,
 ) -> (Q::Inx, bool)
-    requires agree { IsWellLinked (A.interlinks source.now) }
-    requires low { on ≡ None → (from : ℕ) × (A.cursor advancer.old ≡ Cursor.Up from)
-        × AscendsFrom from (A.view source.now).entries }
-    requires some { on ≡ None → (A.view source.now).entries ≢ [] }
-    requires stored { IfSome on (λ i. IsSome (A.entry source.now (Q.Inx.number i))) }
-    ensures continues { IfSome on (λ i. (result ≡ (i, ring))
-        × (A.cursor advancer.new ≡ A.cursor advancer.old)) }
-    ensures begins { IfNone on (IsNextChain (A.view source.now) (A.interlinks source.now)
-        (Q.Inx.number result.0) result.1 (A.cursor advancer.new)) }
+    requires { CanTakeNext (A.view source.now) (A.interlinks source.now) Q.Inx.number
+        (A.entry source.now) on (A.cursor advancer.old) }
+    ensures order { IsNextLink (A.view source.now) (A.interlinks source.now) Q.Inx.number on ring
+        (A.cursor advancer.old) (Q.Inx.number result.0) result.1 (A.cursor advancer.new) }
     ensures some { IsSome (A.entry source.now (Q.Inx.number result.0)) }
 {
     match on {
@@ -119,25 +104,14 @@ pub fn take_next<Q: PtrKey, U: Drop, A: ChainArenaTrait<Q, U>>(
     on: Option<Q::Inx>,
     ring: bool,
 ) -> Taken<Q, U>
-    requires agree { IsWellLinked (A.interlinks source.old) }
-    requires low { on ≡ None → (from : ℕ) × (A.cursor advancer.old ≡ Cursor.Up from)
-        × AscendsFrom from (A.view source.old).entries }
-    requires some { on ≡ None → (A.view source.old).entries ≢ [] }
-    requires stored { IfSome on (λ i. IsSome (A.entry source.old (Q.Inx.number i))) }
-    ensures continues { IfSome on (λ i. ((Q.key result.ptr).0 ≡ Q.Inx.number i)
-        × (result.is_cyclic ≡ ring) × (A.cursor advancer.new ≡ A.cursor advancer.old)) }
-    ensures begins { IfNone on (IsNextChain (A.view source.old) (A.interlinks source.old)
-        (Q.key result.ptr).0 result.is_cyclic (A.cursor advancer.new)) }
-    ensures was_stored { A.entry source.old (Q.key result.ptr).0 ≡ Some
-        ((Q.key result.ptr).1, value_in result.value) }
-    ensures overflow { IfSome (A.view source.old).counter
-        (λ g. is_overflow result.value ≡ Q.Gen.wraps g) }
-    ensures next { option_map Q.Inx.number result.next ≡ step_forward (Q.key result.ptr).0
-        (next_of (A.interlinks source.old) (Q.key result.ptr).0) }
-    ensures view_after { A.view source.new
-        ≡ view_after_removal Q.Gen.following (A.view source.old) (Q.key result.ptr).0 }
-    ensures links { A.interlinks source.new ≡ with_removal (A.interlinks source.old)
-        (Q.key result.ptr).0 }
+    requires { CanTakeNext (A.view source.old) (A.interlinks source.old) Q.Inx.number
+        (A.entry source.old) on (A.cursor advancer.old) }
+    ensures order { IsNextLink (A.view source.old) (A.interlinks source.old) Q.Inx.number on ring
+        (A.cursor advancer.old) (Q.key result.ptr).0 result.is_cyclic (A.cursor advancer.new) }
+    ensures taken { TakesLink Q.Gen.following Q.Gen.wraps (A.entry source.old) (A.view source.old)
+        (A.view source.new) (A.interlinks source.old) (A.interlinks source.new)
+        (Q.key result.ptr).0 (Q.key result.ptr).1 result.value
+        (option_map Q.Inx.number result.next) }
 {
     let (i, is_cyclic) = next_link(source, advancer, on, ring);
     let (ptr, value, next) = take_link(source, i);
@@ -156,17 +130,10 @@ fn take_link<Q: PtrKey, U: Drop, A: ChainArenaTrait<Q, U>>(
     i: Q::Inx,
 ) -> (Q, InvalidationOption<U>, Option<Q::Inx>)
     requires { IsSome (A.entry source.old (Q.Inx.number i)) }
-    ensures was_stored { A.entry source.old (Q.Inx.number i) ≡ Some
-        ((Q.key result.0).1, value_in result.1) }
     ensures index { (Q.key result.0).0 ≡ Q.Inx.number i }
-    ensures overflow { IfSome (A.view source.old).counter
-        (λ g. is_overflow result.1 ≡ Q.Gen.wraps g) }
-    ensures next { option_map Q.Inx.number result.2 ≡ step_forward (Q.Inx.number i)
-        (next_of (A.interlinks source.old) (Q.Inx.number i)) }
-    ensures view_after { A.view source.new
-        ≡ view_after_removal Q.Gen.following (A.view source.old) (Q.Inx.number i) }
-    ensures links { A.interlinks source.new ≡ with_removal (A.interlinks source.old)
-        (Q.Inx.number i) }
+    ensures taken { TakesLink Q.Gen.following Q.Gen.wraps (A.entry source.old) (A.view source.old)
+        (A.view source.new) (A.interlinks source.old) (A.interlinks source.new) (Q.Inx.number i)
+        (Q.key result.0).1 result.1 (option_map Q.Inx.number result.2) }
 {
     let (entry, overflow) = source.remove_inx_link_no_gen(i).overflowing();
     match entry {

@@ -1,29 +1,25 @@
 // Functions of `ChainArenaTrait`.
-ghost use Rattle.std.specs.Prelude.{◌↔◌, IsSome};
-ghost use Rattle.chain_laws.specs.Chains.{next_of};
-ghost use Rattle.chain_laws.specs.Removals.{Removes};
-ghost use Rattle.arena_traits.specs.Arena.{IsValid};
+ghost use Rattle.chain_links.specs.CallEffects.{BreaksNext, RemovesLink};
 ghost use Rattle.chain_links.specs.CanonicalLayouts.{IsCanonicalLayout};
 
-use arena_ptr::{GenKey, InvalidationOption, InvalidationResult, PtrKey};
+use arena_ptr::{GenKey, InvalidationOption, InvalidationResult, InxKey, PtrKey};
 use chain_links::LinkNoGen;
 use chain_traits::ChainArenaTrait;
 
-/// Forwards to `ChainArenaTrait::break_next`, under its clause on when it returns `Some`.
+/// Forwards to `ChainArenaTrait::break_next`, under its outcome.
 pub fn break_next<P: PtrKey, T: Drop, A: ChainArenaTrait<P, T>>(arena: &mut A, p: P) -> Option<()>
-    ensures { IsSome result ↔ (IsValid (A.entry arena.old) (P.key p)
-        × IsSome (next_of (A.interlinks arena.old) (P.key p).0)) }
+    ensures { BreaksNext A.view A.entry A.interlinks arena.old (P.key p) result arena.new }
 {
     arena.break_next(p)
 }
 
-/// Forwards to `ChainArenaTrait::remove_link_no_gen`, under its clause on the chains.
+/// Forwards to `ChainArenaTrait::remove_link_no_gen`, under its outcome.
 pub fn remove_link_no_gen<P: PtrKey, T: Drop, A: ChainArenaTrait<P, T>>(
     arena: &mut A,
     p: P,
 ) -> InvalidationResult<LinkNoGen<P, T>>
-    ensures { IsValid (A.entry arena.old) (P.key p)
-        → Removes (A.interlinks arena.old) (A.interlinks arena.new) (P.key p).0 }
+    ensures { RemovesLink A.view A.entry A.interlinks P.Inx.packed_number P.Gen.following P.Gen.wraps
+        arena.old (P.key p) result arena.new }
 {
     arena.remove_link_no_gen(p)
 }

@@ -178,19 +178,16 @@ impl<P: PtrKey, T: Drop, A: CompactArenaTrait<P, T>> CompactArenaTrait<P, T>
     for ForwardingArena<A> {}
 
 impl<P: PtrKey, T: Drop, A: ChainArenaTrait<P, T>> ChainArenaTrait<P, T> for ForwardingArena<A> {
-    ghost use Rattle.std.specs.Prelude.{◌≡◌, ◌≢◌, ◌↔◌, ◌⊎◌, ◌+◌, IsTrue, IfOk, OnOk, IsErr, IfErr, OnErr, Err};
-    ghost use Rattle.arena_core.specs.declared.errors.ChainInsertionError.TheVariants as failed;
-    ghost use Rattle.chain_laws.specs.Chains.{IsWellLinked};
-    ghost use Rattle.arena_traits.specs.Arena.{IsCapacityFor};
-    ghost use Rattle.arena_traits.specs.Entries.{count, NeedsBeyondMaximum};
-    ghost use Rattle.chain_links.specs.CallEffects.{GainsLink, IsFull, SucceedsWithinCapacity};
-    ghost use Rattle.chain_links.specs.Kinds.{names_in, MayInsert};
+    ghost use Rattle.std.specs.Prelude.{◌≡◌, ◌↔◌, IsTrue, IfOk, OnErr};
+    ghost use Rattle.chain_links.specs.CallEffects.{MayInsertIn, InsertsLinkWithin, InsertsLink, InsertsAllowedLink};
 
     type ChainPtrAdvancer = ForwardingAdvancer<A::ChainPtrAdvancer>;
 
     ghost interlinks = { λ w. A.interlinks w.inner };
 
     ghost walker = { λ v. A.walker v.inner };
+
+    ghost inserts = { λ v kind t p w. A.inserts v.inner kind t p w.inner };
 
     ghost connects = { λ v i j w. A.connects v.inner i j w.inner };
 
@@ -217,8 +214,8 @@ impl<P: PtrKey, T: Drop, A: ChainArenaTrait<P, T>> ChainArenaTrait<P, T> for For
         compresses };
 
     fn can_insert(&self, kind: LinkInsertKind<P>) -> bool
-        ensures { IsTrue result ↔ MayInsert (A.entry self.now.inner) (A.interlinks self.now.inner)
-            (names_in P.key P.Inx.number kind) }
+        ensures { IsTrue result ↔ MayInsertIn A.entry A.interlinks P.key P.Inx.number
+            self.now.inner kind }
     {
         self.inner.can_insert(kind)
     }
@@ -228,20 +225,10 @@ impl<P: PtrKey, T: Drop, A: ChainArenaTrait<P, T>> ChainArenaTrait<P, T> for For
         kind: LinkInsertKind<P>,
         t: T,
     ) -> Result<P, ChainInsertionError>
-        ensures may { OnOk result (MayInsert (A.entry self.old.inner) (A.interlinks self.old.inner)
-            (names_in P.key P.Inx.number kind)) }
-        ensures inserted { IfOk result (λ p. GainsLink A.view A.entry A.interlinks
-            (names_in P.key P.Inx.number kind) t self.old.inner (P.key p) self.new.inner) }
-        ensures full { (result ≡ Err ChainInsertionError.NotWithinCapacity)
-            ↔ (MayInsert (A.entry self.old.inner) (A.interlinks self.old.inner)
-            (names_in P.key P.Inx.number kind) × IsFull (A.view self.old.inner)) }
-        ensures capacity { (A.view self.new.inner).capacity ≡ (A.view self.old.inner).capacity }
+        ensures outcome { InsertsLinkWithin A.view A.entry A.interlinks P.key P.Inx.number
+            self.old.inner kind t result self.new.inner }
         ensures err { OnErr result (self.new ≡ self.old) }
-        ensures link { (result ≡ Err ChainInsertionError.FailedLinkRequirement)
-            ↔ ¬ MayInsert (A.entry self.old.inner) (A.interlinks self.old.inner)
-            (names_in P.key P.Inx.number kind) }
-        ensures error { IfErr result (λ e. (e ≡ ChainInsertionError.FailedLinkRequirement)
-            ⊎ (e ≡ ChainInsertionError.NotWithinCapacity)) }
+        ensures more { IfOk result (λ p. A.inserts self.old.inner kind t p self.new.inner) }
     {
         self.inner.insert_within_capacity(kind, t)
     }
@@ -251,42 +238,20 @@ impl<P: PtrKey, T: Drop, A: ChainArenaTrait<P, T>> ChainArenaTrait<P, T> for For
         kind: LinkInsertKind<P>,
         t: T,
     ) -> Result<P, ChainInsertionError>
-        ensures may { OnOk result (MayInsert (A.entry self.old.inner) (A.interlinks self.old.inner)
-            (names_in P.key P.Inx.number kind)) }
-        ensures inserted { IfOk result (λ p. GainsLink A.view A.entry A.interlinks
-            (names_in P.key P.Inx.number kind) t self.old.inner (P.key p) self.new.inner) }
-        ensures within_capacity { MayInsert (A.entry self.old.inner) (A.interlinks self.old.inner)
-            (names_in P.key P.Inx.number kind)
-            → SucceedsWithinCapacity (A.view self.old.inner) result
-            (A.view self.new.inner) }
-        ensures grown { OnOk result (IsCapacityFor P.Inx.greatest (A.view self.new.inner).maximum
-            (count (A.view self.old.inner) + 1) (A.view self.new.inner).capacity) }
-        ensures beyond { (result ≡ Err failed.BeyondMaxCapacity)
-            ↔ (MayInsert (A.entry self.old.inner) (A.interlinks self.old.inner)
-            (names_in P.key P.Inx.number kind) × NeedsBeyondMaximum (A.view self.old.inner)) }
-        ensures greatest { count (A.view self.old.inner) ≡ P.Inx.greatest → IsErr result }
+        ensures outcome { InsertsLink A.view A.entry A.interlinks P.key P.Inx.number
+            P.Inx.greatest self.old.inner kind t result self.new.inner }
         ensures err { OnErr result (self.new ≡ self.old) }
-        ensures link { (result ≡ Err ChainInsertionError.FailedLinkRequirement)
-            ↔ ¬ MayInsert (A.entry self.old.inner) (A.interlinks self.old.inner)
-            (names_in P.key P.Inx.number kind) }
-        ensures error { IfErr result (λ e. e ≢ ChainInsertionError.NotWithinCapacity) }
+        ensures more { IfOk result (λ p. A.inserts self.old.inner kind t p self.new.inner) }
     {
         self.inner.insert_reallocating(kind, t)
     }
 
     fn insert(&mut self, kind: LinkInsertKind<P>, t: T) -> Result<P, ReallocationError>
-        requires { MayInsert (A.entry self.old.inner) (A.interlinks self.old.inner)
-            (names_in P.key P.Inx.number kind) }
-        ensures inserted { IfOk result (λ p. GainsLink A.view A.entry A.interlinks
-            (names_in P.key P.Inx.number kind) t self.old.inner (P.key p) self.new.inner) }
+        requires { MayInsertIn A.entry A.interlinks P.key P.Inx.number self.old.inner kind }
+        ensures outcome { InsertsAllowedLink A.view A.entry A.interlinks P.key P.Inx.number
+            P.Inx.greatest self.old.inner kind t result self.new.inner }
         ensures err { OnErr result (self.new ≡ self.old) }
-        ensures within_capacity { SucceedsWithinCapacity (A.view self.old.inner) result
-            (A.view self.new.inner) }
-        ensures grown { OnOk result (IsCapacityFor P.Inx.greatest (A.view self.new.inner).maximum
-            (count (A.view self.old.inner) + 1) (A.view self.new.inner).capacity) }
-        ensures beyond { (result ≡ Err ReallocationError.BeyondMaxCapacity)
-            ↔ NeedsBeyondMaximum (A.view self.old.inner) }
-        ensures greatest { count (A.view self.old.inner) ≡ P.Inx.greatest → IsErr result }
+        ensures more { IfOk result (λ p. A.inserts self.old.inner kind t p self.new.inner) }
     {
         self.inner.insert(kind, t)
     }

@@ -17,24 +17,24 @@ pub returns-in-Connect : goal.returns-in-Connect
 returns-in-Connect g c =
     let made = c.connect.ensures in
     rw c.in-Connect.is (record {
-      step = (c.is_some.result, refl, joins c.args.arena.now c.connect.new.self (g.P.PtrKey.key c.in-Connect.p) (g.P.PtrKey.key c.in-Connect.q) c.connect.result c.is_some.result made.some made.more made.none c.is_some.ensures);
+      step = (c.is_some.result, refl, joins c.args.arena.now c.connect.new.self (g.P.PtrKey.key c.in-Connect.p) (g.P.PtrKey.key c.in-Connect.q) c.connect.result c.is_some.result made.outcome made.more made.none c.is_some.ensures);
     })
 
 pub returns-in-BreakPrev : goal.returns-in-BreakPrev
 returns-in-BreakPrev g c =
     let made = c.break_prev.ensures in
-    rw c.in-BreakPrev.is (record { step = (c.is_some-in-BreakPrev.result, refl, breaks_prev c.args.arena.now c.break_prev.new.self (g.P.PtrKey.key c.in-BreakPrev.p) c.break_prev.result c.is_some-in-BreakPrev.result made.some made.more made.none c.is_some-in-BreakPrev.ensures) })
+    rw c.in-BreakPrev.is (record { step = (c.is_some-in-BreakPrev.result, refl, breaks_prev c.args.arena.now c.break_prev.new.self (g.P.PtrKey.key c.in-BreakPrev.p) c.break_prev.result c.is_some-in-BreakPrev.result made.outcome made.more made.none c.is_some-in-BreakPrev.ensures) })
 
 pub returns-in-BreakNext : goal.returns-in-BreakNext
 returns-in-BreakNext g c =
     let made = c.break_next.ensures in
-    rw c.in-BreakNext.is (record { step = (c.is_some-in-BreakNext.result, refl, breaks_next c.args.arena.now c.break_next.new.self (g.P.PtrKey.key c.in-BreakNext.p) c.break_next.result c.is_some-in-BreakNext.result made.some made.more made.none c.is_some-in-BreakNext.ensures) })
+    rw c.in-BreakNext.is (record { step = (c.is_some-in-BreakNext.result, refl, breaks_next c.args.arena.now c.break_next.new.self (g.P.PtrKey.key c.in-BreakNext.p) c.break_next.result c.is_some-in-BreakNext.result made.outcome made.more made.none c.is_some-in-BreakNext.ensures) })
 
 pub returns-in-ExchangeNext : goal.returns-in-ExchangeNext
 returns-in-ExchangeNext g c =
     let made = c.exchange_next.ensures in
     rw c.in-ExchangeNext.is (record {
-      step = (c.is_some-in-ExchangeNext.result, refl, exchanges c.args.arena.now c.exchange_next.new.self (g.P.PtrKey.key c.in-ExchangeNext.p) (g.P.PtrKey.key c.in-ExchangeNext.q) c.exchange_next.result c.is_some-in-ExchangeNext.result made.some made.more made.none c.is_some-in-ExchangeNext.ensures);
+      step = (c.is_some-in-ExchangeNext.result, refl, exchanges c.args.arena.now c.exchange_next.new.self (g.P.PtrKey.key c.in-ExchangeNext.p) (g.P.PtrKey.key c.in-ExchangeNext.q) c.exchange_next.result c.is_some-in-ExchangeNext.result made.outcome made.more made.none c.is_some-in-ExchangeNext.ensures);
     })
 
 pub returns-in-Remove : goal.returns-in-Remove
@@ -46,9 +46,7 @@ returns-in-Remove g c =
       step = (
         c.remove_link_no_gen.result,
         refl,
-        removes_link (kind_by g.P.PtrKey g.P.Inx.InxKey g.P.Gen.GenKey) old c.remove_link_no_gen.new.self p c.remove_link_no_gen.result
-            (valid_or_not _ g.met.P.Gen.GenKey.same_is_equal (values_of old) p) (λ valid. (made.valid valid).0) made.more
-            made.overflow made.invalid,
+        removes_link (kind_by g.P.PtrKey g.P.Inx.InxKey g.P.Gen.GenKey) old c.remove_link_no_gen.new.self p c.remove_link_no_gen.result made.outcome made.invalid made.more,
       );
     })
 
@@ -60,7 +58,7 @@ returns-in-RemoveInx g c =
         c.remove_inx_link_no_gen.result,
         refl,
         removes_inx (kind_by g.P.PtrKey g.P.Inx.InxKey g.P.Gen.GenKey) c.args.arena.now c.remove_inx_link_no_gen.new.self (g.P.Inx.InxKey.number c.in-RemoveInx.i)
-            c.remove_inx_link_no_gen.result made.returned made.more made.overflow made.invalid,
+            c.remove_inx_link_no_gen.result made.outcome made.invalid made.more,
       );
     })
 

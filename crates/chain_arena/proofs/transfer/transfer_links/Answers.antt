@@ -29,22 +29,16 @@ loop-k-init g c =
       carrying = carrying_begins g.Q.PtrKey.key g.P.PtrKey.key g.Q.Gen.GenKey.following g.Q.Gen.GenKey.wraps g.F.FnMut g.P.Inx.InxKey.number (g.A.ArenaTrait.view source) (g.A.ChainArenaTrait.interlinks source) c.args.map c.args.target.now
           g.Q.Inx.InxKey.greatest (g.A.ArenaTrait.cursor c.advancer-advancer.result) _ c.agrees.ensures
           (links_within (g.A.ChainArenaTrait.interlinks source) (g.A.ArenaTrait.entry source) (g.A.ArenaTrait.view source).entries (g.met.A.ChainArenaTrait.links_are_entries source) (g.met.A.ArenaTrait.finds source) g.Q.Inx.InxKey.greatest c.len-k-end.ensures.indexes)
-          c.requires.slots c.advancer-advancer.ensures;
+          c.requires.empty.0 c.advancer-advancer.ensures;
     }
 
-pub take_next-value-requires-clause-agree : goal.take_next-value-requires-clause-agree
-take_next-value-requires-clause-agree g c = agrees_left _ _ _ _ _ _ _ _ _ _ _ _ _ _ _ _ _ _ (stored g c.loop-k.source) _ c.loop-k.invariant.carrying
-
-pub take_next-value-requires-clause-low : goal.take_next-value-requires-clause-low
-take_next-value-requires-clause-low g c none =
-    cursor_up _ _ _ _ _ _ _ _ _ _ _ _ _ _ _ _ _ _ (stored g c.loop-k.source) _ (ap (option_map g.Q.Inx.InxKey.number) none) c.loop-k.invariant.carrying (g.met.A.ArenaTrait.ascends c.loop-k.source)
-
-pub take_next-value-requires-clause-some : goal.take_next-value-requires-clause-some
-take_next-value-requires-clause-some g c none =
-    some_left _ _ _ _ _ _ _ _ _ _ _ _ _ _ _ _ _ _ (stored g c.loop-k.source) _ c.loop-k.invariant.carrying (omega (arith, c.loop-k-test.true, c.len-k-end.ensures.count))
-
-pub take_next-value-requires-clause-stored : goal.take_next-value-requires-clause-stored
-take_next-value-requires-clause-stored g c = stored_entry g c.loop-k.source c.loop-k.on (stored_on _ _ _ _ _ _ _ _ _ _ _ _ _ _ _ _ _ _ (stored g c.loop-k.source) g.Q.Inx.InxKey.number c.loop-k.on c.loop-k.invariant.carrying)
+pub take_next-value-requires : goal.take_next-value-requires
+take_next-value-requires g c = record {
+  agree = agrees_left _ _ _ _ _ _ _ _ _ _ _ _ _ _ _ _ _ _ (stored g c.loop-k.source) _ c.loop-k.invariant.carrying;
+  low = λ none. cursor_up _ _ _ _ _ _ _ _ _ _ _ _ _ _ _ _ _ _ (stored g c.loop-k.source) _ (ap (option_map g.Q.Inx.InxKey.number) none) c.loop-k.invariant.carrying (g.met.A.ArenaTrait.ascends c.loop-k.source);
+  some = λ none. some_left _ _ _ _ _ _ _ _ _ _ _ _ _ _ _ _ _ _ (stored g c.loop-k.source) _ c.loop-k.invariant.carrying (omega (arith, c.loop-k-test.true, c.len-k-end.ensures.count));
+  stored = stored_entry g c.loop-k.source c.loop-k.on (stored_on _ _ _ _ _ _ _ _ _ _ _ _ _ _ _ _ _ _ (stored g c.loop-k.source) g.Q.Inx.InxKey.number c.loop-k.on c.loop-k.invariant.carrying);
+}
 
 -- The state after the link was taken.
 carrying_it : (g : Over) (c : After-take_next-value g) → IsCarrying g.Q.PtrKey.key g.P.PtrKey.key g.Q.Gen.GenKey.following g.Q.Gen.GenKey.wraps g.F.FnMut g.P.Inx.InxKey.number
@@ -52,29 +46,29 @@ carrying_it : (g : Over) (c : After-take_next-value g) → IsCarrying g.Q.PtrKey
     c.loop-k.k (g.A.ArenaTrait.view c.loop-k.source) (g.A.ChainArenaTrait.interlinks c.loop-k.source) (g.A.ArenaTrait.cursor c.take_next-value.new.advancer)
     (Some (g.Q.PtrKey.key c.take_next-value.result.ptr).0) c.take_next-value.result.is_cyclic c.and-arranged.result c.loop-k.map c.loop-k.target
 carrying_it g c =
-    carries_next_link _ _ _ _ _ _ _ _ _ _ _ _ _ _ _ _ _ _ (stored g c.loop-k.source) g.Q.Inx.InxKey.number c.loop-k.on _ _ _ _ c.loop-k.invariant.carrying c.take_next-value.ensures.continues c.take_next-value.ensures.begins c.and-arranged.ensures
+    carries_next_link _ _ _ _ _ _ _ _ _ _ _ _ _ _ _ _ _ _ (stored g c.loop-k.source) g.Q.Inx.InxKey.number c.loop-k.on _ _ _ _ c.loop-k.invariant.carrying c.take_next-value.ensures.order.continues c.take_next-value.ensures.order.begins c.and-arranged.ensures
 
 pub map-t-requires : goal.map-t-requires
 map-t-requires g c = search of_calls
 
 -- The next index is the one after the last link.
 the_place : (g : Over) (c : After-take_next-value g) → next_index c.loop-k.target ≡ c.loop-k.k + 1
-the_place g c = next_index_at _ _ _ _ _ _ _ _ _ _ _ _ _ _ _ _ _ _ (stored g c.loop-k.source) _ (carrying_it g c) c.requires.freed
+the_place g c = next_index_at _ _ _ _ _ _ _ _ _ _ _ _ _ _ _ _ _ _ (stored g c.loop-k.source) _ (carrying_it g c) c.requires.empty.1
 
 pub append_link-ends-requires-clause-ends : goal.append_link-ends-requires-clause-ends
 append_link-ends-requires-clause-ends g c =
     let at = (goal.at.append_link-ends-requires-clause-ends g c).After-take_next-value in
     let it = carrying_it g at in (
       length it.taken,
-      bounds_at _ _ _ _ _ _ _ _ _ _ _ _ _ _ _ _ _ _ (stored g at.loop-k.source) _ it at.requires.freed,
-      position_at _ _ _ _ _ _ _ _ _ _ _ _ _ _ _ _ _ _ (stored g at.loop-k.source) _ it at.requires.freed _ _ refl refl,
+      bounds_at _ _ _ _ _ _ _ _ _ _ _ _ _ _ _ _ _ _ (stored g at.loop-k.source) _ it at.requires.empty.1,
+      position_at _ _ _ _ _ _ _ _ _ _ _ _ _ _ _ _ _ _ (stored g at.loop-k.source) _ it at.requires.empty.1 _ _ refl refl,
     )
 
 pub append_link-ends-requires-clause-capacity : goal.append_link-ends-requires-clause-capacity
 append_link-ends-requires-clause-capacity g c =
     let at = (goal.at.append_link-ends-requires-clause-capacity g c).After-take_next-value in
-    capacity_at _ _ _ _ _ _ _ _ _ _ _ _ _ _ _ _ _ _ (stored g at.loop-k.source) _ (carrying_it g at) at.requires.freed c.len-k-end.result c.loop-k-test.true
-    (omega (arith, c.len-k-end.ensures.count, at.requires.capacity))
+    capacity_at _ _ _ _ _ _ _ _ _ _ _ _ _ _ _ _ _ _ (stored g at.loop-k.source) _ (carrying_it g at) at.requires.empty.1 c.len-k-end.result c.loop-k-test.true
+    (omega (arith, c.len-k-end.ensures.count, at.requires.empty.2))
 
 pub append_link-ends-requires-clause-index : goal.append_link-ends-requires-clause-index
 append_link-ends-requires-clause-index g c =
@@ -85,22 +79,21 @@ pub loop-k-preserved : goal.loop-k-preserved
 loop-k-preserved g c =
     let at = (goal.at.loop-k-preserved g c).After-take_next-value in
     let it = carrying_it g at in
-    let bounds = bounds_at _ _ _ _ _ _ _ _ _ _ _ _ _ _ _ _ _ _ (stored g at.loop-k.source) _ it at.requires.freed in
+    let bounds = bounds_at _ _ _ _ _ _ _ _ _ _ _ _ _ _ _ _ _ _ (stored g at.loop-k.source) _ it at.requires.empty.1 in
     let arranged = c.append_link-ends.ensures.arranged (length it.taken) bounds in
-    let was_stored = g.met.A.ArenaTrait.finds c.loop-k.source (g.Q.PtrKey.key c.take_next-value.result.ptr).0 ∙ c.take_next-value.ensures.was_stored in
+    let was_stored = g.met.A.ArenaTrait.finds c.loop-k.source (g.Q.PtrKey.key c.take_next-value.result.ptr).0 ∙ c.take_next-value.ensures.taken.was_stored in
     record {
       callable = search of_calls;
-      carrying = carries_link _ _ _ _ _ _ _ _ _ _ _ _ _ _ _ _ _ _ (stored g at.loop-k.source) _ it at.requires.freed c.append_link-ends.ensures.listed
+      carrying = carries_link _ _ _ _ _ _ _ _ _ _ _ _ _ _ _ _ _ _ (stored g at.loop-k.source) _ it at.requires.empty.1 c.append_link-ends.ensures.listed
           c.take_next-value.result.ptr c.take_next-value.result.value c.pointer_at-to.result c.map-t.result _ was_stored refl
           (c.pointer_at-to.ensures ∙ ap (λ n. (c.loop-k.k + 1, n)) c.generation-generation.ensures) c.map-t.ensures
-          (agrees_left _ _ _ _ _ _ _ _ _ _ _ _ _ _ _ _ _ _ (stored g at.loop-k.source) _ it) _ _ _ _ _ c.take_next-value.ensures.overflow c.take_next-value.ensures.next c.take_next-value.ensures.view_after c.take_next-value.ensures.links arranged.0
+          (agrees_left _ _ _ _ _ _ _ _ _ _ _ _ _ _ _ _ _ _ (stored g at.loop-k.source) _ it) _ _ _ _ _ c.take_next-value.ensures.taken.overflow c.take_next-value.ensures.taken.next c.take_next-value.ensures.taken.view_after c.take_next-value.ensures.taken.links arranged.0
           (subst (λ n. AreEnds g.P.Inx.InxKey.number c.append_link-ends.result (length it.taken + 1) (n + 1)) (the_place g at) arranged.1);
     }
 
 pub returns : goal.returns
 returns g c =
     let carrying = c.loop-k.invariant.carrying in record {
-      transferred = carries_all _ _ _ _ _ _ _ _ _ _ _ _ _ _ _ _ _ _ (stored g c.loop-k.source) _ carrying c.requires.freed (omega (arith, c.loop-k-test.false, c.len-k-end.ensures.count));
-      capacity = ap (λ (a : Arena _ _). a.capacity) carrying.landed.state;
-      stack_capacity = ap (λ (a : Arena _ _). a.stack_capacity) carrying.landed.state;
+      transferred = carries_all _ _ _ _ _ _ _ _ _ _ _ _ _ _ _ _ _ _ (stored g c.loop-k.source) _ carrying c.requires.empty.1 (omega (arith, c.loop-k-test.false, c.len-k-end.ensures.count));
+      capacity = (ap (λ (a : Arena _ _). a.capacity) carrying.landed.state, ap (λ (a : Arena _ _). a.stack_capacity) carrying.landed.state);
     }

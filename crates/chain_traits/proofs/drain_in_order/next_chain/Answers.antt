@@ -21,18 +21,21 @@ proved_unreachable-assume_proved-requires g c = absurd (
     c.requires.some (none_is (g.A.ArenaTrait.view source).entries (g.A.ArenaTrait.cursor c.args.advancer.now) (g.A.ArenaTrait.cursor c.advance.new.self) low.0 low.1 low.2
     (g.met.A.ArenaTrait.advances c.args.advancer.now c.advance.new.self source None c.in-None.ensures)))
 
-pub returns-clause-next : goal.returns-clause-next
-returns-clause-next g c =
+pub returns : goal.returns
+returns g c =
     let source = c.args.source.now in
     let low = c.requires.low in
     let links = g.A.ChainArenaTrait.interlinks source in
     let first = next_is (g.A.ArenaTrait.view source).entries (g.A.ArenaTrait.cursor c.args.advancer.now) (g.A.ArenaTrait.cursor c.advance.new.self) low.0 (g.Q.PtrKey.key c.in-Some.q) low.1 low.2
     (g.met.A.ArenaTrait.advances c.args.advancer.now c.advance.new.self source (Some c.in-Some.q) c.in-Some.ensures) in
     record {
-      least = (g.Q.PtrKey.key c.in-Some.q).0;
-      stored = first.0.stored;
-      none_below = first.0.low;
-      start = subst (λ i. IsStart links i (g.Q.Inx.InxKey.number c.start_of-start.result)) c.inx.ensures c.start_of-start.ensures.start;
-      cyclic = c.is_some.ensures ∙ (sym (is_some-map g.Q.Inx.InxKey.number c.before-in-Some.result) ∙ ap is_some c.before-in-Some.ensures);
-      cursor = first.1;
+      next = record {
+        least = (g.Q.PtrKey.key c.in-Some.q).0;
+        stored = first.0.stored;
+        none_below = first.0.low;
+        start = subst (λ i. IsStart links i (g.Q.Inx.InxKey.number c.start_of-start.result)) c.inx.ensures c.start_of-start.ensures.start;
+        cyclic = c.is_some.ensures ∙ (sym (is_some-map g.Q.Inx.InxKey.number c.before-in-Some.result) ∙ ap is_some c.before-in-Some.ensures);
+        cursor = first.1;
+      };
+      some = c.start_of-start.ensures.some;
     }

@@ -11,18 +11,24 @@ not_both b e f = cc
 pub loop-step-init : goal.loop-step-init
 loop-step-init g c = record { back = back_begins (g.A.ChainArenaTrait.interlinks c.args.source.now) (g.Q.Inx.InxKey.number c.args.i); some = c.requires.some }
 
-pub returns-then-is_same-clause-start : goal.returns-then-is_same-clause-start
-returns-then-is_same-clause-start g c =
+pub returns-then-is_same : goal.returns-then-is_same
+returns-then-is_same g c =
     let number = g.Q.Inx.InxKey.number in
     let known : c.is_same.result ≡ g.Q.Inx.InxKey.same c.in-Some.k c.args.i = search of_calls in
     let same = (g.met.Q.Inx.InxKey.same_is_equal c.in-Some.k c.args.i).0 (sym known ∙ c.if-is_same.true) in
-    back_wraps_around (g.A.ChainArenaTrait.interlinks c.args.source.now) (number c.args.i) c.loop-step.step (number c.loop-step.at) c.loop-step.invariant.back
-    (sym c.in-Some.ensures ∙ ap (λ k. Some (number k)) same)
+    record {
+      start = back_wraps_around (g.A.ChainArenaTrait.interlinks c.args.source.now) (number c.args.i) c.loop-step.step (number c.loop-step.at) c.loop-step.invariant.back
+          (sym c.in-Some.ensures ∙ ap (λ k. Some (number k)) same);
+      some = c.requires.some;
+    }
 
-pub returns-in-None-clause-start : goal.returns-in-None-clause-start
-returns-in-None-clause-start g c =
+pub returns-in-None : goal.returns-in-None
+returns-in-None g c =
     let number = g.Q.Inx.InxKey.number in
-    back_ends (g.A.ChainArenaTrait.interlinks c.args.source.now) (number c.args.i) c.loop-step.step (number c.loop-step.at) c.loop-step.invariant.back (sym c.in-None.ensures)
+    record {
+      start = back_ends (g.A.ChainArenaTrait.interlinks c.args.source.now) (number c.args.i) c.loop-step.step (number c.loop-step.at) c.loop-step.invariant.back (sym c.in-None.ensures);
+      some = c.loop-step.invariant.some;
+    }
 
 pub loop-step-preserved : goal.loop-step-preserved
 loop-step-preserved g c =

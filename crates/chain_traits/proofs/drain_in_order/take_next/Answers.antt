@@ -1,6 +1,19 @@
-use Rattle.std.proofs.Common.{sym, ap, ◌∙◌}
-use Rattle.chain_laws.specs.Removals.{with_removal as passed_over}
+-- The link taken is the next one.
+use Rattle.std.proofs.Common.{sym, subst}
+use Rattle.std.specs.Option.{option_map}
+use Rattle.chain_traits.specs.DrainOrder.{IsNextLink, TakesLink}
 use Rattle.chain_traits.proofs.drain_in_order.take_next.Goals as goal
 
-pub returns-clause-links : goal.returns-clause-links
-returns-clause-links g c = c.take_link-ptr.ensures.links ∙ ap (passed_over (g.A.ChainArenaTrait.interlinks c.args.source.now)) (sym c.take_link-ptr.ensures.index)
+pub returns : goal.returns
+returns g c =
+    let number = g.Q.Inx.InxKey.number in
+    let old = c.args.source.now in
+    let new = c.take_link-ptr.new.source in
+    let view = g.A.ArenaTrait.view in
+    let links = g.A.ChainArenaTrait.interlinks in
+    let result = c.take_link-ptr.result in
+    let here = sym c.take_link-ptr.ensures.index in
+    record {
+      order = subst (λ i. IsNextLink (view old) (links old) number c.args.on c.args.ring (g.A.ArenaTrait.cursor c.args.advancer.now) i c.next_link-i.result.1 (g.A.ArenaTrait.cursor c.next_link-i.new.advancer)) here c.next_link-i.ensures.order;
+      taken = subst (λ i. TakesLink g.Q.Gen.GenKey.following g.Q.Gen.GenKey.wraps (g.A.ArenaTrait.entry old) (view old) (view new) (links old) (links new) i (g.Q.PtrKey.key result.0).1 result.1 (option_map number result.2)) here c.take_link-ptr.ensures.taken;
+    }

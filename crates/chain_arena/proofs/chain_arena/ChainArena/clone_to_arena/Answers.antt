@@ -1,17 +1,14 @@
 -- What the map of the closure made, the closure returned.
-use Rattle.std.proofs.lemmas.Result.{on_ok_weaker}
-use Rattle.arena_base.proofs.SlotCopyLemmas.{on_err_by, surely}
+use Rattle.std.proofs.Common.{length}
 use Rattle.chain_links.specs.Links.{link_view}
-use Rattle.chain_arena.proofs.LinkCopyLemmas.{called_copy}
+use Rattle.chain_arena.proofs.LinkCopyLemmas.{called_copy, copies_or_lacks}
 use Rattle.chain_arena.proofs.chain_arena.ChainArena.clone_to_arena.Goals as goal
-
-pub returns-clause-within : goal.returns-clause-within
-returns-clause-within g c few = surely (λ never. never.refusable.2) (c.clone_to_arena_by-done.ensures.within few)
 
 pub returns-clause-copied : goal.returns-clause-copied
 returns-clause-copied g c =
     let called = c.clone_to_arena_by-done in
-    on_ok_weaker called.result.0 (λ made. (called.result.1.map, called_copy g.F.FnMut (λ m. m.map) (link_view g.P.Inx.InxKey.packed_number) g.P.PtrKey.key _ called.result.1 c.args.self.now _ _ made)) called.ensures.copied
-
-pub returns-clause-err : goal.returns-clause-err
-returns-clause-err g c = on_err_by c.clone_to_arena_by-done.result.0 (λ same. same.0) (λ never. absurd never.0.refusable.2) c.clone_to_arena_by-done.ensures.err
+    let source = c.args.self.now in
+    let old = g.A.ArenaTrait.view c.args.arena.now in
+    copies_or_lacks _ (length source.slots) old.capacity old.maximum called.result.0 (λ never. never.refusable.2)
+    (λ made. (made.0, (called.result.1.map, called_copy g.F.FnMut (λ m. m.map) (link_view g.P.Inx.InxKey.packed_number) g.P.PtrKey.key _ called.result.1 source _ _ made.1), made.3))
+    (λ same. same.0) called.ensures.copied

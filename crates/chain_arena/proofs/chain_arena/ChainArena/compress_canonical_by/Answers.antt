@@ -36,11 +36,15 @@ returns g c =
     let key = g.P.PtrKey.key in
     let to = c.arrange-visitor.result.0 in
     rw (← c.self.view_is) (record {
-      canonical = arranged_canonical sees key c.args.visitor to _ old mid new begun made.arranged g.P.Gen.GenKey.first g.P.Gen.GenKey.following c.args.reset (length (entries a)) refl (length-entries a ∙ sym (count-values number a));
-      stack_capacity = arranged_stack_capacity sees key c.args.visitor to _ old mid new begun made.arranged;
+      compressed = record {
+        canonical = arranged_canonical sees key c.args.visitor to _ old mid new begun made.arranged g.P.Gen.GenKey.first g.P.Gen.GenKey.following c.args.reset (length (entries a)) refl (length-entries a ∙ sym (count-values number a));
+        stack_capacity = arranged_stack_capacity sees key c.args.visitor to _ old mid new begun made.arranged;
+        overflow = c.begin_generation-overflow.ensures.overflow ∙ ap (λ n. invalidation_option (overflows_after_compression g.P.Gen.GenKey.wraps c.args.reset n a.counter) tt) (length-entries a ∙ sym (entry_count-links_view number a));
+      };
       reports = arranged_reported sees key c.args.visitor to _ old mid new begun made.arranged;
       ready = made.ready;
-      overflow = c.begin_generation-overflow.ensures.overflow ∙ ap (λ n. invalidation_option (overflows_after_compression g.P.Gen.GenKey.wraps c.args.reset n a.counter) tt) (length-entries a ∙ sym (entry_count-links_view number a));
-      placed = made.placed ∙ ap (λ x. x.placed + c.arrange-visitor.result.1.placed) c.begin_generation-overflow.ensures.after;
-      touched = made.touched ∙ ap (λ x. x.touched + c.arrange-visitor.result.1.touched) c.begin_generation-overflow.ensures.after;
+      counted = (
+        made.placed ∙ ap (λ x. x.placed + c.arrange-visitor.result.1.placed) c.begin_generation-overflow.ensures.after,
+        made.touched ∙ ap (λ x. x.touched + c.arrange-visitor.result.1.touched) c.begin_generation-overflow.ensures.after,
+      );
     })

@@ -1,5 +1,7 @@
 -- `drain_at` removes the link, and the walk goes on.
-use Rattle.std.proofs.Common.{ap, sym, ◌∙◌}
+use Rattle.std.proofs.Common.{Some, ap, sym, ◌∙◌}
+use Rattle.chain_links.specs.ChainArena.{value_view, entry, link_map}
+use Rattle.chain_links.proofs.CallEffectLemmas.{overflow_reported, returned_at, where_none}
 use Rattle.chain_arena.proofs.ChainDrainLemmas.{drained_step, drained_none}
 use Rattle.chain_arena.proofs.chain_arena.ChainArena.drain_at.Goals as goal
 
@@ -8,20 +10,18 @@ returns-in-Some-entry g c =
     let number = g.P.Inx.InxKey.number in
     let packed = g.P.Inx.InxKey.packed_number in
     let removal = c.remove_inx_link_no_gen.ensures in
-    let yields = c.drain_item.ensures in record {
-      none = tt;
-      some =
-          drained_step g.P.PtrKey.key packed g.P.Gen.GenKey.following g.P.Gen.GenKey.wraps c.args.self.now c.remove_inx_link_no_gen.new.self c.args.at (number c.in-Some.i) c.drain_item.result.0
-          c.remove_inx_link_no_gen.result c.in-Some.ensures.some c.invariants.ensures.agree removal.returned c.in-Some-entry.entry c.overflowing-entry.result.1 c.drain_item.result.1
-          removal.overflow (λ stored. (removal.more stored).state) (sym (ap (λ x. x.0) c.overflowing-entry.ensures) ∙ c.in-Some-entry.is) (ap (λ x. x.1) c.overflowing-entry.ensures)
-          yields.ptr yields.link yields.overflow yields.next;
-    }
+    let outcome = removal.outcome in
+    let yields = c.drain_item.ensures in
+    drained_step g.P.PtrKey.key packed g.P.Gen.GenKey.following g.P.Gen.GenKey.wraps c.args.self.now c.remove_inx_link_no_gen.new.self c.args.at (number c.in-Some.i) c.drain_item.result.0
+    c.remove_inx_link_no_gen.result c.in-Some.ensures.some c.invariants.ensures.agree
+    (returned_at value_view entry link_map packed g.P.Gen.GenKey.following g.P.Gen.GenKey.wraps c.args.self.now c.remove_inx_link_no_gen.new.self (number c.in-Some.i) c.remove_inx_link_no_gen.result outcome) c.in-Some-entry.entry c.overflowing-entry.result.1 c.drain_item.result.1
+    (overflow_reported _ _ g.P.Gen.GenKey.wraps (Some c.args.self.now.counter) c.remove_inx_link_no_gen.result outcome) (λ stored. (removal.more stored).state) (sym (ap (λ x. x.0) c.overflowing-entry.ensures) ∙ c.in-Some-entry.is) (ap (λ x. x.1) c.overflowing-entry.ensures)
+    yields.item.0 yields.item.1 yields.item.2 yields.next
 
 pub returns-in-None-entry : goal.returns-in-None-entry
 returns-in-None-entry g c =
-    let removal = c.remove_inx_link_no_gen.ensures in record {
-      none =
-          drained_none g.P.PtrKey.key g.P.Inx.InxKey.packed_number g.P.Gen.GenKey.following g.P.Gen.GenKey.wraps c.args.self.now c.remove_inx_link_no_gen.new.self c.args.at (g.P.Inx.InxKey.number c.in-Some.i) c.args.at
-          c.remove_inx_link_no_gen.result c.in-Some.ensures.some c.invariants.ensures.agree removal.returned (sym (ap (λ x. x.0) c.overflowing-entry.ensures) ∙ c.in-None-entry.is) removal.invalid;
-      some = tt;
-    }
+    let removal = c.remove_inx_link_no_gen.ensures in
+    drained_none g.P.PtrKey.key g.P.Inx.InxKey.packed_number g.P.Gen.GenKey.following g.P.Gen.GenKey.wraps c.args.self.now c.remove_inx_link_no_gen.new.self c.args.at (g.P.Inx.InxKey.number c.in-Some.i) c.args.at
+    c.remove_inx_link_no_gen.result c.in-Some.ensures.some c.invariants.ensures.agree
+    (returned_at value_view entry link_map g.P.Inx.InxKey.packed_number g.P.Gen.GenKey.following g.P.Gen.GenKey.wraps c.args.self.now c.remove_inx_link_no_gen.new.self (g.P.Inx.InxKey.number c.in-Some.i) c.remove_inx_link_no_gen.result removal.outcome)
+    (sym (ap (λ x. x.0) c.overflowing-entry.ensures) ∙ c.in-None-entry.is) (λ none. where_none _ removal.invalid (sym (ap (λ x. x.0) c.overflowing-entry.ensures) ∙ c.in-None-entry.is))

@@ -9,10 +9,12 @@ returns g c =
       (refl, λ w. refl, tt),
       record {
         unchanged_at_none = tt;
-        some = (λ _. valid, λ _. refl);
-        same_reference = refl;
-        arena = refl;
-        at = nonzero_index-is c.number_or_zero-at.result _ c.number_or_zero-at.ensures.index ∙ c.inx.ensures;
-        walk = walk_left-valid c.args.self.now (g.P.PtrKey.key c.args.p) c.invariants.ensures.agree valid;
+        drain = (
+          valid,
+          refl,
+          refl,
+          nonzero_index-is c.number_or_zero-at.result _ c.number_or_zero-at.ensures.index ∙ c.inx.ensures,
+          walk_left-valid c.args.self.now (g.P.PtrKey.key c.args.p) c.invariants.ensures.agree valid,
+        );
       },
     )

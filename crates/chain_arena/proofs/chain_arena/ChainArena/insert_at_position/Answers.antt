@@ -1,9 +1,10 @@
 -- The link is inserted at the position, and the links stay well linked.
-use Rattle.std.proofs.Common.{◌≡◌, ◌<◌, refl, sym, ap, subst, arith}
+use Rattle.std.proofs.Common.{◌≡◌, ◌<◌, sym, ◌∙◌, ap, subst, arith}
 use Rattle.chain_laws.specs.Chains.{IsWellLinked}
 use Rattle.chain_laws.specs.Insertions.{IsInsertPosition}
 use Rattle.chain_laws.proofs.InsertionLemmas.Pairs.{position_between}
 use Rattle.arena_traits.specs.Arena.{entry_count, next_index}
+use Rattle.arena_traits.proofs.ArenaViewLemmas.{length-entries}
 use Rattle.chain_links.specs.Links.{links_view, AreAtRest}
 use Rattle.chain_links.proofs.RestLemmas.{inserted_at_rest}
 use Rattle.chain_linking.specs.InsertPositions.{before_in, after_in}
@@ -32,23 +33,23 @@ inserted g c =
     let q = next_index s in
     placed_in_capacity packed number a c.insert_within_capacity.new.self (links_view packed c.update_neighbors.new.arena) c.args.position c.args.t c.link_in.result c.invariants.ensures.listed c.link_in.ensures.link
     (position_between (link_map s) q (before_in number c.args.position q) (after_in number c.args.position q) c.self.invariant.agree (link_map-next s (listed-links_view packed a c.invariants.ensures.listed).free) (position g c)).forth.itself
-    (g.P.PtrKey.key c.in-Ok.p).0 (ap (λ p. p.0) {y = (next_index a, a.counter)} c.in-Ok.ensures.ptr) c.update_neighbors.ensures.links c.in-Ok.ensures.ok
+    (g.P.PtrKey.key c.in-Ok.p).0 (ap (λ p. p.0) {y = (next_index a, a.counter)} c.in-Ok.ensures.outcome.key) c.update_neighbors.ensures.links c.in-Ok.ensures.outcome.state
 
 pub proved_unreachable-assume_proved-requires : goal.proved_unreachable-assume_proved-requires
 proved_unreachable-assume_proved-requires g c =
     let packed = g.P.Inx.InxKey.packed_number in
     let a = c.self.inside.arena in
     let within_capacity : entry_count (links_view packed a) < a.capacity = rw (← c.self.view_is) at c.requires.capacity in
-    let full : entry_count a ≡ a.capacity = c.in-Err.ensures.refused.0 refl in
+    let full : entry_count a ≡ a.capacity = sym (length-entries a) ∙ c.in-Err.ensures.outcome in
     absurd (omega (arith, within_capacity, full, entry_count-links_view packed a))
 
 pub update_neighbors-requires-clause-before : goal.update_neighbors-requires-clause-before
 update_neighbors-requires-clause-before g c =
-    before_stored g.P.Inx.InxKey.packed_number g.P.Inx.InxKey.number c.self.inside.arena c.insert_within_capacity.new.self c.args.position c.link_in.result c.invariants.ensures.listed c.self.invariant.agree (rw (← c.self.view_is) at c.requires.position) (g.P.PtrKey.key c.in-Ok.p).0 (ap (λ p. p.0) {y = (next_index c.self.inside.arena, c.self.inside.arena.counter)} c.in-Ok.ensures.ptr) c.in-Ok.ensures.ok
+    before_stored g.P.Inx.InxKey.packed_number g.P.Inx.InxKey.number c.self.inside.arena c.insert_within_capacity.new.self c.args.position c.link_in.result c.invariants.ensures.listed c.self.invariant.agree (rw (← c.self.view_is) at c.requires.position) (g.P.PtrKey.key c.in-Ok.p).0 (ap (λ p. p.0) {y = (next_index c.self.inside.arena, c.self.inside.arena.counter)} c.in-Ok.ensures.outcome.key) c.in-Ok.ensures.outcome.state
 
 pub update_neighbors-requires-clause-after : goal.update_neighbors-requires-clause-after
 update_neighbors-requires-clause-after g c =
-    after_stored g.P.Inx.InxKey.packed_number g.P.Inx.InxKey.number c.self.inside.arena c.insert_within_capacity.new.self c.args.position c.link_in.result c.invariants.ensures.listed c.self.invariant.agree (rw (← c.self.view_is) at c.requires.position) (g.P.PtrKey.key c.in-Ok.p).0 (ap (λ p. p.0) {y = (next_index c.self.inside.arena, c.self.inside.arena.counter)} c.in-Ok.ensures.ptr) c.in-Ok.ensures.ok
+    after_stored g.P.Inx.InxKey.packed_number g.P.Inx.InxKey.number c.self.inside.arena c.insert_within_capacity.new.self c.args.position c.link_in.result c.invariants.ensures.listed c.self.invariant.agree (rw (← c.self.view_is) at c.requires.position) (g.P.PtrKey.key c.in-Ok.p).0 (ap (λ p. p.0) {y = (next_index c.self.inside.arena, c.self.inside.arena.counter)} c.in-Ok.ensures.outcome.key) c.in-Ok.ensures.outcome.state
 
 pub invariant_of-self : goal.invariant_of-self
 invariant_of-self g c =
@@ -60,7 +61,7 @@ invariant_of-self g c =
       agree = subst IsWellLinked (sym (ap (λ a. link_map a) (inserted g c)))
           (agrees-insert_between s c.args.t (listed-links_view packed a c.invariants.ensures.listed)
           (before_in g.P.Inx.InxKey.number c.args.position q) (after_in g.P.Inx.InxKey.number c.args.position q) c.self.invariant.agree (position g c));
-      at_rest = c.update_neighbors.ensures.at_rest (subst (λ b. AreAtRest packed b.slots) (sym c.in-Ok.ensures.ok)
+      at_rest = c.update_neighbors.ensures.at_rest (subst (λ b. AreAtRest packed b.slots) (sym c.in-Ok.ensures.outcome.state)
           (inserted_at_rest packed a.freed a.slots a.counter c.link_in.result c.link_in.ensures.at_rest c.self.invariant.at_rest));
     }
 
@@ -69,7 +70,7 @@ returns g c =
     let a = c.self.inside.arena in
     let packed = g.P.Inx.InxKey.packed_number in
     rw (← c.self.view_is) (record {
-      pointer = next_viewed packed a (g.P.PtrKey.key c.in-Ok.p) c.in-Ok.ensures.ptr;
+      pointer = next_viewed packed a (g.P.PtrKey.key c.in-Ok.p) c.in-Ok.ensures.outcome.key;
       state = inserted g c;
       listed = listed-links_view packed a c.invariants.ensures.listed;
       agreed = c.self.invariant.agree;

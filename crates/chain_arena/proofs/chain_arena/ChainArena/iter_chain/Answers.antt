@@ -36,13 +36,9 @@ returns-in-Some g c =
     let at = c.in-Some.ensures.value in
     let walk : IsWalkOf links p.0 c.iter_from.result =
     walker-walk links p.0 _ _ _ _ c.iter_from.ensures (c.len.ensures.entries ∙ sym (entry_count-links_view number a)) c.inx.ensures (c.prev.ensures ∙ sym (prev_of-view_after number a p c.in-Some.link.now at)) c.self.invariant.agree (valid_at number a p c.in-Some.link.now at) in
-    rw (← c.self.view_is) (record {
-      some = (λ _. (same_valid number a p).0 (c.in-Some.ensures.some.0 refl), λ _. refl);
-      walk = walk;
-      count = length-walk _ _ _ walk;
-    })
+    rw (← c.self.view_is) ((same_valid number a p).0 (c.in-Some.ensures.some.0 refl), walk, length-walk _ _ _ walk)
 
 pub returns-in-None : goal.returns-in-None
 returns-in-None g c =
     let same = same_valid g.P.Inx.InxKey.packed_number c.self.inside.arena (g.P.PtrKey.key c.args.p) in
-    rw (← c.self.view_is) (record { some = (λ h. same.0 (c.in-None.ensures.some.0 h), λ valid. c.in-None.ensures.some.1 (same.1 valid)); walk = tt; count = tt })
+    rw (← c.self.view_is) (λ valid. absurd (let some = c.in-None.ensures.some.1 (same.1 valid) in cc))

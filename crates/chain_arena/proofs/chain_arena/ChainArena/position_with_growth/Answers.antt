@@ -6,7 +6,7 @@ use Rattle.chain_arena.proofs.chain_arena.ChainArena.position_with_growth.Goals 
 pub returns-in-Some : goal.returns-in-Some
 returns-in-Some g c = record {
   position =
-      places_growing g.P.PtrKey.key g.P.Inx.InxKey.number g.S.SlotStack.may_reach g.P.Inx.InxKey.greatest c.args.self.now c.grow_if_full.new.self c.args.kind c.in-Some.position c.grow_if_full.result c.position_unless_refused.result
+      places_growing g.P.PtrKey.key g.P.Inx.InxKey.number c.args.self.now c.args.kind g.S.SlotStack.may_reach g.P.Inx.InxKey.greatest c.grow_if_full.new.self c.in-Some.position c.grow_if_full.result c.position_unless_refused.result
       c.position_unless_refused.ensures c.in-Some.ensures.position c.grow_if_full.ensures;
   agreed = c.in-Some.ensures.agree;
 }

@@ -6,8 +6,8 @@ use Rattle.chain_arena.proofs.LinkRemovalLemmas.{value_known}
 use Rattle.chain_arena.proofs.LinkDrainLemmas.{link_taken}
 use Rattle.chain_arena.proofs.chain_arena.ChainArena.take_link.Goals as goal
 
-pub returns-in-Some-clause-some : goal.returns-in-Some-clause-some
-returns-in-Some-clause-some g c =
+pub returns-in-Some : goal.returns-in-Some
+returns-in-Some g c =
     let key = g.P.PtrKey.key in
     let r = c.unlink.result in
     let made = c.unlink.ensures in
@@ -19,7 +19,7 @@ returns-in-Some-clause-some g c =
     (sym (ap (λ x. x.0) c.overflowing-entry.ensures) ∙ c.in-Some.is) made.returned made.overflow made.removal p keyed
     overflow (ap (λ x. x.1) c.overflowing-entry.ensures) c.with_overflow.result responded
 
-pub returns-in-None-clause-none : goal.returns-in-None-clause-none
-returns-in-None-clause-none g c =
+pub returns-in-None : goal.returns-in-None
+returns-in-None g c =
     let none = sym (ap (λ x. x.0) c.overflowing-entry.ensures) ∙ c.in-None.is in
     (sym (value_known g.P.Inx.InxKey.packed_number g.P.Gen.GenKey.following c.args.self.now c.unlink.new.self _ _ c.unlink.ensures.returned) ∙ ap (option_map (λ e. (e.0, e.1.t))) none, c.unlink.ensures.invalid none)

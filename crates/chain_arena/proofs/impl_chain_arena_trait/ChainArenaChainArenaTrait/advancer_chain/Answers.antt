@@ -23,7 +23,6 @@ returns-in-Some g c =
           (ap number made.start ∙ c.inx.ensures)
           (ap (option_map number) made.forth ∙ ap Some c.inx.ensures)
           (ap (option_map number) made.back ∙ (c.prev.ensures ∙ sym (prev_of-view_after packed a p c.in-Some.link.now c.in-Some.ensures.value)));
-      agree = c.self.invariant.agree;
     })
 
 pub returns-in-None-clause-some : goal.returns-in-None-clause-some

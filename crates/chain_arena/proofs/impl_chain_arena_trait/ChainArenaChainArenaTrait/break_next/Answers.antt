@@ -1,7 +1,5 @@
 -- Two writes cut the pair, and the laws of cuts state the rest.
 use Rattle.std.proofs.Common.{◌≡◌, ℕ, Some, refl, ap, sym, ◌∙◌, subst}
-use Rattle.std.specs.Prelude.{is_some}
-use Rattle.std.proofs.lemmas.Bool.{false≢true}
 use Rattle.chain_laws.specs.Chains.{HasLink, next_of}
 use Rattle.chain_laws.specs.Cuts.{without_pair}
 use Rattle.chain_laws.specs.Neighbors.{AreNeighbors}
@@ -60,21 +58,16 @@ returns-in-Some g c =
     let j = (g.P.Inx.InxKey.number c.in-Some.after) in
     let at = known g c in
     let is = is_cut g c in
+    let cut = cut_known a b i j is (pair g c) in
     rw (← c.self.view_is) (record {
-      some = (λ _. (c.in-Some.ensures.some refl, ap is_some at), λ _. refl);
-      cut = at_known _ _ _ at (cut_reports a b i j is);
-      chains = at_known _ _ _ at (cut_known a b i j is (pair g c)).chains;
-      view_after = ap (λ x. view_of x) (cut_values a b i j is);
+      outcome = (c.in-Some.ensures.some refl, j, at, record { cut = cut_reports a b i j is; chains = cut.chains; view_after = ap (λ x. view_of x) (cut_values a b i j is) });
       none = tt;
-      more = at_known _ _ _ at (cut_known a b i j is (pair g c));
+      more = at_known _ _ _ at cut;
     })
 
 pub returns-in-None : goal.returns-in-None
 returns-in-None g c = rw (← c.self.view_is) (record {
-  some = ((λ no. absurd (false≢true no)), λ can. absurd (false≢true (ap is_some (c.in-None.ensures.neighbor can.0) ∙ can.1)));
-  cut = tt;
-  chains = tt;
-  view_after = tt;
+  outcome = λ valid. sym (c.in-None.ensures.neighbor valid);
   none = refl;
   more = tt;
 })

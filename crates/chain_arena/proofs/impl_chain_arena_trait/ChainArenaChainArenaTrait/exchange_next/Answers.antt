@@ -82,34 +82,26 @@ returns-in-Some-next_of_link g c =
     let i = (g.P.PtrKey.key c.args.p).0 in
     let j = (g.P.PtrKey.key c.args.q).0 in
     let is = is_exchanged g c in
+    let exchange = exchange_known a b i j is c.self.invariant.agree (valid_p g c) (valid_q g c) in
     rw (← c.self.view_is) (record {
-      some = (
-        λ _. record { first_valid = c.in-Some.ensures.some refl; second_valid = c.in-Some-next_of_link.ensures.some refl; first_next = ap is_some (sym (after_p g c)); second_next = ap is_some (sym (after_q g c)) },
-        λ _. refl,
+      outcome = (
+        record { first_valid = c.in-Some.ensures.some refl; second_valid = c.in-Some-next_of_link.ensures.some refl; first_next = ap is_some (sym (after_p g c)); second_next = ap is_some (sym (after_q g c)) },
+        record { exchanged = exchange_reports a b i j is; chains = exchange.chains; view_after = ap (λ x. view_of x) (exchange_values a b i j is) },
       );
-      exchanged = exchange_reports a b i j is;
-      chains = (exchange_known a b i j is c.self.invariant.agree (valid_p g c) (valid_q g c)).chains;
-      view_after = ap (λ x. view_of x) (exchange_values a b i j is);
       none = tt;
-      more = exchange_known a b i j is c.self.invariant.agree (valid_p g c) (valid_q g c);
+      more = exchange;
     })
 
 pub returns-in-None-next_of_link : goal.returns-in-None-next_of_link
 returns-in-None-next_of_link g c = rw (← c.self.view_is) (record {
-  some = ((λ no. absurd (false≢true no)), λ can. absurd (false≢true (ap is_some (c.in-None-next_of_link.ensures.neighbor can.second_valid) ∙ can.second_next)));
-  exchanged = tt;
-  chains = tt;
-  view_after = tt;
+  outcome = λ can. false≢true (ap is_some (c.in-None-next_of_link.ensures.neighbor can.second_valid) ∙ can.second_next);
   none = refl;
   more = tt;
 })
 
 pub returns-in-None : goal.returns-in-None
 returns-in-None g c = rw (← c.self.view_is) (record {
-  some = ((λ no. absurd (false≢true no)), λ can. absurd (false≢true (ap is_some (c.in-None.ensures.neighbor can.first_valid) ∙ can.first_next)));
-  exchanged = tt;
-  chains = tt;
-  view_after = tt;
+  outcome = λ can. false≢true (ap is_some (c.in-None.ensures.neighbor can.first_valid) ∙ can.first_next);
   none = refl;
   more = tt;
 })

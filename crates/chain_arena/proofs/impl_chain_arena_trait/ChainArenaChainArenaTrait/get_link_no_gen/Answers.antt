@@ -28,5 +28,4 @@ returns g c =
     rw (← c.self.view_is) (record {
       some = (λ h. same.0 (c.get.ensures.some.0 h), λ valid. c.get.ensures.some.1 (same.1 valid));
       link = lent number a p c.get.result c.get.ensures.value;
-      agree = c.self.invariant.agree;
     })

@@ -8,8 +8,3 @@ returns-clause-one g c =
     let a = c.args.self.now in
     one_set (g.Self.ChainArenaTrait.interlinks a) g.P.Inx.InxKey.greatest c.agrees.ensures
     (links_within (g.Self.ChainArenaTrait.interlinks a) (g.Self.ArenaTrait.entry a) (g.Self.ArenaTrait.view a).entries (g.met.Self.ChainArenaTrait.links_are_entries a) (g.met.Self.ArenaTrait.finds a) g.P.Inx.InxKey.greatest c.len.ensures.indexes)
-
-pub returns-clause-within : goal.returns-clause-within
-returns-clause-within g c =
-    let a = c.args.self.now in
-    links_within (g.Self.ChainArenaTrait.interlinks a) (g.Self.ArenaTrait.entry a) (g.Self.ArenaTrait.view a).entries (g.met.Self.ChainArenaTrait.links_are_entries a) (g.met.Self.ArenaTrait.finds a) g.P.Inx.InxKey.greatest c.len.ensures.indexes
