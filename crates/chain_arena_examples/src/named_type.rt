@@ -1,13 +1,14 @@
 //! Functions on a concrete arena type, `ChainArena<ToolPtr, u32>`, as explained in
 //! `docs/PROOF_GUIDE.md`.
 
-ghost use Rattle.std.specs.Prelude.{◌≡◌, ◌↔◌, None, Some, Err, IsSome, IfSome, IsOk, IfOk, OnErr};
+ghost use Rattle.std.specs.Prelude.{◌≡◌, ◌↔◌, None, Some, IsSome, IfSome, OnErr};
 ghost use Rattle.arena_traits.specs.Arena.{IsValid};
-ghost use Rattle.arena_traits.specs.Entries.{HasFreeCapacity};
+ghost use Rattle.arena_traits.specs.Growth.{RefusesOneMore};
 ghost use Rattle.arena_ptr.specs.ToolPtr.{key_of};
 ghost use Rattle.chain_laws.specs.Chains.{next_of};
 ghost use Rattle.chain_laws.specs.Neighbors.{AreNeighbors};
 ghost use Rattle.chain_laws.specs.Removals.{with_removal};
+ghost use Rattle.chain_links.specs.CallEffects.{IsInsertionResult};
 ghost use Rattle.chain_links.specs.ChainArena.{entry, value_view, link_map};
 
 use arena_base::ArenaTrait;
@@ -43,13 +44,9 @@ pub fn insert_behind(
     p: ToolPtr,
     t: u32,
 ) -> Result<ToolPtr, ChainInsertionError>
-    ensures link { (result ≡ Err ChainInsertionError.FailedLinkRequirement)
-        ↔ ¬ IsValid (entry arena.old) (key_of p) }
-    ensures within_capacity { IsValid (entry arena.old) (key_of p) → HasFreeCapacity
-        (value_view arena.old)
-        → IsOk result }
-    ensures behind { IfOk result (λ q. AreNeighbors (link_map arena.new) (key_of p).0
-        (key_of q).0) }
+    ensures outcome { IsInsertionResult (IsValid (entry arena.old) (key_of p))
+        (RefusesOneMore (value_view arena.old))
+        (λ q. AreNeighbors (link_map arena.new) (key_of p).0 (key_of q).0) result }
     ensures err { OnErr result (arena.new ≡ arena.old) }
 {
     arena.insert_reallocating(LinkInsertKind::NextTo(p), t)

@@ -12,8 +12,10 @@ use Rattle.chain_laws.proofs.ListLemmas.MemberLaws.{once_in_middle}
 use Rattle.chain_laws.proofs.ListLemmas.Members.{last_or-append, IsMember-left, IsMember-right, IsMember-parts}
 use Rattle.chain_laws.proofs.InterlinkLemmas.Inverses.{one_some}
 use Rattle.arena_traits.specs.Arena.{IsValid}
-use Rattle.arena_traits.specs.Entries.{index_of, first_key, last_key}
+use Rattle.arena_traits.specs.Entries.{ArenaView, found, index_of, first_key, last_key}
+use Rattle.chain_links.specs.CallEffects.{BreaksNext, BreaksPrev, ConnectsLinks}
 use Rattle.chain_links.specs.ChainArena.{CanConnect, ptr_at}
+use Rattle.chain_traits.proofs.GenericRemovalLemmas.{same_entry}
 use Rattle.chain_examples.specs.Lists.{Item, AreEntries, indexes, IsText, KeepsWithout}
 use Rattle.chain_examples.specs.Texts.{EndsIn, BeginsWith, AreJoined}
 use Rattle.chain_examples.proofs.ItemListLemmas.{are_stored-append, are_stored-left, are_stored-right}
@@ -117,13 +119,6 @@ module _ {A Gen T : Type 0} (entry : A → ℕ → Option (Gen × T)) (links : A
     broken : (b : ℕ) → beside ≡ Some b → Cut b → entry new ≡ entry old → Breaks old new p beside Cut
     unbroken : (IsValid (entry old) p → beside ≡ None) → new ≡ old → Breaks old new p beside Cut
 
-  pub breaks : {R : Type 0} (old new : A) (p : ℕ × Gen) (beside : Option ℕ) (Cut : ℕ → Type 0) (r : Option R) → (is_some r ≡ true) ↔ (IsValid (entry old) p × (is_some beside ≡ true))
-      → OnSome r (IfSome beside Cut) → OnSome r (entry new ≡ entry old) → IfNone r (new ≡ old) → Breaks old new p beside Cut
-  breaks old new p None Cut None some cuts same none = unbroken (λ valid. refl) none
-  breaks old new p (Some b) Cut None some cuts same none = unbroken (λ valid. absurd (let h = some.1 (valid, refl) in cc)) none
-  breaks old new p None Cut (Some r) some cuts same none = absurd (let h = (some.0 refl).1 in cc)
-  breaks old new p (Some b) Cut (Some r) some cuts same none = broken b refl cuts same
-
   module _ (old new : A) (p : ℕ × Gen) where
     -- A break after `p` ends its text in `p`.
     pub ends_in : Breaks old new p (next_of (links old) p.0) (λ b. Cuts (links old) (links new) p.0 b) → EndsIn entry links old new p
@@ -204,3 +199,49 @@ module _ {A Gen T : Type 0} (entry : A → ℕ → Option (Gen × T)) (links : A
           by : (o : Option R) → OnSome o (Connects (links old) (links new) p.0 q.0) → OnSome o (entry new ≡ entry old) → IfNone o (new ≡ old) → IsText entry links new xs
           by None connects same none = subst (λ (a : A). IsText entry links a xs) (sym none) is
           by (Some x) connects same none = stays entry links linear (λ xs. refl) old new same xs is.are_stored ((connects.rest (linear (indexes xs)) absent.0 absent.1.0).0 is.chain)
+
+-- The outcomes of `break_next`, `break_prev` and `connect`.
+module _ {A Gen T : Type 0} (view : A → ArenaView Gen T) (entry : A → ℕ → Option (Gen × T)) (links : A → LinkMap) (was_read : (a : A) (i : ℕ) → found i (view a).entries ≡ entry a i) (old new : A) where
+  same : view new ≡ view old → entry new ≡ entry old
+  same view_after = same_entry (λ x. (view x).entries) entry was_read old new (ap (λ (s : ArenaView Gen T). s.entries) view_after)
+
+  module _ (p : ℕ × Gen) where
+    -- A break succeeds exactly if there is a neighbor.
+    pub breaks_next_if : (r : Option Unit) → BreaksNext view entry links old p r new → (is_some r ≡ true) ↔ (IsValid (entry old) p × (is_some (next_of (links old) p.0) ≡ true))
+    breaks_next_if None none = (λ some. absurd (cc), λ both. absurd (let h = none both.0 in let some = both.1 in cc))
+    breaks_next_if (Some done) is = (λ some. (is.0, ap is_some is.2), λ both. refl)
+
+    pub breaks_prev_if : (r : Option Unit) → BreaksPrev view entry links old p r new → (is_some r ≡ true) ↔ (IsValid (entry old) p × (is_some (prev_of (links old) p.0) ≡ true))
+    breaks_prev_if None none = (λ some. absurd (cc), λ both. absurd (let h = none both.0 in let some = both.1 in cc))
+    breaks_prev_if (Some done) is = (λ some. (is.0, ap is_some is.2), λ both. refl)
+
+    pub breaks_next : (r : Option Unit) → BreaksNext view entry links old p r new → IfNone r (new ≡ old) → Breaks entry links old new p (next_of (links old) p.0) (λ b. Cuts (links old) (links new) p.0 b)
+    breaks_next None none stay = unbroken none stay
+    breaks_next (Some done) is stay = broken is.1 is.2 is.3.chains (same is.3.view_after)
+
+    pub breaks_prev : (r : Option Unit) → BreaksPrev view entry links old p r new → IfNone r (new ≡ old) → Breaks entry links old new p (prev_of (links old) p.0) (λ a. Cuts (links old) (links new) a p.0)
+    breaks_prev None none stay = unbroken none stay
+    breaks_prev (Some done) is stay = broken is.1 is.2 is.3.chains (same is.3.view_after)
+
+    -- The view stays.
+    pub breaks_next_view : (r : Option Unit) → BreaksNext view entry links old p r new → IfNone r (new ≡ old) → view new ≡ view old
+    breaks_next_view None none stay = ap view stay
+    breaks_next_view (Some done) is stay = is.3.view_after
+
+    pub breaks_prev_view : (r : Option Unit) → BreaksPrev view entry links old p r new → IfNone r (new ≡ old) → view new ≡ view old
+    breaks_prev_view None none stay = ap view stay
+    breaks_prev_view (Some done) is stay = is.3.view_after
+
+  module _ (p q : ℕ × Gen) where
+    -- A connection is made exactly if it is possible.
+    pub connects_if : (r : Option Unit) → ConnectsLinks view entry links old p q r new → (is_some r ≡ true) ↔ CanConnect (entry old) (links old) p q
+    connects_if None is = (λ some. absurd (cc), λ can. absurd (is can))
+    connects_if (Some done) is = (λ some. is.0, λ can. refl)
+
+    pub connects_on : (r : Option Unit) → ConnectsLinks view entry links old p q r new → OnSome r (Connects (links old) (links new) p.0 q.0) × OnSome r (entry new ≡ entry old)
+    connects_on None is = (tt, tt)
+    connects_on (Some done) is = (is.1.chains, same is.1.view_after)
+
+    pub connects_view : (r : Option Unit) → ConnectsLinks view entry links old p q r new → IfNone r (new ≡ old) → view new ≡ view old
+    connects_view None is stay = ap view stay
+    connects_view (Some done) is stay = is.1.view_after

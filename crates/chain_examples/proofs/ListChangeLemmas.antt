@@ -1,5 +1,5 @@
 -- The effect of insertions and removals on lists, linear or cyclic.
-use Rattle.std.proofs.Common.{◌≡◌, ◌≢◌, ℕ, List, [], ◌∷◌, ◌++◌, Option, None, Some, refl, sym, ap, ◌∙◌, subst}
+use Rattle.std.proofs.Common.{◌≡◌, ◌≢◌, ℕ, List, [], ◌∷◌, ◌++◌, map, Option, None, Some, refl, sym, ap, ◌∙◌, subst}
 use Rattle.std.specs.Prelude.{is_some, false}
 use Rattle.std.proofs.lemmas.List.{map-append}
 use Rattle.chain_laws.specs.Chains.{LinkMap, Interlinks, Chain, linear, cyclic, items, IsChain, IsMember, AreDistinct, IsWellLinked}
@@ -7,9 +7,11 @@ use Rattle.chain_laws.specs.Insertions.{InsertKind, Inserts, link_before, link_a
 use Rattle.chain_laws.specs.Frame.{IsDisjointFrom, indexes_of_kind}
 use Rattle.chain_laws.proofs.ChainLemmas.Frame.{insertion_keeps_others}
 use Rattle.chain_laws.proofs.ListLemmas.MemberLaws.{once_in_middle}
-use Rattle.arena_traits.specs.Entries.{index_of}
+use Rattle.arena_traits.specs.Entries.{ArenaView, found, index_of}
 use Rattle.chain_links.specs.ChainArena.{IsInserted}
-use Rattle.chain_examples.specs.Lists.{Item, AreEntries, indexes, IsListOf, KeepsWithout, InsertsAfter, InsertsBefore, Leaves}
+use Rattle.chain_links.specs.Insertions.{IsInsertion}
+use Rattle.chain_examples.specs.Lists.{Item, AreEntries, indexes, IsListOf, KeepsWithout, InsertsAfter, InsertsBefore, Leaves, ChangesOnlyListsOf, IsItemInserted}
+use Rattle.chain_traits.proofs.GenericRemovalLemmas.{same_entry}
 use Rattle.chain_examples.proofs.ItemListLemmas.{are_stored-append, are_stored-left, are_stored-right, are_stored-frame, stored_kept}
 
 -- There is no link where there is no entry.
@@ -103,3 +105,23 @@ module _ {A Gen T : Type 0} (entry : A → ℕ → Option (Gen × T)) (links : A
     -- If all entries are kept, items form a list if their indexes form a chain.
     pub stays : entry new ≡ entry old → (xs : List (Item Gen T)) → AreEntries (entry old) xs → IsChain (links new) (shape (indexes xs)) → IsListOf entry links shape new xs
     stays same xs are_stored chain = record { chain = chain; are_stored = subst (λ (f : ℕ → Option (Gen × T)). AreEntries f xs) (sym same) are_stored }
+
+-- The link of an item was inserted.
+module _ {A Gen T : Type 0} (view : A → ArenaView Gen T) (entry : A → ℕ → Option (Gen × T)) (links : A → LinkMap) (alike : (a : A) (i : ℕ) → is_some (links a i) ≡ is_some (entry a i))
+    (shape : List ℕ → Chain) (written : (xs : List ℕ) → items (shape xs) ≡ xs) (old new : A) (agrees : IsWellLinked (links old)) (q : ℕ × Gen) (t : T) where
+  -- The item is in its list, and the other lists are unchanged.
+  pub item_inserted : (kind : InsertKind ℕ) (beside : List (ℕ × Gen)) (list_after : Type 0) → map (λ (p : ℕ × Gen). p.0) beside ≡ indexes_of_kind kind
+      → IsInsertion kind (view old) (view new) (entry old) (entry new) (links old) (links new) q t → list_after → IsItemInserted view entry links shape old new list_after beside (q, t)
+  item_inserted kind beside list_after same gained list = record {
+    list = list;
+    item = gained.entries;
+    others = λ xs absent is. keeps_others entry links shape written old new q t gained.entries kind agrees (alike old q.0) gained.chains xs (subst (IsDisjointFrom (shape (indexes xs))) same absent) is;
+    size = gained.more;
+    maximum = gained.maximum;
+  }
+
+-- If the view stays, so do the entries.
+pub changes_only : {A Gen T : Type 0} (view : A → ArenaView Gen T) (entry : A → ℕ → Option (Gen × T)) (links : A → LinkMap) (was_read : (a : A) (i : ℕ) → found i (view a).entries ≡ entry a i) (shape : List ℕ → Chain) (old new : A) (pointers : List (ℕ × Gen))
+    → KeepsWithout entry links shape old new pointers → view new ≡ view old → ChangesOnlyListsOf view entry links shape old new pointers
+changes_only {Gen = Gen} {T = T} view entry links was_read shape old new pointers others same =
+    record { others = others; entries = same_entry (λ x. (view x).entries) entry was_read old new (ap (λ (s : ArenaView Gen T). s.entries) same); view_after = same }

@@ -1,5 +1,5 @@
 -- The effect of adding, cancelling and running tasks on the order of a run queue.
-use Rattle.std.proofs.Common.{◌≡◌, ◌≢◌, ◌<◌, ℕ, inl, inr, ⊎_elim, List, [], ◌∷◌, ◌++◌, Option, None, Some, refl, sym, ap, ◌∙◌, subst, length, arith}
+use Rattle.std.proofs.Common.{◌≡◌, ◌≢◌, ℕ, inl, inr, ⊎_elim, List, [], ◌∷◌, ◌++◌, Option, None, Some, refl, sym, ap, ◌∙◌, subst, length, arith}
 use Rattle.std.specs.Prelude.{is_some, true, IfSome, IfOk, OnErr, Result, Ok, Err}
 use Rattle.std.specs.Option.{option_map, option_and_then, option_or}
 use Rattle.std.specs.Result.{result_ok}
@@ -11,7 +11,7 @@ use Rattle.chain_laws.specs.Removals.{Removes}
 use Rattle.chain_laws.proofs.ChainLemmas.Rotations.{rotated}
 use Rattle.chain_laws.proofs.ListLemmas.Members.{IsMember-parts, IsMember-rotated, AreDistinct-rotated}
 use Rattle.arena_traits.specs.Arena.{IsValid}
-use Rattle.arena_traits.specs.Entries.{ArenaView, count, HasFreeCapacity, index_of, first_key, found, AscendsFrom}
+use Rattle.arena_traits.specs.Entries.{ArenaView, count, index_of, first_key, found, AscendsFrom}
 use Rattle.chain_laws.specs.Insertions.{single_link_cyclic, prev_to}
 use Rattle.chain_links.specs.CallEffects.{GainsLink}
 use Rattle.chain_laws.proofs.WalkLemmas.WalkBack.{length_among}
@@ -269,14 +269,6 @@ module _ {A Gen T : Type 0} (view : A → ArenaView Gen T) (entry : A → ℕ �
   -- The queue found in an arena.
   abbrev pub queue_in : A → Option (ℕ × Gen) → Queue Gen T
   queue_in a current = record { order = order_in a current; capacity = (view a).capacity; maximum = (view a).maximum }
-
-  -- If the queue has free capacity, so has its arena.
-  pub has_capacity : (a : A) (current : Option (ℕ × Gen)) (q : Queue Gen T) → IsQueueOrder (entry a) (links a) current (order_in a current) → queue_in a current ≡ q → length q.order < q.capacity → HasFreeCapacity (view a)
-  has_capacity a current q is same less =
-      let many = order_length (entry a) (links a) current (order_in a current) (view a).entries is (ascends a) (was_read a) in
-      let order = ap (λ (s : Queue Gen T). length s.order) same in
-      let within_capacity = ap (λ (s : Queue Gen T). s.capacity) same in
-      omega arith
 
   -- Inserting a task before the current one, or into an empty queue, appends it.
   module _ (a b : A) (p : ℕ × Gen) (t : T) where

@@ -13,7 +13,8 @@ use Rattle.chain_laws.proofs.ChainLemmas.MemberLaws.{chains_share_each, members_
 use Rattle.chain_laws.proofs.ExchangeLemmas.Pairs.{exchanged_with_itself}
 use Rattle.arena_core.specs.Numbers.{IsWithin}
 use Rattle.arena_traits.specs.Arena.{IsValid}
-use Rattle.arena_traits.specs.Entries.{index_of, found, first_key}
+use Rattle.arena_traits.specs.Entries.{ArenaView, index_of, found, first_key}
+use Rattle.chain_links.specs.CallEffects.{IsExchanged, ExchangesNext}
 use Rattle.chain_links.specs.ChainArena.{CanExchange, IsInserted, ptr_at}
 use Rattle.chain_traits.proofs.GenericArenaLemmas.{some_valid, valid_some, links_within}
 use Rattle.chain_examples.specs.Lists.{Item, AreEntries, indexes, IsRing, KeepsWithout, InsertsAfter, InsertsBefore}
@@ -184,3 +185,13 @@ module _ {A Gen T : Type 0} (entry : A → ℕ → Option (Gen × T)) (links : A
         merged s t y x two.0 two.1 (λ has. once.0 (⊎_elim (λ is_p. inl is_p) (λ in_y. inr (IsMember-right (indexes x) (indexes y) q.0 in_y)) has));
     cut = λ old mid new p q merged cut s t x y first second apart. cut s t y x (merged s t x y first second apart);
   }
+
+-- An exchange succeeds exactly if it is possible.
+module _ {A Gen T : Type 0} (view : A → ArenaView Gen T) (entry : A → ℕ → Option (Gen × T)) (links : A → LinkMap) (old new : A) (p q : ℕ × Gen) where
+  pub exchanged_if : (r : Option Unit) → ExchangesNext view entry links old p q r new → (is_some r ≡ true) ↔ CanExchange (entry old) (links old) p q
+  exchanged_if None is = (λ some. absurd (cc), λ can. absurd (is can))
+  exchanged_if (Some done) is = (λ some. is.0, λ can. refl)
+
+  pub exchanged_on : (r : Option Unit) → ExchangesNext view entry links old p q r new → OnSome r (IsExchanged view entry links old new p.0 q.0)
+  exchanged_on None is = tt
+  exchanged_on (Some done) is = is.1

@@ -1,12 +1,16 @@
 -- Reading and writing tasks of a run queue, and growing the queue.
-use Rattle.std.proofs.Common.{◌≡◌, ◌≢◌, ℕ, inl, inr, List, [], ◌∷◌, ◌++◌, length, Option, None, Some, refl, sym, ap, ◌∙◌, subst}
-use Rattle.std.specs.Prelude.{is_some, IfSome}
-use Rattle.std.specs.Option.{option_map}
+use Rattle.std.proofs.Common.{◌≡◌, ◌≢◌, ◌<◌, ◌≤◌, ◌+◌, ℕ, inl, inr, List, [], ◌∷◌, ◌++◌, length, Option, None, Some, refl, sym, ap, ◌∙◌, subst}
+use Rattle.std.specs.Prelude.{is_some, IfSome, IfOk, Result, Ok, Err}
+use Rattle.std.specs.Option.{option_map, option_or}
+use Rattle.arena_core.specs.SlotStack.{IsBeyond}
+use Rattle.arena_core.specs.declared.errors.ReallocationError.{ReallocationError}
+use Rattle.arena_core.specs.declared.errors.ReallocationError.TheVariants as refused
 use Rattle.chain_laws.specs.Chains.{LinkMap, cyclic, IsChain, IsMember, AreDistinct}
-use Rattle.arena_traits.specs.Arena.{IsValid}
+use Rattle.arena_traits.specs.Arena.{IsCapacityFor, IsValid}
 use Rattle.arena_traits.specs.Entries.{ArenaView, count, found, with_replacement, view_with_value, AscendsFrom}
 use Rattle.chain_examples.specs.Lists.{Item, indexes, IsQueueOrder}
-use Rattle.chain_examples.specs.QueueOrder.{Queue, IsAmong, with_task}
+use Rattle.arena_traits.specs.Growth.{IsGrowthResult, Reserves, RefusesOneMore}
+use Rattle.chain_examples.specs.QueueOrder.{Queue, IsAmong, with_task, queue_order, AppendsNewTask, ReservesTasks, SpawnsTask}
 use Rattle.chain_examples.proofs.ItemListLemmas.{are_stored-some}
 use Rattle.chain_examples.proofs.ValueWriteLemmas.{valued, found-stored, indexes-written, first_key-written, are_stored-written, some-written, value_there, values_elsewhere}
 use Rattle.chain_examples.proofs.QueueOrderLemmas.{settle, order_length, among_stored, valid_task, order_in, queue_in}
@@ -78,3 +82,35 @@ module _ {A Gen T : Type 0} (view : A → ArenaView Gen T) (entry : A → ℕ �
   task_written i t was same =
       let now = settle view entry links ascends was_read b current _ (order-written (entry a) (links a) current _ is (entry b) (links b) i t (value_there view entry links was_read a b i t was) (values_elsewhere view entry links was_read a b i t was) same) in
       record { holds = now.holds; queue_is = λ k. record { order = now.is_found k; capacity = (ap (λ (s : ArenaView Gen T). s.capacity) was) k; maximum = (ap (λ (s : ArenaView Gen T). s.maximum) was) k } }
+
+-- The growth of an arena is that of its queue.
+module _ {A Gen T : Type 0} (view : A → ArenaView Gen T) (entry : A → ℕ → Option (Gen × T)) (links : A → LinkMap) (ascends : (a : A) → AscendsFrom 1 (view a).entries) (was_read : (a : A) (i : ℕ) → found i (view a).entries ≡ entry a i) (a b : A) where
+  -- There are as many tasks as entries.
+  task_count : (current : Option (ℕ × Gen)) → IsQueueOrder (entry a) (links a) current (order_in view entry links ascends was_read a current) → count (view a) ≡ length (order_in view entry links ascends was_read a current)
+  task_count current is = order_length (entry a) (links a) current _ (view a).entries is (ascends a) (was_read a)
+
+  module _ {P : Type 0} (key : P → ℕ × Gen) (greatest : ℕ) (current next : Option P) (t : T) (is : IsQueueOrder (entry a) (links a) (option_map key current) (order_in view entry links ascends was_read a (option_map key current))) where
+    pub task_spawned : (result : Result P ReallocationError) → IfOk result (λ p. order_in view entry links ascends was_read b (option_map key next) ≡ order_in view entry links ascends was_read a (option_map key current) ++ (key p, t) ∷ [])
+        → IsGrowthResult (RefusesOneMore (view a)) (λ p. AppendsNewTask entry links view greatest a b (option_map key current) (option_map key (option_or current (Some p))) (key p, t)) result
+        → SpawnsTask key greatest (queue_in view entry links ascends was_read a (option_map key current)) t result (queue_in view entry links ascends was_read b (option_map key next))
+    task_spawned (Ok p) last done = (
+      last,
+      free_index (entry a) (links a) (option_map key current) _ is (key p).0 done.1,
+      done.2,
+      subst (λ (n : ℕ). IsCapacityFor greatest (view b).maximum (n + 1) (view b).capacity × (n + 1 ≤ (view a).capacity → (view b).capacity ≡ (view a).capacity)) (task_count (option_map key current) is) done.3,
+    )
+    task_spawned (Err refused.BeyondMaxCapacity) last full = subst (λ (n : ℕ). (n ≡ (view a).capacity) × IsBeyond (view a).maximum (n + 1)) (task_count (option_map key current) is) full
+    task_spawned (Err refused.AllocError) last full = subst (λ (n : ℕ). (n ≡ (view a).capacity) × (IsBeyond (view a).maximum (n + 1) → ⊥)) (task_count (option_map key current) is) full
+
+  module _ (greatest additional : ℕ) (current : Option (ℕ × Gen)) (is : IsQueueOrder (entry a) (links a) current (order_in view entry links ascends was_read a current)) (stored : entry b ≡ entry a) (linked : links b ≡ links a) where
+    pub tasks_reserved : (result : Result Unit ReallocationError) → Reserves greatest (count (view a) + additional) (view a) result (view b)
+        → ReservesTasks greatest additional (queue_in view entry links ascends was_read a current) result (queue_in view entry links ascends was_read b current)
+    tasks_reserved (Ok done) reserved =
+        let size : count (view b) ≡ count (view a) = ap count reserved.0 in
+        let maximum : (view b).maximum ≡ (view a).maximum = ap (λ (s : ArenaView Gen T). s.maximum) reserved.0 in (
+          (λ k. record { entries = queue_order (stored k) (linked k) (size k) current; counter = None; slots = None; capacity = (view b).capacity; maximum = maximum k }),
+          subst (λ (n : ℕ). IsCapacityFor greatest (view b).maximum (n + additional) (view b).capacity × (n + additional ≤ (view a).capacity → (view b).capacity ≡ (view a).capacity)) (task_count current is) reserved.1,
+          reserved.2,
+        )
+    tasks_reserved (Err refused.BeyondMaxCapacity) refuses = subst (λ (n : ℕ). ((view a).capacity < n + additional) × IsBeyond (view a).maximum (n + additional)) (task_count current is) refuses
+    tasks_reserved (Err refused.AllocError) refuses = subst (λ (n : ℕ). ((view a).capacity < n + additional) × (IsBeyond (view a).maximum (n + additional) → ⊥)) (task_count current is) refuses

@@ -2,3 +2,4 @@ pub mod Lists
 pub mod Rings
 pub mod Texts
 pub mod QueueOrder
+pub mod Rows

@@ -1,8 +1,14 @@
 -- Lists of items stored in an arena: texts (linear), rings (cyclic), and the order of a queue.
-use Rattle.std.specs.Prelude.{◌≡◌, ◌≢◌, ℕ, List, [], ◌∷◌, ◌++◌, map, Option, Some, is_some, true}
+use Rattle.std.specs.Prelude.{◌≡◌, ◌≢◌, ℕ, ◌+◌, List, [], ◌∷◌, ◌++◌, map, Option, None, Some, Result, is_some, true}
+use Rattle.arena_core.specs.declared.errors.ChainInsertionError.{ChainInsertionError}
+use Rattle.arena_core.specs.declared.errors.ReallocationError.{ReallocationError}
 use Rattle.chain_laws.specs.Chains.{LinkMap, Chain, linear, cyclic, IsChain, IsMember}
 use Rattle.chain_laws.specs.Frame.{IsDisjointFrom}
-use Rattle.arena_traits.specs.Entries.{index_of, first_key}
+use Rattle.arena_traits.specs.Arena.{IsValid}
+use Rattle.arena_traits.specs.Entries.{ArenaView, count, index_of, first_key, view_after_removal}
+use Rattle.arena_traits.specs.Growth.{IsGrowthResult, RefusesOneMore, GrowsForOneMore}
+use Rattle.chain_links.specs.CallEffects.{IsInsertionResult}
+use Rattle.chain_links.specs.ChainArena.{IsInserted}
 
 -- An item: its pointer's index and generation, and its value.
 abbrev pub Item : Type 0 → Type 0 → Type 0
@@ -54,3 +60,61 @@ module _ {A Gen T : Type 0} (entry : A → ℕ → Option (Gen × T)) (links : A
     -- Item `e` is removed from its list; nothing is stated of a list that had no other item.
     abbrev pub Leaves : Item Gen T → Type 0
     Leaves e = (before after : List (Item Gen T)) → IsListOf shape old (before ++ e ∷ after) → before ++ after ≢ [] → IsListOf shape new (before ++ after)
+
+-- `view` gives the entries, the capacity and its limit.
+module _ {A Gen T : Type 0} (view : A → ArenaView Gen T) (entry : A → ℕ → Option (Gen × T)) (links : A → LinkMap) (shape : List ℕ → Chain) where
+  module _ (old new : A) where
+    -- Only lists that contain one of these pointers change. The entries and the view stay.
+    pub record ChangesOnlyListsOf (pointers : List (ℕ × Gen)) : Type 0 where
+      pub others : KeepsWithout entry links shape old new pointers
+      pub entries : entry new ≡ entry old
+      pub view_after : view new ≡ view old
+
+    -- Item `e` is stored in a list, next to the items `beside`.
+    pub record IsItemInserted (list_after : Type 0) (beside : List (ℕ × Gen)) (e : Item Gen T) : Type 0 where
+      pub list : list_after
+      pub item : IsInserted (entry old) (entry new) e.0 e.1
+      pub others : KeepsWithout entry links shape old new beside
+      pub size : count (view new) ≡ count (view old) + 1
+      pub maximum : (view new).maximum ≡ (view old).maximum
+
+    -- Item `e` is the only one of a new list.
+    abbrev pub IsItemStarted : Item Gen T → Type 0
+    IsItemStarted e = IsItemInserted (IsListOf entry links shape new (e ∷ [])) [] e
+
+    -- Item `e` is inserted directly after `p`, or directly before it.
+    abbrev pub IsItemAfter : ℕ × Gen → Item Gen T → Type 0
+    IsItemAfter p e = IsItemInserted (InsertsAfter entry links shape old new p e) (p ∷ []) e
+
+    abbrev pub IsItemBefore : ℕ × Gen → Item Gen T → Type 0
+    IsItemBefore p e = IsItemInserted (InsertsBefore entry links shape old new p e) (p ∷ []) e
+
+    -- Item `e` is removed, and the counter advances.
+    pub record IsItemRemoved (following : Gen → Gen) (e : Item Gen T) : Type 0 where
+      pub was_stored : entry old e.0.0 ≡ Some (e.0.1, e.1)
+      pub list : Leaves entry links shape old new e
+      pub gone : entry new e.0.0 ≡ None
+      pub entries : (i : ℕ) → i ≢ e.0.0 → entry new i ≡ entry old i
+      pub others : KeepsWithout entry links shape old new (e.0 ∷ [])
+      pub size : count (view old) ≡ count (view new) + 1
+      pub view_after : view new ≡ view_after_removal following (view old) e.0.0
+
+  module _ {P : Type 0} (key : P → ℕ × Gen) (greatest : ℕ) where
+    -- A new list of the value `t` begins, after a growth if the arena was full.
+    abbrev pub StartsList : A → T → Result P ReallocationError → A → Type 0
+    StartsList old t result new =
+        IsGrowthResult (RefusesOneMore (view old)) (λ q. IsItemStarted old new (key q, t) × GrowsForOneMore greatest (view old) (view new)) result
+
+    -- The value `t` is inserted directly after `p`, or directly before it, after such a growth.
+    abbrev pub InsertsItemAfter : A → ℕ × Gen → T → Result P ChainInsertionError → A → Type 0
+    InsertsItemAfter old p t result new =
+        IsInsertionResult (IsValid (entry old) p) (RefusesOneMore (view old)) (λ q. IsItemAfter old new p (key q, t) × GrowsForOneMore greatest (view old) (view new)) result
+
+    abbrev pub InsertsItemBefore : A → ℕ × Gen → T → Result P ChainInsertionError → A → Type 0
+    InsertsItemBefore old p t result new =
+        IsInsertionResult (IsValid (entry old) p) (RefusesOneMore (view old)) (λ q. IsItemBefore old new p (key q, t) × GrowsForOneMore greatest (view old) (view new)) result
+
+  -- The item of `p` is removed and its value returned, if `p` is valid.
+  abbrev pub RemovesItem : (Gen → Gen) → A → ℕ × Gen → Option T → A → Type 0
+  RemovesItem following old p None new = IsValid (entry old) p → ⊥
+  RemovesItem following old p (Some t) new = IsItemRemoved old new following (p, t)

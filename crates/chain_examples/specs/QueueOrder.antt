@@ -1,9 +1,11 @@
 -- The view of a run queue in contracts, and what its calls do to the order of tasks.
-use Rattle.std.specs.Prelude.{◌≡◌, ◌⊎◌, ℕ, zero, suc, List, [], ◌∷◌, ◌++◌, Option, None, Some}
+use Rattle.std.specs.Prelude.{◌≡◌, ◌⊎◌, ℕ, zero, suc, ◌+◌, length, List, [], ◌∷◌, ◌++◌, Option, None, Some, Result}
 use Rattle.std.specs.Option.{option_map}
-use Rattle.chain_laws.specs.Chains.{LinkMap, next_of}
-use Rattle.arena_traits.specs.Entries.{first_key, with_replacement}
-use Rattle.chain_examples.specs.Lists.{Item, IsQueueOrder}
+use Rattle.arena_core.specs.declared.errors.ReallocationError.{ReallocationError}
+use Rattle.chain_laws.specs.Chains.{LinkMap, IsMember, next_of}
+use Rattle.arena_traits.specs.Entries.{ArenaView, first_key, with_replacement}
+use Rattle.arena_traits.specs.Growth.{IsGrowthResult, Reserves, RefusesOneMore, GrowsForOneMore}
+use Rattle.chain_examples.specs.Lists.{Item, IsQueueOrder, indexes}
 
 -- A run queue: its tasks in turn, the current one first, its capacity, and the limit of that, if
 -- any.
@@ -11,6 +13,23 @@ pub record Queue (Gen T : Type 0) : Type 0 where
   pub order : List (Item Gen T)
   pub capacity : ℕ
   pub maximum : Option ℕ
+
+-- The capacity and its limit stay.
+abbrev pub KeepsCapacity : {Gen T : Type 0} → (old new : Queue Gen T) → Type 0
+KeepsCapacity old new = (new.capacity ≡ old.capacity) × (new.maximum ≡ old.maximum)
+
+-- The queue as an arena whose entries are its tasks.
+abbrev pub arena_view : {Gen T : Type 0} → Queue Gen T → ArenaView Gen T
+arena_view q = record { entries = q.order; counter = None; slots = None; capacity = q.capacity; maximum = q.maximum }
+
+-- Capacity for so many more tasks is reserved, and the tasks stay in order.
+abbrev pub ReservesTasks : {Gen T : Type 0} → ℕ → ℕ → Queue Gen T → Result Unit ReallocationError → Queue Gen T → Type 0
+ReservesTasks greatest additional old result new = Reserves greatest (length old.order + additional) (arena_view old) result (arena_view new)
+
+-- `task` comes last in turn at a new index, after a growth if the queue was full.
+abbrev pub SpawnsTask : {P Gen T : Type 0} → (P → ℕ × Gen) → ℕ → Queue Gen T → T → Result P ReallocationError → Queue Gen T → Type 0
+SpawnsTask key greatest old task result new =
+    IsGrowthResult (RefusesOneMore (arena_view old)) (λ p. (new.order ≡ old.order ++ (key p, task) ∷ []) × (¬ IsMember (indexes old.order) (key p).0) × (new.maximum ≡ old.maximum) × GrowsForOneMore greatest (arena_view old) (arena_view new)) result
 
 -- The queue with the task at an index replaced.
 abbrev pub with_task : {Gen T : Type 0} → Queue Gen T → ℕ → T → Queue Gen T
@@ -58,3 +77,8 @@ module _ {A Gen T : Type 0} (entry : A → ℕ → Option (Gen × T)) (links : A
   abbrev pub IsFirstWithout : (arena : A) → (p current : ℕ × Gen) → Option (ℕ × Gen) → Type 0
   IsFirstWithout arena p current first = (before after : List (Item Gen T)) (task : T)
       → IsQueueOrder (entry arena) (links arena) (Some current) (before ++ (p, task) ∷ after) → first ≡ first_key (before ++ after)
+
+  -- `insert_last` stores task `t` at a new index and appends it to the turn.
+  abbrev pub AppendsNewTask : (view : A → ArenaView Gen T) → ℕ → (old new : A) → (was is : Option (ℕ × Gen)) → Item Gen T → Type 0
+  AppendsNewTask view greatest old new was is e =
+      AppendsTask old new was is e × (entry old e.0.0 ≡ None) × ((view new).maximum ≡ (view old).maximum) × GrowsForOneMore greatest (view old) (view new)

@@ -1,11 +1,19 @@
 -- The effect on rings of exchanging the successors of two items.
-use Rattle.std.specs.Prelude.{◌≡◌, ◌≢◌, ℕ, List, ◌∷◌, ◌++◌, IsSome, Option, None, Some}
-use Rattle.chain_laws.specs.Chains.{LinkMap, IsMember, HasLink, next_of}
-use Rattle.chain_examples.specs.Lists.{Item, indexes, IsRing}
+use Rattle.std.specs.Prelude.{◌≡◌, ◌≢◌, ℕ, ◌+◌, List, [], ◌∷◌, ◌++◌, IsSome, Option, None, Some, Result, Ok, Err}
+use Rattle.arena_core.specs.declared.errors.ReallocationError.{ReallocationError}
+use Rattle.chain_laws.specs.Chains.{LinkMap, cyclic, IsMember, HasLink, next_of}
+use Rattle.arena_traits.specs.Arena.{IsValid}
+use Rattle.arena_traits.specs.Entries.{ArenaView, count}
+use Rattle.arena_traits.specs.Growth.{RefusesToFit, GrowsToFit}
+use Rattle.chain_examples.specs.Lists.{Item, indexes, IsRing, KeepsWithout, ChangesOnlyListsOf}
 
 -- Each link has a next link, so that all chains are cyclic.
 abbrev pub AllCyclic : LinkMap → Type 0
 AllCyclic links = (i : ℕ) → HasLink links i → IsSome (next_of links i)
+
+-- `p` and `q` are two valid pointers.
+abbrev pub AreTwoValid : {Gen T : Type 0} → (ℕ → Option (Gen × T)) → ℕ × Gen → ℕ × Gen → Type 0
+AreTwoValid entry p q = IsValid entry p × IsValid entry q × (p ≢ q)
 
 -- Copies of the items of `p` and `q` are inserted at free indexes as `c` and `d`; all else stays.
 pub record AreCopied {Gen T : Type 0} (entry after : ℕ → Option (Gen × T)) (p q c d : ℕ × Gen) : Type 0 where
@@ -53,3 +61,30 @@ module _ {A Gen T : Type 0} (entry : A → ℕ → Option (Gen × T)) (links : A
     pub cut : (old mid new : A) (p q : ℕ × Gen) → AreMerged old mid p q → IsCutInTwo mid new p q
         → (s t : T) (x y : List (Item Gen T)) → IsRing entry links old ((p, s) ∷ x) → IsRing entry links old ((q, t) ∷ y) → (IsMember (indexes ((p, s) ∷ x)) q.0 → ⊥)
         → IsRing entry links new ((p, s) ∷ x) × IsRing entry links new ((q, t) ∷ y)
+
+-- `view` gives the entries, the capacity and its limit.
+module _ {A Gen T : Type 0} (view : A → ArenaView Gen T) (entry : A → ℕ → Option (Gen × T)) (links : A → LinkMap) where
+  module _ (old new : A) where
+    -- The successors of `p` and `q` are exchanged: one ring becomes two, or two rings one.
+    pub record ExchangesSuccessors (p q : ℕ × Gen) : Type 0 where
+      pub cut : IsCutInTwo entry links old new p q
+      pub merged : AreMerged entry links old new p q
+      pub itself : p ≡ q → links new ≡ links old
+      pub rest : ChangesOnlyListsOf view entry links cyclic old new (p ∷ q ∷ [])
+
+    -- A ring is split along the diagonal from `p` to `q`, or two rings joined along it. `c` and `d`
+    -- are copies of `p` and `q`.
+    pub record AddsDiagonal (p q c d : ℕ × Gen) : Type 0 where
+      pub split : IsSplit entry links old new p q c d
+      pub bridged : IsBridged entry links old new p q c d
+      pub copies : AreCopied (entry old) (entry new) p q c d
+      pub others : KeepsWithout entry links cyclic old new (p ∷ q ∷ [])
+      pub size : count (view new) ≡ count (view old) + 2
+      pub maximum : (view new).maximum ≡ (view old).maximum
+
+  -- `split` at the corners `p` and `q`, if these are two, after a growth if the copies do not fit.
+  abbrev pub SplitsRing : {P : Type 0} → (P → ℕ × Gen) → ℕ → A → ℕ × Gen → ℕ × Gen → Result (Option (P × P)) ReallocationError → A → Type 0
+  SplitsRing key greatest old p q (Ok None) new = AreTwoValid (entry old) p q → ⊥
+  SplitsRing key greatest old p q (Ok (Some copies)) new =
+      AreTwoValid (entry old) p q × AddsDiagonal old new p q (key copies.0) (key copies.1) × GrowsToFit greatest (count (view old) + 2) (view old) (view new)
+  SplitsRing key greatest old p q (Err why) new = AreTwoValid (entry old) p q × RefusesToFit (count (view old) + 2) (view old) why

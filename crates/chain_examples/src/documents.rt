@@ -1,15 +1,16 @@
 //! Ordered documents, whose paragraphs are all stored in one arena.
 
-ghost use Rattle.std.specs.Prelude.{◌≡◌, ◌≢◌, ◌↔◌, ℕ, ◌+◌, ◌<◌, ◌≤◌, List, [], ◌∷◌, ◌++◌, IsTrue, IsSome, IfSome, OnSome, IfNone, IsOk, IfOk, OnOk, IsErr, IfErr, OnErr, Some, None, Err};
+ghost use Rattle.std.specs.Prelude.{◌≡◌, ◌≢◌, ◌↔◌, ◌+◌, ◌<◌, ◌≤◌, List, [], ◌∷◌, ◌++◌, IsTrue, IsSome, IfSome, OnSome, IfNone, OnErr, Some, None};
 ghost use Rattle.std.specs.Option.{option_map};
 ghost use Rattle.std.specs.Borrow.{Lends, LendsSo, sem};
-ghost use Rattle.arena_core.specs.SlotStack.{IsBeyond, IsWithinMaximum};
+ghost use Rattle.arena_core.specs.SlotStack.{IsWithinMaximum};
 ghost use Rattle.chain_laws.specs.Chains.{linear, IsMember, next_of, prev_of};
-ghost use Rattle.arena_traits.specs.Arena.{IsCapacityFor, IsValid};
-ghost use Rattle.arena_traits.specs.Entries.{count, view_after_removal, first_key, last_key, with_capacity, NeedsBeyondMaximum};
-ghost use Rattle.chain_links.specs.CallEffects.{SucceedsWithinCapacity};
-ghost use Rattle.chain_links.specs.ChainArena.{IsInserted, CanConnect};
-ghost use Rattle.chain_examples.specs.Lists.{Item, indexes, IsText, KeepsWithout, InsertsAfter, InsertsBefore, Leaves};
+ghost use Rattle.arena_traits.specs.Arena.{IsValid};
+ghost use Rattle.arena_traits.specs.Entries.{count, first_key, last_key};
+ghost use Rattle.arena_traits.specs.Growth.{Reserves};
+ghost use Rattle.chain_links.specs.ChainArena.{CanConnect};
+ghost use Rattle.chain_examples.specs.Rows.{chain_members};
+ghost use Rattle.chain_examples.specs.Lists.{Item, indexes, IsText, ChangesOnlyListsOf, StartsList, InsertsItemAfter, InsertsItemBefore, RemovesItem};
 ghost use Rattle.chain_examples.specs.Texts.{HasTextNeighbors, EndsIn, BeginsWith, AreJoined, IsClosed, IsSeparated, IsPutAfter, IsMovedAfter, HasNewValue};
 
 use crate::growth::reserve;
@@ -70,8 +71,8 @@ impl<P: PtrKey, T: Drop, A: ChainArenaTrait<P, T> + Drop> Documents<P, T, A> {
     /// Returns the number of paragraphs that the arena can hold without growing.
     pub fn capacity(&self) -> usize
         ensures value { result ≡ (A.view self.now).capacity }
-        ensures greatest { result ≤ P.Inx.greatest }
-        ensures maximum { IsWithinMaximum (A.view self.now).maximum result }
+        ensures limits { (result ≤ P.Inx.greatest)
+            × IsWithinMaximum (A.view self.now).maximum result }
     {
         self.paragraphs.capacity()
     }
@@ -94,18 +95,12 @@ impl<P: PtrKey, T: Drop, A: ChainArenaTrait<P, T> + Drop> Documents<P, T, A> {
     ///
     /// On error, nothing changes.
     pub fn reserve(&mut self, additional: usize) -> Result<(), ReallocationError>
+        ensures outcome { Reserves P.Inx.greatest (count (A.view self.old) + additional)
+            (A.view self.old) result (A.view self.new) }
         ensures within { count (A.view self.old) + additional ≤ (A.view self.old).capacity
-            → IsOk result × (self.new ≡ self.old) }
-        ensures beyond { (result ≡ Err ReallocationError.BeyondMaxCapacity)
-            ↔ IsBeyond (A.view self.old).maximum (count (A.view self.old) + additional) }
-        ensures greatest { P.Inx.greatest < count (A.view self.old) + additional → IsErr result }
-        ensures ok { OnOk result (IsCapacityFor P.Inx.greatest (A.view self.new).maximum
-            (count (A.view self.old) + additional) (A.view self.new).capacity) }
-        ensures view_after { A.view self.new
-            ≡ with_capacity (A.view self.old) (A.view self.new).capacity }
-        ensures never_less { (A.view self.old).capacity ≤ (A.view self.new).capacity }
-        ensures paragraphs { A.entry self.new ≡ A.entry self.old }
-        ensures texts { A.interlinks self.new ≡ A.interlinks self.old }
+            → self.new ≡ self.old }
+        ensures texts { (A.entry self.new ≡ A.entry self.old)
+            × (A.interlinks self.new ≡ A.interlinks self.old) }
         ensures err { OnErr result (self.new ≡ self.old) }
     {
         reserve(&mut self.paragraphs, additional)
@@ -122,21 +117,8 @@ impl<P: PtrKey, T: Drop, A: ChainArenaTrait<P, T> + Drop> Documents<P, T, A> {
     ///
     /// On error, nothing changes and the paragraph is dropped.
     pub fn begin(&mut self, paragraph: T) -> Result<P, ReallocationError>
-        ensures text { IfOk result (λ q. IsText A.entry A.interlinks self.new
-            ((P.key q, paragraph) ∷ [])) }
-        ensures paragraph { IfOk result (λ q. IsInserted (A.entry self.old) (A.entry self.new)
-            (P.key q) paragraph) }
-        ensures others { OnOk result
-            (KeepsWithout A.entry A.interlinks linear self.old self.new []) }
-        ensures size { OnOk result (count (A.view self.new) ≡ count (A.view self.old) + 1) }
-        ensures within_capacity { SucceedsWithinCapacity (A.view self.old) result
-            (A.view self.new) }
-        ensures grown { OnOk result (IsCapacityFor P.Inx.greatest (A.view self.new).maximum
-            (count (A.view self.old) + 1) (A.view self.new).capacity) }
-        ensures beyond { (result ≡ Err ReallocationError.BeyondMaxCapacity)
-            ↔ NeedsBeyondMaximum (A.view self.old) }
-        ensures greatest { count (A.view self.old) ≡ P.Inx.greatest → IsErr result }
-        ensures maximum { (A.view self.new).maximum ≡ (A.view self.old).maximum }
+        ensures outcome { StartsList A.view A.entry A.interlinks linear P.key P.Inx.greatest
+            self.old paragraph result self.new }
         ensures err { OnErr result (self.new ≡ self.old) }
     {
         self.paragraphs.agrees();
@@ -160,15 +142,9 @@ impl<P: PtrKey, T: Drop, A: ChainArenaTrait<P, T> + Drop> Documents<P, T, A> {
         ensures* writes_back { sem 𝓛 (LendsSo
             (the_row P.row T.row A.row P.Inx.row P.Gen.row P.Inx.Word.row
             A.ChainPtrAdvancer.row A.PtrAdvancer.row P.PtrKey P.Inx.InxKey P.Gen.GenKey
-            (record {
-              interlinks = A.interlinks;
-              walker = A.walker;
-              connects = A.connects;
-              breaks = A.breaks;
-              exchanges = A.exchanges;
-              compresses_canonically = A.compresses_canonically;
-            }) A.ArenaTrait
-            A.PtrAdvancer.Advancer A.ChainPtrAdvancer.Advancer)
+            (chain_members A.interlinks A.walker A.inserts A.connects A.breaks A.exchanges
+            A.compresses_canonically) A.ArenaTrait A.PtrAdvancer.Advancer
+            A.ChainPtrAdvancer.Advancer)
             T.row self.entry result
             (λ new t. OnSome result
             (HasNewValue A.view A.entry A.interlinks self.old new (P.key p) t))
@@ -191,15 +167,9 @@ impl<P: PtrKey, T: Drop, A: ChainArenaTrait<P, T> + Drop> Documents<P, T, A> {
         ensures* writes_back { sem 𝓛 (Lends
             (the_row P.row T.row A.row P.Inx.row P.Gen.row P.Inx.Word.row
             A.ChainPtrAdvancer.row A.PtrAdvancer.row P.PtrKey P.Inx.InxKey P.Gen.GenKey
-            (record {
-              interlinks = A.interlinks;
-              walker = A.walker;
-              connects = A.connects;
-              breaks = A.breaks;
-              exchanges = A.exchanges;
-              compresses_canonically = A.compresses_canonically;
-            }) A.ArenaTrait
-            A.PtrAdvancer.Advancer A.ChainPtrAdvancer.Advancer)
+            (chain_members A.interlinks A.walker A.inserts A.connects A.breaks A.exchanges
+            A.compresses_canonically) A.ArenaTrait A.PtrAdvancer.Advancer
+            A.ChainPtrAdvancer.Advancer)
             A.row self.entry result (λ arena. arena)) }
         ensures arena { result.now ≡ self.old }
     {
@@ -254,24 +224,8 @@ impl<P: PtrKey, T: Drop, A: ChainArenaTrait<P, T> + Drop> Documents<P, T, A> {
     ///
     /// On error, nothing changes and the paragraph is dropped.
     pub fn insert_after(&mut self, p: P, paragraph: T) -> Result<P, ChainInsertionError>
-        ensures text { IfOk result (λ q. InsertsAfter A.entry A.interlinks linear self.old self.new
-            (P.key p) (P.key q, paragraph)) }
-        ensures paragraph { IfOk result (λ q. IsInserted (A.entry self.old) (A.entry self.new)
-            (P.key q) paragraph) }
-        ensures others { OnOk result (KeepsWithout A.entry A.interlinks linear self.old self.new
-            (P.key p ∷ [])) }
-        ensures size { OnOk result (count (A.view self.new) ≡ count (A.view self.old) + 1) }
-        ensures link { (result ≡ Err ChainInsertionError.FailedLinkRequirement)
-            ↔ ¬ IsValid (A.entry self.old) (P.key p) }
-        ensures error { IfErr result (λ e. e ≢ ChainInsertionError.NotWithinCapacity) }
-        ensures within_capacity { IsValid (A.entry self.old) (P.key p)
-            → SucceedsWithinCapacity (A.view self.old) result (A.view self.new) }
-        ensures grown { OnOk result (IsCapacityFor P.Inx.greatest (A.view self.new).maximum
-            (count (A.view self.old) + 1) (A.view self.new).capacity) }
-        ensures beyond { (result ≡ Err ChainInsertionError.BeyondMaxCapacity)
-            ↔ (IsValid (A.entry self.old) (P.key p) × NeedsBeyondMaximum (A.view self.old)) }
-        ensures greatest { count (A.view self.old) ≡ P.Inx.greatest → IsErr result }
-        ensures maximum { (A.view self.new).maximum ≡ (A.view self.old).maximum }
+        ensures outcome { InsertsItemAfter A.view A.entry A.interlinks linear P.key P.Inx.greatest
+            self.old (P.key p) paragraph result self.new }
         ensures err { OnErr result (self.new ≡ self.old) }
     {
         self.paragraphs.agrees();
@@ -291,24 +245,8 @@ impl<P: PtrKey, T: Drop, A: ChainArenaTrait<P, T> + Drop> Documents<P, T, A> {
     ///
     /// On error, nothing changes and the paragraph is dropped.
     pub fn insert_before(&mut self, p: P, paragraph: T) -> Result<P, ChainInsertionError>
-        ensures text { IfOk result (λ q. InsertsBefore A.entry A.interlinks linear self.old self.new
-            (P.key p) (P.key q, paragraph)) }
-        ensures paragraph { IfOk result (λ q. IsInserted (A.entry self.old) (A.entry self.new)
-            (P.key q) paragraph) }
-        ensures others { OnOk result (KeepsWithout A.entry A.interlinks linear self.old self.new
-            (P.key p ∷ [])) }
-        ensures size { OnOk result (count (A.view self.new) ≡ count (A.view self.old) + 1) }
-        ensures link { (result ≡ Err ChainInsertionError.FailedLinkRequirement)
-            ↔ ¬ IsValid (A.entry self.old) (P.key p) }
-        ensures error { IfErr result (λ e. e ≢ ChainInsertionError.NotWithinCapacity) }
-        ensures within_capacity { IsValid (A.entry self.old) (P.key p)
-            → SucceedsWithinCapacity (A.view self.old) result (A.view self.new) }
-        ensures grown { OnOk result (IsCapacityFor P.Inx.greatest (A.view self.new).maximum
-            (count (A.view self.old) + 1) (A.view self.new).capacity) }
-        ensures beyond { (result ≡ Err ChainInsertionError.BeyondMaxCapacity)
-            ↔ (IsValid (A.entry self.old) (P.key p) × NeedsBeyondMaximum (A.view self.old)) }
-        ensures greatest { count (A.view self.old) ≡ P.Inx.greatest → IsErr result }
-        ensures maximum { (A.view self.new).maximum ≡ (A.view self.old).maximum }
+        ensures outcome { InsertsItemBefore A.view A.entry A.interlinks linear P.key P.Inx.greatest
+            self.old (P.key p) paragraph result self.new }
         ensures err { OnErr result (self.new ≡ self.old) }
     {
         self.paragraphs.agrees();
@@ -321,17 +259,8 @@ impl<P: PtrKey, T: Drop, A: ChainArenaTrait<P, T> + Drop> Documents<P, T, A> {
     /// The paragraphs before and after it become neighbors. The capacity stays the same. Returns
     /// `None` and changes nothing if `p` is not valid.
     pub fn remove(&mut self, p: P) -> Option<T>
-        ensures some { IsSome result ↔ IsValid (A.entry self.old) (P.key p) }
-        ensures paragraph { IfSome result (λ t. A.entry self.old (P.key p).0 ≡ Some
-            ((P.key p).1, t)) }
-        ensures text { IfSome result (λ t. Leaves A.entry A.interlinks linear self.old self.new
-            (P.key p, t)) }
-        ensures gone { OnSome result (A.entry self.new (P.key p).0 ≡ None) }
-        ensures paragraphs { (i : ℕ) → i ≢ (P.key p).0 → A.entry self.new i ≡ A.entry self.old i }
-        ensures others { KeepsWithout A.entry A.interlinks linear self.old self.new (P.key p ∷ []) }
-        ensures size { OnSome result (count (A.view self.old) ≡ count (A.view self.new) + 1) }
-        ensures view_after { OnSome result (A.view self.new
-            ≡ view_after_removal P.Gen.following (A.view self.old) (P.key p).0) }
+        ensures outcome { RemovesItem A.view A.entry A.interlinks linear P.Gen.following self.old
+            (P.key p) result self.new }
         ensures none { IfNone result (self.new ≡ self.old) }
     {
         self.paragraphs.agrees();
@@ -346,9 +275,8 @@ impl<P: PtrKey, T: Drop, A: ChainArenaTrait<P, T> + Drop> Documents<P, T, A> {
             ↔ (IsValid (A.entry self.old) (P.key p)
             × IsSome (next_of (A.interlinks self.old) (P.key p).0)) }
         ensures texts { EndsIn A.entry A.interlinks self.old self.new (P.key p) }
-        ensures others { KeepsWithout A.entry A.interlinks linear self.old self.new (P.key p ∷ []) }
-        ensures paragraphs { A.entry self.new ≡ A.entry self.old }
-        ensures view_after { A.view self.new ≡ A.view self.old }
+        ensures others { ChangesOnlyListsOf A.view A.entry A.interlinks linear self.old self.new
+            (P.key p ∷ []) }
         ensures none { IfNone result (self.new ≡ self.old) }
     {
         self.paragraphs.agrees();
@@ -363,9 +291,8 @@ impl<P: PtrKey, T: Drop, A: ChainArenaTrait<P, T> + Drop> Documents<P, T, A> {
             ↔ (IsValid (A.entry self.old) (P.key p)
             × IsSome (prev_of (A.interlinks self.old) (P.key p).0)) }
         ensures texts { BeginsWith A.entry A.interlinks self.old self.new (P.key p) }
-        ensures others { KeepsWithout A.entry A.interlinks linear self.old self.new (P.key p ∷ []) }
-        ensures paragraphs { A.entry self.new ≡ A.entry self.old }
-        ensures view_after { A.view self.new ≡ A.view self.old }
+        ensures others { ChangesOnlyListsOf A.view A.entry A.interlinks linear self.old self.new
+            (P.key p ∷ []) }
         ensures none { IfNone result (self.new ≡ self.old) }
     {
         self.paragraphs.agrees();
@@ -383,10 +310,8 @@ impl<P: PtrKey, T: Drop, A: ChainArenaTrait<P, T> + Drop> Documents<P, T, A> {
         ensures some { IsSome result ↔ CanConnect (A.entry self.old) (A.interlinks self.old)
             (P.key p) (P.key q) }
         ensures texts { AreJoined A.entry A.interlinks self.old self.new (P.key p) (P.key q) }
-        ensures others { KeepsWithout A.entry A.interlinks linear self.old self.new
+        ensures others { ChangesOnlyListsOf A.view A.entry A.interlinks linear self.old self.new
             (P.key p ∷ P.key q ∷ []) }
-        ensures paragraphs { A.entry self.new ≡ A.entry self.old }
-        ensures view_after { A.view self.new ≡ A.view self.old }
         ensures none { IfNone result (self.new ≡ self.old) }
     {
         self.paragraphs.connect(p, q)
@@ -422,8 +347,8 @@ impl<P: PtrKey, T: Drop, A: ChainArenaTrait<P, T> + Drop> Documents<P, T, A> {
     fn set_apart(&mut self, p: P) -> Option<()>
         ensures some { IsSome result ↔ IsValid (A.entry self.old) (P.key p) }
         ensures texts { IsSeparated A.entry A.interlinks self.old self.new (P.key p) }
-        ensures others { KeepsWithout A.entry A.interlinks linear self.old self.new (P.key p ∷ []) }
-        ensures view_after { A.view self.new ≡ A.view self.old }
+        ensures others { ChangesOnlyListsOf A.view A.entry A.interlinks linear self.old self.new
+            (P.key p ∷ []) }
         ensures none { IfNone result (self.new ≡ self.old) }
     {
         let (before, after) = self.beside(p)?;
@@ -436,9 +361,8 @@ impl<P: PtrKey, T: Drop, A: ChainArenaTrait<P, T> + Drop> Documents<P, T, A> {
     // Moves `p`, which is a document of its own, to directly after `q`.
     fn put_after(&mut self, p: P, q: P)
         ensures texts { IsPutAfter A.entry A.interlinks self.old self.new (P.key p) (P.key q) }
-        ensures others { KeepsWithout A.entry A.interlinks linear self.old self.new
+        ensures others { ChangesOnlyListsOf A.view A.entry A.interlinks linear self.old self.new
             (P.key p ∷ P.key q ∷ []) }
-        ensures view_after { A.view self.new ≡ A.view self.old }
     {
         let after = self.next(q);
         self.split_after(q);
@@ -456,10 +380,8 @@ impl<P: PtrKey, T: Drop, A: ChainArenaTrait<P, T> + Drop> Documents<P, T, A> {
             × (P.key p ≢ P.key q)) }
         ensures texts { OnSome result (IsMovedAfter A.entry A.interlinks self.old self.new (P.key p)
             (P.key q)) }
-        ensures others { KeepsWithout A.entry A.interlinks linear self.old self.new
+        ensures others { ChangesOnlyListsOf A.view A.entry A.interlinks linear self.old self.new
             (P.key p ∷ P.key q ∷ []) }
-        ensures paragraphs { A.entry self.new ≡ A.entry self.old }
-        ensures view_after { A.view self.new ≡ A.view self.old }
         ensures none { IfNone result (self.new ≡ self.old) }
     {
         if p.is_same(q) || !self.paragraphs.contains(q) {

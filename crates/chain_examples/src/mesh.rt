@@ -1,15 +1,14 @@
 //! A mesh of polygons, whose corners are all stored in one arena.
 
-ghost use Rattle.std.specs.Prelude.{◌≡◌, ◌≢◌, ◌↔◌, ℕ, ◌+◌, ◌^◌, ◌<◌, ◌≤◌, List, [], ◌∷◌, ◌++◌, IsTrue, IsSome, IfSome, OnSome, IfNone, IsOk, IfOk, OnOk, IsErr, IfErr, OnErr, Err, None, Some};
+ghost use Rattle.std.specs.Prelude.{◌≡◌, ◌↔◌, ◌+◌, ◌<◌, ◌≤◌, List, [], ◌∷◌, ◌++◌, IsTrue, IsSome, IfSome, IfNone, IfOk, OnErr, Err, None, Some};
 ghost use Rattle.std.specs.Option.{option_map};
-ghost use Rattle.arena_core.specs.SlotStack.{IsBeyond, IsWithinMaximum};
+ghost use Rattle.arena_core.specs.SlotStack.{IsWithinMaximum};
 ghost use Rattle.chain_laws.specs.Chains.{cyclic};
-ghost use Rattle.arena_traits.specs.Arena.{IsCapacityFor, IsValid};
-ghost use Rattle.arena_traits.specs.Entries.{count, view_after_removal, first_key, with_capacity, HasFreeCapacity, NeedsBeyondMaximum};
-ghost use Rattle.chain_links.specs.CallEffects.{SucceedsWithinCapacity};
-ghost use Rattle.chain_links.specs.ChainArena.{IsInserted};
-ghost use Rattle.chain_examples.specs.Lists.{Item, IsRing, KeepsWithout, InsertsAfter, InsertsBefore, Leaves};
-ghost use Rattle.chain_examples.specs.Rings.{AllCyclic, AllInRings, IsCutInTwo, AreMerged, AreCopied, IsSplit, IsBridged, CutAndMergeRestore};
+ghost use Rattle.arena_traits.specs.Arena.{IsValid};
+ghost use Rattle.arena_traits.specs.Entries.{count, first_key, HasFreeCapacity};
+ghost use Rattle.arena_traits.specs.Growth.{Reserves};
+ghost use Rattle.chain_examples.specs.Lists.{Item, IsRing, StartsList, InsertsItemAfter, IsItemAfter, IsItemBefore, RemovesItem};
+ghost use Rattle.chain_examples.specs.Rings.{AllCyclic, AllInRings, AreTwoValid, ExchangesSuccessors, AddsDiagonal, SplitsRing, CutAndMergeRestore};
 
 use crate::growth::reserve;
 use arena_ptr::{ChainInsertionError, PtrKey, ReallocationError};
@@ -70,8 +69,8 @@ impl<P: PtrKey, T: Drop, A: ChainArenaTrait<P, T> + Drop> Mesh<P, T, A> {
     /// Returns the number of corners that the mesh can hold without growing.
     pub fn capacity(&self) -> usize
         ensures value { result ≡ (A.view self.now).capacity }
-        ensures greatest { result ≤ P.Inx.greatest }
-        ensures maximum { IsWithinMaximum (A.view self.now).maximum result }
+        ensures limits { (result ≤ P.Inx.greatest)
+            × IsWithinMaximum (A.view self.now).maximum result }
     {
         self.corners.capacity()
     }
@@ -94,17 +93,11 @@ impl<P: PtrKey, T: Drop, A: ChainArenaTrait<P, T> + Drop> Mesh<P, T, A> {
     ///
     /// On error, nothing changes.
     pub fn reserve(&mut self, additional: usize) -> Result<(), ReallocationError>
+        ensures outcome { Reserves P.Inx.greatest (count (A.view self.old) + additional)
+            (A.view self.old) result (A.view self.new) }
         ensures within { count (A.view self.old) + additional ≤ (A.view self.old).capacity
-            → IsOk result × (self.new ≡ self.old) }
-        ensures beyond { (result ≡ Err ReallocationError.BeyondMaxCapacity)
-            ↔ IsBeyond (A.view self.old).maximum (count (A.view self.old) + additional) }
-        ensures greatest { P.Inx.greatest < count (A.view self.old) + additional → IsErr result }
-        ensures grown { OnOk result (IsCapacityFor P.Inx.greatest (A.view self.new).maximum
-            (count (A.view self.old) + additional) (A.view self.new).capacity) }
-        ensures after { A.view self.new
-            ≡ with_capacity (A.view self.old) (A.view self.new).capacity }
+            → self.new ≡ self.old }
         ensures links { A.interlinks self.new ≡ A.interlinks self.old }
-        ensures never_less { (A.view self.old).capacity ≤ (A.view self.new).capacity }
         ensures err { OnErr result (self.new ≡ self.old) }
     {
         reserve(&mut self.corners, additional)
@@ -152,21 +145,8 @@ impl<P: PtrKey, T: Drop, A: ChainArenaTrait<P, T> + Drop> Mesh<P, T, A> {
     ///
     /// On error, nothing changes and the point is dropped.
     pub fn start(&mut self, point: T) -> Result<P, ReallocationError>
-        ensures ring { IfOk result (λ p. IsRing A.entry A.interlinks self.new
-            ((P.key p, point) ∷ [])) }
-        ensures corner { IfOk result (λ p. IsInserted (A.entry self.old) (A.entry self.new)
-            (P.key p) point) }
-        ensures others { OnOk result
-            (KeepsWithout A.entry A.interlinks cyclic self.old self.new []) }
-        ensures size { OnOk result (count (A.view self.new) ≡ count (A.view self.old) + 1) }
-        ensures within_capacity { SucceedsWithinCapacity (A.view self.old) result
-            (A.view self.new) }
-        ensures grown { OnOk result (IsCapacityFor P.Inx.greatest (A.view self.new).maximum
-            (count (A.view self.old) + 1) (A.view self.new).capacity) }
-        ensures maximum { (A.view self.new).maximum ≡ (A.view self.old).maximum }
-        ensures beyond { (result ≡ Err ReallocationError.BeyondMaxCapacity)
-            ↔ NeedsBeyondMaximum (A.view self.old) }
-        ensures greatest { count (A.view self.old) ≡ P.Inx.greatest → IsErr result }
+        ensures outcome { StartsList A.view A.entry A.interlinks cyclic P.key P.Inx.greatest
+            self.old point result self.new }
         ensures err { OnErr result (self.new ≡ self.old) }
     {
         self.corners.agrees();
@@ -183,24 +163,8 @@ impl<P: PtrKey, T: Drop, A: ChainArenaTrait<P, T> + Drop> Mesh<P, T, A> {
     ///
     /// On error, nothing changes and the point is dropped.
     pub fn insert_after(&mut self, corner: P, point: T) -> Result<P, ChainInsertionError>
-        ensures ring { IfOk result (λ p. InsertsAfter A.entry A.interlinks cyclic self.old self.new
-            (P.key corner) (P.key p, point)) }
-        ensures corner { IfOk result (λ p. IsInserted (A.entry self.old) (A.entry self.new)
-            (P.key p) point) }
-        ensures others { OnOk result (KeepsWithout A.entry A.interlinks cyclic self.old self.new
-            (P.key corner ∷ [])) }
-        ensures size { OnOk result (count (A.view self.new) ≡ count (A.view self.old) + 1) }
-        ensures link { (result ≡ Err ChainInsertionError.FailedLinkRequirement)
-            ↔ ¬ IsValid (A.entry self.old) (P.key corner) }
-        ensures error { IfErr result (λ e. e ≢ ChainInsertionError.NotWithinCapacity) }
-        ensures within_capacity { IsValid (A.entry self.old) (P.key corner)
-            → SucceedsWithinCapacity (A.view self.old) result (A.view self.new) }
-        ensures grown { OnOk result (IsCapacityFor P.Inx.greatest (A.view self.new).maximum
-            (count (A.view self.old) + 1) (A.view self.new).capacity) }
-        ensures maximum { (A.view self.new).maximum ≡ (A.view self.old).maximum }
-        ensures beyond { (result ≡ Err ChainInsertionError.BeyondMaxCapacity)
-            ↔ (IsValid (A.entry self.old) (P.key corner) × NeedsBeyondMaximum (A.view self.old)) }
-        ensures greatest { count (A.view self.old) ≡ P.Inx.greatest → IsErr result }
+        ensures outcome { InsertsItemAfter A.view A.entry A.interlinks cyclic P.key P.Inx.greatest
+            self.old (P.key corner) point result self.new }
         ensures err { OnErr result (self.new ≡ self.old) }
     {
         self.corners.agrees();
@@ -213,18 +177,8 @@ impl<P: PtrKey, T: Drop, A: ChainArenaTrait<P, T> + Drop> Mesh<P, T, A> {
     /// The other corners keep their order, and the capacity stays the same. Returns `None` and
     /// changes nothing if `corner` is not valid.
     pub fn remove(&mut self, corner: P) -> Option<T>
-        ensures some { IsSome result ↔ IsValid (A.entry self.old) (P.key corner) }
-        ensures point { IfSome result (λ t. A.entry self.old (P.key corner).0 ≡ Some
-            ((P.key corner).1, t)) }
-        ensures ring { IfSome result (λ t. Leaves A.entry A.interlinks cyclic self.old self.new
-            (P.key corner, t)) }
-        ensures gone { OnSome result (A.entry self.new (P.key corner).0 ≡ None) }
-        ensures corners { (i : ℕ) → i ≢ (P.key corner).0 → A.entry self.new i ≡ A.entry self.old i }
-        ensures others { KeepsWithout A.entry A.interlinks cyclic self.old self.new
-            (P.key corner ∷ []) }
-        ensures size { OnSome result (count (A.view self.old) ≡ count (A.view self.new) + 1) }
-        ensures view_after { OnSome result (A.view self.new
-            ≡ view_after_removal P.Gen.following (A.view self.old) (P.key corner).0) }
+        ensures outcome { RemovesItem A.view A.entry A.interlinks cyclic P.Gen.following self.old
+            (P.key corner) result self.new }
         ensures none { IfNone result (self.new ≡ self.old) }
     {
         self.corners.agrees();
@@ -238,13 +192,8 @@ impl<P: PtrKey, T: Drop, A: ChainArenaTrait<P, T> + Drop> Mesh<P, T, A> {
     pub fn cut(&mut self, u: P, v: P) -> Option<()>
         ensures some { IsSome result
             ↔ (IsValid (A.entry self.old) (P.key u) × IsValid (A.entry self.old) (P.key v)) }
-        ensures rings { IsCutInTwo A.entry A.interlinks self.old self.new (P.key u) (P.key v) }
-        ensures merged { AreMerged A.entry A.interlinks self.old self.new (P.key u) (P.key v) }
-        ensures others { KeepsWithout A.entry A.interlinks cyclic self.old self.new
-            (P.key u ∷ P.key v ∷ []) }
-        ensures corners { A.entry self.new ≡ A.entry self.old }
-        ensures view_after { A.view self.new ≡ A.view self.old }
-        ensures itself { P.key u ≡ P.key v → A.interlinks self.new ≡ A.interlinks self.old }
+        ensures rings { ExchangesSuccessors A.view A.entry A.interlinks self.old self.new
+            (P.key u) (P.key v) }
         ensures none { IfNone result (self.new ≡ self.old) }
     {
         self.exchange(u, v)
@@ -257,13 +206,8 @@ impl<P: PtrKey, T: Drop, A: ChainArenaTrait<P, T> + Drop> Mesh<P, T, A> {
     pub fn merge(&mut self, u: P, v: P) -> Option<()>
         ensures some { IsSome result
             ↔ (IsValid (A.entry self.old) (P.key u) × IsValid (A.entry self.old) (P.key v)) }
-        ensures ring { AreMerged A.entry A.interlinks self.old self.new (P.key u) (P.key v) }
-        ensures cut { IsCutInTwo A.entry A.interlinks self.old self.new (P.key u) (P.key v) }
-        ensures others { KeepsWithout A.entry A.interlinks cyclic self.old self.new
-            (P.key u ∷ P.key v ∷ []) }
-        ensures corners { A.entry self.new ≡ A.entry self.old }
-        ensures view_after { A.view self.new ≡ A.view self.old }
-        ensures itself { P.key u ≡ P.key v → A.interlinks self.new ≡ A.interlinks self.old }
+        ensures rings { ExchangesSuccessors A.view A.entry A.interlinks self.old self.new
+            (P.key u) (P.key v) }
         ensures none { IfNone result (self.new ≡ self.old) }
     {
         self.exchange(u, v)
@@ -273,13 +217,8 @@ impl<P: PtrKey, T: Drop, A: ChainArenaTrait<P, T> + Drop> Mesh<P, T, A> {
     fn exchange(&mut self, u: P, v: P) -> Option<()>
         ensures some { IsSome result
             ↔ (IsValid (A.entry self.old) (P.key u) × IsValid (A.entry self.old) (P.key v)) }
-        ensures cut { IsCutInTwo A.entry A.interlinks self.old self.new (P.key u) (P.key v) }
-        ensures merged { AreMerged A.entry A.interlinks self.old self.new (P.key u) (P.key v) }
-        ensures others { KeepsWithout A.entry A.interlinks cyclic self.old self.new
-            (P.key u ∷ P.key v ∷ []) }
-        ensures corners { A.entry self.new ≡ A.entry self.old }
-        ensures view_after { A.view self.new ≡ A.view self.old }
-        ensures itself { P.key u ≡ P.key v → A.interlinks self.new ≡ A.interlinks self.old }
+        ensures rings { ExchangesSuccessors A.view A.entry A.interlinks self.old self.new
+            (P.key u) (P.key v) }
         ensures none { IfNone result (self.new ≡ self.old) }
     {
         self.corners.agrees();
@@ -291,17 +230,9 @@ impl<P: PtrKey, T: Drop, A: ChainArenaTrait<P, T> + Drop> Mesh<P, T, A> {
         requires capacity { count (A.view self.old) + 2 ≤ (A.view self.old).capacity }
         requires first { A.entry self.old (P.key u).0 ≡ Some ((P.key u).1, both.0) }
         requires second { A.entry self.old (P.key v).0 ≡ Some ((P.key v).1, both.1) }
-        ensures rings { IsSplit A.entry A.interlinks self.old self.new
+        ensures rings { AddsDiagonal A.view A.entry A.interlinks self.old self.new
             (P.key u) (P.key v) (P.key result.0) (P.key result.1) }
-        ensures bridged { IsBridged A.entry A.interlinks self.old self.new
-            (P.key u) (P.key v) (P.key result.0) (P.key result.1) }
-        ensures corners { AreCopied (A.entry self.old) (A.entry self.new)
-            (P.key u) (P.key v) (P.key result.0) (P.key result.1) }
-        ensures others { KeepsWithout A.entry A.interlinks cyclic self.old self.new
-            (P.key u ∷ P.key v ∷ []) }
-        ensures size { count (A.view self.new) ≡ count (A.view self.old) + 2 }
         ensures capacity { (A.view self.new).capacity ≡ (A.view self.old).capacity }
-        ensures maximum { (A.view self.new).maximum ≡ (A.view self.old).maximum }
     {
         let first = add_before(&mut self.corners, u, both.0);
         let second = add_after(&mut self.corners, v, both.1);
@@ -329,35 +260,9 @@ impl<P: PtrKey, T: Copy + Drop, A: ChainArenaTrait<P, T> + Drop> Mesh<P, T, A> {
     ///
     /// On error, nothing changes.
     pub fn split(&mut self, u: P, v: P) -> Result<Option<(P, P)>, ReallocationError>
-        ensures some { IfOk result (λ r. IsSome r
-            ↔ (IsValid (A.entry self.old) (P.key u) × IsValid (A.entry self.old) (P.key v)
-            × (P.key u ≢ P.key v))) }
-        ensures rings { IfOk result (λ r. IfSome r (λ copies.
-            IsSplit A.entry A.interlinks self.old self.new
-            (P.key u) (P.key v) (P.key copies.0) (P.key copies.1))) }
-        ensures bridged { IfOk result (λ r. IfSome r (λ copies.
-            IsBridged A.entry A.interlinks self.old self.new
-            (P.key u) (P.key v) (P.key copies.0) (P.key copies.1))) }
-        ensures corners { IfOk result (λ r. IfSome r (λ copies.
-            AreCopied (A.entry self.old) (A.entry self.new)
-            (P.key u) (P.key v) (P.key copies.0) (P.key copies.1))) }
-        ensures others { OnOk result (KeepsWithout A.entry A.interlinks cyclic self.old self.new
-            (P.key u ∷ P.key v ∷ [])) }
-        ensures size { IfOk result
-            (λ r. OnSome r (count (A.view self.new) ≡ count (A.view self.old) + 2)) }
+        ensures outcome { SplitsRing A.view A.entry A.interlinks P.key P.Inx.greatest self.old
+            (P.key u) (P.key v) result self.new }
         ensures none { IfOk result (λ r. IfNone r (self.new ≡ self.old)) }
-        ensures within_capacity { count (A.view self.old) + 2 ≤ (A.view self.old).capacity
-            → IsOk result × ((A.view self.new).capacity ≡ (A.view self.old).capacity) }
-        ensures grown { IfOk result
-            (λ r. OnSome r (IsCapacityFor P.Inx.greatest (A.view self.new).maximum
-            (count (A.view self.old) + 2) (A.view self.new).capacity)) }
-        ensures maximum { (A.view self.new).maximum ≡ (A.view self.old).maximum }
-        ensures beyond { (result ≡ Err ReallocationError.BeyondMaxCapacity)
-            ↔ ((IsValid (A.entry self.old) (P.key u) × IsValid (A.entry self.old) (P.key v)
-            × (P.key u ≢ P.key v))
-            × IsBeyond (A.view self.old).maximum (count (A.view self.old) + 2)) }
-        ensures greatest { P.Inx.greatest < count (A.view self.old) + 2
-            → IfOk result (λ r. r ≡ None) }
         ensures err { OnErr result (self.new ≡ self.old) }
     {
         match self.points(u, v) {
@@ -371,13 +276,10 @@ impl<P: PtrKey, T: Copy + Drop, A: ChainArenaTrait<P, T> + Drop> Mesh<P, T, A> {
 
     // Returns the points of two corners, or `None` if either is not valid or both are the same.
     fn points(&self, u: P, v: P) -> Option<(T, T)>
-        ensures some { IsSome result
-            ↔ (IsValid (A.entry self.now) (P.key u) × IsValid (A.entry self.now) (P.key v)
-            × (P.key u ≢ P.key v)) }
-        ensures first { IfSome result (λ r. A.entry self.now (P.key u).0 ≡ Some
-            ((P.key u).1, r.0)) }
-        ensures second { IfSome result (λ r. A.entry self.now (P.key v).0 ≡ Some
-            ((P.key v).1, r.1)) }
+        ensures some { IsSome result ↔ AreTwoValid (A.entry self.now) (P.key u) (P.key v) }
+        ensures points { IfSome result (λ r.
+            (A.entry self.now (P.key u).0 ≡ Some ((P.key u).1, r.0))
+            × (A.entry self.now (P.key v).0 ≡ Some ((P.key v).1, r.1))) }
     {
         if u.is_same(v) {
             return None;
@@ -392,16 +294,11 @@ impl<P: PtrKey, T: Copy + Drop, A: ChainArenaTrait<P, T> + Drop> Mesh<P, T, A> {
 fn add_before<P: PtrKey, T: Drop, A: ChainArenaTrait<P, T>>(corners: &mut A, u: P, t: T) -> P
     requires valid { IsValid (A.entry corners.old) (P.key u) }
     requires capacity { HasFreeCapacity (A.view corners.old) }
-    ensures ring { InsertsBefore A.entry A.interlinks cyclic corners.old corners.new (P.key u)
-        (P.key result, t) }
-    ensures corner { IsInserted (A.entry corners.old) (A.entry corners.new) (P.key result) t }
-    ensures others { KeepsWithout A.entry A.interlinks cyclic corners.old corners.new
-        (P.key u ∷ []) }
+    ensures corner { IsItemBefore A.view A.entry A.interlinks cyclic corners.old corners.new
+        (P.key u) (P.key result, t) }
     ensures all_cyclic { AllCyclic (A.interlinks corners.old) → AllCyclic
         (A.interlinks corners.new) }
-    ensures size { count (A.view corners.new) ≡ count (A.view corners.old) + 1 }
     ensures capacity { (A.view corners.new).capacity ≡ (A.view corners.old).capacity }
-    ensures maximum { (A.view corners.new).maximum ≡ (A.view corners.old).maximum }
 {
     corners.invariants();
     corners.agrees();
@@ -415,16 +312,11 @@ fn add_before<P: PtrKey, T: Drop, A: ChainArenaTrait<P, T>>(corners: &mut A, u: 
 fn add_after<P: PtrKey, T: Drop, A: ChainArenaTrait<P, T>>(corners: &mut A, v: P, t: T) -> P
     requires valid { IsValid (A.entry corners.old) (P.key v) }
     requires capacity { HasFreeCapacity (A.view corners.old) }
-    ensures ring { InsertsAfter A.entry A.interlinks cyclic corners.old corners.new (P.key v)
-        (P.key result, t) }
-    ensures corner { IsInserted (A.entry corners.old) (A.entry corners.new) (P.key result) t }
-    ensures others { KeepsWithout A.entry A.interlinks cyclic corners.old corners.new
-        (P.key v ∷ []) }
+    ensures corner { IsItemAfter A.view A.entry A.interlinks cyclic corners.old corners.new
+        (P.key v) (P.key result, t) }
     ensures all_cyclic { AllCyclic (A.interlinks corners.old) → AllCyclic
         (A.interlinks corners.new) }
-    ensures size { count (A.view corners.new) ≡ count (A.view corners.old) + 1 }
     ensures capacity { (A.view corners.new).capacity ≡ (A.view corners.old).capacity }
-    ensures maximum { (A.view corners.new).maximum ≡ (A.view corners.old).maximum }
 {
     corners.agrees();
     match corners.insert(LinkInsertKind::NextTo(v), t) {

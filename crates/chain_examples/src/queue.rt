@@ -1,15 +1,15 @@
 //! A scheduler's run queue, whose tasks form one ring.
 
-ghost use Rattle.std.specs.Prelude.{◌≡◌, ◌↔◌, ◌<◌, ◌≤◌, ◌+◌, ℕ, List, [], ◌∷◌, ◌++◌, length, map, IsTrue, IsSome, IfSome, OnSome, IfNone, IsOk, IfOk, OnOk, IsErr, OnErr, Some, None, Err};
+ghost use Rattle.std.specs.Prelude.{◌≡◌, ◌↔◌, ◌<◌, ◌≤◌, ◌+◌, ℕ, List, [], ◌∷◌, ◌++◌, length, map, IsTrue, IsSome, IfSome, OnSome, IfNone, IfOk, OnErr, Some, None, Err};
 ghost use Rattle.std.specs.Option.{option_map, option_or};
 ghost use Rattle.std.specs.Borrow.{LendsSo, sem};
-ghost use Rattle.arena_core.specs.SlotStack.{IsBeyond, IsWithinMaximum};
-ghost use Rattle.arena_traits.specs.Arena.{IsCapacityFor, IsValid};
-ghost use Rattle.arena_traits.specs.Entries.{count, first_key, found, NeedsBeyondMaximum};
-ghost use Rattle.chain_laws.specs.Chains.{IsMember};
-ghost use Rattle.chain_links.specs.CallEffects.{SucceedsWithinCapacity};
-ghost use Rattle.chain_examples.specs.QueueOrder.{AppendsTask, IsAmong, IsCancelled, IsFirstWithout, rotation, with_task};
-ghost use Rattle.chain_examples.specs.Lists.{Item, IsQueueOrder, indexes};
+ghost use Rattle.arena_core.specs.SlotStack.{IsWithinMaximum};
+ghost use Rattle.arena_traits.specs.Arena.{IsValid};
+ghost use Rattle.arena_traits.specs.Entries.{count, first_key, found};
+ghost use Rattle.arena_traits.specs.Growth.{IsGrowthResult, RefusesOneMore};
+ghost use Rattle.chain_examples.specs.QueueOrder.{AppendsNewTask, IsAmong, IsCancelled, IsFirstWithout, KeepsCapacity, ReservesTasks, SpawnsTask, rotation, with_task};
+ghost use Rattle.chain_examples.specs.Rows.{chain_members};
+ghost use Rattle.chain_examples.specs.Lists.{Item, IsQueueOrder};
 
 use crate::growth::reserve;
 use arena_ptr::{GenKey, InxKey, PtrKey, ReallocationError};
@@ -86,8 +86,7 @@ impl<P: PtrKey, T: Drop, A: ChainArenaTrait<P, T> + Drop> RunQueue<P, T, A> {
     /// Returns the number of tasks that the queue can hold without growing.
     pub fn capacity(&self) -> usize
         ensures value { result ≡ self.now.capacity }
-        ensures greatest { result ≤ P.Inx.greatest }
-        ensures maximum { IsWithinMaximum self.now.maximum result }
+        ensures limits { (result ≤ P.Inx.greatest) × IsWithinMaximum self.now.maximum result }
     {
         self.tasks.capacity()
     }
@@ -110,16 +109,9 @@ impl<P: PtrKey, T: Drop, A: ChainArenaTrait<P, T> + Drop> RunQueue<P, T, A> {
     ///
     /// On error, nothing changes.
     pub fn reserve(&mut self, additional: usize) -> Result<(), ReallocationError>
+        ensures outcome { ReservesTasks P.Inx.greatest additional self.old result self.new }
         ensures within { length self.old.order + additional ≤ self.old.capacity
-            → IsOk result × (self.new ≡ self.old) }
-        ensures beyond { (result ≡ Err ReallocationError.BeyondMaxCapacity)
-            ↔ IsBeyond self.old.maximum (length self.old.order + additional) }
-        ensures greatest { P.Inx.greatest < length self.old.order + additional → IsErr result }
-        ensures ok { OnOk result (IsCapacityFor P.Inx.greatest self.new.maximum
-            (length self.old.order + additional) self.new.capacity) }
-        ensures order { self.new.order ≡ self.old.order }
-        ensures maximum { self.new.maximum ≡ self.old.maximum }
-        ensures never_less { self.old.capacity ≤ self.new.capacity }
+            → self.new ≡ self.old }
         ensures err { OnErr result (self.new ≡ self.old) }
     {
         reserve(&mut self.tasks, additional)
@@ -148,15 +140,9 @@ impl<P: PtrKey, T: Drop, A: ChainArenaTrait<P, T> + Drop> RunQueue<P, T, A> {
         ensures* writes_back { sem 𝓛 (LendsSo
             (the_row P.row T.row A.row P.Inx.row P.Gen.row P.Inx.Word.row
             A.ChainPtrAdvancer.row A.PtrAdvancer.row P.PtrKey P.Inx.InxKey P.Gen.GenKey
-            (record {
-              interlinks = A.interlinks;
-              walker = A.walker;
-              connects = A.connects;
-              breaks = A.breaks;
-              exchanges = A.exchanges;
-              compresses_canonically = A.compresses_canonically;
-            }) A.ArenaTrait
-            A.PtrAdvancer.Advancer A.ChainPtrAdvancer.Advancer)
+            (chain_members A.interlinks A.walker A.inserts A.connects A.breaks A.exchanges
+            A.compresses_canonically) A.ArenaTrait A.PtrAdvancer.Advancer
+            A.ChainPtrAdvancer.Advancer)
             T.row self.entry result
             (λ new t. OnSome result (new ≡ with_task self.old (P.key p).0 t))
             (λ new. new ≡ self.old)) }
@@ -182,17 +168,7 @@ impl<P: PtrKey, T: Drop, A: ChainArenaTrait<P, T> + Drop> RunQueue<P, T, A> {
     ///
     /// On error, nothing changes and the task is dropped.
     pub fn spawn(&mut self, task: T) -> Result<P, ReallocationError>
-        ensures last { IfOk result (λ p. self.new.order ≡ self.old.order ++ (P.key p, task) ∷ []) }
-        ensures fresh { IfOk result (λ p. ¬ IsMember (indexes self.old.order) (P.key p).0) }
-        ensures within_capacity { length self.old.order < self.old.capacity
-            → IsOk result × (self.new.capacity ≡ self.old.capacity) }
-        ensures grown { OnOk result (IsCapacityFor P.Inx.greatest self.new.maximum
-            (length self.old.order + 1) self.new.capacity) }
-        ensures beyond { (result ≡ Err ReallocationError.BeyondMaxCapacity)
-            ↔ ((length self.old.order ≡ self.old.capacity)
-            × IsBeyond self.old.maximum (length self.old.order + 1)) }
-        ensures greatest { length self.old.order ≡ P.Inx.greatest → IsErr result }
-        ensures maximum { self.new.maximum ≡ self.old.maximum }
+        ensures outcome { SpawnsTask P.key P.Inx.greatest self.old task result self.new }
         ensures err { OnErr result (self.new ≡ self.old) }
     {
         let added = insert_last(&mut self.tasks, self.current, task);
@@ -206,8 +182,7 @@ impl<P: PtrKey, T: Drop, A: ChainArenaTrait<P, T> + Drop> RunQueue<P, T, A> {
     pub fn next(&mut self) -> Option<P>
         ensures rotated { self.new.order ≡ rotation self.old.order }
         ensures current { option_map P.key result ≡ first_key self.new.order }
-        ensures capacity { self.new.capacity ≡ self.old.capacity }
-        ensures maximum { self.new.maximum ≡ self.old.maximum }
+        ensures capacity { KeepsCapacity self.old self.new }
     {
         let current = self.current?;
         let next = after(&self.tasks, current);
@@ -224,8 +199,7 @@ impl<P: PtrKey, T: Drop, A: ChainArenaTrait<P, T> + Drop> RunQueue<P, T, A> {
         ensures some { IfSome result
             (λ task. IsCancelled (P.key p) task self.old.order self.new.order) }
         ensures none { IfNone result ((self.new ≡ self.old) × ¬ IsAmong (P.key p) self.old.order) }
-        ensures capacity { self.new.capacity ≡ self.old.capacity }
-        ensures maximum { self.new.maximum ≡ self.old.maximum }
+        ensures capacity { KeepsCapacity self.old self.new }
     {
         let current = self.current?;
         let next = current_without(&self.tasks, current, p);
@@ -240,8 +214,7 @@ impl<P: PtrKey, T: Drop, A: ChainArenaTrait<P, T> + Drop> RunQueue<P, T, A> {
         ensures some { IfSome result (λ task. (p : ℕ × P.Gen)
             × (self.old.order ≡ (p, task) ∷ self.new.order)) }
         ensures none { IfNone result ((self.old.order ≡ []) × (self.new ≡ self.old)) }
-        ensures capacity { self.new.capacity ≡ self.old.capacity }
-        ensures maximum { self.new.maximum ≡ self.old.maximum }
+        ensures capacity { KeepsCapacity self.old self.new }
     {
         let p = self.current()?;
         self.cancel(p)
@@ -255,8 +228,7 @@ impl<P: PtrKey, T: Drop, A: ChainArenaTrait<P, T> + Drop> RunQueue<P, T, A> {
     pub fn drain_all<B: Allocator>(&mut self, alloc: B) -> Result<Vec<T, B>, AllocError>
         ensures drained { IfOk result (λ tasks. (tasks.items ≡ map (λ e. e.1) self.old.order)
             × (self.new.order ≡ [])) }
-        ensures capacity { self.new.capacity ≡ self.old.capacity }
-        ensures maximum { self.new.maximum ≡ self.old.maximum }
+        ensures capacity { KeepsCapacity self.old self.new }
         ensures err { OnErr result (self.new ≡ self.old) }
     {
         let count = self.len();
@@ -281,17 +253,10 @@ fn insert_last<P: PtrKey, T: Drop, A: ChainArenaTrait<P, T>>(
     task: T,
 ) -> Result<P, ReallocationError>
     requires valid { IfSome current (λ p. IsValid (A.entry tasks.old) (P.key p)) }
-    ensures last { IfOk result (λ p. AppendsTask A.entry A.interlinks tasks.old tasks.new
+    ensures outcome { IsGrowthResult (RefusesOneMore (A.view tasks.old)) (λ p.
+        AppendsNewTask A.entry A.interlinks A.view P.Inx.greatest tasks.old tasks.new
         (option_map P.key current) (option_map P.key (option_or current (Some p)))
-        (P.key p, task)) }
-    ensures fresh { IfOk result (λ p. A.entry tasks.old (P.key p).0 ≡ None) }
-    ensures within_capacity { SucceedsWithinCapacity (A.view tasks.old) result (A.view tasks.new) }
-    ensures grown { OnOk result (IsCapacityFor P.Inx.greatest (A.view tasks.new).maximum
-        (count (A.view tasks.old) + 1) (A.view tasks.new).capacity) }
-    ensures beyond { (result ≡ Err ReallocationError.BeyondMaxCapacity)
-        ↔ NeedsBeyondMaximum (A.view tasks.old) }
-    ensures greatest { count (A.view tasks.old) ≡ P.Inx.greatest → IsErr result }
-    ensures maximum { (A.view tasks.new).maximum ≡ (A.view tasks.old).maximum }
+        (P.key p, task)) result }
     ensures err { OnErr result (tasks.new ≡ tasks.old) }
 {
     match current {

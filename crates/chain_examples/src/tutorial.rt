@@ -2,16 +2,14 @@
 //!
 //! `docs/PROOF_GUIDE.md` explains them. Only the last, `after`, needs a proof written by hand.
 
-ghost use Rattle.std.specs.Prelude.{◌≡◌, ◌≢◌, ◌↔◌, ℕ, List, None, Some, Err, IsSome, IfSome, IsTrue, IsFalse, IsOk, IfOk, IfErr, OnErr};
+ghost use Rattle.std.specs.Prelude.{◌≡◌, ◌↔◌, ℕ, List, None, Some, IsSome, IfSome, IsTrue, IsFalse, OnErr};
 ghost use Rattle.std.specs.Option.{option_map};
 ghost use Rattle.chain_laws.specs.Chains.{linear, cyclic, IsChain, first_or, last_or, next_of};
 ghost use Rattle.chain_laws.specs.Insertions.{next_to};
 ghost use Rattle.chain_laws.specs.Neighbors.{AreNeighbors};
-ghost use Rattle.chain_laws.specs.Joins.{with_join, KeepsChainsWithout};
-ghost use Rattle.chain_laws.specs.Removals.{with_removal};
 ghost use Rattle.arena_traits.specs.Arena.{IsValid};
-ghost use Rattle.arena_traits.specs.Entries.{view_after_removal, HasFreeCapacity, NeedsBeyondMaximum};
-ghost use Rattle.chain_links.specs.CallEffects.{GainsLink};
+ghost use Rattle.arena_traits.specs.Growth.{RefusesOneMore, GrowsForOneMore};
+ghost use Rattle.chain_links.specs.CallEffects.{IsInsertionResult, IsConnected, IsRemoved, GainsLink};
 ghost use Rattle.chain_links.specs.ChainArena.{CanConnect};
 ghost use Rattle.chain_links.specs.Kinds.{name_of_pointer};
 
@@ -23,14 +21,10 @@ use chain_traits::ChainArenaTrait;
 ///
 /// All other chains and all values stay the same. On failure, the arena is unchanged.
 pub fn connect_pair<P: PtrKey, T: Drop, A: ChainArenaTrait<P, T>>(arena: &mut A, p: P, q: P) -> bool
-    ensures connected { IsTrue result ↔ CanConnect (A.entry arena.old) (A.interlinks arena.old)
-        (P.key p)
-        (P.key q) }
-    ensures links { IsTrue result → A.interlinks arena.new ≡ with_join (A.interlinks arena.old)
+    ensures connected { IsTrue result
+        ↔ CanConnect (A.entry arena.old) (A.interlinks arena.old) (P.key p) (P.key q) }
+    ensures links { IsTrue result → IsConnected A.view A.entry A.interlinks arena.old arena.new
         (P.key p).0 (P.key q).0 }
-    ensures others { IsTrue result → KeepsChainsWithout (A.interlinks arena.old)
-        (A.interlinks arena.new) (P.key p).0 (P.key q).0 }
-    ensures view_after { IsTrue result → A.view arena.new ≡ A.view arena.old }
     ensures refused { IsFalse result → arena.new ≡ arena.old }
 {
     match arena.connect(p, q) {
@@ -49,11 +43,9 @@ pub fn remove_and_step<P: PtrKey, T: Drop, A: ChainArenaTrait<P, T>>(
 ) -> Option<P::Inx>
     ensures next { IsSome (A.entry arena.old (P.Inx.number i))
         → option_map P.Inx.number result ≡ next_of (A.interlinks arena.old) (P.Inx.number i) }
-    ensures links { IsSome (A.entry arena.old (P.Inx.number i))
-        → A.interlinks arena.new ≡ with_removal (A.interlinks arena.old) (P.Inx.number i) }
-    ensures view_after { IsSome (A.entry arena.old (P.Inx.number i))
-        → A.view arena.new
-        ≡ view_after_removal P.Gen.following (A.view arena.old) (P.Inx.number i) }
+    ensures removed { IsSome (A.entry arena.old (P.Inx.number i))
+        → IsRemoved A.view A.entry A.interlinks arena.old arena.new P.Gen.following
+        (P.Inx.number i) }
     ensures none { A.entry arena.old (P.Inx.number i) ≡ None
         → (result ≡ None) × (arena.new ≡ arena.old) }
 {
@@ -72,10 +64,8 @@ pub fn close<P: PtrKey, T: Drop, A: ChainArenaTrait<P, T>>(arena: &mut A, p: P, 
     ensures ring { IsTrue result → (xs : List ℕ) → IsChain (A.interlinks arena.old) (linear xs)
         → first_or xs None ≡ Some (P.key q).0 → last_or xs None ≡ Some (P.key p).0
         → IsChain (A.interlinks arena.new) (cyclic xs) }
-    ensures others { IsTrue result
-        → KeepsChainsWithout (A.interlinks arena.old) (A.interlinks arena.new) (P.key p).0
-        (P.key q).0 }
-    ensures view_after { IsTrue result → A.view arena.new ≡ A.view arena.old }
+    ensures links { IsTrue result → IsConnected A.view A.entry A.interlinks arena.old arena.new
+        (P.key p).0 (P.key q).0 }
     ensures refused { IsFalse result → arena.new ≡ arena.old }
 {
     match arena.connect(p, q) {
@@ -100,20 +90,12 @@ pub fn put_behind<P: PtrKey, T: Drop, A: ChainArenaTrait<P, T>>(
     p: P,
     t: T,
 ) -> Result<P, ChainInsertionError>
-    ensures behind { IfOk result (λ q. AreNeighbors (A.interlinks arena.new) (P.key p).0
-        (P.key q).0) }
-    ensures inserted { IfOk result (λ q. GainsLink A.view A.entry A.interlinks
-        (next_to (name_of_pointer P.key P.Inx.number p)) t arena.old (P.key q) arena.new) }
-    ensures link { (result ≡ Err ChainInsertionError.FailedLinkRequirement)
-        ↔ ¬ IsValid (A.entry arena.old) (P.key p) }
-    ensures within_capacity { IsValid (A.entry arena.old) (P.key p) × HasFreeCapacity
-        (A.view arena.old)
-        → IsOk result }
-    ensures capacity { HasFreeCapacity (A.view arena.old)
-        → (A.view arena.new).capacity ≡ (A.view arena.old).capacity }
-    ensures beyond { (result ≡ Err ChainInsertionError.BeyondMaxCapacity)
-        ↔ (IsValid (A.entry arena.old) (P.key p) × NeedsBeyondMaximum (A.view arena.old)) }
-    ensures error { IfErr result (λ e. e ≢ ChainInsertionError.NotWithinCapacity) }
+    ensures outcome { IsInsertionResult (IsValid (A.entry arena.old) (P.key p))
+        (RefusesOneMore (A.view arena.old))
+        (λ q. AreNeighbors (A.interlinks arena.new) (P.key p).0 (P.key q).0
+        × GainsLink A.view A.entry A.interlinks (next_to (name_of_pointer P.key P.Inx.number p)) t
+        arena.old (P.key q) arena.new
+        × GrowsForOneMore P.Inx.greatest (A.view arena.old) (A.view arena.new)) result }
     ensures err { OnErr result (arena.new ≡ arena.old) }
 {
     arena.insert_reallocating(LinkInsertKind::NextTo(p), t)

@@ -1,31 +1,29 @@
 // Forwarding wrappers of calls of `Mesh`.
-ghost use Rattle.std.specs.Prelude.{IfSome, IfOk};
-ghost use Rattle.chain_examples.specs.Rings.{AreMerged, AreCopied};
+ghost use Rattle.chain_examples.specs.Rings.{ExchangesSuccessors, SplitsRing};
 
 use arena_ptr::{PtrKey, ReallocationError};
 use chain_examples::Mesh;
 use chain_traits::ChainArenaTrait;
 
-/// Forwards to `Mesh::merge`, under its clause on two polygons.
+/// Forwards to `Mesh::merge`, under its clause on the polygons.
 pub fn merge<P: PtrKey, T: Drop, A: ChainArenaTrait<P, T> + Drop>(
     mesh: &mut Mesh<P, T, A>,
     u: P,
     v: P,
 ) -> Option<()>
-    ensures { AreMerged A.entry A.interlinks mesh.old mesh.new (P.key u) (P.key v) }
+    ensures { ExchangesSuccessors A.view A.entry A.interlinks mesh.old mesh.new (P.key u) (P.key v) }
 {
     mesh.merge(u, v)
 }
 
-/// Forwards to `Mesh::split`, under its clause on the corners.
+/// Forwards to `Mesh::split`, under its clause on the outcome.
 pub fn split<P: PtrKey, T: Copy + Drop, A: ChainArenaTrait<P, T> + Drop>(
     mesh: &mut Mesh<P, T, A>,
     u: P,
     v: P,
 ) -> Result<Option<(P, P)>, ReallocationError>
-    ensures { IfOk result (λ r. IfSome r (λ copies.
-        AreCopied (A.entry mesh.old) (A.entry mesh.new)
-        (P.key u) (P.key v) (P.key copies.0) (P.key copies.1))) }
+    ensures { SplitsRing A.view A.entry A.interlinks P.key P.Inx.greatest mesh.old (P.key u)
+        (P.key v) result mesh.new }
 {
     mesh.split(u, v)
 }

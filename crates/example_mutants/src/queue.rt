@@ -1,18 +1,17 @@
 // Forwarding wrappers of calls of `RunQueue`.
-ghost use Rattle.std.specs.Prelude.{◌≡◌, ◌<◌, length, IfSome, IsOk};
-ghost use Rattle.chain_examples.specs.QueueOrder.{IsCancelled};
+ghost use Rattle.std.specs.Prelude.{IfSome};
+ghost use Rattle.chain_examples.specs.QueueOrder.{IsCancelled, SpawnsTask};
 
 use arena_ptr::{PtrKey, ReallocationError};
 use chain_examples::RunQueue;
 use chain_traits::ChainArenaTrait;
 
-/// Forwards to `RunQueue::spawn`, under its clause on success within the capacity.
+/// Forwards to `RunQueue::spawn`, under its clause on the outcome.
 pub fn spawn<P: PtrKey, T: Drop, A: ChainArenaTrait<P, T> + Drop>(
     queue: &mut RunQueue<P, T, A>,
     task: T,
 ) -> Result<P, ReallocationError>
-    ensures { length queue.old.order < queue.old.capacity
-        → IsOk result × (queue.new.capacity ≡ queue.old.capacity) }
+    ensures { SpawnsTask P.key P.Inx.greatest queue.old task result queue.new }
 {
     queue.spawn(task)
 }

@@ -1,8 +1,8 @@
 -- The type parameters of the calls are those of the function.
 use Rattle.chain_examples.proofs.growth.reserve.Goals as goal
 
-pub len-len-requires : goal.len-len-requires
-len-len-requires g c κs = λ outlives. outlives
+pub len-requires : goal.len-requires
+len-requires g c κs = λ outlives. outlives
 
 pub capacity-requires : goal.capacity-requires
 capacity-requires g c κs = λ outlives. outlives

@@ -14,4 +14,4 @@ returns-in_err-q-clause-texts g c = subst (λ o. IsClosed g.A.ArenaTrait.entry g
     (closes_left g.A.ArenaTrait.entry g.A.ChainArenaTrait.interlinks c.args.self.now c.args.self.now (option_map g.P.PtrKey.key c.args.end) refl)
 
 pub returns-clause-texts : goal.returns-clause-texts
-returns-clause-texts g c = rw (c.in_ok-p.was, c.in_ok-q.was) (closes_both g.A.ArenaTrait.entry g.A.ChainArenaTrait.interlinks c.args.self.now c.join.new.self (g.P.PtrKey.key c.in_ok-p.p) (g.P.PtrKey.key c.in_ok-q.q) c.join.ensures.texts c.join.ensures.others)
+returns-clause-texts g c = rw (c.in_ok-p.was, c.in_ok-q.was) (closes_both g.A.ArenaTrait.entry g.A.ChainArenaTrait.interlinks c.args.self.now c.join.new.self (g.P.PtrKey.key c.in_ok-p.p) (g.P.PtrKey.key c.in_ok-q.q) c.join.ensures.texts c.join.ensures.others.others)

@@ -1,24 +1,21 @@
 -- The paragraph is separated and put after `q`.
-use Rattle.std.proofs.Common.{◌≡◌, ap, ◌∙◌, sym, refl}
+use Rattle.std.proofs.Common.{◌≡◌, [], ◌∷◌, ◌∙◌, sym, refl}
 use Rattle.std.proofs.lemmas.Bool.{false≢true}
 use Rattle.arena_traits.specs.Arena.{IsValid}
-use Rattle.chain_traits.proofs.GenericRemovalLemmas.{same_entry}
+use Rattle.chain_laws.specs.Chains.{linear}
+use Rattle.chain_examples.proofs.ListChangeLemmas.{changes_only}
 use Rattle.chain_examples.proofs.ItemMoveLemmas.{moved_after, keeps_moved}
 use Rattle.chain_examples.proofs.documents.Documents.move_after.Goals as goal
 
 pub returns-clause-texts : goal.returns-clause-texts
 returns-clause-texts g c = moved_after g.A.ArenaTrait.entry g.A.ChainArenaTrait.interlinks c.args.self.now c.set_apart.new.self c.put_after.new.self (g.P.PtrKey.key c.args.p) (g.P.PtrKey.key c.args.q)
-    c.set_apart.ensures.texts c.set_apart.ensures.others c.put_after.ensures.texts c.put_after.ensures.others
+    c.set_apart.ensures.texts c.set_apart.ensures.others.others c.put_after.ensures.texts c.put_after.ensures.others.others
 
 pub returns-clause-others : goal.returns-clause-others
-returns-clause-others g c = keeps_moved g.A.ArenaTrait.entry g.A.ChainArenaTrait.interlinks c.args.self.now c.set_apart.new.self c.put_after.new.self (g.P.PtrKey.key c.args.p) (g.P.PtrKey.key c.args.q)
-    c.set_apart.ensures.texts c.set_apart.ensures.others c.put_after.ensures.texts c.put_after.ensures.others
-
-pub returns-clause-paragraphs : goal.returns-clause-paragraphs
-returns-clause-paragraphs g c = same_entry (λ x. (g.A.ArenaTrait.view x).entries) g.A.ArenaTrait.entry g.met.A.ArenaTrait.finds c.args.self.now c.put_after.new.self (ap (λ s. s.entries) (c.put_after.ensures.view_after ∙ c.set_apart.ensures.view_after))
-
-pub returns-clause-view_after : goal.returns-clause-view_after
-returns-clause-view_after g c = c.put_after.ensures.view_after ∙ c.set_apart.ensures.view_after
+returns-clause-others g c = changes_only g.A.ArenaTrait.view g.A.ArenaTrait.entry g.A.ChainArenaTrait.interlinks g.met.A.ArenaTrait.finds linear c.args.self.now c.put_after.new.self (g.P.PtrKey.key c.args.p ∷ g.P.PtrKey.key c.args.q ∷ [])
+    (keeps_moved g.A.ArenaTrait.entry g.A.ChainArenaTrait.interlinks c.args.self.now c.set_apart.new.self c.put_after.new.self (g.P.PtrKey.key c.args.p) (g.P.PtrKey.key c.args.q)
+    c.set_apart.ensures.texts c.set_apart.ensures.others.others c.put_after.ensures.texts c.put_after.ensures.others.others)
+    (c.put_after.ensures.others.view_after ∙ c.set_apart.ensures.others.view_after)
 
 pub returns-clause-some : goal.returns-clause-some
 returns-clause-some g c =
@@ -37,8 +34,6 @@ returns-in_err-set_apart g c =
     rw (c.from_residual.ensures, same) (record {
       some = (λ is. absurd (cc), λ all. absurd (let apart = c.in_err-set_apart.ensures.some.1 all.0 in cc));
       texts = tt;
-      others = λ items absent is. is;
-      paragraphs = refl;
-      view_after = refl;
+      others = record { others = λ items absent is. is; entries = refl; view_after = refl };
       none = refl;
     })

@@ -1,26 +1,26 @@
 -- The break is before the paragraph, if another precedes.
-use Rattle.std.proofs.Common.{ap, ◌∙◌}
-use Rattle.chain_laws.specs.Chains.{prev_of}
+use Rattle.std.proofs.Common.{[], ◌∷◌}
+use Rattle.chain_laws.specs.Chains.{linear, prev_of}
 use Rattle.chain_laws.specs.Cuts.{Cuts}
-use Rattle.chain_traits.proofs.GenericRemovalLemmas.{same_entry}
-use Rattle.chain_traits.proofs.OutcomeLemmas.{on_some, either_some}
-use Rattle.chain_examples.proofs.DocumentLemmas.{Breaks, breaks, begins_with, keeps_begun}
+use Rattle.chain_examples.proofs.DocumentLemmas.{Breaks, breaks_prev_if, breaks_prev, breaks_prev_view, begins_with, keeps_begun}
+use Rattle.chain_examples.proofs.ListChangeLemmas.{changes_only}
 use Rattle.chain_examples.proofs.documents.Documents.split_before.Given.{Over}
 use Rattle.chain_examples.proofs.documents.Documents.split_before.Goals.{After-break_prev}
 use Rattle.chain_examples.proofs.documents.Documents.split_before.Goals as goal
 
 break : (g : Over) (c : After-break_prev g) → Breaks g.A.ArenaTrait.entry g.A.ChainArenaTrait.interlinks c.self.inside.paragraphs c.break_prev.new.self (g.P.PtrKey.key c.args.p) (prev_of (g.A.ChainArenaTrait.interlinks c.self.inside.paragraphs) (g.P.PtrKey.key c.args.p).0)
     (λ b. Cuts (g.A.ChainArenaTrait.interlinks c.self.inside.paragraphs) (g.A.ChainArenaTrait.interlinks c.break_prev.new.self) b (g.P.PtrKey.key c.args.p).0)
-break g c = breaks g.A.ArenaTrait.entry g.A.ChainArenaTrait.interlinks c.self.inside.paragraphs c.break_prev.new.self (g.P.PtrKey.key c.args.p) (prev_of (g.A.ChainArenaTrait.interlinks c.self.inside.paragraphs) (g.P.PtrKey.key c.args.p).0) _ c.break_prev.result
-    c.break_prev.ensures.some c.break_prev.ensures.chains
-    (on_some c.break_prev.result c.break_prev.ensures.view_after (λ view_after. same_entry (λ x. (g.A.ArenaTrait.view x).entries) g.A.ArenaTrait.entry g.met.A.ArenaTrait.finds c.self.inside.paragraphs c.break_prev.new.self (ap (λ s. s.entries) view_after))) c.break_prev.ensures.none
+break g c = breaks_prev g.A.ArenaTrait.view g.A.ArenaTrait.entry g.A.ChainArenaTrait.interlinks g.met.A.ArenaTrait.finds c.self.inside.paragraphs c.break_prev.new.self (g.P.PtrKey.key c.args.p) c.break_prev.result c.break_prev.ensures.outcome c.break_prev.ensures.none
 
 pub returns : goal.returns
-returns g c = record {
-  some = rw (← c.self.view_is) c.break_prev.ensures.some;
-  texts = rw (← c.self.view_is) (begins_with g.A.ArenaTrait.entry g.A.ChainArenaTrait.interlinks c.self.inside.paragraphs c.break_prev.new.self (g.P.PtrKey.key c.args.p) (break g c));
-  others = rw (← c.self.view_is) (keeps_begun g.A.ArenaTrait.entry g.A.ChainArenaTrait.interlinks c.self.inside.paragraphs c.break_prev.new.self (g.P.PtrKey.key c.args.p) c.agrees.ensures (break g c));
-  paragraphs = either_some c.break_prev.result c.break_prev.ensures.view_after c.break_prev.ensures.none (λ some view_after. same_entry (λ x. (g.A.ArenaTrait.view x).entries) g.A.ArenaTrait.entry g.met.A.ArenaTrait.finds c.self.inside.paragraphs c.break_prev.new.self (ap (λ s. s.entries) view_after)) (λ same. ap g.A.ArenaTrait.entry same) ∙ ap g.A.ArenaTrait.entry c.self.view_is;
-  view_after = either_some c.break_prev.result c.break_prev.ensures.view_after c.break_prev.ensures.none (λ some view_after. view_after) (λ same. ap g.A.ArenaTrait.view same) ∙ ap g.A.ArenaTrait.view c.self.view_is;
-  none = rw (← c.self.view_is) c.break_prev.ensures.none;
-}
+returns g c =
+    let a = c.self.inside.paragraphs in
+    let new = c.break_prev.new.self in
+    let p = g.P.PtrKey.key c.args.p in
+    record {
+      some = rw (← c.self.view_is) (breaks_prev_if g.A.ArenaTrait.view g.A.ArenaTrait.entry g.A.ChainArenaTrait.interlinks g.met.A.ArenaTrait.finds a new p c.break_prev.result c.break_prev.ensures.outcome);
+      texts = rw (← c.self.view_is) (begins_with g.A.ArenaTrait.entry g.A.ChainArenaTrait.interlinks a new p (break g c));
+      others = rw (← c.self.view_is) (changes_only g.A.ArenaTrait.view g.A.ArenaTrait.entry g.A.ChainArenaTrait.interlinks g.met.A.ArenaTrait.finds linear a new (p ∷ []) (keeps_begun g.A.ArenaTrait.entry g.A.ChainArenaTrait.interlinks a new p c.agrees.ensures (break g c))
+          (breaks_prev_view g.A.ArenaTrait.view g.A.ArenaTrait.entry g.A.ChainArenaTrait.interlinks g.met.A.ArenaTrait.finds a new p c.break_prev.result c.break_prev.ensures.outcome c.break_prev.ensures.none));
+      none = rw (← c.self.view_is) c.break_prev.ensures.none;
+    }

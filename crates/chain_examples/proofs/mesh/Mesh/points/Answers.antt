@@ -13,8 +13,5 @@ returns-clause-some g c = rw (← c.self.view_is) (
   λ _. refl,
 )
 
-pub returns-clause-first : goal.returns-clause-first
-returns-clause-first g c = rw (← c.self.view_is) c.in_ok-a.ensures.value
-
-pub returns-clause-second : goal.returns-clause-second
-returns-clause-second g c = rw (← c.self.view_is) c.in_ok-b.ensures.value
+pub returns-clause-points : goal.returns-clause-points
+returns-clause-points g c = rw (← c.self.view_is) (c.in_ok-a.ensures.value, c.in_ok-b.ensures.value)

@@ -15,13 +15,13 @@ add_before-first-requires-clause-capacity g c = rw c.self.view_is (let within_ca
 pub add_after-second-requires-clause-valid : goal.add_after-second-requires-clause-valid
 add_after-second-requires-clause-valid g c =
     let v = g.P.PtrKey.key c.args.v in
-    let stored = stored_kept (g.A.ArenaTrait.entry c.self.inside.corners) (g.A.ArenaTrait.entry c.add_before-first.new.corners) (g.P.PtrKey.key c.add_before-first.result) c.add_before-first.ensures.corner.free c.add_before-first.ensures.corner.rest
+    let stored = stored_kept (g.A.ArenaTrait.entry c.self.inside.corners) (g.A.ArenaTrait.entry c.add_before-first.new.corners) (g.P.PtrKey.key c.add_before-first.result) c.add_before-first.ensures.corner.item.free c.add_before-first.ensures.corner.item.rest
     ((v, c.args.both.1) ∷ []) (rw c.self.view_is (c.requires.second, tt)) in
     record { value = c.args.both.1; stored = stored.0 }
 
 pub add_after-second-requires-clause-capacity : goal.add_after-second-requires-clause-capacity
 add_after-second-requires-clause-capacity g c =
-    let size = c.add_before-first.ensures.size ∙ ap (λ (a : g.row.A.Denot). count (g.A.ArenaTrait.view a) + 1) c.self.view_is in
+    let size = c.add_before-first.ensures.corner.size ∙ ap (λ (a : g.row.A.Denot). count (g.A.ArenaTrait.view a) + 1) c.self.view_is in
     let capacity = c.add_before-first.ensures.capacity ∙ ap (λ (a : g.row.A.Denot). (g.A.ArenaTrait.view a).capacity) c.self.view_is in
     let within_capacity = c.requires.capacity in
     omega arith
@@ -39,19 +39,21 @@ returns g c =
     let v = g.P.PtrKey.key c.args.v in
     let p = g.P.PtrKey.key c.add_before-first.result in
     let q = g.P.PtrKey.key c.add_after-second.result in
-    let before = c.add_before-first.ensures in
-    let after = c.add_after-second.ensures in
-    let change = c.exchange.ensures in
+    let before = c.add_before-first.ensures.corner in
+    let after = c.add_after-second.ensures.corner in
+    let change = c.exchange.ensures.rings in
     let at_u = rw (← c.self.view_is) at c.requires.first in
     let at_v = rw (← c.self.view_is) at c.requires.second in
     record {
-      rings = rw (← c.self.view_is) (splits g.A.ArenaTrait.entry g.A.ChainArenaTrait.interlinks old first second new u v p q c.args.both.0 c.args.both.1 at_u at_v before.ring after.ring change.cut);
-      bridged = rw (← c.self.view_is) (bridges g.A.ArenaTrait.entry g.A.ChainArenaTrait.interlinks old first second new u v p q c.args.both.0 c.args.both.1 at_u at_v before.corner after.corner
-          before.ring before.others after.ring after.others change.merged);
-      corners = rw (← c.self.view_is) (subst (λ e. AreCopied (g.A.ArenaTrait.entry old) e u v p q) (sym change.corners)
-          (copies_added (g.A.ArenaTrait.entry old) (g.A.ArenaTrait.entry first) (g.A.ArenaTrait.entry second) p q c.args.both.0 c.args.both.1 before.corner after.corner u v at_u at_v));
-      others = rw (← c.self.view_is) (keeps_split g.A.ArenaTrait.entry g.A.ChainArenaTrait.interlinks old first second new u v p q c.args.both.0 c.args.both.1 before.corner.free before.others after.others change.others);
-      size = rw (← c.self.view_is) (let view_after = ap (λ s. count s) change.view_after in let one = before.size in let two = after.size in omega arith);
-      capacity = rw (← c.self.view_is) (ap (λ s. s.capacity) change.view_after ∙ (after.capacity ∙ before.capacity));
-      maximum = rw (← c.self.view_is) (ap (λ s. s.maximum) change.view_after ∙ (after.maximum ∙ before.maximum));
+      rings = rw (← c.self.view_is) (record {
+        split = splits g.A.ArenaTrait.entry g.A.ChainArenaTrait.interlinks old first second new u v p q c.args.both.0 c.args.both.1 at_u at_v before.list after.list change.cut;
+        bridged = bridges g.A.ArenaTrait.entry g.A.ChainArenaTrait.interlinks old first second new u v p q c.args.both.0 c.args.both.1 at_u at_v before.item after.item
+            before.list before.others after.list after.others change.merged;
+        copies = subst (λ e. AreCopied (g.A.ArenaTrait.entry old) e u v p q) (sym change.rest.entries)
+            (copies_added (g.A.ArenaTrait.entry old) (g.A.ArenaTrait.entry first) (g.A.ArenaTrait.entry second) p q c.args.both.0 c.args.both.1 before.item after.item u v at_u at_v);
+        others = keeps_split g.A.ArenaTrait.entry g.A.ChainArenaTrait.interlinks old first second new u v p q c.args.both.0 c.args.both.1 before.item.free before.others after.others change.rest.others;
+        size = let view_after = ap (λ s. count s) change.rest.view_after in let one = before.size in let two = after.size in omega arith;
+        maximum = ap (λ s. s.maximum) change.rest.view_after ∙ (after.maximum ∙ before.maximum);
+      });
+      capacity = rw (← c.self.view_is) (ap (λ s. s.capacity) change.rest.view_after ∙ (c.add_after-second.ensures.capacity ∙ c.add_before-first.ensures.capacity));
     }

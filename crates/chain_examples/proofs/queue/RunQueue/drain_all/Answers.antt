@@ -14,8 +14,7 @@ loop-k-preserved g c =
       left = omega (arith, ap length taken, inv.left);
       len = omega (arith, pushed.len, inv.len);
       fits = omega (arith, pushed.capacity, inv.fits);
-      capacity = c.in-Some.ensures.capacity ∙ inv.capacity;
-      maximum = c.in-Some.ensures.maximum ∙ inv.maximum;
+      capacity = (c.in-Some.ensures.capacity.0 ∙ inv.capacity.0, c.in-Some.ensures.capacity.1 ∙ inv.capacity.1);
     }
 
 pub unreachable-requires-in-None : goal.unreachable-requires-in-None
@@ -30,6 +29,5 @@ returns g c =
     record {
       drained = (sym (append-nil c.loop-k.drained.items) ∙ (ap (λ (order : List (Item g.row.P-Gen.Denot g.row.T.Denot)). c.loop-k.drained.items ++ map (λ (e : Item g.row.P-Gen.Denot g.row.T.Denot). e.1) order) (sym none) ∙ inv.tasks), none);
       capacity = inv.capacity;
-      maximum = inv.maximum;
       err = tt;
     }

@@ -1,6 +1,7 @@
 -- The drained tasks followed by the turn are the old turn, and all fit in the result.
 use Rattle.std.proofs.Common.{◌≡◌, ◌++◌, ◌+◌, ◌≤◌, length, map, vec_len, vec_capacity}
 use Rattle.chain_examples.specs.Lists.{Item}
+use Rattle.chain_examples.specs.QueueOrder.{KeepsCapacity}
 use Rattle.chain_examples.proofs.queue.RunQueue.drain_all.Given as goal
 
 abbrev pub invariant-loop-k : goal.invariant-loop-k
@@ -9,6 +10,5 @@ invariant-loop-k g l = record {
   left : l.k + length l.self.order ≡ l.count;
   len : vec_len l.drained ≡ l.k;
   fits : l.count ≤ vec_capacity l.drained;
-  capacity : l.self.capacity ≡ l.fn.self.capacity;
-  maximum : l.self.maximum ≡ l.fn.self.maximum;
+  capacity : KeepsCapacity l.fn.self l.self;
 }

@@ -4,7 +4,6 @@ use Rattle.std.specs.Option.{option_map}
 use Rattle.chain_examples.specs.QueueOrder.{with_task}
 use Rattle.chain_examples.proofs.TaskLemmas.{task_written, valid_if_among, among_if_valid, task_found}
 use Rattle.chain_examples.proofs.QueueOrderLemmas.{queue_in}
-use Rattle.chain_examples.proofs.queue.RunQueue.get_mut.Goals.{After-get_mut}
 use Rattle.chain_examples.proofs.queue.RunQueue.get_mut.Goals as goal
 
 pub invariant_of-self-lent : goal.invariant_of-self-lent
