@@ -1,6 +1,6 @@
 -- The progress of a run.
-use Rattle.std.specs.Prelude.{◌≡◌, ℕ, ◌==◌, false, All, ◌⊎◌, List, [], ◌∷◌, ◌++◌, take, Option, Result, Ok, Err}
-use Rattle.std.specs.Io.KnownBytes.{Appends, Keeps}
+use Rattle.std.specs.Prelude.{◌≡◌, ℕ, ◌<◌, ◌≤◌, ◌==◌, false, All, ◌⊎◌, List, [], ◌∷◌, ◌++◌, length, take, Option, IfSome, IfNone, Result, Ok, Err, OnOk, OnErr, IfOk, IfErr}
+use Rattle.std.specs.Io.KnownBytes.{Appends, Consumes, Keeps, IsAtEnd}
 use Rattle.chain_commands.specs.declared.session.ToolError.{ToolError}
 use Rattle.chain_commands.specs.declared.session.ToolError.TheVariants as errors
 use Rattle.chain_commands.specs.Words.{lines_of, whole_lines}
@@ -16,6 +16,46 @@ IsNoEnd c = (c == 10) ≡ false
 pub record EndsFirst (front text back : List ℕ) : Type 0 where
   pub parts : text ≡ front ++ 10 ∷ back
   pub first : All IsNoEnd front
+
+-- The parts of a text before and after its first line feed, or `None` if there is none.
+abbrev pub IsFirstLine : {A : Type 0} → (A → List ℕ) → Option (A × A) → List ℕ → Type 0
+IsFirstLine bytes found text = record {
+  some : IfSome found (λ parts. EndsFirst (bytes parts.0) text (bytes parts.1));
+  none : IfNone found (All IsNoEnd text);
+}
+
+-- The result of writing a text: all is written, or a first part if the writer fails.
+abbrev pub WritesText : {A : Type 0} → Result A ToolError → (held held_after : Option (List ℕ)) → List ℕ → Type 0
+WritesText returned held held_after text = record {
+  ok : OnOk returned (Appends held held_after text);
+  err : OnErr returned ((n : ℕ) × Appends held held_after (take n text));
+  error : IfErr returned (λ e. e ≡ errors.Write);
+}
+
+-- The result of a flush, which writes nothing.
+abbrev pub FlushesOnly : {A : Type 0} → Result A ToolError → (held held_after : Option (List ℕ)) → Type 0
+FlushesOnly returned held held_after = record {
+  kept : Keeps held held_after;
+  error : IfErr returned (λ e. e ≡ errors.Write);
+}
+
+-- The result of a read: the first bytes of the piece were read, none only at the end. If the reader
+-- fails, nothing was read.
+abbrev pub ReadsPiece : Result ℕ ToolError → (left left_after : Option (List ℕ)) → List ℕ → Type 0
+ReadsPiece returned left left_after piece = record {
+  bound : IfOk returned (λ n. n ≤ length piece);
+  bytes : IfOk returned (λ n. Consumes left left_after (take n piece));
+  end : IfOk returned (λ n. n ≡ 0 → 0 < length piece → IsAtEnd left_after);
+  err : OnErr returned (Keeps left left_after);
+  error : IfErr returned (λ e. e ≡ errors.Read);
+}
+
+-- The result of appending to an unfinished line, of which at most 201 bytes are kept.
+abbrev pub KeepsMore : {A : Type 0} → Result A ToolError → (kept kept_after more : List ℕ) → Type 0
+KeepsMore returned kept kept_after more = record {
+  ok : OnOk returned ((rest : List ℕ) → kept ≡ take 201 rest → kept_after ≡ take 201 (rest ++ more));
+  error : IfErr returned (λ e. e ≡ errors.Memory);
+}
 
 -- One executed line: the response is written, in part if the writer fails. After an allocation
 -- failure nothing is written, and only a call may have taken effect.

@@ -1,5 +1,5 @@
 -- The response of the program to a line, and the arena after it.
-use Rattle.std.specs.Prelude.{◌≡◌, ℕ, ◌+◌, ◌≤◌, List, ◌∷◌, [], ◌++◌, map, length, codes, decimal, String, string_bytes, Bool, true, false, Option, None, Some, Ok, Err}
+use Rattle.std.specs.Prelude.{◌≡◌, ℕ, ◌+◌, ◌≤◌, List, ◌∷◌, [], ◌++◌, map, length, codes, decimal, String, string_bytes, Bool, true, false, Option, None, Some, Result, Ok, Err, OnOk, OnErr}
 use Rattle.std.specs.List.{join_with_byte, concat}
 use Rattle.std.specs.String.{string_capacity}
 use Rattle.std.specs.declared.alloc.Global.{Global}
@@ -160,6 +160,13 @@ moves_text moves known = codes "moved " ++ decimal (length moves) ++ concat (map
 abbrev pub HasCapacityForText : String Global → List ℕ → Type 0
 HasCapacityForText text more = length (string_bytes text) + length more ≤ string_capacity text
 
+-- The bytes were appended to the text, and its capacity has not shrunk.
+abbrev pub AppendsBytes : (old new : String Global) → List ℕ → Type 0
+AppendsBytes old new more = record {
+  bytes : string_bytes new ≡ string_bytes old ++ more;
+  capacity : string_capacity old ≤ string_capacity new;
+}
+
 -- A canonical compression as a step, with the old and the new pointer of each
 -- link, by increasing new index.
 pub record RespondsToMoves (old : ToolLinks) (reset : Bool) (text : List ℕ) (new : ToolLinks) : Type 0 where
@@ -186,3 +193,20 @@ RespondsToLine old (Good command) text new = (words : List ℕ) × (text ≡ wor
 -- The line is a call that has taken effect.
 abbrev pub LeavesStep : ToolLinks → Line → ToolLinks → Type 0
 LeavesStep old line new = (call : LinkCall) × (text : List ℕ) × (line ≡ Good (Change call)) × RespondsToCall old call text new
+
+-- The result of a call: its response is in the text. If an allocation for that failed, the call has
+-- taken effect.
+abbrev pub ExecutesCall : {A E : Type 0} → Result A E → ToolLinks → LinkCall → List ℕ → ToolLinks → Type 0
+ExecutesCall returned old call text new = record {
+  ok : OnOk returned (RespondsToCall old call text new);
+  err : OnErr returned ((words : List ℕ) × RespondsToCall old call words new);
+}
+
+-- The result of `moves F`: its response is in the text, which has capacity for a line feed. If an
+-- allocation failed, nothing has changed.
+abbrev pub ExecutesMoves : {A E : Type 0} → Result A E → ToolLinks → Bool → String Global → ToolLinks → Type 0
+ExecutesMoves returned old reset text new = record {
+  ok : OnOk returned (RespondsToMoves old reset (string_bytes text) new);
+  capacity : OnOk returned (HasCapacityForText text (codes "\n"));
+  err : OnErr returned (new ≡ old);
+}

@@ -1,7 +1,7 @@
 -- Lines, words, numbers and pointers in a text of bytes: 10 ends a line, 32 separates words, 46 is
 -- the dot of a pointer.
 use Rattle.std.specs.Prelude.{◌≡◌, refl, ℕ, leb, ◌-◌, ◌==◌, ◌&&◌, nat_lt, nat_le, Bool, true, false}
-use Rattle.std.specs.Prelude.{if◌then◌else◌, List, [], ◌∷◌, length, take, slice_index, filter, Option, Some, None, option_and_then}
+use Rattle.std.specs.Prelude.{if◌then◌else◌, List, [], ◌∷◌, length, take, slice_index, filter, Option, Some, None, IfSome, IfNone, option_and_then}
 use Rattle.std.specs.List.{slice_split, before_first, after_first}
 use Rattle.std.specs.Str.{all_ascii_digits}
 use Rattle.std.specs.Str.Parse.{digits_value}
@@ -40,6 +40,13 @@ is_filled (c ∷ bytes) = true
 -- The words of a text: its nonempty pieces between spaces.
 abbrev pub words_of : List ℕ → List (List ℕ)
 words_of text = filter is_filled (pieces 32 text)
+
+-- The first word of a text and the rest, or `None` if there is no word.
+abbrev pub IsFirstWord : {A : Type 0} → (A → List ℕ) → Option (A × A) → List ℕ → Type 0
+IsFirstWord bytes result text = record {
+  word : IfSome result (λ found. words_of text ≡ bytes found.0 ∷ words_of (bytes found.1));
+  end : IfNone result (words_of text ≡ []);
+}
 
 -- 1 to 10 decimal digits, up to 4294967295.
 abbrev pub is_number : List ℕ → Bool

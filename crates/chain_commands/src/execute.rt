@@ -1,8 +1,8 @@
 //! Execution of lines: each command is one step of the arena or one lookup.
-ghost use Rattle.std.specs.Prelude.{◌≡◌, ℕ, List, ◌⊎◌, Bool, OnOk, OnErr, codes, string_bytes};
+ghost use Rattle.std.specs.Prelude.{◌≡◌, ◌⊎◌, Bool, OnOk, OnErr, codes, string_bytes};
 ghost use Rattle.arena_ptr.specs.ToolPtr.{key_of};
 ghost use Rattle.chain_commands.specs.Commands.{line_of};
-ghost use Rattle.chain_commands.specs.Responses.{RespondsToCall, RespondsToShow, RespondsToChain, RespondsToMoves, RespondsToCommand, RespondsToLine, LeavesStep, HasCapacityForText};
+ghost use Rattle.chain_commands.specs.Responses.{RespondsToShow, RespondsToChain, RespondsToCommand, RespondsToLine, LeavesStep, HasCapacityForText, ExecutesCall, ExecutesMoves};
 
 use crate::command::{Command, Line, parse};
 use crate::infallible_text::{moves_text_capacity, write_moves};
@@ -76,8 +76,7 @@ fn change<S: SlotStack<Item = ArenaSlot<ToolPtr, LinkNoGen<ToolPtr, u32>>>>(
     call: Call<ToolPtr, u32>,
     text: &mut String,
 ) -> Result<(), AllocError>
-    ensures ok { OnOk result (RespondsToCall arena.old call (string_bytes text.new) arena.new) }
-    ensures err { OnErr result ((words : List ℕ) × RespondsToCall arena.old call words arena.new) }
+    ensures { ExecutesCall result arena.old call (string_bytes text.new) arena.new }
 {
     text.clear();
     let reply = apply(arena, call);
@@ -121,9 +120,7 @@ fn moves<S: SlotStack<Item = ArenaSlot<ToolPtr, LinkNoGen<ToolPtr, u32>>>>(
     reset: bool,
     text: &mut String,
 ) -> Result<(), AllocError>
-    ensures ok { OnOk result (RespondsToMoves arena.old reset (string_bytes text.new) arena.new) }
-    ensures capacity { OnOk result (HasCapacityForText text.new (codes "\n")) }
-    ensures err { OnErr result (arena.new ≡ arena.old) }
+    ensures { ExecutesMoves result arena.old reset text.new arena.new }
 {
     text.clear();
     text.reserve(moves_text_capacity(arena.len()))?;

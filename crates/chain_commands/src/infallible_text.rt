@@ -1,9 +1,8 @@
 //! The response to `moves F`, written into reserved capacity without allocating.
-ghost use Rattle.std.specs.Prelude.{◌≡◌, ◌+◌, ◌<◌, ◌≤◌, ◌∷◌, [], ◌++◌, List, length, map, decimal, string_bytes};
+ghost use Rattle.std.specs.Prelude.{◌≡◌, ◌+◌, ◌<◌, ◌≤◌, ◌∷◌, [], List, length, map, decimal};
 ghost use Rattle.std.specs.List.{concat};
-ghost use Rattle.std.specs.String.{string_capacity};
 ghost use Rattle.arena_ptr.specs.ToolPtr.{key_of};
-ghost use Rattle.chain_commands.specs.Responses.{greatest_index, pointer_text, move_text, moves_text, overflow_text, HasCapacityForText};
+ghost use Rattle.chain_commands.specs.Responses.{greatest_index, pointer_text, move_text, moves_text, overflow_text, HasCapacityForText, AppendsBytes};
 
 use arena_ptr::{InvalidationOption, PtrKey, ToolPtr};
 
@@ -20,8 +19,7 @@ pub fn moves_text_capacity(links: usize) -> usize
 /// Appends words, within the capacity.
 fn write_words(text: &mut String, words: &str)
     requires { HasCapacityForText text.old words.now }
-    ensures bytes { string_bytes text.new ≡ string_bytes text.old ++ words.now }
-    ensures capacity { string_capacity text.old ≤ string_capacity text.new }
+    ensures { AppendsBytes text.old text.new words.now }
 {
     text.push_str(words).unwrap();
 }
@@ -30,8 +28,7 @@ fn write_words(text: &mut String, words: &str)
 fn write_digit(text: &mut String, digit: usize)
     requires below { digit < 10 }
     requires capacity { HasCapacityForText text.old ((48 + digit) ∷ []) }
-    ensures bytes { string_bytes text.new ≡ string_bytes text.old ++ (48 + digit) ∷ [] }
-    ensures capacity { string_capacity text.old ≤ string_capacity text.new }
+    ensures { AppendsBytes text.old text.new ((48 + digit) ∷ []) }
 {
     let letter = (b'0' + digit as u8) as char;
     text.push(letter).unwrap();
@@ -40,8 +37,7 @@ fn write_digit(text: &mut String, digit: usize)
 /// Appends a number in decimal, within the capacity.
 fn write_decimal(text: &mut String, n: usize)
     requires { HasCapacityForText text.old (decimal n) }
-    ensures bytes { string_bytes text.new ≡ string_bytes text.old ++ decimal n }
-    ensures capacity { string_capacity text.old ≤ string_capacity text.new }
+    ensures { AppendsBytes text.old text.new (decimal n) }
 {
     if n < 10 {
         write_digit(text, n);
@@ -54,8 +50,7 @@ fn write_decimal(text: &mut String, n: usize)
 /// Appends a pointer, within the capacity.
 fn write_pointer(text: &mut String, p: ToolPtr)
     requires { HasCapacityForText text.old (pointer_text (key_of p)) }
-    ensures bytes { string_bytes text.new ≡ string_bytes text.old ++ pointer_text (key_of p) }
-    ensures capacity { string_capacity text.old ≤ string_capacity text.new }
+    ensures { AppendsBytes text.old text.new (pointer_text (key_of p)) }
 {
     write_decimal(text, p.inx().get() as usize);
     write_words(text, ".");
@@ -65,8 +60,7 @@ fn write_pointer(text: &mut String, p: ToolPtr)
 /// Appends the old and the new pointer of a link, within the capacity.
 fn write_move(text: &mut String, from: ToolPtr, to: ToolPtr)
     requires { HasCapacityForText text.old (move_text (from, to)) }
-    ensures bytes { string_bytes text.new ≡ string_bytes text.old ++ move_text (from, to) }
-    ensures capacity { string_capacity text.old ≤ string_capacity text.new }
+    ensures { AppendsBytes text.old text.new (move_text (from, to)) }
 {
     write_words(text, " ");
     write_pointer(text, from);
@@ -77,9 +71,7 @@ fn write_move(text: &mut String, from: ToolPtr, to: ToolPtr)
 /// Appends the old and the new pointers of links, within the capacity.
 fn write_each(text: &mut String, moves: &[(ToolPtr, ToolPtr)])
     requires { HasCapacityForText text.old (concat (map move_text moves.now)) }
-    ensures bytes { string_bytes text.new ≡ string_bytes text.old ++ concat
-        (map move_text moves.now) }
-    ensures capacity { string_capacity text.old ≤ string_capacity text.new }
+    ensures { AppendsBytes text.old text.new (concat (map move_text moves.now)) }
 {
     let mut rest = moves;
     while let Some((link, others)) = rest.split_first() {
@@ -102,8 +94,7 @@ fn overflow(known: InvalidationOption<()>) -> &'static str
 /// the capacity.
 pub fn write_moves(text: &mut String, moves: &[(ToolPtr, ToolPtr)], known: InvalidationOption<()>)
     requires { HasCapacityForText text.old (moves_text moves.now known) }
-    ensures bytes { string_bytes text.new ≡ string_bytes text.old ++ moves_text moves.now known }
-    ensures capacity { string_capacity text.old ≤ string_capacity text.new }
+    ensures { AppendsBytes text.old text.new (moves_text moves.now known) }
 {
     write_words(text, "moved ");
     write_decimal(text, moves.len());

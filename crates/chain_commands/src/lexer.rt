@@ -1,7 +1,7 @@
 //! The words of a line, and their values as numbers and pointers.
-ghost use Rattle.std.specs.Prelude.{◌≡◌, ◌==◌, ◌∷◌, [], IfSome, IfNone, length, take_while, not};
+ghost use Rattle.std.specs.Prelude.{◌≡◌, ◌==◌, length, take_while, not};
 ghost use Rattle.std.specs.List.{before_first, after_first};
-ghost use Rattle.chain_commands.specs.Words.{without_return, words_of, number_of, index_word, generation_word, pointer_of};
+ghost use Rattle.chain_commands.specs.Words.{without_return, IsFirstWord, number_of, index_word, generation_word, pointer_of};
 
 use arena_ptr::{Gen32, Inx32, PtrKey, ToolPtr};
 
@@ -17,8 +17,7 @@ pub fn without_return(line: &[u8]) -> &[u8]
 
 /// Returns the first word of a text and the rest, or `None` if there is no word.
 pub fn next_word(text: &[u8]) -> Option<(&[u8], &[u8])>
-    ensures word { IfSome result (λ found. words_of text.now ≡ found.0.now ∷ words_of found.1.now) }
-    ensures end { IfNone result (words_of text.now ≡ []) }
+    ensures { IsFirstWord (λ part. part.now) result text.now }
 {
     let (_, text) = text.split_at(spaces(text));
     if text.is_empty() {

@@ -1,10 +1,9 @@
 //! Runs, which read lines from a reader and write the responses to a writer.
-ghost use Rattle.std.specs.Prelude.{◌≡◌, ℕ, List, [], ◌++◌, OnOk, OnErr, IfErr, IfSome, IfNone, All, take, length, Option, None, IfOk, ◌<◌, ◌≤◌, vec_len};
-ghost use Rattle.std.specs.Io.KnownBytes.{Appends, Consumes, Keeps, IsAtEnd};
+ghost use Rattle.std.specs.Prelude.{◌≡◌, ℕ, List, [], ◌++◌, OnOk, IfErr, take, length, None, IfOk, ◌<◌, vec_len};
 ghost use Rattle.arena_ptr.specs.Generations.{two32};
 ghost use Rattle.arena_traits.specs.Arena.{new_arena};
 ghost use Rattle.chain_commands.specs.Responses.{ToolLinks};
-ghost use Rattle.chain_commands.specs.Progress.{TranscribesOne, ExtendsProgress, EndsFirst, IsNoEnd};
+ghost use Rattle.chain_commands.specs.Progress.{TranscribesOne, ExtendsProgress, IsFirstLine, WritesText, FlushesOnly, ReadsPiece, KeepsMore};
 ghost use Rattle.chain_commands.specs.Transcripts.{Ends};
 
 use crate::execute::respond;
@@ -28,10 +27,7 @@ pub enum ToolError {
 
 /// Writes a text to a writer, and retries interrupted writes.
 fn put<W: Write>(writer: &mut W, text: &[u8]) -> Result<(), ToolError>
-    ensures ok { OnOk result (Appends (W.contents writer.old) (W.contents writer.new) text.now) }
-    ensures err { OnErr result ((n : ℕ) × Appends (W.contents writer.old) (W.contents writer.new)
-        (take n text.now)) }
-    ensures error { IfErr result (λ e. e ≡ ToolError.Write) }
+    ensures { WritesText result (W.contents writer.old) (W.contents writer.new) text.now }
 {
     let mut written = 0;
     for _ in 0..u64::MAX {
@@ -70,9 +66,7 @@ fn reply<W: Write, S: SlotStack<Item = ArenaSlot<ToolPtr, LinkNoGen<ToolPtr, u32
 
 /// Appends to an unfinished line, of which at most 201 bytes are kept.
 fn keep(line: &mut Vec<u8>, more: &[u8]) -> Result<(), ToolError>
-    ensures ok { OnOk result ((rest : List ℕ) → line.old.items ≡ take 201 rest
-        → line.new.items ≡ take 201 (rest ++ more.now)) }
-    ensures error { IfErr result (λ e. e ≡ ToolError.Memory) }
+    ensures { KeepsMore result line.old.items line.new.items more.now }
 {
     let (front, _) = more.split_at(more.len().min(201usize.saturating_sub(line.len())));
     match line.extend_from_slice(front) {
@@ -107,8 +101,7 @@ fn end_line<W: Write, S: SlotStack<Item = ArenaSlot<ToolPtr, LinkNoGen<ToolPtr, 
 
 /// Returns the parts of a text before and after its first line feed, or `None` if there is none.
 fn first_line(text: &[u8]) -> Option<(&[u8], &[u8])>
-    ensures some { IfSome result (λ parts. EndsFirst parts.0.now text.now parts.1.now) }
-    ensures none { IfNone result (All IsNoEnd text.now) }
+    ensures { IsFirstLine (λ part. part.now) result text.now }
 {
     let (front, back) = text.split_at(position(b'\n', text));
     match back.split_first() {
@@ -140,8 +133,7 @@ fn feed<W: Write, S: SlotStack<Item = ArenaSlot<ToolPtr, LinkNoGen<ToolPtr, u32>
 
 /// Flushes a writer.
 fn flush<W: Write>(writer: &mut W) -> Result<(), ToolError>
-    ensures kept { Keeps (W.contents writer.old) (W.contents writer.new) }
-    ensures error { IfErr result (λ e. e ≡ ToolError.Write) }
+    ensures { FlushesOnly result (W.contents writer.old) (W.contents writer.new) }
 {
     match writer.flush() {
         Ok(()) => Ok(()),
@@ -151,13 +143,7 @@ fn flush<W: Write>(writer: &mut W) -> Result<(), ToolError>
 
 /// Reads a piece of the input and returns its length in bytes, which is 0 only at the end.
 fn read_piece<R: Read>(reader: &mut R, piece: &mut [u8]) -> Result<usize, ToolError>
-    ensures bound { IfOk result (λ n. n ≤ length piece.new) }
-    ensures bytes { IfOk result (λ n. Consumes (R.remaining reader.old) (R.remaining reader.new)
-        (take n piece.new)) }
-    ensures end { IfOk result (λ n. n ≡ 0 → 0 < length piece.new
-        → IsAtEnd (R.remaining reader.new)) }
-    ensures err { OnErr result (Keeps (R.remaining reader.old) (R.remaining reader.new)) }
-    ensures error { IfErr result (λ e. e ≡ ToolError.Read) }
+    ensures { ReadsPiece result (R.remaining reader.old) (R.remaining reader.new) piece.new }
 {
     match reader.read(piece) {
         Ok(n) => Ok(n),

@@ -1,4 +1,4 @@
-use Rattle.std.proofs.Common.{◌≡◌, ◌∙◌, ◌++◌, ℕ, List, [], Result, Ok, Err, OnOk, ap, refl}
+use Rattle.std.proofs.Common.{◌≡◌, ◌∙◌, ◌++◌, ℕ, List, [], Result, Ok, Err, OnOk, ap}
 use Rattle.arena_ptr.specs.declared.generation.gen32.Gen32.{Gen32}
 use Rattle.chain_links.specs.ChainArena.{LinkView, IsWalkOf}
 use Rattle.chain_commands.specs.Responses.{ToolLinks, IsValidIn, RespondsToChain, walk, walk_text}
@@ -10,4 +10,4 @@ walked_ok a p links before text (Ok x) valid at none written = walk links valid 
 walked_ok a p links before text (Err e) valid at none written = tt
 
 pub returns-in-Some : goal.returns-in-Some
-returns-in-Some g c = walked_ok _ _ _ _ _ c.push_walk.result (c.in-Some.ensures.some.0 refl) c.in-Some.ensures.walk c.clear.ensures.bytes c.push_walk.ensures
+returns-in-Some g c = walked_ok _ _ _ _ _ c.push_walk.result c.in-Some.ensures.0 c.in-Some.ensures.1 c.clear.ensures.bytes c.push_walk.ensures

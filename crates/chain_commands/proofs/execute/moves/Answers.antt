@@ -22,7 +22,7 @@ moves_text_capacity-requires g c = let len = c.len.ensures in omega (arith, len.
 pub write_moves-requires : goal.write_moves-requires
 write_moves-requires g c =
     let made = c.in-Ok.ensures in
-    let as_many = moves_count key_of two32 after32 c.args.reset _ _ _ _ _ c.in-Ok.moves.items made.canonical made.moves in
+    let as_many = moves_count key_of two32 after32 c.args.reset _ _ _ _ _ c.in-Ok.moves.items made.compressed.canonical made.moves in
     let less = c.moves_text_capacity.ensures c.as_slice.result.now c.in-Ok.known (ap length c.as_slice.ensures.value ∙ (as_many ∙ sym c.len.ensures.count)) in
     fits_into (string_bytes c.reserve.new.self) (moves_text c.as_slice.result.now c.in-Ok.known) _ _ _ (c.reserve.ensures.bytes ∙ c.clear.ensures.bytes) less c.in_ok-reserve.ensures.ok
 
@@ -30,13 +30,13 @@ pub returns-in-Ok : goal.returns-in-Ok
 returns-in-Ok g c =
     let made = c.in-Ok.ensures in
     let none : string_bytes c.reserve.new.self ≡ [] = c.reserve.ensures.bytes ∙ c.clear.ensures.bytes in
-    let as_many = moves_count key_of two32 after32 c.args.reset _ _ _ _ _ c.in-Ok.moves.items made.canonical made.moves in
+    let as_many = moves_count key_of two32 after32 c.args.reset _ _ _ _ _ c.in-Ok.moves.items made.compressed.canonical made.moves in
     let less = c.moves_text_capacity.ensures c.as_slice.result.now c.in-Ok.known (ap length c.as_slice.ensures.value ∙ (as_many ∙ sym c.len.ensures.count)) in
     record {
       ok = record {
         known = c.in-Ok.known;
         moves = c.in-Ok.moves.items;
-        step = (ap Counted made.overflow, record { layout = made.canonical; stack_capacity = made.stack_capacity });
+        step = (ap Counted made.compressed.overflow, record { layout = made.compressed.canonical; stack_capacity = made.compressed.stack_capacity });
         all = made.moves;
         text_is = c.write_moves.ensures.bytes ∙ (ap (λ b. b ++ moves_text c.as_slice.result.now c.in-Ok.known) none ∙ ap (λ items. moves_text items c.in-Ok.known) c.as_slice.ensures.value);
       };

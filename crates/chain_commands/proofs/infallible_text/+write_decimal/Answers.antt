@@ -19,13 +19,18 @@ write_digit-requires-else-n-lt10-clause-capacity t c =
     let front = ap length c.write_decimal.ensures.bytes ∙ length-append (string_bytes c.args.text.now) (decimal (c.args.n / 10)) in
     omega (arith, long, front, c.requires, c.write_decimal.ensures.capacity)
 
-pub returns-then-n-lt10-clause-bytes : goal.returns-then-n-lt10-clause-bytes
-returns-then-n-lt10-clause-bytes t c =
-    c.write_digit.ensures.bytes ∙ ap (λ ds. string_bytes c.args.text.now ++ ds) (sym (decimal_digit c.args.n c.if-n-lt10.true))
+pub returns-then-n-lt10 : goal.returns-then-n-lt10
+returns-then-n-lt10 t c = record {
+  bytes = c.write_digit.ensures.bytes ∙ ap (λ ds. string_bytes c.args.text.now ++ ds) (sym (decimal_digit c.args.n c.if-n-lt10.true));
+  capacity = c.write_digit.ensures.capacity;
+}
 
-pub returns-else-n-lt10-clause-bytes : goal.returns-else-n-lt10-clause-bytes
-returns-else-n-lt10-clause-bytes t c =
+pub returns-else-n-lt10 : goal.returns-else-n-lt10
+returns-else-n-lt10 t c =
     let last = (48 + c.args.n % 10) ∷ [] in
-    c.write_digit-else-n-lt10.ensures.bytes ∙ ap (λ b. b ++ last) c.write_decimal.ensures.bytes
-    ∙ append_assoc (string_bytes c.args.text.now) (decimal (c.args.n / 10)) last
-    ∙ ap (λ ds. string_bytes c.args.text.now ++ ds) (sym (decimal_step c.args.n c.if-n-lt10.false (omega arith)))
+    record {
+      bytes = c.write_digit-else-n-lt10.ensures.bytes ∙ ap (λ b. b ++ last) c.write_decimal.ensures.bytes
+          ∙ append_assoc (string_bytes c.args.text.now) (decimal (c.args.n / 10)) last
+          ∙ ap (λ ds. string_bytes c.args.text.now ++ ds) (sym (decimal_step c.args.n c.if-n-lt10.false (omega arith)));
+      capacity = omega (arith, c.write_decimal.ensures.capacity, c.write_digit-else-n-lt10.ensures.capacity);
+    }
