@@ -1,7 +1,9 @@
 // Forwarding wrappers of calls that no trait has, or whose contract states more than the trait's.
-ghost use Rattle.std.specs.Prelude.{◌≡◌, ◌≤◌, ◌+◌, IsOk, OnSome, OnOk};
+ghost use Rattle.std.specs.Prelude.{◌≡◌, ◌≤◌, ◌+◌, IsOk, OnSome};
+ghost use Rattle.arena_traits.specs.Arena.{ReachesCapacity};
 ghost use Rattle.arena_traits.specs.Entries.{count};
 ghost use Rattle.chain_arena.specs.Drains.{walk_left, without_each};
+ghost use Rattle.chain_arena.specs.Effects.{HaveSameCapacity, SucceedsOrRefuses};
 ghost use Rattle.chain_arena.specs.Transfers.{IsTransfer};
 
 use arena_base::{ArenaSlot, ArenaTrait, CompactArenaTrait, Work};
@@ -38,8 +40,7 @@ pub fn compress_canonical_counted<
     arena.compress_canonical_counted(reset)
 }
 
-/// Forwards to `ChainArena::transfer_canonical_reallocating`, under the clauses on both arenas and
-/// on success within the capacity.
+/// Forwards to `ChainArena::transfer_canonical_reallocating`, under its contract.
 pub fn transfer_canonical_reallocating<
     P: PtrKey,
     T: Drop,
@@ -55,12 +56,15 @@ pub fn transfer_canonical_reallocating<
     map: F,
 ) -> Result<(), ReallocationError>
     requires { F.IsAlwaysCallable map }
-    ensures transferred { OnOk result
+    ensures transferred { SucceedsOrRefuses (count (A.view source.old)) P.Inx.greatest
+        target.old.maximum
         (IsTransfer Q.key P.key Q.Gen.following Q.Gen.wraps F.FnMut new_generation map
-        (A.view source.old) (A.interlinks source.old) (A.view source.new) target.old target.new) }
+        (A.view source.old) (A.interlinks source.old) (A.view source.new) target.old target.new
+        × ReachesCapacity S.may_reach P.Inx.greatest (count (A.view source.old))
+        target.old target.new)
+        ((target.new ≡ target.old) × (source.new ≡ source.old)) result }
     ensures within { count (A.view source.old) ≤ target.old.capacity
-        → IsOk result × (target.new.capacity ≡ target.old.capacity)
-        × (target.new.stack_capacity ≡ target.old.stack_capacity) }
+        → IsOk result × HaveSameCapacity target.new target.old }
 {
     target.transfer_canonical_reallocating(new_generation, source, map)
 }
