@@ -18,8 +18,8 @@ pub fn remove_link_no_gen<P: PtrKey, T: Drop, A: ChainArenaTrait<P, T>>(
     arena: &mut A,
     p: P,
 ) -> InvalidationResult<LinkNoGen<P, T>>
-    ensures { RemovesLink A.view A.entry A.interlinks P.Inx.packed_number P.Gen.following P.Gen.wraps
-        arena.old (P.key p) result arena.new }
+    ensures { RemovesLink A.view A.entry A.interlinks P.Inx.packed_number P.Gen.following
+        P.Gen.wraps arena.old (P.key p) result arena.new }
 {
     arena.remove_link_no_gen(p)
 }

@@ -11,7 +11,8 @@ pub fn merge<P: PtrKey, T: Drop, A: ChainArenaTrait<P, T> + Drop>(
     u: P,
     v: P,
 ) -> Option<()>
-    ensures { ExchangesSuccessors A.view A.entry A.interlinks mesh.old mesh.new (P.key u) (P.key v) }
+    ensures { ExchangesSuccessors A.view A.entry A.interlinks mesh.old mesh.new (P.key u)
+        (P.key v) }
 {
     mesh.merge(u, v)
 }
