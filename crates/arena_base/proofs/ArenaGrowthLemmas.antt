@@ -1,12 +1,12 @@
 -- The reach of an arena's growth.
-use Rattle.std.proofs.Common.{◌≡◌, ℕ, ◌+◌, ◌<◌, ◌≤◌, Option, None, Some, Result, Ok, Err, OnOk, OnErr, IsErr, ◌↔◌, ◌⊎◌, inl, inr, refl, ap, sym, ◌∙◌, subst, arith}
+use Rattle.std.proofs.Common.{◌≡◌, ℕ, ◌+◌, ◌<◌, ◌≤◌, Option, Result, Ok, Err, OnOk, OnErr, ◌↔◌, ◌⊎◌, inl, inr, refl, ap, sym, ◌∙◌, subst, arith}
 use Rattle.std.proofs.lemmas.Bool.Decides.{leb_tells}
-use Rattle.arena_core.specs.SlotStack.{IsBeyond, IsWithinMaximum}
+use Rattle.arena_core.specs.SlotStack.{IsBeyond}
 use Rattle.arena_core.specs.declared.errors.ReallocationError.{ReallocationError}
 use Rattle.arena_core.specs.declared.errors.ReallocationError.TheVariants as refused
-use Rattle.arena_traits.specs.Arena.{Arena, entry_count, with_capacity_of, IsCapacityFor, IsWithinReach}
+use Rattle.arena_traits.specs.Arena.{Arena, entry_count, with_capacity_of, IsWithinReach}
 use Rattle.arena_traits.specs.Entries.{view_of}
-use Rattle.arena_traits.specs.Growth.{RefusesToFit, RefusesOneMore}
+use Rattle.arena_traits.specs.Growth.{RefusesToFit, RefusesOneMore, Reserves}
 use Rattle.arena_traits.proofs.ArenaViewLemmas.{length-entries}
 use Rattle.arena_base.specs.Growths.{HasGrownFor, GrowsArenaFor, GrowsArenaForOneMore}
 
@@ -25,11 +25,6 @@ module _ {Gen T : Type 0} (may_reach : ℕ → Option ℕ → ℕ → ℕ → Ty
   pub same_reach : (mid : Arena Gen T) {capacity : ℕ} → capacity ≡ mid.stack_capacity → IsWithinReach may_reach n old mid
       → (capacity ≡ old.stack_capacity) ⊎ may_reach old.stack_capacity old.maximum n capacity
   same_reach mid same reached = subst (λ c. (c ≡ old.stack_capacity) ⊎ may_reach old.stack_capacity old.maximum n c) (sym same) reached
-
--- A number is not beyond a maximum if one at least as great is within it.
-pub not_beyond : (maximum : Option ℕ) (n m : ℕ) → n ≤ m → IsWithinMaximum maximum m → IsBeyond maximum n → ⊥
-not_beyond None n m less within beyond = beyond
-not_beyond (Some most) n m less within beyond = omega (arith, less, within, beyond)
 
 -- A growth that fails has a reason.
 pub refuses_to_fit : {Gen T : Type 0} (n : ℕ) (old : Arena Gen T) (why : ReallocationError) → old.capacity < n → (why ≡ refused.BeyondMaxCapacity) ↔ IsBeyond old.maximum n → RefusesToFit n (view_of old) why
@@ -56,22 +51,6 @@ module _ {Gen T : Type 0} (may_reach : ℕ → Option ℕ → ℕ → ℕ → Ty
   grows_for_one_more (Ok done) new full grown = grown
   grows_for_one_more (Err why) new full grown = refuses_one_more old why full grown
 
-  -- The maximum is the only bound that is reported.
-  pub grown_beyond : (n : ℕ) (r : Result Unit ReallocationError) (new : Arena Gen T) → GrowsArenaFor may_reach greatest n old r new → (r ≡ Err refused.BeyondMaxCapacity) ↔ IsBeyond old.maximum n
-  grown_beyond n (Ok done) new grown =
-      let within : IsWithinMaximum old.maximum new.capacity = subst (λ m. IsWithinMaximum m new.capacity) (ap (λ a. a.maximum) grown.state) grown.capacity.capacity.0.within_maximum in
-      (λ is. cc, λ above. absurd (not_beyond old.maximum n new.capacity grown.capacity.capacity.0.fits within above))
-  grown_beyond n (Err refused.BeyondMaxCapacity) new why = (λ is. why.1, λ above. refl)
-  grown_beyond n (Err refused.AllocError) new why = (λ is. cc, λ above. absurd (why.1 above))
-
-  pub grown_greatest : (n : ℕ) (r : Result Unit ReallocationError) (new : Arena Gen T) → GrowsArenaFor may_reach greatest n old r new → greatest < n → IsErr r
-  grown_greatest n (Ok done) new grown above = absurd (omega (arith, above, grown.capacity.capacity.0.fits, grown.capacity.capacity.0.at_most_greatest))
-  grown_greatest n (Err why) new grown above = refl
-
-  pub grown_capacity : (n : ℕ) (r : Result Unit ReallocationError) (new : Arena Gen T) → GrowsArenaFor may_reach greatest n old r new → OnOk r (IsCapacityFor greatest new.maximum n new.capacity)
-  grown_capacity n (Ok done) new grown = grown.capacity.capacity.0
-  grown_capacity n (Err why) new grown = tt
-
   -- What holds after any growth.
   pub grown_state : (n : ℕ) (r : Result Unit ReallocationError) (new : Arena Gen T) → GrowsArenaFor may_reach greatest n old r new → OnErr r (new ≡ old) → new ≡ with_capacity_of old new
   grown_state n (Ok done) new grown refused = grown.state
@@ -85,3 +64,9 @@ module _ {Gen T : Type 0} (may_reach : ℕ → Option ℕ → ℕ → ℕ → Ty
   grown_least n (Ok done) new grown refused =
       elim (leb_tells n old.capacity) [ inl few ↦ subst (λ (a : Arena Gen T). old.capacity ≤ a.capacity) (sym (grown.within few.1)) (omega arith) | inr more ↦ omega (arith, more.1, grown.capacity.capacity.0.fits) ]
   grown_least n (Err why) new grown refused = subst (λ (a : Arena Gen T). old.capacity ≤ a.capacity) (sym refused) (omega arith)
+
+  -- A growth is a reservation.
+  pub grown_reserves : (n : ℕ) (r : Result Unit ReallocationError) (new : Arena Gen T) → GrowsArenaFor may_reach greatest n old r new → Reserves greatest n (view_of old) r (view_of new)
+  grown_reserves n (Ok done) new grown =
+      (ap view_of grown.state, (grown.capacity.capacity.0, λ few. ap (λ a. a.capacity) (grown.within few)), grown_least n (Ok done) new grown tt)
+  grown_reserves n (Err why) new why_refused = why_refused

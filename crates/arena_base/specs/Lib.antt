@@ -3,3 +3,8 @@ pub mod DetachedSlots
 pub mod GatheredSlots
 pub mod Copies
 pub mod Growths
+pub mod Removals
+pub mod CopyOutcomes
+pub mod CompactorCalls
+pub mod SlotCalls
+pub mod ArenaCalls

@@ -1,14 +1,13 @@
 // The generational arena and its inherent functions.
-ghost use Rattle.std.specs.Prelude.{◌≡◌, [], min, ◌<◌, ◌≤◌, ◌+◌, ◌↔◌, IsTrue, IsSome, IfSome, IfNone, OnErr, Some, None, length, drop, take, slice_index_or, map, ◌^◌};
-ghost use Rattle.std.specs.Option.{option_map};
+ghost use Rattle.std.specs.Prelude.{◌≡◌, [], min, ◌<◌, ◌+◌, ◌↔◌, IsSome, OnErr, Some, None, drop, take};
 ghost use Rattle.arena_core.specs.SlotStack.{IsBeyond};
-ghost use Rattle.arena_core.specs.Invalidation.{invalidation_option, invalidation_result};
-ghost use Rattle.arena_base.specs.Slots.{entry_of, ThreadsFreeList};
+ghost use Rattle.arena_base.specs.ArenaCalls.{IncrementsCounter, IsBacking, ReportsFull, ReturnsPairAt, ReturnsNext, ReturnsPointer, RenewsEntry, DetachesSlots};
 ghost use Rattle.arena_base.specs.Growths.{GrowsArenaFor, GrowsArenaForOneMore, InsertsGrowing, InsertsIfFree};
-ghost use Rattle.arena_traits.specs.Entries.{entries, entries_from, key_at, first_key, last_key, IsNextEntry};
+ghost use Rattle.arena_base.specs.Removals.{TakesEntryAt};
+ghost use Rattle.arena_traits.specs.Entries.{entries, entries_from, first_key, last_key};
 ghost use Rattle.arena_traits.specs.Advancers.{ahead};
-ghost use Rattle.arena_base.specs.DetachedSlots.{held_of, arena_without_slots, arena_after_return, IsPacked, with_placement, with_touch};
-ghost use Rattle.arena_traits.specs.Arena.{entry_at, entry_count, next_index, insert_next, remove_at, invalidate_at, with_counter, with_maximum, new_arena, HasCapacityFor};
+ghost use Rattle.arena_base.specs.DetachedSlots.{arena_after_return, IsPacked, with_placement, with_touch};
+ghost use Rattle.arena_traits.specs.Arena.{entry_at, entry_count, next_index, insert_next, with_counter, with_maximum, new_arena};
 
 use crate::detached_slots::DetachedSlots;
 use crate::free_list::{relist, trim};
@@ -98,8 +97,7 @@ impl<P: PtrKey, T: Drop, S: SlotStack<Item = ArenaSlot<P, T>>> Arena<P, T, S> {
 
     /// Increments the counter. Returns `GenerationOverflow` if it wrapped to two.
     pub fn inc_generation(&mut self) -> InvalidationOption<()>
-        ensures overflow { result ≡ invalidation_option (P.Gen.wraps self.old.counter) tt }
-        ensures after { self.new ≡ with_counter self.old (P.Gen.following self.old.counter) }
+        ensures { IncrementsCounter P.Gen.following P.Gen.wraps self.old result self.new }
     {
         let (next, overflow) = self.counter.generational_inc();
         self.counter = next;
@@ -108,11 +106,8 @@ impl<P: PtrKey, T: Drop, S: SlotStack<Item = ArenaSlot<P, T>>> Arena<P, T, S> {
 
     /// Returns the slots.
     pub fn backing(&self) -> &S
-        ensures slots { map entry_of (S.items result.now) ≡ self.now.slots }
-        ensures freed { ThreadsFreeList P.Inx.packed_number (S.items result.now) self.now.freed }
-        ensures capacity { S.capacity result.now ≡ self.now.stack_capacity }
-        ensures arena_capacity { self.now.capacity ≡ min (S.capacity result.now) P.Inx.greatest }
-        ensures maximum { S.maximum result.now ≡ self.now.maximum }
+        ensures { IsBacking S.items S.capacity S.maximum P.Inx.packed_number P.Inx.greatest self.now
+            result.now }
     {
         &self.slots
     }
@@ -173,8 +168,7 @@ impl<P: PtrKey, T: Drop, S: SlotStack<Item = ArenaSlot<P, T>>> Arena<P, T, S> {
 
     // Returns whether there are as many entries as the capacity.
     pub(crate) fn is_full(&self) -> bool
-        ensures full { IsTrue result ↔ (entry_count self.now ≡ self.now.capacity) }
-        ensures capacity { HasCapacityFor P.Inx.greatest (entry_count self.now) self.now }
+        ensures { ReportsFull P.Inx.greatest self.now result }
     {
         self.len == self.slots.capacity().min(P::Inx::greatest())
     }
@@ -196,10 +190,7 @@ impl<P: PtrKey, T: Drop, S: SlotStack<Item = ArenaSlot<P, T>>> Arena<P, T, S> {
     // Returns the pointer and the value of the entry at position `k`, from 0, if there is one.
     pub(crate) fn pair_at(&self, k: usize) -> Option<(P, &T)>
         requires { k < P.Inx.greatest }
-        ensures key { option_map (λ e. P.key e.0) result ≡ option_map (key_at (k + 1))
-            (slice_index_or self.now.slots k None) }
-        ensures value { option_map (λ e. e.1.now) result ≡ option_map (λ e. e.1)
-            (slice_index_or self.now.slots k None) }
+        ensures { ReturnsPairAt P.key self.now.slots k result }
     {
         match self.slots.get(k) {
             Some(ArenaSlot::Allocated(generation, t)) => {
@@ -215,10 +206,7 @@ impl<P: PtrKey, T: Drop, S: SlotStack<Item = ArenaSlot<P, T>>> Arena<P, T, S> {
     // Continuing from a position does not wait for a generation to load, as an index out of a
     // pointer would.
     pub(crate) fn next_from(&self, from: usize) -> Option<(usize, P, &T)>
-        ensures none { IfNone result (entries_from (from + 1) (drop from self.now.slots) ≡ []) }
-        ensures some { IfSome result (λ e. IsNextEntry self.now.slots from e.0
-            (P.key e.1) e.2.now) }
-        ensures fits { IfSome result (λ e. e.0 + 1 < 2 ^ 64) }
+        ensures { ReturnsNext P.key self.now.slots from result }
     {
         if from >= self.slots.len() {
             return None;
@@ -231,10 +219,7 @@ impl<P: PtrKey, T: Drop, S: SlotStack<Item = ArenaSlot<P, T>>> Arena<P, T, S> {
 
     // Searches slot by slot for the first entry at position `from` or later.
     fn search_from(&self, from: usize) -> Option<(usize, P, &T)>
-        ensures none { IfNone result (entries_from (from + 1) (drop from self.now.slots) ≡ []) }
-        ensures some { IfSome result (λ e. IsNextEntry self.now.slots from e.0
-            (P.key e.1) e.2.now) }
-        ensures fits { IfSome result (λ e. e.0 + 1 < 2 ^ 64) }
+        ensures { ReturnsNext P.key self.now.slots from result }
     {
         for k in from..self.slots.len() {
             if let Some(pair) = self.pair_at(k) {
@@ -246,9 +231,8 @@ impl<P: PtrKey, T: Drop, S: SlotStack<Item = ArenaSlot<P, T>>> Arena<P, T, S> {
 
     // Returns the valid pointer of least index at position `from` or later.
     pub(crate) fn first_from(&self, from: usize) -> Option<P>
-        ensures key { option_map P.key result ≡ first_key
-            (entries_from (from + 1) (drop from self.now.slots)) }
-        ensures fits { IfSome result (λ p. (P.key p).0 + 1 < 2 ^ 64) }
+        ensures { ReturnsPointer P.key
+            (first_key (entries_from (from + 1) (drop from self.now.slots))) result }
     {
         match self.next_from(from) {
             Some(next) => Some(next.1),
@@ -258,9 +242,7 @@ impl<P: PtrKey, T: Drop, S: SlotStack<Item = ArenaSlot<P, T>>> Arena<P, T, S> {
 
     // Returns the valid pointer of greatest index up to index `to`.
     pub(crate) fn last_to(&self, to: usize) -> Option<P>
-        ensures key { option_map P.key result
-            ≡ last_key (entries_from 1 (take to self.now.slots)) }
-        ensures fits { IfSome result (λ p. (P.key p).0 + 1 < 2 ^ 64) }
+        ensures { ReturnsPointer P.key (last_key (entries_from 1 (take to self.now.slots))) result }
     {
         for k in (0..to.min(self.slots.len())).rev() {
             if let Some(pair) = self.pair_at(k) {
@@ -272,8 +254,7 @@ impl<P: PtrKey, T: Drop, S: SlotStack<Item = ArenaSlot<P, T>>> Arena<P, T, S> {
 
     // Returns the pointer of the first entry ahead of a cursor.
     pub(crate) fn find(&self, cursor: Cursor) -> Option<P>
-        ensures key { option_map P.key result ≡ first_key (ahead cursor (entries self.now)) }
-        ensures fits { IfSome result (λ p. (P.key p).0 + 1 < 2 ^ 64) }
+        ensures { ReturnsPointer P.key (first_key (ahead cursor (entries self.now))) result }
     {
         match cursor {
             Cursor::Up(from) => self.first_from(from.saturating_sub(1)),
@@ -299,11 +280,8 @@ impl<P: PtrKey, T: Drop, S: SlotStack<Item = ArenaSlot<P, T>>> Arena<P, T, S> {
 
     // Removes the entry at an index, if there is one, and increments the counter.
     pub(crate) fn take_at(&mut self, i: P::Inx) -> InvalidationResult<(P::Gen, T)>
-        ensures returned { result ≡ invalidation_result (P.Gen.wraps self.old.counter)
-            (entry_at self.old (P.Inx.number i)) }
-        ensures some { IsSome (entry_at self.old (P.Inx.number i))
-            → self.new ≡ remove_at P.Gen.following self.old (P.Inx.number i) }
-        ensures none { entry_at self.old (P.Inx.number i) ≡ None → self.new ≡ self.old }
+        ensures { TakesEntryAt P.Gen.following P.Gen.wraps self.old (P.Inx.number i) result
+            self.new }
     {
         match vacate_at(&mut self.slots, position_of::<P>(i), self.first_free) {
             Some(entry) => {
@@ -321,9 +299,8 @@ impl<P: PtrKey, T: Drop, S: SlotStack<Item = ArenaSlot<P, T>>> Arena<P, T, S> {
     // Increments the counter and makes it the generation of the entry at an index.
     pub(crate) fn renew_at(&mut self, i: P::Inx) -> (P::Gen, bool)
         requires { IsSome (entry_at self.old (P.Inx.number i)) }
-        ensures next { result.0 ≡ P.Gen.following self.old.counter }
-        ensures overflow { result.1 ≡ P.Gen.wraps self.old.counter }
-        ensures after { self.new ≡ invalidate_at P.Gen.following self.old (P.Inx.number i) }
+        ensures { RenewsEntry P.Gen.following P.Gen.wraps (P.Inx.number i) self.old result
+            self.new }
     {
         let (generation, overflow) = self.counter.generational_inc();
         self.counter = generation;
@@ -333,9 +310,7 @@ impl<P: PtrKey, T: Drop, S: SlotStack<Item = ArenaSlot<P, T>>> Arena<P, T, S> {
 
     // Takes the slots, and leaves the arena empty over a new stack.
     pub(crate) fn take_slots(&mut self) -> DetachedSlots<P, T, S>
-        ensures held { result ≡ held_of self.old }
-        ensures after { self.new ≡ arena_without_slots S.initial_maximum self.old }
-        ensures fits { length self.old.slots ≤ P.Inx.greatest }
+        ensures { DetachesSlots S.initial_maximum P.Inx.greatest self.old result self.new }
     {
         let empty = S::new(self.slots.allocator());
         let slots = mem::replace(&mut self.slots, empty);

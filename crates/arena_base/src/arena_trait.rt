@@ -1,11 +1,9 @@
 // The implementation of the arena traits for `Arena`.
-ghost use Rattle.std.specs.Prelude.{◌≡◌, ◌≤◌, ◌<◌, ◌+◌, ◌^◌, length, All, IfSome};
-ghost use Rattle.arena_core.specs.Invalidation.{value_within, is_overflow_result, invalidation_option};
-ghost use Rattle.std.specs.Option.{option_map};
-ghost use Rattle.arena_traits.specs.Arena.{counter_after_clear, overflows_after_clear, entry_count, with_counter, HasCapacityFor, IsListed};
+ghost use Rattle.std.specs.Prelude.{◌≡◌, length};
+ghost use Rattle.arena_traits.specs.Arena.{counter_after_clear, overflows_after_clear, entry_count, HasCapacityFor, IsListed};
 ghost use Rattle.arena_traits.specs.Compressions.{counter_after_compression, overflows_after_compression};
-ghost use Rattle.arena_core.specs.Numbers.{IsWithin};
-ghost use Rattle.arena_traits.specs.Entries.{entries, view_of, index_of, CoverSlots};
+ghost use Rattle.arena_base.specs.ArenaCalls.{ReturnsCounter, BeginsGeneration};
+ghost use Rattle.arena_traits.specs.Entries.{entries, view_of, count, IsSoundView};
 
 use crate::advancer::PtrAdvancer;
 use crate::arena::Arena;
@@ -29,6 +27,8 @@ impl<P: PtrKey, T: Drop, S: SlotStack<Item = ArenaSlot<P, T>>> ArenaTrait<P, T> 
 
     ghost entry = { entry_at };
 
+    ghost state = { λ a. record { ascends = entries_ascend a; finds = found-entries a } };
+
     ghost cursor = { λ a. a.cursor };
 
     ghost starts = { IsNewWithCapacity S.may_reach P.Gen.first S.initial_maximum };
@@ -44,10 +44,6 @@ impl<P: PtrKey, T: Drop, S: SlotStack<Item = ArenaSlot<P, T>>> ArenaTrait<P, T> 
     ghost clears = { λ a b. b ≡ arena_after_clear P.Gen.following a };
 
     ghost compresses = { λ a b. b.stack_capacity ≡ a.stack_capacity };
-
-    ghost ascends = { entries_ascend };
-
-    ghost finds = { found-entries };
 
     ghost advances = { λ a b arena returned given. given };
 
@@ -75,12 +71,8 @@ impl<P: PtrKey, T: Drop, S: SlotStack<Item = ArenaSlot<P, T>>> ArenaTrait<P, T> 
     }
 
     fn len(&self) -> usize
-        ensures count { result ≡ length (view_of self.now).entries }
-        ensures fits { result ≤ (view_of self.now).capacity }
-        ensures one_more { result + 1 < 2 ^ 64 }
-        ensures indexes { All (λ e. IsWithin P.Inx.greatest (index_of e))
-            (view_of self.now).entries }
-        ensures filled { IfSome (view_of self.now).slots (CoverSlots (view_of self.now).entries) }
+        ensures count { result ≡ count (view_of self.now) }
+        ensures sound { IsSoundView P.Inx.greatest (view_of self.now) }
         ensures entries { result ≡ entry_count self.now }
 
         // The slots, the freed list and the capacity of every arena.
@@ -173,7 +165,13 @@ impl<P: PtrKey, T: Drop, S: SlotStack<Item = ArenaSlot<P, T>>> ArenaTrait<P, T> 
         if !self.contains(p) {
             return InvalidationResult::InvalidPtr;
         }
-        value_alone(self.remove_inx(p.inx()))
+        match self.remove_inx(p.inx()) {
+            InvalidationResult::Success((_, t)) => InvalidationResult::Success(t),
+            InvalidationResult::GenerationOverflow((_, t)) => {
+                InvalidationResult::GenerationOverflow(t)
+            }
+            InvalidationResult::InvalidPtr => InvalidationResult::InvalidPtr,
+        }
     }
 
     fn remove_inx(&mut self, i: P::Inx) -> InvalidationResult<(P::Gen, T)> {
@@ -203,22 +201,10 @@ impl<P: PtrKey, T: Drop, S: SlotStack<Item = ArenaSlot<P, T>>> ArenaTrait<P, T> 
 impl<P: PtrKey, T: Drop, S: SlotStack<Item = ArenaSlot<P, T>>> CompactArenaTrait<P, T>
     for Arena<P, T, S> {}
 
-// Drops the generation from the result of a removal.
-fn value_alone<G: Drop, T>(removed: InvalidationResult<(G, T)>) -> InvalidationResult<T>
-    ensures value { value_within result ≡ option_map (λ e. e.1) (value_within removed) }
-    ensures overflow { is_overflow_result result ≡ is_overflow_result removed }
-{
-    match removed {
-        InvalidationResult::Success((_, t)) => InvalidationResult::Success(t),
-        InvalidationResult::GenerationOverflow((_, t)) => InvalidationResult::GenerationOverflow(t),
-        InvalidationResult::InvalidPtr => InvalidationResult::InvalidPtr,
-    }
-}
-
 // Returns the counter after `count` entries were cleared, and whether it overflowed.
 fn after_clear<G: GenKey>(counter: G, count: usize) -> (G, bool)
-    ensures next { result.0 ≡ counter_after_clear G.following count counter }
-    ensures overflow { result.1 ≡ overflows_after_clear G.wraps count counter }
+    ensures { ReturnsCounter (counter_after_clear G.following count counter)
+        (overflows_after_clear G.wraps count counter) result }
 {
     if count == 0 {
         (counter, false)
@@ -229,8 +215,8 @@ fn after_clear<G: GenKey>(counter: G, count: usize) -> (G, bool)
 
 // Returns the counter after a compression of `count` entries, and whether it overflowed.
 fn after_compression<G: GenKey>(counter: G, count: usize, reset: bool) -> (G, bool)
-    ensures next { result.0 ≡ counter_after_compression G.first G.following reset count counter }
-    ensures overflow { result.1 ≡ overflows_after_compression G.wraps reset count counter }
+    ensures { ReturnsCounter (counter_after_compression G.first G.following reset count counter)
+        (overflows_after_compression G.wraps reset count counter) result }
 {
     if reset {
         (G::two(), false)
@@ -244,9 +230,7 @@ impl<P: PtrKey, T: Drop, S: SlotStack<Item = ArenaSlot<P, T>>> Arena<P, T, S> {
     ///
     /// It has no effect: a function calls it where its proof needs one of these facts.
     pub fn invariants(&self)
-        ensures fits { entry_count self.now ≤ self.now.capacity }
-        ensures one_more { length (entries self.now) + 1 < 2 ^ 64 }
-        ensures indexes { All (λ e. IsWithin P.Inx.greatest (index_of e)) (entries self.now) }
+        ensures sound { IsSoundView P.Inx.greatest (view_of self.now) }
 
         // The freed list has each free slot once, so an insertion overwrites no entry.
         ensures listed { IsListed self.now }
@@ -261,11 +245,8 @@ impl<P: PtrKey, T: Drop, S: SlotStack<Item = ArenaSlot<P, T>>> Arena<P, T, S> {
     ///
     /// With `reset` the counter restarts; otherwise it is incremented if there are entries.
     pub fn begin_generation(&mut self, reset: bool) -> InvalidationOption<()>
-        ensures after { self.new ≡ with_counter self.old
-            (counter_after_compression P.Gen.first P.Gen.following reset
-            (length (entries self.old)) self.old.counter) }
-        ensures overflow { result ≡ invalidation_option (overflows_after_compression P.Gen.wraps
-            reset (length (entries self.old)) self.old.counter) tt }
+        ensures { BeginsGeneration P.Gen.first P.Gen.following P.Gen.wraps reset self.old result
+            self.new }
     {
         let (generation, overflow) = after_compression(self.generation(), self.len(), reset);
         self.set_generation(generation);

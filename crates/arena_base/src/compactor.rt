@@ -1,10 +1,11 @@
 // The compactor, which holds the slots of an arena while entries are moved.
-ghost use Rattle.std.specs.Prelude.{◌≡◌, ◌≢◌, ◌≤◌, ◌<◌, ⊤, None, OnSome, IsSome, length};
+ghost use Rattle.std.specs.Prelude.{◌≡◌, ◌≢◌, ◌≤◌, ⊤, None, OnSome, IsSome, length};
 ghost use Rattle.std.specs.Option.{option_map, option_copied_mut};
 ghost use Rattle.std.specs.Borrow.{LendsSo, follows_so, sem};
 ghost use mathlib.Core.Option.{none};
 ghost use Rattle.arena_traits.specs.Arena.{slot_at};
-ghost use Rattle.arena_base.specs.DetachedSlots.{DetachedView, borrowed_parts, with_placed_entry, held_of, IsTouched, IsWrittenAt, arena_without_slots, arena_after_return, IsPacked, with_touch, with_placement, saturating_increment};
+ghost use Rattle.arena_base.specs.DetachedSlots.{DetachedView, borrowed_parts, IsTouched, IsWrittenAt, arena_after_return, IsPacked};
+ghost use Rattle.arena_base.specs.CompactorCalls.{TakesSlots, PlacesEntry, ReturnsSlots};
 
 use crate::arena::Arena;
 use crate::detached_slots::{DetachedSlots, LendsValue};
@@ -39,12 +40,7 @@ pub struct Compactor<
 impl<P: PtrKey, T: Drop, S: SlotStack<Item = ArenaSlot<P, T>>> Arena<P, T, S> {
     /// Takes the slots out of the arena into a compactor, to move entries.
     pub fn compactor(&mut self) -> Compactor<'_, P, T, S>
-        ensures same_reference { result.arena.ghost_name ≡ self.entry.ghost_name }
-        ensures arena { result.arena.now ≡ arena_without_slots S.initial_maximum self.old }
-        ensures held { result.held ≡ held_of self.old }
-        ensures placed { result.placed ≡ 0 }
-        ensures touched { result.touched ≡ 0 }
-        ensures fits { length self.old.slots ≤ P.Inx.greatest }
+        ensures { TakesSlots S.initial_maximum P.Inx.greatest self.entry result }
     {
         let held = self.take_slots();
         Compactor {
@@ -69,12 +65,7 @@ impl<'a, P: PtrKey, T: Drop, S: SlotStack<Item = ArenaSlot<P, T>>> Compactor<'a,
         requires from { P.Inx.number from ≤ length self.old.held.slots }
         requires to { P.Inx.number to ≤ length self.old.held.slots }
         requires entry { IsSome (slot_at self.old.held.slots (P.Inx.number from)) }
-        ensures same_reference { self.new.arena.ghost_name ≡ self.old.arena.ghost_name }
-        ensures arena { self.new.arena.now ≡ with_placement self.old.arena.now }
-        ensures held { self.new.held ≡ with_placed_entry self.old.held (P.Inx.number from)
-            (P.Inx.number to) generation }
-        ensures placed { self.new.placed ≡ saturating_increment self.old.placed }
-        ensures touched { self.new.touched ≡ self.old.touched }
+        ensures { PlacesEntry (P.Inx.number from) (P.Inx.number to) generation self.old self.new }
     {
         self.arena.count_placement();
         self.placed = self.placed.saturating_add(1);
@@ -90,12 +81,7 @@ impl<'a, P: PtrKey, T: Drop, S: SlotStack<Item = ArenaSlot<P, T>>> Compactor<'a,
         requires entry { IsSome (slot_at self.old.held.slots (P.Inx.number from)) }
         requires free { P.Inx.number to ≢ P.Inx.number from
             → slot_at self.old.held.slots (P.Inx.number to) ≡ None }
-        ensures same_reference { self.new.arena.ghost_name ≡ self.old.arena.ghost_name }
-        ensures arena { self.new.arena.now ≡ with_placement self.old.arena.now }
-        ensures held { self.new.held ≡ with_placed_entry self.old.held (P.Inx.number from)
-            (P.Inx.number to) generation }
-        ensures placed { self.new.placed ≡ saturating_increment self.old.placed }
-        ensures touched { self.new.touched ≡ self.old.touched }
+        ensures { PlacesEntry (P.Inx.number from) (P.Inx.number to) generation self.old self.new }
     {
         self.arena.count_placement();
         self.placed = self.placed.saturating_add(1);
@@ -107,10 +93,7 @@ impl<'a, P: PtrKey, T: Drop, S: SlotStack<Item = ArenaSlot<P, T>>> Compactor<'a,
     /// Free slots at the end are removed. The other free slots are listed, with the least index to
     /// be used first.
     pub fn finish(self) -> Work
-        ensures arena { self.exit.0.now ≡ arena_after_return P.Inx.greatest self.entry.arena.now
-            self.entry.held }
-        ensures placed { result.placed ≡ self.entry.placed }
-        ensures touched { result.touched ≡ self.entry.touched }
+        ensures { ReturnsSlots P.Inx.greatest self.entry result self.exit.0.now }
     {
         let Compactor {
             arena,
@@ -127,10 +110,7 @@ impl<'a, P: PtrKey, T: Drop, S: SlotStack<Item = ArenaSlot<P, T>>> Compactor<'a,
     /// Exactly the first `count` slots must be entries.
     pub fn finish_packed(self, count: usize) -> Work
         requires { IsPacked self.held.slots count }
-        ensures arena { self.exit.0.now ≡ arena_after_return P.Inx.greatest self.entry.arena.now
-            self.entry.held }
-        ensures placed { result.placed ≡ self.entry.placed }
-        ensures touched { result.touched ≡ self.entry.touched }
+        ensures { ReturnsSlots P.Inx.greatest self.entry result self.exit.0.now }
     {
         let Compactor {
             arena,

@@ -1,11 +1,8 @@
 // Compaction of the entries to the indexes from 1, in the order of their indexes.
-ghost use Rattle.std.specs.Prelude.{◌≡◌, ◌≢◌, ◌≤◌, ◌<◌, ◌+◌, length, None, OnSome, IfNone};
-ghost use Rattle.std.specs.Option.{option_map};
+ghost use Rattle.std.specs.Prelude.{◌≡◌, ◌≢◌, ◌≤◌, length, None};
 ghost use Rattle.arena_traits.specs.Arena.{slot_at};
-ghost use Rattle.arena_traits.specs.Entries.{entries_from};
-ghost use Rattle.arena_base.specs.DetachedSlots.{with_placed_entry, IsPacked, with_touch, with_placement};
-ghost use Rattle.arena_traits.specs.Compressions.{VisitsAll};
-ghost use Rattle.arena_base.specs.GatheredSlots.{AreClosed, IsGathered, with_totals};
+ghost use Rattle.arena_base.specs.CompactorCalls.{MovesEntry, CompactsEntries};
+ghost use Rattle.arena_base.specs.GatheredSlots.{IsGathered};
 
 use crate::arena::Arena;
 use crate::compactor::{Compactor, SlotAccess};
@@ -24,15 +21,8 @@ fn move_entry<P: PtrKey, T: Drop, S: SlotStack<Item = ArenaSlot<P, T>>>(
     requires to { P.Inx.number to ≤ length compactor.old.held.slots }
     requires free { P.Inx.number to ≢ P.Inx.number from
         → slot_at compactor.old.held.slots (P.Inx.number to) ≡ None }
-    ensures same_reference { compactor.new.arena.ghost_name ≡ compactor.old.arena.ghost_name }
-    ensures returned { result ≡ option_map (λ e. e.0)
-        (slot_at compactor.old.held.slots (P.Inx.number from)) }
-    ensures some { OnSome result
-        ((compactor.new.held ≡ with_placed_entry compactor.old.held (P.Inx.number from)
-        (P.Inx.number to) generation)
-        × (compactor.new.arena.now ≡ with_placement (with_touch compactor.old.arena.now))) }
-    ensures none { IfNone result ((compactor.new.held ≡ compactor.old.held)
-        × (compactor.new.arena.now ≡ with_touch compactor.old.arena.now)) }
+    ensures { MovesEntry (P.Inx.number from) (P.Inx.number to) generation compactor.old result
+        compactor.new }
 {
     let was = match compactor.peek(from) {
         Some((was, _)) => *was,
@@ -54,14 +44,7 @@ fn compact_entries<
 >(compactor: &mut Compactor<'_, P, T, S>, generation: P::Gen, mut map: F) -> usize
     requires callable { F.IsAlwaysCallable map }
     requires fits { length compactor.old.held.slots ≤ P.Inx.greatest }
-    ensures same_reference { compactor.new.arena.ghost_name ≡ compactor.old.arena.ghost_name }
-    ensures closed { AreClosed generation compactor.old.held compactor.new.held }
-    ensures packed { IsPacked compactor.new.held.slots result }
-    ensures visits { VisitsAll F.FnMut P.key map (entries_from 1 compactor.old.held.slots)
-        (entries_from 1 compactor.new.held.slots) }
-    ensures totals { compactor.new.arena.now ≡ with_totals compactor.old.arena.now
-        (length (entries_from 1 compactor.old.held.slots))
-        (length compactor.old.held.slots + length (entries_from 1 compactor.old.held.slots)) }
+    ensures { CompactsEntries F.FnMut P.key generation map compactor.old result compactor.new }
 {
     let mut count = 0;
     for k in 0..compactor.slots() {

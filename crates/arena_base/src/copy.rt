@@ -1,10 +1,6 @@
 // Copying of an arena into another, with other values.
-ghost use Rattle.std.specs.Prelude.{◌≡◌, ◌≤◌, ◌↔◌, ◌⊎◌, [], map, length, IsOk, OnOk, OnErr, Err};
-ghost use Rattle.arena_core.specs.SlotStack.{IsBeyond};
-ghost use Rattle.arena_traits.specs.Arena.{HasCapacityFor, IsWithinReach};
-ghost use Rattle.arena_base.specs.Slots.{entry_of, without_values, KeepsBounds};
-ghost use Rattle.arena_traits.specs.Entries.{entries, entries_from};
-ghost use Rattle.arena_base.specs.Copies.{CopiesBy, HasRefusable, HasSlotsOf, IsAbandonedCopy};
+ghost use Rattle.std.specs.Prelude.{◌≡◌, ◌≤◌, [], length};
+ghost use Rattle.arena_base.specs.CopyOutcomes.{CopiesSlots, CopiesArena};
 
 use crate::arena::Arena;
 use crate::copy_traits::{ArenaCloneFromWith, ValueMap};
@@ -48,15 +44,8 @@ fn copy_slots<
     requires empty { S.items slots.old ≡ [] }
     requires capacity { length (S1.items source.now) ≤ S.capacity slots.old }
     requires fits { length (S1.items source.now) ≤ P.Inx.greatest }
-    ensures alike { OnOk result.0 (without_values (S.items slots.new) ≡ without_values
-        (S1.items source.now)) }
-    ensures copies { OnOk result.0
-        (CopiesBy M.makes P.key values (entries_from 1 (map entry_of (S1.items source.now)))
-        (entries_from 1 (map entry_of (S.items slots.new))) result.1) }
-    ensures ready { OnOk result.0 (M.is_ready result.1) }
-    ensures bounds { KeepsBounds S.capacity S.maximum slots.old slots.new }
-    ensures refused { OnErr result.0
-        (HasRefusable M.may_refuse P.key (entries_from 1 (map entry_of (S1.items source.now)))) }
+    ensures { CopiesSlots M.is_ready M.makes M.may_refuse S.items S.capacity S.maximum P.key values
+        (S1.items source.now) slots.old result slots.new }
 {
     for k in 0..source.len() {
         let slot = match source.get(k) {
@@ -86,24 +75,8 @@ impl<P: PtrKey, T: Drop, S: SlotStack<Item = ArenaSlot<P, T>>> Arena<P, T, S> {
         values: M,
     ) -> (Result<(), ReallocationError>, M)
         requires { M.is_ready values }
-        ensures within { length source.now.slots ≤ self.old.capacity →
-            (IsOk result.0 ⊎ HasRefusable M.may_refuse P.key (entries source.now))
-            × (self.new.capacity ≡ self.old.capacity) }
-        ensures beyond { (result.0 ≡ Err ReallocationError.BeyondMaxCapacity)
-            ↔ IsBeyond self.old.maximum (length source.now.slots) }
-        ensures unchanged { result.0 ≡ Err ReallocationError.BeyondMaxCapacity
-            → (self.new ≡ self.old) × (result.1 ≡ values) }
-        ensures ok { OnOk result.0
-            (HasCapacityFor P.Inx.greatest (length source.now.slots) self.new) }
-        ensures copied { OnOk result.0 (CopiesBy M.makes P.key values (entries source.now)
-            (entries self.new) result.1) }
-        ensures ready { OnOk result.0 (M.is_ready result.1) }
-        ensures slots { OnOk result.0 (HasSlotsOf source.now self.old self.new) }
-        ensures never_less { self.old.capacity ≤ self.new.capacity }
-        ensures reached { IsWithinReach S.may_reach (length source.now.slots) self.old self.new }
-        ensures err { OnErr result.0 (((self.new ≡ self.old) × (result.1 ≡ values))
-            ⊎ (HasRefusable M.may_refuse P.key (entries source.now)
-            × IsAbandonedCopy self.old self.new)) }
+        ensures { CopiesArena M.is_ready M.makes M.may_refuse P.key P.Inx.greatest values source.now
+            S.may_reach self.old result self.new }
     {
         match self.reallocate_min_capacity(source.slots.len()) {
             Ok(()) => {

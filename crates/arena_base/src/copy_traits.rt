@@ -1,9 +1,6 @@
 // The traits of copies of an arena.
-ghost use Rattle.std.specs.Prelude.{◌≡◌, ◌≤◌, ◌↔◌, ◌⊎◌, ⊤, length, IsOk, IfOk, OnOk, OnErr, Err};
-ghost use Rattle.arena_core.specs.SlotStack.{IsBeyond};
-ghost use Rattle.arena_traits.specs.Arena.{IsCapacityFor};
-ghost use Rattle.arena_traits.specs.Entries.{entries};
-ghost use Rattle.arena_base.specs.Copies.{IsCopy, IsCopyBy, HasRefusable, IsAbandonedView};
+ghost use Rattle.std.specs.Prelude.{⊤};
+ghost use Rattle.arena_base.specs.CopyOutcomes.{MakesOrRefuses, CopiesView, CopiesViewWith};
 
 use crate::arena::Arena;
 use crate::copy::ClosureMap;
@@ -33,9 +30,7 @@ pub trait ValueMap<P, U, T>: Drop {
     /// `AllocError`: memory for the value was refused.
     fn map_value(&mut self, p: P, u: &U) -> Result<T, AllocError>
         requires { is_ready self.old }
-        ensures made { IfOk result (λ t. makes self.old p u.now t self.new) }
-        ensures ready { OnOk result (is_ready self.new) }
-        ensures refused { OnErr result (may_refuse p u.now) };
+        ensures { MakesOrRefuses is_ready makes may_refuse self.old p u.now result self.new };
 }
 
 /// An arena that can become a copy of an `Arena`, with values made from the values there.
@@ -69,23 +64,8 @@ pub trait ArenaCloneFromWith<P: PtrKey, T: Drop>: ArenaTrait<P, T> {
         values: M,
     ) -> (Result<(), ReallocationError>, M)
         requires { M.is_ready values }
-        ensures within { length source.now.slots ≤ (Self.view self.old).capacity →
-            (IsOk result.0 ⊎ HasRefusable M.may_refuse P.key (entries source.now))
-            × ((Self.view self.new).capacity ≡ (Self.view self.old).capacity) }
-        ensures beyond { (result.0 ≡ Err ReallocationError.BeyondMaxCapacity)
-            ↔ IsBeyond (Self.view self.old).maximum (length source.now.slots) }
-        ensures unchanged { result.0 ≡ Err ReallocationError.BeyondMaxCapacity
-            → (self.new ≡ self.old) × (result.1 ≡ values) }
-        ensures ok { OnOk result.0 (IsCapacityFor P.Inx.greatest (Self.view self.new).maximum
-            (length source.now.slots) (Self.view self.new).capacity) }
-        ensures copied { OnOk result.0 (IsCopyBy M.makes P.key values source.now
-            (Self.view self.old) (Self.view self.new) result.1) }
-        ensures ready { OnOk result.0 (M.is_ready result.1) }
-        ensures never_less { (Self.view self.old).capacity ≤ (Self.view self.new).capacity }
-        ensures err { OnErr result.0 (((self.new ≡ self.old) × (result.1 ≡ values))
-            ⊎ (HasRefusable M.may_refuse P.key (entries source.now)
-            × IsAbandonedView (Self.view self.old) (Self.view self.new))) }
-        ensures more { OnOk result.0 (copies U source.now self.old self.new) };
+        ensures { CopiesView M.is_ready M.makes M.may_refuse P.key P.Inx.greatest values source.now
+            Self.view (copies U) self.old result self.new };
 
     /// Becomes a copy of `source` as by `clone_from_by`, with the values that `map` returns.
     ///
@@ -103,17 +83,8 @@ pub trait ArenaCloneFromWith<P: PtrKey, T: Drop>: ArenaTrait<P, T> {
         F: FnMut(P, &U) -> T + Drop,
     >(&mut self, source: &Arena<P, U, S1>, map: F) -> Result<(), ReallocationError>
         requires { F.IsAlwaysCallable map }
-        ensures within { length source.now.slots ≤ (Self.view self.old).capacity
-            → IsOk result × ((Self.view self.new).capacity ≡ (Self.view self.old).capacity) }
-        ensures beyond { (result ≡ Err ReallocationError.BeyondMaxCapacity)
-            ↔ IsBeyond (Self.view self.old).maximum (length source.now.slots) }
-        ensures ok { OnOk result (IsCapacityFor P.Inx.greatest (Self.view self.new).maximum
-            (length source.now.slots) (Self.view self.new).capacity) }
-        ensures copied { OnOk result (IsCopy F.FnMut P.key map source.now (Self.view self.old)
-            (Self.view self.new)) }
-        ensures never_less { (Self.view self.old).capacity ≤ (Self.view self.new).capacity }
-        ensures err { OnErr result (self.new ≡ self.old) }
-        ensures more { OnOk result (copies U source.now self.old self.new) }
+        ensures { CopiesViewWith F.FnMut P.key P.Inx.greatest map source.now Self.view (copies U)
+            self.old result self.new }
     {
         let (done, _) = self.clone_from_by(source, ClosureMap { map });
         done

@@ -1,7 +1,8 @@
 // Rebuilding of the freed list after entries were moved.
 ghost use Rattle.std.specs.Prelude.{◌≡◌, ◌≤◌, map, length};
-ghost use Rattle.arena_base.specs.Slots.{entry_of, IsSound, KeepsBounds};
-ghost use Rattle.arena_base.specs.DetachedSlots.{without_free_end, free_from};
+ghost use Rattle.arena_base.specs.Slots.{entry_of, KeepsBounds};
+ghost use Rattle.arena_base.specs.DetachedSlots.{without_free_end};
+ghost use Rattle.arena_base.specs.SlotCalls.{ListsFreeSlots};
 
 use crate::slot::{ArenaSlot, PackedInx, is_free_at, list_at};
 use arena_core::{InxKey, PtrKey, SlotStack};
@@ -25,10 +26,8 @@ pub(crate) fn relist<P: PtrKey, T: Drop, S: SlotStack<Item = ArenaSlot<P, T>>>(
     slots: &mut S,
 ) -> (usize, PackedInx<P::Inx>)
     requires { length (S.items slots.old) ≤ P.Inx.greatest }
-    ensures entries { map entry_of (S.items slots.new) ≡ map entry_of (S.items slots.old) }
-    ensures sound { IsSound P.Inx.packed_number (S.items slots.new) P.Inx.greatest result.0 result.1
-        (free_from 1 (map entry_of (S.items slots.old))) }
-    ensures bounds { KeepsBounds S.capacity S.maximum slots.old slots.new }
+    ensures { ListsFreeSlots S.items S.capacity S.maximum P.Inx.packed_number P.Inx.greatest
+        slots.old result slots.new }
 {
     let mut len = 0;
     let mut head = P::Inx::pack(None);

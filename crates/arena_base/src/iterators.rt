@@ -1,6 +1,7 @@
 // Iterators over the entries of an arena, by ascending index. Each passes every slot once.
-ghost use Rattle.std.specs.Prelude.{◌≡◌, ◌+◌, [], ◌∷◌, drop, IfNone, IfSome};
+ghost use Rattle.std.specs.Prelude.{◌≡◌, ◌+◌, drop};
 ghost use Rattle.arena_core.specs.Invalidation.{value_within};
+ghost use Rattle.arena_base.specs.ArenaCalls.{TakesNext};
 ghost use Rattle.arena_traits.specs.Entries.{entries_from};
 ghost use Rattle.std.specs.Iterator.{YieldsFirstBy, item_count};
 
@@ -14,10 +15,7 @@ impl<P: PtrKey, T: Drop, S: SlotStack<Item = ArenaSlot<P, T>>> Arena<P, T, S> {
     // Removes the first entry at position `from` or later, and returns it with the position after
     // it.
     fn take_from(&mut self, from: usize) -> Option<(usize, P, T)>
-        ensures none { IfNone result ((entries_from (from + 1) (drop from self.old.slots) ≡ [])
-            × (self.new ≡ self.old)) }
-        ensures some { IfSome result (λ e. entries_from (from + 1) (drop from self.old.slots)
-            ≡ (P.key e.1, e.2) ∷ entries_from (e.0 + 1) (drop e.0 self.new.slots)) }
+        ensures { TakesNext P.key from self.old result self.new }
     {
         match self.next_from(from) {
             Some(next) => {

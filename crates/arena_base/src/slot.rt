@@ -1,8 +1,9 @@
 // A slot of an arena, and the operations on a stack of slots.
-ghost use Rattle.std.specs.Prelude.{◌≡◌, ◌+◌, ◌<◌, length, slice_get, slice_set, Some, None, OnSome, IfNone, is_none};
+ghost use Rattle.std.specs.Prelude.{◌≡◌, ◌+◌, ◌<◌, length, slice_get, is_none};
 ghost use Rattle.std.specs.Option.{option_map, option_copied_mut};
 ghost use Rattle.std.specs.Borrow.{LendsIf, sem};
-ghost use Rattle.arena_base.specs.Slots.{entry_of, entry_in, with_value_in, with_generation_in, with_generation_at, IsFree, free_slot, allocated_slot, freed_slot, KeepsBounds};
+ghost use Rattle.arena_base.specs.Slots.{entry_of, entry_in, with_value_in, with_generation_in, IsFree, allocated_slot};
+ghost use Rattle.arena_base.specs.SlotCalls.{VacatesSlot, WritesSlot, RegeneratesSlot, FillsSlot, VacatesSlotAt, ListsSlot};
 
 use arena_core::{InxKey, PackedOption, PtrKey, SlotStack};
 use arena_traits::proved_unreachable;
@@ -52,8 +53,7 @@ impl<P: PtrKey, T> ArenaSlot<P, T> {
 
     // Removes an entry, and makes the slot free, before the freed slot `next`.
     fn vacate(&mut self, next: PackedInx<P::Inx>) -> Option<(P::Gen, T)>
-        ensures entry { result ≡ entry_of self.old }
-        ensures after { self.new ≡ freed_slot self.old next }
+        ensures { VacatesSlot next self.old result self.new }
     {
         match self {
             ArenaSlot::Free(_) => None,
@@ -101,10 +101,7 @@ pub(crate) fn fill<P: PtrKey, T: Drop, S: SlotStack<Item = ArenaSlot<P, T>>>(
     t: T,
 ) -> PackedInx<P::Inx>
     requires { IsFree (slice_get (S.items slots.old) k) }
-    ensures was { slice_get (S.items slots.old) k ≡ Some (free_slot result) }
-    ensures items { S.items slots.new ≡ slice_set (S.items slots.old) k
-        (allocated_slot generation t) }
-    ensures bounds { KeepsBounds S.capacity S.maximum slots.old slots.new }
+    ensures { FillsSlot S.items S.capacity S.maximum k generation t slots.old result slots.new }
 {
     match slots.get_mut(k) {
         Some(slot) => {
@@ -126,11 +123,7 @@ pub(crate) fn vacate_at<P: PtrKey, T: Drop, S: SlotStack<Item = ArenaSlot<P, T>>
     k: usize,
     next: PackedInx<P::Inx>,
 ) -> Option<(P::Gen, T)>
-    ensures entry { result ≡ entry_in (slice_get (S.items slots.old) k) }
-    ensures some { OnSome result (S.items slots.new ≡ slice_set (S.items slots.old) k
-        (free_slot next)) }
-    ensures none { IfNone result (S.items slots.new ≡ S.items slots.old) }
-    ensures bounds { KeepsBounds S.capacity S.maximum slots.old slots.new }
+    ensures { VacatesSlotAt S.items S.capacity S.maximum k next slots.old result slots.new }
 {
     match slots.get_mut(k) {
         Some(slot) => slot.vacate(next),
@@ -146,9 +139,8 @@ pub(crate) fn put_at<P: PtrKey, T: Drop, S: SlotStack<Item = ArenaSlot<P, T>>>(
     t: T,
 )
     requires { k < length (S.items slots.old) }
-    ensures items { S.items slots.new ≡ slice_set (S.items slots.old) k
-        (allocated_slot generation t) }
-    ensures bounds { KeepsBounds S.capacity S.maximum slots.old slots.new }
+    ensures { WritesSlot S.items S.capacity S.maximum k (allocated_slot generation t) slots.old
+        slots.new }
 {
     match slots.get_mut(k) {
         Some(slot) => {
@@ -164,8 +156,7 @@ pub(crate) fn regenerate_at<P: PtrKey, T: Drop, S: SlotStack<Item = ArenaSlot<P,
     k: usize,
     generation: P::Gen,
 )
-    ensures items { S.items slots.new ≡ with_generation_at (S.items slots.old) k generation }
-    ensures bounds { KeepsBounds S.capacity S.maximum slots.old slots.new }
+    ensures { RegeneratesSlot S.items S.capacity S.maximum k generation slots.old slots.new }
 {
     match slots.get_mut(k) {
         Some(slot) => slot.set_generation(generation),
@@ -195,9 +186,8 @@ pub(crate) fn list_at<P: PtrKey, T: Drop, S: SlotStack<Item = ArenaSlot<P, T>>>(
 ) -> PackedInx<P::Inx>
     requires in_bounds { k < length (S.items slots.old) }
     requires fits { k < P.Inx.greatest }
-    ensures index { P.Inx.packed_number result ≡ Some (k + 1) }
-    ensures items { S.items slots.new ≡ slice_set (S.items slots.old) k (free_slot next) }
-    ensures bounds { KeepsBounds S.capacity S.maximum slots.old slots.new }
+    ensures { ListsSlot S.items S.capacity S.maximum P.Inx.packed_number k next slots.old result
+        slots.new }
 {
     match slots.get_mut(k) {
         Some(slot) => {

@@ -1,1 +1,2 @@
 pub mod OptionLemmas
+pub mod PointerKindLemmas

@@ -34,3 +34,9 @@ module _ {T : Type 0} where
   invalidation_result overflow None = outcome.InvalidPtr
   invalidation_result false (Some t) = outcome.Success t
   invalidation_result true (Some t) = outcome.GenerationOverflow t
+
+-- The result with a function applied to the value.
+abbrev pub with_value_of : {X Y : Type 0} → (X → Y) → InvalidationResult X → InvalidationResult Y
+with_value_of f (outcome.Success x) = outcome.Success (f x)
+with_value_of f (outcome.GenerationOverflow x) = outcome.GenerationOverflow (f x)
+with_value_of f outcome.InvalidPtr = outcome.InvalidPtr

@@ -1,5 +1,6 @@
 pub mod Numbers
 pub mod PackedOptions
+pub mod PointerKinds
 pub mod Invalidation
 pub mod PointerText
 pub mod SlotStack

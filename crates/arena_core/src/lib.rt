@@ -2,6 +2,7 @@
 //! results, errors and recasting.
 #![tactic(auto)]
 
+mod any_pointer;
 mod errors;
 mod heap_stack;
 mod invalidation;
@@ -13,6 +14,7 @@ mod slot_stack;
 pub mod slots;
 mod unit_generation;
 
+pub use any_pointer::AnyPointer;
 pub use errors::{
     AllocError, ChainInsertionError, MaxCapacityReductionError, NotWithinCapacityError,
     ReallocationError,

@@ -1,7 +1,7 @@
-ghost use Rattle.std.specs.Prelude.{◌≡◌, ℕ, ◌+◌, ◌^◌, ◌<◌, ◌≤◌, ◌↔◌, ⊤, List, [], ◌∷◌, ◌++◌, length, take, swap, slice_get, slice_set, Option, Some, Ok, Err, IsOk, OnOk, OnErr, option_copied};
+ghost use Rattle.std.specs.Prelude.{◌≡◌, ℕ, ◌+◌, ◌^◌, ◌<◌, ◌≤◌, ◌↔◌, ⊤, List, [], ◌∷◌, ◌++◌, length, take, swap, slice_get, slice_set, Option, Some, IsOk, OnOk, OnErr, option_copied};
 ghost use Rattle.std.specs.Option.{option_copied_mut};
 ghost use Rattle.std.specs.Borrow.{LendsIf, sem};
-ghost use Rattle.arena_core.specs.SlotStack.{IsBeyond, IsWithinMaximum};
+ghost use Rattle.arena_core.specs.SlotStack.{IsWithinMaximum, IsStackWith, ChangesItems, ReservesTo};
 
 use crate::errors::{MaxCapacityReductionError, ReallocationError};
 use std::alloc::Global;
@@ -32,9 +32,7 @@ pub trait SlotStack: Drop {
 
     /// Returns an empty stack of capacity 0, without allocating.
     fn new(alloc: Global) -> Self
-        ensures items { items result ≡ [] }
-        ensures capacity { capacity result ≡ 0 }
-        ensures maximum { maximum result ≡ initial_maximum };
+        ensures { IsStackWith items capacity maximum result [] 0 initial_maximum };
 
     /// Returns the allocator that the stack was made with.
     fn allocator(&self) -> Global;
@@ -62,25 +60,13 @@ pub trait SlotStack: Drop {
     ///
     /// Nothing changes on error.
     fn reserve_to(&mut self, n: usize) -> Result<(), ReallocationError>
-        ensures items { items self.new ≡ items self.old }
-        ensures maximum { maximum self.new ≡ maximum self.old }
-
-        ensures within { n ≤ capacity self.old → (result ≡ Ok tt)
-            × (capacity self.new ≡ capacity self.old) }
-        ensures beyond { (result ≡ Err ReallocationError.BeyondMaxCapacity)
-            ↔ IsBeyond (maximum self.old) n }
-        ensures grown { OnOk result (n ≤ capacity self.new) }
-        ensures reached { OnOk result (capacity self.old < n
-            → may_reach (capacity self.old) (maximum self.old) n (capacity self.new)) }
-        ensures never_less { capacity self.old ≤ capacity self.new }
-        ensures refused { OnErr result (capacity self.new ≡ capacity self.old) };
+        ensures { ReservesTo items capacity maximum may_reach n self.old result self.new };
 
     /// Appends an item within the capacity, which stays the same.
     fn push_within(&mut self, item: Self::Item)
         requires { length (items self.old) < capacity self.old }
-        ensures items { items self.new ≡ items self.old ++ item ∷ [] }
-        ensures capacity { capacity self.new ≡ capacity self.old }
-        ensures maximum { maximum self.new ≡ maximum self.old };
+        ensures { ChangesItems items capacity maximum self.old (items self.old ++ item ∷ [])
+            self.new };
 
     /// Returns the item at position `i`, from 0, or `None` from the length on.
     fn get(&self, i: usize) -> Option<&Self::Item>
@@ -96,16 +82,14 @@ pub trait SlotStack: Drop {
     fn swap(&mut self, i: usize, j: usize)
         requires i_in_bounds { i < length (items self.old) }
         requires j_in_bounds { j < length (items self.old) }
-        ensures items { items self.new ≡ swap (items self.old) i j }
-        ensures capacity { capacity self.new ≡ capacity self.old }
-        ensures maximum { maximum self.new ≡ maximum self.old };
+        ensures { ChangesItems items capacity maximum self.old (swap (items self.old) i j)
+            self.new };
 
     /// Drops the items from position `n` on. The capacity stays the same.
     fn truncate(&mut self, n: usize)
         requires { n ≤ length (items self.old) }
-        ensures items { items self.new ≡ take n (items self.old) }
-        ensures capacity { capacity self.new ≡ capacity self.old }
-        ensures maximum { maximum self.new ≡ maximum self.old };
+        ensures { ChangesItems items capacity maximum self.old (take n (items self.old))
+            self.new };
 
     ghost has_capacity: { (s : Self) → length (items s) ≤ capacity s };
 

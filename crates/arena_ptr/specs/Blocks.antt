@@ -1,5 +1,5 @@
 -- Items in blocks of 64 slots.
-use Rattle.std.specs.Prelude.{◌≡◌, ℕ, ◌+◌, ◌-◌, ◌*◌, ◌/◌, ◌≤◌, List, [], ◌∷◌, length, vec_capacity, min}
+use Rattle.std.specs.Prelude.{◌≡◌, ℕ, ◌+◌, ◌-◌, ◌*◌, ◌/◌, ◌≤◌, List, [], ◌∷◌, length, slice_set, slice_index_or, vec_capacity, min, Result, OnOk, OnErr}
 use Rattle.std.specs.Coded.{le_prop, ×_prop, Coded-set, coded_ℕ}
 use Rattle.std.specs.List.{flat_map}
 use Rattle.std.specs.declared.vec.Vec.{Vec}
@@ -23,6 +23,41 @@ module _ {E : Type 0} where
       let capacity_is : IsProp (64 ≤ vec_capacity block) = le_prop in
       let rest : IsProp (AreFilled blocks (n - 64)) = AreFilled-prop blocks (n - 64) in
       ×_prop full (×_prop capacity_is rest)
+
+  -- An empty block, with capacity for 64 items.
+  abbrev pub IsEmptyBlock : Vec E Global → Type 0
+  IsEmptyBlock block = record {
+    items : block.items ≡ [];
+    capacity : 64 ≤ vec_capacity block;
+  }
+
+  -- Item i of one list is swapped with item j of another; the capacities stay the same.
+  abbrev pub SwapsBetween : (left : Vec E Global) → ℕ → (right : Vec E Global) → ℕ → (left_after right_after : Vec E Global) → Type 0
+  SwapsBetween left i right j left_after right_after = record {
+    one : (d : E) → left_after.items ≡ slice_set left.items i (slice_index_or right.items j d);
+    other : (d : E) → right_after.items ≡ slice_set right.items j (slice_index_or left.items i d);
+    one_capacity : vec_capacity left_after ≡ vec_capacity left;
+    other_capacity : vec_capacity right_after ≡ vec_capacity right;
+  }
+
+  -- The result of adding empty blocks until there are `count`; on error there are as many as before.
+  abbrev pub AddsBlocks : {A Error : Type 0} → Result A Error → (old : List (Vec E Global)) → ℕ → (new : List (Vec E Global)) → Type 0
+  AddsBlocks returned old count new = record {
+    items : items_in new ≡ items_in old;
+    ok : OnOk returned (length new ≡ count);
+    err : OnErr returned (length new ≡ length old);
+  }
+
+  -- These items are in so many blocks.
+  abbrev pub AreBlocksWith : List (Vec E Global) → List E → ℕ → Type 0
+  AreBlocksWith blocks all count = record {
+    items : items_in blocks ≡ all;
+    blocks : length blocks ≡ count;
+  }
+
+  -- The new items are these, in as many blocks as before.
+  abbrev pub ChangesItemsIn : (old : List (Vec E Global)) → List E → (new : List (Vec E Global)) → Type 0
+  ChangesItemsIn old all new = AreBlocksWith new all (length old)
 
 -- The number of slots in the blocks that `n` items need.
 abbrev pub slots_for : ℕ → ℕ

@@ -1,7 +1,7 @@
-ghost use Rattle.std.specs.Prelude.{◌≡◌, ◌+◌, ◌-◌, ◌*◌, ◌^◌, ◌/◌, ◌<◌, ◌≤◌, ◌≢◌, [], ◌∷◌, ◌++◌, length, take, swap, OnSome, OnOk, OnErr, IfOk, slice_get, slice_set, slice_index_or, vec_capacity};
+ghost use Rattle.std.specs.Prelude.{◌≡◌, ◌+◌, ◌-◌, ◌*◌, ◌^◌, ◌/◌, ◌<◌, ◌≤◌, ◌≢◌, [], ◌∷◌, ◌++◌, length, take, swap, OnSome, IfOk, slice_get};
 ghost use Rattle.std.specs.Option.{option_copied, option_copied_mut};
 ghost use Rattle.std.specs.Borrow.{LendsSo, sem};
-ghost use Rattle.arena_ptr.specs.Blocks.{AreFilled, AreFilled-prop, items_in, slots_for};
+ghost use Rattle.arena_ptr.specs.Blocks.{AreFilled, AreFilled-prop, items_in, slots_for, IsEmptyBlock, SwapsBetween, AddsBlocks, AreBlocksWith, ChangesItemsIn};
 
 use arena_core::{ReallocationError, SlotStack};
 use std::alloc::{AllocError, Global};
@@ -28,8 +28,7 @@ pub struct ChunkStack<E> {
 
 // Allocates an empty block.
 fn new_block<E: Drop>(alloc: Global) -> Result<Vec<E>, AllocError>
-    ensures items { IfOk result (λ block. block.items ≡ []) }
-    ensures capacity { IfOk result (λ block. 64 ≤ vec_capacity block) }
+    ensures { IfOk result IsEmptyBlock }
 {
     let mut block = Vec::new(alloc);
     block.reserve_exact(SLOTS)?;
@@ -40,12 +39,7 @@ fn new_block<E: Drop>(alloc: Global) -> Result<Vec<E>, AllocError>
 fn exchange_items<E>(one: &mut Vec<E>, i: usize, other: &mut Vec<E>, j: usize)
     requires i_in_bounds { i < length one.old.items }
     requires j_in_bounds { j < length other.old.items }
-    ensures one { (d : E) → one.new.items ≡ slice_set one.old.items i
-        (slice_index_or other.old.items j d) }
-    ensures other { (d : E) → other.new.items ≡ slice_set other.old.items j
-        (slice_index_or one.old.items i d) }
-    ensures one_capacity { vec_capacity one.new ≡ vec_capacity one.old }
-    ensures other_capacity { vec_capacity other.new ≡ vec_capacity other.old }
+    ensures { SwapsBetween one.old i other.old j one.new other.new }
 {
     mem::swap(&mut one[i], &mut other[j]);
 }
@@ -80,9 +74,8 @@ impl<E: Drop> ChunkStack<E> {
     // Appends an item.
     fn push(&mut self, item: E)
         requires { self.old.len < 64 * length self.old.blocks.items }
-        ensures items { items_in self.new.blocks.items ≡ items_in self.old.blocks.items
-            ++ item ∷ [] }
-        ensures blocks { length self.new.blocks.items ≡ length self.old.blocks.items }
+        ensures { ChangesItemsIn self.old.blocks.items
+            (items_in self.old.blocks.items ++ item ∷ []) self.new.blocks.items }
     {
         self.blocks[self.len / SLOTS].push_reserved(item);
         self.len += 1;
@@ -92,9 +85,8 @@ impl<E: Drop> ChunkStack<E> {
     fn pop(&mut self)
         requires { 0 < self.old.len }
         ensures len { self.new.len + 1 ≡ self.old.len }
-        ensures items { items_in self.new.blocks.items ≡ take self.new.len
-            (items_in self.old.blocks.items) }
-        ensures blocks { length self.new.blocks.items ≡ length self.old.blocks.items }
+        ensures blocks { ChangesItemsIn self.old.blocks.items
+            (take self.new.len (items_in self.old.blocks.items)) self.new.blocks.items }
     {
         self.len -= 1;
         self.blocks[self.len / SLOTS].truncate(self.len % SLOTS);
@@ -103,10 +95,9 @@ impl<E: Drop> ChunkStack<E> {
     // Adds an empty block.
     fn add_block(&mut self) -> Result<(), AllocError>
         requires { 64 * length self.old.blocks.items + 65 < 2 ^ 64 }
-        ensures items { items_in self.new.blocks.items ≡ items_in self.old.blocks.items }
         ensures len { self.new.len ≡ self.old.len }
-        ensures ok { OnOk result (length self.new.blocks.items ≡ length self.old.blocks.items + 1) }
-        ensures err { OnErr result (length self.new.blocks.items ≡ length self.old.blocks.items) }
+        ensures blocks { AddsBlocks result self.old.blocks.items
+            (length self.old.blocks.items + 1) self.new.blocks.items }
     {
         let block = new_block(*self.blocks.allocator())?;
         match self.blocks.push(block) {
@@ -119,8 +110,7 @@ impl<E: Drop> ChunkStack<E> {
     fn drop_blocks(&mut self, count: usize)
         requires few { count ≤ length self.old.blocks.items }
         requires capacity { self.old.len ≤ 64 * count }
-        ensures items { items_in self.new.blocks.items ≡ items_in self.old.blocks.items }
-        ensures blocks { length self.new.blocks.items ≡ count }
+        ensures { AreBlocksWith self.new.blocks.items (items_in self.old.blocks.items) count }
     {
         self.blocks.truncate(count);
     }
@@ -129,9 +119,7 @@ impl<E: Drop> ChunkStack<E> {
     fn add_blocks(&mut self, count: usize) -> Result<(), AllocError>
         requires more { length self.old.blocks.items ≤ count }
         requires few { 64 * count + 1 < 2 ^ 64 }
-        ensures items { items_in self.new.blocks.items ≡ items_in self.old.blocks.items }
-        ensures ok { OnOk result (length self.new.blocks.items ≡ count) }
-        ensures err { OnErr result (length self.new.blocks.items ≡ length self.old.blocks.items) }
+        ensures { AddsBlocks result self.old.blocks.items count self.new.blocks.items }
     {
         let before = self.blocks.len();
         while self.blocks.len() < count {
@@ -146,8 +134,8 @@ impl<E: Drop> ChunkStack<E> {
     // Drops the items from position `n` on.
     fn keep(&mut self, n: usize)
         requires { n ≤ self.old.len }
-        ensures items { items_in self.new.blocks.items ≡ take n (items_in self.old.blocks.items) }
-        ensures blocks { length self.new.blocks.items ≡ length self.old.blocks.items }
+        ensures { ChangesItemsIn self.old.blocks.items (take n (items_in self.old.blocks.items))
+            self.new.blocks.items }
     {
         while n < self.len {
             self.pop();
@@ -159,8 +147,8 @@ impl<E: Drop> ChunkStack<E> {
         requires i_in_bounds { i < self.old.len }
         requires j_in_bounds { j < self.old.len }
         requires apart { i / 64 ≢ j / 64 }
-        ensures items { items_in self.new.blocks.items ≡ swap (items_in self.old.blocks.items) i j }
-        ensures blocks { length self.new.blocks.items ≡ length self.old.blocks.items }
+        ensures { ChangesItemsIn self.old.blocks.items (swap (items_in self.old.blocks.items) i j)
+            self.new.blocks.items }
     {
         let empty = Vec::new(*self.blocks.allocator());
         let mut one = mem::replace(&mut self.blocks[i / SLOTS], empty);
@@ -172,8 +160,8 @@ impl<E: Drop> ChunkStack<E> {
     fn exchange(&mut self, i: usize, j: usize)
         requires i_in_bounds { i < self.old.len }
         requires j_in_bounds { j < self.old.len }
-        ensures items { items_in self.new.blocks.items ≡ swap (items_in self.old.blocks.items) i j }
-        ensures blocks { length self.new.blocks.items ≡ length self.old.blocks.items }
+        ensures { ChangesItemsIn self.old.blocks.items (swap (items_in self.old.blocks.items) i j)
+            self.new.blocks.items }
     {
         if i / SLOTS == j / SLOTS {
             self.blocks[i / SLOTS].swap(i % SLOTS, j % SLOTS);

@@ -10,9 +10,10 @@ mod limited_stack;
 mod tool_ptr;
 
 pub use arena_core::{
-    AllocError, ChainInsertionError, GenKey, HeapStack, InvalidationOption, InvalidationResult,
-    InxKey, LimitStack, MaxCapacityReductionError, NotWithinCapacityError, PackedOption, Ptr,
-    PtrGen, PtrInx, PtrKey, ReallocationError, Recast, Recaster, SetMaxCapacity, SlotStack,
+    AllocError, AnyPointer, ChainInsertionError, GenKey, HeapStack, InvalidationOption,
+    InvalidationResult, InxKey, LimitStack, MaxCapacityReductionError, NotWithinCapacityError,
+    PackedOption, Ptr, PtrGen, PtrInx, PtrKey, ReallocationError, Recast, Recaster, SetMaxCapacity,
+    SlotStack,
 };
 pub use chunk_stack::ChunkStack;
 pub use generation::{Gen8, Gen32, Gen64};

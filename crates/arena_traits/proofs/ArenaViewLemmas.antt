@@ -128,7 +128,7 @@ value_within-made true (Some x) = refl
 module _ {Gen T : Type 0} where
   -- The pointer of an entry that got the next generation.
   pub renewed_key : (following : Gen → Gen) (a b : Arena Gen T) (key : ℕ × Gen) (m made n : ℕ) (g : Gen)
-      → key ≡ (made, g) → made ≡ n → m ≡ n → g ≡ following a.counter → b ≡ invalidate_at following a m → (key.0 ≡ n) × (view_of b ≡ view_after_invalidation (view_of a) key)
+      → key ≡ (made, g) → made ≡ n → m ≡ n → g ≡ following a.counter → b ≡ invalidate_at following a m → (key.0 ≡ n) × (key.1 ≡ following a.counter) × (view_of b ≡ view_after_invalidation (view_of a) key)
   renewed_key following a b key m made n g is at index next after =
       let same : key ≡ (m, following a.counter) = is ∙ (ap (λ i. let k : ℕ × Gen = (i, g) in k) (at ∙ sym index) ∙ ap (λ (h : Gen). let k : ℕ × Gen = (m, h) in k) next) in
-      (ap (λ (k : ℕ × Gen). k.0) is ∙ at, ap view_of after ∙ (viewed_renewed following a m ∙ ap (view_after_invalidation (view_of a)) (sym same)))
+      (ap (λ (k : ℕ × Gen). k.0) is ∙ at, ap (λ (k : ℕ × Gen). k.1) same, ap view_of after ∙ (viewed_renewed following a m ∙ ap (view_after_invalidation (view_of a)) (sym same)))

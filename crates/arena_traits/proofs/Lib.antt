@@ -1,3 +1,4 @@
 pub mod EntrySearchLemmas
 pub mod ArenaViewLemmas
 pub mod ClosureLemmas
+pub mod CallOutcomeLemmas

@@ -1,5 +1,5 @@
 -- The results of an advancer over entries by ascending index.
-use Rattle.std.specs.Prelude.{◌≡◌, ℕ, ◌+◌, ◌-◌, ⊤, cond, leb, List, [], ◌∷◌, reverse, Option, None, Some}
+use Rattle.std.specs.Prelude.{◌≡◌, ℕ, ◌+◌, ◌-◌, cond, leb, List, [], ◌∷◌, reverse, Option, None, Some}
 use Rattle.arena_traits.specs.Entries.{first_key}
 use Rattle.arena_traits.specs.declared.cursor.Cursor.{Cursor}
 use Rattle.arena_traits.specs.declared.cursor.Cursor.TheVariants.{Up, Down, Nowhere}

@@ -1,6 +1,6 @@
 -- The entries of an arena by ascending index, each with its key (index and generation), and the
 -- view of an arena that generic code has.
-use Rattle.std.specs.Prelude.{◌≡◌, ◌↔◌, ℕ, suc, ◌+◌, ◌<◌, ◌≤◌, ◌==◌, ⊤, cond, List, [], ◌∷◌, ◌++◌, map, reverse, length, drop, Option, None, Some, IfSome}
+use Rattle.std.specs.Prelude.{◌≡◌, ◌↔◌, ℕ, suc, ◌+◌, ◌^◌, ◌<◌, ◌≤◌, ◌==◌, ⊤, cond, List, [], ◌∷◌, ◌++◌, map, reverse, length, drop, All, Option, None, Some, IfSome}
 use Rattle.std.specs.Option.{option_map}
 use Rattle.arena_core.specs.Numbers.{IsWithin}
 use Rattle.arena_core.specs.SlotStack.{IsBeyond}
@@ -155,3 +155,17 @@ module _ {Gen T : Type 0} where
     pub entries : s.entries ≡ []
     pub counter : IfSome s.counter (λ g. g ≡ first)
     pub slots : IfSome s.slots (λ slots. slots ≡ record { count = 0; freed = []; placed = 0; touched = 0 })
+
+  -- What holds of the view of every arena, whose pointers have indexes up to the greatest.
+  abbrev pub IsSoundView : ℕ → ArenaView Gen T → Type 0
+  IsSoundView greatest s = record {
+    fits : count s ≤ s.capacity;
+    one_more : count s + 1 < 2 ^ 64;
+    indexes : All (λ e. IsWithin greatest (index_of e)) s.entries;
+    filled : IfSome s.slots (CoverSlots s.entries);
+  }
+
+  -- A view and the entry at each index, which agree: together the state of an arena.
+  pub record ArenaState (view : ArenaView Gen T) (entry : ℕ → Option (Gen × T)) : Type 0 where
+    pub ascends : AscendsFrom 1 view.entries
+    pub finds : (i : ℕ) → found i view.entries ≡ entry i

@@ -3,7 +3,7 @@ use Rattle.std.specs.Prelude.{◌≡◌, ℕ, zero, suc, ◌+◌, ◌<◌, ◌�
 use Rattle.std.proofs.Common.{refl, ap, ◌∙◌, arith}
 use Rattle.std.proofs.lemmas.Bool.{eq-eqb, ne_eqb}
 use Rattle.arena_traits.specs.Arena.{Arena, entry_at}
-use Rattle.arena_traits.specs.Entries.{entries_from, entries, found, AscendsFrom}
+use Rattle.arena_traits.specs.Entries.{ArenaState, view_of, entries_from, entries, found, AscendsFrom}
 
 module _ {Gen T : Type 0} where
   ascends_later : (i j : ℕ) (slots : List (Option (Gen × T))) → i ≤ j → AscendsFrom i (entries_from j slots)
@@ -32,3 +32,7 @@ module _ {Gen T : Type 0} where
   pub found-entries : (a : Arena Gen T) (i : ℕ) → found i (entries a) ≡ entry_at a i
   found-entries a zero = found-below 0 1 a.slots (omega arith)
   found-entries a (suc k) = found-entries_from (suc k) 1 k a.slots (omega arith)
+
+  -- An arena's view and its entry at each index.
+  abbrev pub arena_state : (a : Arena Gen T) → ArenaState (view_of a) (entry_at a)
+  arena_state a = record { ascends = entries_ascend a; finds = found-entries a }

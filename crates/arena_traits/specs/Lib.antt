@@ -5,3 +5,4 @@ pub mod AdvancerLaws
 pub mod EntryLaws
 pub mod Compressions
 pub mod Growth
+pub mod CallOutcomes

@@ -1,19 +1,20 @@
 // The traits by which code can be generic over arenas.
-ghost use Rattle.std.specs.Prelude.{◌≡◌, ℕ, ◌<◌, ◌≤◌, ◌+◌, ◌^◌, ◌↔◌, ◌⊎◌, ⊤, [], length, All, IsTrue, IsSome, IfSome, OnSome, IsOk, IfOk, IsErr, OnOk, OnErr, Some, None, Option, if◌then◌else◌};
+ghost use Rattle.std.specs.Prelude.{◌≡◌, ℕ, ◌≤◌, ◌↔◌, ⊤, [], IsTrue, IsSome, IfSome, OnSome, IfNone, IfOk, OnErr, Some, None, Option, if◌then◌else◌};
 ghost use Rattle.std.specs.Option.{option_map, option_copied_mut};
 ghost use Rattle.std.specs.Borrow.{LendsSo, sem};
-ghost use Rattle.arena_core.specs.Numbers.{IsWithin};
-ghost use Rattle.arena_core.specs.SlotStack.{IsBeyond, IsWithinMaximum};
-ghost use Rattle.arena_core.specs.Invalidation.{value_within, invalidation_result, invalidation_option};
-ghost use Rattle.arena_traits.specs.Arena.{IsCapacityFor, IsValid, borrowed_entry, overflows_after_clear};
-ghost use Rattle.arena_traits.specs.Entries.{ArenaView, CoverSlots, index_of, IsNew, found, AscendsFrom, first_key, last_key, view_after_removal, view_after_invalidation, view_with_value, view_after_clear, with_capacity};
+ghost use Rattle.arena_core.specs.SlotStack.{IsWithinMaximum};
+ghost use Rattle.arena_core.specs.Invalidation.{value_within};
+ghost use Rattle.arena_traits.specs.Arena.{IsValid, borrowed_entry};
+ghost use Rattle.arena_traits.specs.Entries.{ArenaView, ArenaState, IsSoundView, IsNew, count, first_key, last_key, view_with_value};
+ghost use Rattle.arena_traits.specs.Growth.{Reserves};
+ghost use Rattle.arena_traits.specs.CallOutcomes.{StartsWithCapacity, RemovesEntry, RemovesEntryAt, InvalidatesEntry, ClearsEntries, CompressesEntries};
 ghost use Rattle.arena_traits.specs.Advancers.{IsAdvance};
-ghost use Rattle.arena_traits.specs.Compressions.{IsCompressed, VisitsAll, overflows_after_compression, values_in};
+ghost use Rattle.arena_traits.specs.Compressions.{VisitsAll, values_in};
 ghost use Rattle.arena_traits.specs.declared.cursor.Cursor.{Cursor};
 
 use arena_core::{
-    AllocError, GenKey, InvalidationOption, InvalidationResult, InxKey, PtrKey, ReallocationError,
-    SlotStack,
+    AllocError, AnyPointer, GenKey, InvalidationOption, InvalidationResult, InxKey, PtrKey,
+    ReallocationError, SlotStack,
 };
 use std::alloc::Global;
 
@@ -56,6 +57,9 @@ pub trait ArenaTrait<P: PtrKey, T: Drop> {
     // The generation and the value at each index.
     ghost entry: { Self → ℕ → Option (P.Gen × T) };
 
+    // The view and the entries together: they agree.
+    ghost state: { (a : Self) → ArenaState (view a) (entry a) };
+
     // The cursor of an advancer: where it continues.
     ghost cursor: { Self.PtrAdvancer → Cursor };
 
@@ -86,14 +90,10 @@ pub trait ArenaTrait<P: PtrKey, T: Drop> {
     ///
     /// # Errors
     ///
-    /// `AllocError`: `n` is above the greatest index or the maximum of a new stack, or memory was
-    /// refused.
+    /// `AllocError`: `n` is above the greatest index or the maximum of a new stack, or an
+    /// allocation failed.
     fn with_min_capacity(alloc: Global, n: usize) -> Result<Self, AllocError>
-        ensures new { IfOk result (λ a. IsNew P.Gen.first (view a)) }
-        ensures capacity { IfOk result (λ a. n ≤ (view a).capacity) }
-        ensures beyond { IfOk result (λ a. IsWithinMaximum (view a).maximum n) }
-        ensures greatest { P.Inx.greatest < n → IsErr result }
-        ensures no_capacity { n ≡ 0 → IsOk result }
+        ensures outcome { StartsWithCapacity view P.Gen.first P.Inx.greatest n result }
         ensures more { IfOk result (starts n) };
 
     /// Returns the number of entries that fit without growth, at most the greatest index and the
@@ -112,11 +112,8 @@ pub trait ArenaTrait<P: PtrKey, T: Drop> {
     /// Each entry is at an index of the pointer type. If the view has slots, the entries and the
     /// freed list cover them.
     fn len(&self) -> usize
-        ensures count { result ≡ length (view self.now).entries }
-        ensures fits { result ≤ (view self.now).capacity }
-        ensures one_more { result + 1 < 2 ^ 64 }
-        ensures indexes { All (λ e. IsWithin P.Inx.greatest (index_of e)) (view self.now).entries }
-        ensures filled { IfSome (view self.now).slots (CoverSlots (view self.now).entries) };
+        ensures count { result ≡ count (view self.now) }
+        ensures sound { IsSoundView P.Inx.greatest (view self.now) };
 
     /// Returns whether there are no entries.
     fn is_empty(&self) -> bool
@@ -126,20 +123,16 @@ pub trait ArenaTrait<P: PtrKey, T: Drop> {
     ///
     /// # Errors
     ///
+    /// In the order in which they are tested:
+    ///
     /// - `BeyondMaxCapacity`: `n` is above the maximum.
     /// - `AllocError`: `n` is above the greatest index, or an allocation failed.
     ///
     /// Nothing changes on error.
     fn reallocate_min_capacity(&mut self, n: usize) -> Result<(), ReallocationError>
-        ensures within { n ≤ (view self.old).capacity → IsOk result × (self.new ≡ self.old) }
-        ensures beyond { (result ≡ Err ReallocationError.BeyondMaxCapacity)
-            ↔ IsBeyond (view self.old).maximum n }
-        ensures greatest { P.Inx.greatest < n → IsErr result }
-        ensures ok { OnOk result (IsCapacityFor P.Inx.greatest (view self.new).maximum n
-            (view self.new).capacity) }
+        ensures outcome { Reserves P.Inx.greatest n (view self.old) result (view self.new) }
+        ensures enough { n ≤ (view self.old).capacity → self.new ≡ self.old }
         ensures err { OnErr result (self.new ≡ self.old) }
-        ensures after { view self.new ≡ with_capacity (view self.old) (view self.new).capacity }
-        ensures never_less { (view self.old).capacity ≤ (view self.new).capacity }
         ensures more { grows n self.old self.new };
 
     /// Returns the generation counter, if the arena has a single one.
@@ -202,61 +195,38 @@ pub trait ArenaTrait<P: PtrKey, T: Drop> {
     /// Increments the counter, makes it the generation of an entry, and returns the entry's new
     /// pointer.
     ///
-    /// Returns `InvalidPtr`, without a change, if `p` is not valid, and `GenerationOverflow` if the
-    /// counter wrapped to two.
+    /// If the counter wraps to two, that is done all the same, and the pointer is returned in
+    /// `GenerationOverflow`. Returns `InvalidPtr` if `p` is not valid; nothing changes then.
     fn invalidate(&mut self, p: P) -> InvalidationResult<P>
-        ensures some { IsSome (value_within result) ↔ IsValid (entry self.old) (P.key p) }
-        ensures valid { IsValid (entry self.old) (P.key p) → IfSome (value_within result) (λ q.
-            ((P.key q).0 ≡ (P.key p).0)
-            × (view self.new ≡ view_after_invalidation (view self.old) (P.key q)))
-            × IsSome (value_within result) }
-        ensures counter { IfSome (view self.old).counter
-            (λ g. (result ≡ invalidation_result (P.Gen.wraps g) (value_within result))
-            × IfSome (value_within result) (λ q. (P.key q).1 ≡ P.Gen.following g)) }
-        ensures invalid { ¬ IsValid (entry self.old) (P.key p) → (value_within result ≡ None)
-            × (self.new ≡ self.old) }
-        ensures more { IsValid (entry self.old) (P.key p)
-            → renews self.old (P.key p).0 self.new };
+        ensures outcome { InvalidatesEntry state ⟦<P as AnyPointer>⟧.kind self.old p result
+            self.new }
+        ensures invalid { IfNone (value_within result) (self.new ≡ self.old) }
+        ensures more { OnSome (value_within result) (renews self.old (P.key p).0 self.new) };
 
     /// Removes an entry, returns its value and increments the counter.
     ///
-    /// Returns `InvalidPtr`, without a change, if `p` is not valid, and `GenerationOverflow` if the
-    /// counter wrapped to two.
+    /// If that wraps to two, the entry is removed and its value returned in `GenerationOverflow`.
+    /// Returns `InvalidPtr` if `p` is not valid; nothing changes then.
     fn remove(&mut self, p: P) -> InvalidationResult<T>
-        ensures some { IsSome (value_within result) ↔ IsValid (entry self.old) (P.key p) }
-        ensures valid { IsValid (entry self.old) (P.key p)
-            → (value_within result ≡ option_map (λ e. e.1) (entry self.old (P.key p).0))
-            × (view self.new ≡ view_after_removal P.Gen.following (view self.old) (P.key p).0) }
-        ensures overflow { IfSome (view self.old).counter
-            (λ g. result ≡ invalidation_result (P.Gen.wraps g) (value_within result)) }
-        ensures invalid { ¬ IsValid (entry self.old) (P.key p) → (value_within result ≡ None)
-            × (self.new ≡ self.old) }
-        ensures more { IsValid (entry self.old) (P.key p)
-            → removes self.old (P.key p).0 self.new };
+        ensures outcome { RemovesEntry state ⟦<P as AnyPointer>⟧.kind self.old p result self.new }
+        ensures invalid { IfNone (value_within result) (self.new ≡ self.old) }
+        ensures more { OnSome (value_within result) (removes self.old (P.key p).0 self.new) };
 
     /// Removes the entry at an index, returns its generation and value, and increments the counter.
     ///
-    /// Returns `InvalidPtr`, without a change, if no entry is there, and `GenerationOverflow` if
-    /// the counter wrapped to two.
+    /// If that wraps to two, the entry is removed and returned in `GenerationOverflow`. Returns
+    /// `InvalidPtr` if no entry is there; nothing changes then.
     fn remove_inx(&mut self, i: P::Inx) -> InvalidationResult<(P::Gen, T)>
-        ensures returned { value_within result ≡ entry self.old (P.Inx.number i) }
-        ensures overflow { IfSome (view self.old).counter
-            (λ g. result ≡ invalidation_result (P.Gen.wraps g) (value_within result)) }
-        ensures valid { IsSome (entry self.old (P.Inx.number i))
-            → view self.new
-            ≡ view_after_removal P.Gen.following (view self.old) (P.Inx.number i) }
-        ensures invalid { entry self.old (P.Inx.number i) ≡ None → self.new ≡ self.old }
-        ensures more { IsSome (entry self.old (P.Inx.number i))
-            → removes self.old (P.Inx.number i) self.new };
+        ensures outcome { RemovesEntryAt state ⟦<P as AnyPointer>⟧.kind self.old i result
+            self.new }
+        ensures invalid { IfNone (value_within result) (self.new ≡ self.old) }
+        ensures more { OnSome (value_within result) (removes self.old (P.Inx.number i) self.new) };
 
     /// Removes all entries and slots, and increments the counter once if there were entries.
     ///
     /// The capacity stays the same. Returns `GenerationOverflow` if the counter wrapped to two.
     fn clear(&mut self) -> InvalidationOption<()>
-        ensures overflow { IfSome (view self.old).counter
-            (λ g. result ≡ invalidation_option
-            (overflows_after_clear P.Gen.wraps (length (view self.old).entries) g) tt) }
-        ensures after { view self.new ≡ view_after_clear P.Gen.following (view self.old) }
+        ensures outcome { ClearsEntries state ⟦<P as AnyPointer>⟧.kind self.old result self.new }
         ensures more { clears self.old self.new };
 
     /// Compacts the entries: the entry of the k-th least index is moved to index k.
@@ -275,33 +245,23 @@ pub trait ArenaTrait<P: PtrKey, T: Drop> {
         map: F,
     ) -> InvalidationOption<()>
         requires { F.IsAlwaysCallable map }
-        ensures compressed { IsCompressed P.Gen.first P.Gen.following reset (view self.old)
-            (view self.new) }
+        ensures outcome { CompressesEntries state ⟦<P as AnyPointer>⟧.kind self.old reset result
+            self.new }
         ensures visits { VisitsAll F.FnMut P.key map (view self.old).entries
             (view self.new).entries }
-        ensures overflow { IfSome (view self.old).counter
-            (λ g. result ≡ invalidation_option (overflows_after_compression P.Gen.wraps reset
-            (length (view self.old).entries) g) tt) }
         ensures more { compresses self.old self.new };
 
     /// Compacts the entries as `compress_with` does, without a closure. Each value stays the same.
     ///
     /// Returns `GenerationOverflow` if the counter wrapped to two.
     fn compress(&mut self, reset: bool) -> InvalidationOption<()>
-        ensures compressed { IsCompressed P.Gen.first P.Gen.following reset (view self.old)
-            (view self.new) }
+        ensures outcome { CompressesEntries state ⟦<P as AnyPointer>⟧.kind self.old reset result
+            self.new }
         ensures values { values_in (view self.new).entries ≡ values_in (view self.old).entries }
-        ensures overflow { IfSome (view self.old).counter
-            (λ g. result ≡ invalidation_option (overflows_after_compression P.Gen.wraps reset
-            (length (view self.old).entries) g) tt) }
         ensures more { compresses self.old self.new }
     {
         self.compress_with(reset, |_p: P, _t: &mut T, _q: P| {})
     }
-
-    ghost ascends: { (a : Self) → AscendsFrom 1 (view a).entries };
-
-    ghost finds: { (a : Self) (i : ℕ) → found i (view a).entries ≡ entry a i };
 
     ghost advances: { (a b : Self.PtrAdvancer) (c : Self) (r : Option P)
         → Self.PtrAdvancer.gives a c r b → IsAdvance (view c).entries (cursor a)

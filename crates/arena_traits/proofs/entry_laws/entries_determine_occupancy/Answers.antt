@@ -6,14 +6,12 @@ use Rattle.arena_traits.proofs.entry_laws.entries_determine_occupancy.Goals as g
 
 pub returns-clause-same : goal.returns-clause-same
 returns-clause-same g c a b i is =
-    let was_read = g.met.A.ArenaTrait.finds in
-    sym (was_read b i) ∙ (ap (found i) is ∙ was_read a i)
+    sym ((g.A.ArenaTrait.state b).finds i) ∙ (ap (found i) is ∙ (g.A.ArenaTrait.state a).finds i)
 
 pub returns-clause-gone : goal.returns-clause-gone
 returns-clause-gone g c a b i is =
-    sym (g.met.A.ArenaTrait.finds b i) ∙ (ap (found i) is ∙ found-gone i 1 (g.A.ArenaTrait.view a).entries (g.met.A.ArenaTrait.ascends a))
+    sym ((g.A.ArenaTrait.state b).finds i) ∙ (ap (found i) is ∙ found-gone i 1 (g.A.ArenaTrait.view a).entries (g.A.ArenaTrait.state a).ascends)
 
 pub returns-clause-kept : goal.returns-clause-kept
 returns-clause-kept g c a b i j is other =
-    let was_read = g.met.A.ArenaTrait.finds in
-    sym (was_read b j) ∙ (ap (found j) is ∙ (found-kept j i (g.A.ArenaTrait.view a).entries other ∙ was_read a j))
+    sym ((g.A.ArenaTrait.state b).finds j) ∙ (ap (found j) is ∙ (found-kept j i (g.A.ArenaTrait.view a).entries other ∙ (g.A.ArenaTrait.state a).finds j))

@@ -1,8 +1,10 @@
 -- The slots are like the source's, so its freed list is valid.
-use Rattle.std.proofs.Common.{◌≡◌, Result, Ok, Err, length, min, false, true, refl, sym, ap, ◌∙◌, arith, inl, inr}
+use Rattle.std.proofs.Common.{◌≡◌, Result, Ok, Err, length, min, refl, sym, ap, ◌∙◌, arith, inl, inr}
 use Rattle.std.proofs.lemmas.List.{length-map}
 use Rattle.arena_core.specs.declared.errors.ReallocationError.{ReallocationError}
 use Rattle.arena_core.specs.declared.errors.ReallocationError.TheVariants as error
+use Rattle.arena_traits.specs.Entries.{view_of}
+use Rattle.arena_traits.proofs.CallOutcomeLemmas.{reserves_beyond, reserves_above}
 use Rattle.arena_base.specs.Slots.{entry_of}
 use Rattle.arena_base.proofs.SoundnessLemmas.{closed, none_sound}
 use Rattle.arena_base.proofs.SlotShapeLemmas.{sound_too}
@@ -37,16 +39,16 @@ returns-in-Ok-copied g c =
     let limit : g.S.SlotStack.maximum c.copy_slots-copied.new.slots ≡ g.S.SlotStack.maximum self.slots = c.copy_slots-copied.ensures.bounds.1 ∙ c.truncate.ensures.maximum in
     let within_capacity : min (g.S.SlotStack.capacity c.copy_slots-copied.new.slots) greatest ≡ c.reallocate_min_capacity.new.self.capacity = ap (λ n. min n greatest) stays ∙ ap (λ a. a.capacity) c.self.view_is in
     record {
-      within = λ few. (inl refl, within_capacity ∙ ap (λ a. a.capacity) (grown.within (omega (arith, few, count))).1);
-      beyond = (λ is. absurd (ok_is_no_error is), λ beyond. absurd (ok_is_no_error (grown.beyond.1 (rw count beyond))));
+      within = λ few. (inl refl, within_capacity ∙ ap (λ a. a.capacity) (grown.enough (omega (arith, few, count))));
+      beyond = (λ is. absurd (ok_is_no_error is), λ beyond. absurd (ok_is_no_error ((reserves_beyond greatest c.len.result (view_of c.args.self.now) (view_of c.reallocate_min_capacity.new.self) (Ok tt) grown.outcome).1 (rw count beyond))));
       unchanged = λ is. absurd (ok_is_no_error is);
-      ok = (equal_capacity count within_capacity (limit ∙ ap (λ a. a.maximum) c.self.view_is) grown.ok, refl, g.met.S.SlotStack.within_maximum c.copy_slots-copied.new.slots);
+      ok = (equal_capacity count within_capacity (limit ∙ ap (λ a. a.maximum) c.self.view_is) grown.outcome.1.0, refl, g.met.S.SlotStack.within_maximum c.copy_slots-copied.new.slots);
       copied = rw (← c.source.view_is) (on_ok_is c.copy_slots-copied.result.0 _ c.in-Ok-copied.is c.copy_slots-copied.ensures.copies);
       ready = on_ok_is c.copy_slots-copied.result.0 _ c.in-Ok-copied.is c.copy_slots-copied.ensures.ready;
       slots = has_slots_of g.P.Inx.InxKey.packed_number (g.S1.SlotStack.items source.slots) (g.S.SlotStack.items c.copy_slots-copied.new.slots) (on_ok_is c.copy_slots-copied.result.0 _ c.in-Ok-copied.is c.copy_slots-copied.ensures.alike) greatest source.len source.first_free c.source.invariant
           c.args.source.now c.args.self.now c.reallocate_min_capacity.new.self source.counter self.counter _ (g.S.SlotStack.items self.slots) (g.S1.SlotStack.capacity source.slots) (g.S.SlotStack.capacity self.slots) (g.S.SlotStack.capacity c.copy_slots-copied.new.slots) (g.S1.SlotStack.maximum source.slots) (g.S.SlotStack.maximum self.slots) (g.S.SlotStack.maximum c.copy_slots-copied.new.slots)
-          source.placed.count source.touched.count self.placed.count self.touched.count c.len.result stays limit c.source.view_is c.self.view_is grown.more.0 c.len.ensures (λ few. (grown.within few).1);
-      never_less = omega (arith, within_capacity, grown.never_less);
+          source.placed.count source.touched.count self.placed.count self.touched.count c.len.result stays limit c.source.view_is c.self.view_is grown.more.0 c.len.ensures grown.enough;
+      never_less = omega (arith, within_capacity, grown.outcome.2);
       reached = same_reach g.S.SlotStack.may_reach (length c.args.source.now.slots) c.args.self.now c.reallocate_min_capacity.new.self (stays ∙ ap (λ a. a.stack_capacity) c.self.view_is) (rw (← count) grown.more.1);
       err = tt;
     }
@@ -62,14 +64,14 @@ returns-in-Err-copied g c =
     let limit : g.S.SlotStack.maximum c.truncate-in-Err-copied.new.self ≡ g.S.SlotStack.maximum self.slots = c.truncate-in-Err-copied.ensures.maximum ∙ (c.copy_slots-copied.ensures.bounds.1 ∙ c.truncate.ensures.maximum) in
     let within_capacity : min (g.S.SlotStack.capacity c.truncate-in-Err-copied.new.self) greatest ≡ c.reallocate_min_capacity.new.self.capacity = ap (λ n. min n greatest) stays ∙ ap (λ a. a.capacity) c.self.view_is in
     record {
-      within = λ few. (inr (rw (← c.source.view_is) (on_err_is c.copy_slots-copied.result.0 _ c.in-Err-copied.is c.copy_slots-copied.ensures.refused)), within_capacity ∙ ap (λ a. a.capacity) (grown.within (omega (arith, few, count))).1);
-      beyond = (λ is. absurd (errors_differ _ refl is), λ beyond. absurd (ok_is_no_error (grown.beyond.1 (rw count beyond))));
+      within = λ few. (inr (rw (← c.source.view_is) (on_err_is c.copy_slots-copied.result.0 _ c.in-Err-copied.is c.copy_slots-copied.ensures.refused)), within_capacity ∙ ap (λ a. a.capacity) (grown.enough (omega (arith, few, count))));
+      beyond = (λ is. absurd (errors_differ _ refl is), λ beyond. absurd (ok_is_no_error ((reserves_beyond greatest c.len.result (view_of c.args.self.now) (view_of c.reallocate_min_capacity.new.self) (Ok tt) grown.outcome).1 (rw count beyond))));
       unchanged = λ is. absurd (errors_differ _ refl is);
       ok = tt;
       copied = tt;
       ready = tt;
       slots = tt;
-      never_less = omega (arith, within_capacity, grown.never_less);
+      never_less = omega (arith, within_capacity, grown.outcome.2);
       reached = same_reach g.S.SlotStack.may_reach (length c.args.source.now.slots) c.args.self.now c.reallocate_min_capacity.new.self (stays ∙ ap (λ a. a.stack_capacity) c.self.view_is) (rw (← count) grown.more.1);
       err = inr (
         rw (← c.source.view_is) (on_err_is c.copy_slots-copied.result.0 _ c.in-Err-copied.is c.copy_slots-copied.ensures.refused),
@@ -83,14 +85,14 @@ returns-in-Err g c =
     let refused = c.in-Err.ensures in
     let count : c.len.result ≡ length c.args.source.now.slots = c.len.ensures ∙ (sym (length-map (g.S1.SlotStack.items c.source.inside.slots) entry_of) ∙ ap (λ a. length a.slots) c.source.view_is) in
     record {
-      within = λ few. let never : false ≡ true = (refused.within (omega (arith, few, count))).0 in cc;
-      beyond = rw (← count) refused.beyond;
+      within = λ few. absurd (omega (arith, few, count, reserves_above g.P.Inx.InxKey.greatest c.len.result (view_of c.args.self.now) (view_of c.reallocate_min_capacity.new.self) c.in-Err.e refused.outcome));
+      beyond = rw (← count) (reserves_beyond g.P.Inx.InxKey.greatest c.len.result (view_of c.args.self.now) (view_of c.reallocate_min_capacity.new.self) (Err c.in-Err.e) refused.outcome);
       unchanged = λ is. (refused.err, refl);
       ok = tt;
       copied = tt;
       ready = tt;
       slots = tt;
-      never_less = refused.never_less;
+      never_less = omega (arith, ap (λ a. a.capacity) refused.err);
       reached = stays_within_reach g.S.SlotStack.may_reach (length c.args.source.now.slots) c.args.self.now _ refused.err;
       err = inl (refused.err, refl);
     }

@@ -19,12 +19,16 @@ returns-then-from-len g c =
       fits = tt;
     }
 
-pub returns-in-Some-clause-some : goal.returns-in-Some-clause-some
-returns-in-Some-clause-some g c =
+pub returns-in-Some : goal.returns-in-Some
+returns-in-Some g c =
     let slots = c.args.self.now.slots in
     let long = ap (λ a. length a.slots) c.self.view_is in
     let below : c.args.from < length slots = omega (arith, long, length-map (g.S.SlotStack.items c.self.inside.slots) entry_of, c.len.ensures) in
-    next_entry slots c.args.from c.args.from _ (g.P.PtrKey.key c.in-Some.pair.0) c.in-Some.pair.1.now (omega arith) below refl c.in-Some.ensures.key c.in-Some.ensures.value
+    record {
+      none = tt;
+      some = next_entry slots c.args.from c.args.from _ (g.P.PtrKey.key c.in-Some.pair.0) c.in-Some.pair.1.now (omega arith) below refl c.in-Some.ensures.key c.in-Some.ensures.value;
+      fits = omega (arith, below, long, length-map (g.S.SlotStack.items c.self.inside.slots) entry_of, g.met.S.SlotStack.has_capacity c.self.inside.slots, g.met.S.SlotStack.capacity_fits c.self.inside.slots);
+    }
 
 pub returns-in-None : goal.returns-in-None
 returns-in-None g c =

@@ -1,4 +1,5 @@
 -- The entry's slot gets the next generation.
+use Rattle.std.proofs.Common.{ap, ◌∙◌}
 use Rattle.std.specs.Prelude.{slice_get}
 use Rattle.arena_base.specs.Slots.{allocated_slot, entry_in}
 use Rattle.arena_base.proofs.SlotLemmas.{entry_at-position, allocated-at, the_value, with_generation_at-set}
@@ -18,8 +19,8 @@ invariant_of-self g c =
     let after = with_generation_at-set items k (allocated_slot entry.0.0 entry.0.1) c.generational_inc-generation.result.0 is in
     rw (c.regenerate_at.ensures.items, ← after) (closed packed_number (rewritten packed_number c.self.invariant k entry.0.0 c.generational_inc-generation.result.0 entry.0.1 entry.0.1 is))
 
-pub returns-clause-after : goal.returns-clause-after
-returns-clause-after g c =
+pub returns : goal.returns
+returns g c =
     let number = g.P.Inx.InxKey.number in
     let packed_number = g.P.Inx.InxKey.packed_number in
     let items = g.S.SlotStack.items c.self.inside.slots in
@@ -29,6 +30,10 @@ returns-clause-after g c =
     let is = allocated-at (slice_get items k) entry.0 entry.1 in
     let after = with_generation_at-set items k (allocated_slot entry.0.0 entry.0.1) c.generational_inc-generation.result.0 is in
     let sound = rewritten packed_number c.self.invariant k entry.0.0 c.generational_inc-generation.result.0 entry.0.1 entry.0.1 is in
-    rw (← c.self.view_is, c.regenerate_at.ensures.items, c.regenerate_at.ensures.bounds.0, c.regenerate_at.ensures.bounds.1, ← after, walked_all packed_number sound, c.generational_inc-generation.ensures.next)
-    (viewed_renewed_slot items _ c.self.inside.counter g.P.Inx.InxKey.greatest (g.S.SlotStack.capacity c.self.inside.slots) (g.S.SlotStack.maximum c.self.inside.slots) c.self.inside.placed.count c.self.inside.touched.count
-    g.P.Gen.GenKey.following k (number c.args.i) entry.0.0 entry.0.1 c.position_of.ensures is)
+    record {
+      next = c.generational_inc-generation.ensures.next ∙ ap (λ a. g.P.Gen.GenKey.following a.counter) c.self.view_is;
+      overflow = c.generational_inc-generation.ensures.overflow ∙ ap (λ a. g.P.Gen.GenKey.wraps a.counter) c.self.view_is;
+      after = rw (← c.self.view_is, c.regenerate_at.ensures.items, c.regenerate_at.ensures.bounds.0, c.regenerate_at.ensures.bounds.1, ← after, walked_all packed_number sound, c.generational_inc-generation.ensures.next)
+          (viewed_renewed_slot items _ c.self.inside.counter g.P.Inx.InxKey.greatest (g.S.SlotStack.capacity c.self.inside.slots) (g.S.SlotStack.maximum c.self.inside.slots) c.self.inside.placed.count c.self.inside.touched.count
+          g.P.Gen.GenKey.following k (number c.args.i) entry.0.0 entry.0.1 c.position_of.ensures is);
+    }

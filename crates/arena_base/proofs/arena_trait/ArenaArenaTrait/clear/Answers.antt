@@ -19,7 +19,9 @@ returns g c =
     let after = cleared_view g.P.Inx.InxKey.packed_number (g.S.SlotStack.items inside.slots) (g.S.SlotStack.items c.truncate.new.self) c.pack-self-inside.result (freed_of g.P.Inx.InxKey.packed_number (g.S.SlotStack.items inside.slots) inside.first_free) inside.counter c.after_clear-generation.result.0 g.P.Inx.InxKey.greatest (g.S.SlotStack.capacity inside.slots) (g.S.SlotStack.capacity c.truncate.new.self) (g.S.SlotStack.maximum inside.slots) (g.S.SlotStack.maximum c.truncate.new.self) inside.placed.count inside.touched.count
     inside.len following c.truncate.ensures.items c.truncate.ensures.capacity c.truncate.ensures.maximum c.self.invariant.counted made.next ∙ ap (arena_after_clear following) c.self.view_is in
     record {
-      overflow = rw (length-entries c.args.self.now, ← c.self.view_is, ← c.self.invariant.counted, ← made.overflow) c.with_overflow.ensures;
-      after = ap view_of after ∙ viewed_cleared following c.args.self.now;
+      outcome = record {
+        after = ap view_of after ∙ viewed_cleared following c.args.self.now;
+        overflow = rw (length-entries c.args.self.now, ← c.self.view_is, ← c.self.invariant.counted, ← made.overflow) c.with_overflow.ensures;
+      };
       more = after;
     }

@@ -14,9 +14,11 @@ returns g c =
     let begun = c.begin_generation-overflow.ensures in
     let generation = counter_after_compression first following c.args.reset (length (entries old)) old.counter in
     record {
-      compressed = compressing g.F.FnMut g.P.PtrKey.key c.args.map generation old mid c.gather.new.self begun.after c.gather.ensures
-          first following c.args.reset (length (entries old)) refl refl;
+      outcome = record {
+        compressed = compressing g.F.FnMut g.P.PtrKey.key c.args.map generation old mid c.gather.new.self begun.after c.gather.ensures
+            first following c.args.reset (length (entries old)) refl refl;
+        overflow = begun.overflow;
+      };
       visits = compressing_visits g.F.FnMut g.P.PtrKey.key c.args.map generation old mid c.gather.new.self begun.after c.gather.ensures;
-      overflow = begun.overflow;
       more = ap (λ a. a.stack_capacity) c.gather.ensures.arena ∙ ap (λ a. a.stack_capacity) begun.after;
     }

@@ -21,10 +21,12 @@ returns g c =
     let all = map entry_of items in
     rw (← c.self.view_is) (record {
       count = rw (length-entries_from 1 all) sound.counted;
-      fits = omega (arith, sound.total, sound.fits, within);
-      one_more = omega (arith, sound.total, within, g.met.S.SlotStack.capacity_fits slots);
-      indexes = entries_within all greatest (omega (arith, sound.fits, many));
-      filled = they_fill _ are_listed _ _;
+      sound = record {
+        fits = rw (length-entries_from 1 all) (omega (arith, sound.total, sound.counted, sound.fits, within));
+        one_more = rw (length-entries_from 1 all) (omega (arith, sound.total, sound.counted, within, g.met.S.SlotStack.capacity_fits slots));
+        indexes = entries_within all greatest (omega (arith, sound.fits, many));
+        filled = they_fill _ are_listed _ _;
+      };
       entries = sound.counted;
       listed = are_listed;
       capacity = (capacity_for greatest _ capacity (g.S.SlotStack.maximum slots) (omega (arith, many, within)) (omega (arith, many, sound.fits)) (g.met.S.SlotStack.within_maximum slots), refl, g.met.S.SlotStack.within_maximum slots);

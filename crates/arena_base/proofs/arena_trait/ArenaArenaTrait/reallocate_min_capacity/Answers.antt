@@ -1,7 +1,6 @@
 -- Only the capacity grows.
 use Rattle.std.proofs.Common.{ap, arith}
-use Rattle.arena_traits.specs.Entries.{view_of}
-use Rattle.arena_base.proofs.ArenaGrowthLemmas.{grown_beyond, grown_greatest, grown_capacity, grown_state, grown_reach, grown_least}
+use Rattle.arena_base.proofs.ArenaGrowthLemmas.{grown_reserves, grown_state, grown_reach}
 use Rattle.arena_base.proofs.arena_trait.ArenaArenaTrait.reallocate_min_capacity.Goals as goal
 
 pub returns : goal.returns
@@ -15,12 +14,8 @@ returns g c =
     let within_capacity = ap (λ a. a.capacity) c.self.view_is in
     let state = grown_state may_reach greatest old c.args.n r new made.outcome made.err in
     record {
-      within = λ few. absurd (omega (arith, few, within_capacity, c.capacity.ensures, c.greatest.ensures.value, c.min.ensures));
-      beyond = grown_beyond may_reach greatest old c.args.n r new made.outcome;
-      greatest = grown_greatest may_reach greatest old c.args.n r new made.outcome;
-      ok = grown_capacity may_reach greatest old c.args.n r new made.outcome;
+      outcome = grown_reserves may_reach greatest old c.args.n r new made.outcome;
+      enough = λ few. absurd (omega (arith, few, within_capacity, c.capacity.ensures, c.greatest.ensures.value, c.min.ensures));
       err = made.err;
-      after = ap view_of state;
-      never_less = grown_least may_reach greatest old c.args.n r new made.outcome made.err;
       more = (state, grown_reach may_reach greatest old c.args.n r new made.outcome made.err);
     }

@@ -14,5 +14,12 @@ invariant_of-self g c =
       fits = omega (arith, long, s.fits);
     }
 
-pub returns-clause-items : goal.returns-clause-items
-returns-clause-items g c = let s = c.args.self.now in ap items_in c.truncate.ensures.items ∙ (fewer_in s.blocks.items s.len c.args.count c.requires.capacity s.filled).0
+pub returns : goal.returns
+returns g c =
+    let s = c.args.self.now in
+    let is = c.truncate.ensures.items in
+    let long = ap length is ∙ length-take c.args.count s.blocks.items in
+    record {
+      items = ap items_in is ∙ (fewer_in s.blocks.items s.len c.args.count c.requires.capacity s.filled).0;
+      blocks = omega (arith, long, c.requires.few);
+    }

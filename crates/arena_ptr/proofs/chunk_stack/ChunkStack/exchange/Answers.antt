@@ -1,5 +1,5 @@
 -- Both items are in one block.
-use Rattle.std.proofs.Common.{slice_index_or, ap, ◌∙◌, arith}
+use Rattle.std.proofs.Common.{slice_index_or, ap, ◌∙◌, arith, length-set}
 use Rattle.arena_ptr.proofs.ChunkStackLemmas.{within, found, inside_block, still_fits}
 use Rattle.arena_ptr.proofs.BlockSwapLemmas.{exchanged_in}
 use Rattle.arena_ptr.proofs.chunk_stack.ChunkStack.exchange.Goals as goal
@@ -33,8 +33,8 @@ invariant_of-self g c =
       fits = still_fits s i block located is c.swap.new.self;
     }
 
-pub returns-then-i-j-clause-items : goal.returns-then-i-j-clause-items
-returns-then-i-j-clause-items g c =
+pub returns-then-i-j : goal.returns-then-i-j
+returns-then-i-j g c =
     let s = c.args.self.now in
     let i = c.args.i in
     let j = c.args.j in
@@ -43,5 +43,6 @@ returns-then-i-j-clause-items g c =
     let is = c.index_mut.ensures.value in
     let i_in = inside_block s i block located is c.requires.i_in_bounds in
     let j_in = inside_block s j block (within s j c.requires.j_in_bounds) (is ∙ ap (λ k. slice_index_or s.blocks.items k block) c.if-i-j.true) c.requires.j_in_bounds in
-    (exchanged_in s.blocks.items s.len i j s.filled c.requires.i_in_bounds c.requires.j_in_bounds block c.swap.new.self c.if-i-j.true (found s i block located is)
-    (omega (arith, located, s.blocks.ok.0)) (omega (arith, i_in, block.ok.0)) (omega (arith, j_in, block.ok.0)) c.swap.ensures.items c.swap.ensures.capacity).0
+    let items = (exchanged_in s.blocks.items s.len i j s.filled c.requires.i_in_bounds c.requires.j_in_bounds block c.swap.new.self c.if-i-j.true (found s i block located is)
+    (omega (arith, located, s.blocks.ok.0)) (omega (arith, i_in, block.ok.0)) (omega (arith, j_in, block.ok.0)) c.swap.ensures.items c.swap.ensures.capacity).0 in
+    record { items = items; blocks = length-set s.blocks.items _ _ }

@@ -1,5 +1,5 @@
 -- The items are in two blocks, the first of which is taken out meanwhile.
-use Rattle.std.proofs.Common.{◌≡◌, ◌/◌, slice_index_or, sym, subst}
+use Rattle.std.proofs.Common.{◌≡◌, ◌/◌, slice_index_or, sym, subst, length-set, ◌∙◌}
 use Rattle.arena_ptr.proofs.ChunkStackLemmas.{within}
 use Rattle.arena_ptr.proofs.BlockSwapLemmas.{left_inside, right_inside, put_across, put_fits}
 use Rattle.arena_ptr.proofs.chunk_stack.ChunkStack.exchange_between.Goals as goal
@@ -37,9 +37,10 @@ invariant_of-self g c =
           c.exchange_items.new.one c.exchange_items.new.other c.exchange_items.ensures.one c.exchange_items.ensures.one_capacity c.exchange_items.ensures.other c.exchange_items.ensures.other_capacity;
     }
 
-pub returns-clause-items : goal.returns-clause-items
-returns-clause-items g c =
+pub returns : goal.returns
+returns g c =
     let s = c.args.self.now in
     let left_is = subst (λ b. b ≡ slice_index_or s.blocks.items (c.args.i / 64) b) (sym c.replace-one.ensures.value) c.index_mut.ensures.value in
-    (put_across s c.args.i c.args.j c.requires.i_in_bounds c.requires.j_in_bounds c.requires.apart c.replace-one.result c.index_mut-2.result.now c.replace-one.new.dest left_is c.index_mut-2.ensures.value
-    c.exchange_items.new.one c.exchange_items.new.other c.exchange_items.ensures.one c.exchange_items.ensures.one_capacity c.exchange_items.ensures.other c.exchange_items.ensures.other_capacity).0
+    let items = (put_across s c.args.i c.args.j c.requires.i_in_bounds c.requires.j_in_bounds c.requires.apart c.replace-one.result c.index_mut-2.result.now c.replace-one.new.dest left_is c.index_mut-2.ensures.value
+    c.exchange_items.new.one c.exchange_items.new.other c.exchange_items.ensures.one c.exchange_items.ensures.one_capacity c.exchange_items.ensures.other c.exchange_items.ensures.other_capacity).0 in
+    record { items = items; blocks = length-set _ _ _ ∙ (length-set _ _ _ ∙ length-set s.blocks.items _ _) }

@@ -1,5 +1,5 @@
 -- The last item is removed from its block.
-use Rattle.std.proofs.Common.{◌-◌, arith}
+use Rattle.std.proofs.Common.{◌-◌, arith, length-set}
 use Rattle.arena_ptr.proofs.ChunkStackLemmas.{within, still_fits, popped}
 use Rattle.arena_ptr.proofs.chunk_stack.ChunkStack.pop.Goals as goal
 
@@ -16,8 +16,9 @@ invariant_of-self g c =
       fits = still_fits s (s.len - 1) block located c.index_mut.ensures.value c.truncate.new.self;
     }
 
-pub returns-clause-items : goal.returns-clause-items
-returns-clause-items g c =
+pub returns-clause-blocks : goal.returns-clause-blocks
+returns-clause-blocks g c =
     let s = c.args.self.now in
     let located = within s (s.len - 1) (omega (arith, c.requires)) in
-    (popped s (s.len - 1) c.index_mut.result.now located c.index_mut.ensures.value c.truncate.new.self (omega (arith, c.requires)) c.truncate.ensures.items c.truncate.ensures.capacity).0
+    let items = (popped s (s.len - 1) c.index_mut.result.now located c.index_mut.ensures.value c.truncate.new.self (omega (arith, c.requires)) c.truncate.ensures.items c.truncate.ensures.capacity).0 in
+    record { items = items; blocks = length-set s.blocks.items _ _ }

@@ -1,5 +1,5 @@
 -- The item is appended to its block.
-use Rattle.std.proofs.Common.{◌<◌, ◌/◌, vec_len, refl, arith}
+use Rattle.std.proofs.Common.{◌<◌, ◌/◌, vec_len, refl, arith, length-set}
 use Rattle.arena_ptr.proofs.ChunkStackLemmas.{has_capacity, still_fits, pushed}
 use Rattle.arena_ptr.proofs.chunk_stack.ChunkStack.push.Goals as goal
 
@@ -17,7 +17,8 @@ invariant_of-self g c =
       fits = still_fits s s.len block located c.index_mut.ensures.value c.push_reserved.new.self;
     }
 
-pub returns-clause-items : goal.returns-clause-items
-returns-clause-items g c =
+pub returns : goal.returns
+returns g c =
     let s = c.args.self.now in
-    (pushed s s.len c.index_mut.result.now (omega (arith, c.requires, s.blocks.ok.0)) c.index_mut.ensures.value c.push_reserved.new.self c.args.item refl c.push_reserved.ensures.items c.push_reserved.ensures.capacity).0
+    let items = (pushed s s.len c.index_mut.result.now (omega (arith, c.requires, s.blocks.ok.0)) c.index_mut.ensures.value c.push_reserved.new.self c.args.item refl c.push_reserved.ensures.items c.push_reserved.ensures.capacity).0 in
+    record { items = items; blocks = length-set s.blocks.items _ _ }

@@ -1,0 +1,63 @@
+-- The outcomes of calls on an arena, by the cases of their results.
+use Rattle.std.specs.Prelude.{◌≡◌, ℕ, ◌<◌, ◌≤◌, Bool, true, false, IfSome, Option, None, Some, Result, Ok, Err}
+use Rattle.arena_core.specs.Invalidation.{invalidation_option}
+use Rattle.arena_core.specs.PointerKinds.{PointerKind}
+use Rattle.arena_core.specs.SlotStack.{IsWithinMaximum}
+use Rattle.arena_core.specs.declared.invalidation.InvalidationOption.{InvalidationOption}
+use Rattle.arena_core.specs.declared.invalidation.InvalidationResult.{InvalidationResult}
+use Rattle.arena_core.specs.declared.invalidation.InvalidationResult.TheVariants.{Success, GenerationOverflow, InvalidPtr}
+use Rattle.arena_traits.specs.Arena.{IsValid, overflows_after_clear}
+use Rattle.arena_traits.specs.Entries.{ArenaView, ArenaState, count, IsNew, view_after_removal, view_after_invalidation, view_after_clear}
+use Rattle.arena_traits.specs.Compressions.{IsCompressed, overflows_after_compression}
+
+-- The outcome of a removal or invalidation: `invalid` if there is no such entry; else what was
+-- `done`, reported as an overflow if the counter wraps, where the counter is known.
+abbrev pub ReportsOverflow : {X Gen : Type 0} → (Gen → Bool) → Option Gen → Type 0 → (X → Type 0) → InvalidationResult X → Type 0
+ReportsOverflow wraps counter invalid done InvalidPtr = invalid
+ReportsOverflow wraps counter invalid done (Success x) = IfSome counter (λ g. wraps g ≡ false) × done x
+ReportsOverflow wraps counter invalid done (GenerationOverflow x) = IfSome counter (λ g. wraps g ≡ true) × done x
+
+-- A new arena is made with capacity for n entries, or for none if n is 0, or it could not be.
+abbrev pub StartsWithCapacity : {A Gen T E : Type 0} → (A → ArenaView Gen T) → Gen → ℕ → ℕ → Result A E → Type 0
+StartsWithCapacity view first greatest n (Ok a) = IsNew first (view a) × (n ≤ (view a).capacity) × (n ≤ greatest) × IsWithinMaximum (view a).maximum n
+StartsWithCapacity view first greatest n (Err why) = 0 < n
+
+module _ {A Gen T : Type 0} {view : A → ArenaView Gen T} {entry : A → ℕ → Option (Gen × T)} (state : (a : A) → ArenaState (view a) (entry a)) {P I W : Type 0} (pointers : PointerKind P I Gen W) where
+  -- The value t of the entry at i, with generation g, is removed.
+  abbrev pub IsEntryRemoved : A → ℕ → Gen → T → A → Type 0
+  IsEntryRemoved old i g t new = (entry old i ≡ Some (g, t)) × (view new ≡ view_after_removal pointers.following (view old) i)
+
+  -- `remove`: the entry of p is removed, if p is valid.
+  abbrev pub RemovesEntry : A → P → InvalidationResult T → A → Type 0
+  RemovesEntry old p result new =
+      ReportsOverflow pointers.wraps (view old).counter (IsValid (entry old) (pointers.key p) → ⊥)
+      (λ t. IsEntryRemoved old (pointers.key p).0 (pointers.key p).1 t new) result
+
+  -- `remove_inx`: the entry at an index is removed, if there is one.
+  abbrev pub RemovesEntryAt : A → I → InvalidationResult (Gen × T) → A → Type 0
+  RemovesEntryAt old i result new =
+      ReportsOverflow pointers.wraps (view old).counter (entry old (pointers.number i) ≡ None)
+      (λ e. IsEntryRemoved old (pointers.number i) e.0 e.1 new) result
+
+  -- `invalidate`: the entry of p gets the generation after the counter, and q is its pointer.
+  abbrev pub InvalidatesEntry : A → P → InvalidationResult P → A → Type 0
+  InvalidatesEntry old p result new =
+      ReportsOverflow pointers.wraps (view old).counter (IsValid (entry old) (pointers.key p) → ⊥)
+      (λ q. IsValid (entry old) (pointers.key p) × ((pointers.key q).0 ≡ (pointers.key p).0)
+      × IfSome (view old).counter (λ g. (pointers.key q).1 ≡ pointers.following g)
+      × (view new ≡ view_after_invalidation (view old) (pointers.key q))) result
+
+  -- `clear`: no entries and slots are left, and whether the counter wrapped is reported.
+  abbrev pub ClearsEntries : A → InvalidationOption Unit → A → Type 0
+  ClearsEntries old result new = record {
+    after : view new ≡ view_after_clear pointers.following (view old);
+    overflow : IfSome (view old).counter (λ g. result ≡ invalidation_option (overflows_after_clear pointers.wraps (count (view old)) g) tt);
+  }
+
+  -- A compression: the entries are moved to the indexes from 1, and whether the counter wrapped is
+  -- reported.
+  abbrev pub CompressesEntries : A → Bool → InvalidationOption Unit → A → Type 0
+  CompressesEntries old reset result new = record {
+    compressed : IsCompressed pointers.first pointers.following reset (view old) (view new);
+    overflow : IfSome (view old).counter (λ g. result ≡ invalidation_option (overflows_after_compression pointers.wraps reset (count (view old)) g) tt);
+  }
