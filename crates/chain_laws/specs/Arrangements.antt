@@ -87,3 +87,14 @@ LayoutRests = (old new : LinkMap) (indexes : List ℕ) → IsLeastIndexOrder old
 -- The list from 1 to n moves no index.
 abbrev pub PlacesRest : Type 0
 PlacesRest = (n i : ℕ) → 1 ≤ i → i ≤ n → place_in (range_with_len 1 n) i ≡ Some i
+
+-- The least-index order exists, is unique and canonical, and rests after an arrangement by it.
+abbrev pub LeastIndexOrderLaws : Type 0
+LeastIndexOrderLaws = record {
+  there_is_one : HasLeastIndexOrder;
+  one : LeastIndexOrderIsUnique;
+  canonical : LeastIndexOrderIsCanonical;
+  rests : LeastIndexOrderRests;
+  layout_rests : LayoutRests;
+  places_rest : PlacesRest;
+}

@@ -59,6 +59,25 @@ RotationsHaveTheSame = (c other : Chain) (i : ℕ) → IsRotation c other → Is
 abbrev pub MemberInAll : Type 0
 MemberInAll = (chains : List Chain) (i : ℕ) → IsMember (all_items chains) i ↔ ((c : Chain) × HasChain chains c × IsMember (items c) i)
 
+-- The neighbors that a link of a chain names, by the chain's items.
+abbrev pub MemberNeighborLaws : Type 0
+MemberNeighborLaws = record {
+  neighbors : MembersNameNeighbors;
+  in_line : PlacesInALine;
+  in_ring : PlacesInARing;
+  line_ends : LinesEnd;
+  ring_is_cyclic : RingsAreCyclic;
+}
+
+-- Which items two chains have in common, and which all chains have.
+abbrev pub SharedMemberLaws : Type 0
+SharedMemberLaws = record {
+  together : NeighborsShareAChain;
+  each : ChainsShareEach;
+  rotated : RotationsHaveTheSame;
+  in_all : MemberInAll;
+}
+
 -- ---- in a list
 
 -- A concatenation has the items of both lists.
@@ -85,6 +104,17 @@ MembershipIsDecided = (xs : List ℕ) (i : ℕ) → IsMember xs i ⊎ (IsMember 
 abbrev pub MemberIsFilled : Type 0
 MemberIsFilled = (xs : List ℕ) → (xs ≢ []) ↔ ((i : ℕ) × IsMember xs i)
 
+-- The items of a list, by its parts.
+abbrev pub ListMemberLaws : Type 0
+ListMemberLaws = record {
+  in_join : MemberInJoin;
+  in_turn : MemberInRotation;
+  in_middle : MemberInMiddle;
+  written : MembersSplitAList;
+  decided : MembershipIsDecided;
+  filled : MemberIsFilled;
+}
+
 -- A concatenation has no repetition exactly if neither list has any and they share nothing.
 abbrev pub OnceInJoin : Type 0
 OnceInJoin = (xs ys : List ℕ) → AreDistinct (xs ++ ys) ↔ (AreDistinct xs × AreDistinct ys × ((i : ℕ) → IsMember xs i → IsMember ys i → ⊥))
@@ -105,3 +135,13 @@ OnceAtOnePlace = (before after others rest : List ℕ) (i : ℕ) → AreDistinct
 -- A list without repetition is no longer than one with all its items.
 abbrev pub OnceIsNoLonger : Type 0
 OnceIsNoLonger = (xs ys : List ℕ) → AreDistinct xs → ((i : ℕ) → IsMember xs i → IsMember ys i) → length xs ≤ length ys
+
+-- When a list has no repetition, and what follows.
+abbrev pub DistinctItemLaws : Type 0
+DistinctItemLaws = record {
+  in_join : OnceInJoin;
+  in_turn : OnceInRotation;
+  in_middle : OnceInMiddle;
+  one_place : OnceAtOnePlace;
+  no_longer : OnceIsNoLonger;
+}

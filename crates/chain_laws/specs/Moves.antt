@@ -71,3 +71,12 @@ GatheringContinues = (old now : LinkMap) (done : List ℕ) (k : ℕ) → IsWellL
 -- In the end, all links are renumbered by their order.
 abbrev pub GatheringEnds : Type 0
 GatheringEnds = (old now : LinkMap) (done : List ℕ) (slots : ℕ) → HasLinksWithin old slots → IsGathering old now done slots → IsRenaming (place_in done) old now
+
+-- A gathering: its beginning, each step, and its end.
+abbrev pub GatheringLaws : Type 0
+GatheringLaws = record {
+  begins : GatheringBegins;
+  skips : GatheringSkips;
+  continues : GatheringContinues;
+  ends : GatheringEnds;
+}

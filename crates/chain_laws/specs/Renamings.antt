@@ -54,3 +54,13 @@ RenamingCarriesAll = (to : ℕ → Option ℕ) (old new : LinkMap) (chains other
 -- The new indexes determine the result.
 abbrev pub RenamingIsDetermined : Type 0
 RenamingIsDetermined = (to : ℕ → Option ℕ) (old new other : LinkMap) → IsRenaming to old new → IsRenaming to old other → new ≡ other
+
+-- What a renaming carries to the new indexes, and that these determine the result.
+abbrev pub RenamingLaws : Type 0
+RenamingLaws = record {
+  agrees : RenamingAgrees;
+  pairs : RenamingCarriesPairs;
+  chains : RenamingCarriesChains;
+  all : RenamingCarriesAll;
+  determined : RenamingIsDetermined;
+}

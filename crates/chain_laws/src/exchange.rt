@@ -22,22 +22,18 @@ pub fn exchange_exchanges()
 
 /// States that an exchange splits one cyclic chain or merges two, wherever they are written from.
 pub fn exchange_of_cycles()
-    ensures splits { ExchangeSplitsACycle }
-    ensures merges { ExchangeMergesCycles }
+    ensures { ExchangeSplitsACycle × ExchangeMergesCycles }
 {}
 
 /// States that `Exchanges`, or `ExchangesPairs` with a well-linked result, gives exactly the chains
 /// of the exchange.
 pub fn exchange_is_determined()
-    ensures by_chains { ExchangeIsDetermined }
-    ensures by_pairs { ExchangeIsDeterminedByPairs }
+    ensures { ExchangeIsDetermined × ExchangeIsDeterminedByPairs }
 {}
 
 /// States that an exchange done twice, or of a link with itself, restores the interlinks.
 ///
 /// The order of the two links does not matter.
 pub fn exchange_restores()
-    ensures twice { ExchangeTwiceRestores }
-    ensures with_itself { ExchangeWithItselfKeeps }
-    ensures mutual { ExchangeIsMutual }
+    ensures { ExchangeTwiceRestores × ExchangeWithItselfKeeps × ExchangeIsMutual }
 {}

@@ -5,8 +5,7 @@ ghost use Rattle.chain_laws.specs.Neighbors.{HasChainOfEach, HasNoOtherOfEach, A
 /// States that a well-linked arena has exactly one list of chains, in order, that partitions its
 /// links and has its interlinks.
 pub fn one_set_of_chains()
-    ensures there_is_one { HasChains }
-    ensures no_other { HasNoOtherChains }
+    ensures { HasChains × HasNoOtherChains }
 {}
 
 /// States that chains match an arena by items exactly if they do by neighbor pairs.
@@ -16,25 +15,21 @@ pub fn chains_by_neighbors()
 
 /// States that an arena with chains is well linked.
 pub fn agreement_from_chains()
-    ensures from_pairs { IsWellLinkedByPairs }
-    ensures from_chains { IsWellLinkedByChains }
+    ensures { IsWellLinkedByPairs × IsWellLinkedByChains }
 {}
 
 /// States that each valid index of a well-linked arena is in exactly one chain.
 pub fn one_chain_each()
-    ensures there_is_one { HasChainOfEach }
-    ensures no_other { HasNoOtherOfEach }
+    ensures { HasChainOfEach × HasNoOtherOfEach }
 {}
 
 /// States that all lists of the chains of an arena have the same chains, up to rotation.
 pub fn same_chains_in_any_order()
-    ensures written { AreSameInAnyOrder }
-    ensures rotated { AreRotationsInAnyOrder }
+    ensures { AreSameInAnyOrder × AreRotationsInAnyOrder }
 {}
 
 /// States that a rotation of a chain is a chain, and that chains with a common index are rotations
 /// of each other.
 pub fn cycles_rotate()
-    ensures rotations { RotationsAreChains }
-    ensures one { SharesOnlyRotations }
+    ensures { RotationsAreChains × SharesOnlyRotations }
 {}
