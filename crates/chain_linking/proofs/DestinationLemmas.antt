@@ -8,8 +8,8 @@ use Rattle.chain_laws.proofs.InterlinkLemmas.Inverses.{if_same, if_other}
 use Rattle.arena_traits.specs.Arena.{Arena, slot_at, entry_at, with_value}
 use Rattle.chain_links.specs.declared.links.LinkBody.{LinkBody}
 use Rattle.chain_links.specs.ChainArena.{link_map}
-use Rattle.chain_links.specs.Links.{link_view, links_view, destination_of, destination_at, AreAtRest}
-use Rattle.chain_links.proofs.LinkStateLemmas.{entry_at-with_value, length-links_view}
+use Rattle.chain_links.specs.Links.{links_view, destination_of, destination_at, AreAtRest}
+use Rattle.chain_links.proofs.LinkStateLemmas.{entry_at-with_value}
 use Rattle.chain_links.proofs.ArenaInsertionLemmas.{slots-within}
 use Rattle.chain_linking.proofs.LinkWriteLemmas.{links_view-write, with_link_map-own}
 

@@ -1,11 +1,11 @@
 -- Removals and the other calls on entries in the state of a chain arena.
-use Rattle.std.proofs.Common.{◌≡◌, ◌≢◌, ℕ, Bool, true, false, Option, None, Some, refl, ap, ap₂, sym, ◌∙◌, subst, ⊎_elim}
-use Rattle.std.specs.Prelude.{◌==◌, if◌then◌else◌, IfSome}
+use Rattle.std.proofs.Common.{◌≡◌, ℕ, Bool, true, false, Option, None, Some, refl, ap, ap₂, sym, ◌∙◌, subst, ⊎_elim}
+use Rattle.std.specs.Prelude.{◌==◌, if◌then◌else◌}
 use Rattle.std.proofs.lemmas.Bool.{cases_eq}
 use Rattle.std.specs.Option.{option_map}
 use mathlib.Core.Path.{fun_ext}
 use Rattle.arena_traits.proofs.ArenaViewLemmas.{value_within-made}
-use Rattle.chain_laws.specs.Chains.{LinkMap, IsWellLinked, HasLink, prev_of, next_of}
+use Rattle.chain_laws.specs.Chains.{LinkMap, IsWellLinked, prev_of, next_of}
 use Rattle.chain_laws.specs.Joins.{with_neighbors, with_next, with_prev}
 use Rattle.chain_laws.specs.Removals.{without_link, with_removal, Removes, RemovesPairs}
 use Rattle.chain_laws.proofs.InterlinkLemmas.Inverses.{if_same, if_other}

@@ -147,7 +147,8 @@ pub fn update_neighbors<P: PtrKey, T: Drop, S: SlotStack<Item = ArenaSlot<P, Lin
         (HasLink (link_map (links_view P.Inx.packed_number arena.old))) }
     requires after { IfSome (after_in P.Inx.number position (P.key p).0)
         (HasLink (link_map (links_view P.Inx.packed_number arena.old))) }
-    ensures { NamesNewLink P.Inx.packed_number P.Inx.number position (P.key p).0 arena.old arena.new }
+    ensures { NamesNewLink P.Inx.packed_number P.Inx.number position (P.key p).0 arena.old
+        arena.new }
 {
     let i = p.inx();
     let (prev, next) = neighbors_of_position(position, i);

@@ -1,26 +1,37 @@
 -- The outcomes of calls on an arena of links, by the cases of their results. An arena is seen by its
--- view, its entries and its interlinks.
-use Rattle.std.specs.Prelude.{◌≡◌, ℕ, Bool, true, false, IfSome, Option, None, Some, Result, Ok, Err}
+-- state and its interlinks.
+use Rattle.std.specs.Prelude.{◌≡◌, ◌↔◌, ℕ, Bool, IsSome, IfSome, Option, None, Some, Result, Ok, Err}
+use Rattle.std.specs.Option.{option_map}
+use Rattle.std.specs.Borrow.{Bor}
+use Rattle.arena_core.specs.Invalidation.{invalidation_option}
+use Rattle.arena_core.specs.PointerKinds.{PointerKind}
 use Rattle.arena_core.specs.declared.errors.ChainInsertionError.{ChainInsertionError}
 use Rattle.arena_core.specs.declared.errors.ChainInsertionError.TheVariants as failed
 use Rattle.arena_core.specs.declared.errors.ReallocationError.{ReallocationError}
 use Rattle.arena_core.specs.declared.errors.ReallocationError.TheVariants as refused
+use Rattle.arena_core.specs.declared.invalidation.InvalidationOption.{InvalidationOption}
 use Rattle.arena_core.specs.declared.invalidation.InvalidationResult.{InvalidationResult}
-use Rattle.arena_core.specs.declared.invalidation.InvalidationResult.TheVariants.{Success, GenerationOverflow, InvalidPtr}
+use Rattle.arena_core.specs.declared.packed_option.PackedOption.{PackedOption}
 use Rattle.chain_laws.specs.Chains.{LinkMap, prev_of, next_of}
+use Rattle.chain_laws.specs.Neighbors.{AreNeighbors}
 use Rattle.chain_laws.specs.Insertions.{InsertKind}
 use Rattle.chain_laws.specs.Cuts.{without_pair, Cuts}
 use Rattle.chain_laws.specs.Exchanges.{with_exchange, Exchanges}
 use Rattle.chain_laws.specs.Joins.{with_join, Connects}
 use Rattle.chain_laws.specs.Removals.{with_removal, Removes}
+use Rattle.chain_laws.specs.Walks.{Walker, walker_at}
 use Rattle.arena_traits.specs.Arena.{IsValid}
-use Rattle.arena_traits.specs.Entries.{ArenaView, HasFreeCapacity, view_after_removal}
+use Rattle.arena_traits.specs.CallOutcomes.{ReportsOverflow}
+use Rattle.arena_traits.specs.Compressions.{overflows_after_compression}
+use Rattle.arena_traits.specs.Entries.{ArenaView, ArenaState, count, HasFreeCapacity, view_after_removal}
 use Rattle.arena_traits.specs.Growth.{IsGrowthResult, IsFull, RefusesOneMore, GrowsForOneMore}
-use Rattle.chain_links.specs.ChainArena.{link_at, CanConnect, CanExchange}
+use Rattle.chain_links.specs.CanonicalLayouts.{IsCanonicalLayout}
+use Rattle.chain_links.specs.ChainArena.{link_at, CanConnect, CanExchange, IsLinkAt}
 use Rattle.chain_links.specs.Insertions.{IsInsertion}
 use Rattle.chain_links.specs.Kinds.{LinkName, names_in, by_index, MayInsert}
-use Rattle.chain_links.specs.Links.{link_view}
+use Rattle.chain_links.specs.Links.{link_view, borrowed_link}
 use Rattle.chain_links.specs.declared.kinds.InsertKindBody.{InsertKindBody}
+use Rattle.chain_links.specs.declared.links.Link.{Link}
 use Rattle.chain_links.specs.declared.links.LinkBody.{LinkBody}
 
 -- Why an insertion is refused. `may`: the requirement of its kind is met. `refuses`: a growth fails
@@ -49,18 +60,7 @@ module _ {P : Type 0} where
   IsInsertionWithinResult may has_capacity full inserted (Ok p) = may × has_capacity × inserted p
   IsInsertionWithinResult may has_capacity full inserted (Err why) = IsWithinRefusal may full why
 
--- The outcome of a removal or invalidation: `invalid` if there is no such entry; else what was
--- `done`, reported as an overflow if the counter wraps, where the counter is known.
-abbrev pub ReportsOverflow : {X Gen : Type 0} → (Gen → Bool) → Option Gen → Type 0 → (X → Type 0) → InvalidationResult X → Type 0
-ReportsOverflow wraps counter invalid done InvalidPtr = invalid
-ReportsOverflow wraps counter invalid done (Success x) = IfSome counter (λ g. wraps g ≡ false) × done x
-ReportsOverflow wraps counter invalid done (GenerationOverflow x) = IfSome counter (λ g. wraps g ≡ true) × done x
-
--- A link of the kind may be inserted.
-abbrev pub MayInsertIn : {A Gen T P I : Type 0} → (A → ℕ → Option (Gen × T)) → (A → LinkMap) → (P → ℕ × Gen) → (I → ℕ) → A → InsertKindBody P I → Type 0
-MayInsertIn entry interlinks key number a kind = MayInsert (entry a) (interlinks a) (names_in key number kind)
-
-module _ {A Gen T : Type 0} (view : A → ArenaView Gen T) (entry : A → ℕ → Option (Gen × T)) (interlinks : A → LinkMap) where
+module _ {A Gen T : Type 0} {view : A → ArenaView Gen T} {entry : A → ℕ → Option (Gen × T)} (state : (a : A) → ArenaState (view a) (entry a)) (interlinks : A → LinkMap) where
   module _ (old new : A) where
     -- The link at b follows the link at a.
     pub record IsConnected (a b : ℕ) : Type 0 where
@@ -86,60 +86,99 @@ module _ {A Gen T : Type 0} (view : A → ArenaView Gen T) (entry : A → ℕ �
       pub links : interlinks new ≡ with_removal (interlinks old) i
       pub chains : Removes (interlinks old) (interlinks new) i
 
-  -- `connect`: the link of q comes to follow the link of p, or it could not.
-  abbrev pub ConnectsLinks : A → ℕ × Gen → ℕ × Gen → Option Unit → A → Type 0
-  ConnectsLinks old p q None new = CanConnect (entry old) (interlinks old) p q → ⊥
-  ConnectsLinks old p q (Some done) new = CanConnect (entry old) (interlinks old) p q × IsConnected old new p.0 q.0
-
-  -- `break_prev` and `break_next`: the link of p loses its previous or next link, if it has one.
-  abbrev pub BreaksPrev : A → ℕ × Gen → Option Unit → A → Type 0
-  BreaksPrev old p None new = IsValid (entry old) p → prev_of (interlinks old) p.0 ≡ None
-  BreaksPrev old p (Some done) new = IsValid (entry old) p × (a : ℕ) × (prev_of (interlinks old) p.0 ≡ Some a) × IsDisconnected old new a p.0
-
-  abbrev pub BreaksNext : A → ℕ × Gen → Option Unit → A → Type 0
-  BreaksNext old p None new = IsValid (entry old) p → next_of (interlinks old) p.0 ≡ None
-  BreaksNext old p (Some done) new = IsValid (entry old) p × (b : ℕ) × (next_of (interlinks old) p.0 ≡ Some b) × IsDisconnected old new p.0 b
-
-  -- `exchange_next`: the links of p and q exchange their next links, if both have one.
-  abbrev pub ExchangesNext : A → ℕ × Gen → ℕ × Gen → Option Unit → A → Type 0
-  ExchangesNext old p q None new = CanExchange (entry old) (interlinks old) p q → ⊥
-  ExchangesNext old p q (Some done) new = CanExchange (entry old) (interlinks old) p q × IsExchanged old new p.0 q.0
-
-  module _ {K : Type 0} (packed : K → Option ℕ) (following : Gen → Gen) where
-    -- The link at i, with generation g, is removed and returned as it was.
-    abbrev pub IsTaken : A → ℕ → Gen → LinkBody K T → A → Type 0
-    IsTaken old i g link new = (link_at (entry old) (interlinks old) i ≡ Some (g, link_view packed link)) × IsRemoved old new following i
-
-    -- A removal of the link of p, or of the link at i, if there is one.
-    abbrev pub RemovesLink : (Gen → Bool) → A → ℕ × Gen → InvalidationResult (LinkBody K T) → A → Type 0
-    RemovesLink wraps old p result new =
-        ReportsOverflow wraps (view old).counter (IsValid (entry old) p → ⊥) (λ link. IsValid (entry old) p × IsTaken old p.0 p.1 link new) result
-
-    abbrev pub RemovesLinkAt : (Gen → Bool) → A → ℕ → InvalidationResult (Gen × LinkBody K T) → A → Type 0
-    RemovesLinkAt wraps old i result new = ReportsOverflow wraps (view old).counter (entry old i ≡ None) (λ e. IsTaken old i e.0 e.1 new) result
-
   -- A link of a kind, with a value, is inserted at p.
   abbrev pub GainsLink : InsertKind (LinkName Gen) → T → A → ℕ × Gen → A → Type 0
   GainsLink kind t old p new = IsInsertion (by_index kind) (view old) (view new) (entry old) (entry new) (interlinks old) (interlinks new) p t
 
-  module _ {P I : Type 0} (key : P → ℕ × Gen) (number : I → ℕ) where
-    abbrev may_insert : A → InsertKindBody P I → Type 0
-    may_insert = MayInsertIn entry interlinks key number
+  module _ {P : Type 0} (key : P → ℕ × Gen) where
+    -- q follows p.
+    abbrev pub AreNeighborLinks : A → P → P → Type 0
+    AreNeighborLinks a p q = IsValid (entry a) (key p) × IsValid (entry a) (key q) × AreNeighbors (interlinks a) (key p).0 (key q).0
+
+    -- `get_link`: the link of p with current pointers to its neighbors, if p is valid.
+    abbrev pub ReadsLink : A → P → Option (Link P (Bor T)) → Type 0
+    ReadsLink a p result = record {
+      some : IsSome result ↔ IsValid (entry a) (key p);
+      link : IfSome result (λ link. IsLinkAt (entry a) (interlinks a) (key p) (option_map key link.prev) (option_map key link.next) link.t.now);
+    }
+
+    -- `advancer_chain`: an advancer at the link of p, if p is valid.
+    abbrev pub StartsWalk : {V : Type 0} → (V → Walker) → A → P → Option V → Type 0
+    StartsWalk walker a p result = record {
+      some : IsSome result ↔ IsValid (entry a) (key p);
+      walker : IfSome result (λ v. walker v ≡ walker_at (interlinks a) (count (view a)) (key p).0);
+    }
+
+    -- `connect`: the link of q comes to follow the link of p, or it could not.
+    abbrev pub ConnectsLinks : A → P → P → Option Unit → A → Type 0
+    ConnectsLinks old p q None new = CanConnect (entry old) (interlinks old) (key p) (key q) → ⊥
+    ConnectsLinks old p q (Some done) new = CanConnect (entry old) (interlinks old) (key p) (key q) × IsConnected old new (key p).0 (key q).0
+
+    -- `break_prev` and `break_next`: the link of p loses its previous or next link, if it has one.
+    abbrev pub BreaksPrev : A → P → Option Unit → A → Type 0
+    BreaksPrev old p None new = IsValid (entry old) (key p) → prev_of (interlinks old) (key p).0 ≡ None
+    BreaksPrev old p (Some done) new = IsValid (entry old) (key p) × (a : ℕ) × (prev_of (interlinks old) (key p).0 ≡ Some a) × IsDisconnected old new a (key p).0
+
+    abbrev pub BreaksNext : A → P → Option Unit → A → Type 0
+    BreaksNext old p None new = IsValid (entry old) (key p) → next_of (interlinks old) (key p).0 ≡ None
+    BreaksNext old p (Some done) new = IsValid (entry old) (key p) × (b : ℕ) × (next_of (interlinks old) (key p).0 ≡ Some b) × IsDisconnected old new (key p).0 b
+
+    -- `exchange_next`: the links of p and q exchange their next links, if both have one.
+    abbrev pub ExchangesNext : A → P → P → Option Unit → A → Type 0
+    ExchangesNext old p q None new = CanExchange (entry old) (interlinks old) (key p) (key q) → ⊥
+    ExchangesNext old p q (Some done) new = CanExchange (entry old) (interlinks old) (key p) (key q) × IsExchanged old new (key p).0 (key q).0
+
+  module _ {P I W : Type 0} (pointers : PointerKind P I Gen W) where
+    -- The same links without generations: that of p, and that at an index.
+    abbrev pub ReadsLinkNoGen : A → P → Option (Bor (LinkBody (PackedOption I W) T)) → Type 0
+    ReadsLinkNoGen a p result = record {
+      some : IsSome result ↔ IsValid (entry a) (pointers.key p);
+      link : IfSome result (λ link. link_at (entry a) (interlinks a) (pointers.key p).0 ≡ Some ((pointers.key p).1, link_view pointers.packed link.now));
+    }
+
+    abbrev pub ReadsLinkAt : A → I → Option (Gen × Bor (LinkBody (PackedOption I W) T)) → Type 0
+    ReadsLinkAt a i result = option_map (borrowed_link pointers.packed) result ≡ link_at (entry a) (interlinks a) (pointers.number i)
+
+    -- The link at i, with generation g, is removed and returned as it was.
+    abbrev pub IsTaken : A → ℕ → Gen → LinkBody (PackedOption I W) T → A → Type 0
+    IsTaken old i g link new = (link_at (entry old) (interlinks old) i ≡ Some (g, link_view pointers.packed link)) × IsRemoved old new pointers.following i
+
+    -- A removal of the link of p, or of the link at i, if there is one.
+    abbrev pub RemovesLink : A → P → InvalidationResult (LinkBody (PackedOption I W) T) → A → Type 0
+    RemovesLink old p result new =
+        ReportsOverflow pointers.wraps (view old).counter (IsValid (entry old) (pointers.key p) → ⊥)
+        (λ link. IsValid (entry old) (pointers.key p) × IsTaken old (pointers.key p).0 (pointers.key p).1 link new) result
+
+    abbrev pub RemovesLinkAt : A → I → InvalidationResult (Gen × LinkBody (PackedOption I W) T) → A → Type 0
+    RemovesLinkAt old i result new =
+        ReportsOverflow pointers.wraps (view old).counter (entry old (pointers.number i) ≡ None) (λ e. IsTaken old (pointers.number i) e.0 e.1 new) result
+
+    -- A link of the kind may be inserted.
+    abbrev pub MayInsertIn : A → InsertKindBody P I → Type 0
+    MayInsertIn a kind = MayInsert (entry a) (interlinks a) (names_in pointers.key pointers.number kind)
 
     -- An insertion within the capacity, which stays the same.
     abbrev pub InsertsLinkWithin : A → InsertKindBody P I → T → Result P ChainInsertionError → A → Type 0
     InsertsLinkWithin old kind t result new =
-        IsInsertionWithinResult (may_insert old kind) (HasFreeCapacity (view old)) (IsFull (view old))
-        (λ p. GainsLink (names_in key number kind) t old (key p) new × ((view new).capacity ≡ (view old).capacity)) result
+        IsInsertionWithinResult (MayInsertIn old kind) (HasFreeCapacity (view old)) (IsFull (view old))
+        (λ p. GainsLink (names_in pointers.key pointers.number kind) t old (pointers.key p) new × ((view new).capacity ≡ (view old).capacity)) result
 
     -- A link of the kind is inserted at p, after a growth if the arena was full.
-    abbrev pub GrowsAndGainsLink : ℕ → A → InsertKindBody P I → T → P → A → Type 0
-    GrowsAndGainsLink greatest old kind t p new = GainsLink (names_in key number kind) t old (key p) new × GrowsForOneMore greatest (view old) (view new)
+    abbrev pub GrowsAndGainsLink : A → InsertKindBody P I → T → P → A → Type 0
+    GrowsAndGainsLink old kind t p new =
+        GainsLink (names_in pointers.key pointers.number kind) t old (pointers.key p) new × GrowsForOneMore pointers.greatest (view old) (view new)
 
     -- An insertion for which a full arena grows.
-    abbrev pub InsertsLink : ℕ → A → InsertKindBody P I → T → Result P ChainInsertionError → A → Type 0
-    InsertsLink greatest old kind t result new = IsInsertionResult (may_insert old kind) (RefusesOneMore (view old)) (λ p. GrowsAndGainsLink greatest old kind t p new) result
+    abbrev pub InsertsLink : A → InsertKindBody P I → T → Result P ChainInsertionError → A → Type 0
+    InsertsLink old kind t result new = IsInsertionResult (MayInsertIn old kind) (RefusesOneMore (view old)) (λ p. GrowsAndGainsLink old kind t p new) result
 
     -- Such an insertion of a kind that may be inserted.
-    abbrev pub InsertsAllowedLink : ℕ → A → InsertKindBody P I → T → Result P ReallocationError → A → Type 0
-    InsertsAllowedLink greatest old kind t result new = IsGrowthResult (RefusesOneMore (view old)) (λ p. GrowsAndGainsLink greatest old kind t p new) result
+    abbrev pub InsertsAllowedLink : A → InsertKindBody P I → T → Result P ReallocationError → A → Type 0
+    InsertsAllowedLink old kind t result new = IsGrowthResult (RefusesOneMore (view old)) (λ p. GrowsAndGainsLink old kind t p new) result
+
+    -- `compress_canonical`: the chains lie in runs, and whether the counter wrapped is reported.
+    abbrev pub CompressesLinks : A → Bool → InvalidationOption Unit → A → Type 0
+    CompressesLinks old reset result new = record {
+      canonical : IsCanonicalLayout pointers.first pointers.following reset (view old) (interlinks old) (view new) (interlinks new);
+      overflow : IfSome (view old).counter (λ g. result ≡ invalidation_option (overflows_after_compression pointers.wraps reset (count (view old)) g) tt);
+    }

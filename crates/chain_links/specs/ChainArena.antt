@@ -3,13 +3,12 @@ use Rattle.std.specs.Prelude.{◌≡◌, ◌≢◌, ℕ, suc, List, [], ◌∷�
 use Rattle.std.specs.Option.{option_map, option_and_then}
 use Rattle.chain_laws.specs.Chains.{LinkMap, Interlinks, prev_of, next_of}
 use Rattle.chain_laws.specs.Walks.{IsWalk}
-use Rattle.chain_laws.specs.Removals.{with_removal, Removes, RemovesPairs}
-use Rattle.chain_laws.specs.Cuts.{without_pair, Cuts, TakesPair}
-use Rattle.chain_laws.specs.Exchanges.{with_exchange, Exchanges, ExchangesPairs}
-use Rattle.chain_laws.specs.Joins.{with_next_at, with_prev_at, with_join, AddsPair, Connects}
+use Rattle.chain_laws.specs.Removals.{with_removal}
+use Rattle.chain_laws.specs.Joins.{with_next_at, with_prev_at}
 use Rattle.chain_laws.specs.Insertions.{InsertKind, with_insertion, with_insertion_as}
 use Rattle.arena_traits.specs.Arena.{Arena, with_slot, entry_at, next_index, insert_next, remove_at, IsValid}
-use Rattle.arena_traits.specs.Entries.{ArenaView, view_of}
+use Rattle.arena_traits.specs.Entries.{ArenaView, ArenaState, view_of}
+use Rattle.arena_traits.specs.EntryLaws.{arena_state}
 
 -- A generation and a value, with a function applied to the value.
 abbrev pub on_value : {Gen X Y : Type 0} → (X → Y) → Gen × X → Gen × Y
@@ -76,6 +75,10 @@ module _ {Gen T : Type 0} where
   abbrev pub entry : Arena Gen (LinkView T) → ℕ → Option (Gen × T)
   entry a i = entry_at (values_of a) i
 
+  -- These two together.
+  abbrev pub value_state : (a : Arena Gen (LinkView T)) → ArenaState (value_view a) (entry a)
+  value_state a = arena_state (values_of a)
+
   -- The entry with other interlinks.
   abbrev pub relink : Option Interlinks → Option (Gen × LinkView T) → Option (Gen × LinkView T)
   relink interlinks None = None
@@ -114,34 +117,6 @@ module _ {Gen T : Type 0} where
   -- The link at i is removed and its neighbors are linked.
   abbrev pub remove_link : (Gen → Gen) → Arena Gen (LinkView T) → ℕ → Arena Gen (LinkView T)
   remove_link following a i = with_link_map (remove_at following a i) (with_removal (link_map a) i)
-
-  -- The link at i was removed, by state, link map, chains and pairs.
-  pub record IsRemoval (following : Gen → Gen) (old : Arena Gen (LinkView T)) (i : ℕ) (new : Arena Gen (LinkView T)) : Type 0 where
-    pub state : new ≡ remove_link following old i
-    pub links : link_map new ≡ with_removal (link_map old) i
-    pub chains : Removes (link_map old) (link_map new) i
-    pub pairs : RemovesPairs (link_map old) (link_map new) i
-
-  -- The start b was joined to the end a, by state, link map, pairs and chains.
-  pub record IsJoin (old new : Arena Gen (LinkView T)) (a b : ℕ) : Type 0 where
-    pub state : new ≡ with_link_map old (with_join (link_map old) a b)
-    pub links : link_map new ≡ with_join (link_map old) a b
-    pub pair : AddsPair (link_map old) (link_map new) a b
-    pub chains : Connects (link_map old) (link_map new) a b
-
-  -- The neighbors a and b were cut, by state, link map, pairs and chains.
-  pub record IsCut (old new : Arena Gen (LinkView T)) (a b : ℕ) : Type 0 where
-    pub state : new ≡ with_link_map old (without_pair (link_map old) a b)
-    pub links : link_map new ≡ without_pair (link_map old) a b
-    pub pair : TakesPair (link_map old) (link_map new) a b
-    pub chains : Cuts (link_map old) (link_map new) a b
-
-  -- The links after p and q were exchanged, by state, link map, pairs and chains.
-  pub record IsExchange (old new : Arena Gen (LinkView T)) (p q : ℕ) : Type 0 where
-    pub state : new ≡ with_link_map old (with_exchange (link_map old) p q)
-    pub links : link_map new ≡ with_exchange (link_map old) p q
-    pub pairs : ExchangesPairs (link_map old) (link_map new) p q
-    pub chains : Exchanges (link_map old) (link_map new) p q
 
   -- The links of the walk from i, with indexes and generations.
   pub record IsWalkOf (a : Arena Gen (LinkView T)) (i : ℕ) (links : List (ℕ × (Gen × LinkView T))) : Type 0 where

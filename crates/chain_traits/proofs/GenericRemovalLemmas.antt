@@ -1,12 +1,16 @@
 -- The effects of a removal from any arena of links, if it removes anything.
-use Rattle.std.proofs.Common.{◌≡◌, ◌≢◌, ℕ, suc, ◌+◌, List, [], ◌∷◌, length, Bool, true, false, Option, None, Some, refl, sym, ap, ◌∙◌, subst, arith}
-use Rattle.std.specs.Prelude.{◌↔◌, is_some, cond, ◌==◌, IsSome, IfSome, IfNone}
-use Rattle.std.specs.Option.{option_map}
+use Rattle.std.proofs.Common.{◌≡◌, ◌≢◌, ℕ, suc, ◌+◌, List, [], ◌∷◌, length, Bool, true, false, Option, None, Some, refl, sym, ap, ◌∙◌, subst, unwrap_or, arith}
+use Rattle.std.specs.Prelude.{is_some, cond, ◌==◌, IfSome, IfNone, OnSome}
+use Rattle.arena_core.specs.Invalidation.{value_within}
+use Rattle.arena_core.specs.PointerKinds.{PointerKind}
+use Rattle.arena_core.specs.declared.invalidation.InvalidationResult.{InvalidationResult}
+use Rattle.arena_core.specs.declared.invalidation.InvalidationResult.TheVariants.{Success, GenerationOverflow, InvalidPtr}
 use Rattle.chain_laws.specs.Chains.{LinkMap, IsWellLinked}
 use Rattle.chain_laws.specs.Removals.{with_removal, Removes}
 use Rattle.chain_laws.proofs.RemovalLemmas.Chains.{removed_removes}
 use Rattle.arena_traits.specs.Arena.{IsValid}
-use Rattle.arena_traits.specs.Entries.{ArenaView, count, found, without_index, AscendsFrom, view_after_removal}
+use Rattle.arena_traits.specs.Entries.{ArenaView, ArenaState, count, found, without_index, AscendsFrom, view_after_removal}
+use Rattle.arena_traits.specs.CallOutcomes.{IsEntryRemoved, RemovesEntry}
 use Rattle.arena_traits.proofs.EntrySearchLemmas.{found-gone, found-kept}
 
 module _ {Gen T : Type 0} where
@@ -29,57 +33,62 @@ module _ {Gen T : Type 0} where
       by false other some rest = ap suc (rest some)
 
 -- Equal entries are found alike at each index.
-pub same_entry : {A Gen T : Type 0} (entries : A → List ((ℕ × Gen) × T)) (entry : A → ℕ → Option (Gen × T)) → ((a : A) (i : ℕ) → found i (entries a) ≡ entry a i) → (a b : A) → entries b ≡ entries a → entry b ≡ entry a
-same_entry entries entry was_read a b same = λ k i. (sym (was_read b i) ∙ (ap (found i) same ∙ was_read a i)) k
+pub same_entry : {A Gen T : Type 0} {view : A → ArenaView Gen T} {entry : A → ℕ → Option (Gen × T)} (state : (a : A) → ArenaState (view a) (entry a)) (a b : A) → (view b).entries ≡ (view a).entries → entry b ≡ entry a
+same_entry state a b same = λ k i. (sym ((state b).finds i) ∙ (ap (found i) same ∙ (state a).finds i)) k
 
-module _ {A Gen T : Type 0} (view : A → ArenaView Gen T) (entry : A → ℕ → Option (Gen × T)) (links : A → LinkMap) where
+module _ {A Gen T : Type 0} {view : A → ArenaView Gen T} {entry : A → ℕ → Option (Gen × T)} (state : (a : A) → ArenaState (view a) (entry a)) (links : A → LinkMap) where
   -- The entry of a pointer existed and is gone.
-  pub record HasGone (old new : A) (p : ℕ × Gen) : Type 0 where
+  pub record HasGone (following : Gen → Gen) (old new : A) (p : ℕ × Gen) : Type 0 where
     pub was_stored : IsValid (entry old) p
     pub gone : entry new p.0 ≡ None
     pub kept : (i : ℕ) → i ≢ p.0 → entry new i ≡ entry old i
     pub relinked : links new ≡ with_removal (links old) p.0
     pub chains : Removes (links old) (links new) p.0
     pub less : count (view old) ≡ count (view new) + 1
+    pub view_after : view new ≡ view_after_removal following (view old) p.0
 
   -- A removal returns a pointer's value and removes its entry, or changes nothing.
-  pub record TakesEntry (old new : A) (p : ℕ × Gen) (o : Option T) : Type 0 where
+  pub record TakesEntry (following : Gen → Gen) (old new : A) (p : ℕ × Gen) (o : Option T) : Type 0 where
     pub valid : IsValid (entry old) p → is_some o ≡ true
     pub value : (v : IsValid (entry old) p) → o ≡ Some v.value
-    pub some : is_some o ≡ true → HasGone old new p
+    pub some : is_some o ≡ true → HasGone following old new p
     pub same : o ≡ None → new ≡ old
 
-  pub removal : ((a : A) → AscendsFrom 1 (view a).entries) → ((a : A) (i : ℕ) → found i (view a).entries ≡ entry a i) → (old new : A) (p : ℕ × Gen) (following : Gen → Gen) (o : Option T)
-      → IsSome o ↔ IsValid (entry old) p → (IsValid (entry old) p → (o ≡ option_map (λ e. e.1) (entry old p.0)) × (view new ≡ view_after_removal following (view old) p.0))
-      → ((IsValid (entry old) p → ⊥) → (o ≡ None) × (new ≡ old)) → (IsValid (entry old) p → links new ≡ with_removal (links old) p.0) → IsWellLinked (links old) → TakesEntry old new p o
-  removal ascends was_read old new p following o some valid invalid passed agrees = record {
-    valid = some.1;
-    value = λ v. (valid v).0 ∙ ap (option_map (λ (e : Gen × T). e.1)) v.stored;
-    some = λ is. has_gone (some.0 is);
-    same = λ none. (invalid (λ v. let is = some.1 v in let not = ap is_some none in let both = sym is ∙ not in cc)).1;
-  }
-    where
-      has_gone : IsValid (entry old) p → HasGone old new p
-      has_gone v =
-          let entries = ap (λ (s : ArenaView Gen T). s.entries) (valid v).1 in
-          record {
-            was_stored = v;
-            gone = entry_gone (entry old) (entry new) (view old).entries (view new).entries p.0 (ascends old) (was_read old) (was_read new) entries;
-            kept = entry_kept (entry old) (entry new) (view old).entries (view new).entries p.0 (ascends old) (was_read old) (was_read new) entries;
-            relinked = passed v;
-            chains = subst (λ (l : LinkMap). Removes (links old) l p.0) (sym (passed v)) (removed_removes (links old) p.0 agrees);
-            less = let one = one_less p.0 (view old).entries (ap is_some (was_read old p.0) ∙ ap is_some v.stored) in let many = ap length entries in omega arith;
-          }
+  module _ {P I W : Type 0} (pointers : PointerKind P I Gen W) (old new : A) (p : P) (agrees : IsWellLinked (links old)) where
+    taken : (t : T) → IsEntryRemoved state pointers old (pointers.key p).0 (pointers.key p).1 t new → links new ≡ with_removal (links old) (pointers.key p).0 → TakesEntry pointers.following old new (pointers.key p) (Some t)
+    taken t removed passed = record {
+      valid = λ v. refl;
+      value = λ v. let both = sym removed.0 ∙ v.stored in ap Some (ap (λ (e : Gen × T). e.1) (ap (λ (o : Option (Gen × T)). unwrap_or o ((pointers.key p).1, t)) both));
+      some = λ is. record {
+        was_stored = record { value = t; stored = removed.0 };
+        gone = entry_gone (entry old) (entry new) (view old).entries (view new).entries (pointers.key p).0 (state old).ascends (state old).finds (state new).finds entries;
+        kept = entry_kept (entry old) (entry new) (view old).entries (view new).entries (pointers.key p).0 (state old).ascends (state old).finds (state new).finds entries;
+        relinked = passed;
+        chains = subst (λ (l : LinkMap). Removes (links old) l (pointers.key p).0) (sym passed) (removed_removes (links old) (pointers.key p).0 agrees);
+        less = let one = one_less (pointers.key p).0 (view old).entries (ap is_some ((state old).finds (pointers.key p).0) ∙ ap is_some removed.0) in let many = ap length entries in omega arith;
+        view_after = removed.1;
+      };
+      same = λ none. absurd (cc);
+    }
+      where
+        entries : (view new).entries ≡ without_index (pointers.key p).0 (view old).entries
+        entries = ap (λ (s : ArenaView Gen T). s.entries) removed.1
+
+    pub removal : (r : InvalidationResult T) → RemovesEntry state pointers old p r new → IfNone (value_within r) (new ≡ old) → OnSome (value_within r) (links new ≡ with_removal (links old) (pointers.key p).0)
+        → TakesEntry pointers.following old new (pointers.key p) (value_within r)
+    removal InvalidPtr none same passed = record { valid = λ v. absurd (none v); value = λ v. absurd (none v); some = λ some. absurd (cc); same = λ is. same }
+    removal (Success t) removed same passed = taken t removed.1 passed
+    removal (GenerationOverflow t) removed same passed = taken t removed.1 passed
 
   -- Consequences of a removal, whichever it returns.
-  module _ (old new : A) (p : ℕ × Gen) where
-    pub value_known : (o : Option T) → TakesEntry old new p o → IfSome o (λ t. entry old p.0 ≡ Some (p.1, t))
+  module _ (following : Gen → Gen) (old new : A) (p : ℕ × Gen) where
+    pub value_known : (o : Option T) → TakesEntry following old new p o → IfSome o (λ t. entry old p.0 ≡ Some (p.1, t))
     value_known None r = tt
     value_known (Some t) r =
         let v = (r.some refl).was_stored in
         let same : t ≡ v.value = let h = r.value v in cc in
         subst (λ (u : T). entry old p.0 ≡ Some (p.1, u)) (sym same) v.stored
 
-    pub same_of : (o : Option T) → TakesEntry old new p o → IfNone o (new ≡ old)
+    pub same_of : (o : Option T) → TakesEntry following old new p o → IfNone o (new ≡ old)
     same_of None r = r.same refl
     same_of (Some t) r = tt

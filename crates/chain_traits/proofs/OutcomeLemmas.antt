@@ -25,6 +25,11 @@ pub if_ok : {R E : Type 0} {X Z : R → Type 0} (o : Result R E) → IfOk o X �
 if_ok (Ok r) x so = so r x
 if_ok (Err e) x so = tt
 
+-- Consequences of a fact on `Err` hold on `Err`.
+pub on_err : {R E X Z : Type 0} (o : Result R E) → OnErr o X → (X → Z) → OnErr o Z
+on_err (Ok r) x so = tt
+on_err (Err e) x so = so x
+
 -- Case analysis: a call returned `Some`, or changed nothing.
 pub either_some : {R X Y Z : Type 0} (o : Option R) → OnSome o X → IfNone o Y → (is_some o ≡ true → X → Z) → (Y → Z) → Z
 either_some None x y so else_so = else_so y

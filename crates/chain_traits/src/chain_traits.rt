@@ -1,26 +1,20 @@
-ghost use Rattle.std.specs.Prelude.{◌≡◌, ◌↔◌, ◌<◌, ◌≤◌, ⊤, ℕ, is_some, Option, map, length, All, IsTrue, IsSome, IfSome, OnSome, IfNone, IfOk, OnErr};
+ghost use Rattle.std.specs.Prelude.{◌≡◌, ◌↔◌, ⊤, ℕ, is_some, Option, map, IsTrue, OnSome, IfNone, IfOk, OnErr};
 ghost use Rattle.std.specs.Option.{option_map};
-ghost use Rattle.arena_core.specs.Numbers.{IsWithin};
-ghost use Rattle.arena_core.specs.Invalidation.{value_within, invalidation_option};
-ghost use Rattle.chain_laws.specs.Chains.{LinkMap, IsWellLinked, prev_of, next_of};
+ghost use Rattle.arena_core.specs.Invalidation.{value_within};
+ghost use Rattle.chain_laws.specs.Chains.{LinkMap, IsWellLinked};
 ghost use Rattle.chain_laws.specs.Neighbors.{AreNeighbors, HasOneSetOfChains};
 ghost use Rattle.chain_laws.specs.Removals.{with_removal};
 ghost use Rattle.chain_laws.specs.Renamings.{IsRenaming};
 ghost use Rattle.chain_laws.specs.Arrangements.{place_in};
-ghost use Rattle.arena_traits.specs.Arena.{IsValid};
-ghost use Rattle.arena_traits.specs.Entries.{count, index_of};
-ghost use Rattle.arena_traits.specs.Compressions.{overflows_after_compression};
-ghost use Rattle.chain_links.specs.ChainArena.{link_at, IsLinkAt};
-ghost use Rattle.chain_links.specs.CallEffects.{MayInsertIn, InsertsLinkWithin, InsertsLink, InsertsAllowedLink, ConnectsLinks, BreaksPrev, BreaksNext, ExchangesNext, RemovesLink, RemovesLinkAt};
-ghost use Rattle.chain_links.specs.declared.kinds.InsertKindBody.{InsertKindBody};
-ghost use Rattle.chain_links.specs.CanonicalLayouts.{IsCanonicalLayout};
-ghost use Rattle.chain_links.specs.Links.{link_view, borrowed_link};
-ghost use Rattle.chain_laws.specs.Walks.{Walker, walker_at};
+ghost use Rattle.chain_laws.specs.Walks.{Walker};
+ghost use Rattle.arena_traits.specs.Entries.{IsSoundView, index_of};
+ghost use Rattle.chain_links.specs.CallEffects.{MayInsertIn, InsertsLinkWithin, InsertsLink, InsertsAllowedLink, AreNeighborLinks, ReadsLink, ReadsLinkNoGen, ReadsLinkAt, StartsWalk, ConnectsLinks, BreaksPrev, BreaksNext, ExchangesNext, RemovesLink, RemovesLinkAt, CompressesLinks};
 ghost use Rattle.chain_links.specs.Walkers.{IsPassing};
+ghost use Rattle.chain_links.specs.declared.kinds.InsertKindBody.{InsertKindBody};
 
 use arena_ptr::{
-    ChainInsertionError, GenKey, InvalidationOption, InvalidationResult, InxKey, PtrKey,
-    ReallocationError,
+    AnyPointer, ChainInsertionError, GenKey, InvalidationOption, InvalidationResult, InxKey,
+    PtrKey, ReallocationError,
 };
 use arena_traits::{Advancer, ArenaTrait};
 use chain_links::{Link, LinkInsertKind, LinkNoGen};
@@ -43,20 +37,19 @@ pub trait ChainArenaTrait<P: PtrKey, T: Drop>: ArenaTrait<P, T> {
     ghost walker: { Self.ChainPtrAdvancer → Walker };
 
     // What an implementation knows besides of an insertion: the arena before, the kind, the value,
-    // the pointer, and the arena after.
-    ghost inserts: { Self → InsertKindBody P P.Inx → T → P → Self → Type 0 } = { λ _ _ _ _ _. ⊤ };
+    // the arena after, and the pointer.
+    ghost inserts: { Self → InsertKindBody P P.Inx → T → Self → P → Type 0 } = { λ _ _ _ _ _. ⊤ };
 
-    // What it knows besides of the arenas before and after `connect`, given the two indexes.
-    ghost connects: { Self → ℕ → ℕ → Self → Type 0 } = { λ _ _ _ _. ⊤ };
+    // What it knows besides of the arenas before and after `connect`, `break_prev`, `break_next`,
+    // `exchange_next` and `compress_canonical`.
+    ghost connects: { Self → P → P → Self → Type 0 } = { λ _ _ _ _. ⊤ };
 
-    // What it knows besides after `break_prev` or `break_next`, given the indexes of the link that
-    // loses its next link and of that next link.
-    ghost breaks: { Self → ℕ → ℕ → Self → Type 0 } = { λ _ _ _ _. ⊤ };
+    ghost breaks_prev: { Self → P → Self → Type 0 } = { λ _ _ _. ⊤ };
 
-    // What it knows besides after `exchange_next`, given the two indexes.
-    ghost exchanges: { Self → ℕ → ℕ → Self → Type 0 } = { λ _ _ _ _. ⊤ };
+    ghost breaks_next: { Self → P → Self → Type 0 } = { λ _ _ _. ⊤ };
 
-    // What it knows besides after `compress_canonical`.
+    ghost exchanges: { Self → P → P → Self → Type 0 } = { λ _ _ _ _. ⊤ };
+
     ghost compresses_canonically: { Self → Self → Type 0 } = { λ _ _. ⊤ };
 
     /// States that the interlinks agree: j follows i exactly if i precedes j.
@@ -76,9 +69,7 @@ pub trait ChainArenaTrait<P: PtrKey, T: Drop>: ArenaTrait<P, T> {
     final fn invariants(&self)
         ensures agree { IsWellLinked (interlinks self.now) }
         ensures one { HasOneSetOfChains (interlinks self.now) }
-        ensures indexes { All (λ e. IsWithin P.Inx.greatest (index_of e))
-            (Self.view self.now).entries }
-        ensures fits { count (Self.view self.now) ≤ (Self.view self.now).capacity }
+        ensures sound { IsSoundView P.Inx.greatest (Self.view self.now) }
     {
         self.agrees();
         self.len();
@@ -87,12 +78,12 @@ pub trait ChainArenaTrait<P: PtrKey, T: Drop>: ArenaTrait<P, T> {
     /// Returns whether a link of the given kind may be inserted: the requirement of the kind on the
     /// links beside it is met.
     fn can_insert(&self, kind: LinkInsertKind<P>) -> bool
-        ensures { IsTrue result ↔ MayInsertIn Self.entry interlinks P.key P.Inx.number self.now
-            kind };
+        ensures { IsTrue result ↔ MayInsertIn Self.state interlinks ⟦<P as AnyPointer>⟧.kind
+            self.now kind };
 
     /// Inserts a link of the given kind within the capacity and returns its pointer.
     ///
-    /// The pointer has the counter, which stays, as its generation. Does not allocate.
+    /// The generation of the pointer is the counter, which does not change. Does not allocate.
     ///
     /// # Errors
     ///
@@ -109,22 +100,23 @@ pub trait ChainArenaTrait<P: PtrKey, T: Drop>: ArenaTrait<P, T> {
         kind: LinkInsertKind<P>,
         t: T,
     ) -> Result<P, ChainInsertionError>
-        ensures outcome { InsertsLinkWithin Self.view Self.entry interlinks P.key P.Inx.number
-            self.old kind t result self.new }
+        ensures outcome { InsertsLinkWithin Self.state interlinks ⟦<P as AnyPointer>⟧.kind self.old
+            kind t result self.new }
         ensures err { OnErr result (self.new ≡ self.old) }
-        ensures more { IfOk result (λ p. inserts self.old kind t p self.new) };
+        ensures more { IfOk result (inserts self.old kind t self.new) };
 
     /// Inserts a link of the given kind and returns its pointer; a full arena grows first.
     ///
-    /// The pointer has the counter, which stays, as its generation.
+    /// The generation of the pointer is the counter, which does not change.
     ///
     /// # Errors
     ///
     /// In the order in which they are tested:
     ///
     /// - `FailedLinkRequirement`: the requirement of `kind` is not met (`can_insert`).
-    /// - `BeyondMaxCapacity`: one link more is above the maximum.
-    /// - `AllocError`: it is above the greatest index, or an allocation failed.
+    /// - `BeyondMaxCapacity`: the arena is full, and one link more is above the maximum.
+    /// - `AllocError`: the arena is full, and one link more is above the greatest index, or an
+    ///   allocation failed.
     ///
     /// On error the arena is unchanged, and `t` is dropped.
     ///
@@ -134,10 +126,10 @@ pub trait ChainArenaTrait<P: PtrKey, T: Drop>: ArenaTrait<P, T> {
         kind: LinkInsertKind<P>,
         t: T,
     ) -> Result<P, ChainInsertionError>
-        ensures outcome { InsertsLink Self.view Self.entry interlinks P.key P.Inx.number
-            P.Inx.greatest self.old kind t result self.new }
+        ensures outcome { InsertsLink Self.state interlinks ⟦<P as AnyPointer>⟧.kind self.old kind t
+            result self.new }
         ensures err { OnErr result (self.new ≡ self.old) }
-        ensures more { IfOk result (λ p. inserts self.old kind t p self.new) };
+        ensures more { IfOk result (inserts self.old kind t self.new) };
 
     /// Inserts a link of a kind that may be inserted (`can_insert`), as `insert_reallocating` does.
     ///
@@ -145,27 +137,26 @@ pub trait ChainArenaTrait<P: PtrKey, T: Drop>: ArenaTrait<P, T> {
     ///
     /// In the order in which they are tested:
     ///
-    /// - `BeyondMaxCapacity`: one link more is above the maximum.
-    /// - `AllocError`: it is above the greatest index, or an allocation failed.
+    /// - `BeyondMaxCapacity`: the arena is full, and one link more is above the maximum.
+    /// - `AllocError`: the arena is full, and one link more is above the greatest index, or an
+    ///   allocation failed.
     ///
     /// On error the arena is unchanged, and `t` is dropped.
     ///
     /// Port of `ChainArenaTrait::insert`.
     fn insert(&mut self, kind: LinkInsertKind<P>, t: T) -> Result<P, ReallocationError>
-        requires { MayInsertIn Self.entry interlinks P.key P.Inx.number self.old kind }
-        ensures outcome { InsertsAllowedLink Self.view Self.entry interlinks P.key P.Inx.number
-            P.Inx.greatest self.old kind t result self.new }
+        requires { MayInsertIn Self.state interlinks ⟦<P as AnyPointer>⟧.kind self.old kind }
+        ensures outcome { InsertsAllowedLink Self.state interlinks ⟦<P as AnyPointer>⟧.kind self.old
+            kind t result self.new }
         ensures err { OnErr result (self.new ≡ self.old) }
-        ensures more { IfOk result (λ p. inserts self.old kind t p self.new) };
+        ensures more { IfOk result (inserts self.old kind t self.new) };
 
     /// Returns whether q follows p: both pointers are valid, and the next link of p is at the index
     /// of q.
     ///
     /// Port of `ChainArenaTrait::are_neighbors`.
     fn are_neighbors(&self, p: P, q: P) -> bool
-        ensures { IsTrue result
-            ↔ (IsValid (Self.entry self.now) (P.key p) × IsValid (Self.entry self.now) (P.key q)
-            × AreNeighbors (interlinks self.now) (P.key p).0 (P.key q).0) };
+        ensures { IsTrue result ↔ AreNeighborLinks Self.state interlinks P.key self.now p q };
 
     /// Returns whether the link after the link at index i is at index j.
     ///
@@ -174,31 +165,26 @@ pub trait ChainArenaTrait<P: PtrKey, T: Drop>: ArenaTrait<P, T> {
         ensures { IsTrue result ↔ AreNeighbors (interlinks self.now) (P.Inx.number i)
             (P.Inx.number j) };
 
-    /// Returns the link of `p` with the current pointers to its neighbors, or `None` if `p` is not
-    /// valid.
+    /// Returns the link of `p`, with its neighbors as pointers of their current generations, or
+    /// `None` if `p` is not valid.
     ///
     /// Port of `ChainArenaTrait::get_link`.
     fn get_link(&self, p: P) -> Option<Link<P, &T>>
-        ensures some { IsSome result ↔ IsValid (Self.entry self.now) (P.key p) }
-        ensures link { IfSome result (λ link. IsLinkAt (Self.entry self.now) (interlinks self.now)
-            (P.key p)
-            (option_map P.key link.prev) (option_map P.key link.next) link.t.now) }
+        ensures outcome { ReadsLink Self.state interlinks P.key self.now p result }
         ensures agree { IsWellLinked (interlinks self.now) };
 
     /// Returns the link of `p`, or `None` if `p` is not valid.
     ///
     /// Port of `ChainArenaTrait::get_link_no_gen`.
     fn get_link_no_gen(&self, p: P) -> Option<&LinkNoGen<P, T>>
-        ensures some { IsSome result ↔ IsValid (Self.entry self.now) (P.key p) }
-        ensures link { IfSome result (λ link. link_at (Self.entry self.now) (interlinks self.now)
-            (P.key p).0 ≡ Some ((P.key p).1, link_view P.Inx.packed_number link.now)) };
+        ensures { ReadsLinkNoGen Self.state interlinks ⟦<P as AnyPointer>⟧.kind self.now p result };
 
     /// Returns the generation and the link at an index, or `None` if no link is there.
     ///
     /// Port of `ChainArenaTrait::get_inx_link_no_gen`.
     fn get_inx_link_no_gen(&self, i: P::Inx) -> Option<(P::Gen, &LinkNoGen<P, T>)>
-        ensures link { option_map (borrowed_link P.Inx.packed_number) result ≡ link_at
-            (Self.entry self.now) (interlinks self.now) (P.Inx.number i) }
+        ensures link { ReadsLinkAt Self.state interlinks ⟦<P as AnyPointer>⟧.kind self.now i
+            result }
         ensures agree { IsWellLinked (interlinks self.now) };
 
     /// Returns an advancer along the chain of `p`, or `None` if `p` is not valid.
@@ -209,61 +195,54 @@ pub trait ChainArenaTrait<P: PtrKey, T: Drop>: ArenaTrait<P, T> {
     ///
     /// Port of `ChainArenaTrait::advancer_chain`.
     fn advancer_chain(&self, p: P) -> Option<Self::ChainPtrAdvancer>
-        ensures some { IsSome result ↔ IsValid (Self.entry self.now) (P.key p) }
-        ensures walker { IfSome result (λ v. walker v
-            ≡ walker_at (interlinks self.now) (count (Self.view self.now)) (P.key p).0) };
+        ensures { StartsWalk Self.state interlinks P.key walker self.now p result };
 
     /// Connects p to q, so that q follows p: two chains become one, or one chain becomes cyclic.
     ///
     /// If p is q, the link becomes a cyclic chain of its own. Returns `Some` exactly if both
-    /// pointers are valid, p has no next link and q no previous link. Otherwise nothing changes.
+    /// pointers are valid, p has no next link and q no previous link. Otherwise returns `None` and
+    /// changes nothing.
     ///
     /// Port of `ChainArenaTrait::connect`.
     fn connect(&mut self, p: P, q: P) -> Option<()>
-        ensures outcome { ConnectsLinks Self.view Self.entry interlinks self.old (P.key p)
-            (P.key q) result self.new }
+        ensures outcome { ConnectsLinks Self.state interlinks P.key self.old p q result self.new }
         ensures none { IfNone result (self.new ≡ self.old) }
-        ensures more { OnSome result (connects self.old (P.key p).0 (P.key q).0 self.new) };
+        ensures more { OnSome result (connects self.old p q self.new) };
 
     /// Disconnects a link from its previous link: a linear chain becomes two, a cyclic chain
     /// linear.
     ///
-    /// Returns `Some` exactly if `p` is valid and its link has a previous link. Otherwise nothing
-    /// changes.
+    /// Returns `Some` exactly if `p` is valid and its link has a previous link. Otherwise returns
+    /// `None` and changes nothing.
     ///
     /// Port of `ChainArenaTrait::break_prev`.
     fn break_prev(&mut self, p: P) -> Option<()>
-        ensures outcome { BreaksPrev Self.view Self.entry interlinks self.old (P.key p) result
-            self.new }
+        ensures outcome { BreaksPrev Self.state interlinks P.key self.old p result self.new }
         ensures none { IfNone result (self.new ≡ self.old) }
-        ensures more { OnSome result (IfSome (prev_of (interlinks self.old) (P.key p).0)
-            (λ a. breaks self.old a (P.key p).0 self.new)) };
+        ensures more { OnSome result (breaks_prev self.old p self.new) };
 
     /// Disconnects a link from its next link: a linear chain becomes two, a cyclic chain linear.
     ///
-    /// Returns `Some` exactly if `p` is valid and its link has a next link. Otherwise nothing
-    /// changes.
+    /// Returns `Some` exactly if `p` is valid and its link has a next link. Otherwise returns
+    /// `None` and changes nothing.
     ///
     /// Port of `ChainArenaTrait::break_next`.
     fn break_next(&mut self, p: P) -> Option<()>
-        ensures outcome { BreaksNext Self.view Self.entry interlinks self.old (P.key p) result
-            self.new }
+        ensures outcome { BreaksNext Self.state interlinks P.key self.old p result self.new }
         ensures none { IfNone result (self.new ≡ self.old) }
-        ensures more { OnSome result (IfSome (next_of (interlinks self.old) (P.key p).0)
-            (λ b. breaks self.old (P.key p).0 b self.new)) };
+        ensures more { OnSome result (breaks_next self.old p self.new) };
 
     /// Exchanges the next links of p and q.
     ///
     /// One chain becomes two, two become one, or two linear chains exchange what follows p and q.
     /// If p is q, the chains stay as they are. Returns `Some` exactly if both pointers are valid
-    /// and both links have a next link. Otherwise nothing changes.
+    /// and both links have a next link. Otherwise returns `None` and changes nothing.
     ///
     /// Port of `ChainArenaTrait::exchange_next`.
     fn exchange_next(&mut self, p: P, q: P) -> Option<()>
-        ensures outcome { ExchangesNext Self.view Self.entry interlinks self.old (P.key p)
-            (P.key q) result self.new }
+        ensures outcome { ExchangesNext Self.state interlinks P.key self.old p q result self.new }
         ensures none { IfNone result (self.new ≡ self.old) }
-        ensures more { OnSome result (exchanges self.old (P.key p).0 (P.key q).0 self.new) };
+        ensures more { OnSome result (exchanges self.old p q self.new) };
 
     /// Removes a link and returns it with the interlinks that it had, without their generations.
     ///
@@ -273,11 +252,10 @@ pub trait ChainArenaTrait<P: PtrKey, T: Drop>: ArenaTrait<P, T> {
     ///
     /// Port of `ChainArenaTrait::remove_link_no_gen`.
     fn remove_link_no_gen(&mut self, p: P) -> InvalidationResult<LinkNoGen<P, T>>
-        ensures outcome { RemovesLink Self.view Self.entry interlinks P.Inx.packed_number
-            P.Gen.following P.Gen.wraps self.old (P.key p) result self.new }
+        ensures outcome { RemovesLink Self.state interlinks ⟦<P as AnyPointer>⟧.kind self.old p
+            result self.new }
         ensures invalid { IfNone (value_within result) (self.new ≡ self.old) }
-        ensures more { IsValid (Self.entry self.old) (P.key p)
-            → Self.removes self.old (P.key p).0 self.new };
+        ensures more { OnSome (value_within result) (Self.removes self.old (P.key p).0 self.new) };
 
     /// Removes the link at an index and returns the link's generation, and the link with the
     /// interlinks that it had, without their generations.
@@ -288,28 +266,26 @@ pub trait ChainArenaTrait<P: PtrKey, T: Drop>: ArenaTrait<P, T> {
     ///
     /// Port of `ChainArenaTrait::remove_inx_link_no_gen`.
     fn remove_inx_link_no_gen(&mut self, i: P::Inx) -> InvalidationResult<(P::Gen, LinkNoGen<P, T>)>
-        ensures outcome { RemovesLinkAt Self.view Self.entry interlinks P.Inx.packed_number
-            P.Gen.following P.Gen.wraps self.old (P.Inx.number i) result self.new }
+        ensures outcome { RemovesLinkAt Self.state interlinks ⟦<P as AnyPointer>⟧.kind self.old i
+            result self.new }
         ensures invalid { IfNone (value_within result) (self.new ≡ self.old) }
-        ensures more { IsSome (Self.entry self.old (P.Inx.number i))
-            → Self.removes self.old (P.Inx.number i) self.new };
+        ensures more { OnSome (value_within result) (Self.removes self.old (P.Inx.number i)
+            self.new) };
 
     /// Compacts the chains to the indexes from 1 on, each in one run of indexes in `next` order.
     ///
     /// The chains are in the order of their old least indexes, a linear chain from its start, a
     /// cyclic chain from its least index. Each link keeps its value and neighbors, and has the new
-    /// counter as its generation. No slot is free then, and the capacity stays. Does not allocate.
+    /// counter as its generation. Each slot then has a link. The capacity stays. Does not allocate.
     ///
     /// With `reset` the counter begins anew, at two. Otherwise it is incremented if there are
-    /// links; `GenerationOverflow` is returned if it wrapped to two.
+    /// links; if that wraps to two, the chains are compacted all the same, and `GenerationOverflow`
+    /// is returned.
     ///
     /// Port of `ChainArenaTrait::compress_canonical`.
     fn compress_canonical(&mut self, reset: bool) -> InvalidationOption<()>
-        ensures canonical { IsCanonicalLayout P.Gen.first P.Gen.following reset (Self.view self.old)
-            (interlinks self.old) (Self.view self.new) (interlinks self.new) }
-        ensures overflow { IfSome (Self.view self.old).counter
-            (λ g. result ≡ invalidation_option (overflows_after_compression P.Gen.wraps reset
-            (length (Self.view self.old).entries) g) tt) }
+        ensures outcome { CompressesLinks Self.state interlinks ⟦<P as AnyPointer>⟧.kind self.old
+            reset result self.new }
         ensures more { compresses_canonically self.old self.new };
 
     // A call of an advancer along a chain takes the next step of its walk, in the arena of that

@@ -1,14 +1,13 @@
 // Functions of `ChainArenaTrait`.
-ghost use Rattle.chain_links.specs.CallEffects.{BreaksNext, RemovesLink};
-ghost use Rattle.chain_links.specs.CanonicalLayouts.{IsCanonicalLayout};
+ghost use Rattle.chain_links.specs.CallEffects.{BreaksNext, RemovesLink, CompressesLinks};
 
-use arena_ptr::{GenKey, InvalidationOption, InvalidationResult, InxKey, PtrKey};
+use arena_ptr::{AnyPointer, InvalidationOption, InvalidationResult, PtrKey};
 use chain_links::LinkNoGen;
 use chain_traits::ChainArenaTrait;
 
 /// Forwards to `ChainArenaTrait::break_next`, under its outcome.
 pub fn break_next<P: PtrKey, T: Drop, A: ChainArenaTrait<P, T>>(arena: &mut A, p: P) -> Option<()>
-    ensures { BreaksNext A.view A.entry A.interlinks arena.old (P.key p) result arena.new }
+    ensures { BreaksNext A.state A.interlinks P.key arena.old p result arena.new }
 {
     arena.break_next(p)
 }
@@ -18,19 +17,19 @@ pub fn remove_link_no_gen<P: PtrKey, T: Drop, A: ChainArenaTrait<P, T>>(
     arena: &mut A,
     p: P,
 ) -> InvalidationResult<LinkNoGen<P, T>>
-    ensures { RemovesLink A.view A.entry A.interlinks P.Inx.packed_number P.Gen.following
-        P.Gen.wraps arena.old (P.key p) result arena.new }
+    ensures { RemovesLink A.state A.interlinks ⟦<P as AnyPointer>⟧.kind arena.old p result
+        arena.new }
 {
     arena.remove_link_no_gen(p)
 }
 
-/// Forwards to `ChainArenaTrait::compress_canonical`, under its clause on the layout.
+/// Forwards to `ChainArenaTrait::compress_canonical`, under its outcome.
 pub fn compress_canonical<P: PtrKey, T: Drop, A: ChainArenaTrait<P, T>>(
     arena: &mut A,
     reset: bool,
 ) -> InvalidationOption<()>
-    ensures { IsCanonicalLayout P.Gen.first P.Gen.following reset (A.view arena.old)
-        (A.interlinks arena.old) (A.view arena.new) (A.interlinks arena.new) }
+    ensures { CompressesLinks A.state A.interlinks ⟦<P as AnyPointer>⟧.kind arena.old reset result
+        arena.new }
 {
     arena.compress_canonical(reset)
 }

@@ -3,7 +3,7 @@
 //! It knows only the contract of that arena, so it is an arena of links by the trait clauses alone.
 
 use arena_ptr::{
-    AllocError, ChainInsertionError, InvalidationOption, InvalidationResult, PtrKey,
+    AllocError, AnyPointer, ChainInsertionError, InvalidationOption, InvalidationResult, PtrKey,
     ReallocationError,
 };
 use arena_traits::{Advancer, ArenaTrait, CompactArenaTrait};
@@ -50,6 +50,8 @@ impl<P: PtrKey, T: Drop, A: ArenaTrait<P, T>> ArenaTrait<P, T> for ForwardingAre
 
     ghost entry = { λ w. A.entry w.inner };
 
+    ghost state = { λ w. A.state w.inner };
+
     ghost cursor = { λ v. A.cursor v.inner };
 
     ghost starts = { λ n w. A.starts n w.inner };
@@ -65,10 +67,6 @@ impl<P: PtrKey, T: Drop, A: ArenaTrait<P, T>> ArenaTrait<P, T> for ForwardingAre
     ghost clears = { λ v w. A.clears v.inner w.inner };
 
     ghost compresses = { λ v w. A.compresses v.inner w.inner };
-
-    ghost ascends = { λ w. A.ascends w.inner };
-
-    ghost finds = { λ w. A.finds w.inner };
 
     ghost advances = { λ a b w returned given. A.advances a.inner b.inner w.inner returned given };
 
@@ -187,13 +185,15 @@ impl<P: PtrKey, T: Drop, A: ChainArenaTrait<P, T>> ChainArenaTrait<P, T> for For
 
     ghost walker = { λ v. A.walker v.inner };
 
-    ghost inserts = { λ v kind t p w. A.inserts v.inner kind t p w.inner };
+    ghost inserts = { λ v kind t w p. A.inserts v.inner kind t w.inner p };
 
-    ghost connects = { λ v i j w. A.connects v.inner i j w.inner };
+    ghost connects = { λ v p q w. A.connects v.inner p q w.inner };
 
-    ghost breaks = { λ v i j w. A.breaks v.inner i j w.inner };
+    ghost breaks_prev = { λ v p w. A.breaks_prev v.inner p w.inner };
 
-    ghost exchanges = { λ v i j w. A.exchanges v.inner i j w.inner };
+    ghost breaks_next = { λ v p w. A.breaks_next v.inner p w.inner };
+
+    ghost exchanges = { λ v p q w. A.exchanges v.inner p q w.inner };
 
     ghost compresses_canonically = { λ v w. A.compresses_canonically v.inner w.inner };
 
@@ -214,7 +214,7 @@ impl<P: PtrKey, T: Drop, A: ChainArenaTrait<P, T>> ChainArenaTrait<P, T> for For
         compresses };
 
     fn can_insert(&self, kind: LinkInsertKind<P>) -> bool
-        ensures { IsTrue result ↔ MayInsertIn A.entry A.interlinks P.key P.Inx.number
+        ensures { IsTrue result ↔ MayInsertIn A.state A.interlinks ⟦<P as AnyPointer>⟧.kind
             self.now.inner kind }
     {
         self.inner.can_insert(kind)
@@ -225,10 +225,10 @@ impl<P: PtrKey, T: Drop, A: ChainArenaTrait<P, T>> ChainArenaTrait<P, T> for For
         kind: LinkInsertKind<P>,
         t: T,
     ) -> Result<P, ChainInsertionError>
-        ensures outcome { InsertsLinkWithin A.view A.entry A.interlinks P.key P.Inx.number
+        ensures outcome { InsertsLinkWithin A.state A.interlinks ⟦<P as AnyPointer>⟧.kind
             self.old.inner kind t result self.new.inner }
         ensures err { OnErr result (self.new ≡ self.old) }
-        ensures more { IfOk result (λ p. A.inserts self.old.inner kind t p self.new.inner) }
+        ensures more { IfOk result (A.inserts self.old.inner kind t self.new.inner) }
     {
         self.inner.insert_within_capacity(kind, t)
     }
@@ -238,20 +238,20 @@ impl<P: PtrKey, T: Drop, A: ChainArenaTrait<P, T>> ChainArenaTrait<P, T> for For
         kind: LinkInsertKind<P>,
         t: T,
     ) -> Result<P, ChainInsertionError>
-        ensures outcome { InsertsLink A.view A.entry A.interlinks P.key P.Inx.number
-            P.Inx.greatest self.old.inner kind t result self.new.inner }
+        ensures outcome { InsertsLink A.state A.interlinks ⟦<P as AnyPointer>⟧.kind
+            self.old.inner kind t result self.new.inner }
         ensures err { OnErr result (self.new ≡ self.old) }
-        ensures more { IfOk result (λ p. A.inserts self.old.inner kind t p self.new.inner) }
+        ensures more { IfOk result (A.inserts self.old.inner kind t self.new.inner) }
     {
         self.inner.insert_reallocating(kind, t)
     }
 
     fn insert(&mut self, kind: LinkInsertKind<P>, t: T) -> Result<P, ReallocationError>
-        requires { MayInsertIn A.entry A.interlinks P.key P.Inx.number self.old.inner kind }
-        ensures outcome { InsertsAllowedLink A.view A.entry A.interlinks P.key P.Inx.number
-            P.Inx.greatest self.old.inner kind t result self.new.inner }
+        requires { MayInsertIn A.state A.interlinks ⟦<P as AnyPointer>⟧.kind self.old.inner kind }
+        ensures outcome { InsertsAllowedLink A.state A.interlinks ⟦<P as AnyPointer>⟧.kind
+            self.old.inner kind t result self.new.inner }
         ensures err { OnErr result (self.new ≡ self.old) }
-        ensures more { IfOk result (λ p. A.inserts self.old.inner kind t p self.new.inner) }
+        ensures more { IfOk result (A.inserts self.old.inner kind t self.new.inner) }
     {
         self.inner.insert(kind, t)
     }

@@ -1,5 +1,5 @@
 -- The borrowed link loses its destination, or there is none.
-use Rattle.std.proofs.Common.{sym, ap, ◌∙◌, subst}
+use Rattle.std.proofs.Common.{sym, ap, ◌∙◌}
 use Rattle.std.specs.Option.{option_copied_mut}
 use Rattle.chain_links.specs.Links.{links_view, destination_at}
 use Rattle.chain_linking.proofs.DestinationLemmas.{cleared_view, cleared_here, cleared_others, none_without_link}

@@ -12,7 +12,7 @@ start_of-start-requires-clause-some g c =
     let low = c.requires.low in
     let first = next_is (g.A.ArenaTrait.view source).entries (g.A.ArenaTrait.cursor c.args.advancer.now) (g.A.ArenaTrait.cursor c.advance.new.self) low.0 (g.Q.PtrKey.key c.in-Some.q) low.1 low.2
     (g.met.A.ArenaTrait.advances c.args.advancer.now c.advance.new.self source (Some c.in-Some.q) c.in-Some.ensures) in
-    ap is_some (ap (g.A.ArenaTrait.entry source) c.inx.ensures ∙ sym (g.met.A.ArenaTrait.finds source (g.Q.PtrKey.key c.in-Some.q).0)) ∙ first.0.stored
+    ap is_some (ap (g.A.ArenaTrait.entry source) c.inx.ensures ∙ sym ((g.A.ArenaTrait.state source).finds (g.Q.PtrKey.key c.in-Some.q).0)) ∙ first.0.stored
 
 pub proved_unreachable-assume_proved-requires : goal.proved_unreachable-assume_proved-requires
 proved_unreachable-assume_proved-requires g c = absurd (

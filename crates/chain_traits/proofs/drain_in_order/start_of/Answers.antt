@@ -40,7 +40,7 @@ loop-step-preserved g c =
     record {
       back = back_continues links (number c.args.i) c.loop-step.step (number c.loop-step.at) (number c.in-Some.k) c.loop-step.invariant.back before
           (λ e. not_both _ ((g.met.Q.Inx.InxKey.same_is_equal c.in-Some.k c.args.i).1 (g.met.Q.Inx.InxKey.same_number c.in-Some.k c.args.i e)) (sym known ∙ c.if-is_same.false));
-      some = valid_some links (g.A.ArenaTrait.entry source) (g.A.ArenaTrait.view source).entries (g.met.A.ChainArenaTrait.links_are_entries source) (g.met.A.ArenaTrait.finds source) (number c.in-Some.k)
+      some = valid_some links (g.A.ArenaTrait.entry source) (g.A.ArenaTrait.view source).entries (g.met.A.ChainArenaTrait.links_are_entries source) (g.A.ArenaTrait.state source).finds (number c.in-Some.k)
           (next_valid links (number c.in-Some.k) (number c.loop-step.at) ((c.requires.agree.both (number c.in-Some.k) (number c.loop-step.at)).1 before));
     }
 
@@ -48,6 +48,6 @@ pub proved_unreachable-assume_proved-requires : goal.proved_unreachable-assume_p
 proved_unreachable-assume_proved-requires g c = absurd (
     let number = g.Q.Inx.InxKey.number in
     let source = c.args.source.now in
-    let few = few_back (g.A.ChainArenaTrait.interlinks source) (g.A.ArenaTrait.entry source) (g.A.ArenaTrait.view source).entries (g.met.A.ChainArenaTrait.links_are_entries source) (g.met.A.ArenaTrait.finds source)
-    g.Q.Inx.InxKey.greatest c.len-step-end.ensures.indexes (number c.args.i) c.loop-step.step (number c.loop-step.at) c.requires.agree c.requires.some c.loop-step.invariant.back in
+    let few = few_back (g.A.ChainArenaTrait.interlinks source) (g.A.ArenaTrait.entry source) (g.A.ArenaTrait.view source).entries (g.met.A.ChainArenaTrait.links_are_entries source) (g.A.ArenaTrait.state source).finds
+    g.Q.Inx.InxKey.greatest c.len-step-end.ensures.sound.indexes (number c.args.i) c.loop-step.step (number c.loop-step.at) c.requires.agree c.requires.some c.loop-step.invariant.back in
     omega (arith, few, c.len-step-end.ensures.count))

@@ -33,7 +33,7 @@ returns g c =
     let end = (g.met.A.ChainArenaTrait.passes c.loop-q.along c.advance.new.self a _ c.in_default.ensures).end in
     record {
       some = (λ _. valid, λ _. refl);
-      walk = walk_whole links entry (g.A.ArenaTrait.view a).entries (g.met.A.ChainArenaTrait.links_are_entries a) (g.met.A.ArenaTrait.finds a) i _ (passes_ahead links (g.A.ChainArenaTrait.walker c.loop-q.along))
+      walk = walk_whole links entry (g.A.ArenaTrait.view a).entries (g.met.A.ChainArenaTrait.links_are_entries a) (g.A.ArenaTrait.state a).finds i _ (passes_ahead links (g.A.ChainArenaTrait.walker c.loop-q.along))
           (subst (IsWalk links i) (sym (c.loop-q.invariant.passed ∙ ap (passes_ahead links) c.in-Some.ensures.walker)) (c.advancer_passes_the_walk.ensures valid))
           (first_ahead links (g.A.ChainArenaTrait.walker c.loop-q.along) (λ k. entry k ≡ None) end);
       valid = c.loop-q.invariant.valid;
