@@ -1,7 +1,7 @@
 -- Calls made one after another are a run.
 use Rattle.std.proofs.Common.{◌≡◌, List, [], ◌∷◌, ◌++◌, length, refl, sym, ap, ◌∙◌, subst, arith, append_assoc, append-nil}
 use Rattle.chain_arena.specs.Effects.{Links}
-use Rattle.chain_arena.specs.PointerKinds.{PointerKind}
+use Rattle.arena_core.specs.PointerKinds.{PointerKind}
 use Rattle.chain_arena.specs.Steps.{Step, Run}
 use Rattle.chain_arena.specs.declared.calls.Call.{Call}
 use Rattle.chain_arena.specs.declared.calls.Reply.{Reply}

@@ -1,10 +1,11 @@
 -- But for memory and growth, a state and calls determine the replies and, but for touches, the
 -- state after them.
-use Rattle.std.proofs.Common.{◌≡◌, ◌⊎◌, inl, inr, ⊎_elim, ℕ, ◌+◌, ◌<◌, ◌≤◌, Bool, true, false, List, [], ◌∷◌, length, min, Option, None, Some, Result, Ok, Err, refl, sym, ap, ap₂, ◌∙◌, subst, arith}
-use Rattle.std.specs.Option.{option_map}
+use Rattle.std.proofs.Common.{◌≡◌, ◌⊎◌, inl, inr, ⊎_elim, ℕ, ◌+◌, ◌<◌, ◌≤◌, Bool, List, [], ◌∷◌, length, min, Option, None, Some, Result, Ok, Err, refl, sym, ap, ap₂, ◌∙◌, subst, arith}
+use Rattle.std.specs.Prelude.{is_some, IfSome, IfNone, OnSome}
 use Rattle.std.proofs.lemmas.Bool.{false≢true}
 use Rattle.std.proofs.lemmas.Option.{none-some}
-use Rattle.arena_core.specs.SlotStack.{IsWithinMaximum}
+use Rattle.arena_core.specs.Invalidation.{value_within}
+use Rattle.arena_core.specs.SlotStack.{IsBeyond, IsWithinMaximum}
 use Rattle.arena_core.specs.declared.errors.ChainInsertionError.{ChainInsertionError}
 use Rattle.arena_core.specs.declared.errors.ChainInsertionError.TheVariants as failed
 use Rattle.arena_core.specs.declared.errors.ReallocationError.{ReallocationError}
@@ -12,27 +13,28 @@ use Rattle.arena_core.specs.declared.errors.ReallocationError.TheVariants as ref
 use Rattle.arena_core.specs.declared.invalidation.InvalidationResult.{InvalidationResult}
 use Rattle.arena_core.specs.declared.invalidation.InvalidationResult.TheVariants.{Success, GenerationOverflow, InvalidPtr}
 use Rattle.arena_core.specs.declared.packed_option.PackedOption.{PackedOption}
+use Rattle.chain_laws.specs.Chains.{prev_of, next_of}
 use Rattle.chain_laws.specs.Cuts.{without_pair}
-use Rattle.chain_laws.specs.Insertions.{InsertKind}
 use Rattle.chain_laws.proofs.WalkLemmas.Walker.{no_other_walk}
-use Rattle.arena_traits.specs.Arena.{IsValid, entry_at, entry_count, with_capacity_of}
-use Rattle.chain_links.specs.ChainArena.{LinkView, on_value, link_map, value_view, entry, link_value, insert_as, with_link_map}
+use Rattle.arena_traits.specs.Arena.{IsValid, entry_count, with_capacity_of}
+use Rattle.arena_traits.specs.CallOutcomes.{ReportsOverflow}
+use Rattle.chain_links.specs.ChainArena.{LinkView, link_map, value_view, value_state, entry, link_of, link_at, insert_as, with_link_map}
 use Rattle.chain_arena.specs.Drains.{without_each}
 use Rattle.chain_links.specs.Links.{link_view, pair_view}
-use Rattle.chain_arena.specs.Effects.{Links, GrowsStackToFit, stays, grown, IsAdded, HaveSameCapacity}
-use Rattle.arena_traits.specs.Growth.{RefusesToFit}
-use Rattle.chain_links.specs.CallEffects.{ReportsOverflow}
-use Rattle.chain_arena.specs.PointerKinds.{PointerKind}
+use Rattle.chain_arena.specs.Effects.{Links, GrowsStackToFit, IsCut, HaveSameCapacity, indexed_kind}
+use Rattle.arena_traits.specs.Growth.{RefusesToFit, RefusesOneMore}
+use Rattle.chain_links.specs.CallEffects.{IsTaken}
+use Rattle.arena_core.specs.PointerKinds.{PointerKind}
 use Rattle.chain_arena.specs.Runs.{AreSameButTouched, AreSameButCapacityAndTouched, AreSameResults, AreSameReplies, refused_memory, capacity_needed, HasCapacityAlready, RunWithSameCapacity, EndSame, RunIsDetermined, StepIsDetermined, RunIsDeterminedByCapacity}
-use Rattle.chain_arena.specs.Steps.{ConnectStep, BreakPrevStep, BreakNextStep, ExchangeStep, indexed_kind_of, InsertStep, InsertWithinStep, IsRemovedLink, IsRenewed, DrainChainStep, ReserveStep, Step, Run}
+use Rattle.chain_arena.specs.Steps.{IsNewLinkAnyhow, InsertStep, InsertWithinStep, ConnectStep, BreakPrevStep, BreakNextStep, ExchangeStep, DrainChainStep, ReserveStep, Step, Run}
 use Rattle.chain_arena.specs.declared.calls.Call.{Call}
 use Rattle.chain_arena.specs.declared.calls.Call.TheVariants as call
 use Rattle.chain_arena.specs.declared.calls.Reply.{Reply}
 use Rattle.chain_arena.specs.declared.calls.Reply.TheVariants as reply
 use Rattle.chain_links.specs.declared.kinds.InsertKindBody.{InsertKindBody}
 use Rattle.chain_links.specs.declared.links.LinkBody.{LinkBody}
-use Rattle.chain_links.proofs.MappedArenaLemmas.{entry_at-with_each}
-use Rattle.arena_base.proofs.ArenaGrowthLemmas.{not_beyond}
+use Rattle.chain_links.proofs.ArenaInsertionLemmas.{values-count}
+use Rattle.arena_traits.proofs.CallOutcomeLemmas.{not_beyond}
 use Rattle.chain_arena.proofs.TouchCountLemmas.{touch, compression_same, layout_same, step_touched, run_touched}
 
 -- Two things equal to a third are equal.
@@ -48,42 +50,12 @@ same_but_touched {Gen} {T} a b is = is ∙ ap (λ (n : ℕ). touch n b) (sym (ap
 
 module _ {Gen T : Type 0} where
   -- A sufficient capacity stays.
-  capacity_stays : (greatest n : ℕ) (old new : Links Gen T) → n ≤ old.capacity → GrowsStackToFit greatest n old new → HaveSameCapacity new old
-  capacity_stays greatest n old new enough (stays within capacity stack_capacity) = (capacity, stack_capacity)
-  capacity_stays greatest n old new enough (grown less within_capacity) = absurd (omega (arith, enough, less))
+  capacity_stays : (greatest n : ℕ) (old base new : Links Gen T) → HaveSameCapacity base old → n ≤ old.capacity → GrowsStackToFit greatest n old base new → HaveSameCapacity new old
+  capacity_stays greatest n old base new kept enough grown =
+      let is = grown.enough enough in (ap (λ (a : Links Gen T). a.capacity) is ∙ kept.0, ap (λ (a : Links Gen T). a.stack_capacity) is ∙ kept.1)
 
   capacity_kept : (old new : Links Gen T) → new ≡ old → HaveSameCapacity new old
   capacity_kept old new is = (ap (λ (a : Links Gen T). a.capacity) is, ap (λ (a : Links Gen T). a.stack_capacity) is)
-
-  connects_same : (old a b : Links Gen T) (p q : ℕ × Gen) (r s : Bool) → ConnectStep old p q r a → ConnectStep old p q s b → Same r s a b
-  connects_same old a b p q false false one two = (refl, same one.1 two.1)
-  connects_same old a b p q false true one two = absurd (one.0 two.0)
-  connects_same old a b p q true false one two = absurd (two.0 one.0)
-  connects_same old a b p q true true one two = (refl, same one.1.state two.1.state)
-
-  exchanges_same : (old a b : Links Gen T) (p q : ℕ × Gen) (r s : Bool) → ExchangeStep old p q r a → ExchangeStep old p q s b → Same r s a b
-  exchanges_same old a b p q false false one two = (refl, same one.1 two.1)
-  exchanges_same old a b p q false true one two = absurd (one.0 two.0)
-  exchanges_same old a b p q true false one two = absurd (two.0 one.0)
-  exchanges_same old a b p q true true one two = (refl, same one.1.state two.1.state)
-
-  breaks_prev_same : (old a b : Links Gen T) (p : ℕ × Gen) (r s : Bool) → BreakPrevStep old p r a → BreakPrevStep old p s b → Same r s a b
-  breaks_prev_same old a b p false false one two = (refl, same one.1 two.1)
-  breaks_prev_same old a b p false true one two = absurd (none-some two.1 (sym (one.0 two.0) ∙ two.2))
-  breaks_prev_same old a b p true false one two = absurd (none-some one.1 (sym (two.0 one.0) ∙ one.2))
-  breaks_prev_same old a b p true true one two =
-      let met : Some one.1 ≡ Some two.1 = sym one.2 ∙ two.2 in
-      let beside : one.1 ≡ two.1 = cc in
-      (refl, one.3.state ∙ (ap (λ (i : ℕ). with_link_map old (without_pair (link_map old) i p.0)) beside ∙ sym two.3.state))
-
-  breaks_next_same : (old a b : Links Gen T) (p : ℕ × Gen) (r s : Bool) → BreakNextStep old p r a → BreakNextStep old p s b → Same r s a b
-  breaks_next_same old a b p false false one two = (refl, same one.1 two.1)
-  breaks_next_same old a b p false true one two = absurd (none-some two.1 (sym (one.0 two.0) ∙ two.2))
-  breaks_next_same old a b p true false one two = absurd (none-some one.1 (sym (two.0 one.0) ∙ one.2))
-  breaks_next_same old a b p true true one two =
-      let met : Some one.1 ≡ Some two.1 = sym one.2 ∙ two.2 in
-      let beside : one.1 ≡ two.1 = cc in
-      (refl, one.3.state ∙ (ap (λ (i : ℕ). with_link_map old (without_pair (link_map old) p.0 i)) beside ∙ sym two.3.state))
 
   -- Arenas that are the same but for touches are so but for capacity and touches.
   same_but_capacity : (a b : Links Gen T) → AreSameButTouched a b → AreSameButCapacityAndTouched a b
@@ -106,37 +78,60 @@ module _ {Gen T : Type 0} where
   kept_both old a b is_a is_b = same_but_capacity a b (same_but_touched a b (same is_a is_b))
 
   -- An arena that has grown is within the maximum.
-  made_within : (greatest n : ℕ) (old base new : Links Gen T) → base.maximum ≡ old.maximum → new ≡ with_capacity_of base new → GrowsStackToFit greatest n old new
-      → RefusesToFit n (value_view old) refused.BeyondMaxCapacity → ⊥
-  made_within greatest n old base new maximum is (stays within capacity stack_capacity) past = omega (arith, within, past.0)
-  made_within greatest n old base new maximum is (grown less within_capacity) past =
-      let most : new.maximum ≡ old.maximum = ap (λ (x : Links Gen T). x.maximum) is ∙ maximum in
-      not_beyond old.maximum n new.capacity within_capacity.0.fits (subst (λ (o : Option ℕ). IsWithinMaximum o new.capacity) most within_capacity.0.within_maximum) past.1
+  made_within : (greatest n : ℕ) (old base new : Links Gen T) → base.maximum ≡ old.maximum → GrowsStackToFit greatest n old base new → RefusesToFit n (value_view old) refused.BeyondMaxCapacity → ⊥
+  made_within greatest n old base new maximum grown past =
+      let held = grown.grown past.0 in
+      let most : new.maximum ≡ old.maximum = ap (λ (x : Links Gen T). x.maximum) grown.state ∙ maximum in
+      not_beyond old.maximum n new.capacity held.0.fits (subst (λ (o : Option ℕ). IsWithinMaximum o new.capacity) most held.0.within_maximum) past.1
 
   -- An arena that has grown is within the greatest index.
-  made_up_to : (greatest n : ℕ) (old new : Links Gen T) → GrowsStackToFit greatest n old new → RefusesToFit n (value_view old) refused.AllocError → n ≤ greatest
-  made_up_to greatest n old new (stays within capacity stack_capacity) absent = absurd (omega (arith, within, absent.0))
-  made_up_to greatest n old new (grown less roomy) absent = omega (arith, roomy.0.fits, roomy.0.at_most_greatest)
+  made_up_to : (greatest n : ℕ) (old base new : Links Gen T) → GrowsStackToFit greatest n old base new → RefusesToFit n (value_view old) refused.AllocError → n ≤ greatest
+  made_up_to greatest n old base new grown absent = let held = grown.grown absent.0 in omega (arith, held.0.fits, held.0.at_most_greatest)
 
   -- An arena that has grown has more capacity than before.
-  made_more : (greatest n : ℕ) (old new other : Links Gen T) → GrowsStackToFit greatest n old new → RefusesToFit n (value_view old) refused.AllocError → other ≡ old → HaveSameCapacity new other → ⊥
-  made_more greatest n old new other (stays within capacity stack_capacity) absent is within_capacity = omega (arith, within, absent.0)
-  made_more greatest n old new other (grown less roomy) absent is within_capacity =
+  made_more : (greatest n : ℕ) (old base new other : Links Gen T) → GrowsStackToFit greatest n old base new → RefusesToFit n (value_view old) refused.AllocError → other ≡ old → HaveSameCapacity new other → ⊥
+  made_more greatest n old base new other grown absent is same_capacity =
+      let held = grown.grown absent.0 in
       let kept = ap (λ (x : Links Gen T). x.capacity) is in
-      omega (arith, kept, roomy.0.fits, within_capacity.0, less)
+      omega (arith, kept, held.0.fits, same_capacity.0, absent.0)
+
+  -- A refusal of one more link is one of capacity for the links and one.
+  one_more_refused : (old : Links Gen T) (why : ReallocationError) → RefusesOneMore (value_view old) why → RefusesToFit (entry_count old + 1) (value_view old) why
+  one_more_refused old refused.BeyondMaxCapacity why =
+      let full = why.0 in let counted = values-count old in (omega (arith, full, counted), subst (λ (n : ℕ). IsBeyond old.maximum (n + 1)) counted why.1)
+  one_more_refused old refused.AllocError why =
+      let full = why.0 in let counted = values-count old in (omega (arith, full, counted), λ past. why.1 (subst (λ (n : ℕ). IsBeyond old.maximum (n + 1)) (sym counted) past))
 
 -- A result is determined.
-states_same : {X Y S Gen : Type 0} {No : Type 0} (see : X → Y) (Done : X → S → Type 0) (wraps : Gen → Bool) (counter : Gen) (old a b : S) (r s : InvalidationResult X) → ((x : X) (c : S) → Done x c → No → ⊥)
-    → ((x y : X) → Done x a → Done y b → Same (see x) (see y) a b) → ReportsOverflow wraps (Some counter) (No × (a ≡ old)) (λ x. Done x a) r → ReportsOverflow wraps (Some counter) (No × (b ≡ old)) (λ x. Done x b) s → AreSameResults see r s × (a ≡ b)
-states_same see Done wraps counter old a b (Success x) (Success y) apart once one two = once x y one.1 two.1
-states_same see Done wraps counter old a b (GenerationOverflow x) (GenerationOverflow y) apart once one two = once x y one.1 two.1
-states_same see Done wraps counter old a b InvalidPtr InvalidPtr apart once one two = (tt, same one.1 two.1)
-states_same see Done wraps counter old a b (Success x) (GenerationOverflow y) apart once one two = absurd (false≢true (sym one.0 ∙ two.0))
-states_same see Done wraps counter old a b (GenerationOverflow x) (Success y) apart once one two = absurd (false≢true (sym two.0 ∙ one.0))
-states_same see Done wraps counter old a b (Success x) InvalidPtr apart once one two = absurd (apart x a one.1 two.0)
-states_same see Done wraps counter old a b (GenerationOverflow x) InvalidPtr apart once one two = absurd (apart x a one.1 two.0)
-states_same see Done wraps counter old a b InvalidPtr (Success y) apart once one two = absurd (apart y b two.1 one.0)
-states_same see Done wraps counter old a b InvalidPtr (GenerationOverflow y) apart once one two = absurd (apart y b two.1 one.0)
+states_same : {X Y Gen : Type 0} {No : Type 0} (see : X → Y) (Done Made : X → Type 0) (wraps : Gen → Bool) (counter : Gen) (r s : InvalidationResult X) → ((x : X) → Done x → No → ⊥) → ((x : X) → Made x → No → ⊥)
+    → ((x y : X) → Done x → Made y → see x ≡ see y) → ReportsOverflow wraps (Some counter) No Done r → ReportsOverflow wraps (Some counter) No Made s → AreSameResults see r s
+states_same see Done Made wraps counter (Success x) (Success y) apart beside once one two = once x y one.1 two.1
+states_same see Done Made wraps counter (GenerationOverflow x) (GenerationOverflow y) apart beside once one two = once x y one.1 two.1
+states_same see Done Made wraps counter InvalidPtr InvalidPtr apart beside once one two = tt
+states_same see Done Made wraps counter (Success x) (GenerationOverflow y) apart beside once one two = absurd (false≢true (sym one.0 ∙ two.0))
+states_same see Done Made wraps counter (GenerationOverflow x) (Success y) apart beside once one two = absurd (false≢true (sym two.0 ∙ one.0))
+states_same see Done Made wraps counter (Success x) InvalidPtr apart beside once one two = absurd (apart x one.1 two)
+states_same see Done Made wraps counter (GenerationOverflow x) InvalidPtr apart beside once one two = absurd (apart x one.1 two)
+states_same see Done Made wraps counter InvalidPtr (Success y) apart beside once one two = absurd (beside y two.1 one)
+states_same see Done Made wraps counter InvalidPtr (GenerationOverflow y) apart beside once one two = absurd (beside y two.1 one)
+
+-- What is done to an arena, if anything is, is determined.
+arenas_same : {X Y S : Type 0} (see : X → Y) (old a b : S) (Done Made : Type 0) (r s : InvalidationResult X) → (Done → Made → a ≡ b) → AreSameResults see r s → IfNone (value_within r) (a ≡ old) → IfNone (value_within s) (b ≡ old)
+    → OnSome (value_within r) Done → OnSome (value_within s) Made → a ≡ b
+arenas_same see old a b Done Made (Success x) (Success y) once is none_r none_s made_r made_s = once made_r made_s
+arenas_same see old a b Done Made (GenerationOverflow x) (GenerationOverflow y) once is none_r none_s made_r made_s = once made_r made_s
+arenas_same see old a b Done Made InvalidPtr InvalidPtr once is none_r none_s made_r made_s = same none_r none_s
+arenas_same see old a b Done Made (Success x) (GenerationOverflow y) once is none_r none_s made_r made_s = absurd is
+arenas_same see old a b Done Made (Success x) InvalidPtr once is none_r none_s made_r made_s = absurd is
+arenas_same see old a b Done Made (GenerationOverflow x) (Success y) once is none_r none_s made_r made_s = absurd is
+arenas_same see old a b Done Made (GenerationOverflow x) InvalidPtr once is none_r none_s made_r made_s = absurd is
+arenas_same see old a b Done Made InvalidPtr (Success y) once is none_r none_s made_r made_s = absurd is
+arenas_same see old a b Done Made InvalidPtr (GenerationOverflow y) once is none_r none_s made_r made_s = absurd is
+
+-- What is known of one optional index determines an arena.
+cut_same : {S : Type 0} (o : Option ℕ) (n : ℕ) (after : ℕ → S) (a b : S) (Done Made : ℕ → Type 0) → ((i : ℕ) → Done i → a ≡ after i) → ((i : ℕ) → Made i → b ≡ after i) → o ≡ Some n → IfSome o Done → IfSome o Made → a ≡ b
+cut_same None n after a b Done Made one two is done made = absurd (none-some n is)
+cut_same (Some i) n after a b Done Made one two is done made = one i done ∙ sym (two i made)
 
 -- Two results are the same if their whole values are.
 same_known : {X : Type 0} (r s : InvalidationResult X) → AreSameResults (λ x. x) r s → r ≡ s
@@ -175,28 +170,68 @@ module _ {P T I Gen W : Type 0} (pointers : PointerKind P I Gen W) (same_key : (
   reports_same : (r s : Reply P T I Gen W) → r ≡ s → AreSameReplies pointers.packed r s
   reports_same r s is = subst (AreSameReplies pointers.packed r) is (reports_itself pointers.packed r)
 
-  -- An entry determines its generation and its link.
-  same_entry : (old : Links Gen T) (n : ℕ) (g h : Gen) (k l : LinkBody (PackedOption I W) T) → entry_at old n ≡ Some (g, link_view pointers.packed k) → entry_at old n ≡ Some (h, link_view pointers.packed l) → pair_view pointers.packed (g, k) ≡ pair_view pointers.packed (h, l)
-  same_entry old n g h k l one two =
+  connects_same : (old a b : Links Gen T) (p q : P) (r s : Option Unit) → ConnectStep pointers old p q r a → ConnectStep pointers old p q s b → Same r s a b
+  connects_same old a b p q None None one two = (refl, same one.1 two.1)
+  connects_same old a b p q None (Some d) one two = absurd (one.0 two.0.0)
+  connects_same old a b p q (Some d) None one two = absurd (two.0 one.0.0)
+  connects_same old a b p q (Some d) (Some e) one two = (refl, same one.2.state two.2.state)
+
+  exchanges_same : (old a b : Links Gen T) (p q : P) (r s : Option Unit) → ExchangeStep pointers old p q r a → ExchangeStep pointers old p q s b → Same r s a b
+  exchanges_same old a b p q None None one two = (refl, same one.1 two.1)
+  exchanges_same old a b p q None (Some d) one two = absurd (one.0 two.0.0)
+  exchanges_same old a b p q (Some d) None one two = absurd (two.0 one.0.0)
+  exchanges_same old a b p q (Some d) (Some e) one two = (refl, same one.2.state two.2.state)
+
+  breaks_prev_same : (old a b : Links Gen T) (p : P) (r s : Option Unit) → BreakPrevStep pointers old p r a → BreakPrevStep pointers old p s b → Same r s a b
+  breaks_prev_same old a b p None None one two = (refl, same one.1 two.1)
+  breaks_prev_same old a b p None (Some d) one two = absurd (none-some two.0.1 (sym (one.0 two.0.0) ∙ two.0.2))
+  breaks_prev_same old a b p (Some d) None one two = absurd (none-some one.0.1 (sym (two.0 one.0.0) ∙ one.0.2))
+  breaks_prev_same old a b p (Some d) (Some e) one two =
+      (refl, cut_same (prev_of (link_map old) (pointers.key p).0) one.0.1 (λ i. with_link_map old (without_pair (link_map old) i (pointers.key p).0)) a b (λ i. IsCut old a i (pointers.key p).0) (λ i. IsCut old b i (pointers.key p).0) (λ i cut. cut.state) (λ i cut. cut.state) one.0.2 one.2 two.2)
+
+  breaks_next_same : (old a b : Links Gen T) (p : P) (r s : Option Unit) → BreakNextStep pointers old p r a → BreakNextStep pointers old p s b → Same r s a b
+  breaks_next_same old a b p None None one two = (refl, same one.1 two.1)
+  breaks_next_same old a b p None (Some d) one two = absurd (none-some two.0.1 (sym (one.0 two.0.0) ∙ two.0.2))
+  breaks_next_same old a b p (Some d) None one two = absurd (none-some one.0.1 (sym (two.0 one.0.0) ∙ one.0.2))
+  breaks_next_same old a b p (Some d) (Some e) one two =
+      (refl, cut_same (next_of (link_map old) (pointers.key p).0) one.0.1 (λ i. with_link_map old (without_pair (link_map old) (pointers.key p).0 i)) a b (λ i. IsCut old a (pointers.key p).0 i) (λ i. IsCut old b (pointers.key p).0 i) (λ i cut. cut.state) (λ i cut. cut.state) one.0.2 one.2 two.2)
+
+  -- A link determines its generation and its view.
+  same_link : (old : Links Gen T) (n : ℕ) (g h : Gen) (k l : LinkBody (PackedOption I W) T) → link_at (entry old) (link_map old) n ≡ Some (g, link_view pointers.packed k) → link_at (entry old) (link_map old) n ≡ Some (h, link_view pointers.packed l)
+      → pair_view pointers.packed (g, k) ≡ pair_view pointers.packed (h, l)
+  same_link old n g h k l one two =
       let both : Some (g, link_view pointers.packed k) ≡ Some (h, link_view pointers.packed l) = sym one ∙ two in
       let pair : (g, link_view pointers.packed k) ≡ (h, link_view pointers.packed l) = cc in
       pair
 
-  stored : (old : Links Gen T) (n : ℕ) (g : Gen) (k : LinkBody (PackedOption I W) T) → entry_at old n ≡ Some (g, link_view pointers.packed k) → entry old n ≡ Some (g, k.t)
-  stored old n g k is = entry_at-with_each link_value old n ∙ ap (option_map (on_value link_value)) is
+  -- There is an entry where there is a link.
+  no_link : (old : Links Gen T) (n : ℕ) (e : Gen × LinkView T) → link_at (entry old) (link_map old) n ≡ Some e → entry old n ≡ None → ⊥
+  no_link old n e is none = none-some e (sym (ap (λ (o : Option (Gen × T)). link_of o (link_map old n)) none) ∙ is)
 
-  same_pointer : (old a b : Links Gen T) (kind : InsertKind ℕ) (t : T) (p q : P) → IsAdded pointers.key old kind t p a → IsAdded pointers.key old kind t q b → p ≡ q
+  same_pointer : (old a b : Links Gen T) (kind : InsertKindBody P I) (t : T) (p q : P) → IsNewLinkAnyhow pointers old kind t a p → IsNewLinkAnyhow pointers old kind t b q → p ≡ q
   same_pointer old a b kind t p q one two = same_key p q (same one.pointer two.pointer)
+
+  -- The arena after an insertion, but for its capacity.
+  abbrev added : Links Gen T → InsertKindBody P I → T → Links Gen T
+  added old kind t = insert_as old (indexed_kind pointers.key pointers.number kind) t
+
+  -- How far an insertion grows the arena.
+  grown_for_one : (old new : Links Gen T) (kind : InsertKindBody P I) (t : T) (p : P) → IsNewLinkAnyhow pointers old kind t new p → GrowsStackToFit pointers.greatest (entry_count old + 1) old (added old kind t) new
+  grown_for_one old new kind t p made = record {
+    state = made.state;
+    enough = λ few. made.state_within_capacity (let counted = values-count old in omega (arith, few, counted));
+    grown = λ _. made.grown.capacity;
+  }
 
   inserts_within_same : (old a b : Links Gen T) (kind : InsertKindBody P I) (t : T) (r s : Result P ChainInsertionError)
       → InsertWithinStep pointers old kind t r a → InsertWithinStep pointers old kind t s b → Same r s a b
-  inserts_within_same old a b kind t (Ok p) (Ok q) one two = (ap Ok (same_pointer old a b (indexed_kind_of pointers kind) t p q one.0.2.0 two.0.2.0), same one.0.2.1 two.0.2.1)
+  inserts_within_same old a b kind t (Ok p) (Ok q) one two = (ap Ok (same_pointer old a b kind t p q one.2 two.2), same (one.2.state_within_capacity one.0.1) (two.2.state_within_capacity two.0.1))
   inserts_within_same old a b kind t (Ok p) (Err failed.FailedLinkRequirement) one two = absurd (two.0 one.0.0)
-  inserts_within_same old a b kind t (Ok p) (Err failed.NotWithinCapacity) one two = absurd (omega (arith, one.0.1, two.0.1))
+  inserts_within_same old a b kind t (Ok p) (Err failed.NotWithinCapacity) one two = let less = one.0.1 in let full = two.0.1 in absurd (omega (arith, less, full))
   inserts_within_same old a b kind t (Err failed.FailedLinkRequirement) (Ok q) one two = absurd (one.0 two.0.0)
   inserts_within_same old a b kind t (Err failed.FailedLinkRequirement) (Err failed.FailedLinkRequirement) one two = (refl, same one.1 two.1)
   inserts_within_same old a b kind t (Err failed.FailedLinkRequirement) (Err failed.NotWithinCapacity) one two = absurd (one.0 two.0.0)
-  inserts_within_same old a b kind t (Err failed.NotWithinCapacity) (Ok q) one two = absurd (omega (arith, two.0.1, one.0.1))
+  inserts_within_same old a b kind t (Err failed.NotWithinCapacity) (Ok q) one two = let less = two.0.1 in let full = one.0.1 in absurd (omega (arith, less, full))
   inserts_within_same old a b kind t (Err failed.NotWithinCapacity) (Err failed.FailedLinkRequirement) one two = absurd (two.0 one.0.0)
   inserts_within_same old a b kind t (Err failed.NotWithinCapacity) (Err failed.NotWithinCapacity) one two = (refl, same one.1 two.1)
   inserts_within_same old a b kind t (Err failed.BeyondMaxCapacity) s one two = absurd one.0
@@ -226,23 +261,29 @@ module _ {P T I Gen W : Type 0} (pointers : PointerKind P I Gen W) (same_key : (
   inserts_apart : (old a b : Links Gen T) (kind : InsertKindBody P I) (t : T) (r s : Result P ChainInsertionError)
       → InsertStep pointers old kind t r a → InsertStep pointers old kind t s b → AlikeOrApart (entry_count old + 1) (reply.Inserted r) (reply.Inserted s) a b
   inserts_apart old a b kind t (Ok p) (Ok q) one two = inl (
-    ap (λ (x : P). reply.Inserted (Ok x)) (same_pointer old a b (indexed_kind_of pointers kind) t p q one.0.1.0 two.0.1.0),
-    both_but_capacity (insert_as old (indexed_kind_of pointers kind) t) a b one.0.1.0.state two.0.1.0.state,
+    ap (λ (x : P). reply.Inserted (Ok x)) (same_pointer old a b kind t p q one.2 two.2),
+    both_but_capacity (added old kind t) a b one.2.state two.2.state,
   )
   inserts_apart old a b kind t (Ok p) (Err failed.FailedLinkRequirement) one two = absurd (two.0 one.0.0)
-  inserts_apart old a b kind t (Ok p) (Err failed.BeyondMaxCapacity) one two = absurd (made_within pointers.greatest (entry_count old + 1) old (insert_as old (indexed_kind_of pointers kind) t) a refl one.0.1.0.state one.0.1.1 two.0.1)
+  inserts_apart old a b kind t (Ok p) (Err failed.BeyondMaxCapacity) one two =
+      absurd (made_within pointers.greatest (entry_count old + 1) old (added old kind t) a refl (grown_for_one old a kind t p one.2) (one_more_refused old refused.BeyondMaxCapacity two.0.1))
   inserts_apart old a b kind t (Ok p) (Err failed.AllocError) one two =
-      inr (made_up_to pointers.greatest (entry_count old + 1) old a one.0.1.1 two.0.1, (λ alike. false≢true alike), made_more pointers.greatest (entry_count old + 1) old a b one.0.1.1 two.0.1 two.1)
+      let grown = grown_for_one old a kind t p one.2 in
+      let absent = one_more_refused old refused.AllocError two.0.1 in
+      inr (made_up_to pointers.greatest (entry_count old + 1) old (added old kind t) a grown absent, (λ alike. false≢true alike), made_more pointers.greatest (entry_count old + 1) old (added old kind t) a b grown absent two.1)
   inserts_apart old a b kind t (Err failed.FailedLinkRequirement) (Ok q) one two = absurd (one.0 two.0.0)
   inserts_apart old a b kind t (Err failed.FailedLinkRequirement) (Err failed.FailedLinkRequirement) one two = inl (refl, kept_both old a b one.1 two.1)
   inserts_apart old a b kind t (Err failed.FailedLinkRequirement) (Err failed.BeyondMaxCapacity) one two = absurd (one.0 two.0.0)
   inserts_apart old a b kind t (Err failed.FailedLinkRequirement) (Err failed.AllocError) one two = absurd (one.0 two.0.0)
-  inserts_apart old a b kind t (Err failed.BeyondMaxCapacity) (Ok q) one two = absurd (made_within pointers.greatest (entry_count old + 1) old (insert_as old (indexed_kind_of pointers kind) t) b refl two.0.1.0.state two.0.1.1 one.0.1)
+  inserts_apart old a b kind t (Err failed.BeyondMaxCapacity) (Ok q) one two =
+      absurd (made_within pointers.greatest (entry_count old + 1) old (added old kind t) b refl (grown_for_one old b kind t q two.2) (one_more_refused old refused.BeyondMaxCapacity one.0.1))
   inserts_apart old a b kind t (Err failed.BeyondMaxCapacity) (Err failed.FailedLinkRequirement) one two = absurd (two.0 one.0.0)
   inserts_apart old a b kind t (Err failed.BeyondMaxCapacity) (Err failed.BeyondMaxCapacity) one two = inl (refl, kept_both old a b one.1 two.1)
   inserts_apart old a b kind t (Err failed.BeyondMaxCapacity) (Err failed.AllocError) one two = absurd (two.0.1.1 one.0.1.1)
   inserts_apart old a b kind t (Err failed.AllocError) (Ok q) one two =
-      inr (made_up_to pointers.greatest (entry_count old + 1) old b two.0.1.1 one.0.1, (λ alike. false≢true (sym alike)), λ within_capacity. made_more pointers.greatest (entry_count old + 1) old b a two.0.1.1 one.0.1 one.1 (sym within_capacity.0, sym within_capacity.1))
+      let grown = grown_for_one old b kind t q two.2 in
+      let absent = one_more_refused old refused.AllocError one.0.1 in
+      inr (made_up_to pointers.greatest (entry_count old + 1) old (added old kind t) b grown absent, (λ alike. false≢true (sym alike)), λ kept. made_more pointers.greatest (entry_count old + 1) old (added old kind t) b a grown absent one.1 (sym kept.0, sym kept.1))
   inserts_apart old a b kind t (Err failed.AllocError) (Err failed.FailedLinkRequirement) one two = absurd (two.0 one.0.0)
   inserts_apart old a b kind t (Err failed.AllocError) (Err failed.BeyondMaxCapacity) one two = absurd (one.0.1.1 two.0.1.1)
   inserts_apart old a b kind t (Err failed.AllocError) (Err failed.AllocError) one two = inl (refl, kept_both old a b one.1 two.1)
@@ -250,13 +291,13 @@ module _ {P T I Gen W : Type 0} (pointers : PointerKind P I Gen W) (same_key : (
   inserts_apart old a b kind t r (Err failed.NotWithinCapacity) one two = absurd two.0
 
   reserves_apart : (old a b : Links Gen T) (n : ℕ) (r s : Result Unit ReallocationError) → ReserveStep pointers old n r a → ReserveStep pointers old n s b → AlikeOrApart n (reply.Reserved r) (reply.Reserved s) a b
-  reserves_apart old a b n (Ok u) (Ok v) one two = inl (refl, both_but_capacity old a b one.0 two.0)
-  reserves_apart old a b n (Ok u) (Err refused.BeyondMaxCapacity) one two = absurd (made_within pointers.greatest n old old a refl one.0 one.1 two.0)
-  reserves_apart old a b n (Ok u) (Err refused.AllocError) one two = inr (made_up_to pointers.greatest n old a one.1 two.0, (λ alike. false≢true alike), made_more pointers.greatest n old a b one.1 two.0 two.1)
-  reserves_apart old a b n (Err refused.BeyondMaxCapacity) (Ok v) one two = absurd (made_within pointers.greatest n old old b refl two.0 two.1 one.0)
+  reserves_apart old a b n (Ok u) (Ok v) one two = inl (refl, both_but_capacity old a b one.2.state two.2.state)
+  reserves_apart old a b n (Ok u) (Err refused.BeyondMaxCapacity) one two = absurd (made_within pointers.greatest n old old a refl one.2 two.0)
+  reserves_apart old a b n (Ok u) (Err refused.AllocError) one two = inr (made_up_to pointers.greatest n old old a one.2 two.0, (λ alike. false≢true alike), made_more pointers.greatest n old old a b one.2 two.0 two.1)
+  reserves_apart old a b n (Err refused.BeyondMaxCapacity) (Ok v) one two = absurd (made_within pointers.greatest n old old b refl two.2 one.0)
   reserves_apart old a b n (Err refused.BeyondMaxCapacity) (Err refused.BeyondMaxCapacity) one two = inl (refl, kept_both old a b one.1 two.1)
   reserves_apart old a b n (Err refused.BeyondMaxCapacity) (Err refused.AllocError) one two = absurd (two.0.1 one.0.1)
-  reserves_apart old a b n (Err refused.AllocError) (Ok v) one two = inr (made_up_to pointers.greatest n old b two.1 one.0, (λ alike. false≢true (sym alike)), λ within_capacity. made_more pointers.greatest n old b a two.1 one.0 one.1 (sym within_capacity.0, sym within_capacity.1))
+  reserves_apart old a b n (Err refused.AllocError) (Ok v) one two = inr (made_up_to pointers.greatest n old old b two.2 one.0, (λ alike. false≢true (sym alike)), λ kept. made_more pointers.greatest n old old b a two.2 one.0 one.1 (sym kept.0, sym kept.1))
   reserves_apart old a b n (Err refused.AllocError) (Err refused.BeyondMaxCapacity) one two = absurd (one.0.1 two.0.1)
   reserves_apart old a b n (Err refused.AllocError) (Err refused.AllocError) one two = inl (refl, kept_both old a b one.1 two.1)
 
@@ -269,14 +310,12 @@ module _ {P T I Gen W : Type 0} (pointers : PointerKind P I Gen W) (same_key : (
 
   -- The capacity sufficed already, and is unchanged.
   inserts_in_capacity : (old new : Links Gen T) (kind : InsertKindBody P I) (t : T) (r : Result P ChainInsertionError) → entry_count old < old.capacity → InsertStep pointers old kind t r new → HaveSameCapacity new old
-  inserts_in_capacity old new kind t (Ok p) within_capacity step = capacity_stays pointers.greatest (entry_count old + 1) old new (omega (arith, within_capacity)) step.0.1.1
-  inserts_in_capacity old new kind t (Err failed.FailedLinkRequirement) within_capacity step = capacity_kept old new step.1
-  inserts_in_capacity old new kind t (Err failed.BeyondMaxCapacity) within_capacity step = capacity_kept old new step.1
-  inserts_in_capacity old new kind t (Err failed.AllocError) within_capacity step = capacity_kept old new step.1
-  inserts_in_capacity old new kind t (Err failed.NotWithinCapacity) within_capacity step = absurd step.0
+  inserts_in_capacity old new kind t (Ok p) within_capacity step =
+      capacity_stays pointers.greatest (entry_count old + 1) old (added old kind t) new (refl, refl) (omega (arith, within_capacity)) (grown_for_one old new kind t p step.2)
+  inserts_in_capacity old new kind t (Err why) within_capacity step = capacity_kept old new step.1
 
   reserves_in_capacity : (old new : Links Gen T) (n : ℕ) (r : Result Unit ReallocationError) → n ≤ old.capacity → ReserveStep pointers old n r new → HaveSameCapacity new old
-  reserves_in_capacity old new n (Ok done) within_capacity step = capacity_stays pointers.greatest n old new within_capacity step.1
+  reserves_in_capacity old new n (Ok done) within_capacity step = capacity_stays pointers.greatest n old old new (refl, refl) within_capacity step.2
   reserves_in_capacity old new n (Err why) within_capacity step = capacity_kept old new step.1
 
   step_same : (old : Links Gen T) (c : Call P T I Gen W) (r s : Reply P T I Gen W) (a b : Links Gen T) → HasCapacityAlready old c
@@ -286,28 +325,37 @@ module _ {P T I Gen W : Type 0} (pointers : PointerKind P I Gen W) (same_key : (
       let right = inserts_in_capacity old b kind t two.0 within_capacity two.2 in
       in_one_capacity (entry_count old + 1) r s a b (same left.0 right.0, same left.1 right.1) (responded_apart (entry_count old + 1) reply.Inserted r s one.0 two.0 a b one.1 two.1 (inserts_apart old a b kind t one.0 two.0 one.2 two.2))
   step_same old (call.InsertWithin kind t) r s a b within_capacity one two = responded_same reply.Inserted r s one.0 two.0 a b one.1 two.1 (inserts_within_same old a b kind t one.0 two.0 one.2 two.2)
-  step_same old (call.Connect p q) r s a b within_capacity one two = responded_same reply.Done r s one.0 two.0 a b one.1 two.1 (connects_same old a b (pointers.key p) (pointers.key q) one.0 two.0 one.2 two.2)
-  step_same old (call.BreakPrev p) r s a b within_capacity one two = responded_same reply.Done r s one.0 two.0 a b one.1 two.1 (breaks_prev_same old a b (pointers.key p) one.0 two.0 one.2 two.2)
-  step_same old (call.BreakNext p) r s a b within_capacity one two = responded_same reply.Done r s one.0 two.0 a b one.1 two.1 (breaks_next_same old a b (pointers.key p) one.0 two.0 one.2 two.2)
-  step_same old (call.ExchangeNext p q) r s a b within_capacity one two = responded_same reply.Done r s one.0 two.0 a b one.1 two.1 (exchanges_same old a b (pointers.key p) (pointers.key q) one.0 two.0 one.2 two.2)
+  step_same old (call.Connect p q) r s a b within_capacity one two = responded_same (λ (o : Option Unit). reply.Done (is_some o)) r s one.0 two.0 a b one.1 two.1 (connects_same old a b p q one.0 two.0 one.2 two.2)
+  step_same old (call.BreakPrev p) r s a b within_capacity one two = responded_same (λ (o : Option Unit). reply.Done (is_some o)) r s one.0 two.0 a b one.1 two.1 (breaks_prev_same old a b p one.0 two.0 one.2 two.2)
+  step_same old (call.BreakNext p) r s a b within_capacity one two = responded_same (λ (o : Option Unit). reply.Done (is_some o)) r s one.0 two.0 a b one.1 two.1 (breaks_next_same old a b p one.0 two.0 one.2 two.2)
+  step_same old (call.ExchangeNext p q) r s a b within_capacity one two = responded_same (λ (o : Option Unit). reply.Done (is_some o)) r s one.0 two.0 a b one.1 two.1 (exchanges_same old a b p q one.0 two.0 one.2 two.2)
   step_same old (call.Remove p) r s a b within_capacity one two =
-      let both = states_same (link_view pointers.packed) (λ link c. IsRemovedLink pointers old (pointers.key p).0 (pointers.key p).1 link c) pointers.wraps old.counter old a b one.0 two.0
-      (λ link c taken cannot. cannot (record { value = link.t; stored = stored old (pointers.key p).0 (pointers.key p).1 link taken.was_stored }))
-      (λ k l first second. (ap (λ (e : Gen × LinkView T). e.1) (same_entry old (pointers.key p).0 (pointers.key p).1 (pointers.key p).1 k l first.was_stored second.was_stored), same first.removal.state second.removal.state)) one.2 two.2 in
-      (subst (λ x. AreSameReplies pointers.packed x s) (sym one.1) (subst (λ x. AreSameReplies pointers.packed (reply.Removed one.0) x) (sym two.1) both.0), same_but_touched a b both.1)
+      let k = pointers.key p in
+      let known = states_same {No = IsValid (entry old) k → ⊥} (link_view pointers.packed) (λ link. IsValid (entry old) k × IsTaken value_state link_map pointers old k.0 k.1 link a) (λ link. IsValid (entry old) k × IsTaken value_state link_map pointers old k.0 k.1 link b)
+      pointers.wraps old.counter one.0 two.0 (λ link taken cannot. cannot taken.0) (λ link taken cannot. cannot taken.0)
+      (λ x y first second. ap (λ (e : Gen × LinkView T). e.1) (same_link old k.0 k.1 k.1 x y first.1.0 second.1.0)) one.2.0 two.2.0 in
+      let both = arenas_same (link_view pointers.packed) old a b _ _ one.0 two.0 (λ done made. same done.state made.state) known one.2.1 two.2.1 one.2.2 two.2.2 in
+      (subst (λ x. AreSameReplies pointers.packed x s) (sym one.1) (subst (λ x. AreSameReplies pointers.packed (reply.Removed one.0) x) (sym two.1) known), same_but_touched a b both)
   step_same old (call.RemoveInx i) r s a b within_capacity one two =
-      let both = states_same (pair_view pointers.packed) (λ (e : Gen × LinkBody (PackedOption I W) T) c. IsRemovedLink pointers old (pointers.number i) e.0 e.1 c) pointers.wraps old.counter old a b one.0 two.0
-      (λ e c taken none. none-some _ (sym none ∙ stored old (pointers.number i) e.0 e.1 taken.was_stored))
-      (λ k l first second. (same_entry old (pointers.number i) k.0 l.0 k.1 l.1 first.was_stored second.was_stored, same first.removal.state second.removal.state)) one.2 two.2 in
-      (subst (λ x. AreSameReplies pointers.packed x s) (sym one.1) (subst (λ x. AreSameReplies pointers.packed (reply.RemovedInx one.0) x) (sym two.1) both.0), same_but_touched a b both.1)
+      let n = pointers.number i in
+      let known = states_same {No = entry old n ≡ None} (pair_view pointers.packed) (λ (e : Gen × LinkBody (PackedOption I W) T). IsTaken value_state link_map pointers old n e.0 e.1 a) (λ (e : Gen × LinkBody (PackedOption I W) T). IsTaken value_state link_map pointers old n e.0 e.1 b)
+      pointers.wraps old.counter one.0 two.0 (λ e taken none. no_link old n _ taken.0 none) (λ e taken none. no_link old n _ taken.0 none)
+      (λ x y first second. same_link old n x.0 y.0 x.1 y.1 first.0 second.0) one.2.0 two.2.0 in
+      let both = arenas_same (pair_view pointers.packed) old a b _ _ one.0 two.0 (λ done made. same done.state made.state) known one.2.1 two.2.1 one.2.2 two.2.2 in
+      (subst (λ x. AreSameReplies pointers.packed x s) (sym one.1) (subst (λ x. AreSameReplies pointers.packed (reply.RemovedInx one.0) x) (sym two.1) known), same_but_touched a b both)
   step_same old (call.Invalidate p) r s a b within_capacity one two =
-      let both = states_same {No = IsValid (entry old) (pointers.key p) → ⊥} (λ (q : P). q) (λ (q : P) (c : Links Gen T). IsRenewed pointers old (pointers.key p) q c)
-      pointers.wraps old.counter old a b one.0 two.0 (λ q c done cannot. cannot done.0) (λ q m first second. (same_key q m (same first.1 second.1), same first.2 second.2)) one.2 two.2 in
-      responded_same reply.Renewed r s one.0 two.0 a b one.1 two.1 (same_known one.0 two.0 both.0, both.1)
+      let k = pointers.key p in
+      let key_is : (q : P) → (pointers.key q).0 ≡ k.0 → (pointers.key q).1 ≡ pointers.following old.counter → pointers.key q ≡ (k.0, pointers.following old.counter) = (λ q index generation. ap₂ (λ (i : ℕ) (g : Gen). (i, g)) index generation) in
+      let known = states_same {No = IsValid (entry old) k → ⊥} (λ (q : P). q) _ _ pointers.wraps old.counter one.0 two.0 (λ q done cannot. cannot done.0) (λ q done cannot. cannot done.0)
+      (λ q m first second. same_key q m (same (key_is q first.1 first.2) (key_is m second.1 second.2))) one.2.0 two.2.0 in
+      let both = arenas_same (λ (q : P). q) old a b _ _ one.0 two.0 (λ done made. same done.0 made.0) known one.2.1 two.2.1 one.2.2 two.2.2 in
+      responded_same reply.Renewed r s one.0 two.0 a b one.1 two.1 (same_known one.0 two.0 known, both)
   step_same old (call.DrainChain p take) r s a b within_capacity one two = responded_same reply.Drained r s one.0 two.0 a b one.1 two.1 (drains_same old a b (pointers.key p) take one.0 two.0 one.2 two.2)
-  step_same old call.Clear r s a b within_capacity one two = (reports_same r s (same one.0 two.0), same_but_touched a b (same one.1 two.1))
-  step_same old (call.Compress reset) r s a b within_capacity one two = (reports_same r s (same one.0 two.0), compression_same pointers.first pointers.following reset old a b one.1 two.1)
-  step_same old (call.CompressCanonical reset) r s a b within_capacity one two = (reports_same r s (same one.0 two.0), layout_same pointers.first pointers.following reset old a b one.1 two.1)
+  step_same old call.Clear r s a b within_capacity one two = responded_same reply.Counted r s one.0 two.0 a b one.1 two.1 (same one.2.0.overflow two.2.0.overflow, same one.2.1 two.2.1)
+  step_same old (call.Compress reset) r s a b within_capacity one two =
+      (reports_same r s (one.1 ∙ (ap reply.Counted (same one.2.0.overflow two.2.0.overflow) ∙ sym two.1)), compression_same pointers reset old a b one.0 two.0 one.2 two.2)
+  step_same old (call.CompressCanonical reset) r s a b within_capacity one two =
+      (reports_same r s (one.1 ∙ (ap reply.Counted (same one.2.0.overflow two.2.0.overflow) ∙ sym two.1)), layout_same pointers reset old a b one.0 two.0 one.2 two.2)
   step_same old (call.Reserve n) r s a b within_capacity one two =
       let left = reserves_in_capacity old a n one.0 within_capacity one.2 in
       let right = reserves_in_capacity old b n two.0 within_capacity two.2 in

@@ -1,13 +1,22 @@
 -- Effects of writes, new generations and clears on a chain arena.
 use Rattle.std.proofs.Common.{◌≡◌, ℕ, Option, None, Some, refl, ap, ap₂, sym, ◌∙◌, subst}
-use Rattle.std.specs.Prelude.{IfSome, IsSome}
+use Rattle.std.specs.Prelude.{OnSome, IfNone}
 use Rattle.std.specs.Option.{option_map}
+use Rattle.arena_core.specs.Invalidation.{value_within}
+use Rattle.arena_core.specs.PointerKinds.{PointerKind}
+use Rattle.arena_core.specs.declared.invalidation.InvalidationResult.{InvalidationResult}
+use Rattle.arena_core.specs.declared.invalidation.InvalidationResult.TheVariants.{Success, GenerationOverflow, InvalidPtr}
+use Rattle.arena_core.specs.declared.packed_option.PackedOption.{PackedOption}
 use Rattle.chain_laws.specs.Chains.{IsWellLinked}
-use Rattle.arena_traits.specs.Arena.{Arena, entry_at, with_slot, with_value, invalidate_at, arena_after_clear}
+use Rattle.arena_traits.specs.CallOutcomes.{InvalidatesEntry}
+use Rattle.arena_traits.specs.EntryLaws.{arena_state}
+use Rattle.arena_traits.specs.Arena.{Arena, IsValid, entry_at, with_slot, with_value, invalidate_at, arena_after_clear}
 use Rattle.arena_traits.specs.Entries.{view_of, view_with_value, view_after_invalidation, view_after_clear}
 use Rattle.chain_links.specs.declared.links.LinkBody.{LinkBody}
-use Rattle.chain_links.specs.ChainArena.{on_value, LinkView, link_value, with_link_value, values_of, link_map, with_value_at}
-use Rattle.chain_links.specs.Links.{link_view, links_view, pair_view}
+use Rattle.chain_links.specs.ChainArena.{on_value, LinkView, link_value, with_link_value, values_of, value_view, value_state, link_map, with_value_at}
+use Rattle.chain_links.specs.Links.{link_view, links_view, pair_view, AreAtRest, IsChainArena}
+use Rattle.chain_links.proofs.RestLemmas.{renewed_at_rest}
+use Rattle.chain_linking.proofs.ConnectionLemmas.{same_valid}
 use Rattle.chain_links.proofs.MappedArenaLemmas.{with_each-with_value, with_each-invalidate_at, with_each-cleared}
 use Rattle.arena_traits.proofs.ArenaViewLemmas.{viewed_written, viewed_renewed, viewed_cleared}
 use Rattle.chain_links.proofs.LinkStateLemmas.{entry_at-links_view}
@@ -59,12 +68,39 @@ module _ {Gen K T : Type 0} (number : K → Option ℕ) (following : Gen → Gen
   renewed-view_after = ap (λ (x : Arena Gen (LinkView T)). view_of (values_of x)) renewed-state
       ∙ (ap (λ (x : Arena Gen T). view_of x) (with_each-invalidate_at link_value following (links_view number a) n) ∙ viewed_renewed following (values_of (links_view number a)) n)
 
-  -- The new pointer has the new generation.
-  pub renewed-known : {Q : Type 0} (X : Q → Type 0) (key : Q → ℕ × Gen) (o : Option Q) → IfSome o (λ q. ((key q).0 ≡ n) × X q) × IsSome o → IfSome o (λ q. (key q).1 ≡ following a.counter)
-      → IfSome o (λ q. ((key q).0 ≡ n) × (view_of (values_of (links_view number b)) ≡ view_after_invalidation (view_of (values_of (links_view number a))) (key q))) × IsSome o
-  renewed-known X key None known generation = absurd (let h = known.1 in cc)
-  renewed-known X key (Some q) known generation =
-      ((known.0.0, renewed-view_after ∙ ap₂ (λ (i : ℕ) (g : Gen). view_after_invalidation (view_of (values_of (links_view number a))) (i, g)) (sym known.0.0) (sym generation)), known.1)
+-- A new generation for a link is one for its entry.
+module _ {P I Gen W T : Type 0} (pointers : PointerKind P I Gen W) (a b : Arena Gen (LinkBody (PackedOption I W) T)) (p : P) where
+  abbrev viewed : Arena Gen (LinkBody (PackedOption I W) T) → Arena Gen (LinkView T)
+  viewed = links_view pointers.packed
+
+  pub renews : (r : InvalidationResult P) → InvalidatesEntry arena_state pointers a p r b → OnSome (value_within r) (b ≡ invalidate_at pointers.following a (pointers.key p).0) → InvalidatesEntry value_state pointers (viewed a) p r (viewed b)
+  renews r known made = by r known made
+    where
+      renewed : (q : P) → IsValid (entry_at a) (pointers.key p) → (pointers.key q).0 ≡ (pointers.key p).0 → (pointers.key q).1 ≡ pointers.following a.counter → b ≡ invalidate_at pointers.following a (pointers.key p).0
+          → value_view (viewed b) ≡ view_after_invalidation (value_view (viewed a)) (pointers.key q)
+      renewed q valid index generation is = renewed-view_after pointers.packed pointers.following a b (pointers.key p).0 is
+          ∙ ap₂ (λ (i : ℕ) (g : Gen). view_after_invalidation (value_view (viewed a)) (i, g)) (sym index) (sym generation)
+
+      by : (r : InvalidationResult P) → InvalidatesEntry arena_state pointers a p r b → OnSome (value_within r) (b ≡ invalidate_at pointers.following a (pointers.key p).0) → InvalidatesEntry value_state pointers (viewed a) p r (viewed b)
+      by InvalidPtr absent made = λ valid. absent ((same_valid pointers.packed a (pointers.key p)).1 valid)
+      by (Success q) known is = let k = known.1 in (known.0, ((same_valid pointers.packed a (pointers.key p)).0 k.0, k.1, k.2, renewed q k.0 k.1 k.2 is))
+      by (GenerationOverflow q) known is = let k = known.1 in (known.0, ((same_valid pointers.packed a (pointers.key p)).0 k.0, k.1, k.2, renewed q k.0 k.1 k.2 is))
+
+  -- What holds after it, if there was such a link.
+  pub renewed_after : (o : Option P) → OnSome o (b ≡ invalidate_at pointers.following a (pointers.key p).0) → OnSome o ((viewed b ≡ invalidate_at pointers.following (viewed a) (pointers.key p).0) × (link_map (viewed b) ≡ link_map (viewed a)))
+  renewed_after None known = tt
+  renewed_after (Some q) is = (renewed-state pointers.packed pointers.following a b (pointers.key p).0 is, renewed-link_map pointers.packed pointers.following a b (pointers.key p).0 is)
+
+  pub renewed_none : (o : Option P) → IfNone o (b ≡ a) → IfNone o (viewed b ≡ viewed a)
+  renewed_none None same = ap viewed same
+  renewed_none (Some q) same = tt
+
+  pub renewed_holds : (o : Option P) → OnSome o (b ≡ invalidate_at pointers.following a (pointers.key p).0) → IfNone o (b ≡ a) → IsChainArena pointers.packed a → IsChainArena pointers.packed b
+  renewed_holds None known same holds = subst (IsChainArena pointers.packed) (sym same) holds
+  renewed_holds (Some q) is same holds = record {
+    agree = subst IsWellLinked (sym (renewed-link_map pointers.packed pointers.following a b (pointers.key p).0 is)) holds.agree;
+    at_rest = subst (λ c. AreAtRest pointers.packed c.slots) (sym is) (renewed_at_rest pointers.packed a.slots (pointers.key p).0 (pointers.following a.counter) holds.at_rest);
+  }
 
 -- The arena after a clear.
 module _ {Gen K T : Type 0} (number : K → Option ℕ) (following : Gen → Gen) (a b : Arena Gen (LinkBody K T)) (is : b ≡ arena_after_clear following a) where

@@ -1,4 +1,3 @@
-pub mod PointerKindLemmas
 pub mod ArenaCompressionLemmas
 pub mod LinkCopyLemmas
 pub mod BreakAndExchangeLemmas

@@ -14,7 +14,8 @@ use Rattle.arena_traits.specs.Entries.{ArenaView, entries, entries_from, index_o
 use Rattle.arena_traits.specs.Entries.{view_after_removal}
 use Rattle.arena_traits.specs.EntryLaws.{entries_ascend, found-entries}
 use Rattle.arena_traits.specs.Advancers.{entries_at_or_above}
-use Rattle.chain_links.specs.ChainArena.{LinkView, IsRemoval, values_of, value_view, remove_link}
+use Rattle.chain_links.specs.ChainArena.{LinkView, values_of, value_view, remove_link}
+use Rattle.chain_arena.specs.Effects.{IsRemoval}
 use Rattle.chain_links.specs.Links.{pair_view}
 use Rattle.chain_links.specs.declared.links.LinkBody.{LinkBody}
 use Rattle.chain_arena.proofs.LinkRemovalLemmas.{value_known}

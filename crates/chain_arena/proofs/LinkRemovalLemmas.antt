@@ -1,21 +1,24 @@
 -- Effects of a removal of the link at an index.
 use Rattle.std.proofs.Common.{◌≡◌, ℕ, Bool, true, false, Option, None, Some, refl, ap, sym, ◌∙◌, subst}
-use Rattle.std.specs.Prelude.{is_some, IfNone}
+use Rattle.std.specs.Prelude.{is_some, IfNone, OnSome}
 use Rattle.std.specs.Option.{option_map}
-use Rattle.arena_core.specs.Invalidation.{value_within, is_overflow_result, invalidation_result}
+use Rattle.std.proofs.lemmas.Option.{none-some}
+use Rattle.arena_core.specs.Invalidation.{value_within, with_value_of, invalidation_result}
+use Rattle.arena_core.specs.PointerKinds.{PointerKind}
 use Rattle.arena_core.specs.declared.invalidation.InvalidationResult.{InvalidationResult}
 use Rattle.arena_core.specs.declared.invalidation.InvalidationResult.TheVariants.{Success, GenerationOverflow, InvalidPtr}
-use Rattle.chain_laws.specs.Chains.{IsWellLinked}
+use Rattle.arena_core.specs.declared.packed_option.PackedOption.{PackedOption}
+use Rattle.chain_laws.specs.Chains.{Interlinks, IsWellLinked}
 use Rattle.arena_traits.specs.Arena.{IsValid, entry_at}
-use Rattle.arena_traits.specs.Entries.{view_after_removal}
-use Rattle.chain_links.specs.CallEffects.{ReportsOverflow, IsTaken}
-use Rattle.chain_links.specs.ChainArena.{LinkView, on_value, link_map, value_view, entry, link_value, link_at, remove_link, IsRemoval}
+use Rattle.arena_traits.specs.CallOutcomes.{ReportsOverflow, IsEntryRemoved, RemovesEntry, RemovesEntryAt}
+use Rattle.chain_links.specs.CallEffects.{IsTaken, RemovesLink, RemovesLinkAt}
+use Rattle.chain_links.specs.ChainArena.{LinkView, on_value, link_map, value_state, entry, link_value, link_of, link_at, remove_link}
 use Rattle.chain_links.specs.Links.{held_in, link_view, pair_view}
 use Rattle.chain_links.specs.declared.links.LinkBody.{LinkBody}
 use Rattle.chain_links.proofs.MappedArenaLemmas.{entry_at-with_each, generation_is}
-use Rattle.chain_links.proofs.MappedArenaLemmas.{is_some-map}
 use Rattle.chain_linking.proofs.UnlinkLemmas.{passes_over, removed-agrees, removed-chains, removed-pairs, view_after-removed}
-use Rattle.chain_arena.specs.Effects.{Links}
+use Rattle.chain_arena.specs.Effects.{Links, IsRemoval}
+use Rattle.chain_arena.specs.Steps.{RemoveInxStep}
 use Rattle.chain_arena.proofs.ChainDrainLemmas.{link_at-entry}
 
 -- The outcome of a removal or invalidation, from its value and whether the counter wraps.
@@ -37,18 +40,26 @@ pub if_none : {X Y : Type 0} (o : Option X) → (o ≡ None → Y) → IfNone o 
 if_none None so = so refl
 if_none (Some x) so = tt
 
--- A result with a part of another's value has the same overflow flag.
-pub same_overflow : {X Y : Type 0} (f : X → Y) (b : Bool) (r : InvalidationResult X) (s : InvalidationResult Y) → value_within s ≡ option_map f (value_within r) → is_overflow_result s ≡ is_overflow_result r
-    → r ≡ invalidation_result b (value_within r) → s ≡ invalidation_result b (value_within s)
-same_overflow f b r InvalidPtr value overflow known = refl
-same_overflow f b InvalidPtr (Success y) value overflow known = absurd (let h = value in cc)
-same_overflow f b InvalidPtr (GenerationOverflow y) value overflow known = absurd (let h = value in cc)
-same_overflow f b (Success x) (GenerationOverflow y) value overflow known = absurd (let h = overflow in cc)
-same_overflow f b (GenerationOverflow x) (Success y) value overflow known = absurd (let h = overflow in cc)
-same_overflow f false (Success x) (Success y) value overflow known = refl
-same_overflow f true (Success x) (Success y) value overflow known = absurd (let h = known in cc)
-same_overflow f false (GenerationOverflow x) (GenerationOverflow y) value overflow known = absurd (let h = known in cc)
-same_overflow f true (GenerationOverflow x) (GenerationOverflow y) value overflow known = refl
+module _ {X Y : Type 0} (f : X → Y) (Z : Type 0) where
+  -- What holds if nothing, or something, was removed, holds with a function applied to it.
+  pub none_with_value : (r : InvalidationResult X) → IfNone (value_within r) Z → IfNone (value_within (with_value_of f r)) Z
+  none_with_value InvalidPtr known = known
+  none_with_value (Success x) known = tt
+  none_with_value (GenerationOverflow x) known = tt
+
+  pub some_with_value : (r : InvalidationResult X) → OnSome (value_within r) Z → OnSome (value_within (with_value_of f r)) Z
+  some_with_value InvalidPtr known = tt
+  some_with_value (Success x) known = known
+  some_with_value (GenerationOverflow x) known = known
+
+-- What holds if something was removed.
+pub holds_if_some : {X Y : Type 0} (o : Option X) → OnSome o Y → is_some o ≡ true → Y
+holds_if_some None known some = absurd (let h = some in cc)
+holds_if_some (Some x) known some = known
+
+pub on_some : {X Y : Type 0} (o : Option X) → (is_some o ≡ true → Y) → OnSome o Y
+on_some None known = tt
+on_some (Some x) known = known refl
 
 -- A removal keeps the links well linked, if there is one or not.
 pub agreed_after : {Gen T K : Type 0} (following : Gen → Gen) (a b : Links Gen T) (n : ℕ) (taken : Option K) → (is_some taken ≡ true → b ≡ remove_link following a n) → (taken ≡ None → b ≡ a) → IsWellLinked (link_map a) → IsWellLinked (link_map b)
@@ -58,9 +69,8 @@ agreed_after following a b n (Some e) valid invalid agrees = removed-agrees foll
 -- The effects of a removal, from the state.
 pub removal_of : {Gen T : Type 0} (following : Gen → Gen) (a b : Links Gen T) (n : ℕ) → IsWellLinked (link_map a) → b ≡ remove_link following a n → IsRemoval following a n b
 removal_of following a b n agrees state = record {
+  removed = record { view_after = view_after-removed following a b n state; links = passes_over following a b n state; chains = removed-chains following a b n state agrees };
   state = state;
-  links = passes_over following a b n state;
-  chains = removed-chains following a b n state agrees;
   pairs = removed-pairs following a b n state agrees;
 }
 
@@ -76,62 +86,65 @@ module _ {Gen K T : Type 0} (packed : K → Option ℕ) (following : Gen → Gen
   pub link_known : option_map (on_value (link_view packed)) taken ≡ link_at (entry a) (link_map a) n
   link_known = returned ∙ sym (link_at-entry a n)
 
-  -- The link removed, with a known generation.
-  pub link_alone_known : (g : Gen) (t : T) → entry a n ≡ Some (g, t) → option_map (λ (l : LinkBody K T). (g, link_view packed l)) (option_map (λ (e : Gen × LinkBody K T). e.1) taken) ≡ link_at (entry a) (link_map a) n
-  link_alone_known g t stored = alone taken (value ∙ stored) ∙ link_known where
-    alone : (o : Option (Gen × LinkBody K T)) → option_map (on_value held_in) o ≡ Some (g, t)
-        → option_map (λ (l : LinkBody K T). (g, link_view packed l)) (option_map (λ (e : Gen × LinkBody K T). e.1) o) ≡ option_map (on_value (link_view packed)) o
-    alone None is = absurd (let h = is in cc)
-    alone (Some e) is = ap (λ (h : Gen). let o : Option (Gen × LinkView T) = Some (h, link_view packed e.1) in o) (sym (generation_is e.0 g _ _ is))
-
   -- The value removed, with its generation.
   pub value_known : option_map (λ (e : Gen × LinkBody K T). (e.0, e.1.t)) taken ≡ entry a n
   value_known = value
-
-  -- The value removed, alone.
-  pub value_alone_known : option_map (λ (e : Gen × LinkBody K T). e.1.t) taken ≡ option_map (λ (e : Gen × T). e.1) (entry a n)
-  value_alone_known = alone taken ∙ ap (option_map (λ (e : Gen × T). e.1)) value where
-    alone : (o : Option (Gen × LinkBody K T)) → option_map (λ (e : Gen × LinkBody K T). e.1.t) o ≡ option_map (λ (e : Gen × T). e.1) (option_map (on_value held_in) o)
-    alone None = refl
-    alone (Some e) = refl
-
-  -- If there is no entry, nothing was taken.
-  pub none_taken : entry a n ≡ None → taken ≡ None
-  none_taken none = by taken (value ∙ none) where
-    by : (o : Option (Gen × LinkBody K T)) → option_map (on_value held_in) o ≡ None → o ≡ None
-    by None is = refl
-    by (Some e) is = absurd (let h = is in cc)
 
   -- If nothing was taken, there is no entry.
   pub none_there : taken ≡ None → entry a n ≡ None
   none_there none = sym value ∙ ap (option_map (on_value held_in)) none
 
-  some_taken : is_some (entry a n) ≡ true → is_some taken ≡ true
-  some_taken stored = sym (is_some-map (on_value held_in) taken) ∙ (ap is_some value ∙ stored)
+-- The entry of a link.
+entry_of_link : {Gen T : Type 0} (o : Option (Gen × T)) (l : Option Interlinks) (g : Gen) (link : LinkView T) → link_of o l ≡ Some (g, link) → o ≡ Some (g, link.value)
+entry_of_link None l g link is = absurd (let h = is in cc)
+entry_of_link (Some e) None g link is = absurd (let h = is in cc)
+entry_of_link {Gen} {T} (Some e) (Some l) g link is =
+    let both : Some (e.0, record { prev = l.prev; next = l.next; value = e.1 }) ≡ Some (g, link) = is in
+    ap (option_map (on_value link_value)) both
 
-  -- If a valid pointer names the index, something was taken.
-  pub taken_at : (p : ℕ × Gen) → n ≡ p.0 → IsValid (entry a) p → is_some taken ≡ true
-  taken_at p at valid = some_taken (ap (λ i. is_some (entry a i)) at ∙ ap is_some valid.stored)
+module _ {P I Gen W T : Type 0} (pointers : PointerKind P I Gen W) (a b : Links Gen T) where
+  -- The removal of the link at an index, from what was taken there.
+  pub unlinked : (i : I) (r : InvalidationResult (Gen × LinkBody (PackedOption I W) T)) → option_map (pair_view pointers.packed) (value_within r) ≡ entry_at a (pointers.number i) → r ≡ invalidation_result (pointers.wraps a.counter) (value_within r)
+      → (is_some (value_within r) ≡ true → IsRemoval pointers.following a (pointers.number i) b) → (value_within r ≡ None → b ≡ a) → RemoveInxStep pointers a i r b
+  unlinked i r returned overflow removal invalid =
+      let n = pointers.number i in (
+        reports pointers.wraps a.counter (entry a n ≡ None) (λ (e : Gen × LinkBody (PackedOption I W) T). IsTaken value_state link_map pointers a n e.0 e.1 b) r overflow (none_there pointers.packed pointers.following a b n (value_within r) returned)
+            (λ e is. (sym (link_known pointers.packed pointers.following a b n (value_within r) returned) ∙ ap (option_map (on_value (link_view pointers.packed))) is, (removal (ap is_some is)).removed)),
+        if_none (value_within r) invalid,
+        on_some (value_within r) removal,
+      )
 
-  module _ (removal : is_some taken ≡ true → IsRemoval following a n b) where
-    -- An existing link is removed.
-    pub removal_there : is_some (entry a n) ≡ true → IsRemoval following a n b
-    removal_there stored = removal (some_taken stored)
+  -- The entry of a link that was taken is removed.
+  pub entry_taken : (n : ℕ) (g : Gen) (link : LinkBody (PackedOption I W) T) → IsTaken value_state link_map pointers a n g link b → IsEntryRemoved value_state pointers a n g link.t b
+  entry_taken n g link taken = (entry_of_link (entry a n) (link_map a n) g (link_view pointers.packed link) taken.0, taken.1.view_after)
 
-    -- The link taken is removed and returned as it was.
-    pub is_taken : (e : Gen × LinkBody K T) → taken ≡ Some e → IsTaken value_view entry link_map packed following a n e.0 e.1 b
-    is_taken e is =
-        let known = removal (ap is_some is) in (
-          sym link_known ∙ ap (option_map (on_value (link_view packed))) is,
-          record { view_after = view_after-removed following a b n known.state; links = known.links; chains = known.chains },
-        )
+  -- A removal at an index removes an entry.
+  pub value_removed_at : (i : I) (r : InvalidationResult (Gen × LinkBody (PackedOption I W) T)) → RemovesLinkAt value_state link_map pointers a i r b → RemovesEntryAt value_state pointers a i (with_value_of (λ (e : Gen × LinkBody (PackedOption I W) T). (e.0, e.1.t)) r) b
+  value_removed_at i InvalidPtr known = known
+  value_removed_at i (Success e) known = (known.0, entry_taken (pointers.number i) e.0 e.1 known.1)
+  value_removed_at i (GenerationOverflow e) known = (known.0, entry_taken (pointers.number i) e.0 e.1 known.1)
 
-    pub viewed_there : is_some (entry a n) ≡ true → value_view b ≡ view_after_removal following (value_view a) n
-    viewed_there stored = view_after-removed following a b n (removal_there stored).state
+  module _ (p : P) (valid : IsValid (entry a) (pointers.key p)) where
+    abbrev k : ℕ × Gen
+    k = pointers.key p
 
-    -- The link of a valid pointer is removed.
-    pub removal_at : (p : ℕ × Gen) → n ≡ p.0 → IsValid (entry a) p → IsRemoval following a n b
-    removal_at p at valid = removal_there (ap (λ i. is_some (entry a i)) at ∙ ap is_some valid.stored)
+    -- The link taken at the index of a valid pointer is the pointer's.
+    its_link : (n : ℕ) (g : Gen) (link : LinkBody (PackedOption I W) T) → n ≡ k.0 → IsTaken value_state link_map pointers a n g link b → IsTaken value_state link_map pointers a k.0 k.1 link b
+    its_link n g link at taken =
+        let stored : entry a k.0 ≡ Some (g, link.t) = ap (λ j. entry a j) (sym at) ∙ (entry_taken n g link taken).0 in
+        subst (λ j. IsTaken value_state link_map pointers a j k.1 link b) at
+        (subst (λ h. IsTaken value_state link_map pointers a n h link b) (generation_is g k.1 link.t valid.value (sym stored ∙ valid.stored)) taken)
 
-    pub viewed_at : (p : ℕ × Gen) → n ≡ p.0 → IsValid (entry a) p → value_view b ≡ view_after_removal following (value_view a) n
-    viewed_at p at valid = viewed_there (ap (λ i. is_some (entry a i)) at ∙ ap is_some valid.stored)
+    not_there : (n : ℕ) → n ≡ k.0 → entry a n ≡ None → ⊥
+    not_there n at none = none-some _ (sym none ∙ (ap (λ j. entry a j) at ∙ valid.stored))
+
+    -- A removal by a valid pointer removes its link, and so its entry.
+    pub link_removed : (i : I) (r : InvalidationResult (Gen × LinkBody (PackedOption I W) T)) → pointers.number i ≡ k.0 → RemovesLinkAt value_state link_map pointers a i r b → RemovesLink value_state link_map pointers a p (with_value_of (λ (e : Gen × LinkBody (PackedOption I W) T). e.1) r) b
+    link_removed i InvalidPtr at known = absurd (not_there (pointers.number i) at known)
+    link_removed i (Success e) at known = (known.0, (valid, its_link (pointers.number i) e.0 e.1 at known.1))
+    link_removed i (GenerationOverflow e) at known = (known.0, (valid, its_link (pointers.number i) e.0 e.1 at known.1))
+
+    pub value_removed : (i : I) (r : InvalidationResult (Gen × LinkBody (PackedOption I W) T)) → pointers.number i ≡ k.0 → RemovesLinkAt value_state link_map pointers a i r b → RemovesEntry value_state pointers a p (with_value_of (λ (e : Gen × LinkBody (PackedOption I W) T). e.1.t) r) b
+    value_removed i InvalidPtr at known = absurd (not_there (pointers.number i) at known)
+    value_removed i (Success e) at known = (known.0, entry_taken k.0 k.1 e.1 (its_link (pointers.number i) e.0 e.1 at known.1))
+    value_removed i (GenerationOverflow e) at known = (known.0, entry_taken k.0 k.1 e.1 (its_link (pointers.number i) e.0 e.1 at known.1))

@@ -1,6 +1,6 @@
 -- The insertion position of a new link, and the insertion there.
-use Rattle.std.proofs.Common.{◌≡◌, length, ◌≢◌, ◌↔◌, inl, ℕ, ◌+◌, ◌<◌, ◌≤◌, Option, None, Some, Result, Ok, Err, OnOk, OnErr, refl, sym, ap, ap₂, ◌∙◌, subst, arith}
-use Rattle.std.specs.Prelude.{IsOk, IfOk}
+use Rattle.std.proofs.Common.{◌≡◌, length, inl, ℕ, ◌+◌, ◌<◌, ◌≤◌, Option, None, Some, Result, Ok, Err, OnErr, refl, sym, ap, ap₂, ◌∙◌, subst, arith}
+use Rattle.std.specs.Prelude.{IfOk}
 use Rattle.std.specs.Result.{ForOk}
 use Rattle.std.proofs.lemmas.Bool.{false≢true}
 use Rattle.arena_core.specs.SlotStack.{IsBeyond}
@@ -12,7 +12,7 @@ use Rattle.chain_laws.specs.Chains.{IsWellLinked}
 use Rattle.chain_laws.specs.Insertions.{InsertKind, IsInsertPosition}
 use Rattle.arena_traits.specs.Arena.{Arena, IsCapacityFor, IsListed, HasCapacityFor, ReachesCapacity, IsWithinReach, entry_count, next_index, with_capacity_of}
 use Rattle.arena_traits.specs.Entries.{HasFreeCapacity}
-use Rattle.arena_traits.specs.Growth.{IsGrowthResult, IsFull, RefusesOneMore}
+use Rattle.arena_traits.specs.Growth.{IsGrowthResult, IsFull, RefusesOneMore, Reserves}
 use Rattle.chain_links.specs.CallEffects.{IsInsertionResult, IsInsertionWithinResult}
 use Rattle.chain_links.specs.ChainArena.{link_map, value_view, entry, insert_between, insert_as}
 use Rattle.chain_links.specs.Kinds.{names_in}
@@ -83,23 +83,20 @@ module _ {Gen T : Type 0} where
 
   -- A growth to a capacity for the links and one more.
   pub grows_by_one : (may_reach : ℕ → Option ℕ → ℕ → ℕ → Type 0) (greatest m : ℕ) (old new : Links Gen T) (r : Result Unit ReallocationError) → m ≡ entry_count old → m ≤ old.capacity
-      → (m + 1 ≤ old.capacity → IsOk r × (new ≡ old)) → (r ≡ Err refused.BeyondMaxCapacity) ↔ IsBeyond old.maximum (m + 1)
-      → OnOk r (IsCapacityFor greatest new.maximum (m + 1) new.capacity) → OnErr r (new ≡ old) → new ≡ with_capacity_of old new → IsWithinReach may_reach (m + 1) old new → HasCapacityFor greatest (length new.slots) new
+      → Reserves greatest (m + 1) (value_view old) r (value_view new) → (m + 1 ≤ old.capacity → new ≡ old) → OnErr r (new ≡ old) → new ≡ with_capacity_of old new → IsWithinReach may_reach (m + 1) old new → HasCapacityFor greatest (length new.slots) new
       → GrowsByOne may_reach greatest old r new
-  grows_by_one may_reach greatest m old new (Ok done) same fits within beyond ok err state reached within_capacity = (
+  grows_by_one may_reach greatest m old new (Ok done) same fits outcome enough err state reached held = (
     record {
-      grown = subst (λ (k : ℕ). ReachesCapacity may_reach greatest (k + 1) old new) same (record { capacity = (ok, within_capacity.1, within_capacity.2); reached = reached });
+      grown = subst (λ (k : ℕ). ReachesCapacity may_reach greatest (k + 1) old new) same (record { capacity = (outcome.1.0, held.1, held.2); reached = reached });
       state = state;
-      stays = λ less. let counted = values-count old in (within (omega (arith, less, same, counted))).1;
+      stays = λ less. let counted = values-count old in enough (omega (arith, less, same, counted));
     },
     tt,
   )
-  grows_by_one may_reach greatest m old new (Err refused.BeyondMaxCapacity) same fits within beyond ok err state reached capacity =
-      let no_capacity : entry_count old + 1 ≤ old.capacity → ⊥ = (λ within_capacity. false≢true (within (omega (arith, same, within_capacity))).0) in
-      ((is_full old (omega (arith, same, fits)) no_capacity, subst (λ (k : ℕ). IsBeyond old.maximum (k + 1)) (same ∙ sym (values-count old)) (beyond.0 refl)), err)
-  grows_by_one may_reach greatest m old new (Err refused.AllocError) same fits within beyond ok err state reached capacity =
-      let no_capacity : entry_count old + 1 ≤ old.capacity → ⊥ = (λ within_capacity. false≢true (within (omega (arith, same, within_capacity))).0) in
-      ((is_full old (omega (arith, same, fits)) no_capacity, λ past. let h = beyond.1 (subst (λ (k : ℕ). IsBeyond old.maximum (k + 1)) (values-count old ∙ sym same) past) in absurd (cc)), err)
+  grows_by_one may_reach greatest m old new (Err refused.BeyondMaxCapacity) same fits outcome enough err state reached held =
+      ((is_full old (omega (arith, same, fits)) (λ within_capacity. let less = outcome.0 in omega (arith, same, within_capacity, less)), subst (λ (k : ℕ). IsBeyond old.maximum (k + 1)) (same ∙ sym (values-count old)) outcome.1), err)
+  grows_by_one may_reach greatest m old new (Err refused.AllocError) same fits outcome enough err state reached held =
+      ((is_full old (omega (arith, same, fits)) (λ within_capacity. let less = outcome.0 in omega (arith, same, within_capacity, less)), λ past. outcome.1 (subst (λ (k : ℕ). IsBeyond old.maximum (k + 1)) (values-count old ∙ sym same) past)), err)
 
   pub entry_capacity : (may_reach : ℕ → Option ℕ → ℕ → ℕ → Type 0) (greatest : ℕ) (old mid : Links Gen T) → HasCapacityForOne may_reach greatest old mid → entry_count mid < mid.capacity
   entry_capacity may_reach greatest old mid grown =

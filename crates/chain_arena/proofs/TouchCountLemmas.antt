@@ -1,30 +1,32 @@
 -- A compression is determined but for touches, and no step reads their number.
-use Rattle.std.proofs.Common.{◌≡◌, ℕ, suc, Bool, true, false, List, [], ◌∷◌, length, map, Option, None, Some, Result, Ok, Err, refl, sym, ap, ap₂, ◌∙◌, subst, arith}
-use Rattle.std.specs.Prelude.{All}
+use Rattle.std.proofs.Common.{◌≡◌, ℕ, suc, Bool, List, [], ◌∷◌, length, map, Option, None, Some, Result, Ok, Err, refl, sym, ap, ap₂, ◌∙◌, subst, arith}
+use Rattle.std.specs.Prelude.{All, IfSome, IfNone, OnSome}
 use Rattle.std.specs.Option.{option_map}
 use Rattle.std.proofs.lemmas.List.{ext_get_or}
 use Rattle.std.proofs.lemmas.List.Elements.{All-head, All-tail}
 use Rattle.arena_core.specs.declared.errors.ChainInsertionError.{ChainInsertionError}
 use Rattle.arena_core.specs.declared.errors.ChainInsertionError.TheVariants as failed
 use Rattle.arena_core.specs.declared.errors.ReallocationError.{ReallocationError}
-use Rattle.arena_core.specs.declared.invalidation.InvalidationResult.{InvalidationResult}
-use Rattle.arena_core.specs.declared.invalidation.InvalidationResult.TheVariants.{Success, GenerationOverflow, InvalidPtr}
-use Rattle.chain_laws.specs.Chains.{LinkMap, all_items}
+use Rattle.arena_core.specs.Invalidation.{value_within}
+use Rattle.arena_core.specs.declared.invalidation.InvalidationOption.{InvalidationOption}
+use Rattle.chain_laws.specs.Chains.{LinkMap, all_items, prev_of, next_of}
 use Rattle.chain_laws.specs.Renamings.{IsRenaming}
 use Rattle.chain_laws.specs.Arrangements.{place_in}
 use Rattle.chain_laws.proofs.RenamingLemmas.Chains.{renaming_is_determined}
 use Rattle.chain_laws.proofs.ChainLemmas.Partitions.{no_others}
 use Rattle.arena_traits.specs.Arena.{entry_at}
 use Rattle.arena_traits.specs.Compressions.{values_in, AreFilledAnew}
-use Rattle.arena_traits.specs.Entries.{Slots, entries, index_of, found}
+use Rattle.arena_traits.specs.Entries.{ArenaView, Slots, entries, index_of, found}
 use Rattle.arena_traits.specs.EntryLaws.{found-entries}
-use Rattle.chain_links.specs.ChainArena.{link_map, value_view, entry, link_value, values_of, link_of, remove_link, IsJoin, IsCut, IsExchange, IsRemoval}
+use Rattle.arena_traits.proofs.CallOutcomeLemmas.{reports_more}
+use Rattle.chain_links.specs.ChainArena.{link_map, value_view, value_state, entry, link_value, values_of, link_of, remove_link}
 use Rattle.chain_arena.specs.Drains.{without_each}
-use Rattle.chain_arena.specs.Effects.{Links, GrowsStackToFit, stays, grown, IsCompression, IsCanonicalCompression}
-use Rattle.chain_links.specs.CallEffects.{ReportsOverflow}
-use Rattle.chain_arena.specs.PointerKinds.{PointerKind}
+use Rattle.chain_arena.specs.Effects.{Links, IsCut, IsRemoval}
+use Rattle.chain_links.specs.CallEffects.{IsDisconnected, IsRemoved, GainsLink}
+use Rattle.chain_links.specs.Kinds.{names_in}
+use Rattle.arena_core.specs.PointerKinds.{PointerKind}
 use Rattle.chain_arena.specs.Runs.{AreSameButTouched}
-use Rattle.chain_arena.specs.Steps.{ConnectStep, BreakPrevStep, BreakNextStep, ExchangeStep, InsertStep, InsertWithinStep, DrainChainStep, ReserveStep, Step, Run}
+use Rattle.chain_arena.specs.Steps.{IsNewLinkAnyhow, InsertStep, InsertWithinStep, ConnectStep, BreakPrevStep, BreakNextStep, ExchangeStep, IsRenewed, DrainChainStep, CompressStep, CompressCanonicalStep, ReserveStep, Step, Run}
 use Rattle.chain_arena.specs.declared.calls.Call.{Call}
 use Rattle.chain_arena.specs.declared.calls.Call.TheVariants as call
 use Rattle.chain_arena.specs.declared.calls.Reply.{Reply}
@@ -93,39 +95,35 @@ module _ {Gen T : Type 0} where
   of_counter : (g counter : Gen) (es : List ((ℕ × Gen) × T)) → g ≡ counter → All (HasGeneration g) es → All (HasGeneration counter) es
   of_counter g counter es same all = subst (λ (h : Gen). All (HasGeneration h) es) same all
 
-  module _ (first : Gen) (following : Gen → Gen) (reset : Bool) (old a b : Links Gen T) where
-    -- A compression is determined but for touches.
-    pub compression_same : IsCompression first following reset old a → IsCompression first following reset old b → AreSameButTouched a b
-    compression_same one two =
-        let both : Some a.counter ≡ Some b.counter = one.view_after.counter ∙ sym two.view_after.counter in
-        let counter : a.counter ≡ b.counter = cc in
-        same_known_alike a b (length (value_view old).entries) _ (slots_known old)
-        (same_entries b.counter (entries (values_of a)) (entries (values_of b)) (one.view_after.indexes ∙ sym two.view_after.indexes) (one.values ∙ sym two.values)
-        (of_counter one.view_after.generation b.counter (entries (values_of a)) (sym one.view_after.is_counter ∙ counter) one.view_after.generations) (of_counter two.view_after.generation b.counter (entries (values_of b)) (sym two.view_after.is_counter) two.view_after.generations))
-        (renaming_is_determined _ (link_map old) (link_map a) (link_map b) one.links.renamed two.links.renamed) one.view_after.slots two.view_after.slots counter
-        (one.view_after.capacity ∙ sym two.view_after.capacity) (one.links.stack_capacity ∙ sym two.links.stack_capacity) (one.view_after.maximum ∙ sym two.view_after.maximum)
+module _ {P I Gen W T : Type 0} (pointers : PointerKind P I Gen W) (reset : Bool) (old a b : Links Gen T) (r s : InvalidationOption Unit) where
+  -- A compression is determined but for touches.
+  pub compression_same : CompressStep pointers old reset r a → CompressStep pointers old reset s b → AreSameButTouched a b
+  compression_same first second =
+      let one = first.0.compressed in
+      let two = second.0.compressed in
+      let both : Some a.counter ≡ Some b.counter = one.counter ∙ sym two.counter in
+      let counter : a.counter ≡ b.counter = cc in
+      same_known_alike a b (length (value_view old).entries) _ (slots_known old)
+      (same_entries b.counter (entries (values_of a)) (entries (values_of b)) (one.indexes ∙ sym two.indexes) (first.1 ∙ sym second.1)
+      (of_counter one.generation b.counter (entries (values_of a)) (sym one.is_counter ∙ counter) one.generations) (of_counter two.generation b.counter (entries (values_of b)) (sym two.is_counter) two.generations))
+      (renaming_is_determined _ (link_map old) (link_map a) (link_map b) first.2.renamed second.2.renamed) one.slots two.slots counter
+      (one.capacity ∙ sym two.capacity) (first.2.stack_capacity ∙ sym second.2.stack_capacity) (one.maximum ∙ sym two.maximum)
 
-    -- A canonical compression is determined but for touches.
-    pub layout_same : IsCanonicalCompression first following reset old a → IsCanonicalCompression first following reset old b → AreSameButTouched a b
-    layout_same one two =
-        let x = one.layout in
-        let y = two.layout in
-        let both : Some a.counter ≡ Some b.counter = x.counter ∙ sym y.counter in
-        let counter : a.counter ≡ b.counter = cc in
-        let order : x.indexes ≡ y.indexes = x.order.items ∙ (ap all_items (no_others (link_map old) x.order.chains y.order.chains x.order.are y.order.are) ∙ sym y.order.items) in
-        let values = same_values (values_in (entries (values_of a))) (values_in (entries (values_of b)))
-        (x.values ∙ (ap (λ (is : List ℕ). map (λ i. option_map (λ (e : Gen × T). e.1) (found i (value_view old).entries)) is) order ∙ sym y.values)) in
-        same_known_alike a b (length (value_view old).entries) _ (slots_known old)
-        (same_entries b.counter (entries (values_of a)) (entries (values_of b)) (x.new_indexes ∙ sym y.new_indexes) values
-        (of_counter x.generation b.counter (entries (values_of a)) (sym x.is_counter ∙ counter) x.generations) (of_counter y.generation b.counter (entries (values_of b)) (sym y.is_counter) y.generations))
-        (renaming_is_determined _ (link_map old) (link_map a) (link_map b) (subst (λ (is : List ℕ). IsRenaming (place_in is) (link_map old) (link_map a)) order x.renamed) y.renamed) x.slots y.slots counter
-        (x.capacity ∙ sym y.capacity) (one.stack_capacity ∙ sym two.stack_capacity) (x.maximum ∙ sym y.maximum)
-
--- What a result reports implies what follows from it.
-states_so : {X Gen : Type 0} {No Not : Type 0} (Done Made : X → Type 0) (wraps : Gen → Bool) (counter : Gen) (r : InvalidationResult X) → (No → Not) → ((x : X) → Done x → Made x) → ReportsOverflow wraps (Some counter) No Done r → ReportsOverflow wraps (Some counter) Not Made r
-states_so Done Made wraps counter (Success x) not_made made known = (known.0, made x known.1)
-states_so Done Made wraps counter (GenerationOverflow x) not_made made known = (known.0, made x known.1)
-states_so Done Made wraps counter InvalidPtr not_made made known = not_made known
+  -- A canonical compression is determined but for touches.
+  pub layout_same : CompressCanonicalStep pointers old reset r a → CompressCanonicalStep pointers old reset s b → AreSameButTouched a b
+  layout_same one two =
+      let x = one.0.canonical in
+      let y = two.0.canonical in
+      let both : Some a.counter ≡ Some b.counter = x.counter ∙ sym y.counter in
+      let counter : a.counter ≡ b.counter = cc in
+      let order : x.indexes ≡ y.indexes = x.order.items ∙ (ap all_items (no_others (link_map old) x.order.chains y.order.chains x.order.are y.order.are) ∙ sym y.order.items) in
+      let values = same_values (values_in (entries (values_of a))) (values_in (entries (values_of b)))
+      (x.values ∙ (ap (λ (is : List ℕ). map (λ i. option_map (λ (e : Gen × T). e.1) (found i (value_view old).entries)) is) order ∙ sym y.values)) in
+      same_known_alike a b (length (value_view old).entries) _ (slots_known old)
+      (same_entries b.counter (entries (values_of a)) (entries (values_of b)) (x.new_indexes ∙ sym y.new_indexes) values
+      (of_counter x.generation b.counter (entries (values_of a)) (sym x.is_counter ∙ counter) x.generations) (of_counter y.generation b.counter (entries (values_of b)) (sym y.is_counter) y.generations))
+      (renaming_is_determined _ (link_map old) (link_map a) (link_map b) (subst (λ (is : List ℕ). IsRenaming (place_in is) (link_map old) (link_map a)) order x.renamed) y.renamed) x.slots y.slots counter
+      (x.capacity ∙ sym y.capacity) (one.1 ∙ sym two.1) (x.maximum ∙ sym y.maximum)
 
 -- Each step stays one with the touches set to n before and after.
 module _ (n : ℕ) where
@@ -136,76 +134,98 @@ module _ (n : ℕ) where
   untouched count most old new known =
       record { count = known.count; freed = known.freed; placed = known.placed; touches = 0; few = omega arith; touched = omega arith }
 
-  module _ {Gen T : Type 0} (old new : Links Gen T) where
-    join_touched : (i j : ℕ) → IsJoin old new i j → IsJoin (touch old) (touch new) i j
-    join_touched i j made = record { state = ap touch made.state; links = made.links; pair = made.pair; chains = made.chains }
+  -- A view with the touches set to n.
+  abbrev touch_view : {Gen T : Type 0} → ArenaView Gen T → ArenaView Gen T
+  touch_view v = record v { slots = option_map (λ (s : Slots). record s { touched = n }) v.slots }
 
-    cut_touched : (i j : ℕ) → IsCut old new i j → IsCut (touch old) (touch new) i j
-    cut_touched i j made = record { state = ap touch made.state; links = made.links; pair = made.pair; chains = made.chains }
+  module _ {P I Gen W T : Type 0} (pointers : PointerKind P I Gen W) (old new : Links Gen T) where
+    connects_touched : (p q : P) (r : Option Unit) → ConnectStep pointers old p q r new → ConnectStep pointers (touch old) p q r (touch new)
+    connects_touched p q None step = (step.0, ap touch step.1, tt)
+    connects_touched p q (Some done) step =
+        let made = step.0.1 in
+        ((step.0.0, record { joined = made.joined; chains = made.chains; view_after = ap touch_view made.view_after }), tt, record { state = ap touch step.2.state; pair = step.2.pair })
 
-    exchange_touched : (i j : ℕ) → IsExchange old new i j → IsExchange (touch old) (touch new) i j
-    exchange_touched i j made = record { state = ap touch made.state; links = made.links; pairs = made.pairs; chains = made.chains }
+    cut_touched : (a b : ℕ) → IsDisconnected value_state link_map old new a b → IsDisconnected value_state link_map (touch old) (touch new) a b
+    cut_touched a b made = record { cut = made.cut; chains = made.chains; view_after = ap touch_view made.view_after }
 
-    removal_touched : (following : Gen → Gen) (i : ℕ) → IsRemoval following old i new → IsRemoval following (touch old) i (touch new)
-    removal_touched following i made = record { state = ap touch made.state; links = made.links; chains = made.chains; pairs = made.pairs }
+    cut_at_touched : (o : Option ℕ) (left right : ℕ → ℕ) → IfSome o (λ a. IsCut old new (left a) (right a)) → IfSome o (λ a. IsCut (touch old) (touch new) (left a) (right a))
+    cut_at_touched None left right made = tt
+    cut_at_touched (Some a) left right made = record { state = ap touch made.state; pair = made.pair }
 
-    connects_touched : (p q : ℕ × Gen) (r : Bool) → ConnectStep old p q r new → ConnectStep (touch old) p q r (touch new)
-    connects_touched p q false step = (step.0, ap touch step.1)
-    connects_touched p q true step = (step.0, join_touched p.0 q.0 step.1)
+    breaks_prev_touched : (p : P) (r : Option Unit) → BreakPrevStep pointers old p r new → BreakPrevStep pointers (touch old) p r (touch new)
+    breaks_prev_touched p None step = (step.0, ap touch step.1, tt)
+    breaks_prev_touched p (Some done) step =
+        ((step.0.0, step.0.1, step.0.2, cut_touched step.0.1 (pointers.key p).0 step.0.3), tt, cut_at_touched (prev_of (link_map old) (pointers.key p).0) (λ a. a) (λ a. (pointers.key p).0) step.2)
 
-    breaks_prev_touched : (p : ℕ × Gen) (r : Bool) → BreakPrevStep old p r new → BreakPrevStep (touch old) p r (touch new)
-    breaks_prev_touched p false step = (step.0, ap touch step.1)
-    breaks_prev_touched p true step = (step.0, step.1, step.2, cut_touched step.1 p.0 step.3)
+    breaks_next_touched : (p : P) (r : Option Unit) → BreakNextStep pointers old p r new → BreakNextStep pointers (touch old) p r (touch new)
+    breaks_next_touched p None step = (step.0, ap touch step.1, tt)
+    breaks_next_touched p (Some done) step =
+        ((step.0.0, step.0.1, step.0.2, cut_touched (pointers.key p).0 step.0.1 step.0.3), tt, cut_at_touched (next_of (link_map old) (pointers.key p).0) (λ b. (pointers.key p).0) (λ b. b) step.2)
 
-    breaks_next_touched : (p : ℕ × Gen) (r : Bool) → BreakNextStep old p r new → BreakNextStep (touch old) p r (touch new)
-    breaks_next_touched p false step = (step.0, ap touch step.1)
-    breaks_next_touched p true step = (step.0, step.1, step.2, cut_touched p.0 step.1 step.3)
+    exchanges_touched : (p q : P) (r : Option Unit) → ExchangeStep pointers old p q r new → ExchangeStep pointers (touch old) p q r (touch new)
+    exchanges_touched p q None step = (step.0, ap touch step.1, tt)
+    exchanges_touched p q (Some done) step =
+        let made = step.0.1 in
+        ((step.0.0, record { exchanged = made.exchanged; chains = made.chains; view_after = ap touch_view made.view_after }), tt, record { state = ap touch step.2.state; pairs = step.2.pairs })
 
-    exchanges_touched : (p q : ℕ × Gen) (r : Bool) → ExchangeStep old p q r new → ExchangeStep (touch old) p q r (touch new)
-    exchanges_touched p q false step = (step.0, ap touch step.1)
-    exchanges_touched p q true step = (step.0, exchange_touched p.0 q.0 step.1)
+    removed_touched : (i : ℕ) → IsRemoved value_state link_map old new pointers.following i → IsRemoved value_state link_map (touch old) (touch new) pointers.following i
+    removed_touched i made = record { view_after = ap touch_view made.view_after; links = made.links; chains = made.chains }
 
-    capacity_touched : (greatest m : ℕ) → GrowsStackToFit greatest m old new → GrowsStackToFit greatest m (touch old) (touch new)
-    capacity_touched greatest m (stays within capacity stack_capacity) = stays within capacity stack_capacity
-    capacity_touched greatest m (grown less within_capacity) = grown less within_capacity
+    none_touched : {X : Type 0} (o : Option X) → IfNone o (new ≡ old) → IfNone o (touch new ≡ touch old)
+    none_touched None is = ap touch is
+    none_touched (Some x) is = tt
 
-    compression_touched : (first : Gen) (following : Gen → Gen) (reset : Bool) → IsCompression first following reset old new → IsCompression first following reset (touch old) (touch new)
-    compression_touched first following reset made =
-        record {
-          view_after = record {
-            indexes = made.view_after.indexes;
-            counter = made.view_after.counter;
-            generation = made.view_after.generation;
-            generations = made.view_after.generations;
-            is_counter = made.view_after.is_counter;
-            slots = untouched _ _ (slots_known old) (slots_known new) made.view_after.slots;
-            capacity = made.view_after.capacity;
-            maximum = made.view_after.maximum;
-          };
-          values = made.values;
-          links = record { renamed = made.links.renamed; stack_capacity = made.links.stack_capacity };
-        }
+    removal_touched : {X : Type 0} (o : Option X) (i : ℕ) → OnSome o (IsRemoval pointers.following old i new) → OnSome o (IsRemoval pointers.following (touch old) i (touch new))
+    removal_touched None i made = tt
+    removal_touched (Some x) i made = record { removed = removed_touched i made.removed; state = ap touch made.state; pairs = made.pairs }
 
-    layout_touched : (first : Gen) (following : Gen → Gen) (reset : Bool) → IsCanonicalCompression first following reset old new → IsCanonicalCompression first following reset (touch old) (touch new)
-    layout_touched first following reset made =
-        record {
-          layout = record {
-            indexes = made.layout.indexes;
-            order = made.layout.order;
-            renamed = made.layout.renamed;
-            new_chains = made.layout.new_chains;
-            new_indexes = made.layout.new_indexes;
-            values = made.layout.values;
-            counter = made.layout.counter;
-            generation = made.layout.generation;
-            generations = made.layout.generations;
-            is_counter = made.layout.is_counter;
-            slots = untouched _ _ (slots_known old) (slots_known new) made.layout.slots;
-            capacity = made.layout.capacity;
-            maximum = made.layout.maximum;
-          };
-          stack_capacity = made.stack_capacity;
-        }
+    renewal_touched : {X : Type 0} (o : Option X) (i : ℕ) → OnSome o (IsRenewed pointers old i new) → OnSome o (IsRenewed pointers (touch old) i (touch new))
+    renewal_touched None i made = tt
+    renewal_touched (Some x) i made = (ap touch made.0, made.1)
+
+    compression_touched : (reset : Bool) (r : InvalidationOption Unit) → CompressStep pointers old reset r new → CompressStep pointers (touch old) reset r (touch new)
+    compression_touched reset r step =
+        let made = step.0.compressed in (
+          record {
+            compressed = record {
+              indexes = made.indexes;
+              counter = made.counter;
+              generation = made.generation;
+              generations = made.generations;
+              is_counter = made.is_counter;
+              slots = untouched _ _ (slots_known old) (slots_known new) made.slots;
+              capacity = made.capacity;
+              maximum = made.maximum;
+            };
+            overflow = step.0.overflow;
+          },
+          step.1,
+          record { renamed = step.2.renamed; stack_capacity = step.2.stack_capacity },
+        )
+
+    layout_touched : (reset : Bool) (r : InvalidationOption Unit) → CompressCanonicalStep pointers old reset r new → CompressCanonicalStep pointers (touch old) reset r (touch new)
+    layout_touched reset r step =
+        let made = step.0.canonical in (
+          record {
+            canonical = record {
+              indexes = made.indexes;
+              order = made.order;
+              renamed = made.renamed;
+              new_chains = made.new_chains;
+              new_indexes = made.new_indexes;
+              values = made.values;
+              counter = made.counter;
+              generation = made.generation;
+              generations = made.generations;
+              is_counter = made.is_counter;
+              slots = untouched _ _ (slots_known old) (slots_known new) made.slots;
+              capacity = made.capacity;
+              maximum = made.maximum;
+            };
+            overflow = step.0.overflow;
+          },
+          step.1,
+        )
 
   module _ {Gen T : Type 0} (following : Gen → Gen) where
     without_each_touched : (old : Links Gen T) (walk : List ℕ) → touch (without_each following old walk) ≡ without_each following (touch old) walk
@@ -224,54 +244,91 @@ module _ (n : ℕ) where
       chains = step.chains;
     }
 
+    inserted_touched : (kind : InsertKindBody P I) (t : T) (p : P) → GainsLink value_state link_map (names_in pointers.key pointers.number kind) t old (pointers.key p) new
+        → GainsLink value_state link_map (names_in pointers.key pointers.number kind) t (touch old) (pointers.key p) (touch new)
+    inserted_touched kind t p made = record {
+      entries = record { free = made.entries.free; stored = made.entries.stored; rest = made.entries.rest };
+      links = made.links;
+      pairs = made.pairs;
+      chains = made.chains;
+      more = made.more;
+      generation = made.generation;
+      index = made.index;
+      slots = ap (option_map (λ (s : Slots). record s { touched = n })) made.slots;
+      counter = made.counter;
+      maximum = made.maximum;
+    }
+
+    new_link_touched : (kind : InsertKindBody P I) (t : T) (p : P) → IsNewLinkAnyhow pointers old kind t new p → IsNewLinkAnyhow pointers (touch old) kind t (touch new) p
+    new_link_touched kind t p made = record {
+      pointer = made.pointer;
+      state = ap touch made.state;
+      state_within_capacity = λ less. ap touch (made.state_within_capacity less);
+      grown = record { capacity = made.grown.capacity; reached = made.grown.reached };
+    }
+
     inserts_touched : (kind : InsertKindBody P I) (t : T) (r : Result P ChainInsertionError) → InsertStep pointers old kind t r new → InsertStep pointers (touch old) kind t r (touch new)
-    inserts_touched kind t (Err failed.FailedLinkRequirement) step = (step.0, ap touch step.1)
-    inserts_touched kind t (Err failed.BeyondMaxCapacity) step = (step.0, ap touch step.1)
-    inserts_touched kind t (Err failed.AllocError) step = (step.0, ap touch step.1)
+    inserts_touched kind t (Ok p) step = ((step.0.0, (inserted_touched kind t p step.0.1.0, step.0.1.1)), tt, new_link_touched kind t p step.2)
+    inserts_touched kind t (Err failed.FailedLinkRequirement) step = (step.0, ap touch step.1, tt)
+    inserts_touched kind t (Err failed.BeyondMaxCapacity) step = (step.0, ap touch step.1, tt)
+    inserts_touched kind t (Err failed.AllocError) step = (step.0, ap touch step.1, tt)
     inserts_touched kind t (Err failed.NotWithinCapacity) step = absurd step.0
-    inserts_touched kind t (Ok p) step =
-        let added = step.0.1.0 in
-        ((step.0.0, (record { pointer = added.pointer; state = ap touch added.state; pairs = added.pairs; chains = added.chains }, capacity_touched old new pointers.greatest _ step.0.1.1)), tt)
 
     inserts_within_touched : (kind : InsertKindBody P I) (t : T) (r : Result P ChainInsertionError) → InsertWithinStep pointers old kind t r new → InsertWithinStep pointers (touch old) kind t r (touch new)
-    inserts_within_touched kind t (Err failed.FailedLinkRequirement) step = (step.0, ap touch step.1)
-    inserts_within_touched kind t (Err failed.NotWithinCapacity) step = (step.0, ap touch step.1)
+    inserts_within_touched kind t (Ok p) step = ((step.0.0, step.0.1, (inserted_touched kind t p step.0.2.0, step.0.2.1)), tt, new_link_touched kind t p step.2)
+    inserts_within_touched kind t (Err failed.FailedLinkRequirement) step = (step.0, ap touch step.1, tt)
+    inserts_within_touched kind t (Err failed.NotWithinCapacity) step = (step.0, ap touch step.1, tt)
     inserts_within_touched kind t (Err failed.BeyondMaxCapacity) step = absurd step.0
     inserts_within_touched kind t (Err failed.AllocError) step = absurd step.0
-    inserts_within_touched kind t (Ok p) step =
-        let added = step.0.2.0 in
-        ((step.0.0, step.0.1, (record { pointer = added.pointer; state = ap touch added.state; pairs = added.pairs; chains = added.chains }, ap touch step.0.2.1)), tt)
 
     reserves_touched : (m : ℕ) (r : Result Unit ReallocationError) → ReserveStep pointers old m r new → ReserveStep pointers (touch old) m r (touch new)
-    reserves_touched m (Ok done) step = (ap touch step.0, capacity_touched old new pointers.greatest m step.1)
-    reserves_touched m (Err why) step = (step.0, ap touch step.1)
+    reserves_touched m (Ok done) step = (
+      (ap touch_view step.0.0, step.0.1, step.0.2),
+      tt,
+      record { state = ap touch step.2.state; enough = λ few. ap touch (step.2.enough few); grown = step.2.grown },
+    )
+    reserves_touched m (Err why) step = (step.0, ap touch step.1, tt)
 
   module _ {P T I Gen W : Type 0} (pointers : PointerKind P I Gen W) where
     pub step_touched : (old new : Links Gen T) (c : Call P T I Gen W) (r : Reply P T I Gen W) → Step pointers old c r new
         → Step pointers (touch old) c r (touch new)
     step_touched old new (call.Insert kind t) r step = (step.0, step.1, inserts_touched pointers old new kind t step.0 step.2)
     step_touched old new (call.InsertWithin kind t) r step = (step.0, step.1, inserts_within_touched pointers old new kind t step.0 step.2)
-    step_touched old new (call.Connect p q) r step = (step.0, step.1, connects_touched old new (pointers.key p) (pointers.key q) step.0 step.2)
-    step_touched old new (call.BreakPrev p) r step = (step.0, step.1, breaks_prev_touched old new (pointers.key p) step.0 step.2)
-    step_touched old new (call.BreakNext p) r step = (step.0, step.1, breaks_next_touched old new (pointers.key p) step.0 step.2)
-    step_touched old new (call.ExchangeNext p q) r step = (step.0, step.1, exchanges_touched old new (pointers.key p) (pointers.key q) step.0 step.2)
+    step_touched old new (call.Connect p q) r step = (step.0, step.1, connects_touched pointers old new p q step.0 step.2)
+    step_touched old new (call.BreakPrev p) r step = (step.0, step.1, breaks_prev_touched pointers old new p step.0 step.2)
+    step_touched old new (call.BreakNext p) r step = (step.0, step.1, breaks_next_touched pointers old new p step.0 step.2)
+    step_touched old new (call.ExchangeNext p q) r step = (step.0, step.1, exchanges_touched pointers old new p q step.0 step.2)
     step_touched old new (call.Remove p) r step = (
       step.0,
       step.1,
-      states_so _ _ pointers.wraps old.counter step.0 (λ no. (no.0, ap touch no.1))
-          (λ link taken. record { was_stored = taken.was_stored; removal = removal_touched old new pointers.following (pointers.key p).0 taken.removal }) step.2,
+      (
+        reports_more pointers.wraps _ _ _ _ (Some old.counter) step.0 step.2.0 (λ absent. absent) (λ link taken. (taken.0, (taken.1.0, removed_touched pointers old new (pointers.key p).0 taken.1.1))),
+        none_touched pointers old new (value_within step.0) step.2.1,
+        removal_touched pointers old new (value_within step.0) (pointers.key p).0 step.2.2,
+      ),
     )
     step_touched old new (call.RemoveInx i) r step = (
       step.0,
       step.1,
-      states_so _ _ pointers.wraps old.counter step.0 (λ no. (no.0, ap touch no.1))
-          (λ e taken. record { was_stored = taken.was_stored; removal = removal_touched old new pointers.following (pointers.number i) taken.removal }) step.2,
+      (
+        reports_more pointers.wraps _ _ _ _ (Some old.counter) step.0 step.2.0 (λ absent. absent) (λ e taken. (taken.0, removed_touched pointers old new (pointers.number i) taken.1)),
+        none_touched pointers old new (value_within step.0) step.2.1,
+        removal_touched pointers old new (value_within step.0) (pointers.number i) step.2.2,
+      ),
     )
-    step_touched old new (call.Invalidate p) r step = (step.0, step.1, states_so _ _ pointers.wraps old.counter step.0 (λ no. (no.0, ap touch no.1)) (λ q made. (made.0, made.1, ap touch made.2, made.3)) step.2)
+    step_touched old new (call.Invalidate p) r step = (
+      step.0,
+      step.1,
+      (
+        reports_more pointers.wraps _ _ _ _ (Some old.counter) step.0 step.2.0 (λ absent. absent) (λ q made. (made.0, made.1, made.2, ap touch_view made.3)),
+        none_touched pointers old new (value_within step.0) step.2.1,
+        renewal_touched pointers old new (value_within step.0) (pointers.key p).0 step.2.2,
+      ),
+    )
     step_touched old new (call.DrainChain p take) r step = (step.0, step.1, drains_touched pointers old new (pointers.key p) take step.0 step.2)
-    step_touched old new call.Clear r step = (step.0, ap touch step.1)
-    step_touched old new (call.Compress reset) r step = (step.0, compression_touched old new pointers.first pointers.following reset step.1)
-    step_touched old new (call.CompressCanonical reset) r step = (step.0, layout_touched old new pointers.first pointers.following reset step.1)
+    step_touched old new call.Clear r step = (step.0, step.1, (record { after = ap touch_view step.2.0.after; overflow = step.2.0.overflow }, ap touch step.2.1))
+    step_touched old new (call.Compress reset) r step = (step.0, step.1, compression_touched pointers old new reset step.0 step.2)
+    step_touched old new (call.CompressCanonical reset) r step = (step.0, step.1, layout_touched pointers old new reset step.0 step.2)
     step_touched old new (call.Reserve m) r step = (step.0, step.1, reserves_touched pointers old new m step.0 step.2)
     step_touched old new (call.SetGeneration g) r step = (step.0, ap touch step.1)
     step_touched old new call.IncGeneration r step = (step.0, ap touch step.1)

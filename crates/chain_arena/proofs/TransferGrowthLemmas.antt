@@ -1,15 +1,16 @@
 -- A transfer into an arena that was grown and cleared.
-use Rattle.std.proofs.Common.{◌≡◌, ◌↔◌, ◌<◌, ◌≤◌, inl, Bool, ℕ, Option, Result, Ok, Err, OnOk, OnErr, arith, length, refl, ap, sym, ◌∙◌, subst}
+use Rattle.std.proofs.Common.{◌≡◌, ◌<◌, ◌≤◌, inl, Bool, ℕ, Option, Result, Ok, Err, OnErr, arith, length, refl, ap, sym, ◌∙◌, subst}
 use Rattle.std.specs.Fn.{Mut}
-use Rattle.arena_core.specs.SlotStack.{IsBeyond}
+use Rattle.arena_core.specs.SlotStack.{IsBeyond, IsWithinMaximum}
 use Rattle.arena_core.specs.declared.errors.ReallocationError.{ReallocationError}
 use Rattle.arena_core.specs.declared.errors.ReallocationError.TheVariants as refused
 use Rattle.arena_core.specs.declared.invalidation.InvalidationOption.{InvalidationOption}
 use Rattle.chain_laws.specs.Chains.{LinkMap}
-use Rattle.arena_traits.specs.Arena.{Arena, HasCapacityFor, IsCapacityFor, IsWithinReach, ReachesCapacity, arena_after_clear, with_capacity_of, with_counter}
+use Rattle.arena_traits.specs.Arena.{Arena, HasCapacityFor, IsWithinReach, ReachesCapacity, arena_after_clear, with_capacity_of, with_counter}
 use Rattle.arena_traits.specs.Entries.{ArenaView}
-use Rattle.arena_base.proofs.ArenaGrowthLemmas.{not_beyond}
-use Rattle.chain_links.specs.ChainArena.{LinkView}
+use Rattle.arena_traits.specs.Growth.{Reserves}
+use Rattle.arena_traits.proofs.CallOutcomeLemmas.{not_beyond}
+use Rattle.chain_links.specs.ChainArena.{LinkView, value_view}
 use Rattle.chain_arena.specs.Effects.{IsEmptyWithCapacity, SucceedsOrRefuses}
 use Rattle.chain_arena.specs.Transfers.{IsTransfer}
 
@@ -29,11 +30,15 @@ module _ {Gen T : Type 0} (may_reach : ℕ → Option ℕ → ℕ → ℕ → Ty
   pub above_greatest : (old : Arena Gen (LinkView T)) → greatest < n → Grows old old (Err refused.AllocError)
   above_greatest old over = ((λ within beyond. omega (arith, over, within)), refl)
 
-  pub grows_within : (old new : Arena Gen (LinkView T)) (r : Result (Unit {0}) ReallocationError) → n ≤ greatest → (r ≡ Err refused.BeyondMaxCapacity) ↔ IsBeyond old.maximum n
-      → OnOk r (IsCapacityFor greatest new.maximum n new.capacity) → OnErr r (new ≡ old) → IsWithinReach may_reach n old new → HasCapacityFor greatest (length new.slots) new → Grows old new r
-  grows_within old new (Ok success) within beyond ok err reached held = (record { capacity = (ok, held.1, held.2); reached = reached }, within, λ over. let h = beyond.1 over in absurd (cc))
-  grows_within old new (Err refused.BeyondMaxCapacity) within beyond ok err reached held = (within, beyond.0 refl, err)
-  grows_within old new (Err refused.AllocError) within beyond ok err reached held = ((λ _ over. let h = beyond.1 over in absurd (cc)), err)
+  pub grows_within : (old new : Arena Gen (LinkView T)) (r : Result (Unit {0}) ReallocationError) → n ≤ greatest → Reserves greatest n (value_view old) r (value_view new) → OnErr r (new ≡ old) → IsWithinReach may_reach n old new → HasCapacityFor greatest (length new.slots) new → Grows old new r
+  grows_within old new (Ok success) within outcome err reached held =
+      let most : new.maximum ≡ old.maximum = ap (λ (v : ArenaView Gen T). v.maximum) outcome.0 in (
+        record { capacity = (outcome.1.0, held.1, held.2); reached = reached },
+        within,
+        not_beyond old.maximum n new.capacity outcome.1.0.fits (subst (λ (o : Option ℕ). IsWithinMaximum o new.capacity) most outcome.1.0.within_maximum),
+      )
+  grows_within old new (Err refused.BeyondMaxCapacity) within outcome err reached held = (within, outcome.1, err)
+  grows_within old new (Err refused.AllocError) within outcome err reached held = ((λ _ over. outcome.1 over), err)
 
 -- A refusal for a count is one for an equal count.
 pub refused_alike : {S K : Type 0} (greatest n m : ℕ) (maximum : Option ℕ) (why : ReallocationError) → n ≡ m → (S → K) → SucceedsOrRefuses n greatest maximum (Unit {0}) S (Err why) → SucceedsOrRefuses m greatest maximum (Unit {0}) K (Err why)

@@ -1,28 +1,27 @@
 -- The effects of calls on an arena of links, and their errors.
-use Rattle.std.specs.Prelude.{◌≡◌, ℕ, ◌<◌, ◌≤◌, min, ◌+◌, Bool, List, [], length, map, Option, None, Result, Ok, Err, IsSome}
+use Rattle.std.specs.Prelude.{◌≡◌, ℕ, ◌<◌, ◌≤◌, min, ◌+◌, List, [], length, map, Option, Result, Ok, Err, IfSome}
 use Rattle.std.specs.Option.{option_map}
-use Rattle.arena_core.specs.Invalidation.{value_within, invalidation_option, invalidation_result}
 use Rattle.arena_core.specs.SlotStack.{IsBeyond}
 use Rattle.arena_core.specs.declared.errors.ReallocationError.{ReallocationError}
 use Rattle.arena_core.specs.declared.errors.ReallocationError.TheVariants as refused
-use Rattle.arena_core.specs.declared.invalidation.InvalidationOption.{InvalidationOption}
-use Rattle.arena_core.specs.declared.invalidation.InvalidationResult.{InvalidationResult}
 use Rattle.arena_core.specs.declared.packed_option.PackedOption.{PackedOption}
 use Rattle.arena_base.specs.Slots.{entry_of, ThreadsFreeList}
 use Rattle.arena_base.specs.declared.compactor.Work.{Work}
 use Rattle.arena_base.specs.declared.slot.ArenaSlot.{ArenaSlot}
-use Rattle.chain_laws.specs.Insertions.{InsertKind, link_before, link_after, InsertsPairs, Inserts}
+use Rattle.chain_laws.specs.Chains.{prev_of, next_of}
+use Rattle.chain_laws.specs.Cuts.{without_pair, TakesPair}
+use Rattle.chain_laws.specs.Exchanges.{with_exchange, ExchangesPairs}
+use Rattle.chain_laws.specs.Insertions.{InsertKind}
+use Rattle.chain_laws.specs.Joins.{with_join, AddsPair}
+use Rattle.chain_laws.specs.Removals.{RemovesPairs}
 use Rattle.chain_laws.specs.Walks.{IsWalk, TakesWalk}
-use Rattle.arena_traits.specs.Arena.{Arena, IsValid, HasCapacityFor, entry_at, entry_count, next_index, with_capacity_of}
-use Rattle.arena_traits.specs.Compressions.{IsCompressed, values_in, overflows_after_compression}
-use Rattle.arena_traits.specs.Entries.{entries}
-use Rattle.chain_links.specs.CanonicalLayouts.{IsCanonicalLayout}
-use Rattle.chain_links.specs.ChainArena.{LinkView, link_map, entry, values_of, value_view, insert_as, IsRemoval}
+use Rattle.arena_traits.specs.Arena.{Arena, IsValid, HasCapacityFor, with_capacity_of}
+use Rattle.chain_links.specs.CallEffects.{IsRemoved}
+use Rattle.chain_links.specs.ChainArena.{LinkView, link_map, entry, value_state, with_link_map, remove_link}
 use Rattle.chain_links.specs.Kinds.{names_in, by_index, MayInsert}
 use Rattle.chain_links.specs.Links.{pair_view}
 use Rattle.chain_links.specs.declared.kinds.InsertKindBody.{InsertKindBody}
 use Rattle.chain_links.specs.declared.links.LinkBody.{LinkBody}
-use Rattle.chain_compaction.specs.LinkCompressions.{ClosesHoles}
 use Rattle.chain_arena.specs.Drains.{without_each}
 
 -- An arena of links.
@@ -30,11 +29,39 @@ abbrev pub Links : Type 0 → Type 0 → Type 0
 Links Gen T = Arena Gen (LinkView T)
 
 module _ {Gen T : Type 0} where
-  -- The capacity stays if it suffices for n, and else grows to suffice, up to the greatest index
-  -- and within the maximum.
-  pub data GrowsStackToFit (greatest n : ℕ) (old new : Links Gen T) : Type 0 where
-    stays : n ≤ old.capacity → new.capacity ≡ old.capacity → new.stack_capacity ≡ old.stack_capacity → GrowsStackToFit greatest n old new
-    grown : old.capacity < n → HasCapacityFor greatest n new → GrowsStackToFit greatest n old new
+  -- `new` is `base` with capacity for n links. It has grown, up to the greatest index and within the
+  -- maximum, only if the capacity of `old` did not suffice.
+  pub record GrowsStackToFit (greatest n : ℕ) (old base new : Links Gen T) : Type 0 where
+    pub state : new ≡ with_capacity_of base new
+    pub enough : n ≤ old.capacity → new ≡ base
+    pub grown : old.capacity < n → HasCapacityFor greatest n new
+
+  -- What a chain arena knows besides of links connected, disconnected and exchanged: the whole state,
+  -- and the pairs of neighbors.
+  pub record IsJoin (old new : Links Gen T) (a b : ℕ) : Type 0 where
+    pub state : new ≡ with_link_map old (with_join (link_map old) a b)
+    pub pair : AddsPair (link_map old) (link_map new) a b
+
+  pub record IsCut (old new : Links Gen T) (a b : ℕ) : Type 0 where
+    pub state : new ≡ with_link_map old (without_pair (link_map old) a b)
+    pub pair : TakesPair (link_map old) (link_map new) a b
+
+  pub record IsExchange (old new : Links Gen T) (p q : ℕ) : Type 0 where
+    pub state : new ≡ with_link_map old (with_exchange (link_map old) p q)
+    pub pairs : ExchangesPairs (link_map old) (link_map new) p q
+
+  -- The link at i is disconnected from its previous or next link.
+  abbrev pub IsCutBefore : Links Gen T → ℕ → Links Gen T → Type 0
+  IsCutBefore old i new = IfSome (prev_of (link_map old) i) (λ a. IsCut old new a i)
+
+  abbrev pub IsCutAfter : Links Gen T → ℕ → Links Gen T → Type 0
+  IsCutAfter old i new = IfSome (next_of (link_map old) i) (λ b. IsCut old new i b)
+
+  -- The link at i was removed, with the whole state and the pairs of neighbors.
+  pub record IsRemoval (following : Gen → Gen) (old : Links Gen T) (i : ℕ) (new : Links Gen T) : Type 0 where
+    pub removed : IsRemoved value_state link_map old new following i
+    pub state : new ≡ remove_link following old i
+    pub pairs : RemovesPairs (link_map old) (link_map new) i
 
   -- Arenas of the same capacity.
   abbrev pub HaveSameCapacity : Links Gen T → Links Gen T → Type 0
@@ -53,35 +80,9 @@ module _ {Gen T : Type 0} where
     pub state : new ≡ without_each following old walk
     pub chains : TakesWalk (link_map old) (link_map new) walk
 
-  -- The holes are closed: links are moved to the indexes from 1 on, in order, with their values and
-  -- the new indexes of their neighbors.
-  pub record IsCompression (first : Gen) (following : Gen → Gen) (reset : Bool) (old new : Links Gen T) : Type 0 where
-    pub view_after : IsCompressed first following reset (value_view old) (value_view new)
-    pub values : values_in (entries (values_of new)) ≡ values_in (entries (values_of old))
-    pub links : ClosesHoles old new
-
-  -- The chains are compacted, one after another.
-  pub record IsCanonicalCompression (first : Gen) (following : Gen → Gen) (reset : Bool) (old new : Links Gen T) : Type 0 where
-    pub layout : IsCanonicalLayout first following reset (value_view old) (link_map old) (value_view new) (link_map new)
-    pub stack_capacity : new.stack_capacity ≡ old.stack_capacity
-
-  -- The chains are compacted, and the reply reports whether the counter overflowed.
-  pub record CompressesCanonically (first : Gen) (following : Gen → Gen) (wraps : Gen → Bool) (reset : Bool) (old : Links Gen T) (reply : InvalidationOption (Unit {0})) (new : Links Gen T) : Type 0 where
-    pub canonical : IsCanonicalLayout first following reset (value_view old) (link_map old) (value_view new) (link_map new)
-    pub stack_capacity : new.stack_capacity ≡ old.stack_capacity
-    pub overflow : reply ≡ invalidation_option (overflows_after_compression wraps reset (entry_count old) old.counter) tt
-
   -- The work is added to the arena's totals.
   abbrev pub AddsWork : Links Gen T → Work → Links Gen T → Type 0
   AddsWork old work new = (new.placed ≡ old.placed + work.placed) × (new.touched ≡ old.touched + work.touched)
-
-  -- The link at an index is removed and returned, as `GenerationOverflow` if the counter wrapped;
-  -- without a link there, nothing changes.
-  pub record RemovesAt {K : Type 0} (packed : K → Option ℕ) (following : Gen → Gen) (wraps : Gen → Bool) (old : Links Gen T) (i : ℕ) (result : InvalidationResult (Gen × LinkBody K T)) (new : Links Gen T) : Type 0 where
-    pub returned : option_map (pair_view packed) (value_within result) ≡ entry_at old i
-    pub overflow : result ≡ invalidation_result (wraps old.counter) (value_within result)
-    pub removal : IsSome (value_within result) → IsRemoval following old i new
-    pub invalid : value_within result ≡ None → new ≡ old
 
 -- These slots, on a stack of this capacity and maximum, are those of an arena of links.
 pub record IsBackedBy {P I W Gen T : Type 0} (packed : PackedOption I W → Option ℕ) (greatest : ℕ) (items : List (ArenaSlot P (LinkBody (PackedOption I W) T) I Gen W)) (stack_capacity : ℕ) (most : Option ℕ) (now : Links Gen T) : Type 0 where
@@ -99,13 +100,6 @@ module _ {P I Gen : Type 0} (key : P → ℕ × Gen) (number : I → ℕ) where
   -- A link of the kind may be inserted.
   abbrev pub MayInsertInto : {T : Type 0} → Links Gen T → InsertKindBody P I → Type 0
   MayInsertInto old kind = MayInsert (entry old) (link_map old) (names_in key number kind)
-
--- A link of a kind is inserted with this pointer, between the neighbors that the kind gives.
-pub record IsAdded {P Gen T : Type 0} (key : P → ℕ × Gen) (old : Links Gen T) (kind : InsertKind ℕ) (t : T) (p : P) (new : Links Gen T) : Type 0 where
-  pub pointer : key p ≡ (next_index old, old.counter)
-  pub state : new ≡ with_capacity_of (insert_as old kind t) new
-  pub pairs : InsertsPairs (link_map old) (link_map new) (next_index old) (link_before (link_map old) kind (next_index old)) (link_after (link_map old) kind (next_index old))
-  pub chains : Inserts (link_map old) (link_map new) (next_index old) (link_before (link_map old) kind (next_index old)) (link_after (link_map old) kind (next_index old))
 
 -- The outcome of a call that needs capacity for n links, where the greatest index is tested before
 -- the maximum: the call is done, or all stays the `same`.

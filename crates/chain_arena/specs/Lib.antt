@@ -1,7 +1,6 @@
 pub mod Drains
 pub mod Transfers
 pub mod LinkCopies
-pub mod PointerKinds
 pub mod Effects
 pub mod Steps
 pub mod Runs

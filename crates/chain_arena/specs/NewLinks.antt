@@ -9,10 +9,11 @@ use Rattle.chain_laws.specs.Chains.{IsWellLinked}
 use Rattle.chain_laws.specs.Insertions.{link_before, link_after}
 use Rattle.arena_traits.specs.Arena.{ReachesCapacity, IsListed, entry_count, next_index, with_capacity_of}
 use Rattle.arena_traits.specs.Entries.{HasFreeCapacity}
-use Rattle.arena_traits.specs.Growth.{IsGrowthResult, IsFull, RefusesOneMore}
-use Rattle.chain_links.specs.CallEffects.{IsInsertionResult, IsInsertionWithinResult, GrowsAndGainsLink}
-use Rattle.chain_links.specs.ChainArena.{link_map, value_view, entry, insert_as, insert_between}
+use Rattle.arena_traits.specs.Growth.{IsGrowthResult, IsFull, RefusesOneMore, GrowsForOneMore}
+use Rattle.chain_links.specs.CallEffects.{IsInsertionResult, IsInsertionWithinResult, GainsLink}
+use Rattle.chain_links.specs.ChainArena.{link_map, value_view, value_state, entry, insert_as, insert_between}
 use Rattle.chain_links.specs.Insertions.{IsInsertionBetween, nonzero_index}
+use Rattle.chain_links.specs.Kinds.{names_in}
 use Rattle.chain_links.specs.declared.kinds.InsertKindBody.{InsertKindBody}
 use Rattle.chain_linking.specs.InsertPositions.{before_in, after_in}
 use Rattle.chain_linking.specs.declared.insert_position.InsertPosition.{InsertPosition}
@@ -83,7 +84,7 @@ module _ {P I Gen T : Type 0} (key : P → ℕ × Gen) (number : I → ℕ) wher
 
   -- A link of a kind is inserted with pointer p, after a growth within the stack's reach if the
   -- arena was full.
-  pub record IsNewLink (may_reach : ℕ → Option ℕ → ℕ → ℕ → Type 0) (greatest : ℕ) (old : Links Gen T) (kind : InsertKindBody P I) (t : T) (p : P) (new : Links Gen T) : Type 0 where
+  pub record IsNewLink (may_reach : ℕ → Option ℕ → ℕ → ℕ → Type 0) (greatest : ℕ) (old : Links Gen T) (kind : InsertKindBody P I) (t : T) (new : Links Gen T) (p : P) : Type 0 where
     pub pointer : key p ≡ (next_index old, old.counter)
     pub state : new ≡ with_capacity_of (insert_as old (indexed_kind key number kind) t) new
     pub state_within_capacity : HasFreeCapacity (value_view old) → new ≡ insert_as old (indexed_kind key number kind) t
@@ -92,7 +93,7 @@ module _ {P I Gen T : Type 0} (key : P → ℕ × Gen) (number : I → ℕ) wher
   -- What a chain arena and any arena of links know of such an insertion.
   abbrev pub InsertsNewLink : (ℕ → Option ℕ → ℕ → ℕ → Type 0) → ℕ → Links Gen T → InsertKindBody P I → T → P → Links Gen T → Type 0
   InsertsNewLink may_reach greatest old kind t p new =
-      GrowsAndGainsLink value_view entry link_map key number greatest old kind t p new × IsNewLink may_reach greatest old kind t p new
+      (GainsLink value_state link_map (names_in key number kind) t old (key p) new × GrowsForOneMore greatest (value_view old) (value_view new)) × IsNewLink may_reach greatest old kind t new p
 
   -- An entry for a link of a kind: its arena, after a growth if the arena was full, and the numbers
   -- of the link's neighbors, 0 for none.

@@ -9,7 +9,7 @@ use Rattle.arena_core.specs.declared.packed_option.PackedOption.{PackedOption}
 use Rattle.arena_traits.specs.Arena.{entry_count, with_capacity_of}
 use Rattle.chain_links.specs.Links.{link_view, pair_view}
 use Rattle.chain_arena.specs.Effects.{Links, HaveSameCapacity}
-use Rattle.chain_arena.specs.PointerKinds.{PointerKind}
+use Rattle.arena_core.specs.PointerKinds.{PointerKind}
 use Rattle.chain_arena.specs.Steps.{Step, Run}
 use Rattle.chain_arena.specs.declared.calls.Call.{Call}
 use Rattle.chain_arena.specs.declared.calls.Call.TheVariants as call

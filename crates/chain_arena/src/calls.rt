@@ -6,12 +6,11 @@ ghost use Rattle.chain_arena.specs.Drains.{walk_left, without_each};
 ghost use Rattle.chain_arena.specs.Steps.{InsertStep, InsertWithinStep, ReserveStep, DrainChainStep, Step, Run};
 ghost use Rattle.chain_arena.specs.Runs.{RunIsDetermined, StepIsDetermined, RunIsDeterminedByCapacity};
 
-use crate::any_pointer::AnyPointer;
 use crate::chain_arena::ChainArena;
 use crate::chain_drains::ChainDrain;
 use arena_base::{ArenaSlot, ArenaTrait};
 use arena_ptr::{
-    AllocError, ChainInsertionError, InvalidationOption, InvalidationResult, PtrKey,
+    AllocError, AnyPointer, ChainInsertionError, InvalidationOption, InvalidationResult, PtrKey,
     ReallocationError, SlotStack,
 };
 use chain_links::{LinkInsertKind, LinkNoGen};

@@ -2,20 +2,20 @@ ghost use Rattle.std.specs.Prelude.{◌≡◌, ◌≤◌, length, All, MatchOpti
 ghost use Rattle.chain_laws.specs.Chains.{IsWellLinked};
 ghost use Rattle.chain_laws.specs.Neighbors.{HasOneSetOfChains};
 ghost use Rattle.arena_core.specs.Invalidation.{invalidation_option};
-ghost use Rattle.arena_core.specs.Numbers.{IsWithin};
 ghost use Rattle.arena_traits.specs.Arena.{entry_count, with_counter, with_maximum, HasCapacityFor, IsListed, IsValid};
-ghost use Rattle.arena_traits.specs.Entries.{count, index_of};
+ghost use Rattle.arena_traits.specs.Entries.{IsSoundView};
 ghost use Rattle.chain_links.specs.ChainArena.{entry, value_view, link_map, IsWalkOf};
 ghost use Rattle.chain_links.specs.Kinds.{names_in};
 ghost use Rattle.chain_linking.specs.InsertPositions.{IsPositionOf};
 ghost use Rattle.chain_compaction.specs.Layouts.{ReportsAll, ReportsLayout, AreAllMoves};
 ghost use Rattle.chain_compaction.specs.PointerMoves.{ArePointerMoves};
-ghost use Rattle.chain_arena.specs.Effects.{RemovesAt, CompressesCanonically, AddsWork, IsBackedBy};
+ghost use Rattle.chain_arena.specs.Effects.{AddsWork, IsBackedBy};
+ghost use Rattle.chain_arena.specs.Steps.{RemoveInxStep, CompressCanonicalStep};
 
 use crate::visitors::{MapVisitor, MoveLister};
 use arena_base::{Arena, ArenaSlot, ArenaTrait, Work};
 use arena_ptr::{
-    AllocError, HeapStack, InvalidationOption, InvalidationResult, LimitStack,
+    AllocError, AnyPointer, HeapStack, InvalidationOption, InvalidationResult, LimitStack,
     MaxCapacityReductionError, PtrKey, SetMaxCapacity, SlotStack,
 };
 use chain_compaction::canonical::arrange;
@@ -81,9 +81,7 @@ impl<P: PtrKey, T: Drop, S: SlotStack<Item = ArenaSlot<P, LinkNoGen<P, T>>>> Cha
     pub fn invariants(&self)
         ensures agree { IsWellLinked (link_map self.now) }
         ensures one { HasOneSetOfChains (link_map self.now) }
-        ensures fits { count (value_view self.now) ≤ (value_view self.now).capacity }
-        ensures indexes { All (λ e. IsWithin P.Inx.greatest (index_of e))
-            (value_view self.now).entries }
+        ensures sound { IsSoundView P.Inx.greatest (value_view self.now) }
 
         // The freed list has each free slot once, so an insertion overwrites no link.
         ensures listed { IsListed self.now }
@@ -108,8 +106,7 @@ impl<P: PtrKey, T: Drop, S: SlotStack<Item = ArenaSlot<P, LinkNoGen<P, T>>>> Cha
     }
 
     pub(crate) fn unlink(&mut self, i: P::Inx) -> InvalidationResult<(P::Gen, LinkNoGen<P, T>)>
-        ensures { RemovesAt P.Inx.packed_number P.Gen.following P.Gen.wraps self.old
-            (P.Inx.number i) result self.new }
+        ensures { RemoveInxStep ⟦<P as AnyPointer>⟧.kind self.old i result self.new }
     {
         remove_link_at(&mut self.arena, i)
     }
@@ -153,8 +150,8 @@ impl<P: PtrKey, T: Drop, S: SlotStack<Item = ArenaSlot<P, LinkNoGen<P, T>>>> Cha
         visitor: V,
     ) -> (InvalidationOption<()>, V, Work)
         requires { V.is_ready visitor }
-        ensures compressed { CompressesCanonically P.Gen.first P.Gen.following P.Gen.wraps reset
-            self.old result.0 self.new }
+        ensures compressed { CompressCanonicalStep ⟦<P as AnyPointer>⟧.kind self.old reset result.0
+            self.new }
         ensures reports { ReportsAll V.sees P.key (value_view self.old)
             (link_map self.old) self.new.counter
             visitor result.1 }
@@ -176,8 +173,8 @@ impl<P: PtrKey, T: Drop, S: SlotStack<Item = ArenaSlot<P, LinkNoGen<P, T>>>> Cha
         map: F,
     ) -> InvalidationOption<()>
         requires { F.IsAlwaysCallable map }
-        ensures compressed { CompressesCanonically P.Gen.first P.Gen.following P.Gen.wraps reset
-            self.old result self.new }
+        ensures compressed { CompressCanonicalStep ⟦<P as AnyPointer>⟧.kind self.old reset result
+            self.new }
         ensures reports { ReportsLayout F.FnMut P.key (value_view self.old)
             (link_map self.old) self.new.counter
             map }
@@ -200,8 +197,8 @@ impl<P: PtrKey, T: Drop, S: SlotStack<Item = ArenaSlot<P, LinkNoGen<P, T>>>> Cha
         alloc: A,
         reset: bool,
     ) -> Result<(InvalidationOption<()>, Vec<(P, P), A>), AllocError>
-        ensures compressed { IfOk result (λ r. CompressesCanonically P.Gen.first P.Gen.following
-            P.Gen.wraps reset self.old r.0 self.new) }
+        ensures compressed { IfOk result (λ r. CompressCanonicalStep ⟦<P as AnyPointer>⟧.kind
+            self.old reset r.0 self.new) }
         ensures moves { IfOk result (λ r. AreAllMoves P.key (value_view self.old)
             (link_map self.old) self.new.counter r.1.items) }
         ensures by_pointer { IfOk result (λ r. ArePointerMoves P.key (entry self.old)
@@ -218,8 +215,8 @@ impl<P: PtrKey, T: Drop, S: SlotStack<Item = ArenaSlot<P, LinkNoGen<P, T>>>> Cha
     /// Each link is placed once. The slots are touched at most four times per old slot plus twelve
     /// times per link.
     pub fn compress_canonical_counted(&mut self, reset: bool) -> (InvalidationOption<()>, Work)
-        ensures compressed { CompressesCanonically P.Gen.first P.Gen.following P.Gen.wraps reset
-            self.old result.0 self.new }
+        ensures compressed { CompressCanonicalStep ⟦<P as AnyPointer>⟧.kind self.old reset result.0
+            self.new }
         ensures counted { AddsWork self.old result.1 self.new }
     {
         let (overflow, _, work) = self.compress_canonical_by(

@@ -42,9 +42,12 @@ impl<P: PtrKey, T: Drop, S: SlotStack<Item = ArenaSlot<P, LinkNoGen<P, T>>>> Cha
     /// Returns an iterator that removes the links of the chain of `p`, or `None` if `p` is not
     /// valid.
     ///
+    /// This call itself changes nothing. Each step of the iterator removes a link and returns it
+    /// with its pointer, in `GenerationOverflow` if the counter wrapped to two. Dropping the
+    /// iterator removes the links that are left.
+    ///
     /// It goes in walk order: from `p` to the end, then from the link before `p` back to the start;
-    /// a cyclic chain once around. Each step removes a link and returns it. Dropping the iterator
-    /// removes the links that are left. This call itself changes nothing.
+    /// a cyclic chain once around.
     ///
     /// Port of `ChainArenaTrait::drain_chain`.
     pub fn drain_chain(&mut self, p: P) -> Option<ChainDrain<'_, P, T, S>>

@@ -1,18 +1,18 @@
 // The implementation of `ArenaTrait`: a chain arena as an arena of values.
-ghost use Rattle.std.specs.Prelude.{◌≡◌, ◌≤◌, ◌<◌, ◌+◌, ◌^◌, length, All, IfSome};
-ghost use Rattle.std.specs.Option.{option_map};
-ghost use Rattle.arena_core.specs.Invalidation.{value_within, is_overflow_result};
+ghost use Rattle.std.specs.Prelude.{◌≡◌, length, OnSome, IfNone};
+ghost use Rattle.arena_core.specs.Invalidation.{value_within, with_value_of};
 ghost use Rattle.chain_laws.specs.Neighbors.{HasOneSetOfChains};
-ghost use Rattle.arena_core.specs.Numbers.{IsWithin};
 ghost use Rattle.arena_traits.specs.Arena.{entry_count, HasCapacityFor, IsListed};
-ghost use Rattle.arena_traits.specs.Entries.{index_of, CoverSlots};
-ghost use Rattle.chain_links.specs.ChainArena.{value_view, link_map};
+ghost use Rattle.arena_traits.specs.CallOutcomes.{RemovesEntry, RemovesEntryAt};
+ghost use Rattle.arena_traits.specs.Entries.{count, IsSoundView};
+ghost use Rattle.chain_links.specs.ChainArena.{value_view, value_state, link_map};
+ghost use Rattle.chain_arena.specs.Effects.{IsRemoval};
 
 use crate::chain_arena::ChainArena;
 use arena_base::{Advancer, Arena, ArenaSlot, ArenaTrait, CompactArenaTrait, PtrAdvancer};
 use arena_ptr::{
-    AllocError, GenKey, InvalidationOption, InvalidationResult, InxKey, PtrKey, ReallocationError,
-    SlotStack,
+    AllocError, AnyPointer, GenKey, InvalidationOption, InvalidationResult, InxKey, PtrKey,
+    ReallocationError, SlotStack,
 };
 use chain_compaction::compress::gather;
 use chain_links::link_access::value_of;
@@ -24,8 +24,7 @@ impl<P: PtrKey, T: Drop, S: SlotStack<Item = ArenaSlot<P, LinkNoGen<P, T>>>> Are
     ghost use Rattle.std.specs.Prelude.{◌≡◌};
     ghost use Rattle.arena_traits.specs.Arena.{entry_at, with_capacity_of, IsWithinReach, IsNewWithCapacity, invalidate_at, arena_after_clear};
     ghost use Rattle.arena_traits.specs.Entries.{view_of};
-    ghost use Rattle.arena_traits.specs.EntryLaws.{entries_ascend, found-entries};
-    ghost use Rattle.chain_links.specs.ChainArena.{link_map, values_of, with_value_at, IsRemoval};
+    ghost use Rattle.chain_links.specs.ChainArena.{link_map, values_of, with_value_at};
     ghost use Rattle.chain_compaction.specs.LinkCompressions.{ClosesHoles};
 
     type PtrAdvancer = PtrAdvancer<P>;
@@ -33,6 +32,8 @@ impl<P: PtrKey, T: Drop, S: SlotStack<Item = ArenaSlot<P, LinkNoGen<P, T>>>> Are
     ghost view = { λ a. view_of (values_of a) };
 
     ghost entry = { λ a. entry_at (values_of a) };
+
+    ghost state = { value_state };
 
     ghost cursor = { λ a. a.cursor };
 
@@ -51,10 +52,6 @@ impl<P: PtrKey, T: Drop, S: SlotStack<Item = ArenaSlot<P, LinkNoGen<P, T>>>> Are
     ghost clears = { λ a b. b ≡ arena_after_clear P.Gen.following a };
 
     ghost compresses = { ClosesHoles };
-
-    ghost ascends = { λ a. entries_ascend (values_of a) };
-
-    ghost finds = { λ a. found-entries (values_of a) };
 
     ghost advances = { λ a b arena returned given. given };
 
@@ -84,13 +81,8 @@ impl<P: PtrKey, T: Drop, S: SlotStack<Item = ArenaSlot<P, LinkNoGen<P, T>>>> Are
     /// Each is in exactly one chain, at one position, and no two sets of chains have these
     /// interlinks.
     fn len(&self) -> usize
-        ensures count { result ≡ length (value_view self.now).entries }
-        ensures fits { result ≤ (value_view self.now).capacity }
-        ensures one_more { result + 1 < 2 ^ 64 }
-        ensures indexes { All (λ e. IsWithin P.Inx.greatest (index_of e))
-            (value_view self.now).entries }
-        ensures filled { IfSome (value_view self.now).slots
-            (CoverSlots (value_view self.now).entries) }
+        ensures count { result ≡ count (value_view self.now) }
+        ensures sound { IsSoundView P.Inx.greatest (value_view self.now) }
         ensures links { result ≡ entry_count self.now }
         ensures chains { HasOneSetOfChains (link_map self.now) }
 
@@ -167,7 +159,18 @@ impl<P: PtrKey, T: Drop, S: SlotStack<Item = ArenaSlot<P, LinkNoGen<P, T>>>> Are
         self.arena.invalidate(p)
     }
 
-    fn remove(&mut self, p: P) -> InvalidationResult<T> {
+    /// Removes a link, returns its value and increments the counter.
+    ///
+    /// The links before and after it, if it has both, become neighbors.
+    /// If that wraps to two, the link is removed and its value returned in `GenerationOverflow`.
+    /// Returns `InvalidPtr` if `p` is not valid; nothing changes then.
+    fn remove(&mut self, p: P) -> InvalidationResult<T>
+        ensures outcome { RemovesEntry value_state ⟦<P as AnyPointer>⟧.kind self.old p result
+            self.new }
+        ensures invalid { IfNone (value_within result) (self.new ≡ self.old) }
+        ensures more { OnSome (value_within result) (IsRemoval P.Gen.following self.old (P.key p).0
+            self.new) }
+    {
         if self.contains(p) {
             value_alone(self.unlink(p.inx()))
         } else {
@@ -175,7 +178,18 @@ impl<P: PtrKey, T: Drop, S: SlotStack<Item = ArenaSlot<P, LinkNoGen<P, T>>>> Are
         }
     }
 
-    fn remove_inx(&mut self, i: P::Inx) -> InvalidationResult<(P::Gen, T)> {
+    /// Removes the link at an index, returns its generation and value, and increments the counter.
+    ///
+    /// The links before and after it, if it has both, become neighbors.
+    /// If that wraps to two, the link is removed and returned in `GenerationOverflow`. Returns
+    /// `InvalidPtr` if no link is there; nothing changes then.
+    fn remove_inx(&mut self, i: P::Inx) -> InvalidationResult<(P::Gen, T)>
+        ensures outcome { RemovesEntryAt value_state ⟦<P as AnyPointer>⟧.kind self.old i result
+            self.new }
+        ensures invalid { IfNone (value_within result) (self.new ≡ self.old) }
+        ensures more { OnSome (value_within result) (IsRemoval P.Gen.following self.old
+            (P.Inx.number i) self.new) }
+    {
         value_with_generation(self.unlink(i))
     }
 
@@ -232,8 +246,7 @@ impl<P: PtrKey, T: Drop, S: SlotStack<Item = ArenaSlot<P, LinkNoGen<P, T>>>> Adv
 pub(crate) fn value_alone<G: Drop, I: Vacant, T>(
     removed: InvalidationResult<(G, LinkBody<I, T>)>,
 ) -> InvalidationResult<T>
-    ensures value { value_within result ≡ option_map (λ e. e.1.t) (value_within removed) }
-    ensures overflow { is_overflow_result result ≡ is_overflow_result removed }
+    ensures { result ≡ with_value_of (λ e. e.1.t) removed }
 {
     match removed {
         InvalidationResult::Success((_, link)) => InvalidationResult::Success(link.t),
@@ -248,8 +261,7 @@ pub(crate) fn value_alone<G: Drop, I: Vacant, T>(
 pub(crate) fn value_with_generation<G, I: Vacant, T>(
     removed: InvalidationResult<(G, LinkBody<I, T>)>,
 ) -> InvalidationResult<(G, T)>
-    ensures value { value_within result ≡ option_map (λ e. (e.0, e.1.t)) (value_within removed) }
-    ensures overflow { is_overflow_result result ≡ is_overflow_result removed }
+    ensures { result ≡ with_value_of (λ e. (e.0, e.1.t)) removed }
 {
     match removed {
         InvalidationResult::Success((generation, link)) => {

@@ -1,9 +1,8 @@
 // The implementation of `ChainArenaTrait`: a chain arena as an arena of links.
 ghost use Rattle.std.specs.Prelude.{◌≡◌, ◌↔◌, IsTrue, IfOk, OnErr};
-ghost use Rattle.std.specs.Option.{option_map};
-ghost use Rattle.arena_core.specs.Invalidation.{value_within, is_overflow_result};
+ghost use Rattle.arena_core.specs.Invalidation.{with_value_of};
 ghost use Rattle.chain_links.specs.CallEffects.{MayInsertIn, InsertsLinkWithin, InsertsLink, InsertsAllowedLink};
-ghost use Rattle.chain_links.specs.ChainArena.{entry, value_view, link_map};
+ghost use Rattle.chain_links.specs.ChainArena.{value_state, link_map};
 ghost use Rattle.chain_arena.specs.Growths.{growth_of};
 ghost use Rattle.chain_arena.specs.NewLinks.{IsNewLink};
 
@@ -11,8 +10,8 @@ use crate::chain_advancer::ChainPtrAdvancer;
 use crate::chain_arena::ChainArena;
 use arena_base::{ArenaSlot, ArenaTrait};
 use arena_ptr::{
-    ChainInsertionError, GenKey, InvalidationOption, InvalidationResult, InxKey, PtrKey,
-    ReallocationError, SlotStack,
+    AnyPointer, ChainInsertionError, GenKey, InvalidationOption, InvalidationResult, InxKey,
+    PtrKey, ReallocationError, SlotStack,
 };
 use chain_linking::connection::join;
 use chain_linking::insert_position::{is_index, next_of as next_of_link, prev_of as prev_of_link};
@@ -24,7 +23,8 @@ use chain_traits::ChainArenaTrait;
 impl<P: PtrKey, T: Drop, S: SlotStack<Item = ArenaSlot<P, LinkNoGen<P, T>>>> ChainArenaTrait<P, T>
     for ChainArena<P, T, S> {
     ghost use Rattle.std.specs.Prelude.{◌≡◌};
-    ghost use Rattle.chain_links.specs.ChainArena.{link_map, IsJoin, IsCut, IsExchange};
+    ghost use Rattle.chain_links.specs.ChainArena.{link_map};
+    ghost use Rattle.chain_arena.specs.Effects.{IsJoin, IsCutBefore, IsCutAfter, IsExchange};
     ghost use Rattle.chain_linking.specs.ChainArenaLaws.{links_exist};
     ghost use Rattle.chain_links.specs.Walkers.{walker_of};
 
@@ -36,11 +36,13 @@ impl<P: PtrKey, T: Drop, S: SlotStack<Item = ArenaSlot<P, LinkNoGen<P, T>>>> Cha
 
     ghost inserts = { IsNewLink P.key P.Inx.number S.may_reach P.Inx.greatest };
 
-    ghost connects = { λ a i j b. IsJoin a b i j };
+    ghost connects = { λ a p q b. IsJoin a b (P.key p).0 (P.key q).0 };
 
-    ghost breaks = { λ a i j b. IsCut a b i j };
+    ghost breaks_prev = { λ a p b. IsCutBefore a (P.key p).0 b };
 
-    ghost exchanges = { λ a i j b. IsExchange a b i j };
+    ghost breaks_next = { λ a p b. IsCutAfter a (P.key p).0 b };
+
+    ghost exchanges = { λ a p q b. IsExchange a b (P.key p).0 (P.key q).0 };
 
     ghost compresses_canonically = { λ a b. b.stack_capacity ≡ a.stack_capacity };
 
@@ -54,13 +56,13 @@ impl<P: PtrKey, T: Drop, S: SlotStack<Item = ArenaSlot<P, LinkNoGen<P, T>>>> Cha
 
     ghost renewal_keeps = { λ a b i h. h.1 };
 
-    ghost removal_removes = { λ a b i h. h.links };
+    ghost removal_removes = { λ a b i h. h.removed.links };
 
     ghost compression_renames = { λ a b h. h.renamed };
 
     fn can_insert(&self, kind: LinkInsertKind<P>) -> bool
-        ensures { IsTrue result ↔ MayInsertIn entry link_map P.key P.Inx.number
-            self.now kind }
+        ensures { IsTrue result ↔ MayInsertIn value_state link_map ⟦<P as AnyPointer>⟧.kind self.now
+            kind }
     {
         self.position_for(kind).is_some()
     }
@@ -72,11 +74,11 @@ impl<P: PtrKey, T: Drop, S: SlotStack<Item = ArenaSlot<P, LinkNoGen<P, T>>>> Cha
         kind: LinkInsertKind<P>,
         t: T,
     ) -> Result<P, ChainInsertionError>
-        ensures outcome { InsertsLinkWithin value_view entry link_map P.key P.Inx.number
-            self.old kind t result self.new }
+        ensures outcome { InsertsLinkWithin value_state link_map ⟦<P as AnyPointer>⟧.kind self.old
+            kind t result self.new }
         ensures err { OnErr result (self.new ≡ self.old) }
-        ensures more { IfOk result (λ p. IsNewLink P.key P.Inx.number S.may_reach
-            P.Inx.greatest self.old kind t p self.new) }
+        ensures more { IfOk result (IsNewLink P.key P.Inx.number S.may_reach P.Inx.greatest
+            self.old kind t self.new) }
     {
         let checked = self.position_within_capacity(kind);
         self.insert_at(checked, t)
@@ -88,11 +90,11 @@ impl<P: PtrKey, T: Drop, S: SlotStack<Item = ArenaSlot<P, LinkNoGen<P, T>>>> Cha
         kind: LinkInsertKind<P>,
         t: T,
     ) -> Result<P, ChainInsertionError>
-        ensures outcome { InsertsLink value_view entry link_map P.key P.Inx.number
-            P.Inx.greatest self.old kind t result self.new }
+        ensures outcome { InsertsLink value_state link_map ⟦<P as AnyPointer>⟧.kind self.old kind t
+            result self.new }
         ensures err { OnErr result (self.new ≡ self.old) }
-        ensures more { IfOk result (λ p. IsNewLink P.key P.Inx.number S.may_reach
-            P.Inx.greatest self.old kind t p self.new) }
+        ensures more { IfOk result (IsNewLink P.key P.Inx.number S.may_reach P.Inx.greatest
+            self.old kind t self.new) }
     {
         let checked = self.position_with_growth(kind);
         self.insert_at(checked, t)
@@ -100,12 +102,12 @@ impl<P: PtrKey, T: Drop, S: SlotStack<Item = ArenaSlot<P, LinkNoGen<P, T>>>> Cha
 
     #[inline(always)]
     fn insert(&mut self, kind: LinkInsertKind<P>, t: T) -> Result<P, ReallocationError>
-        requires { MayInsertIn entry link_map P.key P.Inx.number self.old kind }
-        ensures outcome { InsertsAllowedLink value_view entry link_map P.key P.Inx.number
-            P.Inx.greatest self.old kind t result self.new }
+        requires { MayInsertIn value_state link_map ⟦<P as AnyPointer>⟧.kind self.old kind }
+        ensures outcome { InsertsAllowedLink value_state link_map ⟦<P as AnyPointer>⟧.kind self.old
+            kind t result self.new }
         ensures err { OnErr result (self.new ≡ self.old) }
-        ensures more { IfOk result (λ p. IsNewLink P.key P.Inx.number S.may_reach
-            P.Inx.greatest self.old kind t p self.new) }
+        ensures more { IfOk result (IsNewLink P.key P.Inx.number S.may_reach P.Inx.greatest
+            self.old kind t self.new) }
     {
         growth_of(self.insert_reallocating(kind, t))
     }
@@ -215,8 +217,7 @@ fn growth_of<P: Drop>(inserted: Result<P, ChainInsertionError>) -> Result<P, Rea
 
 // Returns a removed link without the generation.
 pub(crate) fn link_alone<G: Drop, L>(removed: InvalidationResult<(G, L)>) -> InvalidationResult<L>
-    ensures value { value_within result ≡ option_map (λ e. e.1) (value_within removed) }
-    ensures overflow { is_overflow_result result ≡ is_overflow_result removed }
+    ensures { result ≡ with_value_of (λ e. e.1) removed }
 {
     match removed {
         InvalidationResult::Success((_, link)) => InvalidationResult::Success(link),

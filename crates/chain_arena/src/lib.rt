@@ -33,7 +33,6 @@
 //! ```
 #![tactic(auto)]
 
-mod any_pointer;
 mod arena_text;
 pub mod calls;
 mod chain_advancer;
@@ -52,7 +51,6 @@ mod recast;
 mod transfer;
 mod visitors;
 
-pub use any_pointer::AnyPointer;
 pub use calls::{Call, Reply, apply, run_calls, runs_are_determined};
 pub use chain_advancer::ChainPtrAdvancer;
 pub use chain_arena::ChainArena;

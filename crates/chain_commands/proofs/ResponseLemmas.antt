@@ -1,5 +1,5 @@
 -- A completed step belongs to some response, even if the allocation of the response failed.
-use Rattle.std.proofs.Common.{OnOk, ◌≡◌, ℕ, ◌⊎◌, List, [], ◌∷◌, ◌++◌, Result, Ok, Err, OnErr, IsOk, refl, sym, ap, ◌∙◌, inl, inr, subst, Bool, cond, append_assoc, append-nil, true, false}
+use Rattle.std.proofs.Common.{OnOk, ◌≡◌, ℕ, ◌⊎◌, List, [], ◌∷◌, ◌++◌, Result, Ok, Err, OnErr, IsOk, IsErrAnd, is_ok, if◌then◌else◌, refl, sym, ap, ◌∙◌, inl, inr, subst, Bool, cond, append_assoc, append-nil, true, false}
 use Rattle.std.proofs.lemmas.Bool.{false≢true}
 use Rattle.arena_ptr.specs.declared.generation.gen32.Gen32.{Gen32}
 use Rattle.chain_links.specs.ChainArena.{LinkView}
@@ -7,7 +7,7 @@ use Rattle.chain_commands.specs.declared.command.Command.{Command}
 use Rattle.chain_commands.specs.declared.command.Command.TheVariants.{Change, Show, Chain, Len, Moves}
 use Rattle.chain_commands.specs.declared.command.Line.{Line}
 use Rattle.chain_commands.specs.declared.command.Line.TheVariants.{Good}
-use Rattle.chain_commands.specs.Responses.{ToolLinks, RespondsToCommand, LeavesStep, walked_text, walk_text}
+use Rattle.chain_commands.specs.Responses.{ToolLinks, RespondsToCommand, RespondsToLine, LeavesStep, ExecutesLine, walked_text, walk_text}
 
 -- A text that was cleared and appended to.
 pushed_is : (old v_text new : List ℕ) → old ≡ [] → new ≡ old ++ v_text → new ≡ v_text
@@ -25,13 +25,13 @@ module _ {T E : Type 0} where
   returns_err P new text (Err e) returned = (text, returned)
 
   -- If the call of a line takes effect, so does the line.
-  pub line_err : (old new : ToolLinks) (line : Line) (command : Command) (r : Result T E) → Good command ≡ line → (new ≡ old) ⊎ LeavesStep old (Good command) new
-      → OnErr r ((new ≡ old) ⊎ LeavesStep old line new)
-  line_err old new line command (Ok x) is steps = tt
-  line_err old new line command (Err e) is steps = subst (λ l. (new ≡ old) ⊎ LeavesStep old l new) is steps
+  pub line_fails : (Q : E → Type 0) (old new : ToolLinks) (line : Line) (command : Command) (text : List ℕ) (r : Result T E) → IsErrAnd r Q → Good command ≡ line
+      → (new ≡ old) ⊎ LeavesStep old (Good command) new → ExecutesLine r old line text new
+  line_fails Q old new line command text (Ok x) fails is steps = absurd fails
+  line_fails Q old new line command text (Err e) fails is steps = record { ok = tt; err = subst (λ l. (new ≡ old) ⊎ LeavesStep old l new) is steps }
 
   -- If a response gets no line feed, its line is a call, or nothing has changed.
-  pub unended_err : (old new : ToolLinks) (line : Line) (command : Command) (words : List ℕ) (r : Result T E) → Good command ≡ line → RespondsToCommand old command words new
+  unended_err : (old new : ToolLinks) (line : Line) (command : Command) (words : List ℕ) (r : Result T E) → Good command ≡ line → RespondsToCommand old command words new
       → ((reset : Bool) → command ≡ Moves reset → IsOk r) → OnErr r ((new ≡ old) ⊎ LeavesStep old line new)
   unended_err old new line command words (Ok x) is gives ends = tt
   unended_err old new line (Change call) words (Err e) is gives ends = inr (call, words, sym is, gives)
@@ -39,6 +39,12 @@ module _ {T E : Type 0} where
   unended_err old new line (Chain p) words (Err e) is gives ends = inl gives.1
   unended_err old new line Len words (Err e) is gives ends = inl gives.1
   unended_err old new line (Moves reset) words (Err e) is gives ends = absurd (let no = ends reset refl in cc)
+
+  -- The response to a command, followed by a line feed, is the response to its line.
+  pub line_ends : (old new : ToolLinks) (line : Line) (command : Command) (words text : List ℕ) (r : Result T E) → Good command ≡ line → RespondsToCommand old command words new
+      → text ≡ (if is_ok r then words ++ 10 ∷ [] else words) → ((reset : Bool) → command ≡ Moves reset → IsOk r) → ExecutesLine r old line text new
+  line_ends old new line command words text (Ok x) is gives written ends = record { ok = subst (λ l. RespondsToLine old l text new) is (words, written, gives); err = tt }
+  line_ends old new line command words text (Err e) is gives written ends = record { ok = tt; err = unended_err old new line command words (Err e) is gives ends }
 
 -- ---- the text of a walk
 

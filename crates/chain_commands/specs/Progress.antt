@@ -39,6 +39,13 @@ FlushesOnly returned held held_after = record {
   error : IfErr returned (λ e. e ≡ errors.Write);
 }
 
+-- The result of allocating a buffer, which is not empty.
+abbrev pub AllocatesBuffer : {A : Type 0} → (A → ℕ) → Result A ToolError → Type 0
+AllocatesBuffer len returned = record {
+  some : IfOk returned (λ buffer. 0 < len buffer);
+  error : IfErr returned (λ e. e ≡ errors.Memory);
+}
+
 -- The result of a read: the first bytes of the piece were read, none only at the end. If the reader
 -- fails, nothing was read.
 abbrev pub ReadsPiece : Result ℕ ToolError → (left left_after : Option (List ℕ)) → List ℕ → Type 0
@@ -64,6 +71,14 @@ TranscribesOne (Ok x) old new line held held_after = (text : List ℕ) × Respon
 TranscribesOne (Err errors.Read) old new line held held_after = ⊥
 TranscribesOne (Err errors.Write) old new line held held_after = (front : List ℕ) × (rest : List ℕ) × RespondsToLine old (line_of line) (front ++ rest) new × Appends held held_after front
 TranscribesOne (Err errors.Memory) old new line held held_after = Keeps held held_after × ((new ≡ old) ⊎ LeavesStep old (line_of line) new)
+
+-- The result of a line whose beginning was kept, up to 201 bytes, and whose end is `front`: it is
+-- executed, and then nothing is kept.
+abbrev pub EndsLine : {A : Type 0} → Result A ToolError → ToolLinks → (kept front : List ℕ) → Option (List ℕ) → ToolLinks → List ℕ → Option (List ℕ) → Type 0
+EndsLine returned old kept front held new kept_after held_after = record {
+  responded : (rest : List ℕ) → kept ≡ take 201 rest → TranscribesOne returned old new (rest ++ front) held held_after;
+  empty : OnOk returned (kept_after ≡ []);
+}
 
 -- The whole lines read so far are executed. At most 201 bytes of the rest are kept, which suffice
 -- because a line of more than 200 bytes is bad.

@@ -1,5 +1,5 @@
 -- The response of the program to a line, and the arena after it.
-use Rattle.std.specs.Prelude.{◌≡◌, ℕ, ◌+◌, ◌≤◌, List, ◌∷◌, [], ◌++◌, map, length, codes, decimal, String, string_bytes, Bool, true, false, Option, None, Some, Result, Ok, Err, OnOk, OnErr}
+use Rattle.std.specs.Prelude.{◌≡◌, ℕ, ◌+◌, ◌≤◌, ◌⊎◌, List, ◌∷◌, [], ◌++◌, map, length, codes, decimal, String, string_bytes, Bool, true, false, Option, None, Some, Result, Ok, Err, OnOk, OnErr}
 use Rattle.std.specs.List.{join_with_byte, concat}
 use Rattle.std.specs.String.{string_capacity}
 use Rattle.std.specs.declared.alloc.Global.{Global}
@@ -22,7 +22,7 @@ use Rattle.arena_traits.specs.Arena.{Arena, IsValid, entry_count}
 use Rattle.chain_links.specs.ChainArena as chain
 use Rattle.chain_links.specs.ChainArena.{LinkView, link_map, value_view, entry, IsWalkOf}
 use Rattle.chain_compaction.specs.Layouts.{AreAllMoves}
-use Rattle.chain_arena.specs.PointerKinds.{PointerKind}
+use Rattle.arena_core.specs.PointerKinds.{PointerKind}
 use Rattle.chain_arena.specs.Steps.{Step}
 use Rattle.chain_arena.specs.declared.calls.Call.TheVariants.{CompressCanonical}
 use Rattle.chain_arena.specs.declared.calls.Reply.{Reply}
@@ -209,4 +209,21 @@ ExecutesMoves returned old reset text new = record {
   ok : OnOk returned (RespondsToMoves old reset (string_bytes text) new);
   capacity : OnOk returned (HasCapacityForText text (codes "\n"));
   err : OnErr returned (new ≡ old);
+}
+
+-- The result of a command: its response is in the text, which after `moves F` has capacity for a
+-- line feed. If an allocation failed, only a call may have taken effect.
+abbrev pub ExecutesCommand : {A E : Type 0} → Result A E → ToolLinks → Command → String Global → ToolLinks → Type 0
+ExecutesCommand returned old command text new = record {
+  ok : OnOk returned (RespondsToCommand old command (string_bytes text) new);
+  capacity : OnOk returned ((reset : Bool) → command ≡ Moves reset → HasCapacityForText text (codes "\n"));
+  err : OnErr returned ((new ≡ old) ⊎ LeavesStep old (Good command) new);
+}
+
+-- The result of a line: its response is in the text. If an allocation failed, only a call may have
+-- taken effect.
+abbrev pub ExecutesLine : {A E : Type 0} → Result A E → ToolLinks → Line → List ℕ → ToolLinks → Type 0
+ExecutesLine returned old line text new = record {
+  ok : OnOk returned (RespondsToLine old line text new);
+  err : OnErr returned ((new ≡ old) ⊎ LeavesStep old line new);
 }

@@ -48,6 +48,13 @@ IsFirstWord bytes result text = record {
   end : IfNone result (words_of text ≡ []);
 }
 
+-- The parts of a text before and after the first byte `b`.
+abbrev pub IsSplitAtByte : ℕ → (front back text : List ℕ) → Type 0
+IsSplitAtByte b front back text = record {
+  front : front ≡ before_first (λ c. c == b) text;
+  back : back ≡ after_first (λ c. c == b) text;
+}
+
 -- 1 to 10 decimal digits, up to 4294967295.
 abbrev pub is_number : List ℕ → Bool
 is_number word = nat_lt 0 (length word) && nat_le (length word) 10 && all_ascii_digits word && nat_le (digits_value 10 word) 4294967295

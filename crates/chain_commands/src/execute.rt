@@ -1,8 +1,8 @@
 //! Execution of lines: each command is one step of the arena or one lookup.
-ghost use Rattle.std.specs.Prelude.{◌≡◌, ◌⊎◌, Bool, OnOk, OnErr, codes, string_bytes};
+ghost use Rattle.std.specs.Prelude.{OnOk, string_bytes};
 ghost use Rattle.arena_ptr.specs.ToolPtr.{key_of};
 ghost use Rattle.chain_commands.specs.Commands.{line_of};
-ghost use Rattle.chain_commands.specs.Responses.{RespondsToShow, RespondsToChain, RespondsToCommand, RespondsToLine, LeavesStep, HasCapacityForText, ExecutesCall, ExecutesMoves};
+ghost use Rattle.chain_commands.specs.Responses.{RespondsToShow, RespondsToChain, ExecutesCall, ExecutesMoves, ExecutesCommand, ExecutesLine};
 
 use crate::command::{Command, Line, parse};
 use crate::infallible_text::{moves_text_capacity, write_moves};
@@ -23,10 +23,7 @@ pub fn respond<S: SlotStack<Item = ArenaSlot<ToolPtr, LinkNoGen<ToolPtr, u32>>>>
     line: &[u8],
     text: &mut String,
 ) -> Result<(), AllocError>
-    ensures ok { OnOk result (RespondsToLine arena.old (line_of line.now)
-        (string_bytes text.new) arena.new) }
-    ensures err { OnErr result ((arena.new ≡ arena.old)
-        ⊎ LeavesStep arena.old (line_of line.now) arena.new) }
+    ensures { ExecutesLine result arena.old (line_of line.now) (string_bytes text.new) arena.new }
 {
     match parse(line) {
         Line::Blank => {
@@ -51,12 +48,7 @@ fn carry_out<S: SlotStack<Item = ArenaSlot<ToolPtr, LinkNoGen<ToolPtr, u32>>>>(
     command: Command,
     text: &mut String,
 ) -> Result<(), AllocError>
-    ensures ok { OnOk result
-        (RespondsToCommand arena.old command (string_bytes text.new) arena.new) }
-    ensures capacity { OnOk result ((reset : Bool) → command ≡ Command.Moves reset
-        → HasCapacityForText text.new (codes "\n")) }
-    ensures err { OnErr result ((arena.new ≡ arena.old)
-        ⊎ LeavesStep arena.old (Line.Good command) arena.new) }
+    ensures { ExecutesCommand result arena.old command text.new arena.new }
 {
     match command {
         Command::Change(call) => change(arena, call, text),

@@ -1,7 +1,6 @@
 //! The words of a line, and their values as numbers and pointers.
 ghost use Rattle.std.specs.Prelude.{◌≡◌, ◌==◌, length, take_while, not};
-ghost use Rattle.std.specs.List.{before_first, after_first};
-ghost use Rattle.chain_commands.specs.Words.{without_return, IsFirstWord, number_of, index_word, generation_word, pointer_of};
+ghost use Rattle.chain_commands.specs.Words.{without_return, IsFirstWord, IsSplitAtByte, number_of, index_word, generation_word, pointer_of};
 
 use arena_ptr::{Gen32, Inx32, PtrKey, ToolPtr};
 
@@ -43,8 +42,7 @@ pub fn position(byte: u8, text: &[u8]) -> usize
 /// Returns the parts of a text before and after the first such byte, or all and nothing if there is
 /// none.
 fn split_at_byte(byte: u8, text: &[u8]) -> (&[u8], &[u8])
-    ensures front { result.0.now ≡ before_first (λ c. c == byte) text.now }
-    ensures back { result.1.now ≡ after_first (λ c. c == byte) text.now }
+    ensures { IsSplitAtByte byte result.0.now result.1.now text.now }
 {
     let (front, back) = text.split_at(position(byte, text));
     match back.split_first() {

@@ -1,9 +1,9 @@
 //! Runs, which read lines from a reader and write the responses to a writer.
-ghost use Rattle.std.specs.Prelude.{◌≡◌, ℕ, List, [], ◌++◌, OnOk, IfErr, take, length, None, IfOk, ◌<◌, vec_len};
+ghost use Rattle.std.specs.Prelude.{length, None, ◌<◌, vec_len};
 ghost use Rattle.arena_ptr.specs.Generations.{two32};
 ghost use Rattle.arena_traits.specs.Arena.{new_arena};
 ghost use Rattle.chain_commands.specs.Responses.{ToolLinks};
-ghost use Rattle.chain_commands.specs.Progress.{TranscribesOne, ExtendsProgress, IsFirstLine, WritesText, FlushesOnly, ReadsPiece, KeepsMore};
+ghost use Rattle.chain_commands.specs.Progress.{TranscribesOne, EndsLine, ExtendsProgress, IsFirstLine, WritesText, FlushesOnly, AllocatesBuffer, ReadsPiece, KeepsMore};
 ghost use Rattle.chain_commands.specs.Transcripts.{Ends};
 
 use crate::execute::respond;
@@ -85,10 +85,8 @@ fn end_line<W: Write, S: SlotStack<Item = ArenaSlot<ToolPtr, LinkNoGen<ToolPtr, 
     text: &mut String,
     writer: &mut W,
 ) -> Result<(), ToolError>
-    ensures responded { (rest : List ℕ) → line.old.items ≡ take 201 rest
-        → TranscribesOne result arena.old arena.new (rest ++ front.now) (W.contents writer.old)
-        (W.contents writer.new) }
-    ensures empty { OnOk result (line.new.items ≡ []) }
+    ensures { EndsLine result arena.old line.old.items front.now (W.contents writer.old) arena.new
+        line.new.items (W.contents writer.new) }
 {
     if line.is_empty() {
         return reply(arena, front, text, writer);
@@ -167,8 +165,7 @@ fn finish<W: Write, S: SlotStack<Item = ArenaSlot<ToolPtr, LinkNoGen<ToolPtr, u3
 
 /// Allocates the buffer for a piece of the input.
 fn input_buffer(alloc: Global) -> Result<Vec<u8>, ToolError>
-    ensures some { IfOk result (λ piece. 0 < vec_len piece) }
-    ensures error { IfErr result (λ e. e ≡ ToolError.Memory) }
+    ensures { AllocatesBuffer vec_len result }
 {
     match vec![in alloc; 0u8; 65536] {
         Ok(piece) => Ok(piece),

@@ -1,7 +1,7 @@
 -- The calls so far are a run, and the replies to the rest fit within the capacity.
 use Rattle.std.proofs.Common.{◌≤◌, ◌+◌, vec_len, vec_capacity}
 use Rattle.std.specs.Vec.Iter.{into_iter_items, into_iter_len}
-use Rattle.chain_arena.proofs.PointerKindLemmas.{kind_by}
+use Rattle.arena_core.proofs.PointerKindLemmas.{kind_by}
 use Rattle.chain_arena.proofs.CallRunLemmas.{IsUnderWay}
 use Rattle.chain_arena.proofs.calls.replies_to.Given as goal
 

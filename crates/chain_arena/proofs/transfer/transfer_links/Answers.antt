@@ -13,13 +13,13 @@ use Rattle.chain_arena.proofs.transfer.transfer_links.Goals as goal
 
 -- There is a link where an entry is found.
 stored : (g : Over) (a : g.row.A.Denot) (i : ℕ) → is_some (g.A.ChainArenaTrait.interlinks a i) ≡ is_some (found i (g.A.ArenaTrait.view a).entries)
-stored g a i = g.met.A.ChainArenaTrait.links_are_entries a i ∙ ap is_some (sym (g.met.A.ArenaTrait.finds a i))
+stored g a i = g.met.A.ChainArenaTrait.links_are_entries a i ∙ ap is_some (sym ((g.A.ArenaTrait.state a).finds i))
 
 -- An entry found at an index, if one is given, is there.
 stored_entry : (g : Over) (a : g.row.A.Denot) (on : Option g.row.Q-Inx.Denot) → IfSome on (λ j. is_some (found (g.Q.Inx.InxKey.number j) (g.A.ArenaTrait.view a).entries) ≡ true)
     → IfSome on (λ j. is_some (g.A.ArenaTrait.entry a (g.Q.Inx.InxKey.number j)) ≡ true)
 stored_entry g a None there = tt
-stored_entry g a (Some j) there = ap is_some (sym (g.met.A.ArenaTrait.finds a (g.Q.Inx.InxKey.number j))) ∙ there
+stored_entry g a (Some j) there = ap is_some (sym ((g.A.ArenaTrait.state a).finds (g.Q.Inx.InxKey.number j))) ∙ there
 
 pub loop-k-init : goal.loop-k-init
 loop-k-init g c =
@@ -28,14 +28,14 @@ loop-k-init g c =
       callable = c.requires.callable;
       carrying = carrying_begins g.Q.PtrKey.key g.P.PtrKey.key g.Q.Gen.GenKey.following g.Q.Gen.GenKey.wraps g.F.FnMut g.P.Inx.InxKey.number (g.A.ArenaTrait.view source) (g.A.ChainArenaTrait.interlinks source) c.args.map c.args.target.now
           g.Q.Inx.InxKey.greatest (g.A.ArenaTrait.cursor c.advancer-advancer.result) _ c.agrees.ensures
-          (links_within (g.A.ChainArenaTrait.interlinks source) (g.A.ArenaTrait.entry source) (g.A.ArenaTrait.view source).entries (g.met.A.ChainArenaTrait.links_are_entries source) (g.met.A.ArenaTrait.finds source) g.Q.Inx.InxKey.greatest c.len-k-end.ensures.indexes)
+          (links_within (g.A.ChainArenaTrait.interlinks source) (g.A.ArenaTrait.entry source) (g.A.ArenaTrait.view source).entries (g.met.A.ChainArenaTrait.links_are_entries source) (g.A.ArenaTrait.state source).finds g.Q.Inx.InxKey.greatest c.len-k-end.ensures.sound.indexes)
           c.requires.empty.0 c.advancer-advancer.ensures;
     }
 
 pub take_next-value-requires : goal.take_next-value-requires
 take_next-value-requires g c = record {
   agree = agrees_left _ _ _ _ _ _ _ _ _ _ _ _ _ _ _ _ _ _ (stored g c.loop-k.source) _ c.loop-k.invariant.carrying;
-  low = λ none. cursor_up _ _ _ _ _ _ _ _ _ _ _ _ _ _ _ _ _ _ (stored g c.loop-k.source) _ (ap (option_map g.Q.Inx.InxKey.number) none) c.loop-k.invariant.carrying (g.met.A.ArenaTrait.ascends c.loop-k.source);
+  low = λ none. cursor_up _ _ _ _ _ _ _ _ _ _ _ _ _ _ _ _ _ _ (stored g c.loop-k.source) _ (ap (option_map g.Q.Inx.InxKey.number) none) c.loop-k.invariant.carrying (g.A.ArenaTrait.state c.loop-k.source).ascends;
   some = λ none. some_left _ _ _ _ _ _ _ _ _ _ _ _ _ _ _ _ _ _ (stored g c.loop-k.source) _ c.loop-k.invariant.carrying (omega (arith, c.loop-k-test.true, c.len-k-end.ensures.count));
   stored = stored_entry g c.loop-k.source c.loop-k.on (stored_on _ _ _ _ _ _ _ _ _ _ _ _ _ _ _ _ _ _ (stored g c.loop-k.source) g.Q.Inx.InxKey.number c.loop-k.on c.loop-k.invariant.carrying);
 }
@@ -81,7 +81,7 @@ loop-k-preserved g c =
     let it = carrying_it g at in
     let bounds = bounds_at _ _ _ _ _ _ _ _ _ _ _ _ _ _ _ _ _ _ (stored g at.loop-k.source) _ it at.requires.empty.1 in
     let arranged = c.append_link-ends.ensures.arranged (length it.taken) bounds in
-    let was_stored = g.met.A.ArenaTrait.finds c.loop-k.source (g.Q.PtrKey.key c.take_next-value.result.ptr).0 ∙ c.take_next-value.ensures.taken.was_stored in
+    let was_stored = (g.A.ArenaTrait.state c.loop-k.source).finds (g.Q.PtrKey.key c.take_next-value.result.ptr).0 ∙ c.take_next-value.ensures.taken.was_stored in
     record {
       callable = search of_calls;
       carrying = carries_link _ _ _ _ _ _ _ _ _ _ _ _ _ _ _ _ _ _ (stored g at.loop-k.source) _ it at.requires.empty.1 c.append_link-ends.ensures.listed

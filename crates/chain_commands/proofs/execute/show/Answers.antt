@@ -18,4 +18,4 @@ reported_ok a p prev next prev_got next_got value before text (Err e) at same_pr
 
 pub returns-in-Some : goal.returns-in-Some
 returns-in-Some g c =
-    reported_ok _ _ _ _ _ _ _ _ _ c.push_link.result c.in-Some.ensures.link c.prev.ensures c.next.ensures c.clear.ensures.bytes c.push_link.ensures
+    reported_ok _ _ _ _ _ _ _ _ _ c.push_link.result c.in-Some.ensures.outcome.link c.prev.ensures c.next.ensures c.clear.ensures.bytes c.push_link.ensures

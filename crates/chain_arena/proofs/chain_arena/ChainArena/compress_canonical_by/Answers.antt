@@ -6,7 +6,7 @@ use Rattle.arena_traits.specs.Compressions.{overflows_after_compression}
 use Rattle.arena_traits.proofs.ArenaViewLemmas.{length-entries}
 use Rattle.chain_links.specs.Links.{links_view, IsChainArena}
 use Rattle.chain_arena.proofs.CanonicalCompressionLemmas.{arranged_agree, arranged_canonical, arranged_stack_capacity, arranged_reported}
-use Rattle.chain_links.proofs.ArenaInsertionLemmas.{count-values, entry_count-links_view}
+use Rattle.chain_links.proofs.ArenaInsertionLemmas.{count-values}
 use Rattle.chain_arena.proofs.chain_arena.ChainArena.compress_canonical_by.Goals as goal
 
 pub invariant_of-self : goal.invariant_of-self
@@ -36,11 +36,13 @@ returns g c =
     let key = g.P.PtrKey.key in
     let to = c.arrange-visitor.result.0 in
     rw (← c.self.view_is) (record {
-      compressed = record {
-        canonical = arranged_canonical sees key c.args.visitor to _ old mid new begun made.arranged g.P.Gen.GenKey.first g.P.Gen.GenKey.following c.args.reset (length (entries a)) refl (length-entries a ∙ sym (count-values number a));
-        stack_capacity = arranged_stack_capacity sees key c.args.visitor to _ old mid new begun made.arranged;
-        overflow = c.begin_generation-overflow.ensures.overflow ∙ ap (λ n. invalidation_option (overflows_after_compression g.P.Gen.GenKey.wraps c.args.reset n a.counter) tt) (length-entries a ∙ sym (entry_count-links_view number a));
-      };
+      compressed = (
+        record {
+          canonical = arranged_canonical sees key c.args.visitor to _ old mid new begun made.arranged g.P.Gen.GenKey.first g.P.Gen.GenKey.following c.args.reset (length (entries a)) refl (length-entries a ∙ sym (count-values number a));
+          overflow = c.begin_generation-overflow.ensures.overflow ∙ ap (λ n. invalidation_option (overflows_after_compression g.P.Gen.GenKey.wraps c.args.reset n a.counter) tt) (length-entries a ∙ sym (count-values number a));
+        },
+        arranged_stack_capacity sees key c.args.visitor to _ old mid new begun made.arranged,
+      );
       reports = arranged_reported sees key c.args.visitor to _ old mid new begun made.arranged;
       ready = made.ready;
       counted = (

@@ -8,9 +8,9 @@ pub returns-clause-moves : goal.returns-clause-moves
 returns-clause-moves g c =
     let made = c.compress_canonical_by-overflow.ensures in
     let new = c.in_ok-moves.ensures in
-    listed_all g.P.PtrKey.key _ _ _ _ _ (λ v. v.moves) _ _ _ _ _ made.compressed.canonical made.reports new.items new.len (omega (arith, new.capacity, c.len.ensures.count))
+    listed_all g.P.PtrKey.key _ _ _ _ _ (λ v. v.moves) _ _ _ _ _ made.compressed.0.canonical made.reports new.items new.len (omega (arith, new.capacity, c.len.ensures.count))
 
 pub returns-clause-by_pointer : goal.returns-clause-by_pointer
 returns-clause-by_pointer g c =
     let made = c.compress_canonical_by-overflow in
-    arena_moves_pointers g.P.PtrKey.key _ _ _ c.args.self.now made.new.self _ made.ensures.compressed.canonical (returns-clause-moves g c)
+    arena_moves_pointers g.P.PtrKey.key _ _ _ c.args.self.now made.new.self _ made.ensures.compressed.0.canonical (returns-clause-moves g c)

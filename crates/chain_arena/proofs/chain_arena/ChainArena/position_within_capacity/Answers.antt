@@ -19,7 +19,7 @@ pub returns-else-len-capacity : goal.returns-else-len-capacity
 returns-else-len-capacity g c =
     let old = c.args.self.now in
     let counted = c.len.ensures.count in
-    let fits = c.len.ensures.fits in
+    let fits = c.len.ensures.sound.fits in
     let capacity = c.capacity.ensures.value in
     let apart = c.if-len-capacity.false in
     let less : ◌<◌ (count (value_view old)) old.capacity = omega (arith, counted, capacity, fits, apart) in

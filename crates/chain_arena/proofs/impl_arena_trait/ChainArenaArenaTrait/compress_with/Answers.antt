@@ -29,8 +29,10 @@ returns g c =
     let begun = ap (links_view number) c.begin_generation-overflow.ensures.after in
     let counted = length-entries a ∙ sym (count-values number a) in
     rw (← c.self.view_is) (record {
-      compressed = links_compressed g.F.FnMut g.P.PtrKey.key c.args.map _ old mid new begun c.gather.ensures.gathered g.P.Gen.GenKey.first g.P.Gen.GenKey.following c.args.reset (length (entries a)) refl counted;
+      outcome = record {
+        compressed = links_compressed g.F.FnMut g.P.PtrKey.key c.args.map _ old mid new begun c.gather.ensures.gathered g.P.Gen.GenKey.first g.P.Gen.GenKey.following c.args.reset (length (entries a)) refl counted;
+        overflow = c.begin_generation-overflow.ensures.overflow ∙ ap (λ n. invalidation_option (overflows_after_compression g.P.Gen.GenKey.wraps c.args.reset n a.counter) tt) counted;
+      };
       visits = links_visited g.F.FnMut g.P.PtrKey.key c.args.map _ old mid new begun c.gather.ensures.gathered;
-      overflow = c.begin_generation-overflow.ensures.overflow ∙ ap (λ n. invalidation_option (overflows_after_compression g.P.Gen.GenKey.wraps c.args.reset n a.counter) tt) counted;
       more = positions_closed g.F.FnMut g.P.PtrKey.key c.args.map _ old mid new begun c.gather.ensures.gathered;
     })

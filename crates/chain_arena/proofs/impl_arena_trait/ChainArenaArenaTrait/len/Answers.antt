@@ -19,10 +19,12 @@ returns g c =
     let counted = known.entries ∙ sym (count-values number a) in
     rw (← c.self.view_is) (record {
       count = counted;
-      fits = known.fits;
-      one_more = known.one_more;
-      indexes = entries_within (values_of links).slots greatest (subst (λ n. n ≤ greatest) (sym (length-values number a)) (omega (arith, known.capacity.0.fits, known.capacity.0.at_most_greatest)));
-      filled = they_fill (values_of links) (listed-values number a known.listed) a.placed a.touched;
+      sound = record {
+        fits = omega (arith, counted, known.count, known.sound.fits);
+        one_more = omega (arith, counted, known.count, known.sound.one_more);
+        indexes = entries_within (values_of links).slots greatest (subst (λ n. n ≤ greatest) (sym (length-values number a)) (omega (arith, known.capacity.0.fits, known.capacity.0.at_most_greatest)));
+        filled = they_fill (values_of links) (listed-values number a known.listed) a.placed a.touched;
+      };
       links = known.entries ∙ sym (entry_count-links_view number a);
       chains = one_set (link_map links) _ c.self.invariant.agree (link_map-within links);
       listed = listed-links_view number a known.listed;

@@ -25,7 +25,7 @@ returns-in-Some g c =
           (ap (option_map number) made.back ∙ (c.prev.ensures ∙ sym (prev_of-view_after packed a p c.in-Some.link.now c.in-Some.ensures.value)));
     })
 
-pub returns-in-None-clause-some : goal.returns-in-None-clause-some
-returns-in-None-clause-some g c =
+pub returns-in-None : goal.returns-in-None
+returns-in-None g c =
     let same = same_valid g.P.Inx.InxKey.packed_number c.self.inside.arena (g.P.PtrKey.key c.args.p) in
-    rw (← c.self.view_is) (λ no. absurd (false≢true no), λ valid. absurd (false≢true (c.in-None.ensures.some.1 (same.1 valid))))
+    rw (← c.self.view_is) (record { some = (λ no. absurd (false≢true no), λ valid. absurd (false≢true (c.in-None.ensures.some.1 (same.1 valid)))); walker = tt })

@@ -5,10 +5,9 @@ use Rattle.chain_laws.specs.Cuts.{without_pair}
 use Rattle.chain_laws.specs.Neighbors.{AreNeighbors}
 use Rattle.chain_laws.proofs.ChainLemmas.LinkedLists.{next_valid, prev_valid}
 use Rattle.arena_traits.specs.Arena.{Arena}
-use Rattle.arena_traits.specs.Entries.{view_of}
 use Rattle.chain_links.specs.Links.{links_view}
 use Rattle.chain_links.specs.ChainArena.{LinkView, with_link_map, link_map}
-use Rattle.chain_arena.proofs.BreakAndExchangeLemmas.{at_known, cut_values, cut_reports, agrees_cut, cut_known}
+use Rattle.chain_arena.proofs.BreakAndExchangeLemmas.{at_known, disconnected, agrees_cut, cut_known}
 use Rattle.chain_arena.proofs.impl_chain_arena_trait.ChainArenaChainArenaTrait.break_prev.Given.{Over}
 use Rattle.chain_arena.proofs.impl_chain_arena_trait.ChainArenaChainArenaTrait.break_prev.Goals.{After-link_pairs}
 use Rattle.chain_arena.proofs.impl_chain_arena_trait.ChainArenaChainArenaTrait.break_prev.Goals as goal
@@ -58,11 +57,10 @@ returns-in-Some g c =
     let j = (g.P.PtrKey.key c.args.p).0 in
     let at = known g c in
     let is = is_cut g c in
-    let cut = cut_known a b i j is (pair g c) in
     rw (← c.self.view_is) (record {
-      outcome = (c.in-Some.ensures.some refl, i, at, record { cut = cut_reports a b i j is; chains = cut.chains; view_after = ap (λ x. view_of x) (cut_values a b i j is) });
+      outcome = (c.in-Some.ensures.some refl, i, at, disconnected a b i j is);
       none = tt;
-      more = at_known _ _ _ at cut;
+      more = at_known _ _ _ at (cut_known a b i j is (pair g c));
     })
 
 pub returns-in-None : goal.returns-in-None

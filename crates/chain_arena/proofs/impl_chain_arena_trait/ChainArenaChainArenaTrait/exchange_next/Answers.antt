@@ -7,10 +7,9 @@ use Rattle.chain_laws.specs.Exchanges.{with_exchange}
 use Rattle.chain_laws.specs.Joins.{with_neighbors}
 use Rattle.chain_laws.proofs.ChainLemmas.LinkedLists.{next_valid, prev_valid}
 use Rattle.arena_traits.specs.Arena.{Arena}
-use Rattle.arena_traits.specs.Entries.{view_of}
 use Rattle.chain_links.specs.Links.{links_view}
 use Rattle.chain_links.specs.ChainArena.{LinkView, with_link_map, link_map}
-use Rattle.chain_arena.proofs.BreakAndExchangeLemmas.{exchange_values, exchange_reports, agrees_exchange, exchange_known}
+use Rattle.chain_arena.proofs.BreakAndExchangeLemmas.{exchanged, agrees_exchange, exchange_known}
 use Rattle.chain_arena.proofs.impl_chain_arena_trait.ChainArenaChainArenaTrait.exchange_next.Given.{Over}
 use Rattle.chain_arena.proofs.impl_chain_arena_trait.ChainArenaChainArenaTrait.exchange_next.Goals.{After-link_pairs}
 use Rattle.chain_arena.proofs.impl_chain_arena_trait.ChainArenaChainArenaTrait.exchange_next.Goals as goal
@@ -82,14 +81,13 @@ returns-in-Some-next_of_link g c =
     let i = (g.P.PtrKey.key c.args.p).0 in
     let j = (g.P.PtrKey.key c.args.q).0 in
     let is = is_exchanged g c in
-    let exchange = exchange_known a b i j is c.self.invariant.agree (valid_p g c) (valid_q g c) in
     rw (← c.self.view_is) (record {
       outcome = (
         record { first_valid = c.in-Some.ensures.some refl; second_valid = c.in-Some-next_of_link.ensures.some refl; first_next = ap is_some (sym (after_p g c)); second_next = ap is_some (sym (after_q g c)) },
-        record { exchanged = exchange_reports a b i j is; chains = exchange.chains; view_after = ap (λ x. view_of x) (exchange_values a b i j is) },
+        exchanged a b i j is c.self.invariant.agree (valid_p g c) (valid_q g c),
       );
       none = tt;
-      more = exchange;
+      more = exchange_known a b i j is c.self.invariant.agree (valid_p g c) (valid_q g c);
     })
 
 pub returns-in-None-next_of_link : goal.returns-in-None-next_of_link

@@ -31,13 +31,15 @@ returns-in-Some g c =
     let p = g.P.PtrKey.key c.args.p in
     let same = same_valid number a p in
     rw (← c.self.view_is) (record {
-      some = (λ _. same.0 (c.in-Some.ensures.some.0 refl), λ _. refl);
-      link = rw (c.new.ensures.prev, c.new.ensures.next, c.new.ensures.value)
-          (link_at_ptr number a p c.in-Some.link.now _ _ c.in-Some.ensures.value c.neighbors.ensures.prev c.neighbors.ensures.next);
+      outcome = record {
+        some = (λ _. same.0 (c.in-Some.ensures.some.0 refl), λ _. refl);
+        link = rw (c.new.ensures.prev, c.new.ensures.next, c.new.ensures.value)
+            (link_at_ptr number a p c.in-Some.link.now _ _ c.in-Some.ensures.value c.neighbors.ensures.prev c.neighbors.ensures.next);
+      };
       agree = c.self.invariant.agree;
     })
 
 pub returns-in-None : goal.returns-in-None
 returns-in-None g c =
     let same = same_valid g.P.Inx.InxKey.packed_number c.self.inside.arena (g.P.PtrKey.key c.args.p) in
-    rw (← c.self.view_is) (record { some = (λ h. same.0 (c.in-None.ensures.some.0 h), λ valid. c.in-None.ensures.some.1 (same.1 valid)); link = tt; agree = c.self.invariant.agree })
+    rw (← c.self.view_is) (record { outcome = record { some = (λ h. same.0 (c.in-None.ensures.some.0 h), λ valid. c.in-None.ensures.some.1 (same.1 valid)); link = tt }; agree = c.self.invariant.agree })

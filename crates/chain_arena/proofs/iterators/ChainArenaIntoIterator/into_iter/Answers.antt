@@ -10,6 +10,6 @@ returns g c =
     record {
       into_iter_gives = (
         rw (← c.self.view_is) (ap (entry_views number) c.into_iter.ensures.into_iter_gives ∙ entry_views-all number c.self.inside.arena),
-        omega (arith, c.invariants.ensures.one_more, ap length c.into_iter.ensures.into_iter_gives),
+        omega (arith, c.invariants.ensures.sound.one_more, ap length c.into_iter.ensures.into_iter_gives),
       );
     }
