@@ -6,6 +6,7 @@ use Rattle.std.proofs.lemmas.List.Elements.{All-contains}
 use Rattle.chain_laws.specs.Chains.{LinkMap, linear}
 use Rattle.chain_laws.specs.Renamings.{IsRenaming, AreImages}
 use Rattle.chain_laws.proofs.RenamingLemmas.Chains.{renaming_carries_chains}
+use Rattle.arena_traits.specs.Entries.{ArenaView, ArenaState}
 use Rattle.chain_links.specs.ChainArena.{ptr_at}
 use Rattle.chain_compaction.specs.PointerMoves.{ArePointerMoves}
 use Rattle.chain_examples.specs.Lists.{Item, AreEntries, indexes, IsText}
@@ -58,9 +59,9 @@ module _ {Gen T : Type 0} (before after : ℕ → Option (Gen × T)) (moves : Li
       )
 
 -- If links are renamed and entries move with them, each text keeps its items.
-pub texts_move : {A Gen T : Type 0} (entry : A → ℕ → Option (Gen × T)) (links : A → LinkMap) (old new : A) (moves : List (Move Gen)) (to : ℕ → Option ℕ) → ArePointerMoves (λ (p : ℕ × Gen). p) (entry old) (entry new) moves
-    → All (λ (m : Move Gen). to m.0.0 ≡ Some m.1.0) moves → IsRenaming to (links old) (links new) → (text : List (Item Gen T)) → IsText entry links old text
-    → (after : List (Item Gen T)) × AreMovedTo moves text after × IsText entry links new after
-texts_move entry links old new moves to moved go renaming text is =
+pub texts_move : {A Gen T : Type 0} {view : A → ArenaView Gen T} {entry : A → ℕ → Option (Gen × T)} (state : (a : A) → ArenaState (view a) (entry a)) (links : A → LinkMap) (old new : A) (moves : List (Move Gen)) (to : ℕ → Option ℕ) → ArePointerMoves (λ (p : ℕ × Gen). p) (entry old) (entry new) moves
+    → All (λ (m : Move Gen). to m.0.0 ≡ Some m.1.0) moves → IsRenaming to (links old) (links new) → (text : List (Item Gen T)) → IsText state links old text
+    → (after : List (Item Gen T)) × AreMovedTo moves text after × IsText state links new after
+texts_move {entry = entry} state links old new moves to moved go renaming text is =
     let items = items_move (entry old) (entry new) moves moved to go text is.are_stored in
     (items.0, items.1, record { chain = renaming_carries_chains to (links old) (links new) (linear (indexes text)) (linear (indexes items.0)) renaming is.chain items.2; are_stored = items.3 })

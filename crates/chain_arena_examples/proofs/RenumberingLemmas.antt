@@ -79,6 +79,6 @@ module _ {P Gen T : Type 0} (key : P → ℕ × Gen) (old new : Arena Gen (LinkV
           moves = map (keys_of key) moves;
           moved = moved_keys;
           placed = all_placed;
-          texts = texts_move entry link_map old new (map (keys_of key) moves) (place_in all.indexes) moved_keys all_moved renaming;
+          texts = λ state. texts_move state link_map old new (map (keys_of key) moves) (place_in all.indexes) moved_keys all_moved renaming;
           bookmarks = all_followed key eq same_key eq_is_same (entry old) (entry new) moves moved (with_moves key (replicate (length old.slots) None) moves) (noted_table key (length old.slots) moves (has_places moved) moved.old_apart) bookmarks;
         }

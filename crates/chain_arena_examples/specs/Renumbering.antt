@@ -3,7 +3,7 @@ use Rattle.std.specs.Prelude.{◌≡◌, ℕ, false, List, [], ◌∷◌, All, C
 use Rattle.chain_laws.specs.Chains.{LinkMap}
 use Rattle.chain_laws.specs.Arrangements.{place_in}
 use Rattle.arena_traits.specs.Arena.{IsValid}
-use Rattle.arena_traits.specs.Entries.{ArenaView}
+use Rattle.arena_traits.specs.Entries.{ArenaView, ArenaState}
 use Rattle.chain_links.specs.CanonicalLayouts.{IsCanonicalLayout}
 use Rattle.chain_compaction.specs.PointerMoves.{ArePointerMoves}
 use Rattle.chain_examples.specs.Lists.{Item, IsText}
@@ -44,5 +44,5 @@ pub record IsRenumbered {A Gen T : Type 0} (first : Gen) (following : Gen → Ge
   -- equal.
   pub placed : All (λ (m : Move Gen). (place_in layout.indexes m.0.0 ≡ Some m.1.0) × (m.1.1 ≡ layout.generation)) moves
   -- Each text becomes the text of the same items under their new pointers.
-  pub texts : (text : List (Item Gen T)) → IsText entry links old text → (after : List (Item Gen T)) × AreMovedTo moves text after × IsText entry links new after
+  pub texts : (state : (a : A) → ArenaState (view a) (entry a)) (text : List (Item Gen T)) → IsText state links old text → (after : List (Item Gen T)) × AreMovedTo moves text after × IsText state links new after
   pub bookmarks : AreFollowed (entry old) moves before after

@@ -12,7 +12,7 @@ ghost use Rattle.chain_links.specs.CallEffects.{IsInsertionResult};
 ghost use Rattle.chain_links.specs.ChainArena.{entry, value_view, link_map};
 
 use arena_base::ArenaTrait;
-use arena_ptr::{ChainInsertionError, ToolPtr};
+use arena_ptr::{ChainInsertionError, InvalidationResult, ToolPtr};
 use chain_arena::{ChainArena, ChainArenaTrait, LinkInsertKind};
 
 /// Removes a link and returns its value.
@@ -26,7 +26,11 @@ pub fn remove_value(arena: &mut ChainArena<ToolPtr, u32>, p: ToolPtr) -> Option<
     ensures none { ¬ IsValid (entry arena.old) (key_of p)
         → (result ≡ None) × (arena.new ≡ arena.old) }
 {
-    arena.remove(p).allow()
+    match arena.remove(p) {
+        InvalidationResult::Success(t) => Some(t),
+        InvalidationResult::GenerationOverflow(t) => Some(t),
+        InvalidationResult::InvalidPtr => None,
+    }
 }
 
 /// Inserts a link directly after `p` and returns its pointer.

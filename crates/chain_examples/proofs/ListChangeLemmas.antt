@@ -7,7 +7,7 @@ use Rattle.chain_laws.specs.Insertions.{InsertKind, Inserts, link_before, link_a
 use Rattle.chain_laws.specs.Frame.{IsDisjointFrom, indexes_of_kind}
 use Rattle.chain_laws.proofs.ChainLemmas.Frame.{insertion_keeps_others}
 use Rattle.chain_laws.proofs.ListLemmas.MemberLaws.{once_in_middle}
-use Rattle.arena_traits.specs.Entries.{ArenaView, found, index_of}
+use Rattle.arena_traits.specs.Entries.{ArenaView, ArenaState, index_of}
 use Rattle.chain_links.specs.ChainArena.{IsInserted}
 use Rattle.chain_links.specs.Insertions.{IsInsertion}
 use Rattle.chain_examples.specs.Lists.{Item, AreEntries, indexes, IsListOf, KeepsWithout, InsertsAfter, InsertsBefore, Leaves, ChangesOnlyListsOf, IsItemInserted}
@@ -31,20 +31,20 @@ members_once : (links : LinkMap) (c : Chain) → IsChain links c → AreDistinct
 members_once links (linear xs) is = is.1
 members_once links (cyclic xs) is = is.1
 
-module _ {A Gen T : Type 0} (entry : A → ℕ → Option (Gen × T)) (links : A → LinkMap) (shape : List ℕ → Chain) (written : (xs : List ℕ) → items (shape xs) ≡ xs) where
+module _ {A Gen T : Type 0} {view : A → ArenaView Gen T} {entry : A → ℕ → Option (Gen × T)} (state : (a : A) → ArenaState (view a) (entry a)) (interlinks : A → LinkMap) (shape : List ℕ → Chain) (written : (xs : List ℕ) → items (shape xs) ≡ xs) where
   -- The indexes of a list are those of its chain.
   of_chain : (xs : List ℕ) (i : ℕ) → IsMember xs i → IsMember (items (shape xs)) i
   of_chain xs i = subst (λ (l : List ℕ). IsMember l i) (sym (written xs))
 
-  once : (a : A) (xs : List ℕ) → IsChain (links a) (shape xs) → AreDistinct xs
-  once a xs is = subst AreDistinct (written xs) (members_once (links a) (shape xs) is)
+  once : (a : A) (xs : List ℕ) → IsChain (interlinks a) (shape xs) → AreDistinct xs
+  once a xs is = subst AreDistinct (written xs) (members_once (interlinks a) (shape xs) is)
 
   -- The indexes of a concatenation are those of both parts.
-  pub parts : (a : A) (xs ys : List (Item Gen T)) → IsChain (links a) (shape (indexes (xs ++ ys))) → IsChain (links a) (shape (indexes xs ++ indexes ys))
-  parts a xs ys = subst (λ (l : List ℕ). IsChain (links a) (shape l)) (map-append index_of xs ys)
+  pub parts : (a : A) (xs ys : List (Item Gen T)) → IsChain (interlinks a) (shape (indexes (xs ++ ys))) → IsChain (interlinks a) (shape (indexes xs ++ indexes ys))
+  parts a xs ys = subst (λ (l : List ℕ). IsChain (interlinks a) (shape l)) (map-append index_of xs ys)
 
-  pub whole : (a : A) (xs ys : List (Item Gen T)) → IsChain (links a) (shape (indexes xs ++ indexes ys)) → IsChain (links a) (shape (indexes (xs ++ ys)))
-  whole a xs ys = subst (λ (l : List ℕ). IsChain (links a) (shape l)) (sym (map-append index_of xs ys))
+  pub whole : (a : A) (xs ys : List (Item Gen T)) → IsChain (interlinks a) (shape (indexes xs ++ indexes ys)) → IsChain (interlinks a) (shape (indexes (xs ++ ys)))
+  whole a xs ys = subst (λ (l : List ℕ). IsChain (interlinks a) (shape l)) (sym (map-append index_of xs ys))
 
   module _ (old new : A) where
     -- An item was inserted.
@@ -53,8 +53,8 @@ module _ {A Gen T : Type 0} (entry : A → ℕ → Option (Gen × T)) (links : A
       kept = stored_kept (entry old) (entry new) q gained.free gained.rest
 
       -- An item inserted after `p` comes directly after it in its list.
-      pub added_after : (p : ℕ × Gen) → ((x y : List ℕ) → IsChain (links old) (shape (x ++ p.0 ∷ y)) → IsChain (links new) (shape (x ++ p.0 ∷ q.0 ∷ y)))
-          → InsertsAfter entry links shape old new p (q, t)
+      pub added_after : (p : ℕ × Gen) → ((x y : List ℕ) → IsChain (interlinks old) (shape (x ++ p.0 ∷ y)) → IsChain (interlinks new) (shape (x ++ p.0 ∷ q.0 ∷ y)))
+          → InsertsAfter state interlinks shape old new p (q, t)
       added_after p grows s before after is =
           let right = are_stored-right (entry old) before ((p, s) ∷ after) is.are_stored in
           record {
@@ -64,8 +64,8 @@ module _ {A Gen T : Type 0} (entry : A → ℕ → Option (Gen × T)) (links : A
           }
 
       -- An item inserted before `p` comes directly before it in its list.
-      pub added_before : (p : ℕ × Gen) → ((x y : List ℕ) → IsChain (links old) (shape (x ++ p.0 ∷ y)) → IsChain (links new) (shape (x ++ q.0 ∷ p.0 ∷ y)))
-          → InsertsBefore entry links shape old new p (q, t)
+      pub added_before : (p : ℕ × Gen) → ((x y : List ℕ) → IsChain (interlinks old) (shape (x ++ p.0 ∷ y)) → IsChain (interlinks new) (shape (x ++ q.0 ∷ p.0 ∷ y)))
+          → InsertsBefore state interlinks shape old new p (q, t)
       added_before p grows s before after is = record {
         chain = whole new before ((q, t) ∷ (p, s) ∷ after) (grows (indexes before) (indexes after) (parts old before ((p, s) ∷ after) is.chain));
         are_stored = are_stored-append (entry new) before ((q, t) ∷ (p, s) ∷ after) (kept before (are_stored-left (entry old) before ((p, s) ∷ after) is.are_stored))
@@ -73,17 +73,17 @@ module _ {A Gen T : Type 0} (entry : A → ℕ → Option (Gen × T)) (links : A
       }
 
       -- An insertion keeps every list without the named neighbors.
-      pub keeps_others : (kind : InsertKind ℕ) → IsWellLinked (links old) → is_some (links old q.0) ≡ is_some (entry old q.0)
-          → Inserts (links old) (links new) q.0 (link_before (links old) kind q.0) (link_after (links old) kind q.0)
-          → (xs : List (Item Gen T)) → IsDisjointFrom (shape (indexes xs)) (indexes_of_kind kind) → IsListOf entry links shape old xs → IsListOf entry links shape new xs
+      pub keeps_others : (kind : InsertKind ℕ) → IsWellLinked (interlinks old) → is_some (interlinks old q.0) ≡ is_some (entry old q.0)
+          → Inserts (interlinks old) (interlinks new) q.0 (link_before (interlinks old) kind q.0) (link_after (interlinks old) kind q.0)
+          → (xs : List (Item Gen T)) → IsDisjointFrom (shape (indexes xs)) (indexes_of_kind kind) → IsListOf state interlinks shape old xs → IsListOf state interlinks shape new xs
       keeps_others kind agrees alike inserts xs absent is = record {
-        chain = insertion_keeps_others (links old) (links new) kind q.0 agrees (unlinked (entry old) (links old) q.0 alike gained.free) inserts (shape (indexes xs)) absent is.chain;
+        chain = insertion_keeps_others (interlinks old) (interlinks new) kind q.0 agrees (unlinked (entry old) (interlinks old) q.0 alike gained.free) inserts (shape (indexes xs)) absent is.chain;
         are_stored = kept xs is.are_stored;
       }
 
     -- A removed item leaves its list.
     pub leaves : (e : Item Gen T) → ((i : ℕ) → i ≢ e.0.0 → entry new i ≡ entry old i)
-        → ((x y : List ℕ) → IsChain (links old) (shape (x ++ e.0.0 ∷ y)) → x ++ y ≢ [] → IsChain (links new) (shape (x ++ y))) → Leaves entry links shape old new e
+        → ((x y : List ℕ) → IsChain (interlinks old) (shape (x ++ e.0.0 ∷ y)) → x ++ y ≢ [] → IsChain (interlinks new) (shape (x ++ y))) → Leaves state interlinks shape old new e
     leaves e same shrinks before after is filled =
         let chain = parts old before (e ∷ after) is.chain in
         let apart = ((once_in_middle (indexes before) (indexes after) e.0.0).0 (once old (indexes before ++ e.0.0 ∷ indexes after) chain)).0 in
@@ -96,32 +96,32 @@ module _ {A Gen T : Type 0} (entry : A → ℕ → Option (Gen × T)) (links : A
 
     -- A removal keeps every list without the removed item.
     pub keeps_left : (p : ℕ × Gen) → ((i : ℕ) → i ≢ p.0 → entry new i ≡ entry old i)
-        → ((c : Chain) → (IsMember (items c) p.0 → ⊥) → IsChain (links old) c → IsChain (links new) c) → KeepsWithout entry links shape old new (p ∷ [])
+        → ((c : Chain) → (IsMember (items c) p.0 → ⊥) → IsChain (interlinks old) c → IsChain (interlinks new) c) → KeepsWithout state interlinks shape old new (p ∷ [])
     keeps_left p same rest xs absent is = record {
       chain = rest (shape (indexes xs)) absent.0 is.chain;
       are_stored = are_stored-frame (entry old) (entry new) xs (λ i has. same i (λ is_p. absent.0 (of_chain (indexes xs) p.0 (subst (IsMember (indexes xs)) is_p has)))) is.are_stored;
     }
 
     -- If all entries are kept, items form a list if their indexes form a chain.
-    pub stays : entry new ≡ entry old → (xs : List (Item Gen T)) → AreEntries (entry old) xs → IsChain (links new) (shape (indexes xs)) → IsListOf entry links shape new xs
+    pub stays : entry new ≡ entry old → (xs : List (Item Gen T)) → AreEntries (entry old) xs → IsChain (interlinks new) (shape (indexes xs)) → IsListOf state interlinks shape new xs
     stays same xs are_stored chain = record { chain = chain; are_stored = subst (λ (f : ℕ → Option (Gen × T)). AreEntries f xs) (sym same) are_stored }
 
 -- The link of an item was inserted.
-module _ {A Gen T : Type 0} (view : A → ArenaView Gen T) (entry : A → ℕ → Option (Gen × T)) (links : A → LinkMap) (alike : (a : A) (i : ℕ) → is_some (links a i) ≡ is_some (entry a i))
-    (shape : List ℕ → Chain) (written : (xs : List ℕ) → items (shape xs) ≡ xs) (old new : A) (agrees : IsWellLinked (links old)) (q : ℕ × Gen) (t : T) where
+module _ {A Gen T : Type 0} {view : A → ArenaView Gen T} {entry : A → ℕ → Option (Gen × T)} (state : (a : A) → ArenaState (view a) (entry a)) (interlinks : A → LinkMap) (alike : (a : A) (i : ℕ) → is_some (interlinks a i) ≡ is_some (entry a i))
+    (shape : List ℕ → Chain) (written : (xs : List ℕ) → items (shape xs) ≡ xs) (old new : A) (agrees : IsWellLinked (interlinks old)) (q : ℕ × Gen) (t : T) where
   -- The item is in its list, and the other lists are unchanged.
   pub item_inserted : (kind : InsertKind ℕ) (beside : List (ℕ × Gen)) (list_after : Type 0) → map (λ (p : ℕ × Gen). p.0) beside ≡ indexes_of_kind kind
-      → IsInsertion kind (view old) (view new) (entry old) (entry new) (links old) (links new) q t → list_after → IsItemInserted view entry links shape old new list_after beside (q, t)
+      → IsInsertion kind (view old) (view new) (entry old) (entry new) (interlinks old) (interlinks new) q t → list_after → IsItemInserted state interlinks shape old new list_after beside (q, t)
   item_inserted kind beside list_after same gained list = record {
     list = list;
     item = gained.entries;
-    others = λ xs absent is. keeps_others entry links shape written old new q t gained.entries kind agrees (alike old q.0) gained.chains xs (subst (IsDisjointFrom (shape (indexes xs))) same absent) is;
+    others = λ xs absent is. keeps_others state interlinks shape written old new q t gained.entries kind agrees (alike old q.0) gained.chains xs (subst (IsDisjointFrom (shape (indexes xs))) same absent) is;
     size = gained.more;
     maximum = gained.maximum;
   }
 
 -- If the view stays, so do the entries.
-pub changes_only : {A Gen T : Type 0} (view : A → ArenaView Gen T) (entry : A → ℕ → Option (Gen × T)) (links : A → LinkMap) (was_read : (a : A) (i : ℕ) → found i (view a).entries ≡ entry a i) (shape : List ℕ → Chain) (old new : A) (pointers : List (ℕ × Gen))
-    → KeepsWithout entry links shape old new pointers → view new ≡ view old → ChangesOnlyListsOf view entry links shape old new pointers
-changes_only {Gen = Gen} {T = T} view entry links was_read shape old new pointers others same =
-    record { others = others; entries = same_entry (λ x. (view x).entries) entry was_read old new (ap (λ (s : ArenaView Gen T). s.entries) same); view_after = same }
+pub changes_only : {A Gen T : Type 0} {view : A → ArenaView Gen T} {entry : A → ℕ → Option (Gen × T)} (state : (a : A) → ArenaState (view a) (entry a)) (interlinks : A → LinkMap) (shape : List ℕ → Chain) (old new : A) (pointers : List (ℕ × Gen))
+    → KeepsWithout state interlinks shape old new pointers → view new ≡ view old → ChangesOnlyListsOf state interlinks shape old new pointers
+changes_only {Gen = Gen} {T = T} state interlinks shape old new pointers others same =
+    record { others = others; entries = same_entry state old new (ap (λ (s : ArenaView Gen T). s.entries) same); view_after = same }

@@ -11,7 +11,7 @@ use Rattle.chain_laws.specs.Removals.{Removes}
 use Rattle.chain_laws.proofs.ChainLemmas.Rotations.{rotated}
 use Rattle.chain_laws.proofs.ListLemmas.Members.{IsMember-parts, IsMember-rotated, AreDistinct-rotated}
 use Rattle.arena_traits.specs.Arena.{IsValid}
-use Rattle.arena_traits.specs.Entries.{ArenaView, count, index_of, first_key, found, AscendsFrom}
+use Rattle.arena_traits.specs.Entries.{ArenaView, ArenaState, count, index_of, first_key, found, AscendsFrom}
 use Rattle.chain_laws.specs.Insertions.{single_link_cyclic, prev_to}
 use Rattle.chain_links.specs.CallEffects.{GainsLink}
 use Rattle.chain_laws.proofs.WalkLemmas.WalkBack.{length_among}
@@ -251,19 +251,19 @@ first_cancelled p task old new first is = by is.before is.was_stored is.left
         absurd (is.gone (subst (IsAmong p) (sym left) (inl key)))
 
 -- The turn of a queue, as found in an arena.
-module _ {A Gen T : Type 0} (view : A → ArenaView Gen T) (entry : A → ℕ → Option (Gen × T)) (links : A → LinkMap) (ascends : (a : A) → AscendsFrom 1 (view a).entries) (was_read : (a : A) (i : ℕ) → found i (view a).entries ≡ entry a i) where
+module _ {A Gen T : Type 0} {view : A → ArenaView Gen T} {entry : A → ℕ → Option (Gen × T)} (state : (a : A) → ArenaState (view a) (entry a)) (interlinks : A → LinkMap) where
   abbrev pub order_in : A → Option (ℕ × Gen) → List (Item Gen T)
-  order_in a current = queue_order (entry a) (links a) (count (view a)) current
+  order_in a current = queue_order (entry a) (interlinks a) (count (view a)) current
 
   -- The turn found in the arena, which is in queue order.
   pub record IsSettled (a : A) (current : Option (ℕ × Gen)) (order : List (Item Gen T)) : Type 0 where
     pub is_found : order_in a current ≡ order
-    pub holds : IsQueueOrder (entry a) (links a) current (order_in a current)
+    pub holds : IsQueueOrder (entry a) (interlinks a) current (order_in a current)
 
-  pub settle : (a : A) (current : Option (ℕ × Gen)) (order : List (Item Gen T)) → IsQueueOrder (entry a) (links a) current order → IsSettled a current order
+  pub settle : (a : A) (current : Option (ℕ × Gen)) (order : List (Item Gen T)) → IsQueueOrder (entry a) (interlinks a) current order → IsSettled a current order
   settle a current order is = record {
-    is_found = settles (entry a) (links a) current order (view a).entries is (ascends a) (was_read a);
-    holds = settled (entry a) (links a) current order (view a).entries is (ascends a) (was_read a);
+    is_found = settles (entry a) (interlinks a) current order (view a).entries is (state a).ascends (state a).finds;
+    holds = settled (entry a) (interlinks a) current order (view a).entries is (state a).ascends (state a).finds;
   }
 
   -- The queue found in an arena.
@@ -272,25 +272,25 @@ module _ {A Gen T : Type 0} (view : A → ArenaView Gen T) (entry : A → ℕ �
 
   -- Inserting a task before the current one, or into an empty queue, appends it.
   module _ (a b : A) (p : ℕ × Gen) (t : T) where
-    pub first_added : GainsLink view entry links single_link_cyclic t a p b → (order : List (Item Gen T)) → IsQueueOrder (entry a) (links a) None order → IsQueueOrder (entry b) (links b) (Some p) (order ++ (p, t) ∷ [])
-    first_added gained = spawned_first (entry a) (entry b) (links a) (links b) p t gained.entries.free gained.entries.stored gained.entries.rest (gained.chains.ring refl refl)
+    pub first_added : GainsLink state interlinks single_link_cyclic t a p b → (order : List (Item Gen T)) → IsQueueOrder (entry a) (interlinks a) None order → IsQueueOrder (entry b) (interlinks b) (Some p) (order ++ (p, t) ∷ [])
+    first_added gained = spawned_first (entry a) (entry b) (interlinks a) (interlinks b) p t gained.entries.free gained.entries.stored gained.entries.rest (gained.chains.ring refl refl)
 
-    pub last_added : (k : ℕ × Gen) → GainsLink view entry links (prev_to (k.0, Some k.1)) t a p b → (order : List (Item Gen T)) → IsQueueOrder (entry a) (links a) (Some k) order → IsQueueOrder (entry b) (links b) (Some k) (order ++ (p, t) ∷ [])
-    last_added k gained = spawned_last (entry a) (entry b) (links a) (links b) p t gained.entries.free gained.entries.stored gained.entries.rest k (λ y. (gained.chains.before k.0 refl refl [] y).1)
+    pub last_added : (k : ℕ × Gen) → GainsLink state interlinks (prev_to (k.0, Some k.1)) t a p b → (order : List (Item Gen T)) → IsQueueOrder (entry a) (interlinks a) (Some k) order → IsQueueOrder (entry b) (interlinks b) (Some k) (order ++ (p, t) ∷ [])
+    last_added k gained = spawned_last (entry a) (entry b) (interlinks a) (interlinks b) p t gained.entries.free gained.entries.stored gained.entries.rest k (λ y. (gained.chains.before k.0 refl refl [] y).1)
 
   -- A call that adds a task appends it, or fails and keeps the queue.
   module _ {P E : Type 0} (key : P → ℕ × Gen) (a b : A) (current : Option P) (t : T) where
     pub record IsTaskAdded (result : Result P E) (next : Option P) : Type 0 where
-      pub holds : IsQueueOrder (entry b) (links b) (option_map key next) (order_in b (option_map key next))
+      pub holds : IsQueueOrder (entry b) (interlinks b) (option_map key next) (order_in b (option_map key next))
       pub last : IfOk result (λ p. order_in b (option_map key next) ≡ order_in a (option_map key current) ++ (key p, t) ∷ [])
       pub err : OnErr result (queue_in b (option_map key next) ≡ queue_in a (option_map key current))
 
-    pub task_added : (result : Result P E) → IsQueueOrder (entry a) (links a) (option_map key current) (order_in a (option_map key current))
-        → IfOk result (λ p. (order : List (Item Gen T)) → IsQueueOrder (entry a) (links a) (option_map key current) order → IsQueueOrder (entry b) (links b) (option_map key (option_or current (Some p))) (order ++ (key p, t) ∷ []))
+    pub task_added : (result : Result P E) → IsQueueOrder (entry a) (interlinks a) (option_map key current) (order_in a (option_map key current))
+        → IfOk result (λ p. (order : List (Item Gen T)) → IsQueueOrder (entry a) (interlinks a) (option_map key current) order → IsQueueOrder (entry b) (interlinks b) (option_map key (option_or current (Some p))) (order ++ (key p, t) ∷ []))
         → OnErr result (b ≡ a) → IsTaskAdded result (option_or current (result_ok result))
     task_added (Ok p) is added same = let now = settle b (option_map key (option_or current (Some p))) _ (added _ is) in record { holds = now.holds; last = now.is_found; err = tt }
     task_added (Err e) is added same = subst (IsTaskAdded (Err e)) (sym (as_it_was current)) (record {
-      holds = subst (λ (x : A). IsQueueOrder (entry x) (links x) (option_map key current) (order_in x (option_map key current))) (sym same) is;
+      holds = subst (λ (x : A). IsQueueOrder (entry x) (interlinks x) (option_map key current) (order_in x (option_map key current))) (sym same) is;
       last = tt;
       err = ap (λ (x : A). queue_in x (option_map key current)) same;
     })
@@ -300,23 +300,23 @@ module _ {A Gen T : Type 0} (view : A → ArenaView Gen T) (entry : A → ℕ �
         as_it_was (Some p) = refl
 
   -- The next task becomes current.
-  pub advances_in : (a : A) (current next : Option (ℕ × Gen)) (k : ℕ × Gen) → current ≡ Some k → IsQueueOrder (entry a) (links a) current (order_in a current)
-      → ((task : Item Gen T) (rest : List (Item Gen T)) → IsQueueOrder (entry a) (links a) (Some k) (task ∷ rest) → next ≡ first_key (rest ++ task ∷ [])) → IsSettled a next (rotation (order_in a current))
+  pub advances_in : (a : A) (current next : Option (ℕ × Gen)) (k : ℕ × Gen) → current ≡ Some k → IsQueueOrder (entry a) (interlinks a) current (order_in a current)
+      → ((task : Item Gen T) (rest : List (Item Gen T)) → IsQueueOrder (entry a) (interlinks a) (Some k) (task ∷ rest) → next ≡ first_key (rest ++ task ∷ [])) → IsSettled a next (rotation (order_in a current))
   advances_in a current next k known is second =
-      settle a next (rotation (order_in a current)) (continues (entry a) (links a) k next (order_in a current) (subst (λ (o : Option (ℕ × Gen)). IsQueueOrder (entry a) (links a) o (order_in a current)) known is) second)
+      settle a next (rotation (order_in a current)) (continues (entry a) (interlinks a) k next (order_in a current) (subst (λ (o : Option (ℕ × Gen)). IsQueueOrder (entry a) (interlinks a) o (order_in a current)) known is) second)
 
   -- A task is cancelled, and the turn is what remains.
   pub record IsLeft (a b : A) (current next : Option (ℕ × Gen)) (p : ℕ × Gen) (t : T) : Type 0 where
     pub cancelled : IsCancelled p t (order_in a current) (order_in b next)
-    pub holds : IsQueueOrder (entry b) (links b) next (order_in b next)
+    pub holds : IsQueueOrder (entry b) (interlinks b) next (order_in b next)
 
-  pub task_removed : (a b : A) (current next : Option (ℕ × Gen)) (k p : ℕ × Gen) → current ≡ Some k → IsQueueOrder (entry a) (links a) current (order_in a current) → (gone : HasGone view entry links a b p)
-      → ((before after : List (Item Gen T)) (task : T) → IsQueueOrder (entry a) (links a) (Some k) (before ++ (p, task) ∷ after) → next ≡ first_key (before ++ after)) → IsLeft a b current next p gone.was_stored.value
-  task_removed a b current next k p known is gone follows =
-      let order = subst (λ (o : Option (ℕ × Gen)). IsQueueOrder (entry a) (links a) o (order_in a current)) known is in
-      let split = valid_task (entry a) (links a) (Some k) (order_in a current) p order gone.was_stored in
-      let was_stored = subst (IsQueueOrder (entry a) (links a) (Some k)) split.2 order in
-      let left = cancelled (entry a) (links a) (entry b) (links b) (Some k) next split.0 split.1 (p, gone.was_stored.value) was_stored (follows split.0 split.1 gone.was_stored.value was_stored) gone.gone gone.kept gone.chains in
+  pub task_removed : (following : Gen → Gen) (a b : A) (current next : Option (ℕ × Gen)) (k p : ℕ × Gen) → current ≡ Some k → IsQueueOrder (entry a) (interlinks a) current (order_in a current) → (gone : HasGone state interlinks following a b p)
+      → ((before after : List (Item Gen T)) (task : T) → IsQueueOrder (entry a) (interlinks a) (Some k) (before ++ (p, task) ∷ after) → next ≡ first_key (before ++ after)) → IsLeft a b current next p gone.was_stored.value
+  task_removed following a b current next k p known is gone follows =
+      let order = subst (λ (o : Option (ℕ × Gen)). IsQueueOrder (entry a) (interlinks a) o (order_in a current)) known is in
+      let split = valid_task (entry a) (interlinks a) (Some k) (order_in a current) p order gone.was_stored in
+      let was_stored = subst (IsQueueOrder (entry a) (interlinks a) (Some k)) split.2 order in
+      let left = cancelled (entry a) (interlinks a) (entry b) (interlinks b) (Some k) next split.0 split.1 (p, gone.was_stored.value) was_stored (follows split.0 split.1 gone.was_stored.value was_stored) gone.gone gone.kept gone.chains in
       let now = settle b next (split.0 ++ split.1) left in
       record {
         cancelled = record {
@@ -324,7 +324,7 @@ module _ {A Gen T : Type 0} (view : A → ArenaView Gen T) (entry : A → ℕ �
           after = split.1;
           was_stored = split.2;
           left = now.is_found;
-          gone = subst (λ l. ¬ IsAmong p l) (sym now.is_found) (not_among (entry a) (links a) (Some k) split.0 split.1 (p, gone.was_stored.value) was_stored);
+          gone = subst (λ l. ¬ IsAmong p l) (sym now.is_found) (not_among (entry a) (interlinks a) (Some k) split.0 split.1 (p, gone.was_stored.value) was_stored);
         };
         holds = now.holds;
       }

@@ -13,7 +13,7 @@ use Rattle.chain_laws.proofs.ChainLemmas.MemberLaws.{chains_share_each, members_
 use Rattle.chain_laws.proofs.ExchangeLemmas.Pairs.{exchanged_with_itself}
 use Rattle.arena_core.specs.Numbers.{IsWithin}
 use Rattle.arena_traits.specs.Arena.{IsValid}
-use Rattle.arena_traits.specs.Entries.{ArenaView, index_of, found, first_key}
+use Rattle.arena_traits.specs.Entries.{ArenaView, ArenaState, index_of, first_key}
 use Rattle.chain_links.specs.CallEffects.{IsExchanged, ExchangesNext}
 use Rattle.chain_links.specs.ChainArena.{CanExchange, IsInserted, ptr_at}
 use Rattle.chain_traits.proofs.GenericArenaLemmas.{some_valid, valid_some, links_within}
@@ -46,13 +46,13 @@ module _ {Gen T : Type 0} (entry mid after : ℕ → Option (Gen × T)) (c d : �
     rest = λ i not_c not_d. also.rest i not_d ∙ gained.rest i not_c;
   }
 
-module _ {A Gen T : Type 0} (entry : A → ℕ → Option (Gen × T)) (links : A → LinkMap) where
+module _ {A Gen T : Type 0} {view : A → ArenaView Gen T} {entry : A → ℕ → Option (Gen × T)} (state : (a : A) → ArenaState (view a) (entry a)) (interlinks : A → LinkMap) where
   -- The next corner is the next in the ring.
-  module _ (a : A) (p : ℕ × Gen) (t : T) (others : List (Item Gen T)) (is : IsRing entry links a ((p, t) ∷ others)) where
+  module _ (a : A) (p : ℕ × Gen) (t : T) (others : List (Item Gen T)) (is : IsRing state interlinks a ((p, t) ∷ others)) where
     pub in_a_ring : IsValid (entry a) p
     in_a_ring = record { value = t; stored = is.are_stored.0 }
 
-    pub ring_continues : option_and_then (ptr_at (entry a)) (next_of (links a) p.0) ≡ first_key (others ++ (p, t) ∷ [])
+    pub ring_continues : option_and_then (ptr_at (entry a)) (next_of (interlinks a) p.0) ≡ first_key (others ++ (p, t) ∷ [])
     ring_continues = ap (λ o. option_and_then (ptr_at (entry a)) (next_in o)) is.chain.2.0 ∙ key_of others is.are_stored.1
       where
         key_of : (es : List (Item Gen T)) → AreEntries (entry a) es → option_and_then (ptr_at (entry a)) (first_or (indexes es) (Some p.0)) ≡ first_key (es ++ (p, t) ∷ [])
@@ -60,15 +60,15 @@ module _ {A Gen T : Type 0} (entry : A → ℕ → Option (Gen × T)) (links : A
         key_of (e ∷ es) s = ap (option_map (λ (x : Gen × T). (e.0.0, x.0))) s.0
 
   -- A ring can be listed from any of its corners.
-  ring_rotated : (a : A) (xs ys : List (Item Gen T)) → IsRing entry links a (xs ++ ys) → IsRing entry links a (ys ++ xs)
+  ring_rotated : (a : A) (xs ys : List (Item Gen T)) → IsRing state interlinks a (xs ++ ys) → IsRing state interlinks a (ys ++ xs)
   ring_rotated a xs ys is = record {
-    chain = whole entry links cyclic (λ l. refl) a ys xs (rotated (links a) (indexes xs) (indexes ys) (parts entry links cyclic (λ l. refl) a xs ys is.chain));
+    chain = whole state interlinks cyclic (λ l. refl) a ys xs (rotated (interlinks a) (indexes xs) (indexes ys) (parts state interlinks cyclic (λ l. refl) a xs ys is.chain));
     are_stored = are_stored-append (entry a) ys xs (are_stored-right (entry a) xs ys is.are_stored) (are_stored-left (entry a) xs ys is.are_stored);
   }
 
   -- If all chains are cyclic, the successors of any two links can be exchanged.
-  pub can_exchange : (a : A) → ((i : ℕ) → is_some (entry a i) ≡ true → HasLink (links a) i) → AllCyclic (links a) → (p q : ℕ × Gen)
-      → CanExchange (entry a) (links a) p q ↔ (IsValid (entry a) p × IsValid (entry a) q)
+  pub can_exchange : (a : A) → ((i : ℕ) → is_some (entry a i) ≡ true → HasLink (interlinks a) i) → AllCyclic (interlinks a) → (p q : ℕ × Gen)
+      → CanExchange (entry a) (interlinks a) p q ↔ (IsValid (entry a) p × IsValid (entry a) q)
   can_exchange a linked all_cyclic p q = (
     λ can. (can.first_valid, can.second_valid),
     λ valid. record {
@@ -81,77 +81,77 @@ module _ {A Gen T : Type 0} (entry : A → ℕ → Option (Gen × T)) (links : A
 
   -- An exchange, or nothing if a pointer is not valid.
   module _ (old new : A) (p q : ℕ × Gen) {R : Type 0} (r : Option R) (some : (IsValid (entry old) p × IsValid (entry old) q) → is_some r ≡ true)
-      (exchanges : OnSome r (Exchanges (links old) (links new) p.0 q.0)) (same : entry new ≡ entry old) where
-    held : (o : Option R) → is_some o ≡ true → OnSome o (Exchanges (links old) (links new) p.0 q.0) → Exchanges (links old) (links new) p.0 q.0
+      (exchanges : OnSome r (Exchanges (interlinks old) (interlinks new) p.0 q.0)) (same : entry new ≡ entry old) where
+    held : (o : Option R) → is_some o ≡ true → OnSome o (Exchanges (interlinks old) (interlinks new) p.0 q.0) → Exchanges (interlinks old) (interlinks new) p.0 q.0
     held None one exchanges = absurd (let h = one in cc)
     held (Some x) one exchanges = exchanges
 
     -- An exchange cuts one ring in two.
-    pub cuts_in_two : IsCutInTwo entry links old new p q
+    pub cuts_in_two : IsCutInTwo state interlinks old new p q
     cuts_in_two s t x y is =
         let right = are_stored-right (entry old) x ((q, t) ∷ y) is.are_stored.1 in
         let chains = held r (some (record { value = s; stored = is.are_stored.0 }, record { value = t; stored = right.0 })) exchanges in
-        let both = chains.one_cyclic (indexes x) (indexes y) (parts entry links cyclic (λ l. refl) old ((p, s) ∷ x) ((q, t) ∷ y) is.chain) in (
-          stays entry links cyclic (λ l. refl) old new same ((p, s) ∷ y) (is.are_stored.0, right.1) both.0,
-          stays entry links cyclic (λ l. refl) old new same ((q, t) ∷ x) (right.0, are_stored-left (entry old) x ((q, t) ∷ y) is.are_stored.1) both.1,
+        let both = chains.one_cyclic (indexes x) (indexes y) (parts state interlinks cyclic (λ l. refl) old ((p, s) ∷ x) ((q, t) ∷ y) is.chain) in (
+          stays state interlinks cyclic (λ l. refl) old new same ((p, s) ∷ y) (is.are_stored.0, right.1) both.0,
+          stays state interlinks cyclic (λ l. refl) old new same ((q, t) ∷ x) (right.0, are_stored-left (entry old) x ((q, t) ∷ y) is.are_stored.1) both.1,
         )
 
     -- An exchange merges two rings.
-    pub merges : AreMerged entry links old new p q
+    pub merges : AreMerged state interlinks old new p q
     merges s t x y first second apart =
         let chains = held r (some (record { value = s; stored = first.are_stored.0 }, record { value = t; stored = second.are_stored.0 })) exchanges in
-        stays entry links cyclic (λ l. refl) old new same ((p, s) ∷ y ++ (q, t) ∷ x) (first.are_stored.0, are_stored-append (entry old) y ((q, t) ∷ x) second.are_stored.1 (second.are_stored.0, first.are_stored.1))
-        (whole entry links cyclic (λ l. refl) new ((p, s) ∷ y) ((q, t) ∷ x) (chains.two_cyclic (indexes x) (indexes y) first.chain second.chain apart))
+        stays state interlinks cyclic (λ l. refl) old new same ((p, s) ∷ y ++ (q, t) ∷ x) (first.are_stored.0, are_stored-append (entry old) y ((q, t) ∷ x) second.are_stored.1 (second.are_stored.0, first.are_stored.1))
+        (whole state interlinks cyclic (λ l. refl) new ((p, s) ∷ y) ((q, t) ∷ x) (chains.two_cyclic (indexes x) (indexes y) first.chain second.chain apart))
 
     -- An exchange keeps the other rings.
-    pub keeps_exchanged : IfNone r (new ≡ old) → KeepsWithout entry links cyclic old new (p ∷ q ∷ [])
+    pub keeps_exchanged : IfNone r (new ≡ old) → KeepsWithout state interlinks cyclic old new (p ∷ q ∷ [])
     keeps_exchanged none xs absent is = by r exchanges none
       where
-        by : (o : Option R) → OnSome o (Exchanges (links old) (links new) p.0 q.0) → IfNone o (new ≡ old) → IsRing entry links new xs
-        by None exchanges none = subst (λ (a : A). IsRing entry links a xs) (sym none) is
-        by (Some x) exchanges none = stays entry links cyclic (λ l. refl) old new same xs is.are_stored ((exchanges.rest (cyclic (indexes xs)) absent.0 absent.1.0).0 is.chain)
+        by : (o : Option R) → OnSome o (Exchanges (interlinks old) (interlinks new) p.0 q.0) → IfNone o (new ≡ old) → IsRing state interlinks new xs
+        by None exchanges none = subst (λ (a : A). IsRing state interlinks a xs) (sym none) is
+        by (Some x) exchanges none = stays state interlinks cyclic (λ l. refl) old new same xs is.are_stored ((exchanges.rest (cyclic (indexes xs)) absent.0 absent.1.0).0 is.chain)
 
   -- Exchanging a corner with itself changes nothing.
-  pub exchanged_itself : (old new : A) → ((i : ℕ) → is_some (entry old i) ≡ true → HasLink (links old) i) → (p q : ℕ × Gen) → IsValid (entry old) p → IsWellLinked (links old) → p ≡ q
-      → links new ≡ with_exchange (links old) p.0 q.0 → links new ≡ links old
+  pub exchanged_itself : (old new : A) → ((i : ℕ) → is_some (entry old i) ≡ true → HasLink (interlinks old) i) → (p q : ℕ × Gen) → IsValid (entry old) p → IsWellLinked (interlinks old) → p ≡ q
+      → interlinks new ≡ with_exchange (interlinks old) p.0 q.0 → interlinks new ≡ interlinks old
   exchanged_itself old new linked p q valid agrees same changed =
-      changed ∙ subst (λ (k : ℕ × Gen). with_exchange (links old) p.0 k.0 ≡ links old) same (exchanged_with_itself (links old) p.0 agrees (linked p.0 (ap is_some valid.stored)))
+      changed ∙ subst (λ (k : ℕ × Gen). with_exchange (interlinks old) p.0 k.0 ≡ interlinks old) same (exchanged_with_itself (interlinks old) p.0 agrees (linked p.0 (ap is_some valid.stored)))
 
   -- A ring depends only on entries and links.
-  pub ring_viewed : (old new : A) → entry new ≡ entry old → links new ≡ links old → (xs : List (Item Gen T)) → IsRing entry links old xs → IsRing entry links new xs
-  ring_viewed old new same linked xs is = stays entry links cyclic (λ l. refl) old new same xs is.are_stored (subst (λ (l : LinkMap). IsChain l (cyclic (indexes xs))) (sym linked) is.chain)
+  pub ring_viewed : (old new : A) → entry new ≡ entry old → interlinks new ≡ interlinks old → (xs : List (Item Gen T)) → IsRing state interlinks old xs → IsRing state interlinks new xs
+  ring_viewed old new same linked xs is = stays state interlinks cyclic (λ l. refl) old new same xs is.are_stored (subst (λ (l : LinkMap). IsChain l (cyclic (indexes xs))) (sym linked) is.chain)
 
   module _ (old first second new : A) (u v c d : ℕ × Gen) (a b : T) where
     -- Inserting the copies and an exchange split one ring.
-    pub splits : entry old u.0 ≡ Some (u.1, a) → entry old v.0 ≡ Some (v.1, b) → InsertsBefore entry links cyclic old first u (c, a) → InsertsAfter entry links cyclic first second v (d, b)
-        → IsCutInTwo entry links second new v c → IsSplit entry links old new u v c d
+    pub splits : entry old u.0 ≡ Some (u.1, a) → entry old v.0 ≡ Some (v.1, b) → InsertsBefore state interlinks cyclic old first u (c, a) → InsertsAfter state interlinks cyclic first second v (d, b)
+        → IsCutInTwo state interlinks second new v c → IsSplit state interlinks old new u v c d
     splits at_u at_v before after cut s t x y is =
         let one = before s [] (x ++ (v, t) ∷ y) is in
         let two = after t ((c, a) ∷ (u, s) ∷ x) y one in
         let parts = cut t a ((d, b) ∷ y) ((u, s) ∷ x) (ring_rotated second ((c, a) ∷ (u, s) ∷ x) ((v, t) ∷ (d, b) ∷ y) two) in
         let same_u : a ≡ s = ap (λ (e : Gen × T). e.1) (one_some (sym at_u ∙ is.are_stored.0)) in
         let same_v : b ≡ t = ap (λ (e : Gen × T). e.1) (one_some (sym at_v ∙ (are_stored-right (entry old) x ((v, t) ∷ y) is.are_stored.1).0)) in
-        (parts.0, subst (λ (w : T). IsRing entry links new ((c, s) ∷ (d, w) ∷ y)) same_v (subst (λ (w : T). IsRing entry links new ((c, w) ∷ (d, b) ∷ y)) same_u parts.1))
+        (parts.0, subst (λ (w : T). IsRing state interlinks new ((c, s) ∷ (d, w) ∷ y)) same_v (subst (λ (w : T). IsRing state interlinks new ((c, w) ∷ (d, b) ∷ y)) same_u parts.1))
 
     -- Inserting the copies and an exchange bridge two rings.
     pub bridges : entry old u.0 ≡ Some (u.1, a) → entry old v.0 ≡ Some (v.1, b) → IsInserted (entry old) (entry first) c a → IsInserted (entry first) (entry second) d b
-        → InsertsBefore entry links cyclic old first u (c, a) → KeepsWithout entry links cyclic old first (u ∷ [])
-        → InsertsAfter entry links cyclic first second v (d, b) → KeepsWithout entry links cyclic first second (v ∷ [])
-        → AreMerged entry links second new v c → IsBridged entry links old new u v c d
+        → InsertsBefore state interlinks cyclic old first u (c, a) → KeepsWithout state interlinks cyclic old first (u ∷ [])
+        → InsertsAfter state interlinks cyclic first second v (d, b) → KeepsWithout state interlinks cyclic first second (v ∷ [])
+        → AreMerged state interlinks second new v c → IsBridged state interlinks old new u v c d
     bridges at_u at_v gained also before kept after kept_too merged s t x y one two apart =
         let same_u : a ≡ s = ap (λ (e : Gen × T). e.1) (one_some (sym at_u ∙ one.are_stored.0)) in
         let same_v : b ≡ t = ap (λ (e : Gen × T). e.1) (one_some (sym at_v ∙ two.are_stored.0)) in
         let grown = kept_too ((c, a) ∷ (u, s) ∷ x) (not_among, tt) (before s [] x one) in
         let other = after t [] y (kept ((v, t) ∷ y) (other_excludes, tt) two) in
         let ring = merged t a ((d, b) ∷ y) ((u, s) ∷ x) other grown new_among in
-        subst (λ (w : T). IsRing entry links new ((v, t) ∷ (u, s) ∷ x ++ (c, s) ∷ (d, w) ∷ y)) same_v
-        (subst (λ (w : T). IsRing entry links new ((v, t) ∷ (u, s) ∷ x ++ (c, w) ∷ (d, b) ∷ y)) same_u ring)
+        subst (λ (w : T). IsRing state interlinks new ((v, t) ∷ (u, s) ∷ x ++ (c, s) ∷ (d, w) ∷ y)) same_v
+        (subst (λ (w : T). IsRing state interlinks new ((v, t) ∷ (u, s) ∷ x ++ (c, w) ∷ (d, b) ∷ y)) same_u ring)
       where
         free : (xs : List (Item Gen T)) → AreEntries (entry old) xs → IsMember (indexes xs) c.0 → ⊥
         free xs are_stored has = let some = are_stored-some (entry old) xs c.0 are_stored has in let none = ap is_some gained.free in let both = sym some ∙ none in cc
 
         other_excludes : IsMember (indexes ((v, t) ∷ y)) u.0 → ⊥
-        other_excludes has = apart ((chains_share_each (links old) (cyclic (indexes ((u, s) ∷ x))) (cyclic (indexes ((v, t) ∷ y))) u.0 v.0 one.chain two.chain (inl refl) has).1 (inl refl))
+        other_excludes has = apart ((chains_share_each (interlinks old) (cyclic (indexes ((u, s) ∷ x))) (cyclic (indexes ((v, t) ∷ y))) u.0 v.0 one.chain two.chain (inl refl) has).1 (inl refl))
 
         not_among : IsMember (indexes ((c, a) ∷ (u, s) ∷ x)) v.0 → ⊥
         not_among (inl is) = free ((v, t) ∷ y) two.are_stored (inl (sym is))
@@ -163,21 +163,23 @@ module _ {A Gen T : Type 0} (entry : A → ℕ → Option (Gen × T)) (links : A
         new_among (inr (inr has)) = free ((v, t) ∷ y) two.are_stored (inr has)
 
     -- A split keeps the other rings, which contain no copy.
-    pub keeps_split : entry old c.0 ≡ None → KeepsWithout entry links cyclic old first (u ∷ []) → KeepsWithout entry links cyclic first second (v ∷ []) → KeepsWithout entry links cyclic second new (v ∷ c ∷ [])
-        → KeepsWithout entry links cyclic old new (u ∷ v ∷ [])
+    pub keeps_split : entry old c.0 ≡ None → KeepsWithout state interlinks cyclic old first (u ∷ []) → KeepsWithout state interlinks cyclic first second (v ∷ []) → KeepsWithout state interlinks cyclic second new (v ∷ c ∷ [])
+        → KeepsWithout state interlinks cyclic old new (u ∷ v ∷ [])
     keeps_split free gained also cut xs absent is =
         cut xs (absent.1.0, ((λ has. let some = are_stored-some (entry old) xs c.0 is.are_stored has in let none = ap is_some free in let both = sym some ∙ none in cc), tt)) (also xs (absent.1.0, tt) (gained xs (absent.0, tt) is))
 
   -- Each entry is in a ring.
-  pub all_in_rings : (a : A) (es : List (Item Gen T)) → ((i : ℕ) → found i es ≡ entry a i) → ((i : ℕ) → is_some (links a i) ≡ is_some (entry a i)) → (greatest : ℕ)
-      → All (λ e. IsWithin greatest (index_of e)) es → IsWellLinked (links a) → AllCyclic (links a) → AllInRings entry links a
-  all_in_rings a es was_read are_stored greatest within agrees all_cyclic e at =
-      let ring = ring_from (links a) greatest e.0.0 agrees (links_within (links a) (entry a) es are_stored was_read greatest within) all_cyclic (some_valid (links a) (entry a) es are_stored was_read e.0.0 (ap is_some at)) in
-      let items = items_at (entry a) ring.0 (λ k has. valid_some (links a) (entry a) es are_stored was_read k (members_are_links (links a) (cyclic (e.0.0 ∷ ring.0)) k ring.1 (inr has))) in
-      (items.0, record { chain = subst (λ (l : List ℕ). IsChain (links a) (cyclic (e.0.0 ∷ l))) (sym items.1) ring.1; are_stored = (at, items.2) })
+  pub all_in_rings : (a : A) → ((i : ℕ) → is_some (interlinks a i) ≡ is_some (entry a i)) → (greatest : ℕ) → All (λ e. IsWithin greatest (index_of e)) (view a).entries → IsWellLinked (interlinks a) → AllCyclic (interlinks a)
+      → AllInRings state interlinks a
+  all_in_rings a alike greatest within agrees all_cyclic e at =
+      let es = (view a).entries in
+      let finds = (state a).finds in
+      let ring = ring_from (interlinks a) greatest e.0.0 agrees (links_within (interlinks a) (entry a) es alike finds greatest within) all_cyclic (some_valid (interlinks a) (entry a) es alike finds e.0.0 (ap is_some at)) in
+      let items = items_at (entry a) ring.0 (λ k has. valid_some (interlinks a) (entry a) es alike finds k (members_are_links (interlinks a) (cyclic (e.0.0 ∷ ring.0)) k ring.1 (inr has))) in
+      (items.0, record { chain = subst (λ (l : List ℕ). IsChain (interlinks a) (cyclic (e.0.0 ∷ l))) (sym items.1) ring.1; are_stored = (at, items.2) })
 
   -- A merge undoes a cut, and a cut a merge.
-  pub cut_and_merge : CutAndMergeRestore entry links
+  pub cut_and_merge : CutAndMergeRestore state interlinks
   cut_and_merge = record {
     merge = λ old mid new p q cut merged s t x y is.
         let two = cut s t x y is in
@@ -187,11 +189,11 @@ module _ {A Gen T : Type 0} (entry : A → ℕ → Option (Gen × T)) (links : A
   }
 
 -- An exchange succeeds exactly if it is possible.
-module _ {A Gen T : Type 0} (view : A → ArenaView Gen T) (entry : A → ℕ → Option (Gen × T)) (links : A → LinkMap) (old new : A) (p q : ℕ × Gen) where
-  pub exchanged_if : (r : Option Unit) → ExchangesNext view entry links old p q r new → (is_some r ≡ true) ↔ CanExchange (entry old) (links old) p q
+module _ {A Gen T : Type 0} {view : A → ArenaView Gen T} {entry : A → ℕ → Option (Gen × T)} (state : (a : A) → ArenaState (view a) (entry a)) (interlinks : A → LinkMap) (old new : A) {P : Type 0} (key : P → ℕ × Gen) (p q : P) where
+  pub exchanged_if : (r : Option Unit) → ExchangesNext state interlinks key old p q r new → (is_some r ≡ true) ↔ CanExchange (entry old) (interlinks old) (key p) (key q)
   exchanged_if None is = (λ some. absurd (cc), λ can. absurd (is can))
   exchanged_if (Some done) is = (λ some. is.0, λ can. refl)
 
-  pub exchanged_on : (r : Option Unit) → ExchangesNext view entry links old p q r new → OnSome r (IsExchanged view entry links old new p.0 q.0)
+  pub exchanged_on : (r : Option Unit) → ExchangesNext state interlinks key old p q r new → OnSome r (IsExchanged state interlinks old new (key p).0 (key q).0)
   exchanged_on None is = tt
   exchanged_on (Some done) is = is.1

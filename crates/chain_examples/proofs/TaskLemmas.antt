@@ -7,10 +7,10 @@ use Rattle.arena_core.specs.declared.errors.ReallocationError.{ReallocationError
 use Rattle.arena_core.specs.declared.errors.ReallocationError.TheVariants as refused
 use Rattle.chain_laws.specs.Chains.{LinkMap, cyclic, IsChain, IsMember, AreDistinct}
 use Rattle.arena_traits.specs.Arena.{IsCapacityFor, IsValid}
-use Rattle.arena_traits.specs.Entries.{ArenaView, count, found, with_replacement, view_with_value, AscendsFrom}
+use Rattle.arena_traits.specs.Entries.{ArenaView, ArenaState, count, found, with_replacement, view_with_value}
 use Rattle.chain_examples.specs.Lists.{Item, indexes, IsQueueOrder}
 use Rattle.arena_traits.specs.Growth.{IsGrowthResult, Reserves, RefusesOneMore}
-use Rattle.chain_examples.specs.QueueOrder.{Queue, IsAmong, with_task, queue_order, AppendsNewTask, ReservesTasks, SpawnsTask}
+use Rattle.chain_examples.specs.QueueOrder.{Queue, IsAmong, with_task, queue_order, AppendsNewTask, IsTaskLast, arena_view}
 use Rattle.chain_examples.proofs.ItemListLemmas.{are_stored-some}
 use Rattle.chain_examples.proofs.ValueWriteLemmas.{valued, found-stored, indexes-written, first_key-written, are_stored-written, some-written, value_there, values_elsewhere}
 use Rattle.chain_examples.proofs.QueueOrderLemmas.{settle, order_length, among_stored, valid_task, order_in, queue_in}
@@ -62,49 +62,49 @@ pub record HasSize {Gen T : Type 0} (s : ArenaView Gen T) (q : Queue Gen T) : Ty
   pub capacity : s.capacity ≡ q.capacity
   pub maximum : s.maximum ≡ q.maximum
 
-pub has_size : {A Gen T : Type 0} (view : A → ArenaView Gen T) (entry : A → ℕ → Option (Gen × T)) (links : A → LinkMap) (ascends : (a : A) → AscendsFrom 1 (view a).entries) (was_read : (a : A) (i : ℕ) → found i (view a).entries ≡ entry a i)
-    (a : A) (current : Option (ℕ × Gen)) (q : Queue Gen T) → IsQueueOrder (entry a) (links a) current (order_in view entry links ascends was_read a current) → queue_in view entry links ascends was_read a current ≡ q → HasSize (view a) q
-has_size {Gen = Gen} {T = T} view entry links ascends was_read a current q is queue_is = record {
-  tasks = order_length (entry a) (links a) current (order_in view entry links ascends was_read a current) (view a).entries is (ascends a) (was_read a) ∙ ap (λ (r : Queue Gen T). length r.order) queue_is;
+pub has_size : {A Gen T : Type 0} {view : A → ArenaView Gen T} {entry : A → ℕ → Option (Gen × T)} (state : (a : A) → ArenaState (view a) (entry a)) (interlinks : A → LinkMap)
+    (a : A) (current : Option (ℕ × Gen)) (q : Queue Gen T) → IsQueueOrder (entry a) (interlinks a) current (order_in state interlinks a current) → queue_in state interlinks a current ≡ q → HasSize (view a) q
+has_size {Gen = Gen} {T = T} {view = view} {entry = entry} state interlinks a current q is queue_is = record {
+  tasks = order_length (entry a) (interlinks a) current (order_in state interlinks a current) (view a).entries is (state a).ascends (state a).finds ∙ ap (λ (r : Queue Gen T). length r.order) queue_is;
   capacity = ap (λ (r : Queue Gen T). r.capacity) queue_is;
   maximum = ap (λ (r : Queue Gen T). r.maximum) queue_is;
 }
 
 -- The queue found in an arena.
-module _ {A Gen T : Type 0} (view : A → ArenaView Gen T) (entry : A → ℕ → Option (Gen × T)) (links : A → LinkMap) (ascends : (a : A) → AscendsFrom 1 (view a).entries) (was_read : (a : A) (i : ℕ) → found i (view a).entries ≡ entry a i)
-    (a b : A) (current : Option (ℕ × Gen)) (is : IsQueueOrder (entry a) (links a) current (order_in view entry links ascends was_read a current)) where
+module _ {A Gen T : Type 0} {view : A → ArenaView Gen T} {entry : A → ℕ → Option (Gen × T)} (state : (a : A) → ArenaState (view a) (entry a)) (interlinks : A → LinkMap)
+    (a b : A) (current : Option (ℕ × Gen)) (is : IsQueueOrder (entry a) (interlinks a) current (order_in state interlinks a current)) where
   -- The queue found in the second arena is `q`.
   pub record IsQueue (q : Queue Gen T) : Type 0 where
-    pub holds : IsQueueOrder (entry b) (links b) current (order_in view entry links ascends was_read b current)
-    pub queue_is : queue_in view entry links ascends was_read b current ≡ q
+    pub holds : IsQueueOrder (entry b) (interlinks b) current (order_in state interlinks b current)
+    pub queue_is : queue_in state interlinks b current ≡ q
 
-  pub task_written : (i : ℕ) (t : T) → view b ≡ view_with_value (view a) i t → links b ≡ links a → IsQueue (with_task (queue_in view entry links ascends was_read a current) i t)
+  pub task_written : (i : ℕ) (t : T) → view b ≡ view_with_value (view a) i t → interlinks b ≡ interlinks a → IsQueue (with_task (queue_in state interlinks a current) i t)
   task_written i t was same =
-      let now = settle view entry links ascends was_read b current _ (order-written (entry a) (links a) current _ is (entry b) (links b) i t (value_there view entry links was_read a b i t was) (values_elsewhere view entry links was_read a b i t was) same) in
+      let now = settle state interlinks b current _ (order-written (entry a) (interlinks a) current _ is (entry b) (interlinks b) i t (value_there state interlinks a b i t was) (values_elsewhere state interlinks a b i t was) same) in
       record { holds = now.holds; queue_is = λ k. record { order = now.is_found k; capacity = (ap (λ (s : ArenaView Gen T). s.capacity) was) k; maximum = (ap (λ (s : ArenaView Gen T). s.maximum) was) k } }
 
 -- The growth of an arena is that of its queue.
-module _ {A Gen T : Type 0} (view : A → ArenaView Gen T) (entry : A → ℕ → Option (Gen × T)) (links : A → LinkMap) (ascends : (a : A) → AscendsFrom 1 (view a).entries) (was_read : (a : A) (i : ℕ) → found i (view a).entries ≡ entry a i) (a b : A) where
+module _ {A Gen T : Type 0} {view : A → ArenaView Gen T} {entry : A → ℕ → Option (Gen × T)} (state : (a : A) → ArenaState (view a) (entry a)) (interlinks : A → LinkMap) (a b : A) where
   -- There are as many tasks as entries.
-  task_count : (current : Option (ℕ × Gen)) → IsQueueOrder (entry a) (links a) current (order_in view entry links ascends was_read a current) → count (view a) ≡ length (order_in view entry links ascends was_read a current)
-  task_count current is = order_length (entry a) (links a) current _ (view a).entries is (ascends a) (was_read a)
+  task_count : (current : Option (ℕ × Gen)) → IsQueueOrder (entry a) (interlinks a) current (order_in state interlinks a current) → count (view a) ≡ length (order_in state interlinks a current)
+  task_count current is = order_length (entry a) (interlinks a) current _ (view a).entries is (state a).ascends (state a).finds
 
-  module _ {P : Type 0} (key : P → ℕ × Gen) (greatest : ℕ) (current next : Option P) (t : T) (is : IsQueueOrder (entry a) (links a) (option_map key current) (order_in view entry links ascends was_read a (option_map key current))) where
-    pub task_spawned : (result : Result P ReallocationError) → IfOk result (λ p. order_in view entry links ascends was_read b (option_map key next) ≡ order_in view entry links ascends was_read a (option_map key current) ++ (key p, t) ∷ [])
-        → IsGrowthResult (RefusesOneMore (view a)) (λ p. AppendsNewTask entry links view greatest a b (option_map key current) (option_map key (option_or current (Some p))) (key p, t)) result
-        → SpawnsTask key greatest (queue_in view entry links ascends was_read a (option_map key current)) t result (queue_in view entry links ascends was_read b (option_map key next))
+  module _ {P : Type 0} (key : P → ℕ × Gen) (greatest : ℕ) (current next : Option P) (t : T) (is : IsQueueOrder (entry a) (interlinks a) (option_map key current) (order_in state interlinks a (option_map key current))) where
+    pub task_spawned : (result : Result P ReallocationError) → IfOk result (λ p. order_in state interlinks b (option_map key next) ≡ order_in state interlinks a (option_map key current) ++ (key p, t) ∷ [])
+        → IsGrowthResult (RefusesOneMore (view a)) (λ p. AppendsNewTask state interlinks greatest a b (option_map key current) (option_map key (option_or current (Some p))) (key p, t)) result
+        → IsGrowthResult (RefusesOneMore (arena_view (queue_in state interlinks a (option_map key current)))) (λ p. IsTaskLast greatest (queue_in state interlinks a (option_map key current)) (key p) t (queue_in state interlinks b (option_map key next))) result
     task_spawned (Ok p) last done = (
       last,
-      free_index (entry a) (links a) (option_map key current) _ is (key p).0 done.1,
+      free_index (entry a) (interlinks a) (option_map key current) _ is (key p).0 done.1,
       done.2,
       subst (λ (n : ℕ). IsCapacityFor greatest (view b).maximum (n + 1) (view b).capacity × (n + 1 ≤ (view a).capacity → (view b).capacity ≡ (view a).capacity)) (task_count (option_map key current) is) done.3,
     )
     task_spawned (Err refused.BeyondMaxCapacity) last full = subst (λ (n : ℕ). (n ≡ (view a).capacity) × IsBeyond (view a).maximum (n + 1)) (task_count (option_map key current) is) full
     task_spawned (Err refused.AllocError) last full = subst (λ (n : ℕ). (n ≡ (view a).capacity) × (IsBeyond (view a).maximum (n + 1) → ⊥)) (task_count (option_map key current) is) full
 
-  module _ (greatest additional : ℕ) (current : Option (ℕ × Gen)) (is : IsQueueOrder (entry a) (links a) current (order_in view entry links ascends was_read a current)) (stored : entry b ≡ entry a) (linked : links b ≡ links a) where
+  module _ (greatest additional : ℕ) (current : Option (ℕ × Gen)) (is : IsQueueOrder (entry a) (interlinks a) current (order_in state interlinks a current)) (stored : entry b ≡ entry a) (linked : interlinks b ≡ interlinks a) where
     pub tasks_reserved : (result : Result Unit ReallocationError) → Reserves greatest (count (view a) + additional) (view a) result (view b)
-        → ReservesTasks greatest additional (queue_in view entry links ascends was_read a current) result (queue_in view entry links ascends was_read b current)
+        → Reserves greatest (length (order_in state interlinks a current) + additional) (arena_view (queue_in state interlinks a current)) result (arena_view (queue_in state interlinks b current))
     tasks_reserved (Ok done) reserved =
         let size : count (view b) ≡ count (view a) = ap count reserved.0 in
         let maximum : (view b).maximum ≡ (view a).maximum = ap (λ (s : ArenaView Gen T). s.maximum) reserved.0 in (

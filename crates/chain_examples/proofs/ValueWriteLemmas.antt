@@ -5,7 +5,7 @@ use Rattle.std.specs.Option.{option_map}
 use Rattle.std.proofs.lemmas.Bool.{cases_eq, eq-eqb, ne_eqb}
 use Rattle.std.proofs.lemmas.List.{map-append}
 use Rattle.chain_laws.specs.Chains.{LinkMap, linear, IsChain, IsMember, AreDistinct}
-use Rattle.arena_traits.specs.Entries.{ArenaView, found, first_key, index_of, with_replacement, view_with_value}
+use Rattle.arena_traits.specs.Entries.{ArenaView, ArenaState, found, first_key, index_of, with_replacement, view_with_value}
 use Rattle.chain_examples.specs.Lists.{Item, AreEntries, indexes}
 use Rattle.chain_examples.specs.Texts.{HasNewValue}
 use Rattle.chain_examples.proofs.ItemListLemmas.{are_stored-append, are_stored-left, are_stored-right, are_stored-frame}
@@ -96,23 +96,23 @@ module _ {Gen T : Type 0} where
         (cases_eq k i)
 
 -- A value written in an arena.
-module _ {A Gen T : Type 0} (view : A → ArenaView Gen T) (entry : A → ℕ → Option (Gen × T)) (links : A → LinkMap) (was_read : (a : A) (i : ℕ) → found i (view a).entries ≡ entry a i)
+module _ {A Gen T : Type 0} {view : A → ArenaView Gen T} {entry : A → ℕ → Option (Gen × T)} (state : (a : A) → ArenaState (view a) (entry a)) (interlinks : A → LinkMap)
     (a b : A) (i : ℕ) (t : T) (was : view b ≡ view_with_value (view a) i t) where
   pub value_there : entry b i ≡ option_map (valued t) (entry a i)
-  value_there = sym (was_read b i) ∙ (ap (λ (s : ArenaView Gen T). found i s.entries) was ∙ (found-written i t (view a).entries ∙ ap (option_map (valued t)) (was_read a i)))
+  value_there = sym ((state b).finds i) ∙ (ap (λ (s : ArenaView Gen T). found i s.entries) was ∙ (found-written i t (view a).entries ∙ ap (option_map (valued t)) ((state a).finds i)))
 
   pub values_elsewhere : (k : ℕ) → k ≢ i → entry b k ≡ entry a k
-  values_elsewhere k other = sym (was_read b k) ∙ (ap (λ (s : ArenaView Gen T). found k s.entries) was ∙ (found-unwritten k i t (view a).entries other ∙ was_read a k))
+  values_elsewhere k other = sym ((state b).finds k) ∙ (ap (λ (s : ArenaView Gen T). found k s.entries) was ∙ (found-unwritten k i t (view a).entries other ∙ (state a).finds k))
 
   -- The item of a text has the new value, and the others keep theirs.
-  pub has_new_value : (g : Gen) → links b ≡ links a → HasNewValue view entry links a b (i, g) t
+  pub has_new_value : (g : Gen) → interlinks b ≡ interlinks a → HasNewValue state interlinks a b (i, g) t
   has_new_value g same = record {
     text = λ s before after is.
         let right = are_stored-right (entry a) before (((i, g), s) ∷ after) is.are_stored in
         let other = (apart before ((i, g), s) after is.chain.1).0 in
         let indexes_stay : indexes (before ++ ((i, g), s) ∷ after) ≡ indexes (before ++ ((i, g), t) ∷ after) = map-append index_of before (((i, g), s) ∷ after) ∙ sym (map-append index_of before (((i, g), t) ∷ after)) in
         record {
-          chain = subst (λ (l : List ℕ). IsChain (links b) (linear l)) indexes_stay (subst (λ (l : LinkMap). IsChain l (linear (indexes (before ++ ((i, g), s) ∷ after)))) (sym same) is.chain);
+          chain = subst (λ (l : List ℕ). IsChain (interlinks b) (linear l)) indexes_stay (subst (λ (l : LinkMap). IsChain l (linear (indexes (before ++ ((i, g), s) ∷ after)))) (sym same) is.chain);
           are_stored = are_stored-append (entry b) before (((i, g), t) ∷ after)
               (are_stored-frame (entry a) (entry b) before (λ k has. values_elsewhere k (λ is_i. other (has_left before after i (subst (IsMember (indexes before)) is_i has)))) (are_stored-left (entry a) before (((i, g), s) ∷ after) is.are_stored))
               (value_there ∙ ap (option_map (valued t)) right.0, are_stored-frame (entry a) (entry b) after (λ k has. values_elsewhere k (λ is_i. other (has_right before after i (subst (IsMember (indexes after)) is_i has)))) right.1);
@@ -121,6 +121,6 @@ module _ {A Gen T : Type 0} (view : A → ArenaView Gen T) (entry : A → ℕ �
       chain = subst (λ (l : LinkMap). IsChain l (linear (indexes items))) (sym same) is.chain;
       are_stored = are_stored-frame (entry a) (entry b) items (λ k has. values_elsewhere k (λ is_i. absent.0 (subst (IsMember (indexes items)) is_i has))) is.are_stored;
     };
-    state = was;
+    view_after = was;
     order = same;
   }

@@ -3,3 +3,4 @@ pub mod Rings
 pub mod Texts
 pub mod QueueOrder
 pub mod Rows
+pub mod Sizes

@@ -1,11 +1,14 @@
 -- Lists of items stored in an arena: texts (linear), rings (cyclic), and the order of a queue.
-use Rattle.std.specs.Prelude.{◌≡◌, ◌≢◌, ℕ, ◌+◌, List, [], ◌∷◌, ◌++◌, map, Option, None, Some, Result, is_some, true}
+use Rattle.std.specs.Prelude.{◌≡◌, ◌≢◌, ◌↔◌, ℕ, ◌+◌, List, [], ◌∷◌, ◌++◌, map, IsSome, IfSome, OnErr, Option, None, Some, Result, is_some, true}
+use Rattle.std.specs.Borrow.{Bor}
+use Rattle.arena_core.specs.PointerKinds.{PointerKind}
 use Rattle.arena_core.specs.declared.errors.ChainInsertionError.{ChainInsertionError}
 use Rattle.arena_core.specs.declared.errors.ReallocationError.{ReallocationError}
 use Rattle.chain_laws.specs.Chains.{LinkMap, Chain, linear, cyclic, IsChain, IsMember}
 use Rattle.chain_laws.specs.Frame.{IsDisjointFrom}
 use Rattle.arena_traits.specs.Arena.{IsValid}
-use Rattle.arena_traits.specs.Entries.{ArenaView, count, index_of, first_key, view_after_removal}
+use Rattle.arena_traits.specs.Entries.{ArenaView, ArenaState, count, index_of, first_key}
+use Rattle.arena_traits.specs.CallOutcomes.{IsEntryRemoved}
 use Rattle.arena_traits.specs.Growth.{IsGrowthResult, RefusesOneMore, GrowsForOneMore}
 use Rattle.chain_links.specs.CallEffects.{IsInsertionResult}
 use Rattle.chain_links.specs.ChainArena.{IsInserted}
@@ -23,6 +26,13 @@ module _ {Gen T : Type 0} where
   AreEntries entry [] = Unit {0}
   AreEntries entry (e ∷ items) = (entry e.0.0 ≡ Some (e.0.1, e.1)) × AreEntries entry items
 
+  -- The value of the item of `p` is read, if `p` is valid.
+  abbrev pub ReadsItem : (ℕ → Option (Gen × T)) → ℕ × Gen → Option (Bor T) → Type 0
+  ReadsItem entry p result = record {
+    some : IsSome result ↔ IsValid entry p;
+    value : IfSome result (λ t. entry p.0 ≡ Some (p.1, t.now));
+  }
+
 module _ {Gen T : Type 0} (entry : ℕ → Option (Gen × T)) (links : LinkMap) where
   -- `order` lists all entries of the arena, which form one ring, from the current one on.
   pub record IsQueueOrder (current : Option (ℕ × Gen)) (order : List (Item Gen T)) : Type 0 where
@@ -31,11 +41,11 @@ module _ {Gen T : Type 0} (entry : ℕ → Option (Gen × T)) (links : LinkMap) 
     pub are_stored : AreEntries entry order
     pub all : (i : ℕ) → is_some (entry i) ≡ true → IsMember (indexes order) i
 
--- `entry` gives the entry at each index of an arena, `links` the interlinks.
-module _ {A Gen T : Type 0} (entry : A → ℕ → Option (Gen × T)) (links : A → LinkMap) where
+-- An arena is seen by its state and its interlinks.
+module _ {A Gen T : Type 0} {view : A → ArenaView Gen T} {entry : A → ℕ → Option (Gen × T)} (state : (a : A) → ArenaState (view a) (entry a)) (interlinks : A → LinkMap) where
   -- The items are stored in the arena as exactly one chain, linear or cyclic by `shape`.
   pub record IsListOf (shape : List ℕ → Chain) (arena : A) (items : List (Item Gen T)) : Type 0 where
-    pub chain : IsChain (links arena) (shape (indexes items))
+    pub chain : IsChain (interlinks arena) (shape (indexes items))
     pub are_stored : AreEntries (entry arena) items
 
   -- A text is a linear list, from start to end; a ring is a cyclic one, listed from any item.
@@ -61,12 +71,11 @@ module _ {A Gen T : Type 0} (entry : A → ℕ → Option (Gen × T)) (links : A
     abbrev pub Leaves : Item Gen T → Type 0
     Leaves e = (before after : List (Item Gen T)) → IsListOf shape old (before ++ e ∷ after) → before ++ after ≢ [] → IsListOf shape new (before ++ after)
 
--- `view` gives the entries, the capacity and its limit.
-module _ {A Gen T : Type 0} (view : A → ArenaView Gen T) (entry : A → ℕ → Option (Gen × T)) (links : A → LinkMap) (shape : List ℕ → Chain) where
+module _ {A Gen T : Type 0} {view : A → ArenaView Gen T} {entry : A → ℕ → Option (Gen × T)} (state : (a : A) → ArenaState (view a) (entry a)) (interlinks : A → LinkMap) (shape : List ℕ → Chain) where
   module _ (old new : A) where
     -- Only lists that contain one of these pointers change. The entries and the view stay.
     pub record ChangesOnlyListsOf (pointers : List (ℕ × Gen)) : Type 0 where
-      pub others : KeepsWithout entry links shape old new pointers
+      pub others : KeepsWithout state interlinks shape old new pointers
       pub entries : entry new ≡ entry old
       pub view_after : view new ≡ view old
 
@@ -74,47 +83,52 @@ module _ {A Gen T : Type 0} (view : A → ArenaView Gen T) (entry : A → ℕ �
     pub record IsItemInserted (list_after : Type 0) (beside : List (ℕ × Gen)) (e : Item Gen T) : Type 0 where
       pub list : list_after
       pub item : IsInserted (entry old) (entry new) e.0 e.1
-      pub others : KeepsWithout entry links shape old new beside
+      pub others : KeepsWithout state interlinks shape old new beside
       pub size : count (view new) ≡ count (view old) + 1
       pub maximum : (view new).maximum ≡ (view old).maximum
 
     -- Item `e` is the only one of a new list.
     abbrev pub IsItemStarted : Item Gen T → Type 0
-    IsItemStarted e = IsItemInserted (IsListOf entry links shape new (e ∷ [])) [] e
+    IsItemStarted e = IsItemInserted (IsListOf state interlinks shape new (e ∷ [])) [] e
 
     -- Item `e` is inserted directly after `p`, or directly before it.
     abbrev pub IsItemAfter : ℕ × Gen → Item Gen T → Type 0
-    IsItemAfter p e = IsItemInserted (InsertsAfter entry links shape old new p e) (p ∷ []) e
+    IsItemAfter p e = IsItemInserted (InsertsAfter state interlinks shape old new p e) (p ∷ []) e
 
     abbrev pub IsItemBefore : ℕ × Gen → Item Gen T → Type 0
-    IsItemBefore p e = IsItemInserted (InsertsBefore entry links shape old new p e) (p ∷ []) e
+    IsItemBefore p e = IsItemInserted (InsertsBefore state interlinks shape old new p e) (p ∷ []) e
 
-    -- Item `e` is removed, and the counter advances.
-    pub record IsItemRemoved (following : Gen → Gen) (e : Item Gen T) : Type 0 where
-      pub was_stored : entry old e.0.0 ≡ Some (e.0.1, e.1)
-      pub list : Leaves entry links shape old new e
+    -- Item `e` is removed from the arena and from its list.
+    pub record IsItemRemoved {P I W : Type 0} (pointers : PointerKind P I Gen W) (e : Item Gen T) : Type 0 where
+      pub removed : IsEntryRemoved state pointers old e.0.0 e.0.1 e.1 new
+      pub list : Leaves state interlinks shape old new e
       pub gone : entry new e.0.0 ≡ None
       pub entries : (i : ℕ) → i ≢ e.0.0 → entry new i ≡ entry old i
-      pub others : KeepsWithout entry links shape old new (e.0 ∷ [])
+      pub others : KeepsWithout state interlinks shape old new (e.0 ∷ [])
       pub size : count (view old) ≡ count (view new) + 1
-      pub view_after : view new ≡ view_after_removal following (view old) e.0.0
 
   module _ {P : Type 0} (key : P → ℕ × Gen) (greatest : ℕ) where
     -- A new list of the value `t` begins, after a growth if the arena was full.
     abbrev pub StartsList : A → T → Result P ReallocationError → A → Type 0
-    StartsList old t result new =
-        IsGrowthResult (RefusesOneMore (view old)) (λ q. IsItemStarted old new (key q, t) × GrowsForOneMore greatest (view old) (view new)) result
+    StartsList old t result new = record {
+      outcome : IsGrowthResult (RefusesOneMore (view old)) (λ q. IsItemStarted old new (key q, t) × GrowsForOneMore greatest (view old) (view new)) result;
+      err : OnErr result (new ≡ old);
+    }
 
     -- The value `t` is inserted directly after `p`, or directly before it, after such a growth.
     abbrev pub InsertsItemAfter : A → ℕ × Gen → T → Result P ChainInsertionError → A → Type 0
-    InsertsItemAfter old p t result new =
-        IsInsertionResult (IsValid (entry old) p) (RefusesOneMore (view old)) (λ q. IsItemAfter old new p (key q, t) × GrowsForOneMore greatest (view old) (view new)) result
+    InsertsItemAfter old p t result new = record {
+      outcome : IsInsertionResult (IsValid (entry old) p) (RefusesOneMore (view old)) (λ q. IsItemAfter old new p (key q, t) × GrowsForOneMore greatest (view old) (view new)) result;
+      err : OnErr result (new ≡ old);
+    }
 
     abbrev pub InsertsItemBefore : A → ℕ × Gen → T → Result P ChainInsertionError → A → Type 0
-    InsertsItemBefore old p t result new =
-        IsInsertionResult (IsValid (entry old) p) (RefusesOneMore (view old)) (λ q. IsItemBefore old new p (key q, t) × GrowsForOneMore greatest (view old) (view new)) result
+    InsertsItemBefore old p t result new = record {
+      outcome : IsInsertionResult (IsValid (entry old) p) (RefusesOneMore (view old)) (λ q. IsItemBefore old new p (key q, t) × GrowsForOneMore greatest (view old) (view new)) result;
+      err : OnErr result (new ≡ old);
+    }
 
   -- The item of `p` is removed and its value returned, if `p` is valid.
-  abbrev pub RemovesItem : (Gen → Gen) → A → ℕ × Gen → Option T → A → Type 0
-  RemovesItem following old p None new = IsValid (entry old) p → ⊥
-  RemovesItem following old p (Some t) new = IsItemRemoved old new following (p, t)
+  abbrev pub RemovesItem : {P I W : Type 0} → PointerKind P I Gen W → A → P → Option T → A → Type 0
+  RemovesItem pointers old p None new = (IsValid (entry old) (pointers.key p) → ⊥) × (new ≡ old)
+  RemovesItem pointers old p (Some t) new = IsItemRemoved old new pointers (pointers.key p, t)

@@ -1,18 +1,19 @@
 -- The ghost members of `ChainArenaTrait`, for the rows of loans.
-use Rattle.std.specs.Prelude.{ℕ}
 use Rattle.chain_laws.specs.Chains.{LinkMap}
 use Rattle.chain_laws.specs.Walks.{Walker}
 use Rattle.chain_links.specs.declared.kinds.InsertKindBody.{InsertKindBody}
 use Rattle.chain_traits.specs.declared.chain_traits.ChainArenaTrait.{Ghosts}
 
 -- The members that the trait adds to an arena, in its order.
-abbrev pub chain_members : {A P T C D I G W : Type 0} → (A → LinkMap) → (C → Walker) → (A → InsertKindBody P I → T → P → A → Type 0) → (connects breaks exchanges : A → ℕ → ℕ → A → Type 0) → (A → A → Type 0) → Ghosts A P T C D I G W
-chain_members interlinks walker inserts connects breaks exchanges compresses_canonically = record {
+abbrev pub chain_members : {A P T C D I G W : Type 0} → (A → LinkMap) → (C → Walker) → (A → InsertKindBody P I → T → A → P → Type 0) → (connects : A → P → P → A → Type 0) → (breaks_prev breaks_next : A → P → A → Type 0)
+    → (exchanges : A → P → P → A → Type 0) → (A → A → Type 0) → Ghosts A P T C D I G W
+chain_members interlinks walker inserts connects breaks_prev breaks_next exchanges compresses_canonically = record {
   interlinks = interlinks;
   walker = walker;
   inserts = inserts;
   connects = connects;
-  breaks = breaks;
+  breaks_prev = breaks_prev;
+  breaks_next = breaks_next;
   exchanges = exchanges;
   compresses_canonically = compresses_canonically;
 }

@@ -1,20 +1,17 @@
 //! Ordered documents, whose paragraphs are all stored in one arena.
 
-ghost use Rattle.std.specs.Prelude.{◌≡◌, ◌≢◌, ◌↔◌, ◌+◌, ◌<◌, ◌≤◌, List, [], ◌∷◌, ◌++◌, IsTrue, IsSome, IfSome, OnSome, IfNone, OnErr, Some, None};
+ghost use Rattle.std.specs.Prelude.{◌≡◌, ◌↔◌, ◌+◌, ◌<◌, [], IsTrue, IsSome, IfSome, OnSome, Some, None};
 ghost use Rattle.std.specs.Option.{option_map};
 ghost use Rattle.std.specs.Borrow.{Lends, LendsSo, sem};
-ghost use Rattle.arena_core.specs.SlotStack.{IsWithinMaximum};
-ghost use Rattle.chain_laws.specs.Chains.{linear, IsMember, next_of, prev_of};
+ghost use Rattle.chain_laws.specs.Chains.{linear};
 ghost use Rattle.arena_traits.specs.Arena.{IsValid};
-ghost use Rattle.arena_traits.specs.Entries.{count, first_key, last_key};
-ghost use Rattle.arena_traits.specs.Growth.{Reserves};
-ghost use Rattle.chain_links.specs.ChainArena.{CanConnect};
 ghost use Rattle.chain_examples.specs.Rows.{chain_members};
-ghost use Rattle.chain_examples.specs.Lists.{Item, indexes, IsText, ChangesOnlyListsOf, StartsList, InsertsItemAfter, InsertsItemBefore, RemovesItem};
-ghost use Rattle.chain_examples.specs.Texts.{HasTextNeighbors, EndsIn, BeginsWith, AreJoined, IsClosed, IsSeparated, IsPutAfter, IsMovedAfter, HasNewValue};
+ghost use Rattle.chain_examples.specs.Sizes.{ReservesMore, StartsEmpty, CountsEntries, ReportsCapacity};
+ghost use Rattle.chain_examples.specs.Lists.{StartsList, InsertsItemAfter, InsertsItemBefore, RemovesItem, ReadsItem};
+ghost use Rattle.chain_examples.specs.Texts.{HasTextNeighbors, ClosesTexts, PutsAfter, HasNewValue, ReadsNext, ReadsPrev, SplitsAfter, SplitsBefore, JoinsTexts, SeparatesItem, MovesItemAfter};
 
 use crate::growth::reserve;
-use arena_ptr::{ChainInsertionError, GenKey, InxKey, PtrKey, ReallocationError};
+use arena_ptr::{AnyPointer, ChainInsertionError, GenKey, InxKey, PtrKey, ReallocationError};
 use chain_links::LinkInsertKind;
 use chain_traits::ChainArenaTrait;
 use std::alloc::Global;
@@ -44,8 +41,7 @@ impl<P: PtrKey, T: Drop, A: ChainArenaTrait<P, T> + Drop> Documents<P, T, A> {
 
     /// Creates an empty set of documents. It does not allocate.
     pub fn new(alloc: Global) -> Self
-        ensures paragraphs { (A.view result).entries ≡ [] }
-        ensures capacity { (A.view result).capacity ≡ 0 }
+        ensures { StartsEmpty (A.view result) }
     {
         Documents {
             paragraphs: A::new(alloc),
@@ -55,8 +51,7 @@ impl<P: PtrKey, T: Drop, A: ChainArenaTrait<P, T> + Drop> Documents<P, T, A> {
 
     /// Returns the number of paragraphs, which is at most the capacity.
     pub fn len(&self) -> usize
-        ensures count { result ≡ count (A.view self.now) }
-        ensures fits { result ≤ (A.view self.now).capacity }
+        ensures { CountsEntries (A.view self.now) result }
     {
         self.paragraphs.len()
     }
@@ -70,9 +65,7 @@ impl<P: PtrKey, T: Drop, A: ChainArenaTrait<P, T> + Drop> Documents<P, T, A> {
 
     /// Returns the number of paragraphs that the arena can hold without growing.
     pub fn capacity(&self) -> usize
-        ensures value { result ≡ (A.view self.now).capacity }
-        ensures limits { (result ≤ P.Inx.greatest)
-            × IsWithinMaximum (A.view self.now).maximum result }
+        ensures { ReportsCapacity (A.view self.now) P.Inx.greatest result }
     {
         self.paragraphs.capacity()
     }
@@ -95,13 +88,8 @@ impl<P: PtrKey, T: Drop, A: ChainArenaTrait<P, T> + Drop> Documents<P, T, A> {
     ///
     /// On error, nothing changes.
     pub fn reserve(&mut self, additional: usize) -> Result<(), ReallocationError>
-        ensures outcome { Reserves P.Inx.greatest (count (A.view self.old) + additional)
-            (A.view self.old) result (A.view self.new) }
-        ensures within { count (A.view self.old) + additional ≤ (A.view self.old).capacity
-            → self.new ≡ self.old }
-        ensures texts { (A.entry self.new ≡ A.entry self.old)
-            × (A.interlinks self.new ≡ A.interlinks self.old) }
-        ensures err { OnErr result (self.new ≡ self.old) }
+        ensures { ReservesMore A.state A.interlinks P.Inx.greatest additional self.old result
+            self.new }
     {
         reserve(&mut self.paragraphs, additional)
     }
@@ -117,9 +105,8 @@ impl<P: PtrKey, T: Drop, A: ChainArenaTrait<P, T> + Drop> Documents<P, T, A> {
     ///
     /// On error, nothing changes and the paragraph is dropped.
     pub fn begin(&mut self, paragraph: T) -> Result<P, ReallocationError>
-        ensures outcome { StartsList A.view A.entry A.interlinks linear P.key P.Inx.greatest
+        ensures { StartsList A.state A.interlinks linear P.key P.Inx.greatest
             self.old paragraph result self.new }
-        ensures err { OnErr result (self.new ≡ self.old) }
     {
         self.paragraphs.agrees();
         self.paragraphs
@@ -128,9 +115,7 @@ impl<P: PtrKey, T: Drop, A: ChainArenaTrait<P, T> + Drop> Documents<P, T, A> {
 
     /// Returns a reference to the paragraph at `p`, or `None` if `p` is not valid.
     pub fn get(&self, p: P) -> Option<&T>
-        ensures some { IsSome result ↔ IsValid (A.entry self.now) (P.key p) }
-        ensures paragraph { IfSome result (λ t. A.entry self.now (P.key p).0 ≡ Some
-            ((P.key p).1, t.now)) }
+        ensures { ReadsItem (A.entry self.now) (P.key p) result }
     {
         self.paragraphs.get(p)
     }
@@ -142,12 +127,12 @@ impl<P: PtrKey, T: Drop, A: ChainArenaTrait<P, T> + Drop> Documents<P, T, A> {
         ensures* writes_back { sem 𝓛 (LendsSo
             (the_row P.row T.row A.row P.Inx.row P.Gen.row P.Inx.Word.row
             A.ChainPtrAdvancer.row A.PtrAdvancer.row P.PtrKey P.Inx.InxKey P.Gen.GenKey
-            (chain_members A.interlinks A.walker A.inserts A.connects A.breaks A.exchanges
-            A.compresses_canonically) A.ArenaTrait A.PtrAdvancer.Advancer
+            (chain_members A.interlinks A.walker A.inserts A.connects A.breaks_prev
+            A.breaks_next A.exchanges A.compresses_canonically) A.ArenaTrait A.PtrAdvancer.Advancer
             A.ChainPtrAdvancer.Advancer)
             T.row self.entry result
             (λ new t. OnSome result
-            (HasNewValue A.view A.entry A.interlinks self.old new (P.key p) t))
+            (HasNewValue A.state A.interlinks self.old new (P.key p) t))
             (λ new. new ≡ self.old)) }
         ensures some { IsSome result ↔ IsValid (A.entry self.old) (P.key p) }
         ensures paragraph { IfSome result (λ t. A.entry self.old (P.key p).0
@@ -167,8 +152,8 @@ impl<P: PtrKey, T: Drop, A: ChainArenaTrait<P, T> + Drop> Documents<P, T, A> {
         ensures* writes_back { sem 𝓛 (Lends
             (the_row P.row T.row A.row P.Inx.row P.Gen.row P.Inx.Word.row
             A.ChainPtrAdvancer.row A.PtrAdvancer.row P.PtrKey P.Inx.InxKey P.Gen.GenKey
-            (chain_members A.interlinks A.walker A.inserts A.connects A.breaks A.exchanges
-            A.compresses_canonically) A.ArenaTrait A.PtrAdvancer.Advancer
+            (chain_members A.interlinks A.walker A.inserts A.connects A.breaks_prev
+            A.breaks_next A.exchanges A.compresses_canonically) A.ArenaTrait A.PtrAdvancer.Advancer
             A.ChainPtrAdvancer.Advancer)
             A.row self.entry result (λ arena. arena)) }
         ensures arena { result.now ≡ self.old }
@@ -180,13 +165,7 @@ impl<P: PtrKey, T: Drop, A: ChainArenaTrait<P, T> + Drop> Documents<P, T, A> {
     ///
     /// Returns `None` if `p` is not valid or is the last paragraph.
     pub fn next(&self, p: P) -> Option<P>
-        ensures none { ¬ IsValid (A.entry self.now) (P.key p) → result ≡ None }
-        ensures next { (t : T) (before after : List (Item P.Gen T))
-            → IsText A.entry A.interlinks self.now (before ++ (P.key p, t) ∷ after)
-            → option_map P.key result ≡ first_key after }
-        ensures together { IfSome result (λ q. (text : List (Item P.Gen T))
-            → IsText A.entry A.interlinks self.now text → IsMember (indexes text) (P.key q).0
-            → IsMember (indexes text) (P.key p).0) }
+        ensures { ReadsNext A.state A.interlinks P.key self.now p result }
     {
         match self.paragraphs.get_link(p) {
             Some(link) => link.next(),
@@ -198,13 +177,7 @@ impl<P: PtrKey, T: Drop, A: ChainArenaTrait<P, T> + Drop> Documents<P, T, A> {
     ///
     /// Returns `None` if `p` is not valid or is the first paragraph.
     pub fn prev(&self, p: P) -> Option<P>
-        ensures none { ¬ IsValid (A.entry self.now) (P.key p) → result ≡ None }
-        ensures prev { (t : T) (before after : List (Item P.Gen T))
-            → IsText A.entry A.interlinks self.now (before ++ (P.key p, t) ∷ after)
-            → option_map P.key result ≡ last_key before }
-        ensures together { IfSome result (λ q. (text : List (Item P.Gen T))
-            → IsText A.entry A.interlinks self.now text → IsMember (indexes text) (P.key q).0
-            → IsMember (indexes text) (P.key p).0) }
+        ensures { ReadsPrev A.state A.interlinks P.key self.now p result }
     {
         match self.paragraphs.get_link(p) {
             Some(link) => link.prev(),
@@ -224,9 +197,8 @@ impl<P: PtrKey, T: Drop, A: ChainArenaTrait<P, T> + Drop> Documents<P, T, A> {
     ///
     /// On error, nothing changes and the paragraph is dropped.
     pub fn insert_after(&mut self, p: P, paragraph: T) -> Result<P, ChainInsertionError>
-        ensures outcome { InsertsItemAfter A.view A.entry A.interlinks linear P.key P.Inx.greatest
+        ensures { InsertsItemAfter A.state A.interlinks linear P.key P.Inx.greatest
             self.old (P.key p) paragraph result self.new }
-        ensures err { OnErr result (self.new ≡ self.old) }
     {
         self.paragraphs.agrees();
         self.paragraphs
@@ -245,9 +217,8 @@ impl<P: PtrKey, T: Drop, A: ChainArenaTrait<P, T> + Drop> Documents<P, T, A> {
     ///
     /// On error, nothing changes and the paragraph is dropped.
     pub fn insert_before(&mut self, p: P, paragraph: T) -> Result<P, ChainInsertionError>
-        ensures outcome { InsertsItemBefore A.view A.entry A.interlinks linear P.key P.Inx.greatest
+        ensures { InsertsItemBefore A.state A.interlinks linear P.key P.Inx.greatest
             self.old (P.key p) paragraph result self.new }
-        ensures err { OnErr result (self.new ≡ self.old) }
     {
         self.paragraphs.agrees();
         self.paragraphs
@@ -259,9 +230,8 @@ impl<P: PtrKey, T: Drop, A: ChainArenaTrait<P, T> + Drop> Documents<P, T, A> {
     /// The paragraphs before and after it become neighbors. The capacity stays the same. Returns
     /// `None` and changes nothing if `p` is not valid.
     pub fn remove(&mut self, p: P) -> Option<T>
-        ensures outcome { RemovesItem A.view A.entry A.interlinks linear P.Gen.following self.old
-            (P.key p) result self.new }
-        ensures none { IfNone result (self.new ≡ self.old) }
+        ensures { RemovesItem A.state A.interlinks linear ⟦<P as AnyPointer>⟧.kind self.old p result
+            self.new }
     {
         self.paragraphs.agrees();
         self.paragraphs.remove(p).allow()
@@ -271,13 +241,7 @@ impl<P: PtrKey, T: Drop, A: ChainArenaTrait<P, T> + Drop> Documents<P, T, A> {
     ///
     /// Returns `None` and changes nothing if `p` is not valid or is the last paragraph.
     pub fn split_after(&mut self, p: P) -> Option<()>
-        ensures some { IsSome result
-            ↔ (IsValid (A.entry self.old) (P.key p)
-            × IsSome (next_of (A.interlinks self.old) (P.key p).0)) }
-        ensures texts { EndsIn A.entry A.interlinks self.old self.new (P.key p) }
-        ensures others { ChangesOnlyListsOf A.view A.entry A.interlinks linear self.old self.new
-            (P.key p ∷ []) }
-        ensures none { IfNone result (self.new ≡ self.old) }
+        ensures { SplitsAfter A.state A.interlinks self.old (P.key p) result self.new }
     {
         self.paragraphs.agrees();
         self.paragraphs.break_next(p)
@@ -287,13 +251,7 @@ impl<P: PtrKey, T: Drop, A: ChainArenaTrait<P, T> + Drop> Documents<P, T, A> {
     ///
     /// Returns `None` and changes nothing if `p` is not valid or is the first paragraph.
     pub fn split_before(&mut self, p: P) -> Option<()>
-        ensures some { IsSome result
-            ↔ (IsValid (A.entry self.old) (P.key p)
-            × IsSome (prev_of (A.interlinks self.old) (P.key p).0)) }
-        ensures texts { BeginsWith A.entry A.interlinks self.old self.new (P.key p) }
-        ensures others { ChangesOnlyListsOf A.view A.entry A.interlinks linear self.old self.new
-            (P.key p ∷ []) }
-        ensures none { IfNone result (self.new ≡ self.old) }
+        ensures { SplitsBefore A.state A.interlinks self.old (P.key p) result self.new }
     {
         self.paragraphs.agrees();
         self.paragraphs.break_prev(p)
@@ -307,21 +265,15 @@ impl<P: PtrKey, T: Drop, A: ChainArenaTrait<P, T> + Drop> Documents<P, T, A> {
     /// `p` and `q` are expected in different documents. `join` does not detect the end and the
     /// start of one document, since this takes a walk. They become a ring, which is not a document.
     pub fn join(&mut self, p: P, q: P) -> Option<()>
-        ensures some { IsSome result ↔ CanConnect (A.entry self.old) (A.interlinks self.old)
-            (P.key p) (P.key q) }
-        ensures texts { AreJoined A.entry A.interlinks self.old self.new (P.key p) (P.key q) }
-        ensures others { ChangesOnlyListsOf A.view A.entry A.interlinks linear self.old self.new
-            (P.key p ∷ P.key q ∷ []) }
-        ensures none { IfNone result (self.new ≡ self.old) }
+        ensures { JoinsTexts A.state A.interlinks self.old (P.key p) (P.key q) result self.new }
     {
         self.paragraphs.connect(p, q)
     }
 
     // Joins two documents at `end` and `start` if both are given.
     fn close(&mut self, end: Option<P>, start: Option<P>) -> Option<()>
-        ensures texts { IsClosed A.entry A.interlinks self.old self.new (option_map P.key end)
-            (option_map P.key start) }
-        ensures view_after { A.view self.new ≡ A.view self.old }
+        ensures { ClosesTexts A.state A.interlinks self.old (option_map P.key end)
+            (option_map P.key start) self.new }
     {
         let p = end?;
         let q = start?;
@@ -332,7 +284,7 @@ impl<P: PtrKey, T: Drop, A: ChainArenaTrait<P, T> + Drop> Documents<P, T, A> {
     // is not valid.
     fn beside(&self, p: P) -> Option<(Option<P>, Option<P>)>
         ensures some { IsSome result ↔ IsValid (A.entry self.now) (P.key p) }
-        ensures between { IfSome result (λ r. HasTextNeighbors A.entry A.interlinks self.now
+        ensures between { IfSome result (λ r. HasTextNeighbors A.state A.interlinks self.now
             (P.key p)
             (option_map P.key r.0) (option_map P.key r.1)) }
     {
@@ -345,11 +297,7 @@ impl<P: PtrKey, T: Drop, A: ChainArenaTrait<P, T> + Drop> Documents<P, T, A> {
     // Moves a paragraph out of its document into a document of its own. Returns `None` and changes
     // nothing if `p` is not valid.
     fn set_apart(&mut self, p: P) -> Option<()>
-        ensures some { IsSome result ↔ IsValid (A.entry self.old) (P.key p) }
-        ensures texts { IsSeparated A.entry A.interlinks self.old self.new (P.key p) }
-        ensures others { ChangesOnlyListsOf A.view A.entry A.interlinks linear self.old self.new
-            (P.key p ∷ []) }
-        ensures none { IfNone result (self.new ≡ self.old) }
+        ensures { SeparatesItem A.state A.interlinks self.old (P.key p) result self.new }
     {
         let (before, after) = self.beside(p)?;
         self.split_before(p);
@@ -360,9 +308,7 @@ impl<P: PtrKey, T: Drop, A: ChainArenaTrait<P, T> + Drop> Documents<P, T, A> {
 
     // Moves `p`, which is a document of its own, to directly after `q`.
     fn put_after(&mut self, p: P, q: P)
-        ensures texts { IsPutAfter A.entry A.interlinks self.old self.new (P.key p) (P.key q) }
-        ensures others { ChangesOnlyListsOf A.view A.entry A.interlinks linear self.old self.new
-            (P.key p ∷ P.key q ∷ []) }
+        ensures { PutsAfter A.state A.interlinks self.old (P.key p) (P.key q) self.new }
     {
         let after = self.next(q);
         self.split_after(q);
@@ -375,14 +321,8 @@ impl<P: PtrKey, T: Drop, A: ChainArenaTrait<P, T> + Drop> Documents<P, T, A> {
     /// Its pointer stays the same. Returns `None` and changes nothing if `p` or `q` is not valid,
     /// or if both are the same paragraph.
     pub fn move_after(&mut self, p: P, q: P) -> Option<()>
-        ensures some { IsSome result
-            ↔ (IsValid (A.entry self.old) (P.key p) × IsValid (A.entry self.old) (P.key q)
-            × (P.key p ≢ P.key q)) }
-        ensures texts { OnSome result (IsMovedAfter A.entry A.interlinks self.old self.new (P.key p)
-            (P.key q)) }
-        ensures others { ChangesOnlyListsOf A.view A.entry A.interlinks linear self.old self.new
-            (P.key p ∷ P.key q ∷ []) }
-        ensures none { IfNone result (self.new ≡ self.old) }
+        ensures { MovesItemAfter A.state A.interlinks self.old (P.key p) (P.key q) result
+            self.new }
     {
         if p.is_same(q) || !self.paragraphs.contains(q) {
             return None;

@@ -1,8 +1,8 @@
 //! `reserve` for any arena of links.
 
-ghost use Rattle.std.specs.Prelude.{◌≡◌, ◌≤◌, ◌<◌, ◌+◌, OnOk, OnErr, Err};
+ghost use Rattle.std.specs.Prelude.{◌+◌, OnOk};
 ghost use Rattle.arena_traits.specs.Entries.{count};
-ghost use Rattle.arena_traits.specs.Growth.{Reserves};
+ghost use Rattle.chain_examples.specs.Sizes.{ReservesMore};
 
 use arena_ptr::{InxKey, PtrKey, ReallocationError};
 use chain_traits::ChainArenaTrait;
@@ -21,15 +21,10 @@ pub(crate) fn reserve<P: PtrKey, T: Drop, A: ChainArenaTrait<P, T>>(
     arena: &mut A,
     additional: usize,
 ) -> Result<(), ReallocationError>
-    ensures outcome { Reserves P.Inx.greatest (count (A.view arena.old) + additional)
-        (A.view arena.old) result (A.view arena.new) }
-    ensures within { count (A.view arena.old) + additional ≤ (A.view arena.old).capacity
-        → arena.new ≡ arena.old }
-    ensures kept { (A.entry arena.new ≡ A.entry arena.old)
-        × (A.interlinks arena.new ≡ A.interlinks arena.old) }
+    ensures reserves { ReservesMore A.state A.interlinks P.Inx.greatest additional arena.old result
+        arena.new }
     ensures more { OnOk result (A.grows (count (A.view arena.old) + additional) arena.old
         arena.new) }
-    ensures err { OnErr result (arena.new ≡ arena.old) }
 {
     match arena.len().checked_add(additional) {
         Some(n) => arena.reallocate_min_capacity(n),

@@ -1,17 +1,15 @@
 //! A mesh of polygons, whose corners are all stored in one arena.
 
-ghost use Rattle.std.specs.Prelude.{◌≡◌, ◌↔◌, ◌+◌, ◌<◌, ◌≤◌, List, [], ◌∷◌, ◌++◌, IsTrue, IsSome, IfSome, IfNone, IfOk, OnErr, Err, None, Some};
-ghost use Rattle.std.specs.Option.{option_map};
-ghost use Rattle.arena_core.specs.SlotStack.{IsWithinMaximum};
+ghost use Rattle.std.specs.Prelude.{◌≡◌, ◌↔◌, ◌+◌, ◌<◌, ◌≤◌, [], IsTrue, IsSome, IfSome, Err, None, Some};
 ghost use Rattle.chain_laws.specs.Chains.{cyclic};
 ghost use Rattle.arena_traits.specs.Arena.{IsValid};
-ghost use Rattle.arena_traits.specs.Entries.{count, first_key, HasFreeCapacity};
-ghost use Rattle.arena_traits.specs.Growth.{Reserves};
-ghost use Rattle.chain_examples.specs.Lists.{Item, IsRing, StartsList, InsertsItemAfter, IsItemAfter, IsItemBefore, RemovesItem};
-ghost use Rattle.chain_examples.specs.Rings.{AllCyclic, AllInRings, AreTwoValid, ExchangesSuccessors, AddsDiagonal, SplitsRing, CutAndMergeRestore};
+ghost use Rattle.arena_traits.specs.Entries.{count, HasFreeCapacity};
+ghost use Rattle.chain_examples.specs.Sizes.{ReservesMore, StartsEmpty, CountsEntries, ReportsCapacity};
+ghost use Rattle.chain_examples.specs.Lists.{StartsList, InsertsItemAfter, RemovesItem, ReadsItem};
+ghost use Rattle.chain_examples.specs.Rings.{AllCyclic, AllInRings, AreTwoValid, AddsDiagonal, AddsAfter, AddsBefore, SplitsRing, CutAndMergeRestore, ReadsNextInRing, CutsOrMerges};
 
 use crate::growth::reserve;
-use arena_ptr::{ChainInsertionError, PtrKey, ReallocationError};
+use arena_ptr::{AnyPointer, ChainInsertionError, PtrKey, ReallocationError};
 use chain_links::LinkInsertKind;
 use chain_traits::ChainArenaTrait;
 use std::alloc::Global;
@@ -42,8 +40,7 @@ impl<P: PtrKey, T: Drop, A: ChainArenaTrait<P, T> + Drop> Model for Mesh<P, T, A
 impl<P: PtrKey, T: Drop, A: ChainArenaTrait<P, T> + Drop> Mesh<P, T, A> {
     /// Creates an empty mesh. It does not allocate.
     pub fn new(alloc: Global) -> Self
-        ensures corners { (A.view result).entries ≡ [] }
-        ensures capacity { (A.view result).capacity ≡ 0 }
+        ensures { StartsEmpty (A.view result) }
     {
         Mesh {
             corners: A::new(alloc),
@@ -53,8 +50,7 @@ impl<P: PtrKey, T: Drop, A: ChainArenaTrait<P, T> + Drop> Mesh<P, T, A> {
 
     /// Returns the number of corners.
     pub fn len(&self) -> usize
-        ensures count { result ≡ count (A.view self.now) }
-        ensures fits { result ≤ (A.view self.now).capacity }
+        ensures { CountsEntries (A.view self.now) result }
     {
         self.corners.len()
     }
@@ -68,9 +64,7 @@ impl<P: PtrKey, T: Drop, A: ChainArenaTrait<P, T> + Drop> Mesh<P, T, A> {
 
     /// Returns the number of corners that the mesh can hold without growing.
     pub fn capacity(&self) -> usize
-        ensures value { result ≡ (A.view self.now).capacity }
-        ensures limits { (result ≤ P.Inx.greatest)
-            × IsWithinMaximum (A.view self.now).maximum result }
+        ensures { ReportsCapacity (A.view self.now) P.Inx.greatest result }
     {
         self.corners.capacity()
     }
@@ -93,12 +87,8 @@ impl<P: PtrKey, T: Drop, A: ChainArenaTrait<P, T> + Drop> Mesh<P, T, A> {
     ///
     /// On error, nothing changes.
     pub fn reserve(&mut self, additional: usize) -> Result<(), ReallocationError>
-        ensures outcome { Reserves P.Inx.greatest (count (A.view self.old) + additional)
-            (A.view self.old) result (A.view self.new) }
-        ensures within { count (A.view self.old) + additional ≤ (A.view self.old).capacity
-            → self.new ≡ self.old }
-        ensures links { A.interlinks self.new ≡ A.interlinks self.old }
-        ensures err { OnErr result (self.new ≡ self.old) }
+        ensures { ReservesMore A.state A.interlinks P.Inx.greatest additional self.old result
+            self.new }
     {
         reserve(&mut self.corners, additional)
     }
@@ -107,16 +97,14 @@ impl<P: PtrKey, T: Drop, A: ChainArenaTrait<P, T> + Drop> Mesh<P, T, A> {
     ///
     /// It has no effect.
     pub fn all_in_polygons(&self)
-        ensures { AllInRings A.entry A.interlinks self.now }
+        ensures { AllInRings A.state A.interlinks self.now }
     {
         self.corners.invariants();
     }
 
     /// Returns a reference to the point of a corner, or `None` if `corner` is not valid.
     pub fn get(&self, corner: P) -> Option<&T>
-        ensures some { IsSome result ↔ IsValid (A.entry self.now) (P.key corner) }
-        ensures point { IfSome result (λ t. A.entry self.now (P.key corner).0 ≡ Some
-            ((P.key corner).1, t.now)) }
+        ensures { ReadsItem (A.entry self.now) (P.key corner) result }
     {
         self.corners.get(corner)
     }
@@ -125,10 +113,7 @@ impl<P: PtrKey, T: Drop, A: ChainArenaTrait<P, T> + Drop> Mesh<P, T, A> {
     ///
     /// The only corner of a polygon is its own next corner.
     pub fn next(&self, corner: P) -> Option<P>
-        ensures none { ¬ IsValid (A.entry self.now) (P.key corner) → result ≡ None }
-        ensures next { (t : T) (others : List (Item P.Gen T))
-            → IsRing A.entry A.interlinks self.now ((P.key corner, t) ∷ others)
-            → option_map P.key result ≡ first_key (others ++ (P.key corner, t) ∷ []) }
+        ensures { ReadsNextInRing A.state A.interlinks P.key self.now corner result }
     {
         match self.corners.get_link(corner) {
             Some(link) => link.next(),
@@ -145,9 +130,8 @@ impl<P: PtrKey, T: Drop, A: ChainArenaTrait<P, T> + Drop> Mesh<P, T, A> {
     ///
     /// On error, nothing changes and the point is dropped.
     pub fn start(&mut self, point: T) -> Result<P, ReallocationError>
-        ensures outcome { StartsList A.view A.entry A.interlinks cyclic P.key P.Inx.greatest
+        ensures { StartsList A.state A.interlinks cyclic P.key P.Inx.greatest
             self.old point result self.new }
-        ensures err { OnErr result (self.new ≡ self.old) }
     {
         self.corners.agrees();
         self.corners.insert(LinkInsertKind::SingleLinkCyclic, point)
@@ -163,9 +147,8 @@ impl<P: PtrKey, T: Drop, A: ChainArenaTrait<P, T> + Drop> Mesh<P, T, A> {
     ///
     /// On error, nothing changes and the point is dropped.
     pub fn insert_after(&mut self, corner: P, point: T) -> Result<P, ChainInsertionError>
-        ensures outcome { InsertsItemAfter A.view A.entry A.interlinks cyclic P.key P.Inx.greatest
+        ensures { InsertsItemAfter A.state A.interlinks cyclic P.key P.Inx.greatest
             self.old (P.key corner) point result self.new }
-        ensures err { OnErr result (self.new ≡ self.old) }
     {
         self.corners.agrees();
         self.corners
@@ -177,9 +160,8 @@ impl<P: PtrKey, T: Drop, A: ChainArenaTrait<P, T> + Drop> Mesh<P, T, A> {
     /// The other corners keep their order, and the capacity stays the same. Returns `None` and
     /// changes nothing if `corner` is not valid.
     pub fn remove(&mut self, corner: P) -> Option<T>
-        ensures outcome { RemovesItem A.view A.entry A.interlinks cyclic P.Gen.following self.old
-            (P.key corner) result self.new }
-        ensures none { IfNone result (self.new ≡ self.old) }
+        ensures { RemovesItem A.state A.interlinks cyclic ⟦<P as AnyPointer>⟧.kind self.old corner
+            result self.new }
     {
         self.corners.agrees();
         self.corners.remove(corner).allow()
@@ -190,11 +172,7 @@ impl<P: PtrKey, T: Drop, A: ChainArenaTrait<P, T> + Drop> Mesh<P, T, A> {
     /// If `u` and `v` are in different polygons, merges these, as `merge` does. If they are the
     /// same corner, changes nothing. Returns `None` and changes nothing if `u` or `v` is not valid.
     pub fn cut(&mut self, u: P, v: P) -> Option<()>
-        ensures some { IsSome result
-            ↔ (IsValid (A.entry self.old) (P.key u) × IsValid (A.entry self.old) (P.key v)) }
-        ensures rings { ExchangesSuccessors A.view A.entry A.interlinks self.old self.new
-            (P.key u) (P.key v) }
-        ensures none { IfNone result (self.new ≡ self.old) }
+        ensures { CutsOrMerges A.state A.interlinks self.old (P.key u) (P.key v) result self.new }
     {
         self.exchange(u, v)
     }
@@ -204,22 +182,14 @@ impl<P: PtrKey, T: Drop, A: ChainArenaTrait<P, T> + Drop> Mesh<P, T, A> {
     /// If `u` and `v` are in the same polygon, cuts it in two, as `cut` does. If they are the same
     /// corner, changes nothing. Returns `None` and changes nothing if `u` or `v` is not valid.
     pub fn merge(&mut self, u: P, v: P) -> Option<()>
-        ensures some { IsSome result
-            ↔ (IsValid (A.entry self.old) (P.key u) × IsValid (A.entry self.old) (P.key v)) }
-        ensures rings { ExchangesSuccessors A.view A.entry A.interlinks self.old self.new
-            (P.key u) (P.key v) }
-        ensures none { IfNone result (self.new ≡ self.old) }
+        ensures { CutsOrMerges A.state A.interlinks self.old (P.key u) (P.key v) result self.new }
     {
         self.exchange(u, v)
     }
 
     // Exchanges the corners after `u` and `v`: two polygons become one, or one becomes two.
     fn exchange(&mut self, u: P, v: P) -> Option<()>
-        ensures some { IsSome result
-            ↔ (IsValid (A.entry self.old) (P.key u) × IsValid (A.entry self.old) (P.key v)) }
-        ensures rings { ExchangesSuccessors A.view A.entry A.interlinks self.old self.new
-            (P.key u) (P.key v) }
-        ensures none { IfNone result (self.new ≡ self.old) }
+        ensures { CutsOrMerges A.state A.interlinks self.old (P.key u) (P.key v) result self.new }
     {
         self.corners.agrees();
         self.corners.exchange_next(u, v)
@@ -230,7 +200,7 @@ impl<P: PtrKey, T: Drop, A: ChainArenaTrait<P, T> + Drop> Mesh<P, T, A> {
         requires capacity { count (A.view self.old) + 2 ≤ (A.view self.old).capacity }
         requires first { A.entry self.old (P.key u).0 ≡ Some ((P.key u).1, both.0) }
         requires second { A.entry self.old (P.key v).0 ≡ Some ((P.key v).1, both.1) }
-        ensures rings { AddsDiagonal A.view A.entry A.interlinks self.old self.new
+        ensures rings { AddsDiagonal A.state A.interlinks self.old self.new
             (P.key u) (P.key v) (P.key result.0) (P.key result.1) }
         ensures capacity { (A.view self.new).capacity ≡ (A.view self.old).capacity }
     {
@@ -260,10 +230,8 @@ impl<P: PtrKey, T: Copy + Drop, A: ChainArenaTrait<P, T> + Drop> Mesh<P, T, A> {
     ///
     /// On error, nothing changes.
     pub fn split(&mut self, u: P, v: P) -> Result<Option<(P, P)>, ReallocationError>
-        ensures outcome { SplitsRing A.view A.entry A.interlinks P.key P.Inx.greatest self.old
+        ensures { SplitsRing A.state A.interlinks P.key P.Inx.greatest self.old
             (P.key u) (P.key v) result self.new }
-        ensures none { IfOk result (λ r. IfNone r (self.new ≡ self.old)) }
-        ensures err { OnErr result (self.new ≡ self.old) }
     {
         match self.points(u, v) {
             Some(both) => {
@@ -294,11 +262,7 @@ impl<P: PtrKey, T: Copy + Drop, A: ChainArenaTrait<P, T> + Drop> Mesh<P, T, A> {
 fn add_before<P: PtrKey, T: Drop, A: ChainArenaTrait<P, T>>(corners: &mut A, u: P, t: T) -> P
     requires valid { IsValid (A.entry corners.old) (P.key u) }
     requires capacity { HasFreeCapacity (A.view corners.old) }
-    ensures corner { IsItemBefore A.view A.entry A.interlinks cyclic corners.old corners.new
-        (P.key u) (P.key result, t) }
-    ensures all_cyclic { AllCyclic (A.interlinks corners.old) → AllCyclic
-        (A.interlinks corners.new) }
-    ensures capacity { (A.view corners.new).capacity ≡ (A.view corners.old).capacity }
+    ensures { AddsBefore A.state A.interlinks corners.old (P.key u) (P.key result, t) corners.new }
 {
     corners.invariants();
     corners.agrees();
@@ -312,11 +276,7 @@ fn add_before<P: PtrKey, T: Drop, A: ChainArenaTrait<P, T>>(corners: &mut A, u: 
 fn add_after<P: PtrKey, T: Drop, A: ChainArenaTrait<P, T>>(corners: &mut A, v: P, t: T) -> P
     requires valid { IsValid (A.entry corners.old) (P.key v) }
     requires capacity { HasFreeCapacity (A.view corners.old) }
-    ensures corner { IsItemAfter A.view A.entry A.interlinks cyclic corners.old corners.new
-        (P.key v) (P.key result, t) }
-    ensures all_cyclic { AllCyclic (A.interlinks corners.old) → AllCyclic
-        (A.interlinks corners.new) }
-    ensures capacity { (A.view corners.new).capacity ≡ (A.view corners.old).capacity }
+    ensures { AddsAfter A.state A.interlinks corners.old (P.key v) (P.key result, t) corners.new }
 {
     corners.agrees();
     match corners.insert(LinkInsertKind::NextTo(v), t) {
@@ -329,5 +289,5 @@ fn add_after<P: PtrKey, T: Drop, A: ChainArenaTrait<P, T>>(corners: &mut A, v: P
 ///
 /// This follows from the contracts of the two calls. The function has no effect.
 pub fn cut_and_merge_restore<P: PtrKey, T: Drop, A: ChainArenaTrait<P, T>>()
-    ensures { CutAndMergeRestore A.entry A.interlinks }
+    ensures { CutAndMergeRestore A.state A.interlinks }
 {}

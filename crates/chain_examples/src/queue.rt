@@ -1,15 +1,14 @@
 //! A scheduler's run queue, whose tasks form one ring.
 
-ghost use Rattle.std.specs.Prelude.{◌≡◌, ◌↔◌, ◌<◌, ◌≤◌, ◌+◌, ℕ, List, [], ◌∷◌, ◌++◌, length, map, IsTrue, IsSome, IfSome, OnSome, IfNone, IfOk, OnErr, Some, None, Err};
-ghost use Rattle.std.specs.Option.{option_map, option_or};
+ghost use Rattle.std.specs.Prelude.{◌≡◌, ◌↔◌, ◌<◌, ◌+◌, List, [], ◌∷◌, ◌++◌, map, IsTrue, IsSome, IfSome, OnSome, IfOk, OnErr, Some, None, Err};
+ghost use Rattle.std.specs.Option.{option_map};
 ghost use Rattle.std.specs.Borrow.{LendsSo, sem};
-ghost use Rattle.arena_core.specs.SlotStack.{IsWithinMaximum};
 ghost use Rattle.arena_traits.specs.Arena.{IsValid};
 ghost use Rattle.arena_traits.specs.Entries.{count, first_key, found};
-ghost use Rattle.arena_traits.specs.Growth.{IsGrowthResult, RefusesOneMore};
-ghost use Rattle.chain_examples.specs.QueueOrder.{AppendsNewTask, IsAmong, IsCancelled, IsFirstWithout, KeepsCapacity, ReservesTasks, SpawnsTask, rotation, with_task};
+ghost use Rattle.chain_examples.specs.QueueOrder.{IsAmong, IsFirstWithout, KeepsCapacity, ReservesTasks, SpawnsTask, arena_view, with_task, RotatesTasks, CancelsTask, TakesFirst, InsertsLast};
 ghost use Rattle.chain_examples.specs.Rows.{chain_members};
 ghost use Rattle.chain_examples.specs.Lists.{Item, IsQueueOrder};
+ghost use Rattle.chain_examples.specs.Sizes.{StartsEmpty, CountsEntries, ReportsCapacity};
 
 use crate::growth::reserve;
 use arena_ptr::{GenKey, InxKey, PtrKey, ReallocationError};
@@ -58,8 +57,7 @@ impl<P: PtrKey, T: Drop, A: ChainArenaTrait<P, T> + Drop> RunQueue<P, T, A> {
 
     /// Creates an empty queue. It does not allocate.
     pub fn new(alloc: Global) -> Self
-        ensures order { result.order ≡ [] }
-        ensures capacity { result.capacity ≡ 0 }
+        ensures { StartsEmpty (arena_view result) }
     {
         RunQueue {
             tasks: A::new(alloc),
@@ -70,8 +68,7 @@ impl<P: PtrKey, T: Drop, A: ChainArenaTrait<P, T> + Drop> RunQueue<P, T, A> {
 
     /// Returns the number of tasks, which is at most the capacity.
     pub fn len(&self) -> usize
-        ensures count { result ≡ length self.now.order }
-        ensures fits { result ≤ self.now.capacity }
+        ensures { CountsEntries (arena_view self.now) result }
     {
         self.tasks.len()
     }
@@ -85,8 +82,7 @@ impl<P: PtrKey, T: Drop, A: ChainArenaTrait<P, T> + Drop> RunQueue<P, T, A> {
 
     /// Returns the number of tasks that the queue can hold without growing.
     pub fn capacity(&self) -> usize
-        ensures value { result ≡ self.now.capacity }
-        ensures limits { (result ≤ P.Inx.greatest) × IsWithinMaximum self.now.maximum result }
+        ensures { ReportsCapacity (arena_view self.now) P.Inx.greatest result }
     {
         self.tasks.capacity()
     }
@@ -109,10 +105,7 @@ impl<P: PtrKey, T: Drop, A: ChainArenaTrait<P, T> + Drop> RunQueue<P, T, A> {
     ///
     /// On error, nothing changes.
     pub fn reserve(&mut self, additional: usize) -> Result<(), ReallocationError>
-        ensures outcome { ReservesTasks P.Inx.greatest additional self.old result self.new }
-        ensures within { length self.old.order + additional ≤ self.old.capacity
-            → self.new ≡ self.old }
-        ensures err { OnErr result (self.new ≡ self.old) }
+        ensures { ReservesTasks P.Inx.greatest additional self.old result self.new }
     {
         reserve(&mut self.tasks, additional)
     }
@@ -140,8 +133,8 @@ impl<P: PtrKey, T: Drop, A: ChainArenaTrait<P, T> + Drop> RunQueue<P, T, A> {
         ensures* writes_back { sem 𝓛 (LendsSo
             (the_row P.row T.row A.row P.Inx.row P.Gen.row P.Inx.Word.row
             A.ChainPtrAdvancer.row A.PtrAdvancer.row P.PtrKey P.Inx.InxKey P.Gen.GenKey
-            (chain_members A.interlinks A.walker A.inserts A.connects A.breaks A.exchanges
-            A.compresses_canonically) A.ArenaTrait A.PtrAdvancer.Advancer
+            (chain_members A.interlinks A.walker A.inserts A.connects A.breaks_prev
+            A.breaks_next A.exchanges A.compresses_canonically) A.ArenaTrait A.PtrAdvancer.Advancer
             A.ChainPtrAdvancer.Advancer)
             T.row self.entry result
             (λ new t. OnSome result (new ≡ with_task self.old (P.key p).0 t))
@@ -168,8 +161,7 @@ impl<P: PtrKey, T: Drop, A: ChainArenaTrait<P, T> + Drop> RunQueue<P, T, A> {
     ///
     /// On error, nothing changes and the task is dropped.
     pub fn spawn(&mut self, task: T) -> Result<P, ReallocationError>
-        ensures outcome { SpawnsTask P.key P.Inx.greatest self.old task result self.new }
-        ensures err { OnErr result (self.new ≡ self.old) }
+        ensures { SpawnsTask P.key P.Inx.greatest self.old task result self.new }
     {
         let added = insert_last(&mut self.tasks, self.current, task);
         self.current = self.current.or(added.ok());
@@ -180,9 +172,7 @@ impl<P: PtrKey, T: Drop, A: ChainArenaTrait<P, T> + Drop> RunQueue<P, T, A> {
     ///
     /// The previously current task becomes the last in turn. Returns `None` if the queue is empty.
     pub fn next(&mut self) -> Option<P>
-        ensures rotated { self.new.order ≡ rotation self.old.order }
-        ensures current { option_map P.key result ≡ first_key self.new.order }
-        ensures capacity { KeepsCapacity self.old self.new }
+        ensures { RotatesTasks P.key self.old result self.new }
     {
         let current = self.current?;
         let next = after(&self.tasks, current);
@@ -196,10 +186,7 @@ impl<P: PtrKey, T: Drop, A: ChainArenaTrait<P, T> + Drop> RunQueue<P, T, A> {
     /// current, the next one becomes current. Returns `None` and changes nothing if `p` points to
     /// no task in the queue.
     pub fn cancel(&mut self, p: P) -> Option<T>
-        ensures some { IfSome result
-            (λ task. IsCancelled (P.key p) task self.old.order self.new.order) }
-        ensures none { IfNone result ((self.new ≡ self.old) × ¬ IsAmong (P.key p) self.old.order) }
-        ensures capacity { KeepsCapacity self.old self.new }
+        ensures { CancelsTask self.old (P.key p) result self.new }
     {
         let current = self.current?;
         let next = current_without(&self.tasks, current, p);
@@ -211,10 +198,7 @@ impl<P: PtrKey, T: Drop, A: ChainArenaTrait<P, T> + Drop> RunQueue<P, T, A> {
 
     // Removes the current task and returns it. The next task becomes current.
     fn take_current(&mut self) -> Option<T>
-        ensures some { IfSome result (λ task. (p : ℕ × P.Gen)
-            × (self.old.order ≡ (p, task) ∷ self.new.order)) }
-        ensures none { IfNone result ((self.old.order ≡ []) × (self.new ≡ self.old)) }
-        ensures capacity { KeepsCapacity self.old self.new }
+        ensures { TakesFirst self.old result self.new }
     {
         let p = self.current()?;
         self.cancel(p)
@@ -253,11 +237,8 @@ fn insert_last<P: PtrKey, T: Drop, A: ChainArenaTrait<P, T>>(
     task: T,
 ) -> Result<P, ReallocationError>
     requires valid { IfSome current (λ p. IsValid (A.entry tasks.old) (P.key p)) }
-    ensures outcome { IsGrowthResult (RefusesOneMore (A.view tasks.old)) (λ p.
-        AppendsNewTask A.entry A.interlinks A.view P.Inx.greatest tasks.old tasks.new
-        (option_map P.key current) (option_map P.key (option_or current (Some p)))
-        (P.key p, task)) result }
-    ensures err { OnErr result (tasks.new ≡ tasks.old) }
+    ensures { InsertsLast A.state A.interlinks P.key P.Inx.greatest tasks.old current task result
+        tasks.new }
 {
     match current {
         None => tasks.insert(LinkInsertKind::SingleLinkCyclic, task),
@@ -296,7 +277,7 @@ fn current_without<P: PtrKey, T: Drop, A: ChainArenaTrait<P, T>>(
     current: P,
     p: P,
 ) -> Option<P>
-    ensures { IsFirstWithout A.entry A.interlinks tasks.now (P.key p) (P.key current)
+    ensures { IsFirstWithout A.state A.interlinks tasks.now (P.key p) (P.key current)
         (option_map P.key result) }
 {
     if current.is_same(p) {

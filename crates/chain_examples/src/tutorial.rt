@@ -23,7 +23,7 @@ use chain_traits::ChainArenaTrait;
 pub fn connect_pair<P: PtrKey, T: Drop, A: ChainArenaTrait<P, T>>(arena: &mut A, p: P, q: P) -> bool
     ensures connected { IsTrue result
         ↔ CanConnect (A.entry arena.old) (A.interlinks arena.old) (P.key p) (P.key q) }
-    ensures links { IsTrue result → IsConnected A.view A.entry A.interlinks arena.old arena.new
+    ensures links { IsTrue result → IsConnected A.state A.interlinks arena.old arena.new
         (P.key p).0 (P.key q).0 }
     ensures refused { IsFalse result → arena.new ≡ arena.old }
 {
@@ -41,11 +41,9 @@ pub fn remove_and_step<P: PtrKey, T: Drop, A: ChainArenaTrait<P, T>>(
     arena: &mut A,
     i: P::Inx,
 ) -> Option<P::Inx>
-    ensures next { IsSome (A.entry arena.old (P.Inx.number i))
-        → option_map P.Inx.number result ≡ next_of (A.interlinks arena.old) (P.Inx.number i) }
     ensures removed { IsSome (A.entry arena.old (P.Inx.number i))
-        → IsRemoved A.view A.entry A.interlinks arena.old arena.new P.Gen.following
-        (P.Inx.number i) }
+        → (option_map P.Inx.number result ≡ next_of (A.interlinks arena.old) (P.Inx.number i))
+        × IsRemoved A.state A.interlinks arena.old arena.new P.Gen.following (P.Inx.number i) }
     ensures none { A.entry arena.old (P.Inx.number i) ≡ None
         → (result ≡ None) × (arena.new ≡ arena.old) }
 {
@@ -64,7 +62,7 @@ pub fn close<P: PtrKey, T: Drop, A: ChainArenaTrait<P, T>>(arena: &mut A, p: P, 
     ensures ring { IsTrue result → (xs : List ℕ) → IsChain (A.interlinks arena.old) (linear xs)
         → first_or xs None ≡ Some (P.key q).0 → last_or xs None ≡ Some (P.key p).0
         → IsChain (A.interlinks arena.new) (cyclic xs) }
-    ensures links { IsTrue result → IsConnected A.view A.entry A.interlinks arena.old arena.new
+    ensures links { IsTrue result → IsConnected A.state A.interlinks arena.old arena.new
         (P.key p).0 (P.key q).0 }
     ensures refused { IsFalse result → arena.new ≡ arena.old }
 {
@@ -93,7 +91,7 @@ pub fn put_behind<P: PtrKey, T: Drop, A: ChainArenaTrait<P, T>>(
     ensures outcome { IsInsertionResult (IsValid (A.entry arena.old) (P.key p))
         (RefusesOneMore (A.view arena.old))
         (λ q. AreNeighbors (A.interlinks arena.new) (P.key p).0 (P.key q).0
-        × GainsLink A.view A.entry A.interlinks (next_to (name_of_pointer P.key P.Inx.number p)) t
+        × GainsLink A.state A.interlinks (next_to (name_of_pointer P.key P.Inx.number p)) t
         arena.old (P.key q) arena.new
         × GrowsForOneMore P.Inx.greatest (A.view arena.old) (A.view arena.new)) result }
     ensures err { OnErr result (arena.new ≡ arena.old) }

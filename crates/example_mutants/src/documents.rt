@@ -12,7 +12,7 @@ pub fn move_after<P: PtrKey, T: Drop, A: ChainArenaTrait<P, T> + Drop>(
     p: P,
     q: P,
 ) -> Option<()>
-    ensures { OnSome result (IsMovedAfter A.entry A.interlinks documents.old documents.new (P.key p)
+    ensures { OnSome result (IsMovedAfter A.state A.interlinks documents.old documents.new (P.key p)
         (P.key q)) }
 {
     documents.move_after(p, q)

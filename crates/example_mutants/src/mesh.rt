@@ -11,7 +11,7 @@ pub fn merge<P: PtrKey, T: Drop, A: ChainArenaTrait<P, T> + Drop>(
     u: P,
     v: P,
 ) -> Option<()>
-    ensures { ExchangesSuccessors A.view A.entry A.interlinks mesh.old mesh.new (P.key u)
+    ensures { ExchangesSuccessors A.state A.interlinks mesh.old mesh.new (P.key u)
         (P.key v) }
 {
     mesh.merge(u, v)
@@ -23,7 +23,7 @@ pub fn split<P: PtrKey, T: Copy + Drop, A: ChainArenaTrait<P, T> + Drop>(
     u: P,
     v: P,
 ) -> Result<Option<(P, P)>, ReallocationError>
-    ensures { SplitsRing A.view A.entry A.interlinks P.key P.Inx.greatest mesh.old (P.key u)
+    ensures { SplitsRing A.state A.interlinks P.key P.Inx.greatest mesh.old (P.key u)
         (P.key v) result mesh.new }
 {
     mesh.split(u, v)

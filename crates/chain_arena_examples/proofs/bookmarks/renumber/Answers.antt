@@ -11,11 +11,11 @@ fill_table-requires g c =
     (ap length c.as_mut_slice-table.ensures.value ∙ (ap length c.in_ok-table.ensures ∙ (length-replicate c.len.result None ∙ (c.len.ensures ∙ length_twice _ _ _ _ c.backing.ensures.slots))))
 
 pub returns-in-Ok-clause-canonical : goal.returns-in-Ok-clause-canonical
-returns-in-Ok-clause-canonical g c = c.in-Ok.ensures.compressed.canonical
+returns-in-Ok-clause-canonical g c = c.in-Ok.ensures.compressed.0.canonical
 
 pub returns-in-Ok-clause-renumbered : goal.returns-in-Ok-clause-renumbered
 returns-in-Ok-clause-renumbered g c =
     let count : c.len.result ≡ length c.args.arena.now.slots = c.len.ensures ∙ length_twice _ _ _ _ c.backing.ensures.slots in
     rw (c.update_bookmarks.ensures, c.fill_table.ensures, c.as_mut_slice-table.ensures.value, c.in_ok-table.ensures, c.deref.ensures.value, count)
-    (renumbered g.P.PtrKey.key c.args.arena.now c.compress_canonical_moves.new.self c.in-Ok.moves.items g.P.Gen.GenKey.first g.P.Gen.GenKey.following c.in-Ok.ensures.compressed.canonical c.in-Ok.ensures.moves
+    (renumbered g.P.PtrKey.key c.args.arena.now c.compress_canonical_moves.new.self c.in-Ok.moves.items g.P.Gen.GenKey.first g.P.Gen.GenKey.following c.in-Ok.ensures.compressed.0.canonical c.in-Ok.ensures.moves
     g.P.PtrKey.same g.met.P.PtrKey.same_key g.met.P.PtrKey.same_is_equal c.in-Ok.ensures.by_pointer c.args.bookmarks.now)

@@ -13,11 +13,11 @@ use Rattle.chain_arena_examples.proofs.named_type.pointer_after.Goals as goal
 pub returns-in-Some-clause-some : goal.returns-in-Some-clause-some
 returns-in-Some-clause-some c =
     subst (λ o. IfSome o (λ q. IsValid (entry c.args.arena.now) (key_of q) × (next_of (link_map c.args.arena.now) (key_of c.args.p).0 ≡ Some (key_of q).0)))
-    (sym c.next.ensures) (was_read key_of (entry c.args.arena.now) c.in-Some.link.next _ c.in-Some.ensures.link.after)
+    (sym c.next.ensures) (was_read key_of (entry c.args.arena.now) c.in-Some.link.next _ c.in-Some.ensures.outcome.link.after)
 
 pub returns-in-Some-clause-none : goal.returns-in-Some-clause-none
 returns-in-Some-clause-none c valid none =
     let links = link_map c.args.arena.now in
     let i = (key_of c.args.p).0 in
-    none_read key_of (entry c.args.arena.now) c.in-Some.link.next (next_of links i) c.in-Some.ensures.link.after
+    none_read key_of (entry c.args.arena.now) c.in-Some.link.next (next_of links i) c.in-Some.ensures.outcome.link.after
     (λ j is. sym (links_exist c.args.arena.now j) ∙ ap is_some (prev_valid links j i ((c.in-Some.ensures.agree.both i j).0 is)).links) (sym c.next.ensures ∙ none)

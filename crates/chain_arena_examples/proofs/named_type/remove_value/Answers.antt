@@ -1,5 +1,8 @@
 -- The removal links the neighbors of the removed link.
 use Rattle.chain_arena_examples.proofs.named_type.remove_value.Goals as goal
 
-pub returns-clause-links : goal.returns-clause-links
-returns-clause-links c = λ valid. (c.remove.ensures.more valid).links
+pub returns-in-Success-clause-links : goal.returns-in-Success-clause-links
+returns-in-Success-clause-links c valid = c.in-Success.ensures.more.removed.links
+
+pub returns-in-GenerationOverflow-clause-links : goal.returns-in-GenerationOverflow-clause-links
+returns-in-GenerationOverflow-clause-links c valid = c.in-GenerationOverflow.ensures.more.removed.links

@@ -8,22 +8,18 @@ use Rattle.chain_examples.proofs.MeshInvariantLemmas.{cyclic_after}
 use Rattle.chain_examples.proofs.ListChangeLemmas.{added_after, item_inserted}
 use Rattle.chain_examples.proofs.mesh.add_after.Goals as goal
 
-pub returns-clause-corner : goal.returns-clause-corner
-returns-clause-corner g c =
+pub returns : goal.returns
+returns g c =
     let a = c.args.corners.now in
+    let new = c.insert.new.self in
     let gained = c.in-Ok.ensures.outcome.0 in
     let p = g.P.PtrKey.key c.args.v in
-    item_inserted g.A.ArenaTrait.view g.A.ArenaTrait.entry g.A.ChainArenaTrait.interlinks g.met.A.ChainArenaTrait.links_are_entries cyclic (λ l. refl) a c.insert.new.self c.agrees.ensures (g.P.PtrKey.key c.in-Ok.p) c.args.t (next_to p.0) (p ∷ []) _ refl gained
-    (added_after g.A.ArenaTrait.entry g.A.ChainArenaTrait.interlinks cyclic (λ l. refl) a c.insert.new.self (g.P.PtrKey.key c.in-Ok.p) c.args.t gained.entries p (λ x y. (gained.chains.after p.0 refl refl x y).1))
-
-pub returns-clause-capacity : goal.returns-clause-capacity
-returns-clause-capacity g c = c.in-Ok.ensures.outcome.1.1 (let free = c.requires.capacity in omega arith)
-
-pub returns-clause-all_cyclic : goal.returns-clause-all_cyclic
-returns-clause-all_cyclic g c =
-    let a = c.args.corners.now in
-    let v = g.P.PtrKey.key c.args.v in
-    cyclic_after (g.A.ChainArenaTrait.interlinks a) (g.A.ChainArenaTrait.interlinks c.insert.new.self) (g.P.PtrKey.key c.in-Ok.p).0 v.0 c.in-Ok.ensures.outcome.0.pairs (valid_link (g.A.ChainArenaTrait.interlinks a) (g.A.ArenaTrait.entry a) (g.A.ArenaTrait.view a).entries (g.met.A.ChainArenaTrait.links_are_entries a) (g.met.A.ArenaTrait.finds a) v c.requires.valid)
+    record {
+      corner = item_inserted g.A.ArenaTrait.state g.A.ChainArenaTrait.interlinks g.met.A.ChainArenaTrait.links_are_entries cyclic (λ l. refl) a new c.agrees.ensures (g.P.PtrKey.key c.in-Ok.p) c.args.t (next_to p.0) (p ∷ []) _ refl gained
+          (added_after g.A.ArenaTrait.state g.A.ChainArenaTrait.interlinks cyclic (λ l. refl) a new (g.P.PtrKey.key c.in-Ok.p) c.args.t gained.entries p (λ x y. (gained.chains.after p.0 refl refl x y).1));
+      all_cyclic = cyclic_after (g.A.ChainArenaTrait.interlinks a) (g.A.ChainArenaTrait.interlinks new) (g.P.PtrKey.key c.in-Ok.p).0 p.0 gained.pairs (valid_link (g.A.ChainArenaTrait.interlinks a) (g.A.ArenaTrait.entry a) (g.A.ArenaTrait.view a).entries (g.met.A.ChainArenaTrait.links_are_entries a) (g.A.ArenaTrait.state a).finds p c.requires.valid);
+      capacity = c.in-Ok.ensures.outcome.1.1 (let free = c.requires.capacity in omega arith);
+    }
 
 pub unreachable-requires : goal.unreachable-requires
 unreachable-requires g c = let full = full_if_refused (g.A.ArenaTrait.view c.args.corners.now) _ c.in-Err.ensures.outcome in let free = c.requires.capacity in omega (arith, full, free)

@@ -3,4 +3,4 @@ use Rattle.chain_examples.proofs.RingLemmas.{cut_and_merge}
 use Rattle.chain_examples.proofs.mesh.cut_and_merge_restore.Goals as goal
 
 pub returns : goal.returns
-returns g c = cut_and_merge g.A.ArenaTrait.entry g.A.ChainArenaTrait.interlinks
+returns g c = cut_and_merge g.A.ArenaTrait.state g.A.ChainArenaTrait.interlinks

@@ -8,11 +8,11 @@ pub returns-in-Some-clause-between : goal.returns-in-Some-clause-between
 returns-in-Some-clause-between g c =
     let a = c.self.inside.paragraphs in
     let p = g.P.PtrKey.key c.args.p in
-    let prev = ap (λ (r : _). option_map g.P.PtrKey.key r.0) c.prev_next.ensures ∙ c.in-Some.ensures.link.before in
-    let next = ap (λ (r : _). option_map g.P.PtrKey.key r.1) c.prev_next.ensures ∙ c.in-Some.ensures.link.after in
+    let prev = ap (λ (r : _). option_map g.P.PtrKey.key r.0) c.prev_next.ensures ∙ c.in-Some.ensures.outcome.link.before in
+    let next = ap (λ (r : _). option_map g.P.PtrKey.key r.1) c.prev_next.ensures ∙ c.in-Some.ensures.outcome.link.after in
     rw (← c.self.view_is) (record {
-      before = λ t before after is. prev ∙ previous_key g.A.ArenaTrait.entry g.A.ChainArenaTrait.interlinks a p t before after is;
-      after = λ t before after is. next ∙ continues g.A.ArenaTrait.entry g.A.ChainArenaTrait.interlinks a p t before after is;
-      with_before = with_prev g.A.ArenaTrait.entry g.A.ChainArenaTrait.interlinks a p _ c.in-Some.ensures.agree prev;
-      with_after = with_next g.A.ArenaTrait.entry g.A.ChainArenaTrait.interlinks a p _ c.in-Some.ensures.agree next;
+      before = λ t before after is. prev ∙ previous_key g.A.ArenaTrait.state g.A.ChainArenaTrait.interlinks a p t before after is;
+      after = λ t before after is. next ∙ continues g.A.ArenaTrait.state g.A.ChainArenaTrait.interlinks a p t before after is;
+      with_before = with_prev g.A.ArenaTrait.state g.A.ChainArenaTrait.interlinks a p _ c.in-Some.ensures.agree prev;
+      with_after = with_next g.A.ArenaTrait.state g.A.ChainArenaTrait.interlinks a p _ c.in-Some.ensures.agree next;
     })

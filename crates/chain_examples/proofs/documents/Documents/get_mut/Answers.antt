@@ -10,7 +10,7 @@ returns-in-Some g c =
         refl,
         (λ w.
             let held = rw c.in-Some.is at (c.get_mut.follows.holds w) in
-            rw (← c.self.view_is) (has_new_value g.A.ArenaTrait.view g.A.ArenaTrait.entry g.A.ChainArenaTrait.interlinks g.met.A.ArenaTrait.finds c.self.inside.paragraphs _ p.0 w held.0 p.1 (g.met.A.ChainArenaTrait.write_keeps _ _ _ _ held.1))),
+            rw (← c.self.view_is) (has_new_value g.A.ArenaTrait.state g.A.ChainArenaTrait.interlinks c.self.inside.paragraphs _ p.0 w held.0 p.1 (g.met.A.ChainArenaTrait.write_keeps _ _ _ _ held.1))),
         refl,
       ),
       record {

@@ -7,26 +7,29 @@ use Rattle.chain_examples.proofs.ListChangeLemmas.{changes_only}
 use Rattle.chain_examples.proofs.ItemMoveLemmas.{moved_after, keeps_moved}
 use Rattle.chain_examples.proofs.documents.Documents.move_after.Goals as goal
 
-pub returns-clause-texts : goal.returns-clause-texts
-returns-clause-texts g c = moved_after g.A.ArenaTrait.entry g.A.ChainArenaTrait.interlinks c.args.self.now c.set_apart.new.self c.put_after.new.self (g.P.PtrKey.key c.args.p) (g.P.PtrKey.key c.args.q)
-    c.set_apart.ensures.texts c.set_apart.ensures.others.others c.put_after.ensures.texts c.put_after.ensures.others.others
-
-pub returns-clause-others : goal.returns-clause-others
-returns-clause-others g c = changes_only g.A.ArenaTrait.view g.A.ArenaTrait.entry g.A.ChainArenaTrait.interlinks g.met.A.ArenaTrait.finds linear c.args.self.now c.put_after.new.self (g.P.PtrKey.key c.args.p ∷ g.P.PtrKey.key c.args.q ∷ [])
-    (keeps_moved g.A.ArenaTrait.entry g.A.ChainArenaTrait.interlinks c.args.self.now c.set_apart.new.self c.put_after.new.self (g.P.PtrKey.key c.args.p) (g.P.PtrKey.key c.args.q)
-    c.set_apart.ensures.texts c.set_apart.ensures.others.others c.put_after.ensures.texts c.put_after.ensures.others.others)
-    (c.put_after.ensures.others.view_after ∙ c.set_apart.ensures.others.view_after)
-
-pub returns-clause-some : goal.returns-clause-some
-returns-clause-some g c =
-    let valid : IsValid (g.A.ArenaTrait.entry c.args.self.now) (g.P.PtrKey.key c.args.q) = rw (← c.self.view_is) (c.contains.ensures.0 c.if-not-contains.false) in (
-      λ _. (
-        c.in_ok-set_apart.ensures.some.0 refl,
-        valid,
-        λ equal. false≢true (sym c.if-is_same.false ∙ (c.is_same.ensures ∙ (g.met.P.PtrKey.same_is_equal c.args.p c.args.q).1 (g.met.P.PtrKey.same_key c.args.p c.args.q equal))),
-      ),
-      λ _. refl,
-    )
+pub returns : goal.returns
+returns g c =
+    let old = c.args.self.now in
+    let apart = c.set_apart.new.self in
+    let new = c.put_after.new.self in
+    let p = g.P.PtrKey.key c.args.p in
+    let q = g.P.PtrKey.key c.args.q in
+    let valid : IsValid (g.A.ArenaTrait.entry old) q = rw (← c.self.view_is) (c.contains.ensures.0 c.if-not-contains.false) in
+    record {
+      some = (
+        λ some. (
+          c.in_ok-set_apart.ensures.some.0 refl,
+          valid,
+          λ equal. false≢true (sym c.if-is_same.false ∙ (c.is_same.ensures ∙ (g.met.P.PtrKey.same_is_equal c.args.p c.args.q).1 (g.met.P.PtrKey.same_key c.args.p c.args.q equal))),
+        ),
+        λ all. refl,
+      );
+      texts = moved_after g.A.ArenaTrait.state g.A.ChainArenaTrait.interlinks old apart new p q c.set_apart.ensures.texts c.set_apart.ensures.others.others c.put_after.ensures.texts c.put_after.ensures.others.others;
+      others = changes_only g.A.ArenaTrait.state g.A.ChainArenaTrait.interlinks linear old new (p ∷ q ∷ [])
+          (keeps_moved g.A.ArenaTrait.state g.A.ChainArenaTrait.interlinks old apart new p q c.set_apart.ensures.texts c.set_apart.ensures.others.others c.put_after.ensures.texts c.put_after.ensures.others.others)
+          (c.put_after.ensures.others.view_after ∙ c.set_apart.ensures.others.view_after);
+      none = tt;
+    }
 
 pub returns-in_err-set_apart : goal.returns-in_err-set_apart
 returns-in_err-set_apart g c =

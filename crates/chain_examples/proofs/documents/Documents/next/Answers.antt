@@ -1,18 +1,24 @@
 -- The link after a paragraph is the next one in its text.
-use Rattle.std.proofs.Common.{◌∙◌, ap}
+use Rattle.std.proofs.Common.{◌∙◌, ap, refl}
 use Rattle.std.specs.Option.{option_map}
 use Rattle.chain_traits.proofs.OutcomeLemmas.{if_mapped}
 use Rattle.chain_examples.proofs.DocumentLemmas.{continues, in_a_text, with_next}
 use Rattle.chain_examples.proofs.documents.Documents.next.Goals as goal
 
-pub returns-in-Some-clause-next : goal.returns-in-Some-clause-next
-returns-in-Some-clause-next g c = rw (← c.self.view_is) (λ t before after is.
-    ap (option_map g.P.PtrKey.key) c.next.ensures ∙ (c.in-Some.ensures.link.after ∙ continues g.A.ArenaTrait.entry g.A.ChainArenaTrait.interlinks c.self.inside.paragraphs (g.P.PtrKey.key c.args.p) t before after is))
+pub returns-in-Some : goal.returns-in-Some
+returns-in-Some g c =
+    let a = c.self.inside.paragraphs in
+    let p = g.P.PtrKey.key c.args.p in
+    let read = ap (option_map g.P.PtrKey.key) c.next.ensures ∙ c.in-Some.ensures.outcome.link.after in
+    rw (← c.self.view_is) (record {
+      none = λ invalid. absurd (invalid (c.in-Some.ensures.outcome.some.0 refl));
+      next = λ t before after is. read ∙ continues g.A.ArenaTrait.state g.A.ChainArenaTrait.interlinks a p t before after is;
+      together = if_mapped _ g.P.PtrKey.key c.next.result (with_next g.A.ArenaTrait.state g.A.ChainArenaTrait.interlinks a p _ c.in-Some.ensures.agree read);
+    })
 
-pub returns-in-Some-clause-together : goal.returns-in-Some-clause-together
-returns-in-Some-clause-together g c = rw (← c.self.view_is) (if_mapped _ g.P.PtrKey.key c.next.result
-    (with_next g.A.ArenaTrait.entry g.A.ChainArenaTrait.interlinks c.self.inside.paragraphs (g.P.PtrKey.key c.args.p) _ c.in-Some.ensures.agree (ap (option_map g.P.PtrKey.key) c.next.ensures ∙ c.in-Some.ensures.link.after)))
-
-pub returns-in-None-clause-next : goal.returns-in-None-clause-next
-returns-in-None-clause-next g c = rw (← c.self.view_is) (λ t before after is.
-    absurd (let valid = c.in-None.ensures.some.1 (in_a_text g.A.ArenaTrait.entry g.A.ChainArenaTrait.interlinks c.self.inside.paragraphs (g.P.PtrKey.key c.args.p) t before after is) in cc))
+pub returns-in-None : goal.returns-in-None
+returns-in-None g c = rw (← c.self.view_is) (record {
+  none = λ invalid. refl;
+  next = λ t before after is. absurd (let valid = c.in-None.ensures.outcome.some.1 (in_a_text g.A.ArenaTrait.state g.A.ChainArenaTrait.interlinks c.self.inside.paragraphs (g.P.PtrKey.key c.args.p) t before after is) in cc);
+  together = tt;
+})

@@ -6,12 +6,17 @@ use Rattle.chain_traits.proofs.OutcomeLemmas.{from_mapped}
 use Rattle.chain_examples.proofs.ItemMoveLemmas.{put_after, keeps_put}
 use Rattle.chain_examples.proofs.documents.Documents.put_after.Goals as goal
 
-pub returns-clause-texts : goal.returns-clause-texts
-returns-clause-texts g c = put_after g.A.ArenaTrait.entry g.A.ChainArenaTrait.interlinks c.args.self.now c.split_after.new.self c.join.new.self c.close.new.self (g.P.PtrKey.key c.args.p) (g.P.PtrKey.key c.args.q) _
-    c.split_after.ensures.texts c.split_after.ensures.others.others c.join.ensures.texts c.join.ensures.others.others c.close.ensures.texts c.next-after.ensures.next
-
-pub returns-clause-others : goal.returns-clause-others
-returns-clause-others g c = changes_only g.A.ArenaTrait.view g.A.ArenaTrait.entry g.A.ChainArenaTrait.interlinks g.met.A.ArenaTrait.finds linear c.args.self.now c.close.new.self (g.P.PtrKey.key c.args.p ∷ g.P.PtrKey.key c.args.q ∷ [])
-    (keeps_put g.A.ArenaTrait.entry g.A.ChainArenaTrait.interlinks c.args.self.now c.split_after.new.self c.join.new.self c.close.new.self (g.P.PtrKey.key c.args.p) (g.P.PtrKey.key c.args.q) _
-    c.split_after.ensures.others.others c.join.ensures.others.others c.close.ensures.texts (from_mapped _ g.P.PtrKey.key c.next-after.result c.next-after.ensures.together))
-    (c.close.ensures.view_after ∙ (c.join.ensures.others.view_after ∙ c.split_after.ensures.others.view_after))
+pub returns : goal.returns
+returns g c =
+    let old = c.args.self.now in
+    let ended = c.split_after.new.self in
+    let joined = c.join.new.self in
+    let new = c.close.new.self in
+    let p = g.P.PtrKey.key c.args.p in
+    let q = g.P.PtrKey.key c.args.q in
+    record {
+      texts = put_after g.A.ArenaTrait.state g.A.ChainArenaTrait.interlinks old ended joined new p q _ c.split_after.ensures.texts c.split_after.ensures.others.others c.join.ensures.texts c.join.ensures.others.others c.close.ensures.texts c.next-after.ensures.next;
+      others = changes_only g.A.ArenaTrait.state g.A.ChainArenaTrait.interlinks linear old new (p ∷ q ∷ [])
+          (keeps_put g.A.ArenaTrait.state g.A.ChainArenaTrait.interlinks old ended joined new p q _ c.split_after.ensures.others.others c.join.ensures.others.others c.close.ensures.texts (from_mapped _ g.P.PtrKey.key c.next-after.result c.next-after.ensures.together))
+          (c.close.ensures.view_after ∙ (c.join.ensures.others.view_after ∙ c.split_after.ensures.others.view_after));
+    }

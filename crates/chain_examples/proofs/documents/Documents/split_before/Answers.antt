@@ -8,9 +8,9 @@ use Rattle.chain_examples.proofs.documents.Documents.split_before.Given.{Over}
 use Rattle.chain_examples.proofs.documents.Documents.split_before.Goals.{After-break_prev}
 use Rattle.chain_examples.proofs.documents.Documents.split_before.Goals as goal
 
-break : (g : Over) (c : After-break_prev g) → Breaks g.A.ArenaTrait.entry g.A.ChainArenaTrait.interlinks c.self.inside.paragraphs c.break_prev.new.self (g.P.PtrKey.key c.args.p) (prev_of (g.A.ChainArenaTrait.interlinks c.self.inside.paragraphs) (g.P.PtrKey.key c.args.p).0)
+break : (g : Over) (c : After-break_prev g) → Breaks g.A.ArenaTrait.state g.A.ChainArenaTrait.interlinks c.self.inside.paragraphs c.break_prev.new.self (g.P.PtrKey.key c.args.p) (prev_of (g.A.ChainArenaTrait.interlinks c.self.inside.paragraphs) (g.P.PtrKey.key c.args.p).0)
     (λ b. Cuts (g.A.ChainArenaTrait.interlinks c.self.inside.paragraphs) (g.A.ChainArenaTrait.interlinks c.break_prev.new.self) b (g.P.PtrKey.key c.args.p).0)
-break g c = breaks_prev g.A.ArenaTrait.view g.A.ArenaTrait.entry g.A.ChainArenaTrait.interlinks g.met.A.ArenaTrait.finds c.self.inside.paragraphs c.break_prev.new.self (g.P.PtrKey.key c.args.p) c.break_prev.result c.break_prev.ensures.outcome c.break_prev.ensures.none
+break g c = breaks_prev g.A.ArenaTrait.state g.A.ChainArenaTrait.interlinks c.self.inside.paragraphs c.break_prev.new.self g.P.PtrKey.key c.args.p c.break_prev.result c.break_prev.ensures.outcome c.break_prev.ensures.none
 
 pub returns : goal.returns
 returns g c =
@@ -18,9 +18,9 @@ returns g c =
     let new = c.break_prev.new.self in
     let p = g.P.PtrKey.key c.args.p in
     record {
-      some = rw (← c.self.view_is) (breaks_prev_if g.A.ArenaTrait.view g.A.ArenaTrait.entry g.A.ChainArenaTrait.interlinks g.met.A.ArenaTrait.finds a new p c.break_prev.result c.break_prev.ensures.outcome);
-      texts = rw (← c.self.view_is) (begins_with g.A.ArenaTrait.entry g.A.ChainArenaTrait.interlinks a new p (break g c));
-      others = rw (← c.self.view_is) (changes_only g.A.ArenaTrait.view g.A.ArenaTrait.entry g.A.ChainArenaTrait.interlinks g.met.A.ArenaTrait.finds linear a new (p ∷ []) (keeps_begun g.A.ArenaTrait.entry g.A.ChainArenaTrait.interlinks a new p c.agrees.ensures (break g c))
-          (breaks_prev_view g.A.ArenaTrait.view g.A.ArenaTrait.entry g.A.ChainArenaTrait.interlinks g.met.A.ArenaTrait.finds a new p c.break_prev.result c.break_prev.ensures.outcome c.break_prev.ensures.none));
+      some = rw (← c.self.view_is) (breaks_prev_if g.A.ArenaTrait.state g.A.ChainArenaTrait.interlinks a new g.P.PtrKey.key c.args.p c.break_prev.result c.break_prev.ensures.outcome);
+      texts = rw (← c.self.view_is) (begins_with g.A.ArenaTrait.state g.A.ChainArenaTrait.interlinks a new p (break g c));
+      others = rw (← c.self.view_is) (changes_only g.A.ArenaTrait.state g.A.ChainArenaTrait.interlinks linear a new (p ∷ []) (keeps_begun g.A.ArenaTrait.state g.A.ChainArenaTrait.interlinks a new p c.agrees.ensures (break g c))
+          (breaks_prev_view g.A.ArenaTrait.state g.A.ChainArenaTrait.interlinks a new g.P.PtrKey.key c.args.p c.break_prev.result c.break_prev.ensures.outcome c.break_prev.ensures.none));
       none = rw (← c.self.view_is) c.break_prev.ensures.none;
     }

@@ -16,18 +16,18 @@ module _ (g : Over) (c : After-exchange_next g) where
   done : IsSome c.exchange_next.result ↔ (IsValid (g.A.ArenaTrait.entry c.self.inside.corners) (g.P.PtrKey.key c.args.u) × IsValid (g.A.ArenaTrait.entry c.self.inside.corners) (g.P.PtrKey.key c.args.v))
   done =
       let a = c.self.inside.corners in
-      let can = can_exchange g.A.ArenaTrait.entry g.A.ChainArenaTrait.interlinks a (some_valid (g.A.ChainArenaTrait.interlinks a) (g.A.ArenaTrait.entry a) (g.A.ArenaTrait.view a).entries (g.met.A.ChainArenaTrait.links_are_entries a) (g.met.A.ArenaTrait.finds a)) c.self.invariant (g.P.PtrKey.key c.args.u) (g.P.PtrKey.key c.args.v) in
-      let if_can = exchanged_if g.A.ArenaTrait.view g.A.ArenaTrait.entry g.A.ChainArenaTrait.interlinks a c.exchange_next.new.self (g.P.PtrKey.key c.args.u) (g.P.PtrKey.key c.args.v) c.exchange_next.result c.exchange_next.ensures.outcome in
+      let can = can_exchange g.A.ArenaTrait.state g.A.ChainArenaTrait.interlinks a (some_valid (g.A.ChainArenaTrait.interlinks a) (g.A.ArenaTrait.entry a) (g.A.ArenaTrait.view a).entries (g.met.A.ChainArenaTrait.links_are_entries a) (g.A.ArenaTrait.state a).finds) c.self.invariant (g.P.PtrKey.key c.args.u) (g.P.PtrKey.key c.args.v) in
+      let if_can = exchanged_if g.A.ArenaTrait.state g.A.ChainArenaTrait.interlinks a c.exchange_next.new.self g.P.PtrKey.key c.args.u c.args.v c.exchange_next.result c.exchange_next.ensures.outcome in
       (λ some. can.0 (if_can.0 some), λ valid. if_can.1 (can.1 valid))
 
-  exchanged : OnSome c.exchange_next.result (IsExchanged g.A.ArenaTrait.view g.A.ArenaTrait.entry g.A.ChainArenaTrait.interlinks c.self.inside.corners c.exchange_next.new.self (g.P.PtrKey.key c.args.u).0 (g.P.PtrKey.key c.args.v).0)
-  exchanged = exchanged_on g.A.ArenaTrait.view g.A.ArenaTrait.entry g.A.ChainArenaTrait.interlinks c.self.inside.corners c.exchange_next.new.self (g.P.PtrKey.key c.args.u) (g.P.PtrKey.key c.args.v) c.exchange_next.result c.exchange_next.ensures.outcome
+  exchanged : OnSome c.exchange_next.result (IsExchanged g.A.ArenaTrait.state g.A.ChainArenaTrait.interlinks c.self.inside.corners c.exchange_next.new.self (g.P.PtrKey.key c.args.u).0 (g.P.PtrKey.key c.args.v).0)
+  exchanged = exchanged_on g.A.ArenaTrait.state g.A.ChainArenaTrait.interlinks c.self.inside.corners c.exchange_next.new.self g.P.PtrKey.key c.args.u c.args.v c.exchange_next.result c.exchange_next.ensures.outcome
 
   same_view : g.A.ArenaTrait.view c.exchange_next.new.self ≡ g.A.ArenaTrait.view c.self.inside.corners
   same_view = either_some c.exchange_next.result exchanged c.exchange_next.ensures.none (λ some is. is.view_after) (λ same. ap g.A.ArenaTrait.view same)
 
   same : g.A.ArenaTrait.entry c.exchange_next.new.self ≡ g.A.ArenaTrait.entry c.self.inside.corners
-  same = same_entry (λ x. (g.A.ArenaTrait.view x).entries) g.A.ArenaTrait.entry g.met.A.ArenaTrait.finds c.self.inside.corners c.exchange_next.new.self (ap (λ s. s.entries) same_view)
+  same = same_entry g.A.ArenaTrait.state c.self.inside.corners c.exchange_next.new.self (ap (λ s. s.entries) same_view)
 
 pub returns : goal.returns
 returns g c =
@@ -39,13 +39,13 @@ returns g c =
     record {
       some = rw (← c.self.view_is) (done g c);
       rings = rw (← c.self.view_is) (record {
-        cut = cuts_in_two g.A.ArenaTrait.entry g.A.ChainArenaTrait.interlinks a new u v c.exchange_next.result (done g c).1 chains (same g c);
-        merged = merges g.A.ArenaTrait.entry g.A.ChainArenaTrait.interlinks a new u v c.exchange_next.result (done g c).1 chains (same g c);
+        cut = cuts_in_two g.A.ArenaTrait.state g.A.ChainArenaTrait.interlinks a new u v c.exchange_next.result (done g c).1 chains (same g c);
+        merged = merges g.A.ArenaTrait.state g.A.ChainArenaTrait.interlinks a new u v c.exchange_next.result (done g c).1 chains (same g c);
         itself = λ is. either_some c.exchange_next.result (exchanged g c) c.exchange_next.ensures.none
-            (λ some changed. exchanged_itself g.A.ArenaTrait.entry g.A.ChainArenaTrait.interlinks a new (some_valid (g.A.ChainArenaTrait.interlinks a) (g.A.ArenaTrait.entry a) (g.A.ArenaTrait.view a).entries
-            (g.met.A.ChainArenaTrait.links_are_entries a) (g.met.A.ArenaTrait.finds a)) u v ((done g c).0 some).0 c.agrees.ensures is changed.exchanged) (λ same. ap g.A.ChainArenaTrait.interlinks same);
+            (λ some changed. exchanged_itself g.A.ArenaTrait.state g.A.ChainArenaTrait.interlinks a new (some_valid (g.A.ChainArenaTrait.interlinks a) (g.A.ArenaTrait.entry a) (g.A.ArenaTrait.view a).entries
+            (g.met.A.ChainArenaTrait.links_are_entries a) (g.A.ArenaTrait.state a).finds) u v ((done g c).0 some).0 c.agrees.ensures is changed.exchanged) (λ same. ap g.A.ChainArenaTrait.interlinks same);
         rest = record {
-          others = keeps_exchanged g.A.ArenaTrait.entry g.A.ChainArenaTrait.interlinks a new u v c.exchange_next.result (done g c).1 chains (same g c) c.exchange_next.ensures.none;
+          others = keeps_exchanged g.A.ArenaTrait.state g.A.ChainArenaTrait.interlinks a new u v c.exchange_next.result (done g c).1 chains (same g c) c.exchange_next.ensures.none;
           entries = same g c;
           view_after = same_view g c;
         };

@@ -10,14 +10,14 @@ use Rattle.chain_examples.proofs.mesh.Mesh.split.Goals as goal
 
 module _ (g : Over) (c : After-split_within_capacity g) where
   same : g.A.ArenaTrait.entry c.reserve.new.self ≡ g.A.ArenaTrait.entry c.args.self.now
-  same = same_entry (λ x. (g.A.ArenaTrait.view x).entries) g.A.ArenaTrait.entry g.met.A.ArenaTrait.finds c.args.self.now c.reserve.new.self (ap (λ s. s.entries) c.in_ok-reserve-in-Some.ensures.outcome.0)
+  same = same_entry g.A.ArenaTrait.state c.args.self.now c.reserve.new.self (ap (λ s. s.entries) c.in_ok-reserve-in-Some.ensures.outcome.0)
 
-  view_after : (xs : List (Item g.row.P-Gen.Denot g.row.T.Denot)) → IsRing g.A.ArenaTrait.entry g.A.ChainArenaTrait.interlinks c.args.self.now xs
-      → IsRing g.A.ArenaTrait.entry g.A.ChainArenaTrait.interlinks c.reserve.new.self xs
-  view_after = ring_viewed g.A.ArenaTrait.entry g.A.ChainArenaTrait.interlinks c.args.self.now c.reserve.new.self same c.reserve.ensures.links
+  view_after : (xs : List (Item g.row.P-Gen.Denot g.row.T.Denot)) → IsRing g.A.ArenaTrait.state g.A.ChainArenaTrait.interlinks c.args.self.now xs
+      → IsRing g.A.ArenaTrait.state g.A.ChainArenaTrait.interlinks c.reserve.new.self xs
+  view_after = ring_viewed g.A.ArenaTrait.state g.A.ChainArenaTrait.interlinks c.args.self.now c.reserve.new.self same c.reserve.ensures.kept.1
 
-pub returns-in_ok-reserve-in-Some-clause-outcome : goal.returns-in_ok-reserve-in-Some-clause-outcome
-returns-in_ok-reserve-in-Some-clause-outcome g c =
+pub returns-in_ok-reserve-in-Some : goal.returns-in_ok-reserve-in-Some
+returns-in_ok-reserve-in-Some g c =
     let reserved = c.in_ok-reserve-in-Some.ensures.outcome in
     let rings = c.split_within_capacity.ensures.rings in
     let capacity = c.split_within_capacity.ensures.capacity in (
@@ -38,7 +38,7 @@ split_within_capacity-requires-clause-capacity g c = omega (arith, ap count c.in
 
 -- The growth before a split keeps the entries.
 still : (g : Over) (c : After-split_within_capacity-arg-1 g) → g.A.ArenaTrait.entry c.reserve.new.self ≡ g.A.ArenaTrait.entry c.args.self.now
-still g c = same_entry (λ x. (g.A.ArenaTrait.view x).entries) g.A.ArenaTrait.entry g.met.A.ArenaTrait.finds c.args.self.now c.reserve.new.self (ap (λ s. s.entries) c.in_ok-reserve-in-Some.ensures.outcome.0)
+still g c = same_entry g.A.ArenaTrait.state c.args.self.now c.reserve.new.self (ap (λ s. s.entries) c.in_ok-reserve-in-Some.ensures.outcome.0)
 
 pub split_within_capacity-requires-clause-first : goal.split_within_capacity-requires-clause-first
 split_within_capacity-requires-clause-first g c = rw (still g c) c.in-Some.ensures.points.0

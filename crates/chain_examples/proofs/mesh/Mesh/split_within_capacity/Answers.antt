@@ -46,12 +46,12 @@ returns g c =
     let at_v = rw (← c.self.view_is) at c.requires.second in
     record {
       rings = rw (← c.self.view_is) (record {
-        split = splits g.A.ArenaTrait.entry g.A.ChainArenaTrait.interlinks old first second new u v p q c.args.both.0 c.args.both.1 at_u at_v before.list after.list change.cut;
-        bridged = bridges g.A.ArenaTrait.entry g.A.ChainArenaTrait.interlinks old first second new u v p q c.args.both.0 c.args.both.1 at_u at_v before.item after.item
+        split = splits g.A.ArenaTrait.state g.A.ChainArenaTrait.interlinks old first second new u v p q c.args.both.0 c.args.both.1 at_u at_v before.list after.list change.cut;
+        bridged = bridges g.A.ArenaTrait.state g.A.ChainArenaTrait.interlinks old first second new u v p q c.args.both.0 c.args.both.1 at_u at_v before.item after.item
             before.list before.others after.list after.others change.merged;
         copies = subst (λ e. AreCopied (g.A.ArenaTrait.entry old) e u v p q) (sym change.rest.entries)
             (copies_added (g.A.ArenaTrait.entry old) (g.A.ArenaTrait.entry first) (g.A.ArenaTrait.entry second) p q c.args.both.0 c.args.both.1 before.item after.item u v at_u at_v);
-        others = keeps_split g.A.ArenaTrait.entry g.A.ChainArenaTrait.interlinks old first second new u v p q c.args.both.0 c.args.both.1 before.item.free before.others after.others change.rest.others;
+        others = keeps_split g.A.ArenaTrait.state g.A.ChainArenaTrait.interlinks old first second new u v p q c.args.both.0 c.args.both.1 before.item.free before.others after.others change.rest.others;
         size = let view_after = ap (λ s. count s) change.rest.view_after in let one = before.size in let two = after.size in omega arith;
         maximum = ap (λ s. s.maximum) change.rest.view_after ∙ (after.maximum ∙ before.maximum);
       });

@@ -13,9 +13,12 @@ invariant_of-self g c = either_grown _ _ c.insert.result c.insert.ensures.outcom
     (λ q gained. cyclic_inserted (g.A.ChainArenaTrait.interlinks c.self.inside.corners) (g.A.ChainArenaTrait.interlinks c.insert.new.self) (g.P.PtrKey.key q).0 _ _ gained.0.pairs (λ i other at. c.self.invariant i at))
     (λ same. subst (λ a. AllCyclic (g.A.ChainArenaTrait.interlinks a)) (sym same) c.self.invariant)
 
-pub returns-clause-outcome : goal.returns-clause-outcome
-returns-clause-outcome g c = rw (← c.self.view_is) (growth_to _ _ _ c.insert.result c.insert.ensures.outcome (λ q gained. (
-  item_inserted g.A.ArenaTrait.view g.A.ArenaTrait.entry g.A.ChainArenaTrait.interlinks g.met.A.ChainArenaTrait.links_are_entries cyclic (λ l. refl) c.self.inside.corners c.insert.new.self c.agrees.ensures (g.P.PtrKey.key q) c.args.point single_link_cyclic [] _ refl gained.0
-      (record { chain = gained.0.chains.ring refl refl; are_stored = (gained.0.entries.stored, tt) }),
-  gained.1,
-)))
+pub returns : goal.returns
+returns g c = rw (← c.self.view_is) (record {
+  outcome = growth_to _ _ _ c.insert.result c.insert.ensures.outcome (λ q gained. (
+    item_inserted g.A.ArenaTrait.state g.A.ChainArenaTrait.interlinks g.met.A.ChainArenaTrait.links_are_entries cyclic (λ l. refl) c.self.inside.corners c.insert.new.self c.agrees.ensures (g.P.PtrKey.key q) c.args.point single_link_cyclic [] _ refl gained.0
+        (record { chain = gained.0.chains.ring refl refl; are_stored = (gained.0.entries.stored, tt) }),
+    gained.1,
+  ));
+  err = c.insert.ensures.err;
+})

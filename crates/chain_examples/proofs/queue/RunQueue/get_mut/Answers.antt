@@ -9,7 +9,7 @@ use Rattle.chain_examples.proofs.queue.RunQueue.get_mut.Goals as goal
 pub invariant_of-self-lent : goal.invariant_of-self-lent
 invariant_of-self-lent g c w =
     let held = rw c.in-Some.is at (c.get_mut.follows.holds w) in
-    (task_written g.A.ArenaTrait.view g.A.ArenaTrait.entry g.A.ChainArenaTrait.interlinks g.met.A.ArenaTrait.ascends g.met.A.ArenaTrait.finds c.self.inside.tasks _ (option_map g.P.PtrKey.key c.self.inside.current) c.self.invariant (g.P.PtrKey.key c.args.p).0 w held.0 (g.met.A.ChainArenaTrait.write_keeps _ _ _ _ held.1)).holds
+    (task_written g.A.ArenaTrait.state g.A.ChainArenaTrait.interlinks c.self.inside.tasks _ (option_map g.P.PtrKey.key c.self.inside.current) c.self.invariant (g.P.PtrKey.key c.args.p).0 w held.0 (g.met.A.ChainArenaTrait.write_keeps _ _ _ _ held.1)).holds
 
 pub returns-in-Some : goal.returns-in-Some
 returns-in-Some g c =
@@ -22,7 +22,7 @@ returns-in-Some g c =
         refl,
         (λ w.
             let held = rw c.in-Some.is at (c.get_mut.follows.holds w) in
-            (task_written g.A.ArenaTrait.view g.A.ArenaTrait.entry g.A.ChainArenaTrait.interlinks g.met.A.ArenaTrait.ascends g.met.A.ArenaTrait.finds a _ current c.self.invariant p.0 w held.0 (g.met.A.ChainArenaTrait.write_keeps _ _ _ _ held.1)).queue_is ∙ ap (λ q. with_task q p.0 w) c.self.view_is),
+            (task_written g.A.ArenaTrait.state g.A.ChainArenaTrait.interlinks a _ current c.self.invariant p.0 w held.0 (g.met.A.ChainArenaTrait.write_keeps _ _ _ _ held.1)).queue_is ∙ ap (λ q. with_task q p.0 w) c.self.view_is),
         refl,
       ),
       record {
@@ -37,7 +37,7 @@ returns-in-None g c =
     let a = c.self.inside.tasks in
     let current = option_map g.P.PtrKey.key c.self.inside.current in
     let p = g.P.PtrKey.key c.args.p in (
-      (refl, (λ w. tt), ap (λ b. queue_in g.A.ArenaTrait.view g.A.ArenaTrait.entry g.A.ChainArenaTrait.interlinks g.met.A.ArenaTrait.ascends g.met.A.ArenaTrait.finds b current) c.get_mut.follows.holds-at-none ∙ c.self.view_is),
+      (refl, (λ w. tt), ap (λ b. queue_in g.A.ArenaTrait.state g.A.ChainArenaTrait.interlinks b current) c.get_mut.follows.holds-at-none ∙ c.self.view_is),
       record {
         writes_back = tt;
         some = rw (← c.self.view_is) (
