@@ -84,55 +84,52 @@ fn check_on<S: SlotStack<Item = Slot>>(
 
 /// The definitions on small texts.
 fn definitions()
-    ensures lines { lines_of (97 ∷ 10 ∷ 10 ∷ 98 ∷ []) ≡ (97 ∷ []) ∷ [] ∷ (98 ∷ []) ∷ [] }
-    ensures no_line { lines_of [] ≡ [] ∷ [] }
-    ensures ended { lines_of (97 ∷ 10 ∷ []) ≡ (97 ∷ []) ∷ [] ∷ [] }
-    ensures whole { whole_lines (97 ∷ 10 ∷ 98 ∷ []) ≡ (97 ∷ []) ∷ [] }
-    ensures return_dropped { without_return (97 ∷ 13 ∷ 13 ∷ []) ≡ 97 ∷ 13 ∷ [] }
-    ensures return_within { without_return (13 ∷ 97 ∷ []) ≡ 13 ∷ 97 ∷ [] }
-    ensures two_words { words_of (codes "  add  7 ") ≡ codes "add" ∷ codes "7" ∷ [] }
-    ensures only_spaces { words_of (codes "   ") ≡ [] }
-    ensures number { number_of (codes "007") ≡ Some 7 }
-    ensures greatest { number_of (codes "4294967295") ≡ Some 4294967295 }
-    ensures too_great { number_of (codes "4294967296") ≡ None }
-    ensures too_long { number_of (codes "00000000007") ≡ None }
-    ensures no_digit { number_of (codes "7x") ≡ None }
-    ensures no_number { number_of [] ≡ None }
-    ensures index { option_map (λ p. p.inx.number) (pointer_of (codes "12.3")) ≡ Some 12 }
-    ensures generation { option_map (λ p. p.generation.number) (pointer_of (codes "12.3"))
-        ≡ Some 3 }
-    ensures index_zero { pointer_of (codes "0.3") ≡ None }
-    ensures generation_zero { pointer_of (codes "12.0") ≡ None }
-    ensures two_dots { pointer_of (codes "1.2.3") ≡ None }
-    ensures len { line_of (codes " len ") ≡ Good Len }
-    ensures add { line_of (codes "add alone 7") ≡ Good (Change (Insert Disconnected 7)) }
-    ensures add_within { line_of (codes "addwithin ring 7") ≡ Good
-        (Change (InsertWithin SingleLinkCyclic 7)) }
-    ensures by_pointer { (p : ToolPtr) → pointer_of (codes "1.2") ≡ Some p
-        → line_of (codes "add end 1.2 7") ≡ Good (Change (Insert (ChainEnd p) 7)) }
-    ensures by_index { (i : Inx32) → index_word (codes "1") ≡ Some i
-        → line_of (codes "addwithin after 1 7") ≡ Good (Change (InsertWithin (NextToInx i) 7)) }
-    ensures by_indexes { (i j : Inx32) → index_word (codes "3") ≡ Some i
-        → index_word (codes "1") ≡ Some j → line_of (codes "add bridge 3 1 7") ≡ Good
-        (Change (Insert (BridgeInx i j) 7)) }
-    ensures remove_pointer { (p : ToolPtr) → pointer_of (codes "1.2") ≡ Some p
-        → line_of (codes "remove 1.2") ≡ Good (Change (Remove p)) }
-    ensures remove_index { (i : Inx32) → index_word (codes "1") ≡ Some i
-        → line_of (codes "remove 1") ≡ Good (Change (RemoveInx i)) }
-    ensures mixed_forms { line_of (codes "add between 1.2 1 5") ≡ Bad }
-    ensures drain { (p : ToolPtr) → pointer_of (codes "1.2") ≡ Some p
-        → line_of (codes "drain 1.2 3") ≡ Good (Change (DrainChain p 3)) }
-    ensures drain_alone { line_of (codes "drain") ≡ Bad }
-    ensures compress { line_of (codes "compress reset") ≡ Good (Change (Compress true)) }
-    ensures canonical { line_of (codes "canonical reset") ≡ Good (Change (CompressCanonical true)) }
-    ensures moves { line_of (codes "moves reset") ≡ Good (Moves true) }
-    ensures reserve { line_of (codes "reserve 9") ≡ Good (Change (Reserve 9)) }
-    ensures incgen { line_of (codes "incgen") ≡ Good (Change IncGeneration) }
-    ensures setgen_zero { line_of (codes "setgen 0") ≡ Bad }
-    ensures blank { line_of (codes " ") ≡ Blank }
-    ensures unfinished { (lines : List (List ℕ))
-        → AreComplete (codes "add alone 2") (Some (codes "5")) lines → lines ≡ [] }
-    ensures finished { AreComplete (codes "add alone 2") (Some []) (codes "add alone 2" ∷ []) }
+    ensures lines { (lines_of (97 ∷ 10 ∷ 10 ∷ 98 ∷ []) ≡ (97 ∷ []) ∷ [] ∷ (98 ∷ []) ∷ [])
+        × (lines_of [] ≡ [] ∷ [])
+        × (lines_of (97 ∷ 10 ∷ []) ≡ (97 ∷ []) ∷ [] ∷ [])
+        × (whole_lines (97 ∷ 10 ∷ 98 ∷ []) ≡ (97 ∷ []) ∷ [])
+        × (without_return (97 ∷ 13 ∷ 13 ∷ []) ≡ 97 ∷ 13 ∷ [])
+        × (without_return (13 ∷ 97 ∷ []) ≡ 13 ∷ 97 ∷ []) }
+    ensures words { (words_of (codes "  add  7 ") ≡ codes "add" ∷ codes "7" ∷ [])
+        × (words_of (codes "   ") ≡ []) }
+    ensures numbers { (number_of (codes "007") ≡ Some 7)
+        × (number_of (codes "4294967295") ≡ Some 4294967295)
+        × (number_of (codes "4294967296") ≡ None)
+        × (number_of (codes "00000000007") ≡ None)
+        × (number_of (codes "7x") ≡ None)
+        × (number_of [] ≡ None) }
+    ensures pointers { (option_map (λ p. p.inx.number) (pointer_of (codes "12.3")) ≡ Some 12)
+        × (option_map (λ p. p.generation.number) (pointer_of (codes "12.3")) ≡ Some 3)
+        × (pointer_of (codes "0.3") ≡ None)
+        × (pointer_of (codes "12.0") ≡ None)
+        × (pointer_of (codes "1.2.3") ≡ None) }
+    ensures insertions { (line_of (codes "add alone 7") ≡ Good (Change (Insert Disconnected 7)))
+        × (line_of (codes "addwithin ring 7") ≡ Good (Change (InsertWithin SingleLinkCyclic 7)))
+        × ((p : ToolPtr) → pointer_of (codes "1.2") ≡ Some p
+        → line_of (codes "add end 1.2 7") ≡ Good (Change (Insert (ChainEnd p) 7)))
+        × ((i : Inx32) → index_word (codes "1") ≡ Some i
+        → line_of (codes "addwithin after 1 7") ≡ Good (Change (InsertWithin (NextToInx i) 7)))
+        × ((i j : Inx32) → index_word (codes "3") ≡ Some i → index_word (codes "1") ≡ Some j
+        → line_of (codes "add bridge 3 1 7") ≡ Good (Change (Insert (BridgeInx i j) 7)))
+        × (line_of (codes "add between 1.2 1 5") ≡ Bad) }
+    ensures removals { ((p : ToolPtr) → pointer_of (codes "1.2") ≡ Some p
+        → line_of (codes "remove 1.2") ≡ Good (Change (Remove p)))
+        × ((i : Inx32) → index_word (codes "1") ≡ Some i
+        → line_of (codes "remove 1") ≡ Good (Change (RemoveInx i)))
+        × ((p : ToolPtr) → pointer_of (codes "1.2") ≡ Some p
+        → line_of (codes "drain 1.2 3") ≡ Good (Change (DrainChain p 3)))
+        × (line_of (codes "drain") ≡ Bad) }
+    ensures others { (line_of (codes " len ") ≡ Good Len)
+        × (line_of (codes "compress reset") ≡ Good (Change (Compress true)))
+        × (line_of (codes "canonical reset") ≡ Good (Change (CompressCanonical true)))
+        × (line_of (codes "moves reset") ≡ Good (Moves true))
+        × (line_of (codes "reserve 9") ≡ Good (Change (Reserve 9)))
+        × (line_of (codes "incgen") ≡ Good (Change IncGeneration))
+        × (line_of (codes "setgen 0") ≡ Bad)
+        × (line_of (codes " ") ≡ Blank) }
+    ensures complete { ((lines : List (List ℕ))
+        → AreComplete (codes "add alone 2") (Some (codes "5")) lines → lines ≡ [])
+        × AreComplete (codes "add alone 2") (Some []) (codes "add alone 2" ∷ []) }
 {}
 
 #[test]

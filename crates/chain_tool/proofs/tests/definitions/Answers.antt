@@ -18,43 +18,24 @@ none_complete lines (by_the_end ended) = cc
 pub returns : goal.returns
 unfolding index_named generation_of
 returns c = record {
-  lines = refl;
-  no_line = refl;
-  ended = refl;
-  whole = refl;
-  return_dropped = refl;
-  return_within = refl;
-  two_words = refl;
-  only_spaces = refl;
-  number = refl;
-  greatest = refl;
-  too_great = refl;
-  too_long = refl;
-  no_digit = refl;
-  no_number = refl;
-  index = refl;
-  generation = refl;
-  index_zero = refl;
-  generation_zero = refl;
-  two_dots = refl;
-  len = refl;
-  add = refl;
-  add_within = refl;
-  by_pointer = λ p is. ap (λ o. line_with (option_map Change (option_map (λ a. Insert a.0 a.1) (option_zip (option_map ChainEnd o) (Some 7))))) is;
-  by_index = λ i is. ap (λ o. line_with (option_map Change (option_map (λ a. InsertWithin a.0 a.1) (option_zip (option_map NextToInx o) (Some 7))))) is;
-  by_indexes = λ i j is_i is_j. (λ t. line_with (option_map Change (option_map (λ a. Insert a.0 a.1) (option_zip (option_map (λ x. BridgeInx x.0 x.1) (option_zip (is_i t) (is_j t))) (Some 7)))));
-  remove_pointer = λ p is. ap (λ o. line_with (option_map Change (by_either Remove RemoveInx o None))) is;
-  remove_index = λ i is. ap (λ o. line_with (option_map Change (by_either Remove RemoveInx None o))) is;
-  mixed_forms = refl;
-  drain = λ p is. ap (λ o. line_with (option_map Change (option_map (λ a. DrainChain a.0 a.1) (option_zip o (Some 3))))) is;
-  drain_alone = refl;
-  compress = refl;
-  canonical = refl;
-  moves = refl;
-  reserve = refl;
-  incgen = refl;
-  setgen_zero = refl;
-  blank = refl;
-  unfinished = none_complete;
-  finished = by_the_end refl;
+  lines = (refl, refl, refl, refl, refl, refl);
+  words = (refl, refl);
+  numbers = (refl, refl, refl, refl, refl, refl);
+  pointers = (refl, refl, refl, refl, refl);
+  insertions = (
+    refl,
+    refl,
+    λ p is. ap (λ o. line_with (option_map Change (option_map (λ a. Insert a.0 a.1) (option_zip (option_map ChainEnd o) (Some 7))))) is,
+    λ p is. ap (λ o. line_with (option_map Change (option_map (λ a. InsertWithin a.0 a.1) (option_zip (option_map NextToInx o) (Some 7))))) is,
+    λ i j is_i is_j. (λ t. line_with (option_map Change (option_map (λ a. Insert a.0 a.1) (option_zip (option_map (λ x. BridgeInx x.0 x.1) (option_zip (is_i t) (is_j t))) (Some 7))))),
+    refl,
+  );
+  removals = (
+    λ p is. ap (λ o. line_with (option_map Change (by_either Remove RemoveInx o None))) is,
+    λ i is. ap (λ o. line_with (option_map Change (by_either Remove RemoveInx None o))) is,
+    λ p is. ap (λ o. line_with (option_map Change (option_map (λ a. DrainChain a.0 a.1) (option_zip o (Some 3))))) is,
+    refl,
+  );
+  others = (refl, refl, refl, refl, refl, refl, refl, refl);
+  complete = (none_complete, by_the_end refl);
 }
