@@ -1,5 +1,5 @@
 // The advancer over the pointers of an arena, by ascending or descending index.
-ghost use Rattle.std.specs.Prelude.{◌≡◌, if◌then◌else◌};
+ghost use Rattle.std.specs.Prelude.{◌≡◌};
 
 use crate::arena::Arena;
 use crate::slot::{ArenaSlot, number_of};
@@ -19,27 +19,12 @@ pub struct PtrAdvancer<P> {
 }
 
 impl<P> PtrAdvancer<P> {
-    /// Returns an advancer by ascending index that starts at index `from`.
-    pub(crate) fn up(from: usize) -> Self
-        ensures { result.cursor ≡ Cursor.Up from }
+    // Returns an advancer at a cursor.
+    pub(crate) fn at(cursor: Cursor) -> Self
+        ensures { result.cursor ≡ cursor }
     {
         PtrAdvancer {
-            cursor: Cursor::Up(from),
-            of: PhantomData,
-        }
-    }
-
-    /// Returns an advancer that starts at index `from`, by ascending or, with `rev`, by descending
-    /// index.
-    pub(crate) fn begin(from: usize, rev: bool) -> Self
-        ensures { result.cursor ≡ (if rev then Cursor.Down from else Cursor.Up from) }
-    {
-        PtrAdvancer {
-            cursor: if rev {
-                Cursor::Down(from)
-            } else {
-                Cursor::Up(from)
-            },
+            cursor,
             of: PhantomData,
         }
     }
@@ -79,9 +64,6 @@ impl<P: PtrKey, T: Drop, S: SlotStack<Item = ArenaSlot<P, T>>> Advancer<Arena<P,
     }
 
     fn empty() -> Self {
-        PtrAdvancer {
-            cursor: Cursor::Nowhere,
-            of: PhantomData,
-        }
+        PtrAdvancer::at(Cursor::Nowhere)
     }
 }

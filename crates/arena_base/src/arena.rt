@@ -1,5 +1,6 @@
 // The generational arena and its inherent functions.
 ghost use Rattle.std.specs.Prelude.{◌≡◌, [], min, ◌<◌, ◌+◌, ◌↔◌, IsSome, OnErr, Some, None, drop, take};
+ghost use Rattle.std.specs.Option.{option_map};
 ghost use Rattle.arena_core.specs.SlotStack.{IsBeyond};
 ghost use Rattle.arena_base.specs.ArenaCalls.{IncrementsCounter, IsBacking, ReportsFull, ReturnsPairAt, ReturnsNext, ReturnsPointer, RenewsEntry, DetachesSlots};
 ghost use Rattle.arena_base.specs.Growths.{GrowsArenaFor, GrowsArenaForOneMore, InsertsGrowing, InsertsIfFree};
@@ -18,7 +19,7 @@ use arena_core::{
     MaxCapacityReductionError, NotWithinCapacityError, PtrKey, ReallocationError, SetMaxCapacity,
     SlotStack,
 };
-use arena_traits::{Cursor, outcome, with_overflow};
+use arena_traits::Cursor;
 use std::marker::Model;
 use std::mem;
 
@@ -101,7 +102,7 @@ impl<P: PtrKey, T: Drop, S: SlotStack<Item = ArenaSlot<P, T>>> Arena<P, T, S> {
     {
         let (next, overflow) = self.counter.generational_inc();
         self.counter = next;
-        with_overflow(overflow, ())
+        InvalidationOption::from_overflow(overflow, ())
     }
 
     /// Returns the slots.
@@ -110,6 +111,30 @@ impl<P: PtrKey, T: Drop, S: SlotStack<Item = ArenaSlot<P, T>>> Arena<P, T, S> {
             result.now }
     {
         &self.slots
+    }
+
+    /// Inserts an entry at the next index, with the counter as its generation, and returns its
+    /// pointer; there must be capacity for it.
+    ///
+    /// No memory is allocated. Not in `triple_arena`.
+    pub fn insert_next(&mut self, t: T) -> P
+        requires { entry_count self.old < self.old.capacity }
+        ensures ptr { P.key result ≡ (next_index self.old, self.old.counter) }
+        ensures after { self.new ≡ insert_next self.old t }
+    {
+        let p = self.next_ptr();
+        match P::Inx::unpack(self.first_free) {
+            Some(i) => {
+                self.first_free = fill(&mut self.slots, position_of::<P>(i), self.counter, t);
+            }
+            None => {
+                self.slots
+                    .push_within(ArenaSlot::Allocated(self.counter, t));
+            }
+        }
+        self.len += 1;
+        self.placed = self.placed.one_more();
+        p
     }
 
     /// Inserts an entry at the next index, with the counter as its generation, and returns its
@@ -128,7 +153,7 @@ impl<P: PtrKey, T: Drop, S: SlotStack<Item = ArenaSlot<P, T>>> Arena<P, T, S> {
         if self.is_full() {
             return Err(NotWithinCapacityError);
         }
-        Ok(self.insert_here(t))
+        Ok(self.insert_next(t))
     }
 
     /// Inserts an entry at the next index, with the counter as its generation, and returns its
@@ -148,13 +173,20 @@ impl<P: PtrKey, T: Drop, S: SlotStack<Item = ArenaSlot<P, T>>> Arena<P, T, S> {
         ensures err { OnErr result (self.new ≡ self.old) }
     {
         match self.grow_if_full() {
-            Ok(()) => Ok(self.insert_here(t)),
+            Ok(()) => Ok(self.insert_next(t)),
             Err(e) => Err(e),
         }
     }
 
-    // Grows a full arena to a capacity for one more entry.
-    fn grow_if_full(&mut self) -> Result<(), ReallocationError>
+    /// Grows a full arena to a capacity for one more entry.
+    ///
+    /// # Errors
+    ///
+    /// - `BeyondMaxCapacity`: the growth needed is beyond the maximum.
+    /// - `AllocError`: the growth needed is beyond the greatest index, or an allocation failed.
+    ///
+    /// Nothing changes on error. Not in `triple_arena`.
+    pub fn grow_if_full(&mut self) -> Result<(), ReallocationError>
         ensures outcome { GrowsArenaForOneMore S.may_reach P.Inx.greatest self.old result
             self.new }
         ensures err { OnErr result (self.new ≡ self.old) }
@@ -166,8 +198,10 @@ impl<P: PtrKey, T: Drop, S: SlotStack<Item = ArenaSlot<P, T>>> Arena<P, T, S> {
         }
     }
 
-    // Returns whether there are as many entries as the capacity.
-    pub(crate) fn is_full(&self) -> bool
+    /// Returns whether there are as many entries as the capacity.
+    ///
+    /// Not in `triple_arena`.
+    pub fn is_full(&self) -> bool
         ensures { ReportsFull P.Inx.greatest self.now result }
     {
         self.len == self.slots.capacity().min(P::Inx::greatest())
@@ -234,10 +268,7 @@ impl<P: PtrKey, T: Drop, S: SlotStack<Item = ArenaSlot<P, T>>> Arena<P, T, S> {
         ensures { ReturnsPointer P.key
             (first_key (entries_from (from + 1) (drop from self.now.slots))) result }
     {
-        match self.next_from(from) {
-            Some(next) => Some(next.1),
-            None => None,
-        }
+        Some(self.next_from(from)?.1)
     }
 
     // Returns the valid pointer of greatest index up to index `to`.
@@ -260,6 +291,20 @@ impl<P: PtrKey, T: Drop, S: SlotStack<Item = ArenaSlot<P, T>>> Arena<P, T, S> {
             Cursor::Up(from) => self.first_from(from.saturating_sub(1)),
             Cursor::Down(to) => self.last_to(to),
             Cursor::Nowhere => None,
+        }
+    }
+
+    /// Returns the index of the next insertion, or `None` if it is above the greatest.
+    ///
+    /// Not in `triple_arena`.
+    pub fn next_inx(&self) -> Option<P::Inx>
+        ensures { entry_count self.now < P.Inx.greatest
+            → option_map P.Inx.number result ≡ Some (next_index self.now) }
+    {
+        match P::Inx::unpack(self.first_free) {
+            Some(i) => Some(i),
+            // There are as many slots as entries.
+            None => P::Inx::try_from_usize(self.len + 1),
         }
     }
 
@@ -290,7 +335,7 @@ impl<P: PtrKey, T: Drop, S: SlotStack<Item = ArenaSlot<P, T>>> Arena<P, T, S> {
                 self.placed = self.placed.one_more();
                 let (generation, overflow) = self.counter.generational_inc();
                 self.counter = generation;
-                outcome(overflow, entry)
+                InvalidationResult::from_overflow(overflow, entry)
             }
             None => InvalidationResult::InvalidPtr,
         }
@@ -358,27 +403,6 @@ impl<P: PtrKey, T: Drop, S: SlotStack<Item = ArenaSlot<P, T>>> Arena<P, T, S> {
     {
         self.touched = self.touched.one_more();
     }
-
-    // Inserts an entry within the capacity.
-    pub(crate) fn insert_here(&mut self, t: T) -> P
-        requires { entry_count self.old < self.old.capacity }
-        ensures ptr { P.key result ≡ (next_index self.old, self.old.counter) }
-        ensures after { self.new ≡ insert_next self.old t }
-    {
-        let p = self.next_ptr();
-        match P::Inx::unpack(self.first_free) {
-            Some(i) => {
-                self.first_free = fill(&mut self.slots, position_of::<P>(i), self.counter, t);
-            }
-            None => {
-                self.slots
-                    .push_within(ArenaSlot::Allocated(self.counter, t));
-            }
-        }
-        self.len += 1;
-        self.placed = self.placed.one_more();
-        p
-    }
 }
 
 // Returns why growth to `n` entries is refused, more than there are indexes.
@@ -386,14 +410,8 @@ fn refusal(maximum: Option<usize>, n: usize) -> ReallocationError
     ensures { (result ≡ ReallocationError.BeyondMaxCapacity) ↔ IsBeyond maximum n }
 {
     match maximum {
-        Some(most) => {
-            if most < n {
-                ReallocationError::BeyondMaxCapacity
-            } else {
-                ReallocationError::AllocError
-            }
-        }
-        None => ReallocationError::AllocError,
+        Some(most) if most < n => ReallocationError::BeyondMaxCapacity,
+        _ => ReallocationError::AllocError,
     }
 }
 

@@ -12,7 +12,7 @@ use arena_core::{
     AllocError, GenKey, InvalidationOption, InvalidationResult, InxKey, PtrKey, ReallocationError,
     SlotStack,
 };
-use arena_traits::{ArenaTrait, CompactArenaTrait, outcome, with_overflow};
+use arena_traits::{ArenaTrait, CompactArenaTrait, Cursor};
 use std::alloc::Global;
 
 impl<P: PtrKey, T: Drop, S: SlotStack<Item = ArenaSlot<P, T>>> ArenaTrait<P, T> for Arena<P, T, S> {
@@ -102,15 +102,11 @@ impl<P: PtrKey, T: Drop, S: SlotStack<Item = ArenaSlot<P, T>>> ArenaTrait<P, T> 
     }
 
     fn get(&self, p: P) -> Option<&T> {
-        match self.get_inx(p.inx()) {
-            Some((generation, t)) => {
-                if generation.is_same(p.generation()) {
-                    Some(t)
-                } else {
-                    None
-                }
-            }
-            None => None,
+        let (generation, t) = self.get_inx(p.inx())?;
+        if generation.is_same(p.generation()) {
+            Some(t)
+        } else {
+            None
         }
     }
 
@@ -146,11 +142,12 @@ impl<P: PtrKey, T: Drop, S: SlotStack<Item = ArenaSlot<P, T>>> ArenaTrait<P, T> 
     }
 
     fn advancer(&self) -> PtrAdvancer<P> {
-        PtrAdvancer::up(1)
+        PtrAdvancer::at(Cursor::Up(1))
     }
 
     fn advancer_inx(&self, i: P::Inx, rev: bool) -> PtrAdvancer<P> {
-        PtrAdvancer::begin(number_of::<P>(i), rev)
+        let n = number_of::<P>(i);
+        PtrAdvancer::at(if rev { Cursor::Down(n) } else { Cursor::Up(n) })
     }
 
     fn invalidate(&mut self, p: P) -> InvalidationResult<P> {
@@ -158,7 +155,7 @@ impl<P: PtrKey, T: Drop, S: SlotStack<Item = ArenaSlot<P, T>>> ArenaTrait<P, T> 
             return InvalidationResult::InvalidPtr;
         }
         let (generation, overflow) = self.renew_at(p.inx());
-        outcome(overflow, P::_from_raw(p.inx(), generation))
+        InvalidationResult::from_overflow(overflow, P::_from_raw(p.inx(), generation))
     }
 
     fn remove(&mut self, p: P) -> InvalidationResult<T> {
@@ -184,7 +181,7 @@ impl<P: PtrKey, T: Drop, S: SlotStack<Item = ArenaSlot<P, T>>> ArenaTrait<P, T> 
         self.slots.truncate(0);
         self.len = 0;
         self.first_free = P::Inx::pack(None);
-        with_overflow(overflow, ())
+        InvalidationOption::from_overflow(overflow, ())
     }
 
     fn compress_with<F: FnMut(P, &mut T, P) + Drop>(
@@ -250,6 +247,6 @@ impl<P: PtrKey, T: Drop, S: SlotStack<Item = ArenaSlot<P, T>>> Arena<P, T, S> {
     {
         let (generation, overflow) = after_compression(self.generation(), self.len(), reset);
         self.set_generation(generation);
-        with_overflow(overflow, ())
+        InvalidationOption::from_overflow(overflow, ())
     }
 }

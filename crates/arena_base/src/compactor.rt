@@ -128,13 +128,7 @@ impl<'a, P: PtrKey, T: Drop, S: SlotStack<Item = ArenaSlot<P, T>>> Drop for Comp
         ensures { self.exit.0.now ≡ arena_after_return P.Inx.greatest self.entry.arena.now
             self.entry.held }
     {
-        let Compactor {
-            arena,
-            held,
-            placed: _,
-            touched: _,
-        } = self;
-        arena.return_slots(held);
+        self.finish();
     }
 }
 

@@ -7,8 +7,7 @@ ghost use Rattle.arena_base.specs.GatheredSlots.{IsGathered};
 use crate::arena::Arena;
 use crate::compactor::{Compactor, SlotAccess};
 use crate::slot::{ArenaSlot, inx_at};
-use arena_core::{PtrKey, SlotStack};
-use arena_traits::proved_unreachable;
+use arena_core::{PtrKey, SlotStack, proved_unreachable};
 
 // Moves the entry at index `from`, if there is one, to index `to`, free or its own. Sets its
 // generation and returns the old one.
@@ -24,10 +23,7 @@ fn move_entry<P: PtrKey, T: Drop, S: SlotStack<Item = ArenaSlot<P, T>>>(
     ensures { MovesEntry (P.Inx.number from) (P.Inx.number to) generation compactor.old result
         compactor.new }
 {
-    let was = match compactor.peek(from) {
-        Some((was, _)) => *was,
-        None => return None,
-    };
+    let was = *compactor.peek(from)?.0;
     compactor.bring(from, to, generation);
     Some(was)
 }

@@ -5,8 +5,8 @@ ghost use Rattle.arena_base.specs.CopyOutcomes.{CopiesSlots, CopiesArena};
 use crate::arena::Arena;
 use crate::copy_traits::{ArenaCloneFromWith, ValueMap};
 use crate::slot::{ArenaSlot, inx_at};
-use arena_core::{AllocError, InxKey, PtrKey, ReallocationError, SlotStack};
-use arena_traits::{ArenaTrait, proved_unreachable};
+use arena_core::{AllocError, InxKey, PtrKey, ReallocationError, SlotStack, proved_unreachable};
+use arena_traits::ArenaTrait;
 
 /// A `ValueMap` by a closure, which is called with the pointer and the value of each entry.
 #[derive(Drop)]

@@ -5,9 +5,8 @@ ghost use Rattle.std.specs.Borrow.{LendsSo, sem};
 ghost use Rattle.arena_traits.specs.Arena.{slot_at};
 ghost use Rattle.arena_base.specs.DetachedSlots.{DetachedView, borrowed_parts, with_placed_entry, held_with_value};
 
-use crate::slot::{ArenaSlot, position_of, put_at, regenerate_at, vacate_at};
-use arena_core::{InxKey, PtrKey, SlotStack};
-use arena_traits::proved_unreachable;
+use crate::slot::{ArenaSlot, position_of, regenerate_at, vacate_at, write_at};
+use arena_core::{InxKey, PtrKey, SlotStack, proved_unreachable};
 use std::marker::Model;
 
 #[derive(Drop)]
@@ -69,7 +68,11 @@ impl<P: PtrKey, T: Drop, S: SlotStack<Item = ArenaSlot<P, T>>> DetachedSlots<P, 
             (P.Inx.number to) generation }
     {
         match vacate_at(&mut self.slots, position_of::<P>(from), P::Inx::pack(None)) {
-            Some((_, t)) => put_at(&mut self.slots, position_of::<P>(to), generation, t),
+            Some((_, t)) => write_at(
+                &mut self.slots,
+                position_of::<P>(to),
+                ArenaSlot::Allocated(generation, t),
+            ),
             None => proved_unreachable!(),
         }
     }

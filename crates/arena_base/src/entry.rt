@@ -58,7 +58,7 @@ impl<'a, P: PtrKey, T: Drop, S: SlotStack<Item = ArenaSlot<P, T>>> ArenaInsertEn
     pub fn insert(self, t: T)
         ensures { self.exit.0.now ≡ insert_next self.entry.arena.now t }
     {
-        self.arena.insert_here(t);
+        self.arena.insert_next(t);
         let ArenaInsertEntry { arena: _ } = self;
     }
 }

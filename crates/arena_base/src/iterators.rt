@@ -1,14 +1,12 @@
 // Iterators over the entries of an arena, by ascending index. Each passes every slot once.
 ghost use Rattle.std.specs.Prelude.{◌≡◌, ◌+◌, drop};
-ghost use Rattle.arena_core.specs.Invalidation.{value_within};
 ghost use Rattle.arena_base.specs.ArenaCalls.{TakesNext};
 ghost use Rattle.arena_traits.specs.Entries.{entries_from};
 ghost use Rattle.std.specs.Iterator.{YieldsFirstBy, item_count};
 
 use crate::arena::Arena;
 use crate::slot::ArenaSlot;
-use arena_core::{HeapStack, InvalidationResult, PtrKey, SlotStack};
-use arena_traits::proved_unreachable;
+use arena_core::{HeapStack, PtrKey, SlotStack, proved_unreachable};
 use std::marker::Model;
 
 impl<P: PtrKey, T: Drop, S: SlotStack<Item = ArenaSlot<P, T>>> Arena<P, T, S> {
@@ -18,26 +16,14 @@ impl<P: PtrKey, T: Drop, S: SlotStack<Item = ArenaSlot<P, T>>> Arena<P, T, S> {
         ensures { TakesNext P.key from self.old result self.new }
     {
         match self.next_from(from) {
-            Some(next) => {
-                let (behind, p) = (next.0, next.1);
-                match value_of(self.take_at(p.inx())) {
+            Some((behind, p, _)) => {
+                match self.take_at(p.inx()).allow() {
                     Some(entry) => Some((behind, p, entry.1)),
                     None => proved_unreachable!(),
                 }
             }
             None => None,
         }
-    }
-}
-
-// Returns the value of a result, if there is one.
-pub(crate) fn value_of<T>(outcome: InvalidationResult<T>) -> Option<T>
-    ensures { result ≡ value_within outcome }
-{
-    match outcome {
-        InvalidationResult::Success(t) => Some(t),
-        InvalidationResult::GenerationOverflow(t) => Some(t),
-        InvalidationResult::InvalidPtr => None,
     }
 }
 

@@ -18,13 +18,11 @@ mod tally;
 
 pub use advancer::PtrAdvancer;
 pub use arena::Arena;
-pub use arena_traits::{
-    Advancer, ArenaTrait, CompactArenaTrait, assume_proved, entries_determine_occupancy, outcome,
-    proved_unreachable, with_overflow,
-};
+pub use arena_core::{assume_proved, proved_unreachable};
+pub use arena_traits::{Advancer, ArenaTrait, CompactArenaTrait, entries_determine_occupancy};
 pub use compactor::{Compactor, SlotAccess, Work};
 pub use copy::ClosureMap;
 pub use copy_traits::{ArenaCloneFromWith, ValueMap};
 pub use entry::ArenaInsertEntry;
 pub use iterators::{CapacityDrain, Iter};
-pub use slot::{ArenaSlot, inx_at};
+pub use slot::{ArenaSlot, inx_at, number_of, position_of};

@@ -2,11 +2,10 @@
 ghost use Rattle.std.specs.Prelude.{◌≡◌, ◌+◌, ◌<◌, length, slice_get, is_none};
 ghost use Rattle.std.specs.Option.{option_map, option_copied_mut};
 ghost use Rattle.std.specs.Borrow.{LendsIf, sem};
-ghost use Rattle.arena_base.specs.Slots.{entry_of, entry_in, with_value_in, with_generation_in, IsFree, allocated_slot};
+ghost use Rattle.arena_base.specs.Slots.{entry_of, entry_in, with_value_in, IsFree};
 ghost use Rattle.arena_base.specs.SlotCalls.{VacatesSlot, WritesSlot, RegeneratesSlot, FillsSlot, VacatesSlotAt, ListsSlot};
 
-use arena_core::{InxKey, PackedOption, PtrKey, SlotStack};
-use arena_traits::proved_unreachable;
+use arena_core::{InxKey, PackedOption, PtrKey, SlotStack, proved_unreachable};
 use std::mem;
 
 // An optional index, packed.
@@ -39,18 +38,6 @@ impl<P: PtrKey, T> ArenaSlot<P, T> {
         }
     }
 
-    // Sets the generation of an entry.
-    pub(crate) fn set_generation(&mut self, generation: P::Gen)
-        ensures { self.new ≡ with_generation_in self.old generation }
-    {
-        match self {
-            ArenaSlot::Allocated(g, _) => {
-                *g = generation;
-            }
-            ArenaSlot::Free(_) => {}
-        }
-    }
-
     // Removes an entry, and makes the slot free, before the freed slot `next`.
     fn vacate(&mut self, next: PackedInx<P::Inx>) -> Option<(P::Gen, T)>
         ensures { VacatesSlot next self.old result self.new }
@@ -65,15 +52,15 @@ impl<P: PtrKey, T> ArenaSlot<P, T> {
     }
 }
 
-// Returns the position of an index in the list of slots, from 0.
-pub(crate) fn position_of<P: PtrKey>(i: P::Inx) -> usize
+/// Returns the position of an index in the list of slots, from 0.
+pub fn position_of<P: PtrKey>(i: P::Inx) -> usize
     ensures { result + 1 ≡ P.Inx.number i }
 {
     number_of::<P>(i) - 1
 }
 
-// Returns the number of an index.
-pub(crate) fn number_of<P: PtrKey>(i: P::Inx) -> usize
+/// Returns the number of an index.
+pub fn number_of<P: PtrKey>(i: P::Inx) -> usize
     ensures { result ≡ P.Inx.number i }
 {
     match i.try_into_usize() {
@@ -131,21 +118,17 @@ pub(crate) fn vacate_at<P: PtrKey, T: Drop, S: SlotStack<Item = ArenaSlot<P, T>>
     }
 }
 
-// Writes an entry at position `k`.
-pub(crate) fn put_at<P: PtrKey, T: Drop, S: SlotStack<Item = ArenaSlot<P, T>>>(
+// Writes the slot at position `k`.
+pub(crate) fn write_at<P: PtrKey, T: Drop, S: SlotStack<Item = ArenaSlot<P, T>>>(
     slots: &mut S,
     k: usize,
-    generation: P::Gen,
-    t: T,
+    slot: ArenaSlot<P, T>,
 )
     requires { k < length (S.items slots.old) }
-    ensures { WritesSlot S.items S.capacity S.maximum k (allocated_slot generation t) slots.old
-        slots.new }
+    ensures { WritesSlot S.items S.capacity S.maximum k slot slots.old slots.new }
 {
     match slots.get_mut(k) {
-        Some(slot) => {
-            *slot = ArenaSlot::Allocated(generation, t);
-        }
+        Some(at) => *at = slot,
         None => proved_unreachable!(),
     }
 }
@@ -159,7 +142,10 @@ pub(crate) fn regenerate_at<P: PtrKey, T: Drop, S: SlotStack<Item = ArenaSlot<P,
     ensures { RegeneratesSlot S.items S.capacity S.maximum k generation slots.old slots.new }
 {
     match slots.get_mut(k) {
-        Some(slot) => slot.set_generation(generation),
+        Some(slot) => match slot {
+            ArenaSlot::Allocated(g, _) => *g = generation,
+            ArenaSlot::Free(_) => {}
+        },
         None => {}
     }
 }
@@ -189,11 +175,6 @@ pub(crate) fn list_at<P: PtrKey, T: Drop, S: SlotStack<Item = ArenaSlot<P, T>>>(
     ensures { ListsSlot S.items S.capacity S.maximum P.Inx.packed_number k next slots.old result
         slots.new }
 {
-    match slots.get_mut(k) {
-        Some(slot) => {
-            *slot = ArenaSlot::Free(next);
-        }
-        None => proved_unreachable!(),
-    }
+    write_at(slots, k, ArenaSlot::Free(next));
     P::Inx::pack(Some(inx_at::<P>(k)))
 }

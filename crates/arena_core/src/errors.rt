@@ -53,3 +53,17 @@ pub enum ChainInsertionError {
     /// The size needed is above the stack's maximum.
     BeyondMaxCapacity,
 }
+
+impl From<ReallocationError> for ChainInsertionError {
+    ghost use Rattle.std.specs.Prelude.{◌≡◌};
+    ghost use Rattle.arena_core.specs.Errors.{insertion_error};
+
+    ghost from_gives = { λ why e. e ≡ insertion_error why };
+
+    fn from(why: ReallocationError) -> ChainInsertionError {
+        match why {
+            ReallocationError::BeyondMaxCapacity => ChainInsertionError::BeyondMaxCapacity,
+            ReallocationError::AllocError => ChainInsertionError::AllocError,
+        }
+    }
+}

@@ -1,6 +1,6 @@
-ghost use Rattle.std.specs.Prelude.{◌≡◌, MatchOption, IsSomeAnd, None};
+ghost use Rattle.std.specs.Prelude.{◌≡◌, MatchOption, IsSomeAnd, None, Some};
 ghost use Rattle.std.specs.Option.{ForSome};
-ghost use Rattle.arena_core.specs.Invalidation.{value_in, value_within, is_overflow, is_overflow_result};
+ghost use Rattle.arena_core.specs.Invalidation.{value_in, value_within, is_overflow, is_overflow_result, invalidation_option, invalidation_result};
 
 /// The result of an invalidation: a value, and whether the generation counter overflowed to two.
 ///
@@ -27,14 +27,22 @@ pub enum InvalidationResult<T> {
 }
 
 impl<T> InvalidationOption<T> {
+    /// Returns `t` with this overflow.
+    pub fn from_overflow(overflow: bool, t: T) -> Self
+        ensures { result ≡ invalidation_option overflow t }
+    {
+        if overflow {
+            Self::GenerationOverflow(t)
+        } else {
+            Self::Success(t)
+        }
+    }
+
     /// Returns the value, whether or not the counter overflowed.
     pub fn allow(self) -> T
         ensures { result ≡ value_in self }
     {
-        match self {
-            Self::Success(t) => t,
-            Self::GenerationOverflow(t) => t,
-        }
+        self.overflowing().0
     }
 
     /// Returns the value and whether the counter overflowed.
@@ -61,15 +69,22 @@ impl<T> InvalidationOption<T> {
 }
 
 impl<T> InvalidationResult<T> {
+    /// Returns `t` with this overflow.
+    pub fn from_overflow(overflow: bool, t: T) -> Self
+        ensures { result ≡ invalidation_result overflow (Some t) }
+    {
+        if overflow {
+            Self::GenerationOverflow(t)
+        } else {
+            Self::Success(t)
+        }
+    }
+
     /// Returns the value, whether or not the counter overflowed, or `None` for `InvalidPtr`.
     pub fn allow(self) -> Option<T>
         ensures { result ≡ value_within self }
     {
-        match self {
-            Self::Success(t) => Some(t),
-            Self::GenerationOverflow(t) => Some(t),
-            Self::InvalidPtr => None,
-        }
+        self.overflowing().0
     }
 
     /// Returns the value and whether the counter overflowed, or `(None, false)` for `InvalidPtr`.

@@ -1,18 +1,71 @@
-// What arenas require of their pointers: less than the pointer traits, to keep their calls small.
+// What arenas require of their pointers: no order, hash or texts, to keep their proofs small.
 ghost use Rattle.std.specs.Prelude.{◌≡◌, ℕ, ◌^◌, ◌<◌, ◌≤◌, ◌↔◌, IsSome, IfSome, Option, Some, Bool, true};
 ghost use Rattle.std.specs.Option.{option_map};
 ghost use Rattle.arena_core.specs.declared.packed_option.PackedOption.{PackedOption};
 ghost use Rattle.arena_core.specs.Numbers.{IsWithin};
 
 use crate::packed_option::PackedOption;
-use crate::ptr::{Ptr, PtrGen, PtrInx};
 
-/// The requirements of an arena on the indexes of its pointers.
+/// An index into the slots of an arena: a number from 1 to the greatest of its type.
 ///
-/// Each `PtrInx` implements it by its functions of the same names. Not in `triple_arena`: it is
-/// `PtrInx` with `is_same` for `==`, without order, hash and texts.
+/// Each index type chooses the `Word` that stores an optional index. A type with a spare number
+/// uses its own width, as `Inx32` does, where 0 means `None`:
+///
+/// ```text
+/// ghost use Rattle.std.specs.Option.{option_map};
+/// ghost use Rattle.arena_core.specs.PackedOptions.{zero_is_none, same_zero_is_none};
+///
+/// type Word = u32;
+/// ghost packed_number = { zero_is_none };
+/// ghost same_packed = { same_zero_is_none };
+///
+/// fn pack(i: Option<Self>) -> PackedOption<Self, u32>
+///     ensures { zero_is_none result ≡ option_map number_of_inx32 i }
+/// {
+///     match i {
+///         Some(i) => PackedOption::new(i.number),
+///         None => PackedOption::new(0),
+///     }
+/// }
+///
+/// fn unpack(packed: PackedOption<Self, u32>) -> Option<Self>
+///     ensures { option_map number_of_inx32 result ≡ zero_is_none packed }
+/// {
+///     Inx32::new(packed.word())
+/// }
+/// ```
+///
+/// A type without a spare number stores the `Option` itself. An example is a struct `TinyInx` of
+/// one `bool`, with `number` as its number of an index:
+///
+/// ```text
+/// ghost use Rattle.std.specs.Prelude.{◌≡◌};
+/// ghost use Rattle.std.specs.Option.{option_map};
+/// ghost use Rattle.std.proofs.Common.{rules};
+///
+/// type Word = Option<Self>;
+/// ghost packed_number = { λ o. option_map number o.word };
+/// ghost same_packed = { Prim.search rules };
+///
+/// fn pack(i: Option<Self>) -> PackedOption<Self, Option<Self>>
+///     ensures { result.word ≡ i }
+/// {
+///     PackedOption::new(i)
+/// }
+///
+/// fn unpack(packed: PackedOption<Self, Option<Self>>) -> Option<Self>
+///     ensures { result ≡ packed.word }
+/// {
+///     packed.word()
+/// }
+/// ```
+///
+/// Port of `PtrInx`, without order, hash and texts, and over `usize` in place of `NonZeroUsize`.
+/// `is_same` replaces `==`. `Word`, `pack` and `unpack` are added: they replace the niche of
+/// `Option<NonZero>` in Rust.
 pub trait InxKey: Copy {
-    /// The word that stores an optional index.
+    /// The word that stores an optional index: as narrow as the index if a number is spare, else
+    /// `Option<Self>`.
     type Word: Copy;
 
     // The number of an index, from 1 to the greatest. Contracts name indexes by it.
@@ -66,10 +119,9 @@ pub trait InxKey: Copy {
         → o ≡ p };
 }
 
-/// The requirements of an arena on the generations of its pointers.
+/// A generation, which distinguishes the entries that have used one index.
 ///
-/// Each `PtrGen` implements it by its functions of the same names. Not in `triple_arena`: it is
-/// `PtrGen` with `is_same` for `==`, without order, hash and texts.
+/// Port of `PtrGen`, without order, hash and texts. `is_same` replaces `==`.
 pub trait GenKey: Copy {
     ghost first: { Self };
 
@@ -100,12 +152,11 @@ pub trait GenKey: Copy {
     ghost same_is_equal: { (g h : Self) → (same g h ≡ true) ↔ (g ≡ h) };
 }
 
-/// The requirements of an arena on its pointers: an index and a generation that determine the
-/// pointer.
+/// A pointer to an entry of an arena: an index and a generation that determine the pointer.
 ///
-/// Each `Ptr` implements it by its functions of the same names. Not in `triple_arena`: it is `Ptr`
-/// with `is_same` for `==`, without order, hash and texts. Implement `Ptr` for a pointer type;
-/// generic code requires `P: PtrKey`, or `P: Ptr` to order, hash or format pointers.
+/// Generic code requires `P: PtrKey`, or `P: Ptr` to order, hash or format pointers.
+///
+/// Port of `Ptr`, without order, hash and texts. `is_same` replaces `==`.
 pub trait PtrKey: Copy {
     /// The type of the index.
     type Inx: InxKey;
@@ -119,7 +170,10 @@ pub trait PtrKey: Copy {
     // Whether two pointers are equal.
     ghost same: { Self → Self → Bool };
 
-    /// Returns a placeholder pointer with index 1. Its generation should be 1, or `()`.
+    /// Returns a placeholder pointer with index 1.
+    ///
+    /// Its generation should be 1, which counting never reaches, or `()`. The clause omits that,
+    /// since a type generic in its generation can supply only two.
     fn invalid() -> Self
         ensures { (key result).0 ≡ 1 };
 
@@ -144,118 +198,4 @@ pub trait PtrKey: Copy {
     ghost same_key: { (p q : Self) → key p ≡ key q → p ≡ q };
 
     ghost same_is_equal: { (p q : Self) → (same p q ≡ true) ↔ (p ≡ q) };
-}
-
-impl<I: PtrInx> InxKey for I {
-    type Word = <I as PtrInx>::Word;
-
-    ghost number = { I.PtrInx.number };
-
-    ghost same = { I.eq };
-
-    ghost packed_number = { I.PtrInx.packed_number };
-
-    ghost greatest = { I.PtrInx.greatest };
-
-    ghost greatest_fits = { I.PtrInx.greatest_fits };
-
-    ghost at_least_one = { I.PtrInx.at_least_one };
-
-    ghost at_most_greatest = { I.PtrInx.at_most_greatest };
-
-    ghost same_number = { I.PtrInx.same_number };
-
-    ghost same_is_equal = { I.PtrInx.eq_is_same };
-
-    ghost same_packed = { I.PtrInx.same_packed };
-
-    fn greatest() -> usize {
-        <I as PtrInx>::greatest()
-    }
-
-    fn try_from_usize(n: usize) -> Option<Self> {
-        <I as PtrInx>::try_from_usize(n)
-    }
-
-    fn try_into_usize(self) -> Option<usize> {
-        PtrInx::try_into_usize(self)
-    }
-
-    fn is_same(self, other: Self) -> bool {
-        self == other
-    }
-
-    fn pack(i: Option<Self>) -> PackedOption<Self, <I as PtrInx>::Word>
-        ensures { I.PtrInx.packed_number result ≡ option_map I.PtrInx.number i }
-    {
-        <I as PtrInx>::pack(i)
-    }
-
-    fn unpack(packed: PackedOption<Self, <I as PtrInx>::Word>) -> Option<Self>
-        ensures { option_map I.PtrInx.number result ≡ I.PtrInx.packed_number packed }
-    {
-        <I as PtrInx>::unpack(packed)
-    }
-}
-
-impl<G: PtrGen> GenKey for G {
-    ghost first = { G.PtrGen.first };
-
-    ghost following = { G.PtrGen.following };
-
-    ghost wraps = { G.PtrGen.wraps };
-
-    ghost same = { G.eq };
-
-    ghost begins_again = { G.PtrGen.begins_again };
-
-    ghost same_is_equal = { G.PtrGen.eq_is_same };
-
-    fn two() -> Self {
-        <G as PtrGen>::two()
-    }
-
-    fn generational_inc(self) -> (Self, bool) {
-        PtrGen::generational_inc(self)
-    }
-
-    fn is_same(self, other: Self) -> bool {
-        self == other
-    }
-}
-
-impl<P: Ptr> PtrKey for P {
-    type Inx = <P as Ptr>::Inx;
-
-    type Gen = <P as Ptr>::Gen;
-
-    ghost key = { P.Ptr.key };
-
-    ghost same = { P.eq };
-
-    ghost index_within = { P.Ptr.index_within };
-
-    ghost same_key = { P.Ptr.same_key };
-
-    ghost same_is_equal = { P.Ptr.eq_is_same };
-
-    fn invalid() -> Self {
-        <P as Ptr>::invalid()
-    }
-
-    fn inx(self) -> <P as Ptr>::Inx {
-        Ptr::inx(self)
-    }
-
-    fn generation(self) -> <P as Ptr>::Gen {
-        Ptr::generation(self)
-    }
-
-    fn is_same(self, other: Self) -> bool {
-        self == other
-    }
-
-    fn _from_raw(inx: <P as Ptr>::Inx, generation: <P as Ptr>::Gen) -> Self {
-        <P as Ptr>::_from_raw(inx, generation)
-    }
 }

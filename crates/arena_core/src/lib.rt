@@ -5,6 +5,7 @@
 mod any_pointer;
 mod errors;
 mod heap_stack;
+mod hint;
 mod invalidation;
 mod keys;
 mod packed_option;
@@ -20,6 +21,7 @@ pub use errors::{
     ReallocationError,
 };
 pub use heap_stack::HeapStack;
+pub use hint::assume_proved;
 pub use invalidation::{InvalidationOption, InvalidationResult};
 pub use keys::{GenKey, InxKey, PtrKey};
 pub use packed_option::PackedOption;

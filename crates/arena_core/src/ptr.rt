@@ -1,201 +1,50 @@
-ghost use Rattle.std.specs.Prelude.{◌≡◌, ℕ, ◌^◌, ◌<◌, ◌≤◌, ◌↔◌, IsSome, IfSome, List, Option, Some, Bool, true};
-ghost use Rattle.std.specs.Option.{option_map};
+// What pointers offer besides: order, hash and texts.
+ghost use Rattle.std.specs.Prelude.{◌≡◌, ℕ, List};
 ghost use Rattle.std.specs.Fmt.{WritesOnOk};
-ghost use Rattle.arena_core.specs.declared.packed_option.PackedOption.{PackedOption};
-ghost use Rattle.arena_core.specs.Numbers.{IsWithin};
 ghost use Rattle.arena_core.specs.PointerText.{hexadecimal};
 
-use crate::packed_option::PackedOption;
+use crate::keys::{GenKey, InxKey, PtrKey};
 use std::fmt;
 use std::fmt::Debug;
 use std::hash::Hash;
 
-/// An index into the slots of an arena: a number from 1 to the greatest of its type.
+/// An index with order, hash and texts.
 ///
-/// Each index type chooses the `Word` that stores an optional index. A type with a spare number
-/// uses its own width, as `Inx32` does, where 0 means `None`:
-///
-/// ```text
-/// ghost use Rattle.std.specs.Option.{option_map};
-/// ghost use Rattle.arena_core.specs.PackedOptions.{zero_is_none, same_zero_is_none};
-///
-/// type Word = u32;
-/// ghost packed_number = { zero_is_none };
-/// ghost same_packed = { same_zero_is_none };
-///
-/// fn pack(i: Option<Self>) -> PackedOption<Self, u32>
-///     ensures { zero_is_none result ≡ option_map number_of_inx32 i }
-/// {
-///     match i {
-///         Some(i) => PackedOption::new(i.number),
-///         None => PackedOption::new(0),
-///     }
-/// }
-///
-/// fn unpack(packed: PackedOption<Self, u32>) -> Option<Self>
-///     ensures { option_map number_of_inx32 result ≡ zero_is_none packed }
-/// {
-///     Inx32::new(packed.word())
-/// }
-/// ```
-///
-/// A type without a spare number stores the `Option` itself. An example is a struct `TinyInx` of
-/// one `bool`, with `number` as its number of an index:
-///
-/// ```text
-/// ghost use Rattle.std.specs.Prelude.{◌≡◌};
-/// ghost use Rattle.std.specs.Option.{option_map};
-/// ghost use Rattle.std.proofs.Common.{rules};
-///
-/// type Word = Option<Self>;
-/// ghost packed_number = { λ o. option_map number o.word };
-/// ghost same_packed = { Prim.search rules };
-///
-/// fn pack(i: Option<Self>) -> PackedOption<Self, Option<Self>>
-///     ensures { result.word ≡ i }
-/// {
-///     PackedOption::new(i)
-/// }
-///
-/// fn unpack(packed: PackedOption<Self, Option<Self>>) -> Option<Self>
-///     ensures { result ≡ packed.word }
-/// {
-///     packed.word()
-/// }
-/// ```
-///
-/// Port of `PtrInx`, over `usize` in place of `NonZeroUsize`. `Word`, `pack` and `unpack` are
-/// added: they replace the niche of `Option<NonZero>` in Rust.
-pub trait PtrInx: Copy + Eq + Ord + Hash + Debug {
-    /// The word that stores an optional index: as narrow as the index if a number is spare, else
-    /// `Option<Self>`.
-    type Word: Copy;
-
-    // The number of an index, from 1 to the greatest. Contracts name indexes by it.
-    ghost number: { Self → ℕ };
-
-    // The number of a packed index, if there is one.
-    ghost packed_number: { PackedOption Self Self.Word → Option ℕ };
-
-    ghost greatest: { ℕ };
-
-    /// Returns the greatest index of the type, at least 1 and below 2^64.
-    fn greatest() -> usize
-        ensures value { result ≡ greatest }
-        ensures some { 1 ≤ result };
-
-    /// Returns the index with number `n`, or `None` if `n` is 0 or above the greatest.
-    fn try_from_usize(n: usize) -> Option<Self>
-        ensures variant { IsSome result ↔ ((1 ≤ n) × (n ≤ greatest)) }
-        ensures value { IfSome result (λ i. number i ≡ n) };
-
-    /// Returns the number of the index, never `None`, since a `usize` has 64 bits.
-    fn try_into_usize(self) -> Option<usize>
-        ensures { result ≡ Some (number self) };
-
-    /// Packs an optional index.
-    fn pack(i: Option<Self>) -> PackedOption<Self, Self::Word>
-        ensures { packed_number result ≡ option_map number i };
-
-    /// Returns the optional index that `packed` stores.
-    fn unpack(packed: PackedOption<Self, Self::Word>) -> Option<Self>
-        ensures { option_map number result ≡ packed_number packed };
-
+/// The rest of the port of `PtrInx`, with `fmt_hex` added.
+pub trait PtrInx: InxKey + Eq + Ord + Hash + Debug {
     /// Writes the number in lower-case hexadecimal, without a prefix, ignoring the caller's format.
     fn fmt_hex<W: fmt::Write>(self, f: &mut fmt::Formatter<W>) -> fmt::Result
-        ensures { WritesOnOk W.write_str_gives f.old result (hexadecimal (number self)) f.new };
+        ensures { WritesOnOk W.write_str_gives f.old result (hexadecimal (Self.number self)) f.new };
 
-    ghost greatest_fits: { greatest < 2 ^ 64 };
-
-    ghost at_least_one: { (i : Self) → 1 ≤ number i };
-
-    ghost at_most_greatest: { (i : Self) → number i ≤ greatest };
-
-    ghost same_number: { (i j : Self) → number i ≡ number j → i ≡ j };
-
-    ghost eq_is_same: { (i j : Self) → (Self.eq i j ≡ true) ↔ (i ≡ j) };
-
-    ghost same_packed: { (o p : PackedOption Self Self.Word) → packed_number o ≡ packed_number p
-        → o ≡ p };
+    ghost eq_is_same: { (i j : Self) → Self.eq i j ≡ Self.same i j };
 }
 
-/// A generation, which distinguishes the entries that have used one index.
+/// A generation with order, hash and texts.
 ///
-/// Port of `PtrGen`, with `fmt_gen` added.
-pub trait PtrGen: Copy + Eq + Ord + Hash + Debug {
-    ghost first: { Self };
-
-    // The generation after a generation.
-    ghost following: { Self → Self };
-
-    // Whether a generation is the greatest, after which counting starts again.
-    ghost wraps: { Self → Bool };
-
+/// The rest of the port of `PtrGen`, with `fmt_gen` added.
+pub trait PtrGen: GenKey + Eq + Ord + Hash + Debug {
     // The text of a generation, as `fmt_gen` writes it.
     ghost text: { Self → List ℕ };
-
-    /// Returns the first generation that an arena gives.
-    fn two() -> Self
-        ensures { result ≡ first };
-
-    /// Returns the next generation, and whether it overflowed from the greatest to two.
-    fn generational_inc(self) -> (Self, bool)
-        ensures next { result.0 ≡ following self }
-        ensures overflow { result.1 ≡ wraps self };
 
     /// Writes `(`, the generation in lower-case hexadecimal and `)`, ignoring the caller's format.
     /// Writes nothing for `()`.
     fn fmt_gen<W: fmt::Write>(self, f: &mut fmt::Formatter<W>) -> fmt::Result
         ensures { WritesOnOk W.write_str_gives f.old result (text self) f.new };
 
-    ghost begins_again: { (g : Self) → wraps g ≡ true → following g ≡ first };
-
-    ghost eq_is_same: { (g h : Self) → (Self.eq g h ≡ true) ↔ (g ≡ h) };
+    ghost eq_is_same: { (g h : Self) → Self.eq g h ≡ Self.same g h };
 }
 
-/// A pointer to an entry of an arena: the index and the generation of the entry.
+/// A pointer with order, hash and texts.
 ///
 /// Two pointers are equal exactly if both parts are.
 ///
-/// Port of `Ptr`.
-pub trait Ptr: Copy + Eq + Ord + Hash + Debug {
-    /// The type of the index.
-    type Inx: PtrInx;
-
-    /// The type of the generation, `()` for pointers without one.
-    type Gen: PtrGen;
-
-    // The index as a number, and the generation, which determine the pointer.
-    ghost key: { Self → ℕ × Self.Gen };
-
+/// The rest of the port of `Ptr`.
+pub trait Ptr: PtrKey<Inx: PtrInx, Gen: PtrGen> + Eq + Ord + Hash + Debug {
     ghost type_name: { List ℕ };
 
     /// Returns the name of the pointer type, with which a pointer's text begins.
     fn name() -> &'static str
         ensures { result.now ≡ type_name };
 
-    /// Returns a placeholder pointer with index 1.
-    ///
-    /// Its generation should be 1, which counting never reaches, or `()`. The clause omits that,
-    /// since a type generic in its generation can supply only two.
-    fn invalid() -> Self
-        ensures { (key result).0 ≡ 1 };
-
-    /// Returns the index.
-    fn inx(self) -> Self::Inx
-        ensures { Self.Inx.number result ≡ (key self).0 };
-
-    /// Returns the generation.
-    fn generation(self) -> Self::Gen
-        ensures { result ≡ (key self).1 };
-
-    /// Returns the pointer with this index and generation, whether or not such an entry exists.
-    fn _from_raw(inx: Self::Inx, generation: Self::Gen) -> Self
-        ensures { key result ≡ (Self.Inx.number inx, generation) };
-
-    ghost index_within: { (p : Self) → IsWithin Self.Inx.greatest (key p).0 };
-
-    ghost same_key: { (p q : Self) → key p ≡ key q → p ≡ q };
-
-    ghost eq_is_same: { (p q : Self) → (Self.eq p q ≡ true) ↔ (p ≡ q) };
+    ghost eq_is_same: { (p q : Self) → Self.eq p q ≡ Self.same p q };
 }

@@ -1,10 +1,11 @@
 ghost use Rattle.std.specs.Prelude.{◌≡◌, IsOk};
 
+use crate::keys::GenKey;
 use crate::ptr::PtrGen;
 use std::fmt;
 
-impl PtrGen for () {
-    ghost use Rattle.std.specs.Prelude.{false, []};
+impl GenKey for () {
+    ghost use Rattle.std.specs.Prelude.{true, false};
     ghost use Rattle.std.proofs.Common.{refl, rules};
 
     ghost first = { tt };
@@ -13,11 +14,11 @@ impl PtrGen for () {
 
     ghost wraps = { λ _. false };
 
-    ghost text = { λ _. [] };
+    ghost same = { λ _ _. true };
 
     ghost begins_again = { λ _ _. refl };
 
-    ghost eq_is_same = { Prim.search rules };
+    ghost same_is_equal = { Prim.search rules };
 
     fn two() -> Self {}
 
@@ -25,6 +26,19 @@ impl PtrGen for () {
     fn generational_inc(self) -> (Self, bool) {
         ((), false)
     }
+
+    fn is_same(self, _other: Self) -> bool {
+        true
+    }
+}
+
+impl PtrGen for () {
+    ghost use Rattle.std.specs.Prelude.{[]};
+    ghost use Rattle.std.proofs.Common.{refl};
+
+    ghost text = { λ _. [] };
+
+    ghost eq_is_same = { λ _ _. refl };
 
     /// Writes nothing.
     fn fmt_gen<W: fmt::Write>(self, f: &mut fmt::Formatter<W>) -> fmt::Result

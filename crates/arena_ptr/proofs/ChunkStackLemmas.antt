@@ -30,6 +30,10 @@ module _ {E : Type 0} (s : ChunkStack E) (i : ℕ) (e : E) where
       (λ filled fits j. made b (AreFilled-prop (blocks_with b).items s.len filled (with_item_in s i e (Some b) is).filled j) (le_prop fits (with_item_in s i e (Some b) is).fits j))
 
 module _ {E : Type 0} (s : ChunkStack E) where
+  -- Positions of items are below the length.
+  pub below : (i : ℕ) → i < length (items_in s.blocks.items) → i < s.len
+  below i inside = let long = length-items_in s.blocks.items s.len s.filled in omega (arith, inside, long)
+
   -- The block of an item exists.
   pub within : (i : ℕ) → i < s.len → i / 64 < vec_len s.blocks
   within i inside = let capacity_is = filled_capacity s.blocks.items s.len s.filled in omega (arith, inside, capacity_is, s.blocks.ok.0)

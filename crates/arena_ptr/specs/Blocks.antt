@@ -24,13 +24,6 @@ module _ {E : Type 0} where
       let rest : IsProp (AreFilled blocks (n - 64)) = AreFilled-prop blocks (n - 64) in
       ×_prop full (×_prop capacity_is rest)
 
-  -- An empty block, with capacity for 64 items.
-  abbrev pub IsEmptyBlock : Vec E Global → Type 0
-  IsEmptyBlock block = record {
-    items : block.items ≡ [];
-    capacity : 64 ≤ vec_capacity block;
-  }
-
   -- Item i of one list is swapped with item j of another; the capacities stay the same.
   abbrev pub SwapsBetween : (left : Vec E Global) → ℕ → (right : Vec E Global) → ℕ → (left_after right_after : Vec E Global) → Type 0
   SwapsBetween left i right j left_after right_after = record {

@@ -1,7 +1,7 @@
-ghost use Rattle.std.specs.Prelude.{◌≡◌, ◌+◌, ◌-◌, ◌*◌, ◌^◌, ◌/◌, ◌<◌, ◌≤◌, ◌≢◌, [], ◌∷◌, ◌++◌, length, take, swap, OnSome, IfOk, slice_get};
-ghost use Rattle.std.specs.Option.{option_copied, option_copied_mut};
+ghost use Rattle.std.specs.Prelude.{◌≡◌, ◌+◌, ◌-◌, ◌*◌, ◌^◌, ◌/◌, ◌<◌, ◌≤◌, ◌≢◌, length, take, swap, OnSome, slice_get};
+ghost use Rattle.std.specs.Option.{option_copied_mut};
 ghost use Rattle.std.specs.Borrow.{LendsSo, sem};
-ghost use Rattle.arena_ptr.specs.Blocks.{AreFilled, AreFilled-prop, items_in, slots_for, IsEmptyBlock, SwapsBetween, AddsBlocks, AreBlocksWith, ChangesItemsIn};
+ghost use Rattle.arena_ptr.specs.Blocks.{AreFilled, AreFilled-prop, items_in, slots_for, SwapsBetween, AddsBlocks, ChangesItemsIn};
 
 use arena_core::{ReallocationError, SlotStack};
 use std::alloc::{AllocError, Global};
@@ -24,15 +24,6 @@ pub struct ChunkStack<E> {
     len: usize,
     ghost filled: { AreFilled blocks.items len } by { AreFilled-prop blocks.items len },
     ghost fits: { 64 * length blocks.items + 1 < 2 ^ 64 },
-}
-
-// Allocates an empty block.
-fn new_block<E: Drop>(alloc: Global) -> Result<Vec<E>, AllocError>
-    ensures { IfOk result IsEmptyBlock }
-{
-    let mut block = Vec::new(alloc);
-    block.reserve_exact(SLOTS)?;
-    Ok(block)
 }
 
 // Swaps an item of one list with one of another.
@@ -61,26 +52,6 @@ impl<E: Drop> ChunkStack<E> {
         Some(&mut self.blocks[i / SLOTS][i % SLOTS])
     }
 
-    // Returns the slot at position `i`.
-    fn slot(&self, i: usize) -> Option<&E>
-        ensures { option_copied result ≡ slice_get (items_in self.now.blocks.items) i }
-    {
-        if self.len <= i {
-            return None;
-        }
-        Some(&self.blocks[i / SLOTS][i % SLOTS])
-    }
-
-    // Appends an item.
-    fn push(&mut self, item: E)
-        requires { self.old.len < 64 * length self.old.blocks.items }
-        ensures { ChangesItemsIn self.old.blocks.items
-            (items_in self.old.blocks.items ++ item ∷ []) self.new.blocks.items }
-    {
-        self.blocks[self.len / SLOTS].push_reserved(item);
-        self.len += 1;
-    }
-
     // Drops the last item.
     fn pop(&mut self)
         requires { 0 < self.old.len }
@@ -99,20 +70,12 @@ impl<E: Drop> ChunkStack<E> {
         ensures blocks { AddsBlocks result self.old.blocks.items
             (length self.old.blocks.items + 1) self.new.blocks.items }
     {
-        let block = new_block(*self.blocks.allocator())?;
+        let mut block = Vec::new(*self.blocks.allocator());
+        block.reserve_exact(SLOTS)?;
         match self.blocks.push(block) {
             Ok(()) => Ok(()),
             Err(_) => Err(AllocError),
         }
-    }
-
-    // Frees empty blocks until `count` blocks are left.
-    fn drop_blocks(&mut self, count: usize)
-        requires few { count ≤ length self.old.blocks.items }
-        requires capacity { self.old.len ≤ 64 * count }
-        ensures { AreBlocksWith self.new.blocks.items (items_in self.old.blocks.items) count }
-    {
-        self.blocks.truncate(count);
     }
 
     // Adds empty blocks until there are `count`.
@@ -124,22 +87,11 @@ impl<E: Drop> ChunkStack<E> {
         let before = self.blocks.len();
         while self.blocks.len() < count {
             if self.add_block().is_err() {
-                self.drop_blocks(before);
+                self.blocks.truncate(before);
                 return Err(AllocError);
             }
         }
         Ok(())
-    }
-
-    // Drops the items from position `n` on.
-    fn keep(&mut self, n: usize)
-        requires { n ≤ self.old.len }
-        ensures { ChangesItemsIn self.old.blocks.items (take n (items_in self.old.blocks.items))
-            self.new.blocks.items }
-    {
-        while n < self.len {
-            self.pop();
-        }
     }
 
     // Swaps two items of different blocks.
@@ -154,20 +106,6 @@ impl<E: Drop> ChunkStack<E> {
         let mut one = mem::replace(&mut self.blocks[i / SLOTS], empty);
         exchange_items(&mut one, i % SLOTS, &mut self.blocks[j / SLOTS], j % SLOTS);
         self.blocks[i / SLOTS] = one;
-    }
-
-    // Swaps two items.
-    fn exchange(&mut self, i: usize, j: usize)
-        requires i_in_bounds { i < self.old.len }
-        requires j_in_bounds { j < self.old.len }
-        ensures { ChangesItemsIn self.old.blocks.items (swap (items_in self.old.blocks.items) i j)
-            self.new.blocks.items }
-    {
-        if i / SLOTS == j / SLOTS {
-            self.blocks[i / SLOTS].swap(i % SLOTS, j % SLOTS);
-        } else {
-            self.exchange_between(i, j);
-        }
     }
 }
 
@@ -239,11 +177,15 @@ impl<E: Drop> SlotStack for ChunkStack<E> {
     }
 
     fn push_within(&mut self, item: E) {
-        self.push(item);
+        self.blocks[self.len / SLOTS].push_reserved(item);
+        self.len += 1;
     }
 
     fn get(&self, i: usize) -> Option<&E> {
-        self.slot(i)
+        if self.len <= i {
+            return None;
+        }
+        Some(&self.blocks[i / SLOTS][i % SLOTS])
     }
 
     fn get_mut(&mut self, i: usize) -> Option<&mut E> {
@@ -251,10 +193,16 @@ impl<E: Drop> SlotStack for ChunkStack<E> {
     }
 
     fn swap(&mut self, i: usize, j: usize) {
-        self.exchange(i, j);
+        if i / SLOTS == j / SLOTS {
+            self.blocks[i / SLOTS].swap(i % SLOTS, j % SLOTS);
+        } else {
+            self.exchange_between(i, j);
+        }
     }
 
     fn truncate(&mut self, n: usize) {
-        self.keep(n);
+        while n < self.len {
+            self.pop();
+        }
     }
 }

@@ -1,8 +1,8 @@
-ghost use Rattle.std.specs.Prelude.{◌≡◌, codes};
+ghost use Rattle.std.specs.Prelude.{◌≡◌, ◌==◌, ◌&&◌, codes};
 
 use crate::generation::Gen32;
 use crate::index::Inx32;
-use arena_core::{Ptr, PtrGen, PtrInx};
+use arena_core::{Ptr, PtrGen, PtrInx, PtrKey};
 use std::fmt;
 
 /// The pointer type of the program, with a 32-bit index, a 32-bit generation and the name `P0`.
@@ -14,7 +14,7 @@ pub struct ToolPtr {
     generation: Gen32,
 }
 
-impl Ptr for ToolPtr {
+impl PtrKey for ToolPtr {
     ghost use Rattle.arena_ptr.specs.CountedGenerations.{IsNeverCounted};
     ghost use Rattle.arena_ptr.specs.Generations.{number_of_gen32, two32, after32};
     ghost use Rattle.arena_ptr.specs.ToolPtr.{key_of, same_tool_ptr, eq_is_same_tool_ptr};
@@ -25,17 +25,14 @@ impl Ptr for ToolPtr {
 
     ghost key = { key_of };
 
-    ghost type_name = { codes "P0" };
+    ghost same = { λ p q. (p.inx.number == q.inx.number)
+        && (p.generation.number == q.generation.number) };
 
     ghost index_within = { λ p. p.inx.in_range };
 
     ghost same_key = { same_tool_ptr };
 
-    ghost eq_is_same = { eq_is_same_tool_ptr };
-
-    fn name() -> &'static str {
-        "P0"
-    }
+    ghost same_is_equal = { eq_is_same_tool_ptr };
 
     /// Returns the pointer with index 1 and generation 1, which counting never reaches.
     fn invalid() -> Self
@@ -57,8 +54,24 @@ impl Ptr for ToolPtr {
         self.generation
     }
 
+    fn is_same(self, other: Self) -> bool {
+        self == other
+    }
+
     fn _from_raw(inx: Inx32, generation: Gen32) -> Self {
         ToolPtr { inx, generation }
+    }
+}
+
+impl Ptr for ToolPtr {
+    ghost use Rattle.std.proofs.Common.{refl};
+
+    ghost type_name = { codes "P0" };
+
+    ghost eq_is_same = { λ _ _. refl };
+
+    fn name() -> &'static str {
+        "P0"
     }
 }
 

@@ -1,7 +1,7 @@
-ghost use Rattle.std.specs.Prelude.{◌≡◌, ◌≤◌, ◌↔◌, IsSome, IfSome};
+ghost use Rattle.std.specs.Prelude.{◌≡◌, ◌≤◌, ◌==◌, ◌↔◌, IsSome, IfSome};
 ghost use Rattle.arena_core.specs.Numbers.{IsWithin};
 
-use arena_core::PtrGen;
+use arena_core::{GenKey, PtrGen};
 use std::fmt;
 
 /// A 64-bit generation, from 1 to 18,446,744,073,709,551,615.
@@ -22,10 +22,9 @@ impl Gen64 {
         ensures variant { IsSome result ↔ (1 ≤ n) }
         ensures value { IfSome result (λ g. number_of_gen64 g ≡ n) }
     {
-        if n == 0 {
-            None
-        } else {
-            Some(Gen64 { number: n })
+        match n {
+            0 => None,
+            number => Some(Gen64 { number }),
         }
     }
 
@@ -38,9 +37,8 @@ impl Gen64 {
     }
 }
 
-impl PtrGen for Gen64 {
+impl GenKey for Gen64 {
     ghost use Rattle.arena_ptr.specs.Generations.{number_of_gen64, two64, after64, is_greatest64, begins_again64, eq_is_same_gen64};
-    ghost use Rattle.arena_core.specs.PointerText.{in_parentheses};
 
     ghost first = { two64 };
 
@@ -48,11 +46,11 @@ impl PtrGen for Gen64 {
 
     ghost wraps = { is_greatest64 };
 
-    ghost text = { λ g. in_parentheses (number_of_gen64 g) };
+    ghost same = { λ g h. g.number == h.number };
 
     ghost begins_again = { begins_again64 };
 
-    ghost eq_is_same = { eq_is_same_gen64 };
+    ghost same_is_equal = { eq_is_same_gen64 };
 
     fn two() -> Self {
         Gen64 { number: 2 }
@@ -60,16 +58,25 @@ impl PtrGen for Gen64 {
 
     fn generational_inc(self) -> (Self, bool) {
         if self.number == u64::MAX {
-            (Self::two(), true)
-        } else {
-            (
-                Gen64 {
-                    number: self.number + 1,
-                },
-                false,
-            )
+            return (Self::two(), true);
         }
+        let number = self.number + 1;
+        (Gen64 { number }, false)
     }
+
+    fn is_same(self, other: Self) -> bool {
+        self == other
+    }
+}
+
+impl PtrGen for Gen64 {
+    ghost use Rattle.std.proofs.Common.{refl};
+    ghost use Rattle.arena_core.specs.PointerText.{in_parentheses};
+    ghost use Rattle.arena_ptr.specs.Generations.{number_of_gen64};
+
+    ghost text = { λ g. in_parentheses (number_of_gen64 g) };
+
+    ghost eq_is_same = { λ _ _. refl };
 
     fn fmt_gen<W: fmt::Write>(self, f: &mut fmt::Formatter<W>) -> fmt::Result {
         write!(f, "({:x})", self.number)

@@ -1,7 +1,7 @@
-ghost use Rattle.std.specs.Prelude.{◌≡◌, ◌≤◌, ◌↔◌, IsSome, IfSome};
+ghost use Rattle.std.specs.Prelude.{◌≡◌, ◌≤◌, ◌==◌, ◌↔◌, IsSome, IfSome};
 ghost use Rattle.arena_core.specs.Numbers.{IsWithin};
 
-use arena_core::PtrGen;
+use arena_core::{GenKey, PtrGen};
 use std::fmt;
 
 /// An 8-bit generation, from 1 to 255.
@@ -22,10 +22,9 @@ impl Gen8 {
         ensures variant { IsSome result ↔ (1 ≤ n) }
         ensures value { IfSome result (λ g. number_of_gen8 g ≡ n) }
     {
-        if n == 0 {
-            None
-        } else {
-            Some(Gen8 { number: n })
+        match n {
+            0 => None,
+            number => Some(Gen8 { number }),
         }
     }
 
@@ -38,9 +37,8 @@ impl Gen8 {
     }
 }
 
-impl PtrGen for Gen8 {
+impl GenKey for Gen8 {
     ghost use Rattle.arena_ptr.specs.Generations.{number_of_gen8, two8, after8, is_greatest8, begins_again8, eq_is_same_gen8};
-    ghost use Rattle.arena_core.specs.PointerText.{in_parentheses};
 
     ghost first = { two8 };
 
@@ -48,11 +46,11 @@ impl PtrGen for Gen8 {
 
     ghost wraps = { is_greatest8 };
 
-    ghost text = { λ g. in_parentheses (number_of_gen8 g) };
+    ghost same = { λ g h. g.number == h.number };
 
     ghost begins_again = { begins_again8 };
 
-    ghost eq_is_same = { eq_is_same_gen8 };
+    ghost same_is_equal = { eq_is_same_gen8 };
 
     fn two() -> Self {
         Gen8 { number: 2 }
@@ -60,16 +58,25 @@ impl PtrGen for Gen8 {
 
     fn generational_inc(self) -> (Self, bool) {
         if self.number == u8::MAX {
-            (Self::two(), true)
-        } else {
-            (
-                Gen8 {
-                    number: self.number + 1,
-                },
-                false,
-            )
+            return (Self::two(), true);
         }
+        let number = self.number + 1;
+        (Gen8 { number }, false)
     }
+
+    fn is_same(self, other: Self) -> bool {
+        self == other
+    }
+}
+
+impl PtrGen for Gen8 {
+    ghost use Rattle.std.proofs.Common.{refl};
+    ghost use Rattle.arena_core.specs.PointerText.{in_parentheses};
+    ghost use Rattle.arena_ptr.specs.Generations.{number_of_gen8};
+
+    ghost text = { λ g. in_parentheses (number_of_gen8 g) };
+
+    ghost eq_is_same = { λ _ _. refl };
 
     fn fmt_gen<W: fmt::Write>(self, f: &mut fmt::Formatter<W>) -> fmt::Result {
         write!(f, "({:x})", self.number)

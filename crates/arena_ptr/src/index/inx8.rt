@@ -1,7 +1,7 @@
-ghost use Rattle.std.specs.Prelude.{◌≡◌, ◌≤◌, ◌↔◌, IsSome, IfSome};
+ghost use Rattle.std.specs.Prelude.{◌≡◌, ◌≤◌, ◌==◌, ◌↔◌, IsSome, IfSome};
 ghost use Rattle.arena_core.specs.Numbers.{IsWithin};
 
-use arena_core::{PackedOption, PtrInx};
+use arena_core::{InxKey, PackedOption, PtrInx};
 use std::fmt;
 
 /// An 8-bit index, from 1 to 255.
@@ -21,10 +21,9 @@ impl Inx8 {
         ensures variant { IsSome result ↔ (1 ≤ n) }
         ensures value { IfSome result (λ i. number_of_inx8 i ≡ n) }
     {
-        if n == 0 {
-            None
-        } else {
-            Some(Inx8 { number: n })
+        match n {
+            0 => None,
+            number => Some(Inx8 { number }),
         }
     }
 
@@ -37,7 +36,7 @@ impl Inx8 {
     }
 }
 
-impl PtrInx for Inx8 {
+impl InxKey for Inx8 {
     ghost use Rattle.std.specs.Option.{option_map};
     ghost use Rattle.std.proofs.Common.{lit<};
     ghost use Rattle.arena_core.specs.PackedOptions.{zero_is_none, same_zero_is_none};
@@ -46,6 +45,8 @@ impl PtrInx for Inx8 {
     type Word = u8;
 
     ghost number = { number_of_inx8 };
+
+    ghost same = { λ i j. i.number == j.number };
 
     ghost packed_number = { zero_is_none };
 
@@ -59,7 +60,7 @@ impl PtrInx for Inx8 {
 
     ghost same_number = { same_inx8 };
 
-    ghost eq_is_same = { eq_is_same_inx8 };
+    ghost same_is_equal = { eq_is_same_inx8 };
 
     ghost same_packed = { same_zero_is_none };
 
@@ -78,6 +79,10 @@ impl PtrInx for Inx8 {
         Some(self.number as usize)
     }
 
+    fn is_same(self, other: Self) -> bool {
+        self == other
+    }
+
     fn pack(i: Option<Self>) -> PackedOption<Self, u8>
         ensures { zero_is_none result ≡ option_map number_of_inx8 i }
     {
@@ -92,6 +97,12 @@ impl PtrInx for Inx8 {
     {
         Inx8::new(packed.word())
     }
+}
+
+impl PtrInx for Inx8 {
+    ghost use Rattle.std.proofs.Common.{refl};
+
+    ghost eq_is_same = { λ _ _. refl };
 
     fn fmt_hex<W: fmt::Write>(self, f: &mut fmt::Formatter<W>) -> fmt::Result {
         write!(f, "{:x}", self.number)

@@ -1,16 +1,32 @@
 -- Writes the slot that was read.
-use Rattle.std.proofs.Common.{sym, refl}
+use Rattle.std.proofs.Common.{sym, refl, ap, ◌∙◌}
 use Rattle.arena_base.proofs.SlotLemmas.{with_generation_at-set, with_generation_at-none}
+use Rattle.std.specs.Prelude.{slice_set}
+use Rattle.arena_base.specs.Slots.{allocated_slot, with_generation_in}
 use Rattle.arena_base.proofs.slot.regenerate_at.Goals as goal
 
-pub returns-in-Some : goal.returns-in-Some
-returns-in-Some g c =
+pub returns-in-Allocated : goal.returns-in-Allocated
+returns-in-Allocated g c =
     let slots = c.args.slots.now in
-    let slot = c.set_generation.new.self in
+    let items = g.S.SlotStack.items slots in
+    let k = c.args.k in
+    let slot = allocated_slot c.args.generation c.in-Allocated.field-1 in
     record {
-      items = rw (g.met.S.SlotStack.items_written slots c.args.k slot, c.set_generation.ensures)
-          (with_generation_at-set (g.S.SlotStack.items slots) c.args.k c.in-Some.slot.now c.args.generation (sym c.in-Some.ensures.value));
-      bounds = (g.met.S.SlotStack.capacity_written slots c.args.k slot, g.met.S.SlotStack.maximum_written slots c.args.k slot);
+      items = g.met.S.SlotStack.items_written slots k slot
+          ∙ (ap (λ s. slice_set items k (with_generation_in s c.args.generation)) (sym c.in-Allocated.is) ∙ with_generation_at-set items k c.in-Some.slot.now c.args.generation (sym c.in-Some.ensures.value));
+      bounds = (g.met.S.SlotStack.capacity_written slots k slot, g.met.S.SlotStack.maximum_written slots k slot);
+    }
+
+pub returns-in-Free : goal.returns-in-Free
+returns-in-Free g c =
+    let slots = c.args.slots.now in
+    let items = g.S.SlotStack.items slots in
+    let k = c.args.k in
+    let slot = c.in-Some.slot.now in
+    record {
+      items = g.met.S.SlotStack.items_written slots k slot
+          ∙ (ap (slice_set items k) (c.in-Free.is ∙ ap (λ s. with_generation_in s c.args.generation) (sym c.in-Free.is)) ∙ with_generation_at-set items k slot c.args.generation (sym c.in-Some.ensures.value));
+      bounds = (g.met.S.SlotStack.capacity_written slots k slot, g.met.S.SlotStack.maximum_written slots k slot);
     }
 
 pub returns-in-None : goal.returns-in-None

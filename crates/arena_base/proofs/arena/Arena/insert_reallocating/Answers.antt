@@ -8,7 +8,7 @@ pub returns-in-Ok : goal.returns-in-Ok
 returns-in-Ok g c =
     let old = c.args.self.now in
     let grown = c.in-Ok.ensures.outcome in
-    let made = c.insert_here.ensures in
+    let made = c.insert_next.ensures in
     record {
       outcome = record {
         key = made.ptr ∙ ap (λ a. (next_index a, a.counter)) grown.state;

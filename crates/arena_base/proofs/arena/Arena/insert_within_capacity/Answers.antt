@@ -13,6 +13,6 @@ returns-clause-outcome g c =
     let not_full : entry_count old ≡ old.capacity → ⊥ = λ is. let both : false ≡ true = sym c.if-is_full.false ∙ c.is_full.ensures.full.1 is in cc in
     record {
       free = omega (arith, not_full, c.is_full.ensures.capacity.0.fits, length-entries old);
-      key = c.insert_here.ensures.ptr;
-      state = c.insert_here.ensures.after;
+      key = c.insert_next.ensures.ptr;
+      state = c.insert_next.ensures.after;
     }

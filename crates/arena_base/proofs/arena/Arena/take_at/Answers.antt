@@ -34,7 +34,7 @@ returns-in-Some g c =
     following k n c.pack-self-inside.result _ _ (g.S.SlotStack.items c.vacate_at.new.slots) c.pack-self-inside.ensures c.position_of.ensures (allocated-at (slice_get items k) c.in-Some.entry c.in-Some.ensures.entry)
     c.in-Some.ensures.some c.vacate_at.ensures.bounds.0 c.vacate_at.ensures.bounds.1 c.generational_inc-generation.ensures.next c.one_more-self-inside.ensures
     ∙ ap (λ a. remove_at following a n) c.self.view_is in
-    reports_made wraps _ _ c.args.self.now.counter c.generational_inc-generation.result.1 c.in-Some.entry c.outcome.result c.outcome.ensures overflow (was_stored, after)
+    reports_made wraps _ _ c.args.self.now.counter c.generational_inc-generation.result.1 c.in-Some.entry c.from_overflow.result c.from_overflow.ensures overflow (was_stored, after)
 
 pub returns-in-None : goal.returns-in-None
 returns-in-None g c =

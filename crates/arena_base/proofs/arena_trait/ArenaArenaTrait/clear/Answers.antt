@@ -21,7 +21,7 @@ returns g c =
     record {
       outcome = record {
         after = ap view_of after ∙ viewed_cleared following c.args.self.now;
-        overflow = rw (length-entries c.args.self.now, ← c.self.view_is, ← c.self.invariant.counted, ← made.overflow) c.with_overflow.ensures;
+        overflow = rw (length-entries c.args.self.now, ← c.self.view_is, ← c.self.invariant.counted, ← made.overflow) c.from_overflow.ensures;
       };
       more = after;
     }

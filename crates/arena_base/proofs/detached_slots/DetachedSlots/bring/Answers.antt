@@ -17,6 +17,6 @@ returns g c =
     let i = c.position_of.result in
     let j = c.position_of-in-Some.result in
     let free = brought_free items c.args.self.now.slots (ap (λ h. h.slots) c.self.view_is) i (number c.args.from) c.position_of.ensures j (number c.args.to) c.position_of-in-Some.ensures c.requires.free in
-    rw (← c.self.view_is, c.put_at.ensures.items, c.put_at.ensures.bounds.0, c.put_at.ensures.bounds.1, c.in-Some.ensures.some, c.in-Some.ensures.bounds.0, c.in-Some.ensures.bounds.1)
+    rw (← c.self.view_is, c.write_at.ensures.items, c.write_at.ensures.bounds.0, c.write_at.ensures.bounds.1, c.in-Some.ensures.some, c.in-Some.ensures.bounds.0, c.in-Some.ensures.bounds.1)
     (held_brought items (g.S.SlotStack.capacity slots) (g.S.SlotStack.maximum slots) i j (number c.args.from) (number c.args.to) c.args.generation c.in-Some.field-0-0 c.in-Some.t _
     c.position_of.ensures c.position_of-in-Some.ensures (c.in-Some.ensures.entry ∙ sym (slice_index_or-map items i)) free)

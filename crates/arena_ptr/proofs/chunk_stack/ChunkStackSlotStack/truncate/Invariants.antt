@@ -1,7 +1,7 @@
 -- The first items remain.
 use Rattle.std.proofs.Common.{◌≡◌, ◌-◌, ◌≤◌, length, take}
 use Rattle.arena_ptr.specs.Blocks.{items_in}
-use Rattle.arena_ptr.proofs.chunk_stack.ChunkStack.keep.Given as goal
+use Rattle.arena_ptr.proofs.chunk_stack.ChunkStackSlotStack.truncate.Given as goal
 
 abbrev pub invariant-loop-self : goal.invariant-loop-self
 invariant-loop-self g l =

@@ -3,7 +3,7 @@ use Rattle.std.proofs.Common.{◌≡◌, refl, subst}
 use Rattle.std.specs.Prelude.{IfSome}
 use Rattle.arena_ptr.specs.CountedGenerations.{one_is_never_counted}
 use Rattle.arena_ptr.specs.Generations.{number_of_gen32, two32, after32}
-use Rattle.arena_ptr.proofs.tool_ptr.ToolPtrPtr.invalid.Goals as goal
+use Rattle.arena_ptr.proofs.tool_ptr.ToolPtrPtrKey.invalid.Goals as goal
 
 pub returns-clause-never : goal.returns-clause-never
 returns-clause-never c =

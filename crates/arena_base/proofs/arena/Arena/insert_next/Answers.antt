@@ -2,8 +2,8 @@
 use Rattle.std.proofs.Common.{◌<◌, ap, sym, ◌∙◌, arith}
 use Rattle.arena_traits.specs.Arena.{insert_next}
 use Rattle.arena_base.proofs.ArenaModelLemmas.{filled_freed_view, filled_next_view}
-use Rattle.arena_base.proofs.arena.Arena.insert_here.Goals.{in-Some, in-None}
-use Rattle.arena_base.proofs.arena.Arena.insert_here.Goals as goal
+use Rattle.arena_base.proofs.arena.Arena.insert_next.Goals.{in-Some, in-None}
+use Rattle.arena_base.proofs.arena.Arena.insert_next.Goals as goal
 
 pub invariant_of-self : goal.invariant_of-self
 invariant_of-self g c =

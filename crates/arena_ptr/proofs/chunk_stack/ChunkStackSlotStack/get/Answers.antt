@@ -1,7 +1,7 @@
 -- The item is found in its block.
 use Rattle.std.proofs.Common.{sym}
 use Rattle.arena_ptr.proofs.ChunkStackLemmas.{within, past, inside_block, item_at}
-use Rattle.arena_ptr.proofs.chunk_stack.ChunkStack.slot.Goals as goal
+use Rattle.arena_ptr.proofs.chunk_stack.ChunkStackSlotStack.get.Goals as goal
 
 pub returns-then-self-i : goal.returns-then-self-i
 returns-then-self-i g c = sym (past c.args.self.now c.args.i c.if-self-i.true)
