@@ -8,7 +8,8 @@ use Rattle.chain_laws.specs.Neighbors.{AreNeighbors}
 use Rattle.chain_laws.specs.Joins.{AddsLone, AreEndAndStart, with_join}
 use Rattle.chain_laws.specs.Cuts.{Cuts}
 use Rattle.chain_laws.specs.Removals.{with_removal}
-use Rattle.chain_laws.specs.Insertions.{InsertKind, disconnected, single_link_cyclic, chain_end, chain_start, next_to, prev_to, at_interlink, bridge}
+use Rattle.chain_laws.specs.declared.insert_kind.InsertKind.{InsertKind}
+use Rattle.chain_laws.specs.declared.insert_kind.InsertKind.TheVariants.{Disconnected, SingleLinkCyclic, ChainEnd, ChainEndInx, ChainStart, ChainStartInx, NextTo, NextToInx, PrevTo, PrevToInx, AtInterlink, AtInterlinkInx, Bridge, BridgeInx}
 use Rattle.chain_laws.specs.Insertions.{HasIndex, IsInsertPosition, Inserts, link_before, link_after, with_insertion}
 
 -- The chain has none of these.
@@ -17,24 +18,31 @@ IsDisjointFrom c [] = Unit {0}
 IsDisjointFrom c (x ∷ xs) = (IsMember (items c) x → ⊥) × IsDisjointFrom c xs
 
 -- The links that a kind names.
-abbrev pub indexes_of_kind : InsertKind ℕ → List ℕ
-indexes_of_kind disconnected = []
-indexes_of_kind single_link_cyclic = []
-indexes_of_kind (chain_end a) = a ∷ []
-indexes_of_kind (chain_start b) = b ∷ []
-indexes_of_kind (next_to a) = a ∷ []
-indexes_of_kind (prev_to b) = b ∷ []
-indexes_of_kind (at_interlink a b) = a ∷ b ∷ []
-indexes_of_kind (bridge a b) = a ∷ b ∷ []
+abbrev pub links_named : {P I : Type 0} → (P → ℕ) → (I → ℕ) → InsertKind P I → List ℕ
+links_named place number Disconnected = []
+links_named place number SingleLinkCyclic = []
+links_named place number (ChainEnd a) = place a ∷ []
+links_named place number (ChainEndInx a) = number a ∷ []
+links_named place number (ChainStart b) = place b ∷ []
+links_named place number (ChainStartInx b) = number b ∷ []
+links_named place number (NextTo a) = place a ∷ []
+links_named place number (NextToInx a) = number a ∷ []
+links_named place number (PrevTo b) = place b ∷ []
+links_named place number (PrevToInx b) = number b ∷ []
+links_named place number (AtInterlink a b) = place a ∷ place b ∷ []
+links_named place number (AtInterlinkInx a b) = number a ∷ number b ∷ []
+links_named place number (Bridge a b) = place a ∷ place b ∷ []
+links_named place number (BridgeInx a b) = number a ∷ number b ∷ []
 
 -- A chain stays if its links keep their interlinks.
 abbrev pub SameLinksKeepAChain : Type 0
 SameLinksKeepAChain = (old new : LinkMap) (c : Chain) → ((i : ℕ) → IsMember (items c) i → new i ≡ old i) → IsChain old c → IsChain new c
 
 -- An insertion keeps a chain without the links that its kind names.
-abbrev pub InsertionKeepsOthers : Type 0
-InsertionKeepsOthers = (old new : LinkMap) (kind : InsertKind ℕ) (q : ℕ) → IsWellLinked old → old q ≡ None → Inserts old new q (link_before old kind q) (link_after old kind q)
-    → (c : Chain) → IsDisjointFrom c (indexes_of_kind kind) → IsChain old c → IsChain new c
+abbrev pub InsertionKeepsOthers : (P I : Type 0) → Type 0
+InsertionKeepsOthers P I = (place : P → ℕ) (number : I → ℕ) (old new : LinkMap) (kind : InsertKind P I) (q : ℕ) → IsWellLinked old → old q ≡ None
+    → Inserts old new q (link_before place number old kind q) (link_after place number old kind q)
+    → (c : Chain) → IsDisjointFrom c (links_named place number kind) → IsChain old c → IsChain new c
 
 -- After an insertion, a chain without the new link existed before.
 abbrev pub InsertionMakesNoOthers : Type 0

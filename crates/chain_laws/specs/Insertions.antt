@@ -1,61 +1,70 @@
--- Insertion positions and insertions.
+-- What each kind of insertion requires, which links the new one comes between, and insertions.
 use Rattle.std.specs.Prelude.{◌≡◌, ◌↔◌, ℕ, ◌⊎◌, List, [], ◌∷◌, ◌++◌, Option, None, Some}
 use Rattle.chain_laws.specs.Chains.{LinkMap, Chain, linear, cyclic, items, IsMember, IsChain, HasLink, HasLinksWithin, IsWellLinked, first_or, last_or, prev_of, next_of}
 use Rattle.chain_laws.specs.Neighbors.{AreNeighbors}
 use Rattle.chain_laws.specs.Joins.{with_neighbors, with_lone, AreEndAndStart, HaveSameChains}
 use Rattle.chain_laws.specs.Removals.{with_removal}
+use Rattle.chain_laws.specs.declared.insert_kind.InsertKind.{InsertKind}
+use Rattle.chain_laws.specs.declared.insert_kind.InsertKind.TheVariants.{Disconnected, SingleLinkCyclic, ChainEnd, ChainEndInx, ChainStart, ChainStartInx, NextTo, NextToInx, PrevTo, PrevToInx, AtInterlink, AtInterlinkInx, Bridge, BridgeInx}
 
--- The kinds of insertion, with the names of the links beside the new one.
-pub data InsertKind (N : Type 0) : Type 0 where
-  disconnected : InsertKind N
-  single_link_cyclic : InsertKind N
-  chain_end : N → InsertKind N
-  chain_start : N → InsertKind N
-  next_to : N → InsertKind N
-  prev_to : N → InsertKind N
-  at_interlink : N → N → InsertKind N
-  bridge : N → N → InsertKind N
+-- A kind names links by pointers or by indexes. A pointer p names the link at `place p` if
+-- `is_valid p`, an index i the link at `number i` if `is_occupied i`.
+module _ {P I : Type 0} (place : P → ℕ) (number : I → ℕ) where
+  -- What a kind requires of the links that it names.
+  module _ (is_valid : P → Type 0) (is_occupied : I → Type 0) (link_map : LinkMap) where
+    abbrev pub MayInsert : InsertKind P I → Type 0
+    MayInsert Disconnected = Unit {0}
+    MayInsert SingleLinkCyclic = Unit {0}
+    MayInsert (ChainEnd a) = is_valid a × (next_of link_map (place a) ≡ None)
+    MayInsert (ChainEndInx a) = is_occupied a × (next_of link_map (number a) ≡ None)
+    MayInsert (ChainStart b) = is_valid b × (prev_of link_map (place b) ≡ None)
+    MayInsert (ChainStartInx b) = is_occupied b × (prev_of link_map (number b) ≡ None)
+    MayInsert (NextTo a) = is_valid a
+    MayInsert (NextToInx a) = is_occupied a
+    MayInsert (PrevTo b) = is_valid b
+    MayInsert (PrevToInx b) = is_occupied b
+    MayInsert (AtInterlink a b) = is_valid a × is_valid b × AreNeighbors link_map (place a) (place b)
+    MayInsert (AtInterlinkInx a b) = is_occupied a × is_occupied b × AreNeighbors link_map (number a) (number b)
+    MayInsert (Bridge a b) = is_valid a × is_valid b × (next_of link_map (place a) ≡ None) × (prev_of link_map (place b) ≡ None)
+    MayInsert (BridgeInx a b) = is_occupied a × is_occupied b × (next_of link_map (number a) ≡ None) × (prev_of link_map (number b) ≡ None)
 
--- What a kind requires of the links that it names.
-abbrev pub CanInsert : LinkMap → InsertKind ℕ → Type 0
-CanInsert link_map disconnected = Unit {0}
-CanInsert link_map single_link_cyclic = Unit {0}
-CanInsert link_map (chain_end a) = HasLink link_map a × (next_of link_map a ≡ None)
-CanInsert link_map (chain_start b) = HasLink link_map b × (prev_of link_map b ≡ None)
-CanInsert link_map (next_to a) = HasLink link_map a
-CanInsert link_map (prev_to b) = HasLink link_map b
-CanInsert link_map (at_interlink a b) = HasLink link_map a × HasLink link_map b × AreNeighbors link_map a b
-CanInsert link_map (bridge a b) = AreEndAndStart link_map a b
+  -- The link before the new link at q.
+  abbrev pub link_before : LinkMap → InsertKind P I → ℕ → Option ℕ
+  link_before link_map Disconnected q = None
+  link_before link_map SingleLinkCyclic q = Some q
+  link_before link_map (ChainEnd a) q = Some (place a)
+  link_before link_map (ChainEndInx a) q = Some (number a)
+  link_before link_map (ChainStart b) q = None
+  link_before link_map (ChainStartInx b) q = None
+  link_before link_map (NextTo a) q = Some (place a)
+  link_before link_map (NextToInx a) q = Some (number a)
+  link_before link_map (PrevTo b) q = prev_of link_map (place b)
+  link_before link_map (PrevToInx b) q = prev_of link_map (number b)
+  link_before link_map (AtInterlink a b) q = Some (place a)
+  link_before link_map (AtInterlinkInx a b) q = Some (number a)
+  link_before link_map (Bridge a b) q = Some (place a)
+  link_before link_map (BridgeInx a b) q = Some (number a)
 
--- The link before the new link at q.
-abbrev pub link_before : LinkMap → InsertKind ℕ → ℕ → Option ℕ
-link_before link_map disconnected q = None
-link_before link_map single_link_cyclic q = Some q
-link_before link_map (chain_end a) q = Some a
-link_before link_map (chain_start b) q = None
-link_before link_map (next_to a) q = Some a
-link_before link_map (prev_to b) q = prev_of link_map b
-link_before link_map (at_interlink a b) q = Some a
-link_before link_map (bridge a b) q = Some a
-
--- The link after the new link at q.
-abbrev pub link_after : LinkMap → InsertKind ℕ → ℕ → Option ℕ
-link_after link_map disconnected q = None
-link_after link_map single_link_cyclic q = Some q
-link_after link_map (chain_end a) q = None
-link_after link_map (chain_start b) q = Some b
-link_after link_map (next_to a) q = next_of link_map a
-link_after link_map (prev_to b) q = Some b
-link_after link_map (at_interlink a b) q = Some b
-link_after link_map (bridge a b) q = Some b
+  -- The link after the new link at q.
+  abbrev pub link_after : LinkMap → InsertKind P I → ℕ → Option ℕ
+  link_after link_map Disconnected q = None
+  link_after link_map SingleLinkCyclic q = Some q
+  link_after link_map (ChainEnd a) q = None
+  link_after link_map (ChainEndInx a) q = None
+  link_after link_map (ChainStart b) q = Some (place b)
+  link_after link_map (ChainStartInx b) q = Some (number b)
+  link_after link_map (NextTo a) q = next_of link_map (place a)
+  link_after link_map (NextToInx a) q = next_of link_map (number a)
+  link_after link_map (PrevTo b) q = Some (place b)
+  link_after link_map (PrevToInx b) q = Some (number b)
+  link_after link_map (AtInterlink a b) q = Some (place b)
+  link_after link_map (AtInterlinkInx a b) q = Some (number b)
+  link_after link_map (Bridge a b) q = Some (place b)
+  link_after link_map (BridgeInx a b) q = Some (number b)
 
 -- q comes after u and before v; either may be none.
 abbrev pub with_insertion : LinkMap → ℕ → Option ℕ → Option ℕ → LinkMap
 with_insertion link_map q u v = with_neighbors (with_neighbors (with_lone link_map q) u (Some q)) (Some q) v
-
--- A new link at q, by its kind.
-abbrev pub with_insertion_as : LinkMap → InsertKind ℕ → ℕ → LinkMap
-with_insertion_as link_map kind q = with_insertion link_map q (link_before link_map kind q) (link_after link_map kind q)
 
 -- u and v are neighbors, or an end and a start (one or both may be missing), or both q.
 abbrev pub IsInsertPosition : LinkMap → ℕ → Option ℕ → Option ℕ → Type 0
@@ -98,9 +107,10 @@ pub record Inserts (old new : LinkMap) (q : ℕ) (u v : Option ℕ) : Type 0 whe
   pub links : (i : ℕ) → HasLink new i ↔ (HasLink old i ⊎ (i ≡ q))
 
 -- A kind whose requirements hold gives an insertion position.
-abbrev pub KindGivesAPosition : Type 0
-KindGivesAPosition = (link_map : LinkMap) (kind : InsertKind ℕ) (q : ℕ) → IsWellLinked link_map → CanInsert link_map kind
-    → IsInsertPosition link_map q (link_before link_map kind q) (link_after link_map kind q)
+abbrev pub KindGivesAPosition : (P I : Type 0) → Type 0
+KindGivesAPosition P I = (place : P → ℕ) (number : I → ℕ) (link_map : LinkMap) (kind : InsertKind P I) (q : ℕ) → IsWellLinked link_map
+    → MayInsert place number (λ p. HasLink link_map (place p)) (λ i. HasLink link_map (number i)) link_map kind
+    → IsInsertPosition link_map q (link_before place number link_map kind q) (link_after place number link_map kind q)
 
 -- An insertion keeps the arena well linked.
 abbrev pub InsertionAgrees : Type 0
@@ -128,4 +138,4 @@ InsertionIsDeterminedByPairs = (old new : LinkMap) (q : ℕ) (u v : Option ℕ) 
 -- Removing a link just inserted beside another one restores the arena.
 abbrev pub RemovalOfInsertedRestores : Type 0
 RemovalOfInsertedRestores = (link_map : LinkMap) (a q : ℕ) → IsWellLinked link_map → HasLink link_map a → link_map q ≡ None
-    → (with_removal (with_insertion_as link_map (next_to a) q) q ≡ link_map) × (with_removal (with_insertion_as link_map (prev_to a) q) q ≡ link_map)
+    → (with_removal (with_insertion link_map q (Some a) (next_of link_map a)) q ≡ link_map) × (with_removal (with_insertion link_map q (prev_of link_map a) (Some a)) q ≡ link_map)

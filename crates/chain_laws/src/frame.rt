@@ -11,8 +11,8 @@ pub fn same_links_keep_a_chain()
 /// States that an insertion keeps each chain without the links that its kind names.
 ///
 /// A chain without the new link existed before. A lone link keeps every chain.
-pub fn insertion_keeps_others()
-    ensures kept { InsertionKeepsOthers }
+pub fn insertion_keeps_others<P, I>()
+    ensures kept { InsertionKeepsOthers P I }
     ensures no_others { InsertionMakesNoOthers }
     ensures lone { LoneKeepsEach }
 {}

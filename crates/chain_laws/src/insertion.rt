@@ -3,8 +3,8 @@
 ghost use Rattle.chain_laws.specs.Insertions.{KindGivesAPosition, InsertionAgrees, InsertionInPairs, InsertionInserts, InsertionIsDetermined, InsertionIsDeterminedByPairs, RemovalOfInsertedRestores};
 
 /// States that a kind whose requirements hold gives an insertion position.
-pub fn kind_gives_a_position()
-    ensures { KindGivesAPosition }
+pub fn kind_gives_a_position<P, I>()
+    ensures { KindGivesAPosition P I }
 {}
 
 /// States that inserting at an insertion position keeps the arena well linked.

@@ -1,12 +1,9 @@
 -- Lemmas on the join of two links.
-use Rattle.std.proofs.Common.{◌≡◌, ◌↔◌, ℕ, Bool, true, false, Option, None, Some, refl, ap, sym, ◌∙◌, subst, ⊎_elim}
-use Rattle.std.specs.Prelude.{◌==◌, if◌then◌else◌, is_some, not, IsTrue}
+use Rattle.std.proofs.Common.{◌≡◌, ◌↔◌, ℕ, Bool, true, false, Option, None, Some, refl, ap, sym, ◌∙◌, subst}
+use Rattle.std.specs.Prelude.{is_some, not, IsTrue}
 use Rattle.std.specs.Option.{option_map, option_and_then}
-use Rattle.std.proofs.lemmas.Bool.{cases_eq}
-use mathlib.Core.Path.{fun_ext}
-use Rattle.chain_laws.specs.Chains.{LinkMap, Interlinks, IsWellLinked, HasLink, prev_of, next_of, prev_in, next_in}
-use Rattle.chain_laws.specs.Joins.{AddsPair, Connects, with_join, AreEndAndStart, with_next_at, with_next}
-use Rattle.chain_laws.proofs.InterlinkLemmas.Inverses.{if_same, if_other}
+use Rattle.chain_laws.specs.Chains.{LinkMap, IsWellLinked, HasLink, prev_of, next_of, prev_in, next_in}
+use Rattle.chain_laws.specs.Joins.{AddsPair, Connects, with_join, AreEndAndStart}
 use Rattle.chain_laws.proofs.JoinLemmas.Chains.{joined_agrees, joined_adds_a_pair, joined_connects}
 use Rattle.chain_links.specs.declared.links.LinkBody.{LinkBody}
 use Rattle.chain_links.specs.Links.{link_view, pair_view, links_view}
@@ -16,7 +13,7 @@ use Rattle.chain_links.proofs.MappedArenaLemmas.{IsValidPtr, entry_at-with_each,
 use Rattle.chain_links.proofs.LinkStateLemmas.{entry_at-links_view}
 use Rattle.chain_linking.specs.LinkWrites.{IsValidEnd, IsValidStart}
 use Rattle.chain_linking.proofs.NeighborLemmas.{valid_link}
-use Rattle.chain_linking.proofs.LinkWriteLemmas.{FitsLinks, link_map-with_link_map, values_of-with_link_map, with_link_map-again, with_link_map-own, FitsLinks-link_map, FitsLinks-with_next_at, FitsLinks-linked}
+use Rattle.chain_linking.proofs.LinkWriteLemmas.{link_map-with_link_map, values_of-with_link_map, FitsLinks-linked}
 
 pub none_unless_some : {A : Type 0} (o : Option A) → is_some o ≡ false → o ≡ None
 none_unless_some None none = refl
@@ -95,64 +92,6 @@ module _ {Gen T : Type 0} where
     -- The chains are connected.
     pub joined-chains : Connects (link_map a) (link_map b) p.0 q.0
     joined-chains = subst (λ (new : LinkMap). Connects (link_map a) new p.0 q.0) (sym links) (joined_connects (link_map a) p.0 q.0)
-
--- Clearing a new `next` restores a link without one.
-cleared : (l : Option Interlinks) (v : Option ℕ) → next_in l ≡ None → option_map (with_next None) (option_map (with_next v) l) ≡ l
-cleared None v none = refl
-cleared (Some l) v none = ap (λ (o : Option ℕ). let x : Option Interlinks = Some (with_next o l) in x) (sym none)
-
-undone : (m : LinkMap) (i : ℕ) (v : Option ℕ) → next_of m i ≡ None → with_next_at (with_next_at m (Some i) v) (Some i) None ≡ m
-undone m i v none = fun_ext (λ j. ⊎_elim (at j) (off j) (cases_eq j i))
-  where
-    at : (j : ℕ) → j ≡ i → with_next_at (with_next_at m (Some i) v) (Some i) None j ≡ m j
-    at j same = if_same j i _ _ same ∙ (ap (option_map (with_next None)) (if_same j i _ _ same) ∙ cleared (m j) v (ap (next_of m) same ∙ none))
-
-    off : (j : ℕ) → (j ≡ i → ⊥) → with_next_at (with_next_at m (Some i) v) (Some i) None j ≡ m j
-    off j other = if_other j i _ _ other ∙ if_other j i _ _ other
-
--- A write to `next` leaves `prev` unchanged.
-prev_kept : (b : Bool) (l : Option Interlinks) (v : Option ℕ) → prev_in (if b then option_map (with_next v) l else l) ≡ prev_in l
-prev_kept true None v = refl
-prev_kept true (Some l) v = refl
-prev_kept false l v = refl
-
--- p names q, before q is checked.
-module _ {Gen T : Type 0} (a b : Arena Gen (LinkView T)) (p q : ℕ × Gen) (named : b ≡ with_link_map a (with_next_at (link_map a) (Some p.0) (Some q.0))) where
-  abbrev names : LinkMap
-  names = with_next_at (link_map a) (Some p.0) (Some q.0)
-
-  fits : FitsLinks names a
-  fits = FitsLinks-with_next_at a (link_map a) (Some p.0) (Some q.0) (FitsLinks-link_map a)
-
-  reports_names : link_map b ≡ names
-  reports_names = ap (λ (x : Arena Gen (LinkView T)). link_map x) named ∙ link_map-with_link_map a names fits
-
-  same_values : values_of b ≡ values_of a
-  same_values = ap (λ (x : Arena Gen (LinkView T)). values_of x) named ∙ values_of-with_link_map a names fits
-
-  same_prev : prev_of (link_map b) q.0 ≡ prev_of (link_map a) q.0
-  same_prev = ap (λ (m : LinkMap). prev_of m q.0) reports_names ∙ prev_kept (q.0 == p.0) (link_map a q.0) (Some q.0)
-
-  -- p and q may be connected if q is then a start.
-  pub named_may : IsValidEnd (entry_at (values_of a)) (link_map a) p → IsValidStart (entry_at (values_of b)) (link_map b) q → CanConnect (entry_at (values_of a)) (link_map a) p q
-  named_may first second = record {
-    first_valid = first.valid;
-    second_valid = subst (λ (v : Arena Gen T). IsValidPtr v q) same_values second.valid;
-    no_next = first.end;
-    no_prev = sym same_prev ∙ second.start;
-  }
-
-  -- p and q may not be connected if q is then no start.
-  pub named_may_not : (IsValidStart (entry_at (values_of b)) (link_map b) q → ⊥) → CanConnect (entry_at (values_of a)) (link_map a) p q → ⊥
-  named_may_not fails can = fails (record { valid = subst (λ (v : Arena Gen T). IsValidPtr v q) (sym same_values) can.second_valid; start = same_prev ∙ can.no_prev })
-
-  -- Clearing `next` of p again restores the arena.
-  pub taken_back : (c : Arena Gen (LinkView T)) → next_of (link_map a) p.0 ≡ None → c ≡ with_link_map b (with_next_at (link_map b) (Some p.0) None) → c ≡ a
-  taken_back c none back =
-      back ∙ (ap (λ (m : LinkMap). with_link_map b (with_next_at m (Some p.0) None)) reports_names
-      ∙ (ap (λ (x : Arena Gen (LinkView T)). with_link_map x (with_next_at names (Some p.0) None)) named
-      ∙ (with_link_map-again a names (with_next_at names (Some p.0) None) fits
-      ∙ (ap (with_link_map a) (undone (link_map a) p.0 (Some q.0) none) ∙ sym (with_link_map-own a)))))
 
 module _ {Gen K T : Type 0} (number : K → Option ℕ) where
   -- The value of the link at an index.

@@ -3,7 +3,7 @@ pub mod ConsistencyLemmas
 pub mod DestinationLemmas
 pub mod ConnectionLemmas
 pub mod NeighborLemmas
-pub mod InsertPositionLemmas
+pub mod LinkEntryLemmas
 pub mod LinkInsertionLemmas
 pub mod LinkWriteLemmas
 pub mod UnlinkLemmas

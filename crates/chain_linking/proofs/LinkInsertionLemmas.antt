@@ -5,21 +5,18 @@ use Rattle.std.proofs.lemmas.Bool.{cases_eq}
 use Rattle.std.specs.Option.{option_map}
 use Rattle.chain_laws.specs.Chains.{LinkMap, IsWellLinked, HasLink}
 use Rattle.chain_laws.specs.Insertions.{IsInsertPosition}
-use Rattle.chain_laws.specs.Joins.{with_next_at, with_prev_at, with_neighbors}
+use Rattle.chain_laws.specs.Joins.{with_next_at, with_prev_at}
 use Rattle.chain_laws.proofs.InterlinkLemmas.Inverses.{if_same, if_other}
 use Rattle.chain_laws.proofs.InsertionLemmas.Pairs.{position_between}
 use Rattle.chain_laws.proofs.ChainLemmas.LinkedLists.{link}
-use Rattle.chain_laws.proofs.InsertionLemmas.Writes.{with_link, inserted_by_writes, ringed_by_writes}
+use Rattle.chain_laws.proofs.InsertionLemmas.Writes.{with_link, inserted_by_writes}
 use Rattle.chain_links.specs.declared.links.LinkBody.{LinkBody}
 use Rattle.chain_links.specs.Links.{link_view, links_view}
 use Rattle.arena_traits.specs.Arena.{Arena, entry_at, next_index, insert_next, IsListed}
-use Rattle.chain_linking.specs.declared.insert_position.InsertPosition.{InsertPosition}
-use Rattle.chain_linking.specs.declared.insert_position.InsertPosition.TheVariants.{Itself, Between}
-use Rattle.chain_linking.specs.InsertPositions.{before_in, after_in, named_before, named_after}
 use Rattle.chain_links.specs.ChainArena.{LinkView, lone, new_link, named_by, insert_lone, insert_between, link_map, relink, with_link_map, interlinks_of}
 use Rattle.chain_links.proofs.LinkStateLemmas.{is_relinked}
 use Rattle.chain_linking.proofs.NeighborLemmas.{if_each}
-use Rattle.chain_links.proofs.ArenaInsertionLemmas.{link_map-next, AreFree, slot_at-filled, length-filled, link_map-insert_lone, listed-links_view, links_view-insert_next, next_index-links_view}
+use Rattle.chain_links.proofs.ArenaInsertionLemmas.{link_map-next, AreFree, slot_at-filled, length-filled, listed-links_view, links_view-insert_next}
 use Rattle.chain_linking.proofs.LinkWriteLemmas.{relink-own, FitsLinks, FitsLinks-link_map, FitsLinks-with_next_at, link_map-with_link_map, with_link_map-again}
 use Rattle.chain_links.proofs.MappedArenaLemmas.{is_some-map}
 
@@ -64,40 +61,16 @@ module _ {Gen T : Type 0} (a : Arena Gen (LinkView T)) (free : AreFree a.slots a
       ∙ (ap (λ (m : LinkMap). with_link_map (with_link_map base named) (with_prev_at (with_next_at m u (Some q)) v (Some q))) (link_map-with_link_map base named fits)
       ∙ (with_link_map-again base named (with_prev_at (with_next_at named u (Some q)) v (Some q)) fits ∙ ap (with_link_map base) (inserted_by_writes (link_map a) q u v itself)))
 
-  -- A lone link that is then named by itself is a ring.
-  pub ringed : named_by (insert_lone a t) (Some (next_index a)) (Some (next_index a)) (next_index a) ≡ insert_between a t (Some (next_index a)) (Some (next_index a))
-  ringed =
-      let q = next_index a in
-      ap (λ (m : LinkMap). with_link_map (insert_lone a t) (with_neighbors m (Some q) (Some q))) (link_map-insert_lone a t free)
-      ∙ ap (with_link_map (insert_lone a t)) (ringed_by_writes (link_map a) q)
-
-  -- A new link that the links of its position name is inserted there.
-  pub placed_in : {I : Type 0} (number : I → ℕ) (position : InsertPosition I) → (before_in number position (next_index a) ≡ Some (next_index a) → after_in number position (next_index a) ≡ Some (next_index a))
-      → named_by (insert_next a (new_link t (named_before number position) (named_after number position))) (before_in number position (next_index a)) (after_in number position (next_index a)) (next_index a)
-      ≡ insert_between a t (before_in number position (next_index a)) (after_in number position (next_index a))
-  placed_in number Itself itself = ringed
-  placed_in number (Between u v) itself = placed (option_map number u) (option_map number v) itself
-
 -- An insertion in the stored arena of links.
-module _ {Gen K T I : Type 0} (packed : K → Option ℕ) (number : I → ℕ) (a b : Arena Gen (LinkBody K T)) (d : Arena Gen (LinkView T)) (position : InsertPosition I) (t : T) (link : LinkBody K T)
-    (listed : IsListed a) (link_is : link_view packed link ≡ new_link t (named_before number position) (named_after number position))
-    (itself : before_in number position (next_index (links_view packed a)) ≡ Some (next_index (links_view packed a)) → after_in number position (next_index (links_view packed a)) ≡ Some (next_index (links_view packed a)))
-    (i : ℕ) (at : i ≡ next_index a) (linked_at : d ≡ named_by (links_view packed b) (before_in number position i) (after_in number position i) i) where
-  abbrev in_position : Arena Gen (LinkView T)
-  in_position = insert_between (links_view packed a) t (before_in number position (next_index (links_view packed a))) (after_in number position (next_index (links_view packed a)))
-
-  abbrev linked_at_next : Arena Gen (LinkView T) → Arena Gen (LinkView T)
-  linked_at_next x = named_by x (before_in number position (next_index (links_view packed a))) (after_in number position (next_index (links_view packed a))) (next_index (links_view packed a))
-
-  linked_next : d ≡ linked_at_next (links_view packed b)
-  linked_next = linked_at ∙ ap (λ (j : ℕ). named_by (links_view packed b) (before_in number position j) (after_in number position j) j) (at ∙ sym (next_index-links_view packed a))
-
-  named_next : linked_at_next (links_view packed (insert_next a link)) ≡ in_position
-  named_next = ap linked_at_next (links_view-insert_next packed a link ∙ ap (insert_next (links_view packed a)) link_is)
-      ∙ placed_in (links_view packed a) (listed-links_view packed a listed).free t number position itself
-
-  pub placed_in_capacity : b ≡ insert_next a link → d ≡ in_position
-  placed_in_capacity is = linked_next ∙ (ap (λ (x : Arena Gen (LinkBody K T)). linked_at_next (links_view packed x)) is ∙ named_next)
+module _ {Gen K T : Type 0} (packed : K → Option ℕ) (a b : Arena Gen (LinkBody K T)) (d : Arena Gen (LinkView T)) (u v : Option ℕ) (t : T) (link : LinkBody K T)
+    (listed : IsListed a) (link_is : link_view packed link ≡ new_link t u v) (itself : u ≡ Some (next_index (links_view packed a)) → v ≡ Some (next_index (links_view packed a))) where
+  -- The new link, which names u and v and is named by them, is inserted between them.
+  pub inserted_beside : b ≡ insert_next a link → d ≡ named_by (links_view packed b) u v (next_index (links_view packed a)) → d ≡ insert_between (links_view packed a) t u v
+  inserted_beside is linked =
+      let named : Arena Gen (LinkView T) → Arena Gen (LinkView T) = λ x. named_by x u v (next_index (links_view packed a)) in
+      linked ∙ (ap (λ (x : Arena Gen (LinkBody K T)). named (links_view packed x)) is
+      ∙ (ap named (links_view-insert_next packed a link ∙ ap (insert_next (links_view packed a)) link_is)
+      ∙ placed (links_view packed a) (listed-links_view packed a listed).free t u v itself))
 
 -- The entries after the insertion of a link.
 module _ {Gen T : Type 0} (a : Arena Gen (LinkView T)) (free : AreFree a.slots a.freed) (l : LinkView T) where
@@ -122,21 +95,9 @@ module _ {Gen T : Type 0} (a : Arena Gen (LinkView T)) (free : AreFree a.slots a
       )
 
 -- The links of a position exist in the stored arena of links after the insertion.
-module _ {Gen K T I : Type 0} (packed : K → Option ℕ) (number : I → ℕ) (a b : Arena Gen (LinkBody K T)) (position : InsertPosition I) (link : LinkBody K T) (listed : IsListed a) (agrees : IsWellLinked (link_map (links_view packed a)))
-    (is_position : IsInsertPosition (link_map (links_view packed a)) (next_index (links_view packed a)) (before_in number position (next_index (links_view packed a))) (after_in number position (next_index (links_view packed a))))
-    (i : ℕ) (at : i ≡ next_index a) (is : b ≡ insert_next a link) where
-  abbrev StoredNow : Option ℕ → Type 0
-  StoredNow o = IfSome o (HasLink (link_map (links_view packed b)))
-
-  both_stored : StoredNow (before_in number position (next_index (links_view packed a))) × StoredNow (after_in number position (next_index (links_view packed a)))
-  both_stored =
-      let s = links_view packed a in
-      subst (λ (x : Arena Gen (LinkView T)). IfSome (before_in number position (next_index s)) (HasLink (link_map x)) × IfSome (after_in number position (next_index s)) (HasLink (link_map x)))
-      (sym (ap (links_view packed) is ∙ links_view-insert_next packed a link))
-      (position_stored s (listed-links_view packed a listed).free (link_view packed link) _ _ agrees is_position)
-
-  pub before_stored : StoredNow (before_in number position i)
-  before_stored = subst (λ (j : ℕ). StoredNow (before_in number position j)) (sym (at ∙ sym (next_index-links_view packed a))) both_stored.0
-
-  pub after_stored : StoredNow (after_in number position i)
-  after_stored = subst (λ (j : ℕ). StoredNow (after_in number position j)) (sym (at ∙ sym (next_index-links_view packed a))) both_stored.1
+pub both_stored : {Gen K T : Type 0} (packed : K → Option ℕ) (a b : Arena Gen (LinkBody K T)) (u v : Option ℕ) (link : LinkBody K T) → IsListed a → IsWellLinked (link_map (links_view packed a))
+    → IsInsertPosition (link_map (links_view packed a)) (next_index (links_view packed a)) u v → b ≡ insert_next a link
+    → IfSome u (HasLink (link_map (links_view packed b))) × IfSome v (HasLink (link_map (links_view packed b)))
+both_stored {Gen = Gen} {T = T} packed a b u v link listed agrees is_position is =
+    subst (λ (x : Arena Gen (LinkView T)). IfSome u (HasLink (link_map x)) × IfSome v (HasLink (link_map x))) (sym (ap (links_view packed) is ∙ links_view-insert_next packed a link))
+    (position_stored (links_view packed a) (listed-links_view packed a listed).free (link_view packed link) u v agrees is_position)

@@ -22,7 +22,7 @@ if_each None P each = tt
 if_each (Some x) P each = each x refl
 
 -- An index in the link map has a link.
-link_where : (link_map : LinkMap) (i : ℕ) → IsSome (link_map i) → HasLink link_map i
+pub link_where : (link_map : LinkMap) (i : ℕ) → IsSome (link_map i) → HasLink link_map i
 link_where link_map i some = of (link_map i) refl some
   where
     of : (o : Option Interlinks) → link_map i ≡ o → IsSome o → HasLink link_map i

@@ -1,4 +1,3 @@
-pub mod InsertPositions
 pub mod LinkWrites
 pub mod Connections
 pub mod Destinations

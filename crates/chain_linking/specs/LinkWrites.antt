@@ -7,10 +7,8 @@ use Rattle.chain_laws.specs.Chains.{LinkMap, HasLink, prev_of, next_of}
 use Rattle.chain_laws.specs.Joins.{with_next_at, with_prev_at, with_neighbors}
 use Rattle.arena_traits.specs.Arena.{Arena, IsValid, entry_at}
 use Rattle.chain_links.specs.declared.links.LinkBody.{LinkBody}
-use Rattle.chain_links.specs.ChainArena.{LinkView, link_map, with_link_map, named_by, remove_link, entry, ptr_at}
+use Rattle.chain_links.specs.ChainArena.{LinkView, link_map, with_link_map, remove_link, entry, ptr_at}
 use Rattle.chain_links.specs.Links.{link_view, links_view, pair_view, StayAtRest}
-use Rattle.chain_linking.specs.InsertPositions.{before_in, after_in}
-use Rattle.chain_linking.specs.declared.insert_position.InsertPosition.{InsertPosition}
 
 -- Two optional indexes as numbers.
 abbrev pub numbers : {I : Type 0} → (I → ℕ) → Option I × Option I → Option ℕ × Option ℕ
@@ -98,7 +96,3 @@ module _ {Gen K T : Type 0} (packed : K → Option ℕ) where
     -- The first pair is linked, then the second.
     abbrev pub LinksPairs : (first second : Option I × Option I) → (old new : Arena Gen (LinkBody K T)) → Type 0
     LinksPairs first second old new = LinksBecome (arena_with_pairs (links_view packed old) (numbers number first) (numbers number second)) old new
-
-    -- The links of the position name the new link at q.
-    abbrev pub NamesNewLink : InsertPosition I → ℕ → (old new : Arena Gen (LinkBody K T)) → Type 0
-    NamesNewLink position q old new = LinksBecome (named_by (links_view packed old) (before_in number position q) (after_in number position q) q) old new

@@ -7,11 +7,11 @@ ghost use Rattle.chain_links.specs.ChainArena.{link_map};
 ghost use Rattle.chain_links.specs.Links.{links_view};
 ghost use Rattle.chain_links.specs.Walkers.{links_ahead, item_view};
 
-use crate::insert_position::is_index;
 use crate::walk_step::lookup;
 use arena_base::{Arena, ArenaSlot, ArenaTrait, proved_unreachable};
 use arena_ptr::{HeapStack, PtrKey, SlotStack};
 use chain_links::LinkNoGen;
+use chain_links::links::is_index;
 use std::marker::Model;
 
 /// An iterator over the links of one chain in walk order, each with its pointer.

@@ -1,15 +1,39 @@
-// Connects two links of a plain arena, and tests for the ends of its chains.
-ghost use Rattle.std.specs.Prelude.{Some, None};
-ghost use Rattle.chain_linking.specs.Connections.{ReportsEnd, ReportsStart, IsOccupiedIndex, JoinsLinks};
-ghost use Rattle.chain_linking.specs.LinkWrites.{SetsNext};
+// Reads what is beside a link of a plain arena, and connects two links.
+ghost use Rattle.chain_linking.specs.Connections.{IsNextOf, IsPrevOf, ReportsEnd, ReportsStart, JoinsLinks};
 
-use crate::link_writes;
+use crate::link_writes::link_pair;
 use arena_base::{Arena, ArenaSlot, ArenaTrait};
-use arena_ptr::{InxKey, PtrKey, SlotStack};
+use arena_ptr::{PtrKey, SlotStack};
 use chain_links::LinkNoGen;
 
-/// Returns whether `p` is valid and no link comes after its link.
-pub fn is_end<P: PtrKey, T: Drop, S: SlotStack<Item = ArenaSlot<P, LinkNoGen<P, T>>>>(
+/// Returns the index after the link of `p`, or `None` if either is missing.
+pub fn next_of<P: PtrKey, T: Drop, S: SlotStack<Item = ArenaSlot<P, LinkNoGen<P, T>>>>(
+    arena: &Arena<P, LinkNoGen<P, T>, S>,
+    p: P,
+) -> Option<P::Inx>
+    ensures { IsNextOf P.Inx.packed_number P.Inx.number (P.key p) arena.now result }
+{
+    match arena.get(p) {
+        Some(link) => link.next(),
+        None => None,
+    }
+}
+
+/// Returns the index before the link of `p`, or `None` if either is missing.
+pub fn prev_of<P: PtrKey, T: Drop, S: SlotStack<Item = ArenaSlot<P, LinkNoGen<P, T>>>>(
+    arena: &Arena<P, LinkNoGen<P, T>, S>,
+    p: P,
+) -> Option<P::Inx>
+    ensures { IsPrevOf P.Inx.packed_number P.Inx.number (P.key p) arena.now result }
+{
+    match arena.get(p) {
+        Some(link) => link.prev(),
+        None => None,
+    }
+}
+
+// Returns whether `p` is valid and no link comes after its link.
+fn is_end<P: PtrKey, T: Drop, S: SlotStack<Item = ArenaSlot<P, LinkNoGen<P, T>>>>(
     arena: &Arena<P, LinkNoGen<P, T>, S>,
     p: P,
 ) -> bool
@@ -21,8 +45,8 @@ pub fn is_end<P: PtrKey, T: Drop, S: SlotStack<Item = ArenaSlot<P, LinkNoGen<P, 
     }
 }
 
-/// Returns whether `p` is valid and no link comes before its link.
-pub fn is_start<P: PtrKey, T: Drop, S: SlotStack<Item = ArenaSlot<P, LinkNoGen<P, T>>>>(
+// Returns whether `p` is valid and no link comes before its link.
+fn is_start<P: PtrKey, T: Drop, S: SlotStack<Item = ArenaSlot<P, LinkNoGen<P, T>>>>(
     arena: &Arena<P, LinkNoGen<P, T>, S>,
     p: P,
 ) -> bool
@@ -34,50 +58,7 @@ pub fn is_start<P: PtrKey, T: Drop, S: SlotStack<Item = ArenaSlot<P, LinkNoGen<P
     }
 }
 
-// Returns `i` if a link is stored there.
-fn occupied_index<P: PtrKey, T: Drop, S: SlotStack<Item = ArenaSlot<P, LinkNoGen<P, T>>>>(
-    arena: &Arena<P, LinkNoGen<P, T>, S>,
-    i: Option<P::Inx>,
-) -> Option<P::Inx>
-    ensures { IsOccupiedIndex P.Inx.packed_number P.Inx.number i arena.now result }
-{
-    match i {
-        Some(k) => match arena.get_inx(k) {
-            Some(_) => Some(k),
-            None => None,
-        },
-        None => None,
-    }
-}
-
-// Sets the index after the link at `i`, if there is a link.
-fn set_next<P: PtrKey, T: Drop, S: SlotStack<Item = ArenaSlot<P, LinkNoGen<P, T>>>>(
-    arena: &mut Arena<P, LinkNoGen<P, T>, S>,
-    i: Option<P::Inx>,
-    next: Option<P::Inx>,
-)
-    ensures { SetsNext P.Inx.packed_number P.Inx.number i next arena.old arena.new }
-{
-    let i = occupied_index(arena, i);
-    link_writes::set_next(arena, i, next);
-}
-
-// Clears the index after the link at `i`, if there is a link. Unlikely, so out of line.
-#[cold]
-#[inline(never)]
-fn clear_next<P: PtrKey, T: Drop, S: SlotStack<Item = ArenaSlot<P, LinkNoGen<P, T>>>>(
-    arena: &mut Arena<P, LinkNoGen<P, T>, S>,
-    i: P::Inx,
-)
-    ensures { SetsNext P.Inx.packed_number P.Inx.number (Some i) None arena.old arena.new }
-{
-    set_next(arena, Some(i), None);
-}
-
 /// Links `q` after `p`, or returns `None` and changes nothing if they cannot be connected.
-///
-/// To visit each slot once, it writes `q` to the link of `p` before it checks `q`, and undoes that
-/// write if the check fails.
 pub fn join<P: PtrKey, T: Drop, S: SlotStack<Item = ArenaSlot<P, LinkNoGen<P, T>>>>(
     arena: &mut Arena<P, LinkNoGen<P, T>, S>,
     p: P,
@@ -85,15 +66,12 @@ pub fn join<P: PtrKey, T: Drop, S: SlotStack<Item = ArenaSlot<P, LinkNoGen<P, T>
 ) -> Option<()>
     ensures { JoinsLinks P.Inx.packed_number (P.key p) (P.key q) arena.old result arena.new }
 {
-    let (i, j) = (p.inx(), q.inx());
     if !is_end(arena, p) {
         return None;
     }
-    link_writes::set_next(arena, Some(i), Some(j));
     if !is_start(arena, q) {
-        clear_next(arena, i);
         return None;
     }
-    link_writes::set_prev(arena, Some(j), Some(i));
+    link_pair(arena, Some(p.inx()), Some(q.inx()));
     Some(())
 }

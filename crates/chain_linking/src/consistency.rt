@@ -5,13 +5,13 @@ ghost use Rattle.chain_linking.specs.Consistency.{IsWellLinkedForth, IsWellLinke
 ghost use Rattle.chain_links.specs.ChainArena.{link_map};
 ghost use Rattle.chain_links.specs.Links.{links_view};
 
-use crate::insert_position::is_index;
 use arena_base::{Arena, ArenaSlot, ArenaTrait, inx_at};
 use arena_ptr::{InxKey, PtrKey, SlotStack};
 use chain_links::LinkNoGen;
+use chain_links::links::is_index;
 
-/// Returns the indexes before and after the link at `i`, both `None` if there is no link.
-pub fn neighbors_at<P: PtrKey, T: Drop, S: SlotStack<Item = ArenaSlot<P, LinkNoGen<P, T>>>>(
+// Returns the indexes before and after the link at `i`, both `None` if there is no link.
+fn neighbors_at<P: PtrKey, T: Drop, S: SlotStack<Item = ArenaSlot<P, LinkNoGen<P, T>>>>(
     arena: &Arena<P, LinkNoGen<P, T>, S>,
     i: P::Inx,
 ) -> (Option<P::Inx>, Option<P::Inx>)
@@ -24,8 +24,8 @@ pub fn neighbors_at<P: PtrKey, T: Drop, S: SlotStack<Item = ArenaSlot<P, LinkNoG
     }
 }
 
-/// Returns whether the link after `i`, if any, names `i` as the one before it.
-pub fn next_agrees<P: PtrKey, T: Drop, S: SlotStack<Item = ArenaSlot<P, LinkNoGen<P, T>>>>(
+// Returns whether the link after `i`, if any, names `i` as the one before it.
+fn next_agrees<P: PtrKey, T: Drop, S: SlotStack<Item = ArenaSlot<P, LinkNoGen<P, T>>>>(
     arena: &Arena<P, LinkNoGen<P, T>, S>,
     i: P::Inx,
 ) -> bool
@@ -53,8 +53,8 @@ fn prev_agrees<P: PtrKey, T: Drop, S: SlotStack<Item = ArenaSlot<P, LinkNoGen<P,
     }
 }
 
-/// Returns whether each neighbor of the link at `i` names `i` in turn.
-pub fn agrees_at<P: PtrKey, T: Drop, S: SlotStack<Item = ArenaSlot<P, LinkNoGen<P, T>>>>(
+// Returns whether each neighbor of the link at `i` names `i` in turn.
+fn agrees_at<P: PtrKey, T: Drop, S: SlotStack<Item = ArenaSlot<P, LinkNoGen<P, T>>>>(
     arena: &Arena<P, LinkNoGen<P, T>, S>,
     i: P::Inx,
 ) -> bool

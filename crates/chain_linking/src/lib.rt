@@ -1,15 +1,13 @@
-//! Reads and writes the interlinks of a plain arena of links: insertion positions, links, walks,
-//! texts and a consistency check.
+//! Reads and writes the interlinks of a plain arena of links: links, walks, texts and a
+//! consistency check.
 #![tactic(auto)]
 
 pub mod chain_iterators;
 pub mod connection;
 pub mod consistency;
 pub mod destinations;
-pub mod insert_position;
 pub mod link_writes;
 pub mod links_text;
-pub mod new_link;
 pub mod walk_step;
 
 pub use chain_iterators::ChainIter;

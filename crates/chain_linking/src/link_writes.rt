@@ -4,12 +4,9 @@ ghost use Rattle.std.specs.Option.{option_map, option_and_then};
 ghost use Rattle.chain_laws.specs.Chains.{IsWellLinked, HasLink};
 ghost use Rattle.chain_links.specs.ChainArena.{link_map, entry, ptr_at};
 ghost use Rattle.chain_links.specs.Links.{link_view, links_view};
-ghost use Rattle.chain_linking.specs.InsertPositions.{before_in, after_in};
-ghost use Rattle.chain_linking.specs.LinkWrites.{PointsToNeighbors, SetsNext, SetsPrev, SetsBoth, LinksPair, LinksPairs, NamesNewLink, WereBeside, TakesLinkAt};
+ghost use Rattle.chain_linking.specs.LinkWrites.{PointsToNeighbors, SetsNext, SetsPrev, SetsBoth, LinksPair, LinksPairs, WereBeside, TakesLinkAt};
 
-use crate::insert_position::InsertPosition;
-use crate::new_link::neighbors_of_position;
-use arena_base::{Arena, ArenaSlot, ArenaTrait, outcome, proved_unreachable};
+use arena_base::{Arena, ArenaSlot, ArenaTrait, proved_unreachable};
 use arena_ptr::{InvalidationResult, InxKey, PtrKey, SlotStack};
 use chain_links::{LinkNoGen, link_access};
 
@@ -84,8 +81,8 @@ pub fn set_prev<P: PtrKey, T: Drop, S: SlotStack<Item = ArenaSlot<P, LinkNoGen<P
     }
 }
 
-// Sets the index after the link at `before`, and then the index before the link at `after`.
-fn write_beside<P: PtrKey, T: Drop, S: SlotStack<Item = ArenaSlot<P, LinkNoGen<P, T>>>>(
+/// Sets the index after the link at `before`, and then the index before the link at `after`.
+pub fn write_beside<P: PtrKey, T: Drop, S: SlotStack<Item = ArenaSlot<P, LinkNoGen<P, T>>>>(
     arena: &mut Arena<P, LinkNoGen<P, T>, S>,
     before: Option<P::Inx>,
     next: Option<P::Inx>,
@@ -137,24 +134,6 @@ pub fn link_pairs<P: PtrKey, T: Drop, S: SlotStack<Item = ArenaSlot<P, LinkNoGen
     link_pair(arena, second.0, second.1);
 }
 
-/// Sets the index of a new link in the links of its insertion position.
-pub fn update_neighbors<P: PtrKey, T: Drop, S: SlotStack<Item = ArenaSlot<P, LinkNoGen<P, T>>>>(
-    arena: &mut Arena<P, LinkNoGen<P, T>, S>,
-    position: InsertPosition<P::Inx>,
-    p: P,
-)
-    requires before { IfSome (before_in P.Inx.number position (P.key p).0)
-        (HasLink (link_map (links_view P.Inx.packed_number arena.old))) }
-    requires after { IfSome (after_in P.Inx.number position (P.key p).0)
-        (HasLink (link_map (links_view P.Inx.packed_number arena.old))) }
-    ensures { NamesNewLink P.Inx.packed_number P.Inx.number position (P.key p).0 arena.old
-        arena.new }
-{
-    let i = p.inx();
-    let (prev, next) = neighbors_of_position(position, i);
-    write_beside(arena, prev, Some(i), next, Some(i));
-}
-
 // Links the former neighbors of the link removed from `i`, unless it was its own neighbor.
 fn connect_former_neighbors<P: PtrKey, T: Drop, S: SlotStack<Item = ArenaSlot<P, LinkNoGen<P, T>>>>(
     arena: &mut Arena<P, LinkNoGen<P, T>, S>,
@@ -192,7 +171,7 @@ pub fn remove_link_at<P: PtrKey, T: Drop, S: SlotStack<Item = ArenaSlot<P, LinkN
     match entry {
         Some((generation, link)) => {
             connect_former_neighbors(arena, i, link.prev(), link.next());
-            outcome(overflow, (generation, link))
+            InvalidationResult::from_overflow(overflow, (generation, link))
         }
         None => InvalidationResult::InvalidPtr,
     }

@@ -1,20 +1,15 @@
 -- The outcomes of calls on an arena of links, by the cases of their results. An arena is seen by its
--- state and its interlinks.
-use Rattle.std.specs.Prelude.{◌≡◌, ◌↔◌, ℕ, Bool, IsSome, IfSome, Option, None, Some, Result, Ok, Err}
+-- state and its interlinks. Those of insertions are in `Insertions`.
+use Rattle.std.specs.Prelude.{◌≡◌, ◌↔◌, ℕ, Bool, IsSome, IfSome, Option, None, Some}
 use Rattle.std.specs.Option.{option_map}
 use Rattle.std.specs.Borrow.{Bor}
 use Rattle.arena_core.specs.Invalidation.{invalidation_option}
 use Rattle.arena_core.specs.PointerKinds.{PointerKind}
-use Rattle.arena_core.specs.declared.errors.ChainInsertionError.{ChainInsertionError}
-use Rattle.arena_core.specs.declared.errors.ChainInsertionError.TheVariants as failed
-use Rattle.arena_core.specs.declared.errors.ReallocationError.{ReallocationError}
-use Rattle.arena_core.specs.declared.errors.ReallocationError.TheVariants as refused
 use Rattle.arena_core.specs.declared.invalidation.InvalidationOption.{InvalidationOption}
 use Rattle.arena_core.specs.declared.invalidation.InvalidationResult.{InvalidationResult}
 use Rattle.arena_core.specs.declared.packed_option.PackedOption.{PackedOption}
 use Rattle.chain_laws.specs.Chains.{LinkMap, prev_of, next_of}
 use Rattle.chain_laws.specs.Neighbors.{AreNeighbors}
-use Rattle.chain_laws.specs.Insertions.{InsertKind}
 use Rattle.chain_laws.specs.Cuts.{without_pair, Cuts}
 use Rattle.chain_laws.specs.Exchanges.{with_exchange, Exchanges}
 use Rattle.chain_laws.specs.Joins.{with_join, Connects}
@@ -23,42 +18,12 @@ use Rattle.chain_laws.specs.Walks.{Walker, walker_at}
 use Rattle.arena_traits.specs.Arena.{IsValid}
 use Rattle.arena_traits.specs.CallOutcomes.{ReportsOverflow}
 use Rattle.arena_traits.specs.Compressions.{overflows_after_compression}
-use Rattle.arena_traits.specs.Entries.{ArenaView, ArenaState, count, HasFreeCapacity, view_after_removal}
-use Rattle.arena_traits.specs.Growth.{IsGrowthResult, IsFull, RefusesOneMore, GrowsForOneMore}
+use Rattle.arena_traits.specs.Entries.{ArenaView, ArenaState, count, view_after_removal}
 use Rattle.chain_links.specs.CanonicalLayouts.{IsCanonicalLayout}
 use Rattle.chain_links.specs.ChainArena.{link_at, CanConnect, CanExchange, IsLinkAt}
-use Rattle.chain_links.specs.Insertions.{IsInsertion}
-use Rattle.chain_links.specs.Kinds.{LinkName, names_in, by_index, MayInsert}
 use Rattle.chain_links.specs.Links.{link_view, borrowed_link}
-use Rattle.chain_links.specs.declared.kinds.InsertKindBody.{InsertKindBody}
 use Rattle.chain_links.specs.declared.links.Link.{Link}
 use Rattle.chain_links.specs.declared.links.LinkBody.{LinkBody}
-
--- Why an insertion is refused. `may`: the requirement of its kind is met. `refuses`: a growth fails
--- for that reason.
-abbrev pub IsInsertionRefusal : Type 0 → (ReallocationError → Type 0) → ChainInsertionError → Type 0
-IsInsertionRefusal may refuses failed.FailedLinkRequirement = may → ⊥
-IsInsertionRefusal may refuses failed.BeyondMaxCapacity = may × refuses refused.BeyondMaxCapacity
-IsInsertionRefusal may refuses failed.AllocError = may × refuses refused.AllocError
-IsInsertionRefusal may refuses failed.NotWithinCapacity = ⊥
-
--- The same within the capacity, where the arena may be full.
-abbrev pub IsWithinRefusal : (may full : Type 0) → ChainInsertionError → Type 0
-IsWithinRefusal may full failed.FailedLinkRequirement = may → ⊥
-IsWithinRefusal may full failed.NotWithinCapacity = may × full
-IsWithinRefusal may full failed.BeyondMaxCapacity = ⊥
-IsWithinRefusal may full failed.AllocError = ⊥
-
-module _ {P : Type 0} where
-  -- The outcome of an insertion: `inserted` states what it does.
-  abbrev pub IsInsertionResult : Type 0 → (ReallocationError → Type 0) → (P → Type 0) → Result P ChainInsertionError → Type 0
-  IsInsertionResult may refuses inserted (Ok p) = may × inserted p
-  IsInsertionResult may refuses inserted (Err why) = IsInsertionRefusal may refuses why
-
-  -- The outcome of an insertion within the capacity.
-  abbrev pub IsInsertionWithinResult : (may has_capacity full : Type 0) → (P → Type 0) → Result P ChainInsertionError → Type 0
-  IsInsertionWithinResult may has_capacity full inserted (Ok p) = may × has_capacity × inserted p
-  IsInsertionWithinResult may has_capacity full inserted (Err why) = IsWithinRefusal may full why
 
 module _ {A Gen T : Type 0} {view : A → ArenaView Gen T} {entry : A → ℕ → Option (Gen × T)} (state : (a : A) → ArenaState (view a) (entry a)) (interlinks : A → LinkMap) where
   module _ (old new : A) where
@@ -85,10 +50,6 @@ module _ {A Gen T : Type 0} {view : A → ArenaView Gen T} {entry : A → ℕ �
       pub view_after : view new ≡ view_after_removal following (view old) i
       pub links : interlinks new ≡ with_removal (interlinks old) i
       pub chains : Removes (interlinks old) (interlinks new) i
-
-  -- A link of a kind, with a value, is inserted at p.
-  abbrev pub GainsLink : InsertKind (LinkName Gen) → T → A → ℕ × Gen → A → Type 0
-  GainsLink kind t old p new = IsInsertion (by_index kind) (view old) (view new) (entry old) (entry new) (interlinks old) (interlinks new) p t
 
   module _ {P : Type 0} (key : P → ℕ × Gen) where
     -- q follows p.
@@ -152,29 +113,6 @@ module _ {A Gen T : Type 0} {view : A → ArenaView Gen T} {entry : A → ℕ �
     abbrev pub RemovesLinkAt : A → I → InvalidationResult (Gen × LinkBody (PackedOption I W) T) → A → Type 0
     RemovesLinkAt old i result new =
         ReportsOverflow pointers.wraps (view old).counter (entry old (pointers.number i) ≡ None) (λ e. IsTaken old (pointers.number i) e.0 e.1 new) result
-
-    -- A link of the kind may be inserted.
-    abbrev pub MayInsertIn : A → InsertKindBody P I → Type 0
-    MayInsertIn a kind = MayInsert (entry a) (interlinks a) (names_in pointers.key pointers.number kind)
-
-    -- An insertion within the capacity, which stays the same.
-    abbrev pub InsertsLinkWithin : A → InsertKindBody P I → T → Result P ChainInsertionError → A → Type 0
-    InsertsLinkWithin old kind t result new =
-        IsInsertionWithinResult (MayInsertIn old kind) (HasFreeCapacity (view old)) (IsFull (view old))
-        (λ p. GainsLink (names_in pointers.key pointers.number kind) t old (pointers.key p) new × ((view new).capacity ≡ (view old).capacity)) result
-
-    -- A link of the kind is inserted at p, after a growth if the arena was full.
-    abbrev pub GrowsAndGainsLink : A → InsertKindBody P I → T → P → A → Type 0
-    GrowsAndGainsLink old kind t p new =
-        GainsLink (names_in pointers.key pointers.number kind) t old (pointers.key p) new × GrowsForOneMore pointers.greatest (view old) (view new)
-
-    -- An insertion for which a full arena grows.
-    abbrev pub InsertsLink : A → InsertKindBody P I → T → Result P ChainInsertionError → A → Type 0
-    InsertsLink old kind t result new = IsInsertionResult (MayInsertIn old kind) (RefusesOneMore (view old)) (λ p. GrowsAndGainsLink old kind t p new) result
-
-    -- Such an insertion of a kind that may be inserted.
-    abbrev pub InsertsAllowedLink : A → InsertKindBody P I → T → Result P ReallocationError → A → Type 0
-    InsertsAllowedLink old kind t result new = IsGrowthResult (RefusesOneMore (view old)) (λ p. GrowsAndGainsLink old kind t p new) result
 
     -- `compress_canonical`: the chains lie in runs, and whether the counter wrapped is reported.
     abbrev pub CompressesLinks : A → Bool → InvalidationOption Unit → A → Type 0

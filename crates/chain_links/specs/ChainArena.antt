@@ -1,14 +1,19 @@
 -- The state of a chain arena: an arena of links.
-use Rattle.std.specs.Prelude.{◌≡◌, ◌≢◌, ℕ, suc, List, [], ◌∷◌, map, All, IsSome, Option, None, Some}
+use Rattle.std.specs.Prelude.{◌≡◌, ◌≢◌, ℕ, zero, suc, List, [], ◌∷◌, map, All, IsSome, Option, None, Some}
 use Rattle.std.specs.Option.{option_map, option_and_then}
 use Rattle.chain_laws.specs.Chains.{LinkMap, Interlinks, prev_of, next_of}
 use Rattle.chain_laws.specs.Walks.{IsWalk}
 use Rattle.chain_laws.specs.Removals.{with_removal}
 use Rattle.chain_laws.specs.Joins.{with_next_at, with_prev_at}
-use Rattle.chain_laws.specs.Insertions.{InsertKind, with_insertion, with_insertion_as}
+use Rattle.chain_laws.specs.Insertions.{with_insertion}
 use Rattle.arena_traits.specs.Arena.{Arena, with_slot, entry_at, next_index, insert_next, remove_at, IsValid}
 use Rattle.arena_traits.specs.Entries.{ArenaView, ArenaState, view_of}
 use Rattle.arena_traits.specs.EntryLaws.{arena_state}
+
+-- A number as an optional index, 0 for none.
+abbrev pub nonzero_index : ℕ → Option ℕ
+nonzero_index zero = None
+nonzero_index (suc n) = Some (suc n)
 
 -- A generation and a value, with a function applied to the value.
 abbrev pub on_value : {Gen X Y : Type 0} → (X → Y) → Gen × X → Gen × Y
@@ -105,10 +110,6 @@ module _ {Gen T : Type 0} where
   -- A link is inserted between u and v.
   abbrev pub insert_between : Arena Gen (LinkView T) → T → Option ℕ → Option ℕ → Arena Gen (LinkView T)
   insert_between a t u v = with_link_map (insert_lone a t) (with_insertion (link_map a) (next_index a) u v)
-
-  -- A link of a kind is inserted.
-  abbrev pub insert_as : Arena Gen (LinkView T) → InsertKind ℕ → T → Arena Gen (LinkView T)
-  insert_as a kind t = with_link_map (insert_lone a t) (with_insertion_as (link_map a) kind (next_index a))
 
   -- The link at i, if there is one, with another value.
   abbrev pub with_value_at : Arena Gen (LinkView T) → ℕ → T → Arena Gen (LinkView T)

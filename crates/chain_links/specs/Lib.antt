@@ -3,7 +3,6 @@ pub mod Links
 pub mod LinkOrder
 pub mod LinkOrderLaws
 pub mod LinkText
-pub mod Kinds
 pub mod Insertions
 pub mod Walkers
 pub mod CanonicalLayouts

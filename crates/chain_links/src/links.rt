@@ -1,5 +1,5 @@
 // Links with their interlinks as packed indexes or as pointers.
-ghost use Rattle.std.specs.Prelude.{◌≡◌, ℕ, Option, None};
+ghost use Rattle.std.specs.Prelude.{◌≡◌, ◌↔◌, ℕ, Option, None, Some, IsTrue};
 ghost use Rattle.std.specs.Option.{option_map};
 ghost use Rattle.chain_links.specs.Links.{link_view, index_in, IsAtRest};
 
@@ -210,5 +210,15 @@ pub fn index_of<P: PtrKey>(p: Option<P>) -> Option<P::Inx>
     match p {
         Some(p) => Some(p.inx()),
         None => None,
+    }
+}
+
+/// Returns whether `i` is the index `j`.
+pub fn is_index<I: InxKey>(i: Option<I>, j: I) -> bool
+    ensures { IsTrue result ↔ (option_map I.number i ≡ Some (I.number j)) }
+{
+    match i {
+        Some(i) => i.is_same(j),
+        None => false,
     }
 }

@@ -3,12 +3,11 @@ use Rattle.std.proofs.Common.{◌≡◌, Option, None, Some, refl}
 use Rattle.std.specs.Option.{option_map}
 use Rattle.std.specs.Prelude.{is_some, OnErr, IfNone, IfSome, OnSome, IfOk, Result, Ok, Err, true}
 use Rattle.arena_core.specs.declared.errors.ChainInsertionError.{ChainInsertionError}
-use Rattle.arena_core.specs.declared.errors.ChainInsertionError.TheVariants as failed
 use Rattle.arena_core.specs.declared.errors.ReallocationError.{ReallocationError}
 use Rattle.arena_core.specs.declared.errors.ReallocationError.TheVariants as refused
 use Rattle.arena_traits.specs.Entries.{ArenaView}
 use Rattle.arena_traits.specs.Growth.{IsGrowthResult, IsFull, RefusesOneMore}
-use Rattle.chain_links.specs.CallEffects.{IsInsertionResult}
+use Rattle.chain_links.specs.Insertions.{IsInsertionResult}
 
 -- Consequences of a fact on `Some` hold on `Some`.
 pub on_some : {R X Z : Type 0} (o : Option R) → OnSome o X → (X → Z) → OnSome o Z
@@ -60,14 +59,10 @@ module _ {P : Type 0} where
   either_grown refuses done (Ok p) is w so else_so = so p is
   either_grown refuses done (Err e) is w so else_so = else_so w
 
-  -- The outcome of an insertion, by an equivalent requirement and consequences of what it does.
-  pub insertion_to : (may may' : Type 0) (refuses : ReallocationError → Type 0) (done done' : P → Type 0) (o : Result P ChainInsertionError) → IsInsertionResult may refuses done o → (may → may') → (may' → may)
-      → ((p : P) → done p → done' p) → IsInsertionResult may' refuses done' o
-  insertion_to may may' refuses done done' (Ok p) is to back so = (to is.0, so p is.1)
-  insertion_to may may' refuses done done' (Err failed.FailedLinkRequirement) is to back so = λ met. is (back met)
-  insertion_to may may' refuses done done' (Err failed.BeyondMaxCapacity) is to back so = (to is.0, is.1)
-  insertion_to may may' refuses done done' (Err failed.AllocError) is to back so = (to is.0, is.1)
-  insertion_to may may' refuses done done' (Err failed.NotWithinCapacity) is to back so = is
+  -- The outcome of an insertion, by consequences of what it does.
+  pub insertion_to : (may : Type 0) (refuses : ReallocationError → Type 0) (done done' : P → Type 0) (o : Result P ChainInsertionError) → IsInsertionResult may refuses done o → ((p : P) → done p → done' p) → IsInsertionResult may refuses done' o
+  insertion_to may refuses done done' (Ok p) is so = (is.0, so p is.1)
+  insertion_to may refuses done done' (Err e) is so = is
 
 -- One more entry is refused only where the arena is full.
 pub full_if_refused : {Gen T : Type 0} (s : ArenaView Gen T) (why : ReallocationError) → RefusesOneMore s why → IsFull s

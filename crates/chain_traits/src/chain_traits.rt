@@ -7,10 +7,11 @@ ghost use Rattle.chain_laws.specs.Removals.{with_removal};
 ghost use Rattle.chain_laws.specs.Renamings.{IsRenaming};
 ghost use Rattle.chain_laws.specs.Arrangements.{place_in};
 ghost use Rattle.chain_laws.specs.Walks.{Walker};
+ghost use Rattle.chain_laws.specs.declared.insert_kind.InsertKind.{InsertKind};
 ghost use Rattle.arena_traits.specs.Entries.{IsSoundView, index_of};
-ghost use Rattle.chain_links.specs.CallEffects.{MayInsertIn, InsertsLinkWithin, InsertsLink, InsertsAllowedLink, AreNeighborLinks, ReadsLink, ReadsLinkNoGen, ReadsLinkAt, StartsWalk, ConnectsLinks, BreaksPrev, BreaksNext, ExchangesNext, RemovesLink, RemovesLinkAt, CompressesLinks};
+ghost use Rattle.chain_links.specs.CallEffects.{AreNeighborLinks, ReadsLink, ReadsLinkNoGen, ReadsLinkAt, StartsWalk, ConnectsLinks, BreaksPrev, BreaksNext, ExchangesNext, RemovesLink, RemovesLinkAt, CompressesLinks};
 ghost use Rattle.chain_links.specs.Walkers.{IsPassing};
-ghost use Rattle.chain_links.specs.declared.kinds.InsertKindBody.{InsertKindBody};
+ghost use Rattle.chain_links.specs.Insertions.{MayInsertIn, InsertsLinkWithin, InsertsLink, InsertsAllowedLink};
 
 use arena_ptr::{
     AnyPointer, ChainInsertionError, GenKey, InvalidationOption, InvalidationResult, InxKey,
@@ -38,7 +39,7 @@ pub trait ChainArenaTrait<P: PtrKey, T: Drop>: ArenaTrait<P, T> {
 
     // What an implementation knows besides of an insertion: the arena before, the kind, the value,
     // the arena after, and the pointer.
-    ghost inserts: { Self → InsertKindBody P P.Inx → T → Self → P → Type 0 } = { λ _ _ _ _ _. ⊤ };
+    ghost inserts: { Self → InsertKind P P.Inx → T → Self → P → Type 0 } = { λ _ _ _ _ _. ⊤ };
 
     // What it knows besides of the arenas before and after `connect`, `break_prev`, `break_next`,
     // `exchange_next` and `compress_canonical`.

@@ -5,8 +5,9 @@ ghost use Rattle.chain_laws.specs.Chains.{IsWellLinked, prev_of};
 ghost use Rattle.chain_traits.specs.DrainOrder.{HasNextChain, CanTakeNext, IsNextLink, IsStoredNextChain, IsStoredStart, TakesLink};
 
 use crate::chain_traits::ChainArenaTrait;
+use arena_core::proved_unreachable;
 use arena_ptr::{InvalidationOption, InxKey, PtrKey};
-use arena_traits::{Advancer, proved_unreachable, with_overflow};
+use arena_traits::Advancer;
 use chain_links::walk_direction::step_on;
 
 // Returns the index of the link before the link at `i`.
@@ -114,37 +115,30 @@ pub fn take_next<Q: PtrKey, U: Drop, A: ChainArenaTrait<Q, U>>(
         (option_map Q.Inx.number result.next) }
 {
     let (i, is_cyclic) = next_link(source, advancer, on, ring);
-    let (ptr, value, next) = take_link(source, i);
-    Taken {
-        ptr,
-        value,
-        next,
-        is_cyclic,
-    }
+    take_link(source, i, is_cyclic)
 }
 
-// Removes the link at an index. Returns its pointer, its value with whether the counter overflowed,
-// and the index of the link after it, unless that is itself.
+// Removes the link at an index, whose chain is cyclic if `is_cyclic`.
 fn take_link<Q: PtrKey, U: Drop, A: ChainArenaTrait<Q, U>>(
     source: &mut A,
     i: Q::Inx,
-) -> (Q, InvalidationOption<U>, Option<Q::Inx>)
+    is_cyclic: bool,
+) -> Taken<Q, U>
     requires { IsSome (A.entry source.old (Q.Inx.number i)) }
-    ensures index { (Q.key result.0).0 ≡ Q.Inx.number i }
+    ensures index { (Q.key result.ptr).0 ≡ Q.Inx.number i }
+    ensures cyclic { result.is_cyclic ≡ is_cyclic }
     ensures taken { TakesLink Q.Gen.following Q.Gen.wraps (A.entry source.old) (A.view source.old)
         (A.view source.new) (A.interlinks source.old) (A.interlinks source.new) (Q.Inx.number i)
-        (Q.key result.0).1 result.1 (option_map Q.Inx.number result.2) }
+        (Q.key result.ptr).1 result.value (option_map Q.Inx.number result.next) }
 {
     let (entry, overflow) = source.remove_inx_link_no_gen(i).overflowing();
     match entry {
-        Some((generation, link)) => {
-            let next = step_on(i, link.next());
-            (
-                Q::_from_raw(i, generation),
-                with_overflow(overflow, link.t),
-                next,
-            )
-        }
+        Some((generation, link)) => Taken {
+            ptr: Q::_from_raw(i, generation),
+            next: step_on(i, link.next()),
+            value: InvalidationOption::from_overflow(overflow, link.t),
+            is_cyclic,
+        },
         None => proved_unreachable!(),
     }
 }

@@ -4,9 +4,10 @@ use Rattle.chain_laws.specs.Chains.{LinkMap, Chain, items, IsMember, IsChain, Is
 use Rattle.chain_laws.specs.Joins.{with_join}
 use Rattle.chain_laws.specs.Cuts.{without_pair}
 use Rattle.chain_laws.specs.Removals.{without_link}
-use Rattle.chain_laws.specs.Insertions.{InsertKind, disconnected, single_link_cyclic, chain_end, chain_start, next_to, prev_to, at_interlink, bridge}
+use Rattle.chain_laws.specs.declared.insert_kind.InsertKind.{InsertKind}
+use Rattle.chain_laws.specs.declared.insert_kind.InsertKind.TheVariants.{Disconnected, SingleLinkCyclic, ChainEnd, ChainEndInx, ChainStart, ChainStartInx, NextTo, NextToInx, PrevTo, PrevToInx, AtInterlink, AtInterlinkInx, Bridge, BridgeInx}
 use Rattle.chain_laws.specs.Insertions.{HasIndex, InsertsPairs, link_before, link_after, with_insertion}
-use Rattle.chain_laws.specs.Frame.{IsDisjointFrom, indexes_of_kind, SameLinksKeepAChain, InsertionKeepsOthers, InsertionMakesNoOthers, LoneKeepsEach, CutKeepsOthers, JoinMakesNoOthers, RemovalMakesNoOthers}
+use Rattle.chain_laws.specs.Frame.{IsDisjointFrom, links_named, SameLinksKeepAChain, InsertionKeepsOthers, InsertionMakesNoOthers, LoneKeepsEach, CutKeepsOthers, JoinMakesNoOthers, RemovalMakesNoOthers}
 use Rattle.chain_laws.proofs.ChainLemmas.LinkedLists.{IsChain-frame}
 use Rattle.chain_laws.proofs.JoinLemmas.Lists.{IsChain-linked}
 use Rattle.chain_laws.proofs.JoinLemmas.Chains.{joined_agrees}
@@ -37,23 +38,30 @@ absent_prev link_map c b agrees is absent = at (prev_of link_map b) refl
     at None prev has = has
     at (Some j) prev has = absent ((neighbors_share_a_chain link_map c j b agrees ((agrees.both j b).1 prev) is).0 has)
 
--- A chain without the links of a kind lacks both links beside the new one.
-absent_beside : (link_map : LinkMap) (kind : InsertKind ℕ) (q : ℕ) (c : Chain) → IsWellLinked link_map → IsChain link_map c → (IsMember (items c) q → ⊥) → IsDisjointFrom c (indexes_of_kind kind)
-    → (HasIndex c (link_before link_map kind q) → ⊥) × (HasIndex c (link_after link_map kind q) → ⊥)
-absent_beside link_map disconnected q c agrees is off absent = (λ h. h, λ h. h)
-absent_beside link_map single_link_cyclic q c agrees is off absent = (off, off)
-absent_beside link_map (chain_end a) q c agrees is off absent = (absent.0, λ h. h)
-absent_beside link_map (chain_start b) q c agrees is off absent = (λ h. h, absent.0)
-absent_beside link_map (next_to a) q c agrees is off absent = (absent.0, absent_next link_map c a agrees is absent.0)
-absent_beside link_map (prev_to b) q c agrees is off absent = (absent_prev link_map c b agrees is absent.0, absent.0)
-absent_beside link_map (at_interlink a b) q c agrees is off absent = (absent.0, absent.1.0)
-absent_beside link_map (bridge a b) q c agrees is off absent = (absent.0, absent.1.0)
+module _ {P I : Type 0} (place : P → ℕ) (number : I → ℕ) (link_map : LinkMap) where
+  -- A chain without the links of a kind lacks both links beside the new one.
+  absent_beside : (kind : InsertKind P I) (q : ℕ) (c : Chain) → IsWellLinked link_map → IsChain link_map c → (IsMember (items c) q → ⊥) → IsDisjointFrom c (links_named place number kind)
+      → (HasIndex c (link_before place number link_map kind q) → ⊥) × (HasIndex c (link_after place number link_map kind q) → ⊥)
+  absent_beside Disconnected q c agrees is off absent = (λ h. h, λ h. h)
+  absent_beside SingleLinkCyclic q c agrees is off absent = (off, off)
+  absent_beside (ChainEnd a) q c agrees is off absent = (absent.0, λ h. h)
+  absent_beside (ChainEndInx a) q c agrees is off absent = (absent.0, λ h. h)
+  absent_beside (ChainStart b) q c agrees is off absent = (λ h. h, absent.0)
+  absent_beside (ChainStartInx b) q c agrees is off absent = (λ h. h, absent.0)
+  absent_beside (NextTo a) q c agrees is off absent = (absent.0, absent_next link_map c (place a) agrees is absent.0)
+  absent_beside (NextToInx a) q c agrees is off absent = (absent.0, absent_next link_map c (number a) agrees is absent.0)
+  absent_beside (PrevTo b) q c agrees is off absent = (absent_prev link_map c (place b) agrees is absent.0, absent.0)
+  absent_beside (PrevToInx b) q c agrees is off absent = (absent_prev link_map c (number b) agrees is absent.0, absent.0)
+  absent_beside (AtInterlink a b) q c agrees is off absent = (absent.0, absent.1.0)
+  absent_beside (AtInterlinkInx a b) q c agrees is off absent = (absent.0, absent.1.0)
+  absent_beside (Bridge a b) q c agrees is off absent = (absent.0, absent.1.0)
+  absent_beside (BridgeInx a b) q c agrees is off absent = (absent.0, absent.1.0)
 
 -- An insertion keeps a chain without the links that its kind names.
-pub insertion_keeps_others : InsertionKeepsOthers
-insertion_keeps_others old new kind q agrees free inserts c absent is =
+pub insertion_keeps_others : (P I : Type 0) → InsertionKeepsOthers P I
+insertion_keeps_others P I place number old new kind q agrees free inserts c absent is =
     let off = free_is_in_no_chain old c q free is in
-    let beside = absent_beside old kind q c agrees is off absent in
+    let beside = absent_beside place number old kind q c agrees is off absent in
     (inserts.rest c off beside.0 beside.1).0 is
 
 -- A chain without the new link lacks its neighbors, so it existed before.

@@ -3,8 +3,9 @@ use Rattle.std.specs.Prelude.{◌≡◌, ◌≢◌, ◌↔◌, ℕ, ◌⊎◌, O
 use Rattle.std.proofs.Common.{sym, refl, ap, ◌∙◌, inl, inr, ⊎_elim}
 use Rattle.chain_laws.specs.Chains.{LinkMap, HasLink, IsWellLinked, prev_in, next_in, prev_of, next_of}
 use Rattle.chain_laws.specs.Joins.{with_neighbors, with_lone}
-use Rattle.chain_laws.specs.Insertions.{disconnected, single_link_cyclic, chain_end, chain_start, next_to, prev_to, at_interlink, bridge}
-use Rattle.chain_laws.specs.Insertions.{with_insertion, IsInsertPosition, KindGivesAPosition, InsertionAgrees, InsertionInPairs, InsertionIsDeterminedByPairs}
+use Rattle.chain_laws.specs.declared.insert_kind.InsertKind.{InsertKind}
+use Rattle.chain_laws.specs.declared.insert_kind.InsertKind.TheVariants.{Disconnected, SingleLinkCyclic, ChainEnd, ChainEndInx, ChainStart, ChainStartInx, NextTo, NextToInx, PrevTo, PrevToInx, AtInterlink, AtInterlinkInx, Bridge, BridgeInx}
+use Rattle.chain_laws.specs.Insertions.{with_insertion, MayInsert, link_before, link_after, IsInsertPosition, KindGivesAPosition, InsertionAgrees, InsertionInPairs, InsertionIsDeterminedByPairs}
 use Rattle.chain_laws.proofs.InterlinkLemmas.Inverses.{altered, altered-same, altered-other, one_some, not_both_ways}
 use Rattle.chain_laws.proofs.ChainLemmas.LinkedLists.{next_valid, prev_valid}
 use Rattle.chain_laws.proofs.InterlinkLemmas.Linked.{IsValidAt, IsValidAt-Some, put_at, next_of-linked, prev_of-linked, HasLink-linked}
@@ -182,13 +183,26 @@ pub position_before : (link_map : LinkMap) (b q : ℕ) (u : Option ℕ) → IsWe
 position_before link_map b q None agrees valid is = (valid, is)
 position_before link_map b q (Some a) agrees valid is = inl ((agrees.both a b).1 is)
 
--- The conditions of a kind give an insertion position.
-pub kind_position : KindGivesAPosition
-kind_position link_map disconnected q agrees can = tt
-kind_position link_map single_link_cyclic q agrees can = inr (inr (refl, refl))
-kind_position link_map (chain_end a) q agrees can = can
-kind_position link_map (chain_start b) q agrees can = can
-kind_position link_map (next_to a) q agrees can = position_after link_map a q (next_of link_map a) can refl
-kind_position link_map (prev_to b) q agrees can = position_before link_map b q (prev_of link_map b) agrees can refl
-kind_position link_map (at_interlink a b) q agrees can = inl can.2
-kind_position link_map (bridge a b) q agrees can = inr (inl can)
+-- The requirements of a kind give an insertion position, if what it names has links.
+module _ {P I : Type 0} (place : P → ℕ) (number : I → ℕ) (is_valid : P → Type 0) (is_occupied : I → Type 0) (link_map : LinkMap)
+    (at : (p : P) → is_valid p → HasLink link_map (place p)) (at_inx : (i : I) → is_occupied i → HasLink link_map (number i)) where
+  pub kind_position : (kind : InsertKind P I) (q : ℕ) → IsWellLinked link_map → MayInsert place number is_valid is_occupied link_map kind
+      → IsInsertPosition link_map q (link_before place number link_map kind q) (link_after place number link_map kind q)
+  kind_position Disconnected q agrees may = tt
+  kind_position SingleLinkCyclic q agrees may = inr (inr (refl, refl))
+  kind_position (ChainEnd a) q agrees may = (at a may.0, may.1)
+  kind_position (ChainEndInx a) q agrees may = (at_inx a may.0, may.1)
+  kind_position (ChainStart b) q agrees may = (at b may.0, may.1)
+  kind_position (ChainStartInx b) q agrees may = (at_inx b may.0, may.1)
+  kind_position (NextTo a) q agrees may = position_after link_map (place a) q (next_of link_map (place a)) (at a may) refl
+  kind_position (NextToInx a) q agrees may = position_after link_map (number a) q (next_of link_map (number a)) (at_inx a may) refl
+  kind_position (PrevTo b) q agrees may = position_before link_map (place b) q (prev_of link_map (place b)) agrees (at b may) refl
+  kind_position (PrevToInx b) q agrees may = position_before link_map (number b) q (prev_of link_map (number b)) agrees (at_inx b may) refl
+  kind_position (AtInterlink a b) q agrees may = inl may.2
+  kind_position (AtInterlinkInx a b) q agrees may = inl may.2
+  kind_position (Bridge a b) q agrees may = inr (inl (record { valid_end = at a may.0; valid_start = at b may.1; end = may.2; start = may.3 }))
+  kind_position (BridgeInx a b) q agrees may = inr (inl (record { valid_end = at_inx a may.0; valid_start = at_inx b may.1; end = may.2; start = may.3 }))
+
+pub kind_gives_a_position : (P I : Type 0) → KindGivesAPosition P I
+kind_gives_a_position P I place number link_map kind q agrees may =
+    kind_position place number (λ p. HasLink link_map (place p)) (λ i. HasLink link_map (number i)) link_map (λ p has. has) (λ i has. has) kind q agrees may

@@ -1,12 +1,12 @@
 -- Examples of the interlinks beside a link, and of what fails without the premises of the laws.
-use Rattle.std.specs.Prelude.{◌≡◌, [], ◌∷◌, None, Some}
+use Rattle.std.specs.Prelude.{◌≡◌, ℕ, [], ◌∷◌, Option, None, Some}
 use Rattle.std.proofs.Common.{refl, ap, inl, inr, arith}
 use Rattle.chain_laws.specs.Chains.{LinkMap, IsChain, linear, cyclic, IsMember, next_in, next_of}
 use Rattle.chain_laws.specs.Neighbors.{AreNeighbors}
 use Rattle.chain_laws.specs.Joins.{with_join, with_next_at, with_lone}
 use Rattle.chain_laws.specs.Cuts.{without_pair}
 use Rattle.chain_laws.specs.Removals.{with_removal}
-use Rattle.chain_laws.specs.Insertions.{with_insertion_as, next_to}
+use Rattle.chain_laws.specs.Insertions.{with_insertion}
 use Rattle.chain_laws.specs.Members.{PlacesInARing}
 use Rattle.chain_laws.proofs.InterlinkLemmas.Inverses.{not_both_ways}
 use Rattle.chain_laws.proofs.ChainLemmas.LinkedLists.{link, first_no_repetition}
@@ -45,8 +45,8 @@ torn_apart (inl e) = omega arith
 torn_apart (inr h) = h
 
 -- A chain with the link beside a new one does not stay.
-insertion_removes_a_pair : IsChain (with_insertion_as pair (next_to 1) 3) (linear (1 ∷ 2 ∷ [])) → ⊥
-insertion_removes_a_pair is = let links = is.2.0 in cc
+insertion_removes_a_pair : IsChain (with_insertion pair 3 (Some 1) (Some 2)) (linear (1 ∷ 2 ∷ [])) → ⊥
+insertion_removes_a_pair is = let next : (let o : Option ℕ = Some 3 in o ≡ Some 2) = ap next_in is.2.0 in cc
 
 -- A chain with both neighbors does not survive their cut, or exist before their join.
 cut_removes_a_pair : IsChain (without_pair pair 1 2) (linear (1 ∷ 2 ∷ [])) → ⊥

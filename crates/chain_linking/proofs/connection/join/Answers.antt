@@ -1,48 +1,43 @@
--- The first link names the second, which is a valid start, or the write is undone.
-use Rattle.std.proofs.Common.{◌≡◌, ℕ, Some, None, ap, ap₂, ◌∙◌, sym, refl}
+-- The links are joined if the first is an end and the second a start.
+use Rattle.std.proofs.Common.{ℕ, Some, ap₂, ◌∙◌, sym, refl, subst}
 use Rattle.std.proofs.lemmas.Bool.{false≢true}
-use Rattle.chain_laws.specs.Joins.{with_next_at, with_prev_at}
+use Rattle.chain_laws.specs.Chains.{HasLink}
+use Rattle.chain_links.specs.ChainArena.{link_map}
 use Rattle.chain_links.specs.Links.{links_view}
-use Rattle.arena_traits.specs.Arena.{Arena}
-use Rattle.chain_links.specs.ChainArena.{LinkView, with_link_map, link_map}
-use Rattle.chain_linking.proofs.ConnectionLemmas.{named_may, named_may_not, taken_back}
-use Rattle.chain_linking.proofs.LinkWriteLemmas.{linked_by_writes}
+use Rattle.chain_linking.specs.LinkWrites.{arena_with_pair}
 use Rattle.chain_linking.proofs.connection.join.Goals as goal
 
-named : {Gen T : Type 0} (a b : Arena Gen (LinkView T)) {i j u v : ℕ} → b ≡ with_link_map a (with_next_at (link_map a) (Some i) (Some j)) → i ≡ u → j ≡ v → b ≡ with_link_map a (with_next_at (link_map a) (Some u) (Some v))
-named a b is first second = is ∙ ap₂ (λ (x y : ℕ). with_link_map a (with_next_at (link_map a) (Some x) (Some y))) first second
+pub returns-then-not-is_end : goal.returns-then-not-is_end
+returns-then-not-is_end g c = record {
+  some = (λ h. absurd (false≢true h), λ can. absurd (false≢true (sym c.if-not-is_end.true ∙ c.is_end.ensures.value.1 (record { valid = can.first_valid; end = can.no_next }))));
+  joined = tt;
+  none = refl;
+  at_rest = λ rest. rest;
+}
 
 pub returns-then-not-is_start : goal.returns-then-not-is_start
-returns-then-not-is_start g c =
-    let a = links_view g.P.Inx.InxKey.packed_number c.args.arena.now in
-    let b = links_view g.P.Inx.InxKey.packed_number c.set_next.new.arena in
-    let d = links_view g.P.Inx.InxKey.packed_number c.clear_next.new.arena in
-    let end = c.is_end.ensures.value.0 c.if-not-is_end.false in
-    let back : d ≡ with_link_map b (with_next_at (link_map b) (Some (g.P.PtrKey.key c.args.p).0) None) =
-    c.clear_next.ensures.links ∙ ap (λ (i : ℕ). with_link_map b (with_next_at (link_map b) (Some i) None)) c.inx-i.ensures in
-    record {
-      some = (
-        λ h. absurd (false≢true h),
-        λ can. absurd (named_may_not _ _ _ _ (named _ _ c.set_next.ensures.links c.inx-i.ensures c.inx-j.ensures) (λ is. false≢true (sym c.if-not-is_start.true ∙ c.is_start.ensures.value.1 is)) can),
-      );
-      joined = tt;
-      none = taken_back a b (g.P.PtrKey.key c.args.p) (g.P.PtrKey.key c.args.q) (named _ _ c.set_next.ensures.links c.inx-i.ensures c.inx-j.ensures) d end.end back;
-      at_rest = λ rest. c.clear_next.ensures.at_rest (c.set_next.ensures.at_rest rest);
-    }
+returns-then-not-is_start g c = record {
+  some = (λ h. absurd (false≢true h), λ can. absurd (false≢true (sym c.if-not-is_start.true ∙ c.is_start.ensures.value.1 (record { valid = can.second_valid; start = can.no_prev }))));
+  joined = tt;
+  none = refl;
+  at_rest = λ rest. rest;
+}
+
+pub link_pair-requires-clause-prev : goal.link_pair-requires-clause-prev
+link_pair-requires-clause-prev g c =
+    subst (HasLink (link_map (links_view g.P.Inx.InxKey.packed_number c.args.arena.now))) (sym c.inx.ensures) (c.is_end.ensures.occupied c.if-not-is_end.false)
+
+pub link_pair-requires-clause-next : goal.link_pair-requires-clause-next
+link_pair-requires-clause-next g c =
+    subst (HasLink (link_map (links_view g.P.Inx.InxKey.packed_number c.args.arena.now))) (sym c.inx-2.ensures) (c.is_start.ensures.occupied c.if-not-is_start.false)
 
 pub returns : goal.returns
 returns g c =
-    let a = links_view g.P.Inx.InxKey.packed_number c.args.arena.now in
-    let b = links_view g.P.Inx.InxKey.packed_number c.set_next.new.arena in
-    let d = links_view g.P.Inx.InxKey.packed_number c.set_prev.new.arena in
-    let p = (g.P.PtrKey.key c.args.p).0 in
-    let q = (g.P.PtrKey.key c.args.q).0 in
-    let may = named_may _ _ _ _ (named _ _ c.set_next.ensures.links c.inx-i.ensures c.inx-j.ensures) (c.is_end.ensures.value.0 c.if-not-is_end.false) (c.is_start.ensures.value.0 c.if-not-is_start.false) in
-    let second : d ≡ with_link_map b (with_prev_at (link_map b) (Some q) (Some p)) =
-    c.set_prev.ensures.links ∙ ap₂ (λ (i j : ℕ). with_link_map b (with_prev_at (link_map b) (Some j) (Some i))) c.inx-i.ensures c.inx-j.ensures in
+    let end = c.is_end.ensures.value.0 c.if-not-is_end.false in
+    let start = c.is_start.ensures.value.0 c.if-not-is_start.false in
     record {
-      some = (λ _. may, λ _. refl);
-      joined = linked_by_writes a b d (Some p) (Some q) (named _ _ c.set_next.ensures.links c.inx-i.ensures c.inx-j.ensures) second;
+      some = (λ _. record { first_valid = end.valid; second_valid = start.valid; no_next = end.end; no_prev = start.start }, λ _. refl);
+      joined = c.link_pair.ensures.links ∙ ap₂ (λ (i j : ℕ). arena_with_pair (links_view g.P.Inx.InxKey.packed_number c.args.arena.now) (Some i) (Some j)) c.inx.ensures c.inx-2.ensures;
       none = tt;
-      at_rest = λ rest. c.set_prev.ensures.at_rest (c.set_next.ensures.at_rest rest);
+      at_rest = c.link_pair.ensures.at_rest;
     }

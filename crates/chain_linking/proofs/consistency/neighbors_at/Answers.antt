@@ -2,7 +2,7 @@
 use Rattle.std.proofs.Common.{ap, sym, ◌∙◌}
 use Rattle.chain_laws.specs.Chains.{prev_in, next_in}
 use Rattle.chain_linking.proofs.ConnectionLemmas.{prev_of-view_after, next_of-view_after}
-use Rattle.chain_linking.proofs.InsertPositionLemmas.{reports_nothing}
+use Rattle.chain_linking.proofs.LinkEntryLemmas.{reports_nothing}
 use Rattle.chain_linking.proofs.consistency.neighbors_at.Goals as goal
 
 pub returns-in-Some : goal.returns-in-Some

@@ -49,7 +49,7 @@ returns-in-Some g c =
     let link = c.in-Some.link in
     let returned = removed_value view_of entry_at g.P.Gen.GenKey.following g.P.Gen.GenKey.wraps a c.remove_inx.new.self n c.remove_inx.result c.remove_inx.ensures.outcome in
     let stored : entry_at a n ≡ Some (c.in-Some.generation, link) = sym returned ∙ (sym (ap (λ x. x.0) c.overflowing-entry.ensures) ∙ c.in-Some.is) in
-    let found : value_within c.outcome.result ≡ Some (c.in-Some.generation, link) = search (of_calls, value_within-made) in
+    let found : value_within c.from_overflow.result ≡ Some (c.in-Some.generation, link) = search (of_calls, value_within-made) in
     let named_prev : option_map number c.prev.result ≡ packed link.prev = search of_calls in
     let named_next : option_map number c.next.result ≡ packed link.next = search of_calls in
     record {
