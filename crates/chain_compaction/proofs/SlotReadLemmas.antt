@@ -1,6 +1,6 @@
 -- A read of one slot.
-use Rattle.std.proofs.Common.{◌≡◌, ℕ, Bool, true, false, Option, None, Some, refl, sym, ap}
-use Rattle.std.specs.Prelude.{is_none, is_some, not}
+use Rattle.std.proofs.Common.{◌≡◌, ℕ, Option, None, Some, refl, ap}
+use Rattle.std.specs.Prelude.{◌&&◌, is_none, is_some}
 use Rattle.std.specs.Option.{option_map, option_and_then}
 use Rattle.arena_base.specs.DetachedSlots.{with_touch, saturating_increment}
 use Rattle.arena_base.specs.declared.compactor.Compactor.{Compactor}
@@ -42,29 +42,11 @@ module _ {Gen K T : Type 0} (packed : K → Option ℕ) where
     ap (option_and_then (destination_of packed)) is,
   )
 
-  -- Whether a slot holds a fresh link, by what a read returns.
-  fresh_there : {I : Type 0} (number : I → ℕ) (o : Option (Gen × LinkBody K T)) (r : Option Gen) (g : Gen) (d : Option I) (b : Bool) → r ≡ Some g
-      → r ≡ option_map (λ (x : Gen × LinkBody K T). x.0) o → option_map number d ≡ option_and_then (destination_of packed) o → is_some d ≡ not b → b ≡ is_fresh packed o
-  fresh_there number None r g d b is stored to none = cc
-  fresh_there number (Some e) r g None true is stored to none = ap is_none to
-  fresh_there number (Some e) r g None false is stored to none = cc
-  fresh_there number (Some e) r g (Some x) true is stored to none = cc
-  fresh_there number (Some e) r g (Some x) false is stored to none = ap is_none to
-
-  none_fresh : (o : Option (Gen × LinkBody K T)) (r : Option Gen) → r ≡ None → r ≡ option_map (λ (x : Gen × LinkBody K T). x.0) o → false ≡ is_fresh packed o
-  none_fresh None r is stored = refl
-  none_fresh (Some e) r is stored = cc
-
-  -- A link read with no destination is fresh.
-  pub known_fresh : {I : Type 0} (number : I → ℕ) (o : Option (Gen × LinkBody K T)) (r : Option Gen) (g : Gen) (d : Option I) → r ≡ Some g → r ≡ option_map (λ (x : Gen × LinkBody K T). x.0) o
-      → option_map number d ≡ option_and_then (destination_of packed) o → d ≡ None → is_fresh packed o ≡ true
-  known_fresh number o r g d is stored to none = sym (fresh_there number o r g d true is stored to (ap is_some none))
-
-  -- A link read with a destination is not fresh.
-  pub known_directed : {I : Type 0} (number : I → ℕ) (o : Option (Gen × LinkBody K T)) (r : Option Gen) (g : Gen) (d : Option I) (i : I) → r ≡ Some g → r ≡ option_map (λ (x : Gen × LinkBody K T). x.0) o
-      → option_map number d ≡ option_and_then (destination_of packed) o → d ≡ Some i → is_fresh packed o ≡ false
-  known_directed number o r g d i is stored to some = sym (fresh_there number o r g d false is stored to (ap is_some some))
-
-  -- A free slot holds no fresh link.
-  pub known_none : (o : Option (Gen × LinkBody K T)) (r : Option Gen) → r ≡ None → r ≡ option_map (λ (x : Gen × LinkBody K T). x.0) o → is_fresh packed o ≡ false
-  known_none o r is stored = sym (none_fresh o r is stored)
+  -- Whether a slot holds a link without a destination, by what a read returns.
+  pub fresh_read : {I : Type 0} (number : I → ℕ) (o : Option (Gen × LinkBody K T)) (r : Option Gen) (d : Option I) → r ≡ option_map (λ (x : Gen × LinkBody K T). x.0) o
+      → option_map number d ≡ option_and_then (destination_of packed) o → (is_some r && is_none d) ≡ is_fresh packed o
+  fresh_read number None None d stored to = refl
+  fresh_read number None (Some g) d stored to = cc
+  fresh_read number (Some e) None d stored to = cc
+  fresh_read number (Some e) (Some g) None stored to = ap is_none to
+  fresh_read number (Some e) (Some g) (Some x) stored to = ap is_none to

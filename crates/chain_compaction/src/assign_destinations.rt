@@ -8,9 +8,9 @@ ghost use Rattle.chain_compaction.specs.Destinations.{HasChainFrom, number_after
 ghost use Rattle.chain_compaction.specs.LinkPasses.{CanArrange};
 
 use crate::read_ahead::{ReadAhead, read_ahead, read_on};
-use crate::slot_access::{read_link, relink_at};
+use crate::slot_access::{LinkSlot, read_link, relink_at};
 use crate::visitor::Visitor;
-use arena_base::{ArenaSlot, Compactor, SlotAccess, assume_proved, inx_at, proved_unreachable};
+use arena_base::{Compactor, SlotAccess, assume_proved, inx_at, proved_unreachable};
 use arena_ptr::{InxKey, PtrKey, SlotStack};
 use chain_links::walk_direction::step_on;
 use chain_links::{LinkNoGen, link_access};
@@ -20,7 +20,7 @@ use chain_links::{LinkNoGen, link_access};
 //
 // With each step back, one link of the walk from `i` on is read, of at most `limit` in all: the two
 // walks wait for memory at the same time. Returns the number of these reads, too.
-fn start_at<P: PtrKey, T: Drop, S: SlotStack<Item = ArenaSlot<P, LinkNoGen<P, T>>>>(
+fn start_at<P: PtrKey, T: Drop, S: SlotStack<Item = LinkSlot<P, T>>>(
     compactor: &mut Compactor<'_, P, LinkNoGen<P, T>, S>,
     i: P::Inx,
     limit: usize,
@@ -34,8 +34,7 @@ fn start_at<P: PtrKey, T: Drop, S: SlotStack<Item = ArenaSlot<P, LinkNoGen<P, T>
     let mut on = Some(i);
     let mut reads = 0;
     for step in 0..compactor.slots() {
-        let (_, before, _, _) = read_link(compactor, at);
-        match before {
+        match read_link(compactor, at).prev {
             Some(k) => {
                 if k.is_same(i) {
                     return (i, reads);
@@ -65,18 +64,16 @@ fn after_it<P: PtrKey>(
     ensures { option_map P.Inx.number result ≡ number_after (option_map P.Inx.number on)
         (option_map P.Inx.number named) before count }
 {
-    match on {
-        Some(_) => Some(inx_at::<P>(count)),
-        None => match named {
-            Some(_) => Some(inx_at::<P>(before)),
-            None => None,
-        },
+    match (on, named) {
+        (Some(_), _) => Some(inx_at::<P>(count)),
+        (None, Some(_)) => Some(inx_at::<P>(before)),
+        (None, None) => None,
     }
 }
 
 // Sets `prev` of the link at `start` to `last` if the last link names a next one, as `named`: the
 // chain is cyclic then.
-fn close_ring<P: PtrKey, T: Drop, S: SlotStack<Item = ArenaSlot<P, LinkNoGen<P, T>>>>(
+fn close_ring<P: PtrKey, T: Drop, S: SlotStack<Item = LinkSlot<P, T>>>(
     compactor: &mut Compactor<'_, P, LinkNoGen<P, T>, S>,
     start: P::Inx,
     named: Option<P::Inx>,
@@ -101,12 +98,7 @@ fn close_ring<P: PtrKey, T: Drop, S: SlotStack<Item = ArenaSlot<P, LinkNoGen<P, 
 // Numbers the chain from `start`, after `before` links, renumbers its interlinks, and shows each
 // link's old and new pointer to the visitor. Returns the visitor and the number of links numbered
 // so far.
-fn number_chain<
-    P: PtrKey,
-    T: Drop,
-    S: SlotStack<Item = ArenaSlot<P, LinkNoGen<P, T>>>,
-    V: Visitor<P>,
->(
+fn number_chain<P: PtrKey, T: Drop, S: SlotStack<Item = LinkSlot<P, T>>, V: Visitor<P>>(
     compactor: &mut Compactor<'_, P, LinkNoGen<P, T>, S>,
     start: P::Inx,
     before: usize,
@@ -127,13 +119,13 @@ fn number_chain<
     while let Some(i) = on {
         let destination = inx_at::<P>(count);
         count += 1;
-        let (was, _, next, _) = read_link(compactor, i);
-        named = next;
-        on = step_on(start, next);
-        let after = after_it::<P>(on, next, before, count);
+        let link = read_link(compactor, i);
+        named = link.next;
+        on = step_on(start, named);
+        let after = after_it::<P>(on, named, before, count);
         relink_at(compactor, i, prev, after, destination);
         prev = Some(destination);
-        match was {
+        match link.generation {
             Some(was) => visitor.visit(P::_from_raw(i, was), P::_from_raw(destination, generation)),
             None => proved_unreachable!(),
         }
@@ -148,12 +140,7 @@ fn number_chain<
 /// Chains are numbered by their least index, linear ones from their start, cyclic ones from their
 /// least index. Interlinks then name destinations. The visitor sees each link's old and new
 /// pointer, in ascending order of destination.
-pub fn number_all<
-    P: PtrKey,
-    T: Drop,
-    S: SlotStack<Item = ArenaSlot<P, LinkNoGen<P, T>>>,
-    V: Visitor<P>,
->(
+pub fn number_all<P: PtrKey, T: Drop, S: SlotStack<Item = LinkSlot<P, T>>, V: Visitor<P>>(
     compactor: &mut Compactor<'_, P, LinkNoGen<P, T>, S>,
     links: usize,
     generation: P::Gen,
@@ -173,21 +160,15 @@ pub fn number_all<
         }
         assume_proved(k < compactor.slots());
         let i = inx_at::<P>(k);
-        let (was, prev, next, destination) = read_link(compactor, i);
-        match was {
-            Some(_) => {}
-            None => continue,
+        let link = read_link(compactor, i);
+        if !link.is_fresh() {
+            continue;
         }
-        match destination {
-            Some(_) => continue,
-            None => {}
-        }
-        ahead = read_ahead(compactor, k, prev, next, ahead);
+        ahead = read_ahead(compactor, k, link.prev, link.next, ahead);
         let (start, reads) = start_at(compactor, i, ahead.credit);
-        ahead = ahead.without_reads(reads);
         let (visited, numbered) = number_chain(compactor, start, count, generation, visitor);
         visitor = visited;
-        ahead = ahead.with_numbered(numbered.saturating_sub(count));
+        ahead.credit = (ahead.credit - reads).saturating_add(numbered.saturating_sub(count));
         count = numbered;
     }
     (visitor, count)

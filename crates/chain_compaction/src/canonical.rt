@@ -9,39 +9,15 @@ ghost use Rattle.chain_compaction.specs.OrderedLinks.{PlacesLinks};
 use crate::assign_destinations::number_all;
 use crate::in_order::{is_in_order, renew_all};
 use crate::permute::move_all;
+use crate::slot_access::LinkSlot;
 use crate::visitor::Visitor;
-use arena_base::{Arena, ArenaSlot, ArenaTrait, Compactor, Work};
+use arena_base::{Arena, ArenaTrait, Compactor, Work};
 use arena_ptr::{PtrKey, SlotStack};
 use chain_links::LinkNoGen;
 
-// Assigns each link its destination and moves it there. Returns the visitor and the number of
-// links, which is `links`.
-#[inline(always)]
-fn arrange_by_moves<
-    P: PtrKey,
-    T: Drop,
-    S: SlotStack<Item = ArenaSlot<P, LinkNoGen<P, T>>>,
-    V: Visitor<P>,
->(
-    compactor: &mut Compactor<'_, P, LinkNoGen<P, T>, S>,
-    links: usize,
-    generation: P::Gen,
-    visitor: V,
-) -> (V, usize)
-    requires ready { V.is_ready visitor }
-    requires can { CanArrange P.Inx.packed_number P.Inx.greatest compactor.old links }
-    ensures ready { V.is_ready result.0 }
-    ensures links { PlacesLinks P.Inx.packed_number V.sees P.key generation visitor result.0
-        compactor.old compactor.new result.1 9 }
-{
-    let (visitor, count) = number_all(compactor, links, generation, visitor);
-    move_all(compactor, links, generation);
-    (visitor, count)
-}
-
 // Places all links, of which there are `links`: each in its own slot if they are arranged
 // canonically already. Returns the visitor and the number of links.
-fn place_all<P: PtrKey, T: Drop, S: SlotStack<Item = ArenaSlot<P, LinkNoGen<P, T>>>, V: Visitor<P>>(
+fn place_all<P: PtrKey, T: Drop, S: SlotStack<Item = LinkSlot<P, T>>, V: Visitor<P>>(
     compactor: &mut Compactor<'_, P, LinkNoGen<P, T>, S>,
     links: usize,
     generation: P::Gen,
@@ -56,7 +32,9 @@ fn place_all<P: PtrKey, T: Drop, S: SlotStack<Item = ArenaSlot<P, LinkNoGen<P, T
     if is_in_order(compactor, links) {
         renew_all(compactor, generation, visitor)
     } else {
-        arrange_by_moves(compactor, links, generation, visitor)
+        let (visitor, count) = number_all(compactor, links, generation, visitor);
+        move_all(compactor, links, generation);
+        (visitor, count)
     }
 }
 
@@ -68,12 +46,10 @@ fn place_all<P: PtrKey, T: Drop, S: SlotStack<Item = ArenaSlot<P, LinkNoGen<P, T
 /// in their slots, and each gets the counter as its generation.
 ///
 /// No link has a destination before, and none has one afterwards.
-pub fn arrange<
-    P: PtrKey,
-    T: Drop,
-    S: SlotStack<Item = ArenaSlot<P, LinkNoGen<P, T>>>,
-    V: Visitor<P>,
->(arena: &mut Arena<P, LinkNoGen<P, T>, S>, visitor: V) -> (V, Work)
+pub fn arrange<P: PtrKey, T: Drop, S: SlotStack<Item = LinkSlot<P, T>>, V: Visitor<P>>(
+    arena: &mut Arena<P, LinkNoGen<P, T>, S>,
+    visitor: V,
+) -> (V, Work)
     requires ready { V.is_ready visitor }
     requires links { IsChainArena P.Inx.packed_number arena.old }
     ensures ready { V.is_ready result.0 }

@@ -9,8 +9,8 @@ ghost use Rattle.chain_compaction.specs.CompressionSteps.{SetsNeighbor, CanBring
 ghost use Rattle.chain_compaction.specs.LinkCompressions.{AreGathered};
 ghost use Rattle.chain_compaction.specs.LinkPasses.{AreSoundLinks};
 
-use crate::slot_access::read_link;
-use arena_base::{Arena, ArenaSlot, Compactor, SlotAccess, inx_at, proved_unreachable};
+use crate::slot_access::{LinkSlot, read_link};
+use arena_base::{Arena, Compactor, SlotAccess, inx_at, proved_unreachable};
 use arena_ptr::{InxKey, PtrKey, SlotStack};
 use chain_links::{LinkNoGen, link_access};
 
@@ -26,7 +26,7 @@ fn index_now<I: InxKey>(named: Option<I>, from: I, to: I) -> Option<I>
 }
 
 // Sets `prev` (if `before`) or else `next` of the link at `i`, if any, to `named`.
-fn set_neighbor<P: PtrKey, T: Drop, S: SlotStack<Item = ArenaSlot<P, LinkNoGen<P, T>>>>(
+fn set_neighbor<P: PtrKey, T: Drop, S: SlotStack<Item = LinkSlot<P, T>>>(
     compactor: &mut Compactor<'_, P, LinkNoGen<P, T>, S>,
     i: Option<P::Inx>,
     before: bool,
@@ -50,7 +50,7 @@ fn set_neighbor<P: PtrKey, T: Drop, S: SlotStack<Item = ArenaSlot<P, LinkNoGen<P
 
 // Moves the link at `from`, if any, to `to`, which is free or `from` itself. Sets its generation,
 // updates its neighbors, and returns its old generation.
-fn move_link<P: PtrKey, T: Drop, S: SlotStack<Item = ArenaSlot<P, LinkNoGen<P, T>>>>(
+fn move_link<P: PtrKey, T: Drop, S: SlotStack<Item = LinkSlot<P, T>>>(
     compactor: &mut Compactor<'_, P, LinkNoGen<P, T>, S>,
     from: P::Inx,
     to: P::Inx,
@@ -60,14 +60,14 @@ fn move_link<P: PtrKey, T: Drop, S: SlotStack<Item = ArenaSlot<P, LinkNoGen<P, T
     ensures { MovesLink P.Inx.packed_number (P.Inx.number from) (P.Inx.number to) generation
         compactor.old compactor.new result }
 {
-    let (was, prev, next, _) = read_link(compactor, from);
-    let was = match was {
+    let link = read_link(compactor, from);
+    let was = match link.generation {
         Some(was) => was,
         None => return None,
     };
     compactor.bring(from, to, generation);
-    set_neighbor(compactor, index_now(prev, from, to), false, to);
-    set_neighbor(compactor, index_now(next, from, to), true, to);
+    set_neighbor(compactor, index_now(link.prev, from, to), false, to);
+    set_neighbor(compactor, index_now(link.next, from, to), true, to);
     Some(was)
 }
 
@@ -77,7 +77,7 @@ fn move_link<P: PtrKey, T: Drop, S: SlotStack<Item = ArenaSlot<P, LinkNoGen<P, T
 fn compact_links<
     P: PtrKey,
     T: Drop,
-    S: SlotStack<Item = ArenaSlot<P, LinkNoGen<P, T>>>,
+    S: SlotStack<Item = LinkSlot<P, T>>,
     F: FnMut(P, &mut T, P) + Drop,
 >(compactor: &mut Compactor<'_, P, LinkNoGen<P, T>, S>, generation: P::Gen, mut map: F) -> usize
     requires callable { F.IsAlwaysCallable map }
@@ -114,7 +114,7 @@ fn compact_links<
 pub fn gather<
     P: PtrKey,
     T: Drop,
-    S: SlotStack<Item = ArenaSlot<P, LinkNoGen<P, T>>>,
+    S: SlotStack<Item = LinkSlot<P, T>>,
     F: FnMut(P, &mut T, P) + Drop,
 >(arena: &mut Arena<P, LinkNoGen<P, T>, S>, map: F)
     requires callable { F.IsAlwaysCallable map }

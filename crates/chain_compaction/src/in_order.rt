@@ -6,9 +6,9 @@ ghost use Rattle.chain_compaction.specs.LinkPasses.{AreSoundLinks, AreInOrder, C
 ghost use Rattle.chain_compaction.specs.OrderedLinks.{IsStartAfter, PlacesLinks};
 ghost use Rattle.chain_compaction.specs.SlotReads.{HasReadSlots};
 
-use crate::slot_access::read_link;
+use crate::slot_access::{LinkSlot, read_link};
 use crate::visitor::Visitor;
-use arena_base::{ArenaSlot, Compactor, SlotAccess, inx_at, proved_unreachable};
+use arena_base::{Compactor, SlotAccess, inx_at, position_of, proved_unreachable};
 use arena_ptr::{InxKey, PtrKey, SlotStack};
 use chain_links::LinkNoGen;
 
@@ -38,27 +38,17 @@ fn start_after<P: PtrKey>(
     ensures { IfSome result (IsStartAfter start is_cyclic k (option_map P.Inx.number next)) }
 {
     match next {
-        Some(i) => match i.try_into_usize() {
-            Some(number) => {
-                let position = number - 1;
-                if position == k + 1 {
-                    Some(start)
-                } else if is_cyclic && position == start {
-                    Some(k + 1)
-                } else {
-                    None
-                }
-            }
-            None => None,
-        },
-        None => if is_cyclic { None } else { Some(k + 1) },
+        Some(i) if position_of::<P>(i) == k + 1 => Some(start),
+        Some(i) if is_cyclic && position_of::<P>(i) == start => Some(k + 1),
+        None if !is_cyclic => Some(k + 1),
+        _ => None,
     }
 }
 
 /// Returns whether all slots hold links that are arranged canonically already.
 ///
 /// Reads no slot if `links`, the number of links, is less than the number of slots.
-pub(crate) fn is_in_order<P: PtrKey, T: Drop, S: SlotStack<Item = ArenaSlot<P, LinkNoGen<P, T>>>>(
+pub(crate) fn is_in_order<P: PtrKey, T: Drop, S: SlotStack<Item = LinkSlot<P, T>>>(
     compactor: &mut Compactor<'_, P, LinkNoGen<P, T>, S>,
     links: usize,
 ) -> bool
@@ -74,13 +64,13 @@ pub(crate) fn is_in_order<P: PtrKey, T: Drop, S: SlotStack<Item = ArenaSlot<P, L
     let mut start = 0;
     let mut is_cyclic = false;
     for k in 0..slots {
-        let (was, prev, next, _) = read_link(compactor, inx_at::<P>(k));
-        match was {
+        let link = read_link(compactor, inx_at::<P>(k));
+        match link.generation {
             Some(_) => {}
             None => return false,
         }
-        is_cyclic = is_cyclic_at(start, is_cyclic, k, prev);
-        match start_after::<P>(start, is_cyclic, k, next) {
+        is_cyclic = is_cyclic_at(start, is_cyclic, k, link.prev);
+        match start_after::<P>(start, is_cyclic, k, link.next) {
             Some(after) => start = after,
             None => return false,
         }
@@ -92,12 +82,7 @@ pub(crate) fn is_in_order<P: PtrKey, T: Drop, S: SlotStack<Item = ArenaSlot<P, L
 ///
 /// The links are arranged canonically already. Each is placed once, and the visitor sees its old
 /// and new pointer, in ascending order of index.
-pub(crate) fn renew_all<
-    P: PtrKey,
-    T: Drop,
-    S: SlotStack<Item = ArenaSlot<P, LinkNoGen<P, T>>>,
-    V: Visitor<P>,
->(
+pub(crate) fn renew_all<P: PtrKey, T: Drop, S: SlotStack<Item = LinkSlot<P, T>>, V: Visitor<P>>(
     compactor: &mut Compactor<'_, P, LinkNoGen<P, T>, S>,
     generation: P::Gen,
     mut visitor: V,
@@ -111,8 +96,7 @@ pub(crate) fn renew_all<
     let slots = compactor.slots();
     for k in 0..slots {
         let i = inx_at::<P>(k);
-        let (was, _, _, _) = read_link(compactor, i);
-        match was {
+        match read_link(compactor, i).generation {
             Some(was) => {
                 compactor.place(i, i, generation);
                 visitor.visit(P::_from_raw(i, was), P::_from_raw(i, generation));

@@ -5,8 +5,8 @@ ghost use Rattle.chain_compaction.specs.Permutations.{ListsWaiting};
 ghost use Rattle.chain_links.specs.Links.{destination_of};
 
 use crate::read_ahead::read_destinations;
-use crate::slot_access::{read_link, remove_destination_at};
-use arena_base::{ArenaSlot, Compactor, assume_proved, inx_at};
+use crate::slot_access::{LinkSlot, read_link, remove_destination_at};
+use arena_base::{Compactor, assume_proved, inx_at};
 use arena_ptr::{InxKey, PtrKey, SlotStack};
 use chain_links::LinkNoGen;
 
@@ -17,7 +17,7 @@ use chain_links::LinkNoGen;
 //
 // The destination is removed after the exchange: a write just before it would delay its reads.
 #[inline(always)]
-fn settle_once<P: PtrKey, T: Drop, S: SlotStack<Item = ArenaSlot<P, LinkNoGen<P, T>>>>(
+fn settle_once<P: PtrKey, T: Drop, S: SlotStack<Item = LinkSlot<P, T>>>(
     compactor: &mut Compactor<'_, P, LinkNoGen<P, T>, S>,
     i: P::Inx,
     generation: P::Gen,
@@ -27,8 +27,7 @@ fn settle_once<P: PtrKey, T: Drop, S: SlotStack<Item = ArenaSlot<P, LinkNoGen<P,
     ensures { SettlesAt P.Inx.packed_number generation (P.Inx.number i) compactor.old compactor.new
         unplaced.new result }
 {
-    let (_, _, _, destination) = read_link(compactor, i);
-    match destination {
+    match read_link(compactor, i).destination {
         Some(to) => {
             compactor.place(i, to, generation);
             remove_destination_at(compactor, to);
@@ -42,7 +41,7 @@ fn settle_once<P: PtrKey, T: Drop, S: SlotStack<Item = ArenaSlot<P, LinkNoGen<P,
 // Moves the link at each slot of a block once, if it has a destination. Returns a list of positions
 // and its length: those of the slots at which a link may still wait.
 #[inline(always)]
-fn settle_each<P: PtrKey, T: Drop, S: SlotStack<Item = ArenaSlot<P, LinkNoGen<P, T>>>>(
+fn settle_each<P: PtrKey, T: Drop, S: SlotStack<Item = LinkSlot<P, T>>>(
     compactor: &mut Compactor<'_, P, LinkNoGen<P, T>, S>,
     start: usize,
     count: usize,
@@ -72,7 +71,7 @@ fn settle_each<P: PtrKey, T: Drop, S: SlotStack<Item = ArenaSlot<P, LinkNoGen<P,
 //
 // Each position stands for a slot of the block of `count` slots after position `start`.
 #[inline(always)]
-fn settle_round<P: PtrKey, T: Drop, S: SlotStack<Item = ArenaSlot<P, LinkNoGen<P, T>>>>(
+fn settle_round<P: PtrKey, T: Drop, S: SlotStack<Item = LinkSlot<P, T>>>(
     compactor: &mut Compactor<'_, P, LinkNoGen<P, T>, S>,
     positions: &mut [usize; 64],
     start: usize,
@@ -114,7 +113,7 @@ fn settle_round<P: PtrKey, T: Drop, S: SlotStack<Item = ArenaSlot<P, LinkNoGen<P
 // at its destination is placed there in the first turn, and its slot is not read again. From
 // 2,097,152 slots on, which exceed the cache, the destinations of a round are read before it.
 #[inline(always)]
-fn settle_block<P: PtrKey, T: Drop, S: SlotStack<Item = ArenaSlot<P, LinkNoGen<P, T>>>>(
+fn settle_block<P: PtrKey, T: Drop, S: SlotStack<Item = LinkSlot<P, T>>>(
     compactor: &mut Compactor<'_, P, LinkNoGen<P, T>, S>,
     start: usize,
     count: usize,
@@ -147,7 +146,7 @@ fn settle_block<P: PtrKey, T: Drop, S: SlotStack<Item = ArenaSlot<P, LinkNoGen<P
 /// Each link is placed once. There are `links` of them; slots behind the last to be placed are not
 /// read. Inlined, so what is not used of the counts is not counted.
 #[inline(always)]
-pub fn move_all<P: PtrKey, T: Drop, S: SlotStack<Item = ArenaSlot<P, LinkNoGen<P, T>>>>(
+pub fn move_all<P: PtrKey, T: Drop, S: SlotStack<Item = LinkSlot<P, T>>>(
     compactor: &mut Compactor<'_, P, LinkNoGen<P, T>, S>,
     links: usize,
     generation: P::Gen,

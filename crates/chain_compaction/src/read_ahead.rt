@@ -7,8 +7,8 @@ ghost use Rattle.std.specs.Prelude.{◌≡◌, ◌≤◌, ◌<◌, ◌+◌, ◌*
 ghost use Rattle.chain_compaction.specs.LinkPasses.{HasPosition};
 ghost use Rattle.chain_compaction.specs.SlotReads.{HasReadSlot, HasReadSlots};
 
-use crate::slot_access::read_link;
-use arena_base::{ArenaSlot, Compactor, SlotAccess, inx_at, proved_unreachable};
+use crate::slot_access::{LinkSlot, read_link};
+use arena_base::{Compactor, SlotAccess, inx_at, number_of};
 use arena_ptr::{InxKey, PtrKey, SlotStack};
 use chain_links::LinkNoGen;
 
@@ -35,36 +35,12 @@ impl ReadAhead {
             credit: slots,
         }
     }
-
-    /// Allows as many more reads as links were numbered.
-    pub(crate) fn with_numbered(self, links: usize) -> ReadAhead
-        ensures { result.credit ≤ self.credit + links }
-    {
-        ReadAhead {
-            position: self.position,
-            credit: self.credit.saturating_add(links),
-        }
-    }
-
-    /// Allows fewer reads, since some were made.
-    pub(crate) fn without_reads(self, reads: usize) -> ReadAhead
-        requires { reads ≤ self.credit }
-        ensures { result.credit ≡ self.credit - reads }
-    {
-        ReadAhead {
-            position: self.position,
-            credit: self.credit - reads,
-        }
-    }
 }
 
 // Returns whether a neighbor is more than 64 slots away from the link at position `k`.
 fn is_far<P: PtrKey>(k: usize, neighbor: Option<P::Inx>) -> bool {
     match neighbor {
-        Some(i) => match i.try_into_usize() {
-            Some(n) => n.abs_diff(k) > 64,
-            None => proved_unreachable!(),
-        },
+        Some(i) => number_of::<P>(i).abs_diff(k) > 64,
         None => false,
     }
 }
@@ -72,17 +48,12 @@ fn is_far<P: PtrKey>(k: usize, neighbor: Option<P::Inx>) -> bool {
 // Returns the number of a neighbor, or `None` if there is none or it is `start`, where the walk
 // began.
 fn number_on_walk<P: PtrKey>(neighbor: Option<P::Inx>, start: usize) -> Option<usize> {
-    match neighbor {
-        Some(i) => match i.try_into_usize() {
-            Some(number) => if number == start { None } else { Some(number) },
-            None => None,
-        },
-        None => None,
-    }
+    let number = number_of::<P>(neighbor?);
+    if number == start { None } else { Some(number) }
 }
 
 // Returns the number of the link after the one with number `n` on a walk, if the walk goes on.
-fn step_at<P: PtrKey, T: Drop, S: SlotStack<Item = ArenaSlot<P, LinkNoGen<P, T>>>>(
+fn step_at<P: PtrKey, T: Drop, S: SlotStack<Item = LinkSlot<P, T>>>(
     compactor: &mut Compactor<'_, P, LinkNoGen<P, T>, S>,
     n: usize,
     start: usize,
@@ -90,13 +61,8 @@ fn step_at<P: PtrKey, T: Drop, S: SlotStack<Item = ArenaSlot<P, LinkNoGen<P, T>>
 ) -> Option<usize>
     ensures { HasReadSlots compactor.old compactor.new 1 }
 {
-    match P::Inx::try_from_usize(n) {
-        Some(i) => {
-            let (_, prev, next, _) = read_link(compactor, i);
-            number_on_walk::<P>(if is_forward { next } else { prev }, start)
-        }
-        None => None,
-    }
+    let link = read_link(compactor, P::Inx::try_from_usize(n)?);
+    number_on_walk::<P>(if is_forward { link.next } else { link.prev }, start)
 }
 
 // Returns whether two links are at most two slots apart, which are then in the cache together.
@@ -110,22 +76,21 @@ fn are_close(a: Option<usize>, b: Option<usize>) -> bool {
 // Returns whether to walk from the link at `i`, and the number of the link after it. The link has
 // to be without a destination, and the link after it not close to `last`, the one after the last
 // link listed: chains that grew in turn lie beside each other.
-fn walk_from<P: PtrKey, T: Drop, S: SlotStack<Item = ArenaSlot<P, LinkNoGen<P, T>>>>(
+fn walk_from<P: PtrKey, T: Drop, S: SlotStack<Item = LinkSlot<P, T>>>(
     compactor: &mut Compactor<'_, P, LinkNoGen<P, T>, S>,
     i: P::Inx,
     last: Option<usize>,
 ) -> (bool, Option<usize>)
     ensures { HasReadSlot compactor.old compactor.new }
 {
-    let (was, _, next, destination) = read_link(compactor, i);
-    let after = number_on_walk::<P>(next, 0);
-    let is_fresh = was.is_some() && destination.is_none();
-    (is_fresh && !are_close(after, last), after)
+    let link = read_link(compactor, i);
+    let after = number_on_walk::<P>(link.next, 0);
+    (link.is_fresh() && !are_close(after, last), after)
 }
 
 // Lists the numbers of up to 16 links to walk from, of the 64 slots from position `k` on. Returns
 // the list, its length, and the number of slots that were read.
-fn fresh_links<P: PtrKey, T: Drop, S: SlotStack<Item = ArenaSlot<P, LinkNoGen<P, T>>>>(
+fn fresh_links<P: PtrKey, T: Drop, S: SlotStack<Item = LinkSlot<P, T>>>(
     compactor: &mut Compactor<'_, P, LinkNoGen<P, T>, S>,
     k: usize,
 ) -> ([usize; 16], usize, usize)
@@ -162,7 +127,7 @@ fn wrapped_index(at: usize, left: usize) -> usize
 
 // Walks along the chains of `count` links in turn, by `next` or by `prev`, until each walk ends or
 // `limit` links were read. Returns the number of links that were read.
-fn read_along<P: PtrKey, T: Drop, S: SlotStack<Item = ArenaSlot<P, LinkNoGen<P, T>>>>(
+fn read_along<P: PtrKey, T: Drop, S: SlotStack<Item = LinkSlot<P, T>>>(
     compactor: &mut Compactor<'_, P, LinkNoGen<P, T>, S>,
     links: [usize; 16],
     count: usize,
@@ -198,10 +163,10 @@ fn read_along<P: PtrKey, T: Drop, S: SlotStack<Item = ArenaSlot<P, LinkNoGen<P, 
     limit
 }
 
-/// Reads along the chains of up to 16 links from position `k` on, if `prev` or `next` of the link
-/// there is far away, and it was not read ahead yet.
+/// Reads along the chains of up to 16 links from position `k` on, if a neighbor of the link there
+/// is far away, and it was not read ahead yet.
 #[inline(always)]
-pub(crate) fn read_ahead<P: PtrKey, T: Drop, S: SlotStack<Item = ArenaSlot<P, LinkNoGen<P, T>>>>(
+pub(crate) fn read_ahead<P: PtrKey, T: Drop, S: SlotStack<Item = LinkSlot<P, T>>>(
     compactor: &mut Compactor<'_, P, LinkNoGen<P, T>, S>,
     k: usize,
     prev: Option<P::Inx>,
@@ -231,7 +196,7 @@ pub(crate) fn read_ahead<P: PtrKey, T: Drop, S: SlotStack<Item = ArenaSlot<P, Li
 /// Reads the link at `on`, if there is one and reads are `left`. Returns the index after it, and
 /// the number of links that were read.
 #[inline(always)]
-pub(crate) fn read_on<P: PtrKey, T: Drop, S: SlotStack<Item = ArenaSlot<P, LinkNoGen<P, T>>>>(
+pub(crate) fn read_on<P: PtrKey, T: Drop, S: SlotStack<Item = LinkSlot<P, T>>>(
     compactor: &mut Compactor<'_, P, LinkNoGen<P, T>, S>,
     on: Option<P::Inx>,
     left: usize,
@@ -240,10 +205,7 @@ pub(crate) fn read_on<P: PtrKey, T: Drop, S: SlotStack<Item = ArenaSlot<P, LinkN
     ensures read { HasReadSlots compactor.old compactor.new result.1 }
 {
     match on {
-        Some(i) if left > 0 => {
-            let (_, _, next, _) = read_link(compactor, i);
-            (next, 1)
-        }
+        Some(i) if left > 0 => (read_link(compactor, i).next, 1),
         _ => (None, 0),
     }
 }
@@ -251,19 +213,15 @@ pub(crate) fn read_on<P: PtrKey, T: Drop, S: SlotStack<Item = ArenaSlot<P, LinkN
 // Reads the link at position `k`, and then the one at its destination. Returns whether the second
 // has a destination, too.
 #[inline(always)]
-fn leads_on<P: PtrKey, T: Drop, S: SlotStack<Item = ArenaSlot<P, LinkNoGen<P, T>>>>(
+fn leads_on<P: PtrKey, T: Drop, S: SlotStack<Item = LinkSlot<P, T>>>(
     compactor: &mut Compactor<'_, P, LinkNoGen<P, T>, S>,
     k: usize,
 ) -> bool
     requires { k < P.Inx.greatest }
     ensures { HasReadSlots compactor.old compactor.new 2 }
 {
-    let (_, _, _, destination) = read_link(compactor, inx_at::<P>(k));
-    match destination {
-        Some(to) => {
-            let (_, _, _, further) = read_link(compactor, to);
-            further.is_some()
-        }
+    match read_link(compactor, inx_at::<P>(k)).destination {
+        Some(to) => read_link(compactor, to).destination.is_some(),
         None => false,
     }
 }
@@ -271,11 +229,7 @@ fn leads_on<P: PtrKey, T: Drop, S: SlotStack<Item = ArenaSlot<P, LinkNoGen<P, T>
 /// Reads the slots at the destinations of the links at the first `left` positions, if `is_wanted`.
 /// Returns whether a link there has a destination, too. If not, no later round needs such reads.
 #[inline(always)]
-pub(crate) fn read_destinations<
-    P: PtrKey,
-    T: Drop,
-    S: SlotStack<Item = ArenaSlot<P, LinkNoGen<P, T>>>,
->(
+pub(crate) fn read_destinations<P: PtrKey, T: Drop, S: SlotStack<Item = LinkSlot<P, T>>>(
     compactor: &mut Compactor<'_, P, LinkNoGen<P, T>, S>,
     positions: &[usize; 64],
     left: usize,

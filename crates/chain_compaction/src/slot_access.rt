@@ -1,5 +1,5 @@
 // Reads and writes of one slot that leave no borrow of it.
-ghost use Rattle.std.specs.Prelude.{IsSome, None, Some};
+ghost use Rattle.std.specs.Prelude.{◌≡◌, ◌&&◌, IsSome, None, Some, is_none, is_some};
 ghost use Rattle.std.specs.Option.{option_map};
 ghost use Rattle.arena_traits.specs.Arena.{slot_at};
 ghost use Rattle.chain_compaction.specs.SlotReads.{HasTouchedSlot, HasReadLink};
@@ -9,37 +9,57 @@ use arena_base::{ArenaSlot, Compactor, SlotAccess, proved_unreachable};
 use arena_ptr::{InxKey, PtrKey, SlotStack};
 use chain_links::{LinkNoGen, link_access};
 
-// Returns the generation, `prev`, `next` and destination of the link at `i`, if any.
-pub(crate) fn read_link<P: PtrKey, T: Drop, S: SlotStack<Item = ArenaSlot<P, LinkNoGen<P, T>>>>(
+// A slot of an arena of links.
+pub(crate) type LinkSlot<P, T> = ArenaSlot<P, LinkNoGen<P, T>>;
+
+// The parts of a link but its value, or nothing where no link is.
+#[derive(Drop)]
+pub(crate) struct LinkRead<P: PtrKey> {
+    pub(crate) generation: Option<P::Gen>,
+    pub(crate) prev: Option<P::Inx>,
+    pub(crate) next: Option<P::Inx>,
+    pub(crate) destination: Option<P::Inx>,
+}
+
+impl<P: PtrKey> LinkRead<P> {
+    // Returns whether there is a link without a destination.
+    pub(crate) fn is_fresh(&self) -> bool
+        ensures { result ≡ (is_some self.now.generation && is_none self.now.destination) }
+    {
+        self.generation.is_some() && self.destination.is_none()
+    }
+}
+
+// Reads the link at `i`.
+pub(crate) fn read_link<P: PtrKey, T: Drop, S: SlotStack<Item = LinkSlot<P, T>>>(
     compactor: &mut Compactor<'_, P, LinkNoGen<P, T>, S>,
     i: P::Inx,
-) -> (
-    Option<P::Gen>,
-    Option<P::Inx>,
-    Option<P::Inx>,
-    Option<P::Inx>,
-)
+) -> LinkRead<P>
     ensures { HasReadLink P.Inx.number P.Inx.packed_number compactor.old compactor.new i
-        result.0 result.1 result.2 result.3 }
+        result.generation result.prev result.next result.destination }
 {
     match compactor.peek(i) {
-        Some((was, link)) => (
-            Some(*was),
-            link.prev(),
-            link.next(),
-            link_access::destination_of(link),
-        ),
-        None => (None, None, None, None),
+        Some((was, link)) => LinkRead {
+            generation: Some(*was),
+            prev: link.prev(),
+            next: link.next(),
+            destination: link_access::destination_of(link),
+        },
+        None => LinkRead {
+            generation: None,
+            prev: None,
+            next: None,
+            destination: None,
+        },
     }
 }
 
 // Removes the destination of the link at `i`. It does not test whether there is one.
 #[inline(always)]
-pub(crate) fn remove_destination_at<
-    P: PtrKey,
-    T: Drop,
-    S: SlotStack<Item = ArenaSlot<P, LinkNoGen<P, T>>>,
->(compactor: &mut Compactor<'_, P, LinkNoGen<P, T>, S>, i: P::Inx)
+pub(crate) fn remove_destination_at<P: PtrKey, T: Drop, S: SlotStack<Item = LinkSlot<P, T>>>(
+    compactor: &mut Compactor<'_, P, LinkNoGen<P, T>, S>,
+    i: P::Inx,
+)
     requires { IsSome (slot_at compactor.old.held.slots (P.Inx.number i)) }
     ensures directed { IsDirectedAt P.Inx.packed_number (P.Inx.number i) None
         compactor.old.held compactor.new.held }
@@ -52,7 +72,7 @@ pub(crate) fn remove_destination_at<
 }
 
 // Sets `prev`, `next` and the destination of the link at `i`, if any.
-pub(crate) fn relink_at<P: PtrKey, T: Drop, S: SlotStack<Item = ArenaSlot<P, LinkNoGen<P, T>>>>(
+pub(crate) fn relink_at<P: PtrKey, T: Drop, S: SlotStack<Item = LinkSlot<P, T>>>(
     compactor: &mut Compactor<'_, P, LinkNoGen<P, T>, S>,
     i: P::Inx,
     prev: Option<P::Inx>,

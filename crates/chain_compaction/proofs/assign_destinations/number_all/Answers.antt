@@ -1,9 +1,9 @@
 -- `number_all` numbers the next chain, or passes a slot where none begins.
-use Rattle.std.proofs.Common.{◌+◌, ◌-◌, ◌∙◌, length, refl, ap, arith}
+use Rattle.std.proofs.Common.{◌+◌, ◌-◌, ◌∙◌, length, refl, sym, ap, arith}
 use Rattle.arena_traits.specs.Arena.{slot_at}
 use Rattle.chain_compaction.proofs.SlotCountLemmas.{at_end}
 use Rattle.chain_compaction.proofs.DetachedLinkLemmas.{work-touched, work-more}
-use Rattle.chain_compaction.proofs.SlotReadLemmas.{known_fresh, known_directed, known_none}
+use Rattle.chain_compaction.proofs.SlotReadLemmas.{fresh_read}
 use Rattle.chain_compaction.proofs.ChainOrderLemmas.{order_begins, order_ends, order_full, order_skips, order_found, order_can, order_continues}
 use Rattle.chain_compaction.proofs.WorkCountLemmas.{counts_none, counts_on}
 use Rattle.chain_compaction.proofs.assign_destinations.number_all.Goals as goal
@@ -21,10 +21,10 @@ pub start_at-start-requires : goal.start_at-start-requires
 start_at-start-requires g c =
     let old = c.args.compactor.now in
     let now = c.loop-k.compactor in
-    let lookup = c.read_link-was.ensures in
+    let lookup = c.read_link-link.ensures in
     record {
       chain = order_found g.P.Inx.InxKey.packed_number g.V.Visitor.sees g.P.PtrKey.key c.args.generation c.args.visitor old.held old.arena.now c.loop-k.visitor now.held now.arena.now c.loop-k.count c.loop-k.k c.loop-k.ahead.credit
-          c.loop-k.invariant.order (g.P.Inx.InxKey.number c.inx_at-i.result) c.inx_at-i.ensures (known_fresh g.P.Inx.InxKey.packed_number g.P.Inx.InxKey.number (slot_at now.held.slots (g.P.Inx.InxKey.number c.inx_at-i.result)) c.read_link-was.result.0 c.in-Some.field-0 c.read_link-was.result.3 c.in-Some.is lookup.generation lookup.destination c.in-None-destination.is)
+          c.loop-k.invariant.order (g.P.Inx.InxKey.number c.inx_at-i.result) c.inx_at-i.ensures (sym (fresh_read g.P.Inx.InxKey.packed_number g.P.Inx.InxKey.number (slot_at now.held.slots (g.P.Inx.InxKey.number c.inx_at-i.result)) c.read_link-link.result.generation c.read_link-link.result.destination lookup.generation lookup.destination) ∙ sym c.is_fresh.ensures ∙ c.if-not-is_fresh.false)
           c.read_ahead-ahead.new.compactor.held (c.read_ahead-ahead.ensures.read.held ∙ lookup.was_read.held);
     }
 
@@ -35,7 +35,7 @@ pub number_chain-visited-requires-clause-chain : goal.number_chain-visited-requi
 number_chain-visited-requires-clause-chain g c =
     let old = c.args.compactor.now in
     let now = c.loop-k.compactor in
-    let lookup = c.read_link-was.ensures in
+    let lookup = c.read_link-link.ensures in
     let start = c.start_at-start.ensures in
     record {
       fits =
@@ -49,49 +49,34 @@ number_chain-visited-requires-clause-chain g c =
           );
       can =
           order_can g.P.Inx.InxKey.packed_number g.V.Visitor.sees g.P.PtrKey.key c.args.generation c.args.visitor old.held old.arena.now c.loop-k.visitor now.held now.arena.now c.loop-k.count c.loop-k.k c.loop-k.ahead.credit
-          c.loop-k.invariant.order (g.P.Inx.InxKey.number c.inx_at-i.result) c.inx_at-i.ensures (known_fresh g.P.Inx.InxKey.packed_number g.P.Inx.InxKey.number (slot_at now.held.slots (g.P.Inx.InxKey.number c.inx_at-i.result)) c.read_link-was.result.0 c.in-Some.field-0 c.read_link-was.result.3 c.in-Some.is lookup.generation lookup.destination c.in-None-destination.is)
+          c.loop-k.invariant.order (g.P.Inx.InxKey.number c.inx_at-i.result) c.inx_at-i.ensures (sym (fresh_read g.P.Inx.InxKey.packed_number g.P.Inx.InxKey.number (slot_at now.held.slots (g.P.Inx.InxKey.number c.inx_at-i.result)) c.read_link-link.result.generation c.read_link-link.result.destination lookup.generation lookup.destination) ∙ sym c.is_fresh.ensures ∙ c.if-not-is_fresh.false)
           c.read_ahead-ahead.new.compactor.held (c.read_ahead-ahead.ensures.read.held ∙ lookup.was_read.held) c.start_at-start.new.compactor.held start.held (g.P.Inx.InxKey.number c.start_at-start.result.0) start.start;
     }
 
-pub loop-k-preserved-in-None : goal.loop-k-preserved-in-None
-loop-k-preserved-in-None g c =
+pub loop-k-preserved-then-not-is_fresh : goal.loop-k-preserved-then-not-is_fresh
+loop-k-preserved-then-not-is_fresh g c =
     let at = c.loop-k.invariant in
-    let lookup = c.read_link-was.ensures in
+    let lookup = c.read_link-link.ensures in
     let old = c.args.compactor.now in
     let now = c.loop-k.compactor in
-    let mid = c.read_link-was.new.compactor in
+    let mid = c.read_link-link.new.compactor in
     record {
       ready = at.ready;
       order = order_skips g.P.Inx.InxKey.packed_number g.V.Visitor.sees g.P.PtrKey.key c.args.generation c.args.visitor old.held old.arena.now c.loop-k.visitor now.held now.arena.now c.loop-k.count c.loop-k.k c.loop-k.ahead.credit
           at.order (g.P.Inx.InxKey.number c.inx_at-i.result) c.inx_at-i.ensures mid.held mid.arena.now lookup.was_read.held
-          (known_none g.P.Inx.InxKey.packed_number (slot_at now.held.slots (g.P.Inx.InxKey.number c.inx_at-i.result)) c.read_link-was.result.0 c.in-None.is lookup.generation) (work-touched now.arena.now mid.arena.now lookup.was_read.arena);
-      counts = counts_on old now mid at.counts lookup.was_read.counts;
-    }
-
-pub loop-k-preserved-in-Some-destination : goal.loop-k-preserved-in-Some-destination
-loop-k-preserved-in-Some-destination g c =
-    let at = c.loop-k.invariant in
-    let lookup = c.read_link-was.ensures in
-    let old = c.args.compactor.now in
-    let now = c.loop-k.compactor in
-    let mid = c.read_link-was.new.compactor in
-    record {
-      ready = at.ready;
-      order = order_skips g.P.Inx.InxKey.packed_number g.V.Visitor.sees g.P.PtrKey.key c.args.generation c.args.visitor old.held old.arena.now c.loop-k.visitor now.held now.arena.now c.loop-k.count c.loop-k.k c.loop-k.ahead.credit
-          at.order (g.P.Inx.InxKey.number c.inx_at-i.result) c.inx_at-i.ensures mid.held mid.arena.now lookup.was_read.held
-          (known_directed g.P.Inx.InxKey.packed_number g.P.Inx.InxKey.number (slot_at now.held.slots (g.P.Inx.InxKey.number c.inx_at-i.result)) c.read_link-was.result.0 c.in-Some.field-0 c.read_link-was.result.3 c.in-Some-destination.field-0 c.in-Some.is lookup.generation lookup.destination c.in-Some-destination.is) (work-touched now.arena.now mid.arena.now lookup.was_read.arena);
+          (sym (fresh_read g.P.Inx.InxKey.packed_number g.P.Inx.InxKey.number (slot_at now.held.slots (g.P.Inx.InxKey.number c.inx_at-i.result)) c.read_link-link.result.generation c.read_link-link.result.destination lookup.generation lookup.destination) ∙ sym c.is_fresh.ensures ∙ c.if-not-is_fresh.true) (work-touched now.arena.now mid.arena.now lookup.was_read.arena);
       counts = counts_on old now mid at.counts lookup.was_read.counts;
     }
 
 pub loop-k-preserved : goal.loop-k-preserved
 loop-k-preserved g c =
     let at = c.loop-k.invariant in
-    let lookup = c.read_link-was.ensures in
+    let lookup = c.read_link-link.ensures in
     let start = c.start_at-start.ensures in
     let chain = c.number_chain-visited.ensures in
     let old = c.args.compactor.now in
     let now = c.loop-k.compactor in
-    let mid = c.read_link-was.new.compactor in
+    let mid = c.read_link-link.new.compactor in
     let ahead = c.read_ahead-ahead.ensures in
     let behind = c.read_ahead-ahead.new.compactor in
     let reads = c.loop-k.ahead.credit - c.read_ahead-ahead.result.credit in
@@ -101,11 +86,11 @@ loop-k-preserved g c =
       ready = chain.ready;
       order = order_continues g.P.Inx.InxKey.packed_number g.V.Visitor.sees g.P.PtrKey.key c.args.generation c.args.visitor old.held old.arena.now c.loop-k.visitor now.held now.arena.now c.loop-k.count c.loop-k.k c.loop-k.ahead.credit
           at.order (g.P.Inx.InxKey.number c.inx_at-i.result) c.inx_at-i.ensures
-          (known_fresh g.P.Inx.InxKey.packed_number g.P.Inx.InxKey.number (slot_at now.held.slots (g.P.Inx.InxKey.number c.inx_at-i.result)) c.read_link-was.result.0 c.in-Some.field-0 c.read_link-was.result.3 c.in-Some.is lookup.generation lookup.destination c.in-None-destination.is)
+          (sym (fresh_read g.P.Inx.InxKey.packed_number g.P.Inx.InxKey.number (slot_at now.held.slots (g.P.Inx.InxKey.number c.inx_at-i.result)) c.read_link-link.result.generation c.read_link-link.result.destination lookup.generation lookup.destination) ∙ sym c.is_fresh.ensures ∙ c.if-not-is_fresh.false)
           behind.held (ahead.read.held ∙ lookup.was_read.held) was_stored.held start.held (g.P.Inx.InxKey.number c.start_at-start.result.0) start.start behind.arena.now was_stored.arena.now new.arena.now
-          c.number_chain-visited.result.0 new.held c.number_chain-visited.result.1 reads c.start_at-start.result.1 c.with_numbered-ahead.result.credit
+          c.number_chain-visited.result.0 new.held c.number_chain-visited.result.1 reads c.start_at-start.result.1 c.saturating_add.result
           (work-more (work-touched now.arena.now mid.arena.now lookup.was_read.arena) ahead.read.work 0 (1 + reads) refl (omega arith))
-          (omega (arith, ahead.fewer, start.ahead, c.without_reads-ahead.ensures, c.with_numbered-ahead.ensures, c.saturating_sub.ensures)) start.linear start.cyclic chain.chain.numbered;
+          (omega (arith, ahead.fewer, start.ahead, c.saturating_add.ensures, c.saturating_sub.ensures)) start.linear start.cyclic chain.chain.numbered;
       counts = counts_on old now new at.counts (counts_on now mid new lookup.was_read.counts (counts_on mid behind new ahead.read.counts (counts_on behind was_stored new start.counts chain.chain.counts)));
     }
 

@@ -59,7 +59,7 @@ after_it-after-requires-clause-next g c some =
     let on = some_there c.step_on-on.result some in
     let enough = walk_more g.P.Inx.InxKey.packed_number g.V.Visitor.sees g.P.PtrKey.key c.args.generation c.args.visitor c.args.compactor.now.held c.args.compactor.now.arena.now (g.P.Inx.InxKey.number c.args.start) c.args.before can.0 can.1 can.2 c.loop-on.visitor c.loop-on.compactor.held c.loop-on.compactor.arena.now c.loop-on.count
     (option_map g.P.Inx.InxKey.number c.loop-on.named) (option_map g.P.Inx.InxKey.number c.loop-on.prev) (g.P.Inx.InxKey.number c.in-Some.i) (walk_at g next can.0 can.1 can.2)
-    (option_map g.P.Inx.InxKey.number c.read_link.result.2) (option_map g.P.Inx.InxKey.number c.step_on-on.result) c.read_link.ensures.next c.step_on-on.ensures (g.P.Inx.InxKey.number on.0) (ap (option_map g.P.Inx.InxKey.number) on.1) in
+    (option_map g.P.Inx.InxKey.number c.read_link-link.result.next) (option_map g.P.Inx.InxKey.number c.step_on-on.result) c.read_link-link.ensures.next c.step_on-on.ensures (g.P.Inx.InxKey.number on.0) (ap (option_map g.P.Inx.InxKey.number) on.1) in
     omega (arith, enough, c.requires.chain.fits)
 
 pub proved_unreachable-assume_proved-requires : goal.proved_unreachable-assume_proved-requires
@@ -68,15 +68,15 @@ proved_unreachable-assume_proved-requires g c = absurd (
     let can = c.requires.chain.can in
     walk_returns g.P.Inx.InxKey.packed_number g.V.Visitor.sees g.P.PtrKey.key c.args.generation c.args.visitor c.args.compactor.now.held c.args.compactor.now.arena.now (g.P.Inx.InxKey.number c.args.start) c.args.before can.0 can.1 can.2 c.loop-on.visitor c.loop-on.compactor.held c.loop-on.compactor.arena.now c.loop-on.count
     (option_map g.P.Inx.InxKey.number c.loop-on.named) (option_map g.P.Inx.InxKey.number c.loop-on.prev) (g.P.Inx.InxKey.number c.in-Some.i) (walk_at g next can.0 can.1 can.2)
-    (sym c.in-None.is ∙ c.read_link.ensures.generation))
+    (sym c.in-None.is ∙ c.read_link-link.ensures.generation))
 
 -- The slots after the write.
 linked_now : (g : Over) (c : After-relink_at g) → IsRelinkedAt g.P.Inx.InxKey.packed_number (g.P.Inx.InxKey.number c.in-Some.i) (option_map g.P.Inx.InxKey.number c.loop-on.prev)
-    (number_after (option_map g.P.Inx.InxKey.number c.step_on-on.result) (option_map g.P.Inx.InxKey.number c.read_link.result.2) c.args.before (c.loop-on.count + 1)) (Some (g.P.Inx.InxKey.number c.inx_at-destination.result))
+    (number_after (option_map g.P.Inx.InxKey.number c.step_on-on.result) (option_map g.P.Inx.InxKey.number c.read_link-link.result.next) c.args.before (c.loop-on.count + 1)) (Some (g.P.Inx.InxKey.number c.inx_at-destination.result))
     c.loop-on.compactor.held c.relink_at.new.compactor.held
 linked_now g c =
     linked_read g.P.Inx.InxKey.packed_number (g.P.Inx.InxKey.number c.in-Some.i) (option_map g.P.Inx.InxKey.number c.loop-on.prev) _ _ (Some (g.P.Inx.InxKey.number c.inx_at-destination.result))
-    c.loop-on.compactor.held c.read_link.new.compactor.held c.relink_at.new.compactor.held c.read_link.ensures.was_read.held c.after_it-after.ensures c.relink_at.ensures.relinked
+    c.loop-on.compactor.held c.read_link-link.new.compactor.held c.relink_at.new.compactor.held c.read_link-link.ensures.was_read.held c.after_it-after.ensures c.relink_at.ensures.relinked
 
 long_now : (g : Over) (c : After-relink_at g) → length c.relink_at.new.compactor.held.slots ≡ length c.args.compactor.now.held.slots
 long_now g c = linked_long g.P.Inx.InxKey.packed_number (g.P.Inx.InxKey.number c.in-Some.i) _ _ _ c.loop-on.compactor.held c.relink_at.new.compactor.held (linked_now g c) ∙ c.loop-on.invariant.long
@@ -92,7 +92,7 @@ loop-on-preserved g c =
     let next = (goal.at.loop-on-preserved g c).In-Some in
     let wrote = (goal.at.loop-on-preserved g c).After-relink_at in
     let at = c.loop-on.invariant in
-    let lookup = c.read_link.ensures in
+    let lookup = c.read_link-link.ensures in
     let links_both = c.relink_at.ensures in
     let now = c.loop-on.compactor in
     let new = c.relink_at.new.compactor in
@@ -102,11 +102,11 @@ loop-on-preserved g c =
       walks = λ done l can.
           walk_continues g.P.Inx.InxKey.packed_number g.V.Visitor.sees g.P.PtrKey.key c.args.generation c.args.visitor c.args.compactor.now.held c.args.compactor.now.arena.now (g.P.Inx.InxKey.number c.args.start) c.args.before done l can c.loop-on.visitor c.loop-on.compactor.held c.loop-on.compactor.arena.now c.loop-on.count
           (option_map g.P.Inx.InxKey.number c.loop-on.named) (option_map g.P.Inx.InxKey.number c.loop-on.prev) (g.P.Inx.InxKey.number c.in-Some.i) (walk_at g next done l can)
-          (option_map g.P.Inx.InxKey.number c.read_link.result.2) (option_map g.P.Inx.InxKey.number c.step_on-on.result) lookup.next c.step_on-on.ensures
-          (g.P.Inx.InxKey.number c.inx_at-destination.result) new.held new.arena.now c.in-Some-was.was c._from_raw.result c._from_raw-in-Some-was.result c.visit.new.self
-          (linked_now g wrote) c.inx_at-destination.ensures (work-twice now.arena.now c.read_link.new.compactor.arena.now new.arena.now lookup.was_read.arena links_both.touched.arena)
-          (sym c.in-Some-was.is ∙ lookup.generation) c._from_raw.ensures c._from_raw-in-Some-was.ensures c.visit.ensures.view_after;
-      counts = counts_on c.args.compactor.now now new at.counts (counts_on now c.read_link.new.compactor new lookup.was_read.counts links_both.touched.counts);
+          (option_map g.P.Inx.InxKey.number c.read_link-link.result.next) (option_map g.P.Inx.InxKey.number c.step_on-on.result) lookup.next c.step_on-on.ensures
+          (g.P.Inx.InxKey.number c.inx_at-destination.result) new.held new.arena.now c.in-Some-generation.was c._from_raw.result c._from_raw-in-Some-generation.result c.visit.new.self
+          (linked_now g wrote) c.inx_at-destination.ensures (work-twice now.arena.now c.read_link-link.new.compactor.arena.now new.arena.now lookup.was_read.arena links_both.touched.arena)
+          (sym c.in-Some-generation.is ∙ lookup.generation) c._from_raw.ensures c._from_raw-in-Some-generation.ensures c.visit.ensures.view_after;
+      counts = counts_on c.args.compactor.now now new at.counts (counts_on now c.read_link-link.new.compactor new lookup.was_read.counts links_both.touched.counts);
     }
 
 pub returns : goal.returns

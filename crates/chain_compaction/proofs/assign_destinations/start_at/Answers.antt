@@ -28,10 +28,10 @@ pub returns-then-is_same : goal.returns-then-is_same
 returns-then-is_same g c =
     let number = g.P.Inx.InxKey.number in
     let at = c.loop-step.invariant in
-    let lookup = c.read_link-before.ensures in
+    let lookup = c.read_link.ensures in
     let old = c.args.compactor.now in
     let now = c.loop-step.compactor in
-    let new = c.read_link-before.new.compactor in
+    let new = c.read_link.new.compactor in
     let reported = link_map_in g.P.Inx.InxKey.packed_number c.args.compactor.now.held.slots in
     let arrived = ap (λ h. prev_of (link_map_in g.P.Inx.InxKey.packed_number h.slots) (number c.loop-step.at)) at.held in
     let known = c.is_same.ensures in
@@ -50,10 +50,10 @@ pub returns-in-None : goal.returns-in-None
 returns-in-None g c =
     let number = g.P.Inx.InxKey.number in
     let at = c.loop-step.invariant in
-    let lookup = c.read_link-before.ensures in
+    let lookup = c.read_link.ensures in
     let old = c.args.compactor.now in
     let now = c.loop-step.compactor in
-    let new = c.read_link-before.new.compactor in
+    let new = c.read_link.new.compactor in
     let reported = link_map_in g.P.Inx.InxKey.packed_number c.args.compactor.now.held.slots in
     let arrived = ap (λ h. prev_of (link_map_in g.P.Inx.InxKey.packed_number h.slots) (number c.loop-step.at)) at.held in
     record {
@@ -70,17 +70,17 @@ loop-step-preserved g c =
     let number = g.P.Inx.InxKey.number in
     let packed_number = g.P.Inx.InxKey.packed_number in
     let at = c.loop-step.invariant in
-    let lookup = c.read_link-before.ensures in
+    let lookup = c.read_link.ensures in
     let old = c.args.compactor.now in
     let now = c.loop-step.compactor in
-    let new = c.read_link-before.new.compactor in
+    let new = c.read_link.new.compactor in
     let on = c.read_on-next.ensures in
     let next = c.read_on-next.new.compactor in
     let known = c.is_same.ensures in
     record {
       held = held_then old new next (held_then old now new at.held lookup.was_read.held) on.read.held;
       back = back_continues (link_map_in packed_number c.args.compactor.now.held.slots) (number c.args.i) c.loop-step.step (number c.loop-step.at) (number c.in-Some.k) at.back
-          (sym (ap (λ h. prev_of (link_map_in packed_number h.slots) (number c.loop-step.at)) at.held) ∙ sym c.read_link-before.ensures.prev ∙ ap (option_map number) c.in-Some.is)
+          (sym (ap (λ h. prev_of (link_map_in packed_number h.slots) (number c.loop-step.at)) at.held) ∙ sym c.read_link.ensures.prev ∙ ap (option_map number) c.in-Some.is)
           (λ e. not_both _ ((g.met.P.Inx.InxKey.same_is_equal c.in-Some.k c.args.i).1 (g.met.P.Inx.InxKey.same_number c.in-Some.k c.args.i e)) (sym known ∙ c.if-is_same.false));
       few = omega (arith, at.few, on.count);
       work = work-more (work-more at.work (work-touched now.arena.now new.arena.now lookup.was_read.arena) 0 (c.loop-step.step + c.loop-step.reads + 1) refl (omega arith)) on.read.work 0 _ refl (omega arith);

@@ -9,8 +9,8 @@ use Rattle.chain_compaction.proofs.compress.move_link.Goals as goal
 
 pub bring-requires-clause-entry : goal.bring-requires-clause-entry
 bring-requires-clause-entry g c =
-    let lookup = c.read_link-was.ensures in
-    entry-view_after c.args.compactor.now.held c.read_link-was.new.compactor.held (g.P.Inx.InxKey.number c.args.from) c.read_link-was.result.0 c.in-Some.was lookup.was_read.held c.in-Some.is lookup.generation
+    let lookup = c.read_link-link.ensures in
+    entry-view_after c.args.compactor.now.held c.read_link-link.new.compactor.held (g.P.Inx.InxKey.number c.args.from) c.read_link-link.result.generation c.in-Some.was lookup.was_read.held c.in-Some.is lookup.generation
 
 pub returns : goal.returns
 returns g c =
@@ -19,11 +19,11 @@ returns g c =
     let from = number c.args.from in
     let to = number c.args.to in
     let first = c.args.compactor.now in
-    let was_read = c.read_link-was.new.compactor in
+    let was_read = c.read_link-link.new.compactor in
     let brought = c.bring.new.self in
     let known = c.set_neighbor.new.compactor in
     let last = c.set_neighbor-2.new.compactor in
-    let lookup = c.read_link-was.ensures in
+    let lookup = c.read_link-link.ensures in
     let places = c.bring.ensures in
     let next = c.set_neighbor.ensures in
     let prev = c.set_neighbor-2.ensures in
@@ -33,7 +33,7 @@ returns g c =
       returned = sym c.in-Some.is ∙ lookup.generation;
       values = move-values packed_number first.held was_read.held brought.held known.held last.held from to c.args.generation lookup.was_read.held places.held next.values prev.values;
       moves = move-links packed_number first.held was_read.held brought.held known.held last.held from to c.args.generation lookup.was_read.held places.held
-          (option_map number c.index_now.result) (option_map number c.index_now-2.result) (option_map number c.read_link-was.result.1) (option_map number c.read_link-was.result.2)
+          (option_map number c.index_now.result) (option_map number c.index_now-2.result) (option_map number c.read_link-link.result.prev) (option_map number c.read_link-link.result.next)
           (g.met.P.Inx.InxKey.at_least_one c.args.from) c.requires.from_within (g.met.P.Inx.InxKey.at_least_one c.args.to) c.requires.to_within
           lookup.prev lookup.next c.index_now.ensures c.index_now-2.ensures next.links prev.links;
       at_rest = λ rest. prev.at_rest (next.at_rest (subst (λ held. AreAtRest packed_number held.slots) (sym places.held)
@@ -44,7 +44,7 @@ returns g c =
 
 pub returns-in-None : goal.returns-in-None
 returns-in-None g c =
-    let lookup = c.read_link-was.ensures in
+    let lookup = c.read_link-link.ensures in
     record {
       counts = lookup.was_read.counts;
       returned = sym c.in-None.is ∙ lookup.generation;

@@ -13,12 +13,12 @@ loop-k-init g c =
 pub returns-in-None-clause-read : goal.returns-in-None-clause-read
 returns-in-None-clause-read g c =
     let old = c.args.compactor.now in
-    reads_few old c.read_link-was.new.compactor (c.loop-k.k + 1) c.args.links (reads_more old c.loop-k.compactor c.read_link-was.new.compactor c.loop-k.k c.loop-k.invariant.read c.read_link-was.ensures.was_read) (omega arith)
+    reads_few old c.read_link-link.new.compactor (c.loop-k.k + 1) c.args.links (reads_more old c.loop-k.compactor c.read_link-link.new.compactor c.loop-k.k c.loop-k.invariant.read c.read_link-link.ensures.was_read) (omega arith)
 
 pub returns-in-None-start_after-clause-read : goal.returns-in-None-start_after-clause-read
 returns-in-None-start_after-clause-read g c =
     let old = c.args.compactor.now in
-    reads_few old c.read_link-was.new.compactor (c.loop-k.k + 1) c.args.links (reads_more old c.loop-k.compactor c.read_link-was.new.compactor c.loop-k.k c.loop-k.invariant.read c.read_link-was.ensures.was_read) (omega arith)
+    reads_few old c.read_link-link.new.compactor (c.loop-k.k + 1) c.args.links (reads_more old c.loop-k.compactor c.read_link-link.new.compactor c.loop-k.k c.loop-k.invariant.read c.read_link-link.ensures.was_read) (omega arith)
 
 pub loop-k-preserved : goal.loop-k-preserved
 loop-k-preserved g c =
@@ -27,13 +27,13 @@ loop-k-preserved g c =
     let old = c.args.compactor.now in
     let now = c.loop-k.compactor in
     let inv = c.loop-k.invariant in
-    let lookup = c.read_link-was.ensures in
+    let lookup = c.read_link-link.ensures in
     let ring = c.is_cyclic_at-is_cyclic in
     record {
-      read = reads_more old now c.read_link-was.new.compactor c.loop-k.k inv.read lookup.was_read;
+      read = reads_more old now c.read_link-link.new.compactor c.loop-k.k inv.read lookup.was_read;
       runs =
           runs_read packed_number old.held now.held c.requires.agree c.loop-k.start c.loop-k.k c.loop-k.is_cyclic ring.result inv.runs inv.read.held (number c.inx_at.result) c.inx_at.ensures
-          c.read_link-was.result.0 c.in-Some.field-0 c.in-Some.is lookup.generation number c.read_link-was.result.1 c.read_link-was.result.2 lookup.prev lookup.next ring.ensures.first ring.ensures.later
+          c.read_link-link.result.generation c.in-Some.field-0 c.in-Some.is lookup.generation number c.read_link-link.result.prev c.read_link-link.result.next lookup.prev lookup.next ring.ensures.first ring.ensures.later
           c.in-Some-start_after.after c.in-Some-start_after.ensures;
     }
 

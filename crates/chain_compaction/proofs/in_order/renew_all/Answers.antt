@@ -24,16 +24,16 @@ loop-k-init g c =
 
 pub proved_unreachable-assume_proved-requires : goal.proved_unreachable-assume_proved-requires
 proved_unreachable-assume_proved-requires g c = absurd (
-    stored_in_order g.P.Inx.InxKey.packed_number c.args.generation c.args.compactor.now.held c.loop-k.compactor.held c.loop-k.k (g.P.Inx.InxKey.number c.inx_at-i.result) c.read_link-was.result.0 c.inx_at-i.ensures (omega arith)
-    c.requires.can.canonical c.loop-k.invariant.renewed c.in-None.is c.read_link-was.ensures.generation)
+    stored_in_order g.P.Inx.InxKey.packed_number c.args.generation c.args.compactor.now.held c.loop-k.compactor.held c.loop-k.k (g.P.Inx.InxKey.number c.inx_at-i.result) c.read_link.result.generation c.inx_at-i.ensures (omega arith)
+    c.requires.can.canonical c.loop-k.invariant.renewed c.in-None.is c.read_link.ensures.generation)
 
 pub loop-k-preserved : goal.loop-k-preserved
 loop-k-preserved g c =
     let inv = c.loop-k.invariant in
-    let lookup = c.read_link-was.ensures in
+    let lookup = c.read_link.ensures in
     let old = c.args.compactor.now in
     let now = c.loop-k.compactor in
-    let read = c.read_link-was.new.compactor in
+    let read = c.read_link.new.compactor in
     let new = c.place.new.self in
     let number = g.P.Inx.InxKey.packed_number in
     let i = g.P.Inx.InxKey.number c.inx_at-i.result in
@@ -41,7 +41,7 @@ loop-k-preserved g c =
       ready = c.visit.ensures.ready;
       renewed = renewed_continues c.args.generation old.held now.held read.held new.held c.loop-k.k i c.inx_at-i.ensures (omega arith) inv.renewed lookup.was_read.held c.place.ensures.held;
       reports = reports_more g.V.Visitor.sees g.P.PtrKey.key (ptr_at (slot_at old.held.slots)) c.args.generation c.args.visitor c.loop-k.visitor c.visit.new.self c.loop-k.k i c.in-Some.was c._from_raw.result c._from_raw-in-Some.result c.inx_at-i.ensures
-          inv.reports c._from_raw.ensures (renewed_read c.args.generation old.held now.held c.loop-k.k i c.read_link-was.result.0 c.in-Some.was c.inx_at-i.ensures inv.renewed c.in-Some.is lookup.generation) c._from_raw-in-Some.ensures c.visit.ensures.view_after;
+          inv.reports c._from_raw.ensures (renewed_read c.args.generation old.held now.held c.loop-k.k i c.read_link.result.generation c.in-Some.was c.inx_at-i.ensures inv.renewed c.in-Some.is lookup.generation) c._from_raw-in-Some.ensures c.visit.ensures.view_after;
       at_rest = λ rest. subst (λ held. AreAtRest number held.slots) (sym c.place.ensures.held)
           (placed_at_rest number read.held.slots i i c.args.generation (subst (λ held. AreAtRest number held.slots) (sym lookup.was_read.held) (inv.at_rest rest)));
       work = work-more inv.work (work-more (work-touched now.arena.now read.arena.now lookup.was_read.arena) (work-with_placed_entry read.arena.now new.arena.now c.place.ensures.arena) 1 1 refl (omega arith))

@@ -15,27 +15,27 @@ use Rattle.chain_links.specs.Links.{destination_of, destination_at}
 
 -- The link's destination, as the slots show it.
 destination_is : (g : Over) (c : In-Some g) → Some (g.P.Inx.InxKey.number c.in-Some.to) ≡ destination_at g.P.Inx.InxKey.packed_number c.args.compactor.now.held.slots (g.P.Inx.InxKey.number c.args.i)
-destination_is g c = sym (ap (option_map g.P.Inx.InxKey.number) c.in-Some.is) ∙ c.read_link-destination.ensures.destination
+destination_is g c = sym (ap (option_map g.P.Inx.InxKey.number) c.in-Some.is) ∙ c.read_link.ensures.destination
 
 pub place-requires-clause-from : goal.place-requires-clause-from
 place-requires-clause-from g c =
     let old = c.args.compactor.now.held in
-    rw c.read_link-destination.ensures.was_read.held (from_within g.P.Inx.InxKey.packed_number c.args.generation _ _ old old old (destination_is g (goal.at.place-requires-clause-from g c).In-Some) c.requires.within)
+    rw c.read_link.ensures.was_read.held (from_within g.P.Inx.InxKey.packed_number c.args.generation _ _ old old old (destination_is g (goal.at.place-requires-clause-from g c).In-Some) c.requires.within)
 
 pub place-requires-clause-to : goal.place-requires-clause-to
 place-requires-clause-to g c =
     let old = c.args.compactor.now.held in
-    rw c.read_link-destination.ensures.was_read.held (to_within g.P.Inx.InxKey.packed_number c.args.generation _ _ old old old (destination_is g (goal.at.place-requires-clause-to g c).In-Some) c.requires.within)
+    rw c.read_link.ensures.was_read.held (to_within g.P.Inx.InxKey.packed_number c.args.generation _ _ old old old (destination_is g (goal.at.place-requires-clause-to g c).In-Some) c.requires.within)
 
 pub place-requires-clause-entry : goal.place-requires-clause-entry
 place-requires-clause-entry g c =
     let old = c.args.compactor.now.held in
-    rw c.read_link-destination.ensures.was_read.held (entry_there g.P.Inx.InxKey.packed_number c.args.generation _ _ old old old (destination_is g (goal.at.place-requires-clause-entry g c).In-Some) c.requires.within)
+    rw c.read_link.ensures.was_read.held (entry_there g.P.Inx.InxKey.packed_number c.args.generation _ _ old old old (destination_is g (goal.at.place-requires-clause-entry g c).In-Some) c.requires.within)
 
 pub overflow_sub-unplaced : goal.overflow_sub-unplaced
 overflow_sub-unplaced g c =
     let old = c.args.compactor.now.held in
-    let moved = c.place.ensures.held ∙ ap (λ h. with_placed_entry h (g.P.Inx.InxKey.number c.args.i) (g.P.Inx.InxKey.number c.in-Some.to) c.args.generation) c.read_link-destination.ensures.was_read.held in
+    let moved = c.place.ensures.held ∙ ap (λ h. with_placed_entry h (g.P.Inx.InxKey.number c.args.i) (g.P.Inx.InxKey.number c.in-Some.to) c.args.generation) c.read_link.ensures.was_read.held in
     omega (arith, c.requires.unplaced, one_less_after g.P.Inx.InxKey.packed_number c.args.generation _ _ old c.place.new.self.held c.remove_destination_at.new.compactor.held (destination_is g (goal.at.overflow_sub-unplaced g c).In-Some) c.requires.within moved c.remove_destination_at.ensures.directed)
 
 not_false : (b : Bool) → not b ≡ false → b ≡ true
@@ -49,13 +49,13 @@ returns-in-Some g c =
     let i = g.P.Inx.InxKey.number c.args.i in
     let d = g.P.Inx.InxKey.number c.in-Some.to in
     let old = c.args.compactor.now in
-    let read = c.read_link-destination.new.compactor in
-    let was_read = c.read_link-destination.ensures.was_read in
+    let read = c.read_link.new.compactor in
+    let was_read = c.read_link.ensures.was_read in
     let placed = c.place.new.self in
     let after = c.remove_destination_at.new.compactor in
     let emptied = c.remove_destination_at.ensures in
     let is : Some d ≡ destination_at packed_number old.held.slots i
-    = sym (ap (option_map g.P.Inx.InxKey.number) c.in-Some.is) ∙ c.read_link-destination.ensures.destination in
+    = sym (ap (option_map g.P.Inx.InxKey.number) c.in-Some.is) ∙ c.read_link.ensures.destination in
     let moved : placed.held ≡ with_placed_entry old.held i d c.args.generation
     = c.place.ensures.held ∙ ap (λ h. with_placed_entry h i d c.args.generation) was_read.held in
     let less = one_less_after packed_number c.args.generation i d old.held placed.held after.held is c.requires.within moved emptied.directed in
@@ -80,9 +80,9 @@ returns-in-None g c =
     let packed_number = g.P.Inx.InxKey.packed_number in
     let target = destination_of packed_number in
     let i = g.P.Inx.InxKey.number c.args.i in
-    let read = c.read_link-destination.ensures in
+    let read = c.read_link.ensures in
     let old = c.args.compactor.now in
-    let after = c.read_link-destination.new.compactor in
+    let after = c.read_link.new.compactor in
     let kept : after.held ≡ old.held = read.was_read.held in
     let slots = ap (λ h. h.slots) kept in
     record {
