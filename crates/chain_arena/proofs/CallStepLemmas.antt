@@ -9,7 +9,7 @@ use Rattle.chain_laws.proofs.WalkLemmas.Drains.{walk_is_taken}
 use Rattle.arena_traits.specs.Arena.{IsValid, HasCapacityFor, with_capacity_of}
 use Rattle.arena_traits.specs.Growth.{Reserves}
 use Rattle.chain_links.specs.ChainArena.{link_map, value_view, entry}
-use Rattle.chain_links.specs.declared.kinds.InsertKindBody.{InsertKindBody}
+use Rattle.chain_laws.specs.declared.insert_kind.InsertKind.{InsertKind}
 use Rattle.chain_arena.specs.Drains.{walk_left, without_each}
 use Rattle.chain_arena.specs.Effects.{Links, IsDrained}
 use Rattle.chain_arena.specs.NewLinks.{IsNewLink}
@@ -35,8 +35,8 @@ module _ {Gen T : Type 0} where
 
 module _ {P I Gen W T : Type 0} (pointers : PointerKind P I Gen W) where
   -- Whatever the stack's reach, a link is inserted.
-  pub inserted_anyhow : {X : Type 0} (may_reach : ℕ → Option ℕ → ℕ → ℕ → Type 0) (old new : Links Gen T) (kind : InsertKindBody P I) (t : T) (r : Result P X)
-      → IfOk r (IsNewLink pointers.key pointers.number may_reach pointers.greatest old kind t new) → IfOk r (IsNewLinkAnyhow pointers old kind t new)
+  pub inserted_anyhow : {X : Type 0} (may_reach : ℕ → Option ℕ → ℕ → ℕ → Type 0) (old new : Links Gen T) (kind : InsertKind P I) (t : T) (r : Result P X)
+      → IfOk r (IsNewLink pointers may_reach old kind t new) → IfOk r (IsNewLinkAnyhow pointers old kind t new)
   inserted_anyhow may_reach old new kind t (Ok p) known = record {
     pointer = known.pointer;
     state = known.state;

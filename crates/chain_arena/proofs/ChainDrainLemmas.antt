@@ -13,7 +13,7 @@ use Rattle.arena_traits.specs.Arena.{Arena, entry_at, remove_at}
 use Rattle.arena_traits.specs.Arena.{IsValid}
 use Rattle.arena_traits.proofs.ArenaViewLemmas.{length-with_slot}
 use Rattle.chain_links.specs.ChainArena.{LinkView, link_map, on_value, link_value as held_value, interlinks_of, values_of, link_of, link_at, remove_link}
-use Rattle.chain_links.specs.Insertions.{nonzero_index}
+use Rattle.chain_links.specs.ChainArena.{nonzero_index}
 use Rattle.chain_links.specs.Links.{link_view}
 use Rattle.chain_arena.specs.Drains.{walk_left, without_each, IsDrainStep, CountsUp}
 use Rattle.chain_links.specs.declared.links.LinkBody.{LinkBody}

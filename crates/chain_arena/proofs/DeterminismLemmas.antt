@@ -18,10 +18,11 @@ use Rattle.chain_laws.specs.Cuts.{without_pair}
 use Rattle.chain_laws.proofs.WalkLemmas.Walker.{no_other_walk}
 use Rattle.arena_traits.specs.Arena.{IsValid, entry_count, with_capacity_of}
 use Rattle.arena_traits.specs.CallOutcomes.{ReportsOverflow}
-use Rattle.chain_links.specs.ChainArena.{LinkView, link_map, value_view, value_state, entry, link_of, link_at, insert_as, with_link_map}
+use Rattle.chain_links.specs.ChainArena.{LinkView, link_map, value_view, value_state, entry, link_of, link_at, with_link_map}
 use Rattle.chain_arena.specs.Drains.{without_each}
 use Rattle.chain_links.specs.Links.{link_view, pair_view}
-use Rattle.chain_arena.specs.Effects.{Links, GrowsStackToFit, IsCut, HaveSameCapacity, indexed_kind}
+use Rattle.chain_arena.specs.Effects.{Links, GrowsStackToFit, IsCut, HaveSameCapacity}
+use Rattle.chain_arena.specs.NewLinks.{with_new_link}
 use Rattle.arena_traits.specs.Growth.{RefusesToFit, RefusesOneMore}
 use Rattle.chain_links.specs.CallEffects.{IsTaken}
 use Rattle.arena_core.specs.PointerKinds.{PointerKind}
@@ -31,7 +32,7 @@ use Rattle.chain_arena.specs.declared.calls.Call.{Call}
 use Rattle.chain_arena.specs.declared.calls.Call.TheVariants as call
 use Rattle.chain_arena.specs.declared.calls.Reply.{Reply}
 use Rattle.chain_arena.specs.declared.calls.Reply.TheVariants as reply
-use Rattle.chain_links.specs.declared.kinds.InsertKindBody.{InsertKindBody}
+use Rattle.chain_laws.specs.declared.insert_kind.InsertKind.{InsertKind}
 use Rattle.chain_links.specs.declared.links.LinkBody.{LinkBody}
 use Rattle.chain_links.proofs.ArenaInsertionLemmas.{values-count}
 use Rattle.arena_traits.proofs.CallOutcomeLemmas.{not_beyond}
@@ -208,22 +209,22 @@ module _ {P T I Gen W : Type 0} (pointers : PointerKind P I Gen W) (same_key : (
   no_link : (old : Links Gen T) (n : ℕ) (e : Gen × LinkView T) → link_at (entry old) (link_map old) n ≡ Some e → entry old n ≡ None → ⊥
   no_link old n e is none = none-some e (sym (ap (λ (o : Option (Gen × T)). link_of o (link_map old n)) none) ∙ is)
 
-  same_pointer : (old a b : Links Gen T) (kind : InsertKindBody P I) (t : T) (p q : P) → IsNewLinkAnyhow pointers old kind t a p → IsNewLinkAnyhow pointers old kind t b q → p ≡ q
+  same_pointer : (old a b : Links Gen T) (kind : InsertKind P I) (t : T) (p q : P) → IsNewLinkAnyhow pointers old kind t a p → IsNewLinkAnyhow pointers old kind t b q → p ≡ q
   same_pointer old a b kind t p q one two = same_key p q (same one.pointer two.pointer)
 
   -- The arena after an insertion, but for its capacity.
-  abbrev added : Links Gen T → InsertKindBody P I → T → Links Gen T
-  added old kind t = insert_as old (indexed_kind pointers.key pointers.number kind) t
+  abbrev added : Links Gen T → InsertKind P I → T → Links Gen T
+  added old kind t = with_new_link pointers old kind t
 
   -- How far an insertion grows the arena.
-  grown_for_one : (old new : Links Gen T) (kind : InsertKindBody P I) (t : T) (p : P) → IsNewLinkAnyhow pointers old kind t new p → GrowsStackToFit pointers.greatest (entry_count old + 1) old (added old kind t) new
+  grown_for_one : (old new : Links Gen T) (kind : InsertKind P I) (t : T) (p : P) → IsNewLinkAnyhow pointers old kind t new p → GrowsStackToFit pointers.greatest (entry_count old + 1) old (added old kind t) new
   grown_for_one old new kind t p made = record {
     state = made.state;
     enough = λ few. made.state_within_capacity (let counted = values-count old in omega (arith, few, counted));
     grown = λ _. made.grown.capacity;
   }
 
-  inserts_within_same : (old a b : Links Gen T) (kind : InsertKindBody P I) (t : T) (r s : Result P ChainInsertionError)
+  inserts_within_same : (old a b : Links Gen T) (kind : InsertKind P I) (t : T) (r s : Result P ChainInsertionError)
       → InsertWithinStep pointers old kind t r a → InsertWithinStep pointers old kind t s b → Same r s a b
   inserts_within_same old a b kind t (Ok p) (Ok q) one two = (ap Ok (same_pointer old a b kind t p q one.2 two.2), same (one.2.state_within_capacity one.0.1) (two.2.state_within_capacity two.0.1))
   inserts_within_same old a b kind t (Ok p) (Err failed.FailedLinkRequirement) one two = absurd (two.0 one.0.0)
@@ -258,7 +259,7 @@ module _ {P T I Gen W : Type 0} (pointers : PointerKind P I Gen W) (same_key : (
   abbrev AlikeOrApart : ℕ → Reply P T I Gen W → Reply P T I Gen W → Links Gen T → Links Gen T → Type 0
   AlikeOrApart n r s a b = (AreSameReplies pointers.packed r s × AreSameButCapacityAndTouched a b) ⊎ ((n ≤ pointers.greatest) × (refused_memory r ≡ refused_memory s → ⊥) × (HaveSameCapacity a b → ⊥))
 
-  inserts_apart : (old a b : Links Gen T) (kind : InsertKindBody P I) (t : T) (r s : Result P ChainInsertionError)
+  inserts_apart : (old a b : Links Gen T) (kind : InsertKind P I) (t : T) (r s : Result P ChainInsertionError)
       → InsertStep pointers old kind t r a → InsertStep pointers old kind t s b → AlikeOrApart (entry_count old + 1) (reply.Inserted r) (reply.Inserted s) a b
   inserts_apart old a b kind t (Ok p) (Ok q) one two = inl (
     ap (λ (x : P). reply.Inserted (Ok x)) (same_pointer old a b kind t p q one.2 two.2),
@@ -309,7 +310,7 @@ module _ {P T I Gen W : Type 0} (pointers : PointerKind P I Gen W) (same_key : (
   in_one_capacity n r s a b within_capacity both = ⊎_elim (λ alike. (alike.0, same_with_capacity a b within_capacity alike.1)) (λ apart. absurd (apart.2 within_capacity)) both
 
   -- The capacity sufficed already, and is unchanged.
-  inserts_in_capacity : (old new : Links Gen T) (kind : InsertKindBody P I) (t : T) (r : Result P ChainInsertionError) → entry_count old < old.capacity → InsertStep pointers old kind t r new → HaveSameCapacity new old
+  inserts_in_capacity : (old new : Links Gen T) (kind : InsertKind P I) (t : T) (r : Result P ChainInsertionError) → entry_count old < old.capacity → InsertStep pointers old kind t r new → HaveSameCapacity new old
   inserts_in_capacity old new kind t (Ok p) within_capacity step =
       capacity_stays pointers.greatest (entry_count old + 1) old (added old kind t) new (refl, refl) (omega (arith, within_capacity)) (grown_for_one old new kind t p step.2)
   inserts_in_capacity old new kind t (Err why) within_capacity step = capacity_kept old new step.1

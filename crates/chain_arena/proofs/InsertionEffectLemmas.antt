@@ -1,23 +1,21 @@
 -- Effects of an insertion on a chain arena, from its state.
-use Rattle.std.proofs.Common.{◌≡◌, ℕ, ◌+◌, length, Option, None, Some, refl, ap, sym, ◌∙◌, subst, subst₂}
+use Rattle.std.proofs.Common.{◌≡◌, ℕ, ◌+◌, length, Option, None, Some, refl, ap, sym, ◌∙◌, subst}
 use Rattle.chain_laws.specs.Chains.{LinkMap, IsWellLinked}
 use Rattle.chain_laws.specs.Joins.{with_lone, with_neighbors}
-use Rattle.chain_laws.specs.Insertions.{InsertKind, CanInsert, IsInsertPosition, link_before, link_after, with_insertion, InsertsPairs, Inserts}
-use Rattle.chain_laws.proofs.InsertionLemmas.Pairs.{kind_position, inserted_agrees, inserted_in_pairs}
+use Rattle.chain_laws.specs.Insertions.{IsInsertPosition, with_insertion, InsertsPairs, Inserts}
+use Rattle.chain_laws.specs.declared.insert_kind.InsertKind.{InsertKind}
+use Rattle.chain_laws.proofs.InsertionLemmas.Pairs.{inserted_agrees, inserted_in_pairs}
 use Rattle.chain_laws.proofs.InsertionLemmas.Chains.{inserted_inserts}
+use Rattle.arena_core.specs.PointerKinds.{PointerKind}
 use Rattle.arena_traits.specs.Arena.{Arena, without_first, IsListed, first_or_next, next_index, insert_next, with_capacity_of}
 use Rattle.arena_traits.specs.Entries.{Slots, view_of, entries, count}
 use Rattle.arena_traits.proofs.ArenaViewLemmas.{length-entries, count-filled}
-use Rattle.chain_links.specs.ChainArena.{LinkView, link_value, values_of, value_view, entry, link_map, lone, insert_lone, insert_between, insert_as}
-use Rattle.chain_links.specs.Insertions.{IsInsertion, IsInsertionBetween}
+use Rattle.chain_links.specs.ChainArena.{LinkView, link_value, values_of, value_view, value_state, link_map, lone, insert_lone, insert_between}
+use Rattle.chain_links.specs.Insertions.{IsInsertedBetween, GainsLink, before_new, after_new}
 use Rattle.chain_links.proofs.MappedArenaLemmas.{with_each-insert_next, length-with_each, listed-with_each}
 use Rattle.chain_links.proofs.ArenaInsertionLemmas.{link_map-insert_lone, link_map-next, inserted_at, length-filled}
+use Rattle.chain_arena.specs.NewLinks.{with_new_link}
 use Rattle.chain_linking.proofs.LinkWriteLemmas.{FitsLinks, FitsLinks-link_map, FitsLinks-with_next_at, FitsLinks-with_prev_at, link_map-with_link_map, values_of-with_link_map}
-
--- The insertion position of a kind that may be inserted.
-pub position_known : (interlinks : LinkMap) (kind : InsertKind ℕ) (q : ℕ) {u v : Option ℕ} → u ≡ link_before interlinks kind q → v ≡ link_after interlinks kind q
-    → IsWellLinked interlinks → CanInsert interlinks kind → IsInsertPosition interlinks q u v
-position_known interlinks kind q before after agrees can = subst₂ (IsInsertPosition interlinks q) (sym before) (sym after) (kind_position interlinks kind q agrees can)
 
 module _ {Gen T : Type 0} (a : Arena Gen (LinkView T)) (t : T) (listed : IsListed a) where
   fits_between : (u v : Option ℕ) → FitsLinks (with_insertion (link_map a) (next_index a) u v) (insert_lone a t)
@@ -62,11 +60,11 @@ module _ {Gen T : Type 0} (a : Arena Gen (LinkView T)) (t : T) (listed : IsListe
 
     -- An insertion between two links, from the state alone.
     pub known_between : (p : ℕ × Gen) → p ≡ (next_index a, a.counter) → IsWellLinked (link_map a) → IsInsertPosition (link_map a) (next_index a) u v
-        → IsInsertionBetween u v (value_view a) (value_view b) (entry a) (entry b) (link_map a) (link_map b) p t
+        → IsInsertedBetween value_state link_map u v a t p b
     known_between p at agrees position =
         let q = next_index a in
         let free : link_map a q ≡ None = link_map-next a listed.free in
-        subst (λ (x : ℕ × Gen). IsInsertionBetween u v (value_view a) (value_view b) (entry a) (entry b) (link_map a) (link_map b) x t) (sym at) (record {
+        subst (λ (x : ℕ × Gen). IsInsertedBetween value_state link_map u v a t x b) (sym at) (record {
           entries = inserted_at (values_of a) (values_of b) t (q, a.counter) (listed-with_each link_value a listed).free known_values (ap (λ (n : ℕ). (n, a.counter)) (sym next_index-values_of));
           links = known_reports;
           pairs = subst (λ (m : LinkMap). InsertsPairs (link_map a) m q u v) (sym known_reports) (inserted_in_pairs (link_map a) q u v agrees free position);
@@ -82,9 +80,9 @@ module _ {Gen T : Type 0} (a : Arena Gen (LinkView T)) (t : T) (listed : IsListe
         })
 
   -- An insertion of a kind, from the state alone.
-  pub insertion_known : (b : Arena Gen (LinkView T)) (kind : InsertKind ℕ) → b ≡ with_capacity_of (insert_as a kind t) b → (p : ℕ × Gen) → p ≡ (next_index a, a.counter)
-      → IsWellLinked (link_map a) → CanInsert (link_map a) kind → IsInsertion kind (value_view a) (value_view b) (entry a) (entry b) (link_map a) (link_map b) p t
-  insertion_known b kind is p at agrees can =
-      let q = next_index a in
-      subst (λ (x : ℕ × Gen). IsInsertion kind (value_view a) (value_view b) (entry a) (entry b) (link_map a) (link_map b) x t) (sym at)
-      (known_between b (link_before (link_map a) kind q) (link_after (link_map a) kind q) is (q, a.counter) refl agrees (kind_position (link_map a) kind q agrees can))
+  pub insertion_known : {P I W : Type 0} (pointers : PointerKind P I Gen W) (b : Arena Gen (LinkView T)) (kind : InsertKind P I) → b ≡ with_capacity_of (with_new_link pointers a kind t) b → (p : P) → pointers.key p ≡ (next_index a, a.counter)
+      → IsWellLinked (link_map a) → IsInsertPosition (link_map a) (next_index a) (before_new pointers (link_map a) kind (next_index a)) (after_new pointers (link_map a) kind (next_index a))
+      → GainsLink value_state link_map pointers a kind t p b
+  insertion_known pointers b kind is p at agrees position =
+      subst (λ (q : ℕ × Gen). IsInsertedBetween value_state link_map (before_new pointers (link_map a) kind q.0) (after_new pointers (link_map a) kind q.0) a t q b) (sym at)
+      (known_between b (before_new pointers (link_map a) kind (next_index a)) (after_new pointers (link_map a) kind (next_index a)) is (next_index a, a.counter) refl agrees position)

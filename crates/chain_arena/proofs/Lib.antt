@@ -1,7 +1,6 @@
 pub mod ArenaCompressionLemmas
 pub mod LinkCopyLemmas
 pub mod BreakAndExchangeLemmas
-pub mod DecidabilityLemmas
 pub mod DeterminismLemmas
 pub mod ChainDrainLemmas
 pub mod ChainIterLemmas

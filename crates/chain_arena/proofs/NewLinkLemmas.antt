@@ -1,260 +1,218 @@
--- The insertion position of a new link, and the insertion there.
-use Rattle.std.proofs.Common.{◌≡◌, length, inl, ℕ, ◌+◌, ◌<◌, ◌≤◌, Option, None, Some, Result, Ok, Err, OnErr, refl, sym, ap, ap₂, ◌∙◌, subst, arith}
-use Rattle.std.specs.Prelude.{IfOk}
-use Rattle.std.specs.Result.{ForOk}
+-- The links beside a new one of a kind, and the insertion between them.
+use Rattle.std.proofs.Common.{◌≡◌, ◌↔◌, inl, ℕ, ◌+◌, ◌<◌, ◌≤◌, Option, None, Some, Result, Ok, Err, OnErr, refl, sym, ap, ap₂, ◌∙◌, subst, subst₂, arith}
+use Rattle.std.specs.Prelude.{is_some, IsSome, IsSomeAnd, IfSome}
+use Rattle.std.specs.Borrow.{Bor}
+use Rattle.std.specs.Option.{option_map, option_and_then}
 use Rattle.std.proofs.lemmas.Bool.{false≢true}
+use Rattle.arena_core.specs.PointerKinds.{PointerKind}
+use Rattle.arena_core.specs.Errors.{insertion_error}
 use Rattle.arena_core.specs.SlotStack.{IsBeyond}
 use Rattle.arena_core.specs.declared.errors.ChainInsertionError.{ChainInsertionError}
-use Rattle.arena_core.specs.declared.errors.ChainInsertionError.TheVariants as failed
 use Rattle.arena_core.specs.declared.errors.ReallocationError.{ReallocationError}
 use Rattle.arena_core.specs.declared.errors.ReallocationError.TheVariants as refused
-use Rattle.chain_laws.specs.Chains.{IsWellLinked}
-use Rattle.chain_laws.specs.Insertions.{InsertKind, IsInsertPosition}
-use Rattle.arena_traits.specs.Arena.{Arena, IsCapacityFor, IsListed, HasCapacityFor, ReachesCapacity, IsWithinReach, entry_count, next_index, with_capacity_of}
-use Rattle.arena_traits.specs.Entries.{HasFreeCapacity}
-use Rattle.arena_traits.specs.Growth.{IsGrowthResult, IsFull, RefusesOneMore, Reserves}
-use Rattle.chain_links.specs.CallEffects.{IsInsertionResult, IsInsertionWithinResult}
-use Rattle.chain_links.specs.ChainArena.{link_map, value_view, entry, insert_between, insert_as}
-use Rattle.chain_links.specs.Kinds.{names_in}
-use Rattle.chain_links.specs.Links.{links_view}
+use Rattle.chain_laws.specs.Chains.{IsWellLinked, next_of, prev_of, next_in, prev_in}
+use Rattle.chain_laws.specs.Insertions.{IsInsertPosition}
+use Rattle.chain_laws.specs.declared.insert_kind.InsertKind.{InsertKind}
+use Rattle.chain_laws.proofs.InsertionLemmas.Pairs.{kind_position}
+use Rattle.arena_traits.specs.Arena.{Arena, IsCapacityFor, IsListed, IsValid, HasCapacityFor, ReachesCapacity, entry_at, entry_count, next_index, with_capacity_of}
+use Rattle.arena_traits.specs.Entries.{HasFreeCapacity, view_of, count}
+use Rattle.arena_traits.specs.Growth.{RefusesOneMore}
+use Rattle.arena_traits.proofs.ArenaViewLemmas.{length-entries}
+use Rattle.arena_base.specs.Growths.{HasGrownFor, GrowsArenaForOneMore}
+use Rattle.chain_links.specs.ChainArena.{link_map, value_view, value_state, entry, insert_between, interlinks_in, on_value}
+use Rattle.chain_links.specs.Insertions.{IsInsertionRefusal, MayInsertIn, before_new, after_new}
+use Rattle.chain_links.specs.Links.{link_view, links_view}
 use Rattle.chain_links.specs.declared.links.LinkBody.{LinkBody}
-use Rattle.chain_links.proofs.ArenaInsertionLemmas.{next_index-links_view, values-count}
-use Rattle.chain_links.specs.declared.kinds.InsertKindBody.{InsertKindBody}
-use Rattle.chain_linking.specs.InsertPositions.{before_in, after_in, IsPositionOf}
-use Rattle.chain_linking.specs.declared.insert_position.InsertPosition.{InsertPosition}
-use Rattle.chain_arena.specs.Growths.{growth_of}
-use Rattle.chain_arena.specs.NewLinks.{HasCapacityForOne, GrowsByOne, position_unless_refused, IsPositionFor, FindsPositionWithin, FindsPositionGrowing, IsInsertedIn, InsertsAt, InsertsNewLink}
-use Rattle.chain_arena.specs.Effects.{Links, indexed_kind, MayInsertInto}
-use Rattle.chain_arena.proofs.InsertionEffectLemmas.{position_known, insertion_known}
-
--- ---- outcomes of insertions
-
-module _ {P : Type 0} (May : Type 0) (Refuses : ReallocationError → Type 0) (Does : P → Type 0) where
-  -- An insertion of a kind that may be inserted returns what its growth returns.
-  pub growth_result : (r : Result P ChainInsertionError) → May → IsInsertionResult May Refuses Does r → IsGrowthResult Refuses Does (growth_of r)
-  growth_result (Ok p) may known = known.1
-  growth_result (Err failed.FailedLinkRequirement) may known = absurd (known may)
-  growth_result (Err failed.BeyondMaxCapacity) may known = known.1
-  growth_result (Err failed.AllocError) may known = known.1
-  growth_result (Err failed.NotWithinCapacity) may known = absurd known
-
-  -- What the result `Ok` implies.
-  module _ (Known : P → Type 0) (so : (p : P) → Does p → Known p) where
-    pub insertion_result : (r : Result P ChainInsertionError) → IsInsertionResult May Refuses Does r → IsInsertionResult May Refuses Known r
-    insertion_result (Ok p) known = (known.0, so p known.1)
-    insertion_result (Err why) known = known
-
-    pub insertion_ok : (r : Result P ChainInsertionError) → IsInsertionResult May Refuses Does r → IfOk r Known
-    insertion_ok (Ok p) known = so p known.1
-    insertion_ok (Err e) known = tt
-
--- The same within the capacity.
-module _ {P : Type 0} (May HasCapacity Full : Type 0) (Does : P → Type 0) where
-  module _ (Known : P → Type 0) where
-    pub within_result : ((p : P) → HasCapacity → Does p → Known p) → (r : Result P ChainInsertionError) → IsInsertionWithinResult May HasCapacity Full Does r → IsInsertionWithinResult May HasCapacity Full Known r
-    within_result so (Ok p) known = (known.0, known.1, so p known.1 known.2)
-    within_result so (Err why) known = known
-
-    pub within_ok : ((p : P) → Does p → Known p) → (r : Result P ChainInsertionError) → IsInsertionWithinResult May HasCapacity Full Does r → IfOk r Known
-    within_ok so (Ok p) known = so p known.2
-    within_ok so (Err e) known = tt
-
--- What holds of an insertion's result holds of its growth's result.
-pub growth_ok : {P : Type 0} (Known : P → Type 0) (r : Result P ChainInsertionError) → IfOk r Known → IfOk (growth_of r) Known
-growth_ok Known (Ok p) known = known
-growth_ok Known (Err failed.BeyondMaxCapacity) known = tt
-growth_ok Known (Err failed.FailedLinkRequirement) known = tt
-growth_ok Known (Err failed.NotWithinCapacity) known = tt
-growth_ok Known (Err failed.AllocError) known = tt
-
-pub growth_err : {P : Type 0} (Known : Type 0) (r : Result P ChainInsertionError) → OnErr r Known → OnErr (growth_of r) Known
-growth_err Known (Ok p) known = tt
-growth_err Known (Err failed.BeyondMaxCapacity) known = known
-growth_err Known (Err failed.FailedLinkRequirement) known = known
-growth_err Known (Err failed.NotWithinCapacity) known = known
-growth_err Known (Err failed.AllocError) known = known
-
--- ---- capacity for one more link
-
-module _ {Gen T : Type 0} where
-  -- A full arena, by its links.
-  is_full : (old : Links Gen T) → entry_count old ≤ old.capacity → (entry_count old + 1 ≤ old.capacity → ⊥) → IsFull (value_view old)
-  is_full old fits no_capacity = let counted = values-count old in omega (arith, fits, no_capacity, counted)
-
-  -- A growth to a capacity for the links and one more.
-  pub grows_by_one : (may_reach : ℕ → Option ℕ → ℕ → ℕ → Type 0) (greatest m : ℕ) (old new : Links Gen T) (r : Result Unit ReallocationError) → m ≡ entry_count old → m ≤ old.capacity
-      → Reserves greatest (m + 1) (value_view old) r (value_view new) → (m + 1 ≤ old.capacity → new ≡ old) → OnErr r (new ≡ old) → new ≡ with_capacity_of old new → IsWithinReach may_reach (m + 1) old new → HasCapacityFor greatest (length new.slots) new
-      → GrowsByOne may_reach greatest old r new
-  grows_by_one may_reach greatest m old new (Ok done) same fits outcome enough err state reached held = (
-    record {
-      grown = subst (λ (k : ℕ). ReachesCapacity may_reach greatest (k + 1) old new) same (record { capacity = (outcome.1.0, held.1, held.2); reached = reached });
-      state = state;
-      stays = λ less. let counted = values-count old in enough (omega (arith, less, same, counted));
-    },
-    tt,
-  )
-  grows_by_one may_reach greatest m old new (Err refused.BeyondMaxCapacity) same fits outcome enough err state reached held =
-      ((is_full old (omega (arith, same, fits)) (λ within_capacity. let less = outcome.0 in omega (arith, same, within_capacity, less)), subst (λ (k : ℕ). IsBeyond old.maximum (k + 1)) (same ∙ sym (values-count old)) outcome.1), err)
-  grows_by_one may_reach greatest m old new (Err refused.AllocError) same fits outcome enough err state reached held =
-      ((is_full old (omega (arith, same, fits)) (λ within_capacity. let less = outcome.0 in omega (arith, same, within_capacity, less)), λ past. outcome.1 (subst (λ (k : ℕ). IsBeyond old.maximum (k + 1)) (values-count old ∙ sym same) past)), err)
-
-  pub entry_capacity : (may_reach : ℕ → Option ℕ → ℕ → ℕ → Type 0) (greatest : ℕ) (old mid : Links Gen T) → HasCapacityForOne may_reach greatest old mid → entry_count mid < mid.capacity
-  entry_capacity may_reach greatest old mid grown =
-      let same : entry_count mid ≡ entry_count old = ap (λ (a : Links Gen T). entry_count a) grown.state in
-      let fits = grown.grown.capacity.0.fits in
-      omega (arith, same, fits)
-
-  -- Free capacity is capacity for one more link, without a growth.
-  pub has_capacity : (may_reach : ℕ → Option ℕ → ℕ → ℕ → Type 0) (greatest : ℕ) (old : Links Gen T) → HasCapacityFor greatest (length old.slots) old → HasFreeCapacity (value_view old) → HasCapacityForOne may_reach greatest old old
-  has_capacity may_reach greatest old held less = record {
-    grown = record {
-      capacity = (record { fits = (let counted = values-count old in omega (arith, less, counted)); at_most_greatest = held.0.at_most_greatest; within_maximum = held.0.within_maximum }, held.1, held.2);
-      reached = inl refl;
-    };
-    state = refl;
-    stays = λ _. refl;
-  }
+use Rattle.chain_links.proofs.ArenaInsertionLemmas.{next_index-links_view, entry_count-links_view, values-count}
+use Rattle.chain_linking.proofs.ConnectionLemmas.{same_valid, value_at}
+use Rattle.chain_linking.proofs.LinkEntryLemmas.{links-view_after}
+use Rattle.chain_linking.proofs.NeighborLemmas.{valid_link, link_where}
+use Rattle.chain_linking.specs.ChainArenaLaws.{links_exist}
+use Rattle.chain_arena.specs.NewLinks.{ReturnsBeside, AreBesideNew, InsertsBeside, InsertsNewLink, with_new_link}
+use Rattle.chain_arena.specs.Effects.{Links}
+use Rattle.chain_arena.proofs.InsertionEffectLemmas.{insertion_known}
 
 -- The next index, in the links as contracts see them.
 pub next_viewed : {K Gen T : Type 0} (packed : K → Option ℕ) (a : Arena Gen (LinkBody K T)) (p : ℕ × Gen) → p ≡ (next_index a, a.counter) → p ≡ (next_index (links_view packed a), a.counter)
 next_viewed packed a p at = subst (λ (q : ℕ). p ≡ (q, a.counter)) (sym (next_index-links_view packed a)) at
 
--- ---- positions of kinds
+pub less_entries : {K Gen T : Type 0} (packed : K → Option ℕ) (a : Arena Gen (LinkBody K T)) {n : ℕ} → entry_count (links_view packed a) < n → entry_count a < n
+less_entries packed a less = let same = entry_count-links_view packed a in omega (arith, less, same)
 
-module _ {P I Gen T : Type 0} (key : P → ℕ × Gen) (number : I → ℕ) (old : Links Gen T) (kind : InsertKindBody P I) where
-  abbrev by : InsertKind ℕ
-  by = indexed_kind key number kind
+-- ---- what was read of a link
 
-  abbrev May : Type 0
-  May = MayInsertInto key number old kind
+-- What is returned beside a new link, in other words.
+pub returns_beside : {I : Type 0} (number : I → ℕ) (may may' : Type 0) (u v u' v' : Option ℕ) (r : Option (Option I × Option I)) → ReturnsBeside number may u v r → may ↔ may' → (may' → u ≡ u') → (may' → v ≡ v')
+    → ReturnsBeside number may' u' v' r
+returns_beside number may may' u v u' v' None is same before after = record { some = (λ h. absurd (false≢true h), λ h. is.some.1 (same.1 h)); beside = tt }
+returns_beside number may may' u v u' v' (Some beside) is same before after =
+    let given = same.0 (is.some.0 refl) in
+    record { some = (λ _. given, λ _. refl); beside = record { before = is.beside.before ∙ before given; after = is.beside.after ∙ after given } }
 
-  -- A returned insertion position of a kind is one for it.
-  pub is_place : (position : InsertPosition I) → IsPositionOf number (entry old) (link_map old) (names_in key number kind) (Some position) → IsPositionFor key number old kind position
-  is_place position is = record {
-    before = is.before (next_index old);
-    after = is.after (next_index old);
+-- A link that may be at index i, where `given` states that there is one that was meant.
+module _ {Gen K T : Type 0} (packed : K → Option ℕ) (a : Links Gen T) (i : ℕ) (given : Type 0) where
+  abbrev pub Found : Option (Bor (LinkBody K T)) → Type 0
+  Found r = (IsSome r ↔ given) × IfSome r (λ link. link_map a i ≡ Some (interlinks_in (link_view packed link.now)))
+
+  abbrev next_read : Option (Bor (LinkBody K T)) → Option ℕ
+  next_read r = option_and_then (λ link. (link_view packed link.now).next) r
+
+  abbrev prev_read : Option (Bor (LinkBody K T)) → Option ℕ
+  prev_read r = option_and_then (λ link. (link_view packed link.now).prev) r
+
+  pub next_found : (r : Option (Bor (LinkBody K T))) → Found r → given → next_read r ≡ next_of (link_map a) i
+  next_found None found has = absurd (false≢true (found.0.1 has))
+  next_found (Some link) found has = sym (ap next_in found.1)
+
+  pub prev_found : (r : Option (Bor (LinkBody K T))) → Found r → given → prev_read r ≡ prev_of (link_map a) i
+  prev_found None found has = absurd (false≢true (found.0.1 has))
+  prev_found (Some link) found has = sym (ap prev_in found.1)
+
+  pub next_is : (o : Option ℕ) (r : Option (Bor (LinkBody K T))) → Found r → IsSomeAnd r (λ link. (link_view packed link.now).next ≡ o) ↔ (given × (next_of (link_map a) i ≡ o))
+  next_is o None found = (λ h. absurd h, λ h. absurd (false≢true (found.0.1 h.0)))
+  next_is o (Some link) found = (λ h. (found.0.0 refl, ap next_in found.1 ∙ h), λ h. sym (ap next_in found.1) ∙ h.1)
+
+  pub prev_is : (o : Option ℕ) (r : Option (Bor (LinkBody K T))) → Found r → IsSomeAnd r (λ link. (link_view packed link.now).prev ≡ o) ↔ (given × (prev_of (link_map a) i ≡ o))
+  prev_is o None found = (λ h. absurd h, λ h. absurd (false≢true (found.0.1 h.0)))
+  prev_is o (Some link) found = (λ h. (found.0.0 refl, ap prev_in found.1 ∙ h), λ h. sym (ap prev_in found.1) ∙ h.1)
+
+-- The link of a pointer, and the link at an index.
+module _ {Gen K T : Type 0} (packed : K → Option ℕ) (a : Arena Gen (LinkBody K T)) where
+  pub found_ptr : (p : ℕ × Gen) (r : Option (Bor (LinkBody K T))) → IsSome r ↔ IsValid (entry_at a) p → IfSome r (λ link. entry_at a p.0 ≡ Some (p.1, link.now)) → Found packed (links_view packed a) p.0 (IsValid (entry (links_view packed a)) p) r
+  found_ptr p None some value = ((λ h. absurd (false≢true h), λ valid. some.1 ((same_valid packed a p).1 valid)), tt)
+  found_ptr p (Some link) some value = ((λ _. (same_valid packed a p).0 (some.0 refl), λ _. refl), links-view_after packed a p.0 p.1 link.now value)
+
+  pub found_inx : (i : ℕ) (r : Option (Bor (LinkBody K T))) → option_map (λ link. link.now) r ≡ option_map (λ e. e.1) (entry_at a i) → Found packed (links_view packed a) i (IsSome (entry (links_view packed a) i)) r
+  found_inx i r is = by_entry r (entry_at a i) refl is
+    where
+      stored : (o : Option (Gen × LinkBody K T)) → entry_at a i ≡ o → is_some (entry (links_view packed a) i) ≡ is_some o
+      stored None there = ap is_some (value_at packed a i ∙ ap (option_map (on_value (λ l. l.t))) there)
+      stored (Some e) there = ap is_some (value_at packed a i ∙ ap (option_map (on_value (λ l. l.t))) there)
+
+      by_entry : (r : Option (Bor (LinkBody K T))) (o : Option (Gen × LinkBody K T)) → entry_at a i ≡ o → option_map (λ link. link.now) r ≡ option_map (λ e. e.1) o → Found packed (links_view packed a) i (IsSome (entry (links_view packed a) i)) r
+      by_entry None None there is = ((λ h. absurd (false≢true h), λ h. absurd (false≢true (sym (stored None there) ∙ h))), tt)
+      by_entry None (Some e) there is = absurd (let h = is in cc)
+      by_entry (Some link) None there is = absurd (let h = is in cc)
+      by_entry (Some link) (Some (g, l)) there is = let same : link.now ≡ l = cc in ((λ _. stored (Some (g, l)) there, λ _. refl), links-view_after packed a i g link.now (there ∙ ap (λ (x : LinkBody K T). let o : Option (Gen × LinkBody K T) = Some (g, x) in o) (sym same)))
+
+-- ---- growth for one more link
+
+-- A growth changes only the capacities.
+pub grown_state : {Gen T : Type 0} (may_reach : ℕ → Option ℕ → ℕ → ℕ → Type 0) (greatest : ℕ) (a b : Arena Gen T) (r : Result Unit ReallocationError) → GrowsArenaForOneMore may_reach greatest a r b → OnErr r (b ≡ a) → b ≡ with_capacity_of a b
+grown_state may_reach greatest a b (Ok done) grown err = grown.state
+grown_state {Gen = Gen} {T = T} may_reach greatest a b (Err why) grown err = err ∙ ap (λ (x : Arena Gen T). with_capacity_of a x) (sym err)
+
+module _ {Gen K T : Type 0} (packed : K → Option ℕ) (a : Arena Gen (LinkBody K T)) where
+  same_count : count (view_of a) ≡ count (value_view (links_view packed a))
+  same_count = length-entries a ∙ (sym (entry_count-links_view packed a) ∙ sym (values-count (links_view packed a)))
+
+  pub grown_view : (b : Arena Gen (LinkBody K T)) (may_reach : ℕ → Option ℕ → ℕ → ℕ → Type 0) (greatest : ℕ) → HasGrownFor may_reach greatest (entry_count a + 1) a b
+      → HasGrownFor may_reach greatest (entry_count (links_view packed a) + 1) (links_view packed a) (links_view packed b)
+  grown_view b may_reach greatest grown =
+      let same = entry_count-links_view packed a in
+      record {
+        state = ap (links_view packed) grown.state;
+        capacity = subst (λ (n : ℕ). ReachesCapacity may_reach greatest (n + 1) (links_view packed a) (links_view packed b)) (sym same) (record { capacity = grown.capacity.capacity; reached = grown.capacity.reached });
+        within = λ fits. ap (links_view packed) (grown.within (subst (λ (n : ℕ). n + 1 ≤ a.capacity) same fits));
+      }
+
+  pub refused_view : (why : ReallocationError) → RefusesOneMore (view_of a) why → RefusesOneMore (value_view (links_view packed a)) why
+  refused_view refused.BeyondMaxCapacity refuses = (sym same_count ∙ refuses.0, subst (λ (n : ℕ). IsBeyond a.maximum (n + 1)) same_count refuses.1)
+  refused_view refused.AllocError refuses = (sym same_count ∙ refuses.0, λ beyond. refuses.1 (subst (λ (n : ℕ). IsBeyond a.maximum (n + 1)) (sym same_count) beyond))
+
+-- The refusal of a growth is that of the insertion.
+pub insertion_refused : (may : Type 0) (refuses : ReallocationError → Type 0) (why : ReallocationError) (e : ChainInsertionError) → e ≡ insertion_error why → may → refuses why → IsInsertionRefusal may refuses e
+insertion_refused may refuses refused.BeyondMaxCapacity e is given refuses_it = subst (IsInsertionRefusal may refuses) (sym is) (given, refuses_it)
+insertion_refused may refuses refused.AllocError e is given refuses_it = subst (IsInsertionRefusal may refuses) (sym is) (given, refuses_it)
+
+pub free_capacity : {Gen T : Type 0} (old : Links Gen T) → HasFreeCapacity (value_view old) → entry_count old < old.capacity
+free_capacity old less = let counted = values-count old in omega (arith, less, counted)
+
+module _ {Gen T : Type 0} (may_reach : ℕ → Option ℕ → ℕ → ℕ → Type 0) (greatest : ℕ) (old : Links Gen T) where
+  -- Free capacity is capacity for one more link, without a growth.
+  pub has_capacity : (n : ℕ) → HasCapacityFor greatest n old → HasFreeCapacity (value_view old) → HasGrownFor may_reach greatest (entry_count old + 1) old old
+  has_capacity n held less = record {
+    state = refl;
+    capacity = record {
+      capacity = (record { fits = (let counted = values-count old in omega (arith, less, counted)); at_most_greatest = held.0.at_most_greatest; within_maximum = held.0.within_maximum }, held.1, held.2);
+      reached = inl refl;
+    };
+    within = λ _. refl;
   }
 
-  pub may_place : (position : InsertPosition I) → IsPositionOf number (entry old) (link_map old) (names_in key number kind) (Some position) → May
-  may_place position is = is.some.0 refl
+  module _ (new : Links Gen T) (grown : HasGrownFor may_reach greatest (entry_count old + 1) old new) where
+    pub grown_capacity : entry_count new < new.capacity
+    grown_capacity =
+        let same : entry_count new ≡ entry_count old = ap (λ (a : Links Gen T). entry_count a) grown.state in
+        let fits = grown.capacity.capacity.0.fits in
+        omega (arith, same, fits)
 
-  -- Without an insertion position no link of the kind may be inserted.
-  pub no_place : IsPositionOf number (entry old) (link_map old) (names_in key number kind) None → May → ⊥
-  no_place is may = false≢true (is.some.1 may)
+    pub grown_within : entry_count old < greatest
+    grown_within = let fits = grown.capacity.capacity.0.fits in let most = grown.capacity.capacity.0.at_most_greatest in omega (arith, fits, most)
 
-  -- A link may be inserted at the position.
-  abbrev FitsIn : Links Gen T → InsertPosition I → Type 0
-  FitsIn a position = IsInsertPosition (link_map a) (next_index a) (before_in number position (next_index a)) (after_in number position (next_index a))
+-- ---- the links beside a new one of a kind
 
-  pub place_fits : (position : InsertPosition I) → IsWellLinked (link_map old) → May → IsPositionFor key number old kind position → FitsIn old position
-  place_fits position agrees may place = position_known (link_map old) by (next_index old) place.before place.after agrees may.1
+module _ {P I Gen W T : Type 0} (pointers : PointerKind P I Gen W) (old : Links Gen T) (kind : InsertKind P I) where
+  abbrev May : Type 0
+  May = MayInsertIn value_state link_map pointers old kind
 
-  module _ (may_reach : ℕ → Option ℕ → ℕ → ℕ → Type 0) (greatest : ℕ) where
-    pub within_fits : (checked : Result (InsertPosition I) ChainInsertionError) → IsWellLinked (link_map old) → FindsPositionWithin key number may_reach greatest old kind checked → ForOk checked (FitsIn old)
-    within_fits checked agrees known position is = let found = subst (FindsPositionWithin key number may_reach greatest old kind) is known in place_fits position agrees found.0 found.2.0
+  -- The insertion position of a kind that may be inserted.
+  pub may_position : IsWellLinked (link_map old) → May → (q : ℕ) → IsInsertPosition (link_map old) q (before_new pointers (link_map old) kind q) (after_new pointers (link_map old) kind q)
+  may_position agrees may q =
+      kind_position (λ p. (pointers.key p).0) pointers.number (λ p. IsValid (entry old) (pointers.key p)) (λ i. IsSome (entry old (pointers.number i))) (link_map old)
+      (λ p valid. valid_link old (pointers.key p) valid)
+      (λ i occupied. link_where (link_map old) (pointers.number i) (links_exist old (pointers.number i) ∙ occupied)) kind q agrees may
 
-    pub fits_capacity : (checked : Result (InsertPosition I) ChainInsertionError) → FindsPositionWithin key number may_reach greatest old kind checked → ForOk checked (λ position. entry_count old < old.capacity)
-    fits_capacity checked known position is = entry_capacity may_reach greatest old old (subst (FindsPositionWithin key number may_reach greatest old kind) is known).2.1
+  module _ (beside : Option I × Option I) (agrees : IsWellLinked (link_map old)) (may : May) (are : AreBesideNew pointers old kind beside) where
+    abbrev FitsBeside : Links Gen T → Type 0
+    FitsBeside a = IsInsertPosition (link_map a) (next_index a) (option_map pointers.number beside.0) (option_map pointers.number beside.1)
 
-  module _ (may_reach : ℕ → Option ℕ → ℕ → ℕ → Type 0) (greatest : ℕ) (new : Links Gen T) where
-    place_grows : (position : InsertPosition I) (grown : Result Unit ReallocationError) → May → IsPositionFor key number old kind position
-        → GrowsByOne may_reach greatest old grown new → FindsPositionGrowing key number may_reach greatest old kind (position_unless_refused position grown) new
-    place_grows position (Ok done) may place grows = ((may, (place, grows.0)), tt)
-    place_grows position (Err refused.BeyondMaxCapacity) may place grows = ((may, grows.0), grows.1)
-    place_grows position (Err refused.AllocError) may place grows = ((may, grows.0), grows.1)
+    pub fits_beside : FitsBeside old
+    fits_beside = subst₂ (IsInsertPosition (link_map old) (next_index old)) (sym are.before) (sym are.after) (may_position agrees may (next_index old))
 
-    pub places_growing : (position : InsertPosition I) (grown : Result Unit ReallocationError) (returned : Result (InsertPosition I) ChainInsertionError)
-        → returned ≡ position_unless_refused position grown → IsPositionOf number (entry old) (link_map old) (names_in key number kind) (Some position) → GrowsByOne may_reach greatest old grown new → FindsPositionGrowing key number may_reach greatest old kind returned new
-    places_growing position grown returned is given grows =
-        subst (λ (r : Result (InsertPosition I) ChainInsertionError). FindsPositionGrowing key number may_reach greatest old kind r new) (sym is) (place_grows position grown (may_place position given) (is_place position given) grows)
+    module _ (may_reach : ℕ → Option ℕ → ℕ → ℕ → Type 0) (mid : Links Gen T) (grown : HasGrownFor may_reach pointers.greatest (entry_count old + 1) old mid) where
+      pub fits_grown : FitsBeside mid
+      fits_grown = subst FitsBeside (sym grown.state) fits_beside
 
-    pub position_grown : (position : InsertPosition I) → IsWellLinked (link_map old) → May → IsPositionFor key number old kind position → HasCapacityForOne may_reach greatest old new → FitsIn new position
-    position_grown position agrees may place grown = subst (λ (a : Links Gen T). FitsIn a position) (sym grown.state) (place_fits position agrees may place)
+      module _ (t : T) (p : P) (new : Links Gen T) (insertion : InsertsBeside pointers mid beside t p new) where
+        inserted_grown : new ≡ with_capacity_of (with_new_link pointers old kind t) mid
+        inserted_grown =
+            insertion.state
+            ∙ (ap (λ (a : Links Gen T). insert_between a t (option_map pointers.number beside.0) (option_map pointers.number beside.1)) grown.state
+            ∙ ap₂ (λ (u v : Option ℕ). with_capacity_of (insert_between old t u v) mid) are.before are.after)
 
-    pub growing_fits : (checked : Result (InsertPosition I) ChainInsertionError) → IsWellLinked (link_map old) → FindsPositionGrowing key number may_reach greatest old kind checked new → ForOk checked (FitsIn new)
-    growing_fits checked agrees known position is =
-        let placed = (subst (λ (r : Result (InsertPosition I) ChainInsertionError). FindsPositionGrowing key number may_reach greatest old kind r new) is known).0 in
-        position_grown position agrees placed.0 placed.1.0 placed.1.1
+        inserted_within : entry_count old + 1 ≤ old.capacity → new ≡ with_new_link pointers old kind t
+        inserted_within fits =
+            insertion.state
+            ∙ (ap (λ (a : Links Gen T). insert_between a t (option_map pointers.number beside.0) (option_map pointers.number beside.1)) (grown.within fits)
+            ∙ ap₂ (insert_between old t) are.before are.after)
 
-    pub growing_capacity : (checked : Result (InsertPosition I) ChainInsertionError) → FindsPositionGrowing key number may_reach greatest old kind checked new → ForOk checked (λ position. entry_count new < new.capacity)
-    growing_capacity checked known position is =
-        let placed = (subst (λ (r : Result (InsertPosition I) ChainInsertionError). FindsPositionGrowing key number may_reach greatest old kind r new) is known).0 in
-        entry_capacity may_reach greatest old new placed.1.1
+        listed_before : IsListed old
+        listed_before =
+            let known = subst (λ (a : Links Gen T). IsListed a) grown.state insertion.listed in
+            record { apart = known.apart; free = known.free; listed = known.listed }
 
--- An inserted link is between the links of its position.
-pub inserted_between : {P I Gen T : Type 0} (key : P → ℕ × Gen) (number : I → ℕ) (old new : Links Gen T) (position : InsertPosition I) (t : T) (p : P) (u v : Option ℕ)
-    → IsInsertedIn key number old position t p new → before_in number position (next_index old) ≡ u → after_in number position (next_index old) ≡ v → new ≡ insert_between old t u v
-inserted_between key number old new position t p u v insertion before after = insertion.state ∙ ap₂ (insert_between old t) before after
-
--- ---- insertions, after a growth if the arena was full
-
-module _ {P I Gen T : Type 0} (key : P → ℕ × Gen) (number : I → ℕ) (may_reach : ℕ → Option ℕ → ℕ → ℕ → Type 0) (greatest : ℕ) (old mid new : Links Gen T) (kind : InsertKindBody P I) (t : T)
-    (agrees : IsWellLinked (link_map old)) where
-  abbrev kind_by : InsertKind ℕ
-  kind_by = indexed_kind key number kind
-
-  inserted_grown : (position : InsertPosition I) (p : P) → IsPositionFor key number old kind position → HasCapacityForOne may_reach greatest old mid → IsInsertedIn key number mid position t p new → new ≡ with_capacity_of (insert_as old kind_by t) mid
-  inserted_grown position p place grown insertion =
-      insertion.state
-      ∙ ap (λ (a : Links Gen T). insert_between a t (before_in number position (next_index a)) (after_in number position (next_index a))) grown.state
-      ∙ ap₂ (λ (u v : Option ℕ). with_capacity_of (insert_between old t u v) mid) place.before place.after
-
-  inserted_in_capacity : (position : InsertPosition I) (p : P) → IsPositionFor key number old kind position → HasCapacityForOne may_reach greatest old mid → IsInsertedIn key number mid position t p new → HasFreeCapacity (value_view old) → new ≡ insert_as old kind_by t
-  inserted_in_capacity position p place grown insertion within_capacity =
-      insertion.state
-      ∙ ap (λ (a : Links Gen T). insert_between a t (before_in number position (next_index a)) (after_in number position (next_index a))) (grown.stays within_capacity)
-      ∙ ap₂ (insert_between old t) place.before place.after
-
-  listed_before : HasCapacityForOne may_reach greatest old mid → IsListed mid → IsListed old
-  listed_before grown listed =
-      let known = subst (λ (a : Links Gen T). IsListed a) grown.state listed in
-      record { apart = known.apart; free = known.free; listed = known.listed }
-
-  -- A link is inserted at the position of its kind.
-  pub new_link : (position : InsertPosition I) (p : P) → MayInsertInto key number old kind → IsPositionFor key number old kind position → HasCapacityForOne may_reach greatest old mid → IsInsertedIn key number mid position t p new
-      → InsertsNewLink key number may_reach greatest old kind t p new
-  new_link position p may place grown insertion =
-      let is = inserted_grown position p place grown insertion in
-      let state : new ≡ with_capacity_of (insert_as old kind_by t) new = is ∙ ap (with_capacity_of (insert_as old kind_by t)) (sym is) in
-      let pointer : key p ≡ (next_index old, old.counter) = insertion.pointer ∙ ap (λ (a : Links Gen T). (next_index a, a.counter)) grown.state in
-      let held : ReachesCapacity may_reach greatest (entry_count old + 1) old (with_capacity_of old mid) = subst (ReachesCapacity may_reach greatest (entry_count old + 1) old) grown.state grown.grown in
-      let reaches : ReachesCapacity may_reach greatest (entry_count old + 1) old new =
-      subst (ReachesCapacity may_reach greatest (entry_count old + 1) old) (sym is) (record { capacity = held.capacity; reached = held.reached }) in
-      let counted = values-count old in (
-        (
-          insertion_known old t (listed_before grown insertion.listed) new kind_by state (key p) pointer agrees may.1,
-          (
-            subst (λ (n : ℕ). IsCapacityFor greatest new.maximum (n + 1) new.capacity) (sym counted) reaches.capacity.0,
-            λ fits. ap (λ (a : Links Gen T). a.capacity) (inserted_in_capacity position p place grown insertion (omega (arith, fits))),
-          ),
-        ),
-        record {
-          pointer = pointer;
-          state = state;
-          state_within_capacity = inserted_in_capacity position p place grown insertion;
-          grown = reaches;
-        },
-      )
-
-  -- An insertion that may grow.
-  pub inserts_growing : (checked : Result (InsertPosition I) ChainInsertionError) (r : Result P ChainInsertionError) → FindsPositionGrowing key number may_reach greatest old kind checked mid → InsertsAt key number mid checked t r new
-      → IsInsertionResult (MayInsertInto key number old kind) (RefusesOneMore (value_view old)) (λ p. InsertsNewLink key number may_reach greatest old kind t p new) r × OnErr r (new ≡ old)
-  inserts_growing (Ok position) (Ok p) found insertion = ((found.0.0, new_link position p found.0.0 found.0.1.0 found.0.1.1 insertion), tt)
-  inserts_growing (Ok position) (Err e) found insertion = absurd insertion
-  inserts_growing (Err why) (Ok p) found insertion = absurd insertion
-  inserts_growing (Err why) (Err e) found insertion =
-      subst (λ (x : ChainInsertionError). let r : Result P ChainInsertionError = Err x in IsInsertionResult (MayInsertInto key number old kind) (RefusesOneMore (value_view old)) (λ p. InsertsNewLink key number may_reach greatest old kind t p new) r × OnErr r (new ≡ old))
-      (sym insertion.0) (found.0, insertion.1 ∙ found.1)
-
--- An insertion within the capacity.
-module _ {P I Gen T : Type 0} (key : P → ℕ × Gen) (number : I → ℕ) (may_reach : ℕ → Option ℕ → ℕ → ℕ → Type 0) (greatest : ℕ) (old new : Links Gen T) (kind : InsertKindBody P I) (t : T)
-    (agrees : IsWellLinked (link_map old)) where
-  pub inserts_within : (checked : Result (InsertPosition I) ChainInsertionError) (r : Result P ChainInsertionError) → FindsPositionWithin key number may_reach greatest old kind checked → InsertsAt key number old checked t r new
-      → IsInsertionWithinResult (MayInsertInto key number old kind) (HasFreeCapacity (value_view old)) (IsFull (value_view old)) (λ p. InsertsNewLink key number may_reach greatest old kind t p new) r × OnErr r (new ≡ old)
-  inserts_within (Ok position) (Ok p) found insertion =
-      ((found.0, found.1, new_link key number may_reach greatest old old new kind t agrees position p found.0 found.2.0 found.2.1 insertion), tt)
-  inserts_within (Ok position) (Err e) found insertion = absurd insertion
-  inserts_within (Err why) (Ok p) found insertion = absurd insertion
-  inserts_within (Err why) (Err e) found insertion =
-      subst (λ (x : ChainInsertionError). let r : Result P ChainInsertionError = Err x in IsInsertionWithinResult (MayInsertInto key number old kind) (HasFreeCapacity (value_view old)) (IsFull (value_view old)) (λ p. InsertsNewLink key number may_reach greatest old kind t p new) r × OnErr r (new ≡ old))
-      (sym insertion.0) (found, insertion.1)
+        -- A link is inserted beside those of its kind.
+        pub new_link : InsertsNewLink pointers may_reach old kind t p new
+        new_link =
+            let is = inserted_grown in
+            let state : new ≡ with_capacity_of (with_new_link pointers old kind t) new = is ∙ ap (with_capacity_of (with_new_link pointers old kind t)) (sym is) in
+            let pointer : pointers.key p ≡ (next_index old, old.counter) = insertion.pointer ∙ ap (λ (a : Links Gen T). (next_index a, a.counter)) grown.state in
+            let held : ReachesCapacity may_reach pointers.greatest (entry_count old + 1) old (with_capacity_of old mid) = subst (ReachesCapacity may_reach pointers.greatest (entry_count old + 1) old) grown.state grown.capacity in
+            let reaches : ReachesCapacity may_reach pointers.greatest (entry_count old + 1) old new =
+            subst (ReachesCapacity may_reach pointers.greatest (entry_count old + 1) old) (sym is) (record { capacity = held.capacity; reached = held.reached }) in
+            let counted = values-count old in (
+              (
+                insertion_known old t listed_before pointers new kind state p pointer agrees (may_position agrees may (next_index old)),
+                (
+                  subst (λ (n : ℕ). IsCapacityFor pointers.greatest new.maximum (n + 1) new.capacity) (sym counted) reaches.capacity.0,
+                  λ fits. ap (λ (a : Links Gen T). a.capacity) (inserted_within (omega (arith, fits, counted))),
+                ),
+              ),
+              record {
+                pointer = pointer;
+                state = state;
+                state_within_capacity = λ less. inserted_within (omega (arith, less, counted));
+                grown = reaches;
+              },
+            )

@@ -22,15 +22,15 @@ use Rattle.arena_traits.proofs.CallOutcomeLemmas.{reports_more}
 use Rattle.chain_links.specs.ChainArena.{link_map, value_view, value_state, entry, link_value, values_of, link_of, remove_link}
 use Rattle.chain_arena.specs.Drains.{without_each}
 use Rattle.chain_arena.specs.Effects.{Links, IsCut, IsRemoval}
-use Rattle.chain_links.specs.CallEffects.{IsDisconnected, IsRemoved, GainsLink}
-use Rattle.chain_links.specs.Kinds.{names_in}
+use Rattle.chain_links.specs.CallEffects.{IsDisconnected, IsRemoved}
+use Rattle.chain_links.specs.Insertions.{GainsLink}
 use Rattle.arena_core.specs.PointerKinds.{PointerKind}
 use Rattle.chain_arena.specs.Runs.{AreSameButTouched}
 use Rattle.chain_arena.specs.Steps.{IsNewLinkAnyhow, InsertStep, InsertWithinStep, ConnectStep, BreakPrevStep, BreakNextStep, ExchangeStep, IsRenewed, DrainChainStep, CompressStep, CompressCanonicalStep, ReserveStep, Step, Run}
 use Rattle.chain_arena.specs.declared.calls.Call.{Call}
 use Rattle.chain_arena.specs.declared.calls.Call.TheVariants as call
 use Rattle.chain_arena.specs.declared.calls.Reply.{Reply}
-use Rattle.chain_links.specs.declared.kinds.InsertKindBody.{InsertKindBody}
+use Rattle.chain_laws.specs.declared.insert_kind.InsertKind.{InsertKind}
 use Rattle.chain_arena.proofs.ChainDrainLemmas.{link_at-entry}
 use Rattle.chain_links.proofs.MappedArenaLemmas.{length-with_each}
 
@@ -244,8 +244,8 @@ module _ (n : ℕ) where
       chains = step.chains;
     }
 
-    inserted_touched : (kind : InsertKindBody P I) (t : T) (p : P) → GainsLink value_state link_map (names_in pointers.key pointers.number kind) t old (pointers.key p) new
-        → GainsLink value_state link_map (names_in pointers.key pointers.number kind) t (touch old) (pointers.key p) (touch new)
+    inserted_touched : (kind : InsertKind P I) (t : T) (p : P) → GainsLink value_state link_map pointers old kind t p new
+        → GainsLink value_state link_map pointers (touch old) kind t p (touch new)
     inserted_touched kind t p made = record {
       entries = record { free = made.entries.free; stored = made.entries.stored; rest = made.entries.rest };
       links = made.links;
@@ -259,7 +259,7 @@ module _ (n : ℕ) where
       maximum = made.maximum;
     }
 
-    new_link_touched : (kind : InsertKindBody P I) (t : T) (p : P) → IsNewLinkAnyhow pointers old kind t new p → IsNewLinkAnyhow pointers (touch old) kind t (touch new) p
+    new_link_touched : (kind : InsertKind P I) (t : T) (p : P) → IsNewLinkAnyhow pointers old kind t new p → IsNewLinkAnyhow pointers (touch old) kind t (touch new) p
     new_link_touched kind t p made = record {
       pointer = made.pointer;
       state = ap touch made.state;
@@ -267,14 +267,14 @@ module _ (n : ℕ) where
       grown = record { capacity = made.grown.capacity; reached = made.grown.reached };
     }
 
-    inserts_touched : (kind : InsertKindBody P I) (t : T) (r : Result P ChainInsertionError) → InsertStep pointers old kind t r new → InsertStep pointers (touch old) kind t r (touch new)
+    inserts_touched : (kind : InsertKind P I) (t : T) (r : Result P ChainInsertionError) → InsertStep pointers old kind t r new → InsertStep pointers (touch old) kind t r (touch new)
     inserts_touched kind t (Ok p) step = ((step.0.0, (inserted_touched kind t p step.0.1.0, step.0.1.1)), tt, new_link_touched kind t p step.2)
     inserts_touched kind t (Err failed.FailedLinkRequirement) step = (step.0, ap touch step.1, tt)
     inserts_touched kind t (Err failed.BeyondMaxCapacity) step = (step.0, ap touch step.1, tt)
     inserts_touched kind t (Err failed.AllocError) step = (step.0, ap touch step.1, tt)
     inserts_touched kind t (Err failed.NotWithinCapacity) step = absurd step.0
 
-    inserts_within_touched : (kind : InsertKindBody P I) (t : T) (r : Result P ChainInsertionError) → InsertWithinStep pointers old kind t r new → InsertWithinStep pointers (touch old) kind t r (touch new)
+    inserts_within_touched : (kind : InsertKind P I) (t : T) (r : Result P ChainInsertionError) → InsertWithinStep pointers old kind t r new → InsertWithinStep pointers (touch old) kind t r (touch new)
     inserts_within_touched kind t (Ok p) step = ((step.0.0, step.0.1, (inserted_touched kind t p step.0.2.0, step.0.2.1)), tt, new_link_touched kind t p step.2)
     inserts_within_touched kind t (Err failed.FailedLinkRequirement) step = (step.0, ap touch step.1, tt)
     inserts_within_touched kind t (Err failed.NotWithinCapacity) step = (step.0, ap touch step.1, tt)

@@ -7,7 +7,7 @@ use Rattle.arena_traits.specs.Arena.{Arena, entry_at}
 use Rattle.arena_traits.specs.Entries.{entries, index_of}
 use Rattle.arena_traits.specs.Advancers.{entries_at_or_above}
 use Rattle.chain_links.specs.ChainArena.{LinkView, entry, link_map, values_of, remove_link}
-use Rattle.chain_links.specs.Insertions.{nonzero_index}
+use Rattle.chain_links.specs.ChainArena.{nonzero_index}
 use Rattle.chain_links.specs.Links.{link_view}
 use Rattle.chain_links.specs.declared.links.LinkBody.{LinkBody}
 

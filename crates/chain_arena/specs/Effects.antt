@@ -11,16 +11,13 @@ use Rattle.arena_base.specs.declared.slot.ArenaSlot.{ArenaSlot}
 use Rattle.chain_laws.specs.Chains.{prev_of, next_of}
 use Rattle.chain_laws.specs.Cuts.{without_pair, TakesPair}
 use Rattle.chain_laws.specs.Exchanges.{with_exchange, ExchangesPairs}
-use Rattle.chain_laws.specs.Insertions.{InsertKind}
 use Rattle.chain_laws.specs.Joins.{with_join, AddsPair}
 use Rattle.chain_laws.specs.Removals.{RemovesPairs}
 use Rattle.chain_laws.specs.Walks.{IsWalk, TakesWalk}
 use Rattle.arena_traits.specs.Arena.{Arena, IsValid, HasCapacityFor, with_capacity_of}
 use Rattle.chain_links.specs.CallEffects.{IsRemoved}
 use Rattle.chain_links.specs.ChainArena.{LinkView, link_map, entry, value_state, with_link_map, remove_link}
-use Rattle.chain_links.specs.Kinds.{names_in, by_index, MayInsert}
 use Rattle.chain_links.specs.Links.{pair_view}
-use Rattle.chain_links.specs.declared.kinds.InsertKindBody.{InsertKindBody}
 use Rattle.chain_links.specs.declared.links.LinkBody.{LinkBody}
 use Rattle.chain_arena.specs.Drains.{without_each}
 
@@ -91,15 +88,6 @@ pub record IsBackedBy {P I W Gen T : Type 0} (packed : PackedOption I W → Opti
   pub capacity : stack_capacity ≡ now.stack_capacity
   pub arena_capacity : now.capacity ≡ min stack_capacity greatest
   pub maximum : most ≡ now.maximum
-
-module _ {P I Gen : Type 0} (key : P → ℕ × Gen) (number : I → ℕ) where
-  -- A kind by the indexes that it names.
-  abbrev pub indexed_kind : InsertKindBody P I → InsertKind ℕ
-  indexed_kind kind = by_index (names_in key number kind)
-
-  -- A link of the kind may be inserted.
-  abbrev pub MayInsertInto : {T : Type 0} → Links Gen T → InsertKindBody P I → Type 0
-  MayInsertInto old kind = MayInsert (entry old) (link_map old) (names_in key number kind)
 
 -- The outcome of a call that needs capacity for n links, where the greatest index is tested before
 -- the maximum: the call is done, or all stays the `same`.

@@ -5,7 +5,6 @@ pub mod Effects
 pub mod Steps
 pub mod Runs
 pub mod Recasts
-pub mod Growths
 pub mod NewLinks
 pub mod PointerTransfers
 pub mod DrainLaws

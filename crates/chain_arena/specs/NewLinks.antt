@@ -1,103 +1,97 @@
--- Insertion positions of a kind with capacity for one more link, and insertions there.
-use Rattle.std.specs.Prelude.{◌≡◌, ℕ, ◌+◌, Option, Result, Ok, Err, OnErr}
-use Rattle.std.specs.Result.{result_map_both}
+-- The links beside a new one of a kind, and insertions between them.
+use Rattle.std.specs.Prelude.{◌≡◌, ◌↔◌, ℕ, ◌+◌, ◌<◌, IsSome, IfSome, Option, None, Some, Result, Ok, Err}
+use Rattle.std.specs.Borrow.{Bor}
+use Rattle.std.specs.Option.{option_map}
+use Rattle.arena_core.specs.PointerKinds.{PointerKind}
 use Rattle.arena_core.specs.declared.errors.ChainInsertionError.{ChainInsertionError}
-use Rattle.arena_core.specs.declared.errors.ChainInsertionError.TheVariants as failed
 use Rattle.arena_core.specs.declared.errors.ReallocationError.{ReallocationError}
-use Rattle.arena_core.specs.declared.errors.ReallocationError.TheVariants as refused
-use Rattle.chain_laws.specs.Chains.{IsWellLinked}
-use Rattle.chain_laws.specs.Insertions.{link_before, link_after}
 use Rattle.arena_traits.specs.Arena.{ReachesCapacity, IsListed, entry_count, next_index, with_capacity_of}
 use Rattle.arena_traits.specs.Entries.{HasFreeCapacity}
-use Rattle.arena_traits.specs.Growth.{IsGrowthResult, IsFull, RefusesOneMore, GrowsForOneMore}
-use Rattle.chain_links.specs.CallEffects.{IsInsertionResult, IsInsertionWithinResult, GainsLink}
-use Rattle.chain_links.specs.ChainArena.{link_map, value_view, value_state, entry, insert_as, insert_between}
-use Rattle.chain_links.specs.Insertions.{IsInsertionBetween, nonzero_index}
-use Rattle.chain_links.specs.Kinds.{names_in}
-use Rattle.chain_links.specs.declared.kinds.InsertKindBody.{InsertKindBody}
-use Rattle.chain_linking.specs.InsertPositions.{before_in, after_in}
-use Rattle.chain_linking.specs.declared.insert_position.InsertPosition.{InsertPosition}
-use Rattle.chain_arena.specs.Effects.{Links, indexed_kind, MayInsertInto}
+use Rattle.arena_traits.specs.Growth.{IsFull, RefusesOneMore, GrowsForOneMore}
+use Rattle.arena_base.specs.Growths.{HasGrownFor}
+use Rattle.chain_laws.specs.Chains.{IsWellLinked}
+use Rattle.chain_laws.specs.declared.insert_kind.InsertKind.{InsertKind}
+use Rattle.chain_links.specs.ChainArena.{link_map, value_view, value_state, insert_between, interlinks_in, nonzero_index}
+use Rattle.chain_links.specs.Insertions.{IsInsertionWithinResult, MayInsertIn, GainsLink, before_new, after_new}
+use Rattle.chain_links.specs.Links.{link_view}
+use Rattle.chain_links.specs.declared.links.LinkBody.{LinkBody}
+use Rattle.chain_arena.specs.Effects.{Links}
 
-module _ {Gen T : Type 0} where
-  -- An arena has capacity for one more link, after a growth if it was full.
-  pub record HasCapacityForOne (may_reach : ℕ → Option ℕ → ℕ → ℕ → Type 0) (greatest : ℕ) (old new : Links Gen T) : Type 0 where
-    -- The capacity suffices for the link, and a growth is within the stack's reach.
-    pub grown : ReachesCapacity may_reach greatest (entry_count old + 1) old new
-    -- Nothing but the capacity changes.
-    pub state : new ≡ with_capacity_of old new
-    -- Nothing changes if the capacity sufficed.
-    pub stays : HasFreeCapacity (value_view old) → new ≡ old
+-- The link at i is returned exactly if it is given, and its index.
+abbrev pub NamesLink : {K I Gen T : Type 0} → (K → Option ℕ) → (I → ℕ) → Links Gen T → ℕ → (given : Type 0) → Option (Bor (LinkBody K T)) × I → Type 0
+NamesLink packed number a i given result = record {
+  some : IsSome result.0 ↔ given;
+  link : IfSome result.0 (λ link. link_map a i ≡ Some (interlinks_in (link_view packed link.now)));
+  index : number result.1 ≡ i;
+}
 
-  -- A growth to capacity for one more link, if the arena is full.
-  abbrev pub GrowsByOne : (ℕ → Option ℕ → ℕ → ℕ → Type 0) → ℕ → Links Gen T → Result Unit ReallocationError → Links Gen T → Type 0
-  GrowsByOne may_reach greatest old grown new =
-      IsGrowthResult (RefusesOneMore (value_view old)) (λ done. HasCapacityForOne may_reach greatest old new) grown × OnErr grown (new ≡ old)
+-- These are the indexes u and v.
+abbrev pub AreIndexes : {I : Type 0} → (I → ℕ) → (u v : Option ℕ) → Option I × Option I → Type 0
+AreIndexes number u v beside = record {
+  before : option_map number beside.0 ≡ u;
+  after : option_map number beside.1 ≡ v;
+}
 
--- A link is inserted at the next index, between two links where they exist.
-abbrev pub IsInsertedBetween : {Gen T : Type 0} → Option ℕ → Option ℕ → Links Gen T → T → Links Gen T → Type 0
-IsInsertedBetween before after old t new = IsInsertionBetween before after (value_view old) (value_view new) (entry old) (entry new) (link_map old) (link_map new) (next_index old, old.counter) t
+-- The indexes u and v are returned, exactly if a link may be inserted.
+abbrev pub ReturnsBeside : {I : Type 0} → (I → ℕ) → (may : Type 0) → (u v : Option ℕ) → Option (Option I × Option I) → Type 0
+ReturnsBeside number may u v result = record {
+  some : IsSome result ↔ may;
+  beside : IfSome result (AreIndexes number u v);
+}
 
--- The insertion error of a growth error.
-abbrev pub refusal_of : ReallocationError → ChainInsertionError
-refusal_of refused.BeyondMaxCapacity = failed.BeyondMaxCapacity
-refusal_of refused.AllocError = failed.AllocError
+module _ {P I Gen W T : Type 0} (pointers : PointerKind P I Gen W) where
+  -- A new link of the kind comes between these at the next index.
+  abbrev pub AreBesideNew : Links Gen T → InsertKind P I → Option I × Option I → Type 0
+  AreBesideNew old kind beside = AreIndexes pointers.number (before_new pointers (link_map old) kind (next_index old)) (after_new pointers (link_map old) kind (next_index old)) beside
 
--- A position, or the error of a growth.
-abbrev pub position_unless_refused : {I : Type 0} → InsertPosition I → Result Unit ReallocationError → Result (InsertPosition I) ChainInsertionError
-position_unless_refused position grown = result_map_both (λ done. position) refusal_of grown
+  -- The links beside a new one of the kind are returned, exactly if it may be inserted.
+  abbrev pub FindsBeside : Links Gen T → InsertKind P I → Option (Option I × Option I) → Type 0
+  FindsBeside old kind result = record {
+    some : IsSome result ↔ MayInsertIn value_state link_map pointers old kind;
+    beside : entry_count old < pointers.greatest → IfSome result (AreBesideNew old kind);
+  }
 
-module _ {P I Gen T : Type 0} (key : P → ℕ × Gen) (number : I → ℕ) where
-  -- A position is that of a kind.
-  pub record IsPositionFor (old : Links Gen T) (kind : InsertKindBody P I) (position : InsertPosition I) : Type 0 where
-    -- The new link is between the links that the kind gives.
-    pub before : before_in number position (next_index old) ≡ link_before (link_map old) (indexed_kind key number kind) (next_index old)
-    pub after : after_in number position (next_index old) ≡ link_after (link_map old) (indexed_kind key number kind) (next_index old)
+  -- The same, within the capacity.
+  abbrev pub FindsBesideWithin : (ℕ → Option ℕ → ℕ → ℕ → Type 0) → Links Gen T → InsertKind P I → Result (Option I × Option I) ChainInsertionError → Type 0
+  FindsBesideWithin may_reach old kind result =
+      IsInsertionWithinResult (MayInsertIn value_state link_map pointers old kind) (HasFreeCapacity (value_view old)) (IsFull (value_view old))
+      (λ beside. AreBesideNew old kind beside × HasGrownFor may_reach pointers.greatest (entry_count old + 1) old old) result
 
-  -- The result of a search for the position of a kind within the capacity.
-  abbrev pub FindsPositionWithin : (ℕ → Option ℕ → ℕ → ℕ → Type 0) → ℕ → Links Gen T → InsertKindBody P I → Result (InsertPosition I) ChainInsertionError → Type 0
-  FindsPositionWithin may_reach greatest old kind checked =
-      IsInsertionWithinResult (MayInsertInto key number old kind) (HasFreeCapacity (value_view old)) (IsFull (value_view old))
-      (λ position. IsPositionFor old kind position × HasCapacityForOne may_reach greatest old old) checked
+  -- The same, where a full arena grows.
+  abbrev pub FindsBesideGrowing : (ℕ → Option ℕ → ℕ → ℕ → Type 0) → Links Gen T → InsertKind P I → Result (Option (Option I × Option I)) ReallocationError → Links Gen T → Type 0
+  FindsBesideGrowing may_reach old kind (Ok (Some beside)) new =
+      MayInsertIn value_state link_map pointers old kind × AreBesideNew old kind beside × HasGrownFor may_reach pointers.greatest (entry_count old + 1) old new
+  FindsBesideGrowing may_reach old kind (Ok None) new = (MayInsertIn value_state link_map pointers old kind → ⊥) × (new ≡ old)
+  FindsBesideGrowing may_reach old kind (Err why) new = MayInsertIn value_state link_map pointers old kind × RefusesOneMore (value_view old) why × (new ≡ old)
 
-  -- The result of a search for the position of a kind, where a full arena grows, and the arena
-  -- then.
-  abbrev pub FindsPositionGrowing : (ℕ → Option ℕ → ℕ → ℕ → Type 0) → ℕ → Links Gen T → InsertKindBody P I → Result (InsertPosition I) ChainInsertionError → Links Gen T → Type 0
-  FindsPositionGrowing may_reach greatest old kind checked new =
-      IsInsertionResult (MayInsertInto key number old kind) (RefusesOneMore (value_view old))
-      (λ position. IsPositionFor old kind position × HasCapacityForOne may_reach greatest old new) checked × OnErr checked (new ≡ old)
-
-  -- A link is inserted at a position.
-  pub record IsInsertedIn (old : Links Gen T) (position : InsertPosition I) (t : T) (p : P) (new : Links Gen T) : Type 0 where
-    pub pointer : key p ≡ (next_index old, old.counter)
-    pub state : new ≡ insert_between old t (before_in number position (next_index old)) (after_in number position (next_index old))
+  -- A link is inserted between these, at p.
+  pub record InsertsBeside (old : Links Gen T) (beside : Option I × Option I) (t : T) (p : P) (new : Links Gen T) : Type 0 where
+    pub pointer : pointers.key p ≡ (next_index old, old.counter)
+    pub state : new ≡ insert_between old t (option_map pointers.number beside.0) (option_map pointers.number beside.1)
     -- In every arena each free slot is listed, and the interlinks agree.
     pub listed : IsListed old
     pub agreed : IsWellLinked (link_map old)
 
-  -- A link is inserted at the position found, or nothing changes if there is none.
-  abbrev pub InsertsAt : Links Gen T → Result (InsertPosition I) ChainInsertionError → T → Result P ChainInsertionError → Links Gen T → Type 0
-  InsertsAt old (Ok position) t (Ok p) new = IsInsertedIn old position t p new
-  InsertsAt old (Ok position) t (Err why) new = ⊥
-  InsertsAt old (Err why) t (Ok p) new = ⊥
-  InsertsAt old (Err why) t (Err responded) new = (responded ≡ why) × (new ≡ old)
+  -- The arena with a link of the kind inserted.
+  abbrev pub with_new_link : Links Gen T → InsertKind P I → T → Links Gen T
+  with_new_link old kind t = insert_between old t (before_new pointers (link_map old) kind (next_index old)) (after_new pointers (link_map old) kind (next_index old))
 
   -- A link of a kind is inserted with pointer p, after a growth within the stack's reach if the
   -- arena was full.
-  pub record IsNewLink (may_reach : ℕ → Option ℕ → ℕ → ℕ → Type 0) (greatest : ℕ) (old : Links Gen T) (kind : InsertKindBody P I) (t : T) (new : Links Gen T) (p : P) : Type 0 where
-    pub pointer : key p ≡ (next_index old, old.counter)
-    pub state : new ≡ with_capacity_of (insert_as old (indexed_kind key number kind) t) new
-    pub state_within_capacity : HasFreeCapacity (value_view old) → new ≡ insert_as old (indexed_kind key number kind) t
-    pub grown : ReachesCapacity may_reach greatest (entry_count old + 1) old new
+  pub record IsNewLink (may_reach : ℕ → Option ℕ → ℕ → ℕ → Type 0) (old : Links Gen T) (kind : InsertKind P I) (t : T) (new : Links Gen T) (p : P) : Type 0 where
+    pub pointer : pointers.key p ≡ (next_index old, old.counter)
+    pub state : new ≡ with_capacity_of (with_new_link old kind t) new
+    pub state_within_capacity : HasFreeCapacity (value_view old) → new ≡ with_new_link old kind t
+    pub grown : ReachesCapacity may_reach pointers.greatest (entry_count old + 1) old new
 
   -- What a chain arena and any arena of links know of such an insertion.
-  abbrev pub InsertsNewLink : (ℕ → Option ℕ → ℕ → ℕ → Type 0) → ℕ → Links Gen T → InsertKindBody P I → T → P → Links Gen T → Type 0
-  InsertsNewLink may_reach greatest old kind t p new =
-      (GainsLink value_state link_map (names_in key number kind) t old (key p) new × GrowsForOneMore greatest (value_view old) (value_view new)) × IsNewLink may_reach greatest old kind t new p
+  abbrev pub InsertsNewLink : (ℕ → Option ℕ → ℕ → ℕ → Type 0) → Links Gen T → InsertKind P I → T → P → Links Gen T → Type 0
+  InsertsNewLink may_reach old kind t p new =
+      (GainsLink value_state link_map pointers old kind t p new × GrowsForOneMore pointers.greatest (value_view old) (value_view new)) × IsNewLink may_reach old kind t new p
 
   -- An entry for a link of a kind: its arena, after a growth if the arena was full, and the numbers
-  -- of the link's neighbors, 0 for none.
-  pub record IsEntryFor (may_reach : ℕ → Option ℕ → ℕ → ℕ → Type 0) (greatest : ℕ) (old : Links Gen T) (kind : InsertKindBody P I) (arena : Links Gen T) (prev next : ℕ) : Type 0 where
-    pub grown : HasCapacityForOne may_reach greatest old arena
-    pub before : nonzero_index prev ≡ link_before (link_map old) (indexed_kind key number kind) (next_index old)
-    pub after : nonzero_index next ≡ link_after (link_map old) (indexed_kind key number kind) (next_index old)
+  -- of the links beside it, 0 for none.
+  pub record IsEntryFor (may_reach : ℕ → Option ℕ → ℕ → ℕ → Type 0) (old : Links Gen T) (kind : InsertKind P I) (arena : Links Gen T) (prev next : ℕ) : Type 0 where
+    pub grown : HasGrownFor may_reach pointers.greatest (entry_count old + 1) old arena
+    pub before : nonzero_index prev ≡ before_new pointers (link_map old) kind (next_index old)
+    pub after : nonzero_index next ≡ after_new pointers (link_map old) kind (next_index old)

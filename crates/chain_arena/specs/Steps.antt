@@ -14,9 +14,10 @@ use Rattle.arena_traits.specs.CallOutcomes.{InvalidatesEntry, ClearsEntries, Com
 use Rattle.arena_traits.specs.Compressions.{values_in}
 use Rattle.arena_traits.specs.Entries.{entries}
 use Rattle.arena_traits.specs.Growth.{Reserves}
-use Rattle.chain_links.specs.CallEffects.{InsertsLink, InsertsLinkWithin, ConnectsLinks, BreaksPrev, BreaksNext, ExchangesNext, RemovesLink, RemovesLinkAt, CompressesLinks}
+use Rattle.chain_links.specs.CallEffects.{ConnectsLinks, BreaksPrev, BreaksNext, ExchangesNext, RemovesLink, RemovesLinkAt, CompressesLinks}
 use Rattle.chain_links.specs.ChainArena.{link_map, entry, values_of, value_view, value_state}
-use Rattle.chain_links.specs.declared.kinds.InsertKindBody.{InsertKindBody}
+use Rattle.chain_links.specs.Insertions.{InsertsLink, InsertsLinkWithin}
+use Rattle.chain_laws.specs.declared.insert_kind.InsertKind.{InsertKind}
 use Rattle.chain_links.specs.declared.links.LinkBody.{LinkBody}
 use Rattle.chain_compaction.specs.LinkCompressions.{ClosesHoles}
 use Rattle.chain_arena.specs.Effects.{Links, GrowsStackToFit, IsJoin, IsCutBefore, IsCutAfter, IsExchange, IsRemoval, IsDrained}
@@ -28,13 +29,13 @@ use Rattle.chain_arena.specs.declared.calls.Reply.TheVariants as reply
 
 module _ {P I Gen W T : Type 0} (pointers : PointerKind P I Gen W) where
   -- A link is inserted, with any growth of the stack.
-  abbrev pub IsNewLinkAnyhow : Links Gen T → InsertKindBody P I → T → Links Gen T → P → Type 0
-  IsNewLinkAnyhow old kind t new p = IsNewLink pointers.key pointers.number (λ capacity maximum n reached. ⊤) pointers.greatest old kind t new p
+  abbrev pub IsNewLinkAnyhow : Links Gen T → InsertKind P I → T → Links Gen T → P → Type 0
+  IsNewLinkAnyhow old kind t new p = IsNewLink pointers (λ capacity maximum n reached. ⊤) old kind t new p
 
-  abbrev pub InsertStep : Links Gen T → InsertKindBody P I → T → Result P ChainInsertionError → Links Gen T → Type 0
+  abbrev pub InsertStep : Links Gen T → InsertKind P I → T → Result P ChainInsertionError → Links Gen T → Type 0
   InsertStep old kind t returned new = InsertsLink value_state link_map pointers old kind t returned new × OnErr returned (new ≡ old) × IfOk returned (IsNewLinkAnyhow old kind t new)
 
-  abbrev pub InsertWithinStep : Links Gen T → InsertKindBody P I → T → Result P ChainInsertionError → Links Gen T → Type 0
+  abbrev pub InsertWithinStep : Links Gen T → InsertKind P I → T → Result P ChainInsertionError → Links Gen T → Type 0
   InsertWithinStep old kind t returned new = InsertsLinkWithin value_state link_map pointers old kind t returned new × OnErr returned (new ≡ old) × IfOk returned (IsNewLinkAnyhow old kind t new)
 
   abbrev pub ConnectStep : Links Gen T → P → P → Option Unit → Links Gen T → Type 0

@@ -3,7 +3,7 @@ ghost use Rattle.std.specs.Prelude.{◌≡◌, min, length, IfOk, OnErr, MatchRe
 ghost use Rattle.chain_laws.specs.Neighbors.{HasOneSetOfChains};
 ghost use Rattle.chain_links.specs.ChainArena.{link_map};
 ghost use Rattle.chain_arena.specs.Drains.{walk_left, without_each};
-ghost use Rattle.chain_arena.specs.Steps.{InsertStep, InsertWithinStep, ReserveStep, DrainChainStep, Step, Run};
+ghost use Rattle.chain_arena.specs.Steps.{ReserveStep, DrainChainStep, Step, Run};
 ghost use Rattle.chain_arena.specs.Runs.{RunIsDetermined, StepIsDetermined, RunIsDeterminedByCapacity};
 
 use crate::chain_arena::ChainArena;
@@ -91,8 +91,8 @@ pub fn apply<P: PtrKey, T: Drop, S: SlotStack<Item = ArenaSlot<P, LinkNoGen<P, T
     ensures step { Step ⟦<P as AnyPointer>⟧.kind arena.old call result arena.new }
 {
     match call {
-        Call::Insert { kind, t } => Reply::Inserted(insert(arena, kind, t)),
-        Call::InsertWithin { kind, t } => Reply::Inserted(insert_within(arena, kind, t)),
+        Call::Insert { kind, t } => Reply::Inserted(arena.insert_reallocating(kind, t)),
+        Call::InsertWithin { kind, t } => Reply::Inserted(arena.insert_within_capacity(kind, t)),
         Call::Connect(p, q) => Reply::Done(arena.connect(p, q).is_some()),
         Call::BreakPrev(p) => Reply::Done(arena.break_prev(p).is_some()),
         Call::BreakNext(p) => Reply::Done(arena.break_next(p).is_some()),
@@ -111,26 +111,6 @@ pub fn apply<P: PtrKey, T: Drop, S: SlotStack<Item = ArenaSlot<P, LinkNoGen<P, T
         }
         Call::IncGeneration => Reply::Counted(arena.inc_generation()),
     }
-}
-
-fn insert<P: PtrKey, T: Drop, S: SlotStack<Item = ArenaSlot<P, LinkNoGen<P, T>>>>(
-    arena: &mut ChainArena<P, T, S>,
-    kind: LinkInsertKind<P>,
-    t: T,
-) -> Result<P, ChainInsertionError>
-    ensures { InsertStep ⟦<P as AnyPointer>⟧.kind arena.old kind t result arena.new }
-{
-    arena.insert_reallocating(kind, t)
-}
-
-fn insert_within<P: PtrKey, T: Drop, S: SlotStack<Item = ArenaSlot<P, LinkNoGen<P, T>>>>(
-    arena: &mut ChainArena<P, T, S>,
-    kind: LinkInsertKind<P>,
-    t: T,
-) -> Result<P, ChainInsertionError>
-    ensures { InsertWithinStep ⟦<P as AnyPointer>⟧.kind arena.old kind t result arena.new }
-{
-    arena.insert_within_capacity(kind, t)
 }
 
 fn reserve<P: PtrKey, T: Drop, S: SlotStack<Item = ArenaSlot<P, LinkNoGen<P, T>>>>(

@@ -5,8 +5,6 @@ ghost use Rattle.arena_core.specs.Invalidation.{invalidation_option};
 ghost use Rattle.arena_traits.specs.Arena.{entry_count, with_counter, with_maximum, HasCapacityFor, IsListed, IsValid};
 ghost use Rattle.arena_traits.specs.Entries.{IsSoundView};
 ghost use Rattle.chain_links.specs.ChainArena.{entry, value_view, link_map, IsWalkOf};
-ghost use Rattle.chain_links.specs.Kinds.{names_in};
-ghost use Rattle.chain_linking.specs.InsertPositions.{IsPositionOf};
 ghost use Rattle.chain_compaction.specs.Layouts.{ReportsAll, ReportsLayout, AreAllMoves};
 ghost use Rattle.chain_compaction.specs.PointerMoves.{ArePointerMoves};
 ghost use Rattle.chain_arena.specs.Effects.{AddsWork, IsBackedBy};
@@ -22,10 +20,8 @@ use chain_compaction::canonical::arrange;
 use chain_compaction::visitor::Visitor;
 use chain_linking::ChainIter;
 use chain_linking::chain_iterators::iter_from;
-use chain_linking::insert_position::{InsertPosition, position_of_kind};
 use chain_linking::link_writes::remove_link_at;
-use chain_links::kinds::by_names;
-use chain_links::{LinkInsertKind, LinkNoGen};
+use chain_links::LinkNoGen;
 use std::alloc::Allocator;
 use std::marker::Model;
 
@@ -92,17 +88,6 @@ impl<P: PtrKey, T: Drop, S: SlotStack<Item = ArenaSlot<P, LinkNoGen<P, T>>>> Cha
         // Naming the field opens the invariant of the type.
         let _ = &self.arena;
         self.len();
-    }
-
-    // Returns the insertion position of a kind, or `None` if the requirement of the kind is not
-    // met.
-    #[inline(always)]
-    pub(crate) fn position_for(&self, kind: LinkInsertKind<P>) -> Option<InsertPosition<P::Inx>>
-        ensures position { IsPositionOf P.Inx.number (entry self.now) (link_map self.now)
-            (names_in P.key P.Inx.number kind) result }
-        ensures agree { IsWellLinked (link_map self.now) }
-    {
-        position_of_kind(&self.arena, by_names(kind))
     }
 
     pub(crate) fn unlink(&mut self, i: P::Inx) -> InvalidationResult<(P::Gen, LinkNoGen<P, T>)>

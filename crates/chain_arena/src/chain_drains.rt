@@ -6,13 +6,13 @@ ghost use Rattle.std.specs.Iterator.{item_count};
 ghost use Rattle.chain_laws.specs.Walks.{rest_start, IsWalk};
 ghost use Rattle.arena_traits.specs.Arena.{IsValid};
 ghost use Rattle.chain_links.specs.ChainArena.{entry, link_map};
-ghost use Rattle.chain_links.specs.Insertions.{nonzero_index};
+ghost use Rattle.chain_links.specs.ChainArena.{nonzero_index};
 ghost use Rattle.chain_arena.specs.DrainLaws.{DrainGivesTheWalk};
 ghost use Rattle.chain_arena.specs.Drains.{walk_left, IsDrainStep, DrainSteps, RemovesWalk, YieldsRemoved};
 
 use crate::chain_arena::ChainArena;
 use crate::insert_entry::number_or_zero;
-use arena_base::{ArenaSlot, ArenaTrait, with_overflow};
+use arena_base::{ArenaSlot, ArenaTrait};
 use arena_ptr::{HeapStack, InvalidationOption, InxKey, PtrKey, SlotStack};
 use chain_links::LinkNoGen;
 use chain_links::walk_direction::step_on;
@@ -128,7 +128,10 @@ fn drain_item<P: PtrKey, T>(
     let (generation, link) = entry;
     let next = next_after_removal(i, link.prev(), link.next());
     let p = P::_from_raw(i, generation);
-    (number_or_zero(next), with_overflow(overflow, (p, link)))
+    (
+        number_or_zero(next),
+        InvalidationOption::from_overflow(overflow, (p, link)),
+    )
 }
 
 // Returns the next link of a walk whose first link is removed: the link after it, or else the link

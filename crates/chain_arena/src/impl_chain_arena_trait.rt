@@ -1,22 +1,20 @@
 // The implementation of `ChainArenaTrait`: a chain arena as an arena of links.
 ghost use Rattle.std.specs.Prelude.{◌≡◌, ◌↔◌, IsTrue, IfOk, OnErr};
 ghost use Rattle.arena_core.specs.Invalidation.{with_value_of};
-ghost use Rattle.chain_links.specs.CallEffects.{MayInsertIn, InsertsLinkWithin, InsertsLink, InsertsAllowedLink};
+ghost use Rattle.chain_links.specs.Insertions.{MayInsertIn, InsertsLinkWithin, InsertsLink, InsertsAllowedLink};
 ghost use Rattle.chain_links.specs.ChainArena.{value_state, link_map};
-ghost use Rattle.chain_arena.specs.Growths.{growth_of};
 ghost use Rattle.chain_arena.specs.NewLinks.{IsNewLink};
 
 use crate::chain_advancer::ChainPtrAdvancer;
 use crate::chain_arena::ChainArena;
-use arena_base::{ArenaSlot, ArenaTrait};
+use arena_base::{ArenaSlot, ArenaTrait, proved_unreachable};
 use arena_ptr::{
     AnyPointer, ChainInsertionError, GenKey, InvalidationOption, InvalidationResult, InxKey,
     PtrKey, ReallocationError, SlotStack,
 };
-use chain_linking::connection::join;
-use chain_linking::insert_position::{is_index, next_of as next_of_link, prev_of as prev_of_link};
+use chain_linking::connection::{join, next_of, prev_of};
 use chain_linking::link_writes::{link_pairs, neighbors};
-use chain_links::kinds::Name;
+use chain_links::links::is_index;
 use chain_links::{Link, LinkInsertKind, LinkNoGen};
 use chain_traits::ChainArenaTrait;
 
@@ -34,7 +32,7 @@ impl<P: PtrKey, T: Drop, S: SlotStack<Item = ArenaSlot<P, LinkNoGen<P, T>>>> Cha
 
     ghost walker = { λ a. walker_of P.Inx.number a.left a.start a.forth a.back };
 
-    ghost inserts = { IsNewLink P.key P.Inx.number S.may_reach P.Inx.greatest };
+    ghost inserts = { IsNewLink ⟦<P as AnyPointer>⟧.kind S.may_reach };
 
     ghost connects = { λ a p q b. IsJoin a b (P.key p).0 (P.key q).0 };
 
@@ -64,7 +62,7 @@ impl<P: PtrKey, T: Drop, S: SlotStack<Item = ArenaSlot<P, LinkNoGen<P, T>>>> Cha
         ensures { IsTrue result ↔ MayInsertIn value_state link_map ⟦<P as AnyPointer>⟧.kind self.now
             kind }
     {
-        self.position_for(kind).is_some()
+        self.beside_for(kind).is_some()
     }
 
     // Inlined, as the next two, so that an insertion of a known kind has only that kind's branch.
@@ -77,11 +75,13 @@ impl<P: PtrKey, T: Drop, S: SlotStack<Item = ArenaSlot<P, LinkNoGen<P, T>>>> Cha
         ensures outcome { InsertsLinkWithin value_state link_map ⟦<P as AnyPointer>⟧.kind self.old
             kind t result self.new }
         ensures err { OnErr result (self.new ≡ self.old) }
-        ensures more { IfOk result (IsNewLink P.key P.Inx.number S.may_reach P.Inx.greatest
-            self.old kind t self.new) }
+        ensures more { IfOk result (IsNewLink ⟦<P as AnyPointer>⟧.kind S.may_reach self.old kind t
+            self.new) }
     {
-        let checked = self.position_within_capacity(kind);
-        self.insert_at(checked, t)
+        match self.beside_within_capacity(kind) {
+            Ok(beside) => Ok(self.insert_between(beside, t)),
+            Err(why) => Err(why),
+        }
     }
 
     #[inline(always)]
@@ -93,11 +93,14 @@ impl<P: PtrKey, T: Drop, S: SlotStack<Item = ArenaSlot<P, LinkNoGen<P, T>>>> Cha
         ensures outcome { InsertsLink value_state link_map ⟦<P as AnyPointer>⟧.kind self.old kind t
             result self.new }
         ensures err { OnErr result (self.new ≡ self.old) }
-        ensures more { IfOk result (IsNewLink P.key P.Inx.number S.may_reach P.Inx.greatest
-            self.old kind t self.new) }
+        ensures more { IfOk result (IsNewLink ⟦<P as AnyPointer>⟧.kind S.may_reach self.old kind t
+            self.new) }
     {
-        let checked = self.position_with_growth(kind);
-        self.insert_at(checked, t)
+        match self.beside_with_growth(kind) {
+            Ok(Some(beside)) => Ok(self.insert_between(beside, t)),
+            Ok(None) => Err(ChainInsertionError::FailedLinkRequirement),
+            Err(why) => Err(ChainInsertionError::from(why)),
+        }
     }
 
     #[inline(always)]
@@ -106,18 +109,25 @@ impl<P: PtrKey, T: Drop, S: SlotStack<Item = ArenaSlot<P, LinkNoGen<P, T>>>> Cha
         ensures outcome { InsertsAllowedLink value_state link_map ⟦<P as AnyPointer>⟧.kind self.old
             kind t result self.new }
         ensures err { OnErr result (self.new ≡ self.old) }
-        ensures more { IfOk result (IsNewLink P.key P.Inx.number S.may_reach P.Inx.greatest
-            self.old kind t self.new) }
+        ensures more { IfOk result (IsNewLink ⟦<P as AnyPointer>⟧.kind S.may_reach self.old kind t
+            self.new) }
     {
-        growth_of(self.insert_reallocating(kind, t))
+        match self.beside_with_growth(kind) {
+            Ok(Some(beside)) => Ok(self.insert_between(beside, t)),
+            Ok(None) => proved_unreachable!(),
+            Err(why) => Err(why),
+        }
     }
 
     fn are_neighbors(&self, p: P, q: P) -> bool {
-        self.contains(q) && is_index(next_of_link(&self.arena, Name::Pointer(p)), q.inx())
+        self.contains(q) && is_index(next_of(&self.arena, p), q.inx())
     }
 
     fn are_neighbors_inx(&self, i: P::Inx, j: P::Inx) -> bool {
-        is_index(next_of_link(&self.arena, Name::Index(i)), j)
+        match self.arena.get_inx(i) {
+            Some((_, link)) => is_index(link.next(), j),
+            None => false,
+        }
     }
 
     fn get_link(&self, p: P) -> Option<Link<P, &T>> {
@@ -147,7 +157,7 @@ impl<P: PtrKey, T: Drop, S: SlotStack<Item = ArenaSlot<P, LinkNoGen<P, T>>>> Cha
     }
 
     fn break_prev(&mut self, p: P) -> Option<()> {
-        match prev_of_link(&self.arena, Name::Pointer(p)) {
+        match prev_of(&self.arena, p) {
             Some(before) => {
                 link_pairs(&mut self.arena, (Some(before), None), (None, Some(p.inx())));
                 Some(())
@@ -157,7 +167,7 @@ impl<P: PtrKey, T: Drop, S: SlotStack<Item = ArenaSlot<P, LinkNoGen<P, T>>>> Cha
     }
 
     fn break_next(&mut self, p: P) -> Option<()> {
-        match next_of_link(&self.arena, Name::Pointer(p)) {
+        match next_of(&self.arena, p) {
             Some(after) => {
                 link_pairs(&mut self.arena, (Some(p.inx()), None), (None, Some(after)));
                 Some(())
@@ -167,8 +177,8 @@ impl<P: PtrKey, T: Drop, S: SlotStack<Item = ArenaSlot<P, LinkNoGen<P, T>>>> Cha
     }
 
     fn exchange_next(&mut self, p: P, q: P) -> Option<()> {
-        match next_of_link(&self.arena, Name::Pointer(p)) {
-            Some(after_p) => match next_of_link(&self.arena, Name::Pointer(q)) {
+        match next_of(&self.arena, p) {
+            Some(after_p) => match next_of(&self.arena, q) {
                 Some(after_q) => {
                     let (i, j) = (p.inx(), q.inx());
                     link_pairs(
@@ -201,17 +211,6 @@ impl<P: PtrKey, T: Drop, S: SlotStack<Item = ArenaSlot<P, LinkNoGen<P, T>>>> Cha
 
     fn compress_canonical(&mut self, reset: bool) -> InvalidationOption<()> {
         self.compress_canonical_with(reset, |_p: P, _q: P| {})
-    }
-}
-
-// Returns the result of the growth for an insertion whose kind had its requirement met.
-fn growth_of<P: Drop>(inserted: Result<P, ChainInsertionError>) -> Result<P, ReallocationError>
-    ensures { result ≡ growth_of inserted }
-{
-    match inserted {
-        Ok(p) => Ok(p),
-        Err(ChainInsertionError::BeyondMaxCapacity) => Err(ReallocationError::BeyondMaxCapacity),
-        Err(_) => Err(ReallocationError::AllocError),
     }
 }
 

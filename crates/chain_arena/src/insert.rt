@@ -1,135 +1,224 @@
-// Insertion positions with capacity for one more link, and insertions there.
-ghost use Rattle.std.specs.Prelude.{◌≡◌, ◌<◌};
-ghost use Rattle.std.specs.Result.{ForOk};
+// The links beside a new one of a kind, and insertions between them.
+ghost use Rattle.std.specs.Prelude.{◌≡◌, ◌<◌, IsSome, IsSomeAnd, None, Some};
+ghost use Rattle.std.specs.Option.{option_map, option_and_then};
 ghost use Rattle.chain_laws.specs.Chains.{IsWellLinked};
 ghost use Rattle.chain_laws.specs.Insertions.{IsInsertPosition};
-ghost use Rattle.arena_traits.specs.Arena.{entry_count, next_index};
-ghost use Rattle.chain_links.specs.ChainArena.{link_map};
-ghost use Rattle.chain_linking.specs.InsertPositions.{before_in, after_in};
-ghost use Rattle.chain_arena.specs.NewLinks.{GrowsByOne, position_unless_refused, refusal_of, FindsPositionGrowing, FindsPositionWithin, IsInsertedIn, InsertsAt};
+ghost use Rattle.arena_traits.specs.Arena.{entry_at, entry_count, next_index, IsValid};
+ghost use Rattle.chain_links.specs.ChainArena.{entry, link_map};
+ghost use Rattle.chain_links.specs.Links.{link_view};
+ghost use Rattle.chain_arena.specs.NewLinks.{NamesLink, ReturnsBeside, FindsBeside, FindsBesideWithin, FindsBesideGrowing, InsertsBeside};
 
 use crate::chain_arena::ChainArena;
-use arena_base::{ArenaSlot, ArenaTrait, proved_unreachable};
-use arena_ptr::{ChainInsertionError, PtrKey, ReallocationError, SlotStack};
-use chain_linking::insert_position::InsertPosition;
-use chain_linking::link_writes::update_neighbors;
-use chain_linking::new_link::link_in;
-use chain_links::{LinkInsertKind, LinkNoGen};
+use arena_base::{Arena, ArenaSlot, ArenaTrait};
+use arena_ptr::{
+    AnyPointer, ChainInsertionError, InxKey, PackedOption, PtrKey, ReallocationError, SlotStack,
+};
+use chain_linking::link_writes::write_beside;
+use chain_links::links::is_index;
+use chain_links::{LinkBody, LinkInsertKind, LinkNoGen};
+
+// The indexes of the links before and after a new one.
+pub(crate) type Beside<I> = (Option<I>, Option<I>);
+
+// A link that a kind names, if there is one, and its index.
+type Named<'a, I, W, T> = (Option<&'a LinkBody<PackedOption<I, W>, T>>, I);
 
 impl<P: PtrKey, T: Drop, S: SlotStack<Item = ArenaSlot<P, LinkNoGen<P, T>>>> ChainArena<P, T, S> {
-    // Grows a full arena to capacity for one more link.
-    pub(crate) fn grow_if_full(&mut self) -> Result<(), ReallocationError>
-        ensures { GrowsByOne S.may_reach P.Inx.greatest self.old result self.new }
-    {
-        let n = self.len() + 1;
-        let grown = self.reallocate_min_capacity(n);
-        self.invariants();
-        grown
-    }
-
-    // Returns the insertion position of a kind, within the capacity. Inlined, as the insertions
-    // are.
+    // Returns the links that a new one of a kind comes between, or `None` if the requirement of the
+    // kind is not met. Inlined, so that a kind known at compile time leaves only its own branch.
     #[inline(always)]
-    pub(crate) fn position_within_capacity(
-        &self,
-        kind: LinkInsertKind<P>,
-    ) -> Result<InsertPosition<P::Inx>, ChainInsertionError>
-        ensures position { FindsPositionWithin P.key P.Inx.number S.may_reach P.Inx.greatest
-            self.now kind result }
+    pub(crate) fn beside_for(&self, kind: LinkInsertKind<P>) -> Option<Beside<P::Inx>>
+        ensures beside { FindsBeside ⟦<P as AnyPointer>⟧.kind self.now kind result }
         ensures agree { IsWellLinked (link_map self.now) }
     {
-        match self.position_for(kind) {
-            Some(position) => {
-                if self.len() == self.capacity() {
+        match kind {
+            LinkInsertKind::Disconnected => Some((None, None)),
+            LinkInsertKind::SingleLinkCyclic => {
+                let i = self.arena.next_inx();
+                Some((i, i))
+            }
+            LinkInsertKind::ChainEnd(a) => after_end(self.named(a)),
+            LinkInsertKind::ChainEndInx(a) => after_end(self.named_inx(a)),
+            LinkInsertKind::ChainStart(b) => before_start(self.named(b)),
+            LinkInsertKind::ChainStartInx(b) => before_start(self.named_inx(b)),
+            LinkInsertKind::NextTo(a) => after_link(self.named(a)),
+            LinkInsertKind::NextToInx(a) => after_link(self.named_inx(a)),
+            LinkInsertKind::PrevTo(b) => before_link(self.named(b)),
+            LinkInsertKind::PrevToInx(b) => before_link(self.named_inx(b)),
+            LinkInsertKind::AtInterlink { next_to, prev_to } => {
+                between(self.named(next_to), self.named(prev_to))
+            }
+            LinkInsertKind::AtInterlinkInx { next_to, prev_to } => {
+                between(self.named_inx(next_to), self.named_inx(prev_to))
+            }
+            LinkInsertKind::Bridge { end, start } => bridge(self.named(end), self.named(start)),
+            LinkInsertKind::BridgeInx { end, start } => {
+                bridge(self.named_inx(end), self.named_inx(start))
+            }
+        }
+    }
+
+    // Returns the link of a pointer, if that is valid, and its index.
+    #[inline(always)]
+    fn named(&self, p: P) -> (Option<&LinkNoGen<P, T>>, P::Inx)
+        ensures { NamesLink P.Inx.packed_number P.Inx.number self.now (P.key p).0
+            (IsValid (entry self.now) (P.key p)) result }
+    {
+        (self.arena.get(p), p.inx())
+    }
+
+    // Returns the link at an index, if there is one, and the index.
+    #[inline(always)]
+    fn named_inx(&self, i: P::Inx) -> (Option<&LinkNoGen<P, T>>, P::Inx)
+        ensures { NamesLink P.Inx.packed_number P.Inx.number self.now (P.Inx.number i)
+            (IsSome (entry self.now (P.Inx.number i))) result }
+    {
+        (link_at(&self.arena, i), i)
+    }
+
+    // Returns the same within the capacity. Inlined, as the insertions are.
+    #[inline(always)]
+    pub(crate) fn beside_within_capacity(
+        &self,
+        kind: LinkInsertKind<P>,
+    ) -> Result<Beside<P::Inx>, ChainInsertionError>
+        ensures beside { FindsBesideWithin ⟦<P as AnyPointer>⟧.kind S.may_reach self.now kind
+            result }
+        ensures agree { IsWellLinked (link_map self.now) }
+    {
+        match self.beside_for(kind) {
+            Some(beside) => {
+                if self.arena.is_full() {
                     return Err(ChainInsertionError::NotWithinCapacity);
                 }
-                Ok(position)
+                Ok(beside)
             }
             None => Err(ChainInsertionError::FailedLinkRequirement),
         }
     }
 
-    // Returns the insertion position of a kind; a full arena grows first. Inlined, as the
-    // insertions are.
+    // Returns the same; a full arena grows first. Inlined, as the insertions are.
     #[inline(always)]
-    pub(crate) fn position_with_growth(
+    pub(crate) fn beside_with_growth(
         &mut self,
         kind: LinkInsertKind<P>,
-    ) -> Result<InsertPosition<P::Inx>, ChainInsertionError>
-        ensures position { FindsPositionGrowing P.key P.Inx.number S.may_reach
-            P.Inx.greatest self.old kind result self.new }
+    ) -> Result<Option<Beside<P::Inx>>, ReallocationError>
+        ensures beside { FindsBesideGrowing ⟦<P as AnyPointer>⟧.kind S.may_reach self.old kind
+            result self.new }
         ensures agreed { IsWellLinked (link_map self.old) }
     {
-        match self.position_for(kind) {
-            Some(position) => position_unless_refused(position, self.grow_if_full()),
-            None => Err(ChainInsertionError::FailedLinkRequirement),
+        match self.beside_for(kind) {
+            Some(beside) => match self.arena.grow_if_full() {
+                Ok(()) => Ok(Some(beside)),
+                Err(why) => Err(why),
+            },
+            None => Ok(None),
         }
     }
 
-    // Inserts a link at a position, within the capacity. Inlined, so the position need not go
-    // through memory.
+    // Inserts a link between two, or beside one, or alone, or before and after itself, within the
+    // capacity. Inlined, so the indexes need not go through memory.
     #[inline(always)]
-    pub(crate) fn insert_at_position(&mut self, position: InsertPosition<P::Inx>, t: T) -> P
+    pub(crate) fn insert_between(&mut self, beside: Beside<P::Inx>, t: T) -> P
         requires position { IsInsertPosition (link_map self.old) (next_index self.old)
-            (before_in P.Inx.number position (next_index self.old))
-            (after_in P.Inx.number position (next_index self.old)) }
+            (option_map P.Inx.number beside.0)
+            (option_map P.Inx.number beside.1) }
         requires capacity { entry_count self.old < self.old.capacity }
-        ensures { IsInsertedIn P.key P.Inx.number self.old position t result self.new }
+        ensures { InsertsBeside ⟦<P as AnyPointer>⟧.kind self.old beside t result self.new }
     {
         self.arena.invariants();
-        match self
-            .arena
-            .insert_within_capacity(link_in::<P, T>(position, t))
-        {
-            Ok(p) => {
-                update_neighbors(&mut self.arena, position, p);
-                p
-            }
-            Err(_) => proved_unreachable!(),
-        }
-    }
-
-    // Inserts a link at the position that was found, within the capacity, or returns the error.
-    #[inline(always)]
-    pub(crate) fn insert_at(
-        &mut self,
-        checked: Result<InsertPosition<P::Inx>, ChainInsertionError>,
-        t: T,
-    ) -> Result<P, ChainInsertionError>
-        requires position { ForOk checked (λ position. IsInsertPosition (link_map self.old)
-            (next_index self.old)
-            (before_in P.Inx.number position (next_index self.old))
-            (after_in P.Inx.number position (next_index self.old))) }
-        requires capacity { ForOk checked
-            (λ position. entry_count self.old < self.old.capacity) }
-        ensures { InsertsAt P.key P.Inx.number self.old checked t result self.new }
-    {
-        match checked {
-            Ok(position) => Ok(self.insert_at_position(position, t)),
-            Err(why) => Err(why),
-        }
+        let p = self.arena.insert_next(LinkBody::new(beside, t));
+        let i = Some(p.inx());
+        write_beside(&mut self.arena, beside.0, i, beside.1, i);
+        p
     }
 }
 
-// Returns the position, or the error of the growth that it needed.
-fn position_unless_refused<I: Drop>(
-    position: InsertPosition<I>,
-    grown: Result<(), ReallocationError>,
-) -> Result<InsertPosition<I>, ChainInsertionError>
-    ensures { result ≡ position_unless_refused position grown }
+// Returns the link at an index, if there is one.
+fn link_at<P: PtrKey, T: Drop, S: SlotStack<Item = ArenaSlot<P, LinkNoGen<P, T>>>>(
+    arena: &Arena<P, LinkNoGen<P, T>, S>,
+    i: P::Inx,
+) -> Option<&LinkNoGen<P, T>>
+    ensures { option_map (λ link. link.now) result ≡ option_map (λ e. e.1) (entry_at arena.now
+        (P.Inx.number i)) }
 {
-    match grown {
-        Ok(()) => Ok(position),
-        Err(why) => Err(refusal_of(why)),
+    match arena.get_inx(i) {
+        Some((_, link)) => Some(link),
+        None => None,
     }
 }
 
-// Returns the insertion error of a growth error.
-fn refusal_of(why: ReallocationError) -> ChainInsertionError
-    ensures { result ≡ refusal_of why }
+// Returns what is beside a new link after `a`, if that is the end of a chain.
+fn after_end<W: Copy, I: InxKey<Word = W>, T>(a: Named<'_, I, W, T>) -> Option<Beside<I>>
+    ensures { ReturnsBeside I.number
+        (IsSomeAnd a.entry.0 (λ l. (link_view I.packed_number l.now).next ≡ None))
+        (Some (I.number a.entry.1)) None result }
 {
-    match why {
-        ReallocationError::BeyondMaxCapacity => ChainInsertionError::BeyondMaxCapacity,
-        ReallocationError::AllocError => ChainInsertionError::AllocError,
+    match a.0?.next() {
+        Some(_) => None,
+        None => Some((Some(a.1), None)),
+    }
+}
+
+// Returns what is beside a new link before `b`, if that is the start of a chain.
+fn before_start<W: Copy, I: InxKey<Word = W>, T>(b: Named<'_, I, W, T>) -> Option<Beside<I>>
+    ensures { ReturnsBeside I.number
+        (IsSomeAnd b.entry.0 (λ l. (link_view I.packed_number l.now).prev ≡ None))
+        None (Some (I.number b.entry.1)) result }
+{
+    match b.0?.prev() {
+        Some(_) => None,
+        None => Some((None, Some(b.1))),
+    }
+}
+
+// Returns what is beside a new link after `a`.
+fn after_link<W: Copy, I: InxKey<Word = W>, T>(a: Named<'_, I, W, T>) -> Option<Beside<I>>
+    ensures { ReturnsBeside I.number (IsSome a.entry.0) (Some (I.number a.entry.1))
+        (option_and_then (λ l. (link_view I.packed_number l.now).next) a.entry.0) result }
+{
+    Some((Some(a.1), a.0?.next()))
+}
+
+// Returns what is beside a new link before `b`.
+fn before_link<W: Copy, I: InxKey<Word = W>, T>(b: Named<'_, I, W, T>) -> Option<Beside<I>>
+    ensures { ReturnsBeside I.number (IsSome b.entry.0)
+        (option_and_then (λ l. (link_view I.packed_number l.now).prev) b.entry.0)
+        (Some (I.number b.entry.1)) result }
+{
+    Some((b.0?.prev(), Some(b.1)))
+}
+
+// Returns what is beside a new link between `a` and `b`, if they are neighbors.
+fn between<W: Copy, I: InxKey<Word = W>, T>(
+    a: Named<'_, I, W, T>,
+    b: Named<'_, I, W, T>,
+) -> Option<Beside<I>>
+    ensures { ReturnsBeside I.number
+        (IsSomeAnd a.entry.0
+        (λ l. (link_view I.packed_number l.now).next ≡ Some (I.number b.entry.1))
+        × IsSome b.entry.0)
+        (Some (I.number a.entry.1)) (Some (I.number b.entry.1)) result }
+{
+    if is_index(a.0?.next(), b.1) && b.0.is_some() {
+        Some((Some(a.1), Some(b.1)))
+    } else {
+        None
+    }
+}
+
+// Returns what is beside a new link after `a`, the end of a chain, and before `b`, a start.
+fn bridge<W: Copy, I: InxKey<Word = W>, T>(
+    a: Named<'_, I, W, T>,
+    b: Named<'_, I, W, T>,
+) -> Option<Beside<I>>
+    ensures { ReturnsBeside I.number
+        (IsSomeAnd a.entry.0 (λ l. (link_view I.packed_number l.now).next ≡ None)
+        × IsSomeAnd b.entry.0 (λ l. (link_view I.packed_number l.now).prev ≡ None))
+        (Some (I.number a.entry.1)) (Some (I.number b.entry.1)) result }
+{
+    match (a.0?.next(), b.0?.prev()) {
+        (None, None) => Some((Some(a.1), Some(b.1))),
+        _ => None,
     }
 }

@@ -5,20 +5,18 @@ ghost use Rattle.std.specs.Option.{option_map};
 ghost use Rattle.arena_core.specs.Numbers.{IsWithin};
 ghost use Rattle.chain_laws.specs.Insertions.{IsInsertPosition};
 ghost use Rattle.arena_traits.specs.Arena.{entry_count, next_index};
-ghost use Rattle.chain_links.specs.ChainArena.{link_map, value_view, insert_between};
-ghost use Rattle.chain_links.specs.Insertions.{nonzero_index};
-ghost use Rattle.chain_linking.specs.InsertPositions.{before_in, after_in};
-ghost use Rattle.chain_arena.specs.Effects.{MayInsertInto};
+ghost use Rattle.chain_links.specs.ChainArena.{link_map, value_view, value_state, insert_between, nonzero_index};
 ghost use Rattle.arena_traits.specs.Entries.{HasFreeCapacity};
 ghost use Rattle.arena_traits.specs.Growth.{IsFull, IsGrowthResult, RefusesOneMore};
-ghost use Rattle.chain_links.specs.CallEffects.{IsInsertionResult, IsInsertionWithinResult};
-ghost use Rattle.chain_arena.specs.NewLinks.{IsEntryFor, IsInsertedBetween};
+ghost use Rattle.chain_links.specs.Insertions.{IsInsertionResult, IsInsertionWithinResult, MayInsertIn, IsInsertedBetween};
+ghost use Rattle.chain_arena.specs.NewLinks.{IsEntryFor};
 
 use crate::chain_arena::ChainArena;
+use crate::insert::Beside;
 use arena_base::{ArenaSlot, ArenaTrait, proved_unreachable};
-use arena_ptr::{ChainInsertionError, HeapStack, InxKey, PtrKey, ReallocationError, SlotStack};
-use chain_linking::insert_position::InsertPosition;
-use chain_linking::new_link::neighbors_of_position;
+use arena_ptr::{
+    AnyPointer, ChainInsertionError, HeapStack, InxKey, PtrKey, ReallocationError, SlotStack,
+};
 use chain_links::{LinkInsertKind, LinkNoGen};
 
 /// An insertion position of a link whose pointer is known before its value.
@@ -92,14 +90,15 @@ impl<P: PtrKey, T: Drop, S: SlotStack<Item = ArenaSlot<P, LinkNoGen<P, T>>>> Cha
             (arena_row P.row T.row S.row P.Inx.row P.Gen.row P.Inx.Word.row
             P.PtrKey P.Inx.InxKey P.Gen.GenKey S.SlotStack)
             self.entry (λ e. e.arena.ghost_name) result (λ n. n ≡ self.old)) }
-        ensures outcome { IsInsertionWithinResult (MayInsertInto P.key P.Inx.number self.old kind)
+        ensures outcome { IsInsertionWithinResult
+            (MayInsertIn value_state link_map ⟦<P as AnyPointer>⟧.kind self.old kind)
             (HasFreeCapacity (value_view self.old)) (IsFull (value_view self.old))
-            (λ e. (e.arena.now ≡ self.old) × IsEntryFor P.key P.Inx.number S.may_reach
-            P.Inx.greatest self.old kind e.arena.now e.prev e.next) result }
+            (λ e. (e.arena.now ≡ self.old) × IsEntryFor ⟦<P as AnyPointer>⟧.kind S.may_reach
+            self.old kind e.arena.now e.prev e.next) result }
         ensures same_reference { IfOk result (λ e. e.arena.ghost_name ≡ self.entry.ghost_name) }
     {
-        match self.position_within_capacity(kind) {
-            Ok(position) => Ok(self.entry_in(position)),
+        match self.beside_within_capacity(kind) {
+            Ok(beside) => Ok(self.entry_between(beside)),
             Err(why) => Err(why),
         }
     }
@@ -125,14 +124,16 @@ impl<P: PtrKey, T: Drop, S: SlotStack<Item = ArenaSlot<P, LinkNoGen<P, T>>>> Cha
             (arena_row P.row T.row S.row P.Inx.row P.Gen.row P.Inx.Word.row
             P.PtrKey P.Inx.InxKey P.Gen.GenKey S.SlotStack)
             self.entry (λ e. e.arena.ghost_name) result (λ n. n ≡ self.old)) }
-        ensures outcome { IsInsertionResult (MayInsertInto P.key P.Inx.number self.old kind)
-            (RefusesOneMore (value_view self.old)) (λ e. IsEntryFor P.key P.Inx.number S.may_reach
-            P.Inx.greatest self.old kind e.arena.now e.prev e.next) result }
+        ensures outcome { IsInsertionResult
+            (MayInsertIn value_state link_map ⟦<P as AnyPointer>⟧.kind self.old kind)
+            (RefusesOneMore (value_view self.old)) (λ e. IsEntryFor ⟦<P as AnyPointer>⟧.kind
+            S.may_reach self.old kind e.arena.now e.prev e.next) result }
         ensures same_reference { IfOk result (λ e. e.arena.ghost_name ≡ self.entry.ghost_name) }
     {
-        match self.position_with_growth(kind) {
-            Ok(position) => Ok(self.entry_in(position)),
-            Err(why) => Err(why),
+        match self.beside_with_growth(kind) {
+            Ok(Some(beside)) => Ok(self.entry_between(beside)),
+            Ok(None) => Err(ChainInsertionError::FailedLinkRequirement),
+            Err(why) => Err(ChainInsertionError::from(why)),
         }
     }
 
@@ -151,51 +152,39 @@ impl<P: PtrKey, T: Drop, S: SlotStack<Item = ArenaSlot<P, LinkNoGen<P, T>>>> Cha
         &mut self,
         kind: LinkInsertKind<P>,
     ) -> Result<ChainArenaInsertEntry<'_, P, T, S>, ReallocationError>
-        requires { MayInsertInto P.key P.Inx.number self.old kind }
+        requires { MayInsertIn value_state link_map ⟦<P as AnyPointer>⟧.kind self.old kind }
         ensures* unchanged_at_err { sem 𝓛 (RestsIfErr
             (arena_row P.row T.row S.row P.Inx.row P.Gen.row P.Inx.Word.row
             P.PtrKey P.Inx.InxKey P.Gen.GenKey S.SlotStack)
             self.entry (λ e. e.arena.ghost_name) result (λ n. n ≡ self.old)) }
         ensures outcome { IsGrowthResult (RefusesOneMore (value_view self.old))
-            (λ e. IsEntryFor P.key P.Inx.number S.may_reach P.Inx.greatest self.old kind
-            e.arena.now e.prev e.next) result }
+            (λ e. IsEntryFor ⟦<P as AnyPointer>⟧.kind S.may_reach self.old kind e.arena.now e.prev
+            e.next) result }
         ensures same_reference { IfOk result (λ e. e.arena.ghost_name ≡ self.entry.ghost_name) }
     {
-        match self.position_for(kind) {
-            Some(position) => match self.grow_if_full() {
-                Ok(()) => Ok(self.entry_in(position)),
-                Err(why) => Err(why),
-            },
-            None => proved_unreachable!(),
+        match self.beside_with_growth(kind) {
+            Ok(Some(beside)) => Ok(self.entry_between(beside)),
+            Ok(None) => proved_unreachable!(),
+            Err(why) => Err(why),
         }
     }
 
-    fn next_ptr(&self) -> P
-        requires { entry_count self.now < self.now.capacity }
-        ensures { P.key result ≡ (next_index self.now, self.now.counter) }
-    {
-        self.arena.next_ptr()
-    }
-
-    fn entry_in(&mut self, position: InsertPosition<P::Inx>) -> ChainArenaInsertEntry<'_, P, T, S>
+    fn entry_between(&mut self, beside: Beside<P::Inx>) -> ChainArenaInsertEntry<'_, P, T, S>
         requires capacity { entry_count self.old < self.old.capacity }
         requires position { IsInsertPosition (link_map self.old) (next_index self.old)
-            (before_in P.Inx.number position (next_index self.old))
-            (after_in P.Inx.number position (next_index self.old)) }
+            (option_map P.Inx.number beside.0)
+            (option_map P.Inx.number beside.1) }
         ensures same_reference { result.arena.ghost_name ≡ self.entry.ghost_name }
         ensures arena { result.arena.now ≡ self.old }
-        ensures prev { nonzero_index result.prev ≡ before_in P.Inx.number position
-            (next_index self.old) }
-        ensures next { nonzero_index result.next ≡ after_in P.Inx.number position
-            (next_index self.old) }
+        ensures prev { nonzero_index result.prev ≡ option_map P.Inx.number beside.0 }
+        ensures next { nonzero_index result.next ≡ option_map P.Inx.number beside.1 }
     {
-        let i = self.next_ptr().inx();
-        let (prev, next) = neighbors_of_position(position, i);
+        let i = self.arena.next_ptr().inx();
         ChainArenaInsertEntry {
             arena: self,
             inx: number_or_zero(Some(i)),
-            prev: number_or_zero(prev),
-            next: number_or_zero(next),
+            prev: number_or_zero(beside.0),
+            next: number_or_zero(beside.1),
         }
     }
 }
@@ -220,18 +209,18 @@ impl<
     pub fn insert(self, t: T)
         ensures state { self.exit.0.now ≡ insert_between self.entry.arena.now t
             (nonzero_index self.entry.prev) (nonzero_index self.entry.next) }
-        ensures inserted { IsInsertedBetween (nonzero_index self.entry.prev)
-            (nonzero_index self.entry.next)
-            self.entry.arena.now t self.exit.0.now }
+        ensures inserted { IsInsertedBetween value_state link_map (nonzero_index self.entry.prev)
+            (nonzero_index self.entry.next) self.entry.arena.now t
+            (next_index self.entry.arena.now, self.entry.arena.now.counter) self.exit.0.now }
     {
         let (prev, next) = (self.prev, self.next);
-        let position = InsertPosition::Between(index_or_none(prev), index_or_none(next));
-        self.arena.insert_at_position(position, t);
-        let ChainArenaInsertEntry {
-            arena: _,
-            inx: _,
-            prev: _,
-            next: _,
+        self.arena
+            .insert_between((index_or_none(prev), index_or_none(next)), t);
+        let Self {
+            arena,
+            inx,
+            prev,
+            next,
         } = self;
     }
 }
@@ -241,11 +230,11 @@ impl<'a, P: PtrKey, T: Drop, S: SlotStack<Item = ArenaSlot<P, LinkNoGen<P, T>>>>
     fn drop(self)
         ensures { self.exit.0.now ≡ self.entry.arena.now }
     {
-        let ChainArenaInsertEntry {
-            arena: _,
-            inx: _,
-            prev: _,
-            next: _,
+        let Self {
+            arena,
+            inx,
+            prev,
+            next,
         } = self;
     }
 }

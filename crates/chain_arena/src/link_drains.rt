@@ -8,9 +8,7 @@ ghost use Rattle.chain_arena.specs.Drains.{entries_left, IsLinkTaken, IsLinkDrai
 
 use crate::chain_arena::ChainArena;
 use crate::insert_entry::number_or_zero;
-use arena_base::{
-    Advancer, ArenaSlot, ArenaTrait, assume_proved, inx_at, proved_unreachable, with_overflow,
-};
+use arena_base::{Advancer, ArenaSlot, ArenaTrait, assume_proved, inx_at, proved_unreachable};
 use arena_ptr::{HeapStack, InvalidationOption, InxKey, PtrKey, SlotStack};
 use chain_links::LinkNoGen;
 
@@ -71,7 +69,7 @@ impl<P: PtrKey, T: Drop, S: SlotStack<Item = ArenaSlot<P, LinkNoGen<P, T>>>> Cha
         match entry {
             Some((generation, link)) => {
                 let p = P::_from_raw(i, generation);
-                Some(with_overflow(overflow, (p, link.t)))
+                Some(InvalidationOption::from_overflow(overflow, (p, link.t)))
             }
             None => None,
         }

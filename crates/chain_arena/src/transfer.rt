@@ -3,16 +3,16 @@ ghost use Rattle.std.specs.Prelude.{◌≡◌, ◌≤◌, ◌<◌, ◌+◌, ℕ,
 ghost use Rattle.chain_laws.specs.Transfer.{end_before, end_after};
 ghost use Rattle.arena_traits.specs.Arena.{ReachesCapacity, IsListed, with_capacity_of, entry_count, next_index};
 ghost use Rattle.arena_traits.specs.Entries.{count};
-ghost use Rattle.chain_linking.specs.InsertPositions.{before_in, after_in};
+ghost use Rattle.std.specs.Option.{option_map};
 ghost use Rattle.chain_compaction.specs.PointerMoves.{CompressionMovesPointers, CompressionHasMoves};
 ghost use Rattle.chain_arena.specs.Effects.{HaveSameCapacity, IsEmptyWithCapacity, SucceedsOrRefuses};
 ghost use Rattle.chain_arena.specs.Transfers.{ArrangesAlike, IsTransfer, AreEnds, HasPositionAtEnd, with_link_at_end};
 ghost use Rattle.chain_arena.specs.PointerTransfers.{TransferMovesPointers};
 
 use crate::chain_arena::ChainArena;
+use crate::insert::Beside;
 use arena_base::{Advancer, ArenaSlot, ArenaTrait, CompactArenaTrait, proved_unreachable};
 use arena_ptr::{InvalidationOption, InxKey, PtrKey, ReallocationError, SlotStack};
-use chain_linking::insert_position::InsertPosition;
 use chain_links::LinkNoGen;
 use chain_traits::ChainArenaTrait;
 use chain_traits::drain_in_order::{Taken, take_next};
@@ -139,25 +139,20 @@ fn pointer_at<P: PtrKey>(index: usize, generation: P::Gen) -> P
     }
 }
 
-// Returns the insertion position at the end of a chain: after its last link, and in a ring before
-// its first.
-fn position_at_end<I: InxKey>(ring: bool, ends: Option<(I, I)>) -> InsertPosition<I>
-    ensures { (m q : ℕ) → AreEnds I.number ends m q
-        → (before_in I.number result q ≡ end_before ring m q)
-        × (after_in I.number result q ≡ end_after ring m q) }
+// Returns the links beside a new one at `i`, at the end of a chain: after its last link, and in a
+// ring before its first.
+fn beside_end<P: PtrKey>(ring: bool, ends: Option<(P::Inx, P::Inx)>, i: P::Inx) -> Beside<P::Inx>
+    ensures { (m : ℕ) → AreEnds P.Inx.number ends m (P.Inx.number i)
+        → (option_map P.Inx.number result.0 ≡ end_before ring m (P.Inx.number i))
+        × (option_map P.Inx.number result.1 ≡ end_after ring m (P.Inx.number i)) }
 {
     match ends {
-        None => {
-            if ring {
-                InsertPosition::Itself
-            } else {
-                InsertPosition::Between(None, None)
-            }
-        }
-        Some((first, last)) => InsertPosition::Between(
-            Some(last),
-            if ring { Some(first) } else { None },
-        ),
+        None => if ring {
+            (Some(i), Some(i))
+        } else {
+            (None, None)
+        },
+        Some((first, last)) => (Some(last), if ring { Some(first) } else { None }),
     }
 }
 
@@ -190,8 +185,9 @@ fn append_link<P: PtrKey, T: Drop, S: SlotStack<Item = ArenaSlot<P, LinkNoGen<P,
         (next_index target.old + 1) }
     ensures listed { IsListed target.old }
 {
-    target.insert_at_position(position_at_end(ring, ends), t);
-    with_end(ends, to.inx())
+    let i = to.inx();
+    target.insert_between(beside_end::<P>(ring, ends, i), t);
+    with_end(ends, i)
 }
 
 /// States that a compression and a transfer arrange the same links alike: at the same indexes, with

@@ -1,13 +1,21 @@
 -- Each call is a step.
 use Rattle.std.proofs.Common.{refl, ap}
+use Rattle.arena_core.proofs.PointerKindLemmas.{kind_by}
 use Rattle.chain_arena.specs.declared.calls.Reply.TheVariants as reply
+use Rattle.chain_arena.proofs.CallStepLemmas.{inserted_anyhow}
 use Rattle.chain_arena.proofs.calls.apply.Goals as goal
 
 pub returns-in-Insert : goal.returns-in-Insert
-returns-in-Insert g c = rw c.in-Insert.is (record { step = (c.insert.result, refl, c.insert.ensures) })
+returns-in-Insert g c =
+    let made = c.insert_reallocating.ensures in
+    let anyhow = inserted_anyhow (kind_by g.P.PtrKey g.P.Inx.InxKey g.P.Gen.GenKey) g.S.SlotStack.may_reach c.args.arena.now c.insert_reallocating.new.self c.in-Insert.kind c.in-Insert.t c.insert_reallocating.result made.more in
+    rw c.in-Insert.is (record { step = (c.insert_reallocating.result, refl, (made.outcome, made.err, anyhow)) })
 
 pub returns-in-InsertWithin : goal.returns-in-InsertWithin
-returns-in-InsertWithin g c = rw c.in-InsertWithin.is (record { step = (c.insert_within.result, refl, c.insert_within.ensures) })
+returns-in-InsertWithin g c =
+    let made = c.insert_within_capacity.ensures in
+    let anyhow = inserted_anyhow (kind_by g.P.PtrKey g.P.Inx.InxKey g.P.Gen.GenKey) g.S.SlotStack.may_reach c.args.arena.now c.insert_within_capacity.new.self c.in-InsertWithin.kind c.in-InsertWithin.t c.insert_within_capacity.result made.more in
+    rw c.in-InsertWithin.is (record { step = (c.insert_within_capacity.result, refl, (made.outcome, made.err, anyhow)) })
 
 pub returns-in-Connect : goal.returns-in-Connect
 returns-in-Connect g c =

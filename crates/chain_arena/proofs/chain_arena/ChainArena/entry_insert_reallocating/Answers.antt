@@ -1,37 +1,40 @@
--- The entry is at the position of the kind, after a growth if the arena was full.
+-- The entry is beside the links of the kind, after a growth if the arena was full.
 use mathlib.Core.Option.{some}
 use Rattle.std.proofs.Common.{refl, ap, sym}
-use Rattle.chain_arena.proofs.NewLinkLemmas.{entry_capacity, position_grown}
+use Rattle.arena_core.proofs.PointerKindLemmas.{kind_by}
+use Rattle.arena_traits.specs.Growth.{RefusesOneMore}
+use Rattle.chain_links.specs.ChainArena.{value_view}
+use Rattle.chain_arena.proofs.NewLinkLemmas.{fits_grown, grown_capacity, insertion_refused}
 use Rattle.chain_arena.proofs.InsertEntryLemmas.{entry_for}
 use Rattle.chain_arena.proofs.chain_arena.ChainArena.entry_insert_reallocating.Goals as goal
 
-pub entry_in-requires-clause-capacity : goal.entry_in-requires-clause-capacity
-entry_in-requires-clause-capacity g c = entry_capacity g.S.SlotStack.may_reach g.P.Inx.InxKey.greatest c.args.self.now c.position_with_growth.new.self c.in-Ok.ensures.position.0.1.1
+pub entry_between-requires-clause-capacity : goal.entry_between-requires-clause-capacity
+entry_between-requires-clause-capacity g c = grown_capacity g.S.SlotStack.may_reach g.P.Inx.InxKey.greatest c.args.self.now c.beside_with_growth.new.self (rw c.in-Ok-Some.field-0-is at c.in-Ok-Some.ensures.beside).2
 
-pub entry_in-requires-clause-position : goal.entry_in-requires-clause-position
-entry_in-requires-clause-position g c =
-    let found = c.in-Ok.ensures.position.0 in
-    position_grown g.P.PtrKey.key g.P.Inx.InxKey.number c.args.self.now c.args.kind g.S.SlotStack.may_reach g.P.Inx.InxKey.greatest c.position_with_growth.new.self c.in-Ok.position c.in-Ok.ensures.agreed found.0 found.1.0 found.1.1
+pub entry_between-requires-clause-position : goal.entry_between-requires-clause-position
+entry_between-requires-clause-position g c =
+    let found = rw c.in-Ok-Some.field-0-is at c.in-Ok-Some.ensures.beside in
+    fits_grown (kind_by g.P.PtrKey g.P.Inx.InxKey g.P.Gen.GenKey) c.args.self.now c.args.kind c.in-Ok-Some.beside c.beside_with_growth.ensures.agreed found.0 found.1 g.S.SlotStack.may_reach c.beside_with_growth.new.self found.2
 
-pub returns-in-Ok : goal.returns-in-Ok
-returns-in-Ok g c =
-    let old = c.args.self.now in
-    let made = c.entry_in.ensures in
-    let found = c.in-Ok.ensures.position.0 in (
+pub returns-in-Ok-Some : goal.returns-in-Ok-Some
+returns-in-Ok-Some g c =
+    let made = c.entry_between.ensures in
+    let found = rw c.in-Ok-Some.field-0-is at c.in-Ok-Some.ensures.beside in
+    let entry = entry_for (kind_by g.P.PtrKey g.P.Inx.InxKey g.P.Gen.GenKey) g.S.SlotStack.may_reach c.args.self.now c.beside_with_growth.new.self c.entry_between.result.arena.now c.args.kind c.in-Ok-Some.beside c.entry_between.result.prev c.entry_between.result.next
+    found.1 found.2 made.arena made.prev made.next in (
       (ap some (sym made.same_reference), (λ _. refl), tt),
-      record {
-        unchanged_at_err = tt;
-        outcome = (
-          found.0,
-          entry_for g.P.PtrKey.key g.P.Inx.InxKey.number g.S.SlotStack.may_reach g.P.Inx.InxKey.greatest old c.position_with_growth.new.self c.entry_in.result.arena.now c.args.kind c.in-Ok.position c.entry_in.result.prev c.entry_in.result.next
-              found.1.0 found.1.1 made.arena made.prev made.next,
-        );
-        same_reference = made.same_reference;
-      },
+      record { unchanged_at_err = tt; outcome = (found.0, entry); same_reference = made.same_reference },
     )
 
-pub returns-in-Err : goal.returns-in-Err
-returns-in-Err g c = (
-  (refl, (λ _. tt), c.in-Err.ensures.position.1),
-  record { unchanged_at_err = tt; outcome = c.in-Err.ensures.position.0; same_reference = tt },
+pub returns-in-Ok-None : goal.returns-in-Ok-None
+returns-in-Ok-None g c = (
+  (refl, (λ _. tt), (rw c.in-Ok-None.field-0-is at c.in-Ok-None.ensures.beside).1),
+  record { unchanged_at_err = tt; outcome = (rw c.in-Ok-None.field-0-is at c.in-Ok-None.ensures.beside).0; same_reference = tt },
 )
+
+pub returns-in-Err : goal.returns-in-Err
+returns-in-Err g c =
+    let refused = c.in-Err.ensures.beside in (
+      (refl, (λ _. tt), refused.2),
+      record { unchanged_at_err = tt; outcome = insertion_refused _ (RefusesOneMore (value_view c.args.self.now)) c.in-Err.why c.from.result c.from.ensures refused.0 refused.1; same_reference = tt },
+    )

@@ -1,22 +1,23 @@
--- The entry is at the position of the kind, within the capacity.
+-- The entry is beside the links of the kind, within the capacity.
 use mathlib.Core.Option.{some}
 use Rattle.std.proofs.Common.{refl, ap, sym}
-use Rattle.chain_arena.proofs.NewLinkLemmas.{entry_capacity, place_fits}
+use Rattle.arena_core.proofs.PointerKindLemmas.{kind_by}
+use Rattle.chain_arena.proofs.NewLinkLemmas.{fits_beside, free_capacity}
 use Rattle.chain_arena.proofs.InsertEntryLemmas.{entry_for}
 use Rattle.chain_arena.proofs.chain_arena.ChainArena.entry_insert_within_capacity.Goals as goal
 
-pub entry_in-requires-clause-capacity : goal.entry_in-requires-clause-capacity
-entry_in-requires-clause-capacity g c = entry_capacity g.S.SlotStack.may_reach g.P.Inx.InxKey.greatest c.args.self.now c.args.self.now c.in-Ok.ensures.position.2.1
+pub entry_between-requires-clause-capacity : goal.entry_between-requires-clause-capacity
+entry_between-requires-clause-capacity g c = free_capacity c.args.self.now c.in-Ok.ensures.beside.1
 
-pub entry_in-requires-clause-position : goal.entry_in-requires-clause-position
-entry_in-requires-clause-position g c =
-    place_fits g.P.PtrKey.key g.P.Inx.InxKey.number c.args.self.now c.args.kind c.in-Ok.position c.in-Ok.ensures.agree c.in-Ok.ensures.position.0 c.in-Ok.ensures.position.2.0
+pub entry_between-requires-clause-position : goal.entry_between-requires-clause-position
+entry_between-requires-clause-position g c =
+    fits_beside (kind_by g.P.PtrKey g.P.Inx.InxKey g.P.Gen.GenKey) c.args.self.now c.args.kind c.in-Ok.beside c.in-Ok.ensures.agree c.in-Ok.ensures.beside.0 c.in-Ok.ensures.beside.2.0
 
 pub returns-in-Ok : goal.returns-in-Ok
 returns-in-Ok g c =
     let old = c.args.self.now in
-    let made = c.entry_in.ensures in
-    let found = c.in-Ok.ensures.position in (
+    let made = c.entry_between.ensures in
+    let found = c.in-Ok.ensures.beside in (
       (ap some (sym made.same_reference), (λ _. refl), tt),
       record {
         unchanged_at_err = tt;
@@ -25,7 +26,7 @@ returns-in-Ok g c =
           found.1,
           (
             made.arena,
-            entry_for g.P.PtrKey.key g.P.Inx.InxKey.number g.S.SlotStack.may_reach g.P.Inx.InxKey.greatest old old c.entry_in.result.arena.now c.args.kind c.in-Ok.position c.entry_in.result.prev c.entry_in.result.next
+            entry_for (kind_by g.P.PtrKey g.P.Inx.InxKey g.P.Gen.GenKey) g.S.SlotStack.may_reach old old c.entry_between.result.arena.now c.args.kind c.in-Ok.beside c.entry_between.result.prev c.entry_between.result.next
                 found.2.0 found.2.1 made.arena made.prev made.next,
           ),
         );
@@ -36,5 +37,5 @@ returns-in-Ok g c =
 pub returns-in-Err : goal.returns-in-Err
 returns-in-Err g c = (
   (refl, (λ _. tt), refl),
-  record { unchanged_at_err = tt; outcome = c.in-Err.ensures.position; same_reference = tt },
+  record { unchanged_at_err = tt; outcome = c.in-Err.ensures.beside; same_reference = tt },
 )

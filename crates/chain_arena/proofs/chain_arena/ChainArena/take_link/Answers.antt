@@ -21,10 +21,10 @@ returns-in-Some g c =
     let p = c._from_raw-p.result in
     let overflow = c.overflowing-entry.result.1 in
     let keyed : key p ≡ (g.P.Inx.InxKey.number c.args.i, c.in-Some.generation) = search of_calls in
-    let responded : c.with_overflow.result ≡ invalidation_option overflow (p, c.in-Some.link.t) = search of_calls in
+    let responded : c.from_overflow.result ≡ invalidation_option overflow (p, c.in-Some.link.t) = search of_calls in
     link_taken key g.P.Gen.GenKey.following wraps g.P.Inx.InxKey.packed_number c.args.self.now c.unlink.new.self _ r (c.in-Some.generation, c.in-Some.link)
     (sym (ap (λ x. x.0) c.overflowing-entry.ensures) ∙ c.in-Some.is) returned (reports_overflow wraps _ _ (Some c.args.self.now.counter) r made.0) (holds_if_some (value_within r) made.2) p keyed
-    overflow (ap (λ x. x.1) c.overflowing-entry.ensures) c.with_overflow.result responded
+    overflow (ap (λ x. x.1) c.overflowing-entry.ensures) c.from_overflow.result responded
 
 pub returns-in-None : goal.returns-in-None
 returns-in-None g c =

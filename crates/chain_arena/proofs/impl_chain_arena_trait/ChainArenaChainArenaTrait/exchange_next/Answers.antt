@@ -25,8 +25,8 @@ exchanged_links g c = links_view g.P.Inx.InxKey.packed_number c.link_pairs.new.a
 after_p : (g : Over) (c : After-link_pairs g) → Some (g.P.Inx.InxKey.number c.in-Some.after_p) ≡ next_of (link_map (links g c)) (g.P.PtrKey.key c.args.p).0
 after_p g c = c.in-Some.ensures.neighbor (c.in-Some.ensures.some refl)
 
-after_q : (g : Over) (c : After-link_pairs g) → Some (g.P.Inx.InxKey.number c.in-Some-next_of_link.after_q) ≡ next_of (link_map (links g c)) (g.P.PtrKey.key c.args.q).0
-after_q g c = c.in-Some-next_of_link.ensures.neighbor (c.in-Some-next_of_link.ensures.some refl)
+after_q : (g : Over) (c : After-link_pairs g) → Some (g.P.Inx.InxKey.number c.in-Some-next_of.after_q) ≡ next_of (link_map (links g c)) (g.P.PtrKey.key c.args.q).0
+after_q g c = c.in-Some-next_of.ensures.neighbor (c.in-Some-next_of.ensures.some refl)
 
 valid_p : (g : Over) (c : After-link_pairs g) → HasLink (link_map (links g c)) (g.P.PtrKey.key c.args.p).0
 valid_p g c = next_valid (link_map (links g c)) _ _ (sym (after_p g c))
@@ -39,7 +39,7 @@ is_exchanged : (g : Over) (c : After-link_pairs g) → exchanged_links g c ≡ w
 is_exchanged g c =
     let s = links g c in
     c.link_pairs.ensures.links
-    ∙ (ap₂ (λ (i j : ℕ). with_link_map s (with_neighbors (with_neighbors (link_map s) (Some i) (Some (g.P.Inx.InxKey.number c.in-Some-next_of_link.after_q))) (Some j) (Some (g.P.Inx.InxKey.number c.in-Some.after_p)))) c.inx-i.ensures c.inx-j.ensures
+    ∙ (ap₂ (λ (i j : ℕ). with_link_map s (with_neighbors (with_neighbors (link_map s) (Some i) (Some (g.P.Inx.InxKey.number c.in-Some-next_of.after_q))) (Some j) (Some (g.P.Inx.InxKey.number c.in-Some.after_p)))) c.inx-i.ensures c.inx-j.ensures
     ∙ ap₂ (λ (a b : Option ℕ). with_link_map s (with_neighbors (with_neighbors (link_map s) (Some (g.P.PtrKey.key c.args.p).0) b) (Some (g.P.PtrKey.key c.args.q).0) a)) (after_p g c) (after_q g c))
 
 pub link_pairs-requires-clause-first_prev : goal.link_pairs-requires-clause-first_prev
@@ -52,14 +52,14 @@ pub link_pairs-requires-clause-first_next : goal.link_pairs-requires-clause-firs
 link_pairs-requires-clause-first_next g c =
     let s = link_map (links_view g.P.Inx.InxKey.packed_number c.self.inside.arena) in
     let q = (g.P.PtrKey.key c.args.q).0 in
-    let after = g.P.Inx.InxKey.number c.in-Some-next_of_link.after_q in
-    prev_valid s after q ((c.self.invariant.agree.both q after).0 (sym (c.in-Some-next_of_link.ensures.neighbor (c.in-Some-next_of_link.ensures.some refl))))
+    let after = g.P.Inx.InxKey.number c.in-Some-next_of.after_q in
+    prev_valid s after q ((c.self.invariant.agree.both q after).0 (sym (c.in-Some-next_of.ensures.neighbor (c.in-Some-next_of.ensures.some refl))))
 
 pub link_pairs-requires-clause-second_prev : goal.link_pairs-requires-clause-second_prev
 link_pairs-requires-clause-second_prev g c =
     let s = link_map (links_view g.P.Inx.InxKey.packed_number c.self.inside.arena) in
     let q = (g.P.PtrKey.key c.args.q).0 in
-    subst (HasLink s) (sym c.inx-j.ensures) (next_valid s q (g.P.Inx.InxKey.number c.in-Some-next_of_link.after_q) (sym (c.in-Some-next_of_link.ensures.neighbor (c.in-Some-next_of_link.ensures.some refl))))
+    subst (HasLink s) (sym c.inx-j.ensures) (next_valid s q (g.P.Inx.InxKey.number c.in-Some-next_of.after_q) (sym (c.in-Some-next_of.ensures.neighbor (c.in-Some-next_of.ensures.some refl))))
 
 pub link_pairs-requires-clause-second_next : goal.link_pairs-requires-clause-second_next
 link_pairs-requires-clause-second_next g c =
@@ -74,8 +74,8 @@ invariant_of-self g c = record {
   at_rest = c.link_pairs.ensures.at_rest c.self.invariant.at_rest;
 }
 
-pub returns-in-Some-next_of_link : goal.returns-in-Some-next_of_link
-returns-in-Some-next_of_link g c =
+pub returns-in-Some-next_of : goal.returns-in-Some-next_of
+returns-in-Some-next_of g c =
     let a = links g c in
     let b = exchanged_links g c in
     let i = (g.P.PtrKey.key c.args.p).0 in
@@ -83,16 +83,16 @@ returns-in-Some-next_of_link g c =
     let is = is_exchanged g c in
     rw (← c.self.view_is) (record {
       outcome = (
-        record { first_valid = c.in-Some.ensures.some refl; second_valid = c.in-Some-next_of_link.ensures.some refl; first_next = ap is_some (sym (after_p g c)); second_next = ap is_some (sym (after_q g c)) },
+        record { first_valid = c.in-Some.ensures.some refl; second_valid = c.in-Some-next_of.ensures.some refl; first_next = ap is_some (sym (after_p g c)); second_next = ap is_some (sym (after_q g c)) },
         exchanged a b i j is c.self.invariant.agree (valid_p g c) (valid_q g c),
       );
       none = tt;
       more = exchange_known a b i j is c.self.invariant.agree (valid_p g c) (valid_q g c);
     })
 
-pub returns-in-None-next_of_link : goal.returns-in-None-next_of_link
-returns-in-None-next_of_link g c = rw (← c.self.view_is) (record {
-  outcome = λ can. false≢true (ap is_some (c.in-None-next_of_link.ensures.neighbor can.second_valid) ∙ can.second_next);
+pub returns-in-None-next_of : goal.returns-in-None-next_of
+returns-in-None-next_of g c = rw (← c.self.view_is) (record {
+  outcome = λ can. false≢true (ap is_some (c.in-None-next_of.ensures.neighbor can.second_valid) ∙ can.second_next);
   none = refl;
   more = tt;
 })

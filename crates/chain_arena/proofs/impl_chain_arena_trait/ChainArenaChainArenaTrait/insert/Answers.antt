@@ -1,13 +1,25 @@
--- An insertion of a kind that may be inserted returns what its growth returns.
-use Rattle.chain_arena.proofs.NewLinkLemmas.{growth_result, growth_ok, growth_err}
+-- A link of a kind that may be inserted is, after a growth if full.
+use Rattle.arena_core.proofs.PointerKindLemmas.{kind_by}
+use Rattle.chain_arena.proofs.NewLinkLemmas.{fits_grown, grown_capacity, new_link}
 use Rattle.chain_arena.proofs.impl_chain_arena_trait.ChainArenaChainArenaTrait.insert.Goals as goal
 
-pub returns : goal.returns
-returns g c =
-    let r = c.insert_reallocating.result in
-    let known = c.insert_reallocating.ensures in
-    rw c.growth_of.ensures (record {
-      outcome = growth_result _ _ _ r c.requires known.outcome;
-      err = growth_err _ r known.err;
-      more = growth_ok _ r known.more;
-    })
+pub insert_between-requires-clause-position : goal.insert_between-requires-clause-position
+insert_between-requires-clause-position g c =
+    let found = rw c.in-Ok-Some.field-0-is at c.in-Ok-Some.ensures.beside in
+    fits_grown (kind_by g.P.PtrKey g.P.Inx.InxKey g.P.Gen.GenKey) c.args.self.now c.args.kind c.in-Ok-Some.beside c.beside_with_growth.ensures.agreed found.0 found.1 g.S.SlotStack.may_reach c.beside_with_growth.new.self found.2
+
+pub insert_between-requires-clause-capacity : goal.insert_between-requires-clause-capacity
+insert_between-requires-clause-capacity g c = grown_capacity g.S.SlotStack.may_reach g.P.Inx.InxKey.greatest c.args.self.now c.beside_with_growth.new.self (rw c.in-Ok-Some.field-0-is at c.in-Ok-Some.ensures.beside).2
+
+pub proved_unreachable-assume_proved-requires : goal.proved_unreachable-assume_proved-requires
+proved_unreachable-assume_proved-requires g c = absurd ((rw c.in-Ok-None.field-0-is at c.in-Ok-None.ensures.beside).0 c.requires)
+
+pub returns-in-Ok-Some : goal.returns-in-Ok-Some
+returns-in-Ok-Some g c =
+    let found = rw c.in-Ok-Some.field-0-is at c.in-Ok-Some.ensures.beside in
+    let made = new_link (kind_by g.P.PtrKey g.P.Inx.InxKey g.P.Gen.GenKey) c.args.self.now c.args.kind c.in-Ok-Some.beside c.beside_with_growth.ensures.agreed found.0 found.1 g.S.SlotStack.may_reach c.beside_with_growth.new.self found.2
+    c.args.t c.insert_between.result c.insert_between.new.self c.insert_between.ensures in
+    record { outcome = made.0; err = tt; more = made.1 }
+
+pub returns-in-Err : goal.returns-in-Err
+returns-in-Err g c = let refused = c.in-Err.ensures.beside in record { outcome = refused.1; err = refused.2; more = tt }

@@ -1,27 +1,29 @@
--- A link of the kind is inserted at its position, after a growth if full.
+-- A link of the kind is inserted beside those found, after a growth if full.
+use Rattle.arena_core.proofs.PointerKindLemmas.{kind_by}
 use Rattle.arena_traits.specs.Growth.{RefusesOneMore}
 use Rattle.chain_links.specs.ChainArena.{value_view}
-use Rattle.chain_arena.proofs.NewLinkLemmas.{inserts_growing, growing_fits, growing_capacity, insertion_result, insertion_ok}
+use Rattle.chain_arena.proofs.NewLinkLemmas.{fits_grown, grown_capacity, new_link, insertion_refused}
 use Rattle.chain_arena.proofs.impl_chain_arena_trait.ChainArenaChainArenaTrait.insert_reallocating.Goals as goal
 
-pub insert_at-requires-clause-position : goal.insert_at-requires-clause-position
-insert_at-requires-clause-position g c =
-    let checked = c.position_with_growth-checked in
-    growing_fits g.P.PtrKey.key g.P.Inx.InxKey.number c.args.self.now c.args.kind g.S.SlotStack.may_reach g.P.Inx.InxKey.greatest checked.new.self checked.result checked.ensures.agreed checked.ensures.position
+pub insert_between-requires-clause-position : goal.insert_between-requires-clause-position
+insert_between-requires-clause-position g c =
+    let found = rw c.in-Ok-Some.field-0-is at c.in-Ok-Some.ensures.beside in
+    fits_grown (kind_by g.P.PtrKey g.P.Inx.InxKey g.P.Gen.GenKey) c.args.self.now c.args.kind c.in-Ok-Some.beside c.beside_with_growth.ensures.agreed found.0 found.1 g.S.SlotStack.may_reach c.beside_with_growth.new.self found.2
 
-pub insert_at-requires-clause-capacity : goal.insert_at-requires-clause-capacity
-insert_at-requires-clause-capacity g c =
-    let checked = c.position_with_growth-checked in
-    growing_capacity g.P.PtrKey.key g.P.Inx.InxKey.number c.args.self.now c.args.kind g.S.SlotStack.may_reach g.P.Inx.InxKey.greatest checked.new.self checked.result checked.ensures.position
+pub insert_between-requires-clause-capacity : goal.insert_between-requires-clause-capacity
+insert_between-requires-clause-capacity g c = grown_capacity g.S.SlotStack.may_reach g.P.Inx.InxKey.greatest c.args.self.now c.beside_with_growth.new.self (rw c.in-Ok-Some.field-0-is at c.in-Ok-Some.ensures.beside).2
 
-pub returns : goal.returns
-returns g c =
-    let checked = c.position_with_growth-checked in
-    let old = c.args.self.now in
-    let known = inserts_growing g.P.PtrKey.key g.P.Inx.InxKey.number g.S.SlotStack.may_reach g.P.Inx.InxKey.greatest old checked.new.self c.insert_at.new.self c.args.kind c.args.t checked.ensures.agreed
-    checked.result c.insert_at.result checked.ensures.position c.insert_at.ensures in
-    record {
-      outcome = insertion_result _ (RefusesOneMore (value_view old)) _ _ (λ p new. new.0) c.insert_at.result known.0;
-      err = known.1;
-      more = insertion_ok _ (RefusesOneMore (value_view old)) _ _ (λ p new. new.1) c.insert_at.result known.0;
-    }
+pub returns-in-Ok-Some : goal.returns-in-Ok-Some
+returns-in-Ok-Some g c =
+    let found = rw c.in-Ok-Some.field-0-is at c.in-Ok-Some.ensures.beside in
+    let made = new_link (kind_by g.P.PtrKey g.P.Inx.InxKey g.P.Gen.GenKey) c.args.self.now c.args.kind c.in-Ok-Some.beside c.beside_with_growth.ensures.agreed found.0 found.1 g.S.SlotStack.may_reach c.beside_with_growth.new.self found.2
+    c.args.t c.insert_between.result c.insert_between.new.self c.insert_between.ensures in
+    record { outcome = (found.0, made.0); err = tt; more = made.1 }
+
+pub returns-in-Ok-None : goal.returns-in-Ok-None
+returns-in-Ok-None g c = record { outcome = (rw c.in-Ok-None.field-0-is at c.in-Ok-None.ensures.beside).0; err = (rw c.in-Ok-None.field-0-is at c.in-Ok-None.ensures.beside).1; more = tt }
+
+pub returns-in-Err : goal.returns-in-Err
+returns-in-Err g c =
+    let refused = c.in-Err.ensures.beside in
+    record { outcome = insertion_refused _ (RefusesOneMore (value_view c.args.self.now)) c.in-Err.why c.from.result c.from.ensures refused.0 refused.1; err = refused.2; more = tt }

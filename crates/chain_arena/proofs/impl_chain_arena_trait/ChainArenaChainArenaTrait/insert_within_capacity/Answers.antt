@@ -1,25 +1,27 @@
--- A link of the kind is inserted at its position.
-use Rattle.std.proofs.Common.{arith}
-use Rattle.chain_arena.proofs.NewLinkLemmas.{inserts_within, within_fits, fits_capacity, within_result, within_ok}
+-- A link of the kind is inserted beside those found.
+use Rattle.std.proofs.Common.{refl, arith}
+use Rattle.arena_core.proofs.PointerKindLemmas.{kind_by}
+use Rattle.chain_arena.proofs.NewLinkLemmas.{fits_beside, free_capacity, new_link}
 use Rattle.chain_arena.proofs.impl_chain_arena_trait.ChainArenaChainArenaTrait.insert_within_capacity.Goals as goal
 
-pub insert_at-requires-clause-position : goal.insert_at-requires-clause-position
-insert_at-requires-clause-position g c =
-    let checked = c.position_within_capacity-checked in
-    within_fits g.P.PtrKey.key g.P.Inx.InxKey.number c.args.self.now c.args.kind g.S.SlotStack.may_reach g.P.Inx.InxKey.greatest checked.result checked.ensures.agree checked.ensures.position
+pub insert_between-requires-clause-position : goal.insert_between-requires-clause-position
+insert_between-requires-clause-position g c =
+    fits_beside (kind_by g.P.PtrKey g.P.Inx.InxKey g.P.Gen.GenKey) c.args.self.now c.args.kind c.in-Ok.beside c.in-Ok.ensures.agree c.in-Ok.ensures.beside.0 c.in-Ok.ensures.beside.2.0
 
-pub insert_at-requires-clause-capacity : goal.insert_at-requires-clause-capacity
-insert_at-requires-clause-capacity g c =
-    let checked = c.position_within_capacity-checked in
-    fits_capacity g.P.PtrKey.key g.P.Inx.InxKey.number c.args.self.now c.args.kind g.S.SlotStack.may_reach g.P.Inx.InxKey.greatest checked.result checked.ensures.position
+pub insert_between-requires-clause-capacity : goal.insert_between-requires-clause-capacity
+insert_between-requires-clause-capacity g c = free_capacity c.args.self.now c.in-Ok.ensures.beside.1
 
-pub returns : goal.returns
-returns g c =
-    let checked = c.position_within_capacity-checked in
-    let known = inserts_within g.P.PtrKey.key g.P.Inx.InxKey.number g.S.SlotStack.may_reach g.P.Inx.InxKey.greatest c.args.self.now c.insert_at.new.self c.args.kind c.args.t checked.ensures.agree
-    checked.result c.insert_at.result checked.ensures.position c.insert_at.ensures in
+pub returns-in-Ok : goal.returns-in-Ok
+returns-in-Ok g c =
+    let old = c.args.self.now in
+    let free = c.in-Ok.ensures.beside.1 in
+    let made = new_link (kind_by g.P.PtrKey g.P.Inx.InxKey g.P.Gen.GenKey) old c.args.kind c.in-Ok.beside c.in-Ok.ensures.agree c.in-Ok.ensures.beside.0 c.in-Ok.ensures.beside.2.0 g.S.SlotStack.may_reach old
+    c.in-Ok.ensures.beside.2.1 c.args.t c.insert_between.result c.insert_between.new.self c.insert_between.ensures in
     record {
-      outcome = within_result _ _ _ _ _ (λ p less new. (new.0.0, new.0.1.1 (omega (arith, less)))) c.insert_at.result known.0;
-      err = known.1;
-      more = within_ok _ _ _ _ _ (λ p new. new.1) c.insert_at.result known.0;
+      outcome = (c.in-Ok.ensures.beside.0, free, (made.0.0, made.0.1.1 (omega (arith, free))));
+      err = tt;
+      more = made.1;
     }
+
+pub returns-in-Err : goal.returns-in-Err
+returns-in-Err g c = record { outcome = c.in-Err.ensures.beside; err = refl; more = tt }
