@@ -7,9 +7,8 @@ use Rattle.std.proofs.lemmas.List.Elements.{All-nil, All-cons, All-head, All-tai
 use Rattle.std.proofs.lemmas.List.Folds.{length-prefix_len}
 use Rattle.std.proofs.Math.Seq.{take-append-add}
 use Rattle.std.specs.List.{onto_first, position_or_len}
-use Rattle.chain_commands.specs.Words.{lines_of, whole_lines, all_but_last, words_of, without_return}
+use Rattle.chain_commands.specs.Words.{lines_of, whole_lines, all_but_last, words_of, without_return, IsNot, EndsFirst}
 use Rattle.chain_commands.specs.Commands.{line_of, line_of_words}
-use Rattle.chain_commands.specs.Progress.{EndsFirst, IsNoEnd}
 use Rattle.chain_commands.specs.declared.command.Line.TheVariants as lines
 
 -- Keeping at most `n` bytes of a line, piece by piece, keeps its first `n` bytes.
@@ -116,54 +115,55 @@ pub cut-on : (text : List ℕ) (c : ℕ) (lines : List (List ℕ)) (rest : List 
 cut-on text c lines rest other cut = lines_of-on text c other ∙ ap (onto_last c) cut ∙ onto_last-append c lines rest
 
 -- Bytes without a line feed continue the last line.
-pub cut-more : (more text : List ℕ) (lines : List (List ℕ)) (rest : List ℕ) → All IsNoEnd more → lines_of text ≡ lines ++ rest ∷ [] → lines_of (text ++ more) ≡ lines ++ (rest ++ more) ∷ []
+pub cut-more : (more text : List ℕ) (lines : List (List ℕ)) (rest : List ℕ) → All (IsNot 10) more → lines_of text ≡ lines ++ rest ∷ [] → lines_of (text ++ more) ≡ lines ++ (rest ++ more) ∷ []
 cut-more [] text lines rest all cut = ap lines_of (append-nil text) ∙ cut ∙ ap (λ r. lines ++ r ∷ []) (sym (append-nil rest))
 cut-more (c ∷ more) text lines rest all cut =
     ap lines_of (sym (append_assoc text (c ∷ []) more))
-    ∙ cut-more more (text ++ c ∷ []) lines (rest ++ c ∷ []) (All-tail IsNoEnd c more all) (cut-on text c lines rest (All-head IsNoEnd c more all) cut)
+    ∙ cut-more more (text ++ c ∷ []) lines (rest ++ c ∷ []) (All-tail (IsNot 10) c more all) (cut-on text c lines rest (All-head (IsNot 10) c more all) cut)
     ∙ ap (λ r. lines ++ r ∷ []) (append_assoc rest (c ∷ []) more)
 
--- ---- the first line feed
+-- ---- the first such byte
 
--- The position of the first line feed.
-abbrev end_of : List ℕ → ℕ
-end_of text = position_or_len (λ c. c == 10) text
+module _ (b : ℕ) where
+  -- The position of the first such byte.
+  abbrev end_of : List ℕ → ℕ
+  end_of text = position_or_len (λ c. c == b) text
 
--- A text split before its first line feed, if there is one.
-abbrev AreParts : List ℕ → List ℕ → List ℕ → Type 0
-AreParts front [] text = All IsNoEnd text
-AreParts front (c ∷ back) text = EndsFirst front text back
+  -- A text split before the first such byte, if there is one.
+  abbrev AreParts : List ℕ → List ℕ → List ℕ → Type 0
+  AreParts front [] text = All (IsNot b) text
+  AreParts front (c ∷ back) text = EndsFirst b front text back
 
-parts_at_end : (text : List ℕ) → AreParts (take (end_of text) text) (drop (end_of text) text) text
-parts_at_end [] = All-nil IsNoEnd
-parts_at_end (c ∷ text) = by_test (c == 10) refl (parts_at_end text)
-  where
-    is_end : (c == 10) ≡ true → c ≡ 10
-    is_end e = search rules
+  parts_at_end : (text : List ℕ) → AreParts (take (end_of text) text) (drop (end_of text) text) text
+  parts_at_end [] = All-nil (IsNot b)
+  parts_at_end (c ∷ text) = by_test (c == b) refl (parts_at_end text)
+    where
+      is_end : (c == b) ≡ true → c ≡ b
+      is_end e = search rules
 
-    on : (c == 10) ≡ false → (front back : List ℕ) → AreParts front back text → AreParts (c ∷ front) back (c ∷ text)
-    on e front [] all = All-cons IsNoEnd c text e all
-    on e front (d ∷ back) found = record { parts = ap (λ l. c ∷ l) found.parts; first = All-cons IsNoEnd c front e found.first }
+      on : (c == b) ≡ false → (front back : List ℕ) → AreParts front back text → AreParts (c ∷ front) back (c ∷ text)
+      on e front [] all = All-cons (IsNot b) c text e all
+      on e front (d ∷ back) found = record { parts = ap (λ l. c ∷ l) found.parts; first = All-cons (IsNot b) c front e found.first }
 
-    by_test : (b : Bool) → (c == 10) ≡ b → AreParts (take (end_of text) text) (drop (end_of text) text) text
-        → AreParts (take (cond (not b) (1 + end_of text) 0) (c ∷ text)) (drop (cond (not b) (1 + end_of text) 0) (c ∷ text)) (c ∷ text)
-    by_test true e rest = record { parts = ap (λ d. d ∷ text) (is_end e); first = All-nil IsNoEnd }
-    by_test false e rest = subst (λ n. AreParts (take n (c ∷ text)) (drop n (c ∷ text)) (c ∷ text)) (sym (one-add (end_of text))) (on e _ _ rest)
+      by_test : (t : Bool) → (c == b) ≡ t → AreParts (take (end_of text) text) (drop (end_of text) text) text
+          → AreParts (take (cond (not t) (1 + end_of text) 0) (c ∷ text)) (drop (cond (not t) (1 + end_of text) 0) (c ∷ text)) (c ∷ text)
+      by_test true e rest = record { parts = ap (λ d. d ∷ text) (is_end e); first = All-nil (IsNot b) }
+      by_test false e rest = subst (λ n. AreParts (take n (c ∷ text)) (drop n (c ∷ text)) (c ∷ text)) (sym (one-add (end_of text))) (on e _ _ rest)
 
-module _ (text front rest : List ℕ) (n : ℕ) (at : n ≡ length (take_while (λ c. not (c == 10)) text)) (front_is : front ≡ take n text) (rest_is : rest ≡ drop n text) where
-  at_end : n ≡ end_of text
-  at_end = at ∙ length-prefix_len (λ c. not (c == 10)) text
+  module _ (text front rest : List ℕ) (n : ℕ) (at : n ≡ length (take_while (λ c. not (c == b)) text)) (front_is : front ≡ take n text) (rest_is : rest ≡ drop n text) where
+    at_end : n ≡ end_of text
+    at_end = at ∙ length-prefix_len (λ c. not (c == b)) text
 
-  parts_are : AreParts front rest text
-  parts_are =
-      subst (λ f. AreParts f rest text) (sym (front_is ∙ ap (λ k. take k text) at_end))
-      (subst (λ r. AreParts (take (end_of text) text) r text) (sym (rest_is ∙ ap (λ k. drop k text) at_end)) (parts_at_end text))
+    parts_are : AreParts front rest text
+    parts_are =
+        subst (λ f. AreParts f rest text) (sym (front_is ∙ ap (λ k. take k text) at_end))
+        (subst (λ r. AreParts (take (end_of text) text) r text) (sym (rest_is ∙ ap (λ k. drop k text) at_end)) (parts_at_end text))
 
-  pub parts-some : (c : ℕ) (back : List ℕ) → rest ≡ c ∷ back → EndsFirst front text back
-  parts-some c back is = subst (λ r. AreParts front r text) is parts_are
+    pub parts-some : (c : ℕ) (back : List ℕ) → rest ≡ c ∷ back → EndsFirst b front text back
+    parts-some c back is = subst (λ r. AreParts front r text) is parts_are
 
-  pub parts-none : rest ≡ [] → All IsNoEnd text
-  parts-none is = subst (λ r. AreParts front r text) is parts_are
+    pub parts-none : rest ≡ [] → All (IsNot b) text
+    parts-none is = subst (λ r. AreParts front r text) is parts_are
 
 -- The whole lines are those before the rest.
 pub all_but_last-append : (lines : List (List ℕ)) (rest : List ℕ) → all_but_last (lines ++ rest ∷ []) ≡ lines

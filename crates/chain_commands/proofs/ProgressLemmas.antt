@@ -4,11 +4,11 @@ use Rattle.std.specs.Prelude.{All}
 use Rattle.std.proofs.KnownBytes.{Appends-trans, Appends-kept}
 use Rattle.chain_commands.specs.declared.session.ToolError.{ToolError}
 use Rattle.chain_commands.specs.declared.session.ToolError.TheVariants as errors
-use Rattle.chain_commands.specs.Words.{lines_of, whole_lines}
+use Rattle.chain_commands.specs.Words.{lines_of, whole_lines, IsNot, EndsFirst}
 use Rattle.chain_commands.specs.Commands.{line_of}
 use Rattle.chain_commands.specs.Responses.{ToolLinks, RespondsToLine, LeavesStep}
 use Rattle.chain_commands.specs.Transcripts.{Transcribes, IsCutShort, within, TranscribesSome, before, after}
-use Rattle.chain_commands.specs.Progress.{TranscribesOne, Progress, HasProgressed, EndsFirst, IsNoEnd}
+use Rattle.chain_commands.specs.Progress.{TranscribesOne, Progress, HasProgressed}
 use Rattle.chain_commands.proofs.LineSplitLemmas.{line_of-take, lines_of-end, whole_lines-end, whole_lines-more, cut-more}
 
 -- One more line is executed.
@@ -76,7 +76,7 @@ Progress-stopped old new read kept more held held_after so_far =
     subst (λ l. TranscribesSome old new l so_far.text) (sym found.1) (before so_far.lines found.0 so_far.text so_far.responses)
 
 -- More of a line is read, and enough of it is kept.
-pub Progress-front : (old new : ToolLinks) (read kept kept_after front : List ℕ) (held held_after : Option (List ℕ)) (so_far : Progress old read new kept held held_after) → All IsNoEnd front
+pub Progress-front : (old new : ToolLinks) (read kept kept_after front : List ℕ) (held held_after : Option (List ℕ)) (so_far : Progress old read new kept held held_after) → All (IsNot 10) front
     → kept_after ≡ take 201 (so_far.rest ++ front) → Progress old (read ++ front) new kept_after held held_after
 Progress-front old new read kept kept_after front held held_after so_far all keep = record {
   lines = so_far.lines;
@@ -117,10 +117,10 @@ responses-line (Err errors.Memory) old new kept line held held_after is responde
 
 module _ (old now : ToolLinks) (read done left kept : List ℕ) (held held_now : Option (List ℕ)) (so_far : Progress old (read ++ done) now kept held held_now) where
   -- Enough is kept of a part without a line feed.
-  so_far_front : (front : List ℕ) → All IsNoEnd front → Progress old ((read ++ done) ++ front) now (take 201 (so_far.rest ++ front)) held held_now
+  so_far_front : (front : List ℕ) → All (IsNot 10) front → Progress old ((read ++ done) ++ front) now (take 201 (so_far.rest ++ front)) held held_now
   so_far_front front all = Progress-front old now (read ++ done) kept (take 201 (so_far.rest ++ front)) front held held_now so_far all refl
 
-  module _ (front back : List ℕ) (ends : EndsFirst front left back) where
+  module _ (front back : List ℕ) (ends : EndsFirst 10 front left back) where
     -- The line is executed.
     pub feed-line : {A : Type 0} (new : ToolLinks) (kept_after : List ℕ) (held_new : Option (List ℕ)) (x : A)
         → ((rest : List ℕ) → kept ≡ take 201 rest → TranscribesOne (Ok x) now new (rest ++ front) held_now held_new) → kept_after ≡ []
@@ -144,7 +144,7 @@ module _ (old now : ToolLinks) (read done left kept : List ℕ) (held held_now :
         (subst (λ l. HasProgressed {A = B} (Err error) old l new kept_after held held_new) whole here)
 
   -- The rest is kept, or an allocation failure stops the run.
-  pub feed-kept : {A : Type 0} (r : Result A ToolError) (piece kept_after : List ℕ) → piece ≡ done ++ left → All IsNoEnd left
+  pub feed-kept : {A : Type 0} (r : Result A ToolError) (piece kept_after : List ℕ) → piece ≡ done ++ left → All (IsNot 10) left
       → OnOk r ((rest : List ℕ) → kept ≡ take 201 rest → kept_after ≡ take 201 (rest ++ left)) → IfErr r (λ e. e ≡ errors.Memory) → HasProgressed r old (read ++ piece) now kept_after held held_now
   feed-kept (Ok x) piece kept_after parts all keeps error =
       subst (λ l. Progress old l now kept_after held held_now) (append_assoc read done left ∙ ap (λ l. read ++ l) (sym parts))

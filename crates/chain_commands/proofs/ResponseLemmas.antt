@@ -1,5 +1,5 @@
 -- A completed step belongs to some response, even if the allocation of the response failed.
-use Rattle.std.proofs.Common.{OnOk, ◌≡◌, ℕ, ◌⊎◌, List, [], ◌∷◌, ◌++◌, Result, Ok, Err, OnErr, IsOk, IsErrAnd, is_ok, if◌then◌else◌, refl, sym, ap, ◌∙◌, inl, inr, subst, Bool, cond, append_assoc, append-nil, true, false}
+use Rattle.std.proofs.Common.{◌≡◌, ℕ, ◌⊎◌, List, [], ◌∷◌, ◌++◌, Result, Ok, Err, OnErr, IsOk, IsErrAnd, is_ok, if◌then◌else◌, refl, sym, ap, ◌∙◌, inl, inr, subst, Bool, cond, append_assoc, append-nil, true, false}
 use Rattle.std.proofs.lemmas.Bool.{false≢true}
 use Rattle.arena_ptr.specs.declared.generation.gen32.Gen32.{Gen32}
 use Rattle.chain_links.specs.ChainArena.{LinkView}
@@ -9,21 +9,7 @@ use Rattle.chain_commands.specs.declared.command.Line.{Line}
 use Rattle.chain_commands.specs.declared.command.Line.TheVariants.{Good}
 use Rattle.chain_commands.specs.Responses.{ToolLinks, RespondsToCommand, RespondsToLine, LeavesStep, ExecutesLine, walked_text, walk_text}
 
--- A text that was cleared and appended to.
-pushed_is : (old v_text new : List ℕ) → old ≡ [] → new ≡ old ++ v_text → new ≡ v_text
-pushed_is old text new none is = is ∙ ap (λ b. b ++ text) none
-
 module _ {T E : Type 0} where
-  -- A property of a text holds of a cleared text to which it is appended.
-  pub returns_ok : (P : List ℕ → ToolLinks → Type 0) (new : ToolLinks) (before after text : List ℕ) (r : Result T E) → before ≡ [] → OnOk r (after ≡ before ++ text) → P text new → OnOk r (P after new)
-  returns_ok P new before after text (Ok x) none is returned = subst (λ t. P t new) (sym (pushed_is before text after none is)) returned
-  returns_ok P new before after text (Err e) none is returned = tt
-
-  -- If appending failed, there is still some response.
-  pub returns_err : (P : List ℕ → ToolLinks → Type 0) (new : ToolLinks) (text : List ℕ) (r : Result T E) → P text new → OnErr r ((words : List ℕ) × P words new)
-  returns_err P new text (Ok x) returned = tt
-  returns_err P new text (Err e) returned = (text, returned)
-
   -- If the call of a line takes effect, so does the line.
   pub line_fails : (Q : E → Type 0) (old new : ToolLinks) (line : Line) (command : Command) (text : List ℕ) (r : Result T E) → IsErrAnd r Q → Good command ≡ line
       → (new ≡ old) ⊎ LeavesStep old (Good command) new → ExecutesLine r old line text new

@@ -6,8 +6,8 @@ use Rattle.arena_ptr.specs.declared.tool_ptr.ToolPtr.{ToolPtr}
 use Rattle.arena_ptr.specs.declared.generation.gen32.Gen32.{Gen32}
 use Rattle.chain_arena.specs.declared.calls.Call.{Call}
 use Rattle.chain_arena.specs.declared.calls.Call.TheVariants.{Insert, InsertWithin, Connect, BreakPrev, BreakNext, ExchangeNext, Remove, RemoveInx, Invalidate, DrainChain, Clear, Compress, CompressCanonical, Reserve, SetGeneration, IncGeneration}
-use Rattle.chain_links.specs.declared.kinds.InsertKindBody.{InsertKindBody}
-use Rattle.chain_links.specs.declared.kinds.InsertKindBody.TheVariants as kinds
+use Rattle.chain_laws.specs.declared.insert_kind.InsertKind.{InsertKind}
+use Rattle.chain_laws.specs.declared.insert_kind.InsertKind.TheVariants as kinds
 use Rattle.chain_commands.specs.declared.command.Command.{Command}
 use Rattle.chain_commands.specs.declared.command.Command.TheVariants.{Change, Show, Chain, Len, Moves}
 use Rattle.chain_commands.specs.declared.command.Line.{Line}
@@ -16,7 +16,7 @@ use Rattle.chain_commands.specs.Words.{words_of, number_of, index_word, generati
 
 -- Kinds of a new link, whose neighbors are named by pointer or index.
 abbrev pub Kind : Type 0
-Kind = InsertKindBody ToolPtr Inx32
+Kind = InsertKind ToolPtr Inx32
 
 -- Calls that may change the links.
 abbrev pub LinkCall : Type 0
@@ -27,6 +27,10 @@ abbrev pub one_word : List (List ℕ) → Option (List ℕ)
 one_word [] = None
 one_word (word ∷ []) = Some word
 one_word (word ∷ next ∷ words) = None
+
+-- Arguments that are one number.
+abbrev pub one_number : List (List ℕ) → Option ℕ
+one_number words = option_and_then number_of (one_word words)
 
 -- Arguments that are one pointer.
 abbrev pub one_pointer : List (List ℕ) → Option ToolPtr
@@ -40,7 +44,7 @@ two_pointers (word ∷ words) = option_zip (pointer_of word) (one_pointer words)
 -- Arguments that are a pointer and a number.
 abbrev pub pointer_and_number : List (List ℕ) → Option (ToolPtr × ℕ)
 pointer_and_number [] = None
-pointer_and_number (word ∷ words) = option_zip (pointer_of word) (option_and_then number_of (one_word words))
+pointer_and_number (word ∷ words) = option_zip (pointer_of word) (one_number words)
 
 -- No arguments.
 abbrev pub no_arguments : List (List ℕ) → Option Unit
@@ -48,11 +52,8 @@ no_arguments [] = Some tt
 no_arguments (word ∷ words) = None
 
 -- Whether a compression resets the counter.
-abbrev pub reset_word : List ℕ → Option Bool
-reset_word word =
-    if bytes_eq word (codes "reset") then Some true
-    else (if bytes_eq word (codes "keep") then Some false
-    else None)
+abbrev pub reset_of : List (List ℕ) → Option Bool
+reset_of words = option_and_then (λ word. if bytes_eq word (codes "reset") then Some true else (if bytes_eq word (codes "keep") then Some false else None)) (one_word words)
 
 -- The result by pointers if there are any, or else by indexes.
 abbrev pub by_either : {P I A : Type 0} → (P → A) → (I → A) → Option P → Option I → Option A
@@ -90,57 +91,36 @@ kind_between name first second =
     else (if bytes_eq name (codes "bridge") then by_either (λ x. kinds.Bridge x.0 x.1) (λ x. kinds.BridgeInx x.0 x.1) p i
     else None)
 
--- The kind of a new link, its neighbors, and its value at the end.
-abbrev pub kind_and_value : List (List ℕ) → Option (Kind × ℕ)
-kind_and_value (name ∷ value ∷ []) = option_zip (kind_alone name) (number_of value)
-kind_and_value (name ∷ x ∷ value ∷ []) = option_zip (kind_beside name x) (number_of value)
-kind_and_value (name ∷ x ∷ y ∷ value ∷ []) = option_zip (kind_between name x y) (number_of value)
-kind_and_value words = None
-
--- The call on the capacity or the counter with this name and these arguments.
-abbrev pub capacity_or_counter_call : List ℕ → List (List ℕ) → Option LinkCall
-capacity_or_counter_call name arguments =
-    if bytes_eq name (codes "reserve") then option_map Reserve (option_and_then number_of (one_word arguments))
-    else (if bytes_eq name (codes "setgen") then option_map SetGeneration (option_and_then generation_word (one_word arguments))
-    else (if bytes_eq name (codes "incgen") then option_map (λ none. IncGeneration) (no_arguments arguments)
-    else None))
-
--- The renumbering with this name and these arguments, or else the call on the capacity or the
--- counter.
-abbrev pub renumbering_call : List ℕ → List (List ℕ) → Option LinkCall
-renumbering_call name arguments =
-    if bytes_eq name (codes "compress") then option_map Compress (option_and_then reset_word (one_word arguments))
-    else (if bytes_eq name (codes "canonical") then option_map CompressCanonical (option_and_then reset_word (one_word arguments))
-    else capacity_or_counter_call name arguments)
-
--- The call that removes links or invalidates pointers, or else the renumbering.
-abbrev pub removal_call : List ℕ → List (List ℕ) → Option LinkCall
-removal_call name arguments =
-    if bytes_eq name (codes "remove") then removal arguments
-    else (if bytes_eq name (codes "invalidate") then option_map Invalidate (one_pointer arguments)
-    else (if bytes_eq name (codes "drain") then option_map (λ a. DrainChain a.0 a.1) (pointer_and_number arguments)
-    else (if bytes_eq name (codes "clear") then option_map (λ none. Clear) (no_arguments arguments)
-    else renumbering_call name arguments)))
-
--- The call with this name and these arguments.
-abbrev pub call_of : List ℕ → List (List ℕ) → Option LinkCall
-call_of name arguments =
-    if bytes_eq name (codes "add") then option_map (λ a. Insert a.0 a.1) (kind_and_value arguments)
-    else (if bytes_eq name (codes "addwithin") then option_map (λ a. InsertWithin a.0 a.1) (kind_and_value arguments)
-    else (if bytes_eq name (codes "connect") then option_map (λ p. Connect p.0 p.1) (two_pointers arguments)
-    else (if bytes_eq name (codes "breakprev") then option_map BreakPrev (one_pointer arguments)
-    else (if bytes_eq name (codes "breaknext") then option_map BreakNext (one_pointer arguments)
-    else (if bytes_eq name (codes "exchange") then option_map (λ p. ExchangeNext p.0 p.1) (two_pointers arguments)
-    else removal_call name arguments)))))
+-- An insertion: the kind of the new link, its neighbors, and its value at the end.
+abbrev pub insertion : List (List ℕ) → Option (Kind × ℕ)
+insertion (name ∷ value ∷ []) = option_zip (kind_alone name) (number_of value)
+insertion (name ∷ x ∷ value ∷ []) = option_zip (kind_beside name x) (number_of value)
+insertion (name ∷ x ∷ y ∷ value ∷ []) = option_zip (kind_between name x y) (number_of value)
+insertion words = None
 
 -- The command with this name and these arguments.
 abbrev pub command_of : List ℕ → List (List ℕ) → Option Command
 command_of name arguments =
-    if bytes_eq name (codes "show") then option_map Show (one_pointer arguments)
+    if bytes_eq name (codes "add") then option_map (λ a. Change (Insert a.0 a.1)) (insertion arguments)
+    else (if bytes_eq name (codes "addwithin") then option_map (λ a. Change (InsertWithin a.0 a.1)) (insertion arguments)
+    else (if bytes_eq name (codes "connect") then option_map (λ p. Change (Connect p.0 p.1)) (two_pointers arguments)
+    else (if bytes_eq name (codes "breakprev") then option_map (λ p. Change (BreakPrev p)) (one_pointer arguments)
+    else (if bytes_eq name (codes "breaknext") then option_map (λ p. Change (BreakNext p)) (one_pointer arguments)
+    else (if bytes_eq name (codes "exchange") then option_map (λ p. Change (ExchangeNext p.0 p.1)) (two_pointers arguments)
+    else (if bytes_eq name (codes "remove") then option_map Change (removal arguments)
+    else (if bytes_eq name (codes "invalidate") then option_map (λ p. Change (Invalidate p)) (one_pointer arguments)
+    else (if bytes_eq name (codes "drain") then option_map (λ a. Change (DrainChain a.0 a.1)) (pointer_and_number arguments)
+    else (if bytes_eq name (codes "clear") then option_map (λ none. Change Clear) (no_arguments arguments)
+    else (if bytes_eq name (codes "compress") then option_map (λ reset. Change (Compress reset)) (reset_of arguments)
+    else (if bytes_eq name (codes "canonical") then option_map (λ reset. Change (CompressCanonical reset)) (reset_of arguments)
+    else (if bytes_eq name (codes "reserve") then option_map (λ n. Change (Reserve n)) (one_number arguments)
+    else (if bytes_eq name (codes "setgen") then option_map (λ g. Change (SetGeneration g)) (option_and_then generation_word (one_word arguments))
+    else (if bytes_eq name (codes "incgen") then option_map (λ none. Change IncGeneration) (no_arguments arguments)
+    else (if bytes_eq name (codes "show") then option_map Show (one_pointer arguments)
     else (if bytes_eq name (codes "chain") then option_map Chain (one_pointer arguments)
     else (if bytes_eq name (codes "len") then option_map (λ none. Len) (no_arguments arguments)
-    else (if bytes_eq name (codes "moves") then option_map Moves (option_and_then reset_word (one_word arguments))
-    else option_map Change (call_of name arguments))))
+    else (if bytes_eq name (codes "moves") then option_map Moves (reset_of arguments)
+    else None))))))))))))))))))
 
 abbrev pub line_with : Option Command → Line
 line_with None = lines.Bad

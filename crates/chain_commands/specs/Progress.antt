@@ -1,5 +1,5 @@
 -- The progress of a run.
-use Rattle.std.specs.Prelude.{◌≡◌, ℕ, ◌<◌, ◌≤◌, ◌==◌, false, All, ◌⊎◌, List, [], ◌∷◌, ◌++◌, length, take, Option, IfSome, IfNone, Result, Ok, Err, OnOk, OnErr, IfOk, IfErr}
+use Rattle.std.specs.Prelude.{◌≡◌, ℕ, ◌<◌, ◌≤◌, ◌⊎◌, List, [], ◌∷◌, ◌++◌, length, take, Option, Result, Ok, Err, OnOk, OnErr, IfOk, IfErr}
 use Rattle.std.specs.Io.KnownBytes.{Appends, Consumes, Keeps, IsAtEnd}
 use Rattle.chain_commands.specs.declared.session.ToolError.{ToolError}
 use Rattle.chain_commands.specs.declared.session.ToolError.TheVariants as errors
@@ -7,22 +7,6 @@ use Rattle.chain_commands.specs.Words.{lines_of, whole_lines}
 use Rattle.chain_commands.specs.Commands.{line_of}
 use Rattle.chain_commands.specs.Responses.{ToolLinks, RespondsToLine, LeavesStep}
 use Rattle.chain_commands.specs.Transcripts.{Transcribes, IsCutShort, TranscribesSome}
-
--- The byte is no line feed.
-abbrev pub IsNoEnd : ℕ → Type 0
-IsNoEnd c = (c == 10) ≡ false
-
--- The first line feed of a text, with the parts before and after it.
-pub record EndsFirst (front text back : List ℕ) : Type 0 where
-  pub parts : text ≡ front ++ 10 ∷ back
-  pub first : All IsNoEnd front
-
--- The parts of a text before and after its first line feed, or `None` if there is none.
-abbrev pub IsFirstLine : {A : Type 0} → (A → List ℕ) → Option (A × A) → List ℕ → Type 0
-IsFirstLine bytes found text = record {
-  some : IfSome found (λ parts. EndsFirst (bytes parts.0) text (bytes parts.1));
-  none : IfNone found (All IsNoEnd text);
-}
 
 -- The result of writing a text: all is written, or a first part if the writer fails.
 abbrev pub WritesText : {A : Type 0} → Result A ToolError → (held held_after : Option (List ℕ)) → List ℕ → Type 0

@@ -194,14 +194,6 @@ RespondsToLine old (Good command) text new = (words : List ℕ) × (text ≡ wor
 abbrev pub LeavesStep : ToolLinks → Line → ToolLinks → Type 0
 LeavesStep old line new = (call : LinkCall) × (text : List ℕ) × (line ≡ Good (Change call)) × RespondsToCall old call text new
 
--- The result of a call: its response is in the text. If an allocation for that failed, the call has
--- taken effect.
-abbrev pub ExecutesCall : {A E : Type 0} → Result A E → ToolLinks → LinkCall → List ℕ → ToolLinks → Type 0
-ExecutesCall returned old call text new = record {
-  ok : OnOk returned (RespondsToCall old call text new);
-  err : OnErr returned ((words : List ℕ) × RespondsToCall old call words new);
-}
-
 -- The result of `moves F`: its response is in the text, which has capacity for a line feed. If an
 -- allocation failed, nothing has changed.
 abbrev pub ExecutesMoves : {A E : Type 0} → Result A E → ToolLinks → Bool → String Global → ToolLinks → Type 0
@@ -209,15 +201,6 @@ ExecutesMoves returned old reset text new = record {
   ok : OnOk returned (RespondsToMoves old reset (string_bytes text) new);
   capacity : OnOk returned (HasCapacityForText text (codes "\n"));
   err : OnErr returned (new ≡ old);
-}
-
--- The result of a command: its response is in the text, which after `moves F` has capacity for a
--- line feed. If an allocation failed, only a call may have taken effect.
-abbrev pub ExecutesCommand : {A E : Type 0} → Result A E → ToolLinks → Command → String Global → ToolLinks → Type 0
-ExecutesCommand returned old command text new = record {
-  ok : OnOk returned (RespondsToCommand old command (string_bytes text) new);
-  capacity : OnOk returned ((reset : Bool) → command ≡ Moves reset → HasCapacityForText text (codes "\n"));
-  err : OnErr returned ((new ≡ old) ⊎ LeavesStep old (Good command) new);
 }
 
 -- The result of a line: its response is in the text. If an allocation failed, only a call may have

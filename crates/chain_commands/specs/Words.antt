@@ -1,6 +1,6 @@
 -- Lines, words, numbers and pointers in a text of bytes: 10 ends a line, 32 separates words, 46 is
 -- the dot of a pointer.
-use Rattle.std.specs.Prelude.{◌≡◌, refl, ℕ, leb, ◌-◌, ◌==◌, ◌&&◌, nat_lt, nat_le, Bool, true, false}
+use Rattle.std.specs.Prelude.{◌≡◌, refl, ℕ, leb, ◌-◌, ◌==◌, ◌&&◌, nat_lt, nat_le, Bool, true, false, All, ◌++◌}
 use Rattle.std.specs.Prelude.{if◌then◌else◌, List, [], ◌∷◌, length, take, slice_index, filter, Option, Some, None, IfSome, IfNone, option_and_then}
 use Rattle.std.specs.List.{slice_split, before_first, after_first}
 use Rattle.std.specs.Str.{all_ascii_digits}
@@ -48,11 +48,20 @@ IsFirstWord bytes result text = record {
   end : IfNone result (words_of text ≡ []);
 }
 
--- The parts of a text before and after the first byte `b`.
-abbrev pub IsSplitAtByte : ℕ → (front back text : List ℕ) → Type 0
-IsSplitAtByte b front back text = record {
-  front : front ≡ before_first (λ c. c == b) text;
-  back : back ≡ after_first (λ c. c == b) text;
+-- The byte is not `b`.
+abbrev pub IsNot : ℕ → ℕ → Type 0
+IsNot b c = (c == b) ≡ false
+
+-- The first byte `b` of a text, with the parts before and after it.
+pub record EndsFirst (b : ℕ) (front text back : List ℕ) : Type 0 where
+  pub parts : text ≡ front ++ b ∷ back
+  pub first : All (IsNot b) front
+
+-- The parts of a text before and after its first byte `b`, or `None` if there is none.
+abbrev pub IsSplitAtByte : {A : Type 0} → ℕ → (A → List ℕ) → Option (A × A) → List ℕ → Type 0
+IsSplitAtByte b bytes found text = record {
+  some : IfSome found (λ parts. EndsFirst b (bytes parts.0) text (bytes parts.1));
+  none : IfNone found (All (IsNot b) text);
 }
 
 -- 1 to 10 decimal digits, up to 4294967295.

@@ -1,9 +1,10 @@
 //! Commands, and the parser of lines.
 ghost use Rattle.std.specs.Prelude.{◌≡◌, bytes_eq, option_map};
-ghost use Rattle.chain_links.specs.declared.kinds.InsertKindBody.TheVariants.{AtInterlink, AtInterlinkInx, Bridge, BridgeInx};
+ghost use Rattle.chain_laws.specs.declared.insert_kind.InsertKind.TheVariants.{AtInterlink, AtInterlinkInx, Bridge, BridgeInx};
 ghost use Rattle.chain_commands.specs.Words.{words_of};
-ghost use Rattle.chain_commands.specs.Commands.{one_word, one_pointer, two_pointers, pointer_and_number, no_arguments, reset_word, by_either, removal, kind_alone, kind_beside, kind_between, kind_and_value, capacity_or_counter_call, renumbering_call, removal_call, call_of, command_of, line_of};
+ghost use Rattle.chain_commands.specs.Commands.{by_either, one_word, one_number, one_pointer, two_pointers, pointer_and_number, no_arguments, reset_of, removal, kind_alone, kind_beside, kind_between, insertion, command_of, line_of};
 
+use crate::command::Command::Change;
 use crate::lexer::{generation, index, next_word, number, pointer, without_return};
 use arena_ptr::{Inx32, ToolPtr};
 use chain_arena::{Call, LinkInsertKind};
@@ -53,93 +54,38 @@ pub fn parse(line: &[u8]) -> Line
 }
 
 /// Parses the command with this name and these arguments.
-fn command_of(name: &[u8], arguments: &[u8]) -> Option<Command>
-    ensures { result ≡ command_of name.now (words_of arguments.now) }
+fn command_of(name: &[u8], words: &[u8]) -> Option<Command>
+    ensures { result ≡ command_of name.now (words_of words.now) }
 {
-    if is(name, "show") {
-        Some(Command::Show(one_pointer(arguments)?))
-    } else if is(name, "chain") {
-        Some(Command::Chain(one_pointer(arguments)?))
-    } else if is(name, "len") {
-        no_arguments(arguments)?;
-        Some(Command::Len)
-    } else if is(name, "moves") {
-        Some(Command::Moves(reset(one_word(arguments)?)?))
-    } else {
-        Some(Command::Change(call(name, arguments)?))
-    }
-}
-
-/// Parses the call with this name and these arguments.
-fn call(name: &[u8], arguments: &[u8]) -> Option<Call<ToolPtr, u32>>
-    ensures { result ≡ call_of name.now (words_of arguments.now) }
-{
-    if is(name, "add") {
-        let (kind, t) = kind_and_value(arguments)?;
-        Some(Call::Insert { kind, t })
-    } else if is(name, "addwithin") {
-        let (kind, t) = kind_and_value(arguments)?;
-        Some(Call::InsertWithin { kind, t })
-    } else if is(name, "connect") {
-        let (p, q) = two_pointers(arguments)?;
-        Some(Call::Connect(p, q))
-    } else if is(name, "breakprev") {
-        Some(Call::BreakPrev(one_pointer(arguments)?))
-    } else if is(name, "breaknext") {
-        Some(Call::BreakNext(one_pointer(arguments)?))
-    } else if is(name, "exchange") {
-        let (p, q) = two_pointers(arguments)?;
-        Some(Call::ExchangeNext(p, q))
-    } else {
-        removal_call(name, arguments)
-    }
-}
-
-/// Parses a call that removes links or invalidates pointers, or else a renumbering.
-fn removal_call(name: &[u8], arguments: &[u8]) -> Option<Call<ToolPtr, u32>>
-    ensures { result ≡ removal_call name.now (words_of arguments.now) }
-{
-    if is(name, "remove") {
-        removal(arguments)
-    } else if is(name, "invalidate") {
-        Some(Call::Invalidate(one_pointer(arguments)?))
-    } else if is(name, "drain") {
-        let (p, take) = pointer_and_number(arguments)?;
-        Some(Call::DrainChain { p, take })
-    } else if is(name, "clear") {
-        no_arguments(arguments)?;
-        Some(Call::Clear)
-    } else {
-        renumbering_call(name, arguments)
-    }
-}
-
-/// Parses a renumbering, or else a call on the capacity or the counter.
-fn renumbering_call(name: &[u8], arguments: &[u8]) -> Option<Call<ToolPtr, u32>>
-    ensures { result ≡ renumbering_call name.now (words_of arguments.now) }
-{
-    if is(name, "compress") {
-        Some(Call::Compress(reset(one_word(arguments)?)?))
-    } else if is(name, "canonical") {
-        Some(Call::CompressCanonical(reset(one_word(arguments)?)?))
-    } else {
-        capacity_or_counter_call(name, arguments)
-    }
-}
-
-/// Parses a call on the capacity or the counter.
-fn capacity_or_counter_call(name: &[u8], arguments: &[u8]) -> Option<Call<ToolPtr, u32>>
-    ensures { result ≡ capacity_or_counter_call name.now (words_of arguments.now) }
-{
-    if is(name, "reserve") {
-        Some(Call::Reserve(number(one_word(arguments)?)? as usize))
-    } else if is(name, "setgen") {
-        Some(Call::SetGeneration(generation(one_word(arguments)?)?))
-    } else if is(name, "incgen") {
-        no_arguments(arguments)?;
-        Some(Call::IncGeneration)
-    } else {
-        None
+    match name {
+        n if is(n, "add") => insertion(words).map(|(kind, t)| Change(Call::Insert { kind, t })),
+        n if is(n, "addwithin") => insertion(words).map(|(kind, t)| Change(Call::InsertWithin {
+            kind,
+            t,
+        })),
+        n if is(n, "connect") => two_pointers(words).map(|(p, q)| Change(Call::Connect(p, q))),
+        n if is(n, "breakprev") => Some(Change(Call::BreakPrev(one_pointer(words)?))),
+        n if is(n, "breaknext") => Some(Change(Call::BreakNext(one_pointer(words)?))),
+        n if is(n, "exchange") => two_pointers(words).map(|(p, q)| Change(Call::ExchangeNext(
+            p, q,
+        ))),
+        n if is(n, "remove") => Some(Change(removal(words)?)),
+        n if is(n, "invalidate") => Some(Change(Call::Invalidate(one_pointer(words)?))),
+        n if is(n, "drain") => pointer_and_number(words).map(|(p, take)| Change(Call::DrainChain {
+            p,
+            take,
+        })),
+        n if is(n, "clear") => no_arguments(words).map(|()| Change(Call::Clear)),
+        n if is(n, "compress") => Some(Change(Call::Compress(reset(words)?))),
+        n if is(n, "canonical") => Some(Change(Call::CompressCanonical(reset(words)?))),
+        n if is(n, "reserve") => Some(Change(Call::Reserve(one_number(words)? as usize))),
+        n if is(n, "setgen") => Some(Change(Call::SetGeneration(generation(one_word(words)?)?))),
+        n if is(n, "incgen") => no_arguments(words).map(|()| Change(Call::IncGeneration)),
+        n if is(n, "show") => Some(Command::Show(one_pointer(words)?)),
+        n if is(n, "chain") => Some(Command::Chain(one_pointer(words)?)),
+        n if is(n, "len") => no_arguments(words).map(|()| Command::Len),
+        n if is(n, "moves") => Some(Command::Moves(reset(words)?)),
+        _ => None,
     }
 }
 
@@ -150,9 +96,9 @@ fn is(word: &[u8], text: &str) -> bool
     word == text.as_bytes()
 }
 
-/// Parses the kind of a new link, its neighbors, and its value at the end.
-fn kind_and_value(arguments: &[u8]) -> Option<(LinkInsertKind<ToolPtr>, u32)>
-    ensures { result ≡ kind_and_value (words_of arguments.now) }
+/// Parses an insertion: the kind of the new link, its neighbors, and its value at the end.
+fn insertion(arguments: &[u8]) -> Option<(LinkInsertKind<ToolPtr>, u32)>
+    ensures { result ≡ insertion (words_of arguments.now) }
 {
     let (name, arguments) = next_word(arguments)?;
     let (first, arguments) = next_word(arguments)?;
@@ -162,22 +108,18 @@ fn kind_and_value(arguments: &[u8]) -> Option<(LinkInsertKind<ToolPtr>, u32)>
     let Some((third, arguments)) = next_word(arguments) else {
         return kind_beside(name, first).zip(number(second));
     };
-    match next_word(arguments) {
-        None => kind_between(name, first, second).zip(number(third)),
-        Some(_) => None,
-    }
+    no_arguments(arguments)?;
+    kind_between(name, first, second).zip(number(third))
 }
 
 /// Parses a kind that names no neighbor.
 fn kind_alone(name: &[u8]) -> Option<LinkInsertKind<ToolPtr>>
     ensures { result ≡ kind_alone name.now }
 {
-    if is(name, "alone") {
-        Some(LinkInsertKind::Disconnected)
-    } else if is(name, "ring") {
-        Some(LinkInsertKind::SingleLinkCyclic)
-    } else {
-        None
+    match name {
+        b"alone" => Some(LinkInsertKind::Disconnected),
+        b"ring" => Some(LinkInsertKind::SingleLinkCyclic),
+        _ => None,
     }
 }
 
@@ -263,15 +205,13 @@ fn no_arguments(arguments: &[u8]) -> Option<()>
 }
 
 /// Parses whether a compression resets the counter.
-fn reset(word: &[u8]) -> Option<bool>
-    ensures { result ≡ reset_word word.now }
+fn reset(arguments: &[u8]) -> Option<bool>
+    ensures { result ≡ reset_of (words_of arguments.now) }
 {
-    if is(word, "reset") {
-        Some(true)
-    } else if is(word, "keep") {
-        Some(false)
-    } else {
-        None
+    match one_word(arguments)? {
+        b"reset" => Some(true),
+        b"keep" => Some(false),
+        _ => None,
     }
 }
 
@@ -297,6 +237,13 @@ fn one_word(arguments: &[u8]) -> Option<&[u8]>
     }
 }
 
+/// Parses the arguments as one number.
+fn one_number(arguments: &[u8]) -> Option<u32>
+    ensures { result ≡ one_number (words_of arguments.now) }
+{
+    number(one_word(arguments)?)
+}
+
 /// Parses the arguments as one pointer.
 fn one_pointer(arguments: &[u8]) -> Option<ToolPtr>
     ensures { result ≡ one_pointer (words_of arguments.now) }
@@ -317,5 +264,5 @@ fn pointer_and_number(arguments: &[u8]) -> Option<(ToolPtr, usize)>
     ensures { result ≡ pointer_and_number (words_of arguments.now) }
 {
     let (word, rest) = next_word(arguments)?;
-    Some((pointer(word)?, number(one_word(rest)?)? as usize))
+    Some((pointer(word)?, one_number(rest)? as usize))
 }

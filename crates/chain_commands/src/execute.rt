@@ -2,14 +2,14 @@
 ghost use Rattle.std.specs.Prelude.{OnOk, string_bytes};
 ghost use Rattle.arena_ptr.specs.ToolPtr.{key_of};
 ghost use Rattle.chain_commands.specs.Commands.{line_of};
-ghost use Rattle.chain_commands.specs.Responses.{RespondsToShow, RespondsToChain, ExecutesCall, ExecutesMoves, ExecutesCommand, ExecutesLine};
+ghost use Rattle.chain_commands.specs.Responses.{RespondsToShow, RespondsToChain, ExecutesMoves, ExecutesLine};
 
 use crate::command::{Command, Line, parse};
 use crate::infallible_text::{moves_text_capacity, write_moves};
 use crate::reply_text::{push_link, push_reply, push_walk};
 use arena_base::{ArenaSlot, ArenaTrait};
 use arena_ptr::{SlotStack, ToolPtr};
-use chain_arena::{Call, ChainArena, ChainArenaTrait, LinkNoGen, apply};
+use chain_arena::{ChainArena, ChainArenaTrait, LinkNoGen, apply};
 use std::alloc::AllocError;
 
 /// Executes a line and writes its response to `text`.
@@ -25,54 +25,17 @@ pub fn respond<S: SlotStack<Item = ArenaSlot<ToolPtr, LinkNoGen<ToolPtr, u32>>>>
 ) -> Result<(), AllocError>
     ensures { ExecutesLine result arena.old (line_of line.now) (string_bytes text.new) arena.new }
 {
-    match parse(line) {
-        Line::Blank => {
-            text.clear();
-            Ok(())
-        }
-        Line::Bad => {
-            text.clear();
-            text.push_str("bad line\n")
-        }
-        Line::Good(command) => {
-            carry_out(arena, command, text)?;
-            text.push_str("\n")
-        }
-    }
-}
-
-/// Executes a command and writes its response to `text`. After `moves F`, `text` has capacity for a
-/// line feed.
-fn carry_out<S: SlotStack<Item = ArenaSlot<ToolPtr, LinkNoGen<ToolPtr, u32>>>>(
-    arena: &mut ChainArena<ToolPtr, u32, S>,
-    command: Command,
-    text: &mut String,
-) -> Result<(), AllocError>
-    ensures { ExecutesCommand result arena.old command text.new arena.new }
-{
-    match command {
-        Command::Change(call) => change(arena, call, text),
-        Command::Show(p) => show(arena, p, text),
-        Command::Chain(p) => chain(arena, p, text),
-        Command::Len => {
-            text.clear();
-            write!(text, "count {}", arena.len())
-        }
-        Command::Moves(reset) => moves(arena, reset, text),
-    }
-}
-
-/// Executes a call and writes its reply to `text`.
-fn change<S: SlotStack<Item = ArenaSlot<ToolPtr, LinkNoGen<ToolPtr, u32>>>>(
-    arena: &mut ChainArena<ToolPtr, u32, S>,
-    call: Call<ToolPtr, u32>,
-    text: &mut String,
-) -> Result<(), AllocError>
-    ensures { ExecutesCall result arena.old call (string_bytes text.new) arena.new }
-{
     text.clear();
-    let reply = apply(arena, call);
-    push_reply(text, reply)
+    match parse(line) {
+        Line::Blank => return Ok(()),
+        Line::Bad => text.push_str("bad line")?,
+        Line::Good(Command::Change(call)) => push_reply(text, apply(arena, call))?,
+        Line::Good(Command::Show(p)) => show(arena, p, text)?,
+        Line::Good(Command::Chain(p)) => chain(arena, p, text)?,
+        Line::Good(Command::Len) => write!(text, "count {}", arena.len())?,
+        Line::Good(Command::Moves(reset)) => moves(arena, reset, text)?,
+    }
+    text.push_str("\n")
 }
 
 /// Writes the response to `show P`.

@@ -33,21 +33,20 @@ fn spaces(text: &[u8]) -> usize
 }
 
 /// Returns the position of the first such byte in a text, or the text's length if there is none.
-pub fn position(byte: u8, text: &[u8]) -> usize
+fn position(byte: u8, text: &[u8]) -> usize
     ensures { result ≡ length (take_while (λ c. not (c == byte)) text.now) }
 {
     text.iter().take_while(|c| **c != byte).count()
 }
 
-/// Returns the parts of a text before and after the first such byte, or all and nothing if there is
-/// none.
-fn split_at_byte(byte: u8, text: &[u8]) -> (&[u8], &[u8])
-    ensures { IsSplitAtByte byte result.0.now result.1.now text.now }
+/// Returns the parts of a text before and after the first such byte, or `None` if there is none.
+pub fn split_at_byte(byte: u8, text: &[u8]) -> Option<(&[u8], &[u8])>
+    ensures { IsSplitAtByte byte (λ part. part.now) result text.now }
 {
     let (front, back) = text.split_at(position(byte, text));
     match back.split_first() {
-        Some((_, back)) => (front, back),
-        None => (front, back),
+        Some((_, back)) => Some((front, back)),
+        None => None,
     }
 }
 
@@ -86,6 +85,6 @@ pub fn generation(word: &[u8]) -> Option<Gen32>
 pub fn pointer(word: &[u8]) -> Option<ToolPtr>
     ensures { result ≡ pointer_of word.now }
 {
-    let (front, back) = split_at_byte(b'.', word);
+    let (front, back) = split_at_byte(b'.', word)?;
     Some(ToolPtr::_from_raw(index(front)?, generation(back)?))
 }

@@ -3,11 +3,11 @@ ghost use Rattle.std.specs.Prelude.{length, None, ◌<◌, vec_len};
 ghost use Rattle.arena_ptr.specs.Generations.{two32};
 ghost use Rattle.arena_traits.specs.Arena.{new_arena};
 ghost use Rattle.chain_commands.specs.Responses.{ToolLinks};
-ghost use Rattle.chain_commands.specs.Progress.{TranscribesOne, EndsLine, ExtendsProgress, IsFirstLine, WritesText, FlushesOnly, AllocatesBuffer, ReadsPiece, KeepsMore};
+ghost use Rattle.chain_commands.specs.Progress.{TranscribesOne, EndsLine, ExtendsProgress, WritesText, FlushesOnly, AllocatesBuffer, ReadsPiece, KeepsMore};
 ghost use Rattle.chain_commands.specs.Transcripts.{Ends};
 
 use crate::execute::respond;
-use crate::lexer::position;
+use crate::lexer::split_at_byte;
 use arena_base::{ArenaSlot, ArenaTrait};
 use arena_ptr::{SlotStack, ToolPtr};
 use chain_arena::{ChainArena, LinkNoGen};
@@ -30,6 +30,7 @@ fn put<W: Write>(writer: &mut W, text: &[u8]) -> Result<(), ToolError>
     ensures { WritesText result (W.contents writer.old) (W.contents writer.new) text.now }
 {
     let mut written = 0;
+    // Each loop is proved to end, so the tries are bounded.
     for _ in 0..u64::MAX {
         if written >= text.len() {
             return Ok(());
@@ -97,17 +98,6 @@ fn end_line<W: Write, S: SlotStack<Item = ArenaSlot<ToolPtr, LinkNoGen<ToolPtr, 
     Ok(())
 }
 
-/// Returns the parts of a text before and after its first line feed, or `None` if there is none.
-fn first_line(text: &[u8]) -> Option<(&[u8], &[u8])>
-    ensures { IsFirstLine (λ part. part.now) result text.now }
-{
-    let (front, back) = text.split_at(position(b'\n', text));
-    match back.split_first() {
-        Some((_, back)) => Some((front, back)),
-        None => None,
-    }
-}
-
 /// Executes the lines that a piece of the input completes, and keeps the beginning of the next
 /// line.
 fn feed<W: Write, S: SlotStack<Item = ArenaSlot<ToolPtr, LinkNoGen<ToolPtr, u32>>>>(
@@ -122,7 +112,7 @@ fn feed<W: Write, S: SlotStack<Item = ArenaSlot<ToolPtr, LinkNoGen<ToolPtr, u32>
         line.new.items (W.contents writer.new) }
 {
     let mut left = piece;
-    while let Some((front, back)) = first_line(left) {
+    while let Some((front, back)) = split_at_byte(b'\n', left) {
         end_line(arena, line, front, text, writer)?;
         left = back;
     }
@@ -187,6 +177,7 @@ fn run_pieces<R: Read, W: Write, S: SlotStack<Item = ArenaSlot<ToolPtr, LinkNoGe
 {
     let mut line = Vec::new(alloc);
     let mut text = String::new(alloc);
+    // Each loop is proved to end, so the reads are bounded.
     for _ in 0..u64::MAX {
         flush(writer)?;
         let n = read_piece(reader, piece)?;

@@ -3,10 +3,10 @@ mod faults;
 mod io_faults;
 
 ghost use Rattle.std.specs.Prelude.{◌≡◌, ℕ, List, ◌∷◌, [], codes, true, Some, None, option_map};
-ghost use Rattle.chain_links.specs.declared.kinds.InsertKindBody.TheVariants.{Disconnected};
-ghost use Rattle.chain_links.specs.declared.kinds.InsertKindBody.TheVariants.{SingleLinkCyclic};
-ghost use Rattle.chain_links.specs.declared.kinds.InsertKindBody.TheVariants.{ChainEnd, NextToInx};
-ghost use Rattle.chain_links.specs.declared.kinds.InsertKindBody.TheVariants.{BridgeInx};
+ghost use Rattle.chain_laws.specs.declared.insert_kind.InsertKind.TheVariants.{Disconnected};
+ghost use Rattle.chain_laws.specs.declared.insert_kind.InsertKind.TheVariants.{SingleLinkCyclic};
+ghost use Rattle.chain_laws.specs.declared.insert_kind.InsertKind.TheVariants.{ChainEnd, NextToInx};
+ghost use Rattle.chain_laws.specs.declared.insert_kind.InsertKind.TheVariants.{BridgeInx};
 ghost use Rattle.arena_ptr.specs.declared.index.inx32.Inx32.{Inx32};
 ghost use Rattle.arena_ptr.specs.declared.tool_ptr.ToolPtr.{ToolPtr};
 ghost use Rattle.chain_arena.specs.declared.calls.Call.TheVariants.{Insert, InsertWithin, Remove};

@@ -1,6 +1,6 @@
 -- Proof by cases on the name of the kind.
 use Rattle.std.proofs.Common.{◌∙◌, sym}
-use Rattle.chain_links.specs.declared.kinds.InsertKindBody.TheVariants as kinds
+use Rattle.chain_laws.specs.declared.insert_kind.InsertKind.TheVariants as kinds
 use Rattle.chain_commands.proofs.KindLemmas.{by_either-mapped}
 use Rattle.chain_commands.proofs.command.kind_beside.Goals as goal
 

@@ -1,6 +1,6 @@
 use Rattle.std.proofs.Common.{◌∙◌, sym}
 use Rattle.std.specs.Option.{option_zip}
-use Rattle.chain_links.specs.declared.kinds.InsertKindBody.TheVariants.{Bridge, BridgeInx}
+use Rattle.chain_laws.specs.declared.insert_kind.InsertKind.TheVariants.{Bridge, BridgeInx}
 use Rattle.chain_commands.specs.Commands.{by_either}
 use Rattle.chain_commands.proofs.command.kind_between.Goals as goal
 

@@ -2,7 +2,7 @@
 use Rattle.std.proofs.Common.{◌≡◌, ℕ, List, [], None, Some, ap, refl}
 use Rattle.std.specs.Prelude.{codes}
 use Rattle.std.specs.Option.{option_map, option_zip}
-use Rattle.chain_links.specs.declared.kinds.InsertKindBody.TheVariants.{ChainEnd, NextToInx, BridgeInx}
+use Rattle.chain_laws.specs.declared.insert_kind.InsertKind.TheVariants.{ChainEnd, NextToInx, BridgeInx}
 use Rattle.chain_arena.specs.declared.calls.Call.TheVariants.{Insert, InsertWithin, Remove, RemoveInx, DrainChain}
 use Rattle.chain_commands.specs.declared.command.Command.TheVariants.{Change}
 use Rattle.chain_commands.specs.Commands.{line_with, by_either}
@@ -25,15 +25,15 @@ returns c = record {
   insertions = (
     refl,
     refl,
-    λ p is. ap (λ o. line_with (option_map Change (option_map (λ a. Insert a.0 a.1) (option_zip (option_map ChainEnd o) (Some 7))))) is,
-    λ p is. ap (λ o. line_with (option_map Change (option_map (λ a. InsertWithin a.0 a.1) (option_zip (option_map NextToInx o) (Some 7))))) is,
-    λ i j is_i is_j. (λ t. line_with (option_map Change (option_map (λ a. Insert a.0 a.1) (option_zip (option_map (λ x. BridgeInx x.0 x.1) (option_zip (is_i t) (is_j t))) (Some 7))))),
+    λ p is. ap (λ o. line_with (option_map (λ a. Change (Insert a.0 a.1)) (option_zip (option_map ChainEnd o) (Some 7)))) is,
+    λ p is. ap (λ o. line_with (option_map (λ a. Change (InsertWithin a.0 a.1)) (option_zip (option_map NextToInx o) (Some 7)))) is,
+    λ i j is_i is_j. (λ t. line_with (option_map (λ a. Change (Insert a.0 a.1)) (option_zip (option_map (λ x. BridgeInx x.0 x.1) (option_zip (is_i t) (is_j t))) (Some 7)))),
     refl,
   );
   removals = (
     λ p is. ap (λ o. line_with (option_map Change (by_either Remove RemoveInx o None))) is,
     λ i is. ap (λ o. line_with (option_map Change (by_either Remove RemoveInx None o))) is,
-    λ p is. ap (λ o. line_with (option_map Change (option_map (λ a. DrainChain a.0 a.1) (option_zip o (Some 3))))) is,
+    λ p is. ap (λ o. line_with (option_map (λ a. Change (DrainChain a.0 a.1)) (option_zip o (Some 3)))) is,
     refl,
   );
   others = (refl, refl, refl, refl, refl, refl, refl, refl);
