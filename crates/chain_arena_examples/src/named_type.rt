@@ -8,7 +8,7 @@ ghost use Rattle.arena_ptr.specs.ToolPtr.{key_of};
 ghost use Rattle.chain_laws.specs.Chains.{next_of};
 ghost use Rattle.chain_laws.specs.Neighbors.{AreNeighbors};
 ghost use Rattle.chain_laws.specs.Removals.{with_removal};
-ghost use Rattle.chain_links.specs.CallEffects.{IsInsertionResult};
+ghost use Rattle.chain_links.specs.Insertions.{IsInsertionResult};
 ghost use Rattle.chain_links.specs.ChainArena.{entry, value_view, link_map};
 
 use arena_base::ArenaTrait;

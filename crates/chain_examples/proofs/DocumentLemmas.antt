@@ -67,7 +67,7 @@ module _ {A Gen T : Type 0} {view : A → ArenaView Gen T} {entry : A → ℕ �
 
     -- The interlinks of `p` name the items beside it.
     place : interlinks a p.0 ≡ Some (record { prev = last_or (indexes before) None; next = first_or (indexes after) None })
-    place = places_in_a_line (interlinks a) (indexes before) (indexes after) p.0 (parts state interlinks linear (λ xs. refl) a before ((p, t) ∷ after) is.chain)
+    place = places_in_a_line (interlinks a) (indexes before) (indexes after) p.0 (parts state interlinks linear a before ((p, t) ∷ after) is.chain)
 
     pub continues : option_and_then (ptr_at (entry a)) (next_of (interlinks a) p.0) ≡ first_key after
     continues = ap (λ o. option_and_then (ptr_at (entry a)) (next_in o)) place ∙ key_of after (are_stored-right (entry a) before ((p, t) ∷ after) is.are_stored).1
@@ -127,18 +127,18 @@ module _ {A Gen T : Type 0} {view : A → ArenaView Gen T} {entry : A → ℕ �
     ends_in (broken b next cuts same) t before [] is = absurd (let no = ap next_in (place old p t before [] is) in cc)
     ends_in (broken b next cuts same) t before (f ∷ fs) is =
         let b_is : b ≡ f.0.0 = one_some (sym next ∙ ap next_in (place old p t before (f ∷ fs) is)) in
-        let two = (subst (λ (j : ℕ). Cuts (interlinks old) (interlinks new) p.0 j) b_is cuts).two (indexes before) (indexes fs) (parts state interlinks linear (λ xs. refl) old before ((p, t) ∷ f ∷ fs) is.chain) in
+        let two = (subst (λ (j : ℕ). Cuts (interlinks old) (interlinks new) p.0 j) b_is cuts).two (indexes before) (indexes fs) (parts state interlinks linear old before ((p, t) ∷ f ∷ fs) is.chain) in
         let right = are_stored-right (entry old) before ((p, t) ∷ f ∷ fs) is.are_stored in (
-          stays state interlinks linear (λ xs. refl) old new same (before ++ (p, t) ∷ []) (are_stored-append (entry old) before ((p, t) ∷ []) (are_stored-left (entry old) before ((p, t) ∷ f ∷ fs) is.are_stored) (right.0, tt))
-              (whole state interlinks linear (λ xs. refl) new before ((p, t) ∷ []) two.0),
-          λ something. stays state interlinks linear (λ xs. refl) old new same (f ∷ fs) right.1 two.1,
+          stays state interlinks linear old new same (before ++ (p, t) ∷ []) (are_stored-append (entry old) before ((p, t) ∷ []) (are_stored-left (entry old) before ((p, t) ∷ f ∷ fs) is.are_stored) (right.0, tt))
+              (whole state interlinks linear new before ((p, t) ∷ []) two.0),
+          λ something. stays state interlinks linear old new same (f ∷ fs) right.1 two.1,
         )
 
     -- A break after `p` keeps every text without `p`.
     pub keeps_ended : IsWellLinked (interlinks old) → Breaks old new p (next_of (interlinks old) p.0) (λ b. Cuts (interlinks old) (interlinks new) p.0 b) → KeepsWithout state interlinks linear old new (p ∷ [])
     keeps_ended agrees (unbroken none stay) xs absent is = subst (λ (a : A). IsText state interlinks a xs) (sym stay) is
     keeps_ended agrees (broken b next cuts same) xs absent is =
-        stays state interlinks linear (λ xs. refl) old new same xs is.are_stored (cut_keeps_others (interlinks old) (interlinks new) p.0 b agrees next cuts (linear (indexes xs)) (inl absent.0) is.chain)
+        stays state interlinks linear old new same xs is.are_stored (cut_keeps_others (interlinks old) (interlinks new) p.0 b agrees next cuts (linear (indexes xs)) (inl absent.0) is.chain)
 
     -- A break before `p` makes its text begin with `p`.
     pub begins_with : Breaks old new p (prev_of (interlinks old) p.0) (λ a. Cuts (interlinks old) (interlinks new) a p.0) → BeginsWith state interlinks old new p
@@ -154,17 +154,17 @@ module _ {A Gen T : Type 0} {view : A → ArenaView Gen T} {entry : A → ℕ �
         behind xs u is =
             let a_is : a ≡ u.0.0 = one_some (sym prev ∙ (ap prev_in (place old p t (xs ++ u ∷ []) after is) ∙ last_index xs u)) in
             let as_one = subst (IsText state interlinks old) (append_assoc xs (u ∷ []) ((p, t) ∷ after)) is in
-            let two = (subst (λ (j : ℕ). Cuts (interlinks old) (interlinks new) j p.0) a_is cuts).two (indexes xs) (indexes after) (parts state interlinks linear (λ xs. refl) old xs (u ∷ (p, t) ∷ after) as_one.chain) in
+            let two = (subst (λ (j : ℕ). Cuts (interlinks old) (interlinks new) j p.0) a_is cuts).two (indexes xs) (indexes after) (parts state interlinks linear old xs (u ∷ (p, t) ∷ after) as_one.chain) in
             let right = are_stored-right (entry old) xs (u ∷ (p, t) ∷ after) as_one.are_stored in (
-              stays state interlinks linear (λ xs. refl) old new same ((p, t) ∷ after) right.1 two.1,
-              stays state interlinks linear (λ xs. refl) old new same (xs ++ u ∷ []) (are_stored-append (entry old) xs (u ∷ []) (are_stored-left (entry old) xs (u ∷ (p, t) ∷ after) as_one.are_stored) (right.0, tt))
-                  (whole state interlinks linear (λ xs. refl) new xs (u ∷ []) two.0),
+              stays state interlinks linear old new same ((p, t) ∷ after) right.1 two.1,
+              stays state interlinks linear old new same (xs ++ u ∷ []) (are_stored-append (entry old) xs (u ∷ []) (are_stored-left (entry old) xs (u ∷ (p, t) ∷ after) as_one.are_stored) (right.0, tt))
+                  (whole state interlinks linear new xs (u ∷ []) two.0),
             )
 
     -- A break before `p` keeps every text without `p`.
     pub keeps_begun : IsWellLinked (interlinks old) → Breaks old new p (prev_of (interlinks old) p.0) (λ a. Cuts (interlinks old) (interlinks new) a p.0) → KeepsWithout state interlinks linear old new (p ∷ [])
     keeps_begun agrees (unbroken none stay) xs absent is = subst (λ (a : A). IsText state interlinks a xs) (sym stay) is
-    keeps_begun agrees (broken a prev cuts same) xs absent is = stays state interlinks linear (λ xs. refl) old new same xs is.are_stored
+    keeps_begun agrees (broken a prev cuts same) xs absent is = stays state interlinks linear old new same xs is.are_stored
         (cut_keeps_others (interlinks old) (interlinks new) a p.0 agrees ((agrees.both a p.0).1 prev) cuts (linear (indexes xs)) (inr absent.0) is.chain)
 
   module _ (old new : A) (p q : ℕ × Gen) where
@@ -187,10 +187,10 @@ module _ {A Gen T : Type 0} {view : A → ArenaView Gen T} {entry : A → ℕ �
           by None one connects same = absurd (let h = one in cc)
           by (Some x) one connects same =
               let parted = map-append index_of before ((p, s) ∷ []) in
-              let chain = connects.two (indexes before) (indexes after) (parts state interlinks linear (λ xs. refl) old before ((p, s) ∷ []) first.chain) second.chain (λ has. two_texts (subst (λ (l : List ℕ). IsMember l q.0) (sym parted) has)) in
-              stays state interlinks linear (λ xs. refl) old new same (before ++ (p, s) ∷ (q, t) ∷ after)
+              let chain = connects.two (indexes before) (indexes after) (parts state interlinks linear old before ((p, s) ∷ []) first.chain) second.chain (λ has. two_texts (subst (λ (l : List ℕ). IsMember l q.0) (sym parted) has)) in
+              stays state interlinks linear old new same (before ++ (p, s) ∷ (q, t) ∷ after)
               (subst (AreEntries (entry old)) (append_assoc before ((p, s) ∷ []) ((q, t) ∷ after)) (are_stored-append (entry old) (before ++ (p, s) ∷ []) ((q, t) ∷ after) first.are_stored second.are_stored))
-              (whole state interlinks linear (λ xs. refl) new before ((p, s) ∷ (q, t) ∷ after) (subst (λ (l : List ℕ). IsChain (interlinks new) (linear l)) (append_assoc (indexes before) (p.0 ∷ []) (q.0 ∷ indexes after)) chain))
+              (whole state interlinks linear new before ((p, s) ∷ (q, t) ∷ after) (subst (λ (l : List ℕ). IsChain (interlinks new) (linear l)) (append_assoc (indexes before) (p.0 ∷ []) (q.0 ∷ indexes after)) chain))
 
       -- A join keeps every text without `p` and `q`.
       pub keeps_joined : KeepsWithout state interlinks linear old new (p ∷ q ∷ [])
@@ -198,7 +198,7 @@ module _ {A Gen T : Type 0} {view : A → ArenaView Gen T} {entry : A → ℕ �
         where
           by : (o : Option R) → OnSome o (Connects (interlinks old) (interlinks new) p.0 q.0) → OnSome o (entry new ≡ entry old) → IfNone o (new ≡ old) → IsText state interlinks new xs
           by None connects same none = subst (λ (a : A). IsText state interlinks a xs) (sym none) is
-          by (Some x) connects same none = stays state interlinks linear (λ xs. refl) old new same xs is.are_stored ((connects.rest (linear (indexes xs)) absent.0 absent.1.0).0 is.chain)
+          by (Some x) connects same none = stays state interlinks linear old new same xs is.are_stored ((connects.rest (linear (indexes xs)) absent.0 absent.1.0).0 is.chain)
 
 -- The outcomes of `break_next`, `break_prev` and `connect`.
 module _ {A Gen T : Type 0} {view : A → ArenaView Gen T} {entry : A → ℕ → Option (Gen × T)} (state : (a : A) → ArenaState (view a) (entry a)) (interlinks : A → LinkMap) (old new : A) where

@@ -6,14 +6,13 @@ use Rattle.std.specs.Result.{result_ok}
 use Rattle.std.proofs.Common.{unwrap_or}
 use Rattle.std.proofs.lemmas.List.{map-append, length-map}
 use Rattle.std.proofs.lemmas.Bool.{cases_eq}
-use Rattle.chain_laws.specs.Chains.{LinkMap, cyclic, IsChain, IsMember, AreDistinct, next_of, next_in, first_or, Interlinks, AreLinked}
+use Rattle.chain_laws.specs.Chains.{LinkMap, cyclic, IsChain, IsMember, AreDistinct, prev_of, next_of, next_in, first_or, Interlinks, AreLinked}
 use Rattle.chain_laws.specs.Removals.{Removes}
 use Rattle.chain_laws.proofs.ChainLemmas.Rotations.{rotated}
 use Rattle.chain_laws.proofs.ListLemmas.Members.{IsMember-parts, IsMember-rotated, AreDistinct-rotated}
 use Rattle.arena_traits.specs.Arena.{IsValid}
 use Rattle.arena_traits.specs.Entries.{ArenaView, ArenaState, count, index_of, first_key, found, AscendsFrom}
-use Rattle.chain_laws.specs.Insertions.{single_link_cyclic, prev_to}
-use Rattle.chain_links.specs.CallEffects.{GainsLink}
+use Rattle.chain_links.specs.Insertions.{IsInsertedBetween}
 use Rattle.chain_laws.proofs.WalkLemmas.WalkBack.{length_among}
 use Rattle.chain_traits.proofs.GenericArenaLemmas.{found_has}
 use Rattle.chain_examples.specs.Lists.{Item, AreEntries, indexes, IsQueueOrder}
@@ -272,10 +271,10 @@ module _ {A Gen T : Type 0} {view : A → ArenaView Gen T} {entry : A → ℕ �
 
   -- Inserting a task before the current one, or into an empty queue, appends it.
   module _ (a b : A) (p : ℕ × Gen) (t : T) where
-    pub first_added : GainsLink state interlinks single_link_cyclic t a p b → (order : List (Item Gen T)) → IsQueueOrder (entry a) (interlinks a) None order → IsQueueOrder (entry b) (interlinks b) (Some p) (order ++ (p, t) ∷ [])
+    pub first_added : IsInsertedBetween state interlinks (Some p.0) (Some p.0) a t p b → (order : List (Item Gen T)) → IsQueueOrder (entry a) (interlinks a) None order → IsQueueOrder (entry b) (interlinks b) (Some p) (order ++ (p, t) ∷ [])
     first_added gained = spawned_first (entry a) (entry b) (interlinks a) (interlinks b) p t gained.entries.free gained.entries.stored gained.entries.rest (gained.chains.ring refl refl)
 
-    pub last_added : (k : ℕ × Gen) → GainsLink state interlinks (prev_to (k.0, Some k.1)) t a p b → (order : List (Item Gen T)) → IsQueueOrder (entry a) (interlinks a) (Some k) order → IsQueueOrder (entry b) (interlinks b) (Some k) (order ++ (p, t) ∷ [])
+    pub last_added : (k : ℕ × Gen) → IsInsertedBetween state interlinks (prev_of (interlinks a) k.0) (Some k.0) a t p b → (order : List (Item Gen T)) → IsQueueOrder (entry a) (interlinks a) (Some k) order → IsQueueOrder (entry b) (interlinks b) (Some k) (order ++ (p, t) ∷ [])
     last_added k gained = spawned_last (entry a) (entry b) (interlinks a) (interlinks b) p t gained.entries.free gained.entries.stored gained.entries.rest k (λ y. (gained.chains.before k.0 refl refl [] y).1)
 
   -- A call that adds a task appends it, or fails and keeps the queue.

@@ -62,7 +62,7 @@ module _ {A Gen T : Type 0} {view : A → ArenaView Gen T} {entry : A → ℕ �
   -- A ring can be listed from any of its corners.
   ring_rotated : (a : A) (xs ys : List (Item Gen T)) → IsRing state interlinks a (xs ++ ys) → IsRing state interlinks a (ys ++ xs)
   ring_rotated a xs ys is = record {
-    chain = whole state interlinks cyclic (λ l. refl) a ys xs (rotated (interlinks a) (indexes xs) (indexes ys) (parts state interlinks cyclic (λ l. refl) a xs ys is.chain));
+    chain = whole state interlinks cyclic a ys xs (rotated (interlinks a) (indexes xs) (indexes ys) (parts state interlinks cyclic a xs ys is.chain));
     are_stored = are_stored-append (entry a) ys xs (are_stored-right (entry a) xs ys is.are_stored) (are_stored-left (entry a) xs ys is.are_stored);
   }
 
@@ -91,17 +91,17 @@ module _ {A Gen T : Type 0} {view : A → ArenaView Gen T} {entry : A → ℕ �
     cuts_in_two s t x y is =
         let right = are_stored-right (entry old) x ((q, t) ∷ y) is.are_stored.1 in
         let chains = held r (some (record { value = s; stored = is.are_stored.0 }, record { value = t; stored = right.0 })) exchanges in
-        let both = chains.one_cyclic (indexes x) (indexes y) (parts state interlinks cyclic (λ l. refl) old ((p, s) ∷ x) ((q, t) ∷ y) is.chain) in (
-          stays state interlinks cyclic (λ l. refl) old new same ((p, s) ∷ y) (is.are_stored.0, right.1) both.0,
-          stays state interlinks cyclic (λ l. refl) old new same ((q, t) ∷ x) (right.0, are_stored-left (entry old) x ((q, t) ∷ y) is.are_stored.1) both.1,
+        let both = chains.one_cyclic (indexes x) (indexes y) (parts state interlinks cyclic old ((p, s) ∷ x) ((q, t) ∷ y) is.chain) in (
+          stays state interlinks cyclic old new same ((p, s) ∷ y) (is.are_stored.0, right.1) both.0,
+          stays state interlinks cyclic old new same ((q, t) ∷ x) (right.0, are_stored-left (entry old) x ((q, t) ∷ y) is.are_stored.1) both.1,
         )
 
     -- An exchange merges two rings.
     pub merges : AreMerged state interlinks old new p q
     merges s t x y first second apart =
         let chains = held r (some (record { value = s; stored = first.are_stored.0 }, record { value = t; stored = second.are_stored.0 })) exchanges in
-        stays state interlinks cyclic (λ l. refl) old new same ((p, s) ∷ y ++ (q, t) ∷ x) (first.are_stored.0, are_stored-append (entry old) y ((q, t) ∷ x) second.are_stored.1 (second.are_stored.0, first.are_stored.1))
-        (whole state interlinks cyclic (λ l. refl) new ((p, s) ∷ y) ((q, t) ∷ x) (chains.two_cyclic (indexes x) (indexes y) first.chain second.chain apart))
+        stays state interlinks cyclic old new same ((p, s) ∷ y ++ (q, t) ∷ x) (first.are_stored.0, are_stored-append (entry old) y ((q, t) ∷ x) second.are_stored.1 (second.are_stored.0, first.are_stored.1))
+        (whole state interlinks cyclic new ((p, s) ∷ y) ((q, t) ∷ x) (chains.two_cyclic (indexes x) (indexes y) first.chain second.chain apart))
 
     -- An exchange keeps the other rings.
     pub keeps_exchanged : IfNone r (new ≡ old) → KeepsWithout state interlinks cyclic old new (p ∷ q ∷ [])
@@ -109,7 +109,7 @@ module _ {A Gen T : Type 0} {view : A → ArenaView Gen T} {entry : A → ℕ �
       where
         by : (o : Option R) → OnSome o (Exchanges (interlinks old) (interlinks new) p.0 q.0) → IfNone o (new ≡ old) → IsRing state interlinks new xs
         by None exchanges none = subst (λ (a : A). IsRing state interlinks a xs) (sym none) is
-        by (Some x) exchanges none = stays state interlinks cyclic (λ l. refl) old new same xs is.are_stored ((exchanges.rest (cyclic (indexes xs)) absent.0 absent.1.0).0 is.chain)
+        by (Some x) exchanges none = stays state interlinks cyclic old new same xs is.are_stored ((exchanges.rest (cyclic (indexes xs)) absent.0 absent.1.0).0 is.chain)
 
   -- Exchanging a corner with itself changes nothing.
   pub exchanged_itself : (old new : A) → ((i : ℕ) → is_some (entry old i) ≡ true → HasLink (interlinks old) i) → (p q : ℕ × Gen) → IsValid (entry old) p → IsWellLinked (interlinks old) → p ≡ q
@@ -119,7 +119,7 @@ module _ {A Gen T : Type 0} {view : A → ArenaView Gen T} {entry : A → ℕ �
 
   -- A ring depends only on entries and links.
   pub ring_viewed : (old new : A) → entry new ≡ entry old → interlinks new ≡ interlinks old → (xs : List (Item Gen T)) → IsRing state interlinks old xs → IsRing state interlinks new xs
-  ring_viewed old new same linked xs is = stays state interlinks cyclic (λ l. refl) old new same xs is.are_stored (subst (λ (l : LinkMap). IsChain l (cyclic (indexes xs))) (sym linked) is.chain)
+  ring_viewed old new same linked xs is = stays state interlinks cyclic old new same xs is.are_stored (subst (λ (l : LinkMap). IsChain l (cyclic (indexes xs))) (sym linked) is.chain)
 
   module _ (old first second new : A) (u v c d : ℕ × Gen) (a b : T) where
     -- Inserting the copies and an exchange split one ring.

@@ -10,7 +10,7 @@ use Rattle.arena_traits.specs.Arena.{IsValid}
 use Rattle.arena_traits.specs.Entries.{ArenaView, ArenaState, count, index_of, first_key}
 use Rattle.arena_traits.specs.CallOutcomes.{IsEntryRemoved}
 use Rattle.arena_traits.specs.Growth.{IsGrowthResult, RefusesOneMore, GrowsForOneMore}
-use Rattle.chain_links.specs.CallEffects.{IsInsertionResult}
+use Rattle.chain_links.specs.Insertions.{IsInsertionResult}
 use Rattle.chain_links.specs.ChainArena.{IsInserted}
 
 -- An item: its pointer's index and generation, and its value.

@@ -265,7 +265,6 @@ fn add_before<P: PtrKey, T: Drop, A: ChainArenaTrait<P, T>>(corners: &mut A, u: 
     ensures { AddsBefore A.state A.interlinks corners.old (P.key u) (P.key result, t) corners.new }
 {
     corners.invariants();
-    corners.agrees();
     match corners.insert(LinkInsertKind::PrevTo(u), t) {
         Ok(p) => p,
         Err(_) => unreachable!(),

@@ -2,18 +2,17 @@
 //!
 //! `docs/PROOF_GUIDE.md` explains them. Only the last, `after`, needs a proof written by hand.
 
-ghost use Rattle.std.specs.Prelude.{◌≡◌, ◌↔◌, ℕ, List, None, Some, IsSome, IfSome, IsTrue, IsFalse, OnErr};
+ghost use Rattle.std.specs.Prelude.{◌≡◌, ◌↔◌, ℕ, List, None, Some, IsSome, IfSome, IsTrue, IsFalse, IfOk, OnErr};
 ghost use Rattle.std.specs.Option.{option_map};
 ghost use Rattle.chain_laws.specs.Chains.{linear, cyclic, IsChain, first_or, last_or, next_of};
-ghost use Rattle.chain_laws.specs.Insertions.{next_to};
+ghost use Rattle.chain_laws.specs.declared.insert_kind.InsertKind.TheVariants.{NextTo};
 ghost use Rattle.chain_laws.specs.Neighbors.{AreNeighbors};
 ghost use Rattle.arena_traits.specs.Arena.{IsValid};
-ghost use Rattle.arena_traits.specs.Growth.{RefusesOneMore, GrowsForOneMore};
-ghost use Rattle.chain_links.specs.CallEffects.{IsInsertionResult, IsConnected, IsRemoved, GainsLink};
+ghost use Rattle.chain_links.specs.CallEffects.{IsConnected, IsRemoved};
 ghost use Rattle.chain_links.specs.ChainArena.{CanConnect};
-ghost use Rattle.chain_links.specs.Kinds.{name_of_pointer};
+ghost use Rattle.chain_links.specs.Insertions.{InsertsLink};
 
-use arena_ptr::{ChainInsertionError, GenKey, InxKey, PtrKey};
+use arena_ptr::{AnyPointer, ChainInsertionError, GenKey, InxKey, PtrKey};
 use chain_links::LinkInsertKind;
 use chain_traits::ChainArenaTrait;
 
@@ -88,12 +87,10 @@ pub fn put_behind<P: PtrKey, T: Drop, A: ChainArenaTrait<P, T>>(
     p: P,
     t: T,
 ) -> Result<P, ChainInsertionError>
-    ensures outcome { IsInsertionResult (IsValid (A.entry arena.old) (P.key p))
-        (RefusesOneMore (A.view arena.old))
-        (λ q. AreNeighbors (A.interlinks arena.new) (P.key p).0 (P.key q).0
-        × GainsLink A.state A.interlinks (next_to (name_of_pointer P.key P.Inx.number p)) t
-        arena.old (P.key q) arena.new
-        × GrowsForOneMore P.Inx.greatest (A.view arena.old) (A.view arena.new)) result }
+    ensures outcome { InsertsLink A.state A.interlinks ⟦<P as AnyPointer>⟧.kind arena.old (NextTo p)
+        t result arena.new }
+    ensures behind { IfOk result (λ q.
+        AreNeighbors (A.interlinks arena.new) (P.key p).0 (P.key q).0) }
     ensures err { OnErr result (arena.new ≡ arena.old) }
 {
     arena.insert_reallocating(LinkInsertKind::NextTo(p), t)

@@ -177,7 +177,7 @@ impl<P: PtrKey, T: Drop, A: CompactArenaTrait<P, T>> CompactArenaTrait<P, T>
 
 impl<P: PtrKey, T: Drop, A: ChainArenaTrait<P, T>> ChainArenaTrait<P, T> for ForwardingArena<A> {
     ghost use Rattle.std.specs.Prelude.{◌≡◌, ◌↔◌, IsTrue, IfOk, OnErr};
-    ghost use Rattle.chain_links.specs.CallEffects.{MayInsertIn, InsertsLinkWithin, InsertsLink, InsertsAllowedLink};
+    ghost use Rattle.chain_links.specs.Insertions.{MayInsertIn, InsertsLinkWithin, InsertsLink, InsertsAllowedLink};
 
     type ChainPtrAdvancer = ForwardingAdvancer<A::ChainPtrAdvancer>;
 
@@ -225,8 +225,8 @@ impl<P: PtrKey, T: Drop, A: ChainArenaTrait<P, T>> ChainArenaTrait<P, T> for For
         kind: LinkInsertKind<P>,
         t: T,
     ) -> Result<P, ChainInsertionError>
-        ensures outcome { InsertsLinkWithin A.state A.interlinks ⟦<P as AnyPointer>⟧.kind
-            self.old.inner kind t result self.new.inner }
+        ensures outcome { InsertsLinkWithin (λ w. A.state w.inner) (λ w. A.interlinks w.inner)
+            ⟦<P as AnyPointer>⟧.kind self.old kind t result self.new }
         ensures err { OnErr result (self.new ≡ self.old) }
         ensures more { IfOk result (A.inserts self.old.inner kind t self.new.inner) }
     {
@@ -238,8 +238,8 @@ impl<P: PtrKey, T: Drop, A: ChainArenaTrait<P, T>> ChainArenaTrait<P, T> for For
         kind: LinkInsertKind<P>,
         t: T,
     ) -> Result<P, ChainInsertionError>
-        ensures outcome { InsertsLink A.state A.interlinks ⟦<P as AnyPointer>⟧.kind
-            self.old.inner kind t result self.new.inner }
+        ensures outcome { InsertsLink (λ w. A.state w.inner) (λ w. A.interlinks w.inner)
+            ⟦<P as AnyPointer>⟧.kind self.old kind t result self.new }
         ensures err { OnErr result (self.new ≡ self.old) }
         ensures more { IfOk result (A.inserts self.old.inner kind t self.new.inner) }
     {
@@ -248,8 +248,8 @@ impl<P: PtrKey, T: Drop, A: ChainArenaTrait<P, T>> ChainArenaTrait<P, T> for For
 
     fn insert(&mut self, kind: LinkInsertKind<P>, t: T) -> Result<P, ReallocationError>
         requires { MayInsertIn A.state A.interlinks ⟦<P as AnyPointer>⟧.kind self.old.inner kind }
-        ensures outcome { InsertsAllowedLink A.state A.interlinks ⟦<P as AnyPointer>⟧.kind
-            self.old.inner kind t result self.new.inner }
+        ensures outcome { InsertsAllowedLink (λ w. A.state w.inner) (λ w. A.interlinks w.inner)
+            ⟦<P as AnyPointer>⟧.kind self.old kind t result self.new }
         ensures err { OnErr result (self.new ≡ self.old) }
         ensures more { IfOk result (A.inserts self.old.inner kind t self.new.inner) }
     {

@@ -1,11 +1,10 @@
 -- The arena has free capacity, so the insertion succeeds.
-use Rattle.std.proofs.Common.{[], ◌∷◌, refl, arith}
+use Rattle.std.proofs.Common.{refl, arith}
 use Rattle.chain_laws.specs.Chains.{cyclic}
-use Rattle.chain_laws.specs.Insertions.{next_to}
 use Rattle.chain_traits.proofs.GenericArenaLemmas.{valid_link}
 use Rattle.chain_traits.proofs.OutcomeLemmas.{full_if_refused}
 use Rattle.chain_examples.proofs.MeshInvariantLemmas.{cyclic_after}
-use Rattle.chain_examples.proofs.ListChangeLemmas.{added_after, item_inserted}
+use Rattle.chain_examples.proofs.ListChangeLemmas.{item_after}
 use Rattle.chain_examples.proofs.mesh.add_after.Goals as goal
 
 pub returns : goal.returns
@@ -15,8 +14,7 @@ returns g c =
     let gained = c.in-Ok.ensures.outcome.0 in
     let p = g.P.PtrKey.key c.args.v in
     record {
-      corner = item_inserted g.A.ArenaTrait.state g.A.ChainArenaTrait.interlinks g.met.A.ChainArenaTrait.links_are_entries cyclic (λ l. refl) a new c.agrees.ensures (g.P.PtrKey.key c.in-Ok.p) c.args.t (next_to p.0) (p ∷ []) _ refl gained
-          (added_after g.A.ArenaTrait.state g.A.ChainArenaTrait.interlinks cyclic (λ l. refl) a new (g.P.PtrKey.key c.in-Ok.p) c.args.t gained.entries p (λ x y. (gained.chains.after p.0 refl refl x y).1));
+      corner = item_after g.A.ArenaTrait.state g.A.ChainArenaTrait.interlinks g.met.A.ChainArenaTrait.links_are_entries cyclic a new c.agrees.ensures (g.P.PtrKey.key c.in-Ok.p) c.args.t p gained (λ x y. (gained.chains.after p.0 refl refl x y).1);
       all_cyclic = cyclic_after (g.A.ChainArenaTrait.interlinks a) (g.A.ChainArenaTrait.interlinks new) (g.P.PtrKey.key c.in-Ok.p).0 p.0 gained.pairs (valid_link (g.A.ChainArenaTrait.interlinks a) (g.A.ArenaTrait.entry a) (g.A.ArenaTrait.view a).entries (g.met.A.ChainArenaTrait.links_are_entries a) (g.A.ArenaTrait.state a).finds p c.requires.valid);
       capacity = c.in-Ok.ensures.outcome.1.1 (let free = c.requires.capacity in omega arith);
     }

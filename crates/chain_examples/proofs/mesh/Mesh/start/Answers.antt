@@ -1,10 +1,10 @@
 -- The new ring names no other corner, so all rings are unchanged.
-use Rattle.std.proofs.Common.{[], refl, sym, subst}
+use Rattle.std.proofs.Common.{refl, sym, subst}
 use Rattle.chain_laws.specs.Chains.{cyclic}
-use Rattle.chain_laws.specs.Insertions.{single_link_cyclic}
+use Rattle.chain_laws.specs.declared.insert_kind.InsertKind.TheVariants.{SingleLinkCyclic}
 use Rattle.chain_examples.specs.Rings.{AllCyclic}
 use Rattle.chain_traits.proofs.OutcomeLemmas.{growth_to, either_grown}
-use Rattle.chain_examples.proofs.ListChangeLemmas.{item_inserted}
+use Rattle.chain_examples.proofs.ListChangeLemmas.{item_started}
 use Rattle.chain_examples.proofs.MeshInvariantLemmas.{cyclic_inserted}
 use Rattle.chain_examples.proofs.mesh.Mesh.start.Goals as goal
 
@@ -16,8 +16,7 @@ invariant_of-self g c = either_grown _ _ c.insert.result c.insert.ensures.outcom
 pub returns : goal.returns
 returns g c = rw (← c.self.view_is) (record {
   outcome = growth_to _ _ _ c.insert.result c.insert.ensures.outcome (λ q gained. (
-    item_inserted g.A.ArenaTrait.state g.A.ChainArenaTrait.interlinks g.met.A.ChainArenaTrait.links_are_entries cyclic (λ l. refl) c.self.inside.corners c.insert.new.self c.agrees.ensures (g.P.PtrKey.key q) c.args.point single_link_cyclic [] _ refl gained.0
-        (record { chain = gained.0.chains.ring refl refl; are_stored = (gained.0.entries.stored, tt) }),
+    item_started g.A.ArenaTrait.state g.A.ChainArenaTrait.interlinks g.met.A.ChainArenaTrait.links_are_entries cyclic c.self.inside.corners c.insert.new.self c.agrees.ensures (g.P.PtrKey.key q) c.args.point SingleLinkCyclic refl gained.0 (gained.0.chains.ring refl refl),
     gained.1,
   ));
   err = c.insert.ensures.err;
