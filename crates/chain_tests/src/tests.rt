@@ -23,12 +23,14 @@ ghost use Rattle.std.specs.Iterator.{IsFinite};
 use self::fallible_insertion::add;
 use arena_base::{Arena, ArenaSlot, ArenaTrait};
 use arena_ptr::{
-    Gen32, InvalidationResult, Inx32, LimitStack, Ptr, SetMaxCapacity, SlotStack, ToolPtr,
+    InvalidationResult, Inx32, LimitStack, PtrKey, SetMaxCapacity, SlotStack, ToolPtr,
 };
 use chain_arena::{ChainArena, ChainArenaTrait, LinkBody, LinkInsertKind, LinkNoGen};
 use std::alloc::{AllocError, Global};
 use std::fmt::Debug;
 use std::process::Abort;
+use test_types::lines::text;
+use test_types::numbered::{At, at};
 
 // A slot of a link of a number.
 type Slot = ArenaSlot<ToolPtr, LinkNoGen<ToolPtr, u32>>;
@@ -39,9 +41,6 @@ type Bare = ArenaSlot<ToolPtr, u32>;
 // A chain arena over a stack. Generic over stacks, code costs its proof half as much.
 type ChainsOver<S> = ChainArena<ToolPtr, u32, S>;
 
-// A pointer as its index and its generation.
-type At = (u32, u32);
-
 fn same(rt: &impl Abort, what: &str, got: &str, want: &str) {
     assert_eq!(rt; got, want, "{what}");
 }
@@ -49,18 +48,6 @@ fn same(rt: &impl Abort, what: &str, got: &str, want: &str) {
 // Checks a condition. Values are compared to one, since `same` at their types would cost more.
 fn holds(rt: &impl Abort, what: &str, condition: bool) {
     assert!(rt; condition, "{what}");
-}
-
-// Returns a result as `Debug` writes it, on a second attempt if the first allocation fails. After
-// both it is empty, which no test expects. So it needs no `Abort`, which each of its steps would
-// name.
-fn text<T: Debug + Drop>(alloc: Global, outcome: T) -> String {
-    for _ in 0..2 {
-        if let Ok(text) = format!(in alloc; "{outcome:?}") {
-            return text;
-        }
-    }
-    String::new(alloc)
 }
 
 fn text_of_all<T: Debug + Drop, I: Iterator<Item = T> + Drop>(alloc: Global, items: I) -> String
@@ -71,26 +58,6 @@ fn text_of_all<T: Debug + Drop, I: Iterator<Item = T> + Drop>(alloc: Global, ite
         Ok(all) => text(alloc, all),
         Err(_) => String::new(alloc),
     }
-}
-
-// Returns the index of a number; zero gives the invalid pointer's index.
-fn index(i: u32) -> Inx32 {
-    match Inx32::new(i) {
-        Some(index) => index,
-        None => ToolPtr::invalid().inx(),
-    }
-}
-
-// Returns the generation of a number; zero gives the invalid pointer's generation.
-fn generation(n: u32) -> Gen32 {
-    match Gen32::new(n) {
-        Some(generation) => generation,
-        None => ToolPtr::invalid().generation(),
-    }
-}
-
-fn at(p: At) -> ToolPtr {
-    ToolPtr::_from_raw(index(p.0), generation(p.1))
 }
 
 fn fresh<T: Drop, S: SlotStack<Item = ArenaSlot<ToolPtr, LinkNoGen<ToolPtr, T>>>>(

@@ -13,8 +13,8 @@ mod run_queue;
 
 use arena_base::ArenaSlot;
 use arena_ptr::{
-    ChainInsertionError, ChunkStack, Gen32, HeapStack, Inx32, LimitedStack, Ptr, PtrGen, PtrInx,
-    PtrKey, ReallocationError, SlotStack, ToolPtr,
+    ChainInsertionError, ChunkStack, Gen32, HeapStack, Inx32, LimitedStack, PtrKey,
+    ReallocationError, SlotStack, ToolPtr,
 };
 use chain_arena::{ChainArena, LinkNoGen};
 use chain_examples::Documents;
@@ -38,17 +38,14 @@ trait Named: PtrKey {
 impl Named for ToolPtr {
     fn at(number: u32) -> Self {
         match (Inx32::new(number / 16), Gen32::new(number % 16)) {
-            (Some(i), Some(g)) => <ToolPtr as Ptr>::_from_raw(i, g),
-            _ => <ToolPtr as Ptr>::invalid(),
+            (Some(i), Some(g)) => ToolPtr::_from_raw(i, g),
+            _ => ToolPtr::invalid(),
         }
     }
 
     fn number(self) -> u32 {
-        let generation = Ptr::generation(self).get();
-        Ptr::inx(self)
-            .get()
-            .wrapping_mul(16)
-            .wrapping_add(generation)
+        let generation = self.generation().get();
+        self.inx().get().wrapping_mul(16).wrapping_add(generation)
     }
 }
 

@@ -1,6 +1,6 @@
 //! An index type of two indexes.
 
-use arena_ptr::{PackedOption, PtrInx};
+use arena_ptr::{InxKey, PackedOption, PtrInx};
 use std::fmt;
 
 /// An index of one bit: 1 or 2.
@@ -9,14 +9,17 @@ pub struct TinyInx {
     is_two: bool,
 }
 
-impl PtrInx for TinyInx {
+impl InxKey for TinyInx {
     ghost use Rattle.std.specs.Prelude.{◌≡◌, if◌then◌else◌};
     ghost use Rattle.std.specs.Option.{option_map};
     ghost use Rattle.std.proofs.Common.{lit<, rules};
+    ghost use Rattle.std.proofs.Math.Bool.{beq};
 
     type Word = Option<Self>;
 
     ghost number = { λ i. if i.is_two then 2 else 1 };
+
+    ghost same = { λ i j. beq i.is_two j.is_two };
 
     ghost packed_number = { λ o. option_map (λ i. if i.is_two then 2 else 1) o.word };
 
@@ -30,7 +33,7 @@ impl PtrInx for TinyInx {
 
     ghost same_number = { Prim.search rules };
 
-    ghost eq_is_same = { Prim.search rules };
+    ghost same_is_equal = { Prim.search rules };
 
     ghost same_packed = { Prim.search rules };
 
@@ -50,6 +53,10 @@ impl PtrInx for TinyInx {
         Some(if self.is_two { 2 } else { 1 })
     }
 
+    fn is_same(self, other: Self) -> bool {
+        self == other
+    }
+
     fn pack(i: Option<Self>) -> PackedOption<Self, Option<Self>>
         ensures { result.word ≡ i }
     {
@@ -61,6 +68,12 @@ impl PtrInx for TinyInx {
     {
         packed.word()
     }
+}
+
+impl PtrInx for TinyInx {
+    ghost use Rattle.std.proofs.Common.{refl};
+
+    ghost eq_is_same = { λ _ _. refl };
 
     fn fmt_hex<W: fmt::Write>(self, f: &mut fmt::Formatter<W>) -> fmt::Result {
         let number: u8 = if self.is_two { 2 } else { 1 };

@@ -1,10 +1,8 @@
 //! Runs the rows that any arena of links satisfies, at the chain arena and at a forwarding arena.
 
-use super::parser::parse_call;
-use super::scripts::{RunsCalls, plays, run_call};
 use super::trait_calls::ROWS;
-use super::transfers::TRANSFERS;
-use super::{Numbered, Slot};
+use super::transfers::{TRANSFERS, run_trait_call};
+use super::{RunsCalls, Slot, plays};
 use arena_base::{ArenaTrait, CompactArenaTrait};
 use arena_ptr::{ChunkStack, HeapStack, SlotStack, ToolPtr};
 use chain_arena::{ChainArena, ChainArenaTrait};
@@ -12,6 +10,8 @@ use forwarding_arena::ForwardingArena;
 use std::alloc::Global;
 use std::marker::PhantomData;
 use std::process::Abort;
+use test_types::lines::parse_call;
+use test_types::numbered::Numbered;
 
 // A forwarding arena, and the type of its pointers.
 #[derive(Drop)]
@@ -22,38 +22,37 @@ struct Forwarding<P, A> {
 
 impl<P: Numbered, A: ChainArenaTrait<P, u32> + CompactArenaTrait<P, u32> + Drop> RunsCalls
     for Forwarding<P, A> {
-    fn renew(&mut self, alloc: Global) {
-        self.arena = ForwardingArena::<A>::new(alloc);
+    fn fresh(alloc: Global) -> Self {
+        Forwarding {
+            arena: ForwardingArena::<A>::new(alloc),
+            pointer: PhantomData,
+        }
     }
 
-    fn run_call(&mut self, alloc: Global, call: &str) -> Option<String> {
+    fn run_call(&mut self, alloc: Global, call: &str) -> String {
         match parse_call::<P>(call) {
-            Some(parsed) => run_call(alloc, &mut self.arena, parsed),
-            None => None,
+            Some(parsed) => run_trait_call(alloc, &mut self.arena, parsed),
+            None => String::new(alloc),
         }
     }
 }
 
-// Runs all rows.
-fn check_all<A: RunsCalls>(rt: &impl Abort, alloc: Global, arena: &mut A) {
-    plays(rt, alloc, arena, ROWS);
-    plays(rt, alloc, arena, TRANSFERS);
+// Runs all rows on an arena of a type.
+fn check_all<A: RunsCalls>(rt: &impl Abort, alloc: Global) {
+    let mut arena = A::fresh(alloc);
+    plays(rt, alloc, &mut arena, ROWS);
+    plays(rt, alloc, &mut arena, TRANSFERS);
 }
 
 fn check_chains<P: Numbered, S: SlotStack<Item = Slot<P>>>(rt: &impl Abort, alloc: Global) {
-    let mut arena: ChainArena<P, u32, S> = ChainArena::new(alloc);
-    check_all(rt, alloc, &mut arena);
+    check_all::<ChainArena<P, u32, S>>(rt, alloc);
 }
 
 fn check_forwarding<P: Numbered, A: ChainArenaTrait<P, u32> + CompactArenaTrait<P, u32> + Drop>(
     rt: &impl Abort,
     alloc: Global,
 ) {
-    let mut arena: Forwarding<P, A> = Forwarding {
-        arena: ForwardingArena::<A>::new(alloc),
-        pointer: PhantomData,
-    };
-    check_all(rt, alloc, &mut arena);
+    check_all::<Forwarding<P, A>>(rt, alloc);
 }
 
 fn check_forwarding_of_chains<P: Numbered, S: SlotStack<Item = Slot<P>>>(

@@ -1,12 +1,13 @@
 //! The inherent calls of a chain arena that rows at any pointer make.
 
-use super::parser::{Do, ParsedCall, parse_call};
-use super::scripts::{RunsCalls, run_call};
-use super::{Numbered, Slot, text};
+use super::transfers::run_trait_call;
+use super::{RunsCalls, Slot};
 use arena_base::ArenaTrait;
 use arena_ptr::{InvalidationOption, PtrKey, SlotStack};
 use chain_arena::ChainArena;
 use std::alloc::Global;
+use test_types::lines::{Do, ParsedCall, parse_call, text};
+use test_types::numbered::Numbered;
 
 // Returns whether the counter overflows at a link that a drain yields.
 fn overflows<T: Drop>(gone: Option<InvalidationOption<T>>) -> Option<bool> {
@@ -31,32 +32,32 @@ fn run_own_call<P: Numbered, S: SlotStack<Item = Slot<P>>>(
     alloc: Global,
     arena: &mut ChainArena<P, u32, S>,
     parsed: ParsedCall<P>,
-) -> Option<String> {
+) -> String {
     match parsed.call {
         Do::SetGeneration => text(alloc, arena.set_generation(P::generation_of(parsed.n))),
         Do::DrainTwo => text(alloc, drained_two(arena, parsed.p)),
-        _ => run_trait_call(alloc, arena, parsed),
+        _ => run_call(alloc, arena, parsed),
     }
 }
 
 // Runs a call of the traits. Only here generic code gets an arena.
-fn run_trait_call<P: Numbered, S: SlotStack<Item = Slot<P>>>(
+fn run_call<P: Numbered, S: SlotStack<Item = Slot<P>>>(
     alloc: Global,
     arena: &mut ChainArena<P, u32, S>,
     parsed: ParsedCall<P>,
-) -> Option<String> {
-    run_call(alloc, arena, parsed)
+) -> String {
+    run_trait_call(alloc, arena, parsed)
 }
 
 impl<P: Numbered, S: SlotStack<Item = Slot<P>>> RunsCalls for ChainArena<P, u32, S> {
-    fn renew(&mut self, alloc: Global) {
-        *self = ChainArena::new(alloc);
+    fn fresh(alloc: Global) -> Self {
+        ChainArena::new(alloc)
     }
 
-    fn run_call(&mut self, alloc: Global, call: &str) -> Option<String> {
+    fn run_call(&mut self, alloc: Global, call: &str) -> String {
         match parse_call::<P>(call) {
             Some(parsed) => run_own_call(alloc, self, parsed),
-            None => None,
+            None => String::new(alloc),
         }
     }
 }

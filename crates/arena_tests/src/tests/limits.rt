@@ -2,14 +2,14 @@
 //! of a maximum.
 
 use super::pointers::{BarePtr, SmallPtr, TinyPtr, WidePtr};
-use super::scripts::plays;
-use super::{Numbered, Slot, limited};
+use super::{Slot, limited, plays};
 use arena_base::{ArenaSlot, ArenaTrait};
 use arena_ptr::{ChunkStack, HeapStack, LimitStack, LimitedStack, PtrKey, SlotStack};
 use chain_arena::{ChainArena, ChainArenaTrait, LinkInsertKind, LinkNoGen};
 use std::alloc::Global;
 use std::process::Abort;
 use std::rc::Rc;
+use test_types::numbered::Numbered;
 
 const INDEXES: &str = "\
 # 255 links fill it
@@ -31,8 +31,8 @@ Capacities = (1, 255)
 # a link of a ring of two is removed; the next one has its index and an equal pointer
 Insert Disconnected 1 = Ok(1)
 Insert Disconnected 2 = Ok(2)
-Connect 1 0 2 0 = Some(())
-Connect 2 0 1 0 = Some(())
+Connect 1 0 2 0 = true
+Connect 2 0 1 0 = true
 All = [((1, 0), 1, (2, 0), (2, 0)), ((2, 0), 2, (1, 0), (1, 0))]
 Remove 2 0 = Success(2)
 Link 2 0 = None
@@ -41,9 +41,7 @@ Insert Disconnected 9 = Ok(2)
 Link 2 0 = Some(((0, 0), (0, 0), 9))
 All = [((1, 0), 1, (1, 0), (1, 0)), ((2, 0), 9, (0, 0), (0, 0))]
 # no generations
-InsertMany 2 = 2
-Connect 1 2 2 2 = Some(())
-Connect 2 2 1 2 = Some(())
+Linked 2 1 2 1 = true
 CarryOut 3 = (Ok(()), [(1, 1, false, P0[1](3)), (2, 2, false, P0[2](3))]) ({P0[1](3): {2, 2} 11, P0[2](3): {1, 1} 22}, Gen32 { number: 3 }, Some(1000), true)
 Len = 0
 Counter = Some(0)
@@ -75,7 +73,7 @@ All = [((1, 2), 1, (0, 0), (0, 0)), ((2, 2), 2, (0, 0), (0, 0))]
 # the counter overflows by the second link of a drained chain
 SetGeneration 254 = ()
 InsertMany 2 = 2
-Connect 1 254 2 254 = Some(())
+Connect 1 254 2 254 = true
 DrainTwo 1 254 = [Some(false), Some(true)]
 IsEmpty = true
 Counter = Some(2)
@@ -110,8 +108,7 @@ Reserve 257 = Err(BeyondMaxCapacity)
 // Wide indexes: a chain of 3 and 1, and a lone link between them.
 const WIDE: &str = "\
 # wide indexes
-InsertMany 3 = 3
-Connect 3 2 1 2 = Some(())
+Linked 3 3 1 = true
 CarryOut 7 = (Ok(()), [(3(2), 3, false, P0[1](7)), (1(2), 1, false, P0[2](7)), (2(2), 2, false, P0[3](7))]) ({P0[1](7): {(start), 2} 13, P0[2](7): {1, (end)} 21, P0[3](7): {(start), (end)} 32}, Gen32 { number: 7 }, Some(1000), true)
 Len = 0
 Counter = Some(5)
@@ -122,8 +119,8 @@ const TWO_INDEXES: &str = "\
 Capacities = (0, 0)
 Insert Disconnected 1 = Ok(1)
 Insert Disconnected 2 = Ok(2)
-Connect 1 0 2 0 = Some(())
-Connect 2 0 1 0 = Some(())
+Connect 1 0 2 0 = true
+Connect 2 0 1 0 = true
 Insert Disconnected 3 = Err(AllocError)
 All = [((1, 0), 1, (2, 0), (2, 0)), ((2, 0), 2, (1, 0), (1, 0))]
 Link 1 0 = Some(((2, 0), (2, 0), 1))

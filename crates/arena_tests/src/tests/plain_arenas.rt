@@ -6,14 +6,14 @@ use super::plain_rows::{
     NEXT_POINTERS, REUSED, USED_UP, WITHIN_TWO,
 };
 use super::pointers::{BarePtr, SmallPtr};
-use super::scripts::{RunsCalls, plays};
-use super::{Numbered, holds};
+use super::{RunsCalls, holds, plays};
 use arena_base::{Arena, ArenaSlot, ArenaTrait};
 use arena_ptr::{HeapStack, LimitStack, LimitedStack, PtrKey, SetMaxCapacity, SlotStack};
 use std::alloc::Global;
 use std::process::Abort;
 use std::rc::Rc;
 use test_types::FailingStack;
+use test_types::numbered::Numbered;
 
 const EACH: [&str; 5] = [EACH_CALL, NEXT_POINTERS, COMPACTORS, COMPRESSIONS, COPY];
 

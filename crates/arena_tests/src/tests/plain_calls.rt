@@ -4,14 +4,15 @@ ghost use Rattle.std.specs.Prelude.{◌≤◌, ◌↔◌, IsTrue, IsSome};
 ghost use Rattle.std.specs.Iterator.{IsFinite};
 ghost use Rattle.arena_traits.specs.Arena.{slot_at};
 
-use super::parser::{Do, ParsedCall, parse_call};
-use super::scripts::{RunsCalls, overwrite, run_arena_call};
-use super::{Numbered, at, text};
+use super::RunsCalls;
 use arena_base::{Arena, ArenaCloneFromWith, ArenaSlot, ArenaTrait, Compactor, SlotAccess, Work};
 use arena_ptr::{InxKey, NotWithinCapacityError, PtrKey, ReallocationError, SlotStack};
 use std::alloc::{AllocError, Global};
 use std::fmt::Debug;
 use std::mem;
+use test_types::calls::{overwrite, run_arena_call};
+use test_types::lines::{Do, ParsedCall, parse_call, text};
+use test_types::numbered::{Numbered, at};
 
 // A slot of a number.
 pub(super) type PlainSlot<P> = ArenaSlot<P, u32>;
@@ -47,23 +48,20 @@ fn enter<P: PtrKey, S: SlotStack<Item = PlainSlot<P>>>(
     }
 }
 
-fn text_of_all<T: Debug + Drop, I: Iterator<Item = T> + Drop>(
-    alloc: Global,
-    items: I,
-) -> Option<String>
+fn text_of_all<T: Debug + Drop, I: Iterator<Item = T> + Drop>(alloc: Global, items: I) -> String
     requires { I.can_next items × IsFinite (I.remaining items) }
 {
     let all: Result<Vec<T>, AllocError> = items.collect(alloc);
     match all {
         Ok(all) => text(alloc, all),
-        Err(_) => None,
+        Err(_) => String::new(alloc),
     }
 }
 
 fn iteration_text<P: PtrKey + Debug, S: SlotStack<Item = PlainSlot<P>>>(
     alloc: Global,
     arena: &Arena<P, u32, S>,
-) -> Option<String> {
+) -> String {
     text_of_all(alloc, arena.into_iter())
 }
 
@@ -71,7 +69,7 @@ fn iteration_text<P: PtrKey + Debug, S: SlotStack<Item = PlainSlot<P>>>(
 fn drain_text<P: PtrKey + Debug, S: SlotStack<Item = PlainSlot<P>>>(
     alloc: Global,
     arena: &mut Arena<P, u32, S>,
-) -> Option<String> {
+) -> String {
     let old = mem::replace(arena, Arena::new(alloc));
     text_of_all(alloc, old.into_iter())
 }
@@ -166,7 +164,7 @@ fn run_plain_call<P: Numbered, S: SlotStack<Item = PlainSlot<P>>>(
     alloc: Global,
     arena: &mut Arena<P, u32, S>,
     parsed: ParsedCall<P>,
-) -> Option<String> {
+) -> String {
     match parsed.call {
         Do::Insert => text(alloc, arena.insert_reallocating(parsed.t)),
         Do::InsertMany => text(alloc, insert_many(arena, parsed.n)),
@@ -183,7 +181,7 @@ fn run_whole_call<P: Numbered, S: SlotStack<Item = PlainSlot<P>>>(
     alloc: Global,
     arena: &mut Arena<P, u32, S>,
     parsed: ParsedCall<P>,
-) -> Option<String> {
+) -> String {
     match parsed.call {
         Do::Generation => text(alloc, P::number_of(arena.generation())),
         Do::SetGeneration => text(alloc, arena.set_generation(P::generation_of(parsed.n))),
@@ -199,7 +197,7 @@ fn run_compactor_call<P: Numbered, S: SlotStack<Item = PlainSlot<P>>>(
     alloc: Global,
     arena: &mut Arena<P, u32, S>,
     parsed: ParsedCall<P>,
-) -> Option<String> {
+) -> String {
     match parsed.call {
         Do::Compact => text(alloc, compact(arena, parsed.i, parsed.q, None)),
         Do::CompactWriting => { text(alloc, compact(arena, parsed.i, parsed.q, Some(parsed.t))) }
@@ -214,19 +212,19 @@ fn run_trait_call<P: Numbered, S: SlotStack<Item = PlainSlot<P>>>(
     alloc: Global,
     arena: &mut Arena<P, u32, S>,
     parsed: ParsedCall<P>,
-) -> Option<String> {
+) -> String {
     run_arena_call(alloc, arena, parsed)
 }
 
 impl<P: Numbered, S: SlotStack<Item = PlainSlot<P>>> RunsCalls for Arena<P, u32, S> {
-    fn renew(&mut self, alloc: Global) {
-        *self = Arena::new(alloc);
+    fn fresh(alloc: Global) -> Self {
+        Arena::new(alloc)
     }
 
-    fn run_call(&mut self, alloc: Global, call: &str) -> Option<String> {
+    fn run_call(&mut self, alloc: Global, call: &str) -> String {
         match parse_call::<P>(call) {
             Some(parsed) => run_plain_call(alloc, self, parsed),
-            None => None,
+            None => String::new(alloc),
         }
     }
 }

@@ -6,9 +6,6 @@
 // Each call.
 pub(super) const EACH_CALL: &str = "\
 # minimum capacities, up to the greatest index
-WithMinCapacity 3 = Ok((true, true))
-WithMinCapacity 2 = Ok((true, true))
-WithMinCapacity 200 = Ok((true, true))
 WithMinCapacity 255 = Ok((true, true))
 WithMinCapacity 256 = Err(AllocError)
 # a new arena
@@ -36,14 +33,9 @@ Len = 3
 IsEmpty = false
 Counter = Some(2)
 Contains 1 2 = true
-Contains 2 2 = true
-Contains 3 2 = true
-Get 3 2 = Some(30)
 GetInx 1 = Some((2, 10))
 Write 1 2 11 = Some(10)
 WriteInx 3 31 = Some(30)
-Get 1 2 = Some(11)
-Get 3 2 = Some(31)
 Entries = [(1(2), 11), (2(2), 20), (3(2), 31)]
 Advance 3 = [(1, 2), (2, 2), (3, 2), (0, 0), (0, 0)]
 AdvanceFrom 3 1 = [(3, 2), (2, 2), (0, 0), (0, 0), (0, 0)]

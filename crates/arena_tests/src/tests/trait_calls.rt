@@ -8,47 +8,26 @@ pub(super) const ROWS: &str = "\
 # two lone links are connected both ways
 InsertMany 2 = 2
 All = [((1, 2), 1, (0, 0), (0, 0)), ((2, 2), 2, (0, 0), (0, 0))]
-Connect 1 2 2 2 = Some(())
+Connect 1 2 2 2 = true
 All = [((1, 2), 1, (0, 0), (2, 2)), ((2, 2), 2, (1, 2), (0, 0))]
 # 1 has a next link, and 2 a previous one
-InsertMany 3 = 3
-Connect 1 2 2 2 = Some(())
-Connect 1 2 3 2 = None
-Connect 3 2 2 2 = None
+Linked 3 1 2 = true
+Connect 1 2 3 2 = false
+Connect 3 2 2 2 = false
 All = [((1, 2), 1, (0, 0), (2, 2)), ((2, 2), 2, (1, 2), (0, 0)), ((3, 2), 3, (0, 0), (0, 0))]
 # a link connected to itself, and a ring of two beside it
-InsertMany 3 = 3
-Connect 1 2 1 2 = Some(())
-Connect 1 2 1 2 = None
-Connect 2 2 3 2 = Some(())
-Connect 3 2 2 2 = Some(())
+Linked 3 1 1 = true
+Connect 1 2 1 2 = false
+Connect 2 2 3 2 = true
+Connect 3 2 2 2 = true
 All = [((1, 2), 1, (1, 2), (1, 2)), ((2, 2), 2, (3, 2), (3, 2)), ((3, 2), 3, (2, 2), (2, 2))]
-# another generation, or an index beyond the last
+# an index beyond the last
 InsertMany 1 = 1
-Contains 1 1 = false
-Link 1 1 = None
-LinkNoGen 1 1 = false
-Connect 1 2 1 1 = None
-Connect 1 1 1 2 = None
-RemoveLink 1 1 = InvalidPtr
-Remove 1 1 = InvalidPtr
-Invalidate 1 1 = InvalidPtr
-Contains 1 3 = false
-Link 1 3 = None
-LinkNoGen 1 3 = false
-Connect 1 2 1 3 = None
-Connect 1 3 1 2 = None
-RemoveLink 1 3 = InvalidPtr
-Remove 1 3 = InvalidPtr
-Invalidate 1 3 = InvalidPtr
 Contains 2 2 = false
 Link 2 2 = None
 LinkNoGen 2 2 = false
-Connect 1 2 2 2 = None
-Connect 2 2 1 2 = None
+Connect 1 2 2 2 = false
 RemoveLink 2 2 = InvalidPtr
-Remove 2 2 = InvalidPtr
-Invalidate 2 2 = InvalidPtr
 All = [((1, 2), 1, (0, 0), (0, 0))]
 # What removals return and leave.
 # a list of three
@@ -68,25 +47,18 @@ LinkNoGenInx 1 = Some((2, (0, 3, 10)))
 GetInx 4 = None
 LinkNoGenInx 4 = None
 # the first link of a cycle of two is removed: the other one is its own neighbor
-InsertMany 2 = 2
-Connect 1 2 2 2 = Some(())
-Connect 2 2 1 2 = Some(())
+Linked 2 1 2 1 = true
 RemoveLink 1 2 = Success((2, 2, 1))
 Contains 1 2 = false
 All = [((2, 2), 2, (2, 2), (2, 2))]
 # the second is removed, and the freed index is reused with the new counter
-InsertMany 2 = 2
-Connect 1 2 2 2 = Some(())
-Connect 2 2 1 2 = Some(())
+Linked 2 1 2 1 = true
 Remove 2 2 = Success(2)
 All = [((1, 2), 1, (1, 2), (1, 2))]
 Insert Disconnected 9 = Ok(P0[2](3))
 All = [((1, 2), 1, (1, 2), (1, 2)), ((2, 3), 9, (0, 0), (0, 0))]
 # of a list of four, the second, the start, the end and the rest are removed
-InsertMany 4 = 4
-Connect 1 2 2 2 = Some(())
-Connect 2 2 3 2 = Some(())
-Connect 3 2 4 2 = Some(())
+Linked 4 1 2 3 4 = true
 RemoveLink 2 2 = Success((1, 3, 2))
 RemoveLink 1 2 = Success((0, 3, 1))
 RemoveLink 4 2 = Success((3, 0, 4))
@@ -94,10 +66,7 @@ All = [((3, 2), 3, (0, 0), (0, 0))]
 TakeNext 3 = 0
 IsEmpty = true
 # a ring of three stays a ring to the end
-InsertMany 3 = 3
-Connect 1 2 2 2 = Some(())
-Connect 2 2 3 2 = Some(())
-Connect 3 2 1 2 = Some(())
+Linked 3 1 2 3 1 = true
 TakeNext 2 = 3
 All = [((1, 2), 1, (3, 2), (3, 2)), ((3, 2), 3, (1, 2), (1, 2))]
 TakeNext 3 = 1
@@ -105,8 +74,7 @@ All = [((1, 2), 1, (1, 2), (1, 2))]
 RemoveInx 1 = Success((2, 1))
 IsEmpty = true
 # a link that gets a new generation stays in its chain
-InsertMany 2 = 2
-Connect 1 2 2 2 = Some(())
+Linked 2 1 2 = true
 Invalidate 1 2 = Success(P0[1](3))
 Contains 1 2 = false
 Counter = Some(3)
@@ -126,9 +94,7 @@ Insert PrevToInx 1 3 = Ok(P0[3](2))
 Insert AtInterlinkInx 3 1 4 = Ok(P0[4](2))
 All = [((1, 2), 1, (4, 2), (2, 2)), ((2, 2), 2, (1, 2), (3, 2)), ((3, 2), 3, (2, 2), (4, 2)), ((4, 2), 4, (3, 2), (1, 2))]
 # a bridge goes from the end of a chain to the start of another, and not the other way
-InsertMany 4 = 4
-Connect 1 2 2 2 = Some(())
-Connect 3 2 4 2 = Some(())
+Linked 4 1 2 0 3 4 = true
 CanInsert Bridge 3 2 2 2 = false
 Insert Bridge 3 2 2 2 0 = Err(FailedLinkRequirement)
 CanInsert Bridge 2 2 3 2 = true
@@ -137,12 +103,6 @@ All = [((1, 2), 1, (0, 0), (2, 2)), ((2, 2), 2, (1, 2), (5, 2)), ((3, 2), 3, (5,
 Insert ChainStartInx 1 6 = Ok(P0[6](2))
 Insert PrevTo 3 2 7 = Ok(P0[7](2))
 All = [((1, 2), 1, (6, 2), (2, 2)), ((2, 2), 2, (1, 2), (5, 2)), ((3, 2), 3, (7, 2), (4, 2)), ((4, 2), 4, (3, 2), (0, 0)), ((5, 2), 5, (2, 2), (7, 2)), ((6, 2), 6, (0, 0), (1, 2)), ((7, 2), 7, (5, 2), (3, 2))]
-# a lone link is connected to itself, and another is inserted between
-InsertMany 1 = 1
-Connect 1 2 1 2 = Some(())
-All = [((1, 2), 1, (1, 2), (1, 2))]
-Insert AtInterlink 1 2 1 2 2 = Ok(P0[2](2))
-All = [((1, 2), 1, (2, 2), (2, 2)), ((2, 2), 2, (1, 2), (1, 2))]
 # a ring of one grows to two, and has no end and no start
 Insert SingleLinkCyclic 1 = Ok(P0[1](2))
 Insert NextTo 1 2 2 = Ok(P0[2](2))
@@ -154,8 +114,7 @@ Insert ChainEnd 1 2 0 = Err(FailedLinkRequirement)
 InsertWithin ChainEnd 1 2 0 = Err(FailedLinkRequirement)
 All = [((1, 2), 1, (2, 2), (2, 2)), ((2, 2), 2, (1, 2), (1, 2))]
 # two connected links: the first is no end; links are inserted at the end and before it
-InsertMany 2 = 2
-Connect 1 2 2 2 = Some(())
+Linked 2 1 2 = true
 Neighbors 1 2 2 2 = true
 NeighborsInx 1 2 = true
 Neighbors 2 2 1 2 = false
@@ -193,17 +152,17 @@ Insert NextTo 1 2 0 = Err(FailedLinkRequirement)
 Insert PrevTo 1 2 0 = Err(FailedLinkRequirement)
 Insert Bridge 1 2 2 2 0 = Err(FailedLinkRequirement)
 Insert Bridge 2 2 1 2 0 = Err(FailedLinkRequirement)
-Connect 1 2 2 2 = None
-Connect 2 2 1 2 = None
-Connect 1 3 2 2 = Some(())
-Connect 2 2 1 3 = Some(())
+Connect 1 2 2 2 = false
+Connect 2 2 1 2 = false
+Connect 1 3 2 2 = true
+Connect 2 2 1 3 = true
 Insert AtInterlink 1 2 2 2 0 = Err(FailedLinkRequirement)
 Insert AtInterlink 2 2 1 2 0 = Err(FailedLinkRequirement)
 InsertWithin AtInterlink 2 2 1 2 0 = Err(FailedLinkRequirement)
-BreakPrev 1 2 = None
-BreakNext 1 2 = None
-Exchange 1 2 2 2 = None
-Exchange 2 2 1 2 = None
+BreakPrev 1 2 = false
+BreakNext 1 2 = false
+Exchange 1 2 2 2 = false
+Exchange 2 2 1 2 = false
 Neighbors 1 2 2 2 = false
 Neighbors 2 2 1 2 = false
 Contains 1 2 = false
@@ -219,82 +178,54 @@ Insert NextToInx 1 4 = Ok(P0[3](3))
 All = [((1, 3), 3, (2, 2), (3, 3)), ((2, 2), 2, (3, 3), (1, 3)), ((3, 3), 4, (1, 3), (2, 2))]
 # Links disconnected, and next links exchanged twice.
 # a lone link is connected to itself, disconnected and connected again; one is inserted between
-InsertMany 1 = 1
-Connect 1 2 1 2 = Some(())
-BreakNext 1 2 = Some(())
+Linked 1 1 1 = true
+BreakNext 1 2 = true
 All = [((1, 2), 1, (0, 0), (0, 0))]
-BreakNext 1 2 = None
-BreakPrev 1 2 = None
-Connect 1 2 1 2 = Some(())
+BreakNext 1 2 = false
+BreakPrev 1 2 = false
+Connect 1 2 1 2 = true
 Insert AtInterlink 1 2 1 2 2 = Ok(P0[2](2))
 All = [((1, 2), 1, (2, 2), (2, 2)), ((2, 2), 2, (1, 2), (1, 2))]
 # a ring of three is disconnected before 2, and then after 3
-InsertMany 3 = 3
-Connect 1 2 2 2 = Some(())
-Connect 2 2 3 2 = Some(())
-Connect 3 2 1 2 = Some(())
-BreakPrev 2 2 = Some(())
+Linked 3 1 2 3 1 = true
+BreakPrev 2 2 = true
 All = [((1, 2), 1, (3, 2), (0, 0)), ((2, 2), 2, (0, 0), (3, 2)), ((3, 2), 3, (2, 2), (1, 2))]
-BreakNext 3 2 = Some(())
+BreakNext 3 2 = true
 All = [((1, 2), 1, (0, 0), (0, 0)), ((2, 2), 2, (0, 0), (3, 2)), ((3, 2), 3, (2, 2), (0, 0))]
 # a cycle of six becomes two of three, and one again
-InsertMany 6 = 6
-Connect 1 2 2 2 = Some(())
-Connect 2 2 3 2 = Some(())
-Connect 3 2 4 2 = Some(())
-Connect 4 2 5 2 = Some(())
-Connect 5 2 6 2 = Some(())
-Connect 6 2 1 2 = Some(())
-Exchange 2 2 5 2 = Some(())
+Linked 6 1 2 3 4 5 6 1 = true
+Exchange 2 2 5 2 = true
 All = [((1, 2), 1, (6, 2), (2, 2)), ((2, 2), 2, (1, 2), (6, 2)), ((3, 2), 3, (5, 2), (4, 2)), ((4, 2), 4, (3, 2), (5, 2)), ((5, 2), 5, (4, 2), (3, 2)), ((6, 2), 6, (2, 2), (1, 2))]
-Exchange 2 2 2 2 = Some(())
+Exchange 2 2 2 2 = true
 All = [((1, 2), 1, (6, 2), (2, 2)), ((2, 2), 2, (1, 2), (6, 2)), ((3, 2), 3, (5, 2), (4, 2)), ((4, 2), 4, (3, 2), (5, 2)), ((5, 2), 5, (4, 2), (3, 2)), ((6, 2), 6, (2, 2), (1, 2))]
-Exchange 5 2 2 2 = Some(())
+Exchange 5 2 2 2 = true
 Neighbors 2 2 3 2 = true
 All = [((1, 2), 1, (6, 2), (2, 2)), ((2, 2), 2, (1, 2), (3, 2)), ((3, 2), 3, (2, 2), (4, 2)), ((4, 2), 4, (3, 2), (5, 2)), ((5, 2), 5, (4, 2), (6, 2)), ((6, 2), 6, (5, 2), (1, 2))]
 # a cycle of two is spliced into a linear chain, and out again
-InsertMany 5 = 5
-Connect 1 2 2 2 = Some(())
-Connect 2 2 3 2 = Some(())
-Connect 4 2 5 2 = Some(())
-Connect 5 2 4 2 = Some(())
-Exchange 1 2 4 2 = Some(())
+Linked 5 1 2 3 0 4 5 4 = true
+Exchange 1 2 4 2 = true
 All = [((1, 2), 1, (0, 0), (5, 2)), ((2, 2), 2, (4, 2), (3, 2)), ((3, 2), 3, (2, 2), (0, 0)), ((4, 2), 4, (5, 2), (2, 2)), ((5, 2), 5, (1, 2), (4, 2))]
-Exchange 1 2 1 2 = Some(())
-All = [((1, 2), 1, (0, 0), (5, 2)), ((2, 2), 2, (4, 2), (3, 2)), ((3, 2), 3, (2, 2), (0, 0)), ((4, 2), 4, (5, 2), (2, 2)), ((5, 2), 5, (1, 2), (4, 2))]
-Exchange 4 2 1 2 = Some(())
+Exchange 4 2 1 2 = true
 All = [((1, 2), 1, (0, 0), (2, 2)), ((2, 2), 2, (1, 2), (3, 2)), ((3, 2), 3, (2, 2), (0, 0)), ((4, 2), 4, (5, 2), (5, 2)), ((5, 2), 5, (4, 2), (4, 2))]
 # a link is spliced out of a linear chain, into its own cycle, and back
-InsertMany 3 = 3
-Connect 1 2 2 2 = Some(())
-Connect 2 2 3 2 = Some(())
-Exchange 1 2 2 2 = Some(())
+Linked 3 1 2 3 = true
+Exchange 1 2 2 2 = true
 All = [((1, 2), 1, (0, 0), (3, 2)), ((2, 2), 2, (2, 2), (2, 2)), ((3, 2), 3, (1, 2), (0, 0))]
-Exchange 1 2 1 2 = Some(())
-All = [((1, 2), 1, (0, 0), (3, 2)), ((2, 2), 2, (2, 2), (2, 2)), ((3, 2), 3, (1, 2), (0, 0))]
-Exchange 2 2 1 2 = Some(())
+Exchange 2 2 1 2 = true
 All = [((1, 2), 1, (0, 0), (2, 2)), ((2, 2), 2, (1, 2), (3, 2)), ((3, 2), 3, (2, 2), (0, 0))]
 # Lookups, advancers, capacity and the counter.
 # on to the end and back to the start
-InsertMany 4 = 4
-Connect 1 2 2 2 = Some(())
-Connect 2 2 3 2 = Some(())
-Connect 3 2 4 2 = Some(())
+Linked 4 1 2 3 4 = true
 Along 2 2 = Some([(2, 2), (3, 2), (4, 2), (1, 2), (0, 0)])
 Along 3 2 = Some([(3, 2), (4, 2), (2, 2), (1, 2), (0, 0)])
 # once around a ring, then `None`; `None` for no link
-InsertMany 3 = 3
-Connect 1 2 2 2 = Some(())
-Connect 2 2 3 2 = Some(())
-Connect 3 2 1 2 = Some(())
+Linked 3 1 2 3 1 = true
 Along 2 2 = Some([(2, 2), (3, 2), (1, 2), (0, 0), (0, 0)])
 AlongAll 3 2 = Ok(Some([P0[3](2), P0[1](2), P0[2](2)]))
 AlongEmpty = None
 Along 9 2 = None
 # values read and written
-InsertMany 3 = 3
-Connect 1 2 2 2 = Some(())
-Connect 2 2 3 2 = Some(())
+Linked 3 1 2 3 = true
 IsEmpty = false
 Get 2 2 = Some(2)
 GetInx 2 = Some((2, 2))
@@ -303,23 +234,18 @@ Write 2 2 7 = Some(2)
 WriteInx 3 8 = Some(3)
 All = [((1, 2), 1, (0, 0), (2, 2)), ((2, 2), 7, (1, 2), (3, 2)), ((3, 2), 8, (2, 2), (0, 0))]
 # pointers by index: 1 and 3 are valid, 2 is freed
-InsertMany 3 = 3
-Connect 1 2 2 2 = Some(())
-Connect 2 2 3 2 = Some(())
+Linked 3 1 2 3 = true
 Remove 2 2 = Success(2)
 Ends = (Some(P0[1](2)), Some(P0[3](2)))
 Advance 3 = [(1, 2), (3, 2), (0, 0), (0, 0), (0, 0)]
 AdvanceFrom 2 0 = [(3, 2), (0, 0), (0, 0), (0, 0), (0, 0)]
 AdvanceFrom 2 1 = [(1, 2), (0, 0), (0, 0), (0, 0), (0, 0)]
 # after its first `None` an advancer returns `None` again
-InsertMany 2 = 2
-Connect 1 2 2 2 = Some(())
+Linked 2 1 2 = true
 Advance 4 = [(1, 2), (2, 2), (0, 0), (0, 0), (0, 0)]
 AdvanceFrom 3 0 = [(0, 0), (0, 0), (0, 0), (0, 0), (0, 0)]
 # the capacity, and the counter after a clear of all links
-InsertMany 2 = 2
-Connect 1 2 2 2 = Some(())
-Connect 2 2 1 2 = Some(())
+Linked 2 1 2 1 = true
 Reserve 9 = Ok(())
 HasCapacity 9 = true
 Maximum = None
@@ -342,30 +268,17 @@ Remove 1 2 = Success(1)
 Canonical 0 = Success(())
 All = [((1, 4), 2, (1, 4), (1, 4)), ((2, 4), 3, (0, 0), (3, 4)), ((3, 4), 4, (2, 4), (0, 0))]
 # scattered chains
-InsertMany 4 = 4
-Connect 1 2 3 2 = Some(())
-Connect 2 2 4 2 = Some(())
+Linked 4 1 3 0 2 4 = true
 Remove 1 2 = Success(1)
 Insert ChainEnd 4 2 5 = Ok(P0[1](3))
 Canonical 0 = Success(())
 All = [((1, 4), 2, (0, 0), (2, 4)), ((2, 4), 4, (1, 4), (3, 4)), ((3, 4), 5, (2, 4), (0, 0)), ((4, 4), 3, (0, 0), (0, 0))]
-# a chain of 3 and 1
-InsertMany 3 = 3
-Connect 3 2 1 2 = Some(())
-Canonical 0 = Success(())
-All = [((1, 3), 3, (0, 0), (2, 3)), ((2, 3), 1, (1, 3), (0, 0)), ((3, 3), 2, (0, 0), (0, 0))]
 # a chain of 4, 1, 2 and 3, each of whose links is moved
-InsertMany 4 = 4
-Connect 4 2 1 2 = Some(())
-Connect 1 2 2 2 = Some(())
-Connect 2 2 3 2 = Some(())
+Linked 4 4 1 2 3 = true
 Canonical 0 = Success(())
 All = [((1, 3), 4, (0, 0), (2, 3)), ((2, 3), 1, (1, 3), (3, 3)), ((3, 3), 2, (2, 3), (4, 3)), ((4, 3), 3, (3, 3), (0, 0))]
 # a linear chain and a cycle
-InsertMany 4 = 4
-Connect 1 2 4 2 = Some(())
-Connect 2 2 3 2 = Some(())
-Connect 3 2 2 2 = Some(())
+Linked 4 1 4 0 2 3 2 = true
 Canonical 0 = Success(())
 All = [((1, 3), 1, (0, 0), (2, 3)), ((2, 3), 4, (1, 3), (0, 0)), ((3, 3), 2, (4, 3), (4, 3)), ((4, 3), 3, (3, 3), (3, 3))]
 # lone links behind holes

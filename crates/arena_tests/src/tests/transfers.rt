@@ -1,13 +1,15 @@
 //! Tests of transfers of chains to another arena.
 
-use super::parser::Do;
 use super::pointers::BarePtr;
-use super::{Counted, Slot, limited, text};
+use super::{Slot, limited};
 use arena_base::{ArenaTrait, CompactArenaTrait};
 use arena_ptr::{Gen32, LimitStack, LimitedStack, Ptr, PtrKey, SlotStack, ToolPtr};
 use chain_arena::{ChainArena, ChainArenaTrait, LinkInsertKind};
 use std::alloc::Global;
 use std::fmt::Debug;
+use test_types::calls::run_call;
+use test_types::lines::{Do, ParsedCall, text};
+use test_types::numbered::{Counted, Numbered};
 
 // The target of a transfer: its maximum, and links of these values, rings of one or lone ones. The
 // closure returns `returned` for each value, if there is one.
@@ -68,7 +70,7 @@ fn carry<
     generation: Q::Gen,
     target: &mut ChainArena<Q, u32, S>,
     returned: Option<u32>,
-) -> Option<String> {
+) -> String {
     let mut visited: Vec<(P, u32, bool, Q)> = Vec::new(alloc);
     let mut calls = 0u32;
     let outcome = target.transfer_canonical_reallocating(generation, source, |p, value, q| {
@@ -84,16 +86,16 @@ fn carry<
 fn contents<Q: Ptr, S: SlotStack<Item = Slot<Q>>>(
     alloc: Global,
     arena: &ChainArena<Q, u32, S>,
-) -> Option<String> {
+) -> String {
     let counter = arena.generation();
     let is_little = arena.capacity() <= 64;
     text(alloc, (arena, counter, arena.max_capacity(), is_little))
 }
 
-fn in_one_line(alloc: Global, reply: Option<String>, listing: Option<String>) -> Option<String> {
-    match (reply, listing) {
-        (Some(reply), Some(listing)) => format!(in alloc; "{reply} {listing}").ok(),
-        _ => None,
+fn in_one_line(alloc: Global, reply: &str, listing: &str) -> String {
+    match format!(in alloc; "{reply} {listing}") {
+        Ok(line) => line,
+        Err(_) => String::new(alloc),
     }
 }
 
@@ -104,21 +106,36 @@ fn transfer_to<
     Q: Ptr,
     A: ChainArenaTrait<P, u32> + CompactArenaTrait<P, u32>,
     S: LimitStack<Item = Slot<Q>>,
->(alloc: Global, source: &mut A, generation: Q::Gen, setup: &TargetSetup) -> Option<String> {
+>(alloc: Global, source: &mut A, generation: Q::Gen, setup: &TargetSetup) -> String {
     let mut target: ChainArena<Q, u32, S> = arena_as(alloc, setup);
     let reply = carry(alloc, source, generation, &mut target, setup.returned);
-    in_one_line(alloc, reply, contents(alloc, &target))
+    in_one_line(alloc, reply.as_str(), contents(alloc, &target).as_str())
 }
 
-pub(super) fn run_transfer<
-    P: PtrKey + Debug,
-    A: ChainArenaTrait<P, u32> + CompactArenaTrait<P, u32>,
->(alloc: Global, source: &mut A, call: Do, n: u32) -> Option<String> {
+fn run_transfer<P: PtrKey + Debug, A: ChainArenaTrait<P, u32> + CompactArenaTrait<P, u32>>(
+    alloc: Global,
+    source: &mut A,
+    call: Do,
+    n: u32,
+) -> String {
     let setup = setup_of(call, n);
     if setup.is_ring {
         return transfer_to::<P, BarePtr, A, LimitedStack<Slot<BarePtr>>>(alloc, source, (), &setup);
     }
     transfer_to::<P, ToolPtr, A, LimitedStack<Slot<ToolPtr>>>(alloc, source, Gen32::of(n), &setup)
+}
+
+// Runs a transfer, or a call of the traits.
+pub(super) fn run_trait_call<
+    P: Numbered,
+    A: ChainArenaTrait<P, u32> + CompactArenaTrait<P, u32> + Drop,
+>(alloc: Global, arena: &mut A, parsed: ParsedCall<P>) -> String {
+    match parsed.call {
+        Do::CarryOut | Do::CarryAsFive | Do::CarryToFull | Do::CarryToBare => {
+            run_transfer(alloc, arena, parsed.call, parsed.n)
+        }
+        _ => run_call(alloc, arena, parsed),
+    }
 }
 
 // Transfers of a chain of 3 and 1 with a lone link between, and of others. Some have the generation
@@ -131,16 +148,6 @@ Insert Disconnected 3 = Ok(P0[3](2))
 Insert ChainEnd 3 2 4 = Ok(P0[4](2))
 Remove 1 2 = Success(1)
 CarryOut 4 = (Ok(()), [(P0[2](2), 2, false, P0[1](4)), (P0[3](2), 3, false, P0[2](4)), (P0[4](2), 4, false, P0[3](4))]) ({P0[1](4): {1, 1} 12, P0[2](4): {(start), 3} 23, P0[3](4): {2, (end)} 34}, Gen32 { number: 4 }, Some(1000), true)
-# a linear chain and a cycle
-InsertMany 4 = 4
-Connect 1 2 4 2 = Some(())
-Connect 2 2 3 2 = Some(())
-Connect 3 2 2 2 = Some(())
-CarryOut 3 = (Ok(()), [(P0[1](2), 1, false, P0[1](3)), (P0[4](2), 4, false, P0[2](3)), (P0[2](2), 2, false, P0[3](3)), (P0[3](2), 3, false, P0[4](3))]) ({P0[1](3): {(start), 2} 11, P0[2](3): {1, (end)} 24, P0[3](3): {4, 4} 32, P0[4](3): {3, 3} 43}, Gen32 { number: 3 }, Some(1000), true)
-# a chain of 3 and 1
-InsertMany 3 = 3
-Connect 3 2 1 2 = Some(())
-CarryOut 3 = (Ok(()), [(P0[3](2), 3, false, P0[1](3)), (P0[1](2), 1, false, P0[2](3)), (P0[2](2), 2, false, P0[3](3))]) ({P0[1](3): {(start), 2} 13, P0[2](3): {1, (end)} 21, P0[3](3): {(start), (end)} 32}, Gen32 { number: 3 }, Some(1000), true)
 # lone links behind holes
 InsertMany 6 = 6
 Remove 1 2 = Success(1)
@@ -149,47 +156,34 @@ Remove 3 2 = Success(3)
 Remove 4 2 = Success(4)
 CarryOut 7 = (Ok(()), [(P0[5](2), 5, false, P0[1](7)), (P0[6](2), 6, false, P0[2](7))]) ({P0[1](7): {(start), (end)} 15, P0[2](7): {(start), (end)} 26}, Gen32 { number: 7 }, Some(1000), true)
 # a chain of 3 and 1
-InsertMany 3 = 3
-Connect 3 2 1 2 = Some(())
+Linked 3 3 1 = true
 CarryOut 7 = (Ok(()), [(P0[3](2), 3, false, P0[1](7)), (P0[1](2), 1, false, P0[2](7)), (P0[2](2), 2, false, P0[3](7))]) ({P0[1](7): {(start), 2} 13, P0[2](7): {1, (end)} 21, P0[3](7): {(start), (end)} 32}, Gen32 { number: 7 }, Some(1000), true)
 Len = 0
 Counter = Some(5)
 # scattered chains
-InsertMany 4 = 4
-Connect 1 2 3 2 = Some(())
-Connect 2 2 4 2 = Some(())
+Linked 4 1 3 0 2 4 = true
 Remove 1 2 = Success(1)
 Insert ChainEnd 4 2 5 = Ok(P0[1](3))
 CarryOut 4 = (Ok(()), [(P0[2](2), 2, false, P0[1](4)), (P0[4](2), 4, false, P0[2](4)), (P0[1](3), 5, false, P0[3](4)), (P0[3](2), 3, false, P0[4](4))]) ({P0[1](4): {(start), 2} 12, P0[2](4): {1, 3} 24, P0[3](4): {2, (end)} 35, P0[4](4): {(start), (end)} 43}, Gen32 { number: 4 }, Some(1000), true)
 Len = 0
 Counter = Some(7)
 # a linear chain and a cycle
-InsertMany 4 = 4
-Connect 1 2 4 2 = Some(())
-Connect 2 2 3 2 = Some(())
-Connect 3 2 2 2 = Some(())
+Linked 4 1 4 0 2 3 2 = true
 CarryOut 2 = (Ok(()), [(P0[1](2), 1, false, P0[1](2)), (P0[4](2), 4, false, P0[2](2)), (P0[2](2), 2, false, P0[3](2)), (P0[3](2), 3, false, P0[4](2))]) ({P0[1](2): {(start), 2} 11, P0[2](2): {1, (end)} 24, P0[3](2): {4, 4} 32, P0[4](2): {3, 3} 43}, Gen32 { number: 2 }, Some(1000), true)
 Len = 0
 Counter = Some(6)
 # a linear chain and a cycle
-InsertMany 4 = 4
-Connect 1 2 4 2 = Some(())
-Connect 2 2 3 2 = Some(())
-Connect 3 2 2 2 = Some(())
+Linked 4 1 4 0 2 3 2 = true
 CarryAsFive 7 = (Ok(()), [(P0[1](2), 1, false, P0[1](7)), (P0[4](2), 4, false, P0[2](7)), (P0[2](2), 2, false, P0[3](7)), (P0[3](2), 3, false, P0[4](7))]) ({P0[1](7): {(start), 2} 5, P0[2](7): {1, (end)} 5, P0[3](7): {4, 4} 5, P0[4](7): {3, 3} 5}, Gen32 { number: 7 }, Some(1000), true)
 # a ring of three
-InsertMany 3 = 3
-Connect 1 2 2 2 = Some(())
-Connect 2 2 3 2 = Some(())
-Connect 3 2 1 2 = Some(())
+Linked 3 1 2 3 1 = true
 CarryOut 5 = (Ok(()), [(P0[1](2), 1, false, P0[1](5)), (P0[2](2), 2, false, P0[2](5)), (P0[3](2), 3, false, P0[3](5))]) ({P0[1](5): {3, 2} 11, P0[2](5): {1, 3} 22, P0[3](5): {2, 1} 33}, Gen32 { number: 5 }, Some(1000), true)
 # an empty source
 CarryOut 9 = (Ok(()), []) ({}, Gen32 { number: 9 }, Some(1000), true)
 Len = 0
 Counter = Some(2)
 # refused transfers, of a chain of 3 and 1 and other links, beyond the maximum
-InsertMany 3 = 3
-Connect 3 2 1 2 = Some(())
+Linked 3 3 1 = true
 Reserve 100 = Ok(())
 CarryToFull 7 = (Err(BeyondMaxCapacity), []) ({P0[1](2): {(start), (end)} 1, P0[2](2): {(start), (end)} 2}, Gen32 { number: 2 }, Some(2), true)
 HasCapacity 100 = true
@@ -197,7 +191,7 @@ All = [((1, 2), 1, (3, 2), (0, 0)), ((2, 2), 2, (0, 0), (0, 0)), ((3, 2), 3, (0,
 Counter = Some(2)
 # the index type is checked before the maximum; on the error both arenas are unchanged
 InsertMany 256 = 256
-Connect 3 2 1 2 = Some(())
+Connect 3 2 1 2 = true
 Reserve 300 = Ok(())
 CarryToBare 300 = (Err(AllocError), []) ({Bare[1]: {1, 1} 5, Bare[2]: {2, 2} 6}, (), Some(300), true)
 CarryToBare 2 = (Err(AllocError), []) ({Bare[1]: {1, 1} 5, Bare[2]: {2, 2} 6}, (), Some(2), true)

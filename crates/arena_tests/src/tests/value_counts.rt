@@ -1,9 +1,9 @@
 //! Tests that no value is lost or cloned twice, by values that count themselves and their clones.
 
-use super::{at, holds};
+use super::holds;
 use arena_base::{Arena, ArenaCloneFromWith, ArenaSlot, ArenaTrait};
 use arena_ptr::{
-    ChunkStack, Gen32, HeapStack, Inx32, LimitedStack, PtrGen, PtrKey, SlotStack, ToolPtr,
+    ChunkStack, Gen32, GenKey, HeapStack, Inx32, LimitedStack, PtrKey, SlotStack, ToolPtr,
 };
 use chain_arena::{Call, ChainArena, ChainArenaTrait, LinkBody, LinkInsertKind, LinkNoGen, apply};
 use std::alloc::{AllocError, Global};
@@ -11,6 +11,7 @@ use std::cell::Cell;
 use std::marker::Model;
 use std::process::Abort;
 use std::rc::Rc;
+use test_types::numbered::at;
 
 // A value with a number, which shares a count of clones with its clones. Cloning the number 2 is
 // refused. Contracts see neither field, so all such values are equal.

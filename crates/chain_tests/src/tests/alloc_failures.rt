@@ -9,114 +9,56 @@ use super::call_lists::check_refused_list;
 use super::canonical::carry_over;
 use super::copies::with_a_hole;
 use super::plain_copies::{PlainArena, copied_twice};
-use super::scripts::{Do, Kind, RunsCalls, Script, plays_all};
+use super::scripts::RunsCalls;
 use super::stacks::{Part, in_blocks, over_heap, under_maxima};
-use super::{ChainsOver, Slot, generation, holds, same, text};
-use arena_base::ArenaTrait;
-use arena_ptr::SlotStack;
+use super::{ChainsOver, Slot, holds, same};
+use arena_ptr::{Gen32, SlotStack};
 use std::alloc::Global;
 use std::process::Abort;
+use test_types::lines::text;
+use test_types::numbered::Counted;
 
 // Calls that need more capacity than a full arena has.
-const GROWTHS: [Do; 7] = [
-    Do::Reserve(100),
-    Do::InsertIfAllowed(Kind::NextTo((1, 2)), 7),
-    Do::Insert(Kind::NextTo((1, 2)), 7),
-    Do::InsertByAnyEntry(Kind::NextTo((1, 2)), 7),
-    Do::InsertByEntry(Kind::NextTo((1, 2)), 7),
-    Do::CopyOver(70),
-    Do::CarryIn(70),
+const GROWTHS: [&str; 7] = [
+    "Reserve 100",
+    "InsertIfAllowed NextTo 1 2 7",
+    "Insert NextTo 1 2 7",
+    "InsertByAnyEntry NextTo 1 2 7",
+    "InsertByEntry NextTo 1 2 7",
+    "CopyOver 70",
+    "CarryIn 70",
 ];
 
 // Calls that need more capacity than an arena with holes has.
-const GROWTHS_BESIDE_HOLES: [Do; 3] = [Do::Reserve(100), Do::CopyOver(70), Do::CarryIn(70)];
+const GROWTHS_BESIDE_HOLES: [&str; 3] = ["Reserve 100", "CopyOver 70", "CarryIn 70"];
 
 // Calls that make a new arena.
-const BIRTHS: [Do; 2] = [Do::Clone, Do::Birth(100)];
+const BIRTHS: [&str; 2] = ["Clone", "WithMinCapacity 100"];
 
 // Calls that request memory, but no capacity.
-const LISTS: [Do; 2] = [Do::TwoCalls, Do::MovesListed(false)];
+const LISTS: [&str; 2] = ["TwoCalls", "MovesListed 0"];
 
 // Calls on a full arena that request no memory.
-const NO_GROWTHS: [Do; 9] = [
-    Do::RemoveLink((1, 2)),
-    Do::Compress(false),
-    Do::Canonical(false),
-    Do::MovesVisited(true),
-    Do::InsertWithin(Kind::Disconnected, 7),
-    Do::RemoveLink((2, 2)),
-    Do::Insert(Kind::Disconnected, 7),
-    Do::Clear,
-    Do::CarryIn(2),
+const NO_GROWTHS: [&str; 9] = [
+    "RemoveLink 1 2",
+    "Compress 0",
+    "Canonical 0",
+    "MovesVisited 1",
+    "InsertWithin Disconnected 7",
+    "RemoveLink 2 2",
+    "Insert Disconnected 7",
+    "Clear",
+    "CarryIn 2",
 ];
-
-// New arenas that refuse every other growth.
-static REFUSED: [Script; 3] = [
-    (
-        "links that are carried over: neither arena has changed, and then both have",
-        0,
-        &[],
-        &[
-            (
-                Do::CarryIn(2),
-                "(Err(AllocError), {P0[1](2): {(start), (end)} 1, P0[2](2): {(start), (end)} 2})",
-            ),
-            (Do::Debug, "{}"),
-            (Do::Counter, "Some(Gen32 { number: 2 })"),
-            (Do::CarryIn(2), "(Ok(()), {})"),
-            (
-                Do::Debug,
-                "{P0[1](7): {(start), (end)} 1, P0[2](7): {(start), (end)} 2}",
-            ),
-            (Do::Counter, "Some(Gen32 { number: 7 })"),
-        ],
-    ),
-    (
-        "a link inserted after can_insert on the second attempt",
-        0,
-        &[],
-        &[
-            (
-                Do::InsertIfAllowed(Kind::Disconnected, 1),
-                "Some(Err(AllocError))",
-            ),
-            (
-                Do::InsertIfAllowed(Kind::Disconnected, 1),
-                "Some(Ok(P0[1](2)))",
-            ),
-            (Do::Debug, "{P0[1](2): {(start), (end)} 1}"),
-        ],
-    ),
-    (
-        "a link inserted by a vacant entry on the second attempt",
-        0,
-        &[],
-        &[
-            (
-                Do::InsertByAnyEntry(Kind::Disconnected, 1),
-                "Some(Err(AllocError))",
-            ),
-            (
-                Do::InsertByAnyEntry(Kind::Disconnected, 1),
-                "Some(Ok(P0[1](2)))",
-            ),
-            (Do::Debug, "{P0[1](2): {(start), (end)} 1}"),
-        ],
-    ),
-];
-
-fn refused_scripts() -> &'static [Script] {
-    &REFUSED
-}
 
 // Returns whether a result reports an error or `false`.
-fn is_refused<A: RunsCalls>(alloc: Global, arena: &mut A, call: Do) -> bool {
+fn is_refused<A: RunsCalls>(alloc: Global, arena: &mut A, call: &str) -> bool {
     let outcome = arena.run_call(alloc, call);
     outcome.contains("Err") || outcome.contains("false")
 }
 
 // Returns a full arena, or one with holes.
-fn begun<A: RunsCalls>(alloc: Global, begin: Do) -> A {
+fn begun<A: RunsCalls>(alloc: Global, begin: &str) -> A {
     let mut arena = A::fresh(alloc);
     arena.run_call(alloc, begin);
     arena
@@ -124,19 +66,20 @@ fn begun<A: RunsCalls>(alloc: Global, begin: Do) -> A {
 
 // Returns all that an arena reports: links, counter, capacity, and all slots.
 fn arena_text<A: RunsCalls>(alloc: Global, arena: &mut A) -> String {
-    let links = arena.run_call(alloc, Do::Debug);
-    let capacities = arena.run_call(alloc, Do::Capacities);
-    let slots = arena.run_call(alloc, Do::SlotsListed);
-    text(alloc, (links, capacities, slots))
+    let links = arena.run_call(alloc, "Debug");
+    let counter = arena.run_call(alloc, "Counter");
+    let capacities = arena.run_call(alloc, "Capacities");
+    let slots = arena.run_call(alloc, "SlotsListed");
+    text(alloc, (links, counter, capacities, slots))
 }
 
 // Returns whether a call is refused at first, and the arena with the next pointer after it. Checks
 // that a refusal changes nothing, and that a second attempt succeeds.
-fn run_growth<A: RunsCalls + Drop>(
+fn run_growth<A: RunsCalls>(
     rt: &impl Abort,
     alloc: Global,
-    begin: Do,
-    call: Do,
+    begin: &str,
+    call: &str,
 ) -> (bool, String) {
     let mut arena: A = begun(alloc, begin);
     let before = arena_text(alloc, &mut arena);
@@ -148,27 +91,27 @@ fn run_growth<A: RunsCalls + Drop>(
         holds(rt, "once more", !again);
     }
     let after = arena_text(alloc, &mut arena);
-    let next = arena.run_call(alloc, Do::InsertWithin(Kind::Disconnected, 7));
+    let next = arena.run_call(alloc, "InsertWithin Disconnected 7");
     (refused, text(alloc, (after, next)))
 }
 
 // Checks that calls without requests for memory succeed. Returns whether the next growth is
 // refused.
-pub(super) fn next_is_refused<A: RunsCalls + Drop>(rt: &impl Abort, alloc: Global) -> bool {
-    let mut arena: A = begun(alloc, Do::Fill);
+pub(super) fn next_is_refused<A: RunsCalls>(rt: &impl Abort, alloc: Global) -> bool {
+    let mut arena: A = begun(alloc, "Fill");
     for call in NO_GROWTHS {
         let refused = is_refused(alloc, &mut arena, call);
         holds(rt, "allocates nothing", !refused);
     }
-    is_refused(alloc, &mut arena, Do::Reserve(100))
+    is_refused(alloc, &mut arena, "Reserve 100")
 }
 
 // Compares an arena that refuses each growth at first with one that does not.
-fn check_grown<A: RunsCalls + Drop, B: RunsCalls + Drop>(
+fn check_grown<A: RunsCalls, B: RunsCalls>(
     rt: &impl Abort,
     alloc: Global,
-    begin: Do,
-    calls: &[Do],
+    begin: &str,
+    calls: &[&str],
 ) {
     for call in calls {
         let (other_refuses, want) = run_growth::<B>(rt, alloc, begin, *call);
@@ -179,16 +122,15 @@ fn check_grown<A: RunsCalls + Drop, B: RunsCalls + Drop>(
 }
 
 // Checks each growth. A call that makes a new arena is refused each time.
-fn check_growths<A: RunsCalls + Drop, B: RunsCalls + Drop>(rt: &impl Abort, alloc: Global) {
-    check_grown::<A, B>(rt, alloc, Do::Fill, &GROWTHS);
-    check_grown::<A, B>(rt, alloc, Do::Dig, &GROWTHS_BESIDE_HOLES);
-    let mut arena: A = begun(alloc, Do::Dig);
+fn check_growths<A: RunsCalls, B: RunsCalls>(rt: &impl Abort, alloc: Global) {
+    check_grown::<A, B>(rt, alloc, "Fill", &GROWTHS);
+    check_grown::<A, B>(rt, alloc, "Dig", &GROWTHS_BESIDE_HOLES);
+    let mut arena: A = begun(alloc, "Dig");
     for call in BIRTHS {
         let first = is_refused(alloc, &mut arena, call);
         let second = is_refused(alloc, &mut arena, call);
         holds(rt, "refused each time", first && second);
     }
-    plays_all::<A>(rt, alloc, refused_scripts());
     let next = next_is_refused::<A>(rt, alloc);
     holds(rt, "the next growth is refused", next);
 }
@@ -208,11 +150,11 @@ fn is_carried_later<S: SlotStack<Item = Slot>>(
     target: &mut ChainsOver<S>,
 ) -> bool {
     let before = text_of_both(alloc, source, target);
-    let refused = carry_over(source, target, generation(9)).is_err();
+    let refused = carry_over(source, target, Gen32::of(9)).is_err();
     if refused {
         let after = text_of_both(alloc, source, target);
         same(rt, "neither has changed", after.as_str(), before.as_str());
-        let again = carry_over(source, target, generation(9)).is_err();
+        let again = carry_over(source, target, Gen32::of(9)).is_err();
         holds(rt, "once more", !again);
     }
     refused
@@ -222,7 +164,7 @@ fn is_carried_later<S: SlotStack<Item = Slot>>(
 // arenas after it.
 fn run_transfer<S: SlotStack<Item = Slot>>(rt: &impl Abort, alloc: Global) -> (bool, String) {
     let mut source: ChainsOver<S> = with_a_hole(alloc, 70);
-    let mut target: ChainsOver<S> = begun(alloc, Do::Dig);
+    let mut target: ChainsOver<S> = begun(alloc, "Dig");
     let refused = is_carried_later(rt, alloc, &mut source, &mut target);
     (refused, text_of_both(alloc, &mut source, &mut target))
 }
@@ -251,7 +193,7 @@ pub(super) fn check_refusals<F: SlotStack<Item = Slot>, S: SlotStack<Item = Slot
 
 // Checks each call that may request memory: if any one request is refused, nothing changes, and a
 // second attempt succeeds.
-fn check_bearing<A: RunsCalls + Drop>(rt: &impl Abort, alloc: Global, begin: Do) {
+fn check_bearing<A: RunsCalls>(rt: &impl Abort, alloc: Global, begin: &str) {
     for calls in [&GROWTHS[..], &BIRTHS[..], &LISTS[..]] {
         for call in calls {
             let _ = run_growth::<A>(rt, alloc, begin, *call);
@@ -260,7 +202,7 @@ fn check_bearing<A: RunsCalls + Drop>(rt: &impl Abort, alloc: Global, begin: Do)
 }
 
 pub(super) fn check_requests<S: SlotStack<Item = Slot>>(rt: &impl Abort, alloc: Global) {
-    for begin in [Do::Fill, Do::Dig] {
+    for begin in ["Fill", "Dig"] {
         check_bearing::<ChainsOver<S>>(rt, alloc, begin);
     }
     let _ = run_transfer::<S>(rt, alloc);

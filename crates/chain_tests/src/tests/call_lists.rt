@@ -1,56 +1,54 @@
 //! Tests of lists of calls and their replies.
 
-use super::scripts::{Do, Kind, Line, lookup};
-use super::{ChainsOver, Slot, at, fresh, fresh_limited, generation, holds, index, same, text};
+use super::scripts::{Parsed, lookup};
+use super::{ChainsOver, Slot, fresh, fresh_limited, holds, same};
 use arena_base::ArenaTrait;
 use arena_ptr::{AllocError, LimitStack, SlotStack, ToolPtr};
 use chain_arena::{Call, LinkInsertKind, Reply, run_calls};
 use std::alloc::Global;
 use std::process::Abort;
+use test_types::lines::{Do, parse_call, text};
+use test_types::numbered::Numbered;
 
-pub(super) fn kind(kind: Kind) -> LinkInsertKind<ToolPtr> {
-    match kind {
-        Kind::Disconnected => LinkInsertKind::Disconnected,
-        Kind::SingleLinkCyclic => LinkInsertKind::SingleLinkCyclic,
-        Kind::ChainEnd(p) => LinkInsertKind::ChainEnd(at(p)),
-        Kind::ChainStart(p) => LinkInsertKind::ChainStart(at(p)),
-        Kind::NextTo(p) => LinkInsertKind::NextTo(at(p)),
+// Returns the call of a line, or `None` if lists of calls have no such call.
+pub(super) fn call(parsed: Parsed) -> Option<Call<ToolPtr, u32>> {
+    let (kind, p, q, t) = (parsed.kind, parsed.p, parsed.q, parsed.t);
+    match parsed.call {
+        Do::Insert => Some(Call::Insert { kind, t }),
+        Do::InsertWithin => Some(Call::InsertWithin { kind, t }),
+        Do::Connect => Some(Call::Connect(p, q)),
+        Do::BreakPrev => Some(Call::BreakPrev(p)),
+        Do::BreakNext => Some(Call::BreakNext(p)),
+        Do::Exchange => Some(Call::ExchangeNext(p, q)),
+        Do::RemoveLink => Some(Call::Remove(p)),
+        Do::RemoveLinkInx => Some(Call::RemoveInx(parsed.i)),
+        Do::Invalidate => Some(Call::Invalidate(p)),
+        _ => whole_call(parsed),
     }
 }
 
-// Returns the call of a row, or `None` if lists of calls have no such call.
-pub(super) fn call(row: Do) -> Option<Call<ToolPtr, u32>> {
-    Some(match row {
-        Do::Insert(k, t) => Call::Insert { kind: kind(k), t },
-        Do::InsertWithin(k, t) => Call::InsertWithin { kind: kind(k), t },
-        Do::Connect(p, q) => Call::Connect(at(p), at(q)),
-        Do::BreakPrev(p) => Call::BreakPrev(at(p)),
-        Do::BreakNext(p) => Call::BreakNext(at(p)),
-        Do::Exchange(p, q) => Call::ExchangeNext(at(p), at(q)),
-        Do::RemoveLink(p) => Call::Remove(at(p)),
-        Do::RemoveLinkInx(i) => Call::RemoveInx(index(i)),
-        Do::Invalidate(p) => Call::Invalidate(at(p)),
-        other => return whole_call(other),
-    })
-}
-
-fn whole_call(row: Do) -> Option<Call<ToolPtr, u32>> {
-    match row {
-        Do::DrainTaking(p, take) => Some(Call::DrainChain { p: at(p), take }),
+fn whole_call(parsed: Parsed) -> Option<Call<ToolPtr, u32>> {
+    let (p, n, take) = (parsed.p, parsed.n, parsed.t as usize);
+    match parsed.call {
+        Do::DrainTaking => Some(Call::DrainChain { p, take }),
         Do::Clear => Some(Call::Clear),
-        Do::Compress(reset) => Some(Call::Compress(reset)),
-        Do::Canonical(reset) => Some(Call::CompressCanonical(reset)),
-        Do::Reserve(n) => Some(Call::Reserve(n)),
-        Do::SetGeneration(g) => Some(Call::SetGeneration(generation(g))),
+        Do::Compress => Some(Call::Compress(n > 0)),
+        Do::Canonical => Some(Call::CompressCanonical(n > 0)),
+        Do::Reserve => Some(Call::Reserve(n as usize)),
+        Do::SetGeneration => Some(Call::SetGeneration(ToolPtr::generation_of(n))),
         Do::IncGeneration => Some(Call::IncGeneration),
         _ => None,
     }
 }
 
-fn calls_of(alloc: Global, lines: &[Line]) -> Vec<Call<ToolPtr, u32>> {
+// Returns the calls of a table.
+fn calls_of(alloc: Global, table: &str) -> Vec<Call<ToolPtr, u32>> {
     let mut calls = Vec::new(alloc);
-    for line in lines {
-        if let Some(made) = call(line.0) {
+    for line in table.lines() {
+        if let Some((made, _)) = line.split_once(" = ")
+            && let Some(parsed) = parse_call(made)
+            && let Some(made) = call(parsed)
+        {
             let _ = calls.push(made);
         }
     }
@@ -71,26 +69,33 @@ pub(super) fn reply_text(alloc: Global, reply: Reply<ToolPtr, u32>) -> String {
     }
 }
 
-// Runs the calls of lines as one list, and checks their replies. The other lines read the arena
+// Returns the text of a read.
+fn read<S: SlotStack<Item = Slot>>(alloc: Global, arena: &mut ChainsOver<S>, line: &str) -> String {
+    match parse_call(line) {
+        Some(parsed) => lookup(alloc, arena, parsed),
+        None => String::new(alloc),
+    }
+}
+
+// Runs the calls of a table as one list, and checks their replies. The other lines read the arena
 // afterwards.
 fn replies<S: SlotStack<Item = Slot>>(
     rt: &impl Abort,
     alloc: Global,
     arena: &mut ChainsOver<S>,
-    list: &List,
+    table: &str,
 ) {
-    let (what, lines) = *list;
-    let calls = calls_of(alloc, lines);
-    let made = run_calls(alloc, arena, calls);
+    let made = run_calls(alloc, arena, calls_of(alloc, table));
     let mut replies = made.expect(rt, "memory for the replies").into_iter();
-    for (row, want) in lines {
+    for line in table.lines() {
+        let (call, want) = line.split_once(" = ").expect(rt, "a reply");
         let got = match replies.next() {
             Some(reply) => reply_text(alloc, reply),
-            None => lookup(alloc, arena, *row),
+            None => read(alloc, arena, call),
         };
-        same(rt, what, got.as_str(), *want);
+        same(rt, line, got.as_str(), want);
     }
-    holds(rt, what, replies.next().is_none());
+    holds(rt, "no reply more", replies.next().is_none());
 }
 
 fn insertion_count(replies: &[Reply<ToolPtr, u32>]) -> usize {
@@ -119,226 +124,104 @@ pub(super) fn two_calls<S: SlotStack<Item = Slot>>(
     Ok(arena.len() == before.saturating_add(insertion_count(&replies)))
 }
 
-// A name, the calls with their replies, and the reads after them.
-type List = (&'static str, &'static [Line]);
+const RUN: &str = "\
+Insert Disconnected 10 = Ok(P0[1](2))
+Insert ChainEnd 1 2 20 = Ok(P0[2](2))
+Connect 2 2 1 2 = true
+DrainTaking 2 2 1 = Some(1)
+RemoveLinkInx 1 = InvalidPtr
+Clear = Success(())
+Insert Disconnected 30 = Ok(P0[1](4))
+Insert ChainEnd 1 4 40 = Ok(P0[2](4))
+Insert ChainEnd 2 4 50 = Ok(P0[3](4))
+BreakNext 2 4 = true
+DrainTaking 1 4 5 = Some(2)
+Debug = {P0[3](4): {(start), (end)} 50}
+";
 
-// Six links in a cycle.
-const CYCLE: List = (
-    "a cycle of six",
-    &[
-        (Do::Insert(Kind::SingleLinkCyclic, 1), "Ok(P0[1](2))"),
-        (Do::Insert(Kind::NextTo((1, 2)), 2), "Ok(P0[2](2))"),
-        (Do::Insert(Kind::NextTo((2, 2)), 3), "Ok(P0[3](2))"),
-        (Do::Insert(Kind::NextTo((3, 2)), 4), "Ok(P0[4](2))"),
-        (Do::Insert(Kind::NextTo((4, 2)), 5), "Ok(P0[5](2))"),
-        (Do::Insert(Kind::NextTo((5, 2)), 6), "Ok(P0[6](2))"),
-    ],
-);
-
-// Lists of calls; each static runs on a new arena. The last begins with the cycle, which one
-// exchange splits and another merges.
-static RUN: [List; 1] = [(
-    "a run of calls",
-    &[
-        (Do::Insert(Kind::Disconnected, 10), "Ok(P0[1](2))"),
-        (Do::Insert(Kind::ChainEnd((1, 2)), 20), "Ok(P0[2](2))"),
-        (Do::Connect((2, 2), (1, 2)), "true"),
-        (Do::DrainTaking((2, 2), 1), "Some(1)"),
-        (Do::RemoveLinkInx(1), "InvalidPtr"),
-        (Do::Clear, "Success(())"),
-        (Do::Insert(Kind::Disconnected, 30), "Ok(P0[1](4))"),
-        (Do::Insert(Kind::ChainEnd((1, 4)), 40), "Ok(P0[2](4))"),
-        (Do::Insert(Kind::ChainEnd((2, 4)), 50), "Ok(P0[3](4))"),
-        (Do::BreakNext((2, 4)), "true"),
-        (Do::DrainTaking((1, 4), 5), "Some(2)"),
-        (Do::Debug, "{P0[3](4): {(start), (end)} 50}"),
-    ],
-)];
-
-static RENUMBERED: [List; 1] = [(
-    "a cycle of one and a chain of two are moved to the indexes from 1 on, in index order",
-    &[
-        (Do::Insert(Kind::Disconnected, 10), "Ok(P0[1](2))"),
-        (Do::Insert(Kind::SingleLinkCyclic, 20), "Ok(P0[2](2))"),
-        (Do::Insert(Kind::Disconnected, 30), "Ok(P0[3](2))"),
-        (Do::Insert(Kind::ChainEnd((3, 2)), 40), "Ok(P0[4](2))"),
-        (Do::RemoveLink((1, 2)), "Success({(start), (end)} 10)"),
-        (Do::Compress(false), "Success(())"),
-        (
-            Do::Debug,
-            "{P0[1](4): {1, 1} 20, P0[2](4): {(start), 3} 30, P0[3](4): {2, (end)} 40}",
-        ),
-    ],
-)];
-
-static BEHIND_HOLES: [List; 1] = [(
-    "holes before two lone links",
-    &[
-        (Do::Insert(Kind::Disconnected, 1), "Ok(P0[1](2))"),
-        (Do::Insert(Kind::Disconnected, 2), "Ok(P0[2](2))"),
-        (Do::Insert(Kind::Disconnected, 3), "Ok(P0[3](2))"),
-        (Do::Insert(Kind::Disconnected, 4), "Ok(P0[4](2))"),
-        (Do::Insert(Kind::Disconnected, 5), "Ok(P0[5](2))"),
-        (Do::Insert(Kind::Disconnected, 6), "Ok(P0[6](2))"),
-        (Do::RemoveLink((1, 2)), "Success({(start), (end)} 1)"),
-        (Do::RemoveLink((2, 2)), "Success({(start), (end)} 2)"),
-        (Do::RemoveLink((3, 2)), "Success({(start), (end)} 3)"),
-        (Do::RemoveLink((4, 2)), "Success({(start), (end)} 4)"),
-        (Do::Canonical(false), "Success(())"),
-        (Do::Canonical(false), "Success(())"),
-        (
-            Do::Debug,
-            "{P0[1](8): {(start), (end)} 5, P0[2](8): {(start), (end)} 6}",
-        ),
-    ],
-)];
-
-static OVERFLOWS: [List; 1] = [(
-    "each call that overflows, at the greatest generation; and a capacity above the greatest index",
-    &[
-        (Do::SetGeneration(u32::MAX), "()"),
-        (Do::IncGeneration, "GenerationOverflow(())"),
-        (Do::IncGeneration, "Success(())"),
-        (Do::SetGeneration(u32::MAX), "()"),
-        (Do::Insert(Kind::Disconnected, 50), "Ok(P0[1](ffffffff))"),
-        (
-            Do::Invalidate((1, u32::MAX)),
-            "GenerationOverflow(P0[1](2))",
-        ),
-        (Do::SetGeneration(u32::MAX), "()"),
-        (
-            Do::RemoveLink((1, 2)),
-            "GenerationOverflow({(start), (end)} 50)",
-        ),
-        (Do::SetGeneration(u32::MAX), "()"),
-        (Do::Insert(Kind::Disconnected, 60), "Ok(P0[1](ffffffff))"),
-        (
-            Do::RemoveLinkInx(1),
-            "GenerationOverflow((Gen32 { number: 4294967295 }, {(start), (end)} 60))",
-        ),
-        (Do::Insert(Kind::Disconnected, 70), "Ok(P0[1](2))"),
-        (Do::SetGeneration(u32::MAX), "()"),
-        (Do::Compress(true), "Success(())"),
-        (Do::SetGeneration(u32::MAX), "()"),
-        (Do::Compress(false), "GenerationOverflow(())"),
-        (Do::SetGeneration(u32::MAX), "()"),
-        (Do::Clear, "GenerationOverflow(())"),
-        (Do::SetGeneration(u32::MAX), "()"),
-        (Do::Compress(false), "Success(())"),
-        (Do::Clear, "Success(())"),
-        (Do::Reserve(1 << 40), "Err(AllocError)"),
-    ],
-)];
-
-static EXCHANGES: [List; 3] = [CYCLE, SPLIT, MERGED];
-
-const SPLIT: List = (
-    "two cycles",
-    &[
-        (Do::Exchange((2, 2), (5, 2)), "true"),
-        (
-            Do::Debug,
-            "{P0[1](2): {6, 2} 1, P0[2](2): {1, 6} 2, P0[3](2): {5, 4} 3, P0[4](2): {3, 5} 4, P0[5](2): {4, 3} 5, P0[6](2): {2, 1} 6}",
-        ),
-    ],
-);
-
-const MERGED: List = (
-    "one cycle",
-    &[
-        (Do::Exchange((2, 2), (5, 2)), "true"),
-        (
-            Do::Debug,
-            "{P0[1](2): {6, 2} 1, P0[2](2): {1, 3} 2, P0[3](2): {2, 4} 3, P0[4](2): {3, 5} 4, P0[5](2): {4, 6} 5, P0[6](2): {5, 1} 6}",
-        ),
-    ],
-);
+// Each call that overflows, at the greatest generation.
+const OVERFLOWS: &str = "\
+SetGeneration 4294967295 = ()
+IncGeneration = GenerationOverflow(())
+IncGeneration = Success(())
+SetGeneration 4294967295 = ()
+Insert Disconnected 50 = Ok(P0[1](ffffffff))
+Invalidate 1 4294967295 = GenerationOverflow(P0[1](2))
+SetGeneration 4294967295 = ()
+RemoveLink 1 2 = GenerationOverflow({(start), (end)} 50)
+SetGeneration 4294967295 = ()
+Insert Disconnected 60 = Ok(P0[1](ffffffff))
+RemoveLinkInx 1 = GenerationOverflow((Gen32 { number: 4294967295 }, {(start), (end)} 60))
+Insert Disconnected 70 = Ok(P0[1](2))
+SetGeneration 4294967295 = ()
+Compress 1 = Success(())
+SetGeneration 4294967295 = ()
+Compress 0 = GenerationOverflow(())
+SetGeneration 4294967295 = ()
+Clear = GenerationOverflow(())
+SetGeneration 4294967295 = ()
+Compress 0 = Success(())
+Clear = Success(())
+";
 
 // Each call that changes links, with each reply but allocation failures and overflows, under a
 // maximum of three.
-static EVERY_REPLY: List = (
-    "a maximum of three",
-    &[
-        (Do::Insert(Kind::Disconnected, 10), "Ok(P0[1](2))"),
-        (
-            Do::Insert(Kind::ChainEnd((3, 2)), 11),
-            "Err(FailedLinkRequirement)",
-        ),
-        (Do::Insert(Kind::ChainEnd((1, 2)), 20), "Ok(P0[2](2))"),
-        (Do::Reserve(3), "Ok(())"),
-        (Do::Reserve(4), "Err(BeyondMaxCapacity)"),
-        (
-            Do::InsertWithin(Kind::ChainEnd((3, 2)), 30),
-            "Err(FailedLinkRequirement)",
-        ),
-        (Do::InsertWithin(Kind::Disconnected, 30), "Ok(P0[3](2))"),
-        (
-            Do::InsertWithin(Kind::Disconnected, 40),
-            "Err(NotWithinCapacity)",
-        ),
-        (Do::Insert(Kind::Disconnected, 40), "Err(BeyondMaxCapacity)"),
-        (Do::Connect((2, 2), (3, 2)), "true"),
-        (Do::Connect((2, 2), (3, 2)), "false"),
-        (Do::Exchange((1, 2), (2, 2)), "true"),
-        (Do::Exchange((3, 2), (1, 2)), "false"),
-        (Do::BreakNext((2, 2)), "true"),
-        (Do::BreakNext((2, 2)), "false"),
-        (Do::BreakPrev((3, 2)), "true"),
-        (Do::BreakPrev((3, 2)), "false"),
-        (Do::Invalidate((1, 2)), "Success(P0[1](3))"),
-        (Do::Invalidate((1, 2)), "InvalidPtr"),
-        (Do::RemoveLink((2, 2)), "Success({(start), (end)} 20)"),
-        (Do::RemoveLink((2, 2)), "InvalidPtr"),
-        (
-            Do::RemoveLinkInx(3),
-            "Success((Gen32 { number: 2 }, {(start), (end)} 30))",
-        ),
-        (Do::RemoveLinkInx(3), "InvalidPtr"),
-        (Do::Compress(false), "Success(())"),
-        (Do::DrainTaking((1, 3), 5), "None"),
-        (Do::Compress(true), "Success(())"),
-        (Do::DrainTaking((1, 2), 5), "Some(1)"),
-        (Do::Clear, "Success(())"),
-    ],
-);
+const EVERY_REPLY: &str = "\
+Insert Disconnected 10 = Ok(P0[1](2))
+Insert ChainEnd 3 2 11 = Err(FailedLinkRequirement)
+Insert ChainEnd 1 2 20 = Ok(P0[2](2))
+Reserve 3 = Ok(())
+Reserve 4 = Err(BeyondMaxCapacity)
+InsertWithin ChainEnd 3 2 30 = Err(FailedLinkRequirement)
+InsertWithin Disconnected 30 = Ok(P0[3](2))
+InsertWithin Disconnected 40 = Err(NotWithinCapacity)
+Insert Disconnected 40 = Err(BeyondMaxCapacity)
+Connect 2 2 3 2 = true
+Connect 2 2 3 2 = false
+Exchange 1 2 2 2 = true
+Exchange 3 2 1 2 = false
+BreakNext 2 2 = true
+BreakNext 2 2 = false
+BreakPrev 3 2 = true
+BreakPrev 3 2 = false
+Invalidate 1 2 = Success(P0[1](3))
+Invalidate 1 2 = InvalidPtr
+RemoveLink 2 2 = Success({(start), (end)} 20)
+RemoveLink 2 2 = InvalidPtr
+RemoveLinkInx 3 = Success((Gen32 { number: 2 }, {(start), (end)} 30))
+RemoveLinkInx 3 = InvalidPtr
+Compress 0 = Success(())
+Canonical 0 = Success(())
+DrainTaking 1 3 5 = None
+Compress 1 = Success(())
+DrainTaking 1 2 5 = Some(1)
+Clear = Success(())
+";
 
-// Runs over a stack that refuses every other growth.
-static REFUSED: [List; 1] = [(
-    "the first of two calls is refused, and the second is not",
-    &[
-        (Do::Insert(Kind::Disconnected, 1), "Err(AllocError)"),
-        (Do::Insert(Kind::Disconnected, 2), "Ok(P0[1](2))"),
-        (Do::Debug, "{P0[1](2): {(start), (end)} 2}"),
-    ],
-)];
+// Over a stack that refuses every other growth, the first of two calls is refused, and the second
+// is not.
+const REFUSED: &str = "\
+Insert Disconnected 1 = Err(AllocError)
+Insert Disconnected 2 = Ok(P0[1](2))
+Debug = {P0[1](2): {(start), (end)} 2}
+";
 
-fn lists() -> [&'static [List]; 5] {
-    [&RUN, &RENUMBERED, &BEHIND_HOLES, &OVERFLOWS, &EXCHANGES]
-}
-
-fn every_reply() -> &'static List {
-    &EVERY_REPLY
-}
-
-// Runs lists one after another on a new arena.
-fn check_together<S: SlotStack<Item = Slot>>(rt: &impl Abort, alloc: Global, together: &[List]) {
+// Runs a list on a new arena.
+fn check_list<S: SlotStack<Item = Slot>>(rt: &impl Abort, alloc: Global, list: &str) {
     let mut arena: ChainsOver<S> = fresh(alloc);
-    for list in together {
-        replies(rt, alloc, &mut arena, list);
-    }
+    replies(rt, alloc, &mut arena, list);
 }
 
 pub(super) fn check_lists<S: SlotStack<Item = Slot>>(rt: &impl Abort, alloc: Global) {
-    for together in &lists() {
-        check_together::<S>(rt, alloc, together);
-    }
+    check_list::<S>(rt, alloc, RUN);
+    check_list::<S>(rt, alloc, OVERFLOWS);
 }
 
 pub(super) fn check_refused_list<S: SlotStack<Item = Slot>>(rt: &impl Abort, alloc: Global) {
-    check_together::<S>(rt, alloc, &REFUSED);
+    check_list::<S>(rt, alloc, REFUSED);
 }
 
 pub(super) fn check_every_reply<S: LimitStack<Item = Slot>>(rt: &impl Abort, alloc: Global) {
     let mut arena: ChainsOver<S> = fresh_limited(rt, alloc, 3);
-    replies(rt, alloc, &mut arena, every_reply());
+    replies(rt, alloc, &mut arena, EVERY_REPLY);
 }

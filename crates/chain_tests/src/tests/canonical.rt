@@ -1,12 +1,15 @@
 //! Tests of canonical compressions, which arrange chains in place one after another.
 
-use super::scripts::{Do, Kind, Line, Script};
-use super::{ChainsOver, Slot, fresh, generation, holds, lone_links, remove, text};
+use super::{ChainsOver, Slot, holds, lone_links, remove};
 use arena_base::{ArenaSlot, Work};
-use arena_ptr::{AllocError, InvalidationOption, PtrKey, ReallocationError, SlotStack, ToolPtr};
+use arena_ptr::{
+    AllocError, Gen32, InvalidationOption, PtrKey, ReallocationError, SlotStack, ToolPtr,
+};
 use chain_arena::{ChainArena, ChainArenaTrait, LinkNoGen};
 use std::alloc::Global;
 use std::process::Abort;
+use test_types::lines::text;
+use test_types::numbered::Counted;
 
 pub(super) fn compress_and_count<S: SlotStack<Item = Slot>>(
     arena: &mut ChainsOver<S>,
@@ -66,152 +69,8 @@ pub(super) fn carried_in<S: SlotStack<Item = Slot>>(
     count: u32,
 ) -> String {
     let mut source: ChainsOver<S> = lone_links(alloc, count);
-    let outcome = carry_over(&mut source, target, generation(7));
+    let outcome = carry_over(&mut source, target, Gen32::of(7));
     text(alloc, (outcome, &source))
-}
-
-// A chain of 2, 4 and 1, of which 1 was inserted last, and a lone link 3.
-const SCATTERED: Script = (
-    "scattered chains",
-    4,
-    &[(1, 3), (2, 4)],
-    &[
-        (Do::Remove((1, 2)), "Success(1)"),
-        (Do::Insert(Kind::ChainEnd((4, 2)), 5), "Ok(P0[1](3))"),
-    ],
-);
-
-// A linear chain of 1 and 4, and a cycle of 2 and 3.
-const INTERLEAVED: Script = (
-    "a linear chain and a cycle",
-    4,
-    &[(1, 4), (2, 3), (3, 2)],
-    &[],
-);
-
-// Two lone links behind four holes.
-const BEHIND_HOLES: Script = (
-    "lone links behind holes",
-    6,
-    &[],
-    &[
-        (Do::Remove((1, 2)), "Success(1)"),
-        (Do::Remove((2, 2)), "Success(2)"),
-        (Do::Remove((3, 2)), "Success(3)"),
-        (Do::Remove((4, 2)), "Success(4)"),
-    ],
-);
-
-// A chain whose start is not its least index, and a lone link.
-const BY_LEAST_INDEX: Script = ("a chain of 3 and 1", 3, &[(3, 1)], &[]);
-
-// A ring of one and a chain of two behind a hole.
-const BEHIND_A_HOLE: Script = (
-    "a ring and a chain behind a hole",
-    0,
-    &[],
-    &[
-        (Do::Insert(Kind::Disconnected, 1), "Ok(P0[1](2))"),
-        (Do::Insert(Kind::SingleLinkCyclic, 2), "Ok(P0[2](2))"),
-        (Do::Insert(Kind::Disconnected, 3), "Ok(P0[3](2))"),
-        (Do::Insert(Kind::ChainEnd((3, 2)), 4), "Ok(P0[4](2))"),
-        (Do::Remove((1, 2)), "Success(1)"),
-    ],
-);
-
-// Scripts, and lines that follow them.
-static LAYOUTS: [(Script, &[&[Line]]); 7] = [
-    (
-        BEHIND_A_HOLE,
-        &[&[(Do::Compress(false), "Success(())"), (Do::Slots, "3")]],
-    ),
-    (
-        SCATTERED,
-        &[
-            &[
-                (Do::Placed(false), "(Success(()), 4)"),
-                (
-                    Do::Debug,
-                    "{P0[1](4): {(start), 2} 2, P0[2](4): {1, 3} 4, P0[3](4): {2, (end)} 5, P0[4](4): {(start), (end)} 3}",
-                ),
-                (Do::Counter, "Some(Gen32 { number: 4 })"),
-            ],
-            &[(
-                Do::MovesVisited(false),
-                "(Success(()), [(P0[2](2), P0[1](4)), (P0[4](2), P0[2](4)), (P0[1](3), P0[3](4)), \
-                (P0[3](2), P0[4](4))])",
-            )],
-            &[(
-                Do::MovesListed(false),
-                "Ok((Success(()), [(P0[2](2), P0[1](4)), (P0[4](2), P0[2](4)), (P0[1](3), P0[3](4)), \
-                (P0[3](2), P0[4](4))]))",
-            )],
-        ],
-    ),
-    (
-        INTERLEAVED,
-        &[
-            &[(
-                Do::MovesVisited(false),
-                "(Success(()), [(P0[1](2), P0[1](3)), (P0[4](2), P0[2](3)), (P0[2](2), P0[3](3)), \
-                (P0[3](2), P0[4](3))])",
-            )],
-            &[(
-                Do::MovesListed(false),
-                "Ok((Success(()), [(P0[1](2), P0[1](3)), (P0[4](2), P0[2](3)), (P0[2](2), P0[3](3)), \
-                (P0[3](2), P0[4](3))]))",
-            )],
-        ],
-    ),
-    (
-        BY_LEAST_INDEX,
-        &[
-            &[(
-                Do::MovesVisited(false),
-                "(Success(()), [(P0[3](2), P0[1](3)), (P0[1](2), P0[2](3)), (P0[2](2), P0[3](3))])",
-            )],
-            &[(
-                Do::MovesListed(false),
-                "Ok((Success(()), [(P0[3](2), P0[1](3)), (P0[1](2), P0[2](3)), (P0[2](2), P0[3](3))]))",
-            )],
-        ],
-    ),
-    (
-        ("chains in order", 3, &[(1, 2)], &[]),
-        &[&[
-            (
-                Do::MovesVisited(false),
-                "(Success(()), [(P0[1](2), P0[1](3)), (P0[2](2), P0[2](3)), (P0[3](2), P0[3](3))])",
-            ),
-            (
-                Do::MovesListed(true),
-                "Ok((Success(()), [(P0[1](3), P0[1](2)), (P0[2](3), P0[2](2)), (P0[3](3), P0[3](2))]))",
-            ),
-        ]],
-    ),
-    (
-        BEHIND_HOLES,
-        &[&[
-            (Do::Placed(false), "(Success(()), 2)"),
-            (Do::Placed(false), "(Success(()), 2)"),
-        ]],
-    ),
-    (
-        ("an empty arena", 0, &[], &[]),
-        &[&[
-            (
-                Do::Counted(false),
-                "(Success(()), Work { placed: 0, touched: 0 })",
-            ),
-            (Do::Canonical(false), "Success(())"),
-            (Do::IsEmpty, "true"),
-            (Do::Counter, "Some(Gen32 { number: 2 })"),
-        ]],
-    ),
-];
-
-pub(super) fn layouts() -> &'static [(Script, &'static [&'static [Line]])] {
-    &LAYOUTS
 }
 
 // Compresses lone links behind as many holes. Returns whether the work is within its bound and

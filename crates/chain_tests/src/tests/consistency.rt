@@ -1,12 +1,13 @@
 //! Tests of plain arenas of links, which become chain arenas if their interlinks are consistent.
 
-use super::scripts::{Do, Kind, Line, plays};
-use super::{At, ChainsOver, Slot, add_plain, at, fresh_plain, holds, to_chain_arena};
+use super::scripts::plays;
+use super::{ChainsOver, Slot, add_plain, fresh_plain, holds, to_chain_arena};
 use arena_base::{Arena, ArenaTrait};
 use arena_ptr::{SlotStack, ToolPtr};
 use chain_arena::{LinkNoGen, links_agree};
 use std::alloc::Global;
 use std::process::Abort;
+use test_types::numbered::{At, at};
 
 type Plain<S> = Arena<ToolPtr, LinkNoGen<ToolPtr, u32>, S>;
 
@@ -75,22 +76,12 @@ pub(super) fn check_rows<S: SlotStack<Item = Slot>>(rt: &impl Abort, alloc: Glob
 
 // A chain of two and a ring of one beside two free slots. The last freed index is used first, then
 // the other.
-static ACCEPTED: [Line; 5] = [
-    (
-        Do::Debug,
-        "{P0[1](2): {(start), 3} 7, P0[3](2): {1, (end)} 7, P0[5](2): {5, 5} 7}",
-    ),
-    (Do::Insert(Kind::Disconnected, 9), "Ok(P0[2](4))"),
-    (
-        Do::Debug,
-        "{P0[1](2): {(start), 3} 7, P0[2](4): {(start), (end)} 9, P0[3](2): {1, (end)} 7, P0[5](2): {5, 5} 7}",
-    ),
-    (Do::Insert(Kind::Disconnected, 9), "Ok(P0[4](4))"),
-    (
-        Do::Debug,
-        "{P0[1](2): {(start), 3} 7, P0[2](4): {(start), (end)} 9, P0[3](2): {1, (end)} 7, P0[4](4): {(start), (end)} 9, P0[5](2): {5, 5} 7}",
-    ),
-];
+const ACCEPTED: &str = "\
+Debug = {P0[1](2): {(start), 3} 7, P0[3](2): {1, (end)} 7, P0[5](2): {5, 5} 7}
+Insert Disconnected 9 = Ok(P0[2](4))
+Insert Disconnected 9 = Ok(P0[4](4))
+Debug = {P0[1](2): {(start), 3} 7, P0[2](4): {(start), (end)} 9, P0[3](2): {1, (end)} 7, P0[4](4): {(start), (end)} 9, P0[5](2): {5, 5} 7}
+";
 
 fn accepted_arena<S: SlotStack<Item = Slot>>(rt: &impl Abort, alloc: Global) -> ChainsOver<S> {
     let links = [(0, 3), (0, 0), (1, 0), (0, 0), (5, 5)];
@@ -101,5 +92,5 @@ fn accepted_arena<S: SlotStack<Item = Slot>>(rt: &impl Abort, alloc: Global) -> 
 // The conversion keeps indexes, generations, interlinks, counter and freed list.
 pub(super) fn check_accepted<S: SlotStack<Item = Slot>>(rt: &impl Abort, alloc: Global) {
     let mut arena: ChainsOver<S> = accepted_arena(rt, alloc);
-    plays(rt, alloc, "accepted", &mut arena, &ACCEPTED);
+    plays(rt, alloc, &mut arena, ACCEPTED);
 }

@@ -1,12 +1,12 @@
 //! Copies of chain arenas to chain arenas: what they contain, and what their closures are given.
 
 use super::fallible_insertion::add;
-use super::scripts::{Do, Kind, Line, Script};
-use super::{ChainsOver, Slot, fresh, remove, text};
+use super::{ChainsOver, Slot, fresh, remove};
 use arena_base::ArenaTrait;
 use arena_ptr::{SlotStack, ToolPtr};
 use chain_arena::{ChainArenaTrait, LinkInsertKind, LinkNoGen};
 use std::alloc::Global;
+use test_types::lines::text;
 
 // Returns the next pointer in a clone, the clone then, and its maximum.
 pub(super) fn clone_text<S: SlotStack<Item = Slot>>(
@@ -52,47 +52,4 @@ pub(super) fn copied_over<S: SlotStack<Item = Slot>>(
         link.t.saturating_add(calls)
     });
     text(alloc, (outcome, visited))
-}
-
-// A chain of three without the second.
-const HOLE: Script = (
-    "a row of three without the second",
-    3,
-    &[(1, 2), (2, 3)],
-    &[(Do::Remove((2, 2)), "Success(2)")],
-);
-
-static COPIES: [(Script, &[&[Line]]); 2] = [
-    (
-        HOLE,
-        &[&[
-            (
-                Do::Clone,
-                "(Ok(P0[2](3)), {P0[1](2): {(start), 3} 1, P0[2](3): {(start), (end)} 9, P0[3](2): {1, (end)} 3}, None)",
-            ),
-            (
-                Do::Debug,
-                "{P0[1](2): {(start), 3} 1, P0[3](2): {1, (end)} 3}",
-            ),
-            (Do::Insert(Kind::Disconnected, 9), "Ok(P0[2](3))"),
-        ]],
-    ),
-    (
-        ("over two rings of one", 2, &[(1, 1), (2, 2)], &[]),
-        &[&[
-            (
-                Do::CopyOver(3),
-                "(Ok(()), [(P0[1](2), {(start), 3} 1), (P0[3](2), {1, (end)} 3)])",
-            ),
-            (
-                Do::Debug,
-                "{P0[1](2): {(start), 3} 11, P0[3](2): {1, (end)} 23}",
-            ),
-            (Do::Insert(Kind::Disconnected, 9), "Ok(P0[2](3))"),
-        ]],
-    ),
-];
-
-pub(super) fn copies() -> &'static [(Script, &'static [&'static [Line]])] {
-    &COPIES
 }

@@ -7,11 +7,12 @@ ghost use Rattle.arena_traits.specs.Entries.{entries};
 ghost use Rattle.chain_links.specs.ChainArena.{values_of};
 ghost use Rattle.chain_arena.specs.Drains.{CountsUp};
 
-use super::{ChainsOver, Slot, text, text_of_all};
+use super::{ChainsOver, Slot, text_of_all};
 use arena_ptr::{SlotStack, ToolPtr};
 use std::alloc::Global;
 use std::fmt::Debug;
 use std::mem::forget;
+use test_types::lines::text;
 
 // Removes all links. None is left, and the counter increases once for each.
 pub(super) fn remove_all<S: SlotStack<Item = Slot>>(arena: &mut ChainsOver<S>)

@@ -7,7 +7,7 @@ ghost use Rattle.chain_links.specs.ChainArena.{entry, with_value_at};
 
 use super::{ChainsOver, Slot};
 use arena_base::ArenaTrait;
-use arena_ptr::{Inx32, Ptr, SlotStack, ToolPtr};
+use arena_ptr::{Inx32, PtrKey, SlotStack, ToolPtr};
 
 // Returns the value by a pointer and by its index, if the pointer is valid.
 pub(super) fn value_at<S: SlotStack<Item = Slot>>(

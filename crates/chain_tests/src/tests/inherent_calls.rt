@@ -1,6 +1,6 @@
 //! The inherent calls of a chain arena, as rows of tables.
 
-use super::call_lists::{kind, two_calls};
+use super::call_lists::two_calls;
 use super::canonical::{
     carried_in, compress_and_count, moves_listed, moves_visited, placement_count,
 };
@@ -11,29 +11,29 @@ use super::entries::{
 use super::fallible_insertion::{dig, fill};
 use super::indexing::{value_at, write_at, write_at_index};
 use super::iterators::{indexes, links, links_by_reference, links_used_up, values, walk};
-use super::scripts::{Do, RunsCalls, run_call};
-use super::{ChainsOver, Slot, at, fresh, index, text};
-use arena_base::ArenaTrait;
-use arena_ptr::SlotStack;
+use super::scripts::{Parsed, RunsCalls, run_call};
+use super::{ChainsOver, Slot, fresh};
+use arena_ptr::{SlotStack, ToolPtr};
 use std::alloc::Global;
+use test_types::lines::{Do, parse_call, text};
 
 // Runs a call on a value, a walk, or a loop over all links.
 fn run_own_call<S: SlotStack<Item = Slot>>(
     alloc: Global,
     arena: &mut ChainsOver<S>,
-    row: Do,
+    parsed: Parsed,
 ) -> String {
-    match row {
-        Do::Value(p) => text(alloc, value_at(arena, at(p))),
-        Do::WriteValue(p, t) => text(alloc, write_at(arena, at(p), t)),
-        Do::WriteValueInx(i, t) => text(alloc, write_at_index(arena, index(i), t)),
-        Do::Walk(p) => walk(alloc, arena, at(p)),
+    match parsed.call {
+        Do::Value => text(alloc, value_at(arena, parsed.p)),
+        Do::WriteValue => text(alloc, write_at(arena, parsed.p, parsed.t)),
+        Do::WriteValueInx => text(alloc, write_at_index(arena, parsed.i, parsed.t)),
+        Do::Walk => walk(alloc, arena, parsed.p),
         Do::Values => values(alloc, arena),
         Do::Links => links(alloc, arena),
         Do::LinksByReference => links_by_reference(alloc, arena),
         Do::LinksUsedUp => links_used_up(alloc, arena),
         Do::Indexes => text(alloc, indexes(alloc, arena)),
-        other => run_layout(alloc, arena, other),
+        _ => run_layout(alloc, arena, parsed),
     }
 }
 
@@ -41,21 +41,14 @@ fn run_own_call<S: SlotStack<Item = Slot>>(
 fn run_layout<S: SlotStack<Item = Slot>>(
     alloc: Global,
     arena: &mut ChainsOver<S>,
-    row: Do,
+    parsed: Parsed,
 ) -> String {
-    match row {
-        Do::Placed(reset) => text(alloc, placement_count(arena, reset)),
-        Do::Counted(reset) => text(alloc, compress_and_count(arena, reset)),
-        Do::MovesVisited(reset) => text(alloc, moves_visited(alloc, arena, reset)),
-        Do::MovesListed(reset) => text(alloc, moves_listed(alloc, arena, reset)),
-        other => run_growth(alloc, arena, other),
-    }
-}
-
-fn born<S: SlotStack<Item = Slot>>(alloc: Global, n: usize) -> String {
-    match ChainsOver::<S>::with_min_capacity(alloc, n) {
-        Ok(arena) => text(alloc, arena.is_empty() && arena.capacity() >= n),
-        Err(error) => text(alloc, error),
+    match parsed.call {
+        Do::Placed => text(alloc, placement_count(arena, parsed.n > 0)),
+        Do::Counted => text(alloc, compress_and_count(arena, parsed.n > 0)),
+        Do::MovesVisited => text(alloc, moves_visited(alloc, arena, parsed.n > 0)),
+        Do::MovesListed => text(alloc, moves_listed(alloc, arena, parsed.n > 0)),
+        _ => run_growth(alloc, arena, parsed),
     }
 }
 
@@ -63,32 +56,31 @@ fn born<S: SlotStack<Item = Slot>>(alloc: Global, n: usize) -> String {
 fn run_growth<S: SlotStack<Item = Slot>>(
     alloc: Global,
     arena: &mut ChainsOver<S>,
-    row: Do,
+    parsed: Parsed,
 ) -> String {
-    match row {
+    match parsed.call {
         Do::Fill => text(alloc, fill(arena)),
         Do::Dig => text(alloc, dig(arena)),
-        Do::CarryIn(count) => carried_in(alloc, arena, count),
+        Do::CarryIn => carried_in(alloc, arena, parsed.n),
         Do::TwoCalls => text(alloc, two_calls(alloc, arena)),
-        Do::Birth(n) => born::<S>(alloc, n),
-        other => run_drain(alloc, arena, other),
+        _ => run_drain(alloc, arena, parsed),
     }
 }
 
 fn run_drain<S: SlotStack<Item = Slot>>(
     alloc: Global,
     arena: &mut ChainsOver<S>,
-    row: Do,
+    parsed: Parsed,
 ) -> String {
-    match row {
-        Do::DrainChain(p) => drained_chain(alloc, arena, at(p), Ends::Empty),
-        Do::DrainChainOne(p) => drained_chain(alloc, arena, at(p), Ends::Dropped),
-        Do::ForgetChainDrain(p) => drained_chain(alloc, arena, at(p), Ends::Forgotten),
+    match parsed.call {
+        Do::DrainChain => drained_chain(alloc, arena, parsed.p, Ends::Empty),
+        Do::DrainChainOne => drained_chain(alloc, arena, parsed.p, Ends::Dropped),
+        Do::ForgetChainDrain => drained_chain(alloc, arena, parsed.p, Ends::Forgotten),
         Do::Drain => drain_all_text(alloc, arena, Ends::Empty),
         Do::DrainOne => drain_all_text(alloc, arena, Ends::Dropped),
         Do::ForgetDrain => drain_all_text(alloc, arena, Ends::Forgotten),
         Do::RemoveAll => text(alloc, remove_all(arena)),
-        other => run_placement(alloc, arena, other),
+        _ => run_placement(alloc, arena, parsed),
     }
 }
 
@@ -96,16 +88,16 @@ fn run_drain<S: SlotStack<Item = Slot>>(
 fn run_placement<S: SlotStack<Item = Slot>>(
     alloc: Global,
     arena: &mut ChainsOver<S>,
-    row: Do,
+    parsed: Parsed,
 ) -> String {
-    match row {
-        Do::DropEntry(k) => text(alloc, drop_entry(arena, kind(k))),
-        Do::Forget(k) => text(alloc, forget(arena, kind(k))),
-        Do::EntryRefusals(k) => text(alloc, entry_refusals(arena, kind(k))),
-        Do::InsertByEntry(k, t) => text(alloc, insert_by_entry(arena, kind(k), t)),
-        Do::InsertByAnyEntry(k, t) => text(alloc, insert_by_any_entry(arena, kind(k), t)),
-        Do::InsertIfAllowed(k, t) => text(alloc, insert_if_allowed(arena, kind(k), t)),
-        other => run_call(alloc, arena, other),
+    match parsed.call {
+        Do::DropEntry => text(alloc, drop_entry(arena, parsed.kind)),
+        Do::ForgetEntry => text(alloc, forget(arena, parsed.kind)),
+        Do::EntryRefusals => text(alloc, entry_refusals(arena, parsed.kind)),
+        Do::InsertByEntry => text(alloc, insert_by_entry(arena, parsed.kind, parsed.t)),
+        Do::InsertByAnyEntry => text(alloc, insert_by_any_entry(arena, parsed.kind, parsed.t)),
+        Do::InsertIfAllowed => text(alloc, insert_if_allowed(arena, parsed.kind, parsed.t)),
+        _ => run_call(alloc, arena, parsed),
     }
 }
 
@@ -114,7 +106,10 @@ impl<S: SlotStack<Item = Slot>> RunsCalls for ChainsOver<S> {
         fresh(alloc)
     }
 
-    fn run_call(&mut self, alloc: Global, row: Do) -> String {
-        run_own_call(alloc, self, row)
+    fn run_call(&mut self, alloc: Global, call: &str) -> String {
+        match parse_call::<ToolPtr>(call) {
+            Some(parsed) => run_own_call(alloc, self, parsed),
+            None => String::new(alloc),
+        }
     }
 }

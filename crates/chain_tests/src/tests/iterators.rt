@@ -4,12 +4,13 @@ ghost use Rattle.std.specs.Prelude.{◌≡◌, IfOk, map};
 ghost use Rattle.arena_ptr.specs.Indexes.{number_of_inx32};
 ghost use Rattle.arena_traits.specs.Entries.{entries, index_of};
 
-use super::{ChainsOver, Slot, fresh, text, text_of_all};
+use super::{ChainsOver, Slot, fresh, text_of_all};
 use arena_base::Iter;
-use arena_ptr::{Inx32, Ptr, SlotStack, ToolPtr};
+use arena_ptr::{Inx32, PtrKey, SlotStack, ToolPtr};
 use chain_arena::LinkNoGen;
 use std::alloc::{AllocError, Global};
 use std::mem;
+use test_types::lines::text;
 
 // Returns the indexes of all links.
 pub(super) fn indexes<S: SlotStack<Item = Slot>>(

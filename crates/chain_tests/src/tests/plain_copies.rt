@@ -2,12 +2,14 @@
 
 use super::copies::{Visited, with_a_hole};
 use super::scripts::slots_of;
-use super::{At, Bare, ChainsOver, Slot, at, holds, same, text};
+use super::{Bare, ChainsOver, Slot, holds, same};
 use arena_base::{Arena, ArenaCloneFromWith, ArenaTrait};
 use arena_ptr::{ReallocationError, SetMaxCapacity, SlotStack, ToolPtr};
 use chain_arena::LinkNoGen;
 use std::alloc::Global;
 use std::process::Abort;
+use test_types::lines::text;
+use test_types::numbered::{At, at};
 
 // A plain arena of numbers, with the calls that no trait has. A bound costs less than the type.
 pub(super) trait PlainArena: ArenaCloneFromWith<ToolPtr, u32> + Drop {

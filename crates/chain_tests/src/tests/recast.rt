@@ -1,13 +1,13 @@
 //! Tests of values recast in place, by ascending index, up to one that refuses.
 ghost use Rattle.std.specs.Prelude.{◌≡◌, OnErr, Err};
 
-use super::scripts::{Do, Kind};
-use super::setup::{Numbered, SlotOf, after};
-use super::{same, text};
+use super::same;
+use super::setup::{SlotOf, Valued, after};
 use arena_ptr::{HeapStack, Recast, Recaster, SlotStack, ToolPtr};
 use chain_arena::ChainArena;
 use std::alloc::Global;
 use std::process::Abort;
+use test_types::lines::text;
 
 // Adds 10 to each number but 2, which it refuses with itself.
 struct AddTen;
@@ -39,92 +39,44 @@ impl Recast<u32> for Number {
     }
 }
 
-impl Numbered for Number {
+impl Valued for Number {
     fn of(_: Global, n: u32) -> Number {
         Number(n, 0)
     }
 }
 
-const LONE: Kind = Kind::Disconnected;
-
 // Calls, and the text of the result, the arena and its counter. A refused recast keeps pointers,
 // interlinks and the counter. Only values at lower indexes than the refused one are new.
 // The last row is a chain of 4 and 1 and a ring of 3, with a hole between. The refusal at 3 comes
 // before 4, the start of the chain.
-static ROWS: [(&[Do], &str); 7] = [
-    (&[], "(Ok(()), {}, Gen32 { number: 2 })"),
+const ROWS: [(&str, &str); 3] = [
     (
-        &[
-            Do::Insert(LONE, 1),
-            Do::Insert(LONE, 2),
-            Do::Insert(LONE, 3),
-        ],
-        "(Err(2), {P0[1](2): {(start), (end)} Number(11, 1), P0[2](2): {(start), (end)} Number(2, 1), \
-            P0[3](2): {(start), (end)} Number(3, 0)}, Gen32 { number: 2 })",
-    ),
-    (
-        &[
-            Do::Insert(LONE, 2),
-            Do::Insert(LONE, 1),
-            Do::Insert(LONE, 3),
-        ],
-        "(Err(2), {P0[1](2): {(start), (end)} Number(2, 1), P0[2](2): {(start), (end)} Number(1, 0), \
-            P0[3](2): {(start), (end)} Number(3, 0)}, Gen32 { number: 2 })",
-    ),
-    (
-        &[
-            Do::Insert(LONE, 1),
-            Do::Insert(LONE, 3),
-            Do::Insert(LONE, 2),
-        ],
-        "(Err(2), {P0[1](2): {(start), (end)} Number(11, 1), P0[2](2): {(start), (end)} Number(13, 1), \
-            P0[3](2): {(start), (end)} Number(2, 1)}, Gen32 { number: 2 })",
-    ),
-    (
-        &[
-            Do::Insert(LONE, 1),
-            Do::Insert(LONE, 2),
-            Do::Insert(LONE, 2),
-        ],
-        "(Err(2), {P0[1](2): {(start), (end)} Number(11, 1), P0[2](2): {(start), (end)} Number(2, 1), \
-            P0[3](2): {(start), (end)} Number(2, 0)}, Gen32 { number: 2 })",
-    ),
-    (
-        &[
-            Do::Insert(LONE, 1),
-            Do::Insert(LONE, 3),
-            Do::Insert(LONE, 5),
-        ],
+        "Insert 1\nInsert 3\nInsert 5",
         "(Ok(()), {P0[1](2): {(start), (end)} Number(11, 1), P0[2](2): {(start), (end)} Number(13, 1), \
             P0[3](2): {(start), (end)} Number(15, 1)}, Gen32 { number: 2 })",
     ),
     (
-        &[
-            Do::Insert(LONE, 1),
-            Do::Insert(LONE, 9),
-            Do::Insert(Kind::SingleLinkCyclic, 2),
-            Do::Insert(Kind::ChainStart((1, 2)), 3),
-            Do::Remove((2, 2)),
-        ],
+        "Insert 1\nInsert 2\nInsert 3",
+        "(Err(2), {P0[1](2): {(start), (end)} Number(11, 1), P0[2](2): {(start), (end)} Number(2, 1), \
+            P0[3](2): {(start), (end)} Number(3, 0)}, Gen32 { number: 2 })",
+    ),
+    (
+        "Insert 1\nInsert 9\nInsert SingleLinkCyclic 2\nInsert ChainStart 1 2 3\nRemove 2 2",
         "(Err(2), {P0[1](2): {4, (end)} Number(11, 1), P0[3](2): {3, 3} Number(2, 1), \
             P0[4](2): {(start), 1} Number(3, 0)}, Gen32 { number: 3 })",
     ),
 ];
 
-fn rows() -> &'static [(&'static [Do], &'static str)] {
-    &ROWS
-}
-
-fn recast<S: SlotStack<Item = SlotOf<Number>>>(alloc: Global, calls: &[Do]) -> String {
+fn recast<S: SlotStack<Item = SlotOf<Number>>>(alloc: Global, calls: &str) -> String {
     let mut arena: ChainArena<ToolPtr, Number, S> = after(alloc, calls);
     let outcome = arena.recast(&AddTen);
     text(alloc, (outcome, &arena, arena.generation()))
 }
 
 fn check_recasts<S: SlotStack<Item = SlotOf<Number>>>(rt: &impl Abort, alloc: Global) {
-    for row in rows() {
-        let reply = recast::<S>(alloc, row.0);
-        same(rt, "recast", reply.as_str(), row.1);
+    for (calls, want) in ROWS {
+        let reply = recast::<S>(alloc, calls);
+        same(rt, "recast", reply.as_str(), want);
     }
 }
 

@@ -1,36 +1,47 @@
 //! Arenas of values of any type, made by calls.
 
-use super::call_lists::kind;
-use super::scripts::Do;
-use super::{fresh, generation, insert_or_invalid, remove};
-use arena_base::ArenaSlot;
+use super::scripts::Parsed;
+use super::{fresh, insert_or_invalid};
+use arena_base::{ArenaSlot, ArenaTrait};
 use arena_ptr::{SlotStack, ToolPtr};
 use chain_arena::{ChainArena, LinkNoGen};
 use std::alloc::Global;
+use test_types::lines::{Do, parse_call};
+use test_types::numbered::Numbered;
 
-// A value that a table gives as a number.
-pub(super) trait Numbered {
+// A value that a line gives as a number.
+pub(super) trait Valued {
     fn of(alloc: Global, n: u32) -> Self;
 }
 
 pub(super) type SlotOf<T> = ArenaSlot<ToolPtr, LinkNoGen<ToolPtr, T>>;
 
-// Returns the arena after insertions, removals and settings of the counter.
-pub(super) fn after<T: Numbered + Drop, S: SlotStack<Item = SlotOf<T>>>(
+fn run<T: Valued + Drop, S: SlotStack<Item = SlotOf<T>>>(
     alloc: Global,
-    calls: &[Do],
+    arena: &mut ChainArena<ToolPtr, T, S>,
+    parsed: Parsed,
+) {
+    match parsed.call {
+        Do::Insert => {
+            insert_or_invalid(arena, parsed.kind, T::of(alloc, parsed.t));
+        }
+        Do::Remove => {
+            arena.remove(parsed.p);
+        }
+        Do::SetGeneration => arena.set_generation(ToolPtr::generation_of(parsed.n)),
+        _ => {}
+    }
+}
+
+// Returns the arena after insertions, removals and settings of the counter.
+pub(super) fn after<T: Valued + Drop, S: SlotStack<Item = SlotOf<T>>>(
+    alloc: Global,
+    calls: &str,
 ) -> ChainArena<ToolPtr, T, S> {
     let mut arena: ChainArena<ToolPtr, T, S> = fresh(alloc);
-    for call in calls {
-        match *call {
-            Do::Insert(k, n) => {
-                insert_or_invalid(&mut arena, kind(k), T::of(alloc, n));
-            }
-            Do::Remove(p) => {
-                remove(&mut arena, p);
-            }
-            Do::SetGeneration(g) => arena.set_generation(generation(g)),
-            _ => {}
+    for call in calls.lines() {
+        if let Some(parsed) = parse_call(call) {
+            run(alloc, &mut arena, parsed);
         }
     }
     arena

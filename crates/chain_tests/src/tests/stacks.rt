@@ -2,15 +2,14 @@
 
 use super::alloc_failures::{check_copy_requests, check_refusals, check_requests, next_is_refused};
 use super::call_lists::{check_every_reply, check_lists};
-use super::canonical::{check_bounds, layouts};
+use super::canonical::check_bounds;
 use super::consistency::{check_accepted, check_rows};
-use super::copies::copies;
 use super::entries::{check_full, check_growths};
-use super::inherent_call_tables::tables;
+use super::inherent_call_tables::{COPIES, TABLES};
 use super::plain_copies::{
     PlainArena, check_limited_copy, check_refused_beside_holes, check_refused_copy,
 };
-use super::scripts::{RunsCalls, plays_all, plays_on};
+use super::scripts::{RunsCalls, plays_anew};
 use super::visitor_state::{check_beyond_one, check_counted, check_kept};
 use super::{Bare, ChainsOver, Slot, holds};
 use arena_base::Arena;
@@ -36,12 +35,12 @@ pub(super) enum Part {
     NoRequests,
 }
 
-// Runs the tables of inherent calls and of layouts.
-fn check_scripts<A: RunsCalls + Drop>(rt: &impl Abort, alloc: Global) {
-    for table in &tables() {
-        plays_all::<A>(rt, alloc, table);
+// Runs the tables of inherent calls.
+fn check_scripts<A: RunsCalls>(rt: &impl Abort, alloc: Global) {
+    for table in TABLES {
+        plays_anew::<A>(rt, alloc, table);
     }
-    plays_on::<A>(rt, alloc, layouts());
+    plays_anew::<A>(rt, alloc, COPIES);
 }
 
 fn check_calls<S: SlotStack<Item = Slot>>(rt: &impl Abort, alloc: Global) {
@@ -51,7 +50,6 @@ fn check_calls<S: SlotStack<Item = Slot>>(rt: &impl Abort, alloc: Global) {
     check_bounds::<S>(rt, alloc);
     check_kept::<S>(rt, alloc);
     check_scripts::<ChainsOver<S>>(rt, alloc);
-    plays_on::<ChainsOver<S>>(rt, alloc, copies());
 }
 
 // Runs the copies to a plain arena that refuses every other growth, or of which each request for
@@ -133,7 +131,7 @@ fn check_maxima<S: LimitStack<Item = Slot>, R: LimitStack<Item = Bare>>(
     check_every_reply::<S>(rt, alloc);
     check_beyond_one::<S>(rt, alloc);
     check_limited_copies::<S, Plain<R>>(rt, alloc);
-    plays_on::<ChainsOver<S>>(rt, alloc, copies());
+    plays_anew::<ChainsOver<S>>(rt, alloc, COPIES);
 }
 
 // Runs a part over stacks with a maximum. Its calls are those that a maximum refuses, and copies.

@@ -1,12 +1,13 @@
 //! Tests that visitors and value maps are returned in the state they reached.
 
 use super::plain_copies::PlainArena;
-use super::{ChainsOver, Slot, fresh_limited, holds, lone_links, remove, same, text};
+use super::{ChainsOver, Slot, fresh_limited, holds, lone_links, remove, same};
 use arena_base::{ArenaTrait, ValueMap};
 use arena_ptr::{AllocError, LimitStack, ReallocationError, SlotStack, ToolPtr};
 use chain_arena::{LinkNoGen, Visitor};
 use std::alloc::Global;
 use std::process::Abort;
+use test_types::lines::text;
 
 // A visitor that counts links, and keeps both pointers of the last.
 #[derive(Debug, Drop)]

@@ -1,6 +1,8 @@
 // Tests of indexes, generations and pointers through their traits, and of the numbers of each type.
 use crate::tests::support::{all, gen8, gen32, gen64, inx8, inx32, inx64};
-use arena_ptr::{Gen8, Gen32, Gen64, Inx8, Inx32, Inx64, Ptr, PtrGen, PtrInx, ToolPtr};
+use arena_ptr::{
+    Gen8, Gen32, Gen64, GenKey, Inx8, Inx32, Inx64, InxKey, Ptr, PtrGen, PtrInx, PtrKey, ToolPtr,
+};
 use std::process::Abort;
 
 // Returns whether a number makes an index of that number.
@@ -37,7 +39,7 @@ fn is_made_of<P: Ptr>(p: P, inx: P::Inx, generation: P::Gen) -> [bool; 4] {
         p.inx() == inx,
         p.generation() == generation,
         P::_from_raw(inx, generation) == p,
-        arena_ptr::PtrKey::is_same(p, P::invalid()) == (p == P::invalid()),
+        p.is_same(P::invalid()) == (p == P::invalid()),
     ]
 }
 
@@ -138,7 +140,7 @@ fn generations_count_from_two_and_wrap(rt: HostRuntime) {
         Gen8::two().get() == 2,
         Gen32::two().get() == 2,
         Gen64::two().get() == 2,
-        <() as PtrGen>::two().generational_inc() == ((), false),
+        <() as GenKey>::two().generational_inc() == ((), false),
     ];
     all(&rt, "the first", &first);
     let of_8 = counts(gen8(&rt, 254), gen8(&rt, 255), gen8(&rt, 3));

@@ -1,6 +1,6 @@
 //! Pointers of the tests of links.
 
-use arena_ptr::{Gen32, Inx32, Ptr, ToolPtr};
+use arena_ptr::{Gen32, Inx32, PtrKey, ToolPtr};
 
 // A pointer as its index and its generation; (0, 0) is none.
 pub(super) type At = (u32, u32);

@@ -1,6 +1,6 @@
 // Tests of the texts of indexes, generations and pointers.
 use crate::tests::support::{all, gen8, gen32, gen64, inx8, inx32, inx64, is_text};
-use arena_ptr::{Gen32, Inx8, Ptr, PtrGen, PtrInx, ToolPtr};
+use arena_ptr::{Gen32, GenKey, Inx8, InxKey, Ptr, PtrGen, PtrInx, PtrKey, ToolPtr};
 use std::alloc::Global;
 use std::fmt;
 

@@ -1,15 +1,12 @@
 // Tests of slot stacks through their trait bounds: growth, refusals, edits and maxima.
-use crate::tests::support::{all, none_failed};
-use arena_ptr::ReallocationError::{AllocError, BeyondMaxCapacity};
-use arena_ptr::{
-    ChunkStack, HeapStack, LimitStack, LimitedStack, MaxCapacityReductionError, ReallocationError,
-    SlotStack,
-};
+use crate::tests::support::{all, same};
+use arena_ptr::{ChunkStack, HeapStack, LimitStack, LimitedStack, ReallocationError, SlotStack};
 use std::alloc::Global;
 use std::mem;
 use std::process::Abort;
 use std::rc::Rc;
 use test_types::FailingStack;
+use test_types::lines::{Words, read, text};
 
 // Appends an item, growing the stack first if it is full, and returns whether it grew.
 fn push<S: SlotStack>(stack: &mut S, item: S::Item) -> Result<bool, ReallocationError> {
@@ -28,50 +25,23 @@ fn replace<E: Drop, S: SlotStack<Item = E>>(stack: &mut S, i: usize, item: E) ->
     }
 }
 
-// A call on a stack of numbers, with its expected result last.
-#[derive(Clone, Copy)]
-enum Call {
-    // Makes a new stack.
-    New,
-    // Pushes 0, 1, .., at most this many numbers, until one is refused: whether the stack grew.
-    Fill(u32, bool),
-    // Pushes so many numbers in at most so many growths.
-    FillInFew(u32, u64),
-    // Whether the stack grew, or why it did not.
-    Push(u32, Result<bool, ReallocationError>),
-    Reserve(usize, Result<bool, ReallocationError>),
-    // Reserves at least this capacity.
-    Grow(usize),
-    // A refused growth, which changes no length, capacity and maximum.
-    Refuse(usize, ReallocationError),
-    Read(usize, Option<u32>),
-    Replace(usize, u32, Option<u32>),
-    // Swaps two items and yields the item then at the first position.
-    Swap(usize, usize, Option<u32>),
-    // Truncates to a length and yields the item behind the rest.
-    Truncate(usize, Option<u32>),
-    // The length, capacity and maximum.
-    Is(usize, usize, Option<usize>),
-    // The items in order.
-    Items(&'static [u32]),
-}
-
 // Returns the length, capacity and maximum.
 fn shape<S: SlotStack<Item = u32>>(stack: &S) -> (usize, usize, Option<usize>) {
     (stack.len(), stack.capacity(), stack.max_capacity())
 }
 
-fn has_items<S: SlotStack<Item = u32>>(stack: &S, want: &[u32]) -> bool {
-    let mut same = stack.len() == want.len();
-    for i in 0..want.len() {
-        same = same && stack.get(i) == want.get(i);
+// Returns the items as a text.
+fn items<S: SlotStack<Item = u32>>(alloc: Global, stack: &S) -> String {
+    let mut items = Vec::new(alloc);
+    for i in 0..stack.len() {
+        let _ = items.push(stack.get(i).copied());
     }
-    same
+    text(alloc, items)
 }
 
-// Fills as `Call::Fill` does, and counts the growths.
-fn fill<S: SlotStack<Item = u32>>(stack: &mut S, n: u32) -> u64 {
-    let mut growths = 0u64;
+// Pushes 0, 1, .., at most `n` numbers, until one is refused, and counts the growths.
+fn fill<S: SlotStack<Item = u32>>(stack: &mut S, n: u32) -> u32 {
+    let mut growths = 0u32;
     for k in 0..n {
         match push(stack, k) {
             Ok(true) => growths = growths.saturating_add(1),
@@ -91,277 +61,205 @@ fn reserve<S: SlotStack<Item = u32>>(stack: &mut S, n: usize) -> Result<bool, Re
     }
 }
 
-fn read<S: SlotStack<Item = u32>>(stack: &S, i: usize) -> Option<u32> {
-    match stack.get(i) {
-        Some(item) => Some(*item),
-        None => None,
+// Reserves the greatest capacity, and returns whether length, capacity and maximum are unchanged.
+fn reserve_most<S: SlotStack<Item = u32>>(stack: &mut S) -> (Result<(), ReallocationError>, bool) {
+    let before = shape(stack);
+    let reply = stack.reserve_to(usize::MAX);
+    (reply, shape(stack) == before)
+}
+
+fn swap<S: SlotStack<Item = u32>>(stack: &mut S, i: usize, j: usize) {
+    if i < stack.len() && j < stack.len() {
+        stack.swap(i, j);
     }
 }
 
-fn run_edit<S: SlotStack<Item = u32>>(stack: &mut S, call: Call) -> bool {
-    match call {
-        Call::Read(i, want) => read(stack, i) == want,
-        Call::Replace(i, item, want) => replace(stack, i, item) == want,
-        Call::Swap(i, j, want) => {
-            if i < stack.len() && j < stack.len() {
-                stack.swap(i, j);
-            }
-            read(stack, i) == want
-        }
-        Call::Truncate(n, want) => {
-            if n <= stack.len() {
-                stack.truncate(n);
-            }
-            read(stack, n) == want
-        }
-        Call::Is(len, capacity, maximum) => shape(stack) == (len, capacity, maximum),
-        Call::Items(want) => has_items(stack, want),
-        _ => false,
+fn truncate<S: SlotStack<Item = u32>>(stack: &mut S, n: usize) {
+    if n <= stack.len() {
+        stack.truncate(n);
     }
 }
 
-fn run_call<S: SlotStack<Item = u32>>(alloc: Global, stack: &mut S, call: Call) -> bool {
-    match call {
-        Call::New => {
-            *stack = S::new(alloc);
-            true
+// Runs an edit or a read of items. `Swap` and `Truncate` return the item then at the first number.
+fn run_edit<S: SlotStack<Item = u32>>(alloc: Global, stack: &mut S, words: Words<'_>) -> String {
+    let [n, m, ..] = words.numbers;
+    let (i, j) = (n as usize, m as usize);
+    match words.name {
+        "Write" => return text(alloc, replace(stack, i, m)),
+        "Swap" => swap(stack, i, j),
+        "Truncate" => truncate(stack, i),
+        "Get" => {}
+        _ => return String::new(alloc),
+    }
+    text(alloc, stack.get(i))
+}
+
+// Runs a call. `Fill` returns whether the stack grew, and `FillInFew` whether in at most so many
+// growths. `Push` and `Reserve` return whether it grew, or why it did not. `Grow` reserves at least
+// a capacity.
+fn run_call<S: SlotStack<Item = u32>>(alloc: Global, stack: &mut S, words: Words<'_>) -> String {
+    let [n, m, ..] = words.numbers;
+    match words.name {
+        "Fill" => text(alloc, fill(stack, n) > 0),
+        "FillInFew" => text(alloc, fill(stack, n) <= m),
+        "Push" => text(alloc, push(stack, n)),
+        "Reserve" => text(alloc, reserve(stack, n as usize)),
+        "ReserveMost" => text(alloc, reserve_most(stack)),
+        "Grow" => {
+            let is_grown = stack.reserve_to(n as usize).is_ok();
+            text(alloc, is_grown && stack.capacity() >= n as usize)
         }
-        Call::Fill(n, want) => (fill(stack, n) > 0) == want,
-        Call::FillInFew(n, few) => fill(stack, n) <= few,
-        Call::Push(item, want) => push(stack, item) == want,
-        Call::Reserve(n, want) => reserve(stack, n) == want,
-        Call::Grow(n) => stack.reserve_to(n) == Ok(()) && stack.capacity() >= n,
-        Call::Refuse(n, error) => {
-            let before = shape(stack);
-            stack.reserve_to(n) == Err(error) && shape(stack) == before
-        }
-        other => run_edit(stack, other),
+        "Shape" => text(alloc, shape(stack)),
+        "Items" => items(alloc, stack),
+        _ => run_edit(alloc, stack, words),
     }
 }
 
-// Runs the rows of a table, and returns the number of the first row that fails, or 0.
-fn first_failure<S: SlotStack<Item = u32>>(alloc: Global, stack: &mut S, rows: &[Call]) -> usize {
-    let mut row = 0usize;
-    let mut failed = 0usize;
-    for call in rows {
-        row = row.saturating_add(1);
-        if !run_call(alloc, stack, *call) && failed == 0 {
-            failed = row;
+// Checks the reply of a line, or makes a new stack.
+fn plays_line<S: SlotStack<Item = u32>>(rt: &impl Abort, alloc: Global, stack: &mut S, line: &str) {
+    match line.split_once(" = ") {
+        Some((call, want)) => {
+            let got = run_call(alloc, stack, read(call));
+            same(rt, line, got.as_str(), want);
         }
+        None => *stack = S::new(alloc),
     }
-    failed
 }
 
-// A maximum, the result of setting it, and calls on the stack after that.
-type Maximum = (
-    usize,
-    Result<(), MaxCapacityReductionError>,
-    &'static [Call],
-);
+fn plays<S: SlotStack<Item = u32>>(rt: &impl Abort, alloc: Global, stack: &mut S, table: &str) {
+    for line in table.lines() {
+        plays_line(rt, alloc, stack, line);
+    }
+}
 
 // A maximum is tested before memory is requested, and is not set below the capacity. Raised from 5
-// to 7, it allows two more items. Then the greatest maximum, under which an allocation fails, and a
-// maximum of zero, under which nothing is pushed, each of a new stack.
-static MAXIMA: [Maximum; 7] = [
+// to 7, it allows two more items. Under a maximum of zero nothing is pushed.
+const MAXIMA: [(usize, &str, &str); 5] = [
     (
         5,
-        Ok(()),
-        &[
-            Call::Fill(0, false),
-            Call::Is(0, 0, Some(5)),
-            Call::Items(&[]),
-            Call::Fill(5, true),
-            Call::Is(5, 5, Some(5)),
-            Call::Items(&[0, 1, 2, 3, 4]),
-            Call::Reserve(6, Err(BeyondMaxCapacity)),
-            Call::Is(5, 5, Some(5)),
-            Call::Items(&[0, 1, 2, 3, 4]),
-            Call::Reserve(usize::MAX, Err(BeyondMaxCapacity)),
-            Call::Is(5, 5, Some(5)),
-            Call::Items(&[0, 1, 2, 3, 4]),
-            Call::Push(5, Err(BeyondMaxCapacity)),
-            Call::Is(5, 5, Some(5)),
-            Call::Items(&[0, 1, 2, 3, 4]),
-            Call::Reserve(5, Ok(false)),
-            Call::Is(5, 5, Some(5)),
-            Call::Items(&[0, 1, 2, 3, 4]),
-        ],
+        "Ok(())",
+        "\
+Shape = (0, 0, Some(5))
+Fill 5 = true
+Reserve 6 = Err(BeyondMaxCapacity)
+ReserveMost = (Err(BeyondMaxCapacity), true)
+Push 5 = Err(BeyondMaxCapacity)
+Reserve 5 = Ok(false)
+",
     ),
     (
         4,
-        Err(MaxCapacityReductionError),
-        &[
-            Call::Fill(0, false),
-            Call::Is(5, 5, Some(5)),
-            Call::Items(&[0, 1, 2, 3, 4]),
-        ],
-    ),
-    (
-        5,
-        Ok(()),
-        &[
-            Call::Fill(0, false),
-            Call::Is(5, 5, Some(5)),
-            Call::Items(&[0, 1, 2, 3, 4]),
-        ],
+        "Err(MaxCapacityReductionError)",
+        "\
+Shape = (5, 5, Some(5))
+Items = [Some(0), Some(1), Some(2), Some(3), Some(4)]
+",
     ),
     (
         7,
-        Ok(()),
-        &[
-            Call::Fill(0, false),
-            Call::Is(5, 5, Some(7)),
-            Call::Items(&[0, 1, 2, 3, 4]),
-            Call::Reserve(5, Ok(false)),
-            Call::Push(5, Ok(true)),
-            Call::Is(6, 7, Some(7)),
-            Call::Items(&[0, 1, 2, 3, 4, 5]),
-            Call::Push(6, Ok(false)),
-            Call::Is(7, 7, Some(7)),
-            Call::Items(&[0, 1, 2, 3, 4, 5, 6]),
-            Call::Push(7, Err(BeyondMaxCapacity)),
-            Call::Is(7, 7, Some(7)),
-            Call::Items(&[0, 1, 2, 3, 4, 5, 6]),
-        ],
+        "Ok(())",
+        "\
+Reserve 5 = Ok(false)
+Push 5 = Ok(true)
+Shape = (6, 7, Some(7))
+Push 6 = Ok(false)
+Push 7 = Err(BeyondMaxCapacity)
+Shape = (7, 7, Some(7))
+Items = [Some(0), Some(1), Some(2), Some(3), Some(4), Some(5), Some(6)]
+",
     ),
     (
         100,
-        Ok(()),
-        &[
-            Call::Fill(0, false),
-            Call::Is(7, 7, Some(100)),
-            Call::Items(&[0, 1, 2, 3, 4, 5, 6]),
-            Call::Reserve(100, Ok(true)),
-            Call::Is(7, 100, Some(100)),
-            Call::Items(&[0, 1, 2, 3, 4, 5, 6]),
-            Call::New,
-        ],
-    ),
-    (
-        usize::MAX,
-        Ok(()),
-        &[
-            Call::Reserve(usize::MAX, Err(AllocError)),
-            Call::Is(0, 0, Some(usize::MAX)),
-            Call::Items(&[]),
-            Call::Push(7, Ok(true)),
-            Call::Is(1, 1, Some(usize::MAX)),
-            Call::Items(&[7]),
-            Call::New,
-        ],
+        "Ok(())",
+        "\
+Shape = (7, 7, Some(100))
+Reserve 100 = Ok(true)
+Shape = (7, 100, Some(100))
+Items = [Some(0), Some(1), Some(2), Some(3), Some(4), Some(5), Some(6)]
+# a new stack
+",
     ),
     (
         0,
-        Ok(()),
-        &[
-            Call::Fill(0, false),
-            Call::Is(0, 0, Some(0)),
-            Call::Items(&[]),
-            Call::Push(1, Err(BeyondMaxCapacity)),
-            Call::Is(0, 0, Some(0)),
-            Call::Items(&[]),
-        ],
+        "Ok(())",
+        "\
+Push 1 = Err(BeyondMaxCapacity)
+Shape = (0, 0, Some(0))
+",
     ),
 ];
 
-// Sets each maximum in turn, and runs its calls. Returns how many of them fail.
-fn limits<S: LimitStack<Item = u32>>(alloc: Global) -> [usize; 1] {
+// Sets each maximum in turn, and runs its lines.
+fn check_maxima<S: LimitStack<Item = u32>>(rt: &impl Abort, alloc: Global) {
     let mut stack = S::new(alloc);
-    let mut failed = 0usize;
-    for (most, want, rows) in &MAXIMA {
-        let set = stack.set_max_capacity(*most) == *want;
-        if first_failure(alloc, &mut stack, rows) > 0 || !set {
-            failed = failed.saturating_add(1);
-        }
+    for (most, want, table) in MAXIMA {
+        let set = text(alloc, stack.set_max_capacity(most));
+        same(rt, "a maximum", set.as_str(), want);
+        plays(rt, alloc, &mut stack, table);
     }
-    [failed]
 }
 
 // Fills a new stack in few growths, since each at least doubles the capacity: 1, 2, 4, .. 1024.
 // One item takes a capacity of one.
-static DOUBLED: [Call; 6] = [
-    Call::Fill(1, true),
-    Call::Is(1, 1, None),
-    Call::New,
-    Call::Is(0, 0, None),
-    Call::Read(0, None),
-    Call::FillInFew(1000, 11),
-];
+const DOUBLED: &str = "\
+Fill 1 = true
+Shape = (1, 1, None)
+# a new stack
+Shape = (0, 0, None)
+Get 0 = None
+FillInFew 1000 11 = true
+";
 
 // Reads at the end of 1000 numbers and beyond, and edits that leave four and keep the capacity.
 // Then growths beyond the capacity for one item, and one too large for any allocation, which
 // changes nothing.
-static EDITS: [Call; 22] = [
-    Call::Is(1000, 1024, None),
-    Call::Reserve(1024, Ok(false)),
-    Call::Read(999, Some(999)),
-    Call::Read(1000, None),
-    Call::Replace(1, 70, Some(1)),
-    Call::Replace(1000, 70, None),
-    Call::Swap(0, 999, Some(999)),
-    Call::Swap(2, 2, Some(2)),
-    Call::Replace(3, 80, Some(3)),
-    Call::Truncate(4, None),
-    Call::Truncate(4, None),
-    Call::Items(&[999, 70, 2, 80]),
-    Call::Is(4, 1024, None),
-    Call::Truncate(0, None),
-    Call::Is(0, 1024, None),
-    Call::New,
-    Call::Fill(1, true),
-    Call::Grow(100),
-    Call::Fill(2, false),
-    Call::Refuse(usize::MAX, AllocError),
-    Call::Grow(1000),
-    Call::Items(&[0, 0, 1]),
-];
+const EDITS: &str = "\
+Shape = (1000, 1024, None)
+Reserve 1024 = Ok(false)
+Get 999 = Some(999)
+Get 1000 = None
+Write 1 70 = Some(1)
+Write 1000 70 = None
+Swap 0 999 = Some(999)
+Swap 2 2 = Some(2)
+Write 3 80 = Some(3)
+Truncate 4 = None
+Truncate 4 = None
+Items = [Some(999), Some(70), Some(2), Some(80)]
+Shape = (4, 1024, None)
+Truncate 0 = None
+Shape = (0, 1024, None)
+# a new stack
+Fill 1 = true
+Grow 100 = true
+Fill 2 = false
+ReserveMost = (Err(AllocError), true)
+Grow 1000 = true
+Items = [Some(0), Some(0), Some(1)]
+";
 
 // Rations, and what is left when each is used up before the refusal: capacities 0, 1, 2 and 4.
-static GROWTHS: [(u32, &[Call]); 4] = [
-    (
-        0,
-        &[
-            Call::Fill(100, false),
-            Call::Is(0, 0, None),
-            Call::Items(&[]),
-        ],
-    ),
+const GROWTHS: [(u32, &str); 4] = [
+    (0, "Fill 100 = false\nShape = (0, 0, None)\nItems = []"),
     (
         1,
-        &[
-            Call::Fill(100, true),
-            Call::Is(1, 1, None),
-            Call::Items(&[0]),
-        ],
+        "Fill 100 = true\nShape = (1, 1, None)\nItems = [Some(0)]",
     ),
     (
         2,
-        &[
-            Call::Fill(100, true),
-            Call::Is(2, 2, None),
-            Call::Items(&[0, 1]),
-        ],
+        "Fill 100 = true\nShape = (2, 2, None)\nItems = [Some(0), Some(1)]",
     ),
     (
         3,
-        &[
-            Call::Fill(100, true),
-            Call::Is(4, 4, None),
-            Call::Items(&[0, 1, 2, 3]),
-        ],
+        "Fill 100 = true\nShape = (4, 4, None)\nItems = [Some(0), Some(1), Some(2), Some(3)]",
     ),
 ];
 
-// Returns how many rations fail.
-fn growths<S: SlotStack<Item = u32>>(alloc: Global) -> [usize; 1] {
-    let mut failed = 0usize;
-    for (ration, rows) in &GROWTHS {
-        let mut stack = FailingStack::with_ration(S::new(alloc), *ration);
-        if first_failure(alloc, &mut stack, rows) > 0 {
-            failed = failed.saturating_add(1);
-        }
+fn check_rations<S: SlotStack<Item = u32>>(rt: &impl Abort, alloc: Global) {
+    for (ration, table) in GROWTHS {
+        let mut stack = FailingStack::with_ration(S::new(alloc), ration);
+        plays(rt, alloc, &mut stack, table);
     }
-    [failed]
 }
 
 // Lengths to which a stack of 70 items is truncated in turn. A stack in blocks has two blocks then.
@@ -401,30 +299,25 @@ fn drops_the_rest<S: SlotStack<Item = Rc<u8>>>(alloc: Global) -> bool {
 
 // Capacity grows in blocks of 64. Then fills a new stack in few growths, since each adds a block:
 // 64, 128, .. 1024. One item takes a capacity of one block.
-static IN_BLOCKS: [Call; 22] = [
-    Call::Reserve(1, Ok(true)),
-    Call::Is(0, 64, None),
-    Call::Items(&[]),
-    Call::Reserve(64, Ok(false)),
-    Call::Is(0, 64, None),
-    Call::Items(&[]),
-    Call::Reserve(65, Ok(true)),
-    Call::Is(0, 128, None),
-    Call::Items(&[]),
-    Call::Push(7, Ok(false)),
-    Call::Is(1, 128, None),
-    Call::Items(&[7]),
-    Call::Reserve(usize::MAX, Err(AllocError)),
-    Call::Is(1, 128, None),
-    Call::Items(&[7]),
-    Call::New,
-    Call::Fill(1, true),
-    Call::Is(1, 64, None),
-    Call::New,
-    Call::Is(0, 0, None),
-    Call::Read(0, None),
-    Call::FillInFew(1000, 16),
-];
+const IN_BLOCKS: &str = "\
+Reserve 1 = Ok(true)
+Shape = (0, 64, None)
+Reserve 64 = Ok(false)
+Shape = (0, 64, None)
+Reserve 65 = Ok(true)
+Shape = (0, 128, None)
+Push 7 = Ok(false)
+ReserveMost = (Err(AllocError), true)
+Shape = (1, 128, None)
+Items = [Some(7)]
+# a new stack
+Fill 1 = true
+Shape = (1, 64, None)
+# a new stack
+Shape = (0, 0, None)
+Get 0 = None
+FillInFew 1000 16 = true
+";
 
 // Grows by several blocks at once: all or none are added, and a second call succeeds. Returns
 // whether the first one does.
@@ -449,12 +342,10 @@ fn blocks_or_none(rt: HostRuntime) {
     all(&rt, "one of two grows", &[first || second]);
 }
 
-fn lists<S: SlotStack<Item = u32>>(alloc: Global, growths: &[Call]) -> [usize; 2] {
+fn check_growth<S: SlotStack<Item = u32>>(rt: &impl Abort, alloc: Global, growths: &str) {
     let mut stack = S::new(alloc);
-    [
-        first_failure(alloc, &mut stack, growths),
-        first_failure(alloc, &mut stack, &EDITS),
-    ]
+    plays(rt, alloc, &mut stack, growths);
+    plays(rt, alloc, &mut stack, EDITS);
 }
 
 // Checks a plain stack, one with an optional maximum, and one in blocks.
@@ -462,11 +353,11 @@ fn check_each<H: SlotStack<Item = u32>, L: LimitStack<Item = u32>, C: SlotStack<
     rt: &impl Abort,
     alloc: Global,
 ) {
-    none_failed(rt, "a plain stack", &lists::<H>(alloc, &DOUBLED));
-    none_failed(rt, "a failing stack", &growths::<H>(alloc));
-    none_failed(rt, "a limited stack", &lists::<L>(alloc, &DOUBLED));
-    none_failed(rt, "maxima", &limits::<L>(alloc));
-    none_failed(rt, "a stack in blocks", &lists::<C>(alloc, &IN_BLOCKS));
+    check_growth::<H>(rt, alloc, DOUBLED);
+    check_rations::<H>(rt, alloc);
+    check_growth::<L>(rt, alloc, DOUBLED);
+    check_maxima::<L>(rt, alloc);
+    check_growth::<C>(rt, alloc, IN_BLOCKS);
 }
 
 #[test]

@@ -21,15 +21,6 @@ pub(super) fn all(rt: &impl Abort, what: &str, checks: &[bool]) {
     }
 }
 
-// Checks tables by the number of the first row that fails in each, or 0.
-pub(super) fn none_failed(rt: &impl Abort, what: &str, failed: &[usize]) {
-    let mut table = 0usize;
-    for row in failed {
-        table = table.saturating_add(1);
-        assert!(rt; *row == 0, "{what}: table {table}, row {row}");
-    }
-}
-
 // Returns whether a text was written and is this one.
 pub(super) fn is_text(written: Result<String, AllocError>, want: &str) -> bool {
     match written {

@@ -1,6 +1,0 @@
--- Uses only the facts of the call, so the search is small and a mutant fails early.
-use Rattle.std.proofs.Common.{rules}
-use Rattle.core_mutants.proofs.trait_calls.break_next.Goals as goal
-
-pub returns : goal.returns
-returns g c = search rules fits 100

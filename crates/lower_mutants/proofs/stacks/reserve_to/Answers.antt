@@ -1,0 +1,6 @@
+-- Uses only the facts of the call, so the search is small and a mutant fails early.
+use Rattle.std.proofs.Common.{rules}
+use Rattle.lower_mutants.proofs.stacks.reserve_to.Goals as goal
+
+pub returns : goal.returns
+returns g c = search rules fits 100
