@@ -1,4 +1,4 @@
-//! Forwarding wrappers of calls of arenas, of `chain_arena_examples` and of `chain_commands`.
+//! Forwarding wrappers of calls of arenas, of the examples and of `chain_commands`.
 //!
 //! Each has the clauses of the original contract that its mutants break. Each edit of `must-fail/`
 //! replaces a body with a mutant and checks that these clauses reject it; little has to be proved
@@ -6,9 +6,15 @@
 #![tactic(auto)]
 
 mod documents;
+mod mesh;
+mod moves;
 mod own_calls;
+mod queue;
 mod session;
 
 pub use documents::renumber;
+pub use mesh::{merge, split};
+pub use moves::move_after;
 pub use own_calls::{compress_canonical_counted, remove_chain, transfer_canonical_reallocating};
+pub use queue::{cancel, spawn};
 pub use session::run_on;
