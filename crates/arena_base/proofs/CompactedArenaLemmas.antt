@@ -7,7 +7,7 @@ use Rattle.std.proofs.lemmas.List.Elements.{All-nil, All-cons}
 use denote.Ref.{MutBor}
 use Rattle.arena_traits.specs.Arena.{Arena, with_counter}
 use Rattle.arena_traits.specs.Entries.{entries_from, entries, index_of, view_of}
-use Rattle.arena_base.specs.DetachedSlots.{DetachedView, before_cut, without_free_end, free_from, held_of, arena_without_slots, arena_after_return}
+use Rattle.arena_base.specs.DetachedSlots.{DetachedView, before_cut, without_free_end, free_from, detached_of, arena_without_slots, arena_after_return}
 use Rattle.arena_traits.specs.Compressions.{IsCompressed, VisitsAll, counter_after_compression}
 use Rattle.arena_base.specs.GatheredSlots.{with_front, AreClosed, IsGathered, with_totals, arena_of_values}
 use Rattle.arena_base.proofs.HoleClosingLemmas.{entries-closed, length-with_front}
@@ -44,7 +44,7 @@ module _ {Gen T : Type 0} (g : Gen) where
 
 module _ {F P T Gen : Type 0} (g : Mut F (P × (MutBor T × (P × Unit {0}))) (Unit {0} × (MutBor T × Unit {0}))) (key : P → ℕ × Gen) (f : F) where
   -- Taking the slots out, closing the holes and returning them compacts the arena.
-  pub gathers : (greatest : ℕ) (maximum : Option ℕ) (generation : Gen) (old start finish new : Arena Gen T) (before after : DetachedView Gen T) → start ≡ arena_without_slots maximum old → before ≡ held_of old → old.capacity ≡ min old.stack_capacity greatest
+  pub gathers : (greatest : ℕ) (maximum : Option ℕ) (generation : Gen) (old start finish new : Arena Gen T) (before after : DetachedView Gen T) → start ≡ arena_without_slots maximum old → before ≡ detached_of old → old.capacity ≡ min old.stack_capacity greatest
       → generation ≡ old.counter → AreClosed generation before after → VisitsAll g key f (entries_from 1 before.slots) (entries_from 1 after.slots)
       → finish ≡ with_totals start (length (entries_from 1 before.slots)) (length before.slots + length (entries_from 1 before.slots)) → new ≡ arena_after_return greatest finish after
       → IsGathered g key f old new
@@ -57,8 +57,8 @@ module _ {F P T Gen : Type 0} (g : Mut F (P × (MutBor T × (P × Unit {0}))) (U
       closed_slots : List (Option (Gen × T))
       closed_slots = with_front old.counter values (replicate closed.free None)
 
-      is_after : after ≡ record (held_of old) { slots = closed_slots }
-      is_after = closed.held ∙ (λ i. let r : DetachedView Gen T = record (is_before i) { slots = with_front (counter i) values (replicate closed.free None) } in r)
+      is_after : after ≡ record (detached_of old) { slots = closed_slots }
+      is_after = closed.detached ∙ (λ i. let r : DetachedView Gen T = record (is_before i) { slots = with_front (counter i) values (replicate closed.free None) } in r)
 
       counted : length (entries_from 1 before.slots) ≡ length values
       counted =
@@ -68,7 +68,7 @@ module _ {F P T Gen : Type 0} (g : Mut F (P × (MutBor T × (P × Unit {0}))) (U
       whole : new ≡ arena_of_values old values
       whole =
           is_new ∙ (ap (λ (h : DetachedView Gen T). arena_after_return greatest finish h) is_after
-          ∙ (ap (λ (a : Arena Gen T). arena_after_return greatest a (record (held_of old) { slots = closed_slots })) (totals ∙ ap (λ (a : Arena Gen T). with_totals a (length (entries_from 1 before.slots)) (length before.slots + length (entries_from 1 before.slots))) is_start)
+          ∙ (ap (λ (a : Arena Gen T). arena_after_return greatest a (record (detached_of old) { slots = closed_slots })) (totals ∙ ap (λ (a : Arena Gen T). with_totals a (length (entries_from 1 before.slots)) (length before.slots + length (entries_from 1 before.slots))) is_start)
           ∙ (λ i. record old {
             slots = without_free_end-closed old.counter values closed.free i;
             freed = (ap (free_from 1) (without_free_end-closed old.counter values closed.free) ∙ none_free old.counter values 1) i;

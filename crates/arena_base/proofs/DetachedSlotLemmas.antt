@@ -1,4 +1,4 @@
--- The effect of each step on the model of held slots.
+-- The effect of each step on the model of detached slots.
 use Rattle.std.proofs.Common.{◌≡◌, ◌≢◌, ℕ, zero, suc, ◌+◌, ◌<◌, List, [], ◌∷◌, length, map, Option, None, Some, refl, ap, sym, ◌∙◌, subst, arith}
 use Rattle.std.specs.Prelude.{true, false, IsSome, slice_index_or, slice_get, slice_set, swap}
 use Rattle.std.specs.Option.{option_map}
@@ -6,7 +6,7 @@ use Rattle.std.proofs.Math.Decide.{ℕ_discrete}
 use Rattle.std.proofs.lemmas.List.{length-map, length-set, map-set, set-set, get_or-set_same, get_or-set_other}
 use Rattle.arena_core.specs.declared.packed_option.PackedOption.{PackedOption}
 use Rattle.arena_traits.specs.Arena.{slot_at, with_slot}
-use Rattle.arena_base.specs.DetachedSlots.{DetachedView, with_placed_entry, held_with_value}
+use Rattle.arena_base.specs.DetachedSlots.{DetachedView, with_placed_entry, detached_with_value}
 use Rattle.arena_base.specs.Slots.{entry_of, entry_in, allocated_slot, free_slot, with_value_in, with_generation_in, with_generation_at, detached_view}
 use Rattle.arena_base.specs.declared.slot.ArenaSlot.{ArenaSlot}
 use Rattle.arena_base.specs.declared.slot.ArenaSlot.TheVariants.{Allocated, Free}
@@ -61,10 +61,10 @@ module _ {P T Inx Gen Word : Type 0} where
       length-set (slice_set slots i (slice_index_or slots j d)) j (slice_index_or slots i d) ∙ length-set slots i (slice_index_or slots j d)
 
   -- A placement, in terms of positions.
-  held_moved : (slots items : List (ArenaSlot P T Inx Gen Word)) (capacity : ℕ) (maximum : Option ℕ) (i j from to : ℕ) (g : Gen) → i + 1 ≡ from → j + 1 ≡ to
+  detached_moved_to : (slots items : List (ArenaSlot P T Inx Gen Word)) (capacity : ℕ) (maximum : Option ℕ) (i j from to : ℕ) (g : Gen) → i + 1 ≡ from → j + 1 ≡ to
       → map entry_of items ≡ slice_set (slice_set (map entry_of slots) i (slice_index_or (map entry_of slots) j None)) j (regenerated g (slice_index_or (map entry_of slots) i None))
       → detached_view items capacity maximum ≡ with_placed_entry (detached_view slots capacity maximum) from to g
-  held_moved slots items capacity maximum i j from to g at_from at_to moved =
+  detached_moved_to slots items capacity maximum i j from to g at_from at_to moved =
       let es = map entry_of slots in
       let a : Option (Gen × T) = slice_index_or es i None in
       let all : map entry_of items ≡ with_slot (with_slot es from (slot_at es to)) to (regenerated g (slot_at es from)) =
@@ -76,9 +76,9 @@ module _ {P T Inx Gen Word : Type 0} where
       ap (λ fs. let h : DetachedView Gen T = record { slots = fs; stack_capacity = capacity; maximum = maximum } in h) all
 
   -- Setting a generation and swapping is a placement.
-  pub held_placed : (slots : List (ArenaSlot P T Inx Gen Word)) (capacity : ℕ) (maximum : Option ℕ) (i j from to : ℕ) (g : Gen) → i + 1 ≡ from → j + 1 ≡ to → i < length slots → j < length slots
+  pub detached_placed : (slots : List (ArenaSlot P T Inx Gen Word)) (capacity : ℕ) (maximum : Option ℕ) (i j from to : ℕ) (g : Gen) → i + 1 ≡ from → j + 1 ≡ to → i < length slots → j < length slots
       → detached_view (swap (with_generation_at slots i g) i j) capacity maximum ≡ with_placed_entry (detached_view slots capacity maximum) from to g
-  held_placed slots capacity maximum i j from to g at_from at_to first second = held_moved slots (swap (with_generation_at slots i g) i j) capacity maximum i j from to g at_from at_to (all ∙ by (ℕ_discrete j i))
+  detached_placed slots capacity maximum i j from to g at_from at_to first second = detached_moved_to slots (swap (with_generation_at slots i g) i j) capacity maximum i j from to g at_from at_to (all ∙ by (ℕ_discrete j i))
     where
       inside : i < length (map entry_of slots)
       inside = omega (arith, first, length-map slots entry_of)
@@ -101,11 +101,11 @@ module _ {P T Inx Gen Word : Type 0} where
       by (no differs) = ap (λ o. slice_set (slice_set (map entry_of slots) i o) j (regenerated g (slice_index_or (map entry_of slots) i None))) (get_or-set_other (map entry_of slots) i j (regenerated g (slice_index_or (map entry_of slots) i None)) None differs)
 
   -- Moving an entry to a free slot or its own is a placement.
-  pub held_brought : (slots : List (ArenaSlot P T Inx Gen Word)) (capacity : ℕ) (maximum : Option ℕ) (i j from to : ℕ) (g h : Gen) (t : T) (next : PackedOption Inx Word) → i + 1 ≡ from → j + 1 ≡ to
+  pub detached_moved : (slots : List (ArenaSlot P T Inx Gen Word)) (capacity : ℕ) (maximum : Option ℕ) (i j from to : ℕ) (g h : Gen) (t : T) (next : PackedOption Inx Word) → i + 1 ≡ from → j + 1 ≡ to
       → Some (h, t) ≡ slice_index_or (map entry_of slots) i None → (j ≢ i → slice_index_or (map entry_of slots) j None ≡ None)
       → detached_view (slice_set (slice_set slots i (free_slot next)) j (allocated_slot g t)) capacity maximum ≡ with_placed_entry (detached_view slots capacity maximum) from to g
-  held_brought slots capacity maximum i j from to g h t next at_from at_to stored free =
-      held_moved slots (slice_set (slice_set slots i (free_slot next)) j (allocated_slot g t)) capacity maximum i j from to g at_from at_to (all ∙ (by (ℕ_discrete j i) ∙ ap (λ o. slice_set (slice_set (map entry_of slots) i (slice_index_or (map entry_of slots) j None)) j (regenerated g o)) stored))
+  detached_moved slots capacity maximum i j from to g h t next at_from at_to stored free =
+      detached_moved_to slots (slice_set (slice_set slots i (free_slot next)) j (allocated_slot g t)) capacity maximum i j from to g at_from at_to (all ∙ (by (ℕ_discrete j i) ∙ ap (λ o. slice_set (slice_set (map entry_of slots) i (slice_index_or (map entry_of slots) j None)) j (regenerated g o)) stored))
     where
       all : map entry_of (slice_set (slice_set slots i (free_slot next)) j (allocated_slot g t)) ≡ slice_set (slice_set (map entry_of slots) i None) j (Some (g, t))
       all = map-set entry_of (slice_set slots i (free_slot next)) j (allocated_slot g t) ∙ ap (λ (fs : List (Option (Gen × T))). slice_set fs j (Some (g, t))) (map-set entry_of slots i (free_slot next))
@@ -128,10 +128,10 @@ module _ {P T Inx Gen Word : Type 0} where
         slot_at-position (map entry_of slots) j to at_to ∙ (ap (λ fs. slot_at fs to) same ∙ free (λ s. differs (omega (arith, s, at_to, at_from))))
 
   -- A value is written.
-  pub held_lent : (slots items : List (ArenaSlot P T Inx Gen Word)) (capacity new_capacity : ℕ) (maximum most : Option ℕ) (k n : ℕ) (slot : ArenaSlot P T Inx Gen Word) (w : T) → k + 1 ≡ n → slice_get slots k ≡ Some slot
+  pub detached_lent : (slots items : List (ArenaSlot P T Inx Gen Word)) (capacity new_capacity : ℕ) (maximum most : Option ℕ) (k n : ℕ) (slot : ArenaSlot P T Inx Gen Word) (w : T) → k + 1 ≡ n → slice_get slots k ≡ Some slot
       → items ≡ slice_set slots k (with_value_in slot w) → new_capacity ≡ capacity → most ≡ maximum
-      → detached_view items new_capacity most ≡ held_with_value (detached_view slots capacity maximum) n w
-  held_lent slots items capacity new_capacity maximum most k n slot w at is written equal_capacity same_most =
+      → detached_view items new_capacity most ≡ detached_with_value (detached_view slots capacity maximum) n w
+  detached_lent slots items capacity new_capacity maximum most k n slot w at is written equal_capacity same_most =
       let rewrite : Option (Gen × T) → Option (Gen × T) = option_map (λ (e : Gen × T). (e.0, w)) in
       let all = ap (map entry_of) written ∙ (map-set entry_of slots k (with_value_in slot w) ∙ (sym (with_slot-position (map entry_of slots) k n (entry_of (with_value_in slot w)) at)
       ∙ ap (λ (o : Option (Gen × T)). with_slot (map entry_of slots) n o) (entry_of-written slot w ∙ ap rewrite (sym (entry_at-position slots k n at ∙ ap entry_in is))))) in

@@ -241,10 +241,10 @@ module _ {F P T Gen : Type 0} (g : Mut F (P × (MutBor T × (P × Unit {0}))) (U
       brought_stored none = let both = none ∙ ap (option_map (λ (e : Gen × T). e.1)) stored in cc
 
       -- The closure visits the entry there.
-      pub closing_brings : (v : Visit P T) (next : F) (after : List (Option (Gen × T))) → Some v.value ≡ option_map (λ (e : Gen × T). e.1) (slot_at mid to)
+      pub closing_moves : (v : Visit P T) (next : F) (after : List (Option (Gen × T))) → Some v.value ≡ option_map (λ (e : Gen × T). e.1) (slot_at mid to)
           → after ≡ with_slot mid to (option_map (λ (e : Gen × T). (e.0, v.left)) (slot_at mid to)) → key v.from ≡ (from, was) → key v.to ≡ (to, generation) → IsVisit g f v next
           → IsClosing g key generation first old (k + 1) (count + 1) next after
-      closing_brings v next after lent written from_key to_key visit =
+      closing_moves v next after lent written from_key to_key visit =
           let value = value_there (slot_at mid to) v.value (generation, moved_entry.0.1) lent stored in
           let before : before_visit key v ≡ ((suc k, moved_entry.0.0), moved_entry.0.1) = λ i. ((from_key ∙ (λ j. (sym from_number j, sym moved_entry.2 j))) i, value i) in
           let left : after_visit key v ≡ ((to, generation), v.left) = λ i. (to_key i, v.left) in
@@ -295,7 +295,7 @@ module _ {F P T Gen : Type 0} (g : Mut F (P × (MutBor T × (P × Unit {0}))) (U
     closing_closes before after is_old is_new capacity maximum = record {
       values = c.values;
       free = c.free;
-      held = λ i. record { slots = (is_new ∙ closed_now) i; stack_capacity = capacity i; maximum = maximum i };
+      detached = λ i. record { slots = (is_new ∙ closed_now) i; stack_capacity = capacity i; maximum = maximum i };
       same_length = omega (arith, c.counted, c.passed, all, ap length is_old);
     }
 

@@ -8,7 +8,7 @@ use Rattle.arena_core.specs.declared.packed_option.PackedOption.{PackedOption}
 use Rattle.arena_traits.specs.Arena.{Arena, entry_count, invalidate_at, with_counter, HasCapacityFor}
 use Rattle.arena_traits.specs.Compressions.{counter_after_compression, overflows_after_compression}
 use Rattle.arena_traits.specs.Entries.{entries, entries_from, key_at, IsNextEntry}
-use Rattle.arena_base.specs.DetachedSlots.{DetachedView, held_of, arena_without_slots}
+use Rattle.arena_base.specs.DetachedSlots.{DetachedView, detached_of, arena_without_slots}
 use Rattle.arena_base.specs.Slots.{entry_of, ThreadsFreeList}
 use Rattle.arena_base.specs.declared.slot.ArenaSlot.{ArenaSlot}
 
@@ -83,7 +83,7 @@ module _ {Gen T : Type 0} where
   -- The slots are taken out of an arena, and an empty stack of this maximum is left.
   abbrev pub DetachesSlots : Option ℕ → ℕ → Arena Gen T → DetachedView Gen T → Arena Gen T → Type 0
   DetachesSlots maximum greatest old result new = record {
-    held : result ≡ held_of old;
+    detached : result ≡ detached_of old;
     after : new ≡ arena_without_slots maximum old;
     fits : length old.slots ≤ greatest;
   }

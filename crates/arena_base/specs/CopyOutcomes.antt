@@ -58,7 +58,7 @@ module _ {F P U T : Type 0} (is_ready : F → Type 0) (makes : F → P → U →
       ready : OnOk result.0 (is_ready result.1);
       never_less : (view old).capacity ≤ (view new).capacity;
       err : OnErr result.0 (((new ≡ old) × (result.1 ≡ values)) ⊎ (HasRefusable may_refuse key (entries source) × IsAbandonedView (view old) (view new)));
-      more : OnOk result.0 (copies source old new);
+      implementation : OnOk result.0 (copies source old new);
     }
 
 -- The outcome of a copy of a source into an arena with a view, with values that a closure returns.
@@ -70,5 +70,5 @@ CopiesViewWith g key greatest f source view copies old result new = record {
   copied : OnOk result (IsCopy g key f source (view old) (view new));
   never_less : (view old).capacity ≤ (view new).capacity;
   err : OnErr result (new ≡ old);
-  more : OnOk result (copies source old new);
+  implementation : OnOk result (copies source old new);
 }

@@ -42,8 +42,8 @@ module _ {Gen T : Type 0} where
   abbrev pub borrowed_parts : Bor Gen × Bor T → Gen × T
   borrowed_parts e = (e.0.now, e.1.now)
 
-  abbrev pub held_of : Arena Gen T → DetachedView Gen T
-  held_of a = record { slots = a.slots; stack_capacity = a.stack_capacity; maximum = a.maximum }
+  abbrev pub detached_of : Arena Gen T → DetachedView Gen T
+  detached_of a = record { slots = a.slots; stack_capacity = a.stack_capacity; maximum = a.maximum }
 
   -- The arena without its slots: empty over a new stack, with its counter and totals.
   abbrev pub arena_without_slots : Option ℕ → Arena Gen T → Arena Gen T
@@ -52,12 +52,12 @@ module _ {Gen T : Type 0} where
   -- The arena after slots are returned: free slots at the end are removed, and the others listed by
   -- ascending index.
   abbrev pub arena_after_return : ℕ → Arena Gen T → DetachedView Gen T → Arena Gen T
-  arena_after_return greatest a held = record a {
-    slots = without_free_end held.slots;
-    freed = free_from 1 (without_free_end held.slots);
-    capacity = min held.stack_capacity greatest;
-    stack_capacity = held.stack_capacity;
-    maximum = held.maximum;
+  arena_after_return greatest a detached = record a {
+    slots = without_free_end detached.slots;
+    freed = free_from 1 (without_free_end detached.slots);
+    capacity = min detached.stack_capacity greatest;
+    stack_capacity = detached.stack_capacity;
+    maximum = detached.maximum;
   }
 
   abbrev pub with_touch : Arena Gen T → Arena Gen T
@@ -68,19 +68,19 @@ module _ {Gen T : Type 0} where
 
   -- The slots at two indexes are swapped, and the entry from the first gets a generation.
   abbrev pub with_placed_entry : DetachedView Gen T → ℕ → ℕ → Gen → DetachedView Gen T
-  with_placed_entry held from to g = record held {
-    slots = with_slot (with_slot held.slots from (slot_at held.slots to)) to (option_map (λ e. (g, e.1)) (slot_at held.slots from));
+  with_placed_entry detached from to g = record detached {
+    slots = with_slot (with_slot detached.slots from (slot_at detached.slots to)) to (option_map (λ e. (g, e.1)) (slot_at detached.slots from));
   }
 
   -- The slots with the value at an index replaced, if it has an entry.
-  abbrev pub held_with_value : DetachedView Gen T → ℕ → T → DetachedView Gen T
-  held_with_value held i t = record held { slots = with_slot held.slots i (option_map (λ e. (e.0, t)) (slot_at held.slots i)) }
+  abbrev pub detached_with_value : DetachedView Gen T → ℕ → T → DetachedView Gen T
+  detached_with_value detached i t = record detached { slots = with_slot detached.slots i (option_map (λ e. (e.0, t)) (slot_at detached.slots i)) }
 
-  -- After an access the held slots are unchanged, or have the written value, and one touch is
+  -- After an access the detached slots are unchanged, or have the written value, and one touch is
   -- counted.
-  module _ {C : Type 0} (held : C → DetachedView Gen T) (touches : C → C → Type 0) (old : C) where
+  module _ {C : Type 0} (detached : C → DetachedView Gen T) (touches : C → C → Type 0) (old : C) where
     abbrev pub IsTouched : C → Type 0
-    IsTouched new = (held new ≡ held old) × touches old new
+    IsTouched new = (detached new ≡ detached old) × touches old new
 
     abbrev pub IsWrittenAt : ℕ → C → T → Type 0
-    IsWrittenAt i new t = (held new ≡ held_with_value (held old) i t) × touches old new
+    IsWrittenAt i new t = (detached new ≡ detached_with_value (detached old) i t) × touches old new

@@ -17,7 +17,7 @@ module _ {Gen T : Type 0} where
   pub record AreClosed (g : Gen) (old new : DetachedView Gen T) : Type 0 where
     pub values : List T
     pub free : ℕ
-    pub held : new ≡ record old { slots = with_front g values (replicate free None) }
+    pub detached : new ≡ record old { slots = with_front g values (replicate free None) }
     pub same_length : length values + free ≡ length old.slots
 
   -- The arena after more placements and touches.

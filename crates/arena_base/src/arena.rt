@@ -366,10 +366,10 @@ impl<P: PtrKey, T: Drop, S: SlotStack<Item = ArenaSlot<P, T>>> Arena<P, T, S> {
 
     // Returns slots to the arena: free slots at the end are removed, and the other free slots are
     // listed.
-    pub(crate) fn return_slots(&mut self, held: DetachedSlots<P, T, S>)
-        ensures { self.new ≡ arena_after_return P.Inx.greatest self.old held }
+    pub(crate) fn return_slots(&mut self, detached: DetachedSlots<P, T, S>)
+        ensures { self.new ≡ arena_after_return P.Inx.greatest self.old detached }
     {
-        let DetachedSlots { mut slots } = held;
+        let DetachedSlots { mut slots } = detached;
         trim(&mut slots);
         let (len, first_free) = relist::<P, T, S>(&mut slots);
         self.slots = slots;
@@ -379,11 +379,11 @@ impl<P: PtrKey, T: Drop, S: SlotStack<Item = ArenaSlot<P, T>>> Arena<P, T, S> {
 
     // Returns slots to the arena, of which exactly the first `count` are entries. The others are
     // removed, without reading any.
-    pub(crate) fn return_packed(&mut self, held: DetachedSlots<P, T, S>, count: usize)
-        requires { IsPacked held.slots count }
-        ensures { self.new ≡ arena_after_return P.Inx.greatest self.old held }
+    pub(crate) fn return_packed(&mut self, detached: DetachedSlots<P, T, S>, count: usize)
+        requires { IsPacked detached.slots count }
+        ensures { self.new ≡ arena_after_return P.Inx.greatest self.old detached }
     {
-        let DetachedSlots { mut slots } = held;
+        let DetachedSlots { mut slots } = detached;
         slots.truncate(count);
         self.slots = slots;
         self.len = count;

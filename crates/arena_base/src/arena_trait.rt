@@ -37,7 +37,7 @@ impl<P: PtrKey, T: Drop, S: SlotStack<Item = ArenaSlot<P, T>>> ArenaTrait<P, T> 
 
     ghost writes = { λ a i t b. b ≡ with_value a i t };
 
-    ghost renews = { λ a i b. b ≡ invalidate_at P.Gen.following a i };
+    ghost extra_on_invalidate = { λ a i b. b ≡ invalidate_at P.Gen.following a i };
 
     ghost removes = { λ a i b. b ≡ remove_at P.Gen.following a i };
 

@@ -32,7 +32,7 @@ pub struct Compactor<
     S: SlotStack<Item = ArenaSlot<P, T>> = HeapStack<ArenaSlot<P, T>>,
 > {
     arena: &'a mut Arena<P, T, S>,
-    held: DetachedSlots<P, T, S>,
+    detached: DetachedSlots<P, T, S>,
     placed: u128,
     touched: u128,
 }
@@ -42,10 +42,10 @@ impl<P: PtrKey, T: Drop, S: SlotStack<Item = ArenaSlot<P, T>>> Arena<P, T, S> {
     pub fn compactor(&mut self) -> Compactor<'_, P, T, S>
         ensures { TakesSlots S.initial_maximum P.Inx.greatest self.entry result }
     {
-        let held = self.take_slots();
+        let detached = self.take_slots();
         Compactor {
             arena: self,
-            held,
+            detached,
             placed: 0,
             touched: 0,
         }
@@ -55,37 +55,37 @@ impl<P: PtrKey, T: Drop, S: SlotStack<Item = ArenaSlot<P, T>>> Arena<P, T, S> {
 impl<'a, P: PtrKey, T: Drop, S: SlotStack<Item = ArenaSlot<P, T>>> Compactor<'a, P, T, S> {
     /// Returns the number of slots, which only the calls that return the slots change.
     pub fn slots(&self) -> usize
-        ensures { result ≡ length self.now.held.slots }
+        ensures { result ≡ length self.now.detached.slots }
     {
-        self.held.len()
+        self.detached.len()
     }
 
     /// Swaps two slots, sets the generation of the entry now at `to`, and counts one placement.
     pub fn place(&mut self, from: P::Inx, to: P::Inx, generation: P::Gen)
-        requires from { P.Inx.number from ≤ length self.old.held.slots }
-        requires to { P.Inx.number to ≤ length self.old.held.slots }
-        requires entry { IsSome (slot_at self.old.held.slots (P.Inx.number from)) }
+        requires from { P.Inx.number from ≤ length self.old.detached.slots }
+        requires to { P.Inx.number to ≤ length self.old.detached.slots }
+        requires entry { IsSome (slot_at self.old.detached.slots (P.Inx.number from)) }
         ensures { PlacesEntry (P.Inx.number from) (P.Inx.number to) generation self.old self.new }
     {
         self.arena.count_placement();
         self.placed = self.placed.saturating_add(1);
-        self.held.place(from, to, generation);
+        self.detached.place(from, to, generation);
     }
 
     /// Moves an entry to a free slot, or keeps it in its own, sets its generation, and counts one
     /// placement.
     ///
     /// `place` has the same effect there.
-    pub fn bring(&mut self, from: P::Inx, to: P::Inx, generation: P::Gen)
-        requires to { P.Inx.number to ≤ length self.old.held.slots }
-        requires entry { IsSome (slot_at self.old.held.slots (P.Inx.number from)) }
+    pub fn move_to_free_slot(&mut self, from: P::Inx, to: P::Inx, generation: P::Gen)
+        requires to { P.Inx.number to ≤ length self.old.detached.slots }
+        requires entry { IsSome (slot_at self.old.detached.slots (P.Inx.number from)) }
         requires free { P.Inx.number to ≢ P.Inx.number from
-            → slot_at self.old.held.slots (P.Inx.number to) ≡ None }
+            → slot_at self.old.detached.slots (P.Inx.number to) ≡ None }
         ensures { PlacesEntry (P.Inx.number from) (P.Inx.number to) generation self.old self.new }
     {
         self.arena.count_placement();
         self.placed = self.placed.saturating_add(1);
-        self.held.bring(from, to, generation);
+        self.detached.move_to_free_slot(from, to, generation);
     }
 
     /// Returns the slots to the arena, and what was counted.
@@ -97,11 +97,11 @@ impl<'a, P: PtrKey, T: Drop, S: SlotStack<Item = ArenaSlot<P, T>>> Compactor<'a,
     {
         let Compactor {
             arena,
-            held,
+            detached,
             placed,
             touched,
         } = self;
-        arena.return_slots(held);
+        arena.return_slots(detached);
         Work { placed, touched }
     }
 
@@ -109,16 +109,16 @@ impl<'a, P: PtrKey, T: Drop, S: SlotStack<Item = ArenaSlot<P, T>>> Compactor<'a,
     ///
     /// Exactly the first `count` slots must be entries.
     pub fn finish_packed(self, count: usize) -> Work
-        requires { IsPacked self.held.slots count }
+        requires { IsPacked self.detached.slots count }
         ensures { ReturnsSlots P.Inx.greatest self.entry result self.exit.0.now }
     {
         let Compactor {
             arena,
-            held,
+            detached,
             placed,
             touched,
         } = self;
-        arena.return_packed(held, count);
+        arena.return_packed(detached, count);
         Work { placed, touched }
     }
 }
@@ -126,7 +126,7 @@ impl<'a, P: PtrKey, T: Drop, S: SlotStack<Item = ArenaSlot<P, T>>> Compactor<'a,
 impl<'a, P: PtrKey, T: Drop, S: SlotStack<Item = ArenaSlot<P, T>>> Drop for Compactor<'a, P, T, S> {
     fn drop(self)
         ensures { self.exit.0.now ≡ arena_after_return P.Inx.greatest self.entry.arena.now
-            self.entry.held }
+            self.entry.detached }
     {
         self.finish();
     }
@@ -134,7 +134,7 @@ impl<'a, P: PtrKey, T: Drop, S: SlotStack<Item = ArenaSlot<P, T>>> Drop for Comp
 
 /// Access to the slots that a compactor holds.
 pub trait SlotAccess<P: PtrKey, T: Drop> {
-    ghost held: { Self → DetachedView P.Gen T };
+    ghost detached: { Self → DetachedView P.Gen T };
 
     // The second is the first after one touch, apart from what it holds.
     ghost touches: { Self → Self → Type 0 };
@@ -142,17 +142,17 @@ pub trait SlotAccess<P: PtrKey, T: Drop> {
     /// Returns the generation and the value at an index. Counts one touch.
     fn peek(&mut self, i: P::Inx) -> Option<(&P::Gen, &T)>
         ensures* after { sem 𝓛 (follows_so Self.row Self.row self.entry.ghost_name none
-            (λ _ _. ⊤) (IsTouched held touches self.old)) }
-        ensures value { option_map borrowed_parts result ≡ slot_at (held self.old).slots
+            (λ _ _. ⊤) (IsTouched detached touches self.old)) }
+        ensures value { option_map borrowed_parts result ≡ slot_at (detached self.old).slots
             (P.Inx.number i) };
 
     /// Returns the value at an index, for writing. Counts one touch.
     fn value_mut(&mut self, i: P::Inx) -> Option<&mut T>
         ensures* writes_back { sem 𝓛 (LendsSo Self.row T.row self.entry result
-            (λ new t. OnSome result (IsWrittenAt held touches self.old (P.Inx.number i) new t))
-            (IsTouched held touches self.old)) }
+            (λ new t. OnSome result (IsWrittenAt detached touches self.old (P.Inx.number i) new t))
+            (IsTouched detached touches self.old)) }
         ensures value { option_copied_mut result ≡ option_map (λ e. e.1)
-            (slot_at (held self.old).slots (P.Inx.number i)) };
+            (slot_at (detached self.old).slots (P.Inx.number i)) };
 }
 
 impl<'a, P: PtrKey, T: Drop, S: SlotStack<Item = ArenaSlot<P, T>>> SlotAccess<P, T>
@@ -160,7 +160,7 @@ impl<'a, P: PtrKey, T: Drop, S: SlotStack<Item = ArenaSlot<P, T>>> SlotAccess<P,
     ghost use Rattle.std.specs.Prelude.{◌≡◌};
     ghost use Rattle.arena_base.specs.DetachedSlots.{with_touch, saturating_increment};
 
-    ghost held = { λ c. c.held };
+    ghost detached = { λ c. c.detached };
 
     ghost touches = { λ a b. (b.arena.ghost_name ≡ a.arena.ghost_name)
         × (b.arena.now ≡ with_touch a.arena.now) × (b.placed ≡ a.placed)
@@ -169,12 +169,12 @@ impl<'a, P: PtrKey, T: Drop, S: SlotStack<Item = ArenaSlot<P, T>>> SlotAccess<P,
     fn peek(&mut self, i: P::Inx) -> Option<(&P::Gen, &T)> {
         self.arena.count_touch();
         self.touched = self.touched.saturating_add(1);
-        self.held.lookup(i)
+        self.detached.lookup(i)
     }
 
     fn value_mut(&mut self, i: P::Inx) -> Option<&mut T> {
         self.arena.count_touch();
         self.touched = self.touched.saturating_add(1);
-        self.held.value_mut(i)
+        self.detached.value_mut(i)
     }
 }

@@ -17,14 +17,14 @@ fn move_entry<P: PtrKey, T: Drop, S: SlotStack<Item = ArenaSlot<P, T>>>(
     to: P::Inx,
     generation: P::Gen,
 ) -> Option<P::Gen>
-    requires to { P.Inx.number to ≤ length compactor.old.held.slots }
+    requires to { P.Inx.number to ≤ length compactor.old.detached.slots }
     requires free { P.Inx.number to ≢ P.Inx.number from
-        → slot_at compactor.old.held.slots (P.Inx.number to) ≡ None }
+        → slot_at compactor.old.detached.slots (P.Inx.number to) ≡ None }
     ensures { MovesEntry (P.Inx.number from) (P.Inx.number to) generation compactor.old result
         compactor.new }
 {
     let was = *compactor.peek(from)?.0;
-    compactor.bring(from, to, generation);
+    compactor.move_to_free_slot(from, to, generation);
     Some(was)
 }
 
@@ -39,7 +39,7 @@ fn compact_entries<
     F: FnMut(P, &mut T, P) + Drop,
 >(compactor: &mut Compactor<'_, P, T, S>, generation: P::Gen, mut map: F) -> usize
     requires callable { F.IsAlwaysCallable map }
-    requires fits { length compactor.old.held.slots ≤ P.Inx.greatest }
+    requires fits { length compactor.old.detached.slots ≤ P.Inx.greatest }
     ensures { CompactsEntries F.FnMut P.key generation map compactor.old result compactor.new }
 {
     let mut count = 0;

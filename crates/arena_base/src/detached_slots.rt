@@ -3,7 +3,7 @@ ghost use Rattle.std.specs.Prelude.{◌≡◌, ◌≢◌, ◌≤◌, ◌<◌, No
 ghost use Rattle.std.specs.Option.{option_map, option_copied_mut};
 ghost use Rattle.std.specs.Borrow.{LendsSo, sem};
 ghost use Rattle.arena_traits.specs.Arena.{slot_at};
-ghost use Rattle.arena_base.specs.DetachedSlots.{DetachedView, borrowed_parts, with_placed_entry, held_with_value};
+ghost use Rattle.arena_base.specs.DetachedSlots.{DetachedView, borrowed_parts, with_placed_entry, detached_with_value};
 
 use crate::slot::{ArenaSlot, position_of, regenerate_at, vacate_at, write_at};
 use arena_core::{InxKey, PtrKey, SlotStack, proved_unreachable};
@@ -59,7 +59,7 @@ impl<P: PtrKey, T: Drop, S: SlotStack<Item = ArenaSlot<P, T>>> DetachedSlots<P, 
     }
 
     // Moves an entry to a free slot, or keeps it in its own, and sets its generation.
-    pub(crate) fn bring(&mut self, from: P::Inx, to: P::Inx, generation: P::Gen)
+    pub(crate) fn move_to_free_slot(&mut self, from: P::Inx, to: P::Inx, generation: P::Gen)
         requires to { P.Inx.number to ≤ length self.old.slots }
         requires entry { IsSome (slot_at self.old.slots (P.Inx.number from)) }
         requires free { P.Inx.number to ≢ P.Inx.number from
@@ -86,7 +86,7 @@ pub(crate) trait LendsValue<P: PtrKey, T: Drop> {
     fn value_mut(&mut self, i: P::Inx) -> Option<&mut T>
         ensures* writes_back { sem 𝓛 (LendsSo Self.row T.row self.entry result
             (λ new t. OnSome result
-            (lent new ≡ held_with_value (lent self.old) (P.Inx.number i) t))
+            (lent new ≡ detached_with_value (lent self.old) (P.Inx.number i) t))
             (λ new. lent new ≡ lent self.old)) }
         ensures value { option_copied_mut result ≡ option_map (λ e. e.1)
             (slot_at (lent self.old).slots (P.Inx.number i)) };

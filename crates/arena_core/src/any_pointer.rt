@@ -5,14 +5,14 @@ use crate::keys::{GenKey, InxKey, PtrKey};
 
 /// A type of pointers, for contracts that state the effect of any call.
 ///
-/// Its `kind` is what they need of a pointer, an index and a generation. Each `PtrKey` implements
+/// Its `pointers` are what they need of a pointer, an index and a generation. Each `PtrKey` implements
 /// it.
 pub trait AnyPointer: PtrKey {
-    ghost kind: { PointerKind Self Self.Inx Self.Gen Self.Inx.Word };
+    ghost pointers: { PointerKind Self Self.Inx Self.Gen Self.Inx.Word };
 }
 
 impl<P: PtrKey> AnyPointer for P {
-    ghost kind = { record {
+    ghost pointers = { record {
       key = P.key;
       number = P.Inx.number;
       packed = P.Inx.packed_number;

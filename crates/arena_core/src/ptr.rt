@@ -14,7 +14,8 @@ use std::hash::Hash;
 pub trait PtrInx: InxKey + Eq + Ord + Hash + Debug {
     /// Writes the number in lower-case hexadecimal, without a prefix, ignoring the caller's format.
     fn fmt_hex<W: fmt::Write>(self, f: &mut fmt::Formatter<W>) -> fmt::Result
-        ensures { WritesOnOk W.write_str_gives f.old result (hexadecimal (Self.number self)) f.new };
+        ensures { WritesOnOk W.write_str_gives f.old result (hexadecimal (Self.number self))
+            f.new };
 
     ghost eq_is_same: { (i j : Self) → Self.eq i j ≡ Self.same i j };
 }

@@ -72,7 +72,7 @@ pub trait ArenaTrait<P: PtrKey, T: Drop> {
 
     ghost writes: { Self → ℕ → T → Self → Type 0 } = { λ _ _ _ _. ⊤ };
 
-    ghost renews: { Self → ℕ → Self → Type 0 } = { λ _ _ _. ⊤ };
+    ghost extra_on_invalidate: { Self → ℕ → Self → Type 0 } = { λ _ _ _. ⊤ };
 
     ghost removes: { Self → ℕ → Self → Type 0 } = { λ _ _ _. ⊤ };
 
@@ -84,7 +84,7 @@ pub trait ArenaTrait<P: PtrKey, T: Drop> {
     fn new(alloc: Global) -> Self
         ensures new { IsNew P.Gen.first (view result) }
         ensures capacity { (view result).capacity ≡ 0 }
-        ensures more { starts 0 result };
+        ensures implementation { starts 0 result };
 
     /// Returns an empty arena with the counter at two and a capacity of at least `n`.
     ///
@@ -94,7 +94,7 @@ pub trait ArenaTrait<P: PtrKey, T: Drop> {
     /// allocation failed.
     fn with_min_capacity(alloc: Global, n: usize) -> Result<Self, AllocError>
         ensures outcome { StartsWithCapacity view P.Gen.first P.Inx.greatest n result }
-        ensures more { IfOk result (starts n) };
+        ensures implementation { IfOk result (starts n) };
 
     /// Returns the number of entries that fit without growth, at most the greatest index and the
     /// maximum.
@@ -133,7 +133,7 @@ pub trait ArenaTrait<P: PtrKey, T: Drop> {
         ensures outcome { Reserves P.Inx.greatest n (view self.old) result (view self.new) }
         ensures enough { n ≤ (view self.old).capacity → self.new ≡ self.old }
         ensures err { OnErr result (self.new ≡ self.old) }
-        ensures more { grows n self.old self.new };
+        ensures implementation { grows n self.old self.new };
 
     /// Returns the generation counter, if the arena has a single one.
     fn singular_generation(&self) -> Option<P::Gen>
@@ -198,36 +198,36 @@ pub trait ArenaTrait<P: PtrKey, T: Drop> {
     /// If the counter wraps to two, that is done all the same, and the pointer is returned in
     /// `GenerationOverflow`. Returns `InvalidPtr` if `p` is not valid; nothing changes then.
     fn invalidate(&mut self, p: P) -> InvalidationResult<P>
-        ensures outcome { InvalidatesEntry state ⟦<P as AnyPointer>⟧.kind self.old p result
+        ensures outcome { InvalidatesEntry state ⟦<P as AnyPointer>⟧.pointers self.old p result
             self.new }
         ensures invalid { IfNone (value_within result) (self.new ≡ self.old) }
-        ensures more { OnSome (value_within result) (renews self.old (P.key p).0 self.new) };
+        ensures implementation { OnSome (value_within result) (extra_on_invalidate self.old (P.key p).0 self.new) };
 
     /// Removes an entry, returns its value and increments the counter.
     ///
     /// If that wraps to two, the entry is removed and its value returned in `GenerationOverflow`.
     /// Returns `InvalidPtr` if `p` is not valid; nothing changes then.
     fn remove(&mut self, p: P) -> InvalidationResult<T>
-        ensures outcome { RemovesEntry state ⟦<P as AnyPointer>⟧.kind self.old p result self.new }
+        ensures outcome { RemovesEntry state ⟦<P as AnyPointer>⟧.pointers self.old p result self.new }
         ensures invalid { IfNone (value_within result) (self.new ≡ self.old) }
-        ensures more { OnSome (value_within result) (removes self.old (P.key p).0 self.new) };
+        ensures implementation { OnSome (value_within result) (removes self.old (P.key p).0 self.new) };
 
     /// Removes the entry at an index, returns its generation and value, and increments the counter.
     ///
     /// If that wraps to two, the entry is removed and returned in `GenerationOverflow`. Returns
     /// `InvalidPtr` if no entry is there; nothing changes then.
     fn remove_inx(&mut self, i: P::Inx) -> InvalidationResult<(P::Gen, T)>
-        ensures outcome { RemovesEntryAt state ⟦<P as AnyPointer>⟧.kind self.old i result
+        ensures outcome { RemovesEntryAt state ⟦<P as AnyPointer>⟧.pointers self.old i result
             self.new }
         ensures invalid { IfNone (value_within result) (self.new ≡ self.old) }
-        ensures more { OnSome (value_within result) (removes self.old (P.Inx.number i) self.new) };
+        ensures implementation { OnSome (value_within result) (removes self.old (P.Inx.number i) self.new) };
 
     /// Removes all entries and slots, and increments the counter once if there were entries.
     ///
     /// The capacity stays the same. Returns `GenerationOverflow` if the counter wrapped to two.
     fn clear(&mut self) -> InvalidationOption<()>
-        ensures outcome { ClearsEntries state ⟦<P as AnyPointer>⟧.kind self.old result self.new }
-        ensures more { clears self.old self.new };
+        ensures outcome { ClearsEntries state ⟦<P as AnyPointer>⟧.pointers self.old result self.new }
+        ensures implementation { clears self.old self.new };
 
     /// Compacts the entries: the entry of the k-th least index is moved to index k.
     ///
@@ -245,20 +245,20 @@ pub trait ArenaTrait<P: PtrKey, T: Drop> {
         map: F,
     ) -> InvalidationOption<()>
         requires { F.IsAlwaysCallable map }
-        ensures outcome { CompressesEntries state ⟦<P as AnyPointer>⟧.kind self.old reset result
+        ensures outcome { CompressesEntries state ⟦<P as AnyPointer>⟧.pointers self.old reset result
             self.new }
         ensures visits { VisitsAll F.FnMut P.key map (view self.old).entries
             (view self.new).entries }
-        ensures more { compresses self.old self.new };
+        ensures implementation { compresses self.old self.new };
 
     /// Compacts the entries as `compress_with` does, without a closure. Each value stays the same.
     ///
     /// Returns `GenerationOverflow` if the counter wrapped to two.
     fn compress(&mut self, reset: bool) -> InvalidationOption<()>
-        ensures outcome { CompressesEntries state ⟦<P as AnyPointer>⟧.kind self.old reset result
+        ensures outcome { CompressesEntries state ⟦<P as AnyPointer>⟧.pointers self.old reset result
             self.new }
         ensures values { values_in (view self.new).entries ≡ values_in (view self.old).entries }
-        ensures more { compresses self.old self.new }
+        ensures implementation { compresses self.old self.new }
     {
         self.compress_with(reset, |_p: P, _t: &mut T, _q: P| {})
     }

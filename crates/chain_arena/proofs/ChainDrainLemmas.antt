@@ -12,11 +12,11 @@ use Rattle.chain_laws.proofs.WalkLemmas.Drains.{walk_from-walk, walk_from-none, 
 use Rattle.arena_traits.specs.Arena.{Arena, entry_at, remove_at}
 use Rattle.arena_traits.specs.Arena.{IsValid}
 use Rattle.arena_traits.proofs.ArenaViewLemmas.{length-with_slot}
-use Rattle.chain_links.specs.ChainArena.{LinkView, link_map, on_value, link_value as held_value, interlinks_of, values_of, link_of, link_at, remove_link}
+use Rattle.chain_links.specs.ChainArena.{LinkView, link_map, on_value, link_value as detached_value, interlinks_of, values_of, link_of, link_at, remove_link}
 use Rattle.chain_links.specs.ChainArena.{nonzero_index}
 use Rattle.chain_links.specs.Links.{link_view}
 use Rattle.chain_arena.specs.Drains.{walk_left, without_each, IsDrainStep, CountsUp}
-use Rattle.chain_links.specs.declared.links.LinkBody.{LinkBody}
+use Rattle.chain_links.specs.declared.links.RawLink.{RawLink}
 use Rattle.chain_links.proofs.MappedArenaLemmas.{entry_at-with_each}
 use Rattle.chain_links.proofs.LinkStateLemmas.{length-with_link_map}
 use Rattle.chain_links.proofs.ArenaInsertionLemmas.{link_map-within}
@@ -39,8 +39,8 @@ nonzero_index-is (suc n) i is = cc
 module _ {Gen T : Type 0} where
   -- The link at an index is the entry there.
   pub link_at-entry : (a : Arena Gen (LinkView T)) (i : ℕ) → link_at (entry_at (values_of a)) (link_map a) i ≡ entry_at a i
-  link_at-entry a i = ap (λ (o : Option (Gen × T)). link_of o (link_map a i)) (entry_at-with_each held_value a i) ∙ whole (entry_at a i) where
-    whole : (o : Option (Gen × LinkView T)) → link_of (option_map (on_value held_value) o) (option_map interlinks_of o) ≡ o
+  link_at-entry a i = ap (λ (o : Option (Gen × T)). link_of o (link_map a i)) (entry_at-with_each detached_value a i) ∙ whole (entry_at a i) where
+    whole : (o : Option (Gen × LinkView T)) → link_of (option_map (on_value detached_value) o) (option_map interlinks_of o) ≡ o
     whole None = refl
     whole (Some e) = refl
 
@@ -59,9 +59,9 @@ module _ {Gen T : Type 0} where
       (walk_from-walk (length a.slots) (link_map a) i agrees (link_map-within a) (stored-valid a i e stored))
 
   pub walk_left-valid : (a : Arena Gen (LinkView T)) (p : ℕ × Gen) → IsWellLinked (link_map a) → IsValid (entry_at (values_of a)) p → IsWalk (link_map a) p.0 (walk_left a p.0)
-  walk_left-valid a p agrees valid = by (entry_at a p.0) refl (sym (entry_at-with_each held_value a p.0) ∙ valid.stored) where
-    by : (o : Option (Gen × LinkView T)) → entry_at a p.0 ≡ o → option_map (on_value held_value) (entry_at a p.0) ≡ Some (p.1, valid.value) → IsWalk (link_map a) p.0 (walk_left a p.0)
-    by None none is = absurd (let h = sym (ap (option_map (on_value held_value)) none) ∙ is in cc)
+  walk_left-valid a p agrees valid = by (entry_at a p.0) refl (sym (entry_at-with_each detached_value a p.0) ∙ valid.stored) where
+    by : (o : Option (Gen × LinkView T)) → entry_at a p.0 ≡ o → option_map (on_value detached_value) (entry_at a p.0) ≡ Some (p.1, valid.value) → IsWalk (link_map a) p.0 (walk_left a p.0)
+    by None none is = absurd (let h = sym (ap (option_map (on_value detached_value)) none) ∙ is in cc)
     by (Some e) stored is = walk_left-walk a p.0 e agrees stored
 
   -- Nothing is left at a free slot.
@@ -117,19 +117,19 @@ module _ {Gen T : Type 0} where
 
 module _ {P Gen K T : Type 0} (key : P → ℕ × Gen) (number : K → Option ℕ) (following : Gen → Gen) (wraps : Gen → Bool) where
   -- A removal by index is a step of a drain.
-  module _ (old new : Arena Gen (LinkView T)) (at i next : ℕ) (taken : InvalidationResult (Gen × LinkBody K T)) (same : i ≡ at) (agrees : IsWellLinked (link_map old))
+  module _ (old new : Arena Gen (LinkView T)) (at i next : ℕ) (taken : InvalidationResult (Gen × RawLink K T)) (same : i ≡ at) (agrees : IsWellLinked (link_map old))
       (responded : option_map (on_value (link_view number)) (value_within taken) ≡ link_at (entry_at (values_of old)) (link_map old) i) where
-    found : (o : Option (Gen × LinkBody K T)) → value_within taken ≡ o → entry_at old at ≡ option_map (on_value (link_view number)) o
+    found : (o : Option (Gen × RawLink K T)) → value_within taken ≡ o → entry_at old at ≡ option_map (on_value (link_view number)) o
     found o is = ap (entry_at old) (sym same) ∙ (sym (link_at-entry old i) ∙ (sym responded ∙ ap (option_map (on_value (link_view number))) is))
 
-    entry-is : (o : Option (Gen × LinkBody K T)) → value_within taken ≡ o → entry_at (values_of old) i ≡ option_map (on_value held_value) (option_map (on_value (link_view number)) o)
-    entry-is o is = entry_at-with_each held_value old i ∙ ap (option_map (on_value held_value)) (ap (entry_at old) same ∙ found o is)
+    entry-is : (o : Option (Gen × RawLink K T)) → value_within taken ≡ o → entry_at (values_of old) i ≡ option_map (on_value detached_value) (option_map (on_value (link_view number)) o)
+    entry-is o is = entry_at-with_each detached_value old i ∙ ap (option_map (on_value detached_value)) (ap (entry_at old) same ∙ found o is)
 
     -- If there is no link, nothing is left.
     pub drained_none : value_within taken ≡ None → (entry_at (values_of old) i ≡ None → new ≡ old) → (walk_left old at ≡ []) × (new ≡ old)
     drained_none none kept = (walk_left-none old at (found None none), kept (entry-is None none))
 
-    pub drained_step : (e : Gen × LinkBody K T) (overflow : Bool) (returned : InvalidationOption (P × LinkBody K T))
+    pub drained_step : (e : Gen × RawLink K T) (overflow : Bool) (returned : InvalidationOption (P × RawLink K T))
         → taken ≡ invalidation_result (wraps old.counter) (value_within taken) → (is_some (entry_at (values_of old) i) ≡ true → new ≡ remove_link following old i)
         → value_within taken ≡ Some e → overflow ≡ is_overflow_result taken → key (value_in returned).0 ≡ (i, e.0) → (value_in returned).1 ≡ e.1 → is_overflow returned ≡ overflow
         → nonzero_index next ≡ rest_start i (number e.1.prev) (number e.1.next) → IsDrainStep key number following wraps old at returned new next
@@ -138,20 +138,20 @@ module _ {P Gen K T : Type 0} (key : P → ℕ × Gen) (number : K → Option �
         let stored : entry_at old at ≡ Some (e.0, link_view number e.1) = found (Some e) has in
         record {
           index = ap (λ (k : ℕ × Gen). k.0) keyed ∙ same;
-          stored = stored ∙ sym (ap₂ (λ (k : ℕ × Gen) (l : LinkBody K T). let o : Option (Gen × LinkView T) = Some (k.1, link_view number l) in o) keyed linked);
-          overflow = over ∙ (known ∙ (ap is_overflow_result made ∙ (ap (λ (o : Option (Gen × LinkBody K T)). is_overflow_result (invalidation_result (wraps old.counter) o)) has
+          stored = stored ∙ sym (ap₂ (λ (k : ℕ × Gen) (l : RawLink K T). let o : Option (Gen × LinkView T) = Some (k.1, link_view number l) in o) keyed linked);
+          overflow = over ∙ (known ∙ (ap is_overflow_result made ∙ (ap (λ (o : Option (Gen × RawLink K T)). is_overflow_result (invalidation_result (wraps old.counter) o)) has
               ∙ is_overflow_result-made (wraps old.counter) e)));
           state = state;
           walk = walk_left-next following old new at next (e.0, link_view number e.1) agrees stored state (on ∙ ap (λ (n : ℕ). rest_start n (number e.1.prev) (number e.1.next)) same);
         }
 
   -- A step keeps the arena that removing the remaining walk gives.
-  pub without_each-step : (old new : Arena Gen (LinkView T)) (at next : ℕ) (returned : InvalidationOption (P × LinkBody K T)) → IsDrainStep key number following wraps old at returned new next
+  pub without_each-step : (old new : Arena Gen (LinkView T)) (at next : ℕ) (returned : InvalidationOption (P × RawLink K T)) → IsDrainStep key number following wraps old at returned new next
       → without_each following new (walk_left new next) ≡ without_each following old (walk_left old at)
   without_each-step old new at next returned step =
       ap (λ (a : Arena Gen (LinkView T)). without_each following a (walk_left new next)) step.state ∙ sym (ap (without_each following old) step.walk)
 
   -- A step leaves fewer links.
-  pub walk_left-step : (old new : Arena Gen (LinkView T)) (at next : ℕ) (returned : InvalidationOption (P × LinkBody K T)) → IsDrainStep key number following wraps old at returned new next
+  pub walk_left-step : (old new : Arena Gen (LinkView T)) (at next : ℕ) (returned : InvalidationOption (P × RawLink K T)) → IsDrainStep key number following wraps old at returned new next
       → length (walk_left new next) < length (walk_left old at)
   walk_left-step old new at next returned step = let longer : length (walk_left old at) ≡ length (at ∷ walk_left new next) = ap (length {A = ℕ}) step.walk in omega (arith, longer)

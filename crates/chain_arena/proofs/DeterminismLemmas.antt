@@ -33,7 +33,7 @@ use Rattle.chain_arena.specs.declared.calls.Call.TheVariants as call
 use Rattle.chain_arena.specs.declared.calls.Reply.{Reply}
 use Rattle.chain_arena.specs.declared.calls.Reply.TheVariants as reply
 use Rattle.chain_laws.specs.declared.insert_kind.InsertKind.{InsertKind}
-use Rattle.chain_links.specs.declared.links.LinkBody.{LinkBody}
+use Rattle.chain_links.specs.declared.links.RawLink.{RawLink}
 use Rattle.chain_links.proofs.ArenaInsertionLemmas.{values-count}
 use Rattle.arena_traits.proofs.CallOutcomeLemmas.{not_beyond}
 use Rattle.chain_arena.proofs.TouchCountLemmas.{touch, compression_same, layout_same, step_touched, run_touched}
@@ -198,7 +198,7 @@ module _ {P T I Gen W : Type 0} (pointers : PointerKind P I Gen W) (same_key : (
       (refl, cut_same (next_of (link_map old) (pointers.key p).0) one.0.1 (λ i. with_link_map old (without_pair (link_map old) (pointers.key p).0 i)) a b (λ i. IsCut old a (pointers.key p).0 i) (λ i. IsCut old b (pointers.key p).0 i) (λ i cut. cut.state) (λ i cut. cut.state) one.0.2 one.2 two.2)
 
   -- A link determines its generation and its view.
-  same_link : (old : Links Gen T) (n : ℕ) (g h : Gen) (k l : LinkBody (PackedOption I W) T) → link_at (entry old) (link_map old) n ≡ Some (g, link_view pointers.packed k) → link_at (entry old) (link_map old) n ≡ Some (h, link_view pointers.packed l)
+  same_link : (old : Links Gen T) (n : ℕ) (g h : Gen) (k l : RawLink (PackedOption I W) T) → link_at (entry old) (link_map old) n ≡ Some (g, link_view pointers.packed k) → link_at (entry old) (link_map old) n ≡ Some (h, link_view pointers.packed l)
       → pair_view pointers.packed (g, k) ≡ pair_view pointers.packed (h, l)
   same_link old n g h k l one two =
       let both : Some (g, link_view pointers.packed k) ≡ Some (h, link_view pointers.packed l) = sym one ∙ two in
@@ -339,7 +339,7 @@ module _ {P T I Gen W : Type 0} (pointers : PointerKind P I Gen W) (same_key : (
       (subst (λ x. AreSameReplies pointers.packed x s) (sym one.1) (subst (λ x. AreSameReplies pointers.packed (reply.Removed one.0) x) (sym two.1) known), same_but_touched a b both)
   step_same old (call.RemoveInx i) r s a b within_capacity one two =
       let n = pointers.number i in
-      let known = states_same {No = entry old n ≡ None} (pair_view pointers.packed) (λ (e : Gen × LinkBody (PackedOption I W) T). IsTaken value_state link_map pointers old n e.0 e.1 a) (λ (e : Gen × LinkBody (PackedOption I W) T). IsTaken value_state link_map pointers old n e.0 e.1 b)
+      let known = states_same {No = entry old n ≡ None} (pair_view pointers.packed) (λ (e : Gen × RawLink (PackedOption I W) T). IsTaken value_state link_map pointers old n e.0 e.1 a) (λ (e : Gen × RawLink (PackedOption I W) T). IsTaken value_state link_map pointers old n e.0 e.1 b)
       pointers.wraps old.counter one.0 two.0 (λ e taken none. no_link old n _ taken.0 none) (λ e taken none. no_link old n _ taken.0 none)
       (λ x y first second. same_link old n x.0 y.0 x.1 y.1 first.0 second.0) one.2.0 two.2.0 in
       let both = arenas_same (pair_view pointers.packed) old a b _ _ one.0 two.0 (λ done made. same done.state made.state) known one.2.1 two.2.1 one.2.2 two.2.2 in

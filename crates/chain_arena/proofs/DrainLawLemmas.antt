@@ -5,8 +5,8 @@ use Rattle.std.proofs.lemmas.List.Elements.{All-cons, All-nil, All-weaker}
 use Rattle.arena_core.specs.Invalidation.{value_in}
 use Rattle.arena_core.specs.declared.invalidation.InvalidationOption.{InvalidationOption}
 use Rattle.arena_traits.specs.Arena.{Arena, entry_at, slot_at, with_slot, IsValid}
-use Rattle.chain_links.specs.ChainArena.{LinkView, entry, values_of, remove_link, link_value as held_value, on_value}
-use Rattle.chain_links.specs.declared.links.LinkBody.{LinkBody}
+use Rattle.chain_links.specs.ChainArena.{LinkView, entry, values_of, remove_link, link_value as detached_value, on_value}
+use Rattle.chain_links.specs.declared.links.RawLink.{RawLink}
 use Rattle.chain_links.proofs.MappedArenaLemmas.{entry_at-with_each}
 use Rattle.chain_linking.proofs.UnlinkLemmas.{values_of-remove_link}
 use Rattle.chain_arena.specs.Drains.{walk_left, IsDrainStep}
@@ -34,13 +34,13 @@ module _ {P Gen K T : Type 0} (key : P → ℕ × Gen) (number : K → Option �
       record { value = valid.value; stored = slot_cleared (values_of old).slots i p.0 (p.1, valid.value) (sym (ap (λ (a : Arena Gen T). entry_at a p.0) values) ∙ valid.stored) }
 
   -- The link of a step was valid.
-  step_valid : (old new : Arena Gen (LinkView T)) (at next : ℕ) (gone : InvalidationOption (P × LinkBody K T)) → IsDrainStep key number following wraps old at gone new next
+  step_valid : (old new : Arena Gen (LinkView T)) (at next : ℕ) (gone : InvalidationOption (P × RawLink K T)) → IsDrainStep key number following wraps old at gone new next
       → IsValid (entry old) (key (value_in gone).0)
   step_valid old new at next gone step =
       let p = key (value_in gone).0 in
       record {
         value = (value_in gone).1.t;
-        stored = entry_at-with_each held_value old p.0 ∙ ap (option_map (on_value held_value)) (ap (entry_at old) step.index ∙ step.stored);
+        stored = entry_at-with_each detached_value old p.0 ∙ ap (option_map (on_value detached_value)) (ap (entry_at old) step.index ∙ step.stored);
       }
 
   pub drain_gives_the_walk : DrainGivesTheWalk T key number following wraps
@@ -49,9 +49,9 @@ module _ {P Gen K T : Type 0} (key : P → ℕ × Gen) (number : K → Option �
   drain_gives_the_walk old new at next (gone ∷ rest) drained spent =
       let mid = drained.0 in
       let step = drained.2 in
-      let was_valid : InvalidationOption (P × LinkBody K T) → Type 0 = λ item. IsValid (entry old) (key (value_in item).0) in
+      let was_valid : InvalidationOption (P × RawLink K T) → Type 0 = λ item. IsValid (entry old) (key (value_in item).0) in
       let later = drain_gives_the_walk mid new drained.1 next rest drained.3 spent in (
-        ap (λ (n : ℕ). n ∷ map (λ (item : InvalidationOption (P × LinkBody K T)). (key (value_in item).0).0) rest) step.index ∙ (ap (λ (walk : List ℕ). at ∷ walk) later.0 ∙ sym step.walk),
+        ap (λ (n : ℕ). n ∷ map (λ (item : InvalidationOption (P × RawLink K T)). (key (value_in item).0).0) rest) step.index ∙ (ap (λ (walk : List ℕ). at ∷ walk) later.0 ∙ sym step.walk),
         All-cons was_valid gone rest (step_valid old mid at drained.1 gone step)
-            (All-weaker (λ (item : InvalidationOption (P × LinkBody K T)). IsValid (entry mid) (key (value_in item).0)) was_valid (λ (item : InvalidationOption (P × LinkBody K T)). valid_before old mid at (key (value_in item).0) step.state) rest later.1),
+            (All-weaker (λ (item : InvalidationOption (P × RawLink K T)). IsValid (entry mid) (key (value_in item).0)) was_valid (λ (item : InvalidationOption (P × RawLink K T)). valid_before old mid at (key (value_in item).0) step.state) rest later.1),
       )

@@ -12,7 +12,7 @@ use Rattle.arena_traits.specs.CallOutcomes.{InvalidatesEntry}
 use Rattle.arena_traits.specs.EntryLaws.{arena_state}
 use Rattle.arena_traits.specs.Arena.{Arena, IsValid, entry_at, with_slot, with_value, invalidate_at, arena_after_clear}
 use Rattle.arena_traits.specs.Entries.{view_of, view_with_value, view_after_invalidation, view_after_clear}
-use Rattle.chain_links.specs.declared.links.LinkBody.{LinkBody}
+use Rattle.chain_links.specs.declared.links.RawLink.{RawLink}
 use Rattle.chain_links.specs.ChainArena.{on_value, LinkView, link_value, with_link_value, values_of, value_view, value_state, link_map, with_value_at}
 use Rattle.chain_links.specs.Links.{link_view, links_view, pair_view, AreAtRest, IsChainArena}
 use Rattle.chain_links.proofs.RestLemmas.{renewed_at_rest}
@@ -35,16 +35,16 @@ module _ {Gen T : Type 0} where
       → values_of (with_value_at a n w) ≡ with_value (values_of a) n w
   values_of-with_value_at a n l w stored = ap (λ (x : Arena Gen (LinkView T)). values_of x) (sym (value-written a n l w stored)) ∙ with_each-with_value link_value a n (with_link_value w l)
 
-module _ {Gen K T : Type 0} (number : K → Option ℕ) (a b : Arena Gen (LinkBody K T)) (n : ℕ) (l : LinkBody K T) (w : T)
-    (stored : option_map (λ (e : Gen × LinkBody K T). e.1) (entry_at a n) ≡ Some l) (wrote : b ≡ with_value a n (record l { t = w })) where
+module _ {Gen K T : Type 0} (number : K → Option ℕ) (a b : Arena Gen (RawLink K T)) (n : ℕ) (l : RawLink K T) (w : T)
+    (stored : option_map (λ (e : Gen × RawLink K T). e.1) (entry_at a n) ≡ Some l) (wrote : b ≡ with_value a n (record l { t = w })) where
   viewed_stored : option_map (λ (e : Gen × LinkView T). e.1) (entry_at (links_view number a) n) ≡ Some (link_view number l)
   viewed_stored = ap (option_map (λ (e : Gen × LinkView T). e.1)) (entry_at-links_view number a n) ∙ (by (entry_at a n) ∙ ap (option_map (link_view number)) stored) where
-    by : (o : Option (Gen × LinkBody K T)) → option_map (λ (e : Gen × LinkView T). e.1) (option_map (pair_view number) o) ≡ option_map (link_view number) (option_map (λ (e : Gen × LinkBody K T). e.1) o)
+    by : (o : Option (Gen × RawLink K T)) → option_map (λ (e : Gen × LinkView T). e.1) (option_map (pair_view number) o) ≡ option_map (link_view number) (option_map (λ (e : Gen × RawLink K T). e.1) o)
     by None = refl
     by (Some e) = refl
 
   pub written-state : links_view number b ≡ with_value_at (links_view number a) n w
-  written-state = ap (λ (x : Arena Gen (LinkBody K T)). links_view number x) wrote
+  written-state = ap (λ (x : Arena Gen (RawLink K T)). links_view number x) wrote
       ∙ (with_each-with_value (link_view number) a n (record l { t = w }) ∙ value-written (links_view number a) n (link_view number l) w viewed_stored)
 
   pub written-link_map : link_map (links_view number b) ≡ link_map (links_view number a)
@@ -57,9 +57,9 @@ module _ {Gen K T : Type 0} (number : K → Option ℕ) (a b : Arena Gen (LinkBo
   written-view_after = ap (λ (x : Arena Gen (LinkView T)). view_of (values_of x)) written-state
       ∙ (ap (λ (x : Arena Gen T). view_of x) (values_of-with_value_at (links_view number a) n (link_view number l) w viewed_stored) ∙ viewed_written (values_of (links_view number a)) n w)
 
-module _ {Gen K T : Type 0} (number : K → Option ℕ) (following : Gen → Gen) (a b : Arena Gen (LinkBody K T)) (n : ℕ) (is : b ≡ invalidate_at following a n) where
+module _ {Gen K T : Type 0} (number : K → Option ℕ) (following : Gen → Gen) (a b : Arena Gen (RawLink K T)) (n : ℕ) (is : b ≡ invalidate_at following a n) where
   pub renewed-state : links_view number b ≡ invalidate_at following (links_view number a) n
-  renewed-state = ap (λ (x : Arena Gen (LinkBody K T)). links_view number x) is ∙ with_each-invalidate_at (link_view number) following a n
+  renewed-state = ap (λ (x : Arena Gen (RawLink K T)). links_view number x) is ∙ with_each-invalidate_at (link_view number) following a n
 
   pub renewed-link_map : link_map (links_view number b) ≡ link_map (links_view number a)
   renewed-link_map = link_map-renewed following (links_view number a) (links_view number b) n renewed-state
@@ -69,8 +69,8 @@ module _ {Gen K T : Type 0} (number : K → Option ℕ) (following : Gen → Gen
       ∙ (ap (λ (x : Arena Gen T). view_of x) (with_each-invalidate_at link_value following (links_view number a) n) ∙ viewed_renewed following (values_of (links_view number a)) n)
 
 -- A new generation for a link is one for its entry.
-module _ {P I Gen W T : Type 0} (pointers : PointerKind P I Gen W) (a b : Arena Gen (LinkBody (PackedOption I W) T)) (p : P) where
-  abbrev viewed : Arena Gen (LinkBody (PackedOption I W) T) → Arena Gen (LinkView T)
+module _ {P I Gen W T : Type 0} (pointers : PointerKind P I Gen W) (a b : Arena Gen (RawLink (PackedOption I W) T)) (p : P) where
+  abbrev viewed : Arena Gen (RawLink (PackedOption I W) T) → Arena Gen (LinkView T)
   viewed = links_view pointers.packed
 
   pub renews : (r : InvalidationResult P) → InvalidatesEntry arena_state pointers a p r b → OnSome (value_within r) (b ≡ invalidate_at pointers.following a (pointers.key p).0) → InvalidatesEntry value_state pointers (viewed a) p r (viewed b)
@@ -103,8 +103,8 @@ module _ {P I Gen W T : Type 0} (pointers : PointerKind P I Gen W) (a b : Arena 
   }
 
 -- The arena after a clear.
-module _ {Gen K T : Type 0} (number : K → Option ℕ) (following : Gen → Gen) (a b : Arena Gen (LinkBody K T)) (is : b ≡ arena_after_clear following a) where
+module _ {Gen K T : Type 0} (number : K → Option ℕ) (following : Gen → Gen) (a b : Arena Gen (RawLink K T)) (is : b ≡ arena_after_clear following a) where
   pub cleared-view_after : view_of (values_of (links_view number b)) ≡ view_after_clear following (view_of (values_of (links_view number a)))
-  cleared-view_after = ap (λ (x : Arena Gen (LinkBody K T)). view_of (values_of (links_view number x))) is
+  cleared-view_after = ap (λ (x : Arena Gen (RawLink K T)). view_of (values_of (links_view number x))) is
       ∙ (ap (λ (x : Arena Gen (LinkView T)). view_of (values_of x)) (with_each-cleared (link_view number) following a)
       ∙ (ap (λ (x : Arena Gen T). view_of x) (with_each-cleared link_value following (links_view number a)) ∙ viewed_cleared following (values_of (links_view number a))))

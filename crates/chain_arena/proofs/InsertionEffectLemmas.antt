@@ -11,7 +11,7 @@ use Rattle.arena_traits.specs.Arena.{Arena, without_first, IsListed, first_or_ne
 use Rattle.arena_traits.specs.Entries.{Slots, view_of, entries, count}
 use Rattle.arena_traits.proofs.ArenaViewLemmas.{length-entries, count-filled}
 use Rattle.chain_links.specs.ChainArena.{LinkView, link_value, values_of, value_view, value_state, link_map, lone, insert_lone, insert_between}
-use Rattle.chain_links.specs.Insertions.{IsInsertedBetween, GainsLink, before_new, after_new}
+use Rattle.chain_links.specs.Insertions.{IsInsertedBetween, IsLinkInserted, before_new, after_new}
 use Rattle.chain_links.proofs.MappedArenaLemmas.{with_each-insert_next, length-with_each, listed-with_each}
 use Rattle.chain_links.proofs.ArenaInsertionLemmas.{link_map-insert_lone, link_map-next, inserted_at, length-filled}
 use Rattle.chain_arena.specs.NewLinks.{with_new_link}
@@ -82,7 +82,7 @@ module _ {Gen T : Type 0} (a : Arena Gen (LinkView T)) (t : T) (listed : IsListe
   -- An insertion of a kind, from the state alone.
   pub insertion_known : {P I W : Type 0} (pointers : PointerKind P I Gen W) (b : Arena Gen (LinkView T)) (kind : InsertKind P I) → b ≡ with_capacity_of (with_new_link pointers a kind t) b → (p : P) → pointers.key p ≡ (next_index a, a.counter)
       → IsWellLinked (link_map a) → IsInsertPosition (link_map a) (next_index a) (before_new pointers (link_map a) kind (next_index a)) (after_new pointers (link_map a) kind (next_index a))
-      → GainsLink value_state link_map pointers a kind t p b
+      → IsLinkInserted value_state link_map pointers a kind t p b
   insertion_known pointers b kind is p at agrees position =
       subst (λ (q : ℕ × Gen). IsInsertedBetween value_state link_map (before_new pointers (link_map a) kind q.0) (after_new pointers (link_map a) kind q.0) a t q b) (sym at)
       (known_between b (before_new pointers (link_map a) kind (next_index a)) (after_new pointers (link_map a) kind (next_index a)) is (next_index a, a.counter) refl agrees position)

@@ -14,7 +14,7 @@ use Rattle.chain_laws.specs.Chains.{Interlinks, IsWellLinked}
 use Rattle.arena_traits.specs.Arena.{Arena, slot_at, new_arena}
 use Rattle.arena_traits.specs.Entries.{ArenaView, Slots, entries_from, entries}
 use Rattle.arena_base.specs.Copies.{Copied, Makes, CopiesBy, IsCopyBy, IsCopyCall, HasRefusable, HasSlotsOf, IsAbandonedCopy, generations}
-use Rattle.chain_links.specs.declared.links.LinkBody.{LinkBody}
+use Rattle.chain_links.specs.declared.links.RawLink.{RawLink}
 use Rattle.chain_links.specs.ChainArena.{LinkView, on_value, interlinks_in, interlinks_of, link_map, values_of}
 use Rattle.chain_links.specs.Links.{link_view, links_view, pair_view, held_in, destination_of, AreAtRest}
 use Rattle.chain_arena.specs.LinkCopies.{MakesLink, MakesOf, RefusesOf, IsLinkCopyBy, IsClone, CopiesOrRefuses, CopiesOrLacksCapacity, ClonesOrRefuses}
@@ -87,7 +87,7 @@ module _ {Gen X Y : Type 0} (f : X → Y) where
   generations-map (None ∷ slots) = ap (λ gs. None ∷ gs) (generations-map slots)
   generations-map (Some e ∷ slots) = ap (λ gs. Some e.0 ∷ gs) (generations-map slots)
 
-module _ {P K U Gen : Type 0} (number : K → Option ℕ) (may_refuse : P → LinkBody K U → Type 0) (key : P → ℕ × Gen) (source : Arena Gen (LinkBody K U)) where
+module _ {P K U Gen : Type 0} (number : K → Option ℕ) (may_refuse : P → RawLink K U → Type 0) (key : P → ℕ × Gen) (source : Arena Gen (RawLink K U)) where
   -- A link that may be refused, as contracts see it.
   pub refusable_viewed : HasRefusable may_refuse key (entries source) → HasRefusable (RefusesOf (link_view number) may_refuse) key (entries (links_view number source))
   refusable_viewed has = record {
@@ -113,35 +113,35 @@ copy_abandoned_agrees {Gen} {T} old new is =
 
 module _ {Gen K U T : Type 0} (number : K → Option ℕ) where
   -- A copy of an arena of links, as contracts see it.
-  pub has_slots_viewed : (source : Arena Gen (LinkBody K U)) (old new : Arena Gen (LinkBody K T)) → HasSlotsOf source old new → HasSlotsOf (links_view number source) (links_view number old) (links_view number new)
+  pub has_slots_viewed : (source : Arena Gen (RawLink K U)) (old new : Arena Gen (RawLink K T)) → HasSlotsOf source old new → HasSlotsOf (links_view number source) (links_view number old) (links_view number new)
   has_slots_viewed source old new has = record {
     state = ap (links_view number) has.state;
     generations = generations-map (link_view number) new.slots ∙ (has.generations ∙ sym (generations-map (link_view number) source.slots));
     within_capacity = λ few. has.within_capacity (subst (λ n. n ≤ old.capacity) (length-with_each (link_view number) source) few);
   }
 
-abbrev interlinks_as : {K T : Type 0} → (K → Option ℕ) → LinkBody K T → Interlinks
+abbrev interlinks_as : {K T : Type 0} → (K → Option ℕ) → RawLink K T → Interlinks
 interlinks_as number link = interlinks_in (link_view number link)
 
 module _ {Gen K T : Type 0} (number : K → Option ℕ) where
-  link_map-slots : (a : Arena Gen (LinkBody K T)) (i : ℕ) → link_map (links_view number a) i ≡ option_map (λ e. e.1) (slot_at (map (option_map (on_value (interlinks_as number))) a.slots) i)
+  link_map-slots : (a : Arena Gen (RawLink K T)) (i : ℕ) → link_map (links_view number a) i ≡ option_map (λ e. e.1) (slot_at (map (option_map (on_value (interlinks_as number))) a.slots) i)
   link_map-slots a i =
       ap (option_map interlinks_of) (slot_at-map (pair_view number) a.slots i)
       ∙ (both (slot_at a.slots i) ∙ ap (option_map (λ (e : Gen × Interlinks). e.1)) (sym (slot_at-map (on_value (interlinks_as number)) a.slots i)))
     where
-      both : (o : Option (Gen × LinkBody K T)) → option_map interlinks_of (option_map (pair_view number) o) ≡ option_map (λ (e : Gen × Interlinks). e.1) (option_map (on_value (interlinks_as number)) o)
+      both : (o : Option (Gen × RawLink K T)) → option_map interlinks_of (option_map (pair_view number) o) ≡ option_map (λ (e : Gen × Interlinks). e.1) (option_map (on_value (interlinks_as number)) o)
       both None = refl
       both (Some e) = refl
 
 -- The destination of a link, and none.
-abbrev body_destination : {K T : Type 0} → (K → Option ℕ) → LinkBody K T → Option ℕ
+abbrev body_destination : {K T : Type 0} → (K → Option ℕ) → RawLink K T → Option ℕ
 body_destination number l = number l.destination
 
-abbrev no_destination : {K T : Type 0} → LinkBody K T → Option ℕ
+abbrev no_destination : {K T : Type 0} → RawLink K T → Option ℕ
 no_destination l = None
 
 -- The links of a copy are made from the source's links.
-module _ {V F P K U T Gen : Type 0} (number : K → Option ℕ) (makes : F → P → LinkView U → T → F → Type 0) (see : V → F) (key : P → ℕ × Gen) (f last : V) (source : Arena Gen (LinkBody K U)) (old new : Arena Gen (LinkBody K T))
+module _ {V F P K U T Gen : Type 0} (number : K → Option ℕ) (makes : F → P → LinkView U → T → F → Type 0) (see : V → F) (key : P → ℕ × Gen) (f last : V) (source : Arena Gen (RawLink K U)) (old new : Arena Gen (RawLink K T))
     (made : CopiesBy (λ v p u t w. MakesLink number makes (see v) p u t (see w)) key f (entries source) (entries new) last) (has : HasSlotsOf source old new) where
   pub interlinks_copied : link_map (links_view number new) ≡ link_map (links_view number source)
   interlinks_copied j i = (link_map-slots number new i
@@ -173,7 +173,7 @@ module _ {V F P K U T Gen : Type 0} (number : K → Option ℕ) (makes : F → P
       alike = slots_alike no_destination (body_destination number) 1 source.slots new.slots has.generations
           (copies_alike (λ v p u t w. MakesLink number makes (see v) p u t (see w)) no_destination (body_destination number) (λ v p u t w m. m.at_rest) key f last (entries source) (entries new) made)
 
-      by : (o : Option (Gen × LinkBody K T)) (s : Option (Gen × LinkBody K U)) → option_map (on_value (body_destination number)) o ≡ option_map (on_value no_destination) s → option_and_then (destination_of number) o ≡ None
+      by : (o : Option (Gen × RawLink K T)) (s : Option (Gen × RawLink K U)) → option_map (on_value (body_destination number)) o ≡ option_map (on_value no_destination) s → option_and_then (destination_of number) o ≡ None
       by None s same = refl
       by (Some x) None same = absurd (let h = same in cc)
       by (Some x) (Some y) same =
@@ -181,7 +181,7 @@ module _ {V F P K U T Gen : Type 0} (number : K → Option ℕ) (makes : F → P
           ap (λ (p : Gen × Option ℕ). p.1) pair
 
 -- A copy made from links is one made from the links as contracts see them.
-module _ {F P K U T Gen : Type 0} (number : K → Option ℕ) (makes : F → P → LinkBody K U → T → F → Type 0) (key : P → ℕ × Gen) (f last : F) (source : Arena Gen (LinkBody K U)) (old new : ArenaView Gen T) where
+module _ {F P K U T Gen : Type 0} (number : K → Option ℕ) (makes : F → P → RawLink K U → T → F → Type 0) (key : P → ℕ × Gen) (f last : F) (source : Arena Gen (RawLink K U)) (old new : ArenaView Gen T) where
   as_it_is : (es : List ((ℕ × Gen) × T)) → map (on_value (λ t. t)) es ≡ es
   as_it_is [] = refl
   as_it_is (e ∷ es) = ap (λ rest. e ∷ rest) (as_it_is es)
@@ -198,12 +198,12 @@ module _ {F P K U T Gen : Type 0} (number : K → Option ℕ) (makes : F → P �
   }
 
 -- What a closure makes, if it is a part of what makes the values.
-pub called_of : {V F P K U T : Type 0} (g : Mut F (P × (Bor (LinkBody K U) × Unit {0})) T) (see : V → F) (value_from : LinkBody K U → LinkView U) (v : V) (p : P) (u : LinkView U) (t : T) (w : V)
+pub called_of : {V F P K U T : Type 0} (g : Mut F (P × (Bor (RawLink K U) × Unit {0})) T) (see : V → F) (value_from : RawLink K U → LinkView U) (v : V) (p : P) (u : LinkView U) (t : T) (w : V)
     → MakesOf value_from (λ x p u t y. IsCopyCall g (see x) p u t (see y)) v p u t w → MakesOf value_from (IsCopyCall g) (see v) p u t (see w)
 called_of g see value_from v p u t w makes = record { passed = makes.passed; value_passed = makes.value_passed; made = makes.made }
 
 -- What a closure makes in a copy of an arena of links.
-pub called_copies : {V F P K U T Gen : Type 0} (g : Mut F (P × (Bor (LinkBody K U) × Unit {0})) T) (see : V → F) (value_from : LinkBody K U → LinkView U) (key : P → ℕ × Gen) (f last : V) (source : Arena Gen (LinkView U)) (old new : Arena Gen (LinkView T))
+pub called_copies : {V F P K U T Gen : Type 0} (g : Mut F (P × (Bor (RawLink K U) × Unit {0})) T) (see : V → F) (value_from : RawLink K U → LinkView U) (key : P → ℕ × Gen) (f last : V) (source : Arena Gen (LinkView U)) (old new : Arena Gen (LinkView T))
     → IsLinkCopyBy (MakesOf value_from (λ x p u t y. IsCopyCall g (see x) p u t (see y))) key f source old new last → IsLinkCopyBy (MakesOf value_from (IsCopyCall g)) key (see f) source old new (see last)
 called_copies g see value_from key f last source old new copy = record {
   slots = copy.slots;
@@ -212,13 +212,13 @@ called_copies g see value_from key f last source old new copy = record {
 }
 
 -- What a closure makes in a copy of any arena.
-pub called_copy : {V F P K U T Gen : Type 0} (g : Mut F (P × (Bor (LinkBody K U) × Unit {0})) T) (see : V → F) (value_from : LinkBody K U → LinkView U) (key : P → ℕ × Gen) (f last : V) (source : Arena Gen (LinkView U)) (old new : ArenaView Gen T)
+pub called_copy : {V F P K U T Gen : Type 0} (g : Mut F (P × (Bor (RawLink K U) × Unit {0})) T) (see : V → F) (value_from : RawLink K U → LinkView U) (key : P → ℕ × Gen) (f last : V) (source : Arena Gen (LinkView U)) (old new : ArenaView Gen T)
     → IsCopyBy (MakesOf value_from (λ x p u t y. IsCopyCall g (see x) p u t (see y))) key f source old new last → IsCopyBy (MakesOf value_from (IsCopyCall g)) key (see f) source old new (see last)
 called_copy g see value_from key f last source old new copy =
     copy_by (MakesOf value_from (λ x p u t y. IsCopyCall g (see x) p u t (see y))) (MakesOf value_from (IsCopyCall g)) see (called_of g see value_from) key f last source old new copy
 
 -- The links of a clone have the view of the source's links.
-module _ {F P K T Gen : Type 0} (number : K → Option ℕ) (is_clone : T → T → Type 0) (equal : (x y : T) → is_clone x y → y ≡ x) (key : P → ℕ × Gen) (f last : F) (source : Arena Gen (LinkBody K T)) (old new : Arena Gen (LinkBody K T))
+module _ {F P K T Gen : Type 0} (number : K → Option ℕ) (is_clone : T → T → Type 0) (equal : (x y : T) → is_clone x y → y ≡ x) (key : P → ℕ × Gen) (f last : F) (source : Arena Gen (RawLink K T)) (old new : Arena Gen (RawLink K T))
     (made : CopiesBy (MakesLink number (λ (_ : F) (_ : P) u t (_ : F). is_clone u.value t)) key f (entries source) (entries new) last) (has : HasSlotsOf source old new) where
   pub links_cloned : (links_view number new).slots ≡ (links_view number source).slots
   links_cloned = slots_alike (link_view number) (link_view number) 1 source.slots new.slots has.generations
@@ -229,13 +229,13 @@ module _ {F P K T Gen : Type 0} (number : K → Option ℕ) (is_clone : T → T 
   pub is_clone_of : (first : Gen) (maximum : Option ℕ) → old ≡ new_arena first maximum → IsClone first maximum (links_view number source) (links_view number new)
   is_clone_of first maximum begins = λ i. record {
     slots = links_cloned i;
-    counter = (ap (λ (a : Arena Gen (LinkBody K T)). a.counter) has.state) i;
-    freed = (ap (λ (a : Arena Gen (LinkBody K T)). a.freed) has.state) i;
+    counter = (ap (λ (a : Arena Gen (RawLink K T)). a.counter) has.state) i;
+    freed = (ap (λ (a : Arena Gen (RawLink K T)). a.freed) has.state) i;
     capacity = new.capacity;
     stack_capacity = new.stack_capacity;
-    maximum = (ap (λ (a : Arena Gen (LinkBody K T)). a.maximum) has.state ∙ ap (λ (a : Arena Gen (LinkBody K T)). a.maximum) begins) i;
-    placed = (ap (λ (a : Arena Gen (LinkBody K T)). a.placed) has.state ∙ ap (λ (a : Arena Gen (LinkBody K T)). a.placed) begins) i;
-    touched = (ap (λ (a : Arena Gen (LinkBody K T)). a.touched) has.state ∙ ap (λ (a : Arena Gen (LinkBody K T)). a.touched) begins) i;
+    maximum = (ap (λ (a : Arena Gen (RawLink K T)). a.maximum) has.state ∙ ap (λ (a : Arena Gen (RawLink K T)). a.maximum) begins) i;
+    placed = (ap (λ (a : Arena Gen (RawLink K T)). a.placed) has.state ∙ ap (λ (a : Arena Gen (RawLink K T)). a.placed) begins) i;
+    touched = (ap (λ (a : Arena Gen (RawLink K T)). a.touched) has.state ∙ ap (λ (a : Arena Gen (RawLink K T)). a.touched) begins) i;
   }
 
   pub clone_agrees : IsWellLinked (link_map (links_view number source)) → IsWellLinked (link_map (links_view number new))
@@ -246,7 +246,7 @@ none_before f [] none = refl
 none_before f (x ∷ xs) none = absurd (let h = none in cc)
 
 -- Without slots the capacity suffices, and no value is refused.
-module _ {P K U Gen : Type 0} (number : K → Option ℕ) (may_refuse : P → LinkBody K U → Type 0) (key : P → ℕ × Gen) (source : Arena Gen (LinkBody K U)) where
+module _ {P K U Gen : Type 0} (number : K → Option ℕ) (may_refuse : P → RawLink K U → Type 0) (key : P → ℕ × Gen) (source : Arena Gen (RawLink K U)) where
   none_among : {X : Type 0} (before after : List X) (x : X) → [] ≡ before ++ x ∷ after → ⊥
   none_among [] after x same = cc
   none_among (y ∷ before) after x same = cc

@@ -17,7 +17,7 @@ use Rattle.arena_traits.specs.Advancers.{entries_at_or_above}
 use Rattle.chain_links.specs.ChainArena.{LinkView, values_of, value_view, remove_link}
 use Rattle.chain_arena.specs.Effects.{IsRemoval}
 use Rattle.chain_links.specs.Links.{pair_view}
-use Rattle.chain_links.specs.declared.links.LinkBody.{LinkBody}
+use Rattle.chain_links.specs.declared.links.RawLink.{RawLink}
 use Rattle.chain_arena.proofs.LinkRemovalLemmas.{value_known}
 use Rattle.chain_traits.proofs.GenericArenaLemmas.{entries_at_or_above-ascends}
 use Rattle.chain_arena.specs.Drains.{entries_left, without_each, IsLinkTaken, IsLinkDrainStep}
@@ -203,7 +203,7 @@ module _ {P Gen T : Type 0} (key : P → ℕ × Gen) (following : Gen → Gen) (
         }
 
   -- What a removal returned is the link that was there.
-  pub link_taken : {K : Type 0} (packed : K → Option ℕ) (old new : Arena Gen (LinkView T)) (i : ℕ) (r : InvalidationResult (Gen × LinkBody K T)) (e : Gen × LinkBody K T) → value_within r ≡ Some e
+  pub link_taken : {K : Type 0} (packed : K → Option ℕ) (old new : Arena Gen (LinkView T)) (i : ℕ) (r : InvalidationResult (Gen × RawLink K T)) (e : Gen × RawLink K T) → value_within r ≡ Some e
       → option_map (pair_view packed) (value_within r) ≡ entry_at old i → r ≡ invalidation_result (wraps old.counter) (value_within r) → (is_some (value_within r) ≡ true → IsRemoval following old i new)
       → (p : P) → key p ≡ (i, e.0) → (overflow : Bool) → overflow ≡ is_overflow_result r → (gone : InvalidationOption (P × T)) → gone ≡ invalidation_option overflow (p, e.1.t) → IsLinkTaken key following wraps old i gone new
   link_taken packed old new i r e has returned made removal p named overflow flag gone responded =
@@ -212,7 +212,7 @@ module _ {P Gen T : Type 0} (key : P → ℕ × Gen) (following : Gen → Gen) (
       record {
         index = ap (λ (k : ℕ × Gen). k.0) keyed;
         stored = sym (value_known packed following old new i (value_within r) returned)
-            ∙ (ap (option_map (λ (x : Gen × LinkBody _ T). (x.0, x.1.t))) has
+            ∙ (ap (option_map (λ (x : Gen × RawLink _ T). (x.0, x.1.t))) has
             ∙ (ap (λ (h : Gen). let o : Option (Gen × T) = Some (h, e.1.t) in o) (sym (ap (λ (k : ℕ × Gen). k.1) keyed))
             ∙ ap (λ (u : T). let o : Option (Gen × T) = Some ((key (value_in gone).0).1, u) in o) (sym (ap (λ (x : P × T). x.1) item))));
         overflow = ap is_overflow responded ∙ (is_overflow-made overflow (p, e.1.t) ∙ (flag ∙ overflow_known (wraps old.counter) r e made has));

@@ -14,7 +14,7 @@ use Rattle.arena_traits.specs.CallOutcomes.{ReportsOverflow, IsEntryRemoved, Rem
 use Rattle.chain_links.specs.CallEffects.{IsTaken, RemovesLink, RemovesLinkAt}
 use Rattle.chain_links.specs.ChainArena.{LinkView, on_value, link_map, value_state, entry, link_value, link_of, link_at, remove_link}
 use Rattle.chain_links.specs.Links.{held_in, link_view, pair_view}
-use Rattle.chain_links.specs.declared.links.LinkBody.{LinkBody}
+use Rattle.chain_links.specs.declared.links.RawLink.{RawLink}
 use Rattle.chain_links.proofs.MappedArenaLemmas.{entry_at-with_each, generation_is}
 use Rattle.chain_linking.proofs.UnlinkLemmas.{passes_over, removed-agrees, removed-chains, removed-pairs, view_after-removed}
 use Rattle.chain_arena.specs.Effects.{Links, IsRemoval}
@@ -74,11 +74,11 @@ removal_of following a b n agrees state = record {
   pairs = removed-pairs following a b n state agrees;
 }
 
-module _ {Gen K T : Type 0} (packed : K → Option ℕ) (following : Gen → Gen) (a b : Links Gen T) (n : ℕ) (taken : Option (Gen × LinkBody K T))
+module _ {Gen K T : Type 0} (packed : K → Option ℕ) (following : Gen → Gen) (a b : Links Gen T) (n : ℕ) (taken : Option (Gen × RawLink K T))
     (returned : option_map (pair_view packed) taken ≡ entry_at a n) where
   value : option_map (on_value held_in) taken ≡ entry a n
   value = twice taken ∙ (ap (option_map (on_value link_value)) returned ∙ sym (entry_at-with_each link_value a n)) where
-    twice : (o : Option (Gen × LinkBody K T)) → option_map (on_value held_in) o ≡ option_map (on_value link_value) (option_map (pair_view packed) o)
+    twice : (o : Option (Gen × RawLink K T)) → option_map (on_value held_in) o ≡ option_map (on_value link_value) (option_map (pair_view packed) o)
     twice None = refl
     twice (Some e) = refl
 
@@ -87,7 +87,7 @@ module _ {Gen K T : Type 0} (packed : K → Option ℕ) (following : Gen → Gen
   link_known = returned ∙ sym (link_at-entry a n)
 
   -- The value removed, with its generation.
-  pub value_known : option_map (λ (e : Gen × LinkBody K T). (e.0, e.1.t)) taken ≡ entry a n
+  pub value_known : option_map (λ (e : Gen × RawLink K T). (e.0, e.1.t)) taken ≡ entry a n
   value_known = value
 
   -- If nothing was taken, there is no entry.
@@ -104,22 +104,22 @@ entry_of_link {Gen} {T} (Some e) (Some l) g link is =
 
 module _ {P I Gen W T : Type 0} (pointers : PointerKind P I Gen W) (a b : Links Gen T) where
   -- The removal of the link at an index, from what was taken there.
-  pub unlinked : (i : I) (r : InvalidationResult (Gen × LinkBody (PackedOption I W) T)) → option_map (pair_view pointers.packed) (value_within r) ≡ entry_at a (pointers.number i) → r ≡ invalidation_result (pointers.wraps a.counter) (value_within r)
+  pub unlinked : (i : I) (r : InvalidationResult (Gen × RawLink (PackedOption I W) T)) → option_map (pair_view pointers.packed) (value_within r) ≡ entry_at a (pointers.number i) → r ≡ invalidation_result (pointers.wraps a.counter) (value_within r)
       → (is_some (value_within r) ≡ true → IsRemoval pointers.following a (pointers.number i) b) → (value_within r ≡ None → b ≡ a) → RemoveInxStep pointers a i r b
   unlinked i r returned overflow removal invalid =
       let n = pointers.number i in (
-        reports pointers.wraps a.counter (entry a n ≡ None) (λ (e : Gen × LinkBody (PackedOption I W) T). IsTaken value_state link_map pointers a n e.0 e.1 b) r overflow (none_there pointers.packed pointers.following a b n (value_within r) returned)
+        reports pointers.wraps a.counter (entry a n ≡ None) (λ (e : Gen × RawLink (PackedOption I W) T). IsTaken value_state link_map pointers a n e.0 e.1 b) r overflow (none_there pointers.packed pointers.following a b n (value_within r) returned)
             (λ e is. (sym (link_known pointers.packed pointers.following a b n (value_within r) returned) ∙ ap (option_map (on_value (link_view pointers.packed))) is, (removal (ap is_some is)).removed)),
         if_none (value_within r) invalid,
         on_some (value_within r) removal,
       )
 
   -- The entry of a link that was taken is removed.
-  pub entry_taken : (n : ℕ) (g : Gen) (link : LinkBody (PackedOption I W) T) → IsTaken value_state link_map pointers a n g link b → IsEntryRemoved value_state pointers a n g link.t b
+  pub entry_taken : (n : ℕ) (g : Gen) (link : RawLink (PackedOption I W) T) → IsTaken value_state link_map pointers a n g link b → IsEntryRemoved value_state pointers a n g link.t b
   entry_taken n g link taken = (entry_of_link (entry a n) (link_map a n) g (link_view pointers.packed link) taken.0, taken.1.view_after)
 
   -- A removal at an index removes an entry.
-  pub value_removed_at : (i : I) (r : InvalidationResult (Gen × LinkBody (PackedOption I W) T)) → RemovesLinkAt value_state link_map pointers a i r b → RemovesEntryAt value_state pointers a i (with_value_of (λ (e : Gen × LinkBody (PackedOption I W) T). (e.0, e.1.t)) r) b
+  pub value_removed_at : (i : I) (r : InvalidationResult (Gen × RawLink (PackedOption I W) T)) → RemovesLinkAt value_state link_map pointers a i r b → RemovesEntryAt value_state pointers a i (with_value_of (λ (e : Gen × RawLink (PackedOption I W) T). (e.0, e.1.t)) r) b
   value_removed_at i InvalidPtr known = known
   value_removed_at i (Success e) known = (known.0, entry_taken (pointers.number i) e.0 e.1 known.1)
   value_removed_at i (GenerationOverflow e) known = (known.0, entry_taken (pointers.number i) e.0 e.1 known.1)
@@ -129,7 +129,7 @@ module _ {P I Gen W T : Type 0} (pointers : PointerKind P I Gen W) (a b : Links 
     k = pointers.key p
 
     -- The link taken at the index of a valid pointer is the pointer's.
-    its_link : (n : ℕ) (g : Gen) (link : LinkBody (PackedOption I W) T) → n ≡ k.0 → IsTaken value_state link_map pointers a n g link b → IsTaken value_state link_map pointers a k.0 k.1 link b
+    its_link : (n : ℕ) (g : Gen) (link : RawLink (PackedOption I W) T) → n ≡ k.0 → IsTaken value_state link_map pointers a n g link b → IsTaken value_state link_map pointers a k.0 k.1 link b
     its_link n g link at taken =
         let stored : entry a k.0 ≡ Some (g, link.t) = ap (λ j. entry a j) (sym at) ∙ (entry_taken n g link taken).0 in
         subst (λ j. IsTaken value_state link_map pointers a j k.1 link b) at
@@ -139,12 +139,12 @@ module _ {P I Gen W T : Type 0} (pointers : PointerKind P I Gen W) (a b : Links 
     not_there n at none = none-some _ (sym none ∙ (ap (λ j. entry a j) at ∙ valid.stored))
 
     -- A removal by a valid pointer removes its link, and so its entry.
-    pub link_removed : (i : I) (r : InvalidationResult (Gen × LinkBody (PackedOption I W) T)) → pointers.number i ≡ k.0 → RemovesLinkAt value_state link_map pointers a i r b → RemovesLink value_state link_map pointers a p (with_value_of (λ (e : Gen × LinkBody (PackedOption I W) T). e.1) r) b
+    pub link_removed : (i : I) (r : InvalidationResult (Gen × RawLink (PackedOption I W) T)) → pointers.number i ≡ k.0 → RemovesLinkAt value_state link_map pointers a i r b → RemovesLink value_state link_map pointers a p (with_value_of (λ (e : Gen × RawLink (PackedOption I W) T). e.1) r) b
     link_removed i InvalidPtr at known = absurd (not_there (pointers.number i) at known)
     link_removed i (Success e) at known = (known.0, (valid, its_link (pointers.number i) e.0 e.1 at known.1))
     link_removed i (GenerationOverflow e) at known = (known.0, (valid, its_link (pointers.number i) e.0 e.1 at known.1))
 
-    pub value_removed : (i : I) (r : InvalidationResult (Gen × LinkBody (PackedOption I W) T)) → pointers.number i ≡ k.0 → RemovesLinkAt value_state link_map pointers a i r b → RemovesEntry value_state pointers a p (with_value_of (λ (e : Gen × LinkBody (PackedOption I W) T). e.1.t) r) b
+    pub value_removed : (i : I) (r : InvalidationResult (Gen × RawLink (PackedOption I W) T)) → pointers.number i ≡ k.0 → RemovesLinkAt value_state link_map pointers a i r b → RemovesEntry value_state pointers a p (with_value_of (λ (e : Gen × RawLink (PackedOption I W) T). e.1.t) r) b
     value_removed i InvalidPtr at known = absurd (not_there (pointers.number i) at known)
     value_removed i (Success e) at known = (known.0, entry_taken k.0 k.1 e.1 (its_link (pointers.number i) e.0 e.1 at known.1))
     value_removed i (GenerationOverflow e) at known = (known.0, entry_taken k.0 k.1 e.1 (its_link (pointers.number i) e.0 e.1 at known.1))

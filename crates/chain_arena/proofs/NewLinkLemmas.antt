@@ -22,7 +22,7 @@ use Rattle.arena_base.specs.Growths.{HasGrownFor, GrowsArenaForOneMore}
 use Rattle.chain_links.specs.ChainArena.{link_map, value_view, value_state, entry, insert_between, interlinks_in, on_value}
 use Rattle.chain_links.specs.Insertions.{IsInsertionRefusal, MayInsertIn, before_new, after_new}
 use Rattle.chain_links.specs.Links.{link_view, links_view}
-use Rattle.chain_links.specs.declared.links.LinkBody.{LinkBody}
+use Rattle.chain_links.specs.declared.links.RawLink.{RawLink}
 use Rattle.chain_links.proofs.ArenaInsertionLemmas.{next_index-links_view, entry_count-links_view, values-count}
 use Rattle.chain_linking.proofs.ConnectionLemmas.{same_valid, value_at}
 use Rattle.chain_linking.proofs.LinkEntryLemmas.{links-view_after}
@@ -33,10 +33,10 @@ use Rattle.chain_arena.specs.Effects.{Links}
 use Rattle.chain_arena.proofs.InsertionEffectLemmas.{insertion_known}
 
 -- The next index, in the links as contracts see them.
-pub next_viewed : {K Gen T : Type 0} (packed : K → Option ℕ) (a : Arena Gen (LinkBody K T)) (p : ℕ × Gen) → p ≡ (next_index a, a.counter) → p ≡ (next_index (links_view packed a), a.counter)
+pub next_viewed : {K Gen T : Type 0} (packed : K → Option ℕ) (a : Arena Gen (RawLink K T)) (p : ℕ × Gen) → p ≡ (next_index a, a.counter) → p ≡ (next_index (links_view packed a), a.counter)
 next_viewed packed a p at = subst (λ (q : ℕ). p ≡ (q, a.counter)) (sym (next_index-links_view packed a)) at
 
-pub less_entries : {K Gen T : Type 0} (packed : K → Option ℕ) (a : Arena Gen (LinkBody K T)) {n : ℕ} → entry_count (links_view packed a) < n → entry_count a < n
+pub less_entries : {K Gen T : Type 0} (packed : K → Option ℕ) (a : Arena Gen (RawLink K T)) {n : ℕ} → entry_count (links_view packed a) < n → entry_count a < n
 less_entries packed a less = let same = entry_count-links_view packed a in omega (arith, less, same)
 
 -- ---- what was read of a link
@@ -51,49 +51,49 @@ returns_beside number may may' u v u' v' (Some beside) is same before after =
 
 -- A link that may be at index i, where `given` states that there is one that was meant.
 module _ {Gen K T : Type 0} (packed : K → Option ℕ) (a : Links Gen T) (i : ℕ) (given : Type 0) where
-  abbrev pub Found : Option (Bor (LinkBody K T)) → Type 0
+  abbrev pub Found : Option (Bor (RawLink K T)) → Type 0
   Found r = (IsSome r ↔ given) × IfSome r (λ link. link_map a i ≡ Some (interlinks_in (link_view packed link.now)))
 
-  abbrev next_read : Option (Bor (LinkBody K T)) → Option ℕ
+  abbrev next_read : Option (Bor (RawLink K T)) → Option ℕ
   next_read r = option_and_then (λ link. (link_view packed link.now).next) r
 
-  abbrev prev_read : Option (Bor (LinkBody K T)) → Option ℕ
+  abbrev prev_read : Option (Bor (RawLink K T)) → Option ℕ
   prev_read r = option_and_then (λ link. (link_view packed link.now).prev) r
 
-  pub next_found : (r : Option (Bor (LinkBody K T))) → Found r → given → next_read r ≡ next_of (link_map a) i
+  pub next_found : (r : Option (Bor (RawLink K T))) → Found r → given → next_read r ≡ next_of (link_map a) i
   next_found None found has = absurd (false≢true (found.0.1 has))
   next_found (Some link) found has = sym (ap next_in found.1)
 
-  pub prev_found : (r : Option (Bor (LinkBody K T))) → Found r → given → prev_read r ≡ prev_of (link_map a) i
+  pub prev_found : (r : Option (Bor (RawLink K T))) → Found r → given → prev_read r ≡ prev_of (link_map a) i
   prev_found None found has = absurd (false≢true (found.0.1 has))
   prev_found (Some link) found has = sym (ap prev_in found.1)
 
-  pub next_is : (o : Option ℕ) (r : Option (Bor (LinkBody K T))) → Found r → IsSomeAnd r (λ link. (link_view packed link.now).next ≡ o) ↔ (given × (next_of (link_map a) i ≡ o))
+  pub next_is : (o : Option ℕ) (r : Option (Bor (RawLink K T))) → Found r → IsSomeAnd r (λ link. (link_view packed link.now).next ≡ o) ↔ (given × (next_of (link_map a) i ≡ o))
   next_is o None found = (λ h. absurd h, λ h. absurd (false≢true (found.0.1 h.0)))
   next_is o (Some link) found = (λ h. (found.0.0 refl, ap next_in found.1 ∙ h), λ h. sym (ap next_in found.1) ∙ h.1)
 
-  pub prev_is : (o : Option ℕ) (r : Option (Bor (LinkBody K T))) → Found r → IsSomeAnd r (λ link. (link_view packed link.now).prev ≡ o) ↔ (given × (prev_of (link_map a) i ≡ o))
+  pub prev_is : (o : Option ℕ) (r : Option (Bor (RawLink K T))) → Found r → IsSomeAnd r (λ link. (link_view packed link.now).prev ≡ o) ↔ (given × (prev_of (link_map a) i ≡ o))
   prev_is o None found = (λ h. absurd h, λ h. absurd (false≢true (found.0.1 h.0)))
   prev_is o (Some link) found = (λ h. (found.0.0 refl, ap prev_in found.1 ∙ h), λ h. sym (ap prev_in found.1) ∙ h.1)
 
 -- The link of a pointer, and the link at an index.
-module _ {Gen K T : Type 0} (packed : K → Option ℕ) (a : Arena Gen (LinkBody K T)) where
-  pub found_ptr : (p : ℕ × Gen) (r : Option (Bor (LinkBody K T))) → IsSome r ↔ IsValid (entry_at a) p → IfSome r (λ link. entry_at a p.0 ≡ Some (p.1, link.now)) → Found packed (links_view packed a) p.0 (IsValid (entry (links_view packed a)) p) r
+module _ {Gen K T : Type 0} (packed : K → Option ℕ) (a : Arena Gen (RawLink K T)) where
+  pub found_ptr : (p : ℕ × Gen) (r : Option (Bor (RawLink K T))) → IsSome r ↔ IsValid (entry_at a) p → IfSome r (λ link. entry_at a p.0 ≡ Some (p.1, link.now)) → Found packed (links_view packed a) p.0 (IsValid (entry (links_view packed a)) p) r
   found_ptr p None some value = ((λ h. absurd (false≢true h), λ valid. some.1 ((same_valid packed a p).1 valid)), tt)
   found_ptr p (Some link) some value = ((λ _. (same_valid packed a p).0 (some.0 refl), λ _. refl), links-view_after packed a p.0 p.1 link.now value)
 
-  pub found_inx : (i : ℕ) (r : Option (Bor (LinkBody K T))) → option_map (λ link. link.now) r ≡ option_map (λ e. e.1) (entry_at a i) → Found packed (links_view packed a) i (IsSome (entry (links_view packed a) i)) r
+  pub found_inx : (i : ℕ) (r : Option (Bor (RawLink K T))) → option_map (λ link. link.now) r ≡ option_map (λ e. e.1) (entry_at a i) → Found packed (links_view packed a) i (IsSome (entry (links_view packed a) i)) r
   found_inx i r is = by_entry r (entry_at a i) refl is
     where
-      stored : (o : Option (Gen × LinkBody K T)) → entry_at a i ≡ o → is_some (entry (links_view packed a) i) ≡ is_some o
+      stored : (o : Option (Gen × RawLink K T)) → entry_at a i ≡ o → is_some (entry (links_view packed a) i) ≡ is_some o
       stored None there = ap is_some (value_at packed a i ∙ ap (option_map (on_value (λ l. l.t))) there)
       stored (Some e) there = ap is_some (value_at packed a i ∙ ap (option_map (on_value (λ l. l.t))) there)
 
-      by_entry : (r : Option (Bor (LinkBody K T))) (o : Option (Gen × LinkBody K T)) → entry_at a i ≡ o → option_map (λ link. link.now) r ≡ option_map (λ e. e.1) o → Found packed (links_view packed a) i (IsSome (entry (links_view packed a) i)) r
+      by_entry : (r : Option (Bor (RawLink K T))) (o : Option (Gen × RawLink K T)) → entry_at a i ≡ o → option_map (λ link. link.now) r ≡ option_map (λ e. e.1) o → Found packed (links_view packed a) i (IsSome (entry (links_view packed a) i)) r
       by_entry None None there is = ((λ h. absurd (false≢true h), λ h. absurd (false≢true (sym (stored None there) ∙ h))), tt)
       by_entry None (Some e) there is = absurd (let h = is in cc)
       by_entry (Some link) None there is = absurd (let h = is in cc)
-      by_entry (Some link) (Some (g, l)) there is = let same : link.now ≡ l = cc in ((λ _. stored (Some (g, l)) there, λ _. refl), links-view_after packed a i g link.now (there ∙ ap (λ (x : LinkBody K T). let o : Option (Gen × LinkBody K T) = Some (g, x) in o) (sym same)))
+      by_entry (Some link) (Some (g, l)) there is = let same : link.now ≡ l = cc in ((λ _. stored (Some (g, l)) there, λ _. refl), links-view_after packed a i g link.now (there ∙ ap (λ (x : RawLink K T). let o : Option (Gen × RawLink K T) = Some (g, x) in o) (sym same)))
 
 -- ---- growth for one more link
 
@@ -102,11 +102,11 @@ pub grown_state : {Gen T : Type 0} (may_reach : ℕ → Option ℕ → ℕ → �
 grown_state may_reach greatest a b (Ok done) grown err = grown.state
 grown_state {Gen = Gen} {T = T} may_reach greatest a b (Err why) grown err = err ∙ ap (λ (x : Arena Gen T). with_capacity_of a x) (sym err)
 
-module _ {Gen K T : Type 0} (packed : K → Option ℕ) (a : Arena Gen (LinkBody K T)) where
+module _ {Gen K T : Type 0} (packed : K → Option ℕ) (a : Arena Gen (RawLink K T)) where
   same_count : count (view_of a) ≡ count (value_view (links_view packed a))
   same_count = length-entries a ∙ (sym (entry_count-links_view packed a) ∙ sym (values-count (links_view packed a)))
 
-  pub grown_view : (b : Arena Gen (LinkBody K T)) (may_reach : ℕ → Option ℕ → ℕ → ℕ → Type 0) (greatest : ℕ) → HasGrownFor may_reach greatest (entry_count a + 1) a b
+  pub grown_view : (b : Arena Gen (RawLink K T)) (may_reach : ℕ → Option ℕ → ℕ → ℕ → Type 0) (greatest : ℕ) → HasGrownFor may_reach greatest (entry_count a + 1) a b
       → HasGrownFor may_reach greatest (entry_count (links_view packed a) + 1) (links_view packed a) (links_view packed b)
   grown_view b may_reach greatest grown =
       let same = entry_count-links_view packed a in

@@ -15,7 +15,7 @@ use Rattle.chain_links.proofs.MappedArenaLemmas.{is_some-map, entry_at-with_each
 use Rattle.chain_compaction.specs.Layouts.{AreAllMoves}
 use Rattle.chain_compaction.specs.PointerMoves.{ArePointerMoves, IsMove, HasLinksWhere}
 use Rattle.chain_compaction.proofs.PointerMoveLemmas.{each_found, all_moved, compression_moves_pointers}
-use Rattle.chain_arena.specs.Transfers.{Carried, old_index}
+use Rattle.chain_arena.specs.Transfers.{TransferredLink, old_index}
 use Rattle.chain_arena.specs.PointerTransfers.{IsMapped, TransferMovesPointers}
 
 module _ {P Gen T : Type 0} (key : P → ℕ × Gen) (first : Gen) (following : Gen → Gen) (reset : Bool) (old new : Arena Gen (LinkView T)) (moves : List (P × P)) where
@@ -31,33 +31,33 @@ module _ {P Gen T : Type 0} (key : P → ℕ × Gen) (first : Gen) (following : 
 
 module _ {Q P G Gen U T : Type 0} (key : Q → ℕ × G) (new_key : P → ℕ × Gen) (before : ℕ → Option (G × U)) (after : ℕ → Option (Gen × T)) where
   -- The entries that the links have become, with their pointers.
-  abbrev arrived : List (Carried Q P U T) → List ((ℕ × Gen) × T)
-  arrived carried = map (λ (c : Carried Q P U T). (new_key c.to, c.returned)) carried
+  abbrev arrived : List (TransferredLink Q P U T) → List ((ℕ × Gen) × T)
+  arrived transferred = map (λ (c : TransferredLink Q P U T). (new_key c.to, c.returned)) transferred
 
-  keys_arrived : (carried : List (Carried Q P U T)) → map (λ (c : Carried Q P U T). new_key c.to) carried ≡ map (λ (e : (ℕ × Gen) × T). e.0) (arrived carried)
+  keys_arrived : (transferred : List (TransferredLink Q P U T)) → map (λ (c : TransferredLink Q P U T). new_key c.to) transferred ≡ map (λ (e : (ℕ × Gen) × T). e.0) (arrived transferred)
   keys_arrived [] = refl
-  keys_arrived (c ∷ carried) = ap (λ (ps : List (ℕ × Gen)). new_key c.to ∷ ps) (keys_arrived carried)
+  keys_arrived (c ∷ transferred) = ap (λ (ps : List (ℕ × Gen)). new_key c.to ∷ ps) (keys_arrived transferred)
 
-  -- Each link carried over is a move.
-  each_moved : (es : List ((ℕ × G) × U)) (carried : List (Carried Q P U T)) → ((i : ℕ) → found i es ≡ before i)
-      → AllByRecursion (λ (c : Carried Q P U T). found (old_index key c) es ≡ Some ((key c.from).1, value_in c.value)) carried
-      → AllByRecursion (λ (e : (ℕ × Gen) × T). after e.0.0 ≡ Some (e.0.1, e.1)) (arrived carried) → AllByRecursion (IsMove (λ (c : Carried Q P U T). key c.from) (λ (c : Carried Q P U T). new_key c.to) IsMapped before after) carried
+  -- Each link transferred over is a move.
+  each_moved : (es : List ((ℕ × G) × U)) (transferred : List (TransferredLink Q P U T)) → ((i : ℕ) → found i es ≡ before i)
+      → AllByRecursion (λ (c : TransferredLink Q P U T). found (old_index key c) es ≡ Some ((key c.from).1, value_in c.value)) transferred
+      → AllByRecursion (λ (e : (ℕ × Gen) × T). after e.0.0 ≡ Some (e.0.1, e.1)) (arrived transferred) → AllByRecursion (IsMove (λ (c : TransferredLink Q P U T). key c.from) (λ (c : TransferredLink Q P U T). new_key c.to) IsMapped before after) transferred
   each_moved es [] was_read was_stored are_stored = tt
-  each_moved es (c ∷ carried) was_read was_stored are_stored = (
+  each_moved es (c ∷ transferred) was_read was_stored are_stored = (
     (
       record { value = value_in c.value; stored = sym (was_read (key c.from).0) ∙ was_stored.0 },
       record { value = c.returned; stored = are_stored.0 },
       (refl, refl),
     ),
-    each_moved es carried was_read was_stored.1 are_stored.1,
+    each_moved es transferred was_read was_stored.1 are_stored.1,
   )
 
 -- A transfer moves pointers.
 pub transfer_moves_pointers : {Q P G Gen U T F : Type 0} (key : Q → ℕ × G) (new_key : P → ℕ × Gen) (following : G → G) (wraps : G → Bool) (call : Mut F (Q × (InvalidationOption U × (P × Unit {0}))) T)
     → TransferMovesPointers key new_key following wraps call
 transfer_moves_pointers {Q} {P} {G} {Gen} {U} {T} {F} key new_key following wraps call generation f source source_after links old new before was_read are_stored transfer =
-    all_moved (λ (c : Carried Q P U T). key c.from) (λ (c : Carried Q P U T). new_key c.to) (λ c u t. IsMapped c u t) before (entry new) links (map (old_index key) transfer.carried) (entries (values_of new)) transfer.carried
-    transfer.order are_stored (entries_ascend (values_of new)) (found-entries (values_of new)) refl (keys_arrived key new_key before (entry new) transfer.carried ∙ sym (ap (map (λ (e : (ℕ × Gen) × T). e.0)) transfer.values))
-    (each_moved key new_key before (entry new) source.entries transfer.carried was_read (recursion_from_All _ transfer.carried transfer.was_stored)
+    all_moved (λ (c : TransferredLink Q P U T). key c.from) (λ (c : TransferredLink Q P U T). new_key c.to) (λ c u t. IsMapped c u t) before (entry new) links (map (old_index key) transfer.transferred) (entries (values_of new)) transfer.transferred
+    transfer.order are_stored (entries_ascend (values_of new)) (found-entries (values_of new)) refl (keys_arrived key new_key before (entry new) transfer.transferred ∙ sym (ap (map (λ (e : (ℕ × Gen) × T). e.0)) transfer.values))
+    (each_moved key new_key before (entry new) source.entries transfer.transferred was_read (recursion_from_All _ transfer.transferred transfer.was_stored)
     (subst (AllByRecursion (λ (e : (ℕ × Gen) × T). entry new e.0.0 ≡ Some (e.0.1, e.1))) transfer.values
     (each_found 1 (entries (values_of new)) (entry new) (entries_ascend (values_of new)) (λ j below. sym (found-entries (values_of new) j)))))

@@ -23,7 +23,7 @@ use Rattle.chain_links.specs.ChainArena.{link_map, value_view, value_state, entr
 use Rattle.chain_arena.specs.Drains.{without_each}
 use Rattle.chain_arena.specs.Effects.{Links, IsCut, IsRemoval}
 use Rattle.chain_links.specs.CallEffects.{IsDisconnected, IsRemoved}
-use Rattle.chain_links.specs.Insertions.{GainsLink}
+use Rattle.chain_links.specs.Insertions.{IsLinkInserted}
 use Rattle.arena_core.specs.PointerKinds.{PointerKind}
 use Rattle.chain_arena.specs.Runs.{AreSameButTouched}
 use Rattle.chain_arena.specs.Steps.{IsNewLinkAnyhow, InsertStep, InsertWithinStep, ConnectStep, BreakPrevStep, BreakNextStep, ExchangeStep, IsRenewed, DrainChainStep, CompressStep, CompressCanonicalStep, ReserveStep, Step, Run}
@@ -244,8 +244,8 @@ module _ (n : ℕ) where
       chains = step.chains;
     }
 
-    inserted_touched : (kind : InsertKind P I) (t : T) (p : P) → GainsLink value_state link_map pointers old kind t p new
-        → GainsLink value_state link_map pointers (touch old) kind t p (touch new)
+    inserted_touched : (kind : InsertKind P I) (t : T) (p : P) → IsLinkInserted value_state link_map pointers old kind t p new
+        → IsLinkInserted value_state link_map pointers (touch old) kind t p (touch new)
     inserted_touched kind t p made = record {
       entries = record { free = made.entries.free; stored = made.entries.stored; rest = made.entries.rest };
       links = made.links;

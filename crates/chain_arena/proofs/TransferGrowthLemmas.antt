@@ -65,7 +65,7 @@ module _ {Gen T : Type 0} (following : Gen → Gen) (generation : Gen) (old grow
     pub transferred_grown : IsTransfer key new_key next wraps call set.counter f source links source_after set new → IsTransfer key new_key next wraps call generation f source links source_after old new
     transferred_grown moved =
         let t = subst (λ (a : Arena Gen (LinkView T)). IsTransfer key new_key next wraps call a.counter f source links source_after a new) emptied moved in record {
-          carried = t.carried;
+          transferred = t.transferred;
           order = t.order;
           keys = t.keys;
           renamed = t.renamed;

@@ -1,4 +1,4 @@
--- The arena that links are carried from: the chains left in it, by the traits alone.
+-- The arena that links are transferred from: the chains left in it, by the traits alone.
 use Rattle.std.proofs.Common.{◌≡◌, ◌≢◌, ℕ, suc, ◌+◌, ◌≤◌, ◌<◌, ◌⊎◌, inl, inr, Bool, true, false, List, [], ◌∷◌, ◌++◌, length, Option, None, Some, refl, sym, ap, ◌∙◌, subst, length-append, arith}
 use Rattle.std.specs.Prelude.{is_some, cond, ◌==◌}
 use Rattle.std.specs.Option.{option_map}
@@ -87,8 +87,8 @@ module _ {Gen T : Type 0} (following : Gen → Gen) where
 
   -- Links were taken out of a source: these chains are left, the first of them in part. Links
   -- outside that part are at or above the advancer's index.
-  pub record IsDeparting (source view_after : ArenaView Gen T) (links : LinkMap) (cursor : Cursor) (ring : Bool) (left : List ℕ) (rest : List Chain) (taken : List ℕ) : Type 0 where
-    pub chains : AreChains links (with_rest ring left rest)
+  pub record IsDeparting (source view_after : ArenaView Gen T) (links : LinkMap) (cursor : Cursor) (is_cyclic : Bool) (left : List ℕ) (rest : List Chain) (taken : List ℕ) : Type 0 where
+    pub chains : AreChains links (with_rest is_cyclic left rest)
     pub order : IsInOrder rest
     pub same : view_after ≡ entries_removed following source taken
     pub size : length view_after.entries + length taken ≡ length source.entries
@@ -96,9 +96,9 @@ module _ {Gen T : Type 0} (following : Gen → Gen) where
     pub up : cursor ≡ Up from
     pub low : (j : ℕ) → HasLink links j → (from ≤ j) ⊎ IsMember left j
 
-  module _ (source view_after : ArenaView Gen T) (links : LinkMap) (cursor : Cursor) (ring : Bool) (rest : List Chain) (taken : List ℕ) (stored : StoredFound links view_after) where
+  module _ (source view_after : ArenaView Gen T) (links : LinkMap) (cursor : Cursor) (is_cyclic : Bool) (rest : List Chain) (taken : List ℕ) (stored : StoredFound links view_after) where
     -- If no chain is left in part, the entries ascend from the advancer's index.
-    pub ascends_up : (d : IsDeparting source view_after links cursor ring [] rest taken) → AscendsFrom 1 view_after.entries → AscendsFrom d.from view_after.entries
+    pub ascends_up : (d : IsDeparting source view_after links cursor is_cyclic [] rest taken) → AscendsFrom 1 view_after.entries → AscendsFrom d.from view_after.entries
     ascends_up d ascends = ascends_from d.from 1 view_after.entries ascends (λ j there. above (d.low j (found_valid links view_after stored j there)))
       where
         above : {j : ℕ} → (d.from ≤ j) ⊎ IsMember [] j → d.from ≤ j
@@ -106,11 +106,11 @@ module _ {Gen T : Type 0} (following : Gen → Gen) where
         above (inr h) = absurd h
 
     -- Some entries are left unless all were taken.
-    pub entries_left : (left : List ℕ) → IsDeparting source view_after links cursor ring left rest taken → length taken < length source.entries → view_after.entries ≢ []
+    pub entries_left : (left : List ℕ) → IsDeparting source view_after links cursor is_cyclic left rest taken → length taken < length source.entries → view_after.entries ≢ []
     entries_left left d few none = let long : length view_after.entries ≡ 0 = ap length none in omega (arith, d.size, long)
 
     -- The next chain is the first of those left.
-    pub departs_next : IsDeparting source view_after links cursor ring [] rest taken → (here : ℕ) (cyclic : Bool) (after : Cursor) → IsNextChain view_after links here cyclic after
+    pub departs_next : IsDeparting source view_after links cursor is_cyclic [] rest taken → (here : ℕ) (cyclic : Bool) (after : Cursor) → IsNextChain view_after links here cyclic after
         → (xs : List ℕ) × (others : List Chain) × (rest ≡ chain_of cyclic (here ∷ xs) ∷ others) × IsDeparting source view_after links after cyclic (here ∷ xs) others taken
     departs_next d here cyclic after next =
         let valid = found_valid links view_after stored next.least next.stored in
@@ -134,18 +134,18 @@ module _ {Gen T : Type 0} (following : Gen → Gen) where
         above j le left has (yes same) = inr (subst (IsMember left) same has)
         above j le left has (no ne) = inl (omega arith)
 
-    module _ (i : ℕ) (xs : List ℕ) (d : IsDeparting source view_after links cursor ring (i ∷ xs) rest taken) where
+    module _ (i : ℕ) (xs : List ℕ) (d : IsDeparting source view_after links cursor is_cyclic (i ∷ xs) rest taken) where
       -- The first link of the chain exists.
       pub first_found : is_some (found i view_after.entries) ≡ true
-      first_found = valid_found links view_after stored i (chain_valid links (chain_of ring (i ∷ xs)) i (d.chains.each (chain_of ring (i ∷ xs)) (inl refl)) (subst (λ (zs : List ℕ). IsMember zs i) (sym (items_of ring (i ∷ xs))) (inl refl)))
+      first_found = valid_found links view_after stored i (chain_valid links (chain_of is_cyclic (i ∷ xs)) i (d.chains.each (chain_of is_cyclic (i ∷ xs)) (inl refl)) (subst (λ (zs : List ℕ). IsMember zs i) (sym (items_of is_cyclic (i ∷ xs))) (inl refl)))
 
       -- After it is taken, the rest of the chain is left.
       pub departs_on : IsWellLinked links → (after : ArenaView Gen T) (links_after : LinkMap) → after ≡ view_after_removal following view_after i → links_after ≡ with_removal links i
-          → IsDeparting source after links_after cursor ring xs rest (taken ++ i ∷ []) × (step_forward i (next_of links i) ≡ first_or xs None)
+          → IsDeparting source after links_after cursor is_cyclic xs rest (taken ++ i ∷ []) × (step_forward i (next_of links i) ≡ first_or xs None)
       departs_on agrees after links_after is passed =
-          let w = first_is_taken links ring i xs rest agrees d.chains in (
+          let w = first_is_taken links is_cyclic i xs rest agrees d.chains in (
             record {
-              chains = subst (λ (m : LinkMap). AreChains m (with_rest ring xs rest)) (sym passed) w.0;
+              chains = subst (λ (m : LinkMap). AreChains m (with_rest is_cyclic xs rest)) (sym passed) w.0;
               order = d.order;
               same = is ∙ (ap (λ (s : ArenaView Gen T). view_after_removal following s i) d.same ∙ sym (entries_removed-append source taken i));
               size = omega (arith, d.size, ap (λ (s : ArenaView Gen T). length s.entries) is, length-without i view_after.entries first_found, length-append taken (i ∷ []));
@@ -162,9 +162,9 @@ module _ {Gen T : Type 0} (following : Gen → Gen) where
           stays j ne (inr (inr h)) = inr h
 
     -- After all were taken, none is left.
-    pub all_departed : (left : List ℕ) → IsDeparting source view_after links cursor ring left rest taken → length taken ≡ length source.entries
-        → (view_after.entries ≡ []) × (with_rest ring left rest ≡ [])
-    all_departed left d all = (gone, nothing (with_rest ring left rest) d.chains)
+    pub all_departed : (left : List ℕ) → IsDeparting source view_after links cursor is_cyclic left rest taken → length taken ≡ length source.entries
+        → (view_after.entries ≡ []) × (with_rest is_cyclic left rest ≡ [])
+    all_departed left d all = (gone, nothing (with_rest is_cyclic left rest) d.chains)
       where
         empty : (es : List ((ℕ × Gen) × T)) → length es ≡ 0 → es ≡ []
         empty [] e = refl

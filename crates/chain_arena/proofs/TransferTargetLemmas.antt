@@ -1,4 +1,4 @@
--- The arena that links are carried to: each is inserted last, and each chain has consecutive
+-- The arena that links are transferred to: each is inserted last, and each chain has consecutive
 -- indexes.
 use Rattle.std.proofs.Common.{◌≡◌, ℕ, zero, suc, ◌+◌, Bool, List, [], ◌∷◌, ◌++◌, length, Option, None, Some, refl, sym, ap, ap₂, ◌∙◌, subst, length-append, arith}
 use Rattle.std.specs.Option.{option_map}
@@ -24,7 +24,7 @@ module _ {Gen T : Type 0} where
       ap (λ es. ((i, x.0), x.1) ∷ es) (entries_from-append (suc i) slots e ∙ ap (λ n. entries_from (suc i) slots ++ ((n, e.0), e.1) ∷ []) (omega arith))
 
 module _ {Gen T : Type 0} where
-  -- The links carried over have these entries, in the runs of these chains. But for slots and
+  -- The links transferred over have these entries, in the runs of these chains. But for slots and
   -- placements the arena is unchanged.
   pub record IsLanded (start now : Arena Gen (LinkView T)) (arranged : List Chain) (values : List ((ℕ × Gen) × T)) : Type 0 where
     pub chains : AreChains (link_map now) (in_runs 1 arranged)
@@ -32,7 +32,7 @@ module _ {Gen T : Type 0} where
     pub slots : length now.slots ≡ length values
     pub state : now ≡ record start { slots = now.slots; placed = start.placed + length values }
 
-  -- An arena without slots, to which no link was carried yet.
+  -- An arena without slots, to which no link was transferred yet.
   pub landing_begins : (start : Arena Gen (LinkView T)) → start.slots ≡ [] → IsLanded start start [] []
   landing_begins start none = record {
     chains = record {
@@ -54,7 +54,7 @@ module _ {Gen T : Type 0} where
           let empty : link_map start i ≡ None = ap (λ (s : List (Option (Gen × LinkView T))). option_map interlinks_of (slot_at s i)) none ∙ ap (option_map interlinks_of) (at_none i) in
           cc
 
-  module _ (start now : Arena Gen (LinkView T)) (done : List Chain) (ring : Bool) (xs : List ℕ) (values : List ((ℕ × Gen) × T)) (landed : IsLanded start now (with_appended done ring xs) values) (unfreed : start.freed ≡ []) where
+  module _ (start now : Arena Gen (LinkView T)) (done : List Chain) (is_cyclic : Bool) (xs : List ℕ) (values : List ((ℕ × Gen) × T)) (landed : IsLanded start now (with_appended done is_cyclic xs) values) (unfreed : start.freed ≡ []) where
     pub now_unfreed : now.freed ≡ []
     now_unfreed = ap (λ (a : Arena Gen (LinkView T)). a.freed) landed.state ∙ unfreed
 
@@ -62,7 +62,7 @@ module _ {Gen T : Type 0} where
     pub next_behind : next_index now ≡ length values + 1
     next_behind = ap₂ first_or_next now_unfreed landed.slots
 
-    -- There are as many links as were carried over.
+    -- There are as many links as were transferred over.
     pub count_landed : entry_count now ≡ length values
     count_landed = sym (values-count now) ∙ ap length landed.entered
 
@@ -71,19 +71,19 @@ module _ {Gen T : Type 0} where
       at_end = next_behind ∙ ap (λ n. n + 1) long
 
       -- There is an insertion position after the last link.
-      pub position_at_end : IsInsertPosition (link_map now) (next_index now) (end_before ring (length xs) (next_index now)) (end_after ring (length xs) (next_index now))
-      position_at_end = (last_is_appended (link_map now) done ring xs 0 (next_index now) landed.chains at_end).1
+      pub position_at_end : IsInsertPosition (link_map now) (next_index now) (end_before is_cyclic (length xs) (next_index now)) (end_after is_cyclic (length xs) (next_index now))
+      position_at_end = (last_is_appended (link_map now) done is_cyclic xs 0 (next_index now) landed.chains at_end).1
 
       module _ (t : T) (listed : IsListed now) where
         abbrev there : Arena Gen (LinkView T)
-        there = insert_between now t (end_before ring (length xs) (next_index now)) (end_after ring (length xs) (next_index now))
+        there = insert_between now t (end_before is_cyclic (length xs) (next_index now)) (end_after is_cyclic (length xs) (next_index now))
 
-        reported_there : link_map there ≡ with_insertion (link_map now) (next_index now) (end_before ring (length xs) (next_index now)) (end_after ring (length xs) (next_index now))
-        reported_there = link_map-insert_between now t listed (end_before ring (length xs) (next_index now)) (end_after ring (length xs) (next_index now))
+        reported_there : link_map there ≡ with_insertion (link_map now) (next_index now) (end_before is_cyclic (length xs) (next_index now)) (end_after is_cyclic (length xs) (next_index now))
+        reported_there = link_map-insert_between now t listed (end_before is_cyclic (length xs) (next_index now)) (end_after is_cyclic (length xs) (next_index now))
 
         values_there : entries (values_of there) ≡ values ++ ((length values + 1, start.counter), t) ∷ []
         values_there =
-            ap entries (values_of-insert_between now t listed (end_before ring (length xs) (next_index now)) (end_after ring (length xs) (next_index now)))
+            ap entries (values_of-insert_between now t listed (end_before is_cyclic (length xs) (next_index now)) (end_after is_cyclic (length xs) (next_index now)))
             ∙ (ap (λ (f : List ℕ). entries_from 1 (slots_after_insertion f (values_of now).slots (now.counter, t))) now_unfreed
             ∙ (entries_from-append 1 (values_of now).slots (now.counter, t)
             ∙ ap₂ (λ (es : List ((ℕ × Gen) × T)) (p : ℕ × Gen). es ++ (p, t) ∷ []) landed.entered
@@ -105,9 +105,9 @@ module _ {Gen T : Type 0} where
             (let e : now.placed + 1 ≡ start.placed + length (values ++ ((length values + 1, start.counter), t) ∷ []) = omega (arith, ap (λ (a : Arena Gen (LinkView T)). a.placed) landed.state, length-append values (((length values + 1, start.counter), t) ∷ [])) in e))
 
         -- A link is inserted after the last one.
-        pub landing_continues : (x : ℕ) → IsLanded start there (with_appended done ring (xs ++ x ∷ [])) (values ++ ((length values + 1, start.counter), t) ∷ [])
+        pub landing_continues : (x : ℕ) → IsLanded start there (with_appended done is_cyclic (xs ++ x ∷ [])) (values ++ ((length values + 1, start.counter), t) ∷ [])
         landing_continues x = record {
-          chains = subst (λ (m : LinkMap). AreChains m (in_runs 1 (with_appended done ring (xs ++ x ∷ [])))) (sym reported_there) (last_is_appended (link_map now) done ring xs x (next_index now) landed.chains at_end).2;
+          chains = subst (λ (m : LinkMap). AreChains m (in_runs 1 (with_appended done is_cyclic (xs ++ x ∷ [])))) (sym reported_there) (last_is_appended (link_map now) done is_cyclic xs x (next_index now) landed.chains at_end).2;
           entered = values_there;
           slots = slots_there;
           state = state_there;

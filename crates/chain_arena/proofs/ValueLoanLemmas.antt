@@ -4,7 +4,7 @@ use Rattle.std.specs.Prelude.{IfSome, IsSome}
 use Rattle.std.specs.Option.{option_map, option_copied_mut}
 use denote.MutBor.{MutBor}
 use Rattle.arena_traits.specs.Arena.{Arena, entry_at, IsValid}
-use Rattle.chain_links.specs.declared.links.LinkBody.{LinkBody}
+use Rattle.chain_links.specs.declared.links.RawLink.{RawLink}
 use Rattle.chain_links.specs.ChainArena.{on_value, values_of}
 use Rattle.chain_links.specs.Links.{held_in, links_view}
 use Rattle.chain_linking.proofs.ConnectionLemmas.{value_at}
@@ -12,9 +12,9 @@ use Rattle.chain_links.proofs.MappedArenaLemmas.{IsValidPtr}
 
 module _ {Gen K T : Type 0} (number : K → Option ℕ) where
   -- The value at an index is the value of the link there.
-  pub value_there : (a : Arena Gen (LinkBody K T)) (n : ℕ) → option_map (λ (e : Gen × T). e.1) (entry_at (values_of (links_view number a)) n) ≡ option_map held_in (option_map (λ (e : Gen × LinkBody K T). e.1) (entry_at a n))
+  pub value_there : (a : Arena Gen (RawLink K T)) (n : ℕ) → option_map (λ (e : Gen × T). e.1) (entry_at (values_of (links_view number a)) n) ≡ option_map held_in (option_map (λ (e : Gen × RawLink K T). e.1) (entry_at a n))
   value_there a n = ap (option_map (λ (e : Gen × T). e.1)) (value_at number a n) ∙ by (entry_at a n) where
-    by : (o : Option (Gen × LinkBody K T)) → option_map (λ (e : Gen × T). e.1) (option_map (on_value held_in) o) ≡ option_map held_in (option_map (λ (e : Gen × LinkBody K T). e.1) o)
+    by : (o : Option (Gen × RawLink K T)) → option_map (λ (e : Gen × T). e.1) (option_map (on_value held_in) o) ≡ option_map held_in (option_map (λ (e : Gen × RawLink K T). e.1) o)
     by None = refl
     by (Some e) = refl
 

@@ -9,7 +9,7 @@ use Rattle.arena_traits.specs.Advancers.{entries_at_or_above}
 use Rattle.chain_links.specs.ChainArena.{LinkView, entry, link_map, values_of, remove_link}
 use Rattle.chain_links.specs.ChainArena.{nonzero_index}
 use Rattle.chain_links.specs.Links.{link_view}
-use Rattle.chain_links.specs.declared.links.LinkBody.{LinkBody}
+use Rattle.chain_links.specs.declared.links.RawLink.{RawLink}
 
 -- A generation after n increments.
 abbrev pub after_times : {Gen : Type 0} → (Gen → Gen) → ℕ → Gen → Gen
@@ -54,7 +54,7 @@ YieldsRemoved key i entry overflow item = (key (value_in item).0 ≡ (i, entry.0
 
 module _ {P Gen K T : Type 0} (key : P → ℕ × Gen) (number : K → Option ℕ) (following : Gen → Gen) (wraps : Gen → Bool) where
   -- A drain step removes the link at `at` and returns it; `next` is where its walk goes on.
-  pub record IsDrainStep (old : Arena Gen (LinkView T)) (at : ℕ) (returned : InvalidationOption (P × LinkBody K T)) (new : Arena Gen (LinkView T)) (next : ℕ) : Type 0 where
+  pub record IsDrainStep (old : Arena Gen (LinkView T)) (at : ℕ) (returned : InvalidationOption (P × RawLink K T)) (new : Arena Gen (LinkView T)) (next : ℕ) : Type 0 where
     pub index : (key (value_in returned).0).0 ≡ at
     pub stored : entry_at old at ≡ Some ((key (value_in returned).0).1, link_view number (value_in returned).1)
     pub overflow : is_overflow returned ≡ wraps old.counter
@@ -62,7 +62,7 @@ module _ {P Gen K T : Type 0} (key : P → ℕ × Gen) (number : K → Option �
     pub walk : walk_left old at ≡ at ∷ walk_left new next
 
   -- A call of `next` of a drain changes nothing if nothing is left, and else makes a step.
-  abbrev pub DrainSteps : Arena Gen (LinkView T) → ℕ → Option (InvalidationOption (P × LinkBody K T)) → Arena Gen (LinkView T) → ℕ → Type 0
+  abbrev pub DrainSteps : Arena Gen (LinkView T) → ℕ → Option (InvalidationOption (P × RawLink K T)) → Arena Gen (LinkView T) → ℕ → Type 0
   DrainSteps old at returned new next = MatchOption returned ((walk_left old at ≡ []) × (new ≡ old) × (next ≡ at)) (λ gone. IsDrainStep old at gone new next)
 
 module _ {P Gen T : Type 0} (key : P → ℕ × Gen) (following : Gen → Gen) (wraps : Gen → Bool) where

@@ -18,7 +18,7 @@ use Rattle.arena_traits.specs.Arena.{Arena, IsValid, HasCapacityFor, with_capaci
 use Rattle.chain_links.specs.CallEffects.{IsRemoved}
 use Rattle.chain_links.specs.ChainArena.{LinkView, link_map, entry, value_state, with_link_map, remove_link}
 use Rattle.chain_links.specs.Links.{pair_view}
-use Rattle.chain_links.specs.declared.links.LinkBody.{LinkBody}
+use Rattle.chain_links.specs.declared.links.RawLink.{RawLink}
 use Rattle.chain_arena.specs.Drains.{without_each}
 
 -- An arena of links.
@@ -82,7 +82,7 @@ module _ {Gen T : Type 0} where
   AddsWork old work new = (new.placed ≡ old.placed + work.placed) × (new.touched ≡ old.touched + work.touched)
 
 -- These slots, on a stack of this capacity and maximum, are those of an arena of links.
-pub record IsBackedBy {P I W Gen T : Type 0} (packed : PackedOption I W → Option ℕ) (greatest : ℕ) (items : List (ArenaSlot P (LinkBody (PackedOption I W) T) I Gen W)) (stack_capacity : ℕ) (most : Option ℕ) (now : Links Gen T) : Type 0 where
+pub record IsBackedBy {P I W Gen T : Type 0} (packed : PackedOption I W → Option ℕ) (greatest : ℕ) (items : List (ArenaSlot P (RawLink (PackedOption I W) T) I Gen W)) (stack_capacity : ℕ) (most : Option ℕ) (now : Links Gen T) : Type 0 where
   pub slots : map (option_map (pair_view packed)) (map entry_of items) ≡ now.slots
   pub freed : ThreadsFreeList packed items now.freed
   pub capacity : stack_capacity ≡ now.stack_capacity

@@ -8,13 +8,13 @@ use Rattle.arena_core.specs.declared.errors.ReallocationError.TheVariants as ref
 use Rattle.arena_traits.specs.Arena.{Arena, ReachesCapacity, new_arena}
 use Rattle.arena_traits.specs.Entries.{entries}
 use Rattle.arena_base.specs.Copies.{CopiesBy, IsCopyCall, HasRefusable, HasSlotsOf}
-use Rattle.chain_links.specs.declared.links.LinkBody.{LinkBody}
+use Rattle.chain_links.specs.declared.links.RawLink.{RawLink}
 use Rattle.chain_links.specs.ChainArena.{LinkView, interlinks_in, link_map, values_of}
 use Rattle.chain_links.specs.Links.{link_view, links_view, IsAtRest}
 
 -- A link has the neighbors of another, no destination, and a value made from a pointer and that
 -- link, which takes the maker from `f` to `next`.
-pub record MakesLink {F P K U T : Type 0} (number : K → Option ℕ) (makes : F → P → LinkView U → T → F → Type 0) (f : F) (p : P) (u : LinkBody K U) (t : LinkBody K T) (next : F) : Type 0 where
+pub record MakesLink {F P K U T : Type 0} (number : K → Option ℕ) (makes : F → P → LinkView U → T → F → Type 0) (f : F) (p : P) (u : RawLink K U) (t : RawLink K T) (next : F) : Type 0 where
   pub interlinks : interlinks_in (link_view number t) ≡ interlinks_in (link_view number u)
   pub value : makes f p (link_view number u) t.t next
   pub at_rest : IsAtRest number t
@@ -30,7 +30,7 @@ abbrev pub RefusesOf : {P V U : Type 0} → (V → U) → (P → V → Type 0) �
 RefusesOf {V = V} value_from may_refuse p u = (passed : V) × (value_from passed ≡ u) × may_refuse p passed
 
 -- The value of a link of the source may be refused.
-abbrev pub HasRefusableLink : {P K U Gen : Type 0} → (K → Option ℕ) → (P → LinkBody K U → Type 0) → (P → ℕ × Gen) → Arena Gen (LinkView U) → Type 0
+abbrev pub HasRefusableLink : {P K U Gen : Type 0} → (K → Option ℕ) → (P → RawLink K U → Type 0) → (P → ℕ × Gen) → Arena Gen (LinkView U) → Type 0
 HasRefusableLink number may_refuse key source = HasRefusable (RefusesOf (link_view number) may_refuse) key (entries source)
 
 -- A chain arena is a copy of another, with values made from its links.
@@ -43,7 +43,7 @@ pub record IsLinkCopyBy {F P U T Gen : Type 0} (makes : F → P → LinkView U �
   pub values : CopiesBy makes key f (entries source) (entries (values_of new)) last
 
 -- A chain arena is a copy of another, with values that a closure returns.
-abbrev pub IsLinkCopy : {F P K U T Gen : Type 0} → Mut F (P × (Bor (LinkBody K U) × Unit {0})) T → (K → Option ℕ) → (P → ℕ × Gen) → F → Arena Gen (LinkView U) → Arena Gen (LinkView T) → Arena Gen (LinkView T) → Type 0
+abbrev pub IsLinkCopy : {F P K U T Gen : Type 0} → Mut F (P × (Bor (RawLink K U) × Unit {0})) T → (K → Option ℕ) → (P → ℕ × Gen) → F → Arena Gen (LinkView U) → Arena Gen (LinkView T) → Arena Gen (LinkView T) → Type 0
 IsLinkCopy {F = F} g number key f source old new = (last : F) × IsLinkCopyBy (MakesOf (link_view number) (IsCopyCall g)) key f source old new last
 
 -- A new arena with the links, the counter and the freed list of another, and its own capacity.
@@ -58,8 +58,8 @@ IsClone first maximum source copy = copy ≡ record (new_arena first maximum) {
 
 -- An arena is a copy of the arena below a chain arena, by a relation that may state more than the
 -- views do.
-pub record IsCopyBelow {K T Gen A : Type 0} (number : K → Option ℕ) (copies : Arena Gen (LinkBody K T) → A → A → Type 0) (source : Arena Gen (LinkView T)) (old new : A) : Type 0 where
-  pub links : Arena Gen (LinkBody K T)
+pub record IsCopyBelow {K T Gen A : Type 0} (number : K → Option ℕ) (copies : Arena Gen (RawLink K T) → A → A → Type 0) (source : Arena Gen (LinkView T)) (old new : A) : Type 0 where
+  pub links : Arena Gen (RawLink K T)
   pub view_after : links_view number links ≡ source
   pub copied : copies links old new
 

@@ -12,13 +12,13 @@ use Rattle.arena_base.specs.Growths.{HasGrownFor}
 use Rattle.chain_laws.specs.Chains.{IsWellLinked}
 use Rattle.chain_laws.specs.declared.insert_kind.InsertKind.{InsertKind}
 use Rattle.chain_links.specs.ChainArena.{link_map, value_view, value_state, insert_between, interlinks_in, nonzero_index}
-use Rattle.chain_links.specs.Insertions.{IsInsertionWithinResult, MayInsertIn, GainsLink, before_new, after_new}
+use Rattle.chain_links.specs.Insertions.{IsInsertionWithinResult, MayInsertIn, IsLinkInserted, before_new, after_new}
 use Rattle.chain_links.specs.Links.{link_view}
-use Rattle.chain_links.specs.declared.links.LinkBody.{LinkBody}
+use Rattle.chain_links.specs.declared.links.RawLink.{RawLink}
 use Rattle.chain_arena.specs.Effects.{Links}
 
 -- The link at i is returned exactly if it is given, and its index.
-abbrev pub NamesLink : {K I Gen T : Type 0} → (K → Option ℕ) → (I → ℕ) → Links Gen T → ℕ → (given : Type 0) → Option (Bor (LinkBody K T)) × I → Type 0
+abbrev pub NamesLink : {K I Gen T : Type 0} → (K → Option ℕ) → (I → ℕ) → Links Gen T → ℕ → (given : Type 0) → Option (Bor (RawLink K T)) × I → Type 0
 NamesLink packed number a i given result = record {
   some : IsSome result.0 ↔ given;
   link : IfSome result.0 (λ link. link_map a i ≡ Some (interlinks_in (link_view packed link.now)));
@@ -87,7 +87,7 @@ module _ {P I Gen W T : Type 0} (pointers : PointerKind P I Gen W) where
   -- What a chain arena and any arena of links know of such an insertion.
   abbrev pub InsertsNewLink : (ℕ → Option ℕ → ℕ → ℕ → Type 0) → Links Gen T → InsertKind P I → T → P → Links Gen T → Type 0
   InsertsNewLink may_reach old kind t p new =
-      (GainsLink value_state link_map pointers old kind t p new × GrowsForOneMore pointers.greatest (value_view old) (value_view new)) × IsNewLink may_reach old kind t new p
+      (IsLinkInserted value_state link_map pointers old kind t p new × GrowsForOneMore pointers.greatest (value_view old) (value_view new)) × IsNewLink may_reach old kind t new p
 
   -- An entry for a link of a kind: its arena, after a growth if the arena was full, and the numbers
   -- of the links beside it, 0 for none.

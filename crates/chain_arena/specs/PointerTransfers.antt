@@ -8,10 +8,10 @@ use Rattle.arena_traits.specs.Arena.{Arena}
 use Rattle.arena_traits.specs.Entries.{ArenaView}
 use Rattle.chain_links.specs.ChainArena.{LinkView, entry}
 use Rattle.chain_compaction.specs.PointerMoves.{AreMoved, FindsEntries, HasLinksWhere}
-use Rattle.chain_arena.specs.Transfers.{Carried, IsTransfer}
+use Rattle.chain_arena.specs.Transfers.{TransferredLink, IsTransfer}
 
 -- The closure was passed the old value of a link, and returned its new value.
-abbrev pub IsMapped : {Q P U T : Type 0} → Carried Q P U T → U → T → Type 0
+abbrev pub IsMapped : {Q P U T : Type 0} → TransferredLink Q P U T → U → T → Type 0
 IsMapped c u t = (value_in c.value ≡ u) × (c.returned ≡ t)
 
 -- The links transferred from any arena are moves from the pointers of the source to the pointers of
@@ -21,4 +21,4 @@ abbrev pub TransferMovesPointers : {Q P G Gen U T F : Type 0} → (Q → ℕ × 
 TransferMovesPointers {Q} {P} {G} {Gen} {U} {T} {F} key new_key following wraps call =
     (generation : Gen) (f : F) (source source_after : ArenaView G U) (links : LinkMap) (old new : Arena Gen (LinkView T)) (before : ℕ → Option (G × U))
     → FindsEntries source before → HasLinksWhere links before → (transfer : IsTransfer key new_key following wraps call generation f source links source_after old new)
-    → AreMoved (λ c. key c.from) (λ c. new_key c.to) IsMapped before (entry new) transfer.carried
+    → AreMoved (λ c. key c.from) (λ c. new_key c.to) IsMapped before (entry new) transfer.transferred

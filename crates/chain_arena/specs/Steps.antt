@@ -18,7 +18,7 @@ use Rattle.chain_links.specs.CallEffects.{ConnectsLinks, BreaksPrev, BreaksNext,
 use Rattle.chain_links.specs.ChainArena.{link_map, entry, values_of, value_view, value_state}
 use Rattle.chain_links.specs.Insertions.{InsertsLink, InsertsLinkWithin}
 use Rattle.chain_laws.specs.declared.insert_kind.InsertKind.{InsertKind}
-use Rattle.chain_links.specs.declared.links.LinkBody.{LinkBody}
+use Rattle.chain_links.specs.declared.links.RawLink.{RawLink}
 use Rattle.chain_compaction.specs.LinkCompressions.{ClosesHoles}
 use Rattle.chain_arena.specs.Effects.{Links, GrowsStackToFit, IsJoin, IsCutBefore, IsCutAfter, IsExchange, IsRemoval, IsDrained}
 use Rattle.chain_arena.specs.NewLinks.{IsNewLink}
@@ -53,11 +53,11 @@ module _ {P I Gen W T : Type 0} (pointers : PointerKind P I Gen W) where
       ExchangesNext value_state link_map pointers.key old p q returned new × IfNone returned (new ≡ old) × OnSome returned (IsExchange old new (pointers.key p).0 (pointers.key q).0)
 
   -- A removal by pointer, and one by index.
-  abbrev pub RemoveStep : Links Gen T → P → InvalidationResult (LinkBody (PackedOption I W) T) → Links Gen T → Type 0
+  abbrev pub RemoveStep : Links Gen T → P → InvalidationResult (RawLink (PackedOption I W) T) → Links Gen T → Type 0
   RemoveStep old p returned new =
       RemovesLink value_state link_map pointers old p returned new × IfNone (value_within returned) (new ≡ old) × OnSome (value_within returned) (IsRemoval pointers.following old (pointers.key p).0 new)
 
-  abbrev pub RemoveInxStep : Links Gen T → I → InvalidationResult (Gen × LinkBody (PackedOption I W) T) → Links Gen T → Type 0
+  abbrev pub RemoveInxStep : Links Gen T → I → InvalidationResult (Gen × RawLink (PackedOption I W) T) → Links Gen T → Type 0
   RemoveInxStep old i returned new =
       RemovesLinkAt value_state link_map pointers old i returned new × IfNone (value_within returned) (new ≡ old) × OnSome (value_within returned) (IsRemoval pointers.following old (pointers.number i) new)
 
@@ -97,8 +97,8 @@ module _ {P I Gen W T : Type 0} (pointers : PointerKind P I Gen W) where
   Step old (call.BreakPrev p) r new = (returned : Option Unit) × (r ≡ reply.Done (is_some returned)) × BreakPrevStep old p returned new
   Step old (call.BreakNext p) r new = (returned : Option Unit) × (r ≡ reply.Done (is_some returned)) × BreakNextStep old p returned new
   Step old (call.ExchangeNext p q) r new = (returned : Option Unit) × (r ≡ reply.Done (is_some returned)) × ExchangeStep old p q returned new
-  Step old (call.Remove p) r new = (returned : InvalidationResult (LinkBody (PackedOption I W) T)) × (r ≡ reply.Removed returned) × RemoveStep old p returned new
-  Step old (call.RemoveInx i) r new = (returned : InvalidationResult (Gen × LinkBody (PackedOption I W) T)) × (r ≡ reply.RemovedInx returned) × RemoveInxStep old i returned new
+  Step old (call.Remove p) r new = (returned : InvalidationResult (RawLink (PackedOption I W) T)) × (r ≡ reply.Removed returned) × RemoveStep old p returned new
+  Step old (call.RemoveInx i) r new = (returned : InvalidationResult (Gen × RawLink (PackedOption I W) T)) × (r ≡ reply.RemovedInx returned) × RemoveInxStep old i returned new
   Step old (call.Invalidate p) r new = (returned : InvalidationResult P) × (r ≡ reply.Renewed returned) × InvalidateStep old p returned new
   Step old (call.DrainChain p take) r new = (returned : Option ℕ) × (r ≡ reply.Drained returned) × DrainChainStep old (pointers.key p) take returned new
   Step old call.Clear r new = (returned : InvalidationOption Unit) × (r ≡ reply.Counted returned) × ClearStep old returned new

@@ -88,7 +88,7 @@ pub fn apply<P: PtrKey, T: Drop, S: SlotStack<Item = ArenaSlot<P, LinkNoGen<P, T
     arena: &mut ChainArena<P, T, S>,
     call: Call<P, T>,
 ) -> Reply<P, T>
-    ensures step { Step ⟦<P as AnyPointer>⟧.kind arena.old call result arena.new }
+    ensures step { Step ⟦<P as AnyPointer>⟧.pointers arena.old call result arena.new }
 {
     match call {
         Call::Insert { kind, t } => Reply::Inserted(arena.insert_reallocating(kind, t)),
@@ -117,7 +117,7 @@ fn reserve<P: PtrKey, T: Drop, S: SlotStack<Item = ArenaSlot<P, LinkNoGen<P, T>>
     arena: &mut ChainArena<P, T, S>,
     n: usize,
 ) -> Result<(), ReallocationError>
-    ensures { ReserveStep ⟦<P as AnyPointer>⟧.kind arena.old n result arena.new }
+    ensures { ReserveStep ⟦<P as AnyPointer>⟧.pointers arena.old n result arena.new }
 {
     let grown = arena.reallocate_min_capacity(n);
     arena.invariants();
@@ -131,7 +131,7 @@ fn drain<P: PtrKey, T: Drop, S: SlotStack<Item = ArenaSlot<P, LinkNoGen<P, T>>>>
     p: P,
     take: usize,
 ) -> Option<usize>
-    ensures { DrainChainStep ⟦<P as AnyPointer>⟧.kind arena.old (P.key p) take result arena.new }
+    ensures { DrainChainStep ⟦<P as AnyPointer>⟧.pointers arena.old (P.key p) take result arena.new }
 {
     match arena.drain_chain(p) {
         Some(mut links) => {
@@ -184,7 +184,7 @@ pub fn run_calls<
     calls: Vec<Call<P, T>>,
 ) -> Result<Vec<Reply<P, T>, A>, AllocError>
     ensures ends { HasOneSetOfChains (link_map arena.new) × MatchResult result
-        (λ replies. Run ⟦<P as AnyPointer>⟧.kind arena.old calls.items replies.items arena.new)
+        (λ replies. Run ⟦<P as AnyPointer>⟧.pointers arena.old calls.items replies.items arena.new)
         (λ refused. arena.new ≡ arena.old) }
 {
     let replies = replies_to(alloc, arena, calls);
@@ -198,7 +198,7 @@ fn replies_to<P: PtrKey, T: Drop, S: SlotStack<Item = ArenaSlot<P, LinkNoGen<P, 
     arena: &mut ChainArena<P, T, S>,
     calls: Vec<Call<P, T>>,
 ) -> Result<Vec<Reply<P, T>, A>, AllocError>
-    ensures run { IfOk result (λ replies. Run ⟦<P as AnyPointer>⟧.kind arena.old calls.items
+    ensures run { IfOk result (λ replies. Run ⟦<P as AnyPointer>⟧.pointers arena.old calls.items
         replies.items arena.new) }
     ensures err { OnErr result (arena.new ≡ arena.old) }
 {
@@ -222,7 +222,7 @@ fn replies_to<P: PtrKey, T: Drop, S: SlotStack<Item = ArenaSlot<P, LinkNoGen<P, 
 ///   touches. This holds if an allocation fails to both runs or to neither, or if more links are
 ///   needed than the greatest index.
 pub fn runs_are_determined<P: PtrKey, T: Drop>()
-    ensures runs_determined { RunIsDetermined ⟦<P as AnyPointer>⟧.kind T }
-    ensures step { StepIsDetermined ⟦<P as AnyPointer>⟧.kind T }
-    ensures by_capacity { RunIsDeterminedByCapacity ⟦<P as AnyPointer>⟧.kind T }
+    ensures runs_determined { RunIsDetermined ⟦<P as AnyPointer>⟧.pointers T }
+    ensures step { StepIsDetermined ⟦<P as AnyPointer>⟧.pointers T }
+    ensures by_capacity { RunIsDeterminedByCapacity ⟦<P as AnyPointer>⟧.pointers T }
 {}

@@ -20,7 +20,7 @@ pub struct ChainPtrAdvancer<P: PtrKey> {
     // The most pointers still returned.
     left: usize,
     start: P::Inx,
-    forth: Option<P::Inx>,
+    forward: Option<P::Inx>,
     back: Option<P::Inx>,
 }
 
@@ -29,13 +29,13 @@ impl<P: PtrKey> ChainPtrAdvancer<P> {
     pub(crate) fn new(left: usize, start: P::Inx, back: Option<P::Inx>) -> Self
         ensures left { result.left ≡ left }
         ensures start { result.start ≡ start }
-        ensures forth { result.forth ≡ Some start }
+        ensures forward { result.forward ≡ Some start }
         ensures back { result.back ≡ back }
     {
         ChainPtrAdvancer {
             left,
             start,
-            forth: Some(start),
+            forward: Some(start),
             back,
         }
     }
@@ -53,8 +53,8 @@ impl<P: PtrKey, T: Drop, S: SlotStack<Item = ArenaSlot<P, LinkNoGen<P, T>>>> Adv
     type Item = P;
 
     ghost gives = { λ a arena returned b. IsPassing (entry arena) (link_map arena)
-        (walker_of P.Inx.number a.left a.start a.forth a.back) (option_map P.key returned)
-        (walker_of P.Inx.number b.left b.start b.forth b.back) };
+        (walker_of P.Inx.number a.left a.start a.forward a.back) (option_map P.key returned)
+        (walker_of P.Inx.number b.left b.start b.forward b.back) };
 
     ghost is_spent = { λ a. a.left ≡ 0 };
 
@@ -65,10 +65,10 @@ impl<P: PtrKey, T: Drop, S: SlotStack<Item = ArenaSlot<P, LinkNoGen<P, T>>>> Adv
         if self.left == 0 {
             return None;
         }
-        match step(&collection.arena, self.start, self.forth, self.back) {
+        match step(&collection.arena, self.start, self.forward, self.back) {
             Some(passed) => {
                 self.left -= 1;
-                self.forth = passed.1;
+                self.forward = passed.1;
                 self.back = passed.2;
                 Some(passed.0)
             }
@@ -83,7 +83,7 @@ impl<P: PtrKey, T: Drop, S: SlotStack<Item = ArenaSlot<P, LinkNoGen<P, T>>>> Adv
         ChainPtrAdvancer {
             left: 0,
             start: P::invalid().inx(),
-            forth: None,
+            forward: None,
             back: None,
         }
     }

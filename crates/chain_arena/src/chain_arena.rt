@@ -91,7 +91,7 @@ impl<P: PtrKey, T: Drop, S: SlotStack<Item = ArenaSlot<P, LinkNoGen<P, T>>>> Cha
     }
 
     pub(crate) fn unlink(&mut self, i: P::Inx) -> InvalidationResult<(P::Gen, LinkNoGen<P, T>)>
-        ensures { RemoveInxStep ⟦<P as AnyPointer>⟧.kind self.old i result self.new }
+        ensures { RemoveInxStep ⟦<P as AnyPointer>⟧.pointers self.old i result self.new }
     {
         remove_link_at(&mut self.arena, i)
     }
@@ -135,7 +135,7 @@ impl<P: PtrKey, T: Drop, S: SlotStack<Item = ArenaSlot<P, LinkNoGen<P, T>>>> Cha
         visitor: V,
     ) -> (InvalidationOption<()>, V, Work)
         requires { V.is_ready visitor }
-        ensures compressed { CompressCanonicalStep ⟦<P as AnyPointer>⟧.kind self.old reset result.0
+        ensures compressed { CompressCanonicalStep ⟦<P as AnyPointer>⟧.pointers self.old reset result.0
             self.new }
         ensures reports { ReportsAll V.sees P.key (value_view self.old)
             (link_map self.old) self.new.counter
@@ -158,7 +158,7 @@ impl<P: PtrKey, T: Drop, S: SlotStack<Item = ArenaSlot<P, LinkNoGen<P, T>>>> Cha
         map: F,
     ) -> InvalidationOption<()>
         requires { F.IsAlwaysCallable map }
-        ensures compressed { CompressCanonicalStep ⟦<P as AnyPointer>⟧.kind self.old reset result
+        ensures compressed { CompressCanonicalStep ⟦<P as AnyPointer>⟧.pointers self.old reset result
             self.new }
         ensures reports { ReportsLayout F.FnMut P.key (value_view self.old)
             (link_map self.old) self.new.counter
@@ -182,7 +182,7 @@ impl<P: PtrKey, T: Drop, S: SlotStack<Item = ArenaSlot<P, LinkNoGen<P, T>>>> Cha
         alloc: A,
         reset: bool,
     ) -> Result<(InvalidationOption<()>, Vec<(P, P), A>), AllocError>
-        ensures compressed { IfOk result (λ r. CompressCanonicalStep ⟦<P as AnyPointer>⟧.kind
+        ensures compressed { IfOk result (λ r. CompressCanonicalStep ⟦<P as AnyPointer>⟧.pointers
             self.old reset r.0 self.new) }
         ensures moves { IfOk result (λ r. AreAllMoves P.key (value_view self.old)
             (link_map self.old) self.new.counter r.1.items) }
@@ -200,7 +200,7 @@ impl<P: PtrKey, T: Drop, S: SlotStack<Item = ArenaSlot<P, LinkNoGen<P, T>>>> Cha
     /// Each link is placed once. The slots are touched at most four times per old slot plus twelve
     /// times per link.
     pub fn compress_canonical_counted(&mut self, reset: bool) -> (InvalidationOption<()>, Work)
-        ensures compressed { CompressCanonicalStep ⟦<P as AnyPointer>⟧.kind self.old reset result.0
+        ensures compressed { CompressCanonicalStep ⟦<P as AnyPointer>⟧.pointers self.old reset result.0
             self.new }
         ensures counted { AddsWork self.old result.1 self.new }
     {

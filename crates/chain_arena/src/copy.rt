@@ -10,7 +10,7 @@ ghost use Rattle.chain_arena.specs.LinkCopies.{MakesOf, HasRefusableLink, IsLink
 use crate::chain_arena::ChainArena;
 use arena_base::{Arena, ArenaCloneFromWith, ArenaSlot, ArenaTrait, ClosureMap, ValueMap};
 use arena_ptr::{AllocError, InxKey, PackedOption, PtrKey, ReallocationError, SlotStack};
-use chain_links::{LinkBody, LinkNoGen};
+use chain_links::{LinkNoGen, RawLink};
 use std::alloc::Global;
 
 // Makes the links of a copy, with the same neighbors and a value that the map makes.
@@ -25,8 +25,8 @@ impl<
     I: InxKey<Word = W>,
     U,
     T,
-    M: ValueMap<P, LinkBody<PackedOption<I, W>, U>, T>,
-> ValueMap<P, LinkBody<PackedOption<I, W>, U>, LinkBody<PackedOption<I, W>, T>> for LinkMapper<M> {
+    M: ValueMap<P, RawLink<PackedOption<I, W>, U>, T>,
+> ValueMap<P, RawLink<PackedOption<I, W>, U>, RawLink<PackedOption<I, W>, T>> for LinkMapper<M> {
     ghost use Rattle.chain_links.specs.Links.{link_view};
     ghost use Rattle.chain_arena.specs.LinkCopies.{MakesLink, MakesOf};
 
@@ -40,10 +40,10 @@ impl<
     fn map_value(
         &mut self,
         p: P,
-        u: &LinkBody<PackedOption<I, W>, U>,
-    ) -> Result<LinkBody<PackedOption<I, W>, T>, AllocError> {
+        u: &RawLink<PackedOption<I, W>, U>,
+    ) -> Result<RawLink<PackedOption<I, W>, T>, AllocError> {
         match self.values.map_value(p, u) {
-            Ok(t) => Ok(LinkBody::new(u.prev_next(), t)),
+            Ok(t) => Ok(RawLink::new(u.prev_next(), t)),
             Err(why) => Err(why),
         }
     }
@@ -206,7 +206,7 @@ impl<P: PtrKey, T: Clone> ValueMap<P, LinkNoGen<P, T>, LinkNoGen<P, T>> for Link
 
     fn map_value(&mut self, _p: P, u: &LinkNoGen<P, T>) -> Result<LinkNoGen<P, T>, AllocError> {
         let t = u.t.clone()?;
-        Ok(LinkBody::new(u.prev_next(), t))
+        Ok(RawLink::new(u.prev_next(), t))
     }
 }
 

@@ -16,7 +16,7 @@ use arena_ptr::{
 };
 use chain_compaction::compress::gather;
 use chain_links::link_access::value_of;
-use chain_links::{LinkBody, LinkNoGen, Vacant};
+use chain_links::{LinkNoGen, RawLink, Vacant};
 use std::alloc::Global;
 
 impl<P: PtrKey, T: Drop, S: SlotStack<Item = ArenaSlot<P, LinkNoGen<P, T>>>> ArenaTrait<P, T>
@@ -44,7 +44,7 @@ impl<P: PtrKey, T: Drop, S: SlotStack<Item = ArenaSlot<P, LinkNoGen<P, T>>>> Are
 
     ghost writes = { λ a i t b. (b ≡ with_value_at a i t) × (link_map b ≡ link_map a) };
 
-    ghost renews = { λ a i b. (b ≡ invalidate_at P.Gen.following a i)
+    ghost extra_on_invalidate = { λ a i b. (b ≡ invalidate_at P.Gen.following a i)
         × (link_map b ≡ link_map a) };
 
     ghost removes = { λ a i b. IsRemoval P.Gen.following a i b };
@@ -165,10 +165,10 @@ impl<P: PtrKey, T: Drop, S: SlotStack<Item = ArenaSlot<P, LinkNoGen<P, T>>>> Are
     /// If that wraps to two, the link is removed and its value returned in `GenerationOverflow`.
     /// Returns `InvalidPtr` if `p` is not valid; nothing changes then.
     fn remove(&mut self, p: P) -> InvalidationResult<T>
-        ensures outcome { RemovesEntry value_state ⟦<P as AnyPointer>⟧.kind self.old p result
+        ensures outcome { RemovesEntry value_state ⟦<P as AnyPointer>⟧.pointers self.old p result
             self.new }
         ensures invalid { IfNone (value_within result) (self.new ≡ self.old) }
-        ensures more { OnSome (value_within result) (IsRemoval P.Gen.following self.old (P.key p).0
+        ensures implementation { OnSome (value_within result) (IsRemoval P.Gen.following self.old (P.key p).0
             self.new) }
     {
         if self.contains(p) {
@@ -184,10 +184,10 @@ impl<P: PtrKey, T: Drop, S: SlotStack<Item = ArenaSlot<P, LinkNoGen<P, T>>>> Are
     /// If that wraps to two, the link is removed and returned in `GenerationOverflow`. Returns
     /// `InvalidPtr` if no link is there; nothing changes then.
     fn remove_inx(&mut self, i: P::Inx) -> InvalidationResult<(P::Gen, T)>
-        ensures outcome { RemovesEntryAt value_state ⟦<P as AnyPointer>⟧.kind self.old i result
+        ensures outcome { RemovesEntryAt value_state ⟦<P as AnyPointer>⟧.pointers self.old i result
             self.new }
         ensures invalid { IfNone (value_within result) (self.new ≡ self.old) }
-        ensures more { OnSome (value_within result) (IsRemoval P.Gen.following self.old
+        ensures implementation { OnSome (value_within result) (IsRemoval P.Gen.following self.old
             (P.Inx.number i) self.new) }
     {
         value_with_generation(self.unlink(i))
@@ -244,7 +244,7 @@ impl<P: PtrKey, T: Drop, S: SlotStack<Item = ArenaSlot<P, LinkNoGen<P, T>>>> Adv
 
 // Returns a removed value without the generation and the interlinks.
 pub(crate) fn value_alone<G: Drop, I: Vacant, T>(
-    removed: InvalidationResult<(G, LinkBody<I, T>)>,
+    removed: InvalidationResult<(G, RawLink<I, T>)>,
 ) -> InvalidationResult<T>
     ensures { result ≡ with_value_of (λ e. e.1.t) removed }
 {
@@ -259,7 +259,7 @@ pub(crate) fn value_alone<G: Drop, I: Vacant, T>(
 
 // Returns a removed value without the interlinks.
 pub(crate) fn value_with_generation<G, I: Vacant, T>(
-    removed: InvalidationResult<(G, LinkBody<I, T>)>,
+    removed: InvalidationResult<(G, RawLink<I, T>)>,
 ) -> InvalidationResult<(G, T)>
     ensures { result ≡ with_value_of (λ e. (e.0, e.1.t)) removed }
 {

@@ -30,9 +30,9 @@ impl<P: PtrKey, T: Drop, S: SlotStack<Item = ArenaSlot<P, LinkNoGen<P, T>>>> Cha
 
     ghost interlinks = { link_map };
 
-    ghost walker = { λ a. walker_of P.Inx.number a.left a.start a.forth a.back };
+    ghost walker = { λ a. walker_of P.Inx.number a.left a.start a.forward a.back };
 
-    ghost inserts = { IsNewLink ⟦<P as AnyPointer>⟧.kind S.may_reach };
+    ghost inserts = { IsNewLink ⟦<P as AnyPointer>⟧.pointers S.may_reach };
 
     ghost connects = { λ a p q b. IsJoin a b (P.key p).0 (P.key q).0 };
 
@@ -59,7 +59,7 @@ impl<P: PtrKey, T: Drop, S: SlotStack<Item = ArenaSlot<P, LinkNoGen<P, T>>>> Cha
     ghost compression_renames = { λ a b h. h.renamed };
 
     fn can_insert(&self, kind: LinkInsertKind<P>) -> bool
-        ensures { IsTrue result ↔ MayInsertIn value_state link_map ⟦<P as AnyPointer>⟧.kind self.now
+        ensures { IsTrue result ↔ MayInsertIn value_state link_map ⟦<P as AnyPointer>⟧.pointers self.now
             kind }
     {
         self.beside_for(kind).is_some()
@@ -72,10 +72,10 @@ impl<P: PtrKey, T: Drop, S: SlotStack<Item = ArenaSlot<P, LinkNoGen<P, T>>>> Cha
         kind: LinkInsertKind<P>,
         t: T,
     ) -> Result<P, ChainInsertionError>
-        ensures outcome { InsertsLinkWithin value_state link_map ⟦<P as AnyPointer>⟧.kind self.old
+        ensures outcome { InsertsLinkWithin value_state link_map ⟦<P as AnyPointer>⟧.pointers self.old
             kind t result self.new }
         ensures err { OnErr result (self.new ≡ self.old) }
-        ensures more { IfOk result (IsNewLink ⟦<P as AnyPointer>⟧.kind S.may_reach self.old kind t
+        ensures implementation { IfOk result (IsNewLink ⟦<P as AnyPointer>⟧.pointers S.may_reach self.old kind t
             self.new) }
     {
         match self.beside_within_capacity(kind) {
@@ -90,10 +90,10 @@ impl<P: PtrKey, T: Drop, S: SlotStack<Item = ArenaSlot<P, LinkNoGen<P, T>>>> Cha
         kind: LinkInsertKind<P>,
         t: T,
     ) -> Result<P, ChainInsertionError>
-        ensures outcome { InsertsLink value_state link_map ⟦<P as AnyPointer>⟧.kind self.old kind t
+        ensures outcome { InsertsLink value_state link_map ⟦<P as AnyPointer>⟧.pointers self.old kind t
             result self.new }
         ensures err { OnErr result (self.new ≡ self.old) }
-        ensures more { IfOk result (IsNewLink ⟦<P as AnyPointer>⟧.kind S.may_reach self.old kind t
+        ensures implementation { IfOk result (IsNewLink ⟦<P as AnyPointer>⟧.pointers S.may_reach self.old kind t
             self.new) }
     {
         match self.beside_with_growth(kind) {
@@ -105,11 +105,11 @@ impl<P: PtrKey, T: Drop, S: SlotStack<Item = ArenaSlot<P, LinkNoGen<P, T>>>> Cha
 
     #[inline(always)]
     fn insert(&mut self, kind: LinkInsertKind<P>, t: T) -> Result<P, ReallocationError>
-        requires { MayInsertIn value_state link_map ⟦<P as AnyPointer>⟧.kind self.old kind }
-        ensures outcome { InsertsAllowedLink value_state link_map ⟦<P as AnyPointer>⟧.kind self.old
+        requires { MayInsertIn value_state link_map ⟦<P as AnyPointer>⟧.pointers self.old kind }
+        ensures outcome { InsertsAllowedLink value_state link_map ⟦<P as AnyPointer>⟧.pointers self.old
             kind t result self.new }
         ensures err { OnErr result (self.new ≡ self.old) }
-        ensures more { IfOk result (IsNewLink ⟦<P as AnyPointer>⟧.kind S.may_reach self.old kind t
+        ensures implementation { IfOk result (IsNewLink ⟦<P as AnyPointer>⟧.pointers S.may_reach self.old kind t
             self.new) }
     {
         match self.beside_with_growth(kind) {

@@ -15,20 +15,20 @@ use arena_ptr::{
 };
 use chain_linking::link_writes::write_beside;
 use chain_links::links::is_index;
-use chain_links::{LinkBody, LinkInsertKind, LinkNoGen};
+use chain_links::{LinkInsertKind, LinkNoGen, RawLink};
 
 // The indexes of the links before and after a new one.
 pub(crate) type Beside<I> = (Option<I>, Option<I>);
 
 // A link that a kind names, if there is one, and its index.
-type Named<'a, I, W, T> = (Option<&'a LinkBody<PackedOption<I, W>, T>>, I);
+type Named<'a, I, W, T> = (Option<&'a RawLink<PackedOption<I, W>, T>>, I);
 
 impl<P: PtrKey, T: Drop, S: SlotStack<Item = ArenaSlot<P, LinkNoGen<P, T>>>> ChainArena<P, T, S> {
     // Returns the links that a new one of a kind comes between, or `None` if the requirement of the
     // kind is not met. Inlined, so that a kind known at compile time leaves only its own branch.
     #[inline(always)]
     pub(crate) fn beside_for(&self, kind: LinkInsertKind<P>) -> Option<Beside<P::Inx>>
-        ensures beside { FindsBeside ⟦<P as AnyPointer>⟧.kind self.now kind result }
+        ensures beside { FindsBeside ⟦<P as AnyPointer>⟧.pointers self.now kind result }
         ensures agree { IsWellLinked (link_map self.now) }
     {
         match kind {
@@ -82,7 +82,7 @@ impl<P: PtrKey, T: Drop, S: SlotStack<Item = ArenaSlot<P, LinkNoGen<P, T>>>> Cha
         &self,
         kind: LinkInsertKind<P>,
     ) -> Result<Beside<P::Inx>, ChainInsertionError>
-        ensures beside { FindsBesideWithin ⟦<P as AnyPointer>⟧.kind S.may_reach self.now kind
+        ensures beside { FindsBesideWithin ⟦<P as AnyPointer>⟧.pointers S.may_reach self.now kind
             result }
         ensures agree { IsWellLinked (link_map self.now) }
     {
@@ -103,7 +103,7 @@ impl<P: PtrKey, T: Drop, S: SlotStack<Item = ArenaSlot<P, LinkNoGen<P, T>>>> Cha
         &mut self,
         kind: LinkInsertKind<P>,
     ) -> Result<Option<Beside<P::Inx>>, ReallocationError>
-        ensures beside { FindsBesideGrowing ⟦<P as AnyPointer>⟧.kind S.may_reach self.old kind
+        ensures beside { FindsBesideGrowing ⟦<P as AnyPointer>⟧.pointers S.may_reach self.old kind
             result self.new }
         ensures agreed { IsWellLinked (link_map self.old) }
     {
@@ -124,10 +124,10 @@ impl<P: PtrKey, T: Drop, S: SlotStack<Item = ArenaSlot<P, LinkNoGen<P, T>>>> Cha
             (option_map P.Inx.number beside.0)
             (option_map P.Inx.number beside.1) }
         requires capacity { entry_count self.old < self.old.capacity }
-        ensures { InsertsBeside ⟦<P as AnyPointer>⟧.kind self.old beside t result self.new }
+        ensures { InsertsBeside ⟦<P as AnyPointer>⟧.pointers self.old beside t result self.new }
     {
         self.arena.invariants();
-        let p = self.arena.insert_next(LinkBody::new(beside, t));
+        let p = self.arena.insert_next(RawLink::new(beside, t));
         let i = Some(p.inx());
         write_beside(&mut self.arena, beside.0, i, beside.1, i);
         p

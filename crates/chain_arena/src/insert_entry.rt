@@ -91,9 +91,9 @@ impl<P: PtrKey, T: Drop, S: SlotStack<Item = ArenaSlot<P, LinkNoGen<P, T>>>> Cha
             P.PtrKey P.Inx.InxKey P.Gen.GenKey S.SlotStack)
             self.entry (λ e. e.arena.ghost_name) result (λ n. n ≡ self.old)) }
         ensures outcome { IsInsertionWithinResult
-            (MayInsertIn value_state link_map ⟦<P as AnyPointer>⟧.kind self.old kind)
+            (MayInsertIn value_state link_map ⟦<P as AnyPointer>⟧.pointers self.old kind)
             (HasFreeCapacity (value_view self.old)) (IsFull (value_view self.old))
-            (λ e. (e.arena.now ≡ self.old) × IsEntryFor ⟦<P as AnyPointer>⟧.kind S.may_reach
+            (λ e. (e.arena.now ≡ self.old) × IsEntryFor ⟦<P as AnyPointer>⟧.pointers S.may_reach
             self.old kind e.arena.now e.prev e.next) result }
         ensures same_reference { IfOk result (λ e. e.arena.ghost_name ≡ self.entry.ghost_name) }
     {
@@ -125,8 +125,8 @@ impl<P: PtrKey, T: Drop, S: SlotStack<Item = ArenaSlot<P, LinkNoGen<P, T>>>> Cha
             P.PtrKey P.Inx.InxKey P.Gen.GenKey S.SlotStack)
             self.entry (λ e. e.arena.ghost_name) result (λ n. n ≡ self.old)) }
         ensures outcome { IsInsertionResult
-            (MayInsertIn value_state link_map ⟦<P as AnyPointer>⟧.kind self.old kind)
-            (RefusesOneMore (value_view self.old)) (λ e. IsEntryFor ⟦<P as AnyPointer>⟧.kind
+            (MayInsertIn value_state link_map ⟦<P as AnyPointer>⟧.pointers self.old kind)
+            (RefusesOneMore (value_view self.old)) (λ e. IsEntryFor ⟦<P as AnyPointer>⟧.pointers
             S.may_reach self.old kind e.arena.now e.prev e.next) result }
         ensures same_reference { IfOk result (λ e. e.arena.ghost_name ≡ self.entry.ghost_name) }
     {
@@ -152,13 +152,13 @@ impl<P: PtrKey, T: Drop, S: SlotStack<Item = ArenaSlot<P, LinkNoGen<P, T>>>> Cha
         &mut self,
         kind: LinkInsertKind<P>,
     ) -> Result<ChainArenaInsertEntry<'_, P, T, S>, ReallocationError>
-        requires { MayInsertIn value_state link_map ⟦<P as AnyPointer>⟧.kind self.old kind }
+        requires { MayInsertIn value_state link_map ⟦<P as AnyPointer>⟧.pointers self.old kind }
         ensures* unchanged_at_err { sem 𝓛 (RestsIfErr
             (arena_row P.row T.row S.row P.Inx.row P.Gen.row P.Inx.Word.row
             P.PtrKey P.Inx.InxKey P.Gen.GenKey S.SlotStack)
             self.entry (λ e. e.arena.ghost_name) result (λ n. n ≡ self.old)) }
         ensures outcome { IsGrowthResult (RefusesOneMore (value_view self.old))
-            (λ e. IsEntryFor ⟦<P as AnyPointer>⟧.kind S.may_reach self.old kind e.arena.now e.prev
+            (λ e. IsEntryFor ⟦<P as AnyPointer>⟧.pointers S.may_reach self.old kind e.arena.now e.prev
             e.next) result }
         ensures same_reference { IfOk result (λ e. e.arena.ghost_name ≡ self.entry.ghost_name) }
     {

@@ -58,7 +58,7 @@ pub use chain_compaction::visitor::Visitor;
 pub use chain_drains::{ChainDrain, drain_gives_the_walk};
 pub use chain_linking::{ChainIter, links_agree};
 pub use chain_links::{
-    InsertKind, Link, LinkBody, LinkInsertKind, LinkNoGen, links_compare_by_neighbors,
+    InsertKind, Link, LinkInsertKind, LinkNoGen, RawLink, links_compare_by_neighbors,
 };
 pub use chain_traits::ChainArenaTrait;
 pub use insert_entry::ChainArenaInsertEntry;

@@ -109,22 +109,17 @@ fn transfer_links<
     let generation = target.generation();
     let mut advancer = source.advancer();
     let mut on = None;
-    let mut ring = false;
+    let mut is_cyclic = false;
     let mut ends = None;
     for k in 0..source.len() {
         // A chain that begins has no link in the target yet.
         let arranged = on.and(ends);
-        let Taken {
-            ptr,
-            value,
-            next,
-            is_cyclic,
-        } = take_next::<Q, U, A>(source, &mut advancer, on, ring);
+        let taken = take_next::<Q, U, A>(source, &mut advancer, on, is_cyclic);
         let to = pointer_at::<P>(k + 1, generation);
-        let t = map(ptr, value, to);
+        let t = map(taken.ptr, taken.value, to);
+        is_cyclic = taken.is_cyclic;
         ends = append_link(target, is_cyclic, arranged, to, t);
-        ring = is_cyclic;
-        on = next;
+        on = taken.next;
     }
 }
 
@@ -140,19 +135,23 @@ fn pointer_at<P: PtrKey>(index: usize, generation: P::Gen) -> P
 }
 
 // Returns the links beside a new one at `i`, at the end of a chain: after its last link, and in a
-// ring before its first.
-fn beside_end<P: PtrKey>(ring: bool, ends: Option<(P::Inx, P::Inx)>, i: P::Inx) -> Beside<P::Inx>
+// cyclic chain before its first.
+fn beside_end<P: PtrKey>(
+    is_cyclic: bool,
+    ends: Option<(P::Inx, P::Inx)>,
+    i: P::Inx,
+) -> Beside<P::Inx>
     ensures { (m : ℕ) → AreEnds P.Inx.number ends m (P.Inx.number i)
-        → (option_map P.Inx.number result.0 ≡ end_before ring m (P.Inx.number i))
-        × (option_map P.Inx.number result.1 ≡ end_after ring m (P.Inx.number i)) }
+        → (option_map P.Inx.number result.0 ≡ end_before is_cyclic m (P.Inx.number i))
+        × (option_map P.Inx.number result.1 ≡ end_after is_cyclic m (P.Inx.number i)) }
 {
     match ends {
-        None => if ring {
+        None => if is_cyclic {
             (Some(i), Some(i))
         } else {
             (None, None)
         },
-        Some((first, last)) => (Some(last), if ring { Some(first) } else { None }),
+        Some((first, last)) => (Some(last), if is_cyclic { Some(first) } else { None }),
     }
 }
 
@@ -171,22 +170,22 @@ fn with_end<I: InxKey>(ends: Option<(I, I)>, i: I) -> Option<(I, I)>
 // ends.
 fn append_link<P: PtrKey, T: Drop, S: SlotStack<Item = ArenaSlot<P, LinkNoGen<P, T>>>>(
     target: &mut ChainArena<P, T, S>,
-    ring: bool,
+    is_cyclic: bool,
     ends: Option<(P::Inx, P::Inx)>,
     to: P,
     t: T,
 ) -> Option<(P::Inx, P::Inx)>
     requires ends { (m : ℕ) × AreEnds P.Inx.number ends m (next_index target.old)
-        × HasPositionAtEnd ring m target.old }
+        × HasPositionAtEnd is_cyclic m target.old }
     requires capacity { entry_count target.old < target.old.capacity }
     requires index { (P.key to).0 ≡ next_index target.old }
     ensures arranged { (m : ℕ) → AreEnds P.Inx.number ends m (next_index target.old)
-        → (target.new ≡ with_link_at_end ring m target.old t) × AreEnds P.Inx.number result (m + 1)
+        → (target.new ≡ with_link_at_end is_cyclic m target.old t) × AreEnds P.Inx.number result (m + 1)
         (next_index target.old + 1) }
     ensures listed { IsListed target.old }
 {
     let i = to.inx();
-    target.insert_between(beside_end::<P>(ring, ends, i), t);
+    target.insert_between(beside_end::<P>(is_cyclic, ends, i), t);
     with_end(ends, i)
 }
 

@@ -27,12 +27,12 @@ Transcribes-more old mid new (first ∷ lines) line text more responses next = (
 )
 
 -- A response to the kept part of a line is a response to the line.
-pub of_kept : (old new : ToolLinks) (kept rest text : List ℕ) → kept ≡ take 201 rest → RespondsToLine old (line_of kept) text new → RespondsToLine old (line_of rest) text new
-of_kept old new kept rest text keeps responses = subst (λ l. RespondsToLine old l text new) (ap line_of keeps ∙ line_of-take rest) responses
+pub kept_line_responds : (old new : ToolLinks) (kept rest text : List ℕ) → kept ≡ take 201 rest → RespondsToLine old (line_of kept) text new → RespondsToLine old (line_of rest) text new
+kept_line_responds old new kept rest text keeps responses = subst (λ l. RespondsToLine old l text new) (ap line_of keeps ∙ line_of-take rest) responses
 
 -- The kept part of a line has the effect of the line.
-pub step_of_kept : (old new : ToolLinks) (kept rest : List ℕ) → kept ≡ take 201 rest → LeavesStep old (line_of kept) new → LeavesStep old (line_of rest) new
-step_of_kept old new kept rest keeps step = subst (λ l. LeavesStep old l new) (ap line_of keeps ∙ line_of-take rest) step
+pub kept_line_steps : (old new : ToolLinks) (kept rest : List ℕ) → kept ≡ take 201 rest → LeavesStep old (line_of kept) new → LeavesStep old (line_of rest) new
+kept_line_steps old new kept rest keeps step = subst (λ l. LeavesStep old l new) (ap line_of keeps ∙ line_of-take rest) step
 
 module _ (old mid new : ToolLinks) (read kept : List ℕ) (held held_mid held_after : Option (List ℕ)) (so_far : Progress old read mid kept held held_mid) where
   ended : (more : List ℕ) → lines_of (read ++ 10 ∷ more) ≡ so_far.lines ++ so_far.rest ∷ lines_of more
@@ -45,7 +45,7 @@ module _ (old mid new : ToolLinks) (read kept : List ℕ) (held held_mid held_af
     text = so_far.text ++ responded.0;
     cut = ended [] ∙ sym (append_assoc so_far.lines (so_far.rest ∷ []) ([] ∷ []));
     keeps = refl;
-    responses = Transcribes-more old mid new so_far.lines so_far.rest so_far.text responded.0 so_far.responses (of_kept mid new kept so_far.rest responded.0 so_far.keeps responded.1);
+    responses = Transcribes-more old mid new so_far.lines so_far.rest so_far.text responded.0 so_far.responses (kept_line_responds mid new kept so_far.rest responded.0 so_far.keeps responded.1);
     writes = Appends-trans held held_mid held_after _ _ so_far.writes responded.2;
   }
 
@@ -54,7 +54,7 @@ module _ (old mid new : ToolLinks) (read kept : List ℕ) (held held_mid held_af
 
   left_unchanged : (more : List ℕ) → (new ≡ mid) ⊎ LeavesStep mid (line_of kept) new → TranscribesSome old new (so_far.lines ++ so_far.rest ∷ whole_lines more) so_far.text
   left_unchanged more (inl same) = before so_far.lines (so_far.rest ∷ whole_lines more) so_far.text (subst (λ m. Transcribes old so_far.lines so_far.text m) (sym same) so_far.responses)
-  left_unchanged more (inr step) = after so_far.lines (whole_lines more) so_far.rest mid so_far.text so_far.responses (step_of_kept mid new kept so_far.rest so_far.keeps step)
+  left_unchanged more (inr step) = after so_far.lines (whole_lines more) so_far.rest mid so_far.text so_far.responses (kept_line_steps mid new kept so_far.rest so_far.keeps step)
 
   pub HasProgressed-stopped : (A B : Type 0) (error : ToolError) (more kept_after : List ℕ) → TranscribesOne {A = A} (Err error) mid new kept held_mid held_after
       → HasProgressed {A = B} (Err error) old (read ++ 10 ∷ more) new kept_after held held_after
@@ -62,7 +62,7 @@ module _ (old mid new : ToolLinks) (read kept : List ℕ) (held held_mid held_af
   HasProgressed-stopped A B errors.Write more kept_after stopped = (
     so_far.text ++ stopped.0,
     subst (λ l. IsCutShort old new l (so_far.text ++ stopped.0)) (sym (whole more))
-        (within so_far.lines (whole_lines more) so_far.rest mid so_far.text stopped.0 stopped.1 so_far.responses (of_kept mid new kept so_far.rest (stopped.0 ++ stopped.1) so_far.keeps stopped.2)),
+        (within so_far.lines (whole_lines more) so_far.rest mid so_far.text stopped.0 stopped.1 so_far.responses (kept_line_responds mid new kept so_far.rest (stopped.0 ++ stopped.1) so_far.keeps stopped.2)),
     Appends-trans held held_mid held_after _ _ so_far.writes stopped.3,
   )
   HasProgressed-stopped A B errors.Memory more kept_after stopped =
@@ -106,14 +106,14 @@ returns_kept (Err errors.Memory) old new line held held_after responded = (respo
 -- A line is executed of which a part was kept.
 pub responses-line : {A : Type 0} (r : Result A ToolError) (old new : ToolLinks) (kept line : List ℕ) (held held_after : Option (List ℕ)) → kept ≡ take 201 line → TranscribesOne r old new kept held held_after
     → TranscribesOne r old new line held held_after
-responses-line (Ok x) old new kept line held held_after is responded = (responded.0, of_kept old new kept line responded.0 is responded.1, responded.2)
+responses-line (Ok x) old new kept line held held_after is responded = (responded.0, kept_line_responds old new kept line responded.0 is responded.1, responded.2)
 responses-line (Err errors.Read) old new kept line held held_after is responded = responded
-responses-line (Err errors.Write) old new kept line held held_after is responded = (responded.0, responded.1, of_kept old new kept line (responded.0 ++ responded.1) is responded.2, responded.3)
+responses-line (Err errors.Write) old new kept line held held_after is responded = (responded.0, responded.1, kept_line_responds old new kept line (responded.0 ++ responded.1) is responded.2, responded.3)
 responses-line (Err errors.Memory) old new kept line held held_after is responded = (responded.0, step responded.1)
   where
     step : (new ≡ old) ⊎ LeavesStep old (line_of kept) new → (new ≡ old) ⊎ LeavesStep old (line_of line) new
     step (inl same) = inl same
-    step (inr leaves) = inr (step_of_kept old new kept line is leaves)
+    step (inr leaves) = inr (kept_line_steps old new kept line is leaves)
 
 module _ (old now : ToolLinks) (read done left kept : List ℕ) (held held_now : Option (List ℕ)) (so_far : Progress old (read ++ done) now kept held held_now) where
   -- Enough is kept of a part without a line feed.

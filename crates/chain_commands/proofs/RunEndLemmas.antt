@@ -10,7 +10,7 @@ use Rattle.chain_commands.specs.Responses.{ToolLinks, RespondsToLine, LeavesStep
 use Rattle.chain_commands.specs.Transcripts.{Transcribes, by_line_feed, by_the_end, IsCutShort, between, within, TranscribesSome, before, after, Ends}
 use Rattle.chain_commands.specs.Progress.{TranscribesOne, Progress, HasProgressed}
 use Rattle.chain_commands.proofs.LineSplitLemmas.{all_but_last-append}
-use Rattle.chain_commands.proofs.ProgressLemmas.{Transcribes-more, of_kept, step_of_kept}
+use Rattle.chain_commands.proofs.ProgressLemmas.{Transcribes-more, kept_line_responds, kept_line_steps}
 
 -- The run has executed what was read so far.
 pub record HasRead (old new : ToolLinks) (kept : List ℕ) (left left_after held held_after : Option (List ℕ)) : Type 0 where
@@ -102,12 +102,12 @@ module _ (old now : ToolLinks) (kept : List ℕ) (left left_now held held_now : 
       all = subst (Consumes left left_after) (append-nil has.read) (Consumes-trans left left_now left_after _ _ has.reads reads)
 
       last : (text : List ℕ) → RespondsToLine now (line_of line) text new → RespondsToLine now (line_of has.so_far.rest) text new
-      last text responses = of_kept now new kept has.so_far.rest text has.so_far.keeps (subst (λ l. RespondsToLine now (line_of l) text new) same responses)
+      last text responses = kept_line_responds now new kept has.so_far.rest text has.so_far.keeps (subst (λ l. RespondsToLine now (line_of l) text new) same responses)
 
       left_unchanged : (new ≡ now) ⊎ LeavesStep now (line_of line) new → TranscribesSome old new (has.so_far.lines ++ has.so_far.rest ∷ []) has.so_far.text
       left_unchanged (inl stays) = before has.so_far.lines (has.so_far.rest ∷ []) has.so_far.text (subst (λ m. Transcribes old has.so_far.lines has.so_far.text m) (sym stays) has.so_far.responses)
       left_unchanged (inr step) = after has.so_far.lines [] has.so_far.rest now has.so_far.text has.so_far.responses
-          (step_of_kept now new kept has.so_far.rest has.so_far.keeps (subst (λ l. LeavesStep now (line_of l) new) same step))
+          (kept_line_steps now new kept has.so_far.rest has.so_far.keeps (subst (λ l. LeavesStep now (line_of l) new) same step))
 
       by_result : (r : Result B ToolError) → TranscribesOne r now new line held_now held_after → Ends r old new left left_after held held_after
       by_result (Ok x) responded = record {

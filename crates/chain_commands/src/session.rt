@@ -26,7 +26,7 @@ pub enum ToolError {
 }
 
 /// Writes a text to a writer, and retries interrupted writes.
-fn put<W: Write>(writer: &mut W, text: &[u8]) -> Result<(), ToolError>
+fn write_fully<W: Write>(writer: &mut W, text: &[u8]) -> Result<(), ToolError>
     ensures { WritesText result (W.contents writer.old) (W.contents writer.new) text.now }
 {
     let mut written = 0;
@@ -60,13 +60,13 @@ fn reply<W: Write, S: SlotStack<Item = ArenaSlot<ToolPtr, LinkNoGen<ToolPtr, u32
         (W.contents writer.new) }
 {
     match respond(arena, line, text) {
-        Ok(()) => put(writer, text.as_bytes()),
+        Ok(()) => write_fully(writer, text.as_bytes()),
         Err(_) => Err(ToolError::Memory),
     }
 }
 
 /// Appends to an unfinished line, of which at most 201 bytes are kept.
-fn keep(line: &mut Vec<u8>, more: &[u8]) -> Result<(), ToolError>
+fn buffer_line(line: &mut Vec<u8>, more: &[u8]) -> Result<(), ToolError>
     ensures { KeepsMore result line.old.items line.new.items more.now }
 {
     let (front, _) = more.split_at(more.len().min(201usize.saturating_sub(line.len())));
@@ -92,7 +92,7 @@ fn end_line<W: Write, S: SlotStack<Item = ArenaSlot<ToolPtr, LinkNoGen<ToolPtr, 
     if line.is_empty() {
         return reply(arena, front, text, writer);
     }
-    keep(line, front)?;
+    buffer_line(line, front)?;
     reply(arena, line, text, writer)?;
     line.clear();
     Ok(())
@@ -116,7 +116,7 @@ fn feed<W: Write, S: SlotStack<Item = ArenaSlot<ToolPtr, LinkNoGen<ToolPtr, u32>
         end_line(arena, line, front, text, writer)?;
         left = back;
     }
-    keep(line, left)
+    buffer_line(line, left)
 }
 
 /// Flushes a writer.

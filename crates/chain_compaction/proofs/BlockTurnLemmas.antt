@@ -4,12 +4,12 @@ use Rattle.std.proofs.lemmas.Bool.Decides.{leb_tells}
 use Rattle.std.proofs.Math.Decide.{ℕ_discrete}
 use Rattle.std.proofs.lemmas.List.{get_or-set_same, get_or-set_other}
 use Rattle.std.proofs.Math.ListN.{length-set}
-use Rattle.chain_compaction.specs.Permutations.{Waits, IsInBlock, ListsWaiting}
+use Rattle.chain_compaction.specs.Permutations.{HasDestination, IsInBlock, ListsWaiting}
 
 -- The list grows while the slots of a block are processed for the first time.
 module _ {E : Type 0} (goal : E → Option ℕ) (start : ℕ) where
   module _ (positions : List ℕ) (k left i : ℕ) (now next : ℕ → Option E) (lists : ListsWaiting goal start k positions left now) (at : i ≡ (start + k) + 1)
-      (stays : (j d : ℕ) (e : E) → (j ≢ i) → Waits goal next j e d → Waits goal now j e d) where
+      (stays : (j d : ℕ) (e : E) → (j ≢ i) → HasDestination goal next j e d → HasDestination goal now j e d) where
     -- The other slots were in the block before.
     before : (j : ℕ) → IsInBlock start (k + 1) j → j ≢ i → IsInBlock start k j
     before j in_block ne = let low : start < j = in_block.0 in let high : j ≤ start + (k + 1) = in_block.1 in (low, by (leb_tells j (start + k)))
@@ -26,7 +26,7 @@ module _ {E : Type 0} (goal : E → Option ℕ) (start : ℕ) where
         (first, omega arith)
 
     -- No entry waits at the next slot.
-    pub listing_skips : ((d : ℕ) (e : E) → Waits goal next i e d → ⊥) → ListsWaiting goal start (k + 1) positions left next
+    pub listing_skips : ((d : ℕ) (e : E) → HasDestination goal next i e d → ⊥) → ListsWaiting goal start (k + 1) positions left next
     listing_skips none = record {
       length = lists.length;
       few = (let few : left ≤ k = lists.few in omega arith);
@@ -34,8 +34,8 @@ module _ {E : Type 0} (goal : E → Option ℕ) (start : ℕ) where
       listed = λ j d e in_block w. by j d e in_block w (ℕ_discrete j i);
     }
       where
-        by : (j d : ℕ) (e : E) → IsInBlock start (k + 1) j → Waits goal next j e d → Dec (j ≡ i) → (p : ℕ) × (p < left) × (j ≡ slice_index positions p + 1)
-        by j d e in_block w (yes t) = absurd (none d e (subst (λ (x : ℕ). Waits goal next x e d) t w))
+        by : (j d : ℕ) (e : E) → IsInBlock start (k + 1) j → HasDestination goal next j e d → Dec (j ≡ i) → (p : ℕ) × (p < left) × (j ≡ slice_index positions p + 1)
+        by j d e in_block w (yes t) = absurd (none d e (subst (λ (x : ℕ). HasDestination goal next x e d) t w))
         by j d e in_block w (no n) = lists.listed j d e (before j in_block n) (stays j d e n w)
 
     -- The next slot is added to the list.
@@ -61,14 +61,14 @@ module _ {E : Type 0} (goal : E → Option ℕ) (start : ℕ) where
           kept p less (yes t) = let is : slice_index added p ≡ start + k = ap (slice_index added) t ∙ added_at in (omega arith, omega arith)
           kept p less (no n) = subst (λ (x : ℕ). (start ≤ x) × (x < start + (k + 1))) (sym (added_other p (omega arith))) (within_more p (omega arith))
 
-          by : (j d : ℕ) (e : E) → IsInBlock start (k + 1) j → Waits goal next j e d → Dec (j ≡ i) → (p : ℕ) × (p < left + 1) × (j ≡ slice_index added p + 1)
+          by : (j d : ℕ) (e : E) → IsInBlock start (k + 1) j → HasDestination goal next j e d → Dec (j ≡ i) → (p : ℕ) × (p < left + 1) × (j ≡ slice_index added p + 1)
           by j d e in_block w (yes t) = (left, omega arith, t ∙ (at ∙ ap (λ (x : ℕ). x + 1) (sym added_at)))
           by j d e in_block w (no n) = let was = lists.listed j d e (before j in_block n) (stays j d e n w) in (was.0, omega (arith, was.1), was.2 ∙ ap (λ (x : ℕ). x + 1) (sym (added_other was.0 was.1)))
 
 -- The list shrinks in the turns after the first.
 module _ {E : Type 0} (goal : E → Option ℕ) (start count : ℕ) where
   module _ (positions : List ℕ) (left turn i : ℕ) (now next : ℕ → Option E) (lists : ListsWaiting goal start count positions left now) (low : turn < left) (at : i ≡ slice_index positions turn + 1)
-      (stays : (j d : ℕ) (e : E) → (j ≢ i) → Waits goal next j e d → Waits goal now j e d) where
+      (stays : (j d : ℕ) (e : E) → (j ≢ i) → HasDestination goal next j e d → HasDestination goal now j e d) where
     -- A listed slot is in the block.
     pub turn_in_block : IsInBlock start count i
     turn_in_block =
@@ -81,12 +81,12 @@ module _ {E : Type 0} (goal : E → Option ℕ) (start count : ℕ) where
     pub listing_stays : ListsWaiting goal start count positions left next
     listing_stays = record { length = lists.length; few = lists.few; within = lists.within; listed = λ j d e in_block w. by j d e in_block w (ℕ_discrete j i) }
       where
-        by : (j d : ℕ) (e : E) → IsInBlock start count j → Waits goal next j e d → Dec (j ≡ i) → (p : ℕ) × (p < left) × (j ≡ slice_index positions p + 1)
+        by : (j d : ℕ) (e : E) → IsInBlock start count j → HasDestination goal next j e d → Dec (j ≡ i) → (p : ℕ) × (p < left) × (j ≡ slice_index positions p + 1)
         by j d e in_block w (yes t) = (turn, low, t ∙ at)
         by j d e in_block w (no n) = lists.listed j d e in_block (stays j d e n w)
 
     -- If no entry waits at the slot, the last position replaces it in the list.
-    module _ (fewer : ℕ) (one_less : fewer + 1 ≡ left) (all : count ≤ 64) (none : (d : ℕ) (e : E) → Waits goal next i e d → ⊥) where
+    module _ (fewer : ℕ) (one_less : fewer + 1 ≡ left) (all : count ≤ 64) (none : (d : ℕ) (e : E) → HasDestination goal next i e d → ⊥) where
       abbrev replaced : List ℕ
       replaced = slice_set positions turn (slice_index positions fewer)
 
@@ -118,12 +118,12 @@ module _ {E : Type 0} (goal : E → Option ℕ) (start count : ℕ) where
           found j p ne less is (yes t) (no n) = (turn, omega arith, is ∙ (ap (λ (x : ℕ). slice_index positions x + 1) t ∙ ap (λ (x : ℕ). x + 1) (sym replaced_at)))
           found j p ne less is (no m) (no n) = (p, omega arith, is ∙ ap (λ (x : ℕ). x + 1) (sym (replaced_other p n)))
 
-          by : (j d : ℕ) (e : E) → IsInBlock start count j → Waits goal next j e d → Dec (j ≡ i) → (q : ℕ) × (q < fewer) × (j ≡ slice_index replaced q + 1)
-          by j d e in_block w (yes t) = absurd (none d e (subst (λ (x : ℕ). Waits goal next x e d) t w))
+          by : (j d : ℕ) (e : E) → IsInBlock start count j → HasDestination goal next j e d → Dec (j ≡ i) → (q : ℕ) × (q < fewer) × (j ≡ slice_index replaced q + 1)
+          by j d e in_block w (yes t) = absurd (none d e (subst (λ (x : ℕ). HasDestination goal next x e d) t w))
           by j d e in_block w (no n) = let was = lists.listed j d e in_block (stays j d e n w) in found j was.0 n was.1 was.2 (ℕ_discrete was.0 fewer) (ℕ_discrete was.0 turn)
 
   -- If the list is empty, no entry waits in the block.
-  pub listing_ends : (positions : List ℕ) (left : ℕ) (now : ℕ → Option E) → ListsWaiting goal start count positions left now → left ≡ 0 → (j d : ℕ) (e : E) → IsInBlock start count j → Waits goal now j e d → ⊥
+  pub listing_ends : (positions : List ℕ) (left : ℕ) (now : ℕ → Option E) → ListsWaiting goal start count positions left now → left ≡ 0 → (j d : ℕ) (e : E) → IsInBlock start count j → HasDestination goal now j e d → ⊥
   listing_ends positions left now lists none j d e in_block w = let was = lists.listed j d e in_block w in let low : was.0 < left = was.1 in omega arith
 
 -- The number of entries that wait plus the number of listed positions decreases.

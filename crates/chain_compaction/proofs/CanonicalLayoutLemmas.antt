@@ -16,17 +16,17 @@ use Rattle.chain_laws.proofs.RenamingLemmas.Positions.{place-within, place-has, 
 use Rattle.chain_laws.proofs.RenamingLemmas.ChainRuns.{canonical_arranges}
 use Rattle.chain_laws.proofs.RenamingLemmas.LeastIndexOrder.{least_index_order_is_canonical}
 use Rattle.arena_traits.specs.Arena.{Arena, slot_at}
-use Rattle.arena_base.specs.DetachedSlots.{DetachedView, IsPacked, without_free_end, held_of, arena_without_slots, arena_after_return}
+use Rattle.arena_base.specs.DetachedSlots.{DetachedView, IsPacked, without_free_end, detached_of, arena_without_slots, arena_after_return}
 use Rattle.arena_base.specs.GatheredSlots.{with_totals, with_front}
-use Rattle.chain_links.specs.declared.links.LinkBody.{LinkBody}
+use Rattle.chain_links.specs.declared.links.RawLink.{RawLink}
 use Rattle.chain_links.specs.ChainArena.{LinkView, on_value, link_value, interlinks_of, link_map, values_of, entry, ptr_at}
 use Rattle.chain_links.specs.Links.{pair_view, links_view, destination_of, destination_at, AreAtRest}
 use Rattle.chain_compaction.specs.DetachedLinks.{body_interlinks, link_map_in, IsWork}
 use Rattle.chain_compaction.specs.WorkCounts.{HasCounted}
 use Rattle.chain_compaction.specs.Layouts.{ReportsMoves, AreArranged}
-use Rattle.chain_compaction.specs.Permutations.{Waits, HaveMoved, CanMoveAll, AreMovedToFront, Settles}
+use Rattle.chain_compaction.specs.Permutations.{HasDestination, HaveMoved, CanMoveAll, AreMovedToFront, Settles}
 use Rattle.chain_compaction.specs.OrderedLinks.{AreAllPlaced}
-use Rattle.chain_compaction.specs.Destinations.{held_view, renamed_link, renamed_held, AreAllNumbered}
+use Rattle.chain_compaction.specs.Destinations.{detached_view, renamed_link, renamed_detached, AreAllNumbered}
 use Rattle.chain_links.proofs.MappedArenaLemmas.{slot_at-map}
 use Rattle.chain_links.proofs.ArenaInsertionLemmas.{some_entry, slots-within}
 use Rattle.arena_base.proofs.PackedSlotLemmas.{packed-none_free}
@@ -96,19 +96,19 @@ module _ {Gen T : Type 0} where
 
 -- ---- links that are to move
 
-module _ {Gen K T : Type 0} (number : K → Option ℕ) (slots : List (Option (Gen × LinkBody K T))) (indexes : List ℕ) (once : AreDistinct indexes)
-    (places : (j : ℕ) → destination_at number slots j ≡ place_in indexes j) (each : (i : ℕ) (e : Gen × LinkBody K T) → slot_at slots i ≡ Some e → IsMember indexes i) where
-  waits_for : (i d : ℕ) → place_in indexes i ≡ Some d → (e : Gen × LinkBody K T) × Waits (destination_of number) (slot_at slots) i e d
+module _ {Gen K T : Type 0} (number : K → Option ℕ) (slots : List (Option (Gen × RawLink K T))) (indexes : List ℕ) (once : AreDistinct indexes)
+    (places : (j : ℕ) → destination_at number slots j ≡ place_in indexes j) (each : (i : ℕ) (e : Gen × RawLink K T) → slot_at slots i ≡ Some e → IsMember indexes i) where
+  waits_for : (i d : ℕ) → place_in indexes i ≡ Some d → (e : Gen × RawLink K T) × HasDestination (destination_of number) (slot_at slots) i e d
   waits_for i d at = by (slot_at slots i) refl (places i ∙ at)
     where
-      by : (o : Option (Gen × LinkBody K T)) → slot_at slots i ≡ o → option_and_then (destination_of number) o ≡ Some d → (e : Gen × LinkBody K T) × Waits (destination_of number) (slot_at slots) i e d
+      by : (o : Option (Gen × RawLink K T)) → slot_at slots i ≡ o → option_and_then (destination_of number) o ≡ Some d → (e : Gen × RawLink K T) × HasDestination (destination_of number) (slot_at slots) i e d
       by None is target = absurd (let h = target in cc)
       by (Some e) is target = (e, record { stored = is; to = target })
 
-  place_of : (i d : ℕ) (e : Gen × LinkBody K T) → Waits (destination_of number) (slot_at slots) i e d → place_in indexes i ≡ Some d
+  place_of : (i d : ℕ) (e : Gen × RawLink K T) → HasDestination (destination_of number) (slot_at slots) i e d → place_in indexes i ≡ Some d
   place_of i d e w = sym (places i) ∙ (ap (option_and_then (destination_of number)) w.stored ∙ w.to)
 
-  has_entry : (i : ℕ) → IsMember indexes i → (e : Gen × LinkBody K T) × (slot_at slots i ≡ Some e)
+  has_entry : (i : ℕ) → IsMember indexes i → (e : Gen × RawLink K T) × (slot_at slots i ≡ Some e)
   has_entry i h =
       let place = has-place 1 indexes i h in
       let w = waits_for i place.0 place.1 in
@@ -139,45 +139,45 @@ module _ {Gen K T : Type 0} (number : K → Option ℕ) (slots : List (Option (G
 
 module _ {Gen K T : Type 0} (number : K → Option ℕ) where
   -- The link map follows from the links as contracts see them.
-  pub link_map-view_after : (held : DetachedView Gen (LinkBody K T)) → link_map_in number held.slots ≡ reported_slots (held_view number held).slots
-  link_map-view_after held = fun_ext (λ i. twice (slot_at held.slots i) ∙ sym (ap (option_map interlinks_of) (slot_at-map (pair_view number) held.slots i)))
+  pub link_map-view_after : (detached : DetachedView Gen (RawLink K T)) → link_map_in number detached.slots ≡ reported_slots (detached_view number detached).slots
+  link_map-view_after detached = fun_ext (λ i. twice (slot_at detached.slots i) ∙ sym (ap (option_map interlinks_of) (slot_at-map (pair_view number) detached.slots i)))
     where
-      twice : (o : Option (Gen × LinkBody K T)) → option_map (body_interlinks number) o ≡ option_map interlinks_of (option_map (pair_view number) o)
+      twice : (o : Option (Gen × RawLink K T)) → option_map (body_interlinks number) o ≡ option_map interlinks_of (option_map (pair_view number) o)
       twice None = refl
       twice (Some e) = refl
 
   -- Renaming links keeps the number of slots.
-  pub length-renamed : (to : ℕ → Option ℕ) (one other : DetachedView Gen (LinkBody K T)) → held_view number one ≡ renamed_held to (held_view number other) → length one.slots ≡ length other.slots
+  pub length-renamed : (to : ℕ → Option ℕ) (one other : DetachedView Gen (RawLink K T)) → detached_view number one ≡ renamed_detached to (detached_view number other) → length one.slots ≡ length other.slots
   length-renamed to one other renamed =
       sym (length-map one.slots (option_map (pair_view number)))
       ∙ (ap (λ (h : DetachedView Gen (LinkView T)). length h.slots) renamed
-      ∙ (length-map (held_view number other).slots (option_map (on_value (renamed_link to))) ∙ length-map other.slots (option_map (pair_view number))))
+      ∙ (length-map (detached_view number other).slots (option_map (on_value (renamed_link to))) ∙ length-map other.slots (option_map (pair_view number))))
 
   -- It also keeps the number of links.
-  pub count-renamed : (to : ℕ → Option ℕ) (one other : DetachedView Gen (LinkBody K T)) → held_view number one ≡ renamed_held to (held_view number other) → count_by is_some one.slots ≡ count_by is_some other.slots
+  pub count-renamed : (to : ℕ → Option ℕ) (one other : DetachedView Gen (RawLink K T)) → detached_view number one ≡ renamed_detached to (detached_view number other) → count_by is_some one.slots ≡ count_by is_some other.slots
   count-renamed to one other renamed =
       sym (count-mapped (pair_view number) one.slots)
       ∙ (ap (λ (h : DetachedView Gen (LinkView T)). count_by is_some h.slots) renamed
-      ∙ (count-mapped (on_value (renamed_link to)) (held_view number other).slots ∙ count-mapped (pair_view number) other.slots))
+      ∙ (count-mapped (on_value (renamed_link to)) (detached_view number other).slots ∙ count-mapped (pair_view number) other.slots))
 
   -- The pointers follow from the view.
-  ptr-view_after : (held : DetachedView Gen (LinkBody K T)) (i : ℕ) → ptr_at (slot_at held.slots) i ≡ ptr_at (slot_at (map (option_map (on_value link_value)) (held_view number held).slots)) i
-  ptr-view_after held i =
-      twice (slot_at held.slots i)
-      ∙ sym (ap (option_map (λ (e : Gen × T). (i, e.0))) (slot_at-map (on_value link_value) (held_view number held).slots i ∙ ap (option_map (on_value link_value)) (slot_at-map (pair_view number) held.slots i)))
+  ptr-view_after : (detached : DetachedView Gen (RawLink K T)) (i : ℕ) → ptr_at (slot_at detached.slots) i ≡ ptr_at (slot_at (map (option_map (on_value link_value)) (detached_view number detached).slots)) i
+  ptr-view_after detached i =
+      twice (slot_at detached.slots i)
+      ∙ sym (ap (option_map (λ (e : Gen × T). (i, e.0))) (slot_at-map (on_value link_value) (detached_view number detached).slots i ∙ ap (option_map (on_value link_value)) (slot_at-map (pair_view number) detached.slots i)))
     where
-      twice : (o : Option (Gen × LinkBody K T)) → option_map {U = ℕ × Gen} (λ (e : Gen × LinkBody K T). (i, e.0)) o ≡ option_map {U = ℕ × Gen} (λ (e : Gen × T). (i, e.0)) (option_map (on_value link_value) (option_map (pair_view number) o))
+      twice : (o : Option (Gen × RawLink K T)) → option_map {U = ℕ × Gen} (λ (e : Gen × RawLink K T). (i, e.0)) o ≡ option_map {U = ℕ × Gen} (λ (e : Gen × T). (i, e.0)) (option_map (on_value link_value) (option_map (pair_view number) o))
       twice None = refl
       twice (Some e) = refl
 
   -- Links that were taken out of an arena are well linked as they were there.
-  pub agree-held : (a : Arena Gen (LinkBody K T)) (held : DetachedView Gen (LinkBody K T)) → held ≡ held_of a → IsWellLinked (link_map (links_view number a)) → IsWellLinked (link_map_in number held.slots)
-  agree-held a held is agrees = subst IsWellLinked (sym (ap (λ (h : DetachedView Gen (LinkBody K T)). link_map_in number h.slots) is ∙ link_map-view_after (held_of a))) agrees
+  pub agree-detached : (a : Arena Gen (RawLink K T)) (detached : DetachedView Gen (RawLink K T)) → detached ≡ detached_of a → IsWellLinked (link_map (links_view number a)) → IsWellLinked (link_map_in number detached.slots)
+  agree-detached a detached is agrees = subst IsWellLinked (sym (ap (λ (h : DetachedView Gen (RawLink K T)). link_map_in number h.slots) is ∙ link_map-view_after (detached_of a))) agrees
 
-module _ {F P Gen K T : Type 0} (g : F → P → P → F → Type 0) (key : P → ℕ × Gen) (f last : F) (number : K → Option ℕ) (generation : Gen) (h0 h2 : DetachedView Gen (LinkBody K T))
-    (a0 a2 : Arena Gen (LinkBody K T)) (total : ℕ) (numbered : AreAllNumbered number g key generation f last h0 h2 a0 a2 total) where
+module _ {F P Gen K T : Type 0} (g : F → P → P → F → Type 0) (key : P → ℕ × Gen) (f last : F) (number : K → Option ℕ) (generation : Gen) (h0 h2 : DetachedView Gen (RawLink K T))
+    (a0 a2 : Arena Gen (RawLink K T)) (total : ℕ) (numbered : AreAllNumbered number g key generation f last h0 h2 a0 a2 total) where
   abbrev first_slots : List (Option (Gen × LinkView T))
-  first_slots = (held_view number h0).slots
+  first_slots = (detached_view number h0).slots
 
   first_arranges : IsArrangement (reported_slots first_slots) numbered.indexes
   first_arranges =
@@ -189,7 +189,7 @@ module _ {F P Gen K T : Type 0} (g : F → P → P → F → Type 0) (key : P �
       sym (slot_at-map (pair_view number) h2.slots i)
       ∙ (ap (λ (h : DetachedView Gen (LinkView T)). slot_at h.slots i) numbered.renamed ∙ slot_at-map (on_value (renamed_link (place_in numbered.indexes))) first_slots i)
 
-  each_placed : (i : ℕ) (e : Gen × LinkBody K T) → slot_at h2.slots i ≡ Some e → IsMember numbered.indexes i
+  each_placed : (i : ℕ) (e : Gen × RawLink K T) → slot_at h2.slots i ≡ Some e → IsMember numbered.indexes i
   each_placed i e s = by (slot_at first_slots i) refl (sym (ap (option_map (pair_view number)) s) ∙ renamed_there i)
     where
       by : (o : Option (Gen × LinkView T)) → slot_at first_slots i ≡ o → Some (pair_view number e) ≡ option_map (on_value (renamed_link (place_in numbered.indexes))) o → IsMember numbered.indexes i
@@ -210,8 +210,8 @@ module _ {F P Gen K T : Type 0} (g : F → P → P → F → Type 0) (key : P �
   same-length = length-renamed number (place_in numbered.indexes) h2 h0 numbered.renamed
 
   -- After the links have moved.
-  module _ (h3 : DetachedView Gen (LinkBody K T)) (moved : HaveMoved (destination_of number) (Settles number generation) (slot_at h2.slots) (slot_at h3.slots)) where
-    all_sent : (i d : ℕ) (x : Gen × LinkView T) → place_in numbered.indexes i ≡ Some d → slot_at first_slots i ≡ Some x → slot_at (held_view number h3).slots d ≡ Some (generation, renamed_link (place_in numbered.indexes) x.1)
+  module _ (h3 : DetachedView Gen (RawLink K T)) (moved : HaveMoved (destination_of number) (Settles number generation) (slot_at h2.slots) (slot_at h3.slots)) where
+    all_sent : (i d : ℕ) (x : Gen × LinkView T) → place_in numbered.indexes i ≡ Some d → slot_at first_slots i ≡ Some x → slot_at (detached_view number h3).slots d ≡ Some (generation, renamed_link (place_in numbered.indexes) x.1)
     all_sent i d x at is =
         let w = waits_for number h2.slots numbered.indexes first_arranges.once numbered.destinations each_placed i d at in
         let both : ◌≡◌ {A = Option (Gen × LinkView T)} (Some (pair_view number w.0)) (Some (x.0, renamed_link (place_in numbered.indexes) x.1)) =
@@ -226,7 +226,7 @@ module _ {F P Gen K T : Type 0} (g : F → P → P → F → Type 0) (key : P �
         link_is {e} {h} both = ap (link_or e.1) both
 
     -- All links are placed.
-    pub links_placed : (a3 : Arena Gen (LinkBody K T)) → h3.stack_capacity ≡ h2.stack_capacity → h3.maximum ≡ h2.maximum
+    pub links_placed : (a3 : Arena Gen (RawLink K T)) → h3.stack_capacity ≡ h2.stack_capacity → h3.maximum ≡ h2.maximum
         → IsWork a2 a3 (count_by is_some h2.slots) (4 * count_by is_some h2.slots + length h2.slots) → AreAllPlaced number g key generation f last h0 h3 a0 a3 total 9
     links_placed a3 capacity maximum moving = record {
       indexes = numbered.indexes;
@@ -244,14 +244,14 @@ module _ {F P Gen K T : Type 0} (g : F → P → P → F → Type 0) (key : P �
     pub links_at_rest : AreAtRest number h3.slots
     links_at_rest = record { none = λ j. by j (slot_at h3.slots j) refl }
       where
-        by : (j : ℕ) (o : Option (Gen × LinkBody K T)) → slot_at h3.slots j ≡ o → destination_at number h3.slots j ≡ None
+        by : (j : ℕ) (o : Option (Gen × RawLink K T)) → slot_at h3.slots j ≡ o → destination_at number h3.slots j ≡ None
         by j None is = ap (option_and_then (destination_of number)) is
         by j (Some e) is = ap (option_and_then (destination_of number)) is ∙ (moved.back j e is).settled.empty
 
 -- ---- links that were read before
 
-module _ {F P Gen K T : Type 0} (g : F → P → P → F → Type 0) (key : P → ℕ × Gen) (f last : F) (number : K → Option ℕ) (generation : Gen) (h0 h1 h3 : DetachedView Gen (LinkBody K T))
-    (same : h1 ≡ h0) (a0 a1 a3 : Arena Gen (LinkBody K T)) (total most links : ℕ) (counts : links ≡ count_by is_some h0.slots) (reading : IsWork a0 a1 0 links)
+module _ {F P Gen K T : Type 0} (g : F → P → P → F → Type 0) (key : P → ℕ × Gen) (f last : F) (number : K → Option ℕ) (generation : Gen) (h0 h1 h3 : DetachedView Gen (RawLink K T))
+    (same : h1 ≡ h0) (a0 a1 a3 : Arena Gen (RawLink K T)) (total most links : ℕ) (counts : links ≡ count_by is_some h0.slots) (reading : IsWork a0 a1 0 links)
     (done : AreAllPlaced number g key generation f last h1 h3 a1 a3 total most) where
   read_arranges : IsArrangement (link_map_in number h1.slots) done.indexes
   read_arranges = canonical_arranges (link_map_in number h1.slots) done.indexes (least_index_order_is_canonical (link_map_in number h1.slots) done.indexes done.order)
@@ -264,7 +264,7 @@ module _ {F P Gen K T : Type 0} (g : F → P → P → F → Type 0) (key : P �
 
   -- All links are placed, with at most one more touch per link.
   pub placed_after_reads : (more : ℕ) → most + 1 ≤ more → AreAllPlaced number g key generation f last h0 h3 a0 a3 total more
-  placed_after_reads more few = subst (λ (h : DetachedView Gen (LinkBody K T)). AreAllPlaced number g key generation f last h h3 a0 a3 total more) same (record {
+  placed_after_reads more few = subst (λ (h : DetachedView Gen (RawLink K T)). AreAllPlaced number g key generation f last h h3 a0 a3 total more) same (record {
     indexes = done.indexes;
     order = done.order;
     counted = done.counted;
@@ -277,7 +277,7 @@ module _ {F P Gen K T : Type 0} (g : F → P → P → F → Type 0) (key : P �
   })
     where
       count : links ≡ length done.indexes
-      count = counts ∙ (ap (λ (h : DetachedView Gen (LinkBody K T)). count_by is_some h.slots) (sym same) ∙ read_counted)
+      count = counts ∙ (ap (λ (h : DetachedView Gen (RawLink K T)). count_by is_some h.slots) (sym same) ∙ read_counted)
 
       enough : links + (4 * length h1.slots + most * length done.indexes) ≤ 4 * length h1.slots + more * length done.indexes
       enough =
@@ -286,13 +286,13 @@ module _ {F P Gen K T : Type 0} (g : F → P → P → F → Type 0) (key : P �
 
 -- ---- after the slots are given back
 
-module _ {F P Gen K T : Type 0} (g : F → P → P → F → Type 0) (key : P → ℕ × Gen) (f last : F) (number : K → Option ℕ) (generation : Gen) (old : Arena Gen (LinkBody K T)) (h0 h3 : DetachedView Gen (LinkBody K T))
-    (is_held : h0 ≡ held_of old) (a1 a3 : Arena Gen (LinkBody K T)) (total : ℕ) (done : AreAllPlaced number g key generation f last h0 h3 a1 a3 total 10) where
+module _ {F P Gen K T : Type 0} (g : F → P → P → F → Type 0) (key : P → ℕ × Gen) (f last : F) (number : K → Option ℕ) (generation : Gen) (old : Arena Gen (RawLink K T)) (h0 h3 : DetachedView Gen (RawLink K T))
+    (is_detached : h0 ≡ detached_of old) (a1 a3 : Arena Gen (RawLink K T)) (total : ℕ) (done : AreAllPlaced number g key generation f last h0 h3 a1 a3 total 10) where
   abbrev old_slots : List (Option (Gen × LinkView T))
   old_slots = (links_view number old).slots
 
   old_order : IsLeastIndexOrder (reported_slots old_slots) done.indexes
-  old_order = subst (λ (s : LinkMap). IsLeastIndexOrder s done.indexes) (ap (λ (h : DetachedView Gen (LinkBody K T)). link_map_in number h.slots) is_held ∙ link_map-view_after number (held_of old)) done.order
+  old_order = subst (λ (s : LinkMap). IsLeastIndexOrder s done.indexes) (ap (λ (h : DetachedView Gen (RawLink K T)). link_map_in number h.slots) is_detached ∙ link_map-view_after number (detached_of old)) done.order
 
   old_arranges : IsArrangement (reported_slots old_slots) done.indexes
   old_arranges = canonical_arranges (reported_slots old_slots) done.indexes (least_index_order_is_canonical (reported_slots old_slots) done.indexes old_order)
@@ -311,32 +311,32 @@ module _ {F P Gen K T : Type 0} (g : F → P → P → F → Type 0) (key : P �
   last_sent : (i d : ℕ) (x : Gen × LinkView T) → place_in done.indexes i ≡ Some d → slot_at old_slots i ≡ Some x → slot_at last_slots d ≡ Some (generation, renamed_link (place_in done.indexes) x.1)
   last_sent i d x at is =
       ap (λ (s : List (Option (Gen × LinkView T))). slot_at s d) (without_free_end-map (pair_view number) h3.slots)
-      ∙ (slot_at-trimmed (map (option_map (pair_view number)) h3.slots) d ∙ done.placed i d x at (ap (λ (h : DetachedView Gen (LinkBody K T)). slot_at (held_view number h).slots i) is_held ∙ is))
+      ∙ (slot_at-trimmed (map (option_map (pair_view number)) h3.slots) d ∙ done.placed i d x at (ap (λ (h : DetachedView Gen (RawLink K T)). slot_at (detached_view number h).slots i) is_detached ∙ is))
 
   module _ (greatest : ℕ) (maximum : Option ℕ) (lent : a1 ≡ arena_without_slots maximum old) where
     whole_work : IsWork (arena_without_slots maximum old) a3 (length done.indexes) (4 * length old.slots + 12 * length done.indexes)
     whole_work =
-        let same : length h0.slots ≡ length old.slots = ap (λ (h : DetachedView Gen (LinkBody K T)). length h.slots) is_held in
-        subst (λ (a : Arena Gen (LinkBody K T)). IsWork a a3 (length done.indexes) (4 * length old.slots + 12 * length done.indexes)) lent (work-few done.work _ (omega (arith, same)))
+        let same : length h0.slots ≡ length old.slots = ap (λ (h : DetachedView Gen (RawLink K T)). length h.slots) is_detached in
+        subst (λ (a : Arena Gen (RawLink K T)). IsWork a a3 (length done.indexes) (4 * length old.slots + 12 * length done.indexes)) lent (work-few done.work _ (omega (arith, same)))
 
-    abbrev arranged_arena : Arena Gen (LinkBody K T)
+    abbrev arranged_arena : Arena Gen (RawLink K T)
     arranged_arena = arena_after_return greatest (with_totals (arena_without_slots maximum old) (length done.indexes) whole_work.touches) h3
 
-    is_arranged : (new : Arena Gen (LinkBody K T)) → new ≡ arena_after_return greatest a3 h3 → new ≡ arranged_arena
-    is_arranged new is_new = is_new ∙ ap (λ (a : Arena Gen (LinkBody K T)). arena_after_return greatest a h3) whole_work.arena
+    is_arranged : (new : Arena Gen (RawLink K T)) → new ≡ arena_after_return greatest a3 h3 → new ≡ arranged_arena
+    is_arranged new is_new = is_new ∙ ap (λ (a : Arena Gen (RawLink K T)). arena_after_return greatest a h3) whole_work.arena
 
-    pub links_arranged : old.capacity ≡ min old.stack_capacity greatest → generation ≡ old.counter → (new : Arena Gen (LinkBody K T)) → new ≡ arena_after_return greatest a3 h3
+    pub links_arranged : old.capacity ≡ min old.stack_capacity greatest → generation ≡ old.counter → (new : Arena Gen (RawLink K T)) → new ≡ arena_after_return greatest a3 h3
         → AreArranged g key f last (links_view number old) (links_view number new)
     links_arranged same_capacity counter new is_new = record {
       indexes = done.indexes;
       order = old_order;
-      renamed = subst (λ (a : Arena Gen (LinkBody K T)). IsRenaming (place_in done.indexes) (link_map (links_view number old)) (link_map (links_view number a))) (sym (is_arranged new is_new))
+      renamed = subst (λ (a : Arena Gen (RawLink K T)). IsRenaming (place_in done.indexes) (link_map (links_view number old)) (link_map (links_view number a))) (sym (is_arranged new is_new))
           (arranged_renamed generation old_slots last_slots done.indexes old_arranges last-length last_sent);
       values = values.0;
       was_stored = values.1;
       touches = whole_work.touches;
       few = omega (arith, whole_work.few, length-map old.slots (option_map (pair_view number)));
-      arena = ap (λ (a : Arena Gen (LinkBody K T)). values_of (links_view number a)) (is_arranged new is_new) ∙ (λ i. record (values_of (links_view number old)) {
+      arena = ap (λ (a : Arena Gen (RawLink K T)). values_of (links_view number a)) (is_arranged new is_new) ∙ (λ i. record (values_of (links_view number old)) {
         slots = slots i;
         freed = packed-none_free total h3.slots done.packed i;
         capacity = capacity_kept i;
@@ -359,10 +359,10 @@ module _ {F P Gen K T : Type 0} (g : F → P → P → F → Type 0) (key : P �
             ∙ (sym values.2 ∙ (ap (λ (h : Gen). map {B = Option (Gen × T)} (λ t. Some (h, t)) values.0) counter ∙ sym (append-nil (map {B = Option (Gen × T)} (λ t. Some (old.counter, t)) values.0))))
 
         stack_kept : h3.stack_capacity ≡ old.stack_capacity
-        stack_kept = done.capacity ∙ ap (λ (h : DetachedView Gen (LinkBody K T)). h.stack_capacity) is_held
+        stack_kept = done.capacity ∙ ap (λ (h : DetachedView Gen (RawLink K T)). h.stack_capacity) is_detached
 
         maximum_kept : h3.maximum ≡ old.maximum
-        maximum_kept = done.maximum ∙ ap (λ (h : DetachedView Gen (LinkBody K T)). h.maximum) is_held
+        maximum_kept = done.maximum ∙ ap (λ (h : DetachedView Gen (RawLink K T)). h.maximum) is_detached
 
         capacity_kept : min h3.stack_capacity greatest ≡ old.capacity
         capacity_kept = ap (λ (n : ℕ). min n greatest) stack_kept ∙ sym same_capacity
@@ -371,15 +371,15 @@ module _ {F P Gen K T : Type 0} (g : F → P → P → F → Type 0) (key : P �
         count = sym values.3
 
         pointers : ptr_at (slot_at h0.slots) ≡ ptr_at (entry (links_view number old))
-        pointers = fun_ext (λ i. ap (λ (h : DetachedView Gen (LinkBody K T)). ptr_at (slot_at h.slots) i) is_held ∙ ptr-view_after number (held_of old) i)
+        pointers = fun_ext (λ i. ap (λ (h : DetachedView Gen (RawLink K T)). ptr_at (slot_at h.slots) i) is_detached ∙ ptr-view_after number (detached_of old) i)
 
     -- What was counted is the work.
     pub work_known : (p t : ℕ) → HasCounted a1 a3 p t → length old.slots ≤ greatest → greatest < 2 ^ 64 → (a3.placed ≡ old.placed + p) × (a3.touched ≡ old.touched + t)
     work_known p t had fits bound =
-        let placed : old.placed + had.placements ≡ a3.placed = ap (λ (a : Arena Gen (LinkBody K T)). a.placed + had.placements) (sym lent) ∙ sym (ap (λ (a : Arena Gen (LinkBody K T)). a.placed) had.arena) in
-        let touched : old.touched + had.touches ≡ a3.touched = ap (λ (a : Arena Gen (LinkBody K T)). a.touched + had.touches) (sym lent) ∙ sym (ap (λ (a : Arena Gen (LinkBody K T)). a.touched) had.arena) in
-        let now_placed : a3.placed ≡ old.placed + length done.indexes = ap (λ (a : Arena Gen (LinkBody K T)). a.placed) whole_work.arena in
-        let now_touched : a3.touched ≡ old.touched + whole_work.touches = ap (λ (a : Arena Gen (LinkBody K T)). a.touched) whole_work.arena in (
+        let placed : old.placed + had.placements ≡ a3.placed = ap (λ (a : Arena Gen (RawLink K T)). a.placed + had.placements) (sym lent) ∙ sym (ap (λ (a : Arena Gen (RawLink K T)). a.placed) had.arena) in
+        let touched : old.touched + had.touches ≡ a3.touched = ap (λ (a : Arena Gen (RawLink K T)). a.touched + had.touches) (sym lent) ∙ sym (ap (λ (a : Arena Gen (RawLink K T)). a.touched) had.arena) in
+        let now_placed : a3.placed ≡ old.placed + length done.indexes = ap (λ (a : Arena Gen (RawLink K T)). a.placed) whole_work.arena in
+        let now_touched : a3.touched ≡ old.touched + whole_work.touches = ap (λ (a : Arena Gen (RawLink K T)). a.touched) whole_work.arena in (
           omega (arith, placed, now_placed, had.placements_counted, old_few, fits, bound),
           omega (arith, touched, now_touched, had.touches_counted, old_few, fits, bound, whole_work.few),
         )

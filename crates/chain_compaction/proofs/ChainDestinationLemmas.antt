@@ -17,8 +17,8 @@ use Rattle.chain_laws.proofs.InterlinkLemmas.Inverses.{if_same, if_other, one_so
 use Rattle.chain_laws.proofs.RenamingLemmas.Positions.{place-last, place-before_last, place-append, place-same}
 use Rattle.chain_laws.proofs.RenamingLemmas.ChainRuns.{range_with_len-append}
 use Rattle.arena_traits.specs.Arena.{Arena, slot_at}
-use Rattle.arena_base.specs.DetachedSlots.{DetachedView, held_with_value}
-use Rattle.chain_links.specs.declared.links.LinkBody.{LinkBody}
+use Rattle.arena_base.specs.DetachedSlots.{DetachedView, detached_with_value}
+use Rattle.chain_links.specs.declared.links.RawLink.{RawLink}
 use Rattle.chain_links.specs.ChainArena.{LinkView, on_value, ptr_at}
 use Rattle.chain_links.specs.Links.{link_view, pair_view, destination_of, destination_at}
 use Rattle.chain_compaction.specs.DetachedLinks.{body_interlinks, link_map_in, IsWork}
@@ -93,15 +93,15 @@ module _ {F P Gen : Type 0} (g : F → P → P → F → Type 0) (key : P → �
 
 module _ {Gen K T : Type 0} (number : K → Option ℕ) where
   -- The entry of a link.
-  pub stored_at : (slots : List (Option (Gen × LinkBody K T))) (i : ℕ) → HasLink (link_map_in number slots) i → (e : Gen × LinkBody K T) × (slot_at slots i ≡ Some e)
+  pub stored_at : (slots : List (Option (Gen × RawLink K T))) (i : ℕ) → HasLink (link_map_in number slots) i → (e : Gen × RawLink K T) × (slot_at slots i ≡ Some e)
   stored_at slots i v = by (slot_at slots i) refl v.links
     where
-      by : (s : Option (Gen × LinkBody K T)) → slot_at slots i ≡ s → option_map (body_interlinks number) s ≡ Some v.link → (e : Gen × LinkBody K T) × (slot_at slots i ≡ Some e)
+      by : (s : Option (Gen × RawLink K T)) → slot_at slots i ≡ s → option_map (body_interlinks number) s ≡ Some v.link → (e : Gen × RawLink K T) × (slot_at slots i ≡ Some e)
       by None is e = absurd (cc)
       by (Some x) is e = (x, is)
 
   -- One more link has a destination.
-  pub one_numbered : (now new : DetachedView Gen (LinkBody K T)) (i : ℕ) (e : Gen × LinkBody K T) (w : LinkBody K T) → slot_at now.slots i ≡ Some e → new ≡ held_with_value now i w → (count : ℕ) (done : List ℕ) → AreNumbered number now.slots count done
+  pub one_numbered : (now new : DetachedView Gen (RawLink K T)) (i : ℕ) (e : Gen × RawLink K T) (w : RawLink K T) → slot_at now.slots i ≡ Some e → new ≡ detached_with_value now i w → (count : ℕ) (done : List ℕ) → AreNumbered number now.slots count done
       → (IsMember done i → ⊥) → number w.destination ≡ Some (count + 1) → AreNumbered number new.slots (count + 1) (done ++ i ∷ [])
   one_numbered now new i e w stored wrote count done n fresh value = record {
     destinations = λ j. after j (ℕ_discrete j i);
@@ -115,7 +115,7 @@ module _ {Gen K T : Type 0} (number : K → Option ℕ) where
       after j (no ne) = destination_written now new i e w stored wrote number j ne ∙ (n.destinations j ∙ sym (place-before_last done i j (λ s. ne (sym s))))
 
   -- A link was overwritten, with its destination unchanged.
-  pub still_numbered : (now new : DetachedView Gen (LinkBody K T)) (i : ℕ) (e : Gen × LinkBody K T) (w : LinkBody K T) → slot_at now.slots i ≡ Some e → new ≡ held_with_value now i w → (count : ℕ) (done : List ℕ) → AreNumbered number now.slots count done
+  pub still_numbered : (now new : DetachedView Gen (RawLink K T)) (i : ℕ) (e : Gen × RawLink K T) (w : RawLink K T) → slot_at now.slots i ≡ Some e → new ≡ detached_with_value now i w → (count : ℕ) (done : List ℕ) → AreNumbered number now.slots count done
       → number w.destination ≡ number e.1.destination → AreNumbered number new.slots count done
   still_numbered now new i e w stored wrote count done n same = record { destinations = λ j. after j (ℕ_discrete j i); counts = n.counts }
     where
@@ -183,8 +183,8 @@ named_after (cyclic (x ∷ xs)) n start ys i [] parts once first count at = sym 
 
 -- The walk has numbered the links so far, and the visitor has seen them. The next link was named by
 -- the last, and is to name it.
-pub record IsWalking {Gen K T F P : Type 0} (number : K → Option ℕ) (g : F → P → P → F → Type 0) (key : P → ℕ × Gen) (generation : Gen) (f last : F) (old now : DetachedView Gen (LinkBody K T))
-    (before after : Arena Gen (LinkBody K T)) (count : ℕ) (start : ℕ) (on named prev : Option ℕ) (done : List ℕ) (c : Chain) : Type 0 where
+pub record IsWalking {Gen K T F P : Type 0} (number : K → Option ℕ) (g : F → P → P → F → Type 0) (key : P → ℕ × Gen) (generation : Gen) (f last : F) (old now : DetachedView Gen (RawLink K T))
+    (before after : Arena Gen (RawLink K T)) (count : ℕ) (start : ℕ) (on named prev : Option ℕ) (done : List ℕ) (c : Chain) : Type 0 where
   pub passed : List ℕ
   pub ahead : List ℕ
   pub parts : items c ≡ passed ++ ahead
@@ -196,7 +196,7 @@ pub record IsWalking {Gen K T F P : Type 0} (number : K → Option ℕ) (g : F �
   pub reports : ReportsMoves g key (ptr_at (slot_at old.slots)) generation (length done + 1) f passed last
   pub work : IsWork before after 0 (2 * length passed)
 
-module _ {Gen K T F P : Type 0} (number : K → Option ℕ) (g : F → P → P → F → Type 0) (key : P → ℕ × Gen) (generation : Gen) (f : F) (old : DetachedView Gen (LinkBody K T)) (first : Arena Gen (LinkBody K T))
+module _ {Gen K T F P : Type 0} (number : K → Option ℕ) (g : F → P → P → F → Type 0) (key : P → ℕ × Gen) (generation : Gen) (f : F) (old : DetachedView Gen (RawLink K T)) (first : Arena Gen (RawLink K T))
     (start before : ℕ) (done : List ℕ) (c : Chain) (can : CanNumber number old.slots start before done c) where
   -- The destinations of the links.
   abbrev to : ℕ → Option ℕ
@@ -232,9 +232,9 @@ module _ {Gen K T F P : Type 0} (number : K → Option ℕ) (g : F → P → P �
       by [] e fits = absurd (cc)
       by (x ∷ xs) e fits = omega (arith, can.numbered.counts, fits)
 
-  module _ (last : F) (now : DetachedView Gen (LinkBody K T)) (later : Arena Gen (LinkBody K T)) (count : ℕ) (named prev : Option ℕ) where
+  module _ (last : F) (now : DetachedView Gen (RawLink K T)) (later : Arena Gen (RawLink K T)) (count : ℕ) (named prev : Option ℕ) where
     -- The walk ends, and in a cyclic chain the start names the last link.
-    module _ (w : IsWalking number g key generation f last old now first later count start None named prev done c) (new : DetachedView Gen (LinkBody K T)) (closed : IsRingClosed number start named prev now new) where
+    module _ (w : IsWalking number g key generation f last old now first later count start None named prev done c) (new : DetachedView Gen (RawLink K T)) (closed : IsRingClosed number start named prev now new) where
       none_ahead : w.ahead ≡ []
       none_ahead = empty w.ahead (sym w.next)
         where
@@ -265,7 +265,7 @@ module _ {Gen K T F P : Type 0} (number : K → Option ℕ) (g : F → P → P �
       start_reports : link_map_in number old.slots start ≡ Some (record { prev = behind_of c; next = first_or begins.0 (ahead_of c) })
       start_reports = chain_names (link_map_in number old.slots) c [] start begins.0 can.chain begins.1
 
-      start_was_stored : (e : Gen × LinkBody K T) × (slot_at old.slots start ≡ Some e)
+      start_was_stored : (e : Gen × RawLink K T) × (slot_at old.slots start ≡ Some e)
       start_was_stored = stored_at number old.slots start (record { link = _; links = start_reports })
 
       start_prev : number start_was_stored.0.1.prev ≡ behind_of c
@@ -277,20 +277,20 @@ module _ {Gen K T F P : Type 0} (number : K → Option ℕ) (g : F → P → P �
       -- In a linear chain nothing was overwritten.
       stays_linear : behind_of c ≡ None → new ≡ now → AreNumbered number new.slots count (done ++ items c) × AreRelinked number (λ _. renamed_link to) old new (items c)
       stays_linear none same = (
-        subst (λ (h : DetachedView Gen (LinkBody K T)). AreNumbered number h.slots count (done ++ items c)) (sym same) numbered_all,
-        subst (λ (h : DetachedView Gen (LinkBody K T)). AreRelinked number (λ _. renamed_link to) old h (items c)) (sym same)
+        subst (λ (h : DetachedView Gen (RawLink K T)). AreNumbered number h.slots count (done ++ items c)) (sym same) numbered_all,
+        subst (λ (h : DetachedView Gen (RawLink K T)). AreRelinked number (λ _. renamed_link to) old h (items c)) (sym same)
             (relinked_as number (begun_link to start) old now (items c) begun_all (λ _. renamed_link to) (λ j h. by j (ℕ_discrete j start))),
       )
         where
-          own : (j : ℕ) → j ≡ start → (o : Option (Gen × LinkBody K T)) → slot_at old.slots j ≡ o → option_map (on_value (begun_link to start j)) (option_map (pair_view number) o) ≡ option_map (on_value (renamed_link to)) (option_map (pair_view number) o)
+          own : (j : ℕ) → j ≡ start → (o : Option (Gen × RawLink K T)) → slot_at old.slots j ≡ o → option_map (on_value (begun_link to start j)) (option_map (pair_view number) o) ≡ option_map (on_value (renamed_link to)) (option_map (pair_view number) o)
           own j s None is = refl
           own j s (Some e) is =
-              let was_stored : ◌≡◌ {A = Option (Gen × LinkBody K T)} (Some e) (Some start_was_stored.0) = sym is ∙ (ap (slot_at old.slots) s ∙ start_was_stored.1) in
+              let was_stored : ◌≡◌ {A = Option (Gen × RawLink K T)} (Some e) (Some start_was_stored.0) = sym is ∙ (ap (slot_at old.slots) s ∙ start_was_stored.1) in
               let no_prev : number e.1.prev ≡ None = prev_same was_stored ∙ (start_prev ∙ none) in
               ap (viewed_as e.0) (begun_first to start j (link_view number e.1) s (ap (option_and_then to) no_prev))
             where
-              prev_same : {a b : Gen × LinkBody K T} → ◌≡◌ {A = Option (Gen × LinkBody K T)} (Some a) (Some b) → number a.1.prev ≡ number b.1.prev
-              prev_same e = ap (λ (o : Option (Gen × LinkBody K T)). option_and_then (λ (x : Gen × LinkBody K T). number x.1.prev) o) e
+              prev_same : {a b : Gen × RawLink K T} → ◌≡◌ {A = Option (Gen × RawLink K T)} (Some a) (Some b) → number a.1.prev ≡ number b.1.prev
+              prev_same e = ap (λ (o : Option (Gen × RawLink K T)). option_and_then (λ (x : Gen × RawLink K T). number x.1.prev) o) e
 
           by : (j : ℕ) → Dec (j ≡ start) → option_map (on_value (begun_link to start j)) (viewed_at number old j) ≡ option_map (on_value (renamed_link to)) (viewed_at number old j)
           by j (yes s) = own j s (slot_at old.slots j) refl
@@ -300,23 +300,23 @@ module _ {Gen K T F P : Type 0} (number : K → Option ℕ) (g : F → P → P �
       closes_ring : (k : ℕ) → named ≡ Some k → prev ≡ option_and_then to (behind_of c) → AreNumbered number new.slots count (done ++ items c) × AreRelinked number (λ _. renamed_link to) old new (items c)
       closes_ring k some is_last = by (slot_at now.slots start) refl
         where
-          by : (o : Option (Gen × LinkBody K T)) → slot_at now.slots start ≡ o → AreNumbered number new.slots count (done ++ items c) × AreRelinked number (λ _. renamed_link to) old new (items c)
+          by : (o : Option (Gen × RawLink K T)) → slot_at now.slots start ≡ o → AreNumbered number new.slots count (done ++ items c) × AreRelinked number (λ _. renamed_link to) old new (items c)
           by None is =
-              let none = sym (ap (option_map (pair_view number)) is) ∙ (begun_all.there start has_start ∙ ap (λ (o : Option (Gen × LinkBody K T)). option_map (on_value (begun_link to start start)) (option_map (pair_view number) o)) start_was_stored.1) in
+              let none = sym (ap (option_map (pair_view number)) is) ∙ (begun_all.there start has_start ∙ ap (λ (o : Option (Gen × RawLink K T)). option_map (on_value (begun_link to start start)) (option_map (pair_view number) o)) start_was_stored.1) in
               absurd (cc)
           by (Some e) is =
-              let wrote = closed.ring k e.1 some (sym (ap (option_map (λ (x : Gen × LinkBody K T). x.1)) is)) in
+              let wrote = closed.ring k e.1 some (sym (ap (option_map (λ (x : Gen × RawLink K T). x.1)) is)) in
               let x = wrote.0 in
               let view_after : viewed_as e.0 (link_view number e.1) ≡ viewed_as start_was_stored.0.0 (begun_link to start start (link_view number start_was_stored.0.1)) =
-              sym (ap (option_map (pair_view number)) is) ∙ (begun_all.there start has_start ∙ ap (λ (o : Option (Gen × LinkBody K T)). option_map (on_value (begun_link to start start)) (option_map (pair_view number) o)) start_was_stored.1) in
+              sym (ap (option_map (pair_view number)) is) ∙ (begun_all.there start has_start ∙ ap (λ (o : Option (Gen × RawLink K T)). option_map (on_value (begun_link to start start)) (option_map (pair_view number) o)) start_was_stored.1) in
               let last : number x.prev ≡ option_and_then to (number start_was_stored.0.1.prev) = wrote.1 ∙ (is_last ∙ sym (ap (option_and_then to) start_prev)) in
               let again : link_view number x ≡ record (link_view number e.1) { prev = number x.prev } = ap (link_view number) wrote.2 in
               let here : viewed_as e.0 (link_view number x) ≡ viewed_as start_was_stored.0.0 (renamed_link to (link_view number start_was_stored.0.1)) =
               ap (viewed_as e.0) again ∙ (ap (λ (o : Option (Gen × LinkView T)). option_map (on_value (λ (l : LinkView T). record l { prev = number x.prev })) o) view_after
               ∙ ap (λ (p : Option ℕ). viewed_as start_was_stored.0.0 (record (renamed_link to (link_view number start_was_stored.0.1)) { prev = p })) last) in (
-                still_numbered number now new start e x is wrote.3 count (done ++ items c) numbered_all (ap (λ (l : LinkBody K T). number l.destination) wrote.2),
+                still_numbered number now new start e x is wrote.3 count (done ++ items c) numbered_all (ap (λ (l : RawLink K T). number l.destination) wrote.2),
                 relinked_over number (begun_link to start) old now (items c) begun_all new start e x is wrote.3 has_start (λ _. renamed_link to) (λ j differs. begun_other to start j differs)
-                    (here ∙ sym (ap (λ (o : Option (Gen × LinkBody K T)). option_map (on_value (renamed_link to)) (option_map (pair_view number) o)) start_was_stored.1)),
+                    (here ∙ sym (ap (λ (o : Option (Gen × RawLink K T)). option_map (on_value (renamed_link to)) (option_map (pair_view number) o)) start_was_stored.1)),
               )
 
       -- The two cases together.
@@ -331,7 +331,7 @@ module _ {Gen K T F P : Type 0} (number : K → Option ℕ) (g : F → P → P �
               let is_last : prev ≡ option_and_then to (behind_of c) = w.behind ∙ ap (option_and_then to) (ap (λ (ys : List ℕ). last_or ys None) (all_passed ∙ same) ∙ sym (ap behind_of is)) in
               closes_ring start (named_first ∙ (ap (λ (ys : List ℕ). first_or ys None) (sym same) ∙ can.starts)) is_last
 
-      pub walk_ends : (final : Arena Gen (LinkBody K T)) → IsWork later final 0 1 → IsChainNumbered number g key generation f last old new first final count done c
+      pub walk_ends : (final : Arena Gen (RawLink K T)) → IsWork later final 0 1 → IsChainNumbered number g key generation f last old new first final count done c
       walk_ends final closing = record {
         numbered = ended.0;
         relinked = ended.1;
@@ -380,12 +380,12 @@ module _ {Gen K T F P : Type 0} (number : K → Option ℕ) (g : F → P → P �
       reports_here : link_map_in number now.slots i ≡ Some (record { prev = last_or w.passed (behind_of c); next = first_or here.0 (ahead_of c) })
       reports_here = ap (option_map (body_interlinks number)) as_first ∙ chain_names (link_map_in number old.slots) c w.passed i here.0 can.chain here.1
 
-      pub walk_stored : (e : Gen × LinkBody K T) × (slot_at now.slots i ≡ Some e)
+      pub walk_stored : (e : Gen × RawLink K T) × (slot_at now.slots i ≡ Some e)
       walk_stored = stored_at number now.slots i (record { link = _; links = reports_here })
 
       -- A read finds the next link.
-      pub walk_returns : None ≡ option_map (λ (e : Gen × LinkBody K T). e.0) (slot_at now.slots i) → ⊥
-      walk_returns none = let both = none ∙ ap (option_map (λ (e : Gen × LinkBody K T). e.0)) walk_stored.1 in cc
+      pub walk_returns : None ≡ option_map (λ (e : Gen × RawLink K T). e.0) (slot_at now.slots i) → ⊥
+      walk_returns none = let both = none ∙ ap (option_map (λ (e : Gen × RawLink K T). e.0)) walk_stored.1 in cc
 
       module _ (follows on : Option ℕ) (is_next : follows ≡ next_of (link_map_in number now.slots) i) (target : on ≡ step_forward start follows) where
         names_next : follows ≡ first_or here.0 (ahead_of c)
@@ -394,7 +394,7 @@ module _ {Gen K T F P : Type 0} (number : K → Option ℕ) (g : F → P → P �
         steps_next : on ≡ first_or here.0 None
         steps_next =
             target
-            ∙ (ap (step_forward start) (is_next ∙ ap (λ (o : Option (Gen × LinkBody K T)). next_in (option_map (body_interlinks number) o)) as_first)
+            ∙ (ap (step_forward start) (is_next ∙ ap (λ (o : Option (Gen × RawLink K T)). next_in (option_map (body_interlinks number) o)) as_first)
             ∙ chain_continues (link_map_in number old.slots) c start w.passed i here.0 can.chain can.starts here.1)
 
         -- If the walk goes on, there is a free number for the link after it too.
@@ -410,8 +410,8 @@ module _ {Gen K T F P : Type 0} (number : K → Option ℕ) (g : F → P → P �
             by (z ∷ zs) e = omega arith
 
         -- The walk goes on.
-        pub walk_continues : (d : ℕ) (new : DetachedView Gen (LinkBody K T)) (last_work : Arena Gen (LinkBody K T)) (was : Gen) (p q : P) (next : F)
-            → IsRelinkedAt number i prev (number_after on follows before (count + 1)) (Some d) now new → d ≡ count + 1 → IsWork later last_work 0 2 → Some was ≡ option_map (λ (e : Gen × LinkBody K T). e.0) (slot_at now.slots i)
+        pub walk_continues : (d : ℕ) (new : DetachedView Gen (RawLink K T)) (last_work : Arena Gen (RawLink K T)) (was : Gen) (p q : P) (next : F)
+            → IsRelinkedAt number i prev (number_after on follows before (count + 1)) (Some d) now new → d ≡ count + 1 → IsWork later last_work 0 2 → Some was ≡ option_map (λ (e : Gen × RawLink K T). e.0) (slot_at now.slots i)
             → key p ≡ (i, was) → key q ≡ (d, generation) → g last p q next
             → IsWalking number g key generation f next old new first last_work (count + 1) start on follows (Some d) done c
         walk_continues d new last_work was p q next relinked at work generates from step_to called = record {
@@ -429,10 +429,10 @@ module _ {Gen K T F P : Type 0} (number : K → Option ℕ) (g : F → P → P �
           work = work-more w.work work 0 (2 * length (w.passed ++ i ∷ [])) refl (let l : length (w.passed ++ i ∷ []) ≡ length w.passed + 1 = length-append w.passed (i ∷ []) in omega arith);
         }
           where
-            wrote : (x : LinkBody K T) × (link_view number x ≡ record { prev = prev; next = number_after on follows before (count + 1); value = walk_stored.0.1.t }) × (number x.destination ≡ Some d) × (new ≡ held_with_value now i x)
-            wrote = relinked.there walk_stored.0.1 (sym (ap (option_map (λ (e : Gen × LinkBody K T). e.1)) walk_stored.1))
+            wrote : (x : RawLink K T) × (link_view number x ≡ record { prev = prev; next = number_after on follows before (count + 1); value = walk_stored.0.1.t }) × (number x.destination ≡ Some d) × (new ≡ detached_with_value now i x)
+            wrote = relinked.there walk_stored.0.1 (sym (ap (option_map (λ (e : Gen × RawLink K T). e.1)) walk_stored.1))
 
-            x : LinkBody K T
+            x : RawLink K T
             x = wrote.0
 
             place : d ≡ length done + 1 + length w.passed
@@ -454,11 +454,11 @@ module _ {Gen K T F P : Type 0} (number : K → Option ℕ) (g : F → P → P �
                 (λ j. number_after (steps_next j) (names_next j) (can.numbered.counts j) (count + 1))
                 ∙ (named_after c (length done) start w.passed i here.0 here.1 chain_is_once can.starts count counted ∙ ap (λ (o : Option Interlinks). option_and_then to (next_in o)) (sym own_links))
 
-            in_slot : (s : Option (Gen × LinkBody K T)) → option_map {U = ℕ × Gen} (λ (n : Gen). (i, n)) (option_map (λ (e : Gen × LinkBody K T). e.0) s) ≡ option_map {U = ℕ × Gen} (λ (e : Gen × LinkBody K T). (i, e.0)) s
+            in_slot : (s : Option (Gen × RawLink K T)) → option_map {U = ℕ × Gen} (λ (n : Gen). (i, n)) (option_map (λ (e : Gen × RawLink K T). e.0) s) ≡ option_map {U = ℕ × Gen} (λ (e : Gen × RawLink K T). (i, e.0)) s
             in_slot None = refl
             in_slot (Some e) = refl
 
             reported : Some (key p) ≡ ptr_at (slot_at old.slots) i
             reported =
                 ap (λ (k : ℕ × Gen). Some k) from
-                ∙ (ap (λ (o : Option Gen). option_map {U = ℕ × Gen} (λ (n : Gen). (i, n)) o) generates ∙ (in_slot (slot_at now.slots i) ∙ ap (option_map {U = ℕ × Gen} (λ (e : Gen × LinkBody K T). (i, e.0))) as_first))
+                ∙ (ap (λ (o : Option Gen). option_map {U = ℕ × Gen} (λ (n : Gen). (i, n)) o) generates ∙ (in_slot (slot_at now.slots i) ∙ ap (option_map {U = ℕ × Gen} (λ (e : Gen × RawLink K T). (i, e.0))) as_first))

@@ -17,7 +17,7 @@ use Rattle.chain_laws.proofs.TransferLemmas.Target.{all_items-append}
 use Rattle.chain_laws.proofs.RenamingLemmas.Positions.{has-place, place-none, place-front, place-append}
 use Rattle.arena_traits.specs.Arena.{Arena, slot_at}
 use Rattle.arena_base.specs.DetachedSlots.{DetachedView}
-use Rattle.chain_links.specs.declared.links.LinkBody.{LinkBody}
+use Rattle.chain_links.specs.declared.links.RawLink.{RawLink}
 use Rattle.chain_links.specs.ChainArena.{on_value, ptr_at}
 use Rattle.chain_links.specs.Links.{pair_view, destination_of, destination_at}
 use Rattle.chain_compaction.specs.DetachedLinks.{body_interlinks, link_map_in, IsWork}
@@ -80,11 +80,11 @@ next_chain (c ∷ cs) k i is ascends low h = chosen (IsMember-parts (items c) (a
 -- ---- slots with and without destinations
 
 module _ {Gen K T : Type 0} (number : K → Option ℕ) where
-  fresh_reported : (s : Option (Gen × LinkBody K T)) → is_fresh number s ≡ true → (link : Interlinks) × (option_map (body_interlinks number) s ≡ Some link)
+  fresh_reported : (s : Option (Gen × RawLink K T)) → is_fresh number s ≡ true → (link : Interlinks) × (option_map (body_interlinks number) s ≡ Some link)
   fresh_reported None e = absurd (cc)
   fresh_reported (Some x) e = (body_interlinks number x, refl)
 
-  fresh_none : (s : Option (Gen × LinkBody K T)) → is_fresh number s ≡ true → option_and_then (destination_of number) s ≡ None
+  fresh_none : (s : Option (Gen × RawLink K T)) → is_fresh number s ≡ true → option_and_then (destination_of number) s ≡ None
   fresh_none None e = refl
   fresh_none (Some x) e = by (destination_of number x) e
     where
@@ -92,7 +92,7 @@ module _ {Gen K T : Type 0} (number : K → Option ℕ) where
       by None e = refl
       by (Some i) e = absurd (cc)
 
-  stale_some : (s : Option (Gen × LinkBody K T)) (link : Interlinks) → option_map (body_interlinks number) s ≡ Some link → is_fresh number s ≡ false → option_and_then (destination_of number) s ≡ None → ⊥
+  stale_some : (s : Option (Gen × RawLink K T)) (link : Interlinks) → option_map (body_interlinks number) s ≡ Some link → is_fresh number s ≡ false → option_and_then (destination_of number) s ≡ None → ⊥
   stale_some None link reports e none = cc
   stale_some (Some x) link reports e none = by (destination_of number x) e none
     where
@@ -101,7 +101,7 @@ module _ {Gen K T : Type 0} (number : K → Option ℕ) where
       by (Some i) e none = cc
 
   -- Renamings that agree on the links of a chain rename them alike.
-  renamed_alike : (to also : ℕ → Option ℕ) (slots : List (Option (Gen × LinkBody K T))) (c : Chain) → IsChain (link_map_in number slots) c → ((j : ℕ) → IsMember (items c) j → to j ≡ also j) → (i : ℕ) → IsMember (items c) i
+  renamed_alike : (to also : ℕ → Option ℕ) (slots : List (Option (Gen × RawLink K T))) (c : Chain) → IsChain (link_map_in number slots) c → ((j : ℕ) → IsMember (items c) j → to j ≡ also j) → (i : ℕ) → IsMember (items c) i
       → option_map (on_value (renamed_link to)) (option_map (pair_view number) (slot_at slots i)) ≡ option_map (on_value (renamed_link also)) (option_map (pair_view number) (slot_at slots i))
   renamed_alike to also slots c h same i m = by (slot_at slots i) refl
     where
@@ -112,19 +112,19 @@ module _ {Gen K T : Type 0} (number : K → Option ℕ) where
       alike None inside = refl
       alike (Some j) inside = same j (inside j refl)
 
-      by : (o : Option (Gen × LinkBody K T)) → slot_at slots i ≡ o → option_map (on_value (renamed_link to)) (option_map (pair_view number) o) ≡ option_map (on_value (renamed_link also)) (option_map (pair_view number) o)
+      by : (o : Option (Gen × RawLink K T)) → slot_at slots i ≡ o → option_map (on_value (renamed_link to)) (option_map (pair_view number) o) ≡ option_map (on_value (renamed_link also)) (option_map (pair_view number) o)
       by None is = refl
       by (Some e) is =
-          let prev = alike (number e.1.prev) (λ j s. closed.back i j m (ap (λ (o : Option (Gen × LinkBody K T)). prev_in (option_map (body_interlinks number) o)) is ∙ s)) in
-          let next = alike (number e.1.next) (λ j s. closed.forth i j m (ap (λ (o : Option (Gen × LinkBody K T)). next_in (option_map (body_interlinks number) o)) is ∙ s)) in
+          let prev = alike (number e.1.prev) (λ j s. closed.back i j m (ap (λ (o : Option (Gen × RawLink K T)). prev_in (option_map (body_interlinks number) o)) is ∙ s)) in
+          let next = alike (number e.1.next) (λ j s. closed.forward i j m (ap (λ (o : Option (Gen × RawLink K T)). next_in (option_map (body_interlinks number) o)) is ∙ s)) in
           ap (viewed_as e.0) (λ k. record { prev = prev k; next = next k; value = e.1.t })
 
 -- ---- the loop over all slots
 
 -- The chains with an index up to k are numbered, and the visitor has seen them in order. Reads ahead
 -- have cost some touches, and `credit` more are allowed.
-pub record IsOrdering {Gen K T F P : Type 0} (number : K → Option ℕ) (g : F → P → P → F → Type 0) (key : P → ℕ × Gen) (generation : Gen) (f last : F) (old now : DetachedView Gen (LinkBody K T))
-    (before after : Arena Gen (LinkBody K T)) (count k credit : ℕ) : Type 0 where
+pub record IsOrdering {Gen K T F P : Type 0} (number : K → Option ℕ) (g : F → P → P → F → Type 0) (key : P → ℕ × Gen) (generation : Gen) (f last : F) (old now : DetachedView Gen (RawLink K T))
+    (before after : Arena Gen (RawLink K T)) (count k credit : ℕ) : Type 0 where
   pub chains : List Chain
   pub are : AreTheChains (link_map_in number old.slots) chains
   pub done : List Chain
@@ -138,7 +138,7 @@ pub record IsOrdering {Gen K T F P : Type 0} (number : K → Option ℕ) (g : F 
   pub allowed : ahead + credit ≤ length old.slots + count
   pub work : IsWork before after 0 (ahead + (k + 4 * length (all_items done)))
 
-module _ {Gen K T F P : Type 0} (number : K → Option ℕ) (g : F → P → P → F → Type 0) (key : P → ℕ × Gen) (generation : Gen) (f : F) (old : DetachedView Gen (LinkBody K T)) (before : Arena Gen (LinkBody K T)) where
+module _ {Gen K T F P : Type 0} (number : K → Option ℕ) (g : F → P → P → F → Type 0) (key : P → ℕ × Gen) (generation : Gen) (f : F) (old : DetachedView Gen (RawLink K T)) (before : Arena Gen (RawLink K T)) where
   -- No slot is passed yet.
   pub order_begins : IsWellLinked (link_map_in number old.slots) → ((j : ℕ) → destination_at number old.slots j ≡ None) → (credit : ℕ) → credit ≤ length old.slots
       → IsOrdering number g key generation f f old old before before 0 0 credit
@@ -160,7 +160,7 @@ module _ {Gen K T F P : Type 0} (number : K → Option ℕ) (g : F → P → P �
         work = work-none before 0;
       }
 
-  module _ (last : F) (now : DetachedView Gen (LinkBody K T)) (after : Arena Gen (LinkBody K T)) (count k credit : ℕ) (o : IsOrdering number g key generation f last old now before after count k credit) where
+  module _ (last : F) (now : DetachedView Gen (RawLink K T)) (after : Arena Gen (RawLink K T)) (count k credit : ℕ) (o : IsOrdering number g key generation f last old now before after count k credit) where
     -- A link that is not numbered yet is unchanged.
     as_old : (j : ℕ) → (IsMember (all_items o.done) j → ⊥) → link_map_in number now.slots j ≡ link_map_in number old.slots j
     as_old j out = ap (option_map (body_interlinks number)) (o.relinked.stay j out)
@@ -193,7 +193,7 @@ module _ {Gen K T F P : Type 0} (number : K → Option ℕ) (g : F → P → P �
         whole : all_items o.chains ≡ all_items o.done
         whole = all_parts ∙ (ap (λ (xs : List ℕ). all_items o.done ++ xs) (no_items (all_items o.rest) none) ∙ append-nil (all_items o.done))
 
-        each : (j : ℕ) (e : Gen × LinkBody K T) → slot_at old.slots j ≡ Some e → IsMember (all_items o.done) j
+        each : (j : ℕ) (e : Gen × RawLink K T) → slot_at old.slots j ≡ Some e → IsMember (all_items o.done) j
         each j e is =
             subst (λ (xs : List ℕ). IsMember xs j) whole ((o.are.partition.valid j).0 (record { link = body_interlinks number e; links = ap (option_map (body_interlinks number)) is }))
 
@@ -226,7 +226,7 @@ module _ {Gen K T F P : Type 0} (number : K → Option ℕ) (g : F → P → P �
 
     module _ (i : ℕ) (is : i ≡ k + 1) where
       -- The next slot holds no link without a destination.
-      pub order_skips : (mid : DetachedView Gen (LinkBody K T)) (was_read : Arena Gen (LinkBody K T)) → mid ≡ now → is_fresh number (slot_at now.slots i) ≡ false → IsWork after was_read 0 1
+      pub order_skips : (mid : DetachedView Gen (RawLink K T)) (was_read : Arena Gen (RawLink K T)) → mid ≡ now → is_fresh number (slot_at now.slots i) ≡ false → IsWork after was_read 0 1
           → IsOrdering number g key generation f last old mid before was_read count (k + 1) credit
       order_skips mid was_read same stale lookup = record {
         chains = o.chains;
@@ -235,8 +235,8 @@ module _ {Gen K T F P : Type 0} (number : K → Option ℕ) (g : F → P → P �
         rest = o.rest;
         parts = o.parts;
         low = λ y h. lower y h (ℕ_discrete y i);
-        relinked = subst (λ (h : DetachedView Gen (LinkBody K T)). AreRelinked number (λ _. renamed_link (place_in (all_items o.chains))) old h (all_items o.done)) (sym same) o.relinked;
-        numbered = subst (λ (h : DetachedView Gen (LinkBody K T)). AreNumbered number h.slots count (all_items o.done)) (sym same) o.numbered;
+        relinked = subst (λ (h : DetachedView Gen (RawLink K T)). AreRelinked number (λ _. renamed_link (place_in (all_items o.chains))) old h (all_items o.done)) (sym same) o.relinked;
+        numbered = subst (λ (h : DetachedView Gen (RawLink K T)). AreNumbered number h.slots count (all_items o.done)) (sym same) o.numbered;
         reports = o.reports;
         ahead = o.ahead;
         allowed = o.allowed;
@@ -316,7 +316,7 @@ module _ {Gen K T F P : Type 0} (number : K → Option ℕ) (g : F → P → P �
                 (xs, inr (subst (λ (z : ℕ). IsChain (link_map_in number now.slots) (cyclic (z ∷ xs))) same h))
 
         -- The walk back reads no more links than the chain has.
-        start_work : (a b : Arena Gen (LinkBody K T)) (on : ℕ) → ((xs : List ℕ) → IsChain (link_map_in number now.slots) (linear xs) → IsMember xs i → IsWork a b 0 (length xs + on))
+        start_work : (a b : Arena Gen (RawLink K T)) (on : ℕ) → ((xs : List ℕ) → IsChain (link_map_in number now.slots) (linear xs) → IsMember xs i → IsWork a b 0 (length xs + on))
             → ((xs : List ℕ) → IsChain (link_map_in number now.slots) (cyclic (i ∷ xs)) → IsWork a b 0 (length xs + 1 + on)) → IsWork a b 0 (length (items the_next.first) + on)
         start_work a b on in_linear in_cyclic = by the_next.first first_chain first_written the_next.has the_next.least
           where
@@ -345,26 +345,26 @@ module _ {Gen K T F P : Type 0} (number : K → Option ℕ) (g : F → P → P �
             omega arith
 
         -- The state after a read, which changed nothing.
-        module _ (mid : DetachedView Gen (LinkBody K T)) (lookup : mid ≡ now) where
+        module _ (mid : DetachedView Gen (RawLink K T)) (lookup : mid ≡ now) where
           pub order_found : HasChainFrom (link_map_in number mid.slots) i
-          order_found = subst (λ (h : DetachedView Gen (LinkBody K T)). HasChainFrom (link_map_in number h.slots) i) (sym lookup) found_from
+          order_found = subst (λ (h : DetachedView Gen (RawLink K T)). HasChainFrom (link_map_in number h.slots) i) (sym lookup) found_from
 
           -- The state after the walk back.
-          module _ (was_stored : DetachedView Gen (LinkBody K T)) (walked : was_stored ≡ mid) (start : ℕ) (from : IsStart (link_map_in number mid.slots) i start) where
-            can_here : CanNumber number was_stored.slots start count (all_items o.done) the_next.first
-            can_here = subst (λ (h : DetachedView Gen (LinkBody K T)). CanNumber number h.slots start count (all_items o.done) the_next.first) (sym (walked ∙ lookup)) (record {
+          module _ (was_stored : DetachedView Gen (RawLink K T)) (walked : was_stored ≡ mid) (start : ℕ) (from : IsStart (link_map_in number mid.slots) i start) where
+            can_number_here : CanNumber number was_stored.slots start count (all_items o.done) the_next.first
+            can_number_here = subst (λ (h : DetachedView Gen (RawLink K T)). CanNumber number h.slots start count (all_items o.done) the_next.first) (sym (walked ∙ lookup)) (record {
               numbered = o.numbered;
               chain = first_chain;
-              starts = starts start (subst (λ (h : DetachedView Gen (LinkBody K T)). IsStart (link_map_in number h.slots) i start) lookup from);
+              starts = starts start (subst (λ (h : DetachedView Gen (RawLink K T)). IsStart (link_map_in number h.slots) i start) lookup from);
               apart = apart;
               fits = fits;
             })
 
             pub order_can : (done : List ℕ) × (c : Chain) × CanNumber number was_stored.slots start count done c
-            order_can = (all_items o.done, the_next.first, can_here)
+            order_can = (all_items o.done, the_next.first, can_number_here)
 
             -- The next chain is numbered, after some reads ahead.
-            pub order_continues : (a b d : Arena Gen (LinkBody K T)) (next : F) (new : DetachedView Gen (LinkBody K T)) (more reads on left : ℕ)
+            pub order_continues : (a b d : Arena Gen (RawLink K T)) (next : F) (new : DetachedView Gen (RawLink K T)) (more reads on left : ℕ)
                 → IsWork after a 0 (1 + reads)
                 → left + (reads + on) ≤ credit + (more - count)
                 → ((xs : List ℕ) → IsChain (link_map_in number mid.slots) (linear xs) → IsMember xs i → IsWork a b 0 (length xs + on))
@@ -393,11 +393,11 @@ module _ {Gen K T F P : Type 0} (number : K → Option ℕ) (g : F → P → P �
             }
               where
                 chain : IsChainNumbered number g key generation last next was_stored new b d more (all_items o.done) the_next.first
-                chain = numbers (all_items o.done) the_next.first can_here
+                chain = numbers (all_items o.done) the_next.first can_number_here
 
                 pointers : ptr_at (slot_at was_stored.slots) ≡ ptr_at (slot_at old.slots)
                 pointers =
-                    ap (λ (h : DetachedView Gen (LinkBody K T)). ptr_at (slot_at h.slots)) (walked ∙ lookup)
+                    ap (λ (h : DetachedView Gen (RawLink K T)). ptr_at (slot_at h.slots)) (walked ∙ lookup)
                     ∙ relinked_ptr number (λ _. renamed_link (place_in (all_items o.chains))) old now (all_items o.done) o.relinked
 
                 place : length (all_items o.done) + 1 ≡ 1 + length (all_items o.done)
@@ -412,7 +412,7 @@ module _ {Gen K T F P : Type 0} (number : K → Option ℕ) (g : F → P → P �
                     ∙ ap (λ (xs : List ℕ). place_in xs j) (ap (λ (cs : List Chain). all_items o.done ++ all_items cs) (sym the_next.rest_is) ∙ sym all_parts)))
 
                 now_relinked : AreRelinked number (λ _. renamed_link (place_from (length (all_items o.done) + 1) (items the_next.first))) now new (items the_next.first)
-                now_relinked = subst (λ (h : DetachedView Gen (LinkBody K T)). AreRelinked number (λ _. renamed_link (place_from (length (all_items o.done) + 1) (items the_next.first))) h new (items the_next.first)) (walked ∙ lookup) chain.relinked
+                now_relinked = subst (λ (h : DetachedView Gen (RawLink K T)). AreRelinked number (λ _. renamed_link (place_from (length (all_items o.done) + 1) (items the_next.first))) h new (items the_next.first)) (walked ∙ lookup) chain.relinked
 
                 first_relinked : AreRelinked number (λ _. renamed_link (place_in (all_items o.chains))) now new (items the_next.first)
                 first_relinked =
@@ -424,5 +424,5 @@ module _ {Gen K T F P : Type 0} (number : K → Option ℕ) (g : F → P → P �
 
                 walk : IsWork a b 0 (length (items the_next.first) + on)
                 walk = start_work a b on
-                    (subst (λ (h : DetachedView Gen (LinkBody K T)). (xs : List ℕ) → IsChain (link_map_in number h.slots) (linear xs) → IsMember xs i → IsWork a b 0 (length xs + on)) lookup in_linear)
-                    (subst (λ (h : DetachedView Gen (LinkBody K T)). (xs : List ℕ) → IsChain (link_map_in number h.slots) (cyclic (i ∷ xs)) → IsWork a b 0 (length xs + 1 + on)) lookup in_cyclic)
+                    (subst (λ (h : DetachedView Gen (RawLink K T)). (xs : List ℕ) → IsChain (link_map_in number h.slots) (linear xs) → IsMember xs i → IsWork a b 0 (length xs + on)) lookup in_linear)
+                    (subst (λ (h : DetachedView Gen (RawLink K T)). (xs : List ℕ) → IsChain (link_map_in number h.slots) (cyclic (i ∷ xs)) → IsWork a b 0 (length xs + 1 + on)) lookup in_cyclic)

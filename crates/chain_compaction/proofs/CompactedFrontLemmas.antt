@@ -4,10 +4,10 @@ use Rattle.std.specs.Prelude.{slice_index_or, IsSome, is_some}
 use Rattle.std.specs.Option.{option_map}
 use Rattle.arena_traits.specs.Arena.{slot_at}
 use Rattle.arena_base.specs.DetachedSlots.{IsPacked, without_free_end}
-use Rattle.chain_links.specs.declared.links.LinkBody.{LinkBody}
+use Rattle.chain_links.specs.declared.links.RawLink.{RawLink}
 use Rattle.chain_links.specs.ChainArena.{LinkView}
 use Rattle.chain_links.specs.Links.{link_view, pair_view, destination_of}
-use Rattle.chain_compaction.specs.Permutations.{Waits, HaveMoved, AreMovedToFront, Settles}
+use Rattle.chain_compaction.specs.Permutations.{HasDestination, HaveMoved, AreMovedToFront, Settles}
 use Rattle.std.proofs.lemmas.List.{length-take-le}
 use Rattle.arena_base.proofs.PackedSlotLemmas.{packed-trimmed}
 use Rattle.chain_links.proofs.MappedArenaLemmas.{slot_at-map}
@@ -55,12 +55,12 @@ module _ {E : Type 0} (goal : E → Option ℕ) (Settles : E → E → Type 0) (
 
 module _ {Gen K T : Type 0} (number : K → Option ℕ) (g : Gen) where
   -- What is seen of an entry that is settled.
-  pub settled_viewed : (e f : Gen × LinkBody K T) → Settles number g e f → pair_view number f ≡ (g, link_view number e.1)
+  pub settled_viewed : (e f : Gen × RawLink K T) → Settles number g e f → pair_view number f ≡ (g, link_view number e.1)
   settled_viewed e f s = ap₂ (λ (h : Gen) (l : LinkView T). (h, l)) s.generation (ap (link_view number) s.rest)
 
   -- An entry at its destination is seen as before, but for the generation.
-  pub moved_viewed : (old new : List (Option (Gen × LinkBody K T))) → HaveMoved (destination_of number) (Settles number g) (slot_at old) (slot_at new) → (i d : ℕ) (e : Gen × LinkBody K T)
-      → Waits (destination_of number) (slot_at old) i e d → slot_at (map (option_map (pair_view number)) new) d ≡ Some (g, link_view number e.1)
+  pub moved_viewed : (old new : List (Option (Gen × RawLink K T))) → HaveMoved (destination_of number) (Settles number g) (slot_at old) (slot_at new) → (i d : ℕ) (e : Gen × RawLink K T)
+      → HasDestination (destination_of number) (slot_at old) i e d → slot_at (map (option_map (pair_view number)) new) d ≡ Some (g, link_view number e.1)
   moved_viewed old new moved i d e w =
       let there = moved.there i d e w in
       slot_at-map (pair_view number) new d

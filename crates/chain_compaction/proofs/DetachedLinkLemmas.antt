@@ -11,13 +11,13 @@ use Rattle.chain_laws.specs.Moves.{moved_index, with_link_moved, with_link_place
 use Rattle.chain_laws.proofs.InterlinkLemmas.Inverses.{if_same, if_other, one_some}
 use Rattle.chain_laws.proofs.RenamingLemmas.Moves.{neighbors_determine_a_move}
 use Rattle.arena_traits.specs.Arena.{Arena, slot_at, with_slot}
-use Rattle.arena_base.specs.DetachedSlots.{DetachedView, with_placed_entry, held_with_value, with_touch, with_placement}
+use Rattle.arena_base.specs.DetachedSlots.{DetachedView, with_placed_entry, detached_with_value, with_touch, with_placement}
 use Rattle.arena_base.specs.GatheredSlots.{with_totals}
 use Rattle.arena_traits.proofs.ArenaViewLemmas.{length-with_slot}
-use Rattle.chain_links.specs.declared.links.LinkBody.{LinkBody}
+use Rattle.chain_links.specs.declared.links.RawLink.{RawLink}
 use Rattle.chain_links.specs.ChainArena.{on_value, interlinks_in}
 use Rattle.chain_links.specs.Links.{link_view, held_in}
-use Rattle.chain_compaction.specs.DetachedLinks.{held_values, body_interlinks, link_map_in, IsWork}
+use Rattle.chain_compaction.specs.DetachedLinks.{detached_values, body_interlinks, link_map_in, IsWork}
 use Rattle.chain_links.proofs.MappedArenaLemmas.{map-with_slot, slot_at-map}
 use Rattle.chain_links.proofs.LinkStateLemmas.{slot_at-changed}
 use Rattle.chain_links.proofs.ArenaInsertionLemmas.{slot_at-written}
@@ -38,70 +38,70 @@ module _ {Gen X Y : Type 0} (f : Gen × X → Y) (slots : List (Option (Gen × X
       by (suc k) is = map-set_same (option_map f) slots k (option_map (λ (e : Gen × X). (e.0, w)) (slot_at slots (suc k))) None (kept_there (slot_at slots (suc k)) is)
 
 -- An occupied slot was written.
-module _ {Gen K T : Type 0} (held new : DetachedView Gen (LinkBody K T)) (n : ℕ) (l w : LinkBody K T)
-    (stored : Some l ≡ option_map (λ (e : Gen × LinkBody K T). e.1) (slot_at held.slots n)) (wrote : new ≡ held_with_value held n w) where
+module _ {Gen K T : Type 0} (detached new : DetachedView Gen (RawLink K T)) (n : ℕ) (l w : RawLink K T)
+    (stored : Some l ≡ option_map (λ (e : Gen × RawLink K T). e.1) (slot_at detached.slots n)) (wrote : new ≡ detached_with_value detached n w) where
   -- A write that keeps the value keeps all values.
-  pub values-kept : w.t ≡ l.t → held_values new ≡ held_values held
+  pub values-kept : w.t ≡ l.t → detached_values new ≡ detached_values detached
   values-kept same =
-      let slots = kept_map (on_value held_in) held.slots n l w stored (λ g i. (g, same i)) in
-      ap (λ (h : DetachedView Gen (LinkBody K T)). held_values h) wrote ∙ (λ i. record (held_values held) { slots = slots i })
+      let slots = kept_map (on_value held_in) detached.slots n l w stored (λ g i. (g, same i)) in
+      ap (λ (h : DetachedView Gen (RawLink K T)). detached_values h) wrote ∙ (λ i. record (detached_values detached) { slots = slots i })
 
   -- A write that keeps the interlinks keeps the link map.
   pub links-kept : (number : K → Option ℕ) → interlinks_in (link_view number w) ≡ interlinks_in (link_view number l)
-      → link_map_in number new.slots ≡ link_map_in number held.slots
-  links-kept number same = ap (λ (h : DetachedView Gen (LinkBody K T)). link_map_in number h.slots) wrote ∙ fun_ext (λ i.
-      sym (slot_at-map (body_interlinks number) (held_with_value held n w).slots i)
-      ∙ (ap (λ slots. slot_at slots i) (kept_map (body_interlinks number) held.slots n l w stored (λ g. same)) ∙ slot_at-map (body_interlinks number) held.slots i))
+      → link_map_in number new.slots ≡ link_map_in number detached.slots
+  links-kept number same = ap (λ (h : DetachedView Gen (RawLink K T)). link_map_in number h.slots) wrote ∙ fun_ext (λ i.
+      sym (slot_at-map (body_interlinks number) (detached_with_value detached n w).slots i)
+      ∙ (ap (λ slots. slot_at slots i) (kept_map (body_interlinks number) detached.slots n l w stored (λ g. same)) ∙ slot_at-map (body_interlinks number) detached.slots i))
 
   -- A write of a value is a write among the values.
-  pub values-written : held_values new ≡ held_with_value (held_values held) n w.t
+  pub values-written : detached_values new ≡ detached_with_value (detached_values detached) n w.t
   values-written =
       let slots =
-      map-with_slot (option_map (on_value held_in)) held.slots n (option_map (λ (e : Gen × LinkBody K T). (e.0, w)) (slot_at held.slots n))
-      ∙ ap (with_slot (held_values held).slots n) (at (slot_at held.slots n) ∙ ap (option_map (λ (e : Gen × T). (e.0, w.t))) (sym (slot_at-map (on_value held_in) held.slots n))) in
-      ap (λ (h : DetachedView Gen (LinkBody K T)). held_values h) wrote ∙ (λ i. record (held_values held) { slots = slots i })
+      map-with_slot (option_map (on_value held_in)) detached.slots n (option_map (λ (e : Gen × RawLink K T). (e.0, w)) (slot_at detached.slots n))
+      ∙ ap (with_slot (detached_values detached).slots n) (at (slot_at detached.slots n) ∙ ap (option_map (λ (e : Gen × T). (e.0, w.t))) (sym (slot_at-map (on_value held_in) detached.slots n))) in
+      ap (λ (h : DetachedView Gen (RawLink K T)). detached_values h) wrote ∙ (λ i. record (detached_values detached) { slots = slots i })
     where
-      at : (o : Option (Gen × LinkBody K T)) → option_map (on_value held_in) (option_map (λ (e : Gen × LinkBody K T). (e.0, w)) o)
+      at : (o : Option (Gen × RawLink K T)) → option_map (on_value held_in) (option_map (λ (e : Gen × RawLink K T). (e.0, w)) o)
           ≡ option_map (λ (e : Gen × T). (e.0, w.t)) (option_map (on_value held_in) o)
       at None = refl
       at (Some e) = refl
 
   -- The link map after a write of interlinks.
   links-changed : (number : K → Option ℕ) (change : Interlinks → Interlinks) → interlinks_in (link_view number w) ≡ change (interlinks_in (link_view number l))
-      → (i : ℕ) → link_map_in number (held_with_value held n w).slots i ≡ (if i == n then option_map change (link_map_in number held.slots i) else link_map_in number held.slots i)
+      → (i : ℕ) → link_map_in number (detached_with_value detached n w).slots i ≡ (if i == n then option_map change (link_map_in number detached.slots i) else link_map_in number detached.slots i)
   links-changed number change is i = by (ℕ_discrete i n)
     where
-      at : (o : Option (Gen × LinkBody K T)) → Some l ≡ option_map (λ (e : Gen × LinkBody K T). e.1) o
-          → option_map (body_interlinks number) (option_map (λ (e : Gen × LinkBody K T). (e.0, w)) o) ≡ option_map change (option_map (body_interlinks number) o)
+      at : (o : Option (Gen × RawLink K T)) → Some l ≡ option_map (λ (e : Gen × RawLink K T). e.1) o
+          → option_map (body_interlinks number) (option_map (λ (e : Gen × RawLink K T). (e.0, w)) o) ≡ option_map change (option_map (body_interlinks number) o)
       at None there = refl
-      at (Some e) there = ap (λ (x : Interlinks). Some x) (is ∙ ap (λ (x : LinkBody K T). change (interlinks_in (link_view number x))) (one_some there))
+      at (Some e) there = ap (λ (x : Interlinks). Some x) (is ∙ ap (λ (x : RawLink K T). change (interlinks_in (link_view number x))) (one_some there))
 
-      by : Dec (i ≡ n) → link_map_in number (held_with_value held n w).slots i ≡ (if i == n then option_map change (link_map_in number held.slots i) else link_map_in number held.slots i)
+      by : Dec (i ≡ n) → link_map_in number (detached_with_value detached n w).slots i ≡ (if i == n then option_map change (link_map_in number detached.slots i) else link_map_in number detached.slots i)
       by (yes e) =
-          ap (option_map (body_interlinks number)) (slot_at-changed held.slots n i (option_map (λ (e : Gen × LinkBody K T). (e.0, w))) refl ∙ if_same i n _ _ e)
-          ∙ (at (slot_at held.slots i) (stored ∙ ap (λ (j : ℕ). option_map (λ (e : Gen × LinkBody K T). e.1) (slot_at held.slots j)) (sym e)) ∙ sym (if_same i n _ _ e))
+          ap (option_map (body_interlinks number)) (slot_at-changed detached.slots n i (option_map (λ (e : Gen × RawLink K T). (e.0, w))) refl ∙ if_same i n _ _ e)
+          ∙ (at (slot_at detached.slots i) (stored ∙ ap (λ (j : ℕ). option_map (λ (e : Gen × RawLink K T). e.1) (slot_at detached.slots j)) (sym e)) ∙ sym (if_same i n _ _ e))
       by (no differs) =
-          ap (option_map (body_interlinks number)) (slot_at-changed held.slots n i (option_map (λ (e : Gen × LinkBody K T). (e.0, w))) refl ∙ if_other i n _ _ differs) ∙ sym (if_other i n _ _ differs)
+          ap (option_map (body_interlinks number)) (slot_at-changed detached.slots n i (option_map (λ (e : Gen × RawLink K T). (e.0, w))) refl ∙ if_other i n _ _ differs) ∙ sym (if_other i n _ _ differs)
 
   -- `next` of the link was set.
   pub links-with_next_at : (number : K → Option ℕ) (next : Option ℕ) → w ≡ record l { next = w.next } → number w.next ≡ next
-      → link_map_in number new.slots ≡ with_next_at (link_map_in number held.slots) (Some n) next
+      → link_map_in number new.slots ≡ with_next_at (link_map_in number detached.slots) (Some n) next
   links-with_next_at number next rest named =
-      ap (λ (h : DetachedView Gen (LinkBody K T)). link_map_in number h.slots) wrote ∙ fun_ext (links-changed number (with_next next) (λ i. record { prev = number (rest i).prev; next = named i }))
+      ap (λ (h : DetachedView Gen (RawLink K T)). link_map_in number h.slots) wrote ∙ fun_ext (links-changed number (with_next next) (λ i. record { prev = number (rest i).prev; next = named i }))
 
   -- `prev` of the link was set.
   pub links-with_prev_at : (number : K → Option ℕ) (prev : Option ℕ) → w ≡ record l { prev = w.prev } → number w.prev ≡ prev
-      → link_map_in number new.slots ≡ with_prev_at (link_map_in number held.slots) (Some n) prev
+      → link_map_in number new.slots ≡ with_prev_at (link_map_in number detached.slots) (Some n) prev
   links-with_prev_at number prev rest named =
-      ap (λ (h : DetachedView Gen (LinkBody K T)). link_map_in number h.slots) wrote ∙ fun_ext (links-changed number (with_prev prev) (λ i. record { prev = named i; next = number (rest i).next }))
+      ap (λ (h : DetachedView Gen (RawLink K T)). link_map_in number h.slots) wrote ∙ fun_ext (links-changed number (with_prev prev) (λ i. record { prev = named i; next = number (rest i).next }))
 
 -- Setting the interlinks of a free slot changes nothing.
-module _ {Gen K T : Type 0} (number : K → Option ℕ) (slots : List (Option (Gen × LinkBody K T))) (n : ℕ)
-    (none : None ≡ option_map (λ (e : Gen × LinkBody K T). e.1) (slot_at slots n)) where
+module _ {Gen K T : Type 0} (number : K → Option ℕ) (slots : List (Option (Gen × RawLink K T))) (n : ℕ)
+    (none : None ≡ option_map (λ (e : Gen × RawLink K T). e.1) (slot_at slots n)) where
   nothing_reported : link_map_in number slots n ≡ None
   nothing_reported = by (slot_at slots n) none
     where
-      by : (o : Option (Gen × LinkBody K T)) → None ≡ option_map (λ (e : Gen × LinkBody K T). e.1) o → option_map (body_interlinks number) o ≡ None
+      by : (o : Option (Gen × RawLink K T)) → None ≡ option_map (λ (e : Gen × RawLink K T). e.1) o → option_map (body_interlinks number) o ≡ None
       by None is = refl
       by (Some e) is = cc
 
@@ -120,55 +120,55 @@ module _ {Gen K T : Type 0} (number : K → Option ℕ) (slots : List (Option (G
   pub with_prev_at-unknown : (prev : Option ℕ) → link_map_in number slots ≡ with_prev_at (link_map_in number slots) (Some n) prev
   with_prev_at-unknown prev = fun_ext (unknown (with_prev prev))
 
-module _ {Gen K T : Type 0} (held : DetachedView Gen (LinkBody K T)) (from to : ℕ) (generation : Gen) where
+module _ {Gen K T : Type 0} (detached : DetachedView Gen (RawLink K T)) (from to : ℕ) (generation : Gen) where
   -- A placement places the value.
-  pub values-with_placed_entry : held_values (with_placed_entry held from to generation) ≡ with_placed_entry (held_values held) from to generation
+  pub values-with_placed_entry : detached_values (with_placed_entry detached from to generation) ≡ with_placed_entry (detached_values detached) from to generation
   values-with_placed_entry =
       let slots =
-      map-with_slot value (with_slot held.slots from (slot_at held.slots to)) to (option_map (λ (e : Gen × LinkBody K T). (generation, e.1)) (slot_at held.slots from))
+      map-with_slot value (with_slot detached.slots from (slot_at detached.slots to)) to (option_map (λ (e : Gen × RawLink K T). (generation, e.1)) (slot_at detached.slots from))
       ∙ ap₂ (λ (es : List (Option (Gen × T))) (o : Option (Gen × T)). with_slot es to o)
-      (map-with_slot value held.slots from (slot_at held.slots to) ∙ ap (with_slot (held_values held).slots from) (sym (slot_at-map (on_value held_in) held.slots to)))
-      (at (slot_at held.slots from) ∙ ap (option_map (λ (e : Gen × T). (generation, e.1))) (sym (slot_at-map (on_value held_in) held.slots from))) in
-      λ i. record (held_values held) { slots = slots i }
+      (map-with_slot value detached.slots from (slot_at detached.slots to) ∙ ap (with_slot (detached_values detached).slots from) (sym (slot_at-map (on_value held_in) detached.slots to)))
+      (at (slot_at detached.slots from) ∙ ap (option_map (λ (e : Gen × T). (generation, e.1))) (sym (slot_at-map (on_value held_in) detached.slots from))) in
+      λ i. record (detached_values detached) { slots = slots i }
     where
-      value : Option (Gen × LinkBody K T) → Option (Gen × T)
+      value : Option (Gen × RawLink K T) → Option (Gen × T)
       value = option_map (on_value held_in)
 
-      at : (o : Option (Gen × LinkBody K T)) → option_map (on_value held_in) (option_map (λ (e : Gen × LinkBody K T). (generation, e.1)) o)
+      at : (o : Option (Gen × RawLink K T)) → option_map (on_value held_in) (option_map (λ (e : Gen × RawLink K T). (generation, e.1)) o)
           ≡ option_map (λ (e : Gen × T). (generation, e.1)) (option_map (on_value held_in) o)
       at None = refl
       at (Some e) = refl
 
   -- A placement in a free slot, or its own, moves a link without updating its neighbors.
-  pub links-with_placed_entry : (number : K → Option ℕ) → 1 ≤ from → from ≤ length held.slots → 1 ≤ to → to ≤ length held.slots
-      → (to ≡ from) ⊎ (link_map_in number held.slots to ≡ None) → link_map_in number (with_placed_entry held from to generation).slots ≡ with_link_placed (link_map_in number held.slots) from to
+  pub links-with_placed_entry : (number : K → Option ℕ) → 1 ≤ from → from ≤ length detached.slots → 1 ≤ to → to ≤ length detached.slots
+      → (to ≡ from) ⊎ (link_map_in number detached.slots to ≡ None) → link_map_in number (with_placed_entry detached from to generation).slots ≡ with_link_placed (link_map_in number detached.slots) from to
   links-with_placed_entry number first within first_to within_to free = fun_ext (λ j. by j (ℕ_discrete j to) (ℕ_discrete j from))
     where
-      middle : List (Option (Gen × LinkBody K T))
-      middle = with_slot held.slots from (slot_at held.slots to)
+      middle : List (Option (Gen × RawLink K T))
+      middle = with_slot detached.slots from (slot_at detached.slots to)
 
-      brought : Option (Gen × LinkBody K T)
-      brought = option_map (λ (e : Gen × LinkBody K T). (generation, e.1)) (slot_at held.slots from)
+      brought : Option (Gen × RawLink K T)
+      brought = option_map (λ (e : Gen × RawLink K T). (generation, e.1)) (slot_at detached.slots from)
 
-      at_to : (j : ℕ) → slot_at (with_placed_entry held from to generation).slots j ≡ (if j == to then brought else slot_at middle j)
-      at_to j = slot_at-written middle to j brought first_to (omega (arith, within_to, length-with_slot held.slots from (slot_at held.slots to)))
+      at_to : (j : ℕ) → slot_at (with_placed_entry detached from to generation).slots j ≡ (if j == to then brought else slot_at middle j)
+      at_to j = slot_at-written middle to j brought first_to (omega (arith, within_to, length-with_slot detached.slots from (slot_at detached.slots to)))
 
-      at_from : (j : ℕ) → slot_at middle j ≡ (if j == from then slot_at held.slots to else slot_at held.slots j)
-      at_from j = slot_at-written held.slots from j (slot_at held.slots to) first within
+      at_from : (j : ℕ) → slot_at middle j ≡ (if j == from then slot_at detached.slots to else slot_at detached.slots j)
+      at_from j = slot_at-written detached.slots from j (slot_at detached.slots to) first within
 
-      view_after : Option (Gen × LinkBody K T) → Option Interlinks
+      view_after : Option (Gen × RawLink K T) → Option Interlinks
       view_after o = option_map (body_interlinks number) o
 
-      same : (o : Option (Gen × LinkBody K T)) → option_map (body_interlinks number) (option_map (λ (e : Gen × LinkBody K T). (generation, e.1)) o) ≡ option_map (body_interlinks number) o
+      same : (o : Option (Gen × RawLink K T)) → option_map (body_interlinks number) (option_map (λ (e : Gen × RawLink K T). (generation, e.1)) o) ≡ option_map (body_interlinks number) o
       same None = refl
       same (Some e) = refl
 
-      left : (j : ℕ) → j ≢ to → j ≡ from → (to ≡ from) ⊎ (link_map_in number held.slots to ≡ None) → link_map_in number held.slots to ≡ None
+      left : (j : ℕ) → j ≢ to → j ≡ from → (to ≡ from) ⊎ (link_map_in number detached.slots to ≡ None) → link_map_in number detached.slots to ≡ None
       left j differs e (inl here) = absurd (differs (e ∙ sym here))
       left j differs e (inr none) = none
 
-      by : (j : ℕ) → Dec (j ≡ to) → Dec (j ≡ from) → link_map_in number (with_placed_entry held from to generation).slots j ≡ with_link_placed (link_map_in number held.slots) from to j
-      by j (yes e) rest = ap (option_map (body_interlinks number)) (at_to j ∙ if_same j to _ _ e) ∙ (same (slot_at held.slots from) ∙ sym (if_same j to _ _ e))
+      by : (j : ℕ) → Dec (j ≡ to) → Dec (j ≡ from) → link_map_in number (with_placed_entry detached from to generation).slots j ≡ with_link_placed (link_map_in number detached.slots) from to j
+      by j (yes e) rest = ap (option_map (body_interlinks number)) (at_to j ∙ if_same j to _ _ e) ∙ (same (slot_at detached.slots from) ∙ sym (if_same j to _ _ e))
       by j (no c) (yes e) =
           ap (option_map (body_interlinks number)) (at_to j ∙ (if_other j to _ _ c ∙ (at_from j ∙ if_same j from _ _ e)))
           ∙ (left j c e free ∙ sym (if_other j to _ _ c ∙ if_same j from _ _ e))
@@ -177,11 +177,11 @@ module _ {Gen K T : Type 0} (held : DetachedView Gen (LinkBody K T)) (from to : 
           ∙ sym (if_other j to _ _ c ∙ if_other j from _ _ d)
 
 -- A link is read, placed, and its neighbors are updated.
-module _ {Gen K T : Type 0} (number : K → Option ℕ) (old was_read brought known new : DetachedView Gen (LinkBody K T)) (from to : ℕ) (generation : Gen)
+module _ {Gen K T : Type 0} (number : K → Option ℕ) (old was_read brought known new : DetachedView Gen (RawLink K T)) (from to : ℕ) (generation : Gen)
     (is_read : was_read ≡ old) (is_brought : brought ≡ with_placed_entry was_read from to generation) where
-  pub move-values : held_values known ≡ held_values brought → held_values new ≡ held_values known → held_values new ≡ with_placed_entry (held_values old) from to generation
+  pub move-values : detached_values known ≡ detached_values brought → detached_values new ≡ detached_values known → detached_values new ≡ with_placed_entry (detached_values old) from to generation
   move-values first second =
-      second ∙ (first ∙ (ap (λ (h : DetachedView Gen (LinkBody K T)). held_values h) (is_brought ∙ ap (λ (h : DetachedView Gen (LinkBody K T)). with_placed_entry h from to generation) is_read)
+      second ∙ (first ∙ (ap (λ (h : DetachedView Gen (RawLink K T)). detached_values h) (is_brought ∙ ap (λ (h : DetachedView Gen (RawLink K T)). with_placed_entry h from to generation) is_read)
       ∙ values-with_placed_entry old from to generation))
 
   pub move-links : (before after prev next : Option ℕ) → 1 ≤ from → from ≤ length old.slots → 1 ≤ to → to ≤ length old.slots
@@ -191,7 +191,7 @@ module _ {Gen K T : Type 0} (number : K → Option ℕ) (old was_read brought kn
   move-links before after prev next first within first_to within_to is_prev is_next is_before is_after first_known second_known agrees can =
       let link_map : LinkMap = link_map_in number old.slots in
       let is_put : link_map_in number brought.slots ≡ with_link_placed link_map from to =
-      ap (λ (h : DetachedView Gen (LinkBody K T)). link_map_in number h.slots) (is_brought ∙ ap (λ (h : DetachedView Gen (LinkBody K T)). with_placed_entry h from to generation) is_read)
+      ap (λ (h : DetachedView Gen (RawLink K T)). link_map_in number h.slots) (is_brought ∙ ap (λ (h : DetachedView Gen (RawLink K T)). with_placed_entry h from to generation) is_read)
       ∙ links-with_placed_entry old from to generation number first within first_to within_to can.free in
       let names_before : before ≡ option_map (moved_index from to) (prev_of link_map from) = is_before ∙ ap (option_map (moved_index from to)) is_prev in
       let names_after : after ≡ option_map (moved_index from to) (next_of link_map from) = is_after ∙ ap (option_map (moved_index from to)) is_next in

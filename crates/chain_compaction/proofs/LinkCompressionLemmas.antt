@@ -11,7 +11,7 @@ use Rattle.chain_laws.proofs.RenamingLemmas.HoleClosing.{gathering_begins, gathe
 use Rattle.arena_traits.specs.Arena.{slot_at}
 use Rattle.arena_traits.specs.Entries.{entries_from, index_of}
 use Rattle.arena_base.proofs.EntryRangeLemmas.{entry_list, entries_from-take, take-all}
-use Rattle.chain_links.specs.declared.links.LinkBody.{LinkBody}
+use Rattle.chain_links.specs.declared.links.RawLink.{RawLink}
 use Rattle.chain_links.specs.ChainArena.{on_value}
 use Rattle.chain_links.specs.Links.{held_in}
 use Rattle.chain_compaction.specs.DetachedLinks.{slot_values, body_interlinks, link_map_in, indexes_in}
@@ -37,22 +37,22 @@ module _ {Gen T : Type 0} (slots : List (Option (Gen × T))) (k : ℕ) (below : 
   indexes-met e some = indexes-next (Some e) some ∙ map-append index_of (entries_from 1 (take k slots)) (((k + 1, e.0), e.1) ∷ [])
 
 -- The entry at an index, and its value.
-module _ {Gen K T : Type 0} (slots : List (Option (Gen × LinkBody K T))) (i : ℕ) where
-  pub generation-there : option_map (λ (e : Gen × LinkBody K T). e.0) (slot_at slots i) ≡ option_map (λ (e : Gen × T). e.0) (slot_at (slot_values slots) i)
+module _ {Gen K T : Type 0} (slots : List (Option (Gen × RawLink K T))) (i : ℕ) where
+  pub generation-there : option_map (λ (e : Gen × RawLink K T). e.0) (slot_at slots i) ≡ option_map (λ (e : Gen × T). e.0) (slot_at (slot_values slots) i)
   generation-there = by (slot_at slots i) ∙ ap (option_map (λ (e : Gen × T). e.0)) (sym (slot_at-map (on_value held_in) slots i))
     where
-      by : (o : Option (Gen × LinkBody K T)) → option_map (λ (e : Gen × LinkBody K T). e.0) o ≡ option_map (λ (e : Gen × T). e.0) (option_map (on_value held_in) o)
+      by : (o : Option (Gen × RawLink K T)) → option_map (λ (e : Gen × RawLink K T). e.0) o ≡ option_map (λ (e : Gen × T). e.0) (option_map (on_value held_in) o)
       by None = refl
       by (Some e) = refl
 
-  pub value-there : option_map held_in (option_map (λ (e : Gen × LinkBody K T). e.1) (slot_at slots i)) ≡ option_map (λ (e : Gen × T). e.1) (slot_at (slot_values slots) i)
+  pub value-there : option_map held_in (option_map (λ (e : Gen × RawLink K T). e.1) (slot_at slots i)) ≡ option_map (λ (e : Gen × T). e.1) (slot_at (slot_values slots) i)
   value-there = by (slot_at slots i) ∙ ap (option_map (λ (e : Gen × T). e.1)) (sym (slot_at-map (on_value held_in) slots i))
     where
-      by : (o : Option (Gen × LinkBody K T)) → option_map held_in (option_map (λ (e : Gen × LinkBody K T). e.1) o) ≡ option_map (λ (e : Gen × T). e.1) (option_map (on_value held_in) o)
+      by : (o : Option (Gen × RawLink K T)) → option_map held_in (option_map (λ (e : Gen × RawLink K T). e.1) o) ≡ option_map (λ (e : Gen × T). e.1) (option_map (on_value held_in) o)
       by None = refl
       by (Some e) = refl
 
-module _ {Gen K T : Type 0} (number : K → Option ℕ) (slots : List (Option (Gen × LinkBody K T))) (k : ℕ) where
+module _ {Gen K T : Type 0} (number : K → Option ℕ) (slots : List (Option (Gen × RawLink K T))) (k : ℕ) where
   at_slot : slice_index_or (slot_values slots) k None ≡ option_map (on_value held_in) (slice_index_or slots k None)
   at_slot = slot_at-map (on_value held_in) slots (suc k)
 
@@ -63,7 +63,7 @@ module _ {Gen K T : Type 0} (number : K → Option ℕ) (slots : List (Option (G
   none-linked : slice_index_or (slot_values slots) k None ≡ None → link_map_in number slots (k + 1) ≡ None
   none-linked none = sym (ap (link_map_in number slots) next_index) ∙ by (slice_index_or slots k None) (sym at_slot ∙ none)
     where
-      by : (o : Option (Gen × LinkBody K T)) → option_map (on_value held_in) o ≡ None → option_map (body_interlinks number) o ≡ None
+      by : (o : Option (Gen × RawLink K T)) → option_map (on_value held_in) o ≡ None → option_map (body_interlinks number) o ≡ None
       by None is = refl
       by (Some e) is = cc
 
@@ -71,21 +71,21 @@ module _ {Gen K T : Type 0} (number : K → Option ℕ) (slots : List (Option (G
   some-valid : (e : Gen × T) → slice_index_or (slot_values slots) k None ≡ Some e → HasLink (link_map_in number slots) (k + 1)
   some-valid e some = subst (λ (i : ℕ). HasLink (link_map_in number slots) i) next_index (by (slice_index_or slots k None) refl)
     where
-      by : (o : Option (Gen × LinkBody K T)) → slice_index_or slots k None ≡ o → HasLink (link_map_in number slots) (suc k)
+      by : (o : Option (Gen × RawLink K T)) → slice_index_or slots k None ≡ o → HasLink (link_map_in number slots) (suc k)
       by None is = absurd (let both = sym some ∙ (at_slot ∙ ap (option_map (on_value held_in)) is) in cc)
       by (Some d) is = record { link = body_interlinks number d; links = ap (option_map (body_interlinks number)) is }
 
 -- The `count` links up to k are at the indexes from 1 on.
-pub record AreGathered {Gen K T : Type 0} (number : K → Option ℕ) (old now : List (Option (Gen × LinkBody K T))) (k count : ℕ) : Type 0 where
+pub record AreGathered {Gen K T : Type 0} (number : K → Option ℕ) (old now : List (Option (Gen × RawLink K T))) (k count : ℕ) : Type 0 where
   pub gathering : IsGathering (link_map_in number old) (link_map_in number now) (indexes_to k (slot_values old)) k
   pub counted : length (indexes_to k (slot_values old)) ≡ count
 
-module _ {Gen K T : Type 0} (number : K → Option ℕ) (old : List (Option (Gen × LinkBody K T))) (agrees : IsWellLinked (link_map_in number old)) where
+module _ {Gen K T : Type 0} (number : K → Option ℕ) (old : List (Option (Gen × RawLink K T))) (agrees : IsWellLinked (link_map_in number old)) where
   -- No slot is passed yet.
   pub gathered_begins : HasLinksWithin (link_map_in number old) (length old) → AreGathered number old old 0 0
   gathered_begins within = record { gathering = gathering_begins (link_map_in number old) (length old) agrees within; counted = refl }
 
-  module _ (now : List (Option (Gen × LinkBody K T))) (k count : ℕ) (c : AreGathered number old now k count) (below : k < length old) where
+  module _ (now : List (Option (Gen × RawLink K T))) (k count : ℕ) (c : AreGathered number old now k count) (below : k < length old) where
     inside : k < length (slot_values old)
     inside = omega (arith, below, length-map old (option_map (on_value held_in)))
 
@@ -112,7 +112,7 @@ module _ {Gen K T : Type 0} (number : K → Option ℕ) (old : List (Option (Gen
           × IsGathering (link_map_in number old) (with_link_moved (link_map_in number now) (k + 1) (length (indexes_to k (slot_values old)) + 1)) (indexes_to k (slot_values old) ++ (k + 1) ∷ []) (k + 1)
       target = gathering_continues (link_map_in number old) (link_map_in number now) (indexes_to k (slot_values old)) k agrees c.gathering (some-valid number old k arrives.0 arrives.1)
 
-      pub gathered_continues : (from to : ℕ) (mid after : List (Option (Gen × LinkBody K T))) → from ≡ k + 1 → to ≡ count + 1
+      pub gathered_continues : (from to : ℕ) (mid after : List (Option (Gen × RawLink K T))) → from ≡ k + 1 → to ≡ count + 1
           → (IsWellLinked (link_map_in number now) → CanMove (link_map_in number now) from to → link_map_in number mid ≡ with_link_moved (link_map_in number now) from to)
           → link_map_in number after ≡ link_map_in number mid → AreGathered number old after (k + 1) (count + 1)
       gathered_continues from to mid after at_from at_to moves kept =
@@ -128,7 +128,7 @@ module _ {Gen K T : Type 0} (number : K → Option ℕ) (old : List (Option (Gen
           }
 
   -- In the end the links are renamed by the order of their indexes.
-  pub gathered_ends : (now : List (Option (Gen × LinkBody K T))) (k count : ℕ) → AreGathered number old now k count → k ≡ length old → HasLinksWithin (link_map_in number old) (length old)
+  pub gathered_ends : (now : List (Option (Gen × RawLink K T))) (k count : ℕ) → AreGathered number old now k count → k ≡ length old → HasLinksWithin (link_map_in number old) (length old)
       → IsRenaming (place_in (indexes_in (slot_values old))) (link_map_in number old) (link_map_in number now)
   gathered_ends now k count c all within =
       let same : indexes_to k (slot_values old) ≡ indexes_in (slot_values old) =

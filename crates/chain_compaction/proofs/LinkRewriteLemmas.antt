@@ -9,12 +9,12 @@ use Rattle.chain_laws.specs.Chains.{IsMember}
 use Rattle.chain_laws.proofs.ListLemmas.Members.{IsMember-left, IsMember-right, IsMember-parts, IsMember-or_not}
 use Rattle.chain_laws.proofs.InterlinkLemmas.Inverses.{if_same, if_other}
 use Rattle.arena_traits.specs.Arena.{slot_at}
-use Rattle.arena_base.specs.DetachedSlots.{DetachedView, held_with_value}
+use Rattle.arena_base.specs.DetachedSlots.{DetachedView, detached_with_value}
 use Rattle.arena_traits.proofs.ArenaViewLemmas.{length-with_slot}
-use Rattle.chain_links.specs.declared.links.LinkBody.{LinkBody}
+use Rattle.chain_links.specs.declared.links.RawLink.{RawLink}
 use Rattle.chain_links.specs.ChainArena.{LinkView, on_value, ptr_at}
 use Rattle.chain_links.specs.Links.{link_view, pair_view, destination_of, destination_at}
-use Rattle.chain_compaction.specs.Destinations.{renamed_link, renamed_held, held_view, AreRelinked}
+use Rattle.chain_compaction.specs.Destinations.{renamed_link, renamed_detached, detached_view, AreRelinked}
 use Rattle.chain_links.proofs.MappedArenaLemmas.{slot_at-map}
 use Rattle.chain_links.proofs.LinkStateLemmas.{slot_at-changed}
 
@@ -23,12 +23,12 @@ abbrev pub viewed_as : {Gen T : Type 0} → Gen → LinkView T → Option (Gen �
 viewed_as g l = Some (g, l)
 
 -- A link was overwritten.
-module _ {Gen K T : Type 0} (now new : DetachedView Gen (LinkBody K T)) (i : ℕ) (e : Gen × LinkBody K T) (w : LinkBody K T) (stored : slot_at now.slots i ≡ Some e) (wrote : new ≡ held_with_value now i w) where
-  abbrev written : Option (Gen × LinkBody K T) → Option (Gen × LinkBody K T)
-  written o = option_map (λ (e : Gen × LinkBody K T). (e.0, w)) o
+module _ {Gen K T : Type 0} (now new : DetachedView Gen (RawLink K T)) (i : ℕ) (e : Gen × RawLink K T) (w : RawLink K T) (stored : slot_at now.slots i ≡ Some e) (wrote : new ≡ detached_with_value now i w) where
+  abbrev written : Option (Gen × RawLink K T) → Option (Gen × RawLink K T)
+  written o = option_map (λ (e : Gen × RawLink K T). (e.0, w)) o
 
   written_at : (j : ℕ) → slot_at new.slots j ≡ (if j == i then written (slot_at now.slots j) else slot_at now.slots j)
-  written_at j = ap (λ (h : DetachedView Gen (LinkBody K T)). slot_at h.slots j) wrote ∙ slot_at-changed now.slots i j written refl
+  written_at j = ap (λ (h : DetachedView Gen (RawLink K T)). slot_at h.slots j) wrote ∙ slot_at-changed now.slots i j written refl
 
   -- The new link is at i.
   pub written_there : slot_at new.slots i ≡ Some (e.0, w)
@@ -39,13 +39,13 @@ module _ {Gen K T : Type 0} (now new : DetachedView Gen (LinkBody K T)) (i : ℕ
   written_other j differs = written_at j ∙ if_other j i _ _ differs
 
   pub written_long : length new.slots ≡ length now.slots
-  written_long = ap (λ (h : DetachedView Gen (LinkBody K T)). length h.slots) wrote ∙ length-with_slot now.slots i _
+  written_long = ap (λ (h : DetachedView Gen (RawLink K T)). length h.slots) wrote ∙ length-with_slot now.slots i _
 
   pub written_capacity : new.stack_capacity ≡ now.stack_capacity
-  written_capacity = ap (λ (h : DetachedView Gen (LinkBody K T)). h.stack_capacity) wrote
+  written_capacity = ap (λ (h : DetachedView Gen (RawLink K T)). h.stack_capacity) wrote
 
   pub written_maximum : new.maximum ≡ now.maximum
-  written_maximum = ap (λ (h : DetachedView Gen (LinkBody K T)). h.maximum) wrote
+  written_maximum = ap (λ (h : DetachedView Gen (RawLink K T)). h.maximum) wrote
 
   -- The destinations of all other links are unchanged.
   pub destination_written : (number : K → Option ℕ) (j : ℕ) → j ≢ i → destination_at number new.slots j ≡ destination_at number now.slots j
@@ -56,14 +56,14 @@ module _ {Gen K T : Type 0} (now new : DetachedView Gen (LinkBody K T)) (i : ℕ
 
 module _ {Gen K T : Type 0} (number : K → Option ℕ) where
   -- The view of the entry at an index.
-  abbrev pub viewed_at : DetachedView Gen (LinkBody K T) → ℕ → Option (Gen × LinkView T)
+  abbrev pub viewed_at : DetachedView Gen (RawLink K T) → ℕ → Option (Gen × LinkView T)
   viewed_at h j = option_map (pair_view number) (slot_at h.slots j)
 
   -- No link is overwritten yet.
-  pub relinked_none : (becomes : ℕ → LinkView T → LinkView T) (h : DetachedView Gen (LinkBody K T)) → AreRelinked number becomes h h []
+  pub relinked_none : (becomes : ℕ → LinkView T → LinkView T) (h : DetachedView Gen (RawLink K T)) → AreRelinked number becomes h h []
   relinked_none becomes h = record { there = λ j has. absurd has; stay = λ j out. refl; long = refl; capacity = refl; maximum = refl }
 
-  module _ (becomes : ℕ → LinkView T → LinkView T) (old now : DetachedView Gen (LinkBody K T)) (xs : List ℕ) (was : AreRelinked number becomes old now xs) where
+  module _ (becomes : ℕ → LinkView T → LinkView T) (old now : DetachedView Gen (RawLink K T)) (xs : List ℕ) (was : AreRelinked number becomes old now xs) where
     -- The links are unchanged, or changed alike.
     pub relinked_as : (instead : ℕ → LinkView T → LinkView T) → ((j : ℕ) → IsMember xs j → option_map (on_value (becomes j)) (viewed_at old j) ≡ option_map (on_value (instead j)) (viewed_at old j)) → AreRelinked number instead old now xs
     relinked_as instead same = record { there = λ j h. was.there j h ∙ same j h; stay = was.stay; long = was.long; capacity = was.capacity; maximum = was.maximum }
@@ -72,7 +72,7 @@ module _ {Gen K T : Type 0} (number : K → Option ℕ) where
     pub relinked_ptr : ptr_at (slot_at now.slots) ≡ ptr_at (slot_at old.slots)
     relinked_ptr = fun_ext (λ i. by i (IsMember-or_not xs i))
       where
-        view_after : (i : ℕ) (s : Option (Gen × LinkBody K T)) → option_map {U = ℕ × Gen} (λ (e : Gen × LinkBody K T). (i, e.0)) s ≡ option_map {U = ℕ × Gen} (λ (e : Gen × LinkView T). (i, e.0)) (option_map (pair_view number) s)
+        view_after : (i : ℕ) (s : Option (Gen × RawLink K T)) → option_map {U = ℕ × Gen} (λ (e : Gen × RawLink K T). (i, e.0)) s ≡ option_map {U = ℕ × Gen} (λ (e : Gen × LinkView T). (i, e.0)) (option_map (pair_view number) s)
         view_after i None = refl
         view_after i (Some e) = refl
 
@@ -83,9 +83,9 @@ module _ {Gen K T : Type 0} (number : K → Option ℕ) where
         by : (i : ℕ) → IsMember xs i ⊎ (IsMember xs i → ⊥) → ptr_at (slot_at now.slots) i ≡ ptr_at (slot_at old.slots) i
         by i (inl h) =
             view_after i (slot_at now.slots i) ∙ (ap (option_map {U = ℕ × Gen} (λ (e : Gen × LinkView T). (i, e.0))) (was.there i h) ∙ (valued i (becomes i) (viewed_at old i) ∙ sym (view_after i (slot_at old.slots i))))
-        by i (inr out) = ap (option_map {U = ℕ × Gen} (λ (e : Gen × LinkBody K T). (i, e.0))) (was.stay i out)
+        by i (inr out) = ap (option_map {U = ℕ × Gen} (λ (e : Gen × RawLink K T). (i, e.0))) (was.stay i out)
 
-    module _ (new : DetachedView Gen (LinkBody K T)) (i : ℕ) (e : Gen × LinkBody K T) (w : LinkBody K T) (stored : slot_at now.slots i ≡ Some e) (wrote : new ≡ held_with_value now i w) where
+    module _ (new : DetachedView Gen (RawLink K T)) (i : ℕ) (e : Gen × RawLink K T) (w : RawLink K T) (stored : slot_at now.slots i ≡ Some e) (wrote : new ≡ detached_with_value now i w) where
       -- One more link is overwritten.
       pub relinked_more : (IsMember xs i → ⊥) → link_view number w ≡ becomes i (link_view number e.1) → AreRelinked number becomes old new (xs ++ i ∷ [])
       relinked_more fresh same = record {
@@ -99,7 +99,7 @@ module _ {Gen K T : Type 0} (number : K → Option ℕ) where
           here : viewed_at new i ≡ option_map (on_value (becomes i)) (viewed_at old i)
           here =
               ap (option_map (pair_view number)) (written_there now new i e w stored wrote)
-              ∙ (ap (viewed_as e.0) same ∙ sym (ap (λ (o : Option (Gen × LinkBody K T)). option_map (on_value (becomes i)) (option_map (pair_view number) o)) (sym (was.stay i fresh) ∙ stored)))
+              ∙ (ap (viewed_as e.0) same ∙ sym (ap (λ (o : Option (Gen × RawLink K T)). option_map (on_value (becomes i)) (option_map (pair_view number) o)) (sym (was.stay i fresh) ∙ stored)))
 
           before : (j : ℕ) → j ≢ i → IsMember xs j ⊎ IsMember (i ∷ []) j → IsMember xs j
           before j differs (inl h) = h
@@ -127,7 +127,7 @@ module _ {Gen K T : Type 0} (number : K → Option ℕ) where
               ∙ (was.there j h ∙ ap (λ (f : LinkView T → LinkView T). option_map (on_value f) (viewed_at old j)) (others j differs))
 
     -- Other links are overwritten after these.
-    pub relinked_then : (new : DetachedView Gen (LinkBody K T)) (ys : List ℕ) → AreRelinked number becomes now new ys → ((j : ℕ) → IsMember ys j → IsMember xs j → ⊥) → AreRelinked number becomes old new (xs ++ ys)
+    pub relinked_then : (new : DetachedView Gen (RawLink K T)) (ys : List ℕ) → AreRelinked number becomes now new ys → ((j : ℕ) → IsMember ys j → IsMember xs j → ⊥) → AreRelinked number becomes old new (xs ++ ys)
     relinked_then new ys more apart = record {
       there = λ j h. there j (IsMember-parts xs ys j h);
       stay = λ j out. more.stay j (λ h. out (IsMember-right xs ys j h)) ∙ was.stay j (λ h. out (IsMember-left xs ys j h));
@@ -138,14 +138,14 @@ module _ {Gen K T : Type 0} (number : K → Option ℕ) where
       where
         there : (j : ℕ) → IsMember xs j ⊎ IsMember ys j → viewed_at new j ≡ option_map (on_value (becomes j)) (viewed_at old j)
         there j (inl h) = ap (option_map (pair_view number)) (more.stay j (λ m. apart j m h)) ∙ was.there j h
-        there j (inr h) = more.there j h ∙ ap (λ (o : Option (Gen × LinkBody K T)). option_map (on_value (becomes j)) (option_map (pair_view number) o)) (was.stay j (λ m. apart j h m))
+        there j (inr h) = more.there j h ∙ ap (λ (o : Option (Gen × RawLink K T)). option_map (on_value (becomes j)) (option_map (pair_view number) o)) (was.stay j (λ m. apart j h m))
 
   -- If all links are renamed, so is the whole view.
-  pub all_relinked : (to : ℕ → Option ℕ) (old now : DetachedView Gen (LinkBody K T)) (xs : List ℕ) → AreRelinked number (λ _. renamed_link to) old now xs → ((j : ℕ) (e : Gen × LinkBody K T) → slot_at old.slots j ≡ Some e → IsMember xs j)
-      → held_view number now ≡ renamed_held to (held_view number old)
+  pub all_relinked : (to : ℕ → Option ℕ) (old now : DetachedView Gen (RawLink K T)) (xs : List ℕ) → AreRelinked number (λ _. renamed_link to) old now xs → ((j : ℕ) (e : Gen × RawLink K T) → slot_at old.slots j ≡ Some e → IsMember xs j)
+      → detached_view number now ≡ renamed_detached to (detached_view number old)
   all_relinked to old now xs was each = λ j. record { slots = slots j; stack_capacity = was.capacity j; maximum = was.maximum j }
     where
-      free : (j : ℕ) → (IsMember xs j → ⊥) → (o : Option (Gen × LinkBody K T)) → slot_at old.slots j ≡ o → option_map (pair_view number) o ≡ option_map (on_value (renamed_link to)) (option_map (pair_view number) o)
+      free : (j : ℕ) → (IsMember xs j → ⊥) → (o : Option (Gen × RawLink K T)) → slot_at old.slots j ≡ o → option_map (pair_view number) o ≡ option_map (on_value (renamed_link to)) (option_map (pair_view number) o)
       free j out None is = refl
       free j out (Some e) is = absurd (out (each j e is))
 
@@ -153,13 +153,13 @@ module _ {Gen K T : Type 0} (number : K → Option ℕ) where
       by j (inl h) = was.there j h
       by j (inr out) = ap (option_map (pair_view number)) (was.stay j out) ∙ free j out (slot_at old.slots j) refl
 
-      at : (j : ℕ) → slot_at (held_view number now).slots j ≡ slot_at (renamed_held to (held_view number old)).slots j
+      at : (j : ℕ) → slot_at (detached_view number now).slots j ≡ slot_at (renamed_detached to (detached_view number old)).slots j
       at j =
           slot_at-map (pair_view number) now.slots j
-          ∙ (by j (IsMember-or_not xs j) ∙ sym (slot_at-map (on_value (renamed_link to)) (held_view number old).slots j ∙ ap (option_map (on_value (renamed_link to))) (slot_at-map (pair_view number) old.slots j)))
+          ∙ (by j (IsMember-or_not xs j) ∙ sym (slot_at-map (on_value (renamed_link to)) (detached_view number old).slots j ∙ ap (option_map (on_value (renamed_link to))) (slot_at-map (pair_view number) old.slots j)))
 
-      slots : (held_view number now).slots ≡ (renamed_held to (held_view number old)).slots
+      slots : (detached_view number now).slots ≡ (renamed_detached to (detached_view number old)).slots
       slots =
-          ext_get_or None (held_view number now).slots (renamed_held to (held_view number old)).slots
-          (length-map now.slots (option_map (pair_view number)) ∙ (was.long ∙ sym (length-map (held_view number old).slots (option_map (on_value (renamed_link to))) ∙ length-map old.slots (option_map (pair_view number)))))
+          ext_get_or None (detached_view number now).slots (renamed_detached to (detached_view number old)).slots
+          (length-map now.slots (option_map (pair_view number)) ∙ (was.long ∙ sym (length-map (detached_view number old).slots (option_map (on_value (renamed_link to))) ∙ length-map old.slots (option_map (pair_view number)))))
           (λ k inside. at (suc k))

@@ -16,7 +16,7 @@ use Rattle.chain_laws.proofs.RenamingLemmas.ChainRuns.{range_with_len-append}
 use Rattle.chain_laws.proofs.TransferLemmas.Target.{all_items-append}
 use Rattle.arena_traits.specs.Arena.{slot_at}
 use Rattle.arena_base.specs.DetachedSlots.{DetachedView}
-use Rattle.chain_links.specs.declared.links.LinkBody.{LinkBody}
+use Rattle.chain_links.specs.declared.links.RawLink.{RawLink}
 use Rattle.chain_links.proofs.ArenaInsertionLemmas.{slots-within}
 use Rattle.chain_compaction.specs.DetachedLinks.{body_interlinks, link_map_in}
 use Rattle.chain_compaction.specs.OrderedLinks.{IsStartAfter}
@@ -39,8 +39,8 @@ run_linked link_map agree j (suc m) before after prev valid on ends =
     )
 
 -- A run is a chain, if its last link names what that kind of chain asks.
-run_is_chain : (link_map : LinkMap) → IsWellLinked link_map → (ring : Bool) (j m : ℕ) → (ring ≡ false → prev_of link_map j ≡ None) → ((i : ℕ) → j ≤ i → i ≤ j + m → HasLink link_map i)
-    → ((i : ℕ) → j ≤ i → i < j + m → next_of link_map i ≡ Some (i + 1)) → next_of link_map (j + m) ≡ (if ring then Some j else None) → IsChain link_map (chain_of ring (range_with_len j (suc m)))
+run_is_chain : (link_map : LinkMap) → IsWellLinked link_map → (is_cyclic : Bool) (j m : ℕ) → (is_cyclic ≡ false → prev_of link_map j ≡ None) → ((i : ℕ) → j ≤ i → i ≤ j + m → HasLink link_map i)
+    → ((i : ℕ) → j ≤ i → i < j + m → next_of link_map i ≡ Some (i + 1)) → next_of link_map (j + m) ≡ (if is_cyclic then Some j else None) → IsChain link_map (chain_of is_cyclic (range_with_len j (suc m)))
 run_is_chain link_map agree false j m first valid on ends = ((λ none. cc), AreDistinct-range j (suc m), run_linked link_map agree j m None None (first refl) valid on ends)
 run_is_chain link_map agree true j m first valid on ends = (
   (λ none. cc),
@@ -58,7 +58,7 @@ chain-parts (b ∷ cs) d c (inr h) = by (chain-parts cs d c h)
     by (inl h) = inl (inr h)
     by (inr e) = inr e
 
-items_of : (ring : Bool) (xs : List ℕ) → items (chain_of ring xs) ≡ xs
+items_of : (is_cyclic : Bool) (xs : List ℕ) → items (chain_of is_cyclic xs) ≡ xs
 items_of false xs = refl
 items_of true xs = refl
 
@@ -74,8 +74,8 @@ pub record AreRuns (link_map : LinkMap) (start : ℕ) (is_cyclic : Bool) (k : �
   pub on : (j : ℕ) → start < j → j ≤ k → next_of link_map j ≡ Some (j + 1)
 
 module _ (link_map : LinkMap) where
-  pub runs_begin : (ring : Bool) → AreRuns link_map 0 ring 0
-  runs_begin ring = record {
+  pub runs_begin : (is_cyclic : Bool) → AreRuns link_map 0 is_cyclic 0
+  runs_begin is_cyclic = record {
     chains = [];
     each = λ c h. absurd h;
     items = refl;
@@ -86,8 +86,8 @@ module _ (link_map : LinkMap) where
   }
 
   -- All links are in whole chains.
-  pub runs_end : (slots start : ℕ) (ring : Bool) → HasLinksWithin link_map slots → AreRuns link_map start ring slots → start ≡ slots → IsCanonical link_map (range_with_len 1 slots)
-  runs_end slots start ring within runs whole =
+  pub runs_end : (slots start : ℕ) (is_cyclic : Bool) → HasLinksWithin link_map slots → AreRuns link_map start is_cyclic slots → start ≡ slots → IsCanonical link_map (range_with_len 1 slots)
+  runs_end slots start is_cyclic within runs whole =
       let all : all_items runs.chains ≡ range_with_len 1 slots = runs.items ∙ ap (range_with_len 1) whole in
       record {
         chains = runs.chains;
@@ -100,8 +100,8 @@ module _ (link_map : LinkMap) where
       }
 
   -- One more link.
-  module _ (agree : IsWellLinked link_map) (start k : ℕ) (was ring : Bool) (runs : AreRuns link_map start was k) (valid : HasLink link_map (k + 1)) (prev next : Option ℕ)
-      (is_prev : prev ≡ prev_of link_map (k + 1)) (is_next : next ≡ next_of link_map (k + 1)) (first : k ≡ start → ring ≡ is_some prev) (later : start < k → ring ≡ was) where
+  module _ (agree : IsWellLinked link_map) (start k : ℕ) (was is_cyclic : Bool) (runs : AreRuns link_map start was k) (valid : HasLink link_map (k + 1)) (prev next : Option ℕ)
+      (is_prev : prev ≡ prev_of link_map (k + 1)) (is_next : next ≡ next_of link_map (k + 1)) (first : k ≡ start → is_cyclic ≡ is_some prev) (later : start < k → is_cyclic ≡ was) where
     valid_now : (j : ℕ) → 1 ≤ j → j ≤ k + 1 → HasLink link_map j
     valid_now j low high = by (ℕ_discrete j (k + 1))
       where
@@ -113,7 +113,7 @@ module _ (link_map : LinkMap) where
     not_some None is = refl
     not_some (Some x) is = cc
 
-    first_now : ring ≡ false → prev_of link_map (start + 1) ≡ None
+    first_now : is_cyclic ≡ false → prev_of link_map (start + 1) ≡ None
     first_now none = by (ℕ_discrete k start)
       where
         by : Dec (k ≡ start) → prev_of link_map (start + 1) ≡ None
@@ -128,7 +128,7 @@ module _ (link_map : LinkMap) where
         by (no differs) = runs.on j low (omega (arith, high, differs))
 
     -- The run goes on.
-    runs_go_on : next ≡ Some (k + 2) → AreRuns link_map start ring (k + 1)
+    runs_go_on : next ≡ Some (k + 2) → AreRuns link_map start is_cyclic (k + 1)
     runs_go_on is = record {
       chains = runs.chains;
       each = runs.each;
@@ -140,7 +140,7 @@ module _ (link_map : LinkMap) where
     }
 
     -- The run ends.
-    runs_close : next ≡ (if ring then Some (start + 1) else None) → AreRuns link_map (k + 1) ring (k + 1)
+    runs_close : next ≡ (if is_cyclic then Some (start + 1) else None) → AreRuns link_map (k + 1) is_cyclic (k + 1)
     runs_close is = record {
       chains = runs.chains ++ chain ∷ [];
       each = λ c h. each_now c (chain-parts runs.chains chain c h);
@@ -158,11 +158,11 @@ module _ (link_map : LinkMap) where
         whole = let low = runs.low in omega (arith, low)
 
         chain : Chain
-        chain = chain_of ring (range_with_len (start + 1) (suc size))
+        chain = chain_of is_cyclic (range_with_len (start + 1) (suc size))
 
         is_chain : IsChain link_map chain
         is_chain =
-            run_is_chain link_map agree ring (start + 1) size first_now (λ i low high. valid_now i (omega (arith, low)) (omega (arith, high, whole)))
+            run_is_chain link_map agree is_cyclic (start + 1) size first_now (λ i low high. valid_now i (omega (arith, low)) (omega (arith, high, whole)))
             (λ i low high. runs.on i (omega (arith, low)) (omega (arith, high, whole))) (ap (next_of link_map) whole ∙ (sym is_next ∙ is))
 
         each_now : (c : Chain) → HasChain runs.chains c ⊎ (chain ≡ c) → IsChain link_map c
@@ -172,23 +172,23 @@ module _ (link_map : LinkMap) where
         all_now : all_items (runs.chains ++ chain ∷ []) ≡ range_with_len 1 (k + 1)
         all_now =
             all_items-append runs.chains (chain ∷ [])
-            ∙ (ap₂ (λ (xs ys : List ℕ). xs ++ ys) runs.items (append-nil (items chain) ∙ (items_of ring (range_with_len (start + 1) (suc size)) ∙ ap (λ (n : ℕ). range_with_len n (suc size)) (let e : start + 1 ≡ 1 + start = omega arith in e)))
+            ∙ (ap₂ (λ (xs ys : List ℕ). xs ++ ys) runs.items (append-nil (items chain) ∙ (items_of is_cyclic (range_with_len (start + 1) (suc size)) ∙ ap (λ (n : ℕ). range_with_len n (suc size)) (let e : start + 1 ≡ 1 + start = omega arith in e)))
             ∙ (range_with_len-append 1 start (suc size) ∙ ap (range_with_len 1) (let low = runs.low in let e : start + suc size ≡ k + 1 = omega (arith, low) in e)))
 
-    pub runs_continue : (after : ℕ) → IsStartAfter start ring k next after → AreRuns link_map after ring (k + 1)
-    runs_continue after (inl e) = subst (λ (n : ℕ). AreRuns link_map n ring (k + 1)) (sym e.0) (runs_go_on e.1)
-    runs_continue after (inr e) = subst (λ (n : ℕ). AreRuns link_map n ring (k + 1)) (sym e.0) (runs_close e.1)
+    pub runs_continue : (after : ℕ) → IsStartAfter start is_cyclic k next after → AreRuns link_map after is_cyclic (k + 1)
+    runs_continue after (inl e) = subst (λ (n : ℕ). AreRuns link_map n is_cyclic (k + 1)) (sym e.0) (runs_go_on e.1)
+    runs_continue after (inr e) = subst (λ (n : ℕ). AreRuns link_map n is_cyclic (k + 1)) (sym e.0) (runs_close e.1)
 
 -- One more link, that of a slot that was read.
-module _ {Gen K T : Type 0} (number : K → Option ℕ) (old now : DetachedView Gen (LinkBody K T)) (agree : IsWellLinked (link_map_in number old.slots)) (start k : ℕ) (was ring : Bool)
+module _ {Gen K T : Type 0} (number : K → Option ℕ) (old now : DetachedView Gen (RawLink K T)) (agree : IsWellLinked (link_map_in number old.slots)) (start k : ℕ) (was is_cyclic : Bool)
     (runs : AreRuns (link_map_in number old.slots) start was k) (same : now ≡ old) (i : ℕ) (at : i ≡ k + 1) (r : Option Gen) (generation : Gen) (some : r ≡ Some generation)
-    (reported : r ≡ option_map (λ (e : Gen × LinkBody K T). e.0) (slot_at now.slots i)) where
+    (reported : r ≡ option_map (λ (e : Gen × RawLink K T). e.0) (slot_at now.slots i)) where
   read_valid : HasLink (link_map_in number old.slots) (k + 1)
   read_valid =
       by (slot_at old.slots (k + 1)) refl
-      (sym some ∙ (reported ∙ (ap (λ (h : DetachedView Gen (LinkBody K T)). option_map (λ (e : Gen × LinkBody K T). e.0) (slot_at h.slots i)) same ∙ ap (λ (n : ℕ). option_map (λ (e : Gen × LinkBody K T). e.0) (slot_at old.slots n)) at)))
+      (sym some ∙ (reported ∙ (ap (λ (h : DetachedView Gen (RawLink K T)). option_map (λ (e : Gen × RawLink K T). e.0) (slot_at h.slots i)) same ∙ ap (λ (n : ℕ). option_map (λ (e : Gen × RawLink K T). e.0) (slot_at old.slots n)) at)))
     where
-      by : (o : Option (Gen × LinkBody K T)) → slot_at old.slots (k + 1) ≡ o → Some generation ≡ option_map (λ (e : Gen × LinkBody K T). e.0) o → HasLink (link_map_in number old.slots) (k + 1)
+      by : (o : Option (Gen × RawLink K T)) → slot_at old.slots (k + 1) ≡ o → Some generation ≡ option_map (λ (e : Gen × RawLink K T). e.0) o → HasLink (link_map_in number old.slots) (k + 1)
       by None is both = absurd (let h = both in cc)
       by (Some e) is both = record { link = body_interlinks number e; links = ap (option_map (body_interlinks number)) is }
 
@@ -197,19 +197,19 @@ module _ {Gen K T : Type 0} (number : K → Option ℕ) (old now : DetachedView 
   is_some-map f (Some x) = refl
 
   pub runs_read : {I : Type 0} (index : I → ℕ) (prev next : Option I) → option_map index prev ≡ prev_of (link_map_in number now.slots) i → option_map index next ≡ next_of (link_map_in number now.slots) i
-      → (k ≡ start → ring ≡ is_some prev) → (start < k → ring ≡ was) → (after : ℕ) → IsStartAfter start ring k (option_map index next) after → AreRuns (link_map_in number old.slots) after ring (k + 1)
+      → (k ≡ start → is_cyclic ≡ is_some prev) → (start < k → is_cyclic ≡ was) → (after : ℕ) → IsStartAfter start is_cyclic k (option_map index next) after → AreRuns (link_map_in number old.slots) after is_cyclic (k + 1)
   runs_read index prev next is_prev is_next first later after goes =
-      runs_continue (link_map_in number old.slots) agree start k was ring runs read_valid (option_map index prev) (option_map index next)
-      (is_prev ∙ ap₂ (λ (h : DetachedView Gen (LinkBody K T)) (n : ℕ). prev_of (link_map_in number h.slots) n) same at) (is_next ∙ ap₂ (λ (h : DetachedView Gen (LinkBody K T)) (n : ℕ). next_of (link_map_in number h.slots) n) same at)
+      runs_continue (link_map_in number old.slots) agree start k was is_cyclic runs read_valid (option_map index prev) (option_map index next)
+      (is_prev ∙ ap₂ (λ (h : DetachedView Gen (RawLink K T)) (n : ℕ). prev_of (link_map_in number h.slots) n) same at) (is_next ∙ ap₂ (λ (h : DetachedView Gen (RawLink K T)) (n : ℕ). next_of (link_map_in number h.slots) n) same at)
       (λ e. first e ∙ is_some-map index prev) later after goes
 
 -- Whether the links of all slots are in whole chains.
-pub runs_checked : {Gen K T : Type 0} (number : K → Option ℕ) (slots : List (Option (Gen × LinkBody K T))) (start end k : ℕ) (ring : Bool) → end ≡ length slots → k ≡ length slots
-    → AreRuns (link_map_in number slots) start ring k → OnTrue (start == end) (IsCanonical (link_map_in number slots) (range_with_len 1 (length slots)))
-runs_checked number slots start end k ring last all runs = by (start == end) refl
+pub runs_checked : {Gen K T : Type 0} (number : K → Option ℕ) (slots : List (Option (Gen × RawLink K T))) (start end k : ℕ) (is_cyclic : Bool) → end ≡ length slots → k ≡ length slots
+    → AreRuns (link_map_in number slots) start is_cyclic k → OnTrue (start == end) (IsCanonical (link_map_in number slots) (range_with_len 1 (length slots)))
+runs_checked number slots start end k is_cyclic last all runs = by (start == end) refl
   where
     by : (b : Bool) → (start == end) ≡ b → OnTrue b (IsCanonical (link_map_in number slots) (range_with_len 1 (length slots)))
     by false is = tt
     by true is =
-        runs_end (link_map_in number slots) (length slots) start ring (slots-within (body_interlinks number) slots) (subst (AreRuns (link_map_in number slots) start ring) all runs)
+        runs_end (link_map_in number slots) (length slots) start is_cyclic (slots-within (body_interlinks number) slots) (subst (AreRuns (link_map_in number slots) start is_cyclic) all runs)
         (eqb-true start end is ∙ last)

@@ -5,7 +5,7 @@ use Rattle.std.proofs.lemmas.Bool.Decides.{leb_tells}
 use Rattle.arena_traits.specs.Arena.{Arena, slot_at}
 use Rattle.arena_base.specs.DetachedSlots.{with_touch, with_placement}
 use Rattle.chain_compaction.specs.DetachedLinks.{IsWork}
-use Rattle.chain_compaction.specs.Permutations.{Waits, HaveMoved, CanMoveAll, IsInBlock, IsSettling, ArePassed, waiting_count, IsWorkOn, IsWorkInRounds}
+use Rattle.chain_compaction.specs.Permutations.{HasDestination, HaveMoved, CanMoveAll, IsInBlock, IsSettling, ArePassed, waiting_count, IsWorkOn, IsWorkInRounds}
 use Rattle.chain_compaction.proofs.SlotSwapLemmas.{moving_begins, moving_ends}
 use Rattle.chain_compaction.proofs.SlotCountLemmas.{stored-within, waiting-none, none-waiting}
 use Rattle.chain_compaction.proofs.DetachedLinkLemmas.{work-none, work-touched, work-with_placed_entry, work-more, work-few}
@@ -19,12 +19,12 @@ module _ {E : Type 0} (goal : E → Option ℕ) (Settles : E → E → Type 0) (
     passed = first;
   }
     where
-      first : (j d : ℕ) (e : E) → j ≤ 0 → Waits goal (slot_at old) j e d → ⊥
+      first : (j d : ℕ) (e : E) → j ≤ 0 → HasDestination goal (slot_at old) j e d → ⊥
       first zero d e low w = let none : None ≡ Some e = w.stored in cc
       first (suc k) d e low w = omega arith
 
   pub passing_continues : (old now next : List (Option E)) (k count : ℕ) → ArePassed goal Settles old now k → IsSettling goal Settles (IsInBlock k count) now next
-      → ((j d : ℕ) (e : E) → IsInBlock k count j → Waits goal (slot_at next) j e d → ⊥) → ArePassed goal Settles old next (k + count)
+      → ((j d : ℕ) (e : E) → IsInBlock k count j → HasDestination goal (slot_at next) j e d → ⊥) → ArePassed goal Settles old next (k + count)
   passing_continues old now next k count p s none = record {
     moves = s.moves (slot_at old) p.moves;
     within = s.within p.within;
@@ -32,7 +32,7 @@ module _ {E : Type 0} (goal : E → Option ℕ) (Settles : E → E → Type 0) (
     passed = λ j d e low w. by j d e low w (leb_tells j k);
   }
     where
-      by : (j d : ℕ) (e : E) → j ≤ k + count → Waits goal (slot_at next) j e d → ((leb j k ≡ true) × (j ≤ k)) ⊎ ((leb j k ≡ false) × (k < j)) → ⊥
+      by : (j d : ℕ) (e : E) → j ≤ k + count → HasDestination goal (slot_at next) j e d → ((leb j k ≡ true) × (j ≤ k)) ⊎ ((leb j k ≡ false) × (k < j)) → ⊥
       by j d e low w (inl before) = let first : j ≤ k = before.1 in p.passed j d e first (s.stays j d e (λ b. let after : k < j = b.0 in omega arith) w)
       by j d e low w (inr after) = none j d e (after.1, low) w
 
@@ -40,7 +40,7 @@ module _ {E : Type 0} (goal : E → Option ℕ) (Settles : E → E → Type 0) (
   pub passing_stops : (old now : List (Option E)) (k : ℕ) → ArePassed goal Settles old now k → waiting_count goal now ≡ 0 → ArePassed goal Settles old now (length old)
   passing_stops old now k p none = record { moves = p.moves; within = p.within; length = p.length; passed = λ j d e low w. none-waiting goal now none j d e w }
 
-  nowhere : (old now : List (Option E)) → ArePassed goal Settles old now (length old) → (i d : ℕ) (e : E) → Waits goal (slot_at now) i e d → ⊥
+  nowhere : (old now : List (Option E)) → ArePassed goal Settles old now (length old) → (i d : ℕ) (e : E) → HasDestination goal (slot_at now) i e d → ⊥
   nowhere old now p i d e w = p.passed i d e (let b : i ≤ length now = (stored-within now i e w.stored).1 in let l : length now ≡ length old = p.length in omega arith) w
 
   pub passing_ends : (old now : List (Option E)) → ArePassed goal Settles old now (length old) → HaveMoved goal Settles (slot_at old) (slot_at now)

@@ -6,22 +6,22 @@ use Rattle.std.specs.Bool.{OnTrue, OnFalse}
 use Rattle.std.specs.Option.{option_map, option_and_then}
 use Rattle.std.proofs.Math.Decide.{ℕ_discrete}
 use Rattle.arena_traits.specs.Arena.{slot_at, with_slot}
-use Rattle.arena_base.specs.DetachedSlots.{DetachedView, with_placed_entry, held_with_value}
+use Rattle.arena_base.specs.DetachedSlots.{DetachedView, with_placed_entry, detached_with_value}
 use Rattle.arena_traits.proofs.ArenaViewLemmas.{length-with_slot}
-use Rattle.chain_links.specs.declared.links.LinkBody.{LinkBody}
-use Rattle.chain_compaction.specs.Permutations.{Waits, IsSettledAt, WaitsWithin, IsInBlock, IsSettling, ListsWaiting, waiting_count, waits, Settles}
+use Rattle.chain_links.specs.declared.links.RawLink.{RawLink}
+use Rattle.chain_compaction.specs.Permutations.{HasDestination, IsSettledAt, WaitsWithin, IsInBlock, IsSettling, ListsWaiting, waiting_count, waits, Settles}
 use Rattle.chain_compaction.specs.Destinations.{IsDirectedAt}
 use Rattle.chain_compaction.proofs.SlotCountLemmas.{slot_at-same, slot_at-other, stored-within, count-with_slot, mark, one_if}
 use Rattle.chain_compaction.proofs.SlotSwapLemmas.{moving_continues, arrived_from, waited_there}
 use Rattle.chain_links.specs.Links.{destination_of, destination_at}
 
 -- A settled entry has no destination.
-pub settled_rests : {Gen K T : Type 0} (number : K → Option ℕ) (g : Gen) (e f : Gen × LinkBody K T) → Settles number g e f → destination_of number f ≡ None
+pub settled_rests : {Gen K T : Type 0} (number : K → Option ℕ) (g : Gen) (e f : Gen × RawLink K T) → Settles number g e f → destination_of number f ≡ None
 settled_rests number g e f s = s.empty
 
 -- A settled entry does not wait.
 pub settled_waits_not : {E : Type 0} (goal : E → Option ℕ) (Settled : E → E → Type 0) (now : ℕ → Option E) (d : ℕ) (e : E) → ((e f : E) → Settled e f → goal f ≡ None) → IsSettledAt Settled now d e
-    → (h : ℕ) (f : E) → Waits goal now d f h → ⊥
+    → (h : ℕ) (f : E) → HasDestination goal now d f h → ⊥
 settled_waits_not goal Settled now d e done s h f w =
     let both : Some s.entry ≡ Some f = sym s.stored ∙ w.stored in
     let none : goal s.entry ≡ None = done e s.entry s.settled in
@@ -29,20 +29,20 @@ settled_waits_not goal Settled now d e done s h f w =
     cc
 
 -- After the exchange, the slot at d holds the entry with the generation.
-exchanged_entry : {Gen K T : Type 0} (number : K → Option ℕ) (g : Gen) (slots : List (Option (Gen × LinkBody K T))) (i d : ℕ) (e : Gen × LinkBody K T)
-    → Waits (destination_of number) (slot_at slots) i e d → 1 ≤ d → d ≤ length slots
-    → slot_at (with_slot (with_slot slots i (slot_at slots d)) d (option_map (λ (x : Gen × LinkBody K T). (g, x.1)) (slot_at slots i))) d ≡ Some (g, e.1)
+exchanged_entry : {Gen K T : Type 0} (number : K → Option ℕ) (g : Gen) (slots : List (Option (Gen × RawLink K T))) (i d : ℕ) (e : Gen × RawLink K T)
+    → HasDestination (destination_of number) (slot_at slots) i e d → 1 ≤ d → d ≤ length slots
+    → slot_at (with_slot (with_slot slots i (slot_at slots d)) d (option_map (λ (x : Gen × RawLink K T). (g, x.1)) (slot_at slots i))) d ≡ Some (g, e.1)
 exchanged_entry {Gen} {K} {T} number g slots i d e w low high =
     let same : length (with_slot slots i (slot_at slots d)) ≡ length slots = length-with_slot slots i (slot_at slots d) in
     let within : d ≤ length (with_slot slots i (slot_at slots d)) = omega arith in
-    slot_at-same (with_slot slots i (slot_at slots d)) d (option_map (λ (x : Gen × LinkBody K T). (g, x.1)) (slot_at slots i)) low within
-    ∙ ap (option_map (λ (x : Gen × LinkBody K T). (g, x.1))) w.stored
+    slot_at-same (with_slot slots i (slot_at slots d)) d (option_map (λ (x : Gen × RawLink K T). (g, x.1)) (slot_at slots i)) low within
+    ∙ ap (option_map (λ (x : Gen × RawLink K T). (g, x.1))) w.stored
 
-module _ {Gen K T : Type 0} (number : K → Option ℕ) (g : Gen) (slots : List (Option (Gen × LinkBody K T))) (i d : ℕ) (e : Gen × LinkBody K T)
-    (link : LinkBody K T) (empty : number link.destination ≡ None) (rest : link ≡ record e.1 { destination = link.destination })
-    (w : Waits (destination_of number) (slot_at slots) i e d) (low : 1 ≤ d) (high : d ≤ length slots) where
+module _ {Gen K T : Type 0} (number : K → Option ℕ) (g : Gen) (slots : List (Option (Gen × RawLink K T))) (i d : ℕ) (e : Gen × RawLink K T)
+    (link : RawLink K T) (empty : number link.destination ≡ None) (rest : link ≡ record e.1 { destination = link.destination })
+    (w : HasDestination (destination_of number) (slot_at slots) i e d) (low : 1 ≤ d) (high : d ≤ length slots) where
   abbrev Entry : Type 0
-  Entry = Gen × LinkBody K T
+  Entry = Gen × RawLink K T
 
   -- An entry with the generation.
   abbrev renewed : Entry → Entry
@@ -128,8 +128,8 @@ module _ {Gen K T : Type 0} (number : K → Option ℕ) (g : Gen) (slots : List 
       omega arith
 
   -- If the destination is the slot itself, no entry waits there.
-  pub own_settles : d ≡ i → (h : ℕ) (f : Entry) → Waits (destination_of number) (slot_at two) i f h → ⊥
-  own_settles own h f v = settled_waits_not (destination_of number) (Settles number g) (slot_at two) d e (settled_rests number g) settled_at_d h f (subst (λ (x : ℕ). Waits (destination_of number) (slot_at two) x f h) (sym own) v)
+  pub own_settles : d ≡ i → (h : ℕ) (f : Entry) → HasDestination (destination_of number) (slot_at two) i f h → ⊥
+  own_settles own h f v = settled_waits_not (destination_of number) (Settles number g) (slot_at two) d e (settled_rests number g) settled_at_d h f (subst (λ (x : ℕ). HasDestination (destination_of number) (slot_at two) x f h) (sym own) v)
 
   pub settles_on : IsSettling (destination_of number) (Settles number g) (λ (j : ℕ). j ≡ i) slots two
   settles_on = record {
@@ -139,7 +139,7 @@ module _ {Gen K T : Type 0} (number : K → Option ℕ) (g : Gen) (slots : List 
     stays = λ j h f ne v. waited_there (destination_of number) (Settles number g) (settled_rests number g) (slot_at slots) (slot_at two) i d e settled_at_d two_at_i two_other j f h ne v;
   }
     where
-      bound : WaitsWithin (destination_of number) slots → (j h : ℕ) (f : Entry) → Waits (destination_of number) (slot_at two) j f h → (1 ≤ h) × (h ≤ length two)
+      bound : WaitsWithin (destination_of number) slots → (j h : ℕ) (f : Entry) → HasDestination (destination_of number) (slot_at two) j f h → (1 ≤ h) × (h ≤ length two)
       bound b j h f v =
           let u = arrived_from (destination_of number) (Settles number g) (settled_rests number g) (slot_at slots) (slot_at two) i d e settled_at_d two_at_i two_other j f h v in
           let at = b.within u.0 h f u.1 in
@@ -190,22 +190,22 @@ module _ {Gen K : Type 0} (goal : Gen × K → Option ℕ) (Settled : Gen × K �
   }
 
 -- No entry waits if there is no destination.
-pub none_waits : {E : Type 0} (goal : E → Option ℕ) (slots : List (Option E)) (i : ℕ) → None ≡ option_and_then goal (slot_at slots i) → (d : ℕ) (e : E) → Waits goal (slot_at slots) i e d → ⊥
+pub none_waits : {E : Type 0} (goal : E → Option ℕ) (slots : List (Option E)) (i : ℕ) → None ≡ option_and_then goal (slot_at slots i) → (d : ℕ) (e : E) → HasDestination goal (slot_at slots) i e d → ⊥
 none_waits goal slots i is d e w =
     let none : None ≡ goal e = is ∙ ap (option_and_then goal) w.stored in
     let some : goal e ≡ Some d = w.to in
     cc
 
 -- One step, over the slots before it, after the exchange, and without the destination.
-module _ {Gen K T : Type 0} (number : K → Option ℕ) (g : Gen) (i d : ℕ) (before exchanged after : DetachedView Gen (LinkBody K T))
+module _ {Gen K T : Type 0} (number : K → Option ℕ) (g : Gen) (i d : ℕ) (before exchanged after : DetachedView Gen (RawLink K T))
     (is : Some d ≡ destination_at number before.slots i) (all : WaitsWithin (destination_of number) before.slots) where
   abbrev Entries : Type 0
-  Entries = List (Option (Gen × LinkBody K T))
+  Entries = List (Option (Gen × RawLink K T))
 
-  who : (e : Gen × LinkBody K T) × Waits (destination_of number) (slot_at before.slots) i e d
+  who : (e : Gen × RawLink K T) × HasDestination (destination_of number) (slot_at before.slots) i e d
   who = by (slot_at before.slots i) refl is
     where
-      by : (s : Option (Gen × LinkBody K T)) → slot_at before.slots i ≡ s → Some d ≡ option_and_then (destination_of number) s → (e : Gen × LinkBody K T) × Waits (destination_of number) (slot_at before.slots) i e d
+      by : (s : Option (Gen × RawLink K T)) → slot_at before.slots i ≡ s → Some d ≡ option_and_then (destination_of number) s → (e : Gen × RawLink K T) × HasDestination (destination_of number) (slot_at before.slots) i e d
       by None at is = absurd (cc)
       by (Some e) at is = (e, record { stored = at; to = sym is })
 
@@ -220,34 +220,34 @@ module _ {Gen K T : Type 0} (number : K → Option ℕ) (g : Gen) (i d : ℕ) (b
   to_within = bounds.1
 
   pub entry_there : is_some (slot_at before.slots i) ≡ true
-  entry_there = ap (λ (o : Option (Gen × LinkBody K T)). is_some o) who.1.stored
+  entry_there = ap (λ (o : Option (Gen × RawLink K T)). is_some o) who.1.stored
 
   module _ (moved : exchanged ≡ with_placed_entry before i d g) (emptied : IsDirectedAt number d None exchanged after) where
-    stored_link : Some who.0.1 ≡ option_map (λ (e : Gen × LinkBody K T). e.1) (slot_at exchanged.slots d)
-    stored_link = sym (ap (λ (h : DetachedView Gen (LinkBody K T)). option_map (λ (e : Gen × LinkBody K T). e.1) (slot_at h.slots d)) moved
-        ∙ ap (option_map (λ (e : Gen × LinkBody K T). e.1)) (exchanged_entry number g before.slots i d who.0 who.1 bounds.0 bounds.1))
+    stored_link : Some who.0.1 ≡ option_map (λ (e : Gen × RawLink K T). e.1) (slot_at exchanged.slots d)
+    stored_link = sym (ap (λ (h : DetachedView Gen (RawLink K T)). option_map (λ (e : Gen × RawLink K T). e.1) (slot_at h.slots d)) moved
+        ∙ ap (option_map (λ (e : Gen × RawLink K T). e.1)) (exchanged_entry number g before.slots i d who.0 who.1 bounds.0 bounds.1))
 
     -- The link without its destination.
-    left : (w : LinkBody K T) × (number w.destination ≡ None) × (w ≡ record who.0.1 { destination = w.destination }) × (after ≡ held_with_value exchanged d w)
+    left : (w : RawLink K T) × (number w.destination ≡ None) × (w ≡ record who.0.1 { destination = w.destination }) × (after ≡ detached_with_value exchanged d w)
     left = emptied.there who.0.1 stored_link
 
     pub capacity_after : after.stack_capacity ≡ before.stack_capacity
-    capacity_after = ap (λ (h : DetachedView Gen (LinkBody K T)). h.stack_capacity) left.3 ∙ ap (λ (h : DetachedView Gen (LinkBody K T)). h.stack_capacity) moved
+    capacity_after = ap (λ (h : DetachedView Gen (RawLink K T)). h.stack_capacity) left.3 ∙ ap (λ (h : DetachedView Gen (RawLink K T)). h.stack_capacity) moved
 
     pub maximum_after : after.maximum ≡ before.maximum
-    maximum_after = ap (λ (h : DetachedView Gen (LinkBody K T)). h.maximum) left.3 ∙ ap (λ (h : DetachedView Gen (LinkBody K T)). h.maximum) moved
+    maximum_after = ap (λ (h : DetachedView Gen (RawLink K T)). h.maximum) left.3 ∙ ap (λ (h : DetachedView Gen (RawLink K T)). h.maximum) moved
 
     slots_after : two number g before.slots i d who.0 left.0 left.1 left.2 who.1 bounds.0 bounds.1 ≡ after.slots
-    slots_after = sym (ap (λ (h : DetachedView Gen (LinkBody K T)). h.slots) left.3 ∙ ap (λ (h : DetachedView Gen (LinkBody K T)). (held_with_value h d left.0).slots) moved)
+    slots_after = sym (ap (λ (h : DetachedView Gen (RawLink K T)). h.slots) left.3 ∙ ap (λ (h : DetachedView Gen (RawLink K T)). (detached_with_value h d left.0).slots) moved)
 
     pub one_less_after : waiting_count (destination_of number) after.slots + 1 ≡ waiting_count (destination_of number) before.slots
     one_less_after = subst (λ (s : Entries). waiting_count (destination_of number) s + 1 ≡ waiting_count (destination_of number) before.slots) slots_after
         (one_less number g before.slots i d who.0 left.0 left.1 left.2 who.1 bounds.0 bounds.1)
 
     -- No entry waits there, unless one `may`.
-    pub none_after : (may : Bool) → (may ≡ false → d ≡ i) → OnFalse may ((h : ℕ) (f : Gen × LinkBody K T) → Waits (destination_of number) (slot_at after.slots) i f h → ⊥)
+    pub none_after : (may : Bool) → (may ≡ false → d ≡ i) → OnFalse may ((h : ℕ) (f : Gen × RawLink K T) → HasDestination (destination_of number) (slot_at after.slots) i f h → ⊥)
     none_after true own = tt
-    none_after false own = subst (λ (s : Entries). (h : ℕ) (f : Gen × LinkBody K T) → Waits (destination_of number) (slot_at s) i f h → ⊥) slots_after
+    none_after false own = subst (λ (s : Entries). (h : ℕ) (f : Gen × RawLink K T) → HasDestination (destination_of number) (slot_at s) i f h → ⊥) slots_after
         (own_settles number g before.slots i d who.0 left.0 left.1 left.2 who.1 bounds.0 bounds.1 (own refl))
 
     pub fewer_after : (may : Bool) → OnTrue may (waiting_count (destination_of number) after.slots + 1 ≡ waiting_count (destination_of number) before.slots)

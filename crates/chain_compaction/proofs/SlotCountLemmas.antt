@@ -6,7 +6,7 @@ use Rattle.std.proofs.lemmas.List.Sums.{sum_by-set, sum_by-cons}
 use Rattle.chain_laws.specs.Chains.{Interlinks}
 use Rattle.chain_laws.proofs.InterlinkLemmas.Inverses.{if_same, if_other}
 use Rattle.arena_traits.specs.Arena.{slot_at, with_slot}
-use Rattle.chain_compaction.specs.Permutations.{Waits, waits, waiting_count}
+use Rattle.chain_compaction.specs.Permutations.{HasDestination, waits, waiting_count}
 use Rattle.chain_links.proofs.ArenaInsertionLemmas.{slot_at-written, slots-within}
 
 module _ {X : Type 0} where
@@ -37,7 +37,7 @@ mark goal slot = one_if (waits goal slot)
 
 module _ {E : Type 0} (goal : E → Option ℕ) where
   -- With a slot added in front, each entry waits at the next index.
-  waits-behind : (x : Option E) (xs : List (Option E)) (i : ℕ) (e : E) (d : ℕ) → Waits goal (slot_at xs) i e d → Waits goal (slot_at (x ∷ xs)) (suc i) e d
+  waits-behind : (x : Option E) (xs : List (Option E)) (i : ℕ) (e : E) (d : ℕ) → HasDestination goal (slot_at xs) i e d → HasDestination goal (slot_at (x ∷ xs)) (suc i) e d
   waits-behind x xs zero e d w = let none : None ≡ Some e = w.stored in absurd (cc)
   waits-behind x xs (suc k) e d w = record { stored = w.stored; to = w.to }
 
@@ -58,7 +58,7 @@ module _ {E : Type 0} (goal : E → Option ℕ) where
   mark-all (Some e) all = let a = all e refl in ap (λ (o : Option ℕ). one_if (is_some o)) a.1
 
   -- If no entry waits, the count is 0.
-  pub waiting-none : (xs : List (Option E)) → ((i d : ℕ) (e : E) → Waits goal (slot_at xs) i e d → ⊥) → waiting_count goal xs ≡ 0
+  pub waiting-none : (xs : List (Option E)) → ((i d : ℕ) (e : E) → HasDestination goal (slot_at xs) i e d → ⊥) → waiting_count goal xs ≡ 0
   waiting-none [] not = refl
   waiting-none (x ∷ xs) not =
       let rest : waiting_count goal xs ≡ 0 = waiting-none xs (λ i d e w. not (suc i) d e (waits-behind x xs i e d w)) in
@@ -66,7 +66,7 @@ module _ {E : Type 0} (goal : E → Option ℕ) where
       sum_by-cons (mark goal) x xs ∙ ap₂ (λ (a b : ℕ). a + b) first rest
 
   -- If the count is 0, no entry waits.
-  pub none-waiting : (xs : List (Option E)) → waiting_count goal xs ≡ 0 → (i d : ℕ) (e : E) → Waits goal (slot_at xs) i e d → ⊥
+  pub none-waiting : (xs : List (Option E)) → waiting_count goal xs ≡ 0 → (i d : ℕ) (e : E) → HasDestination goal (slot_at xs) i e d → ⊥
   none-waiting [] none i d e w = let within = stored-within [] i e w.stored in omega (arith, within.0, within.1)
   none-waiting (x ∷ xs) none zero d e w = let within = stored-within (x ∷ xs) zero e w.stored in omega (arith, within.0)
   none-waiting (x ∷ xs) none (suc zero) d e w =

@@ -9,7 +9,7 @@ use Rattle.arena_traits.specs.Advancers.{entries_at_or_above, entries_at_or_belo
 use Rattle.arena_traits.specs.declared.cursor.Cursor.{Cursor}
 use Rattle.arena_traits.specs.declared.cursor.Cursor.TheVariants.{Up, Down, Nowhere}
 use Rattle.chain_links.specs.ChainArena.{on_value, with_each, link_value, values_of}
-use Rattle.chain_links.specs.declared.links.LinkBody.{LinkBody}
+use Rattle.chain_links.specs.declared.links.RawLink.{RawLink}
 use Rattle.chain_links.specs.Links.{link_view, held_in, held_entries, links_view, pair_view, entry_views}
 
 module _ {Gen X Y : Type 0} (f : X → Y) where
@@ -73,16 +73,16 @@ module _ {Gen X Y : Type 0} (f : X → Y) where
 
 module _ {Gen K T : Type 0} (number : K → Option ℕ) where
   -- The values of the links.
-  pub values_of-links_view : (a : Arena Gen (LinkBody K T)) → with_each held_in a ≡ values_of (links_view number a)
+  pub values_of-links_view : (a : Arena Gen (RawLink K T)) → with_each held_in a ≡ values_of (links_view number a)
   values_of-links_view a = ap (λ (slots : List (Option (Gen × T))). let b : Arena Gen T = record (with_each held_in a) { slots = slots } in b) (twice a.slots) where
-    twice : (slots : List (Option (Gen × LinkBody K T))) → map (option_map (on_value held_in)) slots ≡ map (option_map (on_value link_value)) (map (option_map (pair_view number)) slots)
+    twice : (slots : List (Option (Gen × RawLink K T))) → map (option_map (on_value held_in)) slots ≡ map (option_map (on_value link_value)) (map (option_map (pair_view number)) slots)
     twice [] = refl
     twice (None ∷ slots) = ap (λ rest. None ∷ rest) (twice slots)
     twice (Some e ∷ slots) = ap (λ rest. Some (e.0, e.1.t) ∷ rest) (twice slots)
 
   -- The entries of an arena of links, as views and as values.
-  pub entry_views-all : (a : Arena Gen (LinkBody K T)) → entry_views number (entries a) ≡ entries (links_view number a)
+  pub entry_views-all : (a : Arena Gen (RawLink K T)) → entry_views number (entries a) ≡ entries (links_view number a)
   entry_views-all a = sym (entries-with_each (link_view number) a)
 
-  pub held_entries-all : (a : Arena Gen (LinkBody K T)) → held_entries (entries a) ≡ entries (values_of (links_view number a))
+  pub held_entries-all : (a : Arena Gen (RawLink K T)) → held_entries (entries a) ≡ entries (values_of (links_view number a))
   held_entries-all a = sym (entries-with_each held_in a) ∙ ap (λ v. entries v) (values_of-links_view a)

@@ -4,7 +4,7 @@ use Rattle.chain_laws.specs.Chains.{LinkMap, Chain, linear, cyclic, items, IsMem
 use Rattle.chain_laws.specs.ChainStart.{IsBack}
 use Rattle.chain_laws.proofs.ListLemmas.Members.{length_bound}
 use Rattle.chain_laws.proofs.ChainLemmas.Uniqueness.{chain_once, chain_valid}
-use Rattle.chain_links.specs.declared.links.LinkBody.{LinkBody}
+use Rattle.chain_links.specs.declared.links.RawLink.{RawLink}
 use Rattle.chain_compaction.specs.DetachedLinks.{body_interlinks, link_map_in}
 use Rattle.chain_compaction.specs.Destinations.{HasChainFrom}
 use Rattle.chain_links.proofs.ArenaInsertionLemmas.{slots-within}
@@ -27,7 +27,7 @@ module _ (link_map : LinkMap) (i steps here : ℕ) (back : IsBack link_map i ste
       omega arith
 
 -- A walk back takes fewer steps than there are slots.
-pub back_within : {Gen K T : Type 0} (number : K → Option ℕ) (slots : List (Option (Gen × LinkBody K T))) (i steps here : ℕ) → HasChainFrom (link_map_in number slots) i → IsBack (link_map_in number slots) i steps here
+pub back_within : {Gen K T : Type 0} (number : K → Option ℕ) (slots : List (Option (Gen × RawLink K T))) (i steps here : ℕ) → HasChainFrom (link_map_in number slots) i → IsBack (link_map_in number slots) i steps here
     → steps < length slots
 back_within {Gen} {K} {T} number slots i steps here found back = by found.1
   where

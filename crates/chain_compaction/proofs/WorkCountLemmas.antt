@@ -72,5 +72,5 @@ module _ {V T S Inx Gen Word : Type 0} where
   }
 
   -- The same slots.
-  pub slots_held : (a b : Compactor V T S Inx Gen Word) → b.held ≡ a.held → CountsWork a b → ChangesOnlySlots a b
-  slots_held a b same counts = record { capacity = λ j. (same j).stack_capacity; maximum = λ j. (same j).maximum; counts = counts }
+  pub slots_detached : (a b : Compactor V T S Inx Gen Word) → b.detached ≡ a.detached → CountsWork a b → ChangesOnlySlots a b
+  slots_detached a b same counts = record { capacity = λ j. (same j).stack_capacity; maximum = λ j. (same j).maximum; counts = counts }

@@ -3,50 +3,50 @@ use Rattle.std.specs.Prelude.{◌≡◌, ℕ, ◌+◌, ◌*◌, ◌-◌, ◌≤�
 use Rattle.std.specs.Bool.{OnTrue, OnFalse}
 use Rattle.arena_traits.specs.Arena.{slot_at}
 use Rattle.arena_base.specs.declared.compactor.Compactor.{Compactor}
-use Rattle.chain_links.specs.declared.links.LinkBody.{LinkBody}
+use Rattle.chain_links.specs.declared.links.RawLink.{RawLink}
 use Rattle.chain_links.specs.Links.{destination_of}
 use Rattle.chain_compaction.specs.DetachedLinks.{IsWork}
-use Rattle.chain_compaction.specs.Permutations.{Waits, WaitsWithin, IsInBlock, IsSettling, ListsWaiting, HaveMoved, CanMoveAll, waiting_count, Settles, IsWorkOn, IsWorkInRounds}
+use Rattle.chain_compaction.specs.Permutations.{HasDestination, WaitsWithin, IsInBlock, IsSettling, ListsWaiting, HaveMoved, CanMoveAll, waiting_count, Settles, IsWorkOn, IsWorkInRounds}
 use Rattle.chain_compaction.specs.WorkCounts.{ChangesOnlySlots}
 
 module _ {V S I W Gen K T : Type 0} (number : K → Option ℕ) where
   -- The number of links that wait to be moved to their destinations.
-  abbrev pub unplaced_count : Compactor V (LinkBody K T) S I Gen W → ℕ
-  unplaced_count now = waiting_count (destination_of number) now.held.slots
+  abbrev pub unplaced_count : Compactor V (RawLink K T) S I Gen W → ℕ
+  unplaced_count now = waiting_count (destination_of number) now.detached.slots
 
   -- `unplaced` links wait, each for an existing slot.
-  abbrev pub CanSettle : Compactor V (LinkBody K T) S I Gen W → ℕ → Type 0
+  abbrev pub CanSettle : Compactor V (RawLink K T) S I Gen W → ℕ → Type 0
   CanSettle now unplaced = record {
-    within : WaitsWithin (destination_of number) now.held.slots;
+    within : WaitsWithin (destination_of number) now.detached.slots;
     unplaced : unplaced ≡ unplaced_count now;
   }
 
   -- `unplaced` links wait, each for an existing slot, and there is a block of `count` slots after
   -- position `start`, at most 64. There are at most `greatest` slots.
-  abbrev pub CanSettleBlock : ℕ → ℕ → ℕ → Compactor V (LinkBody K T) S I Gen W → ℕ → Type 0
+  abbrev pub CanSettleBlock : ℕ → ℕ → ℕ → Compactor V (RawLink K T) S I Gen W → ℕ → Type 0
   CanSettleBlock greatest start count now unplaced = record {
     few : count ≤ 64;
-    block : start + count ≤ length now.held.slots;
-    fits : length now.held.slots ≤ greatest;
-    within : WaitsWithin (destination_of number) now.held.slots;
+    block : start + count ≤ length now.detached.slots;
+    fits : length now.detached.slots ≤ greatest;
+    within : WaitsWithin (destination_of number) now.detached.slots;
     unplaced : unplaced ≡ unplaced_count now;
   }
 
   -- All links, of which there are `links`, may be moved. There are at most `greatest` slots.
-  abbrev pub CanMoveLinks : ℕ → Compactor V (LinkBody K T) S I Gen W → ℕ → Type 0
+  abbrev pub CanMoveLinks : ℕ → Compactor V (RawLink K T) S I Gen W → ℕ → Type 0
   CanMoveLinks greatest now links = record {
-    fits : length now.held.slots ≤ greatest;
-    links : links ≡ count_by is_some now.held.slots;
-    can : CanMoveAll (destination_of number) now.held.slots;
+    fits : length now.detached.slots ≤ greatest;
+    links : links ≡ count_by is_some now.detached.slots;
+    can : CanMoveAll (destination_of number) now.detached.slots;
   }
 
   module _ (generation : Gen) where
     -- The link at i was moved to its destination, if it had one. `unplaced` links wait now, and
     -- none waits at i unless `may_wait`.
-    abbrev pub SettlesAt : ℕ → (old new : Compactor V (LinkBody K T) S I Gen W) → ℕ → Bool → Type 0
+    abbrev pub SettlesAt : ℕ → (old new : Compactor V (RawLink K T) S I Gen W) → ℕ → Bool → Type 0
     SettlesAt i old new unplaced may_wait = record {
-      settles : IsSettling (destination_of number) (Settles number generation) (λ (j : ℕ). j ≡ i) old.held.slots new.held.slots;
-      none : OnFalse may_wait ((d : ℕ) (e : Gen × LinkBody K T) → Waits (destination_of number) (slot_at new.held.slots) i e d → ⊥);
+      settles : IsSettling (destination_of number) (Settles number generation) (λ (j : ℕ). j ≡ i) old.detached.slots new.detached.slots;
+      none : OnFalse may_wait ((d : ℕ) (e : Gen × RawLink K T) → HasDestination (destination_of number) (slot_at new.detached.slots) i e d → ⊥);
       fewer : OnTrue may_wait (unplaced_count new + 1 ≡ unplaced_count old);
       kept : ChangesOnlySlots old new;
       work : IsWorkOn old.arena.now new.arena.now (unplaced_count old) (unplaced_count new) (if may_wait then 0 else 1);
@@ -55,10 +55,10 @@ module _ {V S I W Gen K T : Type 0} (number : K → Option ℕ) where
 
     -- The links at `before` slots of a block were moved, each once. `unplaced` links wait now. In
     -- the block they wait only at the first `left` positions of the list.
-    abbrev pub SettlesListed : ℕ → ℕ → (old new : Compactor V (LinkBody K T) S I Gen W) → ℕ → ℕ → List ℕ → ℕ → Type 0
+    abbrev pub SettlesListed : ℕ → ℕ → (old new : Compactor V (RawLink K T) S I Gen W) → ℕ → ℕ → List ℕ → ℕ → Type 0
     SettlesListed start count old new unplaced before positions left = record {
-      settles : IsSettling (destination_of number) (Settles number generation) (IsInBlock start count) old.held.slots new.held.slots;
-      lists : ListsWaiting (destination_of number) start count positions left (slot_at new.held.slots);
+      settles : IsSettling (destination_of number) (Settles number generation) (IsInBlock start count) old.detached.slots new.detached.slots;
+      lists : ListsWaiting (destination_of number) start count positions left (slot_at new.detached.slots);
       fewer : left ≤ before;
       moved : left + unplaced_count new ≤ unplaced_count old;
       kept : ChangesOnlySlots old new;
@@ -67,20 +67,20 @@ module _ {V S I W Gen K T : Type 0} (number : K → Option ℕ) where
     }
 
     -- Links were moved until none waits in the block. `unplaced` links wait now.
-    abbrev pub SettlesBlock : ℕ → ℕ → (old new : Compactor V (LinkBody K T) S I Gen W) → ℕ → Type 0
+    abbrev pub SettlesBlock : ℕ → ℕ → (old new : Compactor V (RawLink K T) S I Gen W) → ℕ → Type 0
     SettlesBlock start count old new unplaced = record {
-      settles : IsSettling (destination_of number) (Settles number generation) (IsInBlock start count) old.held.slots new.held.slots;
-      none : (j d : ℕ) (e : Gen × LinkBody K T) → IsInBlock start count j → Waits (destination_of number) (slot_at new.held.slots) j e d → ⊥;
+      settles : IsSettling (destination_of number) (Settles number generation) (IsInBlock start count) old.detached.slots new.detached.slots;
+      none : (j d : ℕ) (e : Gen × RawLink K T) → IsInBlock start count j → HasDestination (destination_of number) (slot_at new.detached.slots) j e d → ⊥;
       kept : ChangesOnlySlots old new;
       work : IsWorkInRounds old.arena.now new.arena.now (unplaced_count old) (unplaced_count new) count 0;
       unplaced : unplaced ≡ unplaced_count new;
     }
 
     -- All links were moved to their destinations, each with one placement.
-    abbrev pub MovesLinks : (old new : Compactor V (LinkBody K T) S I Gen W) → Type 0
+    abbrev pub MovesLinks : (old new : Compactor V (RawLink K T) S I Gen W) → Type 0
     MovesLinks old new = record {
-      moved : HaveMoved (destination_of number) (Settles number generation) (slot_at old.held.slots) (slot_at new.held.slots);
+      moved : HaveMoved (destination_of number) (Settles number generation) (slot_at old.detached.slots) (slot_at new.detached.slots);
       kept : ChangesOnlySlots old new;
-      work : IsWork old.arena.now new.arena.now (count_by is_some old.held.slots) (4 * count_by is_some old.held.slots + length old.held.slots);
-      length : length new.held.slots ≡ length old.held.slots;
+      work : IsWork old.arena.now new.arena.now (count_by is_some old.detached.slots) (4 * count_by is_some old.detached.slots + length old.detached.slots);
+      length : length new.detached.slots ≡ length old.detached.slots;
     }

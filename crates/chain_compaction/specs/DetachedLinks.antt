@@ -7,25 +7,25 @@ use Rattle.arena_traits.specs.Arena.{Arena, slot_at}
 use Rattle.arena_traits.specs.Entries.{entries_from, index_of}
 use Rattle.arena_base.specs.DetachedSlots.{DetachedView}
 use Rattle.arena_base.specs.GatheredSlots.{with_totals}
-use Rattle.chain_links.specs.declared.links.LinkBody.{LinkBody}
+use Rattle.chain_links.specs.declared.links.RawLink.{RawLink}
 use Rattle.chain_links.specs.ChainArena.{on_value, interlinks_in}
 use Rattle.chain_links.specs.Links.{link_view, held_in}
 
 module _ {Gen K T : Type 0} where
   -- The slots with the value of each link alone.
-  abbrev pub slot_values : List (Option (Gen × LinkBody K T)) → List (Option (Gen × T))
+  abbrev pub slot_values : List (Option (Gen × RawLink K T)) → List (Option (Gen × T))
   slot_values slots = map (option_map (on_value held_in)) slots
 
   -- The same for the slots that a compactor holds.
-  abbrev pub held_values : DetachedView Gen (LinkBody K T) → DetachedView Gen T
-  held_values held = record { slots = slot_values held.slots; stack_capacity = held.stack_capacity; maximum = held.maximum }
+  abbrev pub detached_values : DetachedView Gen (RawLink K T) → DetachedView Gen T
+  detached_values detached = record { slots = slot_values detached.slots; stack_capacity = detached.stack_capacity; maximum = detached.maximum }
 
   -- The interlinks of an entry.
-  abbrev pub body_interlinks : (K → Option ℕ) → Gen × LinkBody K T → Interlinks
+  abbrev pub body_interlinks : (K → Option ℕ) → Gen × RawLink K T → Interlinks
   body_interlinks number e = interlinks_in (link_view number e.1)
 
   -- The interlinks at each index of the slots.
-  abbrev pub link_map_in : (K → Option ℕ) → List (Option (Gen × LinkBody K T)) → LinkMap
+  abbrev pub link_map_in : (K → Option ℕ) → List (Option (Gen × RawLink K T)) → LinkMap
   link_map_in number slots i = option_map (body_interlinks number) (slot_at slots i)
 
 -- The link map after `prev` (`true`) or `next` (`false`) of the link at an index, if any, is set.

@@ -6,10 +6,10 @@ use Rattle.arena_base.specs.DetachedSlots.{DetachedView, IsPacked}
 use Rattle.arena_base.specs.declared.compactor.Compactor.{Compactor}
 use Rattle.chain_links.specs.ChainArena.{LinkView, ptr_at}
 use Rattle.chain_links.specs.Links.{StayAtRest}
-use Rattle.chain_links.specs.declared.links.LinkBody.{LinkBody}
+use Rattle.chain_links.specs.declared.links.RawLink.{RawLink}
 use Rattle.chain_compaction.specs.DetachedLinks.{link_map_in, IsWork}
 use Rattle.chain_compaction.specs.Layouts.{ReportsMoves}
-use Rattle.chain_compaction.specs.Destinations.{held_view, renamed_link}
+use Rattle.chain_compaction.specs.Destinations.{detached_view, renamed_link}
 use Rattle.chain_compaction.specs.WorkCounts.{CountsWork}
 
 -- In a run of links from position `start` on, the link at position k names the one at position
@@ -23,12 +23,12 @@ module _ {F P Gen K T : Type 0} (number : K → Option ℕ) (g : F → P → P �
   -- All `count` links are in the first slots, in their least-index order. Their interlinks are
   -- renumbered, they have one generation, and the visitor has seen them in that order. At most four
   -- touches per slot and `most` per link were counted.
-  pub record AreAllPlaced (generation : Gen) (f last : F) (old new : DetachedView Gen (LinkBody K T)) (before after : Arena Gen (LinkBody K T)) (count most : ℕ) : Type 0 where
+  pub record AreAllPlaced (generation : Gen) (f last : F) (old new : DetachedView Gen (RawLink K T)) (before after : Arena Gen (RawLink K T)) (count most : ℕ) : Type 0 where
     pub indexes : List ℕ
     pub order : IsLeastIndexOrder (link_map_in number old.slots) indexes
     pub counted : count ≡ length indexes
-    pub placed : (i d : ℕ) (x : Gen × LinkView T) → place_in indexes i ≡ Some d → slot_at (held_view number old).slots i ≡ Some x
-        → slot_at (held_view number new).slots d ≡ Some (generation, renamed_link (place_in indexes) x.1)
+    pub placed : (i d : ℕ) (x : Gen × LinkView T) → place_in indexes i ≡ Some d → slot_at (detached_view number old).slots i ≡ Some x
+        → slot_at (detached_view number new).slots d ≡ Some (generation, renamed_link (place_in indexes) x.1)
     pub packed : IsPacked new.slots count
     pub capacity : new.stack_capacity ≡ old.stack_capacity
     pub maximum : new.maximum ≡ old.maximum
@@ -37,9 +37,9 @@ module _ {F P Gen K T : Type 0} (number : K → Option ℕ) (g : F → P → P �
 
   -- A compactor has placed all links, of which there are `count`, and has counted the work. If no
   -- link had a destination, none has one now.
-  abbrev pub PlacesLinks : {S I W : Type 0} → Gen → F → F → (old new : Compactor P (LinkBody K T) S I Gen W) → ℕ → ℕ → Type 0
+  abbrev pub PlacesLinks : {S I W : Type 0} → Gen → F → F → (old new : Compactor P (RawLink K T) S I Gen W) → ℕ → ℕ → Type 0
   PlacesLinks generation f last old new count most = record {
-    placed : AreAllPlaced generation f last old.held new.held old.arena.now new.arena.now count most;
-    at_rest : StayAtRest number old.held.slots new.held.slots;
+    placed : AreAllPlaced generation f last old.detached new.detached old.arena.now new.arena.now count most;
+    at_rest : StayAtRest number old.detached.slots new.detached.slots;
     counts : CountsWork old new;
   }

@@ -2,7 +2,7 @@
 use Rattle.std.specs.Prelude.{◌≡◌, ◌≢◌, ℕ, ◌+◌, ◌*◌, ◌⊎◌, ◌<◌, ◌≤◌, Bool, List, length, slice_index, Option, None, Some, count_by, is_some}
 use Rattle.std.specs.Option.{option_and_then}
 use Rattle.arena_traits.specs.Arena.{Arena, slot_at}
-use Rattle.chain_links.specs.declared.links.LinkBody.{LinkBody}
+use Rattle.chain_links.specs.declared.links.RawLink.{RawLink}
 use Rattle.chain_compaction.specs.DetachedLinks.{IsWork}
 
 -- The index j is one of the `count` indexes after start.
@@ -13,7 +13,7 @@ IsInBlock start count j = (start < j) × (j ≤ start + count)
 -- there.
 module _ {E : Type 0} where
   -- The entry e is at i, and waits for d.
-  pub record Waits (goal : E → Option ℕ) (now : ℕ → Option E) (i : ℕ) (e : E) (d : ℕ) : Type 0 where
+  pub record HasDestination (goal : E → Option ℕ) (now : ℕ → Option E) (i : ℕ) (e : E) (d : ℕ) : Type 0 where
     pub stored : now i ≡ Some e
     pub to : goal e ≡ Some d
 
@@ -27,28 +27,28 @@ module _ {E : Type 0} where
   pub record StillWaits (goal : E → Option ℕ) (old now : ℕ → Option E) (j : ℕ) (e : E) : Type 0 where
     pub from : ℕ
     pub to : ℕ
-    pub waited : Waits goal old from e to
-    pub waits : Waits goal now j e to
+    pub waited : HasDestination goal old from e to
+    pub waits : HasDestination goal now j e to
 
   -- e is what an entry has become that waited for j.
   pub record HasArrived (goal : E → Option ℕ) (Settles : E → E → Type 0) (old : ℕ → Option E) (j : ℕ) (e : E) : Type 0 where
     pub from : ℕ
     pub entry : E
-    pub waited : Waits goal old from entry j
+    pub waited : HasDestination goal old from entry j
     pub settled : Settles entry e
 
   -- While entries move, each still waits or is settled at its destination.
   pub record IsMoving (goal : E → Option ℕ) (Settles : E → E → Type 0) (old now : ℕ → Option E) : Type 0 where
     -- No two entries wait for one slot.
-    pub apart : (i j d : ℕ) (e f : E) → Waits goal now i e d → Waits goal now j f d → i ≡ j
+    pub apart : (i j d : ℕ) (e f : E) → HasDestination goal now i e d → HasDestination goal now j f d → i ≡ j
     -- No entry in a slot that is waited for is settled.
-    pub unsettled : (i d : ℕ) (e f : E) → Waits goal now i e d → now d ≡ Some f → goal f ≢ None
-    pub there : (i d : ℕ) (e : E) → Waits goal old i e d → ((j : ℕ) × Waits goal now j e d) ⊎ IsSettledAt Settles now d e
+    pub unsettled : (i d : ℕ) (e f : E) → HasDestination goal now i e d → now d ≡ Some f → goal f ≢ None
+    pub there : (i d : ℕ) (e : E) → HasDestination goal old i e d → ((j : ℕ) × HasDestination goal now j e d) ⊎ IsSettledAt Settles now d e
     pub back : (j : ℕ) (e : E) → now j ≡ Some e → StillWaits goal old now j e ⊎ HasArrived goal Settles old j e
 
   -- All have moved: each destination holds its entry, settled, and there is no other entry.
   pub record HaveMoved (goal : E → Option ℕ) (Settles : E → E → Type 0) (old new : ℕ → Option E) : Type 0 where
-    pub there : (i d : ℕ) (e : E) → Waits goal old i e d → IsSettledAt Settles new d e
+    pub there : (i d : ℕ) (e : E) → HasDestination goal old i e d → IsSettledAt Settles new d e
     pub back : (j : ℕ) (e : E) → new j ≡ Some e → HasArrived goal Settles old j e
 
   -- Whether the entry in a slot waits.
@@ -61,7 +61,7 @@ module _ {E : Type 0} where
 
   -- Each entry that waits does so for an existing slot.
   pub record WaitsWithin (goal : E → Option ℕ) (slots : List (Option E)) : Type 0 where
-    pub within : (i d : ℕ) (e : E) → Waits goal (slot_at slots) i e d → (1 ≤ d) × (d ≤ length slots)
+    pub within : (i d : ℕ) (e : E) → HasDestination goal (slot_at slots) i e d → (1 ≤ d) × (d ≤ length slots)
 
   -- How the slots change while entries from the slots of a block move.
   pub record IsSettling (goal : E → Option ℕ) (Settles : E → E → Type 0) (block : ℕ → Type 0) (old now : List (Option E)) : Type 0 where
@@ -69,7 +69,7 @@ module _ {E : Type 0} where
     pub within : WaitsWithin goal old → WaitsWithin goal now
     pub length : length now ≡ length old
     -- An entry that waits outside the block waited there before.
-    pub stays : (j d : ℕ) (e : E) → (block j → ⊥) → Waits goal (slot_at now) j e d → Waits goal (slot_at old) j e d
+    pub stays : (j d : ℕ) (e : E) → (block j → ⊥) → HasDestination goal (slot_at now) j e d → HasDestination goal (slot_at old) j e d
 
   -- The first `left` positions are in the block of `count` slots after start, and include each at
   -- which an entry waits. Position p is that of index p + 1.
@@ -77,30 +77,30 @@ module _ {E : Type 0} where
     pub length : length positions ≡ 64
     pub few : left ≤ count
     pub within : (p : ℕ) → p < left → (start ≤ slice_index positions p) × (slice_index positions p < start + count)
-    pub listed : (j d : ℕ) (e : E) → IsInBlock start count j → Waits goal now j e d → (p : ℕ) × (p < left) × (j ≡ slice_index positions p + 1)
+    pub listed : (j d : ℕ) (e : E) → IsInBlock start count j → HasDestination goal now j e d → (p : ℕ) × (p < left) × (j ≡ slice_index positions p + 1)
 
   -- The slots after those up to k were processed: no entry waits there.
   pub record ArePassed (goal : E → Option ℕ) (Settles : E → E → Type 0) (old now : List (Option E)) (k : ℕ) : Type 0 where
     pub moves : IsMoving goal Settles (slot_at old) (slot_at now)
     pub within : WaitsWithin goal now
     pub length : length now ≡ length old
-    pub passed : (j d : ℕ) (e : E) → j ≤ k → Waits goal (slot_at now) j e d → ⊥
+    pub passed : (j d : ℕ) (e : E) → j ≤ k → HasDestination goal (slot_at now) j e d → ⊥
 
   -- All entries may move: each waits for an existing slot, and no two for the same one.
   pub record CanMoveAll (goal : E → Option ℕ) (old : List (Option E)) : Type 0 where
-    pub apart : (i j d : ℕ) (e f : E) → Waits goal (slot_at old) i e d → Waits goal (slot_at old) j f d → i ≡ j
+    pub apart : (i j d : ℕ) (e f : E) → HasDestination goal (slot_at old) i e d → HasDestination goal (slot_at old) j f d → i ≡ j
     pub within : WaitsWithin goal old
     pub each : (i : ℕ) (e : E) → slot_at old i ≡ Some e → (d : ℕ) × (goal e ≡ Some d)
 
   -- Every destination is at most n, and each index from 1 to n is one.
   pub record AreMovedToFront (goal : E → Option ℕ) (old : List (Option E)) (n : ℕ) : Type 0 where
-    pub few : (i d : ℕ) (e : E) → Waits goal (slot_at old) i e d → d ≤ n
-    pub each : (d : ℕ) → 1 ≤ d → d ≤ n → (i : ℕ) × (e : E) × Waits goal (slot_at old) i e d
+    pub few : (i d : ℕ) (e : E) → HasDestination goal (slot_at old) i e d → d ≤ n
+    pub each : (d : ℕ) → 1 ≤ d → d ≤ n → (i : ℕ) × (e : E) × HasDestination goal (slot_at old) i e d
 
 module _ {Gen K T : Type 0} where
   -- What an entry becomes at its destination: it has the generation and no destination, and nothing
   -- else changed.
-  pub record Settles (number : K → Option ℕ) (g : Gen) (e f : Gen × LinkBody K T) : Type 0 where
+  pub record Settles (number : K → Option ℕ) (g : Gen) (e f : Gen × RawLink K T) : Type 0 where
     pub generation : f.0 ≡ g
     pub empty : number f.1.destination ≡ None
     pub rest : f.1 ≡ record e.1 { destination = f.1.destination }

@@ -5,7 +5,7 @@ use Rattle.chain_laws.specs.Chains.{prev_of, next_of}
 use Rattle.arena_traits.specs.Arena.{slot_at}
 use Rattle.arena_base.specs.DetachedSlots.{with_touch}
 use Rattle.arena_base.specs.declared.compactor.Compactor.{Compactor}
-use Rattle.chain_links.specs.declared.links.LinkBody.{LinkBody}
+use Rattle.chain_links.specs.declared.links.RawLink.{RawLink}
 use Rattle.chain_links.specs.Links.{destination_at}
 use Rattle.chain_compaction.specs.DetachedLinks.{link_map_in, IsWork}
 use Rattle.chain_compaction.specs.WorkCounts.{CountsWork}
@@ -18,24 +18,24 @@ module _ {P T S Inx Gen Word : Type 0} where
 
   -- A compactor has read a slot: arena and slots are the same, and one touch was counted.
   pub record HasReadSlot (old new : Compactor P T S Inx Gen Word) : Type 0 where
-    pub held : new.held ≡ old.held
+    pub detached : new.detached ≡ old.detached
     pub arena : new.arena.now ≡ with_touch old.arena.now
     pub counts : CountsWork old new
 
   -- A compactor has read slots: arena and slots are the same, and at most so many touches were
   -- counted.
   pub record HasReadSlots (old new : Compactor P T S Inx Gen Word) (most : ℕ) : Type 0 where
-    pub held : new.held ≡ old.held
+    pub detached : new.detached ≡ old.detached
     pub work : IsWork old.arena.now new.arena.now 0 most
     pub counts : CountsWork old new
 
 -- A compactor has read the link at i: its generation, interlinks and destination, or none if there
 -- is no link. `number` and `packed_number` give the number of an index.
-abbrev pub HasReadLink : {P S Inx Gen Word K T : Type 0} → (Inx → ℕ) → (K → Option ℕ) → (old new : Compactor P (LinkBody K T) S Inx Gen Word) → Inx → Option Gen → (prev next destination : Option Inx) → Type 0
+abbrev pub HasReadLink : {P S Inx Gen Word K T : Type 0} → (Inx → ℕ) → (K → Option ℕ) → (old new : Compactor P (RawLink K T) S Inx Gen Word) → Inx → Option Gen → (prev next destination : Option Inx) → Type 0
 HasReadLink number packed_number old new i was before after target = record {
   was_read : HasReadSlot old new;
-  generation : was ≡ option_map (λ e. e.0) (slot_at old.held.slots (number i));
-  prev : option_map number before ≡ prev_of (link_map_in packed_number old.held.slots) (number i);
-  next : option_map number after ≡ next_of (link_map_in packed_number old.held.slots) (number i);
-  destination : option_map number target ≡ destination_at packed_number old.held.slots (number i);
+  generation : was ≡ option_map (λ e. e.0) (slot_at old.detached.slots (number i));
+  prev : option_map number before ≡ prev_of (link_map_in packed_number old.detached.slots) (number i);
+  next : option_map number after ≡ next_of (link_map_in packed_number old.detached.slots) (number i);
+  destination : option_map number target ≡ destination_at packed_number old.detached.slots (number i);
 }

@@ -25,6 +25,6 @@ pub record CountsWork {V T S Inx Gen Word : Type 0} (old new : Compactor V T S I
 -- Nothing changed but slots and counts: a compactor of the same arena has the same capacity and
 -- maximum, and still has counted all work if it had before.
 pub record ChangesOnlySlots {V T S Inx Gen Word : Type 0} (old new : Compactor V T S Inx Gen Word) : Type 0 where
-  pub capacity : new.held.stack_capacity ≡ old.held.stack_capacity
-  pub maximum : new.held.maximum ≡ old.held.maximum
+  pub capacity : new.detached.stack_capacity ≡ old.detached.stack_capacity
+  pub maximum : new.detached.maximum ≡ old.detached.maximum
   pub counts : CountsWork old new

@@ -7,7 +7,7 @@ ghost use Rattle.chain_compaction.specs.WorkCounts.{CountsWork};
 ghost use Rattle.chain_compaction.specs.Destinations.{HasChainFrom, number_after, IsRingClosed, FindsStart, CanNumberFrom, NumbersChain, NumbersAll};
 ghost use Rattle.chain_compaction.specs.LinkPasses.{CanArrange};
 
-use crate::read_ahead::{ReadAhead, read_ahead, read_on};
+use crate::read_ahead::{ReadAhead, prefetch_next, read_ahead};
 use crate::slot_access::{LinkSlot, read_link, relink_at};
 use crate::visitor::Visitor;
 use arena_base::{Compactor, SlotAccess, assume_proved, inx_at, proved_unreachable};
@@ -25,7 +25,7 @@ fn start_at<P: PtrKey, T: Drop, S: SlotStack<Item = LinkSlot<P, T>>>(
     i: P::Inx,
     limit: usize,
 ) -> (P::Inx, usize)
-    requires chain { HasChainFrom (link_map_in P.Inx.packed_number compactor.old.held.slots)
+    requires chain { HasChainFrom (link_map_in P.Inx.packed_number compactor.old.detached.slots)
         (P.Inx.number i) }
     ensures { FindsStart P.Inx.packed_number compactor.old compactor.new (P.Inx.number i)
         (P.Inx.number result.0) limit result.1 }
@@ -43,7 +43,7 @@ fn start_at<P: PtrKey, T: Drop, S: SlotStack<Item = LinkSlot<P, T>>>(
             }
             None => return (at, reads),
         }
-        let (next, count) = read_on(compactor, on, limit - reads);
+        let (next, count) = prefetch_next(compactor, on, limit - reads);
         on = next;
         reads += count;
     }
@@ -53,7 +53,7 @@ fn start_at<P: PtrKey, T: Drop, S: SlotStack<Item = LinkSlot<P, T>>>(
 // Returns the destination of the link after the one just numbered, where `before` links precede the
 // chain and `count` are numbered. After the last link of a cyclic chain it is the destination of
 // the first.
-fn after_it<P: PtrKey>(
+fn next_destination<P: PtrKey>(
     on: Option<P::Inx>,
     named: Option<P::Inx>,
     before: usize,
@@ -80,8 +80,8 @@ fn close_ring<P: PtrKey, T: Drop, S: SlotStack<Item = LinkSlot<P, T>>>(
     last: Option<P::Inx>,
 )
     ensures closed { IsRingClosed P.Inx.packed_number (P.Inx.number start)
-        (option_map P.Inx.number named) (option_map P.Inx.number last) compactor.old.held
-        compactor.new.held }
+        (option_map P.Inx.number named) (option_map P.Inx.number last) compactor.old.detached
+        compactor.new.detached }
     ensures work { IsWork compactor.old.arena.now compactor.new.arena.now 0 1 }
     ensures counts { CountsWork compactor.old compactor.new }
 {
@@ -122,7 +122,7 @@ fn number_chain<P: PtrKey, T: Drop, S: SlotStack<Item = LinkSlot<P, T>>, V: Visi
         let link = read_link(compactor, i);
         named = link.next;
         on = step_on(start, named);
-        let after = after_it::<P>(on, named, before, count);
+        let after = next_destination::<P>(on, named, before, count);
         relink_at(compactor, i, prev, after, destination);
         prev = Some(destination);
         match link.generation {

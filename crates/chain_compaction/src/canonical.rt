@@ -7,7 +7,7 @@ ghost use Rattle.chain_compaction.specs.LinkPasses.{CanArrange};
 ghost use Rattle.chain_compaction.specs.OrderedLinks.{PlacesLinks};
 
 use crate::assign_destinations::number_all;
-use crate::in_order::{is_in_order, renew_all};
+use crate::in_order::{is_in_order, regenerate_all};
 use crate::permute::move_all;
 use crate::slot_access::LinkSlot;
 use crate::visitor::Visitor;
@@ -30,7 +30,7 @@ fn place_all<P: PtrKey, T: Drop, S: SlotStack<Item = LinkSlot<P, T>>, V: Visitor
         compactor.old compactor.new result.1 10 }
 {
     if is_in_order(compactor, links) {
-        renew_all(compactor, generation, visitor)
+        regenerate_all(compactor, generation, visitor)
     } else {
         let (visitor, count) = number_all(compactor, links, generation, visitor);
         move_all(compactor, links, generation);

@@ -65,7 +65,7 @@ fn move_link<P: PtrKey, T: Drop, S: SlotStack<Item = LinkSlot<P, T>>>(
         Some(was) => was,
         None => return None,
     };
-    compactor.bring(from, to, generation);
+    compactor.move_to_free_slot(from, to, generation);
     set_neighbor(compactor, index_now(link.prev, from, to), false, to);
     set_neighbor(compactor, index_now(link.next, from, to), true, to);
     Some(was)

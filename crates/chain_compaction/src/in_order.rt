@@ -54,7 +54,7 @@ pub(crate) fn is_in_order<P: PtrKey, T: Drop, S: SlotStack<Item = LinkSlot<P, T>
 ) -> bool
     requires { AreSoundLinks P.Inx.packed_number P.Inx.greatest compactor.old }
     ensures read { HasReadSlots compactor.old compactor.new links }
-    ensures unread { links < length compactor.old.held.slots → compactor.new ≡ compactor.old }
+    ensures unread { links < length compactor.old.detached.slots → compactor.new ≡ compactor.old }
     ensures canonical { OnTrue result (AreInOrder P.Inx.packed_number compactor.old) }
 {
     let slots = compactor.slots();
@@ -82,7 +82,12 @@ pub(crate) fn is_in_order<P: PtrKey, T: Drop, S: SlotStack<Item = LinkSlot<P, T>
 ///
 /// The links are arranged canonically already. Each is placed once, and the visitor sees its old
 /// and new pointer, in ascending order of index.
-pub(crate) fn renew_all<P: PtrKey, T: Drop, S: SlotStack<Item = LinkSlot<P, T>>, V: Visitor<P>>(
+pub(crate) fn regenerate_all<
+    P: PtrKey,
+    T: Drop,
+    S: SlotStack<Item = LinkSlot<P, T>>,
+    V: Visitor<P>,
+>(
     compactor: &mut Compactor<'_, P, LinkNoGen<P, T>, S>,
     generation: P::Gen,
     mut visitor: V,

@@ -17,7 +17,7 @@ use chain_links::LinkNoGen;
 //
 // The destination is removed after the exchange: a write just before it would delay its reads.
 #[inline(always)]
-fn settle_once<P: PtrKey, T: Drop, S: SlotStack<Item = LinkSlot<P, T>>>(
+fn move_to_destination<P: PtrKey, T: Drop, S: SlotStack<Item = LinkSlot<P, T>>>(
     compactor: &mut Compactor<'_, P, LinkNoGen<P, T>, S>,
     i: P::Inx,
     generation: P::Gen,
@@ -41,7 +41,7 @@ fn settle_once<P: PtrKey, T: Drop, S: SlotStack<Item = LinkSlot<P, T>>>(
 // Moves the link at each slot of a block once, if it has a destination. Returns a list of positions
 // and its length: those of the slots at which a link may still wait.
 #[inline(always)]
-fn settle_each<P: PtrKey, T: Drop, S: SlotStack<Item = LinkSlot<P, T>>>(
+fn move_block_once<P: PtrKey, T: Drop, S: SlotStack<Item = LinkSlot<P, T>>>(
     compactor: &mut Compactor<'_, P, LinkNoGen<P, T>, S>,
     start: usize,
     count: usize,
@@ -58,7 +58,7 @@ fn settle_each<P: PtrKey, T: Drop, S: SlotStack<Item = LinkSlot<P, T>>>(
     for k in 0..count {
         let position = start + k;
         assume_proved(position < compactor.slots());
-        if settle_once(compactor, inx_at::<P>(position), generation, unplaced) {
+        if move_to_destination(compactor, inx_at::<P>(position), generation, unplaced) {
             positions[left] = position;
             left += 1;
         }
@@ -71,7 +71,7 @@ fn settle_each<P: PtrKey, T: Drop, S: SlotStack<Item = LinkSlot<P, T>>>(
 //
 // Each position stands for a slot of the block of `count` slots after position `start`.
 #[inline(always)]
-fn settle_round<P: PtrKey, T: Drop, S: SlotStack<Item = LinkSlot<P, T>>>(
+fn move_waiting<P: PtrKey, T: Drop, S: SlotStack<Item = LinkSlot<P, T>>>(
     compactor: &mut Compactor<'_, P, LinkNoGen<P, T>, S>,
     positions: &mut [usize; 64],
     start: usize,
@@ -83,7 +83,7 @@ fn settle_round<P: PtrKey, T: Drop, S: SlotStack<Item = LinkSlot<P, T>>>(
     requires can { CanSettleBlock P.Inx.packed_number P.Inx.greatest start count compactor.old
         unplaced.old }
     requires lists { ListsWaiting (destination_of P.Inx.packed_number) start count positions.old
-        left (slot_at compactor.old.held.slots) }
+        left (slot_at compactor.old.detached.slots) }
     ensures { SettlesListed P.Inx.packed_number generation start count compactor.old compactor.new
         unplaced.new left positions.new result }
 {
@@ -91,7 +91,7 @@ fn settle_round<P: PtrKey, T: Drop, S: SlotStack<Item = LinkSlot<P, T>>>(
     let mut turn = 0;
     while turn < rest {
         assume_proved(positions[turn] < compactor.slots());
-        if settle_once(
+        if move_to_destination(
             compactor,
             inx_at::<P>(positions[turn]),
             generation,
@@ -113,7 +113,7 @@ fn settle_round<P: PtrKey, T: Drop, S: SlotStack<Item = LinkSlot<P, T>>>(
 // at its destination is placed there in the first turn, and its slot is not read again. From
 // 2,097,152 slots on, which exceed the cache, the destinations of a round are read before it.
 #[inline(always)]
-fn settle_block<P: PtrKey, T: Drop, S: SlotStack<Item = LinkSlot<P, T>>>(
+fn move_block<P: PtrKey, T: Drop, S: SlotStack<Item = LinkSlot<P, T>>>(
     compactor: &mut Compactor<'_, P, LinkNoGen<P, T>, S>,
     start: usize,
     count: usize,
@@ -125,11 +125,11 @@ fn settle_block<P: PtrKey, T: Drop, S: SlotStack<Item = LinkSlot<P, T>>>(
     ensures { SettlesBlock P.Inx.packed_number generation start count compactor.old compactor.new
         unplaced.new }
 {
-    let (mut positions, mut left) = settle_each(compactor, start, count, generation, unplaced);
+    let (mut positions, mut left) = move_block_once(compactor, start, count, generation, unplaced);
     let mut reads_ahead = compactor.slots() >= 2_097_152;
     while left > 0 {
         reads_ahead = read_destinations(compactor, &positions, left, reads_ahead);
-        left = settle_round(
+        left = move_waiting(
             compactor,
             &mut positions,
             start,
@@ -159,7 +159,7 @@ pub fn move_all<P: PtrKey, T: Drop, S: SlotStack<Item = LinkSlot<P, T>>>(
     let mut unplaced = links;
     while start < slots && unplaced > 0 {
         let count = (slots - start).min(64);
-        settle_block(compactor, start, count, generation, &mut unplaced);
+        move_block(compactor, start, count, generation, &mut unplaced);
         start += count;
     }
 }

@@ -76,7 +76,7 @@ fn are_close(a: Option<usize>, b: Option<usize>) -> bool {
 // Returns whether to walk from the link at `i`, and the number of the link after it. The link has
 // to be without a destination, and the link after it not close to `last`, the one after the last
 // link listed: chains that grew in turn lie beside each other.
-fn walk_from<P: PtrKey, T: Drop, S: SlotStack<Item = LinkSlot<P, T>>>(
+fn prefetch_candidate<P: PtrKey, T: Drop, S: SlotStack<Item = LinkSlot<P, T>>>(
     compactor: &mut Compactor<'_, P, LinkNoGen<P, T>, S>,
     i: P::Inx,
     last: Option<usize>,
@@ -90,7 +90,7 @@ fn walk_from<P: PtrKey, T: Drop, S: SlotStack<Item = LinkSlot<P, T>>>(
 
 // Lists the numbers of up to 16 links to walk from, of the 64 slots from position `k` on. Returns
 // the list, its length, and the number of slots that were read.
-fn fresh_links<P: PtrKey, T: Drop, S: SlotStack<Item = LinkSlot<P, T>>>(
+fn unnumbered_links<P: PtrKey, T: Drop, S: SlotStack<Item = LinkSlot<P, T>>>(
     compactor: &mut Compactor<'_, P, LinkNoGen<P, T>, S>,
     k: usize,
 ) -> ([usize; 16], usize, usize)
@@ -107,7 +107,7 @@ fn fresh_links<P: PtrKey, T: Drop, S: SlotStack<Item = LinkSlot<P, T>>>(
         if count == 16 {
             return (links, count, j);
         }
-        let (is_listed, after) = walk_from(compactor, inx_at::<P>(k + j), last);
+        let (is_listed, after) = prefetch_candidate(compactor, inx_at::<P>(k + j), last);
         if is_listed {
             links[count] = k + j + 1;
             count += 1;
@@ -184,7 +184,7 @@ pub(crate) fn read_ahead<P: PtrKey, T: Drop, S: SlotStack<Item = LinkSlot<P, T>>
     if !is_far::<P>(k, prev) && !is_far::<P>(k, next) {
         return ahead;
     }
-    let (links, count, slots) = fresh_links(compactor, k);
+    let (links, count, slots) = unnumbered_links(compactor, k);
     let forward = read_along(compactor, links, count, true, 8_000);
     let backward = read_along(compactor, links, count, false, 8_000);
     ReadAhead {
@@ -196,7 +196,7 @@ pub(crate) fn read_ahead<P: PtrKey, T: Drop, S: SlotStack<Item = LinkSlot<P, T>>
 /// Reads the link at `on`, if there is one and reads are `left`. Returns the index after it, and
 /// the number of links that were read.
 #[inline(always)]
-pub(crate) fn read_on<P: PtrKey, T: Drop, S: SlotStack<Item = LinkSlot<P, T>>>(
+pub(crate) fn prefetch_next<P: PtrKey, T: Drop, S: SlotStack<Item = LinkSlot<P, T>>>(
     compactor: &mut Compactor<'_, P, LinkNoGen<P, T>, S>,
     on: Option<P::Inx>,
     left: usize,
@@ -213,7 +213,7 @@ pub(crate) fn read_on<P: PtrKey, T: Drop, S: SlotStack<Item = LinkSlot<P, T>>>(
 // Reads the link at position `k`, and then the one at its destination. Returns whether the second
 // has a destination, too.
 #[inline(always)]
-fn leads_on<P: PtrKey, T: Drop, S: SlotStack<Item = LinkSlot<P, T>>>(
+fn has_further_destination<P: PtrKey, T: Drop, S: SlotStack<Item = LinkSlot<P, T>>>(
     compactor: &mut Compactor<'_, P, LinkNoGen<P, T>, S>,
     k: usize,
 ) -> bool
@@ -244,7 +244,7 @@ pub(crate) fn read_destinations<P: PtrKey, T: Drop, S: SlotStack<Item = LinkSlot
     }
     let mut any = false;
     for p in 0..left {
-        if leads_on(compactor, positions[p]) {
+        if has_further_destination(compactor, positions[p]) {
             any = true;
         }
     }

@@ -60,9 +60,9 @@ pub(crate) fn remove_destination_at<P: PtrKey, T: Drop, S: SlotStack<Item = Link
     compactor: &mut Compactor<'_, P, LinkNoGen<P, T>, S>,
     i: P::Inx,
 )
-    requires { IsSome (slot_at compactor.old.held.slots (P.Inx.number i)) }
+    requires { IsSome (slot_at compactor.old.detached.slots (P.Inx.number i)) }
     ensures directed { IsDirectedAt P.Inx.packed_number (P.Inx.number i) None
-        compactor.old.held compactor.new.held }
+        compactor.old.detached compactor.new.detached }
     ensures touched { HasTouchedSlot compactor.old compactor.new }
 {
     match compactor.value_mut(i) {
@@ -82,7 +82,7 @@ pub(crate) fn relink_at<P: PtrKey, T: Drop, S: SlotStack<Item = LinkSlot<P, T>>>
     ensures relinked { IsRelinkedAt P.Inx.packed_number (P.Inx.number i)
         (option_map P.Inx.number prev)
         (option_map P.Inx.number next) (Some (P.Inx.number destination))
-        compactor.old.held compactor.new.held }
+        compactor.old.detached compactor.new.detached }
     ensures touched { HasTouchedSlot compactor.old compactor.new }
 {
     match compactor.value_mut(i) {

@@ -17,7 +17,7 @@ use Rattle.chain_links.specs.CallEffects.{BreaksNext, BreaksPrev, ConnectsLinks}
 use Rattle.chain_links.specs.ChainArena.{CanConnect, ptr_at}
 use Rattle.chain_traits.proofs.GenericRemovalLemmas.{same_entry}
 use Rattle.chain_examples.specs.Lists.{Item, AreEntries, indexes, IsText, KeepsWithout}
-use Rattle.chain_examples.specs.Texts.{IsTogether, EndsIn, BeginsWith, AreJoined}
+use Rattle.chain_examples.specs.Texts.{IsTogether, IsSplitAfter, IsSplitBefore, AreJoined}
 use Rattle.chain_examples.proofs.ItemListLemmas.{are_stored-append, are_stored-left, are_stored-right}
 use Rattle.chain_examples.proofs.ListChangeLemmas.{parts, whole, stays}
 
@@ -121,11 +121,11 @@ module _ {A Gen T : Type 0} {view : A → ArenaView Gen T} {entry : A → ℕ �
 
   module _ (old new : A) (p : ℕ × Gen) where
     -- A break after `p` ends its text in `p`.
-    pub ends_in : Breaks old new p (next_of (interlinks old) p.0) (λ b. Cuts (interlinks old) (interlinks new) p.0 b) → EndsIn state interlinks old new p
-    ends_in (unbroken none stay) t before [] is = (subst (λ (a : A). IsText state interlinks a (before ++ (p, t) ∷ [])) (sym stay) is, λ something. absurd (something refl))
-    ends_in (unbroken none stay) t before (f ∷ fs) is = absurd (let one = ap next_in (place old p t before (f ∷ fs) is) in let no = none (in_a_text old p t before (f ∷ fs) is) in cc)
-    ends_in (broken b next cuts same) t before [] is = absurd (let no = ap next_in (place old p t before [] is) in cc)
-    ends_in (broken b next cuts same) t before (f ∷ fs) is =
+    pub is_split_after : Breaks old new p (next_of (interlinks old) p.0) (λ b. Cuts (interlinks old) (interlinks new) p.0 b) → IsSplitAfter state interlinks old new p
+    is_split_after (unbroken none stay) t before [] is = (subst (λ (a : A). IsText state interlinks a (before ++ (p, t) ∷ [])) (sym stay) is, λ something. absurd (something refl))
+    is_split_after (unbroken none stay) t before (f ∷ fs) is = absurd (let one = ap next_in (place old p t before (f ∷ fs) is) in let no = none (in_a_text old p t before (f ∷ fs) is) in cc)
+    is_split_after (broken b next cuts same) t before [] is = absurd (let no = ap next_in (place old p t before [] is) in cc)
+    is_split_after (broken b next cuts same) t before (f ∷ fs) is =
         let b_is : b ≡ f.0.0 = one_some (sym next ∙ ap next_in (place old p t before (f ∷ fs) is)) in
         let two = (subst (λ (j : ℕ). Cuts (interlinks old) (interlinks new) p.0 j) b_is cuts).two (indexes before) (indexes fs) (parts state interlinks linear old before ((p, t) ∷ f ∷ fs) is.chain) in
         let right = are_stored-right (entry old) before ((p, t) ∷ f ∷ fs) is.are_stored in (
@@ -141,11 +141,11 @@ module _ {A Gen T : Type 0} {view : A → ArenaView Gen T} {entry : A → ℕ �
         stays state interlinks linear old new same xs is.are_stored (cut_keeps_others (interlinks old) (interlinks new) p.0 b agrees next cuts (linear (indexes xs)) (inl absent.0) is.chain)
 
     -- A break before `p` makes its text begin with `p`.
-    pub begins_with : Breaks old new p (prev_of (interlinks old) p.0) (λ a. Cuts (interlinks old) (interlinks new) a p.0) → BeginsWith state interlinks old new p
-    begins_with (unbroken none stay) t [] after is = (subst (λ (a : A). IsText state interlinks a ((p, t) ∷ after)) (sym stay) is, λ something. absurd (something refl))
-    begins_with (unbroken none stay) t (e ∷ es) after is = absurd (let one = has_previous old p t e es after is in let no = none (in_a_text old p t (e ∷ es) after is) in let both = sym one.1 ∙ no in cc)
-    begins_with (broken a prev cuts same) t [] after is = absurd (let no = ap prev_in (place old p t [] after is) in let both = sym prev ∙ no in cc)
-    begins_with (broken a prev cuts same) t (e ∷ es) after is =
+    pub is_split_before : Breaks old new p (prev_of (interlinks old) p.0) (λ a. Cuts (interlinks old) (interlinks new) a p.0) → IsSplitBefore state interlinks old new p
+    is_split_before (unbroken none stay) t [] after is = (subst (λ (a : A). IsText state interlinks a ((p, t) ∷ after)) (sym stay) is, λ something. absurd (something refl))
+    is_split_before (unbroken none stay) t (e ∷ es) after is = absurd (let one = has_previous old p t e es after is in let no = none (in_a_text old p t (e ∷ es) after is) in let both = sym one.1 ∙ no in cc)
+    is_split_before (broken a prev cuts same) t [] after is = absurd (let no = ap prev_in (place old p t [] after is) in let both = sym prev ∙ no in cc)
+    is_split_before (broken a prev cuts same) t (e ∷ es) after is =
         let l = last_apart e es in
         let both = behind l.0 l.1 (subst (λ (xs : List (Item Gen T)). IsText state interlinks old (xs ++ (p, t) ∷ after)) l.2 is) in
         (both.0, λ something. subst (IsText state interlinks new) (sym l.2) both.1)

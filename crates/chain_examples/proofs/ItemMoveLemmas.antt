@@ -8,7 +8,7 @@ use Rattle.chain_laws.proofs.ListLemmas.Members.{AreDistinct-apart}
 use Rattle.chain_laws.proofs.InterlinkLemmas.Inverses.{one_some}
 use Rattle.arena_traits.specs.Entries.{ArenaView, ArenaState, index_of, first_key, last_key}
 use Rattle.chain_examples.specs.Lists.{Item, indexes, IsText, KeepsWithout}
-use Rattle.chain_examples.specs.Texts.{EndsIn, BeginsWith, AreJoined, IsClosed, IsSeparated, IsPutAfter, IsMovedAfter}
+use Rattle.chain_examples.specs.Texts.{IsSplitAfter, IsSplitBefore, AreJoined, IsClosed, IsSeparated, IsPutAfter, IsMovedAfter}
 use Rattle.chain_examples.proofs.DocumentLemmas.{StoredWith, last_apart, last_is, filled, apart, has_left, has_right, has_parts}
 
 module _ {Gen T : Type 0} where
@@ -83,7 +83,7 @@ module _ {A Gen T : Type 0} {view : A → ArenaView Gen T} {entry : A → ℕ �
 
   module _ (old begun ended new : A) (p : ℕ × Gen) (u v : Option (ℕ × Gen)) where
     -- Breaks on both sides of `p` and a join of its neighbors make `p` a text of its own.
-    pub stored_alone : BeginsWith state interlinks old begun p → EndsIn state interlinks begun ended p → KeepsWithout state interlinks linear begun ended (p ∷ []) → IsClosed state interlinks ended new u v
+    pub stored_alone : IsSplitBefore state interlinks old begun p → IsSplitAfter state interlinks begun ended p → KeepsWithout state interlinks linear begun ended (p ∷ []) → IsClosed state interlinks ended new u v
         → ((t : T) (before after : List (Item Gen T)) → IsText state interlinks old (before ++ (p, t) ∷ after) → u ≡ last_key before)
         → ((t : T) (before after : List (Item Gen T)) → IsText state interlinks old (before ++ (p, t) ∷ after) → v ≡ first_key after) → IsSeparated state interlinks old new p
     stored_alone begins ends kept closed u_is v_is t before after is =
@@ -92,15 +92,15 @@ module _ {A Gen T : Type 0} {view : A → ArenaView Gen T} {entry : A → ℕ �
         let two = apart before (p, t) after is.chain.1 in
         let last = u_is t before after is in
         let first = v_is t before after is in (
-          closed.others ((p, t) ∷ []) (off u (λ k is_u. two.0 (has_left before after p.0 (subst (IsMember (indexes before)) (sym (is_u.0)) (last_has k before (sym is_u.1 ∙ last))))))
-              (off v (λ k is_v. two.0 (has_right before after p.0 (subst (IsMember (indexes after)) (sym (is_v.0)) (first_has k after (sym is_v.1 ∙ first))))))
+          closed.others ((p, t) ∷ []) (is_apart u (λ k is_u. two.0 (has_left before after p.0 (subst (IsMember (indexes before)) (sym (is_u.0)) (last_has k before (sym is_u.1 ∙ last))))))
+              (is_apart v (λ k is_v. two.0 (has_right before after p.0 (subst (IsMember (indexes after)) (sym (is_v.0)) (first_has k after (sym is_v.1 ∙ first))))))
               end.0,
           λ something. closed.texts before after last first (λ some. kept before ((λ has. two.0 (has_left before after p.0 has)), tt) (begin.1 some)) end.1 two.1 something,
         )
       where
-        off : (o : Option (ℕ × Gen)) → ((k : ℕ × Gen) → (p.0 ≡ k.0) × (o ≡ Some k) → ⊥) → IfSome o (λ k. ¬ IsMember (indexes ((p, t) ∷ [])) k.0)
-        off None never = tt
-        off (Some k) never = λ has. ⊎_elim (λ same. never k (same, refl)) (λ none. none) has
+        is_apart : (o : Option (ℕ × Gen)) → ((k : ℕ × Gen) → (p.0 ≡ k.0) × (o ≡ Some k) → ⊥) → IfSome o (λ k. ¬ IsMember (indexes ((p, t) ∷ [])) k.0)
+        is_apart None never = tt
+        is_apart (Some k) never = λ has. ⊎_elim (λ same. never k (same, refl)) (λ none. none) has
 
     -- Separating `p` keeps every text without `p`.
     pub keeps_alone : KeepsWithout state interlinks linear old begun (p ∷ []) → KeepsWithout state interlinks linear begun ended (p ∷ []) → IsClosed state interlinks ended new u v
@@ -110,7 +110,7 @@ module _ {A Gen T : Type 0} {view : A → ArenaView Gen T} {entry : A → ℕ �
 
   module _ (old ended joined new : A) (p q : ℕ × Gen) (v : Option (ℕ × Gen)) where
     -- A break after `q` and joins on both sides of `p`, which is alone, put `p` after `q`.
-    pub put_after : EndsIn state interlinks old ended q → KeepsWithout state interlinks linear old ended (q ∷ []) → AreJoined state interlinks ended joined q p → KeepsWithout state interlinks linear ended joined (q ∷ p ∷ [])
+    pub put_after : IsSplitAfter state interlinks old ended q → KeepsWithout state interlinks linear old ended (q ∷ []) → AreJoined state interlinks ended joined q p → KeepsWithout state interlinks linear ended joined (q ∷ p ∷ [])
         → IsClosed state interlinks joined new (Some p) v → ((s : T) (before after : List (Item Gen T)) → IsText state interlinks old (before ++ (q, s) ∷ after) → v ≡ first_key after) → IsPutAfter state interlinks old new p q
     put_after ends kept joins stay closed v_is s t before after alone is other =
         let end = ends s before after is in

@@ -12,7 +12,7 @@ use Rattle.chain_laws.proofs.ListLemmas.MemberLaws.{once_in_middle}
 use Rattle.arena_traits.specs.Entries.{ArenaView, ArenaState, index_of}
 use Rattle.chain_links.specs.ChainArena.{IsInserted}
 use Rattle.chain_links.specs.Insertions.{IsInsertedBetween}
-use Rattle.chain_examples.specs.Lists.{Item, AreEntries, indexes, IsListOf, KeepsWithout, InsertsAfter, InsertsBefore, Leaves, ChangesOnlyListsOf, IsItemInserted, IsItemStarted, IsItemAfter, IsItemBefore}
+use Rattle.chain_examples.specs.Lists.{Item, AreEntries, indexes, IsListOf, KeepsWithout, InsertsAfter, InsertsBefore, IsRemovedFromList, ChangesOnlyListsOf, IsItemInserted, IsItemStarted, IsItemAfter, IsItemBefore}
 use Rattle.chain_traits.proofs.GenericRemovalLemmas.{same_entry}
 use Rattle.chain_examples.proofs.ItemListLemmas.{are_stored-append, are_stored-left, are_stored-right, are_stored-frame, stored_kept}
 
@@ -57,7 +57,7 @@ module _ {A Gen T : Type 0} {view : A → ArenaView Gen T} {entry : A → ℕ �
   module _ (old new : A) where
     -- A removed item leaves its list.
     pub leaves : (e : Item Gen T) → ((i : ℕ) → i ≢ e.0.0 → entry new i ≡ entry old i)
-        → ((x y : List ℕ) → IsChain (interlinks old) (shape (x ++ e.0.0 ∷ y)) → x ++ y ≢ [] → IsChain (interlinks new) (shape (x ++ y))) → Leaves state interlinks shape old new e
+        → ((x y : List ℕ) → IsChain (interlinks old) (shape (x ++ e.0.0 ∷ y)) → x ++ y ≢ [] → IsChain (interlinks new) (shape (x ++ y))) → IsRemovedFromList state interlinks shape old new e
     leaves e same shrinks before after is filled =
         let chain = parts state interlinks shape old before (e ∷ after) is.chain in
         let apart = ((once_in_middle (indexes before) (indexes after) e.0.0).0 (once old (indexes before ++ e.0.0 ∷ indexes after) chain)).0 in

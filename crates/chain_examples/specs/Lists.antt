@@ -68,8 +68,8 @@ module _ {A Gen T : Type 0} {view : A → ArenaView Gen T} {entry : A → ℕ �
     InsertsBefore p e = (t : T) (before after : List (Item Gen T)) → IsListOf shape old (before ++ (p, t) ∷ after) → IsListOf shape new (before ++ e ∷ (p, t) ∷ after)
 
     -- Item `e` is removed from its list; nothing is stated of a list that had no other item.
-    abbrev pub Leaves : Item Gen T → Type 0
-    Leaves e = (before after : List (Item Gen T)) → IsListOf shape old (before ++ e ∷ after) → before ++ after ≢ [] → IsListOf shape new (before ++ after)
+    abbrev pub IsRemovedFromList : Item Gen T → Type 0
+    IsRemovedFromList e = (before after : List (Item Gen T)) → IsListOf shape old (before ++ e ∷ after) → before ++ after ≢ [] → IsListOf shape new (before ++ after)
 
 module _ {A Gen T : Type 0} {view : A → ArenaView Gen T} {entry : A → ℕ → Option (Gen × T)} (state : (a : A) → ArenaState (view a) (entry a)) (interlinks : A → LinkMap) (shape : List ℕ → Chain) where
   module _ (old new : A) where
@@ -101,7 +101,7 @@ module _ {A Gen T : Type 0} {view : A → ArenaView Gen T} {entry : A → ℕ �
     -- Item `e` is removed from the arena and from its list.
     pub record IsItemRemoved {P I W : Type 0} (pointers : PointerKind P I Gen W) (e : Item Gen T) : Type 0 where
       pub removed : IsEntryRemoved state pointers old e.0.0 e.0.1 e.1 new
-      pub list : Leaves state interlinks shape old new e
+      pub list : IsRemovedFromList state interlinks shape old new e
       pub gone : entry new e.0.0 ≡ None
       pub entries : (i : ℕ) → i ≢ e.0.0 → entry new i ≡ entry old i
       pub others : KeepsWithout state interlinks shape old new (e.0 ∷ [])

@@ -37,13 +37,13 @@ module _ {A Gen T : Type 0} {view : A → ArenaView Gen T} {entry : A → ℕ �
 
 module _ {A Gen T : Type 0} {view : A → ArenaView Gen T} {entry : A → ℕ → Option (Gen × T)} (state : (a : A) → ArenaState (view a) (entry a)) (interlinks : A → LinkMap) (old new : A) where
   -- The text of `p` is split after `p`: what followed, if anything, is a text of its own.
-  abbrev pub EndsIn : ℕ × Gen → Type 0
-  EndsIn p = (t : T) (before after : List (Item Gen T)) → IsText state interlinks old (before ++ (p, t) ∷ after)
+  abbrev pub IsSplitAfter : ℕ × Gen → Type 0
+  IsSplitAfter p = (t : T) (before after : List (Item Gen T)) → IsText state interlinks old (before ++ (p, t) ∷ after)
       → IsText state interlinks new (before ++ (p, t) ∷ []) × (after ≢ [] → IsText state interlinks new after)
 
   -- The text of `p` is split before `p`: what preceded, if anything, is a text of its own.
-  abbrev pub BeginsWith : ℕ × Gen → Type 0
-  BeginsWith p = (t : T) (before after : List (Item Gen T)) → IsText state interlinks old (before ++ (p, t) ∷ after)
+  abbrev pub IsSplitBefore : ℕ × Gen → Type 0
+  IsSplitBefore p = (t : T) (before after : List (Item Gen T)) → IsText state interlinks old (before ++ (p, t) ∷ after)
       → IsText state interlinks new ((p, t) ∷ after) × (before ≢ [] → IsText state interlinks new before)
 
   -- A text that ends with `p` and another that begins with `q` become one.
@@ -98,10 +98,10 @@ module _ {A Gen T : Type 0} {view : A → ArenaView Gen T} {entry : A → ℕ �
 
   -- `split_after` and `split_before`: the text of `p` is split, if there is an item on that side.
   abbrev pub SplitsAfter : A → ℕ × Gen → Option Unit → A → Type 0
-  SplitsAfter old p result new = ChangesTexts old new (p ∷ []) (IsValid (entry old) p × IsSome (next_of (interlinks old) p.0)) (EndsIn state interlinks old new p) result
+  SplitsAfter old p result new = ChangesTexts old new (p ∷ []) (IsValid (entry old) p × IsSome (next_of (interlinks old) p.0)) (IsSplitAfter state interlinks old new p) result
 
   abbrev pub SplitsBefore : A → ℕ × Gen → Option Unit → A → Type 0
-  SplitsBefore old p result new = ChangesTexts old new (p ∷ []) (IsValid (entry old) p × IsSome (prev_of (interlinks old) p.0)) (BeginsWith state interlinks old new p) result
+  SplitsBefore old p result new = ChangesTexts old new (p ∷ []) (IsValid (entry old) p × IsSome (prev_of (interlinks old) p.0)) (IsSplitBefore state interlinks old new p) result
 
   -- `join`: a text that ends with `p` and one that begins with `q` become one, if there are such.
   abbrev pub JoinsTexts : A → ℕ × Gen → ℕ × Gen → Option Unit → A → Type 0

@@ -23,7 +23,7 @@ pub(crate) fn reserve<P: PtrKey, T: Drop, A: ChainArenaTrait<P, T>>(
 ) -> Result<(), ReallocationError>
     ensures reserves { ReservesMore A.state A.interlinks P.Inx.greatest additional arena.old result
         arena.new }
-    ensures more { OnOk result (A.grows (count (A.view arena.old) + additional) arena.old
+    ensures implementation { OnOk result (A.grows (count (A.view arena.old) + additional) arena.old
         arena.new) }
 {
     match arena.len().checked_add(additional) {

@@ -80,8 +80,8 @@ abbrev pub LeastIndexOrderRests : Type 0
 LeastIndexOrderRests = (link_map : LinkMap) (n : ℕ) → IsCanonical link_map (range_with_len 1 n) → IsLeastIndexOrder link_map (range_with_len 1 n)
 
 -- After arranging by the least-index order, that order is the indexes from 1 on.
-abbrev pub LayoutRests : Type 0
-LayoutRests = (old new : LinkMap) (indexes : List ℕ) → IsLeastIndexOrder old indexes → IsRenaming (place_in indexes) old new
+abbrev pub LayoutIsIdempotent : Type 0
+LayoutIsIdempotent = (old new : LinkMap) (indexes : List ℕ) → IsLeastIndexOrder old indexes → IsRenaming (place_in indexes) old new
     → IsLeastIndexOrder new (range_with_len 1 (length indexes))
 
 -- The list from 1 to n moves no index.
@@ -95,6 +95,6 @@ LeastIndexOrderLaws = record {
   one : LeastIndexOrderIsUnique;
   canonical : LeastIndexOrderIsCanonical;
   rests : LeastIndexOrderRests;
-  layout_rests : LayoutRests;
+  layout_is_idempotent : LayoutIsIdempotent;
   places_rest : PlacesRest;
 }

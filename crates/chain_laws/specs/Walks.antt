@@ -19,36 +19,36 @@ abbrev pub step_back : ℕ → Option ℕ → Option ℕ → Option ℕ
 step_back start None back = back
 step_back start (Some k) back = if k == start then None else back
 
--- A walker: how many steps are left at most, where it began, and where it goes, forth and back.
+-- A walker: how many steps are left at most, where it began, and where it goes, forward and back.
 pub record Walker : Type 0 where
   pub left : ℕ
   pub start : ℕ
-  pub forth : Option ℕ
+  pub forward : Option ℕ
   pub back : Option ℕ
 
 -- A walker about to pass the link at i.
 abbrev pub walker_at : LinkMap → ℕ → ℕ → Walker
-walker_at link_map left i = record { left = left; start = i; forth = Some i; back = prev_of link_map i }
+walker_at link_map left i = record { left = left; start = i; forward = Some i; back = prev_of link_map i }
 
 -- The link passed next, if any, and the walker after it.
 abbrev pub next_step : ℕ → LinkMap → ℕ → Option ℕ → Option ℕ → Option (ℕ × Walker)
-next_step zero link_map start forth back = None
+next_step zero link_map start forward back = None
 next_step (suc left) link_map start (Some j) back =
-    Some (j, record { left = left; start = start; forth = step_forward start (next_of link_map j); back = step_back start (next_of link_map j) back })
-next_step (suc left) link_map start None (Some k) = Some (k, record { left = left; start = start; forth = None; back = prev_of link_map k })
+    Some (j, record { left = left; start = start; forward = step_forward start (next_of link_map j); back = step_back start (next_of link_map j) back })
+next_step (suc left) link_map start None (Some k) = Some (k, record { left = left; start = start; forward = None; back = prev_of link_map k })
 next_step (suc left) link_map start None None = None
 
 abbrev pub step_of : LinkMap → Walker → Option (ℕ × Walker)
-step_of link_map w = next_step w.left link_map w.start w.forth w.back
+step_of link_map w = next_step w.left link_map w.start w.forward w.back
 
--- What a walker passes if nothing changes: from `forth` on by next, then from `back` by prev.
+-- What a walker passes if nothing changes: from `forward` on by next, then from `back` by prev.
 abbrev pub walk_ahead : ℕ → LinkMap → ℕ → Option ℕ → Option ℕ → List ℕ
-walk_ahead zero link_map start forth back = []
-walk_ahead (suc left) link_map start forth back =
-    elim (next_step (suc left) link_map start forth back) [ None ↦ [] | Some step ↦ step.0 ∷ walk_ahead left link_map step.1.start step.1.forth step.1.back ]
+walk_ahead zero link_map start forward back = []
+walk_ahead (suc left) link_map start forward back =
+    elim (next_step (suc left) link_map start forward back) [ None ↦ [] | Some step ↦ step.0 ∷ walk_ahead left link_map step.1.start step.1.forward step.1.back ]
 
 abbrev pub passes_ahead : LinkMap → Walker → List ℕ
-passes_ahead link_map w = walk_ahead w.left link_map w.start w.forth w.back
+passes_ahead link_map w = walk_ahead w.left link_map w.start w.forward w.back
 
 -- The link of a step, and what the walker passes after it.
 abbrev pub walk_of_step : LinkMap → Option (ℕ × Walker) → List ℕ

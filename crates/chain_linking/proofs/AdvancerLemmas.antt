@@ -28,34 +28,34 @@ module _ {Gen T : Type 0} (a : Arena Gen (LinkView T)) where
     no_entry : entry a i ≡ None
     no_entry = entry_at-with_each link_value a i ∙ ap (option_map (on_value link_value)) none
 
-    pub ends_forth : (back : Option ℕ) (left : ℕ) → IfSome (next_step left (link_map a) start (Some i) back) (λ step. entry a step.0 ≡ None)
-    ends_forth back zero = tt
-    ends_forth back (suc left) = no_entry
+    pub ends_forward : (back : Option ℕ) (left : ℕ) → IfSome (next_step left (link_map a) start (Some i) back) (λ step. entry a step.0 ≡ None)
+    ends_forward back zero = tt
+    ends_forward back (suc left) = no_entry
 
     pub ends_back : (left : ℕ) → IfSome (next_step left (link_map a) start None (Some i)) (λ step. entry a step.0 ≡ None)
     ends_back zero = tt
     ends_back (suc left) = no_entry
 
 -- One call, by its step.
-module _ {Gen T : Type 0} (entry : ℕ → Option (Gen × T)) (interlinks : LinkMap) (start : ℕ) (forth back : Option ℕ) where
-  pub is_passed : (left : ℕ) (p : ℕ × Gen) (forth_then back_then : Option ℕ) → (left ≡ 0 → ⊥) → IsValid entry p
-      → ((n : ℕ) → next_step (suc n) interlinks start forth back ≡ Some (p.0, record { left = n; start = start; forth = forth_then; back = back_then }))
-      → IsPassing entry interlinks (record { left = left; start = start; forth = forth; back = back }) (Some p) (record { left = left - 1; start = start; forth = forth_then; back = back_then })
-  is_passed zero p forth_then back_then some valid steps = absurd (some refl)
-  is_passed (suc n) p forth_then back_then some valid steps =
+module _ {Gen T : Type 0} (entry : ℕ → Option (Gen × T)) (interlinks : LinkMap) (start : ℕ) (forward back : Option ℕ) where
+  pub is_passed : (left : ℕ) (p : ℕ × Gen) (forward_then back_then : Option ℕ) → (left ≡ 0 → ⊥) → IsValid entry p
+      → ((n : ℕ) → next_step (suc n) interlinks start forward back ≡ Some (p.0, record { left = n; start = start; forward = forward_then; back = back_then }))
+      → IsPassing entry interlinks (record { left = left; start = start; forward = forward; back = back }) (Some p) (record { left = left - 1; start = start; forward = forward_then; back = back_then })
+  is_passed zero p forward_then back_then some valid steps = absurd (some refl)
+  is_passed (suc n) p forward_then back_then some valid steps =
       let less : n ≡ suc n - 1 = omega arith in record {
-        passed = (valid, subst (λ (m : ℕ). next_step (suc n) interlinks start forth back ≡ Some (p.0, record { left = m; start = start; forth = forth_then; back = back_then })) less (steps n));
+        passed = (valid, subst (λ (m : ℕ). next_step (suc n) interlinks start forward back ≡ Some (p.0, record { left = m; start = start; forward = forward_then; back = back_then })) less (steps n));
         spent = tt;
         end = tt;
       }
 
-  pub is_ended : (left : ℕ) → ((n : ℕ) → IfSome (next_step n interlinks start forth back) (λ step. entry step.0 ≡ None))
-      → IsPassing entry interlinks (record { left = left; start = start; forth = forth; back = back }) None (record { left = 0; start = start; forth = forth; back = back })
+  pub is_ended : (left : ℕ) → ((n : ℕ) → IfSome (next_step n interlinks start forward back) (λ step. entry step.0 ≡ None))
+      → IsPassing entry interlinks (record { left = left; start = start; forward = forward; back = back }) None (record { left = 0; start = start; forward = forward; back = back })
   is_ended left ends = record { passed = tt; spent = refl; end = ends left }
 
 -- Walkers with equal parts are equal.
 pub same_walkers : {l m s t : ℕ} {f e b d : Option ℕ} → l ≡ m → s ≡ t → f ≡ e → b ≡ d
-    → ◌≡◌ {A = Walker} (record { left = l; start = s; forth = f; back = b }) (record { left = m; start = t; forth = e; back = d })
-same_walkers {l} {m} {s} {t} {f} {e} {b} {d} left start forth back =
-    ap₂ (λ (x y : ℕ). let w : Walker = record { left = x; start = y; forth = f; back = b } in w) left start
-    ∙ ap₂ (λ (x y : Option ℕ). let w : Walker = record { left = m; start = t; forth = x; back = y } in w) forth back
+    → ◌≡◌ {A = Walker} (record { left = l; start = s; forward = f; back = b }) (record { left = m; start = t; forward = e; back = d })
+same_walkers {l} {m} {s} {t} {f} {e} {b} {d} left start forward back =
+    ap₂ (λ (x y : ℕ). let w : Walker = record { left = x; start = y; forward = f; back = b } in w) left start
+    ∙ ap₂ (λ (x y : Option ℕ). let w : Walker = record { left = m; start = t; forward = x; back = y } in w) forward back

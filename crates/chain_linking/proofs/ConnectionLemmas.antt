@@ -5,7 +5,7 @@ use Rattle.std.specs.Option.{option_map, option_and_then}
 use Rattle.chain_laws.specs.Chains.{LinkMap, IsWellLinked, HasLink, prev_of, next_of, prev_in, next_in}
 use Rattle.chain_laws.specs.Joins.{AddsPair, Connects, with_join, AreEndAndStart}
 use Rattle.chain_laws.proofs.JoinLemmas.Chains.{joined_agrees, joined_adds_a_pair, joined_connects}
-use Rattle.chain_links.specs.declared.links.LinkBody.{LinkBody}
+use Rattle.chain_links.specs.declared.links.RawLink.{RawLink}
 use Rattle.chain_links.specs.Links.{link_view, pair_view, links_view}
 use Rattle.arena_traits.specs.Arena.{Arena, entry_at}
 use Rattle.chain_links.specs.ChainArena.{on_value, LinkView, link_value, link_map, values_of, with_link_map, interlinks_of, CanConnect, IsLinkAt, ptr_at}
@@ -25,28 +25,28 @@ truth_of_not false h = absurd (let k = h in cc)
 
 module _ {Gen K T : Type 0} (number : K → Option ℕ) where
   -- The neighbors of a link in the link map.
-  pub next_of-view_after : (a : Arena Gen (LinkBody K T)) (p : ℕ × Gen) (link : LinkBody K T) → entry_at a p.0 ≡ Some (p.1, link) → next_of (link_map (links_view number a)) p.0 ≡ number link.next
+  pub next_of-view_after : (a : Arena Gen (RawLink K T)) (p : ℕ × Gen) (link : RawLink K T) → entry_at a p.0 ≡ Some (p.1, link) → next_of (link_map (links_view number a)) p.0 ≡ number link.next
   next_of-view_after a p link stored = ap (λ (o : Option (Gen × LinkView T)). next_in (option_map interlinks_of o)) (entry_at-links_view number a p.0 ∙ ap (option_map (pair_view number)) stored)
 
-  pub prev_of-view_after : (a : Arena Gen (LinkBody K T)) (p : ℕ × Gen) (link : LinkBody K T) → entry_at a p.0 ≡ Some (p.1, link) → prev_of (link_map (links_view number a)) p.0 ≡ number link.prev
+  pub prev_of-view_after : (a : Arena Gen (RawLink K T)) (p : ℕ × Gen) (link : RawLink K T) → entry_at a p.0 ≡ Some (p.1, link) → prev_of (link_map (links_view number a)) p.0 ≡ number link.prev
   prev_of-view_after a p link stored = ap (λ (o : Option (Gen × LinkView T)). prev_in (option_map interlinks_of o)) (entry_at-links_view number a p.0 ∙ ap (option_map (pair_view number)) stored)
 
   -- The same pointers are valid for links and for values.
-  pub same_valid : (a : Arena Gen (LinkBody K T)) (p : ℕ × Gen) → IsValidPtr a p ↔ IsValidPtr (values_of (links_view number a)) p
+  pub same_valid : (a : Arena Gen (RawLink K T)) (p : ℕ × Gen) → IsValidPtr a p ↔ IsValidPtr (values_of (links_view number a)) p
   same_valid a p =
       let first = IsValidPtr-with_each (link_view number) a p in
       let second = IsValidPtr-with_each link_value (links_view number a) p in
       (λ valid. second.0 (first.0 valid), λ valid. first.1 (second.1 valid))
 
-  valid-view_after : (a : Arena Gen (LinkBody K T)) (p : ℕ × Gen) (link : LinkBody K T) → entry_at a p.0 ≡ Some (p.1, link) → IsValidPtr (values_of (links_view number a)) p
+  valid-view_after : (a : Arena Gen (RawLink K T)) (p : ℕ × Gen) (link : RawLink K T) → entry_at a p.0 ≡ Some (p.1, link) → IsValidPtr (values_of (links_view number a)) p
   valid-view_after a p link stored = (same_valid a p).0 (record { value = link; stored = stored })
 
   -- A valid pointer has a link.
-  pub valid_at : (a : Arena Gen (LinkBody K T)) (p : ℕ × Gen) (link : LinkBody K T) → entry_at a p.0 ≡ Some (p.1, link) → HasLink (link_map (links_view number a)) p.0
+  pub valid_at : (a : Arena Gen (RawLink K T)) (p : ℕ × Gen) (link : RawLink K T) → entry_at a p.0 ≡ Some (p.1, link) → HasLink (link_map (links_view number a)) p.0
   valid_at a p link stored = record { link = interlinks_of (p.1, link_view number link); links = ap (option_map interlinks_of) (entry_at-links_view number a p.0 ∙ ap (option_map (pair_view number)) stored) }
 
   -- A link is an end exactly if it has no next.
-  pub ends : (a : Arena Gen (LinkBody K T)) (p : ℕ × Gen) (link : LinkBody K T) (b : Bool) → entry_at a p.0 ≡ Some (p.1, link) → is_some (number link.next) ≡ not b
+  pub ends : (a : Arena Gen (RawLink K T)) (p : ℕ × Gen) (link : RawLink K T) (b : Bool) → entry_at a p.0 ≡ Some (p.1, link) → is_some (number link.next) ≡ not b
       → IsTrue b ↔ IsValidEnd (entry_at (values_of (links_view number a))) (link_map (links_view number a)) p
   ends a p link b at states = (
     (λ yes. record { valid = valid-view_after a p link at; end = next_of-view_after a p link at ∙ none_unless_some (number link.next) (states ∙ ap not yes) }),
@@ -54,7 +54,7 @@ module _ {Gen K T : Type 0} (number : K → Option ℕ) where
   )
 
   -- A link is a start exactly if it has no prev.
-  pub starts : (a : Arena Gen (LinkBody K T)) (p : ℕ × Gen) (link : LinkBody K T) (b : Bool) → entry_at a p.0 ≡ Some (p.1, link) → is_some (number link.prev) ≡ not b
+  pub starts : (a : Arena Gen (RawLink K T)) (p : ℕ × Gen) (link : RawLink K T) (b : Bool) → entry_at a p.0 ≡ Some (p.1, link) → is_some (number link.prev) ≡ not b
       → IsTrue b ↔ IsValidStart (entry_at (values_of (links_view number a))) (link_map (links_view number a)) p
   starts a p link b at states = (
     (λ yes. record { valid = valid-view_after a p link at; start = prev_of-view_after a p link at ∙ none_unless_some (number link.prev) (states ∙ ap not yes) }),
@@ -62,7 +62,7 @@ module _ {Gen K T : Type 0} (number : K → Option ℕ) where
   )
 
   -- An invalid pointer is neither an end nor a start.
-  pub not_valid : (a : Arena Gen (LinkBody K T)) (p : ℕ × Gen) → (IsValidPtr a p → ⊥) → IsValidPtr (values_of (links_view number a)) p → ⊥
+  pub not_valid : (a : Arena Gen (RawLink K T)) (p : ℕ × Gen) → (IsValidPtr a p → ⊥) → IsValidPtr (values_of (links_view number a)) p → ⊥
   not_valid a p invalid valid = invalid ((same_valid a p).1 valid)
 
 module _ {Gen T : Type 0} where
@@ -81,7 +81,7 @@ module _ {Gen T : Type 0} where
     pub joined-values : values_of b ≡ values_of a
     joined-values = ap (λ (x : Arena Gen (LinkView T)). values_of x) is_joined ∙ values_of-with_link_map a (with_join (link_map a) p.0 q.0) (FitsLinks-linked a (Some p.0) (Some q.0))
 
-    -- The interlinks stay consistent.
+    -- The interlinks still agree.
     pub joined-agrees : IsWellLinked (link_map a) → IsWellLinked (link_map b)
     joined-agrees agrees = subst IsWellLinked (sym links) (joined_agrees (link_map a) p.0 q.0 agrees (end_and_start a p q can))
 
@@ -95,18 +95,18 @@ module _ {Gen T : Type 0} where
 
 module _ {Gen K T : Type 0} (number : K → Option ℕ) where
   -- The value of the link at an index.
-  pub value_at : (a : Arena Gen (LinkBody K T)) (i : ℕ) → entry_at (values_of (links_view number a)) i ≡ option_map (on_value (λ l. l.t)) (entry_at a i)
+  pub value_at : (a : Arena Gen (RawLink K T)) (i : ℕ) → entry_at (values_of (links_view number a)) i ≡ option_map (on_value (λ l. l.t)) (entry_at a i)
   value_at a i = entry_at-with_each link_value (links_view number a) i ∙ (ap (option_map (on_value link_value)) (entry_at-links_view number a i) ∙ twice (entry_at a i)) where
-    twice : (o : Option (Gen × LinkBody K T)) → option_map (on_value link_value) (option_map (pair_view number) o) ≡ option_map (on_value (λ l. l.t)) o
+    twice : (o : Option (Gen × RawLink K T)) → option_map (on_value link_value) (option_map (pair_view number) o) ≡ option_map (on_value (λ l. l.t)) o
     twice None = refl
     twice (Some e) = refl
 
   -- The current pointer to a link.
-  pub ptr_at-some : (a : Arena Gen (LinkBody K T)) (i : ℕ) (g : Gen) (link : LinkBody K T) → entry_at a i ≡ Some (g, link) → ptr_at (entry_at (values_of (links_view number a))) i ≡ Some (i, g)
+  pub ptr_at-some : (a : Arena Gen (RawLink K T)) (i : ℕ) (g : Gen) (link : RawLink K T) → entry_at a i ≡ Some (g, link) → ptr_at (entry_at (values_of (links_view number a))) i ≡ Some (i, g)
   ptr_at-some a i g link stored = ap (λ (o : Option (Gen × T)). let p : Option (ℕ × Gen) = option_map (λ e. (i, e.0)) o in p) (value_at a i ∙ ap (option_map (on_value (λ l. l.t))) stored)
 
   -- The link of a pointer, with current pointers to its neighbors.
-  pub link_at_ptr : (a : Arena Gen (LinkBody K T)) (p : ℕ × Gen) (link : LinkBody K T) (prev next : Option (ℕ × Gen)) → entry_at a p.0 ≡ Some (p.1, link)
+  pub link_at_ptr : (a : Arena Gen (RawLink K T)) (p : ℕ × Gen) (link : RawLink K T) (prev next : Option (ℕ × Gen)) → entry_at a p.0 ≡ Some (p.1, link)
       → prev ≡ option_and_then (ptr_at (entry_at (values_of (links_view number a)))) (number link.prev)
       → next ≡ option_and_then (ptr_at (entry_at (values_of (links_view number a)))) (number link.next)
       → IsLinkAt (entry_at (values_of (links_view number a))) (link_map (links_view number a)) p prev next link.t

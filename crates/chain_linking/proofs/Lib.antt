@@ -1,5 +1,5 @@
 pub mod AdvancerLemmas
-pub mod ConsistencyLemmas
+pub mod AgreementLemmas
 pub mod DestinationLemmas
 pub mod ConnectionLemmas
 pub mod NeighborLemmas

@@ -10,10 +10,10 @@ use Rattle.chain_laws.proofs.InterlinkLemmas.Inverses.{if_same, if_other}
 use Rattle.chain_laws.proofs.InsertionLemmas.Pairs.{position_between}
 use Rattle.chain_laws.proofs.ChainLemmas.LinkedLists.{link}
 use Rattle.chain_laws.proofs.InsertionLemmas.Writes.{with_link, inserted_by_writes}
-use Rattle.chain_links.specs.declared.links.LinkBody.{LinkBody}
+use Rattle.chain_links.specs.declared.links.RawLink.{RawLink}
 use Rattle.chain_links.specs.Links.{link_view, links_view}
 use Rattle.arena_traits.specs.Arena.{Arena, entry_at, next_index, insert_next, IsListed}
-use Rattle.chain_links.specs.ChainArena.{LinkView, lone, new_link, named_by, insert_lone, insert_between, link_map, relink, with_link_map, interlinks_of}
+use Rattle.chain_links.specs.ChainArena.{LinkView, lone, new_link, with_links_to, insert_lone, insert_between, link_map, relink, with_link_map, interlinks_of}
 use Rattle.chain_links.proofs.LinkStateLemmas.{is_relinked}
 use Rattle.chain_linking.proofs.NeighborLemmas.{if_each}
 use Rattle.chain_links.proofs.ArenaInsertionLemmas.{link_map-next, AreFree, slot_at-filled, length-filled, listed-links_view, links_view-insert_next}
@@ -22,8 +22,8 @@ use Rattle.chain_links.proofs.MappedArenaLemmas.{is_some-map}
 
 module _ {Gen T : Type 0} where
   -- Two writes make u and v name q.
-  pub named_by_writes : (a b c : Arena Gen (LinkView T)) (u v : Option ℕ) (q : ℕ) → b ≡ with_link_map a (with_next_at (link_map a) u (Some q)) → c ≡ with_link_map b (with_prev_at (link_map b) v (Some q)) → c ≡ named_by a u v q
-  named_by_writes a b c u v q first second =
+  pub links_to_by_writes : (a b c : Arena Gen (LinkView T)) (u v : Option ℕ) (q : ℕ) → b ≡ with_link_map a (with_next_at (link_map a) u (Some q)) → c ≡ with_link_map b (with_prev_at (link_map b) v (Some q)) → c ≡ with_links_to a u v q
+  links_to_by_writes a b c u v q first second =
       let followed = with_next_at (link_map a) u (Some q) in
       let fits : FitsLinks followed a = FitsLinks-with_next_at a (link_map a) u (Some q) (FitsLinks-link_map a) in
       second ∙ (ap (λ (x : Arena Gen (LinkView T)). with_link_map x (with_prev_at (link_map x) v (Some q))) first
@@ -51,24 +51,24 @@ module _ {Gen T : Type 0} (a : Arena Gen (LinkView T)) (free : AreFree a.slots a
   FitsLinks-with_link u v i = fits_at (i == next_index a) u v (entry_at a i) ∙ ap is_some (sym (slot_at-filled a.freed a.slots (a.counter, lone t) i free))
 
   -- A link that names u and v and is named by them is inserted between them.
-  pub placed : (u v : Option ℕ) → (u ≡ Some (next_index a) → v ≡ Some (next_index a)) → named_by (insert_next a (new_link t u v)) u v (next_index a) ≡ insert_between a t u v
+  pub placed : (u v : Option ℕ) → (u ≡ Some (next_index a) → v ≡ Some (next_index a)) → with_links_to (insert_next a (new_link t u v)) u v (next_index a) ≡ insert_between a t u v
   placed u v itself =
       let base = insert_lone a t in
       let q = next_index a in
       let named = with_link (link_map a) q u v in
       let fits : FitsLinks named base = FitsLinks-with_link u v in
-      ap (λ (x : Arena Gen (LinkView T)). named_by x u v q) (inserted_named u v)
+      ap (λ (x : Arena Gen (LinkView T)). with_links_to x u v q) (inserted_named u v)
       ∙ (ap (λ (m : LinkMap). with_link_map (with_link_map base named) (with_prev_at (with_next_at m u (Some q)) v (Some q))) (link_map-with_link_map base named fits)
       ∙ (with_link_map-again base named (with_prev_at (with_next_at named u (Some q)) v (Some q)) fits ∙ ap (with_link_map base) (inserted_by_writes (link_map a) q u v itself)))
 
 -- An insertion in the stored arena of links.
-module _ {Gen K T : Type 0} (packed : K → Option ℕ) (a b : Arena Gen (LinkBody K T)) (d : Arena Gen (LinkView T)) (u v : Option ℕ) (t : T) (link : LinkBody K T)
+module _ {Gen K T : Type 0} (packed : K → Option ℕ) (a b : Arena Gen (RawLink K T)) (d : Arena Gen (LinkView T)) (u v : Option ℕ) (t : T) (link : RawLink K T)
     (listed : IsListed a) (link_is : link_view packed link ≡ new_link t u v) (itself : u ≡ Some (next_index (links_view packed a)) → v ≡ Some (next_index (links_view packed a))) where
   -- The new link, which names u and v and is named by them, is inserted between them.
-  pub inserted_beside : b ≡ insert_next a link → d ≡ named_by (links_view packed b) u v (next_index (links_view packed a)) → d ≡ insert_between (links_view packed a) t u v
+  pub inserted_beside : b ≡ insert_next a link → d ≡ with_links_to (links_view packed b) u v (next_index (links_view packed a)) → d ≡ insert_between (links_view packed a) t u v
   inserted_beside is linked =
-      let named : Arena Gen (LinkView T) → Arena Gen (LinkView T) = λ x. named_by x u v (next_index (links_view packed a)) in
-      linked ∙ (ap (λ (x : Arena Gen (LinkBody K T)). named (links_view packed x)) is
+      let named : Arena Gen (LinkView T) → Arena Gen (LinkView T) = λ x. with_links_to x u v (next_index (links_view packed a)) in
+      linked ∙ (ap (λ (x : Arena Gen (RawLink K T)). named (links_view packed x)) is
       ∙ (ap named (links_view-insert_next packed a link ∙ ap (insert_next (links_view packed a)) link_is)
       ∙ placed (links_view packed a) (listed-links_view packed a listed).free t u v itself))
 
@@ -95,7 +95,7 @@ module _ {Gen T : Type 0} (a : Arena Gen (LinkView T)) (free : AreFree a.slots a
       )
 
 -- The links of a position exist in the stored arena of links after the insertion.
-pub both_stored : {Gen K T : Type 0} (packed : K → Option ℕ) (a b : Arena Gen (LinkBody K T)) (u v : Option ℕ) (link : LinkBody K T) → IsListed a → IsWellLinked (link_map (links_view packed a))
+pub both_stored : {Gen K T : Type 0} (packed : K → Option ℕ) (a b : Arena Gen (RawLink K T)) (u v : Option ℕ) (link : RawLink K T) → IsListed a → IsWellLinked (link_map (links_view packed a))
     → IsInsertPosition (link_map (links_view packed a)) (next_index (links_view packed a)) u v → b ≡ insert_next a link
     → IfSome u (HasLink (link_map (links_view packed b))) × IfSome v (HasLink (link_map (links_view packed b)))
 both_stored {Gen = Gen} {T = T} packed a b u v link listed agrees is_position is =

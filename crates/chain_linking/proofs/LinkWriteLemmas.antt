@@ -8,7 +8,7 @@ use Rattle.std.proofs.lemmas.Bool.{cases_eq}
 use Rattle.std.proofs.lemmas.List.{ext_get_or}
 use mathlib.Core.Path.{fun_ext}
 use Rattle.chain_laws.proofs.InterlinkLemmas.Inverses.{if_same, if_other, one_some}
-use Rattle.chain_links.specs.declared.links.LinkBody.{LinkBody}
+use Rattle.chain_links.specs.declared.links.RawLink.{RawLink}
 use Rattle.chain_links.specs.Links.{link_view, pair_view, links_view}
 use Rattle.arena_traits.specs.Arena.{Arena, entry_at, with_value}
 use Rattle.chain_links.specs.ChainArena.{on_value, link_value, values_of, LinkView, link_map, relink, with_link_map, interlinks_of, interlinks_in, with_interlinks}
@@ -107,21 +107,21 @@ module _ {Gen T : Type 0} where
   FitsLinks-twice a u v w x = FitsLinks-with_prev_at a (with_next_at (with_neighbors (link_map a) u v) w x) x w (FitsLinks-with_next_at a (with_neighbors (link_map a) u v) w x (FitsLinks-linked a u v))
 
 -- As contracts see links, `write` changes their interlinks by `change`.
-abbrev pub IsWrite : {K T : Type 0} → (K → Option ℕ) → (LinkBody K T → LinkBody K T) → (Interlinks → Interlinks) → Type 0
-IsWrite {K} {T} number write change = (l : LinkBody K T) → link_view number (write l) ≡ with_interlinks (change (interlinks_in (link_view number l))) (link_view number l)
+abbrev pub IsWrite : {K T : Type 0} → (K → Option ℕ) → (RawLink K T → RawLink K T) → (Interlinks → Interlinks) → Type 0
+IsWrite {K} {T} number write change = (l : RawLink K T) → link_view number (write l) ≡ with_interlinks (change (interlinks_in (link_view number l))) (link_view number l)
 
 module _ {Gen K T : Type 0} (number : K → Option ℕ) where
-  view_after-write : (o : Option (Gen × LinkBody K T)) (link : LinkBody K T) (write : LinkBody K T → LinkBody K T) (change : Interlinks → Interlinks) → IsWrite number write change
-      → option_map (λ (e : Gen × LinkBody K T). e.1) o ≡ Some link
-      → option_map (pair_view number) (option_map (λ (e : Gen × LinkBody K T). (e.0, write link)) o)
+  view_after-write : (o : Option (Gen × RawLink K T)) (link : RawLink K T) (write : RawLink K T → RawLink K T) (change : Interlinks → Interlinks) → IsWrite number write change
+      → option_map (λ (e : Gen × RawLink K T). e.1) o ≡ Some link
+      → option_map (pair_view number) (option_map (λ (e : Gen × RawLink K T). (e.0, write link)) o)
       ≡ relink (option_map change (option_map interlinks_of (option_map (pair_view number) o))) (option_map (pair_view number) o)
   view_after-write None link write change is stored = refl
   view_after-write (Some e) link write change is stored =
-      ap (λ (l : LinkBody K T). let o : Option (Gen × LinkView T) = Some (e.0, link_view number (write l)) in o) (sym (one_some stored)) ∙ ap (λ (l : LinkView T). let o : Option (Gen × LinkView T) = Some (e.0, l) in o) (is e.1)
+      ap (λ (l : RawLink K T). let o : Option (Gen × LinkView T) = Some (e.0, link_view number (write l)) in o) (sym (one_some stored)) ∙ ap (λ (l : LinkView T). let o : Option (Gen × LinkView T) = Some (e.0, l) in o) (is e.1)
 
   -- A write to a link, in an arena of links.
-  pub links_view-write : (a : Arena Gen (LinkBody K T)) (n : ℕ) (link : LinkBody K T) (write : LinkBody K T → LinkBody K T) (change : Interlinks → Interlinks) (interlinks : LinkMap) → IsWrite number write change
-      → option_map (λ (e : Gen × LinkBody K T). e.1) (entry_at a n) ≡ Some link
+  pub links_view-write : (a : Arena Gen (RawLink K T)) (n : ℕ) (link : RawLink K T) (write : RawLink K T → RawLink K T) (change : Interlinks → Interlinks) (interlinks : LinkMap) → IsWrite number write change
+      → option_map (λ (e : Gen × RawLink K T). e.1) (entry_at a n) ≡ Some link
       → ((i : ℕ) → interlinks i ≡ (if i == n then option_map change (link_map (links_view number a) i) else link_map (links_view number a) i))
       → links_view number (with_value a n (write link)) ≡ with_link_map (links_view number a) interlinks
   links_view-write a n link write change interlinks is stored are =
@@ -130,7 +130,7 @@ module _ {Gen K T : Type 0} (number : K → Option ℕ) where
       let at : (i : ℕ) → i ≡ n → entry_at (links_view number (with_value a n w)) i ≡ relink (interlinks i) (entry_at view_after i) =
       (λ i same. entry_at-links_view number (with_value a n w) i
       ∙ (ap (option_map (pair_view number)) (entry_at-with_value a n w i ∙ if_same i n _ _ same)
-      ∙ (view_after-write (entry_at a i) link write change is (ap (λ k. option_map (λ (e : Gen × LinkBody K T). e.1) (entry_at a k)) same ∙ stored)
+      ∙ (view_after-write (entry_at a i) link write change is (ap (λ k. option_map (λ (e : Gen × RawLink K T). e.1) (entry_at a k)) same ∙ stored)
       ∙ ap₂ relink (ap (λ o. option_map change (option_map interlinks_of o)) (sym (entry_at-links_view number a i)) ∙ sym (are i ∙ if_same i n _ _ same)) (sym (entry_at-links_view number a i))))) in
       let off : (i : ℕ) → i ≢ n → entry_at (links_view number (with_value a n w)) i ≡ relink (interlinks i) (entry_at view_after i) =
       (λ i other. entry_at-links_view number (with_value a n w) i

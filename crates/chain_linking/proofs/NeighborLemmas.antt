@@ -8,7 +8,7 @@ use Rattle.chain_laws.specs.Removals.{without_link}
 use Rattle.chain_laws.proofs.InterlinkLemmas.Inverses.{not_both_ways}
 use Rattle.chain_laws.proofs.RemovalLemmas.Pairs.{HasLink-vacated}
 use Rattle.chain_laws.proofs.ChainLemmas.LinkedLists.{next_valid, prev_valid, reports_valid}
-use Rattle.chain_links.specs.declared.links.LinkBody.{LinkBody}
+use Rattle.chain_links.specs.declared.links.RawLink.{RawLink}
 use Rattle.chain_links.specs.Links.{links_view, pair_view}
 use Rattle.chain_links.specs.ChainArena.{LinkView, entry, link_map, with_link_map, interlinks_of}
 use Rattle.chain_links.proofs.LinkStateLemmas.{entry_at-links_view, no_entry}
@@ -29,11 +29,11 @@ link_where link_map i some = of (link_map i) refl some
     of None is none = absurd (false≢true none)
     of (Some l) is here = reports_valid link_map i l is
 
--- With consistent interlinks, the index after a link has a link.
+-- Where the interlinks agree, the index after a link has a link.
 pub next_named : (link_map : LinkMap) (i : ℕ) → IsWellLinked link_map → IfSome (next_of link_map i) (HasLink link_map)
 next_named link_map i agrees = if_each (next_of link_map i) (HasLink link_map) (λ j is. prev_valid link_map j i ((agrees.both i j).0 is))
 
--- With consistent interlinks, the index before a link has a link.
+-- Where the interlinks agree, the index before a link has a link.
 pub prev_named : (link_map : LinkMap) (i : ℕ) → IsWellLinked link_map → IfSome (prev_of link_map i) (HasLink link_map)
 prev_named link_map i agrees = if_each (prev_of link_map i) (HasLink link_map) (λ j is. next_valid link_map j i ((agrees.both j i).1 is))
 
@@ -56,11 +56,11 @@ module _ {Gen T : Type 0} where
 
 module _ {Gen K T : Type 0} (number : K → Option ℕ) where
   -- An index without an entry has no link.
-  pub nothing_at : (a : Arena Gen (LinkBody K T)) (n : ℕ) → entry_at a n ≡ None → HasLink (link_map (links_view number a)) n → ⊥
+  pub nothing_at : (a : Arena Gen (RawLink K T)) (n : ℕ) → entry_at a n ≡ None → HasLink (link_map (links_view number a)) n → ⊥
   nothing_at a n none stored =
       let nothing : link_map (links_view number a) n ≡ None = ap (option_map interlinks_of) (entry_at-links_view number a n ∙ ap (option_map (pair_view number)) none) in
       not_both_ways (link_map (links_view number a) n) stored.link nothing stored.links
 
   -- An index without a value has no link.
-  pub nothing_named : (a : Arena Gen (LinkBody K T)) (n : ℕ) → option_map (λ (e : Gen × LinkBody K T). e.1) (entry_at a n) ≡ None → HasLink (link_map (links_view number a)) n → ⊥
+  pub nothing_named : (a : Arena Gen (RawLink K T)) (n : ℕ) → option_map (λ (e : Gen × RawLink K T). e.1) (entry_at a n) ≡ None → HasLink (link_map (links_view number a)) n → ⊥
   nothing_named a n none stored = nothing_at a n (no_entry (entry_at a n) none) stored

@@ -76,7 +76,7 @@ module _ {Gen T : Type 0} where
 
   -- The state after a removal.
   module _ (following : Gen → Gen) (a b : Arena Gen (LinkView T)) (i : ℕ) (gone : b ≡ remove_link following a i) (agrees : IsWellLinked (link_map a)) where
-    -- The interlinks are consistent.
+    -- The interlinks agree.
     pub removed-agrees : IsWellLinked (link_map b)
     removed-agrees = subst IsWellLinked (sym (passes_over following a b i gone)) (removed_agrees (link_map a) i agrees)
 

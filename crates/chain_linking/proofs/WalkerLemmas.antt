@@ -63,7 +63,7 @@ module _ {Gen T : Type 0} (a : Arena Gen (LinkView T)) where
         let closed : e.1.next ≡ Some start = sym named ∙ of_cyclic in
         passes_first left some
         ∙ ap (λ (rest : List (ℕ × (Gen × LinkView T))). (i, e) ∷ rest)
-        (ap₂ (λ (forth behind : Option ℕ). links_ahead a (left - 1) start forth behind)
+        (ap₂ (λ (forward behind : Option ℕ). links_ahead a (left - 1) start forward behind)
         (ap (step_forward start) closed ∙ if_same start start None (Some start) refl) (ap (λ (n : Option ℕ). step_back start n back) closed ∙ if_same start start None back refl)
         ∙ nowhere (left - 1) start)
 
@@ -78,5 +78,5 @@ module _ {Gen T : Type 0} (a : Arena Gen (LinkView T)) where
             → ◌≡◌ {A = List (ℕ × (Gen × LinkView T))} ((i, e) ∷ links_ahead a (left - 1) start (step_forward start n) (step_back start n back)) ((i, e) ∷ links_ahead a (left - 1) start n back)
         straight None other = refl
         straight (Some k) other =
-            ap₂ (λ (forth behind : Option ℕ). (i, e) ∷ links_ahead a (left - 1) start forth behind)
+            ap₂ (λ (forward behind : Option ℕ). (i, e) ∷ links_ahead a (left - 1) start forward behind)
             (if_other k start None (Some k) (λ same. other (ap Some same))) (if_other k start None back (λ same. other (ap Some same)))

@@ -23,4 +23,4 @@ module _ {Gen T : Type 0} where
 module _ {P Gen T : Type 0} (key : P → ℕ × Gen) (entry : ℕ → Option (Gen × T)) (interlinks : LinkMap) {old new : Walker} where
   pub spent_stays : (returned : Option P) → old.left ≡ 0 → IsPassing entry interlinks old (option_map key returned) new → (returned ≡ None) × (new.left ≡ 0)
   spent_stays None none passing = (refl, passing.spent)
-  spent_stays (Some p) none passing = absurd (let step = subst (λ n. next_step n interlinks old.start old.forth old.back ≡ Some ((key p).0, new)) none passing.passed.1 in cc)
+  spent_stays (Some p) none passing = absurd (let step = subst (λ n. next_step n interlinks old.start old.forward old.back ≡ Some ((key p).0, new)) none passing.passed.1 in cc)

@@ -3,42 +3,42 @@ use Rattle.std.specs.Prelude.{◌≡◌, ◌↔◌, ℕ, Bool, IsTrue, IsSome, I
 use Rattle.std.specs.Option.{option_map}
 use Rattle.arena_traits.specs.Arena.{Arena, IsValid}
 use Rattle.chain_laws.specs.Chains.{HasLink, prev_of, next_of}
-use Rattle.chain_links.specs.declared.links.LinkBody.{LinkBody}
+use Rattle.chain_links.specs.declared.links.RawLink.{RawLink}
 use Rattle.chain_links.specs.ChainArena.{link_map, entry, CanConnect}
 use Rattle.chain_links.specs.Links.{links_view, StayAtRest}
 use Rattle.chain_linking.specs.LinkWrites.{arena_with_pair, IsValidEnd, IsValidStart}
 
 module _ {Gen K T : Type 0} (packed : K → Option ℕ) where
   -- The index after the link of p, or `None` if either is missing.
-  abbrev pub IsNextOf : {I : Type 0} → (I → ℕ) → ℕ × Gen → Arena Gen (LinkBody K T) → Option I → Type 0
+  abbrev pub IsNextOf : {I : Type 0} → (I → ℕ) → ℕ × Gen → Arena Gen (RawLink K T) → Option I → Type 0
   IsNextOf number p now result = record {
     neighbor : IsValid (entry (links_view packed now)) p → option_map number result ≡ next_of (link_map (links_view packed now)) p.0;
     some : IsSome result → IsValid (entry (links_view packed now)) p;
   }
 
   -- The index before the link of p, or `None` if either is missing.
-  abbrev pub IsPrevOf : {I : Type 0} → (I → ℕ) → ℕ × Gen → Arena Gen (LinkBody K T) → Option I → Type 0
+  abbrev pub IsPrevOf : {I : Type 0} → (I → ℕ) → ℕ × Gen → Arena Gen (RawLink K T) → Option I → Type 0
   IsPrevOf number p now result = record {
     neighbor : IsValid (entry (links_view packed now)) p → option_map number result ≡ prev_of (link_map (links_view packed now)) p.0;
     some : IsSome result → IsValid (entry (links_view packed now)) p;
   }
 
   -- Whether p is valid and no link comes after its link, which then exists.
-  abbrev pub ReportsEnd : ℕ × Gen → Arena Gen (LinkBody K T) → Bool → Type 0
+  abbrev pub ReportsEnd : ℕ × Gen → Arena Gen (RawLink K T) → Bool → Type 0
   ReportsEnd p now result = record {
     value : IsTrue result ↔ IsValidEnd (entry (links_view packed now)) (link_map (links_view packed now)) p;
     occupied : IsTrue result → HasLink (link_map (links_view packed now)) p.0;
   }
 
   -- Whether p is valid and no link comes before its link, which then exists.
-  abbrev pub ReportsStart : ℕ × Gen → Arena Gen (LinkBody K T) → Bool → Type 0
+  abbrev pub ReportsStart : ℕ × Gen → Arena Gen (RawLink K T) → Bool → Type 0
   ReportsStart p now result = record {
     value : IsTrue result ↔ IsValidStart (entry (links_view packed now)) (link_map (links_view packed now)) p;
     occupied : IsTrue result → HasLink (link_map (links_view packed now)) p.0;
   }
 
   -- The link of q comes after the link of p. If they cannot be connected, nothing changes.
-  abbrev pub JoinsLinks : (p q : ℕ × Gen) → Arena Gen (LinkBody K T) → Option Unit → Arena Gen (LinkBody K T) → Type 0
+  abbrev pub JoinsLinks : (p q : ℕ × Gen) → Arena Gen (RawLink K T) → Option Unit → Arena Gen (RawLink K T) → Type 0
   JoinsLinks p q old result new = record {
     some : IsSome result ↔ CanConnect (entry (links_view packed old)) (link_map (links_view packed old)) p q;
     joined : OnSome result (links_view packed new ≡ arena_with_pair (links_view packed old) (Some p.0) (Some q.0));

@@ -1,12 +1,12 @@
 -- Removals of destinations, which leave the interlinks unchanged.
 use Rattle.std.specs.Prelude.{◌≡◌, ℕ, Option, None}
 use Rattle.arena_traits.specs.Arena.{Arena}
-use Rattle.chain_links.specs.declared.links.LinkBody.{LinkBody}
+use Rattle.chain_links.specs.declared.links.RawLink.{RawLink}
 use Rattle.chain_links.specs.Links.{links_view, destination_at, AreAtRest}
 
 module _ {Gen K T : Type 0} (packed : K → Option ℕ) where
   -- The link at i, if any, has no destination any more. No other link gains one.
-  abbrev pub ClearsDestination : ℕ → (old new : Arena Gen (LinkBody K T)) → Type 0
+  abbrev pub ClearsDestination : ℕ → (old new : Arena Gen (RawLink K T)) → Type 0
   ClearsDestination i old new = record {
     links : links_view packed new ≡ links_view packed old;
     cleared : destination_at packed new.slots i ≡ None;
@@ -14,7 +14,7 @@ module _ {Gen K T : Type 0} (packed : K → Option ℕ) where
   }
 
   -- No link has a destination any more.
-  abbrev pub ClearsDestinations : (old new : Arena Gen (LinkBody K T)) → Type 0
+  abbrev pub ClearsDestinations : (old new : Arena Gen (RawLink K T)) → Type 0
   ClearsDestinations old new = record {
     links : links_view packed new ≡ links_view packed old;
     at_rest : AreAtRest packed new.slots;

@@ -2,6 +2,6 @@ pub mod LinkWrites
 pub mod Connections
 pub mod Destinations
 pub mod WalkSteps
-pub mod Consistency
+pub mod Agreement
 pub mod ChainArenaLaws
 pub mod Iterators

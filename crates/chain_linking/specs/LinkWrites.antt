@@ -6,7 +6,7 @@ use Rattle.arena_core.specs.declared.invalidation.InvalidationResult.{Invalidati
 use Rattle.chain_laws.specs.Chains.{LinkMap, HasLink, prev_of, next_of}
 use Rattle.chain_laws.specs.Joins.{with_next_at, with_prev_at, with_neighbors}
 use Rattle.arena_traits.specs.Arena.{Arena, IsValid, entry_at}
-use Rattle.chain_links.specs.declared.links.LinkBody.{LinkBody}
+use Rattle.chain_links.specs.declared.links.RawLink.{RawLink}
 use Rattle.chain_links.specs.ChainArena.{LinkView, link_map, with_link_map, remove_link, entry, ptr_at}
 use Rattle.chain_links.specs.Links.{link_view, links_view, pair_view, StayAtRest}
 
@@ -52,21 +52,21 @@ pub record WereBeside (link_map : LinkMap) (i : ℕ) (u v : Option ℕ) : Type 0
 
 module _ {Gen K T : Type 0} (packed : K → Option ℕ) where
   -- The links become those of `after`. If none had a destination, none has one now.
-  abbrev pub LinksBecome : Arena Gen (LinkView T) → (old new : Arena Gen (LinkBody K T)) → Type 0
+  abbrev pub LinksBecome : Arena Gen (LinkView T) → (old new : Arena Gen (RawLink K T)) → Type 0
   LinksBecome after old new = record {
     links : links_view packed new ≡ after;
     at_rest : StayAtRest packed old.slots new.slots;
   }
 
   -- The pointers are those of the links before and after a link.
-  abbrev pub PointsToNeighbors : {P : Type 0} → (P → ℕ × Gen) → Arena Gen (LinkBody K T) → LinkBody K T → Option P × Option P → Type 0
+  abbrev pub PointsToNeighbors : {P : Type 0} → (P → ℕ × Gen) → Arena Gen (RawLink K T) → RawLink K T → Option P × Option P → Type 0
   PointsToNeighbors key a link result = record {
     prev : option_map key result.0 ≡ option_and_then (ptr_at (entry (links_view packed a))) (link_view packed link).prev;
     next : option_map key result.1 ≡ option_and_then (ptr_at (entry (links_view packed a))) (link_view packed link).next;
   }
 
   -- The link at i, if any, is removed and returned as it was, and its former neighbors are linked.
-  abbrev pub TakesLinkAt : (wraps : Gen → Bool) (following : Gen → Gen) → ℕ → Arena Gen (LinkBody K T) → InvalidationResult (Gen × LinkBody K T) → Arena Gen (LinkBody K T) → Type 0
+  abbrev pub TakesLinkAt : (wraps : Gen → Bool) (following : Gen → Gen) → ℕ → Arena Gen (RawLink K T) → InvalidationResult (Gen × RawLink K T) → Arena Gen (RawLink K T) → Type 0
   TakesLinkAt wraps following i old result new = record {
     returned : option_map (pair_view packed) (value_within result) ≡ entry_at (links_view packed old) i;
     overflow : result ≡ invalidation_result (wraps old.counter) (value_within result);
@@ -77,22 +77,22 @@ module _ {Gen K T : Type 0} (packed : K → Option ℕ) where
 
   module _ {I : Type 0} (number : I → ℕ) where
     -- The `next` of the link at i, if i is an index, is written.
-    abbrev pub SetsNext : (i next : Option I) → (old new : Arena Gen (LinkBody K T)) → Type 0
+    abbrev pub SetsNext : (i next : Option I) → (old new : Arena Gen (RawLink K T)) → Type 0
     SetsNext i next old new = LinksBecome (arena_with_next (links_view packed old) (option_map number i) (option_map number next)) old new
 
     -- The `prev` of the link at i, if i is an index, is written.
-    abbrev pub SetsPrev : (i prev : Option I) → (old new : Arena Gen (LinkBody K T)) → Type 0
+    abbrev pub SetsPrev : (i prev : Option I) → (old new : Arena Gen (RawLink K T)) → Type 0
     SetsPrev i prev old new = LinksBecome (arena_with_prev (links_view packed old) (option_map number i) (option_map number prev)) old new
 
     -- The `next` of the link at `before` is written, then the `prev` of the link at `after`.
-    abbrev pub SetsBoth : (before next after prev : Option I) → (old new : Arena Gen (LinkBody K T)) → Type 0
+    abbrev pub SetsBoth : (before next after prev : Option I) → (old new : Arena Gen (RawLink K T)) → Type 0
     SetsBoth before next after prev old new =
         LinksBecome (arena_with_prev (arena_with_next (links_view packed old) (option_map number before) (option_map number next)) (option_map number after) (option_map number prev)) old new
 
     -- `next` comes after `prev`.
-    abbrev pub LinksPair : (prev next : Option I) → (old new : Arena Gen (LinkBody K T)) → Type 0
+    abbrev pub LinksPair : (prev next : Option I) → (old new : Arena Gen (RawLink K T)) → Type 0
     LinksPair prev next old new = LinksBecome (arena_with_pair (links_view packed old) (option_map number prev) (option_map number next)) old new
 
     -- The first pair is linked, then the second.
-    abbrev pub LinksPairs : (first second : Option I × Option I) → (old new : Arena Gen (LinkBody K T)) → Type 0
+    abbrev pub LinksPairs : (first second : Option I × Option I) → (old new : Arena Gen (RawLink K T)) → Type 0
     LinksPairs first second old new = LinksBecome (arena_with_pairs (links_view packed old) (numbers number first) (numbers number second)) old new

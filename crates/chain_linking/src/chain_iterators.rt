@@ -29,7 +29,7 @@ pub struct ChainIter<
 > {
     arena: &'a Arena<P, LinkNoGen<P, T>, S>,
     start: P::Inx,
-    forth: Option<P::Inx>,
+    forward: Option<P::Inx>,
     back: Option<P::Inx>,
 
     // The most steps still made.
@@ -50,10 +50,10 @@ impl<'a, P: PtrKey, T: Drop, S: SlotStack<Item = ArenaSlot<P, LinkNoGen<P, T>>>>
 
     ghost view = { λ it. links_ahead (links_view P.Inx.packed_number it.arena.now) it.left
         (P.Inx.number it.start)
-        (option_map P.Inx.number it.forth) (option_map P.Inx.number it.back) };
+        (option_map P.Inx.number it.forward) (option_map P.Inx.number it.back) };
 
     ghost invariant = { λ it. IsOnLinks (link_map (links_view P.Inx.packed_number it.arena.now))
-        (option_map P.Inx.number it.forth) (option_map P.Inx.number it.back) };
+        (option_map P.Inx.number it.forward) (option_map P.Inx.number it.back) };
 }
 
 /// Returns an iterator over at most `left` links: the one at `start`, those after it to the end or
@@ -76,7 +76,7 @@ pub fn iter_from<P: PtrKey, T: Drop, S: SlotStack<Item = ArenaSlot<P, LinkNoGen<
     ChainIter {
         arena,
         start,
-        forth: Some(start),
+        forward: Some(start),
         back,
         left,
     }
@@ -94,13 +94,13 @@ impl<'a, P: PtrKey, T: Drop, S: SlotStack<Item = ArenaSlot<P, LinkNoGen<P, T>>>>
         if self.left == 0 {
             return None;
         }
-        match self.forth {
+        match self.forward {
             Some(i) => match lookup(self.arena, i) {
                 Some(item) => {
                     self.left -= 1;
-                    self.forth = item.1.next();
+                    self.forward = item.1.next();
                     // The iterator is once around.
-                    if is_index(self.forth, self.start) {
+                    if is_index(self.forward, self.start) {
                         self.left = 0;
                     }
                     Some(item)

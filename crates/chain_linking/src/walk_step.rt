@@ -35,22 +35,22 @@ pub fn lookup<P: PtrKey, T: Drop, S: SlotStack<Item = ArenaSlot<P, LinkNoGen<P, 
 pub fn step<P: PtrKey, T: Drop, S: SlotStack<Item = ArenaSlot<P, LinkNoGen<P, T>>>>(
     arena: &Arena<P, LinkNoGen<P, T>, S>,
     start: P::Inx,
-    forth: Option<P::Inx>,
+    forward: Option<P::Inx>,
     back: Option<P::Inx>,
 ) -> Option<(P, Option<P::Inx>, Option<P::Inx>)>
     ensures valid { IfSome result (λ s. IsValid (entry (links_view P.Inx.packed_number arena.now))
         (P.key s.0)) }
     ensures some { IfSome result
-        (λ s. Passes P.Inx.number (links_view P.Inx.packed_number arena.now) start forth back
+        (λ s. Passes P.Inx.number (links_view P.Inx.packed_number arena.now) start forward back
         (P.key s.0).0 s.1 s.2) }
     ensures none { IfNone result
-        (PassesNothing P.Inx.number (links_view P.Inx.packed_number arena.now) start forth back) }
+        (PassesNothing P.Inx.number (links_view P.Inx.packed_number arena.now) start forward back) }
 {
-    match forth {
+    match forward {
         Some(i) => match lookup(arena, i) {
             Some((p, link)) => {
-                let (forth, back) = step_both(start, link.next(), back);
-                Some((p, forth, back))
+                let (forward, back) = step_both(start, link.next(), back);
+                Some((p, forward, back))
             }
             None => None,
         },

@@ -7,7 +7,7 @@ use mathlib.Core.Path.{fun_ext}
 use Rattle.chain_laws.specs.Chains.{Interlinks, HasLink, HasLinksWithin}
 use Rattle.chain_laws.specs.Joins.{with_lone}
 use Rattle.chain_laws.proofs.InterlinkLemmas.Inverses.{if_same, if_other}
-use Rattle.chain_links.specs.declared.links.LinkBody.{LinkBody}
+use Rattle.chain_links.specs.declared.links.RawLink.{RawLink}
 use Rattle.chain_links.specs.Links.{link_view, links_view}
 use Rattle.arena_traits.specs.Arena.{Arena, slot_at, with_slot, slots_after_insertion, first_or_next, IsMember, IsListed, entry_at, entry_count, next_index, insert_next, with_capacity_of}
 use Rattle.chain_links.specs.ChainArena.{LinkView, link_value, values_of, link_map, IsInserted, interlinks_of, lone, insert_lone}
@@ -119,25 +119,25 @@ module _ {Gen T : Type 0} where
 
 module _ {Gen K T : Type 0} (number : K → Option ℕ) where
   -- Insertion commutes with `links_view`.
-  pub links_view-insert_next : (a : Arena Gen (LinkBody K T)) (link : LinkBody K T) → links_view number (insert_next a link) ≡ insert_next (links_view number a) (link_view number link)
+  pub links_view-insert_next : (a : Arena Gen (RawLink K T)) (link : RawLink K T) → links_view number (insert_next a link) ≡ insert_next (links_view number a) (link_view number link)
   links_view-insert_next a link = with_each-insert_next (link_view number) a link
 
-  pub entry_count-links_view : (a : Arena Gen (LinkBody K T)) → entry_count (links_view number a) ≡ entry_count a
+  pub entry_count-links_view : (a : Arena Gen (RawLink K T)) → entry_count (links_view number a) ≡ entry_count a
   entry_count-links_view a = entry_count-with_each (link_view number) a
 
-  pub next_index-links_view : (a : Arena Gen (LinkBody K T)) → next_index (links_view number a) ≡ next_index a
+  pub next_index-links_view : (a : Arena Gen (RawLink K T)) → next_index (links_view number a) ≡ next_index a
   next_index-links_view a = ap (first_or_next a.freed) (length-with_each (link_view number) a)
 
   -- `links_view` and `values_of` keep the free slots listed.
-  pub listed-links_view : (a : Arena Gen (LinkBody K T)) → IsListed a → IsListed (links_view number a)
+  pub listed-links_view : (a : Arena Gen (RawLink K T)) → IsListed a → IsListed (links_view number a)
   listed-links_view a listed = listed-with_each (link_view number) a listed
 
-  pub listed-values : (a : Arena Gen (LinkBody K T)) → IsListed a → IsListed (values_of (links_view number a))
+  pub listed-values : (a : Arena Gen (RawLink K T)) → IsListed a → IsListed (values_of (links_view number a))
   listed-values a listed = listed-with_each link_value (links_view number a) (listed-links_view a listed)
 
-  pub length-values : (a : Arena Gen (LinkBody K T)) → length (values_of (links_view number a)).slots ≡ length a.slots
+  pub length-values : (a : Arena Gen (RawLink K T)) → length (values_of (links_view number a)).slots ≡ length a.slots
   length-values a = length-with_each link_value (links_view number a) ∙ length-with_each (link_view number) a
 
   -- The number of values.
-  pub count-values : (a : Arena Gen (LinkBody K T)) → length (entries (values_of (links_view number a))) ≡ entry_count a
+  pub count-values : (a : Arena Gen (RawLink K T)) → length (entries (values_of (links_view number a))) ≡ entry_count a
   count-values a = values-count (links_view number a) ∙ entry_count-links_view a

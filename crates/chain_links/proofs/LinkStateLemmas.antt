@@ -8,7 +8,7 @@ use Rattle.chain_laws.specs.Chains.{LinkMap}
 use Rattle.chain_laws.proofs.InterlinkLemmas.Inverses.{if_same, if_other}
 use Rattle.arena_traits.proofs.ArenaViewLemmas.{length-with_slot}
 use Rattle.chain_links.proofs.MappedArenaLemmas.{entry_at-with_each, length-with_each}
-use Rattle.chain_links.specs.declared.links.LinkBody.{LinkBody}
+use Rattle.chain_links.specs.declared.links.RawLink.{RawLink}
 use Rattle.chain_links.specs.Links.{link_view, pair_view, links_view}
 use Rattle.arena_traits.specs.Arena.{Arena, slot_at, with_slot, entry_at, with_value}
 use Rattle.chain_links.specs.ChainArena.{LinkView, relink, relink_from, with_link_map}
@@ -76,8 +76,8 @@ module _ {Gen T : Type 0} where
 
 -- Links as contracts see them.
 module _ {Gen K T : Type 0} (number : K → Option ℕ) where
-  pub entry_at-links_view : (a : Arena Gen (LinkBody K T)) (i : ℕ) → entry_at (links_view number a) i ≡ option_map (pair_view number) (entry_at a i)
+  pub entry_at-links_view : (a : Arena Gen (RawLink K T)) (i : ℕ) → entry_at (links_view number a) i ≡ option_map (pair_view number) (entry_at a i)
   entry_at-links_view a i = entry_at-with_each (link_view number) a i
 
-  pub length-links_view : (a : Arena Gen (LinkBody K T)) → length (links_view number a).slots ≡ length a.slots
+  pub length-links_view : (a : Arena Gen (RawLink K T)) → length (links_view number a).slots ≡ length a.slots
   length-links_view a = length-with_each (link_view number) a

@@ -23,7 +23,7 @@ use Rattle.chain_links.specs.CanonicalLayouts.{IsCanonicalLayout}
 use Rattle.chain_links.specs.ChainArena.{link_at, CanConnect, CanExchange, IsLinkAt}
 use Rattle.chain_links.specs.Links.{link_view, borrowed_link}
 use Rattle.chain_links.specs.declared.links.Link.{Link}
-use Rattle.chain_links.specs.declared.links.LinkBody.{LinkBody}
+use Rattle.chain_links.specs.declared.links.RawLink.{RawLink}
 
 module _ {A Gen T : Type 0} {view : A → ArenaView Gen T} {entry : A → ℕ → Option (Gen × T)} (state : (a : A) → ArenaState (view a) (entry a)) (interlinks : A → LinkMap) where
   module _ (old new : A) where
@@ -91,26 +91,26 @@ module _ {A Gen T : Type 0} {view : A → ArenaView Gen T} {entry : A → ℕ �
 
   module _ {P I W : Type 0} (pointers : PointerKind P I Gen W) where
     -- The same links without generations: that of p, and that at an index.
-    abbrev pub ReadsLinkNoGen : A → P → Option (Bor (LinkBody (PackedOption I W) T)) → Type 0
+    abbrev pub ReadsLinkNoGen : A → P → Option (Bor (RawLink (PackedOption I W) T)) → Type 0
     ReadsLinkNoGen a p result = record {
       some : IsSome result ↔ IsValid (entry a) (pointers.key p);
       link : IfSome result (λ link. link_at (entry a) (interlinks a) (pointers.key p).0 ≡ Some ((pointers.key p).1, link_view pointers.packed link.now));
     }
 
-    abbrev pub ReadsLinkAt : A → I → Option (Gen × Bor (LinkBody (PackedOption I W) T)) → Type 0
+    abbrev pub ReadsLinkAt : A → I → Option (Gen × Bor (RawLink (PackedOption I W) T)) → Type 0
     ReadsLinkAt a i result = option_map (borrowed_link pointers.packed) result ≡ link_at (entry a) (interlinks a) (pointers.number i)
 
     -- The link at i, with generation g, is removed and returned as it was.
-    abbrev pub IsTaken : A → ℕ → Gen → LinkBody (PackedOption I W) T → A → Type 0
+    abbrev pub IsTaken : A → ℕ → Gen → RawLink (PackedOption I W) T → A → Type 0
     IsTaken old i g link new = (link_at (entry old) (interlinks old) i ≡ Some (g, link_view pointers.packed link)) × IsRemoved old new pointers.following i
 
     -- A removal of the link of p, or of the link at i, if there is one.
-    abbrev pub RemovesLink : A → P → InvalidationResult (LinkBody (PackedOption I W) T) → A → Type 0
+    abbrev pub RemovesLink : A → P → InvalidationResult (RawLink (PackedOption I W) T) → A → Type 0
     RemovesLink old p result new =
         ReportsOverflow pointers.wraps (view old).counter (IsValid (entry old) (pointers.key p) → ⊥)
         (λ link. IsValid (entry old) (pointers.key p) × IsTaken old (pointers.key p).0 (pointers.key p).1 link new) result
 
-    abbrev pub RemovesLinkAt : A → I → InvalidationResult (Gen × LinkBody (PackedOption I W) T) → A → Type 0
+    abbrev pub RemovesLinkAt : A → I → InvalidationResult (Gen × RawLink (PackedOption I W) T) → A → Type 0
     RemovesLinkAt old i result new =
         ReportsOverflow pointers.wraps (view old).counter (entry old (pointers.number i) ≡ None) (λ e. IsTaken old (pointers.number i) e.0 e.1 new) result
 

@@ -104,8 +104,8 @@ module _ {Gen T : Type 0} where
   insert_lone a t = insert_next a (lone t)
 
   -- q is the next link of u and the previous one of v.
-  abbrev pub named_by : Arena Gen (LinkView T) → Option ℕ → Option ℕ → ℕ → Arena Gen (LinkView T)
-  named_by a u v q = with_link_map a (with_prev_at (with_next_at (link_map a) u (Some q)) v (Some q))
+  abbrev pub with_links_to : Arena Gen (LinkView T) → Option ℕ → Option ℕ → ℕ → Arena Gen (LinkView T)
+  with_links_to a u v q = with_link_map a (with_prev_at (with_next_at (link_map a) u (Some q)) v (Some q))
 
   -- A link is inserted between u and v.
   abbrev pub insert_between : Arena Gen (LinkView T) → T → Option ℕ → Option ℕ → Arena Gen (LinkView T)

@@ -72,23 +72,23 @@ module _ {A Gen T : Type 0} {view : A → ArenaView Gen T} {entry : A → ℕ �
         MayInsert (λ p. (pointers.key p).0) pointers.number (λ p. IsValid (entry a) (pointers.key p)) (λ i. IsSome (entry a (pointers.number i))) (interlinks a) kind
 
     -- A link of the kind, with a value, is inserted at p.
-    abbrev pub GainsLink : A → InsertKind P I → T → P → A → Type 0
-    GainsLink old kind t p new =
+    abbrev pub IsLinkInserted : A → InsertKind P I → T → P → A → Type 0
+    IsLinkInserted old kind t p new =
         IsInsertedBetween (before_new pointers (interlinks old) kind (pointers.key p).0) (after_new pointers (interlinks old) kind (pointers.key p).0) old t (pointers.key p) new
 
     -- An insertion within the capacity, which stays the same.
     abbrev pub InsertsLinkWithin : A → InsertKind P I → T → Result P ChainInsertionError → A → Type 0
     InsertsLinkWithin old kind t result new =
-        IsInsertionWithinResult (MayInsertIn old kind) (HasFreeCapacity (view old)) (IsFull (view old)) (λ p. GainsLink old kind t p new × ((view new).capacity ≡ (view old).capacity)) result
+        IsInsertionWithinResult (MayInsertIn old kind) (HasFreeCapacity (view old)) (IsFull (view old)) (λ p. IsLinkInserted old kind t p new × ((view new).capacity ≡ (view old).capacity)) result
 
     -- A link of the kind is inserted at p, after a growth if the arena was full.
-    abbrev pub GrowsAndGainsLink : A → InsertKind P I → T → P → A → Type 0
-    GrowsAndGainsLink old kind t p new = GainsLink old kind t p new × GrowsForOneMore pointers.greatest (view old) (view new)
+    abbrev pub IsLinkInsertedAfterGrowth : A → InsertKind P I → T → P → A → Type 0
+    IsLinkInsertedAfterGrowth old kind t p new = IsLinkInserted old kind t p new × GrowsForOneMore pointers.greatest (view old) (view new)
 
     -- An insertion for which a full arena grows.
     abbrev pub InsertsLink : A → InsertKind P I → T → Result P ChainInsertionError → A → Type 0
-    InsertsLink old kind t result new = IsInsertionResult (MayInsertIn old kind) (RefusesOneMore (view old)) (λ p. GrowsAndGainsLink old kind t p new) result
+    InsertsLink old kind t result new = IsInsertionResult (MayInsertIn old kind) (RefusesOneMore (view old)) (λ p. IsLinkInsertedAfterGrowth old kind t p new) result
 
     -- Such an insertion of a kind that may be inserted.
     abbrev pub InsertsAllowedLink : A → InsertKind P I → T → Result P ReallocationError → A → Type 0
-    InsertsAllowedLink old kind t result new = IsGrowthResult (RefusesOneMore (view old)) (λ p. GrowsAndGainsLink old kind t p new) result
+    InsertsAllowedLink old kind t result new = IsGrowthResult (RefusesOneMore (view old)) (λ p. IsLinkInsertedAfterGrowth old kind t p new) result

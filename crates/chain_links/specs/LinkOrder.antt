@@ -7,7 +7,7 @@ use Rattle.std.specs.Hash.{HashWrites}
 use Rattle.std.specs.Hash as fed
 use Rattle.std.specs.declared.cmp.Ordering.TheVariants.{Less, Equal}
 use Rattle.chain_links.specs.ChainArena.{LinkView}
-use Rattle.chain_links.specs.declared.links.LinkBody.{LinkBody}
+use Rattle.chain_links.specs.declared.links.RawLink.{RawLink}
 use Rattle.chain_links.specs.declared.links.Link.{Link}
 
 module _ {T : Type 0} where
@@ -46,7 +46,7 @@ pub record Parts (X T : Type 0) : Type 0 where
   pub next : Option X
   pub value : T
 
-abbrev pub body_parts : {K T : Type 0} → (K → Option ℕ) → LinkBody K T → Parts ℕ T
+abbrev pub body_parts : {K T : Type 0} → (K → Option ℕ) → RawLink K T → Parts ℕ T
 body_parts number l = record { prev = number l.prev; next = number l.next; value = l.t }
 
 abbrev pub parts_of : {P T : Type 0} → Link P T → Parts P T

@@ -4,7 +4,7 @@ use Rattle.std.specs.Option.{option_map}
 use Rattle.std.specs.Borrow.{Bor}
 use Rattle.chain_laws.specs.Chains.{LinkMap}
 use Rattle.chain_laws.specs.Walks.{Walker, walk_ahead, step_of}
-use Rattle.chain_links.specs.declared.links.LinkBody.{LinkBody}
+use Rattle.chain_links.specs.declared.links.RawLink.{RawLink}
 use Rattle.arena_traits.specs.Arena.{Arena, entry_at, IsValid}
 use Rattle.chain_links.specs.ChainArena.{LinkView, link_map}
 use Rattle.chain_links.specs.Links.{link_view}
@@ -15,10 +15,10 @@ module _ {Gen T : Type 0} where
   links_at a [] = []
   links_at a (i ∷ indexes) = elim (entry_at a i) [ None ↦ [] | Some e ↦ (i, e) ∷ links_at a indexes ]
 
-  -- The links ahead of a walker that began at `start`, goes on at `forth` and `back`, and makes at
+  -- The links ahead of a walker that began at `start`, goes on at `forward` and `back`, and makes at
   -- most `left` steps.
   abbrev pub links_ahead : Arena Gen (LinkView T) → ℕ → ℕ → Option ℕ → Option ℕ → List (ℕ × (Gen × LinkView T))
-  links_ahead a left start forth back = links_at a (walk_ahead left (link_map a) start forth back)
+  links_ahead a left start forward back = links_at a (walk_ahead left (link_map a) start forward back)
 
 module _ {Gen T : Type 0} where
   abbrev pub index_and_entry : ℕ → Gen × LinkView T → ℕ × (Gen × LinkView T)
@@ -26,7 +26,7 @@ module _ {Gen T : Type 0} where
 
 module _ {P Gen K T : Type 0} where
   -- A yielded pointer and link, as contracts see them.
-  abbrev pub item_view : (P → ℕ × Gen) → (K → Option ℕ) → P × Bor (LinkBody K T) → ℕ × (Gen × LinkView T)
+  abbrev pub item_view : (P → ℕ × Gen) → (K → Option ℕ) → P × Bor (RawLink K T) → ℕ × (Gen × LinkView T)
   item_view key number item = ((key item.0).0, ((key item.0).1, link_view number item.1.now))
 
 -- One call of an advancer: it passes the link at its next step and takes the step; without such a
@@ -38,4 +38,4 @@ pub record IsPassing {Gen T : Type 0} (entry : ℕ → Option (Gen × T)) (inter
 
 -- The walker of an advancer, with its indexes as numbers.
 abbrev pub walker_of : {I : Type 0} → (I → ℕ) → ℕ → I → Option I → Option I → Walker
-walker_of number left start forth back = record { left = left; start = number start; forth = option_map number forth; back = option_map number back }
+walker_of number left start forward back = record { left = left; start = number start; forward = option_map number forward; back = option_map number back }

@@ -11,4 +11,4 @@ pub mod walk_direction;
 pub use chain_laws::insert_kind::InsertKind;
 pub use kinds::LinkInsertKind;
 pub use link_order::links_compare_by_neighbors;
-pub use links::{Interlink, Link, LinkBody, LinkNoGen, Vacant};
+pub use links::{Interlink, Link, LinkNoGen, RawLink, Vacant};

@@ -5,11 +5,11 @@
 ghost use Rattle.std.specs.Prelude.{◌≡◌, None};
 ghost use Rattle.std.specs.Option.{option_map};
 
-use crate::links::LinkBody;
+use crate::links::RawLink;
 use arena_ptr::{InxKey, PackedOption};
 
 /// Returns a reference to the value of a link.
-pub fn value_of<W: Copy, I: InxKey<Word = W>, T>(link: &LinkBody<PackedOption<I, W>, T>) -> &T
+pub fn value_of<W: Copy, I: InxKey<Word = W>, T>(link: &RawLink<PackedOption<I, W>, T>) -> &T
     ensures { result.now ≡ link.now.t }
 {
     &link.t
@@ -17,7 +17,7 @@ pub fn value_of<W: Copy, I: InxKey<Word = W>, T>(link: &LinkBody<PackedOption<I,
 
 /// Sets the index of the link after this one.
 pub fn set_next<W: Copy, I: InxKey<Word = W>, T>(
-    link: &mut LinkBody<PackedOption<I, W>, T>,
+    link: &mut RawLink<PackedOption<I, W>, T>,
     next: Option<I>,
 )
     ensures next { I.packed_number link.new.next ≡ option_map I.number next }
@@ -28,7 +28,7 @@ pub fn set_next<W: Copy, I: InxKey<Word = W>, T>(
 
 /// Sets the index of the link before this one.
 pub fn set_prev<W: Copy, I: InxKey<Word = W>, T>(
-    link: &mut LinkBody<PackedOption<I, W>, T>,
+    link: &mut RawLink<PackedOption<I, W>, T>,
     prev: Option<I>,
 )
     ensures prev { I.packed_number link.new.prev ≡ option_map I.number prev }
@@ -39,7 +39,7 @@ pub fn set_prev<W: Copy, I: InxKey<Word = W>, T>(
 
 /// Returns the index that a link is to be moved to, if one is set.
 pub fn destination_of<W: Copy, I: InxKey<Word = W>, T>(
-    link: &LinkBody<PackedOption<I, W>, T>,
+    link: &RawLink<PackedOption<I, W>, T>,
 ) -> Option<I>
     ensures { option_map I.number result ≡ I.packed_number link.now.destination }
 {
@@ -48,7 +48,7 @@ pub fn destination_of<W: Copy, I: InxKey<Word = W>, T>(
 
 /// Sets the index that a link is to be moved to.
 pub fn set_destination<W: Copy, I: InxKey<Word = W>, T>(
-    link: &mut LinkBody<PackedOption<I, W>, T>,
+    link: &mut RawLink<PackedOption<I, W>, T>,
     destination: Option<I>,
 )
     ensures destination { I.packed_number link.new.destination ≡ option_map I.number destination }

@@ -4,7 +4,7 @@ ghost use Rattle.std.specs.Option.{option_map};
 ghost use Rattle.std.specs.declared.cmp.Ordering.TheVariants.{Less};
 ghost use Rattle.chain_links.specs.LinkOrder.{CompareByParts, body_parts, parts_of};
 
-use crate::links::{Link, LinkBody, LinkNoGen};
+use crate::links::{Link, LinkNoGen, RawLink};
 use arena_ptr::{InxKey, PackedOption, Ptr};
 use std::cmp::Ordering;
 use std::hash::{Hash, Hasher};
@@ -19,7 +19,7 @@ fn number_of<I: InxKey>(i: Option<I>) -> Option<usize>
     }
 }
 
-impl<W: Copy, I: InxKey<Word = W>, T> LinkBody<PackedOption<I, W>, T> {
+impl<W: Copy, I: InxKey<Word = W>, T> RawLink<PackedOption<I, W>, T> {
     // Returns the numbers of both neighbors, by which links compare first.
     fn numbers(&self) -> (Option<usize>, Option<usize>)
         ensures { result ≡ (I.packed_number self.now.prev, I.packed_number self.now.next) }
@@ -29,7 +29,7 @@ impl<W: Copy, I: InxKey<Word = W>, T> LinkBody<PackedOption<I, W>, T> {
     }
 }
 
-impl<W: Copy, I: InxKey<Word = W>, T: PartialEq> PartialEq for LinkBody<PackedOption<I, W>, T> {
+impl<W: Copy, I: InxKey<Word = W>, T: PartialEq> PartialEq for RawLink<PackedOption<I, W>, T> {
     ghost use Rattle.chain_links.specs.Links.{link_view};
     ghost use Rattle.chain_links.specs.LinkOrder.{links_eq};
     ghost use Rattle.chain_links.specs.LinkOrderLaws.{links_per};
@@ -44,7 +44,7 @@ impl<W: Copy, I: InxKey<Word = W>, T: PartialEq> PartialEq for LinkBody<PackedOp
     }
 }
 
-impl<W: Copy, I: InxKey<Word = W>, T: Eq> Eq for LinkBody<PackedOption<I, W>, T> {
+impl<W: Copy, I: InxKey<Word = W>, T: Eq> Eq for RawLink<PackedOption<I, W>, T> {
     ghost use Rattle.chain_links.specs.Links.{link_view};
     ghost use Rattle.chain_links.specs.LinkOrderLaws.{links_equiv};
     ghost use Rattle.std.specs.Cmp.{on_equiv};
@@ -52,7 +52,7 @@ impl<W: Copy, I: InxKey<Word = W>, T: Eq> Eq for LinkBody<PackedOption<I, W>, T>
     ghost laws = { on_equiv (link_view I.packed_number) (links_equiv T.Eq.laws) };
 }
 
-impl<W: Copy, I: InxKey<Word = W>, T: PartialOrd> PartialOrd for LinkBody<PackedOption<I, W>, T> {
+impl<W: Copy, I: InxKey<Word = W>, T: PartialOrd> PartialOrd for RawLink<PackedOption<I, W>, T> {
     ghost use Rattle.chain_links.specs.Links.{link_view};
     ghost use Rattle.chain_links.specs.LinkOrder.{links_partial_cmp};
     ghost use Rattle.chain_links.specs.LinkOrderLaws.{links_po};
@@ -69,7 +69,7 @@ impl<W: Copy, I: InxKey<Word = W>, T: PartialOrd> PartialOrd for LinkBody<Packed
     }
 }
 
-impl<W: Copy, I: InxKey<Word = W>, T: Ord> Ord for LinkBody<PackedOption<I, W>, T> {
+impl<W: Copy, I: InxKey<Word = W>, T: Ord> Ord for RawLink<PackedOption<I, W>, T> {
     ghost use Rattle.chain_links.specs.Links.{link_view};
     ghost use Rattle.chain_links.specs.LinkOrder.{links_cmp};
     ghost use Rattle.chain_links.specs.LinkOrderLaws.{links_total, links_cmp_partial, links_are_equivalent};
@@ -93,7 +93,7 @@ impl<W: Copy, I: InxKey<Word = W>, T: Ord> Ord for LinkBody<PackedOption<I, W>, 
     }
 }
 
-impl<W: Copy, I: InxKey<Word = W>, T: Hash> Hash for LinkBody<PackedOption<I, W>, T> {
+impl<W: Copy, I: InxKey<Word = W>, T: Hash> Hash for RawLink<PackedOption<I, W>, T> {
     ghost use Rattle.chain_links.specs.Links.{link_view};
     ghost use Rattle.chain_links.specs.LinkOrder.{link_writes};
     ghost use Rattle.chain_links.specs.LinkOrderLaws.{links_alike};

@@ -3,7 +3,7 @@ ghost use Rattle.std.specs.Option.{option_map};
 ghost use Rattle.std.specs.Fmt.{WritesOnOk, DisplaysOnOk};
 ghost use Rattle.chain_links.specs.LinkText.{index_text, neighbors_text};
 
-use crate::links::{Link, LinkBody, index_of};
+use crate::links::{Link, RawLink, index_of};
 use arena_ptr::{PackedOption, Ptr, PtrInx};
 use std::fmt;
 
@@ -67,7 +67,7 @@ fn write_display<T: fmt::Display, F: fmt::Write>(
 ///
 /// `(start)` and `(end)` replace a missing index. Of the caller's format only the alternate flag
 /// reaches the value.
-impl<W: Copy, I: PtrInx<Word = W>, T: fmt::Debug> fmt::Debug for LinkBody<PackedOption<I, W>, T> {
+impl<W: Copy, I: PtrInx<Word = W>, T: fmt::Debug> fmt::Debug for RawLink<PackedOption<I, W>, T> {
     ghost use Rattle.chain_links.specs.LinkText.{link_text};
 
     ghost debug_output = { λ l. link_text (I.packed_number l.prev) (I.packed_number l.next)
@@ -81,7 +81,7 @@ impl<W: Copy, I: PtrInx<Word = W>, T: fmt::Debug> fmt::Debug for LinkBody<Packed
 
 /// Writes the same text as `Debug`, with the value by `Display`.
 impl<W: Copy, I: PtrInx<Word = W>, T: fmt::Display> fmt::Display
-    for LinkBody<PackedOption<I, W>, T> {
+    for RawLink<PackedOption<I, W>, T> {
     ghost use Rattle.chain_links.specs.LinkText.{link_text};
 
     ghost output = { λ l. link_text (I.packed_number l.prev) (I.packed_number l.next)

@@ -8,7 +8,7 @@ use std::alloc::AllocError;
 
 /// A link: the optional indexes of its neighbors, each stored as a `K`, and its value.
 #[derive(Copy)]
-pub struct LinkBody<K: Vacant, T> {
+pub struct RawLink<K: Vacant, T> {
     pub(crate) prev: K,
     pub(crate) next: K,
 
@@ -38,7 +38,7 @@ impl<W: Copy, I: InxKey<Word = W>> Vacant for PackedOption<I, W> {
 }
 
 // A clone has no destination.
-impl<K: Vacant, T: Clone> Clone for LinkBody<K, T> {
+impl<K: Vacant, T: Clone> Clone for RawLink<K, T> {
     ghost use Rattle.std.specs.Prelude.{◌≡◌};
     ghost use Rattle.chain_links.specs.Links.{IsAtRest};
 
@@ -48,7 +48,7 @@ impl<K: Vacant, T: Clone> Clone for LinkBody<K, T> {
     ghost is_infallible = { λ l. T.is_infallible l.t };
 
     fn clone(&self) -> Result<Self, AllocError> {
-        Ok(LinkBody {
+        Ok(RawLink {
             prev: self.prev,
             next: self.next,
             destination: K::vacant(),
@@ -63,12 +63,12 @@ pub type Interlink<P> = PackedOption<<P as PtrKey>::Inx, <<P as PtrKey>::Inx as 
 /// A link whose interlinks have no generation.
 ///
 /// Port of `LinkNoGen`.
-pub type LinkNoGen<P, T> = LinkBody<Interlink<P>, T>;
+pub type LinkNoGen<P, T> = RawLink<Interlink<P>, T>;
 
 // An interlink is no larger than its index, and neither is a destination.
 const _: () = prove!(size_of::<LinkNoGen<ToolPtr, u32>>() == 16);
 
-impl<W: Copy, I: InxKey<Word = W>, T> LinkBody<PackedOption<I, W>, T> {
+impl<W: Copy, I: InxKey<Word = W>, T> RawLink<PackedOption<I, W>, T> {
     /// Returns the index of the link before this one, or `None` at the start of the chain.
     pub fn prev(&self) -> Option<I>
         ensures { option_map I.number result ≡ (link_view I.packed_number self.now).prev }
@@ -102,7 +102,7 @@ impl<W: Copy, I: InxKey<Word = W>, T> LinkBody<PackedOption<I, W>, T> {
             } }
         ensures at_rest { IsAtRest I.packed_number result }
     {
-        LinkBody {
+        RawLink {
             prev: I::pack(prev_next.0),
             next: I::pack(prev_next.1),
             destination: I::pack(None),
@@ -187,7 +187,7 @@ impl<P: PtrKey, T> Link<P, T> {
             } }
         ensures at_rest { IsAtRest P.Inx.packed_number result }
     {
-        LinkBody::new((index_of(self.prev), index_of(self.next)), self.t)
+        RawLink::new((index_of(self.prev), index_of(self.next)), self.t)
     }
 
     /// Returns the link without the generations of its neighbors, with its value by reference.
@@ -199,7 +199,7 @@ impl<P: PtrKey, T> Link<P, T> {
         ensures value { result.t.now ≡ self.now.t }
         ensures at_rest { IsAtRest P.Inx.packed_number result }
     {
-        LinkBody::new((index_of(self.prev), index_of(self.next)), &self.t)
+        RawLink::new((index_of(self.prev), index_of(self.next)), &self.t)
     }
 }
 

@@ -1,8 +1,8 @@
+mod agreement;
 mod alloc_failures;
 mod arena_text;
 mod call_lists;
 mod canonical;
-mod consistency;
 mod copies;
 mod drains;
 mod entries;
@@ -25,7 +25,7 @@ use arena_base::{Arena, ArenaSlot, ArenaTrait};
 use arena_ptr::{
     InvalidationResult, Inx32, LimitStack, PtrKey, SetMaxCapacity, SlotStack, ToolPtr,
 };
-use chain_arena::{ChainArena, ChainArenaTrait, LinkBody, LinkInsertKind, LinkNoGen};
+use chain_arena::{ChainArena, ChainArenaTrait, LinkInsertKind, LinkNoGen, RawLink};
 use std::alloc::{AllocError, Global};
 use std::fmt::Debug;
 use std::process::Abort;
@@ -98,10 +98,10 @@ fn add_plain<T: Drop, S: SlotStack<Item = ArenaSlot<ToolPtr, LinkNoGen<ToolPtr, 
     t: T,
 ) {
     let beside = (Inx32::new(beside.0), Inx32::new(beside.1));
-    let _ = arena.insert_reallocating(LinkBody::new(beside, t));
+    let _ = arena.insert_reallocating(RawLink::new(beside, t));
 }
 
-// Converts a plain arena to a chain arena, if its interlinks are consistent.
+// Converts a plain arena to a chain arena, if its interlinks agree.
 fn to_chain_arena<T: Drop, S: SlotStack<Item = ArenaSlot<ToolPtr, LinkNoGen<ToolPtr, T>>>>(
     arena: Arena<ToolPtr, LinkNoGen<ToolPtr, T>, S>,
 ) -> Result<ChainArena<ToolPtr, T, S>, &'static str> {

@@ -10,7 +10,7 @@ use Rattle.chain_laws.specs.Chains.{LinkMap, Chain, linear, cyclic, all_items, A
 use Rattle.chain_laws.specs.Renamings.{IsRenaming}
 use Rattle.chain_laws.specs.Arrangements.{place_in, in_runs, IsLeastIndexOrder}
 use Rattle.chain_laws.proofs.RenamingLemmas.Chains.{renaming_is_determined}
-use Rattle.chain_laws.proofs.RenamingLemmas.LeastIndexOrder.{layout_rests}
+use Rattle.chain_laws.proofs.RenamingLemmas.LeastIndexOrder.{layout_is_idempotent}
 use Rattle.chain_laws.proofs.ChainLemmas.Partitions.{no_others}
 use Rattle.chain_laws.proofs.RenamingLemmas.ChainRuns.{items_in_runs, runs_are_renumbered}
 use Rattle.arena_traits.specs.Entries.{found, index_of}
@@ -72,7 +72,7 @@ module _ {Gen T : Type 0} where
 
 pub moves_nothing : {Gen T : Type 0} → SecondCompressionMovesNothing Gen T
 moves_nothing first following reset again old mid new old_links mid_links new_links once twice =
-    let rests = layout_rests old_links mid_links once.indexes once.order once.renamed in
+    let rests = layout_is_idempotent old_links mid_links once.indexes once.order once.renamed in
     let same : twice.indexes ≡ range_with_len 1 (length once.indexes) = one_order mid_links twice.indexes _ twice.order rests in
     let count : length mid.entries ≡ length old.entries = sym (length-map mid.entries index_of) ∙ (ap length once.new_indexes ∙ length-range_with_len 1 (length old.entries)) in
     let many : length once.indexes ≡ length mid.entries =

@@ -79,7 +79,7 @@ pub trait ChainArenaTrait<P: PtrKey, T: Drop>: ArenaTrait<P, T> {
     /// Returns whether a link of the given kind may be inserted: the requirement of the kind on the
     /// links beside it is met.
     fn can_insert(&self, kind: LinkInsertKind<P>) -> bool
-        ensures { IsTrue result ↔ MayInsertIn Self.state interlinks ⟦<P as AnyPointer>⟧.kind
+        ensures { IsTrue result ↔ MayInsertIn Self.state interlinks ⟦<P as AnyPointer>⟧.pointers
             self.now kind };
 
     /// Inserts a link of the given kind within the capacity and returns its pointer.
@@ -101,10 +101,10 @@ pub trait ChainArenaTrait<P: PtrKey, T: Drop>: ArenaTrait<P, T> {
         kind: LinkInsertKind<P>,
         t: T,
     ) -> Result<P, ChainInsertionError>
-        ensures outcome { InsertsLinkWithin Self.state interlinks ⟦<P as AnyPointer>⟧.kind self.old
+        ensures outcome { InsertsLinkWithin Self.state interlinks ⟦<P as AnyPointer>⟧.pointers self.old
             kind t result self.new }
         ensures err { OnErr result (self.new ≡ self.old) }
-        ensures more { IfOk result (inserts self.old kind t self.new) };
+        ensures implementation { IfOk result (inserts self.old kind t self.new) };
 
     /// Inserts a link of the given kind and returns its pointer; a full arena grows first.
     ///
@@ -127,10 +127,10 @@ pub trait ChainArenaTrait<P: PtrKey, T: Drop>: ArenaTrait<P, T> {
         kind: LinkInsertKind<P>,
         t: T,
     ) -> Result<P, ChainInsertionError>
-        ensures outcome { InsertsLink Self.state interlinks ⟦<P as AnyPointer>⟧.kind self.old kind t
+        ensures outcome { InsertsLink Self.state interlinks ⟦<P as AnyPointer>⟧.pointers self.old kind t
             result self.new }
         ensures err { OnErr result (self.new ≡ self.old) }
-        ensures more { IfOk result (inserts self.old kind t self.new) };
+        ensures implementation { IfOk result (inserts self.old kind t self.new) };
 
     /// Inserts a link of a kind that may be inserted (`can_insert`), as `insert_reallocating` does.
     ///
@@ -146,11 +146,11 @@ pub trait ChainArenaTrait<P: PtrKey, T: Drop>: ArenaTrait<P, T> {
     ///
     /// Port of `ChainArenaTrait::insert`.
     fn insert(&mut self, kind: LinkInsertKind<P>, t: T) -> Result<P, ReallocationError>
-        requires { MayInsertIn Self.state interlinks ⟦<P as AnyPointer>⟧.kind self.old kind }
-        ensures outcome { InsertsAllowedLink Self.state interlinks ⟦<P as AnyPointer>⟧.kind self.old
+        requires { MayInsertIn Self.state interlinks ⟦<P as AnyPointer>⟧.pointers self.old kind }
+        ensures outcome { InsertsAllowedLink Self.state interlinks ⟦<P as AnyPointer>⟧.pointers self.old
             kind t result self.new }
         ensures err { OnErr result (self.new ≡ self.old) }
-        ensures more { IfOk result (inserts self.old kind t self.new) };
+        ensures implementation { IfOk result (inserts self.old kind t self.new) };
 
     /// Returns whether q follows p: both pointers are valid, and the next link of p is at the index
     /// of q.
@@ -178,13 +178,13 @@ pub trait ChainArenaTrait<P: PtrKey, T: Drop>: ArenaTrait<P, T> {
     ///
     /// Port of `ChainArenaTrait::get_link_no_gen`.
     fn get_link_no_gen(&self, p: P) -> Option<&LinkNoGen<P, T>>
-        ensures { ReadsLinkNoGen Self.state interlinks ⟦<P as AnyPointer>⟧.kind self.now p result };
+        ensures { ReadsLinkNoGen Self.state interlinks ⟦<P as AnyPointer>⟧.pointers self.now p result };
 
     /// Returns the generation and the link at an index, or `None` if no link is there.
     ///
     /// Port of `ChainArenaTrait::get_inx_link_no_gen`.
     fn get_inx_link_no_gen(&self, i: P::Inx) -> Option<(P::Gen, &LinkNoGen<P, T>)>
-        ensures link { ReadsLinkAt Self.state interlinks ⟦<P as AnyPointer>⟧.kind self.now i
+        ensures link { ReadsLinkAt Self.state interlinks ⟦<P as AnyPointer>⟧.pointers self.now i
             result }
         ensures agree { IsWellLinked (interlinks self.now) };
 
@@ -208,7 +208,7 @@ pub trait ChainArenaTrait<P: PtrKey, T: Drop>: ArenaTrait<P, T> {
     fn connect(&mut self, p: P, q: P) -> Option<()>
         ensures outcome { ConnectsLinks Self.state interlinks P.key self.old p q result self.new }
         ensures none { IfNone result (self.new ≡ self.old) }
-        ensures more { OnSome result (connects self.old p q self.new) };
+        ensures implementation { OnSome result (connects self.old p q self.new) };
 
     /// Disconnects a link from its previous link: a linear chain becomes two, a cyclic chain
     /// linear.
@@ -220,7 +220,7 @@ pub trait ChainArenaTrait<P: PtrKey, T: Drop>: ArenaTrait<P, T> {
     fn break_prev(&mut self, p: P) -> Option<()>
         ensures outcome { BreaksPrev Self.state interlinks P.key self.old p result self.new }
         ensures none { IfNone result (self.new ≡ self.old) }
-        ensures more { OnSome result (breaks_prev self.old p self.new) };
+        ensures implementation { OnSome result (breaks_prev self.old p self.new) };
 
     /// Disconnects a link from its next link: a linear chain becomes two, a cyclic chain linear.
     ///
@@ -231,7 +231,7 @@ pub trait ChainArenaTrait<P: PtrKey, T: Drop>: ArenaTrait<P, T> {
     fn break_next(&mut self, p: P) -> Option<()>
         ensures outcome { BreaksNext Self.state interlinks P.key self.old p result self.new }
         ensures none { IfNone result (self.new ≡ self.old) }
-        ensures more { OnSome result (breaks_next self.old p self.new) };
+        ensures implementation { OnSome result (breaks_next self.old p self.new) };
 
     /// Exchanges the next links of p and q.
     ///
@@ -243,7 +243,7 @@ pub trait ChainArenaTrait<P: PtrKey, T: Drop>: ArenaTrait<P, T> {
     fn exchange_next(&mut self, p: P, q: P) -> Option<()>
         ensures outcome { ExchangesNext Self.state interlinks P.key self.old p q result self.new }
         ensures none { IfNone result (self.new ≡ self.old) }
-        ensures more { OnSome result (exchanges self.old p q self.new) };
+        ensures implementation { OnSome result (exchanges self.old p q self.new) };
 
     /// Removes a link and returns it with the interlinks that it had, without their generations.
     ///
@@ -253,10 +253,10 @@ pub trait ChainArenaTrait<P: PtrKey, T: Drop>: ArenaTrait<P, T> {
     ///
     /// Port of `ChainArenaTrait::remove_link_no_gen`.
     fn remove_link_no_gen(&mut self, p: P) -> InvalidationResult<LinkNoGen<P, T>>
-        ensures outcome { RemovesLink Self.state interlinks ⟦<P as AnyPointer>⟧.kind self.old p
+        ensures outcome { RemovesLink Self.state interlinks ⟦<P as AnyPointer>⟧.pointers self.old p
             result self.new }
         ensures invalid { IfNone (value_within result) (self.new ≡ self.old) }
-        ensures more { OnSome (value_within result) (Self.removes self.old (P.key p).0 self.new) };
+        ensures implementation { OnSome (value_within result) (Self.removes self.old (P.key p).0 self.new) };
 
     /// Removes the link at an index and returns the link's generation, and the link with the
     /// interlinks that it had, without their generations.
@@ -267,10 +267,10 @@ pub trait ChainArenaTrait<P: PtrKey, T: Drop>: ArenaTrait<P, T> {
     ///
     /// Port of `ChainArenaTrait::remove_inx_link_no_gen`.
     fn remove_inx_link_no_gen(&mut self, i: P::Inx) -> InvalidationResult<(P::Gen, LinkNoGen<P, T>)>
-        ensures outcome { RemovesLinkAt Self.state interlinks ⟦<P as AnyPointer>⟧.kind self.old i
+        ensures outcome { RemovesLinkAt Self.state interlinks ⟦<P as AnyPointer>⟧.pointers self.old i
             result self.new }
         ensures invalid { IfNone (value_within result) (self.new ≡ self.old) }
-        ensures more { OnSome (value_within result) (Self.removes self.old (P.Inx.number i)
+        ensures implementation { OnSome (value_within result) (Self.removes self.old (P.Inx.number i)
             self.new) };
 
     /// Compacts the chains to the indexes from 1 on, each in one run of indexes in `next` order.
@@ -285,9 +285,9 @@ pub trait ChainArenaTrait<P: PtrKey, T: Drop>: ArenaTrait<P, T> {
     ///
     /// Port of `ChainArenaTrait::compress_canonical`.
     fn compress_canonical(&mut self, reset: bool) -> InvalidationOption<()>
-        ensures outcome { CompressesLinks Self.state interlinks ⟦<P as AnyPointer>⟧.kind self.old
+        ensures outcome { CompressesLinks Self.state interlinks ⟦<P as AnyPointer>⟧.pointers self.old
             reset result self.new }
-        ensures more { compresses_canonically self.old self.new };
+        ensures implementation { compresses_canonically self.old self.new };
 
     // A call of an advancer along a chain takes the next step of its walk, in the arena of that
     // call, or ends the walk.
@@ -305,7 +305,7 @@ pub trait ChainArenaTrait<P: PtrKey, T: Drop>: ArenaTrait<P, T> {
     ghost write_keeps: { (a b : Self) (i : ℕ) (t : T) → Self.writes a i t b
         → interlinks b ≡ interlinks a };
 
-    ghost renewal_keeps: { (a b : Self) (i : ℕ) → Self.renews a i b → interlinks b ≡ interlinks a };
+    ghost renewal_keeps: { (a b : Self) (i : ℕ) → Self.extra_on_invalidate a i b → interlinks b ≡ interlinks a };
 
     ghost removal_removes: { (a b : Self) (i : ℕ) → Self.removes a i b
         → interlinks b ≡ with_removal (interlinks a) i };

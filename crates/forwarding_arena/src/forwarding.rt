@@ -60,7 +60,7 @@ impl<P: PtrKey, T: Drop, A: ArenaTrait<P, T>> ArenaTrait<P, T> for ForwardingAre
 
     ghost writes = { λ v i t w. A.writes v.inner i t w.inner };
 
-    ghost renews = { λ v i w. A.renews v.inner i w.inner };
+    ghost extra_on_invalidate = { λ v i w. A.extra_on_invalidate v.inner i w.inner };
 
     ghost removes = { λ v i w. A.removes v.inner i w.inner };
 
@@ -206,7 +206,7 @@ impl<P: PtrKey, T: Drop, A: ChainArenaTrait<P, T>> ChainArenaTrait<P, T> for For
 
     ghost write_keeps = { λ v w i t writes. A.write_keeps v.inner w.inner i t writes };
 
-    ghost renewal_keeps = { λ v w i renews. A.renewal_keeps v.inner w.inner i renews };
+    ghost renewal_keeps = { λ v w i extra_on_invalidate. A.renewal_keeps v.inner w.inner i extra_on_invalidate };
 
     ghost removal_removes = { λ v w i removes. A.removal_removes v.inner w.inner i removes };
 
@@ -214,7 +214,7 @@ impl<P: PtrKey, T: Drop, A: ChainArenaTrait<P, T>> ChainArenaTrait<P, T> for For
         compresses };
 
     fn can_insert(&self, kind: LinkInsertKind<P>) -> bool
-        ensures { IsTrue result ↔ MayInsertIn A.state A.interlinks ⟦<P as AnyPointer>⟧.kind
+        ensures { IsTrue result ↔ MayInsertIn A.state A.interlinks ⟦<P as AnyPointer>⟧.pointers
             self.now.inner kind }
     {
         self.inner.can_insert(kind)
@@ -226,9 +226,9 @@ impl<P: PtrKey, T: Drop, A: ChainArenaTrait<P, T>> ChainArenaTrait<P, T> for For
         t: T,
     ) -> Result<P, ChainInsertionError>
         ensures outcome { InsertsLinkWithin (λ w. A.state w.inner) (λ w. A.interlinks w.inner)
-            ⟦<P as AnyPointer>⟧.kind self.old kind t result self.new }
+            ⟦<P as AnyPointer>⟧.pointers self.old kind t result self.new }
         ensures err { OnErr result (self.new ≡ self.old) }
-        ensures more { IfOk result (A.inserts self.old.inner kind t self.new.inner) }
+        ensures implementation { IfOk result (A.inserts self.old.inner kind t self.new.inner) }
     {
         self.inner.insert_within_capacity(kind, t)
     }
@@ -239,19 +239,19 @@ impl<P: PtrKey, T: Drop, A: ChainArenaTrait<P, T>> ChainArenaTrait<P, T> for For
         t: T,
     ) -> Result<P, ChainInsertionError>
         ensures outcome { InsertsLink (λ w. A.state w.inner) (λ w. A.interlinks w.inner)
-            ⟦<P as AnyPointer>⟧.kind self.old kind t result self.new }
+            ⟦<P as AnyPointer>⟧.pointers self.old kind t result self.new }
         ensures err { OnErr result (self.new ≡ self.old) }
-        ensures more { IfOk result (A.inserts self.old.inner kind t self.new.inner) }
+        ensures implementation { IfOk result (A.inserts self.old.inner kind t self.new.inner) }
     {
         self.inner.insert_reallocating(kind, t)
     }
 
     fn insert(&mut self, kind: LinkInsertKind<P>, t: T) -> Result<P, ReallocationError>
-        requires { MayInsertIn A.state A.interlinks ⟦<P as AnyPointer>⟧.kind self.old.inner kind }
+        requires { MayInsertIn A.state A.interlinks ⟦<P as AnyPointer>⟧.pointers self.old.inner kind }
         ensures outcome { InsertsAllowedLink (λ w. A.state w.inner) (λ w. A.interlinks w.inner)
-            ⟦<P as AnyPointer>⟧.kind self.old kind t result self.new }
+            ⟦<P as AnyPointer>⟧.pointers self.old kind t result self.new }
         ensures err { OnErr result (self.new ≡ self.old) }
-        ensures more { IfOk result (A.inserts self.old.inner kind t self.new.inner) }
+        ensures implementation { IfOk result (A.inserts self.old.inner kind t self.new.inner) }
     {
         self.inner.insert(kind, t)
     }

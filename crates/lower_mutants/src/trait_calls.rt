@@ -17,7 +17,7 @@ pub fn remove_link_no_gen<P: PtrKey, T: Drop, A: ChainArenaTrait<P, T>>(
     arena: &mut A,
     p: P,
 ) -> InvalidationResult<LinkNoGen<P, T>>
-    ensures { RemovesLink A.state A.interlinks ⟦<P as AnyPointer>⟧.kind arena.old p result
+    ensures { RemovesLink A.state A.interlinks ⟦<P as AnyPointer>⟧.pointers arena.old p result
         arena.new }
 {
     arena.remove_link_no_gen(p)
@@ -28,7 +28,7 @@ pub fn compress_canonical<P: PtrKey, T: Drop, A: ChainArenaTrait<P, T>>(
     arena: &mut A,
     reset: bool,
 ) -> InvalidationOption<()>
-    ensures { CompressesLinks A.state A.interlinks ⟦<P as AnyPointer>⟧.kind arena.old reset result
+    ensures { CompressesLinks A.state A.interlinks ⟦<P as AnyPointer>⟧.pointers arena.old reset result
         arena.new }
 {
     arena.compress_canonical(reset)

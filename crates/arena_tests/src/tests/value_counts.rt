@@ -5,7 +5,7 @@ use arena_base::{Arena, ArenaCloneFromWith, ArenaSlot, ArenaTrait};
 use arena_ptr::{
     ChunkStack, Gen32, GenKey, HeapStack, Inx32, LimitedStack, PtrKey, SlotStack, ToolPtr,
 };
-use chain_arena::{Call, ChainArena, ChainArenaTrait, LinkBody, LinkInsertKind, LinkNoGen, apply};
+use chain_arena::{Call, ChainArena, ChainArenaTrait, LinkInsertKind, LinkNoGen, RawLink, apply};
 use std::alloc::{AllocError, Global};
 use std::cell::Cell;
 use std::marker::Model;
@@ -120,7 +120,7 @@ fn left_by_a_refusal<S: SlotStack<Item = Slot>>(
     let mut arena: Arena<ToolPtr, Valued, S> = Arena::new(alloc);
     for next in [next, 0] {
         let beside = (None, Inx32::new(next));
-        let _ = arena.insert_reallocating(LinkBody::new(beside, value(rt, &clones, 0)));
+        let _ = arena.insert_reallocating(RawLink::new(beside, value(rt, &clones, 0)));
     }
     let made = ChainArena::from_arena(arena);
     (made.is_err(), Rc::strong_count(&clones))

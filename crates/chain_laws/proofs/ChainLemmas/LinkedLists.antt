@@ -150,10 +150,10 @@ AreLinked-first link_map [] after i s h p others = elim h [ ]
 AreLinked-first link_map (x ∷ xs) after i s (inl e) p others = ap (λ (z : ℕ). Some z) e
 AreLinked-first link_map (x ∷ xs) after i s (inr h) p others =
     let more = AreLinked-prev_some link_map x xs after i s.1 h in
-    absurd (clash more.0 more.1)
+    absurd (has_no_prev more.0 more.1)
   where
-    clash : (j : ℕ) → prev_of link_map i ≡ Some j → ⊥
-    clash j q = cc
+    has_no_prev : (j : ℕ) → prev_of link_map i ≡ Some j → ⊥
+    has_no_prev j q = cc
 
 -- ---- no repetition, from links alone
 
@@ -175,11 +175,11 @@ pub first_no_repetition : (link_map : LinkMap) (xs : List ℕ) (after : Option �
 first_no_repetition link_map [] after s = tt
 first_no_repetition link_map (x ∷ xs) after s = apart_no_repetition link_map None x xs after s again
   where
-    clash : (j : ℕ) → prev_of link_map x ≡ Some j → ⊥
-    clash j q = let n : prev_of link_map x ≡ None = ap prev_in s.0 in cc
+    has_no_prev : (j : ℕ) → prev_of link_map x ≡ Some j → ⊥
+    has_no_prev j q = let n : prev_of link_map x ≡ None = ap prev_in s.0 in cc
 
     again : IsMember xs x → ⊥
-    again h = let more = AreLinked-prev_some link_map x xs after x s.1 h in clash more.0 more.1
+    again h = let more = AreLinked-prev_some link_map x xs after x s.1 h in has_no_prev more.0 more.1
 
 -- Linked lists with the same first item and nothing after them are equal.
 pub one_onward : (link_map : LinkMap) (before left : Option ℕ) (xs ys : List ℕ)

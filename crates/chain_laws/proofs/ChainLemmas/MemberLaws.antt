@@ -65,13 +65,13 @@ rings_are_cyclic link_map xs i is has =
     let after = some_first w.1 once_around.0 in
     let next = ap next_in links ∙ (ap (first_or w.1) once_around.1 ∙ after.1) in
     let prev = cyclic_prev_some link_map xs i is has in
-    ((after.0, next, closed.forth i after.0 has next), (prev.0, prev.1, closed.back i prev.0 has prev.1))
+    ((after.0, next, closed.forward i after.0 has next), (prev.0, prev.1, closed.back i prev.0 has prev.1))
 
 -- A chain with one of two neighbors has both.
 pub neighbors_share_a_chain : NeighborsShareAChain
 neighbors_share_a_chain link_map c a b agrees pair is =
     let closed = chain_closed link_map c is in
-    (λ has. closed.forth a b has pair, λ has. closed.back b a has ((agrees.both a b).0 pair))
+    (λ has. closed.forward a b has pair, λ has. closed.back b a has ((agrees.both a b).0 pair))
 
 -- Chains with a common index have the same items.
 pub chains_share_each : ChainsShareEach

@@ -6,19 +6,19 @@ use Rattle.chain_laws.proofs.ChainLemmas.LinkedLists.{AreLinked-valid, AreLinked
 
 -- A set of indexes closed under next and prev.
 pub record HasAllNeighbors (link_map : LinkMap) (Member : ℕ → Type 0) : Type 0 where
-  pub forth : (i j : ℕ) → Member i → next_of link_map i ≡ Some j → Member j
+  pub forward : (i j : ℕ) → Member i → next_of link_map i ≡ Some j → Member j
   pub back : (i j : ℕ) → Member i → prev_of link_map i ≡ Some j → Member j
 
 -- A chain is closed under next and prev.
 pub chain_closed : (link_map : LinkMap) (c : Chain) → IsChain link_map c → HasAllNeighbors link_map (IsMember (items c))
-chain_closed link_map (linear xs) h = record { forth = onward; back = backward }
+chain_closed link_map (linear xs) h = record { forward = onward; back = backward }
   where
     onward : (i j : ℕ) → IsMember xs i → next_of link_map i ≡ Some j → IsMember xs j
     onward i j m e = ⊎_elim (λ (k : IsMember xs j). k) (λ (n : None ≡ Some j). absurd (cc)) (AreLinked-next link_map None xs None i j h.2 m e)
 
     backward : (i j : ℕ) → IsMember xs i → prev_of link_map i ≡ Some j → IsMember xs j
     backward i j m e = ⊎_elim (λ (k : IsMember xs j). k) (λ (n : None ≡ Some j). absurd (cc)) (AreLinked-prev link_map None xs None i j h.2 m e)
-chain_closed link_map (cyclic xs) h = record { forth = onward; back = backward }
+chain_closed link_map (cyclic xs) h = record { forward = onward; back = backward }
   where
     first : (j : ℕ) → first_or xs None ≡ Some j → IsMember xs j
     first j e = ⊎_elim (λ (k : IsMember xs j). k) (λ (n : None ≡ Some j). absurd (cc)) (first_or-IsMember xs None j e)
@@ -61,7 +61,7 @@ pub reaches_all : (link_map : LinkMap) (Member : ℕ → Type 0) (before : Optio
 reaches_all link_map Member before x xs after i closed s m (inl e) = subst Member e m
 reaches_all link_map Member before x [] after i closed s m (inr h) = elim h [ ]
 reaches_all link_map Member before x (y ∷ ys) after i closed s m (inr h) =
-    reaches_all link_map Member (Some x) y ys after i closed s.1 (closed.forth x y m (ap next_in s.0)) h
+    reaches_all link_map Member (Some x) y ys after i closed s.1 (closed.forward x y m (ap next_in s.0)) h
 
 -- A closed set with an item of a linked list has all items.
 pub reaches : (link_map : LinkMap) (Member : ℕ → Type 0) (before : Option ℕ) (xs : List ℕ) (after : Option ℕ) (i j : ℕ)
@@ -93,10 +93,10 @@ not_both link_map [] ys i h k m n = m
 not_both link_map (x ∷ xs) ys i h k m n =
     let member : IsMember ys x = reaches_first link_map (IsMember ys) None x xs None i (chain_closed link_map (cyclic ys) k) h.2 m n in
     let some = cyclic_prev_some link_map ys x k member in
-    clash some.0 some.1
+    has_no_prev some.0 some.1
   where
-    clash : (j : ℕ) → prev_of link_map x ≡ Some j → ⊥
-    clash j e = let none : prev_of link_map x ≡ None = ap prev_in h.2.0 in cc
+    has_no_prev : (j : ℕ) → prev_of link_map x ≡ Some j → ⊥
+    has_no_prev j e = let none : prev_of link_map x ≡ None = ap prev_in h.2.0 in cc
 
 -- Linear chains with a common index are equal.
 pub one_linear : (link_map : LinkMap) (xs ys : List ℕ) (i : ℕ) → IsChain link_map (linear xs) → IsChain link_map (linear ys) → IsMember xs i → IsMember ys i → xs ≡ ys

@@ -115,7 +115,7 @@ parted old a b agrees pair (stored_in (linear xs) chain has) = let w = IsMember-
         }
 parted old a b agrees pair (stored_in (cyclic xs) chain has) =
     let closed = chain_closed old (cyclic xs) chain in
-    let t = rotated_to old xs b chain (closed.forth a b has pair) in
+    let t = rotated_to old xs b chain (closed.forward a b has pair) in
     parted_ring old a b t.0 t.1 ((agrees.both a b).0 pair) ((t.2 a).0 has)
 
 -- `Cuts` gives exactly the chains of the cut.

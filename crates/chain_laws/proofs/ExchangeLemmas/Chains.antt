@@ -38,7 +38,7 @@ module _ (old new : LinkMap) (p q : ℕ) (are : AreExchanged old new p q) where
       → new i ≡ Some (link (swapped_in p q before) (next_of old (swapped p q i)))
   reports_exchanged i before after e =
       reports_both new i (swapped_in p q before) (next_of old (swapped p q i)) ((are.links i).1 (reports_valid old i (link before after) e))
-      (are.back i ∙ ap (swapped_in p q) (reports_prev old i before after e)) (are.forth i)
+      (are.back i ∙ ap (swapped_in p q) (reports_prev old i before after e)) (are.forward i)
 
   -- A list with neither stays linked, with a swap before it.
   AreLinked-neither : (before : Option ℕ) (xs : List ℕ) (after : Option ℕ) → HasNeither xs p q → AreLinked old before xs after

@@ -1,4 +1,4 @@
--- Interlinks after an exchange: two links exchange their next, and all stay consistent.
+-- Interlinks after an exchange: two links exchange their next, and all still agree.
 use Rattle.std.specs.Prelude.{◌≡◌, ◌≢◌, ◌↔◌, ℕ, ◌⊎◌, Option, Some}
 use Rattle.std.proofs.Common.{sym, refl, ap, ◌∙◌, inl, inr}
 use Rattle.std.proofs.lemmas.Bool.{cases_eq}
@@ -18,7 +18,7 @@ use Rattle.chain_laws.proofs.ExchangeLemmas.Swaps.{swapped-mutual, swapped_in-mu
 
 -- The next of p and the next of q are exchanged.
 pub record AreExchanged (old new : LinkMap) (p q : ℕ) : Type 0 where
-  pub forth : (i : ℕ) → next_of new i ≡ next_of old (swapped p q i)
+  pub forward : (i : ℕ) → next_of new i ≡ next_of old (swapped p q i)
   pub back : (i : ℕ) → prev_of new i ≡ swapped_in p q (prev_of old i)
   pub links : (i : ℕ) → HasLink new i ↔ HasLink old i
 
@@ -26,7 +26,7 @@ pub record AreExchanged (old new : LinkMap) (p q : ℕ) : Type 0 where
 pub are_exchanged_back : (old new : LinkMap) (p q : ℕ) → AreExchanged old new p q → AreExchanged new old p q
 are_exchanged_back old new p q are =
     record {
-      forth = λ i. sym (are.forth (swapped p q i) ∙ ap (next_of old) (swapped-twice p q i));
+      forward = λ i. sym (are.forward (swapped p q i) ∙ ap (next_of old) (swapped-twice p q i));
       back = λ i. sym (ap (swapped_in p q) (are.back i) ∙ swapped_in-twice p q (prev_of old i));
       links = λ i. ((are.links i).1, (are.links i).0);
     }
@@ -35,7 +35,7 @@ are_exchanged_back old new p q are =
 pub are_exchanged_mutually : (old new : LinkMap) (p q : ℕ) → AreExchanged old new p q → AreExchanged old new q p
 are_exchanged_mutually old new p q are =
     record {
-      forth = λ i. are.forth i ∙ ap (next_of old) (swapped-mutual p q i);
+      forward = λ i. are.forward i ∙ ap (next_of old) (swapped-mutual p q i);
       back = λ i. are.back i ∙ swapped_in-mutual p q (prev_of old i);
       links = are.links;
     }
@@ -44,7 +44,7 @@ are_exchanged_mutually old new p q are =
 pub exchanged_are : (link_map : LinkMap) (p q : ℕ) → IsWellLinked link_map → HasLink link_map p → HasLink link_map q → AreExchanged link_map (with_exchange link_map p q) p q
 exchanged_are link_map p q agrees valid_p valid_q =
     record {
-      forth = λ i. outer_next i ∙ next_by i (cases_eq i q) (cases_eq i p);
+      forward = λ i. outer_next i ∙ next_by i (cases_eq i q) (cases_eq i p);
       back = λ i. outer_prev i ∙ prev_by i (names_or_not a i) (names_or_not b i);
       links = λ i.
           let outer = HasLink-linked half (Some q) a i in
@@ -95,13 +95,13 @@ exchanged_are link_map p q agrees valid_p valid_q =
         put_at-other (prev_of half) a (Some q) i not_a ∙ inner_prev i ∙ put_at-other (prev_of link_map) b (Some p) i not_b
         ∙ sym (swapped_in-other p q (prev_of link_map i) (λ e. not_a ((agrees.both p i).1 e)) (λ e. not_b ((agrees.both q i).1 e)))
 
--- An exchange keeps the interlinks consistent.
+-- After an exchange the interlinks agree.
 pub exchanged_agrees : ExchangeAgrees
 exchanged_agrees link_map p q agrees valid_p valid_q =
     record {
       both = λ i j. (
-        λ e. are.back j ∙ ap (swapped_in p q) ((agrees.both (swapped p q i) j).0 (sym (are.forth i) ∙ e)) ∙ ap Some (swapped-twice p q i),
-        λ e. are.forth i ∙ (agrees.both (swapped p q i) j).1 (there.back j ∙ ap (swapped_in p q) e),
+        λ e. are.back j ∙ ap (swapped_in p q) ((agrees.both (swapped p q i) j).0 (sym (are.forward i) ∙ e)) ∙ ap Some (swapped-twice p q i),
+        λ e. are.forward i ∙ (agrees.both (swapped p q i) j).1 (there.back j ∙ ap (swapped_in p q) e),
       );
     }
   where
@@ -115,7 +115,7 @@ exchanged_agrees link_map p q agrees valid_p valid_q =
 pub exchanged_in_pairs : ExchangeInPairs
 exchanged_in_pairs link_map p q agrees valid_p valid_q =
     record {
-      pairs = λ i j. (λ e. there i j (sym (are.forth i) ∙ e) (is_either_or_neither p q i), λ s. are.forth i ∙ back i j s);
+      pairs = λ i j. (λ e. there i j (sym (are.forward i) ∙ e) (is_either_or_neither p q i), λ s. are.forward i ∙ back i j s);
       links = are.links;
     }
   where
@@ -134,7 +134,7 @@ exchanged_in_pairs link_map p q agrees valid_p valid_q =
     back i j (inr (inl s)) = ap (next_of link_map) (swapped-first p q i s.0) ∙ s.1
     back i j (inr (inr s)) = ap (next_of link_map) (swapped-second p q i s.0) ∙ s.1
 
--- A consistent exchange is determined by its pairs.
+-- An exchange whose interlinks agree is determined by its pairs.
 pub exchange_is_determined_by_pairs : ExchangeIsDeterminedByPairs
 exchange_is_determined_by_pairs old new p q agrees agrees_new valid_p valid_q exchanges =
     let that = exchanged_in_pairs old p q agrees valid_p valid_q in
@@ -153,7 +153,7 @@ pub exchanged_with_itself : ExchangeWithItselfKeeps
 exchanged_with_itself link_map p agrees valid =
     let are = exchanged_are link_map p p agrees valid valid in
     same_after (with_exchange link_map p p) link_map (exchanged_agrees link_map p p agrees valid valid) agrees are.links
-    (λ i. are.forth i ∙ ap (next_of link_map) (swapped-itself p i))
+    (λ i. are.forward i ∙ ap (next_of link_map) (swapped-itself p i))
 
 -- An exchange with the two links in the other order.
 pub exchanged_mutually : ExchangeIsMutual
@@ -163,7 +163,7 @@ exchanged_mutually link_map p q agrees valid_p valid_q =
     same_after (with_exchange link_map p q) (with_exchange link_map q p)
     (exchanged_agrees link_map p q agrees valid_p valid_q) (exchanged_agrees link_map q p agrees valid_q valid_p)
     (λ i. (λ v. (that.links i).1 ((are.links i).0 v), λ v. (are.links i).1 ((that.links i).0 v)))
-    (λ i. are.forth i ∙ ap (next_of link_map) (swapped-mutual p q i) ∙ sym (that.forth i))
+    (λ i. are.forward i ∙ ap (next_of link_map) (swapped-mutual p q i) ∙ sym (that.forward i))
 
 -- Two exchanges of the same two links.
 pub exchanged_twice : ExchangeTwiceRestores
@@ -176,4 +176,4 @@ exchanged_twice link_map p q agrees valid_p valid_q =
     let again = exchanged_are once p q agrees_once valid_p_once valid_q_once in
     same_after (with_exchange once p q) link_map (exchanged_agrees once p q agrees_once valid_p_once valid_q_once) agrees
     (λ i. (λ v. (are.links i).0 ((again.links i).0 v), λ v. (again.links i).1 ((are.links i).1 v)))
-    (λ i. again.forth i ∙ are.forth (swapped p q i) ∙ ap (next_of link_map) (swapped-twice p q i))
+    (λ i. again.forward i ∙ are.forward (swapped p q i) ∙ ap (next_of link_map) (swapped-twice p q i))

@@ -1,4 +1,4 @@
--- Interlinks after an insertion: the new link is between two, and they stay consistent.
+-- Interlinks after an insertion: the new link is between two, and they still agree.
 use Rattle.std.specs.Prelude.{◌≡◌, ◌≢◌, ◌↔◌, ℕ, ◌⊎◌, Option, None, Some}
 use Rattle.std.proofs.Common.{sym, refl, ap, ◌∙◌, inl, inr, ⊎_elim}
 use Rattle.chain_laws.specs.Chains.{LinkMap, HasLink, IsWellLinked, prev_in, next_in, prev_of, next_of}
@@ -50,7 +50,7 @@ HasLink-inserted link_map q u v i =
 pub record IsBetween (link_map : LinkMap) (q : ℕ) (u v : Option ℕ) : Type 0 where
   pub valid_before : (i : ℕ) → u ≡ Some i → HasLink link_map i ⊎ (i ≡ q)
   pub valid_after : (i : ℕ) → v ≡ Some i → HasLink link_map i ⊎ (i ≡ q)
-  pub forth : IsOpenPlace (next_of link_map) q u v
+  pub forward : IsOpenPlace (next_of link_map) q u v
   pub back : IsOpenPlace (prev_of link_map) q v u
 
 -- `next` after the insertion puts q between u and v.
@@ -99,7 +99,7 @@ capacity_between link_map q u v free valid_u valid_v after before =
     record {
       valid_before = λ i e. inl (valid_u i e);
       valid_after = λ i e. inl (valid_v i e);
-      forth = record { free = ap next_in free; only = after; itself = λ e. absurd (free_invalid link_map q free (valid_u q e)) };
+      forward = record { free = ap next_in free; only = after; itself = λ e. absurd (free_invalid link_map q free (valid_u q e)) };
       back = record { free = ap prev_in free; only = before; itself = λ e. absurd (free_invalid link_map q free (valid_v q e)) };
     }
 
@@ -136,7 +136,7 @@ position_between link_map q (Some a) (Some b) agrees free (inr (inr ring)) =
     record {
       valid_before = λ i e. inr (sym (one_some e) ∙ ring.0);
       valid_after = λ i e. inr (sym (one_some e) ∙ ring.1);
-      forth = record {
+      forward = record {
         free = ap next_in free;
         only = λ i j e n. absurd (not_both_ways (next_of link_map q) j (ap next_in free) (ap (next_of link_map) (sym ring.0 ∙ one_some e) ∙ n));
         itself = λ e. ap Some ring.1;
@@ -148,13 +148,13 @@ position_between link_map q (Some a) (Some b) agrees free (inr (inr ring)) =
       };
     }
 
--- An insertion keeps the interlinks consistent.
+-- After an insertion the interlinks agree.
 pub inserted_agrees : InsertionAgrees
 inserted_agrees link_map q u v agrees free position =
     let between = position_between link_map q u v agrees free position in
     record {
       both = puts_undo (next_of link_map) (prev_of link_map) (next_of (with_insertion link_map q u v)) (prev_of (with_insertion link_map q u v)) q u v
-          agrees.both between.forth between.back (next_puts link_map q u v free between) (prev_puts link_map q u v free between);
+          agrees.both between.forward between.back (next_puts link_map q u v free between) (prev_puts link_map q u v free between);
     }
 
 -- The pairs and links after an insertion.
@@ -162,11 +162,11 @@ pub inserted_in_pairs : InsertionInPairs
 inserted_in_pairs link_map q u v agrees free position =
     let between = position_between link_map q u v agrees free position in
     record {
-      pairs = puts_pairs (next_of link_map) (next_of (with_insertion link_map q u v)) q u v between.forth (next_puts link_map q u v free between);
+      pairs = puts_pairs (next_of link_map) (next_of (with_insertion link_map q u v)) q u v between.forward (next_puts link_map q u v free between);
       links = HasLink-inserted link_map q u v;
     }
 
--- A consistent insertion is determined by its pairs.
+-- An insertion whose interlinks agree is determined by its pairs.
 pub insertion_is_determined_by_pairs : InsertionIsDeterminedByPairs
 insertion_is_determined_by_pairs old new q u v agrees agrees_new free position inserts =
     let that = inserted_in_pairs old q u v agrees free position in

@@ -47,8 +47,8 @@ pair_around_back f g q u v i j each (inr (inr p)) = inr (inl (p.1, p.0))
 -- Inverse functions stay inverse with q put between.
 pub puts_undo : (f g h k : ℕ → Option ℕ) (q : ℕ) (u v : Option ℕ) → Undoes f g → IsOpenPlace f q u v → IsOpenPlace g q v u
     → Puts f h q u v → Puts g k q v u → Undoes h k
-puts_undo f g h k q u v each capacity_after capacity_before forth back i j =
-    let after = puts_pairs f h q u v capacity_after forth i j in
+puts_undo f g h k q u v each capacity_after capacity_before forward back i j =
+    let after = puts_pairs f h q u v capacity_after forward i j in
     let before = puts_pairs g k q v u capacity_before back j i in (
       λ e. before.1 (pair_around_back f g q u v i j each (after.0 e)),
       λ e. after.1 (pair_around_back g f q v u j i (undoes_back f g each) (before.0 e)),

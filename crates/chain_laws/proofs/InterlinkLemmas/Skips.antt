@@ -52,8 +52,8 @@ undoes_back f g each i j = ((each j i).1, (each j i).0)
 
 -- Inverse functions stay inverse without q.
 pub skips_undo : (f g h k : ℕ → Option ℕ) (q : ℕ) → Undoes f g → Skips f h q → Skips g k q → Undoes h k
-skips_undo f g h k q each forth back i j =
-    let after = skips_pairs f g h q each forth i j in
+skips_undo f g h k q each forward back i j =
+    let after = skips_pairs f g h q each forward i j in
     let before = skips_pairs g f k q (undoes_back f g each) back j i in (
       λ e. before.1 (pair_past_back f g q i j each (after.0 e)),
       λ e. after.1 (pair_past_back g f q j i (undoes_back f g each) (before.0 e)),

@@ -1,4 +1,4 @@
--- A join keeps interlinks consistent, adds one pair, and makes two chains one.
+-- A join keeps interlinks in agreement, adds one pair, and makes two chains one.
 use Rattle.std.specs.Prelude.{◌≡◌, ◌≢◌, ℕ, ◌⊎◌, List, [], ◌∷◌, ◌++◌, None, Some}
 use Rattle.std.proofs.Common.{sym, ap, ◌∙◌, subst, subst₂, inl, inr, ⊎_elim}
 use Rattle.std.proofs.lemmas.Bool.{cases_eq}
@@ -19,7 +19,7 @@ next_of-joined link_map a b valid j = next_of-linked link_map (Some a) (Some b) 
 pub prev_of-joined : (link_map : LinkMap) (a b : ℕ) → HasLink link_map b → (j : ℕ) → prev_of (with_join link_map a b) j ≡ altered (prev_of link_map) b (Some a) j
 prev_of-joined link_map a b valid j = prev_of-linked link_map (Some a) (Some b) j (IsValidAt-Some link_map b valid)
 
--- A join of an end and a start keeps the interlinks consistent.
+-- After a join of an end and a start the interlinks agree.
 pub joined_agrees : (link_map : LinkMap) (a b : ℕ) → IsWellLinked link_map → AreEndAndStart link_map a b → IsWellLinked (with_join link_map a b)
 joined_agrees link_map a b agrees ends =
     record {

@@ -1,4 +1,4 @@
--- A new lone link keeps interlinks consistent, adds no pair, and is a chain of its own.
+-- A new lone link keeps interlinks in agreement, adds no pair, and is a chain of its own.
 use Rattle.std.specs.Prelude.{◌≡◌, ◌≢◌, ◌↔◌, ℕ, ◌⊎◌, List, Option, None, Some}
 use Rattle.std.proofs.Common.{sym, refl, ap, ◌∙◌, subst, inl, inr, ⊎_elim}
 use Rattle.std.proofs.lemmas.Bool.{cases_eq}
@@ -30,7 +30,7 @@ prev_of-with_lone link_map q free j = ⊎_elim
     (λ ne. ap prev_in (with_lone-off link_map q j ne))
     (cases_eq j q)
 
--- A new lone link keeps the interlinks consistent.
+-- After a new lone link the interlinks agree.
 pub with_lone_agrees : (link_map : LinkMap) (q : ℕ) → link_map q ≡ None → IsWellLinked link_map → IsWellLinked (with_lone link_map q)
 with_lone_agrees link_map q free agrees =
     record {

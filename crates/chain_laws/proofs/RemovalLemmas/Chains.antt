@@ -75,7 +75,7 @@ removed_from_cyclic link_map i x y chain filled =
 pub removed_rest : (link_map : LinkMap) (i : ℕ) → IsWellLinked link_map → (c : Chain) → (IsMember (items c) i → ⊥) → IsChain link_map c → IsChain (with_removal link_map i) c
 removed_rest link_map i agrees c none chain =
     let closed = chain_closed link_map c chain in
-    let before_apart : IsOutside (prev_of link_map i) (items c) = λ k named h. none (closed.forth k i h ((agrees.both k i).1 named)) in
+    let before_apart : IsOutside (prev_of link_map i) (items c) = λ k named h. none (closed.forward k i h ((agrees.both k i).1 named)) in
     let after_apart : IsOutside (next_of link_map i) (items c) = λ k named h. none (closed.back k i h ((agrees.both i k).0 named)) in
     (IsChain-linked (without_link link_map i) (prev_of link_map i) (next_of link_map i) c before_apart after_apart).0 (IsChain-vacated link_map i c none chain)
 

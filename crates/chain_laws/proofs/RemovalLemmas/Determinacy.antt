@@ -164,7 +164,7 @@ removal_leaves_each_without old new slots i agrees within removes c =
     back : (d : Chain) × IsChain old d × (c ≡ chain_without d i) × (items c ≢ []) → IsChain new c
     back p = subst (IsChain new) (sym p.2) (removes_shortens old new i removes p.0 p.1 (λ e. p.3 (ap items p.2 ∙ e)))
 
--- A consistent removal is determined by its pairs.
+-- A removal whose interlinks agree is determined by its pairs.
 pub removal_is_determined_by_pairs : RemovalIsDeterminedByPairs
 removal_is_determined_by_pairs old new i agrees agrees_new removes =
     let removal = removed_in_pairs old i agrees in

@@ -1,4 +1,4 @@
--- Interlinks after a removal: they skip the index and stay consistent.
+-- Interlinks after a removal: they skip the index and still agree.
 use Rattle.std.specs.Prelude.{◌≡◌, ◌≢◌, ◌↔◌, ℕ, ◌⊎◌, Option, None, Some}
 use Rattle.std.specs.Option.{option_map}
 use Rattle.std.proofs.Common.{sym, refl, ap, ap₂, ◌∙◌, inl, inr, ⊎_elim}
@@ -107,7 +107,7 @@ prev_skips link_map q agrees = record { gone = ap prev_in (removed-at link_map q
         ∙ prev_of-with_next_at (without_link link_map q) u v j
         ∙ ap prev_in (vacated-off link_map q j ne)
 
--- A removal keeps the interlinks consistent.
+-- After a removal the interlinks agree.
 pub removed_agrees : (link_map : LinkMap) (q : ℕ) → IsWellLinked link_map → IsWellLinked (with_removal link_map q)
 removed_agrees link_map q agrees =
     record {

@@ -1,4 +1,4 @@
--- What a renaming preserves (consistency, neighbor pairs and chains), and that the images of the
+-- What a renaming preserves (whether they agree, neighbor pairs and chains), and that the images of the
 -- chains determine it.
 use Rattle.std.proofs.Common.{◌≡◌, ◌↔◌, ℕ, inl, inr, List, [], ◌∷◌, Option, None, Some, refl, sym, ap, ◌∙◌, subst, ap₂}
 use Rattle.std.specs.Option.{option_and_then}
@@ -80,7 +80,7 @@ module _ (to : ℕ → Option ℕ) (old new : LinkMap) (renaming : IsRenaming to
   chain_renamed (linear xs) (cyclic ys) h image = absurd image
   chain_renamed (cyclic xs) (linear ys) h image = absurd image
 
--- A renaming keeps the interlinks consistent.
+-- After a renaming the interlinks agree.
 pub renaming_agrees : RenamingAgrees
 renaming_agrees to old new renaming agrees = record { both = λ k m. (next_then_prev to old new renaming agrees k m, prev_then_next to old new renaming agrees k m) }
 

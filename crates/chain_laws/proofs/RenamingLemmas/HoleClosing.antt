@@ -131,7 +131,7 @@ module _ (old now : LinkMap) (done : List ℕ) (k : ℕ) (gathering : IsGatherin
     can_move : CanMove now (k + 1) (length done + 1)
     can_move = record { valid = valid_renamed (gathered_place old done k) old now gathering.renamed (k + 1) (k + 1) valid here; free = free }
 
-    -- The interlinks are consistent.
+    -- The interlinks agree.
     agrees_now : IsWellLinked now
     agrees_now = renaming_agrees (gathered_place old done k) old now gathering.renamed agrees
 

@@ -4,7 +4,7 @@ use Rattle.std.specs.List.{range_with_len}
 use Rattle.chain_laws.specs.Chains.{Chain, linear, cyclic, items, HasChain, all_items, IsMember, StartsAtLeast, IsSortedByLeast, IsInOrder}
 use Rattle.std.proofs.Math.Decide.{ℕ_discrete}
 use Rattle.chain_laws.specs.Renamings.{IsRenaming}
-use Rattle.chain_laws.specs.Arrangements.{place_from, place_in, in_runs, LayoutRests, PlacesRest, HasLeastIndexOrder, LeastIndexOrderIsUnique, LeastIndexOrderIsCanonical, LeastIndexOrderRests}
+use Rattle.chain_laws.specs.Arrangements.{place_from, place_in, in_runs, LayoutIsIdempotent, PlacesRest, HasLeastIndexOrder, LeastIndexOrderIsUnique, LeastIndexOrderIsCanonical, LeastIndexOrderRests}
 use Rattle.chain_laws.proofs.ListLemmas.Members.{IsMember-left, IsMember-right}
 use Rattle.chain_laws.proofs.ChainLemmas.Uniqueness.{IsMember-at_most, chain_filled}
 use Rattle.chain_laws.proofs.ChainLemmas.NeighborPairs.{partitions, interlinks, chains_from_pairs}
@@ -103,8 +103,8 @@ least_index_order_rests link_map n canonical = record {
 }
 
 -- Links arranged in least-index order are in canonical order.
-pub layout_rests : LayoutRests
-layout_rests old new indexes order renaming =
+pub layout_is_idempotent : LayoutIsIdempotent
+layout_is_idempotent old new indexes order renaming =
     let runs =
     arranges_chains_in_runs old new order.chains (chains_from_pairs old order.chains order.are.partition order.are.interlinks)
     (subst (λ (is : List ℕ). IsRenaming (place_in is) old new) order.items renaming) in

@@ -31,8 +31,8 @@ rest_by : (link_map : LinkMap) (i : ℕ) (before after : Option ℕ) → link_ma
 rest_by link_map i before after e = ap (λ (o : Option Interlinks). option_or (step_forward i (next_in o)) (step_forward i (prev_in o))) e
 
 -- A walk goes forwards to another link.
-rest_forth : (link_map : LinkMap) (i k : ℕ) (before : Option ℕ) → link_map i ≡ Some (link before (Some k)) → k ≢ i → rest_start_of link_map i ≡ Some k
-rest_forth link_map i k before e ne = rest_by link_map i before (Some k) e ∙ ap (λ (o : Option ℕ). option_or o (step_forward i before)) (step_forward-other i k ne)
+rest_forward : (link_map : LinkMap) (i k : ℕ) (before : Option ℕ) → link_map i ≡ Some (link before (Some k)) → k ≢ i → rest_start_of link_map i ≡ Some k
+rest_forward link_map i k before e ne = rest_by link_map i before (Some k) e ∙ ap (λ (o : Option ℕ). option_or o (step_forward i before)) (step_forward-other i k ne)
 
 -- A walk goes back from the end.
 rest_back : (link_map : LinkMap) (i k : ℕ) → link_map i ≡ Some (link (Some k) None) → k ≢ i → rest_start_of link_map i ≡ Some k
@@ -72,14 +72,14 @@ leaves link_map i _ (of_linear (x ∷ xs) [] chain) =
 leaves link_map i _ (of_linear before (k ∷ ks) chain) =
     let stored = AreLinked-right link_map None before (i ∷ k ∷ ks) None chain.2 in
     let once = AreDistinct-right before (i ∷ k ∷ ks) chain.1 in
-    leaves_from link_map i k (k ∷ ks ++ reverse before) (rest_forth link_map i k (last_or before None) stored.0 (λ e. once.0 (inl e))) refl
+    leaves_from link_map i k (k ∷ ks ++ reverse before) (rest_forward link_map i k (last_or before None) stored.0 (λ e. once.0 (inl e))) refl
     (of_linear before ks (removed_from_linear link_map i before (k ∷ ks) chain (IsMember-filled (before ++ k ∷ ks) k (IsMember-middle before ks k))))
 leaves link_map i _ (of_cyclic [] chain) = record {
   first = sym (rest_by link_map i (Some i) (Some i) chain.2.0 ∙ ap₂ (λ (o p : Option ℕ). option_or o p) (if_same i i None (Some i) refl) (if_same i i None (Some i) refl));
   walk = λ k e. absurd (cc);
 }
 leaves link_map i _ (of_cyclic (k ∷ ks) chain) =
-    leaves_from link_map i k (k ∷ ks) (rest_forth link_map i k (last_or (k ∷ ks) None) chain.2.0 (λ e. chain.1.0 (inl e))) refl
+    leaves_from link_map i k (k ∷ ks) (rest_forward link_map i k (last_or (k ∷ ks) None) chain.2.0 (λ e. chain.1.0 (inl e))) refl
     (of_cyclic ks (removed_first_of_cyclic link_map i (k ∷ ks) chain (λ e. cc)))
 
 pub removal_leaves_the_walk : RemovalLeavesTheWalk
@@ -95,7 +95,7 @@ reports_rest link_map i walk is_walk j none =
     let here : IsMember (items own.0) i = (own.2 i).0 (walk_starts link_map i walk is_walk) in
     linked-off (without_link link_map i) (prev_of link_map i) (next_of link_map i) j
     (λ k named same. none ((own.2 j).1 (closed.back i j here (named ∙ ap (λ (n : ℕ). Some n) (sym same)))))
-    (λ k named same. none ((own.2 j).1 (closed.forth i j here (named ∙ ap (λ (n : ℕ). Some n) (sym same)))))
+    (λ k named same. none ((own.2 j).1 (closed.forward i j here (named ∙ ap (λ (n : ℕ). Some n) (sym same)))))
     ∙ vacated-off link_map i j (λ same. none (subst (IsMember walk) (sym same) (walk_starts link_map i walk is_walk)))
 
 -- The links of the walk are removed, and no others.

@@ -29,10 +29,10 @@ pub(super) fn insert_by_entry<S: SlotStack<Item = Slot>>(
     ensures place { IfOk result (λ p. key_of p ≡ (next_index arena.old, arena.old.counter)) }
     ensures state { OnOk result
         (arena.new ≡ with_capacity_of
-        (with_new_link ⟦<ToolPtr as AnyPointer>⟧.kind arena.old kind t) arena.new) }
+        (with_new_link ⟦<ToolPtr as AnyPointer>⟧.pointers arena.old kind t) arena.new) }
     ensures err { OnErr result (arena.new ≡ arena.old) }
     ensures link { (result ≡ Err ChainInsertionError.FailedLinkRequirement)
-        ↔ ¬ MayInsertIn value_state link_map ⟦<ToolPtr as AnyPointer>⟧.kind arena.old kind }
+        ↔ ¬ MayInsertIn value_state link_map ⟦<ToolPtr as AnyPointer>⟧.pointers arena.old kind }
 {
     let entry = arena.entry_insert_reallocating(kind)?;
     let p = entry.ptr();

@@ -1,9 +1,9 @@
 //! Runs the tests of links of numbers over each stack.
 
+use super::agreement::{check_accepted, check_rows};
 use super::alloc_failures::{check_copy_requests, check_refusals, check_requests, next_is_refused};
 use super::call_lists::{check_every_reply, check_lists};
 use super::canonical::check_bounds;
-use super::consistency::{check_accepted, check_rows};
 use super::entries::{check_full, check_growths};
 use super::inherent_call_tables::{COPIES, TABLES};
 use super::plain_copies::{

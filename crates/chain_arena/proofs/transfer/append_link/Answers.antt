@@ -21,8 +21,8 @@ insert_between-requires-clause-position g c =
     let ends = c.requires.ends in
     let beside = c.beside_end.ensures ends.0 (subst (AreEnds g.P.Inx.InxKey.number c.args.ends ends.0) (sym (at g c)) ends.1) in
     subst₂ (IsInsertPosition (link_map a) (next_index a))
-    (sym (subst (λ n. option_map g.P.Inx.InxKey.number c.beside_end.result.0 ≡ end_before c.args.ring ends.0 n) (at g c) beside.0))
-    (sym (subst (λ n. option_map g.P.Inx.InxKey.number c.beside_end.result.1 ≡ end_after c.args.ring ends.0 n) (at g c) beside.1)) ends.2
+    (sym (subst (λ n. option_map g.P.Inx.InxKey.number c.beside_end.result.0 ≡ end_before c.args.is_cyclic ends.0 n) (at g c) beside.0))
+    (sym (subst (λ n. option_map g.P.Inx.InxKey.number c.beside_end.result.1 ≡ end_after c.args.is_cyclic ends.0 n) (at g c) beside.1)) ends.2
 
 pub returns-clause-arranged : goal.returns-clause-arranged
 returns-clause-arranged g c m ends =
@@ -31,6 +31,6 @@ returns-clause-arranged g c m ends =
     let is : number c.inx-i.result ≡ q = c.inx-i.ensures ∙ c.requires.index in
     let there = subst (AreEnds number c.args.ends m) (sym is) ends in
     let beside = c.beside_end.ensures m there in (
-      c.insert_between.ensures.state ∙ ap₂ (insert_between c.args.target.now c.args.t) (subst (λ n. option_map number c.beside_end.result.0 ≡ end_before c.args.ring m n) is beside.0) (subst (λ n. option_map number c.beside_end.result.1 ≡ end_after c.args.ring m n) is beside.1),
+      c.insert_between.ensures.state ∙ ap₂ (insert_between c.args.target.now c.args.t) (subst (λ n. option_map number c.beside_end.result.0 ≡ end_before c.args.is_cyclic m n) is beside.0) (subst (λ n. option_map number c.beside_end.result.1 ≡ end_after c.args.is_cyclic m n) is beside.1),
       subst (λ n. AreEnds number c.with_end.result (m + 1) (n + 1)) is (c.with_end.ensures m there),
     )

@@ -1,4 +1,4 @@
--- A transfer moves pointers, whatever is carried over.
+-- A transfer moves pointers, whatever is transferred over.
 use Rattle.chain_arena.proofs.PointerTransferLemmas.{transfer_moves_pointers as of_transfer}
 use Rattle.chain_arena.proofs.transfer.transfer_moves_pointers.Goals as goal
 

@@ -33,5 +33,5 @@ loop-front-preserved g c =
 pub returns : goal.returns
 returns g c = λ old read held so_far.
     let at = c.loop-front.invariant in
-    feed-kept old _ read at.0 c.loop-front.left.now _ held _ (at.2 old read held so_far) c.keep.result c.args.piece.now c.keep.new.line.items at.1
-    c.in_default.ensures.none c.keep.ensures.ok c.keep.ensures.error
+    feed-kept old _ read at.0 c.loop-front.left.now _ held _ (at.2 old read held so_far) c.buffer_line.result c.args.piece.now c.buffer_line.new.line.items at.1
+    c.in_default.ensures.none c.buffer_line.ensures.ok c.buffer_line.ensures.error

@@ -22,4 +22,4 @@ written (Err errors.Write) old new line text bytes held held_after responses is 
 )
 
 pub returns-in-Ok : goal.returns-in-Ok
-returns-in-Ok g c = written c.put.result _ _ _ _ _ _ _ c.in-Ok.ensures.ok c.as_bytes.ensures.value c.put.ensures.ok c.put.ensures.err c.put.ensures.error
+returns-in-Ok g c = written c.write_fully.result _ _ _ _ _ _ _ c.in-Ok.ensures.ok c.as_bytes.ensures.value c.write_fully.ensures.ok c.write_fully.ensures.err c.write_fully.ensures.error

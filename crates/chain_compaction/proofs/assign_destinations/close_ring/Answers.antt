@@ -16,8 +16,8 @@ returns-in-Some-value_mut g c =
     let new = c.value_mut.follows.lender left in
     let wrote = lent old new i c.value_mut.result c.in-Some-value_mut.link left c.in-Some-value_mut.is c.value_mut.ensures.value (c.value_mut.follows.holds left) in
     record {
-      closed = closes g.P.Inx.InxKey.packed_number i (option_map number c.args.named) (option_map number c.args.last) old.held new.held (number c.in-Some.field-0) (ap (option_map number) c.in-Some.is)
-          link left wrote.stored wrote.held c.set_prev.ensures.prev c.set_prev.ensures.rest;
+      closed = closes g.P.Inx.InxKey.packed_number i (option_map number c.args.named) (option_map number c.args.last) old.detached new.detached (number c.in-Some.field-0) (ap (option_map number) c.in-Some.is)
+          link left wrote.stored wrote.detached c.set_prev.ensures.prev c.set_prev.ensures.rest;
       work = work-touched old.arena.now new.arena.now wrote.arena;
       counts = wrote.counts;
     }

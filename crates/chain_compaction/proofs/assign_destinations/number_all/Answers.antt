@@ -13,7 +13,7 @@ loop-k-init g c =
     let now = c.args.compactor.now in
     record {
       ready = c.requires.ready;
-      order = order_begins g.P.Inx.InxKey.packed_number g.V.Visitor.sees g.P.PtrKey.key c.args.generation c.args.visitor now.held now.arena.now c.requires.can.agree c.requires.can.at_rest.none c.new-ahead.result.credit (omega (arith, c.new-ahead.ensures, c.slots.ensures));
+      order = order_begins g.P.Inx.InxKey.packed_number g.V.Visitor.sees g.P.PtrKey.key c.args.generation c.args.visitor now.detached now.arena.now c.requires.can.agree c.requires.can.at_rest.none c.new-ahead.result.credit (omega (arith, c.new-ahead.ensures, c.slots.ensures));
       counts = counts_none now;
     }
 
@@ -23,9 +23,9 @@ start_at-start-requires g c =
     let now = c.loop-k.compactor in
     let lookup = c.read_link-link.ensures in
     record {
-      chain = order_found g.P.Inx.InxKey.packed_number g.V.Visitor.sees g.P.PtrKey.key c.args.generation c.args.visitor old.held old.arena.now c.loop-k.visitor now.held now.arena.now c.loop-k.count c.loop-k.k c.loop-k.ahead.credit
-          c.loop-k.invariant.order (g.P.Inx.InxKey.number c.inx_at-i.result) c.inx_at-i.ensures (sym (fresh_read g.P.Inx.InxKey.packed_number g.P.Inx.InxKey.number (slot_at now.held.slots (g.P.Inx.InxKey.number c.inx_at-i.result)) c.read_link-link.result.generation c.read_link-link.result.destination lookup.generation lookup.destination) ∙ sym c.is_fresh.ensures ∙ c.if-not-is_fresh.false)
-          c.read_ahead-ahead.new.compactor.held (c.read_ahead-ahead.ensures.read.held ∙ lookup.was_read.held);
+      chain = order_found g.P.Inx.InxKey.packed_number g.V.Visitor.sees g.P.PtrKey.key c.args.generation c.args.visitor old.detached old.arena.now c.loop-k.visitor now.detached now.arena.now c.loop-k.count c.loop-k.k c.loop-k.ahead.credit
+          c.loop-k.invariant.order (g.P.Inx.InxKey.number c.inx_at-i.result) c.inx_at-i.ensures (sym (fresh_read g.P.Inx.InxKey.packed_number g.P.Inx.InxKey.number (slot_at now.detached.slots (g.P.Inx.InxKey.number c.inx_at-i.result)) c.read_link-link.result.generation c.read_link-link.result.destination lookup.generation lookup.destination) ∙ sym c.is_fresh.ensures ∙ c.if-not-is_fresh.false)
+          c.read_ahead-ahead.new.compactor.detached (c.read_ahead-ahead.ensures.read.detached ∙ lookup.was_read.detached);
     }
 
 pub number_chain-visited-requires-clause-ready : goal.number_chain-visited-requires-clause-ready
@@ -42,15 +42,15 @@ number_chain-visited-requires-clause-chain g c =
           omega (
             arith,
             c.loop-k.invariant.order.relinked.long,
-            ap (λ h. length h.slots) lookup.was_read.held,
-            ap (λ h. length h.slots) c.read_ahead-ahead.ensures.read.held,
-            ap (λ h. length h.slots) start.held,
+            ap (λ h. length h.slots) lookup.was_read.detached,
+            ap (λ h. length h.slots) c.read_ahead-ahead.ensures.read.detached,
+            ap (λ h. length h.slots) start.detached,
             c.requires.can.fits,
           );
       can =
-          order_can g.P.Inx.InxKey.packed_number g.V.Visitor.sees g.P.PtrKey.key c.args.generation c.args.visitor old.held old.arena.now c.loop-k.visitor now.held now.arena.now c.loop-k.count c.loop-k.k c.loop-k.ahead.credit
-          c.loop-k.invariant.order (g.P.Inx.InxKey.number c.inx_at-i.result) c.inx_at-i.ensures (sym (fresh_read g.P.Inx.InxKey.packed_number g.P.Inx.InxKey.number (slot_at now.held.slots (g.P.Inx.InxKey.number c.inx_at-i.result)) c.read_link-link.result.generation c.read_link-link.result.destination lookup.generation lookup.destination) ∙ sym c.is_fresh.ensures ∙ c.if-not-is_fresh.false)
-          c.read_ahead-ahead.new.compactor.held (c.read_ahead-ahead.ensures.read.held ∙ lookup.was_read.held) c.start_at-start.new.compactor.held start.held (g.P.Inx.InxKey.number c.start_at-start.result.0) start.start;
+          order_can g.P.Inx.InxKey.packed_number g.V.Visitor.sees g.P.PtrKey.key c.args.generation c.args.visitor old.detached old.arena.now c.loop-k.visitor now.detached now.arena.now c.loop-k.count c.loop-k.k c.loop-k.ahead.credit
+          c.loop-k.invariant.order (g.P.Inx.InxKey.number c.inx_at-i.result) c.inx_at-i.ensures (sym (fresh_read g.P.Inx.InxKey.packed_number g.P.Inx.InxKey.number (slot_at now.detached.slots (g.P.Inx.InxKey.number c.inx_at-i.result)) c.read_link-link.result.generation c.read_link-link.result.destination lookup.generation lookup.destination) ∙ sym c.is_fresh.ensures ∙ c.if-not-is_fresh.false)
+          c.read_ahead-ahead.new.compactor.detached (c.read_ahead-ahead.ensures.read.detached ∙ lookup.was_read.detached) c.start_at-start.new.compactor.detached start.detached (g.P.Inx.InxKey.number c.start_at-start.result.0) start.start;
     }
 
 pub loop-k-preserved-then-not-is_fresh : goal.loop-k-preserved-then-not-is_fresh
@@ -62,9 +62,9 @@ loop-k-preserved-then-not-is_fresh g c =
     let mid = c.read_link-link.new.compactor in
     record {
       ready = at.ready;
-      order = order_skips g.P.Inx.InxKey.packed_number g.V.Visitor.sees g.P.PtrKey.key c.args.generation c.args.visitor old.held old.arena.now c.loop-k.visitor now.held now.arena.now c.loop-k.count c.loop-k.k c.loop-k.ahead.credit
-          at.order (g.P.Inx.InxKey.number c.inx_at-i.result) c.inx_at-i.ensures mid.held mid.arena.now lookup.was_read.held
-          (sym (fresh_read g.P.Inx.InxKey.packed_number g.P.Inx.InxKey.number (slot_at now.held.slots (g.P.Inx.InxKey.number c.inx_at-i.result)) c.read_link-link.result.generation c.read_link-link.result.destination lookup.generation lookup.destination) ∙ sym c.is_fresh.ensures ∙ c.if-not-is_fresh.true) (work-touched now.arena.now mid.arena.now lookup.was_read.arena);
+      order = order_skips g.P.Inx.InxKey.packed_number g.V.Visitor.sees g.P.PtrKey.key c.args.generation c.args.visitor old.detached old.arena.now c.loop-k.visitor now.detached now.arena.now c.loop-k.count c.loop-k.k c.loop-k.ahead.credit
+          at.order (g.P.Inx.InxKey.number c.inx_at-i.result) c.inx_at-i.ensures mid.detached mid.arena.now lookup.was_read.detached
+          (sym (fresh_read g.P.Inx.InxKey.packed_number g.P.Inx.InxKey.number (slot_at now.detached.slots (g.P.Inx.InxKey.number c.inx_at-i.result)) c.read_link-link.result.generation c.read_link-link.result.destination lookup.generation lookup.destination) ∙ sym c.is_fresh.ensures ∙ c.if-not-is_fresh.true) (work-touched now.arena.now mid.arena.now lookup.was_read.arena);
       counts = counts_on old now mid at.counts lookup.was_read.counts;
     }
 
@@ -84,11 +84,11 @@ loop-k-preserved g c =
     let new = c.number_chain-visited.new.compactor in
     record {
       ready = chain.ready;
-      order = order_continues g.P.Inx.InxKey.packed_number g.V.Visitor.sees g.P.PtrKey.key c.args.generation c.args.visitor old.held old.arena.now c.loop-k.visitor now.held now.arena.now c.loop-k.count c.loop-k.k c.loop-k.ahead.credit
+      order = order_continues g.P.Inx.InxKey.packed_number g.V.Visitor.sees g.P.PtrKey.key c.args.generation c.args.visitor old.detached old.arena.now c.loop-k.visitor now.detached now.arena.now c.loop-k.count c.loop-k.k c.loop-k.ahead.credit
           at.order (g.P.Inx.InxKey.number c.inx_at-i.result) c.inx_at-i.ensures
-          (sym (fresh_read g.P.Inx.InxKey.packed_number g.P.Inx.InxKey.number (slot_at now.held.slots (g.P.Inx.InxKey.number c.inx_at-i.result)) c.read_link-link.result.generation c.read_link-link.result.destination lookup.generation lookup.destination) ∙ sym c.is_fresh.ensures ∙ c.if-not-is_fresh.false)
-          behind.held (ahead.read.held ∙ lookup.was_read.held) was_stored.held start.held (g.P.Inx.InxKey.number c.start_at-start.result.0) start.start behind.arena.now was_stored.arena.now new.arena.now
-          c.number_chain-visited.result.0 new.held c.number_chain-visited.result.1 reads c.start_at-start.result.1 c.saturating_add.result
+          (sym (fresh_read g.P.Inx.InxKey.packed_number g.P.Inx.InxKey.number (slot_at now.detached.slots (g.P.Inx.InxKey.number c.inx_at-i.result)) c.read_link-link.result.generation c.read_link-link.result.destination lookup.generation lookup.destination) ∙ sym c.is_fresh.ensures ∙ c.if-not-is_fresh.false)
+          behind.detached (ahead.read.detached ∙ lookup.was_read.detached) was_stored.detached start.detached (g.P.Inx.InxKey.number c.start_at-start.result.0) start.start behind.arena.now was_stored.arena.now new.arena.now
+          c.number_chain-visited.result.0 new.detached c.number_chain-visited.result.1 reads c.start_at-start.result.1 c.saturating_add.result
           (work-more (work-touched now.arena.now mid.arena.now lookup.was_read.arena) ahead.read.work 0 (1 + reads) refl (omega arith))
           (omega (arith, ahead.fewer, start.ahead, c.saturating_add.ensures, c.saturating_sub.ensures)) start.linear start.cyclic chain.chain.numbered;
       counts = counts_on old now new at.counts (counts_on now mid new lookup.was_read.counts (counts_on mid behind new ahead.read.counts (counts_on behind was_stored new start.counts chain.chain.counts)));
@@ -102,7 +102,7 @@ returns-then-count-links g c =
     record {
       ready = at.ready;
       links = record {
-        numbered = order_full g.P.Inx.InxKey.packed_number g.V.Visitor.sees g.P.PtrKey.key c.args.generation c.args.visitor old.held old.arena.now c.loop-k.visitor now.held now.arena.now c.loop-k.count c.loop-k.k c.loop-k.ahead.credit
+        numbered = order_full g.P.Inx.InxKey.packed_number g.V.Visitor.sees g.P.PtrKey.key c.args.generation c.args.visitor old.detached old.arena.now c.loop-k.visitor now.detached now.arena.now c.loop-k.count c.loop-k.k c.loop-k.ahead.credit
             at.order (c.if-count-links.true ∙ c.requires.can.links) (omega (arith, c.slots-k-end.ensures, c.loop-k.auto.k-end));
         counts = at.counts;
       };
@@ -116,8 +116,8 @@ returns g c =
     record {
       ready = at.ready;
       links = record {
-        numbered = order_ends g.P.Inx.InxKey.packed_number g.V.Visitor.sees g.P.PtrKey.key c.args.generation c.args.visitor old.held old.arena.now c.loop-k.visitor now.held now.arena.now c.loop-k.count c.loop-k.k c.loop-k.ahead.credit
-            at.order (at_end c.loop-k.k c.slots-k-end.result (length old.held.slots) c.slots-k-end.ensures c.loop-k.auto.k-end c.loop-k-test.false);
+        numbered = order_ends g.P.Inx.InxKey.packed_number g.V.Visitor.sees g.P.PtrKey.key c.args.generation c.args.visitor old.detached old.arena.now c.loop-k.visitor now.detached now.arena.now c.loop-k.count c.loop-k.k c.loop-k.ahead.credit
+            at.order (at_end c.loop-k.k c.slots-k-end.result (length old.detached.slots) c.slots-k-end.ensures c.loop-k.auto.k-end c.loop-k-test.false);
         counts = at.counts;
       };
     }

@@ -6,6 +6,6 @@ use Rattle.chain_compaction.proofs.assign_destinations.number_all.Given as goal
 abbrev pub invariant-loop-k : goal.invariant-loop-k
 invariant-loop-k g l = record {
   ready : g.V.Visitor.is_ready l.visitor;
-  order : IsOrdering g.P.Inx.InxKey.packed_number g.V.Visitor.sees g.P.PtrKey.key l.fn.generation l.fn.visitor l.visitor l.fn.compactor.held l.compactor.held l.fn.compactor.arena.now l.compactor.arena.now l.count l.k l.ahead.credit;
+  order : IsOrdering g.P.Inx.InxKey.packed_number g.V.Visitor.sees g.P.PtrKey.key l.fn.generation l.fn.visitor l.visitor l.fn.compactor.detached l.compactor.detached l.fn.compactor.arena.now l.compactor.arena.now l.count l.k l.ahead.credit;
   counts : CountsWork l.fn.compactor l.compactor;
 }

@@ -13,19 +13,19 @@ use Rattle.chain_compaction.proofs.assign_destinations.number_chain.Given.{Over}
 use Rattle.chain_compaction.proofs.assign_destinations.number_chain.Goals as goal
 
 -- The walk is at its next link.
-walk_at : (g : Over) (c : In-Some g) (done : List ℕ) (l : Chain) → CanNumber g.P.Inx.InxKey.packed_number c.args.compactor.now.held.slots (g.P.Inx.InxKey.number c.args.start) c.args.before done l
-    → IsWalking g.P.Inx.InxKey.packed_number g.V.Visitor.sees g.P.PtrKey.key c.args.generation c.args.visitor c.loop-on.visitor c.args.compactor.now.held c.loop-on.compactor.held
+walk_at : (g : Over) (c : In-Some g) (done : List ℕ) (l : Chain) → CanNumber g.P.Inx.InxKey.packed_number c.args.compactor.now.detached.slots (g.P.Inx.InxKey.number c.args.start) c.args.before done l
+    → IsWalking g.P.Inx.InxKey.packed_number g.V.Visitor.sees g.P.PtrKey.key c.args.generation c.args.visitor c.loop-on.visitor c.args.compactor.now.detached c.loop-on.compactor.detached
     c.args.compactor.now.arena.now c.loop-on.compactor.arena.now c.loop-on.count (g.P.Inx.InxKey.number c.args.start) (Some (g.P.Inx.InxKey.number c.in-Some.i)) (option_map g.P.Inx.InxKey.number c.loop-on.named) (option_map g.P.Inx.InxKey.number c.loop-on.prev) done l
 walk_at g c done l can =
-    subst (λ o. IsWalking g.P.Inx.InxKey.packed_number g.V.Visitor.sees g.P.PtrKey.key c.args.generation c.args.visitor c.loop-on.visitor c.args.compactor.now.held c.loop-on.compactor.held
+    subst (λ o. IsWalking g.P.Inx.InxKey.packed_number g.V.Visitor.sees g.P.PtrKey.key c.args.generation c.args.visitor c.loop-on.visitor c.args.compactor.now.detached c.loop-on.compactor.detached
     c.args.compactor.now.arena.now c.loop-on.compactor.arena.now c.loop-on.count (g.P.Inx.InxKey.number c.args.start) (option_map g.P.Inx.InxKey.number o) (option_map g.P.Inx.InxKey.number c.loop-on.named) (option_map g.P.Inx.InxKey.number c.loop-on.prev) done l)
     c.in-Some.is (c.loop-on.invariant.walks done l can)
 
 -- Fewer links are numbered than there are slots.
-capacity_at : (g : Over) (c : In-Some g) → c.loop-on.count < length c.args.compactor.now.held.slots
+capacity_at : (g : Over) (c : In-Some g) → c.loop-on.count < length c.args.compactor.now.detached.slots
 capacity_at g c =
     let can = c.requires.chain.can in
-    walk_capacity g.P.Inx.InxKey.packed_number g.V.Visitor.sees g.P.PtrKey.key c.args.generation c.args.visitor c.args.compactor.now.held c.args.compactor.now.arena.now (g.P.Inx.InxKey.number c.args.start) c.args.before can.0 can.1 can.2 c.loop-on.visitor c.loop-on.compactor.held c.loop-on.compactor.arena.now c.loop-on.count
+    walk_capacity g.P.Inx.InxKey.packed_number g.V.Visitor.sees g.P.PtrKey.key c.args.generation c.args.visitor c.args.compactor.now.detached c.args.compactor.now.arena.now (g.P.Inx.InxKey.number c.args.start) c.args.before can.0 can.1 can.2 c.loop-on.visitor c.loop-on.compactor.detached c.loop-on.compactor.arena.now c.loop-on.count
     (option_map g.P.Inx.InxKey.number c.loop-on.named) (option_map g.P.Inx.InxKey.number c.loop-on.prev) (g.P.Inx.InxKey.number c.in-Some.i) (walk_at g c can.0 can.1 can.2)
 
 pub loop-on-init : goal.loop-on-init
@@ -34,17 +34,17 @@ loop-on-init g c =
     record {
       ready = c.requires.ready;
       long = refl;
-      walks = λ done l can. walk_begins g.P.Inx.InxKey.packed_number g.V.Visitor.sees g.P.PtrKey.key c.args.generation c.args.visitor now.held now.arena.now _ c.args.before done l can;
+      walks = λ done l can. walk_begins g.P.Inx.InxKey.packed_number g.V.Visitor.sees g.P.PtrKey.key c.args.generation c.args.visitor now.detached now.arena.now _ c.args.before done l can;
       counts = counts_none now;
     }
 
 pub inx_at-destination-requires : goal.inx_at-destination-requires
 inx_at-destination-requires g c = omega (arith, capacity_at g c, c.requires.chain.fits)
 
-pub after_it-after-requires-clause-first : goal.after_it-after-requires-clause-first
-after_it-after-requires-clause-first g c =
+pub next_destination-after-requires-clause-first : goal.next_destination-after-requires-clause-first
+next_destination-after-requires-clause-first g c =
     let can = c.requires.chain.can in
-    let enough = walk_first g.P.Inx.InxKey.packed_number g.V.Visitor.sees g.P.PtrKey.key c.args.generation c.args.visitor c.args.compactor.now.held c.args.compactor.now.arena.now (g.P.Inx.InxKey.number c.args.start) c.args.before can.0 can.1 can.2 in
+    let enough = walk_first g.P.Inx.InxKey.packed_number g.V.Visitor.sees g.P.PtrKey.key c.args.generation c.args.visitor c.args.compactor.now.detached c.args.compactor.now.arena.now (g.P.Inx.InxKey.number c.args.start) c.args.before can.0 can.1 can.2 in
     omega (arith, enough, c.requires.chain.fits)
 
 some_there : {X : Type 0} (o : Option X) → IsSome o → (x : X) × (o ≡ Some x)
@@ -52,12 +52,12 @@ some_there None some = let both : false ≡ true = some in absurd (cc)
 some_there (Some x) some = (x, refl)
 
 -- If the walk goes on, the next link has a free number too.
-pub after_it-after-requires-clause-next : goal.after_it-after-requires-clause-next
-after_it-after-requires-clause-next g c some =
-    let next = (goal.at.after_it-after-requires-clause-next g c).In-Some in
+pub next_destination-after-requires-clause-next : goal.next_destination-after-requires-clause-next
+next_destination-after-requires-clause-next g c some =
+    let next = (goal.at.next_destination-after-requires-clause-next g c).In-Some in
     let can = c.requires.chain.can in
     let on = some_there c.step_on-on.result some in
-    let enough = walk_more g.P.Inx.InxKey.packed_number g.V.Visitor.sees g.P.PtrKey.key c.args.generation c.args.visitor c.args.compactor.now.held c.args.compactor.now.arena.now (g.P.Inx.InxKey.number c.args.start) c.args.before can.0 can.1 can.2 c.loop-on.visitor c.loop-on.compactor.held c.loop-on.compactor.arena.now c.loop-on.count
+    let enough = walk_more g.P.Inx.InxKey.packed_number g.V.Visitor.sees g.P.PtrKey.key c.args.generation c.args.visitor c.args.compactor.now.detached c.args.compactor.now.arena.now (g.P.Inx.InxKey.number c.args.start) c.args.before can.0 can.1 can.2 c.loop-on.visitor c.loop-on.compactor.detached c.loop-on.compactor.arena.now c.loop-on.count
     (option_map g.P.Inx.InxKey.number c.loop-on.named) (option_map g.P.Inx.InxKey.number c.loop-on.prev) (g.P.Inx.InxKey.number c.in-Some.i) (walk_at g next can.0 can.1 can.2)
     (option_map g.P.Inx.InxKey.number c.read_link-link.result.next) (option_map g.P.Inx.InxKey.number c.step_on-on.result) c.read_link-link.ensures.next c.step_on-on.ensures (g.P.Inx.InxKey.number on.0) (ap (option_map g.P.Inx.InxKey.number) on.1) in
     omega (arith, enough, c.requires.chain.fits)
@@ -66,20 +66,20 @@ pub proved_unreachable-assume_proved-requires : goal.proved_unreachable-assume_p
 proved_unreachable-assume_proved-requires g c = absurd (
     let next = (goal.at.proved_unreachable-assume_proved-requires g c).In-Some in
     let can = c.requires.chain.can in
-    walk_returns g.P.Inx.InxKey.packed_number g.V.Visitor.sees g.P.PtrKey.key c.args.generation c.args.visitor c.args.compactor.now.held c.args.compactor.now.arena.now (g.P.Inx.InxKey.number c.args.start) c.args.before can.0 can.1 can.2 c.loop-on.visitor c.loop-on.compactor.held c.loop-on.compactor.arena.now c.loop-on.count
+    walk_returns g.P.Inx.InxKey.packed_number g.V.Visitor.sees g.P.PtrKey.key c.args.generation c.args.visitor c.args.compactor.now.detached c.args.compactor.now.arena.now (g.P.Inx.InxKey.number c.args.start) c.args.before can.0 can.1 can.2 c.loop-on.visitor c.loop-on.compactor.detached c.loop-on.compactor.arena.now c.loop-on.count
     (option_map g.P.Inx.InxKey.number c.loop-on.named) (option_map g.P.Inx.InxKey.number c.loop-on.prev) (g.P.Inx.InxKey.number c.in-Some.i) (walk_at g next can.0 can.1 can.2)
     (sym c.in-None.is ∙ c.read_link-link.ensures.generation))
 
 -- The slots after the write.
 linked_now : (g : Over) (c : After-relink_at g) → IsRelinkedAt g.P.Inx.InxKey.packed_number (g.P.Inx.InxKey.number c.in-Some.i) (option_map g.P.Inx.InxKey.number c.loop-on.prev)
     (number_after (option_map g.P.Inx.InxKey.number c.step_on-on.result) (option_map g.P.Inx.InxKey.number c.read_link-link.result.next) c.args.before (c.loop-on.count + 1)) (Some (g.P.Inx.InxKey.number c.inx_at-destination.result))
-    c.loop-on.compactor.held c.relink_at.new.compactor.held
+    c.loop-on.compactor.detached c.relink_at.new.compactor.detached
 linked_now g c =
     linked_read g.P.Inx.InxKey.packed_number (g.P.Inx.InxKey.number c.in-Some.i) (option_map g.P.Inx.InxKey.number c.loop-on.prev) _ _ (Some (g.P.Inx.InxKey.number c.inx_at-destination.result))
-    c.loop-on.compactor.held c.read_link-link.new.compactor.held c.relink_at.new.compactor.held c.read_link-link.ensures.was_read.held c.after_it-after.ensures c.relink_at.ensures.relinked
+    c.loop-on.compactor.detached c.read_link-link.new.compactor.detached c.relink_at.new.compactor.detached c.read_link-link.ensures.was_read.detached c.next_destination-after.ensures c.relink_at.ensures.relinked
 
-long_now : (g : Over) (c : After-relink_at g) → length c.relink_at.new.compactor.held.slots ≡ length c.args.compactor.now.held.slots
-long_now g c = linked_long g.P.Inx.InxKey.packed_number (g.P.Inx.InxKey.number c.in-Some.i) _ _ _ c.loop-on.compactor.held c.relink_at.new.compactor.held (linked_now g c) ∙ c.loop-on.invariant.long
+long_now : (g : Over) (c : After-relink_at g) → length c.relink_at.new.compactor.detached.slots ≡ length c.args.compactor.now.detached.slots
+long_now g c = linked_long g.P.Inx.InxKey.packed_number (g.P.Inx.InxKey.number c.in-Some.i) _ _ _ c.loop-on.compactor.detached c.relink_at.new.compactor.detached (linked_now g c) ∙ c.loop-on.invariant.long
 
 pub loop-on-smaller : goal.loop-on-smaller
 loop-on-smaller g c =
@@ -100,10 +100,10 @@ loop-on-preserved g c =
       ready = c.visit.ensures.ready;
       long = long_now g wrote;
       walks = λ done l can.
-          walk_continues g.P.Inx.InxKey.packed_number g.V.Visitor.sees g.P.PtrKey.key c.args.generation c.args.visitor c.args.compactor.now.held c.args.compactor.now.arena.now (g.P.Inx.InxKey.number c.args.start) c.args.before done l can c.loop-on.visitor c.loop-on.compactor.held c.loop-on.compactor.arena.now c.loop-on.count
+          walk_continues g.P.Inx.InxKey.packed_number g.V.Visitor.sees g.P.PtrKey.key c.args.generation c.args.visitor c.args.compactor.now.detached c.args.compactor.now.arena.now (g.P.Inx.InxKey.number c.args.start) c.args.before done l can c.loop-on.visitor c.loop-on.compactor.detached c.loop-on.compactor.arena.now c.loop-on.count
           (option_map g.P.Inx.InxKey.number c.loop-on.named) (option_map g.P.Inx.InxKey.number c.loop-on.prev) (g.P.Inx.InxKey.number c.in-Some.i) (walk_at g next done l can)
           (option_map g.P.Inx.InxKey.number c.read_link-link.result.next) (option_map g.P.Inx.InxKey.number c.step_on-on.result) lookup.next c.step_on-on.ensures
-          (g.P.Inx.InxKey.number c.inx_at-destination.result) new.held new.arena.now c.in-Some-generation.was c._from_raw.result c._from_raw-in-Some-generation.result c.visit.new.self
+          (g.P.Inx.InxKey.number c.inx_at-destination.result) new.detached new.arena.now c.in-Some-generation.was c._from_raw.result c._from_raw-in-Some-generation.result c.visit.new.self
           (linked_now g wrote) c.inx_at-destination.ensures (work-twice now.arena.now c.read_link-link.new.compactor.arena.now new.arena.now lookup.was_read.arena links_both.touched.arena)
           (sym c.in-Some-generation.is ∙ lookup.generation) c._from_raw.ensures c._from_raw-in-Some-generation.ensures c.visit.ensures.view_after;
       counts = counts_on c.args.compactor.now now new at.counts (counts_on now c.read_link-link.new.compactor new lookup.was_read.counts links_both.touched.counts);
@@ -119,12 +119,12 @@ returns g c =
       ready = at.ready;
       chain = record {
         numbered = λ done l can.
-            walk_ends g.P.Inx.InxKey.packed_number g.V.Visitor.sees g.P.PtrKey.key c.args.generation c.args.visitor old.held old.arena.now (g.P.Inx.InxKey.number c.args.start) c.args.before done l can c.loop-on.visitor now.held now.arena.now c.loop-on.count
+            walk_ends g.P.Inx.InxKey.packed_number g.V.Visitor.sees g.P.PtrKey.key c.args.generation c.args.visitor old.detached old.arena.now (g.P.Inx.InxKey.number c.args.start) c.args.before done l can c.loop-on.visitor now.detached now.arena.now c.loop-on.count
             (option_map g.P.Inx.InxKey.number c.loop-on.named) (option_map g.P.Inx.InxKey.number c.loop-on.prev)
-            (subst (λ o. IsWalking g.P.Inx.InxKey.packed_number g.V.Visitor.sees g.P.PtrKey.key c.args.generation c.args.visitor c.loop-on.visitor old.held now.held
+            (subst (λ o. IsWalking g.P.Inx.InxKey.packed_number g.V.Visitor.sees g.P.PtrKey.key c.args.generation c.args.visitor c.loop-on.visitor old.detached now.detached
             old.arena.now now.arena.now c.loop-on.count (g.P.Inx.InxKey.number c.args.start) (option_map g.P.Inx.InxKey.number o) (option_map g.P.Inx.InxKey.number c.loop-on.named) (option_map g.P.Inx.InxKey.number c.loop-on.prev) done l)
             c.in_default.is (at.walks done l can))
-            new.held c.close_ring.ensures.closed new.arena.now c.close_ring.ensures.work;
+            new.detached c.close_ring.ensures.closed new.arena.now c.close_ring.ensures.work;
         counts = counts_on old now new at.counts c.close_ring.ensures.counts;
       };
     }

@@ -9,8 +9,8 @@ abbrev pub invariant-loop-step : goal.invariant-loop-step
 invariant-loop-step g l =
     let number = g.P.Inx.InxKey.number in
     record {
-      held : l.compactor.held ≡ l.fn.compactor.held;
-      back : IsBack (link_map_in g.P.Inx.InxKey.packed_number l.fn.compactor.held.slots) (number l.i) l.step (number l.at);
+      detached : l.compactor.detached ≡ l.fn.compactor.detached;
+      back : IsBack (link_map_in g.P.Inx.InxKey.packed_number l.fn.compactor.detached.slots) (number l.i) l.step (number l.at);
       few : l.reads ≤ l.limit;
       work : IsWork l.fn.compactor.arena.now l.compactor.arena.now 0 (l.step + l.reads);
       counts : CountsWork l.fn.compactor l.compactor;

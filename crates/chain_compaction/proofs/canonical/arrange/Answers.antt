@@ -1,7 +1,7 @@
 -- `arrange` places all links, leaves no free slot, and returns the arena's work.
 use Rattle.std.proofs.Common.{rules, ◌≡◌, ◌+◌, sym, ap, ◌∙◌, subst}
 use Rattle.chain_links.specs.Links.{AreAtRest}
-use Rattle.chain_compaction.proofs.CanonicalLayoutLemmas.{counted_first, agree-held, links_arranged, work_known}
+use Rattle.chain_compaction.proofs.CanonicalLayoutLemmas.{counted_first, agree-detached, links_arranged, work_known}
 use Rattle.chain_compaction.proofs.CompactedLinkLemmas.{returned_at_rest}
 use Rattle.chain_compaction.proofs.canonical.arrange.Goals as goal
 
@@ -9,8 +9,8 @@ pub place_all-visitor-requires-clause-can : goal.place_all-visitor-requires-clau
 place_all-visitor-requires-clause-can g c = record {
   links = search rules;
   fits = search rules;
-  agree = agree-held g.P.Inx.InxKey.packed_number c.args.arena.now c.compactor-compactor.result.held c.compactor-compactor.ensures.held c.requires.links.agree;
-  at_rest = subst (λ held. AreAtRest g.P.Inx.InxKey.packed_number held.slots) (sym c.compactor-compactor.ensures.held) c.requires.links.at_rest;
+  agree = agree-detached g.P.Inx.InxKey.packed_number c.args.arena.now c.compactor-compactor.result.detached c.compactor-compactor.ensures.detached c.requires.links.agree;
+  at_rest = subst (λ detached. AreAtRest g.P.Inx.InxKey.packed_number detached.slots) (sym c.compactor-compactor.ensures.detached) c.requires.links.at_rest;
 }
 
 pub returns : goal.returns
@@ -23,7 +23,7 @@ returns g c =
     let done = c.place_all-visitor in
     let now = done.new.compactor in
     let known =
-    work_known g.V.Visitor.sees g.P.PtrKey.key c.args.visitor done.result.0 number generation old lent.held now.held first.ensures.held lent.arena.now now.arena.now done.result.1 done.ensures.links.placed
+    work_known g.V.Visitor.sees g.P.PtrKey.key c.args.visitor done.result.0 number generation old lent.detached now.detached first.ensures.detached lent.arena.now now.arena.now done.result.1 done.ensures.links.placed
     g.P.Inx.InxKey.greatest g.S.SlotStack.initial_maximum first.ensures.arena now.placed now.touched
     (done.ensures.links.counts.on lent.arena.now (counted_first lent.arena.now lent.placed lent.touched first.ensures.placed first.ensures.touched)) first.ensures.fits g.met.P.Inx.InxKey.greatest_fits in
     let placed : now.arena.now.placed ≡ old.placed + c.finish_packed.result.placed = known.0 ∙ ap (λ n. old.placed + n) (sym c.finish_packed.ensures.placed) in
@@ -32,9 +32,9 @@ returns g c =
     record {
       ready = done.ensures.ready;
       arranged =
-          links_arranged g.V.Visitor.sees g.P.PtrKey.key c.args.visitor done.result.0 number generation old lent.held now.held first.ensures.held lent.arena.now now.arena.now done.result.1 done.ensures.links.placed
+          links_arranged g.V.Visitor.sees g.P.PtrKey.key c.args.visitor done.result.0 number generation old lent.detached now.detached first.ensures.detached lent.arena.now now.arena.now done.result.1 done.ensures.links.placed
           g.P.Inx.InxKey.greatest g.S.SlotStack.initial_maximum first.ensures.arena c.len-links.ensures.capacity.1 c.generation-generation.ensures _ (search rules);
-      at_rest = returned_at_rest number now.held.slots _ (search rules) (done.ensures.links.at_rest (subst (λ held. AreAtRest number held.slots) (sym first.ensures.held) c.requires.links.at_rest));
+      at_rest = returned_at_rest number now.detached.slots _ (search rules) (done.ensures.links.at_rest (subst (λ detached. AreAtRest number detached.slots) (sym first.ensures.detached) c.requires.links.at_rest));
       placed = search rules;
       touched = search rules;
     }

@@ -21,9 +21,9 @@ returns-then-before g c =
     let wrote = lent old new i c.value_mut.result c.in-Some-value_mut.link left c.in-Some-value_mut.is c.value_mut.ensures.value (c.value_mut.follows.holds left) in
     record {
       counts = wrote.counts;
-      values = prev_values number packed old.held new.held c.args.before c.args.i target c.in-Some.i c.in-Some.is link left wrote.stored wrote.held c.if-before.true c.set_prev.ensures.rest;
+      values = prev_values number packed old.detached new.detached c.args.before c.args.i target c.in-Some.i c.in-Some.is link left wrote.stored wrote.detached c.if-before.true c.set_prev.ensures.rest;
       at_rest = overwritten_rests packed old new i link left wrote (ap (λ l. packed l.destination) c.set_prev.ensures.rest);
-      links = states_prev number packed old.held new.held c.args.before c.args.i target c.in-Some.i c.in-Some.is link left wrote.stored wrote.held c.if-before.true c.set_prev.ensures.rest c.set_prev.ensures.prev;
+      links = states_prev number packed old.detached new.detached c.args.before c.args.i target c.in-Some.i c.in-Some.is link left wrote.stored wrote.detached c.if-before.true c.set_prev.ensures.rest c.set_prev.ensures.prev;
       work = work-touched old.arena.now new.arena.now wrote.arena;
     }
 
@@ -40,9 +40,9 @@ returns-else-before g c =
     let wrote = lent old new i c.value_mut.result c.in-Some-value_mut.link left c.in-Some-value_mut.is c.value_mut.ensures.value (c.value_mut.follows.holds left) in
     record {
       counts = wrote.counts;
-      values = next_values number packed old.held new.held c.args.before c.args.i target c.in-Some.i c.in-Some.is link left wrote.stored wrote.held c.if-before.false c.set_next.ensures.rest;
+      values = next_values number packed old.detached new.detached c.args.before c.args.i target c.in-Some.i c.in-Some.is link left wrote.stored wrote.detached c.if-before.false c.set_next.ensures.rest;
       at_rest = overwritten_rests packed old new i link left wrote (ap (λ l. packed l.destination) c.set_next.ensures.rest);
-      links = states_next number packed old.held new.held c.args.before c.args.i target c.in-Some.i c.in-Some.is link left wrote.stored wrote.held c.if-before.false c.set_next.ensures.rest c.set_next.ensures.next;
+      links = states_next number packed old.detached new.detached c.args.before c.args.i target c.in-Some.i c.in-Some.is link left wrote.stored wrote.detached c.if-before.false c.set_next.ensures.rest c.set_next.ensures.next;
       work = work-touched old.arena.now new.arena.now wrote.arena;
     }
 
@@ -56,9 +56,9 @@ returns-in-None-value_mut g c =
     let kept = lent_none old new i c.value_mut.result c.in-None-value_mut.is c.value_mut.ensures.value c.value_mut.follows.holds-at-none in
     record {
       counts = kept.counts;
-      values = kept_values number packed old.held new.held c.args.before c.args.i (Some (number c.args.named)) c.in-Some.i c.in-Some.is kept.held;
-      at_rest = λ rest. subst (λ held. AreAtRest packed held.slots) (sym kept.held) rest;
-      links = states_nowhere number packed old.held new.held c.args.before c.args.i (Some (number c.args.named)) c.in-Some.i c.in-Some.is kept.held kept.none;
+      values = kept_values number packed old.detached new.detached c.args.before c.args.i (Some (number c.args.named)) c.in-Some.i c.in-Some.is kept.detached;
+      at_rest = λ rest. subst (λ detached. AreAtRest packed detached.slots) (sym kept.detached) rest;
+      links = states_nowhere number packed old.detached new.detached c.args.before c.args.i (Some (number c.args.named)) c.in-Some.i c.in-Some.is kept.detached kept.none;
       work = work-touched old.arena.now new.arena.now kept.arena;
     }
 
@@ -70,6 +70,6 @@ returns-in-None g c =
       counts = counts_none old;
       values = refl;
       at_rest = λ rest. rest;
-      links = states_none number (link_map_in g.P.Inx.InxKey.packed_number old.held.slots) c.args.before c.args.i (Some (number c.args.named)) c.in-None.is;
+      links = states_none number (link_map_in g.P.Inx.InxKey.packed_number old.detached.slots) c.args.before c.args.i (Some (number c.args.named)) c.in-None.is;
       work = work-none old.arena.now 1;
     }

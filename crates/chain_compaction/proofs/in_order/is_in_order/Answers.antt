@@ -8,7 +8,7 @@ use Rattle.chain_compaction.proofs.in_order.is_in_order.Goals as goal
 pub loop-k-init : goal.loop-k-init
 loop-k-init g c =
     let now = c.args.compactor.now in
-    record { read = reads_none now; runs = runs_begin (link_map_in g.P.Inx.InxKey.packed_number now.held.slots) false }
+    record { read = reads_none now; runs = runs_begin (link_map_in g.P.Inx.InxKey.packed_number now.detached.slots) false }
 
 pub returns-in-None-clause-read : goal.returns-in-None-clause-read
 returns-in-None-clause-read g c =
@@ -32,7 +32,7 @@ loop-k-preserved g c =
     record {
       read = reads_more old now c.read_link-link.new.compactor c.loop-k.k inv.read lookup.was_read;
       runs =
-          runs_read packed_number old.held now.held c.requires.agree c.loop-k.start c.loop-k.k c.loop-k.is_cyclic ring.result inv.runs inv.read.held (number c.inx_at.result) c.inx_at.ensures
+          runs_read packed_number old.detached now.detached c.requires.agree c.loop-k.start c.loop-k.k c.loop-k.is_cyclic ring.result inv.runs inv.read.detached (number c.inx_at.result) c.inx_at.ensures
           c.read_link-link.result.generation c.in-Some.field-0 c.in-Some.is lookup.generation number c.read_link-link.result.prev c.read_link-link.result.next lookup.prev lookup.next ring.ensures.first ring.ensures.later
           c.in-Some-start_after.after c.in-Some-start_after.ensures;
     }
@@ -40,6 +40,6 @@ loop-k-preserved g c =
 pub returns-clause-canonical : goal.returns-clause-canonical
 returns-clause-canonical g c =
     let packed_number = g.P.Inx.InxKey.packed_number in
-    let slots = c.args.compactor.now.held.slots in
+    let slots = c.args.compactor.now.detached.slots in
     let all : c.loop-k.k ≡ length slots = omega arith in
     runs_checked packed_number slots c.loop-k.start c.slots-slots.result c.loop-k.k c.loop-k.is_cyclic c.slots-slots.ensures all c.loop-k.invariant.runs

@@ -7,5 +7,5 @@ use Rattle.chain_compaction.proofs.in_order.is_in_order.Given as goal
 abbrev pub invariant-loop-k : goal.invariant-loop-k
 invariant-loop-k g l = record {
   read : HasReadSlots l.fn.compactor l.compactor l.k;
-  runs : AreRuns (link_map_in g.P.Inx.InxKey.packed_number l.fn.compactor.held.slots) l.start l.is_cyclic l.k;
+  runs : AreRuns (link_map_in g.P.Inx.InxKey.packed_number l.fn.compactor.detached.slots) l.start l.is_cyclic l.k;
 }

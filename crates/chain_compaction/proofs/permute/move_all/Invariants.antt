@@ -10,10 +10,10 @@ invariant-loop-start g l =
     let packed_number = g.P.Inx.InxKey.packed_number in
     record {
       reached : l.start ≤ l.slots;
-      passed : ArePassed (destination_of packed_number) (Settles packed_number l.generation) l.fn.compactor.held.slots l.compactor.held.slots l.start;
+      passed : ArePassed (destination_of packed_number) (Settles packed_number l.generation) l.fn.compactor.detached.slots l.compactor.detached.slots l.start;
       kept : ChangesOnlySlots l.fn.compactor l.compactor;
-      work : IsWorkInRounds l.fn.compactor.arena.now l.compactor.arena.now (waiting_count (destination_of packed_number) l.fn.compactor.held.slots) (waiting_count (destination_of packed_number) l.compactor.held.slots) l.start 0;
-      unplaced : l.unplaced ≡ waiting_count (destination_of packed_number) l.compactor.held.slots;
+      work : IsWorkInRounds l.fn.compactor.arena.now l.compactor.arena.now (waiting_count (destination_of packed_number) l.fn.compactor.detached.slots) (waiting_count (destination_of packed_number) l.compactor.detached.slots) l.start 0;
+      unplaced : l.unplaced ≡ waiting_count (destination_of packed_number) l.compactor.detached.slots;
     }
 
 abbrev pub decreases-loop-start : goal.decreases-loop-start

@@ -6,11 +6,11 @@ use Rattle.chain_compaction.proofs.read_ahead.read_ahead.Goals as goal
 pub returns-clause-read : goal.returns-clause-read
 returns-clause-read g c =
     let old = c.args.compactor.now in
-    let found = c.fresh_links-count in
-    let forth = c.read_along-forward in
+    let found = c.unnumbered_links-count in
+    let forward = c.read_along-forward in
     let back = c.read_along-backward in
     let slots = found.result.2 in
     let credit = c.args.ahead.credit in
-    reads_then old forth.new.compactor back.new.compactor (slots + forth.result) back.result (credit - (credit - (slots + forth.result + back.result)))
-    (reads_then old found.new.compactor forth.new.compactor slots forth.result (slots + forth.result) found.ensures.read forth.ensures.read (omega arith))
-    back.ensures.read (omega (arith, found.ensures.few, forth.ensures.few, back.ensures.few, c.if-ahead-lt16064.false))
+    reads_then old forward.new.compactor back.new.compactor (slots + forward.result) back.result (credit - (credit - (slots + forward.result + back.result)))
+    (reads_then old found.new.compactor forward.new.compactor slots forward.result (slots + forward.result) found.ensures.read forward.ensures.read (omega arith))
+    back.ensures.read (omega (arith, found.ensures.few, forward.ensures.few, back.ensures.few, c.if-ahead-lt16064.false))

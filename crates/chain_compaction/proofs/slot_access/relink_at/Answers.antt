@@ -17,7 +17,7 @@ returns-in-Some g c =
     let new = c.value_mut.follows.lender left in
     let wrote = lent old new i c.value_mut.result c.in-Some.link left c.in-Some.is c.value_mut.ensures.value (c.value_mut.follows.holds left) in
     record {
-      relinked = links_both g.P.Inx.InxKey.packed_number i (option_map number c.args.prev) (option_map number c.args.next) (Some (number c.args.destination)) old.held new.held link before after left wrote.stored wrote.held
+      relinked = links_both g.P.Inx.InxKey.packed_number i (option_map number c.args.prev) (option_map number c.args.next) (Some (number c.args.destination)) old.detached new.detached link before after left wrote.stored wrote.detached
           c.set_prev.ensures.prev c.set_prev.ensures.rest c.set_next.ensures.next c.set_next.ensures.rest c.set_destination.ensures.destination c.set_destination.ensures.rest;
       touched = record { arena = wrote.arena; counts = wrote.counts };
     }
@@ -30,6 +30,6 @@ returns-in-None g c =
     let new = c.value_mut.follows.lender-at-none in
     let kept = lent_none old new i c.value_mut.result c.in-None.is c.value_mut.ensures.value c.value_mut.follows.holds-at-none in
     record {
-      relinked = links_none g.P.Inx.InxKey.packed_number i (option_map number c.args.prev) (option_map number c.args.next) (Some (number c.args.destination)) old.held new.held kept.held kept.none;
+      relinked = links_none g.P.Inx.InxKey.packed_number i (option_map number c.args.prev) (option_map number c.args.next) (Some (number c.args.destination)) old.detached new.detached kept.detached kept.none;
       touched = record { arena = kept.arena; counts = kept.counts };
     }

@@ -14,6 +14,6 @@ returns g c =
     let sets = c.set_destination.ensures in
     let wrote = lent old new i c.value_mut.result c.in-Some.link left c.in-Some.is c.value_mut.ensures.value (c.value_mut.follows.holds left) in
     record {
-      directed = directs g.P.Inx.InxKey.packed_number i None old.held new.held link left wrote.stored wrote.held sets.destination sets.rest;
+      directed = directs g.P.Inx.InxKey.packed_number i None old.detached new.detached link left wrote.stored wrote.detached sets.destination sets.rest;
       touched = record { arena = wrote.arena; counts = wrote.counts };
     }

@@ -1,5 +1,5 @@
 -- Proofs from the one set of chains; chains in runs are ascending.
-use Rattle.chain_laws.proofs.RenamingLemmas.LeastIndexOrder.{has_least_index_order, least_index_order_is_ordered, least_index_order_is_canonical, least_index_order_rests, layout_rests, places_rest}
+use Rattle.chain_laws.proofs.RenamingLemmas.LeastIndexOrder.{has_least_index_order, least_index_order_is_ordered, least_index_order_is_canonical, least_index_order_rests, layout_is_idempotent, places_rest}
 use Rattle.chain_laws.proofs.renaming.least_index_order.Goals as goal
 
 pub returns : goal.returns
@@ -8,6 +8,6 @@ returns c = record {
   one = least_index_order_is_ordered;
   canonical = least_index_order_is_canonical;
   rests = least_index_order_rests;
-  layout_rests = layout_rests;
+  layout_is_idempotent = layout_is_idempotent;
   places_rest = places_rest;
 }

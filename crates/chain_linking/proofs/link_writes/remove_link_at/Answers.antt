@@ -34,7 +34,7 @@ beside g c =
     let named_prev : option_map number c.prev.result ≡ packed link.prev = search of_calls in
     let named_next : option_map number c.next.result ≡ packed link.next = search of_calls in
     were_beside g.P.Gen.GenKey.following (links_view packed a) (links_view packed c.remove_inx.new.self) n _ _
-    (ap (links_view packed) (where_some (value_within c.remove_inx.result) c.remove_inx.ensures.more (returned ∙ stored)) ∙ with_each-remove_at (link_view packed) g.P.Gen.GenKey.following a n) c.requires
+    (ap (links_view packed) (where_some (value_within c.remove_inx.result) c.remove_inx.ensures.implementation (returned ∙ stored)) ∙ with_each-remove_at (link_view packed) g.P.Gen.GenKey.following a n) c.requires
     (named_prev ∙ sym (prev_of-view_after packed a (n, c.in-Some.generation) link stored)) (named_next ∙ sym (next_of-view_after packed a (n, c.in-Some.generation) link stored))
 
 pub connect_former_neighbors-requires : goal.connect_former_neighbors-requires
@@ -57,12 +57,12 @@ returns-in-Some g c =
       overflow = search (of_calls, value_within-made);
       valid = λ _. removal_by_steps g.P.Gen.GenKey.following (links_view packed a) (links_view packed c.remove_inx.new.self) (links_view packed c.connect_former_neighbors.new.arena) n
           (option_map number c.prev.result) (option_map number c.next.result)
-          (ap (links_view packed) (where_some (value_within c.remove_inx.result) c.remove_inx.ensures.more (returned ∙ stored)) ∙ with_each-remove_at (link_view packed) g.P.Gen.GenKey.following a n)
+          (ap (links_view packed) (where_some (value_within c.remove_inx.result) c.remove_inx.ensures.implementation (returned ∙ stored)) ∙ with_each-remove_at (link_view packed) g.P.Gen.GenKey.following a n)
           c.connect_former_neighbors.ensures.links
           (named_prev ∙ sym (prev_of-view_after packed a (n, c.in-Some.generation) link stored))
           (named_next ∙ sym (next_of-view_after packed a (n, c.in-Some.generation) link stored));
       invalid = λ none. absurd (false≢true (sym (ap is_some none) ∙ ap is_some found));
-      at_rest = λ rest. c.connect_former_neighbors.ensures.at_rest (subst (λ b. AreAtRest packed b.slots) (sym (where_some (value_within c.remove_inx.result) c.remove_inx.ensures.more (returned ∙ stored))) (set_at_rest packed a.slots n None refl rest));
+      at_rest = λ rest. c.connect_former_neighbors.ensures.at_rest (subst (λ b. AreAtRest packed b.slots) (sym (where_some (value_within c.remove_inx.result) c.remove_inx.ensures.implementation (returned ∙ stored))) (set_at_rest packed a.slots n None refl rest));
     }
 
 pub returns-in-None : goal.returns-in-None

@@ -3,7 +3,7 @@ use Rattle.std.proofs.Common.{refl, sym, ap, ◌∙◌, subst}
 use Rattle.std.specs.Option.{option_map, option_copied_mut}
 use Rattle.chain_laws.specs.Joins.{with_next}
 use Rattle.arena_core.specs.declared.packed_option.PackedOption.{PackedOption}
-use Rattle.chain_links.specs.declared.links.LinkBody.{LinkBody}
+use Rattle.chain_links.specs.declared.links.RawLink.{RawLink}
 use Rattle.arena_traits.specs.Arena.{with_value}
 use Rattle.chain_links.specs.Links.{links_view, link_view, AreAtRest}
 use Rattle.chain_links.specs.ChainArena.{interlinks_in, with_interlinks}
@@ -19,7 +19,7 @@ returns-in-Some-get_inx_mut g c =
     let a = c.args.arena.now in
     let n = number c.in-Some.i in
     let packed : PackedOption g.row.P-Inx.Denot g.row.P-Inx-Word.Denot = c.set_next.new.link.next in
-    let write : LinkBody (PackedOption g.row.P-Inx.Denot g.row.P-Inx-Word.Denot) g.row.T.Denot → LinkBody (PackedOption g.row.P-Inx.Denot g.row.P-Inx-Word.Denot) g.row.T.Denot = λ l. record l { next = packed } in
+    let write : RawLink (PackedOption g.row.P-Inx.Denot g.row.P-Inx-Word.Denot) g.row.T.Denot → RawLink (PackedOption g.row.P-Inx.Denot g.row.P-Inx-Word.Denot) g.row.T.Denot = λ l. record l { next = packed } in
     let says : IsWrite packed_number write (with_next (option_map number c.args.next)) = λ l. ap (λ o. with_interlinks (with_next o (interlinks_in (link_view packed_number l))) (link_view packed_number l)) c.set_next.ensures.next in
     let held = rw c.in-Some-get_inx_mut.is at (c.get_inx_mut.follows.holds c.set_next.new.link) in
     let stored = sym c.get_inx_mut.ensures.value ∙ ap option_copied_mut c.in-Some-get_inx_mut.is in

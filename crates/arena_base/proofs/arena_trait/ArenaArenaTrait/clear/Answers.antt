@@ -23,5 +23,5 @@ returns g c =
         after = ap view_of after ∙ viewed_cleared following c.args.self.now;
         overflow = rw (length-entries c.args.self.now, ← c.self.view_is, ← c.self.invariant.counted, ← made.overflow) c.from_overflow.ensures;
       };
-      more = after;
+      implementation = after;
     }

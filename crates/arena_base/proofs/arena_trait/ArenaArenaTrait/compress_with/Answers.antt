@@ -20,5 +20,5 @@ returns g c =
         overflow = begun.overflow;
       };
       visits = compressing_visits g.F.FnMut g.P.PtrKey.key c.args.map generation old mid c.gather.new.self begun.after c.gather.ensures;
-      more = ap (λ a. a.stack_capacity) c.gather.ensures.arena ∙ ap (λ a. a.stack_capacity) begun.after;
+      implementation = ap (λ a. a.stack_capacity) c.gather.ensures.arena ∙ ap (λ a. a.stack_capacity) begun.after;
     }

@@ -17,5 +17,5 @@ returns g c =
       outcome = grown_reserves may_reach greatest old c.args.n r new made.outcome;
       enough = λ few. absurd (omega (arith, few, within_capacity, c.capacity.ensures, c.greatest.ensures.value, c.min.ensures));
       err = made.err;
-      more = (state, grown_reach may_reach greatest old c.args.n r new made.outcome made.err);
+      implementation = (state, grown_reach may_reach greatest old c.args.n r new made.outcome made.err);
     }

@@ -14,5 +14,5 @@ returns g c =
     record {
       outcome = reports_more wraps _ _ _ _ counter r made (λ none. none.0) (λ e done. (done.0, ap view_of done.1 ∙ viewed_removed g.P.Gen.GenKey.following c.args.self.now (g.P.Inx.InxKey.number c.args.i)));
       invalid = reports_none wraps _ _ counter r made (λ none. none.1);
-      more = reports_some wraps _ _ counter r made (λ e done. done.1);
+      implementation = reports_some wraps _ _ counter r made (λ e done. done.1);
     }

@@ -16,5 +16,5 @@ returns g c =
       ready = made.ready;
       never_less = made.never_less;
       err = on_err_either r (λ same. same) (λ gave_up. (gave_up.0, copy_abandoned_viewed c.args.self.now called.new.self gave_up.1)) made.err;
-      more = on_ok r (λ slots. (slots, made.reached)) made.slots;
+      implementation = on_ok r (λ slots. (slots, made.reached)) made.slots;
     }

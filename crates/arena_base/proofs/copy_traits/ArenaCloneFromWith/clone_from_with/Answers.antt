@@ -15,5 +15,5 @@ returns g c =
       copied = on_ok called.result.0 (λ made. (called.result.1.map, copy_by (λ m p u t n. calls m.map p u t n.map) calls (λ m. m.map) (λ v p u t w m. m) g.P.PtrKey.key _ called.result.1 c.args.source.now _ _ made)) made.copied;
       never_less = made.never_less;
       err = on_err_by called.result.0 (λ same. same.0) (λ never. absurd never.0.refusable) made.err;
-      more = made.more;
+      implementation = made.implementation;
     }

@@ -2,7 +2,7 @@
 use Rattle.std.proofs.Common.{length, ap, arith}
 use Rattle.std.proofs.lemmas.List.{length-map}
 use Rattle.arena_base.specs.Slots.{entry_of, with_generation_at}
-use Rattle.arena_base.proofs.DetachedSlotLemmas.{held_placed, length-swap, length-with_generation_at}
+use Rattle.arena_base.proofs.DetachedSlotLemmas.{detached_placed, length-swap, length-with_generation_at}
 use Rattle.arena_base.proofs.detached_slots.DetachedSlots.place.Goals as goal
 
 pub swap-requires : goal.swap-requires
@@ -29,5 +29,5 @@ returns g c =
     let items = g.S.SlotStack.items slots in
     let long = ap (λ h. length h.slots) c.self.view_is in
     rw (← c.self.view_is, c.swap.ensures.items, c.swap.ensures.capacity, c.swap.ensures.maximum, c.regenerate_at.ensures.items, c.regenerate_at.ensures.bounds.0, c.regenerate_at.ensures.bounds.1)
-    (held_placed items (g.S.SlotStack.capacity slots) (g.S.SlotStack.maximum slots) c.position_of-from.result c.position_of.result (number c.args.from) (number c.args.to) c.args.generation c.position_of-from.ensures c.position_of.ensures
+    (detached_placed items (g.S.SlotStack.capacity slots) (g.S.SlotStack.maximum slots) c.position_of-from.result c.position_of.result (number c.args.from) (number c.args.to) c.args.generation c.position_of-from.ensures c.position_of.ensures
     (omega (arith, long, length-map items entry_of, c.position_of-from.ensures, c.requires.from)) (omega (arith, long, length-map items entry_of, c.position_of.ensures, c.requires.to)))

@@ -1,10 +1,10 @@
--- The held slots get the value written to the lent slot.
+-- The detached slots get the value written to the lent slot.
 use Rattle.std.proofs.Common.{refl, sym, ◌∙◌, ap}
 use Rattle.std.specs.Option.{option_map}
-use Rattle.arena_base.specs.DetachedSlots.{held_with_value}
+use Rattle.arena_base.specs.DetachedSlots.{detached_with_value}
 use Rattle.arena_base.specs.Slots.{entry_in, with_value_in}
 use Rattle.arena_base.proofs.SlotLemmas.{entry_at-position, slice_set-itself}
-use Rattle.arena_base.proofs.DetachedSlotLemmas.{held_lent}
+use Rattle.arena_base.proofs.DetachedSlotLemmas.{detached_lent}
 use Rattle.arena_core.proofs.OptionLemmas.{on_some}
 use Rattle.arena_base.proofs.detached_slots.DetachedSlotsLendsValue.value_mut.Goals as goal
 
@@ -21,9 +21,9 @@ returns-in-Some g c =
         refl,
         (λ w.
             let after = g.S.SlotStack.with_item slots k (with_value_in slot w) in
-            on_some c.value_mut.result (held_lent items (g.S.SlotStack.items after) (g.S.SlotStack.capacity slots) (g.S.SlotStack.capacity after) (g.S.SlotStack.maximum slots) (g.S.SlotStack.maximum after) k n slot w at is
+            on_some c.value_mut.result (detached_lent items (g.S.SlotStack.items after) (g.S.SlotStack.capacity slots) (g.S.SlotStack.capacity after) (g.S.SlotStack.maximum slots) (g.S.SlotStack.maximum after) k n slot w at is
             (g.met.S.SlotStack.items_written slots k (with_value_in slot w)) (g.met.S.SlotStack.capacity_written slots k (with_value_in slot w)) (g.met.S.SlotStack.maximum_written slots k (with_value_in slot w))
-            ∙ ap (λ h. held_with_value h n w) c.self.view_is)),
+            ∙ ap (λ h. detached_with_value h n w) c.self.view_is)),
         rw (← c.self.view_is, g.met.S.SlotStack.items_written slots k slot, g.met.S.SlotStack.capacity_written slots k slot, g.met.S.SlotStack.maximum_written slots k slot, slice_set-itself items k slot is),
       ),
       record { writes_back = tt; value = c.value_mut.ensures.value ∙ rw (← c.self.view_is) (ap (option_map (λ e. e.1)) (sym (entry_at-position items k n at ∙ ap entry_in is))) },

@@ -27,7 +27,7 @@ returns-clause-copied g c =
     (on_ok_four called.result.0 (λ fits copied ready below. (fits, copied, ready, below)) (subst (λ n. OnOk called.result.0 (IsCapacityFor g.P.Inx.InxKey.greatest new.maximum n new.capacity)) (sym same_length) made.ok)
     (on_ok_weaker called.result.0 (copy_as_viewed number g.M.ValueMap.makes g.P.PtrKey.key c.args.values called.result.1 links _ _) made.copied)
     made.ready
-    (on_ok_weaker called.result.0 (λ copied. record { links = links; view_after = refl; copied = copied }) made.more))
+    (on_ok_weaker called.result.0 (λ copied. record { links = links; view_after = refl; copied = copied }) made.implementation))
     (on_err_either called.result.0 (λ same. same)
     (λ gave_up. (refusable_viewed number g.M.ValueMap.may_refuse g.P.PtrKey.key links gave_up.0, gave_up.1)) made.err))
 

@@ -19,7 +19,7 @@ returns-in-Some-entry g c =
     drained_step g.P.PtrKey.key packed g.P.Gen.GenKey.following g.P.Gen.GenKey.wraps c.args.self.now c.remove_inx_link_no_gen.new.self c.args.at (number c.in-Some.i) c.drain_item.result.0
     c.remove_inx_link_no_gen.result c.in-Some.ensures.some c.invariants.ensures.agree
     (returned_at value_state link_map (kind_by g.P.PtrKey g.P.Inx.InxKey g.P.Gen.GenKey) c.args.self.now c.remove_inx_link_no_gen.new.self c.in-Some.i c.remove_inx_link_no_gen.result outcome) c.in-Some-entry.entry c.overflowing-entry.result.1 c.drain_item.result.1
-    (reports_overflow g.P.Gen.GenKey.wraps _ _ (Some c.args.self.now.counter) c.remove_inx_link_no_gen.result outcome) (λ stored. (holds_if_some _ removal.more (ap is_some (sym (ap (λ x. x.0) c.overflowing-entry.ensures) ∙ c.in-Some-entry.is))).state) (sym (ap (λ x. x.0) c.overflowing-entry.ensures) ∙ c.in-Some-entry.is) (ap (λ x. x.1) c.overflowing-entry.ensures)
+    (reports_overflow g.P.Gen.GenKey.wraps _ _ (Some c.args.self.now.counter) c.remove_inx_link_no_gen.result outcome) (λ stored. (holds_if_some _ removal.implementation (ap is_some (sym (ap (λ x. x.0) c.overflowing-entry.ensures) ∙ c.in-Some-entry.is))).state) (sym (ap (λ x. x.0) c.overflowing-entry.ensures) ∙ c.in-Some-entry.is) (ap (λ x. x.1) c.overflowing-entry.ensures)
     yields.item.0 yields.item.1 yields.item.2 yields.next
 
 pub returns-in-None-entry : goal.returns-in-None-entry

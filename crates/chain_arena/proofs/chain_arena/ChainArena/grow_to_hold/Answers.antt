@@ -14,4 +14,4 @@ pub returns-clause-grown : goal.returns-clause-grown
 returns-clause-grown g c =
     let made = c.reallocate_min_capacity-grown.ensures in
     grows_within g.S.SlotStack.may_reach g.P.Inx.InxKey.greatest c.args.n c.args.self.now c.reallocate_min_capacity-grown.new.self c.reallocate_min_capacity-grown.result (omega (arith, c.if-n-greatest.false, c.greatest.ensures.value))
-    made.outcome made.err made.more.2 c.invariants-2.ensures.capacity
+    made.outcome made.err made.implementation.2 c.invariants-2.ensures.capacity

@@ -7,7 +7,7 @@ use Rattle.chain_arena.proofs.chain_arena.ChainArena.transfer_canonical_realloca
 pub transfer_links-requires-clause-empty : goal.transfer_links-requires-clause-empty
 transfer_links-requires-clause-empty g c =
     let set = c.set_generation.new.self in
-    emptied_with g.P.Gen.GenKey.following c.args.new_generation c.args.self.now c.grow_to_hold.new.self c.clear.new.self set set c.in-Ok.ensures.after c.clear.ensures.more c.set_generation.ensures
+    emptied_with g.P.Gen.GenKey.following c.args.new_generation c.args.self.now c.grow_to_hold.new.self c.clear.new.self set set c.in-Ok.ensures.after c.clear.ensures.implementation c.set_generation.ensures
     g.P.Inx.InxKey.greatest c.len.result _ c.len.ensures.count c.in-Ok.ensures.grown.0.capacity
 
 pub returns-in-Ok : goal.returns-in-Ok
@@ -22,20 +22,20 @@ returns-in-Ok g c =
     let made = c.transfer_links.ensures in
     let count = c.len.ensures.count in
     let held = c.in-Ok.ensures.grown in
-    let moved = transferred_grown following c.args.new_generation old grown clear set new c.in-Ok.ensures.after c.clear.ensures.more c.set_generation.ensures _ _ _ _ _ _ _ _ _ made.transferred in record {
+    let moved = transferred_grown following c.args.new_generation old grown clear set new c.in-Ok.ensures.after c.clear.ensures.implementation c.set_generation.ensures _ _ _ _ _ _ _ _ _ made.transferred in record {
       transferred = (
         (
           moved,
           record {
-            capacity = capacity_grown following c.args.new_generation old grown clear set new c.in-Ok.ensures.after c.clear.ensures.more c.set_generation.ensures made.capacity.0 made.capacity.1 greatest c.len.result _ count (ap (λ a. a.maximum) moved.state) held.0.capacity;
-            reached = reach_grown following c.args.new_generation old grown clear set new c.in-Ok.ensures.after c.clear.ensures.more c.set_generation.ensures made.capacity.0 made.capacity.1 g.S.SlotStack.may_reach c.len.result _ count held.0.reached;
+            capacity = capacity_grown following c.args.new_generation old grown clear set new c.in-Ok.ensures.after c.clear.ensures.implementation c.set_generation.ensures made.capacity.0 made.capacity.1 greatest c.len.result _ count (ap (λ a. a.maximum) moved.state) held.0.capacity;
+            reached = reach_grown following c.args.new_generation old grown clear set new c.in-Ok.ensures.after c.clear.ensures.implementation c.set_generation.ensures made.capacity.0 made.capacity.1 g.S.SlotStack.may_reach c.len.result _ count held.0.reached;
           },
         ),
         subst (λ n. n ≤ greatest) count held.1,
         subst (λ n. IsBeyond old.maximum n → ⊥) count held.2,
       );
       within = λ few.
-          let same = same_grown following c.args.new_generation old grown clear set new c.in-Ok.ensures.after c.clear.ensures.more c.set_generation.ensures made.capacity.0 made.capacity.1 (c.in-Ok.ensures.within (subst (λ n. n ≤ old.capacity) (sym count) few)).1 in
+          let same = same_grown following c.args.new_generation old grown clear set new c.in-Ok.ensures.after c.clear.ensures.implementation c.set_generation.ensures made.capacity.0 made.capacity.1 (c.in-Ok.ensures.within (subst (λ n. n ≤ old.capacity) (sym count) few)).1 in
           (refl, same);
     }
 

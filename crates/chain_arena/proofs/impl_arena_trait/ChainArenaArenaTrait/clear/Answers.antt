@@ -12,6 +12,6 @@ returns-clause-outcome g c =
     let packed = g.P.Inx.InxKey.packed_number in
     let a = c.self.inside.arena in
     rw (← c.self.view_is) (record {
-      after = cleared-view_after packed g.P.Gen.GenKey.following a _ c.clear.ensures.more;
+      after = cleared-view_after packed g.P.Gen.GenKey.following a _ c.clear.ensures.implementation;
       overflow = c.clear.ensures.outcome.overflow ∙ ap (λ n. invalidation_option (overflows_after_clear g.P.Gen.GenKey.wraps n a.counter) tt) (length-entries a ∙ sym (count-values packed a));
     })

@@ -34,5 +34,5 @@ returns g c =
         overflow = c.begin_generation-overflow.ensures.overflow ∙ ap (λ n. invalidation_option (overflows_after_compression g.P.Gen.GenKey.wraps c.args.reset n a.counter) tt) counted;
       };
       visits = links_visited g.F.FnMut g.P.PtrKey.key c.args.map _ old mid new begun c.gather.ensures.gathered;
-      more = positions_closed g.F.FnMut g.P.PtrKey.key c.args.map _ old mid new begun c.gather.ensures.gathered;
+      implementation = positions_closed g.F.FnMut g.P.PtrKey.key c.args.map _ old mid new begun c.gather.ensures.gathered;
     })

@@ -6,7 +6,7 @@ use Rattle.chain_arena.proofs.impl_arena_trait.ChainArenaArenaTrait.invalidate.G
 
 pub invariant_of-self : goal.invariant_of-self
 invariant_of-self g c =
-    renewed_holds (kind_by g.P.PtrKey g.P.Inx.InxKey g.P.Gen.GenKey) c.self.inside.arena c.invalidate.new.self c.args.p (value_within c.invalidate.result) c.invalidate.ensures.more c.invalidate.ensures.invalid c.self.invariant
+    renewed_holds (kind_by g.P.PtrKey g.P.Inx.InxKey g.P.Gen.GenKey) c.self.inside.arena c.invalidate.new.self c.args.p (value_within c.invalidate.result) c.invalidate.ensures.implementation c.invalidate.ensures.invalid c.self.invariant
 
 pub returns : goal.returns
 returns g c =
@@ -16,7 +16,7 @@ returns g c =
     let r = c.invalidate.result in
     let made = c.invalidate.ensures in
     rw (← c.self.view_is) (record {
-      outcome = renews pointers a b c.args.p r made.outcome made.more;
+      outcome = renews pointers a b c.args.p r made.outcome made.implementation;
       invalid = renewed_none pointers a b c.args.p (value_within r) made.invalid;
-      more = renewed_after pointers a b c.args.p (value_within r) made.more;
+      implementation = renewed_after pointers a b c.args.p (value_within r) made.implementation;
     })

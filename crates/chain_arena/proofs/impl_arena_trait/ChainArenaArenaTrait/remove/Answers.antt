@@ -16,5 +16,5 @@ returns-then-contains g c =
     rw c.value_alone.ensures (record {
       outcome = value_removed (kind_by g.P.PtrKey g.P.Inx.InxKey g.P.Gen.GenKey) a b c.args.p (c.contains.ensures.0 c.if-contains.true) c.inx.result r c.inx.ensures made.0;
       invalid = none_with_value (λ e. e.1.t) (b ≡ a) r made.1;
-      more = some_with_value (λ e. e.1.t) (IsRemoval g.P.Gen.GenKey.following a (g.P.PtrKey.key c.args.p).0 b) r (subst (λ i. OnSome (value_within r) (IsRemoval g.P.Gen.GenKey.following a i b)) c.inx.ensures made.2);
+      implementation = some_with_value (λ e. e.1.t) (IsRemoval g.P.Gen.GenKey.following a (g.P.PtrKey.key c.args.p).0 b) r (subst (λ i. OnSome (value_within r) (IsRemoval g.P.Gen.GenKey.following a i b)) c.inx.ensures made.2);
     })

@@ -12,5 +12,5 @@ returns g c =
     rw c.value_with_generation.ensures (record {
       outcome = value_removed_at (kind_by g.P.PtrKey g.P.Inx.InxKey g.P.Gen.GenKey) c.args.self.now c.unlink.new.self c.args.i r made.0;
       invalid = none_with_value (λ e. (e.0, e.1.t)) (c.unlink.new.self ≡ c.args.self.now) r made.1;
-      more = some_with_value (λ e. (e.0, e.1.t)) (IsRemoval g.P.Gen.GenKey.following c.args.self.now (g.P.Inx.InxKey.number c.args.i) c.unlink.new.self) r made.2;
+      implementation = some_with_value (λ e. (e.0, e.1.t)) (IsRemoval g.P.Gen.GenKey.following c.args.self.now (g.P.Inx.InxKey.number c.args.i) c.unlink.new.self) r made.2;
     })

@@ -21,7 +21,7 @@ returns-in-Some g c =
       walker = same_walkers
           (made.left ∙ (c.len.ensures.entries ∙ (sym (entry_count-links_view packed a) ∙ sym (values-count (links_view packed a)))))
           (ap number made.start ∙ c.inx.ensures)
-          (ap (option_map number) made.forth ∙ ap Some c.inx.ensures)
+          (ap (option_map number) made.forward ∙ ap Some c.inx.ensures)
           (ap (option_map number) made.back ∙ (c.prev.ensures ∙ sym (prev_of-view_after packed a p c.in-Some.link.now c.in-Some.ensures.value)));
     })
 

@@ -60,12 +60,12 @@ returns-in-Some g c =
     rw (← c.self.view_is) (record {
       outcome = (c.in-Some.ensures.some refl, j, at, disconnected a b i j is);
       none = tt;
-      more = at_known _ _ _ at (cut_known a b i j is (pair g c));
+      implementation = at_known _ _ _ at (cut_known a b i j is (pair g c));
     })
 
 pub returns-in-None : goal.returns-in-None
 returns-in-None g c = rw (← c.self.view_is) (record {
   outcome = λ valid. sym (c.in-None.ensures.neighbor valid);
   none = refl;
-  more = tt;
+  implementation = tt;
 })

@@ -42,5 +42,5 @@ returns g c =
     rw (← c.self.view_is) (record {
       outcome = connects key a b c.args.p c.args.q c.join.result c.join.ensures.some c.join.ensures.joined;
       none = c.join.ensures.none;
-      more = joins key a b c.args.p c.args.q c.join.result c.join.ensures.some c.join.ensures.joined;
+      implementation = joins key a b c.args.p c.args.q c.join.result c.join.ensures.some c.join.ensures.joined;
     })

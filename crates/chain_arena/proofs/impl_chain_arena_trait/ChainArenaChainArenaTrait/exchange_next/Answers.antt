@@ -87,19 +87,19 @@ returns-in-Some-next_of g c =
         exchanged a b i j is c.self.invariant.agree (valid_p g c) (valid_q g c),
       );
       none = tt;
-      more = exchange_known a b i j is c.self.invariant.agree (valid_p g c) (valid_q g c);
+      implementation = exchange_known a b i j is c.self.invariant.agree (valid_p g c) (valid_q g c);
     })
 
 pub returns-in-None-next_of : goal.returns-in-None-next_of
 returns-in-None-next_of g c = rw (← c.self.view_is) (record {
   outcome = λ can. false≢true (ap is_some (c.in-None-next_of.ensures.neighbor can.second_valid) ∙ can.second_next);
   none = refl;
-  more = tt;
+  implementation = tt;
 })
 
 pub returns-in-None : goal.returns-in-None
 returns-in-None g c = rw (← c.self.view_is) (record {
   outcome = λ can. false≢true (ap is_some (c.in-None.ensures.neighbor can.first_valid) ∙ can.first_next);
   none = refl;
-  more = tt;
+  implementation = tt;
 })

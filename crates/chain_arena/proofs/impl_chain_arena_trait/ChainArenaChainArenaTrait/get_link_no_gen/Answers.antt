@@ -4,7 +4,7 @@ use Rattle.std.specs.Prelude.{IfSome}
 use Rattle.std.specs.Borrow.{Bor}
 use Rattle.std.specs.Option.{option_map}
 use Rattle.arena_traits.specs.Arena.{Arena, entry_at}
-use Rattle.chain_links.specs.declared.links.LinkBody.{LinkBody}
+use Rattle.chain_links.specs.declared.links.RawLink.{RawLink}
 use Rattle.chain_links.specs.Links.{link_view, links_view}
 use Rattle.chain_links.specs.ChainArena.{on_value, link_map, entry, link_at}
 use Rattle.chain_links.proofs.MappedArenaLemmas.{entry_at-with_each}
@@ -13,7 +13,7 @@ use Rattle.chain_arena.proofs.ChainDrainLemmas.{link_at-entry}
 use Rattle.chain_arena.proofs.impl_chain_arena_trait.ChainArenaChainArenaTrait.get_link_no_gen.Goals as goal
 
 -- The link borrowed from the arena of links.
-lent : {K Gen T : Type 0} (number : K → Option ℕ) (a : Arena Gen (LinkBody K T)) (p : ℕ × Gen) (r : Option (Bor (LinkBody K T))) → IfSome r (λ link. entry_at a p.0 ≡ Some (p.1, link.now))
+lent : {K Gen T : Type 0} (number : K → Option ℕ) (a : Arena Gen (RawLink K T)) (p : ℕ × Gen) (r : Option (Bor (RawLink K T))) → IfSome r (λ link. entry_at a p.0 ≡ Some (p.1, link.now))
     → IfSome r (λ link. link_at (entry (links_view number a)) (link_map (links_view number a)) p.0 ≡ Some (p.1, link_view number link.now))
 lent number a p None stored = tt
 lent number a p (Some link) stored =

@@ -19,7 +19,7 @@ returns-in-Ok-Some g c =
     let found = rw c.in-Ok-Some.field-0-is at c.in-Ok-Some.ensures.beside in
     let made = new_link (kind_by g.P.PtrKey g.P.Inx.InxKey g.P.Gen.GenKey) c.args.self.now c.args.kind c.in-Ok-Some.beside c.beside_with_growth.ensures.agreed found.0 found.1 g.S.SlotStack.may_reach c.beside_with_growth.new.self found.2
     c.args.t c.insert_between.result c.insert_between.new.self c.insert_between.ensures in
-    record { outcome = made.0; err = tt; more = made.1 }
+    record { outcome = made.0; err = tt; implementation = made.1 }
 
 pub returns-in-Err : goal.returns-in-Err
-returns-in-Err g c = let refused = c.in-Err.ensures.beside in record { outcome = refused.1; err = refused.2; more = tt }
+returns-in-Err g c = let refused = c.in-Err.ensures.beside in record { outcome = refused.1; err = refused.2; implementation = tt }

@@ -20,8 +20,8 @@ returns-in-Ok g c =
     record {
       outcome = (c.in-Ok.ensures.beside.0, free, (made.0.0, made.0.1.1 (omega (arith, free))));
       err = tt;
-      more = made.1;
+      implementation = made.1;
     }
 
 pub returns-in-Err : goal.returns-in-Err
-returns-in-Err g c = record { outcome = c.in-Err.ensures.beside; err = refl; more = tt }
+returns-in-Err g c = record { outcome = c.in-Err.ensures.beside; err = refl; implementation = tt }

@@ -17,7 +17,7 @@ it g c =
     let p = g.P.PtrKey.key c.args.p in
     subst (TakesEntry g.A.ArenaTrait.state g.A.ChainArenaTrait.interlinks g.P.Gen.GenKey.following old new p) (sym c.allow.ensures)
     (removal g.A.ArenaTrait.state g.A.ChainArenaTrait.interlinks (kind_by g.P.PtrKey g.P.Inx.InxKey g.P.Gen.GenKey) old new c.args.p c.agrees.ensures c.remove.result c.remove.ensures.outcome c.remove.ensures.invalid
-    (on_some (value_within c.remove.result) c.remove.ensures.more (λ removed. g.met.A.ChainArenaTrait.removal_removes old new p.0 removed)))
+    (on_some (value_within c.remove.result) c.remove.ensures.implementation (λ removed. g.met.A.ChainArenaTrait.removal_removes old new p.0 removed)))
 
 pub returns : goal.returns
 returns g c = rw (← c.self.view_is) (removes_item g.A.ArenaTrait.state g.A.ChainArenaTrait.interlinks (kind_by g.P.PtrKey g.P.Inx.InxKey g.P.Gen.GenKey) c.self.inside.paragraphs c.remove.new.self c.args.p linear (λ l. refl) c.allow.result (it g c) (λ chains. chains.from_linear))

@@ -2,7 +2,7 @@
 use Rattle.std.proofs.Common.{[], ◌∷◌}
 use Rattle.chain_laws.specs.Chains.{linear, next_of}
 use Rattle.chain_laws.specs.Cuts.{Cuts}
-use Rattle.chain_examples.proofs.DocumentLemmas.{Breaks, breaks_next_if, breaks_next, breaks_next_view, ends_in, keeps_ended}
+use Rattle.chain_examples.proofs.DocumentLemmas.{Breaks, breaks_next_if, breaks_next, breaks_next_view, is_split_after, keeps_ended}
 use Rattle.chain_examples.proofs.ListChangeLemmas.{changes_only}
 use Rattle.chain_examples.proofs.documents.Documents.split_after.Given.{Over}
 use Rattle.chain_examples.proofs.documents.Documents.split_after.Goals.{After-break_next}
@@ -19,7 +19,7 @@ returns g c =
     let p = g.P.PtrKey.key c.args.p in
     record {
       some = rw (← c.self.view_is) (breaks_next_if g.A.ArenaTrait.state g.A.ChainArenaTrait.interlinks a new g.P.PtrKey.key c.args.p c.break_next.result c.break_next.ensures.outcome);
-      texts = rw (← c.self.view_is) (ends_in g.A.ArenaTrait.state g.A.ChainArenaTrait.interlinks a new p (break g c));
+      texts = rw (← c.self.view_is) (is_split_after g.A.ArenaTrait.state g.A.ChainArenaTrait.interlinks a new p (break g c));
       others = rw (← c.self.view_is) (changes_only g.A.ArenaTrait.state g.A.ChainArenaTrait.interlinks linear a new (p ∷ []) (keeps_ended g.A.ArenaTrait.state g.A.ChainArenaTrait.interlinks a new p c.agrees.ensures (break g c))
           (breaks_next_view g.A.ArenaTrait.state g.A.ChainArenaTrait.interlinks a new g.P.PtrKey.key c.args.p c.break_next.result c.break_next.ensures.outcome c.break_next.ensures.none));
       none = rw (← c.self.view_is) c.break_next.ensures.none;

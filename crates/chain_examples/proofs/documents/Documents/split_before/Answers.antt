@@ -2,7 +2,7 @@
 use Rattle.std.proofs.Common.{[], ◌∷◌}
 use Rattle.chain_laws.specs.Chains.{linear, prev_of}
 use Rattle.chain_laws.specs.Cuts.{Cuts}
-use Rattle.chain_examples.proofs.DocumentLemmas.{Breaks, breaks_prev_if, breaks_prev, breaks_prev_view, begins_with, keeps_begun}
+use Rattle.chain_examples.proofs.DocumentLemmas.{Breaks, breaks_prev_if, breaks_prev, breaks_prev_view, is_split_before, keeps_begun}
 use Rattle.chain_examples.proofs.ListChangeLemmas.{changes_only}
 use Rattle.chain_examples.proofs.documents.Documents.split_before.Given.{Over}
 use Rattle.chain_examples.proofs.documents.Documents.split_before.Goals.{After-break_prev}
@@ -19,7 +19,7 @@ returns g c =
     let p = g.P.PtrKey.key c.args.p in
     record {
       some = rw (← c.self.view_is) (breaks_prev_if g.A.ArenaTrait.state g.A.ChainArenaTrait.interlinks a new g.P.PtrKey.key c.args.p c.break_prev.result c.break_prev.ensures.outcome);
-      texts = rw (← c.self.view_is) (begins_with g.A.ArenaTrait.state g.A.ChainArenaTrait.interlinks a new p (break g c));
+      texts = rw (← c.self.view_is) (is_split_before g.A.ArenaTrait.state g.A.ChainArenaTrait.interlinks a new p (break g c));
       others = rw (← c.self.view_is) (changes_only g.A.ArenaTrait.state g.A.ChainArenaTrait.interlinks linear a new (p ∷ []) (keeps_begun g.A.ArenaTrait.state g.A.ChainArenaTrait.interlinks a new p c.agrees.ensures (break g c))
           (breaks_prev_view g.A.ArenaTrait.state g.A.ChainArenaTrait.interlinks a new g.P.PtrKey.key c.args.p c.break_prev.result c.break_prev.ensures.outcome c.break_prev.ensures.none));
       none = rw (← c.self.view_is) c.break_prev.ensures.none;

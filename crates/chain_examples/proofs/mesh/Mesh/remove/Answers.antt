@@ -17,7 +17,7 @@ it g c =
     let p = g.P.PtrKey.key c.args.corner in
     subst (TakesEntry g.A.ArenaTrait.state g.A.ChainArenaTrait.interlinks g.P.Gen.GenKey.following old new p) (sym c.allow.ensures)
     (removal g.A.ArenaTrait.state g.A.ChainArenaTrait.interlinks (kind_by g.P.PtrKey g.P.Inx.InxKey g.P.Gen.GenKey) old new c.args.corner c.agrees.ensures c.remove.result c.remove.ensures.outcome c.remove.ensures.invalid
-    (on_some (value_within c.remove.result) c.remove.ensures.more (λ removed. g.met.A.ChainArenaTrait.removal_removes old new p.0 removed)))
+    (on_some (value_within c.remove.result) c.remove.ensures.implementation (λ removed. g.met.A.ChainArenaTrait.removal_removes old new p.0 removed)))
 
 pub invariant_of-self : goal.invariant_of-self
 invariant_of-self g c = cyclic_of g.A.ArenaTrait.state g.A.ChainArenaTrait.interlinks (kind_by g.P.PtrKey g.P.Inx.InxKey g.P.Gen.GenKey) _ _ c.args.corner c.allow.result (it g c) c.agrees.ensures c.self.invariant

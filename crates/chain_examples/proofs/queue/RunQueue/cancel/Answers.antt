@@ -24,7 +24,7 @@ it g c =
     let p = g.P.PtrKey.key c.args.p in
     subst (TakesEntry g.A.ArenaTrait.state g.A.ChainArenaTrait.interlinks g.P.Gen.GenKey.following old new p) (sym c.allow.ensures)
     (removal g.A.ArenaTrait.state g.A.ChainArenaTrait.interlinks (kind_by g.P.PtrKey g.P.Inx.InxKey g.P.Gen.GenKey) old new c.args.p c.agrees.ensures c.remove.result c.remove.ensures.outcome c.remove.ensures.invalid
-    (on_some (value_within c.remove.result) c.remove.ensures.more (λ removed. g.met.A.ChainArenaTrait.removal_removes old new p.0 removed)))
+    (on_some (value_within c.remove.result) c.remove.ensures.implementation (λ removed. g.met.A.ChainArenaTrait.removal_removes old new p.0 removed)))
 
 left : (g : Over) (c : After-allow g) (some : is_some c.allow.result ≡ true)
     → IsLeft g.A.ArenaTrait.state g.A.ChainArenaTrait.interlinks c.self.inside.tasks c.remove.new.self

@@ -19,7 +19,7 @@ shorter x s t is = let h = ap length is in omega (arith, h)
 pub returns-then-self-eq0-clause-steps : goal.returns-then-self-eq0-clause-steps
 returns-then-self-eq0-clause-steps g c =
     let it = c.self.inside in
-    let ended = sym c.self.view_is ∙ ap (λ n. links_ahead (links_view g.P.Inx.InxKey.packed_number it.arena.now) n (g.P.Inx.InxKey.number it.start) (option_map g.P.Inx.InxKey.number it.forth) (option_map g.P.Inx.InxKey.number it.back)) c.if-self-eq0.true in
+    let ended = sym c.self.view_is ∙ ap (λ n. links_ahead (links_view g.P.Inx.InxKey.packed_number it.arena.now) n (g.P.Inx.InxKey.number it.start) (option_map g.P.Inx.InxKey.number it.forward) (option_map g.P.Inx.InxKey.number it.back)) c.if-self-eq0.true in
     (ended, ended)
 
 pub invariant_of-self : goal.invariant_of-self
@@ -99,7 +99,7 @@ returns-in-None-back-clause-steps g c =
     let a = links_view g.P.Inx.InxKey.packed_number c.self.inside.arena.now in
     let start = number c.self.inside.start in
     let left = c.self.inside.left in
-    let ended = sym c.self.view_is ∙ (ap₂ (λ forth back. links_ahead a left start (option_map number forth) (option_map number back)) c.in-None.is c.in-None-back.is ∙ nowhere a left start) in
+    let ended = sym c.self.view_is ∙ (ap₂ (λ forward back. links_ahead a left start (option_map number forward) (option_map number back)) c.in-None.is c.in-None-back.is ∙ nowhere a left start) in
     (ended, ended)
 
 pub returns-then-self-eq0-clause-goes : goal.returns-then-self-eq0-clause-goes
