@@ -13,7 +13,7 @@ use arena_ptr::{
     PtrKey, ReallocationError, SlotStack,
 };
 use chain_linking::connection::{join, next_of, prev_of};
-use chain_linking::link_writes::{link_pairs, neighbors};
+use chain_linking::link_writes::{link_pairs, neighbors, write_beside};
 use chain_links::links::is_index;
 use chain_links::{Link, LinkInsertKind, LinkNoGen};
 use chain_traits::ChainArenaTrait;
@@ -159,7 +159,7 @@ impl<P: PtrKey, T: Drop, S: SlotStack<Item = ArenaSlot<P, LinkNoGen<P, T>>>> Cha
     fn break_prev(&mut self, p: P) -> Option<()> {
         match prev_of(&self.arena, p) {
             Some(before) => {
-                link_pairs(&mut self.arena, (Some(before), None), (None, Some(p.inx())));
+                write_beside(&mut self.arena, Some(before), None, Some(p.inx()), None);
                 Some(())
             }
             None => None,
@@ -169,7 +169,7 @@ impl<P: PtrKey, T: Drop, S: SlotStack<Item = ArenaSlot<P, LinkNoGen<P, T>>>> Cha
     fn break_next(&mut self, p: P) -> Option<()> {
         match next_of(&self.arena, p) {
             Some(after) => {
-                link_pairs(&mut self.arena, (Some(p.inx()), None), (None, Some(after)));
+                write_beside(&mut self.arena, Some(p.inx()), None, Some(after), None);
                 Some(())
             }
             None => None,

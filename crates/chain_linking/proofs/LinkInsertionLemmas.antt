@@ -20,16 +20,6 @@ use Rattle.chain_links.proofs.ArenaInsertionLemmas.{link_map-next, AreFree, slot
 use Rattle.chain_linking.proofs.LinkWriteLemmas.{relink-own, FitsLinks, FitsLinks-link_map, FitsLinks-with_next_at, link_map-with_link_map, with_link_map-again}
 use Rattle.chain_links.proofs.MappedArenaLemmas.{is_some-map}
 
-module _ {Gen T : Type 0} where
-  -- Two writes make u and v name q.
-  pub links_to_by_writes : (a b c : Arena Gen (LinkView T)) (u v : Option ℕ) (q : ℕ) → b ≡ with_link_map a (with_next_at (link_map a) u (Some q)) → c ≡ with_link_map b (with_prev_at (link_map b) v (Some q)) → c ≡ with_links_to a u v q
-  links_to_by_writes a b c u v q first second =
-      let followed = with_next_at (link_map a) u (Some q) in
-      let fits : FitsLinks followed a = FitsLinks-with_next_at a (link_map a) u (Some q) (FitsLinks-link_map a) in
-      second ∙ (ap (λ (x : Arena Gen (LinkView T)). with_link_map x (with_prev_at (link_map x) v (Some q))) first
-      ∙ (ap (λ (m : LinkMap). with_link_map (with_link_map a followed) (with_prev_at m v (Some q))) (link_map-with_link_map a followed fits)
-      ∙ with_link_map-again a followed (with_prev_at followed v (Some q)) fits))
-
 module _ {Gen T : Type 0} (a : Arena Gen (LinkView T)) (free : AreFree a.slots a.freed) (t : T) where
   -- A link that names others is a lone link with interlinks written, at each index.
   named_at : (b : Bool) (u v : Option ℕ) (e : Option (Gen × LinkView T)) → (if b then Some (a.counter, new_link t u v) else e)

@@ -84,15 +84,16 @@ module _ {Gen T : Type 0} where
   pub FitsLinks-linked : (a : Arena Gen (LinkView T)) (u v : Option ℕ) → FitsLinks (with_neighbors (link_map a) u v) a
   FitsLinks-linked a u v = FitsLinks-with_prev_at a (with_next_at (link_map a) u v) v u (FitsLinks-with_next_at a (link_map a) u v (FitsLinks-link_map a))
 
-  -- Writes to `next` and `prev` link a pair.
-  pub linked_by_writes : (a b c : Arena Gen (LinkView T)) (u v : Option ℕ) → b ≡ with_link_map a (with_next_at (link_map a) u v) → c ≡ with_link_map b (with_prev_at (link_map b) v u)
-      → c ≡ with_link_map a (with_neighbors (link_map a) u v)
-  linked_by_writes a b c u v first second =
-      let fits = FitsLinks-with_next_at a (link_map a) u v (FitsLinks-link_map a) in
+  -- A write to a `next`, then one to a `prev`, as one write of all interlinks.
+  pub next_and_prev_written : (a b c : Arena Gen (LinkView T)) (u next v prev : Option ℕ) → b ≡ with_link_map a (with_next_at (link_map a) u next) → c ≡ with_link_map b (with_prev_at (link_map b) v prev)
+      → c ≡ with_link_map a (with_prev_at (with_next_at (link_map a) u next) v prev)
+  next_and_prev_written a b c u next v prev first second =
+      let followed = with_next_at (link_map a) u next in
+      let fits : FitsLinks followed a = FitsLinks-with_next_at a (link_map a) u next (FitsLinks-link_map a) in
       second
-      ∙ (ap (λ (x : Arena Gen (LinkView T)). with_link_map x (with_prev_at (link_map x) v u)) first
-      ∙ (ap (λ (m : LinkMap). with_link_map (with_link_map a (with_next_at (link_map a) u v)) (with_prev_at m v u)) (link_map-with_link_map a (with_next_at (link_map a) u v) fits)
-      ∙ with_link_map-again a (with_next_at (link_map a) u v) (with_neighbors (link_map a) u v) fits))
+      ∙ (ap (λ (x : Arena Gen (LinkView T)). with_link_map x (with_prev_at (link_map x) v prev)) first
+      ∙ (ap (λ (m : LinkMap). with_link_map (with_link_map a followed) (with_prev_at m v prev)) (link_map-with_link_map a followed fits)
+      ∙ with_link_map-again a followed (with_prev_at followed v prev) fits))
 
   -- Two pairs are linked one after another.
   pub arena_with_pairs : (a b c : Arena Gen (LinkView T)) (u v w x : Option ℕ) → b ≡ with_link_map a (with_neighbors (link_map a) u v) → c ≡ with_link_map b (with_neighbors (link_map b) w x)

@@ -23,6 +23,10 @@ module _ {Gen T : Type 0} where
   abbrev pub arena_with_prev : Arena Gen (LinkView T) → Option ℕ → Option ℕ → Arena Gen (LinkView T)
   arena_with_prev a i prev = with_link_map a (with_prev_at (link_map a) i prev)
 
+  -- The `next` of the link at u is written, then the `prev` of the link at v.
+  abbrev pub arena_with_both : Arena Gen (LinkView T) → (u next v prev : Option ℕ) → Arena Gen (LinkView T)
+  arena_with_both a u next v prev = with_link_map a (with_prev_at (with_next_at (link_map a) u next) v prev)
+
   -- v comes after u.
   abbrev pub arena_with_pair : Arena Gen (LinkView T) → Option ℕ → Option ℕ → Arena Gen (LinkView T)
   arena_with_pair a u v = with_link_map a (with_neighbors (link_map a) u v)
@@ -87,7 +91,7 @@ module _ {Gen K T : Type 0} (packed : K → Option ℕ) where
     -- The `next` of the link at `before` is written, then the `prev` of the link at `after`.
     abbrev pub SetsBoth : (before next after prev : Option I) → (old new : Arena Gen (RawLink K T)) → Type 0
     SetsBoth before next after prev old new =
-        LinksBecome (arena_with_prev (arena_with_next (links_view packed old) (option_map number before) (option_map number next)) (option_map number after) (option_map number prev)) old new
+        LinksBecome (arena_with_both (links_view packed old) (option_map number before) (option_map number next) (option_map number after) (option_map number prev)) old new
 
     -- `next` comes after `prev`.
     abbrev pub LinksPair : (prev next : Option I) → (old new : Arena Gen (RawLink K T)) → Type 0

@@ -1,12 +1,10 @@
 -- The first write removes no link.
-use Rattle.std.proofs.Common.{ap, ◌∙◌}
 use Rattle.std.specs.Option.{option_map}
 use Rattle.chain_laws.specs.Joins.{with_next_at}
 use Rattle.chain_links.specs.Links.{links_view}
 use Rattle.chain_links.specs.ChainArena.{link_map}
-use Rattle.chain_linking.specs.LinkWrites.{arena_with_prev}
 use Rattle.chain_linking.proofs.NeighborLemmas.{still_named}
-use Rattle.chain_linking.proofs.LinkWriteLemmas.{FitsLinks-with_next_at, FitsLinks-link_map}
+use Rattle.chain_linking.proofs.LinkWriteLemmas.{FitsLinks-with_next_at, FitsLinks-link_map, next_and_prev_written}
 use Rattle.chain_linking.proofs.link_writes.write_beside.Goals as goal
 
 pub set_prev-requires : goal.set_prev-requires
@@ -20,7 +18,9 @@ set_prev-requires g c =
 pub returns : goal.returns
 returns g c =
     let number = g.P.Inx.InxKey.number in
+    let packed = g.P.Inx.InxKey.packed_number in
     record {
-      links = c.set_prev.ensures.links ∙ ap (λ a. arena_with_prev a (option_map number c.args.after) (option_map number c.args.prev)) c.set_next.ensures.links;
+      links = next_and_prev_written (links_view packed c.args.arena.now) (links_view packed c.set_next.new.arena) (links_view packed c.set_prev.new.arena)
+          (option_map number c.args.before) (option_map number c.args.next) (option_map number c.args.after) (option_map number c.args.prev) c.set_next.ensures.links c.set_prev.ensures.links;
       at_rest = λ rest. c.set_prev.ensures.at_rest (c.set_next.ensures.at_rest rest);
     }

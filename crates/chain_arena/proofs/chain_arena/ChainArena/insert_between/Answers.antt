@@ -9,8 +9,8 @@ use Rattle.chain_links.specs.Links.{links_view, AreAtRest}
 use Rattle.chain_links.proofs.RestLemmas.{inserted_at_rest}
 use Rattle.chain_links.specs.ChainArena.{link_map, insert_between}
 use Rattle.chain_links.proofs.ArenaInsertionLemmas.{entry_count-links_view, listed-links_view, link_map-next, next_index-links_view}
-use Rattle.chain_linking.specs.LinkWrites.{arena_with_next, arena_with_prev}
-use Rattle.chain_linking.proofs.LinkInsertionLemmas.{inserted_beside, both_stored, links_to_by_writes}
+use Rattle.chain_linking.specs.LinkWrites.{arena_with_both}
+use Rattle.chain_linking.proofs.LinkInsertionLemmas.{inserted_beside, both_stored}
 use Rattle.chain_arena.proofs.NewLinkLemmas.{next_viewed}
 use Rattle.chain_arena.proofs.InsertionEffectLemmas.{agrees-insert_between}
 use Rattle.chain_arena.proofs.chain_arena.ChainArena.insert_between.Given.{Over}
@@ -65,8 +65,7 @@ inserted g c =
     let at = (goal.at.returns g c).After-inx in
     inserted_beside packed a c.insert_next-p.new.self (links_view packed c.write_beside.new.arena) u v c.args.t c.new.result c.invariants.ensures.listed c.new.ensures.link
     (position_between (link_map s) q u v c.self.invariant.agree (link_map-next s (listed-links_view packed a c.invariants.ensures.listed).free) (position g at)).forward.itself c.insert_next-p.ensures.after
-    (links_to_by_writes b (arena_with_next b u (Some q)) (links_view packed c.write_beside.new.arena) u v q refl
-    (c.write_beside.ensures.links ∙ ap (λ (n : ℕ). arena_with_prev (arena_with_next b u (Some n)) v (Some n)) (at_next g at)))
+    (c.write_beside.ensures.links ∙ ap (λ (n : ℕ). arena_with_both b u (Some n) v (Some n)) (at_next g at))
 
 pub invariant_of-self : goal.invariant_of-self
 invariant_of-self g c =

@@ -9,36 +9,36 @@ use Rattle.chain_links.specs.Links.{links_view}
 use Rattle.chain_links.specs.ChainArena.{LinkView, with_link_map, link_map}
 use Rattle.chain_arena.proofs.BreakAndExchangeLemmas.{at_known, disconnected, agrees_cut, cut_known}
 use Rattle.chain_arena.proofs.impl_chain_arena_trait.ChainArenaChainArenaTrait.break_prev.Given.{Over}
-use Rattle.chain_arena.proofs.impl_chain_arena_trait.ChainArenaChainArenaTrait.break_prev.Goals.{After-link_pairs}
+use Rattle.chain_arena.proofs.impl_chain_arena_trait.ChainArenaChainArenaTrait.break_prev.Goals.{After-write_beside}
 use Rattle.chain_arena.proofs.impl_chain_arena_trait.ChainArenaChainArenaTrait.break_prev.Goals as goal
 
 -- The links before the cut, and after it.
-abbrev links : (g : Over) → After-link_pairs g → Arena g.row.P-Gen.Denot (LinkView g.row.T.Denot)
+abbrev links : (g : Over) → After-write_beside g → Arena g.row.P-Gen.Denot (LinkView g.row.T.Denot)
 links g c = links_view g.P.Inx.InxKey.packed_number c.self.inside.arena
 
-abbrev cut_links : (g : Over) → After-link_pairs g → Arena g.row.P-Gen.Denot (LinkView g.row.T.Denot)
-cut_links g c = links_view g.P.Inx.InxKey.packed_number c.link_pairs.new.arena
+abbrev cut_links : (g : Over) → After-write_beside g → Arena g.row.P-Gen.Denot (LinkView g.row.T.Denot)
+cut_links g c = links_view g.P.Inx.InxKey.packed_number c.write_beside.new.arena
 
 -- The neighbor.
-known : (g : Over) (c : After-link_pairs g) → prev_of (link_map (links g c)) (g.P.PtrKey.key c.args.p).0 ≡ Some (g.P.Inx.InxKey.number c.in-Some.before)
+known : (g : Over) (c : After-write_beside g) → prev_of (link_map (links g c)) (g.P.PtrKey.key c.args.p).0 ≡ Some (g.P.Inx.InxKey.number c.in-Some.before)
 known g c = sym (c.in-Some.ensures.neighbor (c.in-Some.ensures.some refl))
 
-pair : (g : Over) (c : After-link_pairs g) → AreNeighbors (link_map (links g c)) (g.P.Inx.InxKey.number c.in-Some.before) (g.P.PtrKey.key c.args.p).0
+pair : (g : Over) (c : After-write_beside g) → AreNeighbors (link_map (links g c)) (g.P.Inx.InxKey.number c.in-Some.before) (g.P.PtrKey.key c.args.p).0
 pair g c = (c.self.invariant.agree.both (g.P.Inx.InxKey.number c.in-Some.before) (g.P.PtrKey.key c.args.p).0).1 (known g c)
 
 -- The links written are the cut.
-is_cut : (g : Over) (c : After-link_pairs g) → cut_links g c ≡ with_link_map (links g c) (without_pair (link_map (links g c)) (g.P.Inx.InxKey.number c.in-Some.before) (g.P.PtrKey.key c.args.p).0)
-is_cut g c = c.link_pairs.ensures.links ∙ ap (λ (i : ℕ). with_link_map (links g c) (without_pair (link_map (links g c)) (g.P.Inx.InxKey.number c.in-Some.before) i)) c.inx.ensures
+is_cut : (g : Over) (c : After-write_beside g) → cut_links g c ≡ with_link_map (links g c) (without_pair (link_map (links g c)) (g.P.Inx.InxKey.number c.in-Some.before) (g.P.PtrKey.key c.args.p).0)
+is_cut g c = c.write_beside.ensures.links ∙ ap (λ (i : ℕ). with_link_map (links g c) (without_pair (link_map (links g c)) (g.P.Inx.InxKey.number c.in-Some.before) i)) c.inx.ensures
 
-pub link_pairs-requires-clause-first_prev : goal.link_pairs-requires-clause-first_prev
-link_pairs-requires-clause-first_prev g c =
+pub write_beside-requires-clause-before : goal.write_beside-requires-clause-before
+write_beside-requires-clause-before g c =
     let s = link_map (links_view g.P.Inx.InxKey.packed_number c.self.inside.arena) in
     let p = (g.P.PtrKey.key c.args.p).0 in
     let before = g.P.Inx.InxKey.number c.in-Some.before in
     next_valid s before p ((c.self.invariant.agree.both before p).1 (sym (c.in-Some.ensures.neighbor (c.in-Some.ensures.some refl))))
 
-pub link_pairs-requires-clause-second_next : goal.link_pairs-requires-clause-second_next
-link_pairs-requires-clause-second_next g c =
+pub write_beside-requires-clause-after : goal.write_beside-requires-clause-after
+write_beside-requires-clause-after g c =
     let s = link_map (links_view g.P.Inx.InxKey.packed_number c.self.inside.arena) in
     let p = (g.P.PtrKey.key c.args.p).0 in
     subst (HasLink s) (sym c.inx.ensures) (prev_valid s p (g.P.Inx.InxKey.number c.in-Some.before) (sym (c.in-Some.ensures.neighbor (c.in-Some.ensures.some refl))))
@@ -46,7 +46,7 @@ link_pairs-requires-clause-second_next g c =
 pub invariant_of-self : goal.invariant_of-self
 invariant_of-self g c = record {
   agree = agrees_cut (links g c) (cut_links g c) _ _ (is_cut g c) c.self.invariant.agree (pair g c);
-  at_rest = c.link_pairs.ensures.at_rest c.self.invariant.at_rest;
+  at_rest = c.write_beside.ensures.at_rest c.self.invariant.at_rest;
 }
 
 pub returns-in-Some : goal.returns-in-Some
