@@ -1,7 +1,12 @@
 -- Lines that are read in pieces.
-use Rattle.std.proofs.Common.{◌≡◌, ℕ, ◌+◌, ◌<◌, ◌≤◌, ◌==◌, Bool, true, false, nat_lt, cond, not, List, [], ◌∷◌, ◌++◌, length, take, drop, take_while, refl, sym, ap, ◌∙◌, subst, append_assoc, append-nil, one-add, arith, rules}
-use Rattle.std.specs.Prelude.{◌-◌, leb, min, All}
-use Rattle.std.proofs.lemmas.Bool.{lt-ltb, leb-true, leb-false}
+use Rattle.std.proofs.Common.{◌≡◌, ℕ, zero, suc, ◌+◌, ◌<◌, ◌≤◌, ◌==◌, Bool, true, false, nat_lt, cond, not, List, [], ◌∷◌, ◌++◌, length, take, drop, take_while, refl, sym, ap, ◌∙◌, subst, append_assoc, append-nil, one-add, arith, rules}
+use Rattle.std.specs.Prelude.{◌-◌, leb, min, All, slice_index, if◌then◌else◌, Option, None, Some}
+use Rattle.std.specs.Option.{MatchOption, unwrap_or}
+use Rattle.std.proofs.Common.{Bor}
+use Rattle.std.proofs.Math.Bool.{and-true}
+use Rattle.std.proofs.Math.Dec.{eqb}
+use lib.Pointwise.{pointwise}
+use Rattle.std.proofs.lemmas.Bool.{lt-ltb, le-ltb, leb-true, leb-false}
 use Rattle.std.proofs.lemmas.List.{take_all, take-append-le, length-take}
 use Rattle.std.proofs.lemmas.List.Elements.{All-nil, All-cons, All-head, All-tail}
 use Rattle.std.proofs.lemmas.List.Folds.{length-prefix_len}
@@ -211,3 +216,34 @@ pub whole_lines-more : (more text : List ℕ) (lines : List (List ℕ)) (rest : 
 whole_lines-more more text lines rest cut =
     let found = lines_of-more more text lines rest cut in
     (all_but_last (found.0 ∷ found.1), ap all_but_last found.2 ∙ all_but_last-before lines (found.0 ∷ found.1) tt)
+
+-- ---- the words of a line
+
+-- The byte at n, the last of a line, is a carriage return.
+return_at : (n : ℕ) (line : List ℕ) → length line ≡ suc n → pointwise eqb (drop n line) (13 ∷ []) ≡ (slice_index line n == 13)
+return_at zero (c ∷ []) long = and-true (c == 13)
+return_at zero (c ∷ d ∷ line) long = absurd (omega (arith, long))
+return_at (suc n) (c ∷ line) long = return_at n line (omega (arith, long))
+return_at zero [] long = absurd (omega (arith, long))
+return_at (suc n) [] long = absurd (omega (arith, long))
+
+-- A line ends with a carriage return if that is its last byte.
+ends_with_return : (line : List ℕ) → pointwise eqb (drop (length line - 1) line) (13 ∷ []) ≡ (slice_index line (length line - 1) == 13)
+ends_with_return [] = refl
+ends_with_return (c ∷ line) =
+    let last : length (c ∷ line) - 1 ≡ length line = omega arith in
+    subst (λ n. pointwise eqb (drop n (c ∷ line)) (13 ∷ []) ≡ (slice_index (c ∷ line) n == 13)) (sym last) (return_at (length line) (c ∷ line) refl)
+
+-- The words of a line that is not too long.
+pub line_of-words : (line text : List ℕ) (words : List (List ℕ)) → length line ≤ 200 → text ≡ without_return line → words_of text ≡ words → line_of line ≡ line_of_words words
+line_of-words line text words short is same =
+    ap (λ b. cond b lines.Bad (line_of_words (words_of (without_return line)))) (le-ltb 200 (length line) short) ∙ ap (λ t. line_of_words (words_of t)) (sym is) ∙ ap line_of_words same
+
+-- What is left of a line without the carriage return at its end.
+pub return_stripped : (line : Bor (List ℕ)) (r : Option (Bor (List ℕ))) (text : Bor (List ℕ))
+    → MatchOption r (pointwise eqb (drop (length line.now - 1) line.now) (13 ∷ []) ≡ false) (λ x. (pointwise eqb (drop (length line.now - 1) line.now) (13 ∷ []) ≡ true) × (x.now ≡ take (length line.now - 1) line.now) × (length x.now + 1 ≡ length line.now))
+    → text ≡ unwrap_or r line → text.now ≡ without_return line.now
+return_stripped line None text unstripped is =
+    ap (λ t. t.now) is ∙ ap (λ b. if b then take (length line.now - 1) line.now else line.now) (sym unstripped ∙ ends_with_return line.now)
+return_stripped line (Some x) text stripped is =
+    ap (λ t. t.now) is ∙ stripped.1 ∙ ap (λ b. if b then take (length line.now - 1) line.now else line.now) (sym stripped.0 ∙ ends_with_return line.now)

@@ -1,14 +1,17 @@
 -- The progress of a run by lines and parts of lines.
-use Rattle.std.proofs.Common.{◌≡◌, ℕ, ◌⊎◌, List, [], ◌∷◌, ◌++◌, take, Option, Result, Ok, Err, OnOk, IfErr, refl, sym, ap, ◌∙◌, subst, append_assoc, append-nil, inl, inr}
+use Rattle.std.proofs.Common.{◌≡◌, ℕ, ◌⊎◌, List, [], ◌∷◌, ◌++◌, take, drop, length, Bool, true, ◌==◌, Option, Result, Ok, Err, OnOk, IfErr, IsErrAnd, arith, refl, sym, ap, ◌∙◌, subst, append_assoc, append-nil, inl, inr}
 use Rattle.std.specs.Prelude.{All}
-use Rattle.std.proofs.KnownBytes.{Appends-trans, Appends-kept}
+use Rattle.std.specs.Io.KnownBytes.{Appends, Keeps}
+use Rattle.std.proofs.lemmas.Grind.{common_steps}
+use Rattle.std.proofs.lemmas.List.{take-append-drop, nil_from_length}
+use Rattle.std.proofs.KnownBytes.{Appends-trans, Appends-kept, Keeps-refl}
 use Rattle.chain_commands.specs.declared.session.ToolError.{ToolError}
 use Rattle.chain_commands.specs.declared.session.ToolError.TheVariants as errors
 use Rattle.chain_commands.specs.Words.{lines_of, whole_lines, IsNot, EndsFirst}
 use Rattle.chain_commands.specs.Commands.{line_of}
 use Rattle.chain_commands.specs.Responses.{ToolLinks, RespondsToLine, LeavesStep}
 use Rattle.chain_commands.specs.Transcripts.{Transcribes, IsCutShort, within, TranscribesSome, before, after}
-use Rattle.chain_commands.specs.Progress.{TranscribesOne, Progress, HasProgressed}
+use Rattle.chain_commands.specs.Progress.{WritesText, TranscribesOne, Progress, HasProgressed}
 use Rattle.chain_commands.proofs.LineSplitLemmas.{line_of-take, lines_of-end, whole_lines-end, whole_lines-more, cut-more}
 
 -- One more line is executed.
@@ -90,30 +93,58 @@ Progress-front old new read kept kept_after front held held_after so_far all kee
 
 -- ---- a piece, line by line
 
--- A response to a line is a response to its kept part.
-returns_kept : {A : Type 0} (r : Result A ToolError) (old new : ToolLinks) (line : List ℕ) (held held_after : Option (List ℕ)) → TranscribesOne r old new line held held_after
-    → TranscribesOne r old new (take 201 line) held held_after
-returns_kept (Ok x) old new line held held_after responded = (responded.0, subst (λ l. RespondsToLine old l responded.0 new) (sym (line_of-take line)) responded.1, responded.2)
-returns_kept (Err errors.Read) old new line held held_after responded = responded
-returns_kept (Err errors.Write) old new line held held_after responded =
-    (responded.0, responded.1, subst (λ l. RespondsToLine old l (responded.0 ++ responded.1) new) (sym (line_of-take line)) responded.2, responded.3)
-returns_kept (Err errors.Memory) old new line held held_after responded = (responded.0, step responded.1)
-  where
-    step : (new ≡ old) ⊎ LeavesStep old (line_of line) new → (new ≡ old) ⊎ LeavesStep old (line_of (take 201 line)) new
-    step (inl same) = inl same
-    step (inr leaves) = inr (subst (λ l. LeavesStep old l new) (sym (line_of-take line)) leaves)
-
--- A line is executed of which a part was kept.
-pub responses-line : {A : Type 0} (r : Result A ToolError) (old new : ToolLinks) (kept line : List ℕ) (held held_after : Option (List ℕ)) → kept ≡ take 201 line → TranscribesOne r old new kept held held_after
+-- A line is executed by another of the same meaning.
+pub responses-line : {A : Type 0} (r : Result A ToolError) (old new : ToolLinks) (executed line : List ℕ) (held held_after : Option (List ℕ)) → line_of executed ≡ line_of line → TranscribesOne r old new executed held held_after
     → TranscribesOne r old new line held held_after
-responses-line (Ok x) old new kept line held held_after is responded = (responded.0, kept_line_responds old new kept line responded.0 is responded.1, responded.2)
-responses-line (Err errors.Read) old new kept line held held_after is responded = responded
-responses-line (Err errors.Write) old new kept line held held_after is responded = (responded.0, responded.1, kept_line_responds old new kept line (responded.0 ++ responded.1) is responded.2, responded.3)
-responses-line (Err errors.Memory) old new kept line held held_after is responded = (responded.0, step responded.1)
+responses-line (Ok x) old new executed line held held_after is responded = (responded.0, subst (λ l. RespondsToLine old l responded.0 new) is responded.1, responded.2)
+responses-line (Err errors.Read) old new executed line held held_after is responded = responded
+responses-line (Err errors.Write) old new executed line held held_after is responded = (responded.0, responded.1, subst (λ l. RespondsToLine old l (responded.0 ++ responded.1) new) is responded.2, responded.3)
+responses-line (Err errors.Memory) old new executed line held held_after is responded = (responded.0, step responded.1)
   where
-    step : (new ≡ old) ⊎ LeavesStep old (line_of kept) new → (new ≡ old) ⊎ LeavesStep old (line_of line) new
+    step : (new ≡ old) ⊎ LeavesStep old (line_of executed) new → (new ≡ old) ⊎ LeavesStep old (line_of line) new
     step (inl same) = inl same
-    step (inr leaves) = inr (kept_line_steps old new kept line is leaves)
+    step (inr leaves) = inr (subst (λ l. LeavesStep old l new) is leaves)
+
+-- A response is written, or a first part of it.
+pub response-written : {A : Type 0} (r : Result A ToolError) (old new : ToolLinks) (line text bytes : List ℕ) (held held_after : Option (List ℕ)) → RespondsToLine old (line_of line) text new → bytes ≡ text
+    → WritesText r held held_after bytes → TranscribesOne r old new line held held_after
+response-written (Ok x) old new line text bytes held held_after responses is writes = (text, responses, subst (Appends held held_after) is writes.ok)
+response-written (Err errors.Read) old new line text bytes held held_after responses is writes = let e = writes.error in cc
+response-written (Err errors.Memory) old new line text bytes held held_after responses is writes = let e = writes.error in cc
+response-written (Err errors.Write) old new line text bytes held held_after responses is writes = (
+  take writes.err.0 text,
+  drop writes.err.0 text,
+  subst (λ t. RespondsToLine old (line_of line) t new) (sym (take-append-drop writes.err.0 text)) responses,
+  subst (λ t. Appends held held_after (take writes.err.0 t)) is writes.err.1,
+)
+
+-- No memory for a response: nothing is written, and only a call may have taken effect.
+pub response-fails : {A : Type 0} (r : Result A ToolError) (old new : ToolLinks) (line : List ℕ) (held : Option (List ℕ)) → IsErrAnd r (λ e. e ≡ errors.Memory) → (new ≡ old) ⊎ LeavesStep old (line_of line) new
+    → TranscribesOne r old new line held held
+response-fails {A} (Err e) old new line held fails steps = subst (λ x. TranscribesOne {A = A} (Err x) old new line held held) (sym fails) (Keeps-refl held, steps)
+response-fails (Ok x) old new line held fails steps = absurd fails
+
+-- A flush writes nothing; if it fails, the response is written whole.
+pub response-flushed : {A B : Type 0} (x : A) (r : Result B ToolError) (old new : ToolLinks) (line : List ℕ) (held held_mid held_after : Option (List ℕ)) → TranscribesOne (Ok x) old new line held held_mid
+    → Keeps held_mid held_after → IfErr r (λ e. e ≡ errors.Write) → TranscribesOne r old new line held held_after
+response-flushed x (Ok y) old new line held held_mid held_after responded keeps error = (responded.0, responded.1, Appends-kept held held_mid held_after _ responded.2 keeps)
+response-flushed x (Err errors.Write) old new line held held_mid held_after responded keeps error = (
+  responded.0,
+  [],
+  subst (λ t. RespondsToLine old (line_of line) t new) (sym (append-nil responded.0)) responded.1,
+  Appends-kept held held_mid held_after _ responded.2 keeps,
+)
+response-flushed x (Err errors.Read) old new line held held_mid held_after responded keeps error = absurd (cc)
+response-flushed x (Err errors.Memory) old new line held held_mid held_after responded keeps error = absurd (cc)
+
+-- Nothing is kept if the kept part has no length.
+pub none_kept : (kept : List ℕ) (n : ℕ) (b : Bool) → length kept ≡ n → b ≡ (n == 0) → b ≡ true → kept ≡ []
+none_kept kept n b long is empty = nil_from_length kept (grind (arith, common_steps))
+
+-- Nothing was kept of a line that is read in place.
+pub line_in_place : (kept rest front whole : List ℕ) → kept ≡ [] → kept ≡ take 201 rest → whole ≡ front → line_of whole ≡ line_of (rest ++ front)
+line_in_place kept [] front whole none is same = ap line_of same
+line_in_place kept (c ∷ rest) front whole none is same = absurd (let e = sym none ∙ is in cc)
 
 module _ (old now : ToolLinks) (read done left kept : List ℕ) (held held_now : Option (List ℕ)) (so_far : Progress old (read ++ done) now kept held held_now) where
   -- Enough is kept of a part without a line feed.
@@ -126,7 +157,7 @@ module _ (old now : ToolLinks) (read done left kept : List ℕ) (held held_now :
         → ((rest : List ℕ) → kept ≡ take 201 rest → TranscribesOne (Ok x) now new (rest ++ front) held_now held_new) → kept_after ≡ []
         → Progress old (read ++ (done ++ (front ++ 10 ∷ []))) new kept_after held held_new
     feed-line new kept_after held_new x responded is_empty =
-        let kept_responded = returns_kept (Ok x) now new (so_far.rest ++ front) held_now held_new (responded so_far.rest so_far.keeps) in
+        let kept_responded = responses-line (Ok x) now new (so_far.rest ++ front) (take 201 (so_far.rest ++ front)) held_now held_new (sym (line_of-take (so_far.rest ++ front))) (responded so_far.rest so_far.keeps) in
         let here = Progress-line old now new ((read ++ done) ++ front) (take 201 (so_far.rest ++ front)) held held_now held_new (so_far_front front ends.first) x kept_responded in
         subst (λ k. Progress old (read ++ (done ++ (front ++ 10 ∷ []))) new k held held_new) (sym is_empty)
         (subst (λ l. Progress old l new [] held held_new) (append_assoc (read ++ done) front (10 ∷ []) ∙ append_assoc read done (front ++ 10 ∷ [])) here)
@@ -136,7 +167,7 @@ module _ (old now : ToolLinks) (read done left kept : List ℕ) (held held_now :
         → ((rest : List ℕ) → kept ≡ take 201 rest → TranscribesOne {A = A} (Err error) now new (rest ++ front) held_now held_new) → r ≡ Err error
         → HasProgressed r old (read ++ piece) new kept_after held held_new
     feed-stopped A B error r piece new kept_after held_new parts stopped is =
-        let kept_stopped = returns_kept {A = A} (Err error) now new (so_far.rest ++ front) held_now held_new (stopped so_far.rest so_far.keeps) in
+        let kept_stopped = responses-line {A = A} (Err error) now new (so_far.rest ++ front) (take 201 (so_far.rest ++ front)) held_now held_new (sym (line_of-take (so_far.rest ++ front))) (stopped so_far.rest so_far.keeps) in
         let here = HasProgressed-stopped old now new ((read ++ done) ++ front) (take 201 (so_far.rest ++ front)) held held_now held_new (so_far_front front ends.first) A B error back kept_after kept_stopped in
         let whole : ((read ++ done) ++ front) ++ 10 ∷ back ≡ read ++ piece = append_assoc (read ++ done) front (10 ∷ back) ∙ (append_assoc read done (front ++ 10 ∷ back)
         ∙ ap (λ l. read ++ l) (ap (λ l. done ++ l) (sym ends.parts) ∙ sym parts)) in

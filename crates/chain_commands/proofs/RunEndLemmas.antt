@@ -1,5 +1,5 @@
 -- How a run ends.
-use Rattle.std.proofs.Common.{◌≡◌, ℕ, ◌⊎◌, List, [], ◌∷◌, ◌++◌, Option, Result, Ok, Err, refl, sym, ap, ◌∙◌, subst, append-nil, inl, inr}
+use Rattle.std.proofs.Common.{◌≡◌, ℕ, ◌⊎◌, List, [], ◌∷◌, ◌++◌, take, Option, Result, Ok, Err, refl, sym, ap, ◌∙◌, subst, append-nil, inl, inr}
 use Rattle.std.specs.Io.KnownBytes.{Consumes, Keeps, IsAtEnd}
 use Rattle.std.proofs.KnownBytes.{Appends-trans, Appends-kept, Appends-nil, Consumes-trans, Consumes-kept, Consumes-nil}
 use Rattle.chain_commands.specs.declared.session.ToolError.{ToolError}
@@ -10,7 +10,7 @@ use Rattle.chain_commands.specs.Responses.{ToolLinks, RespondsToLine, LeavesStep
 use Rattle.chain_commands.specs.Transcripts.{Transcribes, by_line_feed, by_the_end, IsCutShort, between, within, TranscribesSome, before, after, Ends}
 use Rattle.chain_commands.specs.Progress.{TranscribesOne, Progress, HasProgressed}
 use Rattle.chain_commands.proofs.LineSplitLemmas.{all_but_last-append}
-use Rattle.chain_commands.proofs.ProgressLemmas.{Transcribes-more, kept_line_responds, kept_line_steps}
+use Rattle.chain_commands.proofs.ProgressLemmas.{Transcribes-more}
 
 -- The run has executed what was read so far.
 pub record HasRead (old new : ToolLinks) (kept : List ℕ) (left left_after held held_after : Option (List ℕ)) : Type 0 where
@@ -94,22 +94,19 @@ module _ (old now : ToolLinks) (kept : List ℕ) (left left_now held held_now : 
   })
 
   -- The last line is executed.
-  pub Ends-finished : (B : Type 0) (r : Result B ToolError) (new : ToolLinks) (line : List ℕ) (left_after held_after : Option (List ℕ)) → line ≡ kept → Consumes left_now left_after [] → IsAtEnd left_after
-      → TranscribesOne r now new line held_now held_after → Ends r old new left left_after held held_after
-  Ends-finished B r new line left_after held_after same reads end responded = by_result r responded
+  pub Ends-finished : (B : Type 0) (r : Result B ToolError) (new : ToolLinks) (left_after held_after : Option (List ℕ)) → Consumes left_now left_after [] → IsAtEnd left_after
+      → ((rest : List ℕ) → kept ≡ take 201 rest → TranscribesOne r now new (rest ++ []) held_now held_after) → Ends r old new left left_after held held_after
+  Ends-finished B r new left_after held_after reads end responded =
+      by_result r (subst (λ l. TranscribesOne r now new l held_now held_after) (append-nil has.so_far.rest) (responded has.so_far.rest has.so_far.keeps))
     where
       all : Consumes left left_after has.read
       all = subst (Consumes left left_after) (append-nil has.read) (Consumes-trans left left_now left_after _ _ has.reads reads)
 
-      last : (text : List ℕ) → RespondsToLine now (line_of line) text new → RespondsToLine now (line_of has.so_far.rest) text new
-      last text responses = kept_line_responds now new kept has.so_far.rest text has.so_far.keeps (subst (λ l. RespondsToLine now (line_of l) text new) same responses)
-
-      left_unchanged : (new ≡ now) ⊎ LeavesStep now (line_of line) new → TranscribesSome old new (has.so_far.lines ++ has.so_far.rest ∷ []) has.so_far.text
+      left_unchanged : (new ≡ now) ⊎ LeavesStep now (line_of has.so_far.rest) new → TranscribesSome old new (has.so_far.lines ++ has.so_far.rest ∷ []) has.so_far.text
       left_unchanged (inl stays) = before has.so_far.lines (has.so_far.rest ∷ []) has.so_far.text (subst (λ m. Transcribes old has.so_far.lines has.so_far.text m) (sym stays) has.so_far.responses)
-      left_unchanged (inr step) = after has.so_far.lines [] has.so_far.rest now has.so_far.text has.so_far.responses
-          (kept_line_steps now new kept has.so_far.rest has.so_far.keeps (subst (λ l. LeavesStep now (line_of l) new) same step))
+      left_unchanged (inr step) = after has.so_far.lines [] has.so_far.rest now has.so_far.text has.so_far.responses step
 
-      by_result : (r : Result B ToolError) → TranscribesOne r now new line held_now held_after → Ends r old new left left_after held held_after
+      by_result : (r : Result B ToolError) → TranscribesOne r now new has.so_far.rest held_now held_after → Ends r old new left left_after held held_after
       by_result (Ok x) responded = record {
         read = has.read;
         text = has.so_far.text ++ responded.0;
@@ -117,7 +114,7 @@ module _ (old now : ToolLinks) (kept : List ℕ) (left left_now held held_now : 
         ended = end;
         writes = Appends-trans held held_now held_after _ _ has.so_far.writes responded.2;
         responses = subst (λ l. Transcribes old l (has.so_far.text ++ responded.0) new) (sym has.so_far.cut)
-            (Transcribes-more old now new has.so_far.lines has.so_far.rest has.so_far.text responded.0 has.so_far.responses (last responded.0 responded.1));
+            (Transcribes-more old now new has.so_far.lines has.so_far.rest has.so_far.text responded.0 has.so_far.responses responded.1);
       }
       by_result (Err errors.Read) responded = absurd responded
       by_result (Err errors.Write) responded = record {
@@ -128,7 +125,7 @@ module _ (old now : ToolLinks) (kept : List ℕ) (left left_now held held_now : 
         complete = by_the_end end;
         writes = Appends-trans held held_now held_after _ _ has.so_far.writes responded.3;
         responses = subst (λ l. IsCutShort old new l (has.so_far.text ++ responded.0)) (sym has.so_far.cut)
-            (within has.so_far.lines [] has.so_far.rest now has.so_far.text responded.0 responded.1 has.so_far.responses (last (responded.0 ++ responded.1) responded.2));
+            (within has.so_far.lines [] has.so_far.rest now has.so_far.text responded.0 responded.1 has.so_far.responses responded.2);
       }
       by_result (Err errors.Memory) responded = record {
         read = has.read;

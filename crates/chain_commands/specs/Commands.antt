@@ -12,7 +12,7 @@ use Rattle.chain_commands.specs.declared.command.Command.{Command}
 use Rattle.chain_commands.specs.declared.command.Command.TheVariants.{Change, Show, Chain, Len, Moves}
 use Rattle.chain_commands.specs.declared.command.Line.{Line}
 use Rattle.chain_commands.specs.declared.command.Line.TheVariants as lines
-use Rattle.chain_commands.specs.Words.{words_of, number_of, index_word, generation_word, pointer_of, without_return}
+use Rattle.chain_commands.specs.Words.{words_of, number_of, index_word, generation_of, pointer_of, without_return}
 
 -- Kinds of a new link, whose neighbors are named by pointer or index.
 abbrev pub Kind : Type 0
@@ -114,7 +114,7 @@ command_of name arguments =
     else (if bytes_eq name (codes "compress") then option_map (λ reset. Change (Compress reset)) (reset_of arguments)
     else (if bytes_eq name (codes "canonical") then option_map (λ reset. Change (CompressCanonical reset)) (reset_of arguments)
     else (if bytes_eq name (codes "reserve") then option_map (λ n. Change (Reserve n)) (one_number arguments)
-    else (if bytes_eq name (codes "setgen") then option_map (λ g. Change (SetGeneration g)) (option_and_then generation_word (one_word arguments))
+    else (if bytes_eq name (codes "setgen") then option_map (λ g. Change (SetGeneration g)) (option_and_then generation_of (one_number arguments))
     else (if bytes_eq name (codes "incgen") then option_map (λ none. Change IncGeneration) (no_arguments arguments)
     else (if bytes_eq name (codes "show") then option_map Show (one_pointer arguments)
     else (if bytes_eq name (codes "chain") then option_map Chain (one_pointer arguments)

@@ -1,6 +1,6 @@
 -- The progress of a run.
-use Rattle.std.specs.Prelude.{◌≡◌, ℕ, ◌<◌, ◌≤◌, ◌⊎◌, List, [], ◌∷◌, ◌++◌, length, take, Option, Result, Ok, Err, OnOk, OnErr, IfOk, IfErr}
-use Rattle.std.specs.Io.KnownBytes.{Appends, Consumes, Keeps, IsAtEnd}
+use Rattle.std.specs.Prelude.{◌≡◌, ℕ, ◌⊎◌, List, [], ◌∷◌, ◌++◌, take, Option, Result, Ok, Err, OnOk, OnErr, IfErr}
+use Rattle.std.specs.Io.KnownBytes.{Appends, Keeps}
 use Rattle.chain_commands.specs.declared.session.ToolError.{ToolError}
 use Rattle.chain_commands.specs.declared.session.ToolError.TheVariants as errors
 use Rattle.chain_commands.specs.Words.{lines_of, whole_lines}
@@ -14,31 +14,6 @@ WritesText returned held held_after text = record {
   ok : OnOk returned (Appends held held_after text);
   err : OnErr returned ((n : ℕ) × Appends held held_after (take n text));
   error : IfErr returned (λ e. e ≡ errors.Write);
-}
-
--- The result of a flush, which writes nothing.
-abbrev pub FlushesOnly : {A : Type 0} → Result A ToolError → (held held_after : Option (List ℕ)) → Type 0
-FlushesOnly returned held held_after = record {
-  kept : Keeps held held_after;
-  error : IfErr returned (λ e. e ≡ errors.Write);
-}
-
--- The result of allocating a buffer, which is not empty.
-abbrev pub AllocatesBuffer : {A : Type 0} → (A → ℕ) → Result A ToolError → Type 0
-AllocatesBuffer len returned = record {
-  some : IfOk returned (λ buffer. 0 < len buffer);
-  error : IfErr returned (λ e. e ≡ errors.Memory);
-}
-
--- The result of a read: the first bytes of the piece were read, none only at the end. If the reader
--- fails, nothing was read.
-abbrev pub ReadsPiece : Result ℕ ToolError → (left left_after : Option (List ℕ)) → List ℕ → Type 0
-ReadsPiece returned left left_after piece = record {
-  bound : IfOk returned (λ n. n ≤ length piece);
-  bytes : IfOk returned (λ n. Consumes left left_after (take n piece));
-  end : IfOk returned (λ n. n ≡ 0 → 0 < length piece → IsAtEnd left_after);
-  err : OnErr returned (Keeps left left_after);
-  error : IfErr returned (λ e. e ≡ errors.Read);
 }
 
 -- The result of appending to an unfinished line, of which at most 201 bytes are kept.

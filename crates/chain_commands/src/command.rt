@@ -1,12 +1,12 @@
 //! Commands, and the parser of lines.
-ghost use Rattle.std.specs.Prelude.{◌≡◌, bytes_eq, option_map};
+ghost use Rattle.std.specs.Prelude.{◌≡◌, bytes_eq, option_and_then, option_map};
 ghost use Rattle.chain_laws.specs.declared.insert_kind.InsertKind.TheVariants.{AtInterlink, AtInterlinkInx, Bridge, BridgeInx};
-ghost use Rattle.chain_commands.specs.Words.{words_of};
+ghost use Rattle.chain_commands.specs.Words.{generation_of, words_of};
 ghost use Rattle.chain_commands.specs.Commands.{by_either, one_word, one_number, one_pointer, two_pointers, pointer_and_number, no_arguments, reset_of, removal, kind_alone, kind_beside, kind_between, insertion, command_of, line_of};
 
 use crate::command::Command::Change;
-use crate::lexer::{generation, index, next_word, number, pointer, without_return};
-use arena_ptr::{Inx32, ToolPtr};
+use crate::lexer::{index, next_word, number, pointer};
+use arena_ptr::{Gen32, Inx32, ToolPtr};
 use chain_arena::{Call, LinkInsertKind};
 
 /// A command with its arguments.
@@ -44,7 +44,7 @@ pub fn parse(line: &[u8]) -> Line
     if line.len() > 200 {
         return Line::Bad;
     }
-    match next_word(without_return(line)) {
+    match next_word(line.strip_suffix(b"\r").unwrap_or(line)) {
         None => Line::Blank,
         Some((name, arguments)) => match command_of(name, arguments) {
             None => Line::Bad,
@@ -79,7 +79,7 @@ fn command_of(name: &[u8], words: &[u8]) -> Option<Command>
         n if is(n, "compress") => Some(Change(Call::Compress(reset(words)?))),
         n if is(n, "canonical") => Some(Change(Call::CompressCanonical(reset(words)?))),
         n if is(n, "reserve") => Some(Change(Call::Reserve(one_number(words)? as usize))),
-        n if is(n, "setgen") => Some(Change(Call::SetGeneration(generation(one_word(words)?)?))),
+        n if is(n, "setgen") => Some(Change(Call::SetGeneration(one_generation(words)?))),
         n if is(n, "incgen") => no_arguments(words).map(|()| Change(Call::IncGeneration)),
         n if is(n, "show") => Some(Command::Show(one_pointer(words)?)),
         n if is(n, "chain") => Some(Command::Chain(one_pointer(words)?)),
@@ -242,6 +242,13 @@ fn one_number(arguments: &[u8]) -> Option<u32>
     ensures { result ≡ one_number (words_of arguments.now) }
 {
     number(one_word(arguments)?)
+}
+
+/// Parses the arguments as one generation: a number of at least 1.
+fn one_generation(arguments: &[u8]) -> Option<Gen32>
+    ensures { result ≡ option_and_then generation_of (one_number (words_of arguments.now)) }
+{
+    Gen32::new(one_number(arguments)?)
 }
 
 /// Parses the arguments as one pointer.

@@ -1,35 +1,18 @@
 //! The words of a line, and their values as numbers and pointers.
 ghost use Rattle.std.specs.Prelude.{◌≡◌, ◌==◌, length, take_while, not};
-ghost use Rattle.chain_commands.specs.Words.{without_return, IsFirstWord, IsSplitAtByte, number_of, index_word, generation_word, pointer_of};
+ghost use Rattle.chain_commands.specs.Words.{IsFirstWord, IsSplitAtByte, number_of, index_word, pointer_of};
 
 use arena_ptr::{Gen32, Inx32, PtrKey, ToolPtr};
-
-/// Returns the line without a carriage return at its end.
-pub fn without_return(line: &[u8]) -> &[u8]
-    ensures { result.now ≡ without_return line.now }
-{
-    match line.last() {
-        Some(b'\r') => &line[..line.len() - 1],
-        _ => line,
-    }
-}
 
 /// Returns the first word of a text and the rest, or `None` if there is no word.
 pub fn next_word(text: &[u8]) -> Option<(&[u8], &[u8])>
     ensures { IsFirstWord (λ part. part.now) result text.now }
 {
-    let (_, text) = text.split_at(spaces(text));
+    let (_, text) = text.split_at(text.iter().take_while(|c| **c == b' ').count());
     if text.is_empty() {
         return None;
     }
     Some(text.split_at(position(b' ', text)))
-}
-
-/// Returns the number of spaces that a text begins with.
-fn spaces(text: &[u8]) -> usize
-    ensures { result ≡ length (take_while (λ c. c == 32) text.now) }
-{
-    text.iter().take_while(|c| **c == b' ').count()
 }
 
 /// Returns the position of the first such byte in a text, or the text's length if there is none.
@@ -74,17 +57,10 @@ pub fn index(word: &[u8]) -> Option<Inx32>
     Inx32::new(number(word)?)
 }
 
-/// Parses a generation: a number of at least 1.
-pub fn generation(word: &[u8]) -> Option<Gen32>
-    ensures { result ≡ generation_word word.now }
-{
-    Gen32::new(number(word)?)
-}
-
 /// Parses a pointer: an index, a dot and a generation.
 pub fn pointer(word: &[u8]) -> Option<ToolPtr>
     ensures { result ≡ pointer_of word.now }
 {
     let (front, back) = split_at_byte(b'.', word)?;
-    Some(ToolPtr::_from_raw(index(front)?, generation(back)?))
+    Some(ToolPtr::_from_raw(index(front)?, Gen32::new(number(back)?)?))
 }

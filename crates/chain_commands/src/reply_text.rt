@@ -1,7 +1,7 @@
 //! The texts of responses.
 ghost use Rattle.std.specs.Prelude.{◌≡◌, ◌++◌, OnOk, string_bytes, option_map};
 ghost use Rattle.arena_ptr.specs.ToolPtr.{key_of};
-ghost use Rattle.chain_commands.specs.Responses.{pointer_text, at_text, refusal_text, reply_text, neighbor_text, show_text, passed_text, walk_text};
+ghost use Rattle.chain_commands.specs.Responses.{pointer_text, refusal_text, reply_text, neighbor_text, show_text, passed_text, walk_text};
 
 use arena_base::ArenaSlot;
 use arena_ptr::InvalidationResult::{GenerationOverflow, InvalidPtr, Success};
@@ -53,7 +53,7 @@ pub fn push_reply(text: &mut String, reply: Reply<ToolPtr, u32>) -> Result<(), A
     ensures { OnOk result (string_bytes text.new ≡ string_bytes text.old ++ reply_text reply) }
 {
     match reply {
-        Reply::Inserted(Ok(p)) => push_at(text, p),
+        Reply::Inserted(Ok(p)) => write!(text, "at {}.{}", p.inx().get(), p.generation().get()),
         Reply::Inserted(Err(error)) => text.push_str(refusal(error)),
         Reply::Done(true) => text.push_str("ok"),
         Reply::Done(false) => text.push_str("none"),
@@ -67,11 +67,13 @@ pub fn push_reply(text: &mut String, reply: Reply<ToolPtr, u32>) -> Result<(), A
             link.t
         ),
         Reply::RemovedInx(InvalidPtr) => text.push_str("none"),
-        Reply::Renewed(Success(p)) => push_at(text, p),
-        Reply::Renewed(GenerationOverflow(p)) => {
-            push_at(text, p)?;
-            text.push_str(" overflow")
-        }
+        Reply::Renewed(Success(p)) => write!(text, "at {}.{}", p.inx().get(), p.generation().get()),
+        Reply::Renewed(GenerationOverflow(p)) => write!(
+            text,
+            "at {}.{} overflow",
+            p.inx().get(),
+            p.generation().get()
+        ),
         Reply::Renewed(InvalidPtr) => text.push_str("none"),
         Reply::Drained(Some(count)) => write!(text, "count {count}"),
         Reply::Drained(None) => text.push_str("none"),
@@ -84,13 +86,6 @@ pub fn push_reply(text: &mut String, reply: Reply<ToolPtr, u32>) -> Result<(), A
         ),
         Reply::Set => text.push_str("ok"),
     }
-}
-
-/// Appends the pointer of a new link to a text.
-fn push_at(text: &mut String, p: ToolPtr) -> Result<(), AllocError>
-    ensures { OnOk result (string_bytes text.new ≡ string_bytes text.old ++ at_text p) }
-{
-    write!(text, "at {}.{}", p.inx().get(), p.generation().get())
 }
 
 /// Returns the reason that an insertion failed.

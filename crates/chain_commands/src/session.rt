@@ -1,9 +1,10 @@
 //! Runs, which read lines from a reader and write the responses to a writer.
-ghost use Rattle.std.specs.Prelude.{length, None, ◌<◌, vec_len};
+ghost use Rattle.std.specs.Prelude.{◌≡◌, None};
 ghost use Rattle.arena_ptr.specs.Generations.{two32};
 ghost use Rattle.arena_traits.specs.Arena.{new_arena};
+ghost use Rattle.chain_commands.specs.declared.session.ToolError.TheVariants.{Memory};
 ghost use Rattle.chain_commands.specs.Responses.{ToolLinks};
-ghost use Rattle.chain_commands.specs.Progress.{TranscribesOne, EndsLine, ExtendsProgress, WritesText, FlushesOnly, AllocatesBuffer, ReadsPiece, KeepsMore};
+ghost use Rattle.chain_commands.specs.Progress.{EndsLine, ExtendsProgress, WritesText, KeepsMore};
 ghost use Rattle.chain_commands.specs.Transcripts.{Ends};
 
 use crate::execute::respond;
@@ -11,7 +12,7 @@ use crate::lexer::split_at_byte;
 use arena_base::{ArenaSlot, ArenaTrait};
 use arena_ptr::{SlotStack, ToolPtr};
 use chain_arena::{ChainArena, LinkNoGen};
-use std::alloc::Global;
+use std::alloc::{AllocError, Global};
 use std::io::{ErrorKind, Read, Write};
 
 /// The reason that a run stopped before the end of its input.
@@ -23,6 +24,14 @@ pub enum ToolError {
     Write,
     /// An allocation failed.
     Memory,
+}
+
+impl From<AllocError> for ToolError {
+    ghost from_gives = { λ _ error. error ≡ Memory };
+
+    fn from(_error: AllocError) -> ToolError {
+        ToolError::Memory
+    }
 }
 
 /// Writes a text to a writer, and retries interrupted writes.
@@ -49,31 +58,13 @@ fn write_fully<W: Write>(writer: &mut W, text: &[u8]) -> Result<(), ToolError>
     Err(ToolError::Write)
 }
 
-/// Executes a line and writes its response to the writer.
-fn reply<W: Write, S: SlotStack<Item = ArenaSlot<ToolPtr, LinkNoGen<ToolPtr, u32>>>>(
-    arena: &mut ChainArena<ToolPtr, u32, S>,
-    line: &[u8],
-    text: &mut String,
-    writer: &mut W,
-) -> Result<(), ToolError>
-    ensures { TranscribesOne result arena.old arena.new line.now (W.contents writer.old)
-        (W.contents writer.new) }
-{
-    match respond(arena, line, text) {
-        Ok(()) => write_fully(writer, text.as_bytes()),
-        Err(_) => Err(ToolError::Memory),
-    }
-}
-
 /// Appends to an unfinished line, of which at most 201 bytes are kept.
 fn buffer_line(line: &mut Vec<u8>, more: &[u8]) -> Result<(), ToolError>
     ensures { KeepsMore result line.old.items line.new.items more.now }
 {
     let (front, _) = more.split_at(more.len().min(201usize.saturating_sub(line.len())));
-    match line.extend_from_slice(front) {
-        Ok(()) => Ok(()),
-        Err(_) => Err(ToolError::Memory),
-    }
+    line.extend_from_slice(front)?;
+    Ok(())
 }
 
 /// Executes a line whose beginning may have been kept and whose end is `front`.
@@ -90,12 +81,13 @@ fn end_line<W: Write, S: SlotStack<Item = ArenaSlot<ToolPtr, LinkNoGen<ToolPtr, 
         line.new.items (W.contents writer.new) }
 {
     if line.is_empty() {
-        return reply(arena, front, text, writer);
+        respond(arena, front, text)?;
+    } else {
+        buffer_line(line, front)?;
+        respond(arena, line, text)?;
+        line.clear();
     }
-    buffer_line(line, front)?;
-    reply(arena, line, text, writer)?;
-    line.clear();
-    Ok(())
+    write_fully(writer, text.as_bytes())
 }
 
 /// Executes the lines that a piece of the input completes, and keeps the beginning of the next
@@ -119,76 +111,6 @@ fn feed<W: Write, S: SlotStack<Item = ArenaSlot<ToolPtr, LinkNoGen<ToolPtr, u32>
     buffer_line(line, left)
 }
 
-/// Flushes a writer.
-fn flush<W: Write>(writer: &mut W) -> Result<(), ToolError>
-    ensures { FlushesOnly result (W.contents writer.old) (W.contents writer.new) }
-{
-    match writer.flush() {
-        Ok(()) => Ok(()),
-        Err(_) => Err(ToolError::Write),
-    }
-}
-
-/// Reads a piece of the input and returns its length in bytes, which is 0 only at the end.
-fn read_piece<R: Read>(reader: &mut R, piece: &mut [u8]) -> Result<usize, ToolError>
-    ensures { ReadsPiece result (R.remaining reader.old) (R.remaining reader.new) piece.new }
-{
-    match reader.read(piece) {
-        Ok(n) => Ok(n),
-        Err(_) => Err(ToolError::Read),
-    }
-}
-
-/// Executes the last line, which has no line feed, and flushes the writer.
-fn finish<W: Write, S: SlotStack<Item = ArenaSlot<ToolPtr, LinkNoGen<ToolPtr, u32>>>>(
-    arena: &mut ChainArena<ToolPtr, u32, S>,
-    line: &[u8],
-    text: &mut String,
-    writer: &mut W,
-) -> Result<(), ToolError>
-    ensures { TranscribesOne result arena.old arena.new line.now (W.contents writer.old)
-        (W.contents writer.new) }
-{
-    reply(arena, line, text, writer)?;
-    flush(writer)
-}
-
-/// Allocates the buffer for a piece of the input.
-fn input_buffer(alloc: Global) -> Result<Vec<u8>, ToolError>
-    ensures { AllocatesBuffer vec_len result }
-{
-    match vec![in alloc; 0u8; 65536] {
-        Ok(piece) => Ok(piece),
-        Err(_) => Err(ToolError::Memory),
-    }
-}
-
-/// Runs the lines of a reader piece by piece.
-fn run_pieces<R: Read, W: Write, S: SlotStack<Item = ArenaSlot<ToolPtr, LinkNoGen<ToolPtr, u32>>>>(
-    alloc: Global,
-    arena: &mut ChainArena<ToolPtr, u32, S>,
-    reader: &mut R,
-    writer: &mut W,
-    piece: &mut [u8],
-) -> Result<(), ToolError>
-    requires { 0 < length piece.old }
-    ensures { Ends result arena.old arena.new (R.remaining reader.old) (R.remaining reader.new)
-        (W.contents writer.old) (W.contents writer.new) }
-{
-    let mut line = Vec::new(alloc);
-    let mut text = String::new(alloc);
-    // Each loop is proved to end, so the reads are bounded.
-    for _ in 0..u64::MAX {
-        flush(writer)?;
-        let n = read_piece(reader, piece)?;
-        if n == 0 {
-            return finish(arena, &line, &mut text, writer);
-        }
-        feed(arena, &piece[..n], &mut line, &mut text, writer)?;
-    }
-    Err(ToolError::Read)
-}
-
 /// Runs the lines of a reader on an arena and writes their responses to a writer.
 ///
 /// The writer is flushed before each read.
@@ -209,8 +131,24 @@ pub fn run_on<R: Read, W: Write, S: SlotStack<Item = ArenaSlot<ToolPtr, LinkNoGe
     ensures { Ends result arena.old arena.new (R.remaining reader.old) (R.remaining reader.new)
         (W.contents writer.old) (W.contents writer.new) }
 {
-    let mut piece = input_buffer(alloc)?;
-    run_pieces(alloc, arena, reader, writer, &mut piece)
+    let mut piece = vec![in alloc; 0u8; 65536]?;
+    let mut line = Vec::new(alloc);
+    let mut text = String::new(alloc);
+    // Each loop is proved to end, so the reads are bounded.
+    for _ in 0..u64::MAX {
+        if writer.flush().is_err() {
+            return Err(ToolError::Write);
+        }
+        let Ok(n) = reader.read(&mut piece) else {
+            return Err(ToolError::Read);
+        };
+        if n == 0 {
+            end_line(arena, &mut line, b"", &mut text, writer)?;
+            return writer.flush().or(Err(ToolError::Write));
+        }
+        feed(arena, &piece[..n], &mut line, &mut text, writer)?;
+    }
+    Err(ToolError::Read)
 }
 
 /// Runs the lines of a reader on a new arena, as `run_on` does.

@@ -1,27 +1,68 @@
 -- The executed line is what was kept, followed by the front of the piece.
-use Rattle.std.proofs.Common.{◌++◌, ap, ◌∙◌, sym, subst, OnOk, Result, Err, Ok, IsErrAnd}
-use Rattle.std.proofs.lemmas.Result.{err_from_is_err_and}
+use Rattle.std.proofs.Common.{◌≡◌, List, ℕ, [], ◌++◌, take, ap, ◌∙◌, sym, subst, refl, string_bytes, Result, Ok, Err, OnOk, IsErrAnd, arith}
+use Rattle.chain_commands.specs.Commands.{line_of}
 use Rattle.chain_commands.specs.Progress.{TranscribesOne}
-use Rattle.chain_commands.proofs.ProgressLemmas.{responses-line}
+use Rattle.chain_commands.proofs.ProgressLemmas.{responses-line, response-written, response-fails, none_kept, line_in_place}
+use Rattle.chain_commands.proofs.LineSplitLemmas.{line_of-take}
 use Rattle.chain_commands.proofs.session.end_line.Goals as goal
+use Rattle.chain_commands.proofs.session.end_line.Goals.{then-is_empty+in_ok-respond, else-is_empty+in_ok-buffer_line+in_ok-respond-2}
 
 -- Nothing is claimed of a success.
 no_success : {T E : Type 0} (P : Type 0) (Q : E → Type 0) (r : Result T E) → IsErrAnd r Q → OnOk r P
 no_success P Q (Ok x) fails = absurd fails
 no_success P Q (Err e) fails = tt
 
-pub returns-in_err-reply : goal.returns-in_err-reply
-returns-in_err-reply g c = record {
-  responded = λ rest is.
-      let p = err_from_is_err_and c.from_residual-in_err-reply.result c.from_residual-in_err-reply.ensures.1 in
-      subst (λ r. TranscribesOne r c.args.arena.now c.reply-2.new.arena (rest ++ c.args.front.now) (g.W.Write.contents c.args.writer.now) (g.W.Write.contents c.reply-2.new.writer)) (sym (p.1 ∙ ap Err p.2))
-      (responses-line {A = Unit {0}} (Err c.in_err-reply.field-0.0) _ _ c.deref.result.now (rest ++ c.args.front.now) _ _ (c.deref.ensures.value ∙ c.in_ok-keep.ensures.ok rest is) c.in_err-reply.ensures);
-  empty = no_success _ _ c.from_residual-in_err-reply.result c.from_residual-in_err-reply.ensures.1;
-}
+anyhow : {T E : Type 0} {P : Type 0} (r : Result T E) → P → OnOk r P
+anyhow (Ok x) known = known
+anyhow (Err e) known = tt
+
+-- What was kept of a line is executed with the rest of it.
+line_joined : (whole kept line : List ℕ) → whole ≡ kept → kept ≡ take 201 line → line_of whole ≡ line_of line
+line_joined whole kept line same is = ap line_of (same ∙ is) ∙ line_of-take line
+
+pub returns-in_err-respond : goal.returns-in_err-respond
+returns-in_err-respond g c =
+    let front = c.args.front.now in
+    record {
+      responded = λ rest is.
+          responses-line c.from_residual.result _ _ front (rest ++ front) _ _ (line_in_place _ rest front front (none_kept _ _ _ (omega (arith, c.args.line.now.ok.0)) c.is_empty.ensures c.if-is_empty.true) is refl)
+          (response-fails c.from_residual.result _ _ front _ c.from_residual.ensures.1 c.in_err-respond.ensures.err);
+      empty = no_success _ _ c.from_residual.result c.from_residual.ensures.1;
+    }
+
+pub returns-in_err-respond-2 : goal.returns-in_err-respond-2
+returns-in_err-respond-2 g c =
+    let front = c.args.front.now in
+    let whole = c.deref.result.now in
+    let r = c.from_residual-in_err-respond-2 in
+    record {
+      responded = λ rest is.
+          responses-line r.result _ _ whole (rest ++ front) _ _ (line_joined whole _ (rest ++ front) c.deref.ensures.value (c.in_ok-buffer_line.ensures.ok rest is))
+          (response-fails r.result _ _ whole _ r.ensures.1 c.in_err-respond-2.ensures.err);
+      empty = no_success _ _ r.result r.ensures.1;
+    }
 
 pub returns : goal.returns
-returns g c = record {
-  responded = λ rest is.
-      responses-line {A = Unit {0}} (Ok c.in_ok-reply.field-0) _ _ c.deref.result.now (rest ++ c.args.front.now) _ _ (c.deref.ensures.value ∙ c.in_ok-keep.ensures.ok rest is) c.in_ok-reply.ensures;
-  empty = c.clear.ensures.items;
-}
+returns g c =
+    let front = c.args.front.now in
+    let r = c.write_fully.result in
+    elim c.if-is_empty.branch [
+      | then-is_empty+in_ok-respond w ↦
+          let none = none_kept _ _ _ (omega (arith, c.args.line.now.ok.0)) c.is_empty.ensures w.if-is_empty.true in
+          record {
+            responded = λ rest is.
+                subst (λ a. TranscribesOne r c.args.arena.now a (rest ++ front) _ _) (sym w.arena-is)
+                (responses-line r _ _ front (rest ++ front) _ _ (line_in_place _ rest front front none is refl)
+                (response-written r _ _ front (string_bytes w.respond.new.text) _ _ _ w.in_ok-respond.ensures.ok (c.as_bytes.ensures.value ∙ ap string_bytes w.text-is) c.write_fully.ensures));
+            empty = anyhow r (ap (λ l. l.items) w.line-is ∙ none);
+          }
+      | else-is_empty+in_ok-buffer_line+in_ok-respond-2 w ↦
+          let whole = w.deref.result.now in
+          record {
+            responded = λ rest is.
+                subst (λ a. TranscribesOne r c.args.arena.now a (rest ++ front) _ _) (sym w.arena-is)
+                (responses-line r _ _ whole (rest ++ front) _ _ (line_joined whole _ (rest ++ front) w.deref.ensures.value (w.in_ok-buffer_line.ensures.ok rest is))
+                (response-written r _ _ whole (string_bytes w.respond-else-is_empty.new.text) _ _ _ w.in_ok-respond-2.ensures.ok (c.as_bytes.ensures.value ∙ ap string_bytes w.text-is) c.write_fully.ensures));
+            empty = anyhow r (ap (λ l. l.items) w.line-is ∙ w.clear.ensures.items);
+          }
+    ]

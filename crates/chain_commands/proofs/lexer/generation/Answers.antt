@@ -1,6 +1,0 @@
-use Rattle.std.proofs.Common.{sym, arith}
-use Rattle.chain_commands.proofs.PointerWordLemmas.{generation_of-chain}
-use Rattle.chain_commands.proofs.lexer.generation.Goals as goal
-
-pub returns : goal.returns
-returns c = generation_of-chain _ c.in_ok-number.field-0 _ (sym c.in_ok-number.ensures) (omega arith) c.new.ensures.variant c.new.ensures.value
