@@ -10,7 +10,7 @@ use crate::arena::Arena;
 use crate::slot::{ArenaSlot, number_of, position_of};
 use arena_core::{
     AllocError, GenKey, InvalidationOption, InvalidationResult, InxKey, PtrKey, ReallocationError,
-    SlotStack,
+    SlotStack, proved_unreachable,
 };
 use arena_traits::{ArenaTrait, CompactArenaTrait, Cursor};
 use std::alloc::Global;
@@ -102,11 +102,21 @@ impl<P: PtrKey, T: Drop, S: SlotStack<Item = ArenaSlot<P, T>>> ArenaTrait<P, T> 
     }
 
     fn get(&self, p: P) -> Option<&T> {
-        let (generation, t) = self.get_inx(p.inx())?;
-        if generation.is_same(p.generation()) {
-            Some(t)
-        } else {
-            None
+        let i = p.inx();
+        // The number, not the position, is compared with the length: two instructions fewer.
+        if number_of::<P>(i) > self.slots.len() {
+            return None;
+        }
+        match self.slots.get(position_of::<P>(i)) {
+            Some(ArenaSlot::Allocated(generation, t)) => {
+                if generation.is_same(p.generation()) {
+                    Some(t)
+                } else {
+                    None
+                }
+            }
+            Some(ArenaSlot::Free(_)) => None,
+            None => proved_unreachable!(),
         }
     }
 
