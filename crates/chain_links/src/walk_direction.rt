@@ -1,5 +1,5 @@
 // The next step of a walk along a chain, forwards or backwards.
-ghost use Rattle.std.specs.Prelude.{◌≡◌};
+ghost use Rattle.std.specs.Prelude.{◌≡◌, None};
 ghost use Rattle.std.specs.Option.{option_map};
 ghost use Rattle.chain_laws.specs.Walks.{step_forward, step_back};
 
@@ -28,10 +28,19 @@ pub fn step_both<I: InxKey>(start: I, next: Option<I>, back: Option<I>) -> (Opti
 {
     match next {
         Some(k) => if k.is_same(start) {
-            (None, None)
+            nowhere()
         } else {
             (Some(k), back)
         },
         None => (None, back),
     }
+}
+
+// Returns where a walk goes that has come around. This is the unlikely path, so it is not inlined.
+#[cold]
+#[inline(never)]
+fn nowhere<I: InxKey>() -> (Option<I>, Option<I>)
+    ensures { result ≡ (None, None) }
+{
+    (None, None)
 }
