@@ -1,5 +1,5 @@
 -- Lemmas on the join of two links.
-use Rattle.std.proofs.Common.{◌≡◌, ◌↔◌, ℕ, Bool, true, false, Option, None, Some, refl, ap, sym, ◌∙◌, subst}
+use Rattle.std.proofs.Common.{◌≡◌, ◌↔◌, ◌&&◌, ℕ, Bool, true, false, Option, None, Some, refl, ap, sym, ◌∙◌, subst}
 use Rattle.std.specs.Prelude.{is_some, not, IsTrue}
 use Rattle.std.specs.Option.{option_map, option_and_then}
 use Rattle.chain_laws.specs.Chains.{LinkMap, IsWellLinked, HasLink, prev_of, next_of, prev_in, next_in}
@@ -11,7 +11,6 @@ use Rattle.arena_traits.specs.Arena.{Arena, entry_at}
 use Rattle.chain_links.specs.ChainArena.{on_value, LinkView, link_value, link_map, values_of, with_link_map, interlinks_of, CanConnect, IsLinkAt, ptr_at}
 use Rattle.chain_links.proofs.MappedArenaLemmas.{IsValidPtr, entry_at-with_each, IsValidPtr-with_each}
 use Rattle.chain_links.proofs.LinkStateLemmas.{entry_at-links_view}
-use Rattle.chain_linking.specs.LinkWrites.{IsValidEnd, IsValidStart}
 use Rattle.chain_linking.proofs.NeighborLemmas.{valid_link}
 use Rattle.chain_linking.proofs.LinkWriteLemmas.{link_map-with_link_map, values_of-with_link_map, FitsLinks-linked}
 
@@ -22,6 +21,14 @@ none_unless_some (Some x) none = cc
 truth_of_not : (b : Bool) → false ≡ not b → IsTrue b
 truth_of_not true h = refl
 truth_of_not false h = absurd (let k = h in cc)
+
+parts : (b c : Bool) → IsTrue (b && c) → IsTrue b × IsTrue c
+parts true c holds = (refl, holds)
+parts false c holds = absurd (let h = holds in cc)
+
+whole : (b c : Bool) → IsTrue b → IsTrue c → IsTrue (b && c)
+whole true c first second = second
+whole false c first second = absurd (let h = first in cc)
 
 module _ {Gen K T : Type 0} (number : K → Option ℕ) where
   -- The neighbors of a link in the link map.
@@ -45,23 +52,22 @@ module _ {Gen K T : Type 0} (number : K → Option ℕ) where
   pub valid_at : (a : Arena Gen (RawLink K T)) (p : ℕ × Gen) (link : RawLink K T) → entry_at a p.0 ≡ Some (p.1, link) → HasLink (link_map (links_view number a)) p.0
   valid_at a p link stored = record { link = interlinks_of (p.1, link_view number link); links = ap (option_map interlinks_of) (entry_at-links_view number a p.0 ∙ ap (option_map (pair_view number)) stored) }
 
-  -- A link is an end exactly if it has no next.
-  pub ends : (a : Arena Gen (RawLink K T)) (p : ℕ × Gen) (link : RawLink K T) (b : Bool) → entry_at a p.0 ≡ Some (p.1, link) → is_some (number link.next) ≡ not b
-      → IsTrue b ↔ IsValidEnd (entry_at (values_of (links_view number a))) (link_map (links_view number a)) p
-  ends a p link b at states = (
-    (λ yes. record { valid = valid-view_after a p link at; end = next_of-view_after a p link at ∙ none_unless_some (number link.next) (states ∙ ap not yes) }),
-    (λ is. truth_of_not b (sym (ap is_some (sym (next_of-view_after a p link at) ∙ is.end)) ∙ states)),
+  -- Two links can be connected exactly if the first has no next, and the second no prev.
+  pub can_connect : (a : Arena Gen (RawLink K T)) (p q : ℕ × Gen) (end start : RawLink K T) (b c : Bool) → entry_at a p.0 ≡ Some (p.1, end) → entry_at a q.0 ≡ Some (q.1, start)
+      → is_some (number end.next) ≡ not b → is_some (number start.prev) ≡ not c → IsTrue (b && c) ↔ CanConnect (entry_at (values_of (links_view number a))) (link_map (links_view number a)) p q
+  can_connect a p q end start b c at_p at_q no_next no_prev = (
+    (λ holds. let both = parts b c holds in record {
+      first_valid = valid-view_after a p end at_p;
+      second_valid = valid-view_after a q start at_q;
+      no_next = next_of-view_after a p end at_p ∙ none_unless_some (number end.next) (no_next ∙ ap not both.0);
+      no_prev = prev_of-view_after a q start at_q ∙ none_unless_some (number start.prev) (no_prev ∙ ap not both.1);
+    }),
+    (λ can. whole b c
+        (truth_of_not b (sym (ap is_some (sym (next_of-view_after a p end at_p) ∙ can.no_next)) ∙ no_next))
+        (truth_of_not c (sym (ap is_some (sym (prev_of-view_after a q start at_q) ∙ can.no_prev)) ∙ no_prev))),
   )
 
-  -- A link is a start exactly if it has no prev.
-  pub starts : (a : Arena Gen (RawLink K T)) (p : ℕ × Gen) (link : RawLink K T) (b : Bool) → entry_at a p.0 ≡ Some (p.1, link) → is_some (number link.prev) ≡ not b
-      → IsTrue b ↔ IsValidStart (entry_at (values_of (links_view number a))) (link_map (links_view number a)) p
-  starts a p link b at states = (
-    (λ yes. record { valid = valid-view_after a p link at; start = prev_of-view_after a p link at ∙ none_unless_some (number link.prev) (states ∙ ap not yes) }),
-    (λ is. truth_of_not b (sym (ap is_some (sym (prev_of-view_after a p link at) ∙ is.start)) ∙ states)),
-  )
-
-  -- An invalid pointer is neither an end nor a start.
+  -- An invalid pointer is valid for no value.
   pub not_valid : (a : Arena Gen (RawLink K T)) (p : ℕ × Gen) → (IsValidPtr a p → ⊥) → IsValidPtr (values_of (links_view number a)) p → ⊥
   not_valid a p invalid valid = invalid ((same_valid a p).1 valid)
 

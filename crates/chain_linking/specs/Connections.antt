@@ -1,12 +1,12 @@
 -- Connections of an end of a chain with a start.
-use Rattle.std.specs.Prelude.{◌≡◌, ◌↔◌, ℕ, Bool, IsTrue, IsSome, IfNone, OnSome, Option, Some}
+use Rattle.std.specs.Prelude.{◌≡◌, ◌↔◌, ℕ, IsSome, IfNone, OnSome, Option, Some}
 use Rattle.std.specs.Option.{option_map}
 use Rattle.arena_traits.specs.Arena.{Arena, IsValid}
-use Rattle.chain_laws.specs.Chains.{HasLink, prev_of, next_of}
+use Rattle.chain_laws.specs.Chains.{prev_of, next_of}
 use Rattle.chain_links.specs.declared.links.RawLink.{RawLink}
 use Rattle.chain_links.specs.ChainArena.{link_map, entry, CanConnect}
 use Rattle.chain_links.specs.Links.{links_view, StayAtRest}
-use Rattle.chain_linking.specs.LinkWrites.{arena_with_pair, IsValidEnd, IsValidStart}
+use Rattle.chain_linking.specs.LinkWrites.{arena_with_pair}
 
 module _ {Gen K T : Type 0} (packed : K → Option ℕ) where
   -- The index after the link of p, or `None` if either is missing.
@@ -21,20 +21,6 @@ module _ {Gen K T : Type 0} (packed : K → Option ℕ) where
   IsPrevOf number p now result = record {
     neighbor : IsValid (entry (links_view packed now)) p → option_map number result ≡ prev_of (link_map (links_view packed now)) p.0;
     some : IsSome result → IsValid (entry (links_view packed now)) p;
-  }
-
-  -- Whether p is valid and no link comes after its link, which then exists.
-  abbrev pub ReportsEnd : ℕ × Gen → Arena Gen (RawLink K T) → Bool → Type 0
-  ReportsEnd p now result = record {
-    value : IsTrue result ↔ IsValidEnd (entry (links_view packed now)) (link_map (links_view packed now)) p;
-    occupied : IsTrue result → HasLink (link_map (links_view packed now)) p.0;
-  }
-
-  -- Whether p is valid and no link comes before its link, which then exists.
-  abbrev pub ReportsStart : ℕ × Gen → Arena Gen (RawLink K T) → Bool → Type 0
-  ReportsStart p now result = record {
-    value : IsTrue result ↔ IsValidStart (entry (links_view packed now)) (link_map (links_view packed now)) p;
-    occupied : IsTrue result → HasLink (link_map (links_view packed now)) p.0;
   }
 
   -- The link of q comes after the link of p. If they cannot be connected, nothing changes.

@@ -35,17 +35,6 @@ module _ {Gen T : Type 0} where
   abbrev pub arena_with_pairs : Arena Gen (LinkView T) → Option ℕ × Option ℕ → Option ℕ × Option ℕ → Arena Gen (LinkView T)
   arena_with_pairs a p q = with_link_map a (with_neighbors (with_neighbors (link_map a) p.0 p.1) q.0 q.1)
 
-module _ {Gen T : Type 0} (entry : ℕ → Option (Gen × T)) (interlinks : LinkMap) (p : ℕ × Gen) where
-  -- p is valid, and no link comes after it.
-  pub record IsValidEnd : Type 0 where
-    pub valid : IsValid entry p
-    pub end : next_of interlinks p.0 ≡ None
-
-  -- p is valid, and no link comes before it.
-  pub record IsValidStart : Type 0 where
-    pub valid : IsValid entry p
-    pub start : prev_of interlinks p.0 ≡ None
-
 -- u and v were beside the link removed from i: they have links, or both are i, which was alone
 -- in a ring.
 pub record WereBeside (link_map : LinkMap) (i : ℕ) (u v : Option ℕ) : Type 0 where

@@ -1,5 +1,8 @@
 // Reads what is beside a link of a plain arena, and connects two links.
-ghost use Rattle.chain_linking.specs.Connections.{IsNextOf, IsPrevOf, ReportsEnd, ReportsStart, JoinsLinks};
+ghost use Rattle.std.specs.Prelude.{◌↔◌, IsTrue};
+ghost use Rattle.chain_links.specs.ChainArena.{link_map, entry, CanConnect};
+ghost use Rattle.chain_links.specs.Links.{links_view};
+ghost use Rattle.chain_linking.specs.Connections.{IsNextOf, IsPrevOf, JoinsLinks};
 
 use crate::link_writes::link_pair;
 use arena_base::{Arena, ArenaSlot, ArenaTrait};
@@ -32,28 +35,21 @@ pub fn prev_of<P: PtrKey, T: Drop, S: SlotStack<Item = ArenaSlot<P, LinkNoGen<P,
     }
 }
 
-// Returns whether `p` is valid and no link comes after its link.
-fn is_end<P: PtrKey, T: Drop, S: SlotStack<Item = ArenaSlot<P, LinkNoGen<P, T>>>>(
+// Returns whether `p` is valid and the end of a chain, and `q` valid and the start of one.
+fn can_connect<P: PtrKey, T: Drop, S: SlotStack<Item = ArenaSlot<P, LinkNoGen<P, T>>>>(
     arena: &Arena<P, LinkNoGen<P, T>, S>,
     p: P,
+    q: P,
 ) -> bool
-    ensures { ReportsEnd P.Inx.packed_number (P.key p) arena.now result }
+    ensures { IsTrue result ↔ CanConnect (entry (links_view P.Inx.packed_number arena.now))
+        (link_map (links_view P.Inx.packed_number arena.now)) (P.key p) (P.key q) }
 {
     match arena.get(p) {
-        Some(link) => link.next().is_none(),
-        None => false,
-    }
-}
-
-// Returns whether `p` is valid and no link comes before its link.
-fn is_start<P: PtrKey, T: Drop, S: SlotStack<Item = ArenaSlot<P, LinkNoGen<P, T>>>>(
-    arena: &Arena<P, LinkNoGen<P, T>, S>,
-    p: P,
-) -> bool
-    ensures { ReportsStart P.Inx.packed_number (P.key p) arena.now result }
-{
-    match arena.get(p) {
-        Some(link) => link.prev().is_none(),
+        Some(end) => match arena.get(q) {
+            // Not `&&`: one test of both words takes fewer instructions than two.
+            Some(start) => end.next().is_none() & start.prev().is_none(),
+            None => false,
+        },
         None => false,
     }
 }
@@ -66,10 +62,7 @@ pub fn join<P: PtrKey, T: Drop, S: SlotStack<Item = ArenaSlot<P, LinkNoGen<P, T>
 ) -> Option<()>
     ensures { JoinsLinks P.Inx.packed_number (P.key p) (P.key q) arena.old result arena.new }
 {
-    if !is_end(arena, p) {
-        return None;
-    }
-    if !is_start(arena, q) {
+    if !can_connect(arena, p, q) {
         return None;
     }
     link_pair(arena, Some(p.inx()), Some(q.inx()));
