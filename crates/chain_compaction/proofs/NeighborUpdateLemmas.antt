@@ -38,9 +38,9 @@ module _ {I Gen K T : Type 0} (index : I → ℕ) (number : K → Option ℕ) (o
       pub states_prev : number w.prev ≡ target → link_map_in number new.slots ≡ with_neighbor before (link_map_in number old.slots) (option_map index named) target
       states_prev to = links-with_prev_at old new (index i) l w stored wrote number target rest to ∙ (λ j. with_neighbor (sym on j) (link_map_in number old.slots) (option_map index (sym is j)) target)
 
-    module _ (off : before ≡ false) (rest : w ≡ record l { next = w.next }) where
+    module _ (is_false : before ≡ false) (rest : w ≡ record l { next = w.next }) where
       pub next_values : detached_values new ≡ detached_values old
       next_values = values-kept old new (index i) l w stored wrote (λ j. (rest j).t)
 
       pub states_next : number w.next ≡ target → link_map_in number new.slots ≡ with_neighbor before (link_map_in number old.slots) (option_map index named) target
-      states_next to = links-with_next_at old new (index i) l w stored wrote number target rest to ∙ (λ j. with_neighbor (sym off j) (link_map_in number old.slots) (option_map index (sym is j)) target)
+      states_next to = links-with_next_at old new (index i) l w stored wrote number target rest to ∙ (λ j. with_neighbor (sym is_false j) (link_map_in number old.slots) (option_map index (sym is j)) target)

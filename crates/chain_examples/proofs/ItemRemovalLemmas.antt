@@ -28,5 +28,5 @@ module _ {A Gen T : Type 0} {view : A → ArenaView Gen T} {entry : A → ℕ �
         gone = gone.gone;
         entries = gone.kept;
         others = keeps_left state interlinks shape written old new (pointers.key p) gone.kept gone.chains.rest;
-        size = gone.less;
+        size = gone.one_fewer;
       }

@@ -133,11 +133,11 @@ module _ {Gen K T : Type 0} (number : K → Option ℕ) where
       ∙ (ap (option_map (pair_view number)) (entry_at-with_value a n w i ∙ if_same i n _ _ same)
       ∙ (view_after-write (entry_at a i) link write change is (ap (λ k. option_map (λ (e : Gen × RawLink K T). e.1) (entry_at a k)) same ∙ stored)
       ∙ ap₂ relink (ap (λ o. option_map change (option_map interlinks_of o)) (sym (entry_at-links_view number a i)) ∙ sym (are i ∙ if_same i n _ _ same)) (sym (entry_at-links_view number a i))))) in
-      let off : (i : ℕ) → i ≢ n → entry_at (links_view number (with_value a n w)) i ≡ relink (interlinks i) (entry_at view_after i) =
+      let elsewhere : (i : ℕ) → i ≢ n → entry_at (links_view number (with_value a n w)) i ≡ relink (interlinks i) (entry_at view_after i) =
       (λ i other. entry_at-links_view number (with_value a n w) i
       ∙ (ap (option_map (pair_view number)) (entry_at-with_value a n w i ∙ if_other i n _ _ other)
       ∙ (sym (entry_at-links_view number a i)
       ∙ (relink-own (entry_at view_after i) ∙ ap (λ l. relink l (entry_at view_after i)) (sym (are i ∙ if_other i n _ _ other)))))) in
       is_relinked view_after (links_view number (with_value a n w)) interlinks
       (length-links_view number (with_value a n w) ∙ (length-with_value a n w ∙ sym (length-links_view number a))) refl
-      (λ i. ⊎_elim (at i) (off i) (cases_eq i n))
+      (λ i. ⊎_elim (at i) (elsewhere i) (cases_eq i n))

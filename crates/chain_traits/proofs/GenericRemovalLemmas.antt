@@ -44,7 +44,7 @@ module _ {A Gen T : Type 0} {view : A → ArenaView Gen T} {entry : A → ℕ �
     pub kept : (i : ℕ) → i ≢ p.0 → entry new i ≡ entry old i
     pub relinked : links new ≡ with_removal (links old) p.0
     pub chains : Removes (links old) (links new) p.0
-    pub less : count (view old) ≡ count (view new) + 1
+    pub one_fewer : count (view old) ≡ count (view new) + 1
     pub view_after : view new ≡ view_after_removal following (view old) p.0
 
   -- A removal returns a pointer's value and removes its entry, or changes nothing.
@@ -65,7 +65,7 @@ module _ {A Gen T : Type 0} {view : A → ArenaView Gen T} {entry : A → ℕ �
         kept = entry_kept (entry old) (entry new) (view old).entries (view new).entries (pointers.key p).0 (state old).ascends (state old).finds (state new).finds entries;
         relinked = passed;
         chains = subst (λ (l : LinkMap). Removes (links old) l (pointers.key p).0) (sym passed) (removed_removes (links old) (pointers.key p).0 agrees);
-        less = let one = one_less (pointers.key p).0 (view old).entries (ap is_some ((state old).finds (pointers.key p).0) ∙ ap is_some removed.0) in let many = ap length entries in omega arith;
+        one_fewer = let one = one_less (pointers.key p).0 (view old).entries (ap is_some ((state old).finds (pointers.key p).0) ∙ ap is_some removed.0) in let many = ap length entries in omega arith;
         view_after = removed.1;
       };
       same = λ none. absurd (cc);

@@ -11,7 +11,7 @@ use Rattle.chain_laws.specs.Frame.{IsDisjointFrom, links_named, SameLinksKeepACh
 use Rattle.chain_laws.proofs.ChainLemmas.LinkedLists.{IsChain-frame}
 use Rattle.chain_laws.proofs.JoinLemmas.Lists.{IsChain-linked}
 use Rattle.chain_laws.proofs.JoinLemmas.Chains.{joined_agrees}
-use Rattle.chain_laws.proofs.RemovalLemmas.Pairs.{vacated-at, vacated-off}
+use Rattle.chain_laws.proofs.RemovalLemmas.Pairs.{vacated-at, vacated-elsewhere}
 use Rattle.chain_laws.proofs.CutLemmas.Pairs.{cut_of_join}
 use Rattle.chain_laws.proofs.CutLemmas.Chains.{cut_cuts}
 use Rattle.chain_laws.proofs.InsertionLemmas.Pairs.{inserted_agrees, inserted_in_pairs}
@@ -42,32 +42,32 @@ module _ {P I : Type 0} (place : P → ℕ) (number : I → ℕ) (link_map : Lin
   -- A chain without the links of a kind lacks both links beside the new one.
   absent_beside : (kind : InsertKind P I) (q : ℕ) (c : Chain) → IsWellLinked link_map → IsChain link_map c → (IsMember (items c) q → ⊥) → IsDisjointFrom c (links_named place number kind)
       → (HasIndex c (link_before place number link_map kind q) → ⊥) × (HasIndex c (link_after place number link_map kind q) → ⊥)
-  absent_beside Disconnected q c agrees is off absent = (λ h. h, λ h. h)
-  absent_beside SingleLinkCyclic q c agrees is off absent = (off, off)
-  absent_beside (ChainEnd a) q c agrees is off absent = (absent.0, λ h. h)
-  absent_beside (ChainEndInx a) q c agrees is off absent = (absent.0, λ h. h)
-  absent_beside (ChainStart b) q c agrees is off absent = (λ h. h, absent.0)
-  absent_beside (ChainStartInx b) q c agrees is off absent = (λ h. h, absent.0)
-  absent_beside (NextTo a) q c agrees is off absent = (absent.0, absent_next link_map c (place a) agrees is absent.0)
-  absent_beside (NextToInx a) q c agrees is off absent = (absent.0, absent_next link_map c (number a) agrees is absent.0)
-  absent_beside (PrevTo b) q c agrees is off absent = (absent_prev link_map c (place b) agrees is absent.0, absent.0)
-  absent_beside (PrevToInx b) q c agrees is off absent = (absent_prev link_map c (number b) agrees is absent.0, absent.0)
-  absent_beside (AtInterlink a b) q c agrees is off absent = (absent.0, absent.1.0)
-  absent_beside (AtInterlinkInx a b) q c agrees is off absent = (absent.0, absent.1.0)
-  absent_beside (Bridge a b) q c agrees is off absent = (absent.0, absent.1.0)
-  absent_beside (BridgeInx a b) q c agrees is off absent = (absent.0, absent.1.0)
+  absent_beside Disconnected q c agrees is outside absent = (λ h. h, λ h. h)
+  absent_beside SingleLinkCyclic q c agrees is outside absent = (outside, outside)
+  absent_beside (ChainEnd a) q c agrees is outside absent = (absent.0, λ h. h)
+  absent_beside (ChainEndInx a) q c agrees is outside absent = (absent.0, λ h. h)
+  absent_beside (ChainStart b) q c agrees is outside absent = (λ h. h, absent.0)
+  absent_beside (ChainStartInx b) q c agrees is outside absent = (λ h. h, absent.0)
+  absent_beside (NextTo a) q c agrees is outside absent = (absent.0, absent_next link_map c (place a) agrees is absent.0)
+  absent_beside (NextToInx a) q c agrees is outside absent = (absent.0, absent_next link_map c (number a) agrees is absent.0)
+  absent_beside (PrevTo b) q c agrees is outside absent = (absent_prev link_map c (place b) agrees is absent.0, absent.0)
+  absent_beside (PrevToInx b) q c agrees is outside absent = (absent_prev link_map c (number b) agrees is absent.0, absent.0)
+  absent_beside (AtInterlink a b) q c agrees is outside absent = (absent.0, absent.1.0)
+  absent_beside (AtInterlinkInx a b) q c agrees is outside absent = (absent.0, absent.1.0)
+  absent_beside (Bridge a b) q c agrees is outside absent = (absent.0, absent.1.0)
+  absent_beside (BridgeInx a b) q c agrees is outside absent = (absent.0, absent.1.0)
 
 -- An insertion keeps a chain without the links that its kind names.
 pub insertion_keeps_others : (P I : Type 0) → InsertionKeepsOthers P I
 insertion_keeps_others P I place number old new kind q agrees free inserts c absent is =
-    let off = free_is_in_no_chain old c q free is in
-    let beside = absent_beside place number old kind q c agrees is off absent in
-    (inserts.rest c off beside.0 beside.1).0 is
+    let outside = free_is_in_no_chain old c q free is in
+    let beside = absent_beside place number old kind q c agrees is outside absent in
+    (inserts.rest c outside beside.0 beside.1).0 is
 
 -- A chain without the new link lacks its neighbors, so it existed before.
 pub insertion_makes_no_others : InsertionMakesNoOthers
-insertion_makes_no_others link_map q u v agrees free position c off is =
-    ((inserted_inserts link_map q u v free).rest c off (before u refl) (after v refl)).1 is
+insertion_makes_no_others link_map q u v agrees free position c outside is =
+    ((inserted_inserts link_map q u v free).rest c outside (before u refl) (after v refl)).1 is
   where
     agree : IsWellLinked (with_insertion link_map q u v)
     agree = inserted_agrees link_map q u v agrees free position
@@ -77,11 +77,11 @@ insertion_makes_no_others link_map q u v agrees free position c off is =
 
     before : (o : Option ℕ) → u ≡ o → HasIndex c o → ⊥
     before None at_u has = has
-    before (Some i) at_u has = off ((neighbors_share_a_chain (with_insertion link_map q u v) c i q agree ((inserts.pairs i q).1 (inr (inl (at_u, refl)))) is).0 has)
+    before (Some i) at_u has = outside ((neighbors_share_a_chain (with_insertion link_map q u v) c i q agree ((inserts.pairs i q).1 (inr (inl (at_u, refl)))) is).0 has)
 
     after : (o : Option ℕ) → v ≡ o → HasIndex c o → ⊥
     after None at_v has = has
-    after (Some j) at_v has = off ((neighbors_share_a_chain (with_insertion link_map q u v) c q j agree ((inserts.pairs q j).1 (inr (inr (refl, at_v)))) is).1 has)
+    after (Some j) at_v has = outside ((neighbors_share_a_chain (with_insertion link_map q u v) c q j agree ((inserts.pairs q j).1 (inr (inr (refl, at_v)))) is).1 has)
 
 -- A new lone link keeps every chain, since chains have no free index.
 pub lone_keeps_each : LoneKeepsEach
@@ -104,7 +104,7 @@ join_makes_no_others link_map a b agrees ends c absent is =
 pub removal_makes_no_others : RemovalMakesNoOthers
 removal_makes_no_others link_map i c no_prev no_next is =
     let left = (IsChain-linked (without_link link_map i) (prev_of link_map i) (next_of link_map i) c (HasIndex-apart c (prev_of link_map i) no_prev) (HasIndex-apart c (next_of link_map i) no_next)).1 is in
-    same_links_keep_a_chain (without_link link_map i) link_map c (λ j has. sym (vacated-off link_map i j (λ e. off left (subst (λ (k : ℕ). IsMember (items c) k) e has)))) left
+    same_links_keep_a_chain (without_link link_map i) link_map c (λ j has. sym (vacated-elsewhere link_map i j (λ e. outside left (subst (λ (k : ℕ). IsMember (items c) k) e has)))) left
   where
-    off : IsChain (without_link link_map i) c → IsMember (items c) i → ⊥
-    off left has = free_is_in_no_chain (without_link link_map i) c i (vacated-at link_map i i refl) left has
+    outside : IsChain (without_link link_map i) c → IsMember (items c) i → ⊥
+    outside left has = free_is_in_no_chain (without_link link_map i) c i (vacated-at link_map i i refl) left has

@@ -61,7 +61,7 @@ next_puts link_map q u v free between =
       here = outer q ∙ altered-same (next_of (appended link_map q u)) q v q refl;
       before = λ j ne at_u. outer j ∙ altered-other (next_of (appended link_map q u)) q v j ne ∙ inner j
           ∙ put_at-same (next_of (with_lone link_map q)) u (Some q) j at_u;
-      off = λ j ne not_u. outer j ∙ altered-other (next_of (appended link_map q u)) q v j ne ∙ inner j
+      elsewhere = λ j ne not_u. outer j ∙ altered-other (next_of (appended link_map q u)) q v j ne ∙ inner j
           ∙ put_at-other (next_of (with_lone link_map q)) u (Some q) j not_u ∙ next_of-with_lone link_map q free j;
     }
   where
@@ -81,7 +81,7 @@ prev_puts link_map q u v free between =
           (λ not_v. put_at-other (prev_of (appended link_map q u)) v (Some q) q not_v ∙ inner q ∙ altered-same (prev_of (with_lone link_map q)) q u q refl)
           (names_or_not v q);
       before = λ j ne at_v. outer j ∙ put_at-same (prev_of (appended link_map q u)) v (Some q) j at_v;
-      off = λ j ne not_v. outer j ∙ put_at-other (prev_of (appended link_map q u)) v (Some q) j not_v ∙ inner j
+      elsewhere = λ j ne not_v. outer j ∙ put_at-other (prev_of (appended link_map q u)) v (Some q) j not_v ∙ inner j
           ∙ altered-other (prev_of (with_lone link_map q)) q u j ne ∙ prev_of-with_lone link_map q free j;
     }
   where

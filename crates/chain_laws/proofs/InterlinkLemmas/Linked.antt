@@ -8,8 +8,8 @@ use Rattle.chain_laws.specs.Joins.{with_prev, with_next, with_prev_at, with_next
 use Rattle.chain_laws.proofs.InterlinkLemmas.Inverses.{altered, if_same, if_other, altered-same, altered-other, one_some}
 
 -- The optional index is not j.
-abbrev pub IsOff : Option ℕ → ℕ → Type 0
-IsOff u j = (i : ℕ) → u ≡ Some i → j ≢ i
+abbrev pub IsElsewhere : Option ℕ → ℕ → Type 0
+IsElsewhere u j = (i : ℕ) → u ≡ Some i → j ≢ i
 
 -- The optional index is valid, if it is an index.
 abbrev pub IsValidAt : LinkMap → Option ℕ → Type 0
@@ -25,18 +25,18 @@ put_at f None o j = f j
 put_at f (Some i) o j = altered f i o j
 
 -- A write of `next` leaves other indexes unchanged.
-pub with_next_at-off : (link_map : LinkMap) (u v : Option ℕ) (j : ℕ) → IsOff u j → with_next_at link_map u v j ≡ link_map j
-with_next_at-off link_map None v j off = refl
-with_next_at-off link_map (Some i) v j off = if_other j i _ _ (off i refl)
+pub with_next_at-elsewhere : (link_map : LinkMap) (u v : Option ℕ) (j : ℕ) → IsElsewhere u j → with_next_at link_map u v j ≡ link_map j
+with_next_at-elsewhere link_map None v j elsewhere = refl
+with_next_at-elsewhere link_map (Some i) v j elsewhere = if_other j i _ _ (elsewhere i refl)
 
 -- A write of `prev` leaves other indexes unchanged.
-pub with_prev_at-off : (link_map : LinkMap) (u v : Option ℕ) (j : ℕ) → IsOff u j → with_prev_at link_map u v j ≡ link_map j
-with_prev_at-off link_map None v j off = refl
-with_prev_at-off link_map (Some i) v j off = if_other j i _ _ (off i refl)
+pub with_prev_at-elsewhere : (link_map : LinkMap) (u v : Option ℕ) (j : ℕ) → IsElsewhere u j → with_prev_at link_map u v j ≡ link_map j
+with_prev_at-elsewhere link_map None v j elsewhere = refl
+with_prev_at-elsewhere link_map (Some i) v j elsewhere = if_other j i _ _ (elsewhere i refl)
 
 -- Linking u and v leaves other indexes unchanged.
-pub linked-off : (link_map : LinkMap) (u v : Option ℕ) (j : ℕ) → IsOff u j → IsOff v j → with_neighbors link_map u v j ≡ link_map j
-linked-off link_map u v j off_u off_v = with_prev_at-off (with_next_at link_map u v) v u j off_v ∙ with_next_at-off link_map u v j off_u
+pub linked-elsewhere : (link_map : LinkMap) (u v : Option ℕ) (j : ℕ) → IsElsewhere u j → IsElsewhere v j → with_neighbors link_map u v j ≡ link_map j
+linked-elsewhere link_map u v j not_u not_v = with_prev_at-elsewhere (with_next_at link_map u v) v u j not_v ∙ with_next_at-elsewhere link_map u v j not_u
 
 -- The link whose `next` is written.
 pub with_next_at-at : (link_map : LinkMap) (i : ℕ) (v : Option ℕ) (link : Interlinks) → link_map i ≡ Some link → with_next_at link_map (Some i) v i ≡ Some (with_next v link)

@@ -9,7 +9,7 @@ use Rattle.chain_laws.proofs.InterlinkLemmas.Skips.{names_or_not, undoes_back}
 pub record Puts (f h : ℕ → Option ℕ) (q : ℕ) (u v : Option ℕ) : Type 0 where
   pub here : h q ≡ v
   pub before : (j : ℕ) → j ≢ q → u ≡ Some j → h j ≡ Some q
-  pub off : (j : ℕ) → j ≢ q → u ≢ Some j → h j ≡ f j
+  pub elsewhere : (j : ℕ) → j ≢ q → u ≢ Some j → h j ≡ f j
 
 -- q may be put between u and v: f maps q to nothing, and u at most to v.
 pub record IsOpenPlace (f : ℕ → Option ℕ) (q : ℕ) (u v : Option ℕ) : Type 0 where
@@ -29,11 +29,11 @@ puts_pairs f h q u v can puts i j = (λ e. by e (cases_eq i q) (names_or_not u i
     by : h i ≡ Some j → (i ≡ q) ⊎ (i ≢ q) → (u ≡ Some i) ⊎ (u ≢ Some i) → IsPairAround f q u v i j
     by e (inl s) _ = inr (inr (s, sym puts.here ∙ sym (ap h s) ∙ e))
     by e (inr ne) (inl at_u) = inr (inl (at_u, one_some (sym e ∙ puts.before i ne at_u)))
-    by e (inr ne) (inr not_u) = inl (sym (puts.off i ne not_u) ∙ e, λ p. not_u p.0)
+    by e (inr ne) (inr not_u) = inl (sym (puts.elsewhere i ne not_u) ∙ e, λ p. not_u p.0)
 
     back : IsPairAround f q u v i j → (i ≡ q) ⊎ (i ≢ q) → h i ≡ Some j
     back (inl p) (inl s) = absurd (not_both_ways (f i) j (ap f s ∙ can.free) p.0)
-    back (inl p) (inr ne) = puts.off i ne (λ at_u. p.1 (at_u, can.only i j at_u p.0)) ∙ p.0
+    back (inl p) (inr ne) = puts.elsewhere i ne (λ at_u. p.1 (at_u, can.only i j at_u p.0)) ∙ p.0
     back (inr (inl p)) (inl s) = ap h s ∙ puts.here ∙ can.itself (p.0 ∙ ap Some s) ∙ sym (ap Some p.1)
     back (inr (inl p)) (inr ne) = puts.before i ne p.0 ∙ sym (ap Some p.1)
     back (inr (inr p)) _ = ap h p.0 ∙ puts.here ∙ p.1

@@ -8,7 +8,7 @@ use Rattle.chain_laws.proofs.InterlinkLemmas.Inverses.{Undoes, one_some, not_bot
 pub record Skips (f h : ℕ → Option ℕ) (q : ℕ) : Type 0 where
   pub gone : h q ≡ None
   pub past : (j : ℕ) → j ≢ q → f j ≡ Some q → h j ≡ f q
-  pub off : (j : ℕ) → j ≢ q → f j ≢ Some q → h j ≡ f j
+  pub elsewhere : (j : ℕ) → j ≢ q → f j ≢ Some q → h j ≡ f j
 
 -- (i, j) is a pair of f without q, or the pair around q.
 abbrev pub IsPairPast : (ℕ → Option ℕ) → (ℕ → Option ℕ) → ℕ → ℕ → ℕ → Type 0
@@ -34,11 +34,11 @@ skips_pairs f g h q each skips i j = (λ e. by e (cases_eq i q) (names_or_not (f
         let before : g q ≡ Some i = (each i q).0 to_q in
         inr (before, after, ne, λ s. ne (one_some (sym before ∙ (each q q).0 (after ∙ ap Some s))))
     by e (inr ne) (inr not_q) =
-        let here : f i ≡ Some j = sym (skips.off i ne not_q) ∙ e in
+        let here : f i ≡ Some j = sym (skips.elsewhere i ne not_q) ∙ e in
         inl (here, ne, λ s. not_q (here ∙ ap Some s))
 
     back : IsPairPast f g q i j → h i ≡ Some j
-    back (inl p) = skips.off i p.1 (λ e. p.2 (one_some (sym p.0 ∙ e))) ∙ p.0
+    back (inl p) = skips.elsewhere i p.1 (λ e. p.2 (one_some (sym p.0 ∙ e))) ∙ p.0
     back (inr p) = skips.past i p.2 ((each i q).1 p.0) ∙ p.1
 
 -- The same pair in the other direction.

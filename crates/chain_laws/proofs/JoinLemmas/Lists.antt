@@ -5,7 +5,7 @@ use Rattle.chain_laws.specs.Chains.{LinkMap, Chain, items, IsChain, IsMember, Ar
 use Rattle.chain_laws.specs.Joins.{with_prev_at, with_next_at, with_neighbors}
 use Rattle.chain_laws.proofs.ListLemmas.Members.{last_or-IsMember}
 use Rattle.chain_laws.proofs.ChainLemmas.LinkedLists.{AreLinked-frame, IsChain-frame, AreLinked-append}
-use Rattle.chain_laws.proofs.InterlinkLemmas.Linked.{IsOff, with_next_at-off, with_prev_at-off, linked-off, with_next_at-at, with_prev_at-at}
+use Rattle.chain_laws.proofs.InterlinkLemmas.Linked.{IsElsewhere, with_next_at-elsewhere, with_prev_at-elsewhere, linked-elsewhere, with_next_at-at, with_prev_at-at}
 use Rattle.chain_laws.proofs.InterlinkLemmas.Inverses.{one_some}
 
 -- The optional index is not among the items.
@@ -13,22 +13,22 @@ abbrev pub IsOutside : Option ℕ → List ℕ → Type 0
 IsOutside u xs = (i : ℕ) → u ≡ Some i → IsMember xs i → ⊥
 
 -- No item is an index outside the list.
-IsOff-item : (u : Option ℕ) (xs : List ℕ) (j : ℕ) → IsOutside u xs → IsMember xs j → IsOff u j
-IsOff-item u xs j apart h i named e = apart i named (subst (IsMember xs) e h)
+IsElsewhere-item : (u : Option ℕ) (xs : List ℕ) (j : ℕ) → IsOutside u xs → IsMember xs j → IsElsewhere u j
+IsElsewhere-item u xs j apart h i named e = apart i named (subst (IsMember xs) e h)
 
 -- A list without u stays linked when `next` of u is written.
 pub AreLinked-with_next_at : (link_map : LinkMap) (u v before : Option ℕ) (xs : List ℕ) (after : Option ℕ) → IsOutside u xs → AreLinked link_map before xs after → AreLinked (with_next_at link_map u v) before xs after
 AreLinked-with_next_at link_map u v before xs after apart stored =
-    AreLinked-frame link_map (with_next_at link_map u v) before xs after (λ i h. sym (with_next_at-off link_map u v i (IsOff-item u xs i apart h))) stored
+    AreLinked-frame link_map (with_next_at link_map u v) before xs after (λ i h. sym (with_next_at-elsewhere link_map u v i (IsElsewhere-item u xs i apart h))) stored
 
 -- A list without u stays linked when `prev` of u is written.
 pub AreLinked-with_prev_at : (link_map : LinkMap) (u v before : Option ℕ) (xs : List ℕ) (after : Option ℕ) → IsOutside u xs → AreLinked link_map before xs after → AreLinked (with_prev_at link_map u v) before xs after
 AreLinked-with_prev_at link_map u v before xs after apart stored =
-    AreLinked-frame link_map (with_prev_at link_map u v) before xs after (λ i h. sym (with_prev_at-off link_map u v i (IsOff-item u xs i apart h))) stored
+    AreLinked-frame link_map (with_prev_at link_map u v) before xs after (λ i h. sym (with_prev_at-elsewhere link_map u v i (IsElsewhere-item u xs i apart h))) stored
 
 -- Linking u and v leaves a list with neither unchanged.
 linked-outside : (link_map : LinkMap) (u v : Option ℕ) (xs : List ℕ) → IsOutside u xs → IsOutside v xs → (i : ℕ) → IsMember xs i → with_neighbors link_map u v i ≡ link_map i
-linked-outside link_map u v xs apart_u apart_v i h = linked-off link_map u v i (IsOff-item u xs i apart_u h) (IsOff-item v xs i apart_v h)
+linked-outside link_map u v xs apart_u apart_v i h = linked-elsewhere link_map u v i (IsElsewhere-item u xs i apart_u h) (IsElsewhere-item v xs i apart_v h)
 
 -- A list with neither u nor v stays linked.
 pub AreLinked-linked : (link_map : LinkMap) (u v before : Option ℕ) (xs : List ℕ) (after : Option ℕ) → IsOutside u xs → IsOutside v xs → AreLinked link_map before xs after → AreLinked (with_neighbors link_map u v) before xs after
@@ -36,7 +36,7 @@ AreLinked-linked link_map u v before xs after apart_u apart_v stored =
     AreLinked-frame link_map (with_neighbors link_map u v) before xs after (λ i h. sym (linked-outside link_map u v xs apart_u apart_v i h)) stored
 
 -- An item before others is not the last one.
-last_beyond : (x y : ℕ) (ys : List ℕ) → (IsMember (y ∷ ys) x → ⊥) → IsOff (last_or ys (Some y)) x
+last_beyond : (x y : ℕ) (ys : List ℕ) → (IsMember (y ∷ ys) x → ⊥) → IsElsewhere (last_or ys (Some y)) x
 last_beyond x y ys none i named e =
     ⊎_elim
     (λ h. none (inr (subst (IsMember ys) (sym e) h)))
@@ -49,7 +49,7 @@ pub AreLinked-next_of_last : (link_map : LinkMap) (v before : Option ℕ) (xs : 
 AreLinked-next_of_last link_map v before [] after once stored = tt
 AreLinked-next_of_last link_map v before (x ∷ []) after once stored = (with_next_at-at link_map x v _ stored.0, tt)
 AreLinked-next_of_last link_map v before (x ∷ y ∷ ys) after once stored =
-    (with_next_at-off link_map (last_or ys (Some y)) v x (last_beyond x y ys once.0) ∙ stored.0, AreLinked-next_of_last link_map v (Some x) (y ∷ ys) after once.1 stored.1)
+    (with_next_at-elsewhere link_map (last_or ys (Some y)) v x (last_beyond x y ys once.0) ∙ stored.0, AreLinked-next_of_last link_map v (Some x) (y ∷ ys) after once.1 stored.1)
 
 -- u before the first item comes before the list.
 pub AreLinked-prev_of_first : (link_map : LinkMap) (u before : Option ℕ) (xs : List ℕ) (after : Option ℕ) → AreDistinct xs → AreLinked link_map before xs after

@@ -13,21 +13,21 @@ pub with_lone-at : (link_map : LinkMap) (q j : ℕ) → j ≡ q → with_lone li
 with_lone-at link_map q j e = if_same j q (Some (link None None)) (link_map j) e
 
 -- Another index is unchanged.
-pub with_lone-off : (link_map : LinkMap) (q j : ℕ) → j ≢ q → with_lone link_map q j ≡ link_map j
-with_lone-off link_map q j ne = if_other j q (Some (link None None)) (link_map j) ne
+pub with_lone-elsewhere : (link_map : LinkMap) (q j : ℕ) → j ≢ q → with_lone link_map q j ≡ link_map j
+with_lone-elsewhere link_map q j ne = if_other j q (Some (link None None)) (link_map j) ne
 
 -- Each `next` is unchanged.
 pub next_of-with_lone : (link_map : LinkMap) (q : ℕ) → link_map q ≡ None → (j : ℕ) → next_of (with_lone link_map q) j ≡ next_of link_map j
 next_of-with_lone link_map q free j = ⊎_elim
     (λ e. ap next_in (with_lone-at link_map q j e) ∙ sym (ap next_in (ap link_map e ∙ free)))
-    (λ ne. ap next_in (with_lone-off link_map q j ne))
+    (λ ne. ap next_in (with_lone-elsewhere link_map q j ne))
     (cases_eq j q)
 
 -- Each `prev` is unchanged.
 pub prev_of-with_lone : (link_map : LinkMap) (q : ℕ) → link_map q ≡ None → (j : ℕ) → prev_of (with_lone link_map q) j ≡ prev_of link_map j
 prev_of-with_lone link_map q free j = ⊎_elim
     (λ e. ap prev_in (with_lone-at link_map q j e) ∙ sym (ap prev_in (ap link_map e ∙ free)))
-    (λ ne. ap prev_in (with_lone-off link_map q j ne))
+    (λ ne. ap prev_in (with_lone-elsewhere link_map q j ne))
     (cases_eq j q)
 
 -- After a new lone link the interlinks agree.
@@ -42,7 +42,7 @@ with_lone_agrees link_map q free agrees =
 
 -- The items of a list without q are unchanged.
 reports_same : (link_map : LinkMap) (q : ℕ) (xs : List ℕ) → (IsMember xs q → ⊥) → (i : ℕ) → IsMember xs i → with_lone link_map q i ≡ link_map i
-reports_same link_map q xs none i h = with_lone-off link_map q i (λ e. none (subst (IsMember xs) e h))
+reports_same link_map q xs none i h = with_lone-elsewhere link_map q i (λ e. none (subst (IsMember xs) e h))
 
 -- The linked lists without q are unchanged.
 pub AreLinked-with_lone : (link_map : LinkMap) (q : ℕ) (before : Option ℕ) (xs : List ℕ) (after : Option ℕ) → (IsMember xs q → ⊥)
@@ -64,12 +64,12 @@ pub HasLink-with_lone : (link_map : LinkMap) (q i : ℕ) → HasLink (with_lone 
 HasLink-with_lone link_map q i = (
   λ h. ⊎_elim
       (λ e. let r : HasLink link_map i ⊎ (i ≡ q) = inr e in r)
-      (λ ne. inl ((HasLink-same (with_lone link_map q) link_map i (with_lone-off link_map q i ne)).0 h))
+      (λ ne. inl ((HasLink-same (with_lone link_map q) link_map i (with_lone-elsewhere link_map q i ne)).0 h))
       (cases_eq i q),
   λ h. ⊎_elim
       (λ v. ⊎_elim
       (λ e. record { link = link None None; links = with_lone-at link_map q i e })
-      (λ ne. (HasLink-same (with_lone link_map q) link_map i (with_lone-off link_map q i ne)).1 v)
+      (λ ne. (HasLink-same (with_lone link_map q) link_map i (with_lone-elsewhere link_map q i ne)).1 v)
       (cases_eq i q))
       (λ e. record { link = link None None; links = with_lone-at link_map q i e })
       h,

@@ -9,11 +9,11 @@ use Rattle.chain_laws.proofs.ChainLemmas.LinkedLists.{AreLinked-frame, IsChain-f
 use Rattle.chain_laws.proofs.ChainLemmas.Uniqueness.{chain_closed}
 use Rattle.chain_laws.proofs.ChainLemmas.Rotations.{rotated}
 use Rattle.chain_laws.proofs.JoinLemmas.Lists.{IsOutside, AreLinked-glued, AreLinked-ringed, IsChain-linked}
-use Rattle.chain_laws.proofs.RemovalLemmas.Pairs.{vacated-off, HasLink-removed, removed_unnamed}
+use Rattle.chain_laws.proofs.RemovalLemmas.Pairs.{vacated-elsewhere, HasLink-removed, removed_unnamed}
 
 -- The items of a list without q are unchanged.
 reports_without : (link_map : LinkMap) (q : ℕ) (xs : List ℕ) → (IsMember xs q → ⊥) → (i : ℕ) → IsMember xs i → link_map i ≡ without_link link_map q i
-reports_without link_map q xs none i h = sym (vacated-off link_map q i (λ e. none (subst (IsMember xs) e h)))
+reports_without link_map q xs none i h = sym (vacated-elsewhere link_map q i (λ e. none (subst (IsMember xs) e h)))
 
 -- A list without q stays linked once q is free.
 pub AreLinked-vacated : (link_map : LinkMap) (q : ℕ) (before : Option ℕ) (xs : List ℕ) (after : Option ℕ) → (IsMember xs q → ⊥)

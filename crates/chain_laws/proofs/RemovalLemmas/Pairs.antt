@@ -9,8 +9,8 @@ use Rattle.chain_laws.specs.Joins.{with_prev, with_next, with_prev_at, with_next
 use Rattle.chain_laws.specs.Removals.{without_link, with_removal, RemovesPairs}
 use Rattle.chain_laws.proofs.InterlinkLemmas.Inverses.{if_same, if_other, altered-same}
 use Rattle.chain_laws.proofs.ChainLemmas.LinkedLists.{next_valid, prev_valid}
-use Rattle.chain_laws.proofs.InterlinkLemmas.Linked.{IsOff, IsValidAt-Some, with_next_at-off, with_prev_at-off, prev_of-with_next_at, next_of-with_prev_at, next_of-with_next_at, prev_of-with_prev_at, HasLink-same, HasLink-with_next_at, HasLink-linked}
-use Rattle.chain_laws.proofs.JoinLemmas.LoneLinks.{with_lone-at, with_lone-off}
+use Rattle.chain_laws.proofs.InterlinkLemmas.Linked.{IsElsewhere, IsValidAt-Some, with_next_at-elsewhere, with_prev_at-elsewhere, prev_of-with_next_at, next_of-with_prev_at, next_of-with_next_at, prev_of-with_prev_at, HasLink-same, HasLink-with_next_at, HasLink-linked}
+use Rattle.chain_laws.proofs.JoinLemmas.LoneLinks.{with_lone-at, with_lone-elsewhere}
 use Rattle.chain_laws.proofs.InterlinkLemmas.Skips.{Skips, skips_pairs, skips_undo}
 
 -- The vacated index has no link.
@@ -18,8 +18,8 @@ pub vacated-at : (link_map : LinkMap) (q j : ℕ) → j ≡ q → without_link l
 vacated-at link_map q j e = if_same j q None (link_map j) e
 
 -- Another index is unchanged.
-pub vacated-off : (link_map : LinkMap) (q j : ℕ) → j ≢ q → without_link link_map q j ≡ link_map j
-vacated-off link_map q j ne = if_other j q None (link_map j) ne
+pub vacated-elsewhere : (link_map : LinkMap) (q j : ℕ) → j ≢ q → without_link link_map q j ≡ link_map j
+vacated-elsewhere link_map q j ne = if_other j q None (link_map j) ne
 
 -- A write of `next` makes no link.
 pub with_next_at-none : (link_map : LinkMap) (u v : Option ℕ) (j : ℕ) → link_map j ≡ None → with_next_at link_map u v j ≡ None
@@ -46,11 +46,11 @@ removed-at link_map q =
 
 -- The valid indexes are the old ones without q.
 pub HasLink-vacated : (link_map : LinkMap) (q j : ℕ) → HasLink (without_link link_map q) j ↔ (HasLink link_map j × (j ≢ q))
-HasLink-vacated link_map q j = (λ v. by v (cases_eq j q), λ p. (HasLink-same (without_link link_map q) link_map j (vacated-off link_map q j p.1)).1 p.0)
+HasLink-vacated link_map q j = (λ v. by v (cases_eq j q), λ p. (HasLink-same (without_link link_map q) link_map j (vacated-elsewhere link_map q j p.1)).1 p.0)
   where
     by : HasLink (without_link link_map q) j → (j ≡ q) ⊎ (j ≢ q) → HasLink link_map j × (j ≢ q)
     by v (inl e) = let none = sym (vacated-at link_map q j e) ∙ v.links in absurd (cc)
-    by v (inr ne) = ((HasLink-same (without_link link_map q) link_map j (vacated-off link_map q j ne)).0 v, ne)
+    by v (inr ne) = ((HasLink-same (without_link link_map q) link_map j (vacated-elsewhere link_map q j ne)).0 v, ne)
 
 -- The valid indexes once the neighbors of q are linked.
 pub HasLink-removed : (link_map : LinkMap) (q j : ℕ) → HasLink (with_removal link_map q) j ↔ (HasLink link_map j × (j ≢ q))
@@ -61,7 +61,7 @@ HasLink-removed link_map q j =
 
 -- `next` after the removal skips q.
 pub next_skips : (link_map : LinkMap) (q : ℕ) → IsWellLinked link_map → Skips (next_of link_map) (next_of (with_removal link_map q)) q
-next_skips link_map q agrees = record { gone = ap next_in (removed-at link_map q); past = past; off = off }
+next_skips link_map q agrees = record { gone = ap next_in (removed-at link_map q); past = past; elsewhere = elsewhere }
   where
     past : (j : ℕ) → j ≢ q → next_of link_map j ≡ Some q → next_of (with_removal link_map q) j ≡ next_of link_map q
     past j ne to_q =
@@ -74,18 +74,18 @@ next_skips link_map q agrees = record { gone = ap next_in (removed-at link_map q
         ∙ next_of-with_next_at (without_link link_map q) (Some j) v j (IsValidAt-Some (without_link link_map q) j valid)
         ∙ altered-same (next_of (without_link link_map q)) j v j refl
 
-    off : (j : ℕ) → j ≢ q → next_of link_map j ≢ Some q → next_of (with_removal link_map q) j ≡ next_of link_map j
-    off j ne not_q =
+    elsewhere : (j : ℕ) → j ≢ q → next_of link_map j ≢ Some q → next_of (with_removal link_map q) j ≡ next_of link_map j
+    elsewhere j ne not_q =
         let u = prev_of link_map q in
         let v = next_of link_map q in
-        let unnamed : IsOff u j = λ i named s. not_q ((agrees.both j q).1 (named ∙ ap Some (sym s))) in
+        let unnamed : IsElsewhere u j = λ i named s. not_q ((agrees.both j q).1 (named ∙ ap Some (sym s))) in
         next_of-with_prev_at (with_next_at (without_link link_map q) u v) v u j
-        ∙ ap next_in (with_next_at-off (without_link link_map q) u v j unnamed)
-        ∙ ap next_in (vacated-off link_map q j ne)
+        ∙ ap next_in (with_next_at-elsewhere (without_link link_map q) u v j unnamed)
+        ∙ ap next_in (vacated-elsewhere link_map q j ne)
 
 -- `prev` after the removal skips q.
 pub prev_skips : (link_map : LinkMap) (q : ℕ) → IsWellLinked link_map → Skips (prev_of link_map) (prev_of (with_removal link_map q)) q
-prev_skips link_map q agrees = record { gone = ap prev_in (removed-at link_map q); past = past; off = off }
+prev_skips link_map q agrees = record { gone = ap prev_in (removed-at link_map q); past = past; elsewhere = elsewhere }
   where
     past : (j : ℕ) → j ≢ q → prev_of link_map j ≡ Some q → prev_of (with_removal link_map q) j ≡ prev_of link_map q
     past j ne to_q =
@@ -98,14 +98,14 @@ prev_skips link_map q agrees = record { gone = ap prev_in (removed-at link_map q
         ∙ prev_of-with_prev_at written (Some j) u j (IsValidAt-Some written j ((HasLink-with_next_at (without_link link_map q) u v j).1 valid))
         ∙ altered-same (prev_of written) j u j refl
 
-    off : (j : ℕ) → j ≢ q → prev_of link_map j ≢ Some q → prev_of (with_removal link_map q) j ≡ prev_of link_map j
-    off j ne not_q =
+    elsewhere : (j : ℕ) → j ≢ q → prev_of link_map j ≢ Some q → prev_of (with_removal link_map q) j ≡ prev_of link_map j
+    elsewhere j ne not_q =
         let u = prev_of link_map q in
         let v = next_of link_map q in
-        let unnamed : IsOff v j = λ i named s. not_q ((agrees.both q j).0 (named ∙ ap Some (sym s))) in
-        ap prev_in (with_prev_at-off (with_next_at (without_link link_map q) u v) v u j unnamed)
+        let unnamed : IsElsewhere v j = λ i named s. not_q ((agrees.both q j).0 (named ∙ ap Some (sym s))) in
+        ap prev_in (with_prev_at-elsewhere (with_next_at (without_link link_map q) u v) v u j unnamed)
         ∙ prev_of-with_next_at (without_link link_map q) u v j
-        ∙ ap prev_in (vacated-off link_map q j ne)
+        ∙ ap prev_in (vacated-elsewhere link_map q j ne)
 
 -- After a removal the interlinks agree.
 pub removed_agrees : (link_map : LinkMap) (q : ℕ) → IsWellLinked link_map → IsWellLinked (with_removal link_map q)
@@ -141,4 +141,4 @@ removed_of_lone link_map q free =
   where
     by : (j : ℕ) → (j ≡ q) ⊎ (j ≢ q) → without_link (with_lone link_map q) q j ≡ link_map j
     by j (inl e) = vacated-at (with_lone link_map q) q j e ∙ sym (ap link_map e ∙ free)
-    by j (inr ne) = vacated-off (with_lone link_map q) q j ne ∙ with_lone-off link_map q j ne
+    by j (inr ne) = vacated-elsewhere (with_lone link_map q) q j ne ∙ with_lone-elsewhere link_map q j ne

@@ -9,9 +9,9 @@ use Rattle.chain_laws.specs.Walks.{IsWalk, of_linear, of_cyclic, walk_ahead, ste
 use Rattle.chain_laws.proofs.ListLemmas.Members.{IsMember-left, IsMember-filled, IsMember-middle, AreDistinct-right, AreDistinct-apart, last_or-append, last_apart}
 use Rattle.chain_laws.proofs.ChainLemmas.LinkedLists.{link, AreLinked-right, AreLinked-frame}
 use Rattle.chain_laws.proofs.InterlinkLemmas.Inverses.{if_same, one_some, not_both_ways}
-use Rattle.chain_laws.proofs.InterlinkLemmas.Linked.{linked-off}
+use Rattle.chain_laws.proofs.InterlinkLemmas.Linked.{linked-elsewhere}
 use Rattle.chain_laws.proofs.ChainLemmas.Uniqueness.{chain_closed, chain_valid}
-use Rattle.chain_laws.proofs.RemovalLemmas.Pairs.{vacated-off, removed-at, removed_agrees, HasLink-removed}
+use Rattle.chain_laws.proofs.RemovalLemmas.Pairs.{vacated-elsewhere, removed-at, removed_agrees, HasLink-removed}
 use Rattle.chain_laws.proofs.RemovalLemmas.Chains.{removed_from_linear, removed_first_of_cyclic}
 use Rattle.chain_laws.proofs.WalkLemmas.Walker.{step_forward-other, no_other_walk}
 use Rattle.chain_laws.proofs.WalkLemmas.Members.{walk_chain, walk_once, walk_starts, walk_valid, walks_ahead}
@@ -93,10 +93,10 @@ reports_rest link_map i walk is_walk j none =
     let own = walk_chain link_map i walk is_walk in
     let closed = chain_closed link_map own.0 own.1 in
     let here : IsMember (items own.0) i = (own.2 i).0 (walk_starts link_map i walk is_walk) in
-    linked-off (without_link link_map i) (prev_of link_map i) (next_of link_map i) j
+    linked-elsewhere (without_link link_map i) (prev_of link_map i) (next_of link_map i) j
     (λ k named same. none ((own.2 j).1 (closed.back i j here (named ∙ ap (λ (n : ℕ). Some n) (sym same)))))
     (λ k named same. none ((own.2 j).1 (closed.forward i j here (named ∙ ap (λ (n : ℕ). Some n) (sym same)))))
-    ∙ vacated-off link_map i j (λ same. none (subst (IsMember walk) (sym same) (walk_starts link_map i walk is_walk)))
+    ∙ vacated-elsewhere link_map i j (λ same. none (subst (IsMember walk) (sym same) (walk_starts link_map i walk is_walk)))
 
 -- The links of the walk are removed, and no others.
 record EmptiesWalk (old new : LinkMap) (walk : List ℕ) : Type 0 where
