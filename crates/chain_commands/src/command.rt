@@ -128,7 +128,7 @@ fn kind_beside(name: &[u8], word: &[u8]) -> Option<LinkInsertKind<ToolPtr>>
     ensures { result ≡ kind_beside name.now word.now }
 {
     let p = pointer(word);
-    let i = index(word);
+    let i = if p.is_some() { None } else { index(word) };
     if is(name, "end") {
         p.map(LinkInsertKind::ChainEnd)
             .or(i.map(LinkInsertKind::ChainEndInx))

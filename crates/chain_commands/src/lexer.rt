@@ -1,5 +1,5 @@
 //! The words of a line, and their values as numbers and pointers.
-ghost use Rattle.std.specs.Prelude.{◌≡◌, ◌==◌, length, take_while, not};
+ghost use Rattle.std.specs.Prelude.{◌≡◌};
 ghost use Rattle.chain_commands.specs.Words.{IsFirstWord, IsSplitAtByte, number_of, index_word, pointer_of};
 
 use arena_ptr::{Gen32, Inx32, PtrKey, ToolPtr};
@@ -12,21 +12,14 @@ pub fn next_word(text: &[u8]) -> Option<(&[u8], &[u8])>
     if text.is_empty() {
         return None;
     }
-    Some(text.split_at(position(b' ', text)))
-}
-
-/// Returns the position of the first such byte in a text, or the text's length if there is none.
-fn position(byte: u8, text: &[u8]) -> usize
-    ensures { result ≡ length (take_while (λ c. not (c == byte)) text.now) }
-{
-    text.iter().take_while(|c| **c != byte).count()
+    Some(text.split_at(text.iter().take_while(|c| **c != b' ').count()))
 }
 
 /// Returns the parts of a text before and after the first such byte, or `None` if there is none.
 pub fn split_at_byte(byte: u8, text: &[u8]) -> Option<(&[u8], &[u8])>
     ensures { IsSplitAtByte byte (λ part. part.now) result text.now }
 {
-    let (front, back) = text.split_at(position(byte, text));
+    let (front, back) = text.split_at(text.iter().take_while(|c| **c != byte).count());
     match back.split_first() {
         Some((_, back)) => Some((front, back)),
         None => None,

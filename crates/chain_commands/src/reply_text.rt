@@ -9,14 +9,19 @@ use arena_ptr::{
     ChainInsertionError, InvalidationOption, PtrKey, ReallocationError, SlotStack, ToolPtr,
 };
 use chain_arena::{ChainIter, LinkNoGen, Reply};
+use itoa::Buffer;
 use std::alloc::AllocError;
 
-/// Appends a pointer to a text.
-fn push_pointer(text: &mut String, p: ToolPtr) -> Result<(), AllocError>
-    ensures { OnOk result (string_bytes text.new ≡ string_bytes text.old ++ pointer_text
-        (key_of p)) }
+/// Appends a word and a pointer to a text.
+fn push_pointer(text: &mut String, word: &str, p: ToolPtr) -> Result<(), AllocError>
+    ensures { OnOk result (string_bytes text.new
+        ≡ string_bytes text.old ++ (word.now ++ pointer_text (key_of p))) }
 {
-    write!(text, "{}.{}", p.inx().get(), p.generation().get())
+    let mut buffer = Buffer::new();
+    text.push_str(word)?;
+    text.push_str(buffer.format(p.inx().get()))?;
+    text.push_str(".")?;
+    text.push_str(buffer.format(p.generation().get()))
 }
 
 /// Appends the pointer of a neighbor to a text, or a dash if there is none.
@@ -25,7 +30,7 @@ fn push_neighbor(text: &mut String, neighbor: Option<ToolPtr>) -> Result<(), All
         (option_map key_of neighbor)) }
 {
     match neighbor {
-        Some(p) => push_pointer(text, p),
+        Some(p) => push_pointer(text, "", p),
         None => text.push_str("-"),
     }
 }
@@ -53,7 +58,7 @@ pub fn push_reply(text: &mut String, reply: Reply<ToolPtr, u32>) -> Result<(), A
     ensures { OnOk result (string_bytes text.new ≡ string_bytes text.old ++ reply_text reply) }
 {
     match reply {
-        Reply::Inserted(Ok(p)) => write!(text, "at {}.{}", p.inx().get(), p.generation().get()),
+        Reply::Inserted(Ok(p)) => push_pointer(text, "at ", p),
         Reply::Inserted(Err(error)) => text.push_str(refusal(error)),
         Reply::Done(true) => text.push_str("ok"),
         Reply::Done(false) => text.push_str("none"),
@@ -67,13 +72,11 @@ pub fn push_reply(text: &mut String, reply: Reply<ToolPtr, u32>) -> Result<(), A
             link.t
         ),
         Reply::RemovedInx(InvalidPtr) => text.push_str("none"),
-        Reply::Renewed(Success(p)) => write!(text, "at {}.{}", p.inx().get(), p.generation().get()),
-        Reply::Renewed(GenerationOverflow(p)) => write!(
-            text,
-            "at {}.{} overflow",
-            p.inx().get(),
-            p.generation().get()
-        ),
+        Reply::Renewed(Success(p)) => push_pointer(text, "at ", p),
+        Reply::Renewed(GenerationOverflow(p)) => {
+            push_pointer(text, "at ", p)?;
+            text.push_str(" overflow")
+        }
         Reply::Renewed(InvalidPtr) => text.push_str("none"),
         Reply::Drained(Some(count)) => write!(text, "count {count}"),
         Reply::Drained(None) => text.push_str("none"),
@@ -105,7 +108,7 @@ fn push_passed(text: &mut String, p: ToolPtr, value: u32) -> Result<(), AllocErr
     ensures { OnOk result (string_bytes text.new ≡ string_bytes text.old ++ passed_text
         (key_of p) value) }
 {
-    push_pointer(text, p)?;
+    push_pointer(text, "", p)?;
     write!(text, ":{value}")
 }
 
