@@ -89,7 +89,7 @@ fn value_read<P: PtrKey, C: SlotAccess<P, u32>>(
     i: P::Inx,
     value: Option<u32>,
 ) -> Option<u32>
-    ensures { IsSome result ↔ IsSome (slot_at (C.held slots.new).slots (P.Inx.number i)) }
+    ensures { IsSome result ↔ IsSome (slot_at (C.detached slots.new).slots (P.Inx.number i)) }
 {
     if let Some(value) = value {
         overwrite(slots.value_mut(i), value);
