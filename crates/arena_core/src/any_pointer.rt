@@ -5,8 +5,8 @@ use crate::keys::{GenKey, InxKey, PtrKey};
 
 /// A type of pointers, for contracts that state the effect of any call.
 ///
-/// Its `pointers` are what they need of a pointer, an index and a generation. Each `PtrKey` implements
-/// it.
+/// Its `pointers` are what they need of a pointer, an index and a generation. Each `PtrKey`
+/// implements it.
 pub trait AnyPointer: PtrKey {
     ghost pointers: { PointerKind Self Self.Inx Self.Gen Self.Inx.Word };
 }

@@ -201,16 +201,19 @@ pub trait ArenaTrait<P: PtrKey, T: Drop> {
         ensures outcome { InvalidatesEntry state ⟦<P as AnyPointer>⟧.pointers self.old p result
             self.new }
         ensures invalid { IfNone (value_within result) (self.new ≡ self.old) }
-        ensures implementation { OnSome (value_within result) (extra_on_invalidate self.old (P.key p).0 self.new) };
+        ensures implementation { OnSome (value_within result)
+            (extra_on_invalidate self.old (P.key p).0 self.new) };
 
     /// Removes an entry, returns its value and increments the counter.
     ///
     /// If that wraps to two, the entry is removed and its value returned in `GenerationOverflow`.
     /// Returns `InvalidPtr` if `p` is not valid; nothing changes then.
     fn remove(&mut self, p: P) -> InvalidationResult<T>
-        ensures outcome { RemovesEntry state ⟦<P as AnyPointer>⟧.pointers self.old p result self.new }
+        ensures outcome { RemovesEntry state ⟦<P as AnyPointer>⟧.pointers self.old p result
+            self.new }
         ensures invalid { IfNone (value_within result) (self.new ≡ self.old) }
-        ensures implementation { OnSome (value_within result) (removes self.old (P.key p).0 self.new) };
+        ensures implementation { OnSome (value_within result)
+            (removes self.old (P.key p).0 self.new) };
 
     /// Removes the entry at an index, returns its generation and value, and increments the counter.
     ///
@@ -220,13 +223,15 @@ pub trait ArenaTrait<P: PtrKey, T: Drop> {
         ensures outcome { RemovesEntryAt state ⟦<P as AnyPointer>⟧.pointers self.old i result
             self.new }
         ensures invalid { IfNone (value_within result) (self.new ≡ self.old) }
-        ensures implementation { OnSome (value_within result) (removes self.old (P.Inx.number i) self.new) };
+        ensures implementation { OnSome (value_within result)
+            (removes self.old (P.Inx.number i) self.new) };
 
     /// Removes all entries and slots, and increments the counter once if there were entries.
     ///
     /// The capacity stays the same. Returns `GenerationOverflow` if the counter wrapped to two.
     fn clear(&mut self) -> InvalidationOption<()>
-        ensures outcome { ClearsEntries state ⟦<P as AnyPointer>⟧.pointers self.old result self.new }
+        ensures outcome { ClearsEntries state ⟦<P as AnyPointer>⟧.pointers self.old result
+            self.new }
         ensures implementation { clears self.old self.new };
 
     /// Compacts the entries: the entry of the k-th least index is moved to index k.
@@ -245,8 +250,8 @@ pub trait ArenaTrait<P: PtrKey, T: Drop> {
         map: F,
     ) -> InvalidationOption<()>
         requires { F.IsAlwaysCallable map }
-        ensures outcome { CompressesEntries state ⟦<P as AnyPointer>⟧.pointers self.old reset result
-            self.new }
+        ensures outcome { CompressesEntries state ⟦<P as AnyPointer>⟧.pointers self.old reset
+            result self.new }
         ensures visits { VisitsAll F.FnMut P.key map (view self.old).entries
             (view self.new).entries }
         ensures implementation { compresses self.old self.new };
@@ -255,8 +260,8 @@ pub trait ArenaTrait<P: PtrKey, T: Drop> {
     ///
     /// Returns `GenerationOverflow` if the counter wrapped to two.
     fn compress(&mut self, reset: bool) -> InvalidationOption<()>
-        ensures outcome { CompressesEntries state ⟦<P as AnyPointer>⟧.pointers self.old reset result
-            self.new }
+        ensures outcome { CompressesEntries state ⟦<P as AnyPointer>⟧.pointers self.old reset
+            result self.new }
         ensures values { values_in (view self.new).entries ≡ values_in (view self.old).entries }
         ensures implementation { compresses self.old self.new }
     {

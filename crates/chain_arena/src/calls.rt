@@ -131,7 +131,8 @@ fn drain<P: PtrKey, T: Drop, S: SlotStack<Item = ArenaSlot<P, LinkNoGen<P, T>>>>
     p: P,
     take: usize,
 ) -> Option<usize>
-    ensures { DrainChainStep ⟦<P as AnyPointer>⟧.pointers arena.old (P.key p) take result arena.new }
+    ensures { DrainChainStep ⟦<P as AnyPointer>⟧.pointers arena.old (P.key p) take result
+        arena.new }
 {
     match arena.drain_chain(p) {
         Some(mut links) => {
@@ -198,8 +199,8 @@ fn replies_to<P: PtrKey, T: Drop, S: SlotStack<Item = ArenaSlot<P, LinkNoGen<P, 
     arena: &mut ChainArena<P, T, S>,
     calls: Vec<Call<P, T>>,
 ) -> Result<Vec<Reply<P, T>, A>, AllocError>
-    ensures run { IfOk result (λ replies. Run ⟦<P as AnyPointer>⟧.pointers arena.old calls.items
-        replies.items arena.new) }
+    ensures run { IfOk result (λ replies. Run ⟦<P as AnyPointer>⟧.pointers arena.old
+        calls.items replies.items arena.new) }
     ensures err { OnErr result (arena.new ≡ arena.old) }
 {
     let mut replies = Vec::with_capacity(alloc, calls.len())?;

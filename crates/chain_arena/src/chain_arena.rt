@@ -135,8 +135,8 @@ impl<P: PtrKey, T: Drop, S: SlotStack<Item = ArenaSlot<P, LinkNoGen<P, T>>>> Cha
         visitor: V,
     ) -> (InvalidationOption<()>, V, Work)
         requires { V.is_ready visitor }
-        ensures compressed { CompressCanonicalStep ⟦<P as AnyPointer>⟧.pointers self.old reset result.0
-            self.new }
+        ensures compressed { CompressCanonicalStep ⟦<P as AnyPointer>⟧.pointers self.old reset
+            result.0 self.new }
         ensures reports { ReportsAll V.sees P.key (value_view self.old)
             (link_map self.old) self.new.counter
             visitor result.1 }
@@ -158,8 +158,8 @@ impl<P: PtrKey, T: Drop, S: SlotStack<Item = ArenaSlot<P, LinkNoGen<P, T>>>> Cha
         map: F,
     ) -> InvalidationOption<()>
         requires { F.IsAlwaysCallable map }
-        ensures compressed { CompressCanonicalStep ⟦<P as AnyPointer>⟧.pointers self.old reset result
-            self.new }
+        ensures compressed { CompressCanonicalStep ⟦<P as AnyPointer>⟧.pointers self.old reset
+            result self.new }
         ensures reports { ReportsLayout F.FnMut P.key (value_view self.old)
             (link_map self.old) self.new.counter
             map }
@@ -182,8 +182,8 @@ impl<P: PtrKey, T: Drop, S: SlotStack<Item = ArenaSlot<P, LinkNoGen<P, T>>>> Cha
         alloc: A,
         reset: bool,
     ) -> Result<(InvalidationOption<()>, Vec<(P, P), A>), AllocError>
-        ensures compressed { IfOk result (λ r. CompressCanonicalStep ⟦<P as AnyPointer>⟧.pointers
-            self.old reset r.0 self.new) }
+        ensures compressed { IfOk result
+            (λ r. CompressCanonicalStep ⟦<P as AnyPointer>⟧.pointers self.old reset r.0 self.new) }
         ensures moves { IfOk result (λ r. AreAllMoves P.key (value_view self.old)
             (link_map self.old) self.new.counter r.1.items) }
         ensures by_pointer { IfOk result (λ r. ArePointerMoves P.key (entry self.old)
@@ -200,8 +200,8 @@ impl<P: PtrKey, T: Drop, S: SlotStack<Item = ArenaSlot<P, LinkNoGen<P, T>>>> Cha
     /// Each link is placed once. The slots are touched at most four times per old slot plus twelve
     /// times per link.
     pub fn compress_canonical_counted(&mut self, reset: bool) -> (InvalidationOption<()>, Work)
-        ensures compressed { CompressCanonicalStep ⟦<P as AnyPointer>⟧.pointers self.old reset result.0
-            self.new }
+        ensures compressed { CompressCanonicalStep ⟦<P as AnyPointer>⟧.pointers self.old reset
+            result.0 self.new }
         ensures counted { AddsWork self.old result.1 self.new }
     {
         let (overflow, _, work) = self.compress_canonical_by(

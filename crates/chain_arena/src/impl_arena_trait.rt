@@ -165,11 +165,11 @@ impl<P: PtrKey, T: Drop, S: SlotStack<Item = ArenaSlot<P, LinkNoGen<P, T>>>> Are
     /// If that wraps to two, the link is removed and its value returned in `GenerationOverflow`.
     /// Returns `InvalidPtr` if `p` is not valid; nothing changes then.
     fn remove(&mut self, p: P) -> InvalidationResult<T>
-        ensures outcome { RemovesEntry value_state ⟦<P as AnyPointer>⟧.pointers self.old p result
-            self.new }
+        ensures outcome { RemovesEntry value_state ⟦<P as AnyPointer>⟧.pointers self.old p
+            result self.new }
         ensures invalid { IfNone (value_within result) (self.new ≡ self.old) }
-        ensures implementation { OnSome (value_within result) (IsRemoval P.Gen.following self.old (P.key p).0
-            self.new) }
+        ensures implementation { OnSome (value_within result)
+            (IsRemoval P.Gen.following self.old (P.key p).0 self.new) }
     {
         if self.contains(p) {
             value_alone(self.unlink(p.inx()))
@@ -184,11 +184,11 @@ impl<P: PtrKey, T: Drop, S: SlotStack<Item = ArenaSlot<P, LinkNoGen<P, T>>>> Are
     /// If that wraps to two, the link is removed and returned in `GenerationOverflow`. Returns
     /// `InvalidPtr` if no link is there; nothing changes then.
     fn remove_inx(&mut self, i: P::Inx) -> InvalidationResult<(P::Gen, T)>
-        ensures outcome { RemovesEntryAt value_state ⟦<P as AnyPointer>⟧.pointers self.old i result
-            self.new }
+        ensures outcome { RemovesEntryAt value_state ⟦<P as AnyPointer>⟧.pointers self.old i
+            result self.new }
         ensures invalid { IfNone (value_within result) (self.new ≡ self.old) }
-        ensures implementation { OnSome (value_within result) (IsRemoval P.Gen.following self.old
-            (P.Inx.number i) self.new) }
+        ensures implementation { OnSome (value_within result)
+            (IsRemoval P.Gen.following self.old (P.Inx.number i) self.new) }
     {
         value_with_generation(self.unlink(i))
     }

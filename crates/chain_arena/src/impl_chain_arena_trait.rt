@@ -59,8 +59,8 @@ impl<P: PtrKey, T: Drop, S: SlotStack<Item = ArenaSlot<P, LinkNoGen<P, T>>>> Cha
     ghost compression_renames = { λ a b h. h.renamed };
 
     fn can_insert(&self, kind: LinkInsertKind<P>) -> bool
-        ensures { IsTrue result ↔ MayInsertIn value_state link_map ⟦<P as AnyPointer>⟧.pointers self.now
-            kind }
+        ensures { IsTrue result ↔ MayInsertIn value_state link_map
+            ⟦<P as AnyPointer>⟧.pointers self.now kind }
     {
         self.beside_for(kind).is_some()
     }
@@ -72,11 +72,11 @@ impl<P: PtrKey, T: Drop, S: SlotStack<Item = ArenaSlot<P, LinkNoGen<P, T>>>> Cha
         kind: LinkInsertKind<P>,
         t: T,
     ) -> Result<P, ChainInsertionError>
-        ensures outcome { InsertsLinkWithin value_state link_map ⟦<P as AnyPointer>⟧.pointers self.old
-            kind t result self.new }
+        ensures outcome { InsertsLinkWithin value_state link_map ⟦<P as AnyPointer>⟧.pointers
+            self.old kind t result self.new }
         ensures err { OnErr result (self.new ≡ self.old) }
-        ensures implementation { IfOk result (IsNewLink ⟦<P as AnyPointer>⟧.pointers S.may_reach self.old kind t
-            self.new) }
+        ensures implementation { IfOk result
+            (IsNewLink ⟦<P as AnyPointer>⟧.pointers S.may_reach self.old kind t self.new) }
     {
         match self.beside_within_capacity(kind) {
             Ok(beside) => Ok(self.insert_between(beside, t)),
@@ -90,11 +90,11 @@ impl<P: PtrKey, T: Drop, S: SlotStack<Item = ArenaSlot<P, LinkNoGen<P, T>>>> Cha
         kind: LinkInsertKind<P>,
         t: T,
     ) -> Result<P, ChainInsertionError>
-        ensures outcome { InsertsLink value_state link_map ⟦<P as AnyPointer>⟧.pointers self.old kind t
-            result self.new }
+        ensures outcome { InsertsLink value_state link_map ⟦<P as AnyPointer>⟧.pointers self.old
+            kind t result self.new }
         ensures err { OnErr result (self.new ≡ self.old) }
-        ensures implementation { IfOk result (IsNewLink ⟦<P as AnyPointer>⟧.pointers S.may_reach self.old kind t
-            self.new) }
+        ensures implementation { IfOk result
+            (IsNewLink ⟦<P as AnyPointer>⟧.pointers S.may_reach self.old kind t self.new) }
     {
         match self.beside_with_growth(kind) {
             Ok(Some(beside)) => Ok(self.insert_between(beside, t)),
@@ -106,11 +106,11 @@ impl<P: PtrKey, T: Drop, S: SlotStack<Item = ArenaSlot<P, LinkNoGen<P, T>>>> Cha
     #[inline(always)]
     fn insert(&mut self, kind: LinkInsertKind<P>, t: T) -> Result<P, ReallocationError>
         requires { MayInsertIn value_state link_map ⟦<P as AnyPointer>⟧.pointers self.old kind }
-        ensures outcome { InsertsAllowedLink value_state link_map ⟦<P as AnyPointer>⟧.pointers self.old
-            kind t result self.new }
+        ensures outcome { InsertsAllowedLink value_state link_map ⟦<P as AnyPointer>⟧.pointers
+            self.old kind t result self.new }
         ensures err { OnErr result (self.new ≡ self.old) }
-        ensures implementation { IfOk result (IsNewLink ⟦<P as AnyPointer>⟧.pointers S.may_reach self.old kind t
-            self.new) }
+        ensures implementation { IfOk result
+            (IsNewLink ⟦<P as AnyPointer>⟧.pointers S.may_reach self.old kind t self.new) }
     {
         match self.beside_with_growth(kind) {
             Ok(Some(beside)) => Ok(self.insert_between(beside, t)),

@@ -82,8 +82,8 @@ impl<P: PtrKey, T: Drop, S: SlotStack<Item = ArenaSlot<P, LinkNoGen<P, T>>>> Cha
         &self,
         kind: LinkInsertKind<P>,
     ) -> Result<Beside<P::Inx>, ChainInsertionError>
-        ensures beside { FindsBesideWithin ⟦<P as AnyPointer>⟧.pointers S.may_reach self.now kind
-            result }
+        ensures beside { FindsBesideWithin ⟦<P as AnyPointer>⟧.pointers S.may_reach self.now
+            kind result }
         ensures agree { IsWellLinked (link_map self.now) }
     {
         match self.beside_for(kind) {
@@ -103,8 +103,8 @@ impl<P: PtrKey, T: Drop, S: SlotStack<Item = ArenaSlot<P, LinkNoGen<P, T>>>> Cha
         &mut self,
         kind: LinkInsertKind<P>,
     ) -> Result<Option<Beside<P::Inx>>, ReallocationError>
-        ensures beside { FindsBesideGrowing ⟦<P as AnyPointer>⟧.pointers S.may_reach self.old kind
-            result self.new }
+        ensures beside { FindsBesideGrowing ⟦<P as AnyPointer>⟧.pointers S.may_reach self.old
+            kind result self.new }
         ensures agreed { IsWellLinked (link_map self.old) }
     {
         match self.beside_for(kind) {

@@ -158,8 +158,8 @@ impl<P: PtrKey, T: Drop, S: SlotStack<Item = ArenaSlot<P, LinkNoGen<P, T>>>> Cha
             P.PtrKey P.Inx.InxKey P.Gen.GenKey S.SlotStack)
             self.entry (λ e. e.arena.ghost_name) result (λ n. n ≡ self.old)) }
         ensures outcome { IsGrowthResult (RefusesOneMore (value_view self.old))
-            (λ e. IsEntryFor ⟦<P as AnyPointer>⟧.pointers S.may_reach self.old kind e.arena.now e.prev
-            e.next) result }
+            (λ e. IsEntryFor ⟦<P as AnyPointer>⟧.pointers S.may_reach self.old kind e.arena.now
+            e.prev e.next) result }
         ensures same_reference { IfOk result (λ e. e.arena.ghost_name ≡ self.entry.ghost_name) }
     {
         match self.beside_with_growth(kind) {

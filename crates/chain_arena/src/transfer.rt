@@ -180,8 +180,8 @@ fn append_link<P: PtrKey, T: Drop, S: SlotStack<Item = ArenaSlot<P, LinkNoGen<P,
     requires capacity { entry_count target.old < target.old.capacity }
     requires index { (P.key to).0 ≡ next_index target.old }
     ensures arranged { (m : ℕ) → AreEnds P.Inx.number ends m (next_index target.old)
-        → (target.new ≡ with_link_at_end is_cyclic m target.old t) × AreEnds P.Inx.number result (m + 1)
-        (next_index target.old + 1) }
+        → (target.new ≡ with_link_at_end is_cyclic m target.old t)
+        × AreEnds P.Inx.number result (m + 1) (next_index target.old + 1) }
     ensures listed { IsListed target.old }
 {
     let i = to.inx();

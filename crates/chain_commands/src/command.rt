@@ -166,8 +166,8 @@ fn between(
     pointers: Option<(ToolPtr, ToolPtr)>,
     indexes: Option<(Inx32, Inx32)>,
 ) -> Option<LinkInsertKind<ToolPtr>>
-    ensures { result ≡ by_either (λ x. AtInterlink x.0 x.1) (λ x. AtInterlinkInx x.0 x.1) pointers
-        indexes }
+    ensures { result ≡ by_either (λ x. AtInterlink x.0 x.1) (λ x. AtInterlinkInx x.0 x.1)
+        pointers indexes }
 {
     match pointers {
         Some((next_to, prev_to)) => Some(LinkInsertKind::AtInterlink { next_to, prev_to }),

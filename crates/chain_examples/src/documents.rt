@@ -230,8 +230,8 @@ impl<P: PtrKey, T: Drop, A: ChainArenaTrait<P, T> + Drop> Documents<P, T, A> {
     /// The paragraphs before and after it become neighbors. The capacity stays the same. Returns
     /// `None` and changes nothing if `p` is not valid.
     pub fn remove(&mut self, p: P) -> Option<T>
-        ensures { RemovesItem A.state A.interlinks linear ⟦<P as AnyPointer>⟧.pointers self.old p result
-            self.new }
+        ensures { RemovesItem A.state A.interlinks linear ⟦<P as AnyPointer>⟧.pointers self.old
+            p result self.new }
     {
         self.paragraphs.agrees();
         self.paragraphs.remove(p).allow()

@@ -160,8 +160,8 @@ impl<P: PtrKey, T: Drop, A: ChainArenaTrait<P, T> + Drop> Mesh<P, T, A> {
     /// The other corners keep their order, and the capacity stays the same. Returns `None` and
     /// changes nothing if `corner` is not valid.
     pub fn remove(&mut self, corner: P) -> Option<T>
-        ensures { RemovesItem A.state A.interlinks cyclic ⟦<P as AnyPointer>⟧.pointers self.old corner
-            result self.new }
+        ensures { RemovesItem A.state A.interlinks cyclic ⟦<P as AnyPointer>⟧.pointers self.old
+            corner result self.new }
     {
         self.corners.agrees();
         self.corners.remove(corner).allow()

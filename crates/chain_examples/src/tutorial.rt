@@ -87,8 +87,8 @@ pub fn put_behind<P: PtrKey, T: Drop, A: ChainArenaTrait<P, T>>(
     p: P,
     t: T,
 ) -> Result<P, ChainInsertionError>
-    ensures outcome { InsertsLink A.state A.interlinks ⟦<P as AnyPointer>⟧.pointers arena.old (NextTo p)
-        t result arena.new }
+    ensures outcome { InsertsLink A.state A.interlinks ⟦<P as AnyPointer>⟧.pointers arena.old
+        (NextTo p) t result arena.new }
     ensures behind { IfOk result (λ q.
         AreNeighbors (A.interlinks arena.new) (P.key p).0 (P.key q).0) }
     ensures err { OnErr result (arena.new ≡ arena.old) }

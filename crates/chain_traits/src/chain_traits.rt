@@ -79,8 +79,8 @@ pub trait ChainArenaTrait<P: PtrKey, T: Drop>: ArenaTrait<P, T> {
     /// Returns whether a link of the given kind may be inserted: the requirement of the kind on the
     /// links beside it is met.
     fn can_insert(&self, kind: LinkInsertKind<P>) -> bool
-        ensures { IsTrue result ↔ MayInsertIn Self.state interlinks ⟦<P as AnyPointer>⟧.pointers
-            self.now kind };
+        ensures { IsTrue result ↔ MayInsertIn Self.state interlinks
+            ⟦<P as AnyPointer>⟧.pointers self.now kind };
 
     /// Inserts a link of the given kind within the capacity and returns its pointer.
     ///
@@ -101,8 +101,8 @@ pub trait ChainArenaTrait<P: PtrKey, T: Drop>: ArenaTrait<P, T> {
         kind: LinkInsertKind<P>,
         t: T,
     ) -> Result<P, ChainInsertionError>
-        ensures outcome { InsertsLinkWithin Self.state interlinks ⟦<P as AnyPointer>⟧.pointers self.old
-            kind t result self.new }
+        ensures outcome { InsertsLinkWithin Self.state interlinks ⟦<P as AnyPointer>⟧.pointers
+            self.old kind t result self.new }
         ensures err { OnErr result (self.new ≡ self.old) }
         ensures implementation { IfOk result (inserts self.old kind t self.new) };
 
@@ -127,8 +127,8 @@ pub trait ChainArenaTrait<P: PtrKey, T: Drop>: ArenaTrait<P, T> {
         kind: LinkInsertKind<P>,
         t: T,
     ) -> Result<P, ChainInsertionError>
-        ensures outcome { InsertsLink Self.state interlinks ⟦<P as AnyPointer>⟧.pointers self.old kind t
-            result self.new }
+        ensures outcome { InsertsLink Self.state interlinks ⟦<P as AnyPointer>⟧.pointers
+            self.old kind t result self.new }
         ensures err { OnErr result (self.new ≡ self.old) }
         ensures implementation { IfOk result (inserts self.old kind t self.new) };
 
@@ -147,8 +147,8 @@ pub trait ChainArenaTrait<P: PtrKey, T: Drop>: ArenaTrait<P, T> {
     /// Port of `ChainArenaTrait::insert`.
     fn insert(&mut self, kind: LinkInsertKind<P>, t: T) -> Result<P, ReallocationError>
         requires { MayInsertIn Self.state interlinks ⟦<P as AnyPointer>⟧.pointers self.old kind }
-        ensures outcome { InsertsAllowedLink Self.state interlinks ⟦<P as AnyPointer>⟧.pointers self.old
-            kind t result self.new }
+        ensures outcome { InsertsAllowedLink Self.state interlinks ⟦<P as AnyPointer>⟧.pointers
+            self.old kind t result self.new }
         ensures err { OnErr result (self.new ≡ self.old) }
         ensures implementation { IfOk result (inserts self.old kind t self.new) };
 
@@ -178,7 +178,8 @@ pub trait ChainArenaTrait<P: PtrKey, T: Drop>: ArenaTrait<P, T> {
     ///
     /// Port of `ChainArenaTrait::get_link_no_gen`.
     fn get_link_no_gen(&self, p: P) -> Option<&LinkNoGen<P, T>>
-        ensures { ReadsLinkNoGen Self.state interlinks ⟦<P as AnyPointer>⟧.pointers self.now p result };
+        ensures { ReadsLinkNoGen Self.state interlinks ⟦<P as AnyPointer>⟧.pointers self.now p
+            result };
 
     /// Returns the generation and the link at an index, or `None` if no link is there.
     ///
@@ -253,10 +254,11 @@ pub trait ChainArenaTrait<P: PtrKey, T: Drop>: ArenaTrait<P, T> {
     ///
     /// Port of `ChainArenaTrait::remove_link_no_gen`.
     fn remove_link_no_gen(&mut self, p: P) -> InvalidationResult<LinkNoGen<P, T>>
-        ensures outcome { RemovesLink Self.state interlinks ⟦<P as AnyPointer>⟧.pointers self.old p
-            result self.new }
+        ensures outcome { RemovesLink Self.state interlinks ⟦<P as AnyPointer>⟧.pointers self.old
+            p result self.new }
         ensures invalid { IfNone (value_within result) (self.new ≡ self.old) }
-        ensures implementation { OnSome (value_within result) (Self.removes self.old (P.key p).0 self.new) };
+        ensures implementation { OnSome (value_within result)
+            (Self.removes self.old (P.key p).0 self.new) };
 
     /// Removes the link at an index and returns the link's generation, and the link with the
     /// interlinks that it had, without their generations.
@@ -267,11 +269,11 @@ pub trait ChainArenaTrait<P: PtrKey, T: Drop>: ArenaTrait<P, T> {
     ///
     /// Port of `ChainArenaTrait::remove_inx_link_no_gen`.
     fn remove_inx_link_no_gen(&mut self, i: P::Inx) -> InvalidationResult<(P::Gen, LinkNoGen<P, T>)>
-        ensures outcome { RemovesLinkAt Self.state interlinks ⟦<P as AnyPointer>⟧.pointers self.old i
-            result self.new }
+        ensures outcome { RemovesLinkAt Self.state interlinks ⟦<P as AnyPointer>⟧.pointers
+            self.old i result self.new }
         ensures invalid { IfNone (value_within result) (self.new ≡ self.old) }
-        ensures implementation { OnSome (value_within result) (Self.removes self.old (P.Inx.number i)
-            self.new) };
+        ensures implementation { OnSome (value_within result)
+            (Self.removes self.old (P.Inx.number i) self.new) };
 
     /// Compacts the chains to the indexes from 1 on, each in one run of indexes in `next` order.
     ///
@@ -285,8 +287,8 @@ pub trait ChainArenaTrait<P: PtrKey, T: Drop>: ArenaTrait<P, T> {
     ///
     /// Port of `ChainArenaTrait::compress_canonical`.
     fn compress_canonical(&mut self, reset: bool) -> InvalidationOption<()>
-        ensures outcome { CompressesLinks Self.state interlinks ⟦<P as AnyPointer>⟧.pointers self.old
-            reset result self.new }
+        ensures outcome { CompressesLinks Self.state interlinks ⟦<P as AnyPointer>⟧.pointers
+            self.old reset result self.new }
         ensures implementation { compresses_canonically self.old self.new };
 
     // A call of an advancer along a chain takes the next step of its walk, in the arena of that
@@ -305,7 +307,8 @@ pub trait ChainArenaTrait<P: PtrKey, T: Drop>: ArenaTrait<P, T> {
     ghost write_keeps: { (a b : Self) (i : ℕ) (t : T) → Self.writes a i t b
         → interlinks b ≡ interlinks a };
 
-    ghost renewal_keeps: { (a b : Self) (i : ℕ) → Self.extra_on_invalidate a i b → interlinks b ≡ interlinks a };
+    ghost renewal_keeps: { (a b : Self) (i : ℕ) → Self.extra_on_invalidate a i b
+        → interlinks b ≡ interlinks a };
 
     ghost removal_removes: { (a b : Self) (i : ℕ) → Self.removes a i b
         → interlinks b ≡ with_removal (interlinks a) i };

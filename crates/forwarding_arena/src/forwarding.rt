@@ -206,7 +206,7 @@ impl<P: PtrKey, T: Drop, A: ChainArenaTrait<P, T>> ChainArenaTrait<P, T> for For
 
     ghost write_keeps = { λ v w i t writes. A.write_keeps v.inner w.inner i t writes };
 
-    ghost renewal_keeps = { λ v w i extra_on_invalidate. A.renewal_keeps v.inner w.inner i extra_on_invalidate };
+    ghost renewal_keeps = { λ v w i renewed. A.renewal_keeps v.inner w.inner i renewed };
 
     ghost removal_removes = { λ v w i removes. A.removal_removes v.inner w.inner i removes };
 
@@ -214,8 +214,8 @@ impl<P: PtrKey, T: Drop, A: ChainArenaTrait<P, T>> ChainArenaTrait<P, T> for For
         compresses };
 
     fn can_insert(&self, kind: LinkInsertKind<P>) -> bool
-        ensures { IsTrue result ↔ MayInsertIn A.state A.interlinks ⟦<P as AnyPointer>⟧.pointers
-            self.now.inner kind }
+        ensures { IsTrue result ↔ MayInsertIn A.state A.interlinks
+            ⟦<P as AnyPointer>⟧.pointers self.now.inner kind }
     {
         self.inner.can_insert(kind)
     }
@@ -247,7 +247,8 @@ impl<P: PtrKey, T: Drop, A: ChainArenaTrait<P, T>> ChainArenaTrait<P, T> for For
     }
 
     fn insert(&mut self, kind: LinkInsertKind<P>, t: T) -> Result<P, ReallocationError>
-        requires { MayInsertIn A.state A.interlinks ⟦<P as AnyPointer>⟧.pointers self.old.inner kind }
+        requires { MayInsertIn A.state A.interlinks ⟦<P as AnyPointer>⟧.pointers self.old.inner
+            kind }
         ensures outcome { InsertsAllowedLink (λ w. A.state w.inner) (λ w. A.interlinks w.inner)
             ⟦<P as AnyPointer>⟧.pointers self.old kind t result self.new }
         ensures err { OnErr result (self.new ≡ self.old) }

@@ -28,8 +28,8 @@ pub fn compress_canonical<P: PtrKey, T: Drop, A: ChainArenaTrait<P, T>>(
     arena: &mut A,
     reset: bool,
 ) -> InvalidationOption<()>
-    ensures { CompressesLinks A.state A.interlinks ⟦<P as AnyPointer>⟧.pointers arena.old reset result
-        arena.new }
+    ensures { CompressesLinks A.state A.interlinks ⟦<P as AnyPointer>⟧.pointers arena.old reset
+        result arena.new }
 {
     arena.compress_canonical(reset)
 }

@@ -1,8 +1,8 @@
 //! The language of the tests' tables: each line is a call and the text of its reply.
 //!
 //! A line is `CALL = REPLY`. A call is its name, for an insertion the kind, and numbers. A pointer
-//! is its index and its generation. The last number is a new link's value. A line `# ..` makes a new
-//! arena.
+//! is its index and its generation. The last number is a new link's value. A line `# ..` makes a
+//! new arena.
 
 use crate::numbered::{Numbered, at, index};
 use arena_ptr::PtrKey;
