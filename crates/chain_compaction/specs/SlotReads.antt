@@ -1,5 +1,5 @@
 -- Reads and other touches of slots.
-use Rattle.std.specs.Prelude.{◌≡◌, ℕ, Option}
+use Rattle.std.specs.Prelude.{◌≡◌, ℕ, ◌≤◌, Option, Some}
 use Rattle.std.specs.Option.{option_map}
 use Rattle.chain_laws.specs.Chains.{prev_of, next_of}
 use Rattle.arena_traits.specs.Arena.{slot_at}
@@ -38,4 +38,13 @@ HasReadLink number packed_number old new i was before after target = record {
   prev : option_map number before ≡ prev_of (link_map_in packed_number old.detached.slots) (number i);
   next : option_map number after ≡ next_of (link_map_in packed_number old.detached.slots) (number i);
   destination : option_map number target ≡ destination_at packed_number old.detached.slots (number i);
+}
+
+-- A compactor has read the link at `on`, if there is one and at most `left` reads: `next` is the
+-- index after it, or none.
+abbrev pub HasPrefetchedNext : {P S Inx Gen Word K T : Type 0} → (K → Option ℕ) → (old new : Compactor P (RawLink K T) S Inx Gen Word) → (on next : Option ℕ) → (left count : ℕ) → Type 0
+HasPrefetchedNext packed_number old new on next left count = record {
+  few : count ≤ left;
+  read : HasReadSlots old new count;
+  next : (k : ℕ) → next ≡ Some k → (j : ℕ) × (on ≡ Some j) × (next_of (link_map_in packed_number old.detached.slots) j ≡ Some k);
 }

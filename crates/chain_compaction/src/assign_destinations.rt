@@ -1,6 +1,6 @@
 // Numbering of chains by their least index, linear ones from their start, cyclic ones from their
 // least index.
-ghost use Rattle.std.specs.Prelude.{◌≡◌, ◌<◌, IsSome};
+ghost use Rattle.std.specs.Prelude.{◌≡◌, ◌<◌, ◌↔◌, ◌⊎◌, IsSome, Some, IsTrue};
 ghost use Rattle.std.specs.Option.{option_map};
 ghost use Rattle.chain_compaction.specs.DetachedLinks.{link_map_in, IsWork};
 ghost use Rattle.chain_compaction.specs.WorkCounts.{CountsWork};
@@ -15,11 +15,31 @@ use arena_ptr::{InxKey, PtrKey, SlotStack};
 use chain_links::walk_direction::step_on;
 use chain_links::{LinkNoGen, link_access};
 
+// Returns whether `on` is `k`.
+fn is_at<I: InxKey>(on: Option<I>, k: I) -> bool
+    ensures { IsTrue result ↔ (option_map I.number on ≡ Some (I.number k)) }
+{
+    match on {
+        Some(on) => on.is_same(k),
+        None => false,
+    }
+}
+
+// Returns whether `k` is `start`, `on` or `next`.
+fn is_one_of<I: InxKey>(k: I, start: I, on: Option<I>, next: Option<I>) -> bool
+    ensures { IsTrue result ↔ ((I.number k ≡ I.number start)
+        ⊎ ((option_map I.number on ≡ Some (I.number k))
+        ⊎ (option_map I.number next ≡ Some (I.number k)))) }
+{
+    k.is_same(start) || is_at(on, k) || is_at(next, k)
+}
+
 // Returns where the chain of `i` is numbered from: its start if linear, `i` if cyclic. The walk
 // back reads at most as many slots as the chain has links.
 //
 // With each step back, one link of the walk from `i` on is read, of at most `limit` in all: the two
-// walks wait for memory at the same time. Returns the number of these reads, too.
+// walks wait for memory at the same time. If they meet, the chain is cyclic, and about half of it
+// is not read. Returns the number of these reads, too.
 fn start_at<P: PtrKey, T: Drop, S: SlotStack<Item = LinkSlot<P, T>>>(
     compactor: &mut Compactor<'_, P, LinkNoGen<P, T>, S>,
     i: P::Inx,
@@ -34,18 +54,17 @@ fn start_at<P: PtrKey, T: Drop, S: SlotStack<Item = LinkSlot<P, T>>>(
     let mut on = Some(i);
     let mut reads = 0;
     for step in 0..compactor.slots() {
-        match read_link(compactor, at).prev {
-            Some(k) => {
-                if k.is_same(i) {
-                    return (i, reads);
-                }
-                at = k;
-            }
+        let k = match read_link(compactor, at).prev {
+            Some(k) => k,
             None => return (at, reads),
-        }
+        };
         let (next, count) = prefetch_next(compactor, on, limit - reads);
-        on = next;
         reads += count;
+        if is_one_of(k, i, on, next) {
+            return (i, reads);
+        }
+        at = k;
+        on = next;
     }
     proved_unreachable!()
 }

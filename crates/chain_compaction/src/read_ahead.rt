@@ -4,8 +4,9 @@
 // chains are walked in turn, so that these waits overlap, and their links are then in the cache.
 // Before a round of moves the slots of all destinations are read, for the same reason.
 ghost use Rattle.std.specs.Prelude.{◌≡◌, ◌≤◌, ◌<◌, ◌+◌, ◌*◌, ◌-◌, ℕ, length, slice_index};
+ghost use Rattle.std.specs.Option.{option_map};
 ghost use Rattle.chain_compaction.specs.LinkPasses.{HasPosition};
-ghost use Rattle.chain_compaction.specs.SlotReads.{HasReadSlot, HasReadSlots};
+ghost use Rattle.chain_compaction.specs.SlotReads.{HasReadSlot, HasReadSlots, HasPrefetchedNext};
 
 use crate::slot_access::{LinkSlot, read_link};
 use arena_base::{Compactor, SlotAccess, inx_at, number_of};
@@ -201,8 +202,8 @@ pub(crate) fn prefetch_next<P: PtrKey, T: Drop, S: SlotStack<Item = LinkSlot<P, 
     on: Option<P::Inx>,
     left: usize,
 ) -> (Option<P::Inx>, usize)
-    ensures count { result.1 ≤ left }
-    ensures read { HasReadSlots compactor.old compactor.new result.1 }
+    ensures { HasPrefetchedNext P.Inx.packed_number compactor.old compactor.new
+        (option_map P.Inx.number on) (option_map P.Inx.number result.0) left result.1 }
 {
     match on {
         Some(i) if left > 0 => (read_link(compactor, i).next, 1),

@@ -1,6 +1,6 @@
 -- The start of a chain, and the walk back to it.
 use Rattle.std.specs.Prelude.{◌≡◌, ◌≢◌, ℕ, ◌+◌, ◌≤◌, ◌<◌, is_some, Bool, if◌then◌else◌, List, ◌∷◌, ◌++◌, length, None, Some}
-use Rattle.chain_laws.specs.Chains.{LinkMap, Chain, linear, cyclic, IsMember, IsChain, HasLink, HasLinksWithin, IsInOrder, IsWellLinked, AreChains, first_or, prev_of}
+use Rattle.chain_laws.specs.Chains.{LinkMap, Chain, linear, cyclic, IsMember, IsChain, HasLink, HasLinksWithin, IsInOrder, IsWellLinked, AreChains, first_or, prev_of, next_of}
 
 -- A walker is here after this many steps back from i.
 pub record IsBack (link_map : LinkMap) (i steps here : ℕ) : Type 0 where
@@ -28,6 +28,21 @@ WalkBackEnds = (link_map : LinkMap) (i steps here : ℕ) → IsBack link_map i s
 
 abbrev pub WalkBackIsCyclic : Type 0
 WalkBackIsCyclic = (link_map : LinkMap) (i steps here : ℕ) → IsBack link_map i steps here → prev_of link_map here ≡ Some i → IsStart link_map i i
+
+-- In a linear chain, `on` is i or behind it.
+abbrev pub IsOnward : LinkMap → ℕ → ℕ → Type 0
+IsOnward link_map i on = (before after : List ℕ) → IsChain link_map (linear (before ++ i ∷ after)) → IsMember (i ∷ after) on
+
+-- A walk onward begins at its link, and continues to the next one.
+abbrev pub WalkOnBegins : Type 0
+WalkOnBegins = (link_map : LinkMap) (i : ℕ) → IsOnward link_map i i
+
+abbrev pub WalkOnContinues : Type 0
+WalkOnContinues = (link_map : LinkMap) (i on k : ℕ) → IsOnward link_map i on → next_of link_map on ≡ Some k → IsOnward link_map i k
+
+-- A walk back that meets a walk onward is in a cyclic chain.
+abbrev pub WalksMeet : Type 0
+WalksMeet = (link_map : LinkMap) (i steps here k : ℕ) → IsBack link_map i steps here → prev_of link_map here ≡ Some k → IsOnward link_map i k → IsStart link_map i i
 
 -- A walk back takes fewer steps than there are links.
 abbrev pub WalkBackIsShort : Type 0

@@ -1,6 +1,6 @@
 //! Laws of chains found by least index, and moved to runs in another arena.
 
-ghost use Rattle.chain_laws.specs.ChainStart.{WalkBackBegins, WalkBackContinues, WalkBackEnds, WalkBackIsCyclic, WalkBackIsShort, LeastIsNext};
+ghost use Rattle.chain_laws.specs.ChainStart.{WalkBackBegins, WalkBackContinues, WalkBackEnds, WalkBackIsCyclic, WalkBackIsShort, WalkOnBegins, WalkOnContinues, WalksMeet, LeastIsNext};
 ghost use Rattle.chain_laws.specs.Transfer.{FirstIsTaken, LastIsAppended};
 
 /// States that following `prev` finds the start of a linear chain, or returns to where it began.
@@ -12,6 +12,14 @@ pub fn walk_back_finds_the_start()
     ensures ends { WalkBackEnds }
     ensures is_cyclic { WalkBackIsCyclic }
     ensures is_short { WalkBackIsShort }
+{}
+
+/// States that a walk back by `prev` and a walk onward by `next` from one link meet only in a
+/// cyclic chain.
+pub fn walks_meet_in_a_cycle()
+    ensures begins { WalkOnBegins }
+    ensures continues { WalkOnContinues }
+    ensures meet { WalksMeet }
 {}
 
 /// States that the chain of the link with the least index is next in order.

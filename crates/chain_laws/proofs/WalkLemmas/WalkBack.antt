@@ -1,8 +1,8 @@
 -- The walk back from a link to the start of its chain, or once around a ring.
 use Rattle.std.proofs.Common.{◌≡◌, ◌≢◌, ℕ, suc, ◌+◌, ◌<◌, ◌≤◌, ◌⊎◌, inl, inr, List, [], ◌∷◌, ◌++◌, length, None, Some, refl, sym, ap, ◌∙◌, subst, length-append, append_assoc, append-nil, arith}
-use Rattle.chain_laws.specs.Chains.{LinkMap, Chain, linear, cyclic, items, IsMember, AreDistinct, IsChain, first_or, last_or, prev_in, prev_of}
+use Rattle.chain_laws.specs.Chains.{LinkMap, Chain, linear, cyclic, items, IsMember, AreDistinct, IsChain, first_or, last_or, prev_in, next_in, prev_of, next_of}
 use Rattle.chain_laws.specs.Neighbors.{IsChainOf}
-use Rattle.chain_laws.specs.ChainStart.{IsBack, WalkBackBegins, WalkBackContinues, WalkBackEnds, WalkBackIsCyclic, WalkBackIsShort}
+use Rattle.chain_laws.specs.ChainStart.{IsBack, WalkBackBegins, WalkBackContinues, WalkBackEnds, WalkBackIsCyclic, WalkBackIsShort, IsOnward, WalkOnBegins, WalkOnContinues, WalksMeet}
 use Rattle.chain_laws.proofs.ListLemmas.Members.{IsMember-left, IsMember-right, IsMember-parts, IsMember-written, AreDistinct-apart, last_or-append, last_apart}
 use Rattle.chain_laws.proofs.ChainLemmas.LinkedLists.{AreLinked-at}
 use Rattle.chain_laws.proofs.ChainLemmas.Uniqueness.{chain_valid, chain_once}
@@ -94,21 +94,51 @@ back_ends link_map i steps here back none = record { in_linear = from_start; in_
         let at = cyclic_at link_map i steps here back xs h in
         something_before at.before i (ending at.before) (sym (before_cyclic link_map i steps here back xs h) ∙ none)
 
--- If i is the previous link, the chain is not linear.
-is_before : (i here : ℕ) (before after : List ℕ) → IsEmptyOrEnds before → AreDistinct (before ++ here ∷ after) → IsMember (here ∷ after) i → last_or before None ≡ Some i → ⊥
-is_before i here _ after is_empty once has e = cc
-is_before i here _ after (ends_in ys y) once has e =
-    let l : last_or (ys ++ y ∷ []) None ≡ Some y = last_or-append ys (y ∷ []) None in
-    let same : y ≡ i = cc in
-    AreDistinct-apart (ys ++ y ∷ []) (here ∷ after) i once (IsMember-right ys (y ∷ []) i (inl same)) has
+pub on_begins : WalkOnBegins
+on_begins link_map i before after h = inl refl
 
-pub back_wraps_around : WalkBackIsCyclic
-back_wraps_around link_map i steps here back e = record { in_linear = λ xs h m. absurd (straight xs h m); in_cyclic = λ xs h. refl }
+-- The link after one of a list is in the list, too.
+next_onward : (link_map : LinkMap) (i on k : ℕ) (before after rest ahead : List ℕ) → IsChain link_map (linear (before ++ i ∷ after)) → i ∷ after ≡ rest ++ on ∷ ahead → next_of link_map on ≡ Some k → IsMember (i ∷ after) k
+next_onward link_map i on k before after rest ahead h parts e =
+    let all : before ++ i ∷ after ≡ (before ++ rest) ++ on ∷ ahead = ap (λ (ys : List ℕ). before ++ ys) parts ∙ sym (append_assoc before rest (on ∷ ahead)) in
+    let next = ap next_in (AreLinked-at link_map None (before ++ rest) ahead None on (subst (λ (ys : List ℕ). IsChain link_map (linear ys)) all h).2) in
+    subst (λ (ys : List ℕ). IsMember ys k) (sym parts) (IsMember-right rest (on ∷ ahead) k (inr (first_is_member ahead k (sym next ∙ e))))
+  where
+    first_is_member : (xs : List ℕ) (x : ℕ) → first_or xs None ≡ Some x → IsMember xs x
+    first_is_member [] x e = absurd (cc)
+    first_is_member (y ∷ xs) x e = inl (cc)
+
+pub on_continues : WalkOnContinues
+on_continues link_map i on k onward e before after h =
+    let w = IsMember-written (i ∷ after) on (onward before after h) in
+    next_onward link_map i on k before after w.0 w.1 h w.2 e
+
+-- The previous link of a walk back is not onward in a linear chain.
+is_before : (link_map : LinkMap) (i here k : ℕ) (before after : List ℕ) → IsEmptyOrEnds before → IsChain link_map (linear (before ++ here ∷ after)) → IsMember (here ∷ after) i → last_or before None ≡ Some k
+    → IsOnward link_map i k → ⊥
+is_before link_map i here k _ after is_empty h has e onward = cc
+is_before link_map i here k _ after (ends_in ys y) h has e onward =
+    let l : last_or (ys ++ y ∷ []) None ≡ Some y = last_or-append ys (y ∷ []) None in
+    let same : y ≡ k = cc in
+    let w = IsMember-written (here ∷ after) i has in
+    let all : (ys ++ y ∷ []) ++ here ∷ after ≡ ((ys ++ y ∷ []) ++ w.0) ++ i ∷ w.1 =
+    ap (λ (zs : List ℕ). (ys ++ y ∷ []) ++ zs) w.2 ∙ sym (append_assoc (ys ++ y ∷ []) w.0 (i ∷ w.1)) in
+    let chain = subst (λ (zs : List ℕ). IsChain link_map (linear zs)) all h in
+    AreDistinct-apart ((ys ++ y ∷ []) ++ w.0) (i ∷ w.1) k chain.1
+    (IsMember-left (ys ++ y ∷ []) w.0 k (IsMember-right ys (y ∷ []) k (inl same)))
+    (onward ((ys ++ y ∷ []) ++ w.0) w.1 chain)
+
+pub walks_meet : WalksMeet
+walks_meet link_map i steps here k back e onward = record { in_linear = λ xs h m. absurd (straight xs h m); in_cyclic = λ xs h. refl }
   where
     straight : (xs : List ℕ) → IsChain link_map (linear xs) → IsMember xs i → ⊥
     straight xs h m =
         let at = linear_at link_map i steps here back xs h m in
-        is_before i here at.before at.after (ending at.before) (subst AreDistinct at.parts h.1) at.has (sym (before_linear link_map i steps here back xs h m) ∙ e)
+        is_before link_map i here k at.before at.after (ending at.before) (subst (λ (ys : List ℕ). IsChain link_map (linear ys)) at.parts h) at.has
+        (sym (before_linear link_map i steps here back xs h m) ∙ e) onward
+
+pub back_wraps_around : WalkBackIsCyclic
+back_wraps_around link_map i steps here back e = walks_meet link_map i steps here i back e (on_begins link_map i)
 
 -- One step back in a linear chain.
 step_linear : (i steps here k : ℕ) (before after : List ℕ) → IsEmptyOrEnds before → last_or before None ≡ Some k → steps ≤ length after → IsMember (here ∷ after) i → (xs : List ℕ) → xs ≡ before ++ here ∷ after
