@@ -20,20 +20,23 @@ pub(crate) struct ReadAhead {
     pub(crate) position: usize,
     /// The number of reads that are allowed.
     pub(crate) credit: usize,
+    /// The greatest number of reads in one direction, beside 16 chains.
+    limit: usize,
 }
 
 impl ReadAhead {
     /// Allows as many reads as there are slots.
     ///
-    /// Fewer than 32,768 slots are never read ahead, since reading ahead costs more than it saves
+    /// Fewer than 8,192 slots are never read ahead, since reading ahead costs more than it saves
     /// there.
     pub(crate) fn new(slots: usize) -> ReadAhead
         ensures { result.credit ≤ slots }
     {
-        let position = if slots < 32_768 { slots } else { 0 };
+        let position = if slots < 8_192 { slots } else { 0 };
         ReadAhead {
             position,
             credit: slots,
+            limit: (slots / 8).min(8_000),
         }
     }
 }
@@ -178,19 +181,20 @@ pub(crate) fn read_ahead<P: PtrKey, T: Drop, S: SlotStack<Item = LinkSlot<P, T>>
     ensures fewer { result.credit ≤ ahead.credit }
     ensures read { HasReadSlots compactor.old compactor.new (ahead.credit - result.credit) }
 {
-    // At most 64 + 2 * 8,000 slots are read.
-    if k < ahead.position || ahead.credit < 16_064 {
+    // At most 64 + 2 * `limit` slots are read.
+    if k < ahead.position || ahead.credit / 2 < ahead.limit.saturating_add(32) {
         return ahead;
     }
     if !is_far::<P>(k, prev) && !is_far::<P>(k, next) {
         return ahead;
     }
     let (links, count, slots) = unnumbered_links(compactor, k);
-    let forward = read_along(compactor, links, count, true, 8_000);
-    let backward = read_along(compactor, links, count, false, 8_000);
+    let forward = read_along(compactor, links, count, true, ahead.limit);
+    let backward = read_along(compactor, links, count, false, ahead.limit);
     ReadAhead {
         position: k.saturating_add(slots),
         credit: ahead.credit - (slots + forward + backward),
+        limit: ahead.limit,
     }
 }
 

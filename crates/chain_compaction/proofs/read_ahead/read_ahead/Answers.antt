@@ -13,4 +13,4 @@ returns-clause-read g c =
     let credit = c.args.ahead.credit in
     reads_then old forward.new.compactor back.new.compactor (slots + forward.result) back.result (credit - (credit - (slots + forward.result + back.result)))
     (reads_then old found.new.compactor forward.new.compactor slots forward.result (slots + forward.result) found.ensures.read forward.ensures.read (omega arith))
-    back.ensures.read (omega (arith, found.ensures.few, forward.ensures.few, back.ensures.few, c.if-ahead-lt16064.false))
+    back.ensures.read (omega (arith, found.ensures.few, forward.ensures.few, back.ensures.few, c.if-ahead-saturating_add.false, c.saturating_add.ensures))
