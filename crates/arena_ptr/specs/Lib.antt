@@ -1,5 +1,7 @@
 pub mod Indexes
+pub mod ThreeBytes
 pub mod Generations
+pub mod SlimPtr
 pub mod ToolPtr
 pub mod LimitedStack
 pub mod CountedGenerations

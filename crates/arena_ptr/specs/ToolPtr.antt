@@ -1,7 +1,7 @@
 -- The key of a `ToolPtr`, its index number and generation, and its text.
-use Rattle.std.specs.Prelude.{◌≡◌, ℕ, ◌==◌, ◌&&◌, ◌↔◌, Bool, true, List, ◌++◌, codes}
-use Rattle.std.proofs.Common.{ap, rules}
-use Rattle.std.proofs.lemmas.Bool.{and_from}
+use Rattle.std.specs.Prelude.{◌≡◌, ℕ, ◌==◌, ◌&&◌, ◌↔◌, true, List, ◌++◌, codes}
+use Rattle.std.proofs.Common.{ap}
+use Rattle.std.proofs.lemmas.Bool.{and_from, and_parts}
 use Rattle.arena_ptr.specs.Indexes.{number_of_inx32, same_inx32, eq_is_same_inx32}
 use Rattle.arena_ptr.specs.Generations.{number_of_gen32, eq_is_same_gen32}
 use Rattle.arena_core.specs.PointerText.{hexadecimal, in_parentheses}
@@ -22,15 +22,9 @@ pub eq_is_same_tool_ptr : (p q : ToolPtr) → (((p.inx.number == q.inx.number) &
 eq_is_same_tool_ptr p q =
     let inx = eq_is_same_inx32 p.inx q.inx in
     let generation = eq_is_same_gen32 p.generation q.generation in (
-      λ t. same_parts p q (inx.0 (left_true _ _ t)) (generation.0 (right_true _ _ t)),
+      λ t. let both = and_parts _ _ t in same_parts p q (inx.0 both.0) (generation.0 both.1),
       λ e. and_from _ _ (inx.1 (ap (λ (r : ToolPtr). r.inx) e)) (generation.1 (ap (λ (r : ToolPtr). r.generation) e)),
     )
-  where
-    left_true : (a b : Bool) → (a && b) ≡ true → a ≡ true
-    left_true a b t = search rules
-
-    right_true : (a b : Bool) → (a && b) ≡ true → b ≡ true
-    right_true a b t = search rules
 
 -- The text, as in `P0[1](2)`.
 abbrev pub text_of : ToolPtr → List ℕ

@@ -7,6 +7,7 @@ mod chunk_stack;
 mod generation;
 mod index;
 mod limited_stack;
+mod slim_ptr;
 mod tool_ptr;
 
 pub use arena_core::{
@@ -16,7 +17,8 @@ pub use arena_core::{
     SlotStack,
 };
 pub use chunk_stack::ChunkStack;
-pub use generation::{Gen8, Gen32, Gen64};
+pub use generation::{Gen8, Gen16, Gen24, Gen32, Gen64};
 pub use index::{Inx8, Inx32, Inx64};
 pub use limited_stack::LimitedStack;
+pub use slim_ptr::SlimPtr;
 pub use tool_ptr::ToolPtr;

@@ -13,7 +13,7 @@ mod value_counts;
 ghost use Rattle.std.specs.Prelude.{◌≡◌};
 
 use arena_base::{ArenaSlot, ArenaTrait};
-use arena_ptr::{LimitStack, PtrKey, SetMaxCapacity, ToolPtr};
+use arena_ptr::{LimitStack, PtrKey, SetMaxCapacity, SlimPtr, ToolPtr};
 use chain_arena::{ChainArena, LinkNoGen};
 use std::alloc::Global;
 use std::process::Abort;
@@ -27,6 +27,20 @@ fn slot_size() -> usize
     ensures { result ≡ 24 }
 {
     size_of::<Slot<ToolPtr>>()
+}
+
+// A generation of 24 bits is beside the tag, in the same four bytes.
+fn slim_slot_size() -> usize
+    ensures { result ≡ 20 }
+{
+    size_of::<Slot<SlimPtr>>()
+}
+
+// The same with a value of eight bytes.
+fn slim_slot_size_of_wide_value() -> usize
+    ensures { result ≡ 24 }
+{
+    size_of::<ArenaSlot<SlimPtr, LinkNoGen<SlimPtr, u64>>>()
 }
 
 fn same(rt: &impl Abort, what: &str, got: &str, want: &str) {

@@ -4,5 +4,6 @@ mod link_text;
 mod links;
 mod pointer_text;
 mod results;
+mod slim_pointers;
 mod stacks;
 mod support;
