@@ -29,8 +29,17 @@ def crates_below(name):
     return {it: lines[it] for it in below}
 
 
-def make_workspace(workspace):
-    """Writes a workspace with chain_bench and copies of built crates of this repository. Returns the folder of chain_bench."""
+# The programs over our library, each with its name in tables, the bytes of a value, and the types of its pointers and values.
+OURS = {
+    "chain_bench": ("ours", 4, "ToolPtr", "u32"),
+    "chain_bench_slim": ("ours, slim", 4, "SlimPtr", "u32"),
+    "chain_bench_8": ("ours", 8, "ToolPtr", "u64"),
+    "chain_bench_slim_8": ("ours, slim", 8, "SlimPtr", "u64"),
+}
+
+
+def make_workspace(workspace, names):
+    """Writes a workspace with programs of OURS and copies of built crates of this repository."""
     below = crates_below("chain_arena")
     run = subprocess.run(["rt", "lib"], cwd=f"{ROOT}/crates/chain_arena", stdin=subprocess.DEVNULL, capture_output=True, text=True)
     if run.returncode:
@@ -40,7 +49,15 @@ def make_workspace(workspace):
             copy = f"{workspace}/crates/{crate}/{part}"
             shutil.rmtree(copy, ignore_errors=True)
             shutil.copytree(f"{ROOT}/crates/{crate}/{part}", copy)
-    folder = f"{workspace}/crates/chain_bench"
+    with open(f"{workspace}/crates.txt", "w", encoding="utf-8") as file:
+        file.write("\n".join([*below.values(), *(f"{name}: arena_base arena_ptr chain_arena" for name in names), ""]))
+    shutil.copyfile(f"{ROOT}/HANDLES", f"{workspace}/HANDLES")
+    for name in names:
+        write_program(f"{workspace}/crates/{name}", *OURS[name][2:])
+
+
+def write_program(folder, pointer, value):
+    """Writes the program of bench/ for a type of pointers and one of values."""
     shutil.rmtree(f"{folder}/src", ignore_errors=True)
     for part in ("src", "specs", "proofs"):
         os.makedirs(f"{folder}/{part}", exist_ok=True)
@@ -48,11 +65,10 @@ def make_workspace(workspace):
         open(f"{folder}/{part}/Lib.antt", "w", encoding="utf-8").close()
     for name in os.listdir(f"{ROOT}/bench"):
         if name.endswith(".rt.txt"):
-            shutil.copyfile(f"{ROOT}/bench/{name}", f"{folder}/src/{name[:-len('.txt')]}")
-    with open(f"{workspace}/crates.txt", "w", encoding="utf-8") as file:
-        file.write("\n".join([*below.values(), "chain_bench: arena_base arena_ptr chain_arena", ""]))
-    shutil.copyfile(f"{ROOT}/HANDLES", f"{workspace}/HANDLES")
-    return folder
+            with open(f"{ROOT}/bench/{name}", encoding="utf-8") as file:
+                text = file.read().replace("pub type Ptr = arena_ptr::ToolPtr;", f"pub type Ptr = arena_ptr::{pointer};")
+            with open(f"{folder}/src/{name[:-len('.txt')]}", "w", encoding="utf-8") as file:
+                file.write(text.replace("pub type Value = u32;", f"pub type Value = {value};"))
 
 
 def build_proved(folder, *arguments):
@@ -63,14 +79,21 @@ def build_proved(folder, *arguments):
     return f"{folder}/out/{os.path.basename(folder)}", run.stdout
 
 
-def our_side(options):
-    """Returns the side of chain_bench, after a check of the output of one run."""
+def our_sides(options):
+    """Returns the sides over our library, after a check of the output of one run of each."""
+    names = [name for name in OURS if OURS[name][1] == options.value_bytes]
+    if not options.bench:
+        make_workspace(options.workspace, names)
+    return [our_side(options, name) for name in names]
+
+
+def our_side(options, name):
     arguments, expected = CHECKED_RUN
-    program = os.path.abspath(options.bench) if options.bench else build_proved(make_workspace(options.workspace), *arguments)[0]
+    program = f"{os.path.abspath(options.bench)}/{name}" if options.bench else build_proved(f"{options.workspace}/crates/{name}", *arguments)[0]
     output = subprocess.run([program, *arguments], capture_output=True, text=True).stdout
     if output != expected:
-        sys.exit(f"chain_bench {' '.join(arguments)}: it wrote {output!r} instead of {expected!r}")
-    return Side("ours", [[program]])
+        sys.exit(f"{name} {' '.join(arguments)}: it wrote {output!r} instead of {expected!r}")
+    return Side(OURS[name][0], [[program]])
 
 
 def tool(options):
@@ -101,9 +124,12 @@ def rust_sides(options):
     if other is None:
         return [], [], [f"The crate triple_arena is not available ({error}): only our side is measured. --triple-arena FOLDER uses a copy."]
     programs = [[f"{it}/time"] for it in (folder, other)]
+    responses = [[f"{it}/responses"] for it in (folder, other)]
+    if options.value_bytes == 8:
+        return [Side("Rust", [[*command, "--long"] for command in programs])], responses, []
     sides = [Side("Rust", programs), Side("Rust, 24 bytes", [[*command, "--wide"] for command in programs])]
     slotmap, notes = slotmap_sides(cargo_options)
-    return sides + slotmap, [[f"{it}/responses"] for it in (folder, other)], notes
+    return sides + slotmap, responses, notes
 
 
 def slotmap_sides(cargo_options):

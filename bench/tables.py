@@ -17,7 +17,9 @@ CASES = {
     "advance": "the same, by `advancer_chain`",
     "iterate": "one link of an iteration by index, by `iter_link_no_gen`",
     "drain_chains": "one link of drains of one chain after another",
+    "drain_interleaved": "the same, of chains that grew in turn",
     "drain": "one link of a drain of all links",
+    "drain_tangled": "the same, with chains at random indexes",
     "copy": "one link of a clone",
     "compress": "one link of a compression, with a hole after each link",
     "canonical_tangled": "one link of a canonical compression, with chains at random indexes",
@@ -25,7 +27,11 @@ CASES = {
     "canonical_holes": "the same, with chains in order and a hole after each link",
     "canonical_rested": "the same, with chains in order",
     "canonical_behind": "the same, with chains in order after as many holes as links",
+    "canonical_permuted": "the same, with the cycles of a random permutation",
+    "canonical_permuted_holes": "the same, with half of the links removed at random",
+    "canonical_permuted_behind": "the cycles of a random permutation after as many holes as links",
     "transfer": "one link of a transfer to another arena",
+    "transfer_permuted": "the same, with the cycles of a random permutation",
 }
 
 
@@ -47,9 +53,21 @@ def ratio(one, other):
     return f"{one / other:.2f}" if one > 0.1 * other else f"{one / other:.1g}"
 
 
+def ratio_columns(sides):
+    """Returns the columns of ratios, each its header and the positions of its two sides: of ours to each other one, and of slim to the Rust."""
+    names = [side.name for side in sides]
+    columns = [(f"ours / {name}", 0, k) for k, name in enumerate(names) if not name.startswith("ours")]
+    if "ours, slim" in names and "Rust" in names:
+        columns.append(("slim / Rust", names.index("ours, slim"), names.index("Rust")))
+    return columns
+
+
 def ratio_headers(sides):
-    """Returns the header of a ratio for each side but ours."""
-    return [f"ours / {side.name}" for side in sides[1:]]
+    return [header for header, _, _ in ratio_columns(sides)]
+
+
+def ratios(sides, numbers):
+    return [ratio(numbers[one], numbers[other]) for _, one, other in ratio_columns(sides)]
 
 
 def print_operations(options):
@@ -63,7 +81,7 @@ def print_instructions(options, sides):
     for case in selection(options, CASES):
         numbers = [instructions_or_none(side, case, options) for side in sides]
         cells = ["" if number is None else f"{number:.1f}" for number in numbers]
-        rows.append([f"`{case}`", *cells, *(ratio(numbers[0], other) for other in numbers[1:])])
+        rows.append([f"`{case}`", *cells, *ratios(sides, numbers)])
     if rows:
         print(f"Instructions of an operation, {options.links[0]:,} links:\n")
         table(["case", *(side.name for side in sides), *ratio_headers(sides)], rows)
@@ -83,7 +101,7 @@ def print_times(options, sides, links):
         times = Times(case, links, options.chain).measure(sides, options.runs, options.seconds)
         bests = [times.best(side.name) for side in sides]
         cells = [cell_of(times, side.name) for side in sides]
-        rows.append([f"`{case}`", *cells, *(ratio(bests[0], other) for other in bests[1:])])
+        rows.append([f"`{case}`", *cells, *ratios(sides, bests)])
         print(f"{links:,} links, {case}: {', '.join(cells)}", file=sys.stderr, flush=True)
     if rows:
         print(f"Nanoseconds of an operation, {links:,} links, best of {options.runs} runs (median):\n")

@@ -38,6 +38,10 @@ impl Links for Chains {
         Chains::connect(self, p, q);
     }
 
+    fn exchange_next(&mut self, p: DefaultKey, q: DefaultKey) {
+        Chains::exchange_next(self, p, q);
+    }
+
     fn next_of(&self, p: DefaultKey) -> Option<DefaultKey> {
         self.map.get(p)?.next
     }
@@ -57,14 +61,17 @@ impl Links for Chains {
             Case::GetLink => get_link(self, &task.picks),
             Case::Walk => walk(self, &task.starts),
             Case::Iterate => iterate(self),
-            Case::DrainChains => drain_chains(self, &task.starts),
-            Case::Drain => drain(self),
+            Case::DrainChains | Case::DrainInterleaved => drain_chains(self, &task.starts),
+            Case::Drain | Case::DrainTangled => drain(self),
             Case::Copy => copy(self),
-            Case::CanonicalTangled | Case::CanonicalInterleaved | Case::CanonicalRested => {
-                canonical(self, 0)
+            Case::CanonicalTangled
+            | Case::CanonicalInterleaved
+            | Case::CanonicalRested => canonical(self, 0),
+            Case::CanonicalHoles | Case::CanonicalBehind | Case::CanonicalPermutedBehind => {
+                canonical(self, task.plan.links)
             }
-            Case::CanonicalHoles | Case::CanonicalBehind => canonical(self, task.plan.links),
-            Case::Transfer => transfer(self),
+            Case::CanonicalPermuted | Case::CanonicalPermutedHoles => canonical_cycles(self),
+            Case::Transfer | Case::TransferPermuted => transfer(self),
             Case::Advance | Case::Compress => return None,
         })
     }
@@ -211,6 +218,17 @@ fn copy(chains: &Chains) -> Checksum {
 fn canonical(chains: &mut Chains, holes: u32) -> Checksum {
     *chains = chains.transfer();
     probe(chains, FIRST_GENERATION + u64::from(holes) + 1)
+}
+
+/// Records only the number of links, as the other arenas do.
+#[inline(never)]
+fn canonical_cycles(chains: &mut Chains) -> Checksum {
+    *chains = chains.transfer();
+    let links = chains.map.len() as u64;
+    Checksum {
+        operations: links,
+        sum: links,
+    }
 }
 
 /// Transfers all links to a new map, which is then dropped.

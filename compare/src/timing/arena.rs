@@ -28,6 +28,16 @@ impl Value for u32 {
     }
 }
 
+impl Value for u64 {
+    fn of(number: u32) -> Self {
+        u64::from(number)
+    }
+
+    fn number(self) -> u32 {
+        self as u32
+    }
+}
+
 /// A number in 12 bytes, with which a slot of the crate has 24 bytes.
 #[derive(Clone, Copy)]
 pub struct Wide([u32; 3]);
@@ -78,6 +88,10 @@ impl<T: Value> Links for Chains<T> {
         ChainArenaTrait::connect(self, p, q).expect("two ends");
     }
 
+    fn exchange_next(&mut self, p: P0, q: P0) {
+        ChainArenaTrait::exchange_next(self, p, q).expect("two links");
+    }
+
     fn next_of(&self, p: P0) -> Option<P0> {
         self.get_link(p)?.next()
     }
@@ -98,16 +112,18 @@ impl<T: Value> Links for Chains<T> {
             Case::Walk => walk(self, &task.starts),
             Case::Advance => advance(self, &task.starts),
             Case::Iterate => iterate(self),
-            Case::DrainChains => drain_chains(self, &task.starts),
-            Case::Drain => drain(self),
+            Case::DrainChains | Case::DrainInterleaved => drain_chains(self, &task.starts),
+            Case::Drain | Case::DrainTangled => drain(self),
             Case::Copy => copy(self),
             Case::Compress => compress(self),
             Case::CanonicalTangled
             | Case::CanonicalInterleaved
             | Case::CanonicalHoles
             | Case::CanonicalRested
-            | Case::CanonicalBehind => canonical(self),
-            Case::Transfer => transfer(self),
+            | Case::CanonicalBehind
+            | Case::CanonicalPermutedBehind => canonical(self),
+            Case::CanonicalPermuted | Case::CanonicalPermutedHoles => canonical_cycles(self),
+            Case::Transfer | Case::TransferPermuted => transfer(self),
         })
     }
 }
@@ -160,7 +176,9 @@ fn insert_beside<T: Value>(arena: &mut Chains<T>, picks: &[(P0, P0)]) -> Checksu
 fn exchange<T: Value>(arena: &mut Chains<T>, picks: &[(P0, P0)]) -> Checksum {
     let mut checksum = Checksum::default();
     for (p, q) in picks {
-        checksum.add_operation(number_of_success(arena.exchange_next(*p, *q)));
+        checksum.add_operation(number_of_success(ChainArenaTrait::exchange_next(
+            arena, *p, *q,
+        )));
     }
     checksum
 }
@@ -270,6 +288,17 @@ fn compress<T: Value>(arena: &mut Chains<T>) -> Checksum {
 fn canonical<T: Value>(arena: &mut Chains<T>) -> Checksum {
     arena.compress_canonical(false).allow();
     probe(arena)
+}
+
+/// Records only the number of links, since a cycle may begin at another link here.
+#[inline(never)]
+fn canonical_cycles<T: Value>(arena: &mut Chains<T>) -> Checksum {
+    arena.compress_canonical(false).allow();
+    let links = arena.len() as u64;
+    Checksum {
+        operations: links,
+        sum: links,
+    }
 }
 
 /// Transfers all links to a new arena, which is then dropped.

@@ -19,6 +19,12 @@ pub enum Shape {
     HalfHoles,
     /// Chains one after another, after as many holes.
     BehindHoles,
+    /// The cycles of a random permutation.
+    Permuted,
+    /// The same among twice as many links, half of which are then removed at random.
+    PermutedHoles,
+    /// The cycles of a random permutation, after as many holes.
+    PermutedBehind,
 }
 
 /// The pairs of links that a case uses.
@@ -48,7 +54,9 @@ pub enum Case {
     Advance,
     Iterate,
     DrainChains,
+    DrainInterleaved,
     Drain,
+    DrainTangled,
     Copy,
     Compress,
     CanonicalTangled,
@@ -56,11 +64,15 @@ pub enum Case {
     CanonicalHoles,
     CanonicalRested,
     CanonicalBehind,
+    CanonicalPermuted,
+    CanonicalPermutedHoles,
+    CanonicalPermutedBehind,
     Transfer,
+    TransferPermuted,
 }
 
 /// Each case with its name, the arena that it begins with, and the pairs that it uses.
-const CASES: [(Case, &str, Shape, Picks); 20] = [
+const CASES: [(Case, &str, Shape, Picks); 26] = [
     (Case::Insert, "insert", Shape::Empty, Picks::Nothing),
     (Case::InsertEnd, "insert_end", Shape::Starts, Picks::Nothing),
     (
@@ -87,7 +99,19 @@ const CASES: [(Case, &str, Shape, Picks); 20] = [
         Shape::Chains,
         Picks::Nothing,
     ),
+    (
+        Case::DrainInterleaved,
+        "drain_interleaved",
+        Shape::Interleaved,
+        Picks::Nothing,
+    ),
     (Case::Drain, "drain", Shape::Chains, Picks::Nothing),
+    (
+        Case::DrainTangled,
+        "drain_tangled",
+        Shape::Tangled,
+        Picks::Nothing,
+    ),
     (Case::Copy, "copy", Shape::Chains, Picks::Nothing),
     (Case::Compress, "compress", Shape::HalfHoles, Picks::Nothing),
     (
@@ -120,7 +144,31 @@ const CASES: [(Case, &str, Shape, Picks); 20] = [
         Shape::BehindHoles,
         Picks::Nothing,
     ),
+    (
+        Case::CanonicalPermuted,
+        "canonical_permuted",
+        Shape::Permuted,
+        Picks::Nothing,
+    ),
+    (
+        Case::CanonicalPermutedHoles,
+        "canonical_permuted_holes",
+        Shape::PermutedHoles,
+        Picks::Nothing,
+    ),
+    (
+        Case::CanonicalPermutedBehind,
+        "canonical_permuted_behind",
+        Shape::PermutedBehind,
+        Picks::Nothing,
+    ),
     (Case::Transfer, "transfer", Shape::Chains, Picks::Nothing),
+    (
+        Case::TransferPermuted,
+        "transfer_permuted",
+        Shape::Permuted,
+        Picks::Nothing,
+    ),
 ];
 
 impl Case {

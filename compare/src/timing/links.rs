@@ -44,6 +44,9 @@ pub trait Links: Sized {
     /// Connects the end of a chain to the start of another.
     fn connect(&mut self, p: Self::Ptr, q: Self::Ptr);
 
+    /// Exchanges the next links of two links.
+    fn exchange_next(&mut self, p: Self::Ptr, q: Self::Ptr);
+
     /// Returns the next link.
     fn next_of(&self, p: Self::Ptr) -> Option<Self::Ptr>;
 

@@ -34,6 +34,9 @@ impl<L: Links> ShapedArena<L> {
             Shape::Interleaved => self.add_interleaved(plan),
             Shape::HalfHoles => self.add_half_holes(plan),
             Shape::BehindHoles => self.add_behind_holes(plan),
+            Shape::Permuted => self.add_permuted(plan.chains(), plan.chain, numbers),
+            Shape::PermutedHoles => self.add_permuted_holes(plan, numbers),
+            Shape::PermutedBehind => self.add_permuted_behind(plan, numbers),
         }
     }
 
@@ -69,6 +72,33 @@ impl<L: Links> ShapedArena<L> {
     fn add_behind_holes(&mut self, plan: Plan) {
         self.add(plan.links, 1, false);
         self.add(plan.chains(), plan.chain, false);
+        self.make_holes(0, 1, plan.links);
+    }
+
+    /// Adds the cycles of a random permutation: cyclic chains, after as many exchanges of two random links' next ones as there are
+    /// links.
+    fn add_permuted(&mut self, chains: u32, chain: u32, numbers: &mut Numbers) {
+        let first = self.links.len();
+        self.add(chains, chain, true);
+        let links = &self.links[first..];
+        for _ in links {
+            if let (Some(p), Some(q)) = (numbers.pick(links), numbers.pick(links)) {
+                self.arena.exchange_next(p, q);
+            }
+        }
+    }
+
+    /// Adds the cycles of a random permutation of twice as many links, and removes half of them at random.
+    fn add_permuted_holes(&mut self, plan: Plan, numbers: &mut Numbers) {
+        self.add_permuted(plan.chains(), 2 * plan.chain, numbers);
+        numbers.shuffle(&mut self.links);
+        self.make_holes(0, 1, plan.links);
+    }
+
+    /// Adds the cycles of a random permutation after as many holes.
+    fn add_permuted_behind(&mut self, plan: Plan, numbers: &mut Numbers) {
+        self.add(plan.links, 1, false);
+        self.add_permuted(plan.chains(), plan.chain, numbers);
         self.make_holes(0, 1, plan.links);
     }
 
