@@ -126,7 +126,7 @@ def rust_sides(options):
     programs = [[f"{it}/time"] for it in (folder, other)]
     responses = [[f"{it}/responses"] for it in (folder, other)]
     if options.value_bytes == 8:
-        return [Side("Rust", [[*command, "--long"] for command in programs])], responses, []
+        return [Side("Rust", [[f"{it}/time_long"] for it in (folder, other)])], responses, []
     sides = [Side("Rust", programs), Side("Rust, 24 bytes", [[*command, "--wide"] for command in programs])]
     slotmap, notes = slotmap_sides(cargo_options)
     return sides + slotmap, responses, notes

@@ -9,6 +9,7 @@ CASES = {
     "insert": "insertion of a lone link, starting from an empty arena",
     "insert_end": "insertion at the end of a chain",
     "insert_beside": "insertion after a random link",
+    "insert_beside_roomy": "the same, with capacity for all links",
     "exchange": "exchange of the next links of two random links",
     "break_connect": "break after a random link, then reconnection",
     "replace": "removal of a random link, then insertion after another",

@@ -21,6 +21,10 @@ impl Links for Chains {
         self.clone()
     }
 
+    fn reserve(&mut self, n: usize) {
+        self.map.reserve(n - self.map.len());
+    }
+
     fn insert(&mut self, position: Position<DefaultKey>, t: u32) -> DefaultKey {
         match position {
             Position::Alone => self.insert_alone(t),
@@ -54,7 +58,7 @@ impl Links for Chains {
         Some(match task.case {
             Case::Insert => insert(self, task.plan.links),
             Case::InsertEnd => insert_end(self, &task.starts, task.plan.chain),
-            Case::InsertBeside => insert_beside(self, &task.picks),
+            Case::InsertBeside | Case::InsertBesideRoomy => insert_beside(self, &task.picks),
             Case::Exchange => exchange(self, &task.picks),
             Case::BreakConnect => break_connect(self, &task.picks),
             Case::Replace => replace(self, &task.picks),

@@ -1,7 +1,7 @@
 //! Times a case over the crate `triple_arena`.
 //!
 //! The arguments are those of the program of `bench/`, `CASE LINKS CHAIN ROUNDS PART`. With `--wide` before them, each link has a
-//! value of 12 bytes instead of 4, so a slot has 24 bytes instead of 16; with `--long`, one of 8 bytes.
+//! value of 12 bytes instead of 4, so a slot has 24 bytes instead of 16.
 
 use compare::timing::arena::Wide;
 use compare::timing::rounds::run;
@@ -12,7 +12,6 @@ fn main() -> ExitCode {
     let words: Vec<String> = std::env::args().skip(1).collect();
     match words.split_first() {
         Some((first, rest)) if first == "--wide" => run::<ChainArena<_, Wide>>(rest),
-        Some((first, rest)) if first == "--long" => run::<ChainArena<_, u64>>(rest),
         _ => run::<ChainArena<_, u32>>(&words),
     }
 }

@@ -70,6 +70,10 @@ impl<T: Value> Links for Chains<T> {
         self.clone()
     }
 
+    fn reserve(&mut self, n: usize) {
+        self.reallocate_min_capacity(n).expect("memory");
+    }
+
     fn insert(&mut self, position: Position<P0>, t: u32) -> P0 {
         let kind = match position {
             Position::Alone => LinkInsertKind::Disconnected,
@@ -104,7 +108,7 @@ impl<T: Value> Links for Chains<T> {
         Some(match task.case {
             Case::Insert => insert(self, task.plan.links),
             Case::InsertEnd => insert_end(self, &task.starts, task.plan.chain),
-            Case::InsertBeside => insert_beside(self, &task.picks),
+            Case::InsertBeside | Case::InsertBesideRoomy => insert_beside(self, &task.picks),
             Case::Exchange => exchange(self, &task.picks),
             Case::BreakConnect => break_connect(self, &task.picks),
             Case::Replace => replace(self, &task.picks),

@@ -9,6 +9,8 @@ pub enum Shape {
     Starts,
     /// Linear chains, one after another.
     Chains,
+    /// The same, with capacity for as many links again.
+    Roomy,
     /// Cyclic chains, one after another.
     Cycles,
     /// Chains whose links are at random indexes.
@@ -46,6 +48,7 @@ pub enum Case {
     Insert,
     InsertEnd,
     InsertBeside,
+    InsertBesideRoomy,
     Exchange,
     BreakConnect,
     Replace,
@@ -72,13 +75,19 @@ pub enum Case {
 }
 
 /// Each case with its name, the arena that it begins with, and the pairs that it uses.
-const CASES: [(Case, &str, Shape, Picks); 26] = [
+const CASES: [(Case, &str, Shape, Picks); 27] = [
     (Case::Insert, "insert", Shape::Empty, Picks::Nothing),
     (Case::InsertEnd, "insert_end", Shape::Starts, Picks::Nothing),
     (
         Case::InsertBeside,
         "insert_beside",
         Shape::Chains,
+        Picks::Random,
+    ),
+    (
+        Case::InsertBesideRoomy,
+        "insert_beside_roomy",
+        Shape::Roomy,
         Picks::Random,
     ),
     (Case::Exchange, "exchange", Shape::Cycles, Picks::Random),

@@ -35,6 +35,9 @@ pub trait Links: Sized {
     /// Returns a copy.
     fn copy(&self) -> Self;
 
+    /// Gives the arena capacity for `n` links.
+    fn reserve(&mut self, n: usize);
+
     /// Inserts a link.
     fn insert(&mut self, position: Position<Self::Ptr>, t: u32) -> Self::Ptr;
 

@@ -1,7 +1,7 @@
 //! Runs and times the rounds of a case.
 
 use super::arguments::{Arguments, Part, Plan};
-use super::cases::Case;
+use super::cases::{Case, Shape};
 use super::checksum::Checksum;
 use super::links::{Links, Position, Task};
 use super::numbers::Numbers;
@@ -60,6 +60,11 @@ fn fixture_of<L: Links>(case: Case, plan: Plan) -> (Task<L::Ptr>, Vec<L>) {
     };
     let mut arenas: Vec<L> = (1..count).map(|_| arena.copy()).collect();
     arenas.push(arena);
+    if matches!(case.shape(), Shape::Roomy) {
+        arenas
+            .iter_mut()
+            .for_each(|arena| arena.reserve(2 * plan.links as usize));
+    }
     let task = Task {
         case,
         plan,

@@ -28,7 +28,7 @@ impl<L: Links> ShapedArena<L> {
         match shape {
             Shape::Empty => (),
             Shape::Starts => self.add(plan.chains(), 1, false),
-            Shape::Chains => self.add(plan.chains(), plan.chain, false),
+            Shape::Chains | Shape::Roomy => self.add(plan.chains(), plan.chain, false),
             Shape::Cycles => self.add(plan.chains(), plan.chain, true),
             Shape::Tangled => self.add_tangled(plan, numbers),
             Shape::Interleaved => self.add_interleaved(plan),
