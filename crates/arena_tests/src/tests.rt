@@ -36,11 +36,11 @@ fn slim_slot_size() -> usize
     size_of::<Slot<SlimPtr>>()
 }
 
-// The same with a value of eight bytes.
-fn slim_slot_size_of_wide_value() -> usize
+// The same with a value of eight bytes that is aligned to four.
+fn slim_slot_size_of_two_numbers() -> usize
     ensures { result ≡ 24 }
 {
-    size_of::<ArenaSlot<SlimPtr, LinkNoGen<SlimPtr, u64>>>()
+    size_of::<ArenaSlot<SlimPtr, LinkNoGen<SlimPtr, [u32; 2]>>>()
 }
 
 fn same(rt: &impl Abort, what: &str, got: &str, want: &str) {
