@@ -10,3 +10,4 @@ pub mod InsertionLemmas
 pub mod ExchangeLemmas
 pub mod WorkedExamples
 pub mod RenamingLemmas
+pub mod ReversalLemmas

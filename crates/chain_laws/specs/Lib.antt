@@ -5,6 +5,7 @@ pub mod Insertions
 pub mod Neighbors
 pub mod Joins
 pub mod Removals
+pub mod Reversals
 pub mod Walks
 pub mod Renamings
 pub mod Arrangements

@@ -14,5 +14,6 @@ pub mod membership;
 pub mod partition;
 pub mod removal;
 pub mod renaming;
+pub mod reversal;
 pub mod transfer;
 pub mod walks;

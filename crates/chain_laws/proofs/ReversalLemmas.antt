@@ -1,0 +1,3 @@
+-- Lemmas on reversals of a chain.
+pub mod Turns
+pub mod Chains
