@@ -11,3 +11,4 @@ pub mod ExchangeLemmas
 pub mod WorkedExamples
 pub mod RenamingLemmas
 pub mod ReversalLemmas
+pub mod MoveAfterLemmas

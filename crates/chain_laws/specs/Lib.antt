@@ -13,4 +13,5 @@ pub mod Moves
 pub mod ChainStart
 pub mod Transfer
 pub mod Members
+pub mod MoveAfter
 pub mod Frame

@@ -11,6 +11,7 @@ pub mod insert_kind;
 pub mod insertion;
 pub mod join;
 pub mod membership;
+pub mod move_after;
 pub mod partition;
 pub mod removal;
 pub mod renaming;
