@@ -12,3 +12,4 @@ pub mod WorkedExamples
 pub mod RenamingLemmas
 pub mod ReversalLemmas
 pub mod MoveAfterLemmas
+pub mod MoveAfterWriteLemmas

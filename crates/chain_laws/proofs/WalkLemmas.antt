@@ -1,5 +1,6 @@
 -- Lemmas on walks along a chain.
 pub mod Walker
+pub mod Ahead
 pub mod Steps
 pub mod Members
 pub mod Drains

@@ -8,3 +8,5 @@ pub mod LinkInsertionLemmas
 pub mod LinkWriteLemmas
 pub mod UnlinkLemmas
 pub mod WalkerLemmas
+pub mod ReversalLemmas
+pub mod MoveLinkLemmas

@@ -15,7 +15,7 @@ use Rattle.chain_links.specs.ChainArena.{on_value, link_value, values_of, LinkVi
 use Rattle.chain_links.proofs.MappedArenaLemmas.{is_some-map, entry_at-with_each, length-with_each}
 use Rattle.chain_links.proofs.LinkStateLemmas.{is_relinked, entry_at-with_link_map, entry_at-with_value, entry_at-links_view, length-with_value, length-links_view, length-with_link_map}
 
-is_some-if : (b : Bool) (change : Interlinks → Interlinks) (l : Option Interlinks) → is_some (if b then option_map change l else l) ≡ is_some l
+pub is_some-if : (b : Bool) (change : Interlinks → Interlinks) (l : Option Interlinks) → is_some (if b then option_map change l else l) ≡ is_some l
 is_some-if true change l = is_some-map change l
 is_some-if false change l = refl
 

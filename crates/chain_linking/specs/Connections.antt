@@ -1,12 +1,13 @@
--- Connections of an end of a chain with a start.
+-- Connections of an end of a chain with a start, and moves of a link.
 use Rattle.std.specs.Prelude.{◌≡◌, ◌↔◌, ℕ, IsSome, IfNone, OnSome, Option, Some}
 use Rattle.std.specs.Option.{option_map}
 use Rattle.arena_traits.specs.Arena.{Arena, IsValid}
 use Rattle.chain_laws.specs.Chains.{prev_of, next_of}
+use Rattle.chain_laws.specs.MoveAfter.{with_move_after}
 use Rattle.chain_links.specs.declared.links.RawLink.{RawLink}
-use Rattle.chain_links.specs.ChainArena.{link_map, entry, CanConnect}
+use Rattle.chain_links.specs.ChainArena.{link_map, with_link_map, entry, CanConnect}
 use Rattle.chain_links.specs.Links.{links_view, StayAtRest}
-use Rattle.chain_linking.specs.LinkWrites.{arena_with_pair}
+use Rattle.chain_linking.specs.LinkWrites.{arena_with_pair, LinksBecome}
 
 module _ {Gen K T : Type 0} (packed : K → Option ℕ) where
   -- The index after the link of p, or `None` if either is missing.
@@ -22,6 +23,17 @@ module _ {Gen K T : Type 0} (packed : K → Option ℕ) where
     neighbor : IsValid (entry (links_view packed now)) p → option_map number result ≡ prev_of (link_map (links_view packed now)) p.0;
     some : IsSome result → IsValid (entry (links_view packed now)) p;
   }
+
+  -- The interlinks of the link at i.
+  abbrev pub ReadsBeside : {I : Type 0} → (I → ℕ) → ℕ → Arena Gen (RawLink K T) → Option I × Option I → Type 0
+  ReadsBeside number i now result = record {
+    prev : option_map number result.0 ≡ prev_of (link_map (links_view packed now)) i;
+    next : option_map number result.1 ≡ next_of (link_map (links_view packed now)) i;
+  }
+
+  -- The link at i comes after the link at j.
+  abbrev pub MovesLink : (i j : ℕ) → (old new : Arena Gen (RawLink K T)) → Type 0
+  MovesLink i j old new = LinksBecome packed (with_link_map (links_view packed old) (with_move_after (link_map (links_view packed old)) i j)) old new
 
   -- The link of q comes after the link of p. If they cannot be connected, nothing changes.
   abbrev pub JoinsLinks : (p q : ℕ × Gen) → Arena Gen (RawLink K T) → Option Unit → Arena Gen (RawLink K T) → Type 0

@@ -1,3 +1,4 @@
+pub mod ChainReversals
 pub mod LinkWrites
 pub mod Connections
 pub mod Destinations

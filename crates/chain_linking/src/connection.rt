@@ -1,11 +1,12 @@
-// Reads what is beside a link of a plain arena, and connects two links.
-ghost use Rattle.std.specs.Prelude.{◌↔◌, IsTrue};
+// Reads what is beside a link of a plain arena, connects two links, and moves one.
+ghost use Rattle.std.specs.Prelude.{◌≢◌, ◌↔◌, IsTrue};
+ghost use Rattle.chain_laws.specs.Chains.{IsWellLinked, HasLink};
 ghost use Rattle.chain_links.specs.ChainArena.{link_map, entry, CanConnect};
 ghost use Rattle.chain_links.specs.Links.{links_view};
-ghost use Rattle.chain_linking.specs.Connections.{IsNextOf, IsPrevOf, JoinsLinks};
+ghost use Rattle.chain_linking.specs.Connections.{IsNextOf, IsPrevOf, ReadsBeside, JoinsLinks, MovesLink};
 
-use crate::link_writes::link_pair;
-use arena_base::{Arena, ArenaSlot, ArenaTrait};
+use crate::link_writes::{link_pair, link_pairs};
+use arena_base::{Arena, ArenaSlot, ArenaTrait, proved_unreachable};
 use arena_ptr::{PtrKey, SlotStack};
 use chain_links::LinkNoGen;
 
@@ -67,4 +68,38 @@ pub fn join<P: PtrKey, T: Drop, S: SlotStack<Item = ArenaSlot<P, LinkNoGen<P, T>
     }
     link_pair(arena, Some(p.inx()), Some(q.inx()));
     Some(())
+}
+
+// Returns the interlinks of the link at `i`.
+fn beside<P: PtrKey, T: Drop, S: SlotStack<Item = ArenaSlot<P, LinkNoGen<P, T>>>>(
+    arena: &Arena<P, LinkNoGen<P, T>, S>,
+    i: P::Inx,
+) -> (Option<P::Inx>, Option<P::Inx>)
+    requires { HasLink (link_map (links_view P.Inx.packed_number arena.now)) (P.Inx.number i) }
+    ensures { ReadsBeside P.Inx.packed_number P.Inx.number (P.Inx.number i) arena.now result }
+{
+    match arena.get_inx(i) {
+        Some((_, link)) => link.prev_next(),
+        None => proved_unreachable!(),
+    }
+}
+
+/// Moves the link at `i` to the place after the link at `j`, another one.
+pub fn move_link<P: PtrKey, T: Drop, S: SlotStack<Item = ArenaSlot<P, LinkNoGen<P, T>>>>(
+    arena: &mut Arena<P, LinkNoGen<P, T>, S>,
+    i: P::Inx,
+    j: P::Inx,
+)
+    requires agrees { IsWellLinked (link_map (links_view P.Inx.packed_number arena.old)) }
+    requires moved { HasLink (link_map (links_view P.Inx.packed_number arena.old))
+        (P.Inx.number i) }
+    requires before { HasLink (link_map (links_view P.Inx.packed_number arena.old))
+        (P.Inx.number j) }
+    requires apart { P.Inx.number i ≢ P.Inx.number j }
+    ensures { MovesLink P.Inx.packed_number (P.Inx.number i) (P.Inx.number j) arena.old arena.new }
+{
+    let (prev, next) = beside(arena, i);
+    link_pair(arena, prev, next);
+    let (_, after) = beside(arena, j);
+    link_pairs(arena, (Some(j), Some(i)), (Some(i), after));
 }

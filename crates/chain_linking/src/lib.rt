@@ -8,6 +8,7 @@ pub mod connection;
 pub mod destinations;
 pub mod link_writes;
 pub mod links_text;
+pub mod reversal;
 pub mod walk_step;
 
 pub use agreement::links_agree;

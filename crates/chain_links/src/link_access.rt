@@ -37,6 +37,21 @@ pub fn set_prev<W: Copy, I: InxKey<Word = W>, T>(
     link.prev = I::pack(prev);
 }
 
+/// Exchanges the indexes of the links before and after this one, and returns them as they were.
+pub fn turn<W: Copy, I: InxKey<Word = W>, T>(
+    link: &mut RawLink<PackedOption<I, W>, T>,
+) -> (Option<I>, Option<I>)
+    ensures prev { option_map I.number result.0 ≡ I.packed_number link.old.prev }
+    ensures next { option_map I.number result.1 ≡ I.packed_number link.old.next }
+    ensures turned { link.new ≡ record link.old { prev = link.old.next; next = link.old.prev } }
+{
+    let prev = link.prev;
+    let next = link.next;
+    link.prev = next;
+    link.next = prev;
+    (I::unpack(prev), I::unpack(next))
+}
+
 /// Returns the index that a link is to be moved to, if one is set.
 pub fn destination_of<W: Copy, I: InxKey<Word = W>, T>(
     link: &RawLink<PackedOption<I, W>, T>,

@@ -1,0 +1,58 @@
+// Reverses one chain of a plain arena, link by link.
+ghost use Rattle.std.specs.Prelude.{◌≡◌};
+ghost use Rattle.std.specs.Option.{option_map};
+ghost use Rattle.chain_laws.specs.Chains.{IsWellLinked, HasLink, prev_of};
+ghost use Rattle.chain_links.specs.ChainArena.{link_map};
+ghost use Rattle.chain_links.specs.Links.{links_view};
+ghost use Rattle.chain_linking.specs.ChainReversals.{TurnsLink, TurnsWalk};
+
+use arena_base::{Arena, ArenaSlot, ArenaTrait, proved_unreachable};
+use arena_ptr::{PtrKey, SlotStack};
+use chain_links::walk_direction::step_both;
+use chain_links::{LinkNoGen, link_access};
+
+// Exchanges the interlinks of the link at `i`, and returns them as they were.
+fn turn<P: PtrKey, T: Drop, S: SlotStack<Item = ArenaSlot<P, LinkNoGen<P, T>>>>(
+    arena: &mut Arena<P, LinkNoGen<P, T>, S>,
+    i: P::Inx,
+) -> (Option<P::Inx>, Option<P::Inx>)
+    requires { HasLink (link_map (links_view P.Inx.packed_number arena.old)) (P.Inx.number i) }
+    ensures { TurnsLink P.Inx.packed_number P.Inx.number (P.Inx.number i) arena.old result
+        arena.new }
+{
+    match arena.get_inx_mut(i) {
+        Some(link) => link_access::turn(link),
+        None => proved_unreachable!(),
+    }
+}
+
+/// Reverses the chain of the link at `start`, before which is the link at `back`, if there is one.
+pub fn turn_walk<P: PtrKey, T: Drop, S: SlotStack<Item = ArenaSlot<P, LinkNoGen<P, T>>>>(
+    arena: &mut Arena<P, LinkNoGen<P, T>, S>,
+    start: P::Inx,
+    back: Option<P::Inx>,
+)
+    requires agrees { IsWellLinked (link_map (links_view P.Inx.packed_number arena.old)) }
+    requires start { HasLink (link_map (links_view P.Inx.packed_number arena.old))
+        (P.Inx.number start) }
+    requires back { option_map P.Inx.number back
+        ≡ prev_of (link_map (links_view P.Inx.packed_number arena.old)) (P.Inx.number start) }
+    ensures { TurnsWalk P.Inx.packed_number (P.Inx.number start) arena.old arena.new }
+{
+    let mut forward = Some(start);
+    let mut back = back;
+    loop {
+        match forward {
+            Some(i) => {
+                let beside = turn(arena, i);
+                let onward = step_both(start, beside.1, back);
+                forward = onward.0;
+                back = onward.1;
+            }
+            None => match back {
+                Some(i) => back = turn(arena, i).0,
+                None => return,
+            },
+        }
+    }
+}
