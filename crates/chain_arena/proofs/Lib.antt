@@ -1,6 +1,7 @@
 pub mod ArenaCompressionLemmas
 pub mod LinkCopyLemmas
 pub mod BreakAndExchangeLemmas
+pub mod ReverseAndMoveLemmas
 pub mod DeterminismLemmas
 pub mod ChainDrainLemmas
 pub mod ChainIterLemmas

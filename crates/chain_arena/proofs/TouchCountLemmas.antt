@@ -26,7 +26,7 @@ use Rattle.chain_links.specs.CallEffects.{IsDisconnected, IsRemoved}
 use Rattle.chain_links.specs.Insertions.{IsLinkInserted}
 use Rattle.arena_core.specs.PointerKinds.{PointerKind}
 use Rattle.chain_arena.specs.Runs.{AreSameButTouched}
-use Rattle.chain_arena.specs.Steps.{IsNewLinkAnyhow, InsertStep, InsertWithinStep, ConnectStep, BreakPrevStep, BreakNextStep, ExchangeStep, IsRenewed, DrainChainStep, CompressStep, CompressCanonicalStep, ReserveStep, Step, Run}
+use Rattle.chain_arena.specs.Steps.{IsNewLinkAnyhow, InsertStep, InsertWithinStep, ConnectStep, BreakPrevStep, BreakNextStep, ExchangeStep, ReverseChainStep, MoveAfterStep, IsRenewed, DrainChainStep, CompressStep, CompressCanonicalStep, ReserveStep, Step, Run}
 use Rattle.chain_arena.specs.declared.calls.Call.{Call}
 use Rattle.chain_arena.specs.declared.calls.Call.TheVariants as call
 use Rattle.chain_arena.specs.declared.calls.Reply.{Reply}
@@ -168,6 +168,18 @@ module _ (n : ℕ) where
         let made = step.0.1 in
         ((step.0.0, record { exchanged = made.exchanged; chains = made.chains; view_after = ap touch_view made.view_after }), tt, record { state = ap touch step.2.state; pairs = step.2.pairs })
 
+    reverses_touched : (p : P) (r : Option Unit) → ReverseChainStep pointers old p r new → ReverseChainStep pointers (touch old) p r (touch new)
+    reverses_touched p None step = (step.0, ap touch step.1, tt)
+    reverses_touched p (Some done) step =
+        let made = step.0.1 in
+        ((step.0.0, record { walk = made.walk; is_walk = made.is_walk; turned = made.turned; chains = made.chains; view_after = ap touch_view made.view_after }), tt, ap touch step.2)
+
+    moves_touched : (p q : P) (r : Option Unit) → MoveAfterStep pointers old p q r new → MoveAfterStep pointers (touch old) p q r (touch new)
+    moves_touched p q None step = (step.0, ap touch step.1, tt)
+    moves_touched p q (Some done) step =
+        let made = step.0.1 in
+        ((step.0.0, record { moved = made.moved; chains = made.chains; view_after = ap touch_view made.view_after }), tt, ap touch step.2)
+
     removed_touched : (i : ℕ) → IsRemoved value_state link_map old new pointers.following i → IsRemoved value_state link_map (touch old) (touch new) pointers.following i
     removed_touched i made = record { view_after = ap touch_view made.view_after; links = made.links; chains = made.chains }
 
@@ -298,6 +310,8 @@ module _ (n : ℕ) where
     step_touched old new (call.BreakPrev p) r step = (step.0, step.1, breaks_prev_touched pointers old new p step.0 step.2)
     step_touched old new (call.BreakNext p) r step = (step.0, step.1, breaks_next_touched pointers old new p step.0 step.2)
     step_touched old new (call.ExchangeNext p q) r step = (step.0, step.1, exchanges_touched pointers old new p q step.0 step.2)
+    step_touched old new (call.ReverseChain p) r step = (step.0, step.1, reverses_touched pointers old new p step.0 step.2)
+    step_touched old new (call.MoveAfter p q) r step = (step.0, step.1, moves_touched pointers old new p q step.0 step.2)
     step_touched old new (call.Remove p) r step = (
       step.0,
       step.1,

@@ -12,6 +12,7 @@ use Rattle.chain_laws.specs.Chains.{prev_of, next_of}
 use Rattle.chain_laws.specs.Cuts.{without_pair, TakesPair}
 use Rattle.chain_laws.specs.Exchanges.{with_exchange, ExchangesPairs}
 use Rattle.chain_laws.specs.Joins.{with_join, AddsPair}
+use Rattle.chain_laws.specs.MoveAfter.{with_move_after}
 use Rattle.chain_laws.specs.Removals.{RemovesPairs}
 use Rattle.chain_laws.specs.Walks.{IsWalk, TakesWalk}
 use Rattle.arena_traits.specs.Arena.{Arena, IsValid, HasCapacityFor, with_capacity_of}
@@ -19,6 +20,7 @@ use Rattle.chain_links.specs.CallEffects.{IsRemoved}
 use Rattle.chain_links.specs.ChainArena.{LinkView, link_map, entry, value_state, with_link_map, remove_link}
 use Rattle.chain_links.specs.Links.{pair_view}
 use Rattle.chain_links.specs.declared.links.RawLink.{RawLink}
+use Rattle.chain_linking.specs.ChainReversals.{arena_with_turns, walk_at}
 use Rattle.chain_arena.specs.Drains.{without_each}
 
 -- An arena of links.
@@ -46,6 +48,14 @@ module _ {Gen T : Type 0} where
   pub record IsExchange (old new : Links Gen T) (p q : ℕ) : Type 0 where
     pub state : new ≡ with_link_map old (with_exchange (link_map old) p q)
     pub pairs : ExchangesPairs (link_map old) (link_map new) p q
+
+  -- The chain of the link at i was reversed, with the whole state.
+  abbrev pub IsReversal : Links Gen T → ℕ → Links Gen T → Type 0
+  IsReversal old i new = new ≡ arena_with_turns old (walk_at old i)
+
+  -- The link at p was moved after the link at q, with the whole state.
+  abbrev pub IsMove : Links Gen T → (p q : ℕ) → Links Gen T → Type 0
+  IsMove old p q new = new ≡ with_link_map old (with_move_after (link_map old) p q)
 
   -- The link at i is disconnected from its previous or next link.
   abbrev pub IsCutBefore : Links Gen T → ℕ → Links Gen T → Type 0

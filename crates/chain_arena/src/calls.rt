@@ -35,6 +35,10 @@ pub enum Call<P: PtrKey, T> {
     BreakNext(P),
     /// Exchanges the next links of two links.
     ExchangeNext(P, P),
+    /// Reverses a link's chain.
+    ReverseChain(P),
+    /// Moves the first link to the place after the second.
+    MoveAfter(P, P),
     /// Removes a link.
     Remove(P),
     /// Removes the link at an index.
@@ -63,7 +67,8 @@ pub enum Call<P: PtrKey, T> {
 pub enum Reply<P: PtrKey, T> {
     /// Of an insertion: the pointer of the new link, or the error.
     Inserted(Result<P, ChainInsertionError>),
-    /// Of `Connect`, `BreakPrev`, `BreakNext` and `ExchangeNext`: whether it was done.
+    /// Of `Connect`, `BreakPrev`, `BreakNext`, `ExchangeNext`, `ReverseChain` and `MoveAfter`:
+    /// whether it was done.
     Done(bool),
     /// Of `Remove`: the link, with the interlinks that it had.
     Removed(InvalidationResult<LinkNoGen<P, T>>),
@@ -97,6 +102,8 @@ pub fn apply<P: PtrKey, T: Drop, S: SlotStack<Item = ArenaSlot<P, LinkNoGen<P, T
         Call::BreakPrev(p) => Reply::Done(arena.break_prev(p).is_some()),
         Call::BreakNext(p) => Reply::Done(arena.break_next(p).is_some()),
         Call::ExchangeNext(p, q) => Reply::Done(arena.exchange_next(p, q).is_some()),
+        Call::ReverseChain(p) => Reply::Done(arena.reverse_chain(p).is_some()),
+        Call::MoveAfter(p, q) => Reply::Done(arena.move_after(p, q).is_some()),
         Call::Remove(p) => Reply::Removed(arena.remove_link_no_gen(p)),
         Call::RemoveInx(i) => Reply::RemovedInx(arena.remove_inx_link_no_gen(i)),
         Call::Invalidate(p) => Reply::Renewed(arena.invalidate(p)),

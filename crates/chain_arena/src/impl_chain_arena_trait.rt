@@ -2,7 +2,7 @@
 ghost use Rattle.std.specs.Prelude.{◌≡◌, ◌↔◌, IsTrue, IfOk, OnErr};
 ghost use Rattle.arena_core.specs.Invalidation.{with_value_of};
 ghost use Rattle.chain_links.specs.Insertions.{MayInsertIn, InsertsLinkWithin, InsertsLink, InsertsAllowedLink};
-ghost use Rattle.chain_links.specs.ChainArena.{value_state, link_map};
+ghost use Rattle.chain_links.specs.ChainArena.{value_state, link_map, entry, CanMove};
 ghost use Rattle.chain_arena.specs.NewLinks.{IsNewLink};
 
 use crate::chain_advancer::ChainPtrAdvancer;
@@ -12,8 +12,9 @@ use arena_ptr::{
     AnyPointer, ChainInsertionError, GenKey, InvalidationOption, InvalidationResult, InxKey,
     PtrKey, ReallocationError, SlotStack,
 };
-use chain_linking::connection::{join, next_of, prev_of};
+use chain_linking::connection::{join, move_link, next_of, prev_of};
 use chain_linking::link_writes::{link_pairs, neighbors, write_beside};
+use chain_linking::reversal::turn_walk;
 use chain_links::links::is_index;
 use chain_links::{Link, LinkInsertKind, LinkNoGen};
 use chain_traits::ChainArenaTrait;
@@ -22,7 +23,7 @@ impl<P: PtrKey, T: Drop, S: SlotStack<Item = ArenaSlot<P, LinkNoGen<P, T>>>> Cha
     for ChainArena<P, T, S> {
     ghost use Rattle.std.specs.Prelude.{◌≡◌};
     ghost use Rattle.chain_links.specs.ChainArena.{link_map};
-    ghost use Rattle.chain_arena.specs.Effects.{IsJoin, IsCutBefore, IsCutAfter, IsExchange};
+    ghost use Rattle.chain_arena.specs.Effects.{IsJoin, IsCutBefore, IsCutAfter, IsExchange, IsReversal, IsMove};
     ghost use Rattle.chain_linking.specs.ChainArenaLaws.{links_exist};
     ghost use Rattle.chain_links.specs.Walkers.{walker_of};
 
@@ -41,6 +42,10 @@ impl<P: PtrKey, T: Drop, S: SlotStack<Item = ArenaSlot<P, LinkNoGen<P, T>>>> Cha
     ghost breaks_next = { λ a p b. IsCutAfter a (P.key p).0 b };
 
     ghost exchanges = { λ a p q b. IsExchange a b (P.key p).0 (P.key q).0 };
+
+    ghost reverses = { λ a p b. IsReversal a (P.key p).0 b };
+
+    ghost moves = { λ a p q b. IsMove a (P.key p).0 (P.key q).0 b };
 
     ghost compresses_canonically = { λ a b. b.stack_capacity ≡ a.stack_capacity };
 
@@ -194,6 +199,25 @@ impl<P: PtrKey, T: Drop, S: SlotStack<Item = ArenaSlot<P, LinkNoGen<P, T>>>> Cha
         }
     }
 
+    fn reverse_chain(&mut self, p: P) -> Option<()> {
+        match self.arena.get(p) {
+            Some(link) => {
+                let back = link.prev();
+                turn_walk(&mut self.arena, p.inx(), back);
+                Some(())
+            }
+            None => None,
+        }
+    }
+
+    fn move_after(&mut self, p: P, q: P) -> Option<()> {
+        if !self.can_move(p, q) {
+            return None;
+        }
+        move_link(&mut self.arena, p.inx(), q.inx());
+        Some(())
+    }
+
     fn remove_link_no_gen(&mut self, p: P) -> InvalidationResult<LinkNoGen<P, T>> {
         if self.contains(p) {
             link_alone(self.unlink(p.inx()))
@@ -211,6 +235,15 @@ impl<P: PtrKey, T: Drop, S: SlotStack<Item = ArenaSlot<P, LinkNoGen<P, T>>>> Cha
 
     fn compress_canonical(&mut self, reset: bool) -> InvalidationOption<()> {
         self.compress_canonical_with(reset, |_p: P, _q: P| {})
+    }
+}
+
+impl<P: PtrKey, T: Drop, S: SlotStack<Item = ArenaSlot<P, LinkNoGen<P, T>>>> ChainArena<P, T, S> {
+    // Returns whether `p` may be moved after `q`: both are valid, and not the same.
+    fn can_move(&self, p: P, q: P) -> bool
+        ensures { IsTrue result ↔ CanMove (entry self.now) (P.key p) (P.key q) }
+    {
+        !p.inx().is_same(q.inx()) && self.contains(p) && self.contains(q)
     }
 }
 

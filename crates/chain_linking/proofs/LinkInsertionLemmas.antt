@@ -17,7 +17,7 @@ use Rattle.chain_links.specs.ChainArena.{LinkView, lone, new_link, with_links_to
 use Rattle.chain_links.proofs.LinkStateLemmas.{is_relinked}
 use Rattle.chain_linking.proofs.NeighborLemmas.{if_each}
 use Rattle.chain_links.proofs.ArenaInsertionLemmas.{link_map-next, AreFree, slot_at-filled, length-filled, listed-links_view, links_view-insert_next}
-use Rattle.chain_linking.proofs.LinkWriteLemmas.{relink-own, FitsLinks, FitsLinks-link_map, FitsLinks-with_next_at, link_map-with_link_map, with_link_map-again}
+use Rattle.chain_linking.proofs.LinkWriteLemmas.{relink-own, FitsLinks, link_map-with_link_map, with_link_map-again}
 use Rattle.chain_links.proofs.MappedArenaLemmas.{is_some-map}
 
 module _ {Gen T : Type 0} (a : Arena Gen (LinkView T)) (free : AreFree a.slots a.freed) (t : T) where

@@ -1,5 +1,5 @@
 -- A move of a link as pairs written one after another, in the state of an arena.
-use Rattle.std.specs.Prelude.{◌≡◌, ◌≢◌, ℕ, IfSome, Option, None, Some}
+use Rattle.std.specs.Prelude.{◌≡◌, ◌≢◌, ℕ, Option, None, Some}
 use Rattle.std.proofs.Common.{refl, ap, ap₂, sym, ◌∙◌, subst, ⊎_elim}
 use Rattle.std.proofs.lemmas.Bool.{cases_eq}
 use Rattle.chain_laws.specs.Chains.{LinkMap, IsWellLinked, HasLink, prev_of, next_of}
@@ -11,7 +11,7 @@ use Rattle.chain_laws.proofs.InterlinkLemmas.Linked.{IsValidAt, put_at, next_of-
 use Rattle.chain_laws.proofs.MoveAfterWriteLemmas.{skipped, moved_by_writes}
 use Rattle.arena_traits.specs.Arena.{Arena}
 use Rattle.chain_links.specs.ChainArena.{LinkView, link_map, with_link_map}
-use Rattle.chain_linking.proofs.LinkWriteLemmas.{FitsLinks-linked, link_map-with_link_map, with_link_map-again, arena_with_pairs}
+use Rattle.chain_linking.proofs.LinkWriteLemmas.{FitsLinks-linked, link_map-with_link_map, with_link_map-again}
 
 -- The links before and after i are those that are read.
 pub skipped_by : {Gen T : Type 0} (a b : Arena Gen (LinkView T)) (i : ℕ) (u v : Option ℕ) → u ≡ prev_of (link_map a) i → v ≡ next_of (link_map a) i

@@ -1,5 +1,5 @@
 -- The links of a walk are turned one after another.
-use Rattle.std.specs.Prelude.{◌≡◌, ◌≢◌, ℕ, suc, ◌<◌, ◌≤◌, eqb, List, [], ◌∷◌, length, is_some, Option, None, Some}
+use Rattle.std.specs.Prelude.{◌≡◌, ℕ, suc, ◌<◌, ◌≤◌, eqb, List, [], ◌∷◌, length, Option, None, Some}
 use Rattle.std.specs.Option.{option_map}
 use Rattle.std.proofs.Common.{refl, ap, sym, ◌∙◌, subst, inl, inr, arith}
 use Rattle.chain_laws.specs.Chains.{LinkMap, IsWellLinked, HasLink, HasLinksWithin, IsMember, AreDistinct, prev_in, next_in, prev_of, next_of}
@@ -35,6 +35,10 @@ module _ {Gen K T : Type 0} (number : K → Option ℕ) (a : Arena Gen (RawLink 
   next_read = ap (λ (o : Option (Gen × LinkView T)). next_in (option_map interlinks_of o)) (entry_at-links_view number a i) ∙ next_by (entry_at a i) stored
 
 module _ {Gen T : Type 0} where
+  pub FitsLinks-with_turns : (a : Arena Gen (LinkView T)) (interlinks : LinkMap) (xs : List ℕ) → FitsLinks interlinks a → FitsLinks (with_turns interlinks xs) a
+  FitsLinks-with_turns a interlinks [] fits = fits
+  FitsLinks-with_turns a interlinks (i ∷ rest) fits = FitsLinks-with_turns a (with_turn interlinks i) rest (λ j. is_some-if (eqb j i) turned (interlinks j) ∙ fits j)
+
   FitsLinks-with_turn : (a : Arena Gen (LinkView T)) (i : ℕ) → FitsLinks (with_turn (link_map a) i) a
   FitsLinks-with_turn a i j = is_some-if (eqb j i) turned (link_map a j) ∙ FitsLinks-link_map a j
 

@@ -3,9 +3,9 @@ use Rattle.std.specs.Prelude.{◌≡◌, ◌≢◌, ℕ, Bool, IsSome, IfSome, O
 use Rattle.std.specs.Option.{option_map, option_and_then}
 use Rattle.arena_core.specs.Invalidation.{value_within, invalidation_result}
 use Rattle.arena_core.specs.declared.invalidation.InvalidationResult.{InvalidationResult}
-use Rattle.chain_laws.specs.Chains.{LinkMap, HasLink, prev_of, next_of}
+use Rattle.chain_laws.specs.Chains.{LinkMap, HasLink}
 use Rattle.chain_laws.specs.Joins.{with_next_at, with_prev_at, with_neighbors}
-use Rattle.arena_traits.specs.Arena.{Arena, IsValid, entry_at}
+use Rattle.arena_traits.specs.Arena.{Arena, entry_at}
 use Rattle.chain_links.specs.declared.links.RawLink.{RawLink}
 use Rattle.chain_links.specs.ChainArena.{LinkView, link_map, with_link_map, remove_link, entry, ptr_at}
 use Rattle.chain_links.specs.Links.{link_view, links_view, pair_view, StayAtRest}

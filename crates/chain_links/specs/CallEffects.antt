@@ -1,6 +1,6 @@
 -- The outcomes of calls on an arena of links, by the cases of their results. An arena is seen by its
 -- state and its interlinks. Those of insertions are in `Insertions`.
-use Rattle.std.specs.Prelude.{◌≡◌, ◌↔◌, ℕ, Bool, IsSome, IfSome, Option, None, Some}
+use Rattle.std.specs.Prelude.{◌≡◌, ◌↔◌, ℕ, List, Bool, IsSome, IfSome, Option, None, Some}
 use Rattle.std.specs.Option.{option_map}
 use Rattle.std.specs.Borrow.{Bor}
 use Rattle.arena_core.specs.Invalidation.{invalidation_option}
@@ -13,14 +13,16 @@ use Rattle.chain_laws.specs.Neighbors.{AreNeighbors}
 use Rattle.chain_laws.specs.Cuts.{without_pair, Cuts}
 use Rattle.chain_laws.specs.Exchanges.{with_exchange, Exchanges}
 use Rattle.chain_laws.specs.Joins.{with_join, Connects}
+use Rattle.chain_laws.specs.MoveAfter.{with_move_after, MovesAfter}
 use Rattle.chain_laws.specs.Removals.{with_removal, Removes}
-use Rattle.chain_laws.specs.Walks.{Walker, walker_at}
+use Rattle.chain_laws.specs.Reversals.{with_turns, Reverses}
+use Rattle.chain_laws.specs.Walks.{Walker, walker_at, IsWalk}
 use Rattle.arena_traits.specs.Arena.{IsValid}
 use Rattle.arena_traits.specs.CallOutcomes.{ReportsOverflow}
 use Rattle.arena_traits.specs.Compressions.{overflows_after_compression}
 use Rattle.arena_traits.specs.Entries.{ArenaView, ArenaState, count, view_after_removal}
 use Rattle.chain_links.specs.CanonicalLayouts.{IsCanonicalLayout}
-use Rattle.chain_links.specs.ChainArena.{link_at, CanConnect, CanExchange, IsLinkAt}
+use Rattle.chain_links.specs.ChainArena.{link_at, CanConnect, CanExchange, CanMove, IsLinkAt}
 use Rattle.chain_links.specs.Links.{link_view, borrowed_link}
 use Rattle.chain_links.specs.declared.links.Link.{Link}
 use Rattle.chain_links.specs.declared.links.RawLink.{RawLink}
@@ -43,6 +45,20 @@ module _ {A Gen T : Type 0} {view : A → ArenaView Gen T} {entry : A → ℕ �
     pub record IsExchanged (p q : ℕ) : Type 0 where
       pub exchanged : interlinks new ≡ with_exchange (interlinks old) p q
       pub chains : Exchanges (interlinks old) (interlinks new) p q
+      pub view_after : view new ≡ view old
+
+    -- The chain of the link at i is in the other order.
+    pub record IsReversed (i : ℕ) : Type 0 where
+      pub walk : List ℕ
+      pub is_walk : IsWalk (interlinks old) i walk
+      pub turned : interlinks new ≡ with_turns (interlinks old) walk
+      pub chains : Reverses (interlinks old) (interlinks new) i
+      pub view_after : view new ≡ view old
+
+    -- The link at p comes after the link at q.
+    pub record IsMovedAfter (p q : ℕ) : Type 0 where
+      pub moved : interlinks new ≡ with_move_after (interlinks old) p q
+      pub chains : MovesAfter (interlinks old) (interlinks new) p q
       pub view_after : view new ≡ view old
 
     -- The link at i is removed, its neighbors are linked, and the counter advances.
@@ -88,6 +104,16 @@ module _ {A Gen T : Type 0} {view : A → ArenaView Gen T} {entry : A → ℕ �
     abbrev pub ExchangesNext : A → P → P → Option Unit → A → Type 0
     ExchangesNext old p q None new = CanExchange (entry old) (interlinks old) (key p) (key q) → ⊥
     ExchangesNext old p q (Some done) new = CanExchange (entry old) (interlinks old) (key p) (key q) × IsExchanged old new (key p).0 (key q).0
+
+    -- `reverse_chain`: the chain of p comes to be in the other order, if p is valid.
+    abbrev pub ReversesChain : A → P → Option Unit → A → Type 0
+    ReversesChain old p None new = IsValid (entry old) (key p) → ⊥
+    ReversesChain old p (Some done) new = IsValid (entry old) (key p) × IsReversed old new (key p).0
+
+    -- `move_after`: the link of p comes to follow the link of q, or it could not.
+    abbrev pub MovesLinkAfter : A → P → P → Option Unit → A → Type 0
+    MovesLinkAfter old p q None new = CanMove (entry old) (key p) (key q) → ⊥
+    MovesLinkAfter old p q (Some done) new = CanMove (entry old) (key p) (key q) × IsMovedAfter old new (key p).0 (key q).0
 
   module _ {P I W : Type 0} (pointers : PointerKind P I Gen W) where
     -- The same links without generations: that of p, and that at an index.

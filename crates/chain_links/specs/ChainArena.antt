@@ -136,6 +136,12 @@ module _ {Gen T : Type 0} (entry : ℕ → Option (Gen × T)) where
   abbrev pub ptr_at : ℕ → Option (ℕ × Gen)
   ptr_at i = option_map (λ e. (i, e.0)) (entry i)
 
+  -- p may be moved after q: both are valid, and not the same.
+  pub record CanMove (p q : ℕ × Gen) : Type 0 where
+    pub first_valid : IsValid entry p
+    pub second_valid : IsValid entry q
+    pub apart : p.0 ≢ q.0
+
   -- The free index p has the value t, and every other entry is unchanged.
   pub record IsInserted (after : ℕ → Option (Gen × T)) (p : ℕ × Gen) (t : T) : Type 0 where
     pub free : entry p.0 ≡ None

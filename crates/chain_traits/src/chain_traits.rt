@@ -9,7 +9,7 @@ ghost use Rattle.chain_laws.specs.Arrangements.{place_in};
 ghost use Rattle.chain_laws.specs.Walks.{Walker};
 ghost use Rattle.chain_laws.specs.declared.insert_kind.InsertKind.{InsertKind};
 ghost use Rattle.arena_traits.specs.Entries.{IsSoundView, index_of};
-ghost use Rattle.chain_links.specs.CallEffects.{AreNeighborLinks, ReadsLink, ReadsLinkNoGen, ReadsLinkAt, StartsWalk, ConnectsLinks, BreaksPrev, BreaksNext, ExchangesNext, RemovesLink, RemovesLinkAt, CompressesLinks};
+ghost use Rattle.chain_links.specs.CallEffects.{AreNeighborLinks, ReadsLink, ReadsLinkNoGen, ReadsLinkAt, StartsWalk, ConnectsLinks, BreaksPrev, BreaksNext, ExchangesNext, ReversesChain, MovesLinkAfter, RemovesLink, RemovesLinkAt, CompressesLinks};
 ghost use Rattle.chain_links.specs.Walkers.{IsPassing};
 ghost use Rattle.chain_links.specs.Insertions.{MayInsertIn, InsertsLinkWithin, InsertsLink, InsertsAllowedLink};
 
@@ -42,7 +42,7 @@ pub trait ChainArenaTrait<P: PtrKey, T: Drop>: ArenaTrait<P, T> {
     ghost inserts: { Self → InsertKind P P.Inx → T → Self → P → Type 0 } = { λ _ _ _ _ _. ⊤ };
 
     // What it knows besides of the arenas before and after `connect`, `break_prev`, `break_next`,
-    // `exchange_next` and `compress_canonical`.
+    // `exchange_next`, `reverse_chain`, `move_after` and `compress_canonical`.
     ghost connects: { Self → P → P → Self → Type 0 } = { λ _ _ _ _. ⊤ };
 
     ghost breaks_prev: { Self → P → Self → Type 0 } = { λ _ _ _. ⊤ };
@@ -50,6 +50,10 @@ pub trait ChainArenaTrait<P: PtrKey, T: Drop>: ArenaTrait<P, T> {
     ghost breaks_next: { Self → P → Self → Type 0 } = { λ _ _ _. ⊤ };
 
     ghost exchanges: { Self → P → P → Self → Type 0 } = { λ _ _ _ _. ⊤ };
+
+    ghost reverses: { Self → P → Self → Type 0 } = { λ _ _ _. ⊤ };
+
+    ghost moves: { Self → P → P → Self → Type 0 } = { λ _ _ _ _. ⊤ };
 
     ghost compresses_canonically: { Self → Self → Type 0 } = { λ _ _. ⊤ };
 
@@ -245,6 +249,26 @@ pub trait ChainArenaTrait<P: PtrKey, T: Drop>: ArenaTrait<P, T> {
         ensures outcome { ExchangesNext Self.state interlinks P.key self.old p q result self.new }
         ensures none { IfNone result (self.new ≡ self.old) }
         ensures implementation { OnSome result (exchanges self.old p q self.new) };
+
+    /// Reverses the chain of a link: each of its links exchanges its previous and next links.
+    ///
+    /// A linear chain then starts with its former end, and a cyclic one goes around the other way.
+    /// Pointers and all other chains stay. Returns `Some` exactly if `p` is valid. Otherwise returns
+    /// `None` and changes nothing. Writes each link of the chain once.
+    fn reverse_chain(&mut self, p: P) -> Option<()>
+        ensures outcome { ReversesChain Self.state interlinks P.key self.old p result self.new }
+        ensures none { IfNone result (self.new ≡ self.old) }
+        ensures implementation { OnSome result (reverses self.old p self.new) };
+
+    /// Moves the link of p to the place after the link of q, of its own chain or of another.
+    ///
+    /// The rest of its former chain stays linear or cyclic, as after a removal; so does the chain
+    /// of q, as after an insertion. The pointer and the value of p stay. Returns `Some` exactly if
+    /// both pointers are valid and p is not q. Otherwise returns `None` and changes nothing.
+    fn move_after(&mut self, p: P, q: P) -> Option<()>
+        ensures outcome { MovesLinkAfter Self.state interlinks P.key self.old p q result self.new }
+        ensures none { IfNone result (self.new ≡ self.old) }
+        ensures implementation { OnSome result (moves self.old p q self.new) };
 
     /// Removes a link and returns it with the interlinks that it had, without their generations.
     ///

@@ -195,6 +195,10 @@ impl<P: PtrKey, T: Drop, A: ChainArenaTrait<P, T>> ChainArenaTrait<P, T> for For
 
     ghost exchanges = { λ v p q w. A.exchanges v.inner p q w.inner };
 
+    ghost reverses = { λ v p w. A.reverses v.inner p w.inner };
+
+    ghost moves = { λ v p q w. A.moves v.inner p q w.inner };
+
     ghost compresses_canonically = { λ v w. A.compresses_canonically v.inner w.inner };
 
     ghost passes = { λ v w arena returned given. A.passes v.inner w.inner arena.inner
@@ -298,6 +302,14 @@ impl<P: PtrKey, T: Drop, A: ChainArenaTrait<P, T>> ChainArenaTrait<P, T> for For
 
     fn exchange_next(&mut self, p: P, q: P) -> Option<()> {
         self.inner.exchange_next(p, q)
+    }
+
+    fn reverse_chain(&mut self, p: P) -> Option<()> {
+        self.inner.reverse_chain(p)
+    }
+
+    fn move_after(&mut self, p: P, q: P) -> Option<()> {
+        self.inner.move_after(p, q)
     }
 
     fn remove_link_no_gen(&mut self, p: P) -> InvalidationResult<LinkNoGen<P, T>> {

@@ -37,6 +37,16 @@ returns-in-ExchangeNext g c =
     let made = c.exchange_next.ensures in
     rw c.in-ExchangeNext.is (record { step = (c.exchange_next.result, ap (λ b. reply.Done b) c.is_some-in-ExchangeNext.ensures, (made.outcome, made.none, made.implementation)) })
 
+pub returns-in-ReverseChain : goal.returns-in-ReverseChain
+returns-in-ReverseChain g c =
+    let made = c.reverse_chain.ensures in
+    rw c.in-ReverseChain.is (record { step = (c.reverse_chain.result, ap (λ b. reply.Done b) c.is_some-in-ReverseChain.ensures, (made.outcome, made.none, made.implementation)) })
+
+pub returns-in-MoveAfter : goal.returns-in-MoveAfter
+returns-in-MoveAfter g c =
+    let made = c.move_after.ensures in
+    rw c.in-MoveAfter.is (record { step = (c.move_after.result, ap (λ b. reply.Done b) c.is_some-in-MoveAfter.ensures, (made.outcome, made.none, made.implementation)) })
+
 pub returns-in-Remove : goal.returns-in-Remove
 returns-in-Remove g c =
     let made = c.remove_link_no_gen.ensures in

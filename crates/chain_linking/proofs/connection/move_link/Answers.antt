@@ -1,18 +1,15 @@
 -- The links before and after it follow one another, and it comes between two others.
-use Rattle.std.proofs.Common.{◌≡◌, ℕ, Option, None, Some, refl, ap, sym, ◌∙◌}
-use Rattle.std.specs.Prelude.{IfSome}
+use Rattle.std.proofs.Common.{◌≡◌, ℕ, Option, Some, ap, ◌∙◌}
 use Rattle.std.specs.Option.{option_map}
 use Rattle.chain_laws.specs.Chains.{HasLink, next_of}
 use Rattle.chain_laws.specs.Joins.{with_neighbors}
 use Rattle.chain_laws.proofs.MoveAfterWriteLemmas.{skipped}
-use Rattle.arena_traits.specs.Arena.{Arena}
-use Rattle.chain_links.specs.ChainArena.{LinkView, link_map, with_link_map}
+use Rattle.chain_links.specs.ChainArena.{link_map, with_link_map}
 use Rattle.chain_links.specs.Links.{links_view}
-use Rattle.chain_linking.proofs.LinkWriteLemmas.{arena_with_pairs}
 use Rattle.chain_linking.proofs.NeighborLemmas.{if_each, next_named, prev_named}
 use Rattle.chain_linking.proofs.MoveLinkLemmas.{skipped_by, still_there, after_there, moves}
 use Rattle.chain_linking.proofs.connection.move_link.Given.{Over}
-use Rattle.chain_linking.proofs.connection.move_link.Goals.{After-link_pair, After-link_pairs-arg-1}
+use Rattle.chain_linking.proofs.connection.move_link.Goals.{After-link_pair}
 use Rattle.chain_linking.proofs.connection.move_link.Goals as goal
 
 -- The links before and after it follow one another.

@@ -1,12 +1,11 @@
 -- The index has a link, and its interlinks are exchanged.
 use Rattle.std.proofs.Common.{refl, sym, ap, ◌∙◌, subst}
-use Rattle.std.specs.Option.{option_map, option_copied_mut}
+use Rattle.std.specs.Option.{option_copied_mut}
 use Rattle.chain_laws.specs.Reversals.{turned}
 use Rattle.arena_core.specs.declared.packed_option.PackedOption.{PackedOption}
 use Rattle.chain_links.specs.declared.links.RawLink.{RawLink}
 use Rattle.arena_traits.specs.Arena.{with_value}
 use Rattle.chain_links.specs.Links.{links_view, AreAtRest}
-use Rattle.chain_linking.proofs.NeighborLemmas.{nothing_named}
 use Rattle.chain_links.proofs.RestLemmas.{written_at_rest}
 use Rattle.chain_linking.proofs.LinkWriteLemmas.{IsWrite, links_view-write}
 use Rattle.chain_linking.proofs.ReversalLemmas.{prev_read, next_read}

@@ -1,5 +1,5 @@
 -- Each round turns the first of the links left.
-use Rattle.std.proofs.Common.{Option, None, Some, sym, subst}
+use Rattle.std.proofs.Common.{None, Some, sym, subst}
 use Rattle.std.specs.Prelude.{◌<◌}
 use Rattle.std.specs.Option.{option_map}
 use Rattle.chain_links.specs.Links.{links_view}
