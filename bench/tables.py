@@ -13,6 +13,8 @@ CASES = {
     "exchange": "exchange of the next links of two random links",
     "break_connect": "break after a random link, then reconnection",
     "replace": "removal of a random link, then insertion after another",
+    "move_after": "move of a random link after another, a call of ours alone",
+    "reverse": "one link of reversals of each chain, a call of ours alone",
     "get_link": "lookup of a random link, by `get_link`",
     "walk": "one link of walks along all chains, by `iter_chain`",
     "advance": "the same, by `advancer_chain`",

@@ -1,6 +1,7 @@
 //! The cases over links in a `SlotMap`, each a function.
 //!
 //! There is no `advance`, since a cursor by hand is the loop of `walk`. There is no `compress`, since a `SlotMap` keeps its holes.
+//! `move_after` and `reverse` are calls of ours alone.
 
 use crate::links::{Chains, Link};
 use compare::timing::cases::Case;
@@ -76,7 +77,7 @@ impl Links for Chains {
             }
             Case::CanonicalPermuted | Case::CanonicalPermutedHoles => canonical_cycles(self),
             Case::Transfer | Case::TransferPermuted => transfer(self),
-            Case::Advance | Case::Compress => return None,
+            Case::Advance | Case::Compress | Case::MoveAfter | Case::Reverse => return None,
         })
     }
 }

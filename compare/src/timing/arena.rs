@@ -112,6 +112,7 @@ impl<T: Value> Links for Chains<T> {
             Case::Exchange => exchange(self, &task.picks),
             Case::BreakConnect => break_connect(self, &task.picks),
             Case::Replace => replace(self, &task.picks),
+            Case::MoveAfter | Case::Reverse => return None,
             Case::GetLink => get_link(self, &task.picks),
             Case::Walk => walk(self, &task.starts),
             Case::Advance => advance(self, &task.starts),

@@ -52,6 +52,8 @@ pub enum Case {
     Exchange,
     BreakConnect,
     Replace,
+    MoveAfter,
+    Reverse,
     GetLink,
     Walk,
     Advance,
@@ -75,7 +77,7 @@ pub enum Case {
 }
 
 /// Each case with its name, the arena that it begins with, and the pairs that it uses.
-const CASES: [(Case, &str, Shape, Picks); 27] = [
+const CASES: [(Case, &str, Shape, Picks); 29] = [
     (Case::Insert, "insert", Shape::Empty, Picks::Nothing),
     (Case::InsertEnd, "insert_end", Shape::Starts, Picks::Nothing),
     (
@@ -98,6 +100,8 @@ const CASES: [(Case, &str, Shape, Picks); 27] = [
         Picks::Neighbors,
     ),
     (Case::Replace, "replace", Shape::Chains, Picks::Succeeding),
+    (Case::MoveAfter, "move_after", Shape::Chains, Picks::Random),
+    (Case::Reverse, "reverse", Shape::Chains, Picks::Nothing),
     (Case::GetLink, "get_link", Shape::Chains, Picks::Random),
     (Case::Walk, "walk", Shape::Chains, Picks::Nothing),
     (Case::Advance, "advance", Shape::Chains, Picks::Nothing),

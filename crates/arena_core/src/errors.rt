@@ -1,4 +1,8 @@
-use std::alloc;
+ghost use Rattle.std.specs.Prelude.{Some, codes};
+
+use std::alloc::{self, AllocFailed};
+use std::error::Error;
+use std::fmt;
 
 /// An allocation failure, or a need for an index above the greatest of its type.
 ///
@@ -11,6 +15,16 @@ impl From<alloc::AllocError> for AllocError {
         AllocError
     }
 }
+
+impl fmt::Display for AllocError {
+    ghost output = { λ _. Some (codes "allocation failed, or no index is left") };
+
+    fn fmt<W: fmt::Write>(&self, f: &mut fmt::Formatter<W>) -> fmt::Result {
+        f.write_str("allocation failed, or no index is left")
+    }
+}
+
+impl Error for AllocError {}
 
 /// The reason why a stack or an arena did not grow.
 ///
@@ -25,17 +39,65 @@ pub enum ReallocationError {
     BeyondMaxCapacity,
 }
 
+// So that `vec.push(x)?` and a growth may fail in one function. The value is dropped.
+impl<T: Drop> From<AllocFailed<T>> for ReallocationError {
+    ghost use Rattle.std.specs.Prelude.{◌≡◌};
+
+    ghost use Rattle.arena_core.specs.declared.errors.ReallocationError.TheVariants as refused;
+
+    ghost from_gives = { λ _ e. e ≡ refused.AllocError };
+
+    fn from(_refused: AllocFailed<T>) -> ReallocationError {
+        ReallocationError::AllocError
+    }
+}
+
+impl fmt::Display for ReallocationError {
+    ghost use Rattle.arena_core.specs.Errors.{refusal_text};
+
+    ghost output = { λ why. Some (refusal_text why) };
+
+    fn fmt<W: fmt::Write>(&self, f: &mut fmt::Formatter<W>) -> fmt::Result {
+        f.write_str(match *self {
+            ReallocationError::AllocError => "allocation failed, or no index is left",
+            ReallocationError::BeyondMaxCapacity => "beyond the maximum capacity",
+        })
+    }
+}
+
+impl Error for ReallocationError {}
+
 /// The error of an insertion that does not grow, when the capacity is used up.
 ///
 /// Port of `NotWithinCapacityError`.
 #[derive(Debug, Clone, Copy, PartialEq, Eq)]
 pub struct NotWithinCapacityError;
 
+impl fmt::Display for NotWithinCapacityError {
+    ghost output = { λ _. Some (codes "not within the capacity") };
+
+    fn fmt<W: fmt::Write>(&self, f: &mut fmt::Formatter<W>) -> fmt::Result {
+        f.write_str("not within the capacity")
+    }
+}
+
+impl Error for NotWithinCapacityError {}
+
 /// The error of setting a maximum below the current capacity of the stack.
 ///
 /// Port of `MaxCapacityReductionError`.
 #[derive(Debug, Clone, Copy, PartialEq, Eq)]
 pub struct MaxCapacityReductionError;
+
+impl fmt::Display for MaxCapacityReductionError {
+    ghost output = { λ _. Some (codes "the maximum is below the capacity") };
+
+    fn fmt<W: fmt::Write>(&self, f: &mut fmt::Formatter<W>) -> fmt::Result {
+        f.write_str("the maximum is below the capacity")
+    }
+}
+
+impl Error for MaxCapacityReductionError {}
 
 /// The reason why a link was not inserted.
 ///
@@ -67,3 +129,31 @@ impl From<ReallocationError> for ChainInsertionError {
         }
     }
 }
+
+impl<T: Drop> From<AllocFailed<T>> for ChainInsertionError {
+    ghost use Rattle.std.specs.Prelude.{◌≡◌};
+    ghost use Rattle.arena_core.specs.declared.errors.ChainInsertionError.TheVariants as failed;
+
+    ghost from_gives = { λ _ e. e ≡ failed.AllocError };
+
+    fn from(_refused: AllocFailed<T>) -> ChainInsertionError {
+        ChainInsertionError::AllocError
+    }
+}
+
+impl fmt::Display for ChainInsertionError {
+    ghost use Rattle.arena_core.specs.Errors.{insertion_text};
+
+    ghost output = { λ why. Some (insertion_text why) };
+
+    fn fmt<W: fmt::Write>(&self, f: &mut fmt::Formatter<W>) -> fmt::Result {
+        f.write_str(match *self {
+            ChainInsertionError::FailedLinkRequirement => "no such place beside these links",
+            ChainInsertionError::NotWithinCapacity => "not within the capacity",
+            ChainInsertionError::AllocError => "allocation failed, or no index is left",
+            ChainInsertionError::BeyondMaxCapacity => "beyond the maximum capacity",
+        })
+    }
+}
+
+impl Error for ChainInsertionError {}

@@ -2,6 +2,7 @@ pub mod Indexes
 pub mod ThreeBytes
 pub mod Generations
 pub mod SlimPtr
+pub mod TinyPtr
 pub mod ToolPtr
 pub mod LimitedStack
 pub mod CountedGenerations

@@ -1,8 +1,10 @@
-// Indexes of 8, 32 and 64 bits.
+// Indexes of 8, 16, 32 and 64 bits.
+mod inx16;
 mod inx32;
 mod inx64;
 mod inx8;
 
 pub use inx8::Inx8;
+pub use inx16::Inx16;
 pub use inx32::Inx32;
 pub use inx64::Inx64;

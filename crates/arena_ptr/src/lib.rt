@@ -8,6 +8,7 @@ mod generation;
 mod index;
 mod limited_stack;
 mod slim_ptr;
+mod tiny_ptr;
 mod tool_ptr;
 
 pub use arena_core::{
@@ -18,7 +19,8 @@ pub use arena_core::{
 };
 pub use chunk_stack::ChunkStack;
 pub use generation::{Gen8, Gen16, Gen24, Gen32, Gen64};
-pub use index::{Inx8, Inx32, Inx64};
+pub use index::{Inx8, Inx16, Inx32, Inx64};
 pub use limited_stack::LimitedStack;
 pub use slim_ptr::SlimPtr;
+pub use tiny_ptr::TinyPtr;
 pub use tool_ptr::ToolPtr;

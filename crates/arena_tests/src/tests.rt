@@ -13,7 +13,7 @@ mod value_counts;
 ghost use Rattle.std.specs.Prelude.{◌≡◌};
 
 use arena_base::{ArenaSlot, ArenaTrait};
-use arena_ptr::{LimitStack, PtrKey, SetMaxCapacity, SlimPtr, ToolPtr};
+use arena_ptr::{LimitStack, PtrKey, SetMaxCapacity, SlimPtr, TinyPtr, ToolPtr};
 use chain_arena::{ChainArena, LinkNoGen};
 use std::alloc::Global;
 use std::process::Abort;
@@ -41,6 +41,13 @@ fn slim_slot_size_of_two_numbers() -> usize
     ensures { result ≡ 24 }
 {
     size_of::<ArenaSlot<SlimPtr, LinkNoGen<SlimPtr, [u32; 2]>>>()
+}
+
+// Of two bytes each: the tag, the generation, two interlinks, the destination and the value.
+fn tiny_slot_size() -> usize
+    ensures { result ≡ 12 }
+{
+    size_of::<ArenaSlot<TinyPtr, LinkNoGen<TinyPtr, u16>>>()
 }
 
 fn same(rt: &impl Abort, what: &str, got: &str, want: &str) {

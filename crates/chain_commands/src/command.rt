@@ -69,6 +69,8 @@ fn command_of(name: &[u8], words: &[u8]) -> Option<Command>
         n if is(n, "exchange") => two_pointers(words).map(|(p, q)| Change(Call::ExchangeNext(
             p, q,
         ))),
+        n if is(n, "reverse") => Some(Change(Call::ReverseChain(one_pointer(words)?))),
+        n if is(n, "moveafter") => two_pointers(words).map(|(p, q)| Change(Call::MoveAfter(p, q))),
         n if is(n, "remove") => Some(Change(removal(words)?)),
         n if is(n, "invalidate") => Some(Change(Call::Invalidate(one_pointer(words)?))),
         n if is(n, "drain") => pointer_and_number(words).map(|(p, take)| Change(Call::DrainChain {

@@ -1,3 +1,4 @@
+mod errors;
 mod indexes_and_generations;
 mod link_order;
 mod link_text;

@@ -330,6 +330,8 @@ fn change_links<P: Numbered, A: ChainArenaTrait<P, u32> + Drop>(
     parsed: ParsedCall<P>,
 ) -> String {
     match parsed.call {
+        Do::Reverse => text(alloc, arena.reverse_chain(parsed.p).is_some()),
+        Do::MoveAfter => text(alloc, arena.move_after(parsed.p, parsed.q).is_some()),
         Do::RemoveLink => text(alloc, bare_removal::<P>(arena.remove_link_no_gen(parsed.p))),
         Do::Canonical => text(alloc, arena.compress_canonical(parsed.n > 0)),
         Do::TakeNext => text(alloc, take_next(arena, parsed.i)),

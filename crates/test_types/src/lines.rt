@@ -54,6 +54,8 @@ pub enum Do {
     BreakPrev,
     BreakNext,
     Exchange,
+    Reverse,
+    MoveAfter,
     RemoveLink,
     Canonical,
     TakeNext,
@@ -154,9 +156,9 @@ const LINK_READS: [(&str, Do); 11] = named!(
     Changes
 );
 
-const LINK_CHANGES: [(&str, Do); 11] = named!(
-    Insert InsertMany Linked InsertWithin Connect BreakPrev BreakNext Exchange RemoveLink Canonical
-    TakeNext
+const LINK_CHANGES: [(&str, Do); 13] = named!(
+    Insert InsertMany Linked InsertWithin Connect BreakPrev BreakNext Exchange Reverse MoveAfter
+    RemoveLink Canonical TakeNext
 );
 
 const CHANGES: [(&str, Do); 14] = named!(

@@ -213,6 +213,40 @@ Exchange 1 2 2 2 = true
 All = [((1, 2), 1, (0, 0), (3, 2)), ((2, 2), 2, (2, 2), (2, 2)), ((3, 2), 3, (1, 2), (0, 0))]
 Exchange 2 2 1 2 = true
 All = [((1, 2), 1, (0, 0), (2, 2)), ((2, 2), 2, (1, 2), (3, 2)), ((3, 2), 3, (2, 2), (0, 0))]
+# Chains reversed, and links moved after others.
+# a linear chain from its middle and from its end, and a ring of one
+Linked 4 1 2 3 0 4 4 = true
+Reverse 2 2 = true
+All = [((1, 2), 1, (2, 2), (0, 0)), ((2, 2), 2, (3, 2), (1, 2)), ((3, 2), 3, (0, 0), (2, 2)), ((4, 2), 4, (4, 2), (4, 2))]
+Reverse 9 2 = false
+Reverse 1 3 = false
+Reverse 4 2 = true
+Reverse 1 2 = true
+All = [((1, 2), 1, (0, 0), (2, 2)), ((2, 2), 2, (1, 2), (3, 2)), ((3, 2), 3, (2, 2), (0, 0)), ((4, 2), 4, (4, 2), (4, 2))]
+# a ring of three, and a lone link
+Linked 4 1 2 3 1 = true
+Reverse 3 2 = true
+Reverse 4 2 = true
+All = [((1, 2), 1, (2, 2), (3, 2)), ((2, 2), 2, (3, 2), (1, 2)), ((3, 2), 3, (1, 2), (2, 2)), ((4, 2), 4, (0, 0), (0, 0))]
+# onward and back in one chain, where it already is, and nowhere
+Linked 4 1 2 3 4 = true
+MoveAfter 1 2 3 2 = true
+All = [((1, 2), 1, (3, 2), (4, 2)), ((2, 2), 2, (0, 0), (3, 2)), ((3, 2), 3, (2, 2), (1, 2)), ((4, 2), 4, (1, 2), (0, 0))]
+MoveAfter 4 2 2 2 = true
+All = [((1, 2), 1, (3, 2), (0, 0)), ((2, 2), 2, (0, 0), (4, 2)), ((3, 2), 3, (4, 2), (1, 2)), ((4, 2), 4, (2, 2), (3, 2))]
+MoveAfter 3 2 4 2 = true
+MoveAfter 3 2 3 2 = false
+MoveAfter 3 3 4 2 = false
+MoveAfter 3 2 9 2 = false
+All = [((1, 2), 1, (3, 2), (0, 0)), ((2, 2), 2, (0, 0), (4, 2)), ((3, 2), 3, (4, 2), (1, 2)), ((4, 2), 4, (2, 2), (3, 2))]
+# out of a ring of two, out of a ring of one, and into a ring
+Linked 4 1 2 1 0 4 4 = true
+MoveAfter 2 2 3 2 = true
+All = [((1, 2), 1, (1, 2), (1, 2)), ((2, 2), 2, (3, 2), (0, 0)), ((3, 2), 3, (0, 0), (2, 2)), ((4, 2), 4, (4, 2), (4, 2))]
+MoveAfter 4 2 3 2 = true
+All = [((1, 2), 1, (1, 2), (1, 2)), ((2, 2), 2, (4, 2), (0, 0)), ((3, 2), 3, (0, 0), (4, 2)), ((4, 2), 4, (3, 2), (2, 2))]
+MoveAfter 3 2 1 2 = true
+All = [((1, 2), 1, (3, 2), (3, 2)), ((2, 2), 2, (4, 2), (0, 0)), ((3, 2), 3, (1, 2), (1, 2)), ((4, 2), 4, (0, 0), (2, 2))]
 # Lookups, advancers, capacity and the counter.
 # on to the end and back to the start
 Linked 4 1 2 3 4 = true

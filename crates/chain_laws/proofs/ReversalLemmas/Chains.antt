@@ -31,16 +31,13 @@ reversed-filled xs filled e =
     let first = filled-IsMember xs filled in
     subst (λ (zs : List ℕ). IsMember zs first.0) e ((IsMember-reversed xs [] first.0).1 (inl first.1))
 
--- The links of a reversed chain are those of the chain.
+-- The links of a reversed list, and of a reversed chain, are those of the list or chain.
+list-has : (xs : List ℕ) (j : ℕ) → IsMember (reverse xs) j ↔ IsMember xs j
+list-has xs j = (λ h. ⊎_elim (λ k. k) (λ n. absurd n) ((IsMember-reversed xs [] j).0 h), λ h. (IsMember-reversed xs [] j).1 (inl h))
+
 reversed-has : (c : Chain) (j : ℕ) → IsMember (items (reversed c)) j ↔ IsMember (items c) j
-reversed-has (linear xs) j = same xs j
-  where
-    same : (xs : List ℕ) (j : ℕ) → IsMember (reverse xs) j ↔ IsMember xs j
-    same xs j = (λ h. ⊎_elim (λ k. k) (λ n. absurd n) ((IsMember-reversed xs [] j).0 h), λ h. (IsMember-reversed xs [] j).1 (inl h))
-reversed-has (cyclic xs) j = same xs j
-  where
-    same : (xs : List ℕ) (j : ℕ) → IsMember (reverse xs) j ↔ IsMember xs j
-    same xs j = (λ h. ⊎_elim (λ k. k) (λ n. absurd n) ((IsMember-reversed xs [] j).0 h), λ h. (IsMember-reversed xs [] j).1 (inl h))
+reversed-has (linear xs) j = list-has xs j
+reversed-has (cyclic xs) j = list-has xs j
 
 -- A chain whose links are turned is reversed.
 reversed-chain : (old new : LinkMap) (c : Chain) → ((j : ℕ) → IsMember (items c) j → new j ≡ option_map turned (old j)) → IsChain old c → IsChain new (reversed c)

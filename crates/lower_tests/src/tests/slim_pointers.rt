@@ -1,6 +1,6 @@
-// Tests of generations of 16 and 24 bits, and of slim pointers.
+// Tests of indexes of 16 bits, of generations of 16 and 24 bits, and of slim and tiny pointers.
 use crate::tests::support::{all, inx32, is_text};
-use arena_ptr::{Gen16, Gen24, GenKey, Ptr, PtrKey, SlimPtr};
+use arena_ptr::{Gen16, Gen24, GenKey, Inx16, InxKey, Ptr, PtrKey, SlimPtr, TinyPtr};
 use std::process::Abort;
 
 fn gen24(rt: &impl Abort, n: u32) -> Gen24 {
@@ -9,6 +9,11 @@ fn gen24(rt: &impl Abort, n: u32) -> Gen24 {
 
 fn slim_ptr(rt: &impl Abort, inx: u32, generation: u32) -> SlimPtr {
     SlimPtr::_from_raw(inx32(rt, inx), gen24(rt, generation))
+}
+
+fn tiny_ptr(rt: &impl Abort, inx: u16, generation: u16) -> TinyPtr {
+    let generation = Gen16::new(generation).expect(rt, "a generation");
+    TinyPtr::_from_raw(Inx16::new(inx).expect(rt, "an index"), generation)
 }
 
 #[test]
@@ -62,4 +67,34 @@ fn a_slim_pointer_has_its_name_in_its_text(rt: HostRuntime) {
     let written = format!(in rt.alloc(); "{name} {p:?} {generation:?}");
     let want = "SlimPtr SlimPtr[1a](b) Gen24 { number: 11 }";
     all(&rt, "the texts", &[is_text(written, want)]);
+}
+
+#[test]
+fn indexes_of_16_bits_end_at_their_greatest(rt: HostRuntime) {
+    let made = [
+        Inx16::new(0).is_none(),
+        Inx16::try_from_usize(65_536).is_none(),
+        Inx16::try_from_usize(65_535) == Inx16::new(65_535),
+        Inx16::greatest() == 65_535,
+        Inx16::unpack(Inx16::pack(Inx16::new(300))) == Inx16::new(300),
+        Inx16::unpack(Inx16::pack(None)).is_none(),
+    ];
+    all(&rt, "made", &made);
+}
+
+#[test]
+fn a_tiny_pointer_is_its_two_parts(rt: HostRuntime) {
+    let p = tiny_ptr(&rt, 26, 11);
+    let parts = [
+        Inx16::new(26) == Some(p.inx()),
+        Gen16::new(11) == Some(p.generation()),
+        p.is_same(tiny_ptr(&rt, 26, 11)),
+        p != tiny_ptr(&rt, 26, 267),
+        p < tiny_ptr(&rt, 27, 2),
+        TinyPtr::invalid() == tiny_ptr(&rt, 1, 1),
+    ];
+    all(&rt, "its parts", &parts);
+    let name = TinyPtr::name();
+    let written = format!(in rt.alloc(); "{name} {p:?}");
+    all(&rt, "the texts", &[is_text(written, "TinyPtr TinyPtr[1a](b)")]);
 }
