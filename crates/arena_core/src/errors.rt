@@ -42,7 +42,6 @@ pub enum ReallocationError {
 // So that `vec.push(x)?` and a growth may fail in one function. The value is dropped.
 impl<T: Drop> From<AllocFailed<T>> for ReallocationError {
     ghost use Rattle.std.specs.Prelude.{◌≡◌};
-
     ghost use Rattle.arena_core.specs.declared.errors.ReallocationError.TheVariants as refused;
 
     ghost from_gives = { λ _ e. e ≡ refused.AllocError };

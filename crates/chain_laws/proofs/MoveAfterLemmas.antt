@@ -1,12 +1,12 @@
 -- A link moved after another one, as a removal and an insertion.
-use Rattle.std.specs.Prelude.{◌≡◌, ◌≢◌, ◌↔◌, ℕ, ◌⊎◌, List, [], ◌∷◌, ◌++◌, Option, None, Some}
+use Rattle.std.specs.Prelude.{◌≡◌, ◌≢◌, ℕ, ◌⊎◌, List, [], ◌∷◌, ◌++◌, Option, None, Some}
 use Rattle.std.proofs.Common.{sym, refl, ap, ◌∙◌, subst, inl, inr, ⊎_elim}
 use Rattle.std.proofs.lemmas.Bool.{cases_eq}
 use Rattle.std.proofs.lemmas.List.{append_assoc}
 use Rattle.chain_laws.specs.Chains.{LinkMap, Chain, linear, cyclic, items, IsChain, HasLink, IsWellLinked, IsMember, AreDistinct, prev_of, next_of}
 use Rattle.chain_laws.specs.Neighbors.{AreNeighbors}
 use Rattle.chain_laws.specs.Removals.{with_removal, Removes, RemovesPairs}
-use Rattle.chain_laws.specs.Insertions.{with_insertion, IsInsertPosition, Inserts, InsertsPairs, HasIndex}
+use Rattle.chain_laws.specs.Insertions.{with_insertion, Inserts, InsertsPairs, HasIndex}
 use Rattle.chain_laws.specs.MoveAfter.{with_move_after, MovesAfter, MoveAgrees, MoveMoves, MoveBackRestores}
 use Rattle.chain_laws.proofs.ListLemmas.Members.{IsMember-parts, IsMember-left, IsMember-right, IsMember-middle, IsMember-filled, AreDistinct-right, AreDistinct-apart}
 use Rattle.chain_laws.proofs.ChainLemmas.LinkedLists.{next_valid}

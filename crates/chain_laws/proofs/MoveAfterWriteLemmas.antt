@@ -34,7 +34,6 @@ module _ (p q : ℕ) (apart : p ≢ q) where
   abbrev pub placed : LinkMap → Option ℕ → LinkMap
   placed link_map v = with_neighbors (with_neighbors link_map (Some q) (Some p)) (Some p) v
 
-
   placed-elsewhere : (left right : LinkMap) (v : Option ℕ) (j : ℕ) → left j ≡ right j → placed left v j ≡ placed right v j
   placed-elsewhere left right v j e = linked-same (with_neighbors left (Some q) (Some p)) (with_neighbors right (Some q) (Some p)) (Some p) v j (linked-same left right (Some q) (Some p) j e)
 
@@ -43,7 +42,6 @@ module _ (p q : ℕ) (apart : p ≢ q) where
   between link_map v l is =
       if_same p p _ _ refl
       ∙ ap (option_map (with_next v)) (if_same p p _ _ refl ∙ ap (option_map (with_prev (Some q))) (if_other p q _ _ apart ∙ is))
-
 
   placed-at : (left right : LinkMap) (v : Option ℕ) → HasLink left p → HasLink right p → placed left v p ≡ placed right v p
   placed-at left right v first second =
@@ -56,7 +54,6 @@ module _ (p q : ℕ) (apart : p ≢ q) where
 
     after_q : next_of (skipped link_map p) q ≡ next_of (with_removal link_map p) q
     after_q = ap next_in (same_elsewhere q (λ e. apart (sym e)))
-
 
     pub moved_by_writes : placed (skipped link_map p) (next_of (skipped link_map p) q) ≡ with_move_after link_map p q
     moved_by_writes = ap (placed (skipped link_map p)) after_q ∙ fun_ext (λ j. by j (cases_eq j p))

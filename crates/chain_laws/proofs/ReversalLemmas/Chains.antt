@@ -3,9 +3,8 @@ use Rattle.std.proofs.Common.{◌≡◌, ◌≢◌, ℕ, ◌⊎◌, inl, inr, �
 use Rattle.std.specs.Prelude.{◌↔◌}
 use Rattle.std.specs.Option.{option_map}
 use mathlib.Core.List.{reverse_aux}
-use Rattle.chain_laws.specs.Chains.{LinkMap, Interlinks, Chain, linear, cyclic, items, IsChain, IsMember, AreDistinct, AreLinked, first_or, last_or}
-use Rattle.chain_laws.specs.Walks.{IsWalk}
-use Rattle.chain_laws.specs.Reversals.{turned, with_turns, reversed, Reverses, ReversalReverses, ReversalTwiceRestores}
+use Rattle.chain_laws.specs.Chains.{LinkMap, Interlinks, Chain, linear, cyclic, items, IsChain, IsMember, AreLinked, first_or, last_or}
+use Rattle.chain_laws.specs.Reversals.{turned, with_turns, reversed, ReversalReverses, ReversalTwiceRestores}
 use Rattle.chain_laws.proofs.ListLemmas.Members.{IsMember-or_not, filled-IsMember}
 use Rattle.chain_laws.proofs.ChainLemmas.LinkedLists.{IsChain-frame}
 use Rattle.chain_laws.proofs.ChainLemmas.Uniqueness.{chains_share}
@@ -47,16 +46,18 @@ reversed-chain old new (cyclic xs) each c = (
   reversed-filled xs c.0,
   AreDistinct-reversed xs [] c.1 tt (λ y h n. n),
   subst (λ (o : Option ℕ). AreLinked new o (reverse xs) (first_or (reverse xs) None)) (sym (last_or-reversed xs [] None))
-  (subst (AreLinked new (first_or xs None) (reverse xs)) (sym (first_or-reversed xs []))
-  (AreLinked-turned old new xs [] (first_or xs None) (last_or xs None) each c.2 tt)),
+      (subst (AreLinked new (first_or xs None) (reverse xs)) (sym (first_or-reversed xs []))
+      (AreLinked-turned old new xs [] (first_or xs None) (last_or xs None) each c.2 tt)),
 )
 
 -- Turning the links of a walk reverses their chain, and no other.
 pub reversal_reverses : ReversalReverses
 reversal_reverses link_map i walk is_walk = record {
   chain = chain;
-  rest = λ c out. (λ h. IsChain-frame link_map new c (λ j m. sym (stays j (λ w. out (shared c h j m w)))) h,
-    λ h. IsChain-frame new link_map c (λ j m. stays j (λ w. out (shared_after c h j m w))) h);
+  rest = λ c out. (
+    λ h. IsChain-frame link_map new c (λ j m. sym (stays j (λ w. out (shared c h j m w)))) h,
+    λ h. IsChain-frame new link_map c (λ j m. stays j (λ w. out (shared_after c h j m w))) h,
+  );
 }
   where
     new : LinkMap

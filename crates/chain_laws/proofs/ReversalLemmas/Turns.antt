@@ -1,7 +1,7 @@
 -- Links turned, and what names them.
 use Rattle.std.proofs.Common.{◌≡◌, ℕ, ◌⊎◌, inl, inr, List, [], ◌∷◌, Option, None, Some, refl, sym, ap, ◌∙◌, subst}
 use Rattle.std.specs.Option.{option_map}
-use Rattle.chain_laws.specs.Chains.{LinkMap, Interlinks, IsWellLinked, IsMember, AreDistinct, prev_in, next_in, prev_of, next_of}
+use Rattle.chain_laws.specs.Chains.{LinkMap, Interlinks, IsMember, AreDistinct, prev_in, next_in, prev_of, next_of}
 use Rattle.chain_laws.specs.Walks.{IsWalk}
 use Rattle.chain_laws.specs.Reversals.{turned, with_turn, with_turns, ReversalAgrees}
 use Rattle.chain_laws.proofs.ListLemmas.Members.{IsMember-or_not}

@@ -1,11 +1,9 @@
 -- Examples of reversals of a chain, and of moves of a link.
-use Rattle.std.specs.Prelude.{◌≡◌, ℕ, [], ◌∷◌, None, Some}
+use Rattle.std.specs.Prelude.{◌≡◌, [], ◌∷◌, None, Some}
 use Rattle.std.proofs.Common.{refl}
 use Rattle.chain_laws.specs.Chains.{LinkMap}
-use Rattle.chain_laws.specs.Joins.{with_prev_at, with_next_at, with_join, with_lone}
-use Rattle.chain_laws.specs.Removals.{without_link, with_removal}
-use Rattle.chain_laws.specs.Insertions.{with_insertion}
-use Rattle.chain_laws.specs.Reversals.{with_turn, with_turns}
+use Rattle.chain_laws.specs.Joins.{with_join, with_lone}
+use Rattle.chain_laws.specs.Reversals.{with_turns}
 use Rattle.chain_laws.specs.MoveAfter.{with_move_after}
 use Rattle.chain_laws.proofs.ChainLemmas.LinkedLists.{link}
 

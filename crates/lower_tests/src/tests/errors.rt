@@ -8,7 +8,10 @@ use std::alloc::AllocFailed;
 
 #[test]
 fn errors_have_texts(rt: HostRuntime) {
-    let (refused, beyond) = (ReallocationError::AllocError, ReallocationError::BeyondMaxCapacity);
+    let (refused, beyond) = (
+        ReallocationError::AllocError,
+        ReallocationError::BeyondMaxCapacity,
+    );
     let (full, reduced) = (NotWithinCapacityError, MaxCapacityReductionError);
     let written = format!(in rt.alloc(); "{AllocError}; {refused}; {beyond}; {full}; {reduced}");
     let want = "allocation failed, or no index is left; allocation failed, or no index is left; \

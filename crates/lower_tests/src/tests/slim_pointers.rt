@@ -96,5 +96,9 @@ fn a_tiny_pointer_is_its_two_parts(rt: HostRuntime) {
     all(&rt, "its parts", &parts);
     let name = TinyPtr::name();
     let written = format!(in rt.alloc(); "{name} {p:?}");
-    all(&rt, "the texts", &[is_text(written, "TinyPtr TinyPtr[1a](b)")]);
+    all(
+        &rt,
+        "the texts",
+        &[is_text(written, "TinyPtr TinyPtr[1a](b)")],
+    );
 }
