@@ -24,3 +24,4 @@ pub mod NewLinkLemmas
 pub mod InsertEntryLemmas
 pub mod PointerTransferLemmas
 pub mod DrainLawLemmas
+pub mod StartLemmas

@@ -8,3 +8,4 @@ pub mod Recasts
 pub mod NewLinks
 pub mod PointerTransfers
 pub mod DrainLaws
+pub mod Starts

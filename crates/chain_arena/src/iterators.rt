@@ -77,7 +77,7 @@ impl<P: PtrKey, T: Drop, S: SlotStack<Item = ArenaSlot<P, LinkNoGen<P, T>>>> Cha
 }
 
 // Returns an iterator over all links of an arena, whose number fits in 64 bits.
-fn links_of<P: PtrKey, T: Drop, S: SlotStack<Item = ArenaSlot<P, LinkNoGen<P, T>>>>(
+pub(crate) fn links_of<P: PtrKey, T: Drop, S: SlotStack<Item = ArenaSlot<P, LinkNoGen<P, T>>>>(
     arena: &Arena<P, LinkNoGen<P, T>, S>,
 ) -> Iter<'_, P, LinkNoGen<P, T>, S>
     ensures { (result ≡ entries arena.now) × (length result < 2 ^ 64) }

@@ -48,6 +48,7 @@ mod insert_entry;
 mod iterators;
 mod link_drains;
 mod recast;
+mod starts;
 mod transfer;
 mod visitors;
 
@@ -64,6 +65,7 @@ pub use chain_traits::ChainArenaTrait;
 pub use insert_entry::ChainArenaInsertEntry;
 pub use iterators::ValIter;
 pub use link_drains::LinkDrain;
+pub use starts::Starts;
 pub use transfer::{
     compression_and_transfer_agree, compression_moves_pointers, transfer_moves_pointers,
 };
