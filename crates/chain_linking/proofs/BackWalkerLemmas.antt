@@ -1,7 +1,7 @@
 -- A walker backwards: the way to the end of its chain, and the links that it reaches.
-use Rattle.std.specs.Prelude.{◌≡◌, ℕ, zero, suc, ◌+◌, ◌<◌, ◌≤◌, eqb, Bool, true, false, if◌then◌else◌, List, [], ◌∷◌, ◌++◌, reverse, length, Option, None, Some, IfSome}
+use Rattle.std.specs.Prelude.{◌≡◌, ℕ, zero, suc, ◌<◌, ◌≤◌, eqb, Bool, true, false, if◌then◌else◌, List, [], ◌∷◌, reverse, length, Option, None, Some, IfSome}
 use Rattle.std.proofs.Common.{refl, ap, sym, ◌∙◌, subst, inl, inr, arith, length-append}
-use Rattle.chain_laws.specs.Chains.{LinkMap, IsWellLinked, HasLink, HasLinksWithin, IsMember, AreLinked, prev_in, next_in, prev_of, next_of, first_or, last_or}
+use Rattle.chain_laws.specs.Chains.{LinkMap, IsWellLinked, HasLink, HasLinksWithin, IsMember, AreLinked, prev_in, next_in, next_of, last_or}
 use Rattle.chain_laws.specs.Walks.{IsWalk, of_linear, of_cyclic, step_forward}
 use Rattle.chain_laws.specs.WalksBack.{end_from, end_of, step_to}
 use Rattle.chain_laws.proofs.ChainLemmas.LinkedLists.{AreLinked-right}
