@@ -7,12 +7,14 @@ use Rattle.std.proofs.lemmas.List.Sums.{sum_by-cons}
 use Rattle.std.proofs.lemmas.List.Elements.{All-from_recursion}
 use Rattle.chain_laws.specs.Chains.{IsWellLinked, HasLink, IsMember, AreDistinct, prev_of}
 use Rattle.chain_laws.specs.Walks.{IsWalk}
+use Rattle.chain_laws.specs.WalksBack.{IsWalkBack}
 use Rattle.chain_laws.proofs.WalkLemmas.WalkBack.{length_among}
 use Rattle.chain_laws.proofs.WalkLemmas.Members.{has_walk, walk_valid, walk_once}
 use Rattle.chain_laws.proofs.WalkLemmas.Walker.{walk_passed}
+use Rattle.chain_laws.proofs.WalkLemmas.Backward.{back_bound, back_once, back_passed, back_valid, has_walk_back}
 use Rattle.arena_traits.specs.Arena.{Arena, entry_at, entry_count}
-use Rattle.chain_links.specs.ChainArena.{LinkView, interlinks_of, link_map, IsWalkOf}
-use Rattle.chain_links.specs.Walkers.{links_at, links_ahead}
+use Rattle.chain_links.specs.ChainArena.{LinkView, interlinks_of, link_map, IsWalkOf, IsWalkBackOf}
+use Rattle.chain_links.specs.Walkers.{links_at, links_ahead, links_back_ahead}
 use Rattle.chain_links.proofs.ArenaInsertionLemmas.{link_map-within, some_entry}
 
 -- The indexes of the entries, counted from k.
@@ -87,3 +89,27 @@ module _ {Gen T : Type 0} where
       ∙ (ap (λ n. links_ahead a n start (Some start) back) same_left
       ∙ (ap (λ s. links_ahead a (entry_count a) s (Some s) back) same_start
       ∙ ap (links_ahead a (entry_count a) i (Some i)) same_back)))) (links_ahead-walk a i agrees valid)
+
+  -- A walker backwards before a valid link passes its walk back.
+  links_back_ahead-walk : (a : Arena Gen (LinkView T)) (i : ℕ) → IsWellLinked (link_map a) → HasLink (link_map a) i → IsWalkBackOf a i (links_back_ahead a (entry_count a) i (Some i))
+  links_back_ahead-walk a i agrees valid =
+      let walk = has_walk_back (link_map a) (length a.slots) i agrees (link_map-within a) valid in
+      let each = back_valid (link_map a) i walk.0 walk.1 in
+      let passed = back_passed (entry_count a) (length a.slots) (link_map a) i walk.0 walk.1 (length-le_entries a walk.0 (back_once (link_map a) i walk.0 walk.1) each) (back_bound (link_map a) (length a.slots) i walk.0 (link_map-within a) walk.1) in
+      subst (λ (w : List ℕ). IsWalkBackOf a i (links_at a w)) (sym passed) (record {
+        walk = subst (IsWalkBack (link_map a) i) (sym (index-links_at a walk.0 each)) walk.1;
+        stored = All-from_recursion (StoredAs a) (links_at a walk.0) (links_at-are_stored a walk.0);
+      })
+
+  -- A walk back has at most as many links as the arena.
+  pub length-walk_back : (a : Arena Gen (LinkView T)) (i : ℕ) (links : List (ℕ × (Gen × LinkView T))) → IsWalkBackOf a i links → length links ≤ entry_count a
+  length-walk_back a i links is = subst (λ n. n ≤ entry_count a) (length-map links (λ (e : ℕ × (Gen × LinkView T)). e.0))
+      (length-le_entries a (map (λ (e : ℕ × (Gen × LinkView T)). e.0) links) (back_once (link_map a) i _ is.walk) (back_valid (link_map a) i _ is.walk))
+
+  -- The same for a walker whose parts are known by equations.
+  pub back_walker-walk : (a : Arena Gen (LinkView T)) (i left start : ℕ) (links : List (ℕ × (Gen × LinkView T))) → links ≡ links_back_ahead a left start (Some start) → left ≡ entry_count a → start ≡ i → IsWellLinked (link_map a)
+      → HasLink (link_map a) i → IsWalkBackOf a i links
+  back_walker-walk a i left start links are same_left same_start agrees valid =
+      subst (IsWalkBackOf a i) (sym (are
+      ∙ (ap (λ n. links_back_ahead a n start (Some start)) same_left
+      ∙ ap (λ s. links_back_ahead a (entry_count a) s (Some s)) same_start))) (links_back_ahead-walk a i agrees valid)

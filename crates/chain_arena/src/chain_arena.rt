@@ -4,7 +4,7 @@ ghost use Rattle.chain_laws.specs.Neighbors.{HasOneSetOfChains};
 ghost use Rattle.arena_core.specs.Invalidation.{invalidation_option};
 ghost use Rattle.arena_traits.specs.Arena.{entry_count, with_counter, with_maximum, HasCapacityFor, IsListed, IsValid};
 ghost use Rattle.arena_traits.specs.Entries.{IsSoundView};
-ghost use Rattle.chain_links.specs.ChainArena.{entry, value_view, link_map, IsWalkOf};
+ghost use Rattle.chain_links.specs.ChainArena.{entry, value_view, link_map, IsWalkOf, IsWalkBackOf};
 ghost use Rattle.chain_compaction.specs.Layouts.{ReportsAll, ReportsLayout, AreAllMoves};
 ghost use Rattle.chain_compaction.specs.PointerMoves.{ArePointerMoves};
 ghost use Rattle.chain_arena.specs.Effects.{AddsWork, IsBackedBy};
@@ -18,9 +18,10 @@ use arena_ptr::{
 };
 use chain_compaction::canonical::arrange;
 use chain_compaction::visitor::Visitor;
-use chain_linking::ChainIter;
+use chain_linking::back_iterator::iter_back_from;
 use chain_linking::chain_iterators::iter_from;
 use chain_linking::link_writes::remove_link_at;
+use chain_linking::{ChainBackIter, ChainIter};
 use chain_links::LinkNoGen;
 use std::alloc::Allocator;
 use std::marker::Model;
@@ -68,6 +69,26 @@ impl<P: PtrKey, T: Drop, S: SlotStack<Item = ArenaSlot<P, LinkNoGen<P, T>>>> Cha
         match self.arena.get(p) {
             Some(link) => Some(iter_from(&self.arena, p.inx(), link.prev(), self.arena.len())),
             None => None,
+        }
+    }
+
+    /// Returns an iterator over the links of the chain of `p` backwards, each once, or `None` if
+    /// `p` is not valid.
+    ///
+    /// It goes from the link at `p` back to the start, then from the end back to the link after
+    /// it; a cyclic chain once around. At the start of a linear chain, one step walks on to the
+    /// end.
+    ///
+    /// Not in `triple_arena`.
+    pub fn iter_chain_back(&self, p: P) -> Option<ChainBackIter<'_, P, T, S>>
+        ensures { MatchOption result (IsValid (entry self.now) (P.key p) → ⊥)
+            (λ links. IsValid (entry self.now) (P.key p) × IsWalkBackOf self.now (P.key p).0 links
+            × (length links ≤ entry_count self.now)) }
+    {
+        if self.arena.contains(p) {
+            Some(iter_back_from(&self.arena, p.inx(), self.arena.len()))
+        } else {
+            None
         }
     }
 

@@ -57,7 +57,7 @@ pub use chain_advancer::ChainPtrAdvancer;
 pub use chain_arena::ChainArena;
 pub use chain_compaction::visitor::Visitor;
 pub use chain_drains::{ChainDrain, drain_gives_the_walk};
-pub use chain_linking::{ChainIter, links_agree};
+pub use chain_linking::{ChainBackIter, ChainIter, links_agree};
 pub use chain_links::{
     InsertKind, Link, LinkInsertKind, LinkNoGen, RawLink, links_compare_by_neighbors,
 };

@@ -3,5 +3,6 @@ pub mod Walker
 pub mod Ahead
 pub mod Steps
 pub mod Members
+pub mod Backward
 pub mod Drains
 pub mod WalkBack

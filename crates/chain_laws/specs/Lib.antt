@@ -7,6 +7,7 @@ pub mod Joins
 pub mod Removals
 pub mod Reversals
 pub mod Walks
+pub mod WalksBack
 pub mod Renamings
 pub mod Arrangements
 pub mod Moves

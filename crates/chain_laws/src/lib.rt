@@ -18,3 +18,4 @@ pub mod renaming;
 pub mod reversal;
 pub mod transfer;
 pub mod walks;
+pub mod walks_back;

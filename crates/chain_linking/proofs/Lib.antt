@@ -8,5 +8,6 @@ pub mod LinkInsertionLemmas
 pub mod LinkWriteLemmas
 pub mod UnlinkLemmas
 pub mod WalkerLemmas
+pub mod BackWalkerLemmas
 pub mod ReversalLemmas
 pub mod MoveLinkLemmas

@@ -7,3 +7,9 @@ pub record IsOnLinks (link_map : LinkMap) (forward back : Option ℕ) : Type 0 w
   pub agrees : IsWellLinked link_map
   pub onward : IfSome forward (HasLink link_map)
   pub behind : IfSome back (HasLink link_map)
+
+-- The interlinks agree, and the links at which a walker backwards began and goes on exist.
+pub record IsOnLinksBack (link_map : LinkMap) (start : ℕ) (at : Option ℕ) : Type 0 where
+  pub agrees : IsWellLinked link_map
+  pub began : HasLink link_map start
+  pub onward : IfSome at (HasLink link_map)

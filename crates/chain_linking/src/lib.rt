@@ -3,6 +3,7 @@
 #![tactic(auto)]
 
 pub mod agreement;
+pub mod back_iterator;
 pub mod chain_iterators;
 pub mod connection;
 pub mod destinations;
@@ -12,4 +13,5 @@ pub mod reversal;
 pub mod walk_step;
 
 pub use agreement::links_agree;
+pub use back_iterator::ChainBackIter;
 pub use chain_iterators::ChainIter;

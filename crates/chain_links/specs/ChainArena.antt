@@ -3,6 +3,7 @@ use Rattle.std.specs.Prelude.{◌≡◌, ◌≢◌, ℕ, zero, suc, List, [], �
 use Rattle.std.specs.Option.{option_map, option_and_then}
 use Rattle.chain_laws.specs.Chains.{LinkMap, Interlinks, prev_of, next_of}
 use Rattle.chain_laws.specs.Walks.{IsWalk}
+use Rattle.chain_laws.specs.WalksBack.{IsWalkBack}
 use Rattle.chain_laws.specs.Removals.{with_removal}
 use Rattle.chain_laws.specs.Joins.{with_next_at, with_prev_at}
 use Rattle.chain_laws.specs.Insertions.{with_insertion}
@@ -122,6 +123,11 @@ module _ {Gen T : Type 0} where
   -- The links of the walk from i, with indexes and generations.
   pub record IsWalkOf (a : Arena Gen (LinkView T)) (i : ℕ) (links : List (ℕ × (Gen × LinkView T))) : Type 0 where
     pub walk : IsWalk (link_map a) i (map (λ e. e.0) links)
+    pub stored : All (λ e. entry_at a e.0 ≡ Some e.1) links
+
+  -- The links of the walk back from i, with indexes and generations.
+  pub record IsWalkBackOf (a : Arena Gen (LinkView T)) (i : ℕ) (links : List (ℕ × (Gen × LinkView T))) : Type 0 where
+    pub walk : IsWalkBack (link_map a) i (map (λ e. e.0) links)
     pub stored : All (λ e. entry_at a e.0 ≡ Some e.1) links
 
 -- Links of any arena, from its entries and interlinks.

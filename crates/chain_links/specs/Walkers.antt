@@ -1,9 +1,10 @@
 -- The links that a walker over a chain arena still yields.
-use Rattle.std.specs.Prelude.{◌≡◌, ℕ, List, [], ◌∷◌, Option, None, Some, IfSome, IfNone}
+use Rattle.std.specs.Prelude.{◌≡◌, ℕ, List, [], ◌∷◌, length, Option, None, Some, IfSome, IfNone}
 use Rattle.std.specs.Option.{option_map}
 use Rattle.std.specs.Borrow.{Bor}
 use Rattle.chain_laws.specs.Chains.{LinkMap}
 use Rattle.chain_laws.specs.Walks.{Walker, walk_ahead, step_of}
+use Rattle.chain_laws.specs.WalksBack.{back_ahead, end_of}
 use Rattle.chain_links.specs.declared.links.RawLink.{RawLink}
 use Rattle.arena_traits.specs.Arena.{Arena, entry_at, IsValid}
 use Rattle.chain_links.specs.ChainArena.{LinkView, link_map}
@@ -19,6 +20,15 @@ module _ {Gen T : Type 0} where
   -- most `left` steps.
   abbrev pub links_ahead : Arena Gen (LinkView T) → ℕ → ℕ → Option ℕ → Option ℕ → List (ℕ × (Gen × LinkView T))
   links_ahead a left start forward back = links_at a (walk_ahead left (link_map a) start forward back)
+
+  -- The last link of the chain of a link: the end, or the link before it in a cyclic chain.
+  abbrev pub end_in : Arena Gen (LinkView T) → ℕ → ℕ
+  end_in a start = end_of (length a.slots) (link_map a) start
+
+  -- The links ahead of a walker backwards that began at `start`, goes on at `at`, and makes at most
+  -- `left` steps.
+  abbrev pub links_back_ahead : Arena Gen (LinkView T) → ℕ → ℕ → Option ℕ → List (ℕ × (Gen × LinkView T))
+  links_back_ahead a left start at = links_at a (back_ahead left (link_map a) start (end_in a start) at)
 
 module _ {Gen T : Type 0} where
   abbrev pub index_and_entry : ℕ → Gen × LinkView T → ℕ × (Gen × LinkView T)

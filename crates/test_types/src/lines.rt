@@ -110,6 +110,7 @@ pub enum Do {
     WriteValue,
     WriteValueInx,
     Walk,
+    WalkBack,
     Values,
     Links,
     LinksByReference,
@@ -171,9 +172,9 @@ const PLAIN_CALLS: [(&str, Do); 13] = named!(
     CompactWriting DropCompactor ForgetCompactor CopyHole
 );
 
-const OWN_READS: [(&str, Do); 15] = named!(
+const OWN_READS: [(&str, Do); 16] = named!(
     DrainTwo RemoveLinkInx DrainTaking Debug SlotsListed Clone CopyOver Value WriteValue
-    WriteValueInx Walk Values Links LinksByReference LinksUsedUp
+    WriteValueInx Walk WalkBack Values Links LinksByReference LinksUsedUp
 );
 
 const OWN_CALLS: [(&str, Do); 19] = named!(

@@ -38,7 +38,7 @@ AreDistinct-reversed (x ∷ xs) zs once others apart =
     still_apart y h (inr k) = apart y (inr h) k
 
 -- A member of a reversed list is a member of the list.
-IsMember-back : (xs : List ℕ) (y : ℕ) → IsMember (reverse xs) y → IsMember xs y
+pub IsMember-back : (xs : List ℕ) (y : ℕ) → IsMember (reverse xs) y → IsMember xs y
 IsMember-back xs y h = ⊎_elim (λ k. k) (λ n. absurd n) ((IsMember-reversed xs [] y).0 h)
 
 -- A walk begins at its link.

@@ -1,6 +1,7 @@
 //! Rows of the inherent calls of a chain arena.
 
-// Walks to the end and then from the link before back to the start, or once around a ring.
+// Walks to the end and then from the link before back to the start, or once around a ring. Walks
+// backwards to the start and then from the end, or once around a ring.
 const WALKS: &str = "\
 # a row of three, of which the middle one is taken out again
 Insert Disconnected 10 = Ok(P0[1](2))
@@ -14,13 +15,21 @@ Walk 1 2 = [(P0[1](2), {(start), 2} 10), (P0[2](2), {1, (end)} 30)]
 Linked 4 3 1 4 2 = true
 Walk 1 2 = [(P0[1](2), {3, 4} 1), (P0[4](2), {1, 2} 4), (P0[2](2), {4, (end)} 2), (P0[3](2), {(start), 1} 3)]
 Walk 2 2 = [(P0[2](2), {4, (end)} 2), (P0[4](2), {1, 2} 4), (P0[1](2), {3, 4} 1), (P0[3](2), {(start), 1} 3)]
-# a ring of three
+WalkBack 4 2 = [(P0[4](2), {1, 2} 4), (P0[1](2), {3, 4} 1), (P0[3](2), {(start), 1} 3), (P0[2](2), {4, (end)} 2)]
+WalkBack 1 2 = [(P0[1](2), {3, 4} 1), (P0[3](2), {(start), 1} 3), (P0[2](2), {4, (end)} 2), (P0[4](2), {1, 2} 4)]
+WalkBack 3 2 = [(P0[3](2), {(start), 1} 3), (P0[2](2), {4, (end)} 2), (P0[4](2), {1, 2} 4), (P0[1](2), {3, 4} 1)]
+WalkBack 2 2 = [(P0[2](2), {4, (end)} 2), (P0[4](2), {1, 2} 4), (P0[1](2), {3, 4} 1), (P0[3](2), {(start), 1} 3)]
+# a ring of three, and a lone link
 Linked 4 1 2 3 1 = true
 Walk 2 2 = [(P0[2](2), {1, 3} 2), (P0[3](2), {2, 1} 3), (P0[1](2), {3, 2} 1)]
+WalkBack 2 2 = [(P0[2](2), {1, 3} 2), (P0[1](2), {3, 2} 1), (P0[3](2), {2, 1} 3)]
+WalkBack 4 2 = [(P0[4](2), {(start), (end)} 4)]
 # a ring of one, and one of two
 Linked 4 1 1 0 2 3 2 = true
 Walk 1 2 = [(P0[1](2), {1, 1} 1)]
 Walk 3 2 = [(P0[3](2), {2, 2} 3), (P0[2](2), {3, 3} 2)]
+WalkBack 1 2 = [(P0[1](2), {1, 1} 1)]
+WalkBack 3 2 = [(P0[3](2), {2, 2} 3), (P0[2](2), {3, 3} 2)]
 ";
 
 // Loops over all links, and values by valid pointers and indexes.
@@ -63,6 +72,7 @@ InsertMany 1 = 1
 Remove 1 2 = Success(1)
 Insert Disconnected 2 = Ok(P0[1](3))
 Walk 1 2 = None
+WalkBack 1 2 = None
 DrainChain 1 2 = None
 DrainTaking 1 2 1 = None
 Debug = {P0[1](3): {(start), (end)} 2}

@@ -10,7 +10,9 @@ use super::entries::{
 };
 use super::fallible_insertion::{dig, fill};
 use super::indexing::{value_at, write_at, write_at_index};
-use super::iterators::{indexes, links, links_by_reference, links_used_up, values, walk};
+use super::iterators::{
+    indexes, links, links_by_reference, links_used_up, values, walk, walk_back,
+};
 use super::scripts::{Parsed, RunsCalls, run_call};
 use super::{ChainsOver, Slot, fresh};
 use arena_ptr::{SlotStack, ToolPtr};
@@ -28,6 +30,7 @@ fn run_own_call<S: SlotStack<Item = Slot>>(
         Do::WriteValue => text(alloc, write_at(arena, parsed.p, parsed.t)),
         Do::WriteValueInx => text(alloc, write_at_index(arena, parsed.i, parsed.t)),
         Do::Walk => walk(alloc, arena, parsed.p),
+        Do::WalkBack => walk_back(alloc, arena, parsed.p),
         Do::Values => values(alloc, arena),
         Do::Links => links(alloc, arena),
         Do::LinksByReference => links_by_reference(alloc, arena),

@@ -71,3 +71,15 @@ pub(super) fn walk<S: SlotStack<Item = Slot>>(
         None => text(alloc, None::<u32>),
     }
 }
+
+// Returns the links of a walk backwards, each with its current pointer.
+pub(super) fn walk_back<S: SlotStack<Item = Slot>>(
+    alloc: Global,
+    arena: &ChainsOver<S>,
+    p: ToolPtr,
+) -> String {
+    match arena.iter_chain_back(p) {
+        Some(links) => text_of_all(alloc, links),
+        None => text(alloc, None::<u32>),
+    }
+}
