@@ -5,7 +5,7 @@ use Rattle.arena_ptr.specs.declared.index.inx32.Inx32.{Inx32}
 use Rattle.arena_ptr.specs.declared.tool_ptr.ToolPtr.{ToolPtr}
 use Rattle.arena_ptr.specs.declared.generation.gen32.Gen32.{Gen32}
 use Rattle.chain_arena.specs.declared.calls.Call.{Call}
-use Rattle.chain_arena.specs.declared.calls.Call.TheVariants.{Insert, InsertWithin, Connect, BreakPrev, BreakNext, ExchangeNext, ReverseChain, MoveAfter, Remove, RemoveInx, Invalidate, DrainChain, Clear, Compress, CompressCanonical, Reserve, SetGeneration, IncGeneration}
+use Rattle.chain_arena.specs.declared.calls.Call.TheVariants.{Insert, InsertWithin, Connect, BreakPrev, BreakNext, ExchangeNext, ReverseChain, MoveAfter, SpliceAfter, Remove, RemoveInx, Invalidate, DrainChain, Clear, Compress, CompressCanonical, Reserve, SetGeneration, IncGeneration}
 use Rattle.chain_laws.specs.declared.insert_kind.InsertKind.{InsertKind}
 use Rattle.chain_laws.specs.declared.insert_kind.InsertKind.TheVariants as kinds
 use Rattle.chain_commands.specs.declared.command.Command.{Command}
@@ -40,6 +40,11 @@ one_pointer words = option_and_then pointer_of (one_word words)
 abbrev pub two_pointers : List (List ℕ) → Option (ToolPtr × ToolPtr)
 two_pointers [] = None
 two_pointers (word ∷ words) = option_zip (pointer_of word) (one_pointer words)
+
+-- Arguments that are three pointers.
+abbrev pub three_pointers : List (List ℕ) → Option (ToolPtr × ToolPtr × ToolPtr)
+three_pointers [] = None
+three_pointers (word ∷ words) = option_zip (pointer_of word) (two_pointers words)
 
 -- Arguments that are a pointer and a number.
 abbrev pub pointer_and_number : List (List ℕ) → Option (ToolPtr × ℕ)
@@ -109,6 +114,7 @@ command_of name arguments =
     else (if bytes_eq name (codes "exchange") then option_map (λ p. Change (ExchangeNext p.0 p.1)) (two_pointers arguments)
     else (if bytes_eq name (codes "reverse") then option_map (λ p. Change (ReverseChain p)) (one_pointer arguments)
     else (if bytes_eq name (codes "moveafter") then option_map (λ p. Change (MoveAfter p.0 p.1)) (two_pointers arguments)
+    else (if bytes_eq name (codes "spliceafter") then option_map (λ p. Change (SpliceAfter p.0 p.1 p.2)) (three_pointers arguments)
     else (if bytes_eq name (codes "remove") then option_map Change (removal arguments)
     else (if bytes_eq name (codes "invalidate") then option_map (λ p. Change (Invalidate p)) (one_pointer arguments)
     else (if bytes_eq name (codes "drain") then option_map (λ a. Change (DrainChain a.0 a.1)) (pointer_and_number arguments)
@@ -122,7 +128,7 @@ command_of name arguments =
     else (if bytes_eq name (codes "chain") then option_map Chain (one_pointer arguments)
     else (if bytes_eq name (codes "len") then option_map (λ none. Len) (no_arguments arguments)
     else (if bytes_eq name (codes "moves") then option_map Moves (reset_of arguments)
-    else None))))))))))))))))))))
+    else None)))))))))))))))))))))
 
 abbrev pub line_with : Option Command → Line
 line_with None = lines.Bad

@@ -2,7 +2,7 @@
 ghost use Rattle.std.specs.Prelude.{◌≡◌, bytes_eq, option_and_then, option_map};
 ghost use Rattle.chain_laws.specs.declared.insert_kind.InsertKind.TheVariants.{AtInterlink, AtInterlinkInx, Bridge, BridgeInx};
 ghost use Rattle.chain_commands.specs.Words.{generation_of, words_of};
-ghost use Rattle.chain_commands.specs.Commands.{by_either, one_word, one_number, one_pointer, two_pointers, pointer_and_number, no_arguments, reset_of, removal, kind_alone, kind_beside, kind_between, insertion, command_of, line_of};
+ghost use Rattle.chain_commands.specs.Commands.{by_either, one_word, one_number, one_pointer, two_pointers, three_pointers, pointer_and_number, no_arguments, reset_of, removal, kind_alone, kind_beside, kind_between, insertion, command_of, line_of};
 
 use crate::command::Command::Change;
 use crate::lexer::{index, next_word, number, pointer};
@@ -71,6 +71,9 @@ fn command_of(name: &[u8], words: &[u8]) -> Option<Command>
         ))),
         n if is(n, "reverse") => Some(Change(Call::ReverseChain(one_pointer(words)?))),
         n if is(n, "moveafter") => two_pointers(words).map(|(p, q)| Change(Call::MoveAfter(p, q))),
+        n if is(n, "spliceafter") => three_pointers(words).map(|(p, run)| Change(Call::SpliceAfter(
+            p, run.0, run.1,
+        ))),
         n if is(n, "remove") => Some(Change(removal(words)?)),
         n if is(n, "invalidate") => Some(Change(Call::Invalidate(one_pointer(words)?))),
         n if is(n, "drain") => pointer_and_number(words).map(|(p, take)| Change(Call::DrainChain {
@@ -266,6 +269,14 @@ fn two_pointers(arguments: &[u8]) -> Option<(ToolPtr, ToolPtr)>
 {
     let (word, rest) = next_word(arguments)?;
     Some((pointer(word)?, one_pointer(rest)?))
+}
+
+/// Parses the arguments as three pointers.
+fn three_pointers(arguments: &[u8]) -> Option<(ToolPtr, (ToolPtr, ToolPtr))>
+    ensures { result ≡ three_pointers (words_of arguments.now) }
+{
+    let (word, rest) = next_word(arguments)?;
+    Some((pointer(word)?, two_pointers(rest)?))
 }
 
 /// Parses the arguments as a pointer and a number.

@@ -311,10 +311,12 @@ const CUTTING_TABLE: (&str, &str) = (
     "add alone 1\nadd end 1 2\nadd end 2 3\nadd end 3 4\nexchange 1.2 2.2\nchain 1.2\nexchange 1.2 2.2\n\
         chain 1.2\nbreaknext 2.2\nbreakprev 1.2\nexchange 4.2 1.2\ninvalidate 3.2\nshow 4.2\n\
         drain 4.2 1\nlen\nadd alone 9\ndrain 1.2 9\nclear\nadd alone 1\nadd end 1.8 2\nadd end 2.8 3\n\
-        reverse 2.8\nchain 3.8\nmoveafter 3.8 1.8\nchain 2.8\nmoveafter 2.8 2.8\nreverse 3.2\n",
+        reverse 2.8\nchain 3.8\nmoveafter 3.8 1.8\nchain 2.8\nmoveafter 2.8 2.8\nreverse 3.2\n\
+        spliceafter 3.8 2.8 1.8\nchain 3.8\nspliceafter 1.8 3.8 1.8\n",
     "at 1.2\nat 2.2\nat 3.2\nat 4.2\nok\n1.2:1 3.2:3 4.2:4\nok\n1.2:1 2.2:2 3.2:3 4.2:4\nok\nnone\nnone\n\
         at 3.3\nprev 3.3 next - value 4\ncount 1\ncount 2\nat 3.5\ncount 2\nok\nat 1.8\nat 2.8\nat 3.8\nok\n\
-        3.8:3 2.8:2 1.8:1\nok\n2.8:2 1.8:1 3.8:3\nnone\nnone\n",
+        3.8:3 2.8:2 1.8:1\nok\n2.8:2 1.8:1 3.8:3\nnone\nnone\nok\n\
+        3.8:3 2.8:2 1.8:1\nnone\n",
 );
 
 const COMPRESSION_TABLE: (&str, &str) = (
@@ -351,7 +353,7 @@ const REMOVED_BY_INDEX: (&str, &str) = (
     "at 1.2\nat 2.2\nvalue 1\nnone\nnone\nprev - next - value 2\nok\nok\nat 1.4\n",
 );
 
-const MALFORMED_STEPS: [(&str, &str); 25] = [
+const MALFORMED_STEPS: [(&str, &str); 26] = [
     ("reserve\n", "bad line\n"),
     ("reserve x\n", "bad line\n"),
     ("setgen\n", "bad line\n"),
@@ -364,6 +366,7 @@ const MALFORMED_STEPS: [(&str, &str); 25] = [
     ("exchange 1.2 1\n", "bad line\n"),
     ("reverse 1\n", "bad line\n"),
     ("moveafter 1.2\n", "bad line\n"),
+    ("spliceafter 1.2 1.2\n", "bad line\n"),
     ("invalidate 1\n", "bad line\n"),
     ("drain 1.2\n", "bad line\n"),
     ("drain 1 2\n", "bad line\n"),

@@ -1,7 +1,7 @@
 //! Runs the calls of the traits of arenas and of arenas of links.
 
 use crate::advancers::{changes_met, met, met_along};
-use crate::lines::{Do, ParsedCall, text};
+use crate::lines::{third_of, Do, ParsedCall, text};
 use crate::numbered::{At, NONE, Numbered, at, number_or_zero, numbers};
 use arena_ptr::{AllocError, InvalidationOption, InvalidationResult, PtrKey};
 use arena_traits::{Advancer, ArenaTrait};
@@ -332,6 +332,12 @@ fn change_links<P: Numbered, A: ChainArenaTrait<P, u32> + Drop>(
     match parsed.call {
         Do::Reverse => text(alloc, arena.reverse_chain(parsed.p).is_some()),
         Do::MoveAfter => text(alloc, arena.move_after(parsed.p, parsed.q).is_some()),
+        Do::SpliceAfter => text(
+            alloc,
+            arena
+                .splice_after(parsed.p, parsed.q, third_of(&parsed))
+                .is_some(),
+        ),
         Do::RemoveLink => text(alloc, bare_removal::<P>(arena.remove_link_no_gen(parsed.p))),
         Do::Canonical => text(alloc, arena.compress_canonical(parsed.n > 0)),
         Do::TakeNext => text(alloc, take_next(arena, parsed.i)),

@@ -56,6 +56,7 @@ pub enum Do {
     Exchange,
     Reverse,
     MoveAfter,
+    SpliceAfter,
     RemoveLink,
     Canonical,
     TakeNext,
@@ -157,9 +158,9 @@ const LINK_READS: [(&str, Do); 11] = named!(
     Changes
 );
 
-const LINK_CHANGES: [(&str, Do); 13] = named!(
+const LINK_CHANGES: [(&str, Do); 14] = named!(
     Insert InsertMany Linked InsertWithin Connect BreakPrev BreakNext Exchange Reverse MoveAfter
-    RemoveLink Canonical TakeNext
+    SpliceAfter RemoveLink Canonical TakeNext
 );
 
 const CHANGES: [(&str, Do); 14] = named!(
@@ -340,6 +341,12 @@ fn with_numbers<P: Numbered>(
         }),
         None => None,
     }
+}
+
+/// Returns the third pointer of a call.
+pub fn third_of<P: Numbered>(parsed: &ParsedCall<P>) -> P {
+    let [_, _, _, _, n, g, ..] = parsed.numbers;
+    at::<P>((n, g))
 }
 
 /// Returns the call of a line, if there is such a call and such a kind.

@@ -213,6 +213,31 @@ Exchange 1 2 2 2 = true
 All = [((1, 2), 1, (0, 0), (3, 2)), ((2, 2), 2, (2, 2), (2, 2)), ((3, 2), 3, (1, 2), (0, 0))]
 Exchange 2 2 1 2 = true
 All = [((1, 2), 1, (0, 0), (2, 2)), ((2, 2), 2, (1, 2), (3, 2)), ((3, 2), 3, (2, 2), (0, 0))]
+# Runs of links moved after another link.
+# onward and back in one chain, where it already is, and nowhere
+Linked 5 1 2 3 4 5 = true
+SpliceAfter 5 2 2 2 3 2 = true
+All = [((1, 2), 1, (0, 0), (4, 2)), ((2, 2), 2, (5, 2), (3, 2)), ((3, 2), 3, (2, 2), (0, 0)), ((4, 2), 4, (1, 2), (5, 2)), ((5, 2), 5, (4, 2), (2, 2))]
+SpliceAfter 1 2 5 2 3 2 = true
+All = [((1, 2), 1, (0, 0), (5, 2)), ((2, 2), 2, (5, 2), (3, 2)), ((3, 2), 3, (2, 2), (4, 2)), ((4, 2), 4, (3, 2), (0, 0)), ((5, 2), 5, (1, 2), (2, 2))]
+SpliceAfter 1 2 5 2 2 2 = true
+SpliceAfter 3 2 5 2 3 2 = false
+SpliceAfter 9 2 5 2 3 2 = false
+SpliceAfter 1 2 9 2 3 2 = false
+SpliceAfter 1 2 5 2 3 3 = false
+All = [((1, 2), 1, (0, 0), (5, 2)), ((2, 2), 2, (5, 2), (3, 2)), ((3, 2), 3, (2, 2), (4, 2)), ((4, 2), 4, (3, 2), (0, 0)), ((5, 2), 5, (1, 2), (2, 2))]
+# from a ring to a linear chain, from a start to a ring, and around a ring
+Linked 5 1 2 3 1 0 4 5 = true
+SpliceAfter 4 2 2 2 3 2 = true
+All = [((1, 2), 1, (1, 2), (1, 2)), ((2, 2), 2, (4, 2), (3, 2)), ((3, 2), 3, (2, 2), (5, 2)), ((4, 2), 4, (0, 0), (2, 2)), ((5, 2), 5, (3, 2), (0, 0))]
+SpliceAfter 1 2 4 2 2 2 = true
+All = [((1, 2), 1, (2, 2), (4, 2)), ((2, 2), 2, (4, 2), (1, 2)), ((3, 2), 3, (0, 0), (5, 2)), ((4, 2), 4, (1, 2), (2, 2)), ((5, 2), 5, (3, 2), (0, 0))]
+SpliceAfter 1 2 2 2 2 2 = true
+All = [((1, 2), 1, (4, 2), (2, 2)), ((2, 2), 2, (1, 2), (4, 2)), ((3, 2), 3, (0, 0), (5, 2)), ((4, 2), 4, (2, 2), (1, 2)), ((5, 2), 5, (3, 2), (0, 0))]
+# after a link of the run itself: two rings
+Linked 4 1 2 3 4 = true
+SpliceAfter 2 2 1 2 4 2 = true
+All = [((1, 2), 1, (2, 2), (2, 2)), ((2, 2), 2, (1, 2), (1, 2)), ((3, 2), 3, (4, 2), (4, 2)), ((4, 2), 4, (3, 2), (3, 2))]
 # Chains reversed, and links moved after others.
 # a linear chain from its middle and from its end, and a ring of one
 Linked 4 1 2 3 0 4 4 = true

@@ -7,7 +7,7 @@ use arena_ptr::{AllocError, LimitStack, SlotStack, ToolPtr};
 use chain_arena::{Call, LinkInsertKind, Reply, run_calls};
 use std::alloc::Global;
 use std::process::Abort;
-use test_types::lines::{Do, parse_call, text};
+use test_types::lines::{Do, parse_call, text, third_of};
 use test_types::numbered::Numbered;
 
 // Returns the call of a line, or `None` if lists of calls have no such call.
@@ -22,6 +22,7 @@ pub(super) fn call(parsed: Parsed) -> Option<Call<ToolPtr, u32>> {
         Do::Exchange => Some(Call::ExchangeNext(p, q)),
         Do::Reverse => Some(Call::ReverseChain(p)),
         Do::MoveAfter => Some(Call::MoveAfter(p, q)),
+        Do::SpliceAfter => Some(Call::SpliceAfter(p, q, third_of(&parsed))),
         Do::RemoveLink => Some(Call::Remove(p)),
         Do::RemoveLinkInx => Some(Call::RemoveInx(parsed.i)),
         Do::Invalidate => Some(Call::Invalidate(p)),
@@ -189,6 +190,8 @@ MoveAfter 3 2 2 2 = true
 MoveAfter 2 2 2 2 = false
 MoveAfter 1 3 2 2 = false
 MoveAfter 3 2 1 2 = true
+SpliceAfter 1 2 3 2 3 2 = true
+SpliceAfter 3 2 3 2 3 2 = false
 BreakNext 2 2 = true
 BreakNext 2 2 = false
 BreakPrev 3 2 = true
