@@ -1,7 +1,7 @@
 //! Runs the calls of the traits of arenas and of arenas of links.
 
 use crate::advancers::{changes_met, met, met_along};
-use crate::lines::{third_of, Do, ParsedCall, text};
+use crate::lines::{Do, ParsedCall, text, third_of};
 use crate::numbered::{At, NONE, Numbered, at, number_or_zero, numbers};
 use arena_ptr::{AllocError, InvalidationOption, InvalidationResult, PtrKey};
 use arena_traits::{Advancer, ArenaTrait};

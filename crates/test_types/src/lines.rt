@@ -112,6 +112,7 @@ pub enum Do {
     WriteValueInx,
     Walk,
     WalkBack,
+    Starts,
     Values,
     Links,
     LinksByReference,
@@ -173,9 +174,9 @@ const PLAIN_CALLS: [(&str, Do); 13] = named!(
     CompactWriting DropCompactor ForgetCompactor CopyHole
 );
 
-const OWN_READS: [(&str, Do); 16] = named!(
+const OWN_READS: [(&str, Do); 17] = named!(
     DrainTwo RemoveLinkInx DrainTaking Debug SlotsListed Clone CopyOver Value WriteValue
-    WriteValueInx Walk WalkBack Values Links LinksByReference LinksUsedUp
+    WriteValueInx Walk WalkBack Starts Values Links LinksByReference LinksUsedUp
 );
 
 const OWN_CALLS: [(&str, Do); 19] = named!(

@@ -19,6 +19,9 @@ WalkBack 4 2 = [(P0[4](2), {1, 2} 4), (P0[1](2), {3, 4} 1), (P0[3](2), {(start),
 WalkBack 1 2 = [(P0[1](2), {3, 4} 1), (P0[3](2), {(start), 1} 3), (P0[2](2), {4, (end)} 2), (P0[4](2), {1, 2} 4)]
 WalkBack 3 2 = [(P0[3](2), {(start), 1} 3), (P0[2](2), {4, (end)} 2), (P0[4](2), {1, 2} 4), (P0[1](2), {3, 4} 1)]
 WalkBack 2 2 = [(P0[2](2), {4, (end)} 2), (P0[4](2), {1, 2} 4), (P0[1](2), {3, 4} 1), (P0[3](2), {(start), 1} 3)]
+Starts = [P0[3](2)]
+BreakNext 1 2 = true
+Starts = [P0[3](2), P0[4](2)]
 # a ring of three, and a lone link
 Linked 4 1 2 3 1 = true
 Walk 2 2 = [(P0[2](2), {1, 3} 2), (P0[3](2), {2, 1} 3), (P0[1](2), {3, 2} 1)]
@@ -30,6 +33,7 @@ Walk 1 2 = [(P0[1](2), {1, 1} 1)]
 Walk 3 2 = [(P0[3](2), {2, 2} 3), (P0[2](2), {3, 3} 2)]
 WalkBack 1 2 = [(P0[1](2), {1, 1} 1)]
 WalkBack 3 2 = [(P0[3](2), {2, 2} 3), (P0[2](2), {3, 3} 2)]
+Starts = [P0[4](2)]
 ";
 
 // Loops over all links, and values by valid pointers and indexes.
@@ -70,6 +74,7 @@ Counter = Some(5)
 # no walk and no drain of a stale pointer
 InsertMany 1 = 1
 Remove 1 2 = Success(1)
+Starts = []
 Insert Disconnected 2 = Ok(P0[1](3))
 Walk 1 2 = None
 WalkBack 1 2 = None

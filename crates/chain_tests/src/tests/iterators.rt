@@ -72,6 +72,11 @@ pub(super) fn walk<S: SlotStack<Item = Slot>>(
     }
 }
 
+// Returns the pointers to the starts of the linear chains.
+pub(super) fn starts<S: SlotStack<Item = Slot>>(alloc: Global, arena: &ChainsOver<S>) -> String {
+    text_of_all(alloc, arena.starts())
+}
+
 // Returns the links of a walk backwards, each with its current pointer.
 pub(super) fn walk_back<S: SlotStack<Item = Slot>>(
     alloc: Global,
