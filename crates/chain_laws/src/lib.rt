@@ -16,5 +16,6 @@ pub mod partition;
 pub mod removal;
 pub mod renaming;
 pub mod reversal;
+pub mod splice;
 pub mod transfer;
 pub mod walks;

@@ -1,0 +1,2 @@
+-- Lemmas on moves of a run.
+pub mod Interlinks
