@@ -1,2 +1,3 @@
 -- Lemmas on moves of a run.
 pub mod Interlinks
+pub mod Undo

@@ -146,7 +146,7 @@ module _ (link_map : LinkMap) (p first last : ℕ) (agrees : IsWellLinked link_m
   HasLink-rest : (i : ℕ) → HasLink link_map i → HasLink rest i
   HasLink-rest i h = (HasLink-linked link_map (prev_of link_map first) (next_of link_map last) i).1 h
 
-  next_of-rest : (j : ℕ) → next_of rest j ≡ bridged (next_of link_map) (prev_of link_map) first last j
+  pub next_of-rest : (j : ℕ) → next_of rest j ≡ bridged (next_of link_map) (prev_of link_map) first last j
   next_of-rest j = next_of-linked link_map (prev_of link_map first) (next_of link_map last) j (λ i e. next_valid link_map i first ((agrees.both i first).1 e))
 
   after_valid : (k j : ℕ) → next_of link_map k ≡ Some j → HasLink link_map j
