@@ -1,5 +1,5 @@
 -- Moves of a run of links to the place after another link.
-use Rattle.std.specs.Prelude.{◌≡◌, ◌≢◌, ◌↔◌, ℕ, List, [], ◌∷◌, ◌++◌, Option, None, Some}
+use Rattle.std.specs.Prelude.{◌≡◌, ◌≢◌, ◌↔◌, ℕ, List, [], ◌∷◌, ◌++◌, None, Some}
 use Rattle.chain_laws.specs.Chains.{LinkMap, Chain, linear, cyclic, items, IsMember, IsChain, HasLink, IsWellLinked, first_or, last_or, next_of, prev_of}
 use Rattle.chain_laws.specs.Joins.{with_neighbors}
 

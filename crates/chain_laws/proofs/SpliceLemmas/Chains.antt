@@ -1,29 +1,29 @@
 -- The chains after a run is moved.
-use Rattle.std.specs.Prelude.{◌≡◌, ◌≢◌, ◌↔◌, ℕ, ◌⊎◌, List, [], ◌∷◌, ◌++◌, Option, None, Some}
+use Rattle.std.specs.Prelude.{◌≡◌, ◌≢◌, ℕ, List, [], ◌∷◌, ◌++◌, Option, None, Some}
 use Rattle.std.proofs.Common.{sym, refl, ap, ◌∙◌, subst, inl, inr, ⊎_elim}
 use Rattle.std.proofs.lemmas.List.{append_assoc}
 use Rattle.chain_laws.specs.Chains.{LinkMap, Chain, linear, cyclic, items, IsChain, HasLink, IsWellLinked, IsMember, AreDistinct, AreLinked, first_or, last_or, prev_of, next_of, prev_in}
 use Rattle.chain_laws.specs.Splices.{with_splice, IsRun, HasRun, Splices, SpliceSplices}
-use Rattle.chain_laws.proofs.ListLemmas.Members.{IsMember-left, IsMember-right, IsMember-middle, IsMember-parts, IsMember-filled, first_or-append, last_or-append, last_or-IsMember, last_or-filled, AreDistinct-left, AreDistinct-right, AreDistinct-apart}
-use Rattle.chain_laws.proofs.ChainLemmas.LinkedLists.{AreLinked-left, AreLinked-right, first_no_repetition}
-use Rattle.chain_laws.proofs.ChainLemmas.Uniqueness.{chain_closed, chain_once, chain_valid, chain_filled, chains_share}
+use Rattle.chain_laws.proofs.ListLemmas.Members.{IsMember-left, IsMember-right, IsMember-middle, IsMember-filled, last_or-append, last_or-IsMember, last_or-filled, AreDistinct-left, AreDistinct-right, AreDistinct-apart}
+use Rattle.chain_laws.proofs.ChainLemmas.LinkedLists.{AreLinked-right, first_no_repetition}
+use Rattle.chain_laws.proofs.ChainLemmas.Uniqueness.{chain_closed, chain_once, chain_valid, chains_share}
 use Rattle.chain_laws.proofs.ChainLemmas.NeighborPairs.{before_first, after_last, chain_stored}
 use Rattle.chain_laws.proofs.InterlinkLemmas.Inverses.{one_some, not_both_ways}
 use Rattle.chain_laws.proofs.InterlinkLemmas.Skips.{names_or_not}
 use Rattle.chain_laws.proofs.InsertionLemmas.Pairs.{put_at-same, put_at-other}
-use Rattle.chain_laws.proofs.SpliceLemmas.Interlinks.{bridged, beyond, v_past, v_stays, v_not_past, onward_last, onward_p, onward_other, back_other, next_of-rest, next_of-spliced, prev_of-spliced, HasLink-spliced, spliced_agrees}
+use Rattle.chain_laws.proofs.SpliceLemmas.Interlinks.{next_without_run, beyond, v_past, v_stays, v_not_past, onward_last, onward_p, onward_other, back_other, next_of-rest, next_of-spliced, prev_of-spliced, HasLink-spliced, spliced_agrees}
 use Rattle.chain_laws.proofs.SpliceLemmas.Follows.{AreFollowed, AreFollowed-append, AreFollowed-left, AreFollowed-right, AreFollowed-frame, AreFollowed-redirected, AreFollowed-within, AreFollowed-last, first_or-Some, AreLinked-followed, followed-AreLinked}
 use Rattle.chain_laws.proofs.SpliceLemmas.Follows.{run_has_first, run_has_last, around_members, run_members, run_once, around_once, run_apart, placed_members, placed_once, placed_first}
 
--- The run, with links that f maps to one another.
-record IsOpenRun (f : ℕ → Option ℕ) (Valid : ℕ → Type 0) (run : List ℕ) : Type 0 where
+-- The links of the run, each mapped by f to the one after it.
+record IsFollowedRun (f : ℕ → Option ℕ) (Valid : ℕ → Type 0) (run : List ℕ) : Type 0 where
   pub after : Option ℕ
   pub followed : AreFollowed f run after
   pub once : AreDistinct run
   pub valid : (i : ℕ) → IsMember run i → Valid i
 
--- The links of a chain, without those of the run, which b maps to one another.
-record IsRest (b : ℕ → Option ℕ) (Valid : ℕ → Type 0) (run xs : List ℕ) (after : Option ℕ) : Type 0 where
+-- Links of a chain without the run, each mapped by b to the one after it.
+record IsRestOfChain (b : ℕ → Option ℕ) (Valid : ℕ → Type 0) (run xs : List ℕ) (after : Option ℕ) : Type 0 where
   pub followed : AreFollowed b xs after
   pub once : AreDistinct xs
   pub apart : (i : ℕ) → IsMember run i → IsMember xs i → ⊥
@@ -37,7 +37,7 @@ module _ (link_map : LinkMap) (p first last : ℕ) (agrees : IsWellLinked link_m
   g = prev_of link_map
 
   abbrev pub b : ℕ → Option ℕ
-  b = bridged f g first last
+  b = next_without_run f g first last
 
   abbrev pub new : LinkMap
   new = with_splice link_map p first last
@@ -129,7 +129,7 @@ module _ (link_map : LinkMap) (p first last : ℕ) (agrees : IsWellLinked link_m
 
   -- ---- the run put after p
 
-  placed : (u run w : List ℕ) (after : Option ℕ) → IsRun run first last → IsOpenRun f (HasLink link_map) run → IsRest b (HasLink link_map) run (u ++ p ∷ w) after
+  placed : (u run w : List ℕ) (after : Option ℕ) → IsRun run first last → IsFollowedRun f (HasLink link_map) run → IsRestOfChain b (HasLink link_map) run (u ++ p ∷ w) after
       → AreFollowed h (u ++ p ∷ run ++ w) after
   placed u run w after is_run its rest =
       AreFollowed-append h (u ++ p ∷ run) w after
@@ -163,7 +163,7 @@ module _ (link_map : LinkMap) (p first last : ℕ) (agrees : IsWellLinked link_m
               let same : first ≡ t.0 = one_some (sym ((agrees.both i first).1 at_i) ∙ t.1) in
               once.0 (subst (IsMember xs) (sym same ∙ sym (one_some is_run.0)) t.2)
 
-  placed_linear : (u run w : List ℕ) → IsRun run first last → IsOpenRun f (HasLink link_map) run → IsRest b (HasLink link_map) run (u ++ p ∷ w) None
+  placed_linear : (u run w : List ℕ) → IsRun run first last → IsFollowedRun f (HasLink link_map) run → IsRestOfChain b (HasLink link_map) run (u ++ p ∷ w) None
       → ((i : ℕ) → first_or (u ++ p ∷ w) None ≡ Some i → k i ≡ None) → IsChain new (linear (u ++ p ∷ run ++ w))
   placed_linear u run w is_run its rest start =
       linear_chain (u ++ p ∷ run ++ w) (IsMember-filled _ p (IsMember-left (u ++ p ∷ run) w p (IsMember-middle u run p)))
@@ -171,7 +171,7 @@ module _ (link_map : LinkMap) (p first last : ℕ) (agrees : IsWellLinked link_m
       (λ i m. ⊎_elim (rest.valid i) (its.valid i) (placed_members u run w p i m))
       (λ i e. start i (sym (placed_first u run w p) ∙ e))
 
-  placed_cyclic : (u run w : List ℕ) → IsRun run first last → IsOpenRun f (HasLink link_map) run → IsRest b (HasLink link_map) run (u ++ p ∷ w) (first_or (u ++ p ∷ w) None)
+  placed_cyclic : (u run w : List ℕ) → IsRun run first last → IsFollowedRun f (HasLink link_map) run → IsRestOfChain b (HasLink link_map) run (u ++ p ∷ w) (first_or (u ++ p ∷ w) None)
       → IsChain new (cyclic (u ++ p ∷ run ++ w))
   placed_cyclic u run w is_run its rest =
       cyclic_chain (u ++ p ∷ run ++ w) (IsMember-filled _ p (IsMember-left (u ++ p ∷ run) w p (IsMember-middle u run p)))
@@ -181,8 +181,8 @@ module _ (link_map : LinkMap) (p first last : ℕ) (agrees : IsWellLinked link_m
 
   -- ---- the run taken out
 
-  -- The run of a chain is open.
-  run_of : (c : Chain) (run : List ℕ) → IsChain link_map c → HasRun c run → IsOpenRun f (HasLink link_map) run
+  -- The links of a run of a chain follow one another.
+  run_of : (c : Chain) (run : List ℕ) → IsChain link_map c → HasRun c run → IsFollowedRun f (HasLink link_map) run
   run_of c run chain has =
       let whole : AreFollowed f (has.0 ++ run ++ has.1) (after_last c) =
       subst (λ (xs : List ℕ). AreFollowed f xs (after_last c)) has.2 (AreLinked-followed link_map (before_first c) (items c) (after_last c) (chain_stored link_map c chain)) in
@@ -201,7 +201,7 @@ module _ (link_map : LinkMap) (p first last : ℕ) (agrees : IsWellLinked link_m
   run_next : (run w : List ℕ) (after : Option ℕ) → IsRun run first last → AreFollowed f (run ++ w) after → f last ≡ first_or w after
   run_next run w after is_run followed = AreFollowed-last f run (first_or w after) last (AreFollowed-left f run w after followed) is_run.1
 
-  taken_linear : (x run w : List ℕ) → IsRun run first last → IsChain link_map (linear (x ++ run ++ w)) → IsRest b (HasLink link_map) run (x ++ w) None
+  taken_linear : (x run w : List ℕ) → IsRun run first last → IsChain link_map (linear (x ++ run ++ w)) → IsRestOfChain b (HasLink link_map) run (x ++ w) None
   taken_linear x run w is_run chain = record {
     followed = AreFollowed-append b x w None
         (AreFollowed-redirected f b x (first_or run (first_or w None)) (first_or w None) (AreDistinct-left x w once)
@@ -239,7 +239,7 @@ module _ (link_map : LinkMap) (p first last : ℕ) (agrees : IsWellLinked link_m
       start_stays i (ap g (sym (one_some e)) ∙ ap prev_in chain.2.0)
       (λ s. chain.1.0 (subst (IsMember (x ++ run ++ w)) (sym s ∙ sym (one_some e)) (run_members x run w first (run_has_first run first last is_run))))
 
-  taken_cyclic : (run w : List ℕ) → IsRun run first last → w ≢ [] → IsChain link_map (cyclic (run ++ w)) → IsRest b (HasLink link_map) run w (first_or w None)
+  taken_cyclic : (run w : List ℕ) → IsRun run first last → w ≢ [] → IsChain link_map (cyclic (run ++ w)) → IsRestOfChain b (HasLink link_map) run w (first_or w None)
   taken_cyclic run [] is_run filled chain = absurd (filled refl)
   taken_cyclic run (y ∷ w) is_run filled chain = record {
     followed = AreFollowed-redirected f b (y ∷ w) _ (Some y) once
@@ -266,7 +266,7 @@ module _ (link_map : LinkMap) (p first last : ℕ) (agrees : IsWellLinked link_m
   -- ---- a chain without the run
 
   other_rest : (c : Chain) (run : List ℕ) → IsChain link_map c → (IsMember (items c) first → ⊥) → ((i : ℕ) → IsMember run i → IsMember (items c) i → ⊥)
-      → IsRest b (HasLink link_map) run (items c) (after_last c)
+      → IsRestOfChain b (HasLink link_map) run (items c) (after_last c)
   other_rest c run chain no_first out = record {
     followed = AreFollowed-frame f b (items c) (after_last c)
         (λ i m. b_other i (λ at_i. no_first ((chain_closed link_map c chain).forward i first m ((agrees.both i first).1 at_i))))
@@ -282,7 +282,7 @@ module _ (link_map : LinkMap) (p first last : ℕ) (agrees : IsWellLinked link_m
       start_stays i (ap g (sym (one_some e)) ∙ ap prev_in chain.2.0) (λ s. no_first (inl (one_some e ∙ s)))
 
   -- Links without p and `last` are followed as they were.
-  kept : (run xs : List ℕ) (after : Option ℕ) → IsRest b (HasLink link_map) run xs after → (IsMember xs p → ⊥) → (IsMember xs last → ⊥) → AreFollowed h xs after
+  kept : (run xs : List ℕ) (after : Option ℕ) → IsRestOfChain b (HasLink link_map) run xs after → (IsMember xs p → ⊥) → (IsMember xs last → ⊥) → AreFollowed h xs after
   kept run xs after rest no_p no_last =
       AreFollowed-frame b h xs after (λ i m. h_other i (λ e. no_last (subst (IsMember xs) e m)) (λ e. no_p (subst (IsMember xs) e m))) rest.followed
 
@@ -306,12 +306,12 @@ module _ (link_map : LinkMap) (p first last : ℕ) (agrees : IsWellLinked link_m
     onward = λ x run z y is_run chain.
         let whole = subst (λ (zs : List ℕ). IsChain link_map (linear zs)) (append_assoc (x ++ run) z (p ∷ y)) chain in
         placed_linear (x ++ z) run y is_run (run_of (linear (x ++ run ++ (z ++ p ∷ y))) run whole (x, z ++ p ∷ y, refl))
-        (subst (λ (zs : List ℕ). IsRest b (HasLink link_map) run zs None) (sym (append_assoc x z (p ∷ y))) (taken_linear x run (z ++ p ∷ y) is_run whole))
+        (subst (λ (zs : List ℕ). IsRestOfChain b (HasLink link_map) run zs None) (sym (append_assoc x z (p ∷ y))) (taken_linear x run (z ++ p ∷ y) is_run whole))
         (subst (λ (zs : List ℕ). (i : ℕ) → first_or zs None ≡ Some i → k i ≡ None) (sym (append_assoc x z (p ∷ y))) (taken_start x run (z ++ p ∷ y) is_run whole));
     backward = λ x z run y is_run chain.
         subst (λ (zs : List ℕ). IsChain new (linear zs)) (sym (append_assoc (x ++ p ∷ run) z y))
         (placed_linear x run (z ++ y) is_run (run_of (linear (x ++ p ∷ z ++ run ++ y)) run chain (x ++ p ∷ z, y, refl))
-        (subst (λ (zs : List ℕ). IsRest b (HasLink link_map) run zs None) (append_assoc x (p ∷ z) y) (taken_linear (x ++ p ∷ z) run y is_run chain))
+        (subst (λ (zs : List ℕ). IsRestOfChain b (HasLink link_map) run zs None) (append_assoc x (p ∷ z) y) (taken_linear (x ++ p ∷ z) run y is_run chain))
         (subst (λ (zs : List ℕ). (i : ℕ) → first_or zs None ≡ Some i → k i ≡ None) (append_assoc x (p ∷ z) y) (taken_start (x ++ p ∷ z) run y is_run chain)));
     around = λ run z y is_run chain.
         let whole = subst (λ (zs : List ℕ). IsChain link_map (cyclic zs)) (append_assoc run z (p ∷ y)) chain in

@@ -1,35 +1,34 @@
 -- Interlinks after a run is moved: next and prev still undo each other.
 use Rattle.std.specs.Prelude.{◌≡◌, ◌≢◌, ◌↔◌, ℕ, ◌==◌, if◌then◌else◌, ◌⊎◌, Option, None, Some}
-use Rattle.std.proofs.Common.{sym, refl, ap, ◌∙◌, inl, inr, ⊎_elim}
+use Rattle.std.proofs.Common.{sym, ap, ◌∙◌, inl, inr, ⊎_elim}
 use Rattle.std.proofs.lemmas.Bool.{cases_eq}
 use Rattle.chain_laws.specs.Chains.{LinkMap, HasLink, IsWellLinked, prev_of, next_of}
 use Rattle.chain_laws.specs.Joins.{with_neighbors}
-use Rattle.chain_laws.specs.Splices.{without_run, with_splice, SpliceAgrees, SpliceBackRestores}
-use Rattle.chain_laws.proofs.InterlinkLemmas.Inverses.{Undoes, Undoes-at, altered, altered-same, altered-other, undoes_both, one_some, not_both_ways}
+use Rattle.chain_laws.specs.Splices.{without_run, with_splice, SpliceAgrees}
+use Rattle.chain_laws.proofs.InterlinkLemmas.Inverses.{Undoes, Undoes-at, altered, altered-same, altered-other, one_some}
 use Rattle.chain_laws.proofs.InterlinkLemmas.Linked.{IsValidAt, IsValidAt-Some, put_at, next_of-linked, prev_of-linked, HasLink-linked}
 use Rattle.chain_laws.proofs.InterlinkLemmas.Skips.{names_or_not}
 use Rattle.chain_laws.proofs.InsertionLemmas.Pairs.{put_at-same, put_at-other}
 use Rattle.chain_laws.proofs.ChainLemmas.LinkedLists.{next_valid, prev_valid}
-use Rattle.chain_laws.proofs.ChainLemmas.Determinacy.{pairs_decide}
 
 -- What a write at an index leaves there depends on what was there alone.
 put_at-alike : (f h : ℕ → Option ℕ) (u o : Option ℕ) (j : ℕ) → f j ≡ h j → put_at f u o j ≡ put_at h u o j
 put_at-alike f h None o j e = e
 put_at-alike f h (Some i) o j e = ap (λ (r : Option ℕ). if j == i then o else r) e
 
--- f with the run from `first` to `last` bridged; g undoes f.
-abbrev pub bridged : (f g : ℕ → Option ℕ) (first last : ℕ) → ℕ → Option ℕ
-bridged f g first last = put_at f (g first) (f last)
+-- f without the run from `first` to `last`: what comes before it is mapped to what follows it.
+abbrev pub next_without_run : (f g : ℕ → Option ℕ) (first last : ℕ) → ℕ → Option ℕ
+next_without_run f g first last = put_at f (g first) (f last)
 
 -- f with p mapped to `first`, and `last` to v.
-abbrev pub spliced_onward : (f g : ℕ → Option ℕ) (p first last : ℕ) (v : Option ℕ) → ℕ → Option ℕ
-spliced_onward f g p first last v = altered (altered (bridged f g first last) p (Some first)) last v
+abbrev pub next_with_splice : (f g : ℕ → Option ℕ) (p first last : ℕ) (v : Option ℕ) → ℕ → Option ℕ
+next_with_splice f g p first last v = altered (altered (next_without_run f g first last) p (Some first)) last v
 
 -- g with `first` mapped to p, and v to `last`.
-abbrev pub spliced_back : (f g : ℕ → Option ℕ) (p first last : ℕ) (v : Option ℕ) → ℕ → Option ℕ
-spliced_back f g p first last v = put_at (altered (put_at g (f last) (g first)) first (Some p)) v (Some last)
+abbrev pub prev_with_splice : (f g : ℕ → Option ℕ) (p first last : ℕ) (v : Option ℕ) → ℕ → Option ℕ
+prev_with_splice f g p first last v = put_at (altered (put_at g (f last) (g first)) first (Some p)) v (Some last)
 
-module _ (f g : ℕ → Option ℕ) (p first last : ℕ) (v : Option ℕ) (each : Undoes f g) (apart : p ≢ last) (is_v : v ≡ bridged f g first last p) where
+module _ (f g : ℕ → Option ℕ) (p first last : ℕ) (v : Option ℕ) (each : Undoes f g) (apart : p ≢ last) (is_v : v ≡ next_without_run f g first last p) where
   -- p was before the run, or not.
   pub v_past : g first ≡ Some p → v ≡ f last
   v_past at_p = is_v ∙ put_at-same f (g first) (f last) p at_p
@@ -57,30 +56,30 @@ module _ (f g : ℕ → Option ℕ) (p first last : ℕ) (v : Option ℕ) (each 
   v_not_past ne j e w = apart (once p last j (sym (v_stays ne) ∙ w) e)
 
   -- What follows each index now.
-  pub onward_last : (i : ℕ) → i ≡ last → spliced_onward f g p first last v i ≡ v
-  onward_last i e = altered-same (altered (bridged f g first last) p (Some first)) last v i e
+  pub onward_last : (i : ℕ) → i ≡ last → next_with_splice f g p first last v i ≡ v
+  onward_last i e = altered-same (altered (next_without_run f g first last) p (Some first)) last v i e
 
-  pub onward_p : (i : ℕ) → i ≢ last → i ≡ p → spliced_onward f g p first last v i ≡ Some first
-  onward_p i ne e = altered-other (altered (bridged f g first last) p (Some first)) last v i ne ∙ altered-same (bridged f g first last) p (Some first) i e
+  pub onward_p : (i : ℕ) → i ≢ last → i ≡ p → next_with_splice f g p first last v i ≡ Some first
+  onward_p i ne e = altered-other (altered (next_without_run f g first last) p (Some first)) last v i ne ∙ altered-same (next_without_run f g first last) p (Some first) i e
 
-  pub onward_other : (i : ℕ) → i ≢ last → i ≢ p → spliced_onward f g p first last v i ≡ bridged f g first last i
+  pub onward_other : (i : ℕ) → i ≢ last → i ≢ p → next_with_splice f g p first last v i ≡ next_without_run f g first last i
   onward_other i not_last not_p =
-      altered-other (altered (bridged f g first last) p (Some first)) last v i not_last ∙ altered-other (bridged f g first last) p (Some first) i not_p
+      altered-other (altered (next_without_run f g first last) p (Some first)) last v i not_last ∙ altered-other (next_without_run f g first last) p (Some first) i not_p
 
   -- What precedes each index now.
-  pub back_v : (j : ℕ) → v ≡ Some j → spliced_back f g p first last v j ≡ Some last
+  pub back_v : (j : ℕ) → v ≡ Some j → prev_with_splice f g p first last v j ≡ Some last
   back_v j e = put_at-same (altered (put_at g (f last) (g first)) first (Some p)) v (Some last) j e
 
-  pub back_first : (j : ℕ) → v ≢ Some j → j ≡ first → spliced_back f g p first last v j ≡ Some p
+  pub back_first : (j : ℕ) → v ≢ Some j → j ≡ first → prev_with_splice f g p first last v j ≡ Some p
   back_first j ne e =
       put_at-other (altered (put_at g (f last) (g first)) first (Some p)) v (Some last) j ne ∙ altered-same (put_at g (f last) (g first)) first (Some p) j e
 
-  pub back_other : (j : ℕ) → v ≢ Some j → j ≢ first → spliced_back f g p first last v j ≡ put_at g (f last) (g first) j
+  pub back_other : (j : ℕ) → v ≢ Some j → j ≢ first → prev_with_splice f g p first last v j ≡ put_at g (f last) (g first) j
   back_other j ne not_first =
       put_at-other (altered (put_at g (f last) (g first)) first (Some p)) v (Some last) j ne ∙ altered-other (put_at g (f last) (g first)) first (Some p) j not_first
 
-  there : (i j : ℕ) → spliced_onward f g p first last v i ≡ Some j → (i ≡ last) ⊎ (i ≢ last) → (i ≡ p) ⊎ (i ≢ p) → (g first ≡ Some i) ⊎ (g first ≢ Some i)
-      → spliced_back f g p first last v j ≡ Some i
+  there : (i j : ℕ) → next_with_splice f g p first last v i ≡ Some j → (i ≡ last) ⊎ (i ≢ last) → (i ≡ p) ⊎ (i ≢ p) → (g first ≡ Some i) ⊎ (g first ≢ Some i)
+      → prev_with_splice f g p first last v j ≡ Some i
   there i j e (inl s) _ _ = back_v j (sym (onward_last i s) ∙ e) ∙ ap Some (sym s)
   there i j e (inr nl) (inl s) _ =
       let same : first ≡ j = one_some (sym (onward_p i nl s) ∙ e) in
@@ -95,8 +94,8 @@ module _ (f g : ℕ → Option ℕ) (p first last : ℕ) (v : Option ℕ) (each 
       back_other j (v_only i j nl np here) (λ s. not_a (ap g (sym s) ∙ before))
       ∙ put_at-other g (f last) (g first) j (λ d. nl (once i last j here d)) ∙ before
 
-  back : (i j : ℕ) → spliced_back f g p first last v j ≡ Some i → (v ≡ Some j) ⊎ (v ≢ Some j) → (j ≡ first) ⊎ (j ≢ first) → (f last ≡ Some j) ⊎ (f last ≢ Some j)
-      → spliced_onward f g p first last v i ≡ Some j
+  back : (i j : ℕ) → prev_with_splice f g p first last v j ≡ Some i → (v ≡ Some j) ⊎ (v ≢ Some j) → (j ≡ first) ⊎ (j ≢ first) → (f last ≡ Some j) ⊎ (f last ≢ Some j)
+      → next_with_splice f g p first last v i ≡ Some j
   back i j e (inl w) _ _ = onward_last i (one_some (sym e ∙ back_v j w)) ∙ w
   back i j e (inr nv) (inl s) _ =
       let same : p ≡ i = one_some (sym (back_first j nv s) ∙ e) in
@@ -112,7 +111,7 @@ module _ (f g : ℕ → Option ℕ) (p first last : ℕ) (v : Option ℕ) (each 
       onward_other i (λ t. not_n (ap f (sym t) ∙ here)) (λ t. nv (v_stays (λ d. not_a (d ∙ ap Some (sym t))) ∙ ap f (sym t) ∙ here))
       ∙ put_at-other f (g first) (f last) i not_a ∙ here
 
-  pub splice_undoes : Undoes (spliced_onward f g p first last v) (spliced_back f g p first last v)
+  pub splice_undoes : Undoes (next_with_splice f g p first last v) (prev_with_splice f g p first last v)
   splice_undoes i j = (
     λ e. there i j e (cases_eq i last) (cases_eq i p) (names_or_not (g first) i),
     λ e. back i j e (names_or_not v j) (cases_eq j first) (names_or_not (f last) j),
@@ -146,7 +145,7 @@ module _ (link_map : LinkMap) (p first last : ℕ) (agrees : IsWellLinked link_m
   HasLink-rest : (i : ℕ) → HasLink link_map i → HasLink rest i
   HasLink-rest i h = (HasLink-linked link_map (prev_of link_map first) (next_of link_map last) i).1 h
 
-  pub next_of-rest : (j : ℕ) → next_of rest j ≡ bridged (next_of link_map) (prev_of link_map) first last j
+  pub next_of-rest : (j : ℕ) → next_of rest j ≡ next_without_run (next_of link_map) (prev_of link_map) first last j
   next_of-rest j = next_of-linked link_map (prev_of link_map first) (next_of link_map last) j (λ i e. next_valid link_map i first ((agrees.both i first).1 e))
 
   after_valid : (k j : ℕ) → next_of link_map k ≡ Some j → HasLink link_map j
@@ -161,14 +160,14 @@ module _ (link_map : LinkMap) (p first last : ℕ) (agrees : IsWellLinked link_m
       (λ ne. after_valid p i (sym (put_at-other (next_of link_map) (prev_of link_map first) (next_of link_map last) p ne) ∙ sym (next_of-rest p) ∙ e))
       (names_or_not (prev_of link_map first) p))
 
-  pub next_of-spliced : (j : ℕ) → next_of new j ≡ spliced_onward (next_of link_map) (prev_of link_map) p first last beyond j
+  pub next_of-spliced : (j : ℕ) → next_of new j ≡ next_with_splice (next_of link_map) (prev_of link_map) p first last beyond j
   next_of-spliced j =
       next_of-linked half (Some last) beyond j (IsValidAt-Some half last ((HasLink-half last).1 valid_last))
       ∙ ap (λ (o : Option ℕ). if j == last then beyond else o)
       (next_of-linked rest (Some p) (Some first) j (IsValidAt-Some rest p (HasLink-rest p valid_p))
       ∙ ap (λ (o : Option ℕ). if j == p then Some first else o) (next_of-rest j))
 
-  pub prev_of-spliced : (j : ℕ) → prev_of new j ≡ spliced_back (next_of link_map) (prev_of link_map) p first last beyond j
+  pub prev_of-spliced : (j : ℕ) → prev_of new j ≡ prev_with_splice (next_of link_map) (prev_of link_map) p first last beyond j
   prev_of-spliced j =
       prev_of-linked half (Some last) beyond j beyond_valid
       ∙ put_at-alike (prev_of half) (altered (put_at (prev_of link_map) (next_of link_map last) (prev_of link_map first)) first (Some p)) beyond (Some last) j
@@ -177,7 +176,7 @@ module _ (link_map : LinkMap) (p first last : ℕ) (agrees : IsWellLinked link_m
 
   pub spliced_agrees : IsWellLinked new
   spliced_agrees = record {
-    both = Undoes-at (spliced_onward (next_of link_map) (prev_of link_map) p first last beyond) (spliced_back (next_of link_map) (prev_of link_map) p first last beyond)
+    both = Undoes-at (next_with_splice (next_of link_map) (prev_of link_map) p first last beyond) (prev_with_splice (next_of link_map) (prev_of link_map) p first last beyond)
         (next_of new) (prev_of new) next_of-spliced prev_of-spliced
         (splice_undoes (next_of link_map) (prev_of link_map) p first last beyond agrees.both apart (next_of-rest p));
   }

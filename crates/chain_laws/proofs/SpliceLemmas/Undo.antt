@@ -8,7 +8,7 @@ use Rattle.chain_laws.proofs.InterlinkLemmas.Inverses.{one_some}
 use Rattle.chain_laws.proofs.InsertionLemmas.Pairs.{put_at-same, put_at-other}
 use Rattle.chain_laws.proofs.ChainLemmas.LinkedLists.{next_valid}
 use Rattle.chain_laws.proofs.ChainLemmas.Determinacy.{pairs_decide}
-use Rattle.chain_laws.proofs.SpliceLemmas.Interlinks.{bridged, spliced_onward, beyond, v_past, v_stays, v_not_first, onward_last, onward_p, onward_other, back_first, next_of-rest, next_of-spliced, prev_of-spliced, HasLink-spliced, spliced_agrees}
+use Rattle.chain_laws.proofs.SpliceLemmas.Interlinks.{next_without_run, next_with_splice, beyond, v_past, v_stays, v_not_first, onward_last, onward_p, onward_other, back_first, next_of-rest, next_of-spliced, prev_of-spliced, HasLink-spliced, spliced_agrees}
 
 module _ (link_map : LinkMap) (p first last a : ℕ) (agrees : IsWellLinked link_map) (valid_p : HasLink link_map p) (valid_first : HasLink link_map first) (valid_last : HasLink link_map last) (apart : p ≢ last)
     (before : prev_of link_map first ≡ Some a) (other : a ≢ last) where
@@ -30,7 +30,7 @@ module _ (link_map : LinkMap) (p first last a : ℕ) (agrees : IsWellLinked link
   abbrev v : Option ℕ
   v = beyond link_map p first last agrees valid_p valid_first valid_last apart
 
-  is_v : v ≡ bridged f g first last p
+  is_v : v ≡ next_without_run f g first last p
   is_v = next_of-rest link_map p first last agrees valid_p valid_first valid_last apart p
 
   followed : f a ≡ Some first
@@ -43,7 +43,7 @@ module _ (link_map : LinkMap) (p first last a : ℕ) (agrees : IsWellLinked link
   before_first = prev_of-spliced link_map p first last agrees valid_p valid_first valid_last apart first
       ∙ back_first f g p first last v agrees.both apart is_v first (v_not_first f g p first last v agrees.both apart is_v) refl
 
-  after_other : (j : ℕ) → j ≢ last → j ≢ p → h j ≡ bridged f g first last j
+  after_other : (j : ℕ) → j ≢ last → j ≢ p → h j ≡ next_without_run f g first last j
   after_other j not_last not_p =
       next_of-spliced link_map p first last agrees valid_p valid_first valid_last apart j ∙ onward_other f g p first last v agrees.both apart is_v j not_last not_p
 
@@ -59,14 +59,14 @@ module _ (link_map : LinkMap) (p first last a : ℕ) (agrees : IsWellLinked link
   abbrev w : Option ℕ
   w = beyond new a first last new_agrees new_a (still first valid_first) (still last valid_last) other
 
-  is_w : w ≡ bridged h k first last a
+  is_w : w ≡ next_without_run h k first last a
   is_w = next_of-rest new a first last new_agrees new_a (still first valid_first) (still last valid_last) other a
 
   next_back : (j : ℕ) → next_of (with_splice new a first last) j ≡ f j
   next_back j = next_of-spliced new a first last new_agrees new_a (still first valid_first) (still last valid_last) other j ∙ by (cases_eq j last) (cases_eq j a) (cases_eq j p) (cases_eq a p)
     where
       by : (j ≡ last) ⊎ (j ≢ last) → (j ≡ a) ⊎ (j ≢ a) → (j ≡ p) ⊎ (j ≢ p) → (a ≡ p) ⊎ (a ≢ p)
-          → spliced_onward h k a first last w j ≡ f j
+          → next_with_splice h k a first last w j ≡ f j
       by (inl s) _ _ (inl e) =
           onward_last h k a first last w new_agrees.both other is_w j s
           ∙ v_past h k a first last w new_agrees.both other is_w (before_first ∙ ap Some (sym e))
