@@ -9,4 +9,4 @@ pub mod LinkWriteLemmas
 pub mod UnlinkLemmas
 pub mod WalkerLemmas
 pub mod ReversalLemmas
-pub mod MoveLinkLemmas
+pub mod SpliceWriteLemmas
