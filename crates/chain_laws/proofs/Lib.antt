@@ -13,3 +13,4 @@ pub mod RenamingLemmas
 pub mod ReversalLemmas
 pub mod MoveAfterLemmas
 pub mod MoveAfterWriteLemmas
+pub mod SpliceLemmas

@@ -15,4 +15,5 @@ pub mod ChainStart
 pub mod Transfer
 pub mod Members
 pub mod MoveAfter
+pub mod Splices
 pub mod Frame

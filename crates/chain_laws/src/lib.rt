@@ -16,6 +16,7 @@ pub mod partition;
 pub mod removal;
 pub mod renaming;
 pub mod reversal;
+pub mod splice;
 pub mod transfer;
 pub mod walks;
 pub mod walks_back;

@@ -10,4 +10,4 @@ pub mod UnlinkLemmas
 pub mod WalkerLemmas
 pub mod BackWalkerLemmas
 pub mod ReversalLemmas
-pub mod MoveLinkLemmas
+pub mod SpliceWriteLemmas

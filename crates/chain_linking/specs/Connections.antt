@@ -1,9 +1,10 @@
--- Connections of an end of a chain with a start, and moves of a link.
+-- Connections of an end of a chain with a start, and moves of links.
 use Rattle.std.specs.Prelude.{◌≡◌, ◌↔◌, ℕ, IsSome, IfNone, OnSome, Option, Some}
 use Rattle.std.specs.Option.{option_map}
 use Rattle.arena_traits.specs.Arena.{Arena, IsValid}
 use Rattle.chain_laws.specs.Chains.{prev_of, next_of}
 use Rattle.chain_laws.specs.MoveAfter.{with_move_after}
+use Rattle.chain_laws.specs.Splices.{with_splice}
 use Rattle.chain_links.specs.declared.links.RawLink.{RawLink}
 use Rattle.chain_links.specs.ChainArena.{link_map, with_link_map, entry, CanConnect}
 use Rattle.chain_links.specs.Links.{links_view, StayAtRest}
@@ -30,6 +31,10 @@ module _ {Gen K T : Type 0} (packed : K → Option ℕ) where
     prev : option_map number result.0 ≡ prev_of (link_map (links_view packed now)) i;
     next : option_map number result.1 ≡ next_of (link_map (links_view packed now)) i;
   }
+
+  -- The run of links from `first` to `last` comes after the link at p.
+  abbrev pub SplicesLinks : (p first last : ℕ) → (old new : Arena Gen (RawLink K T)) → Type 0
+  SplicesLinks p first last old new = LinksBecome packed (with_link_map (links_view packed old) (with_splice (link_map (links_view packed old)) p first last)) old new
 
   -- The link at i comes after the link at j.
   abbrev pub MovesLink : (i j : ℕ) → (old new : Arena Gen (RawLink K T)) → Type 0

@@ -1,9 +1,9 @@
-// Reads what is beside a link of a plain arena, connects two links, and moves one.
+// Reads what is beside a link of a plain arena, connects two links, and moves runs of links.
 ghost use Rattle.std.specs.Prelude.{◌≢◌, ◌↔◌, IsTrue};
 ghost use Rattle.chain_laws.specs.Chains.{IsWellLinked, HasLink};
 ghost use Rattle.chain_links.specs.ChainArena.{link_map, entry, CanConnect};
 ghost use Rattle.chain_links.specs.Links.{links_view};
-ghost use Rattle.chain_linking.specs.Connections.{IsNextOf, IsPrevOf, ReadsBeside, JoinsLinks, MovesLink};
+ghost use Rattle.chain_linking.specs.Connections.{IsNextOf, IsPrevOf, ReadsBeside, JoinsLinks, SplicesLinks, MovesLink};
 
 use crate::link_writes::{link_pair, link_pairs};
 use arena_base::{Arena, ArenaSlot, ArenaTrait, proved_unreachable};
@@ -84,6 +84,31 @@ fn beside<P: PtrKey, T: Drop, S: SlotStack<Item = ArenaSlot<P, LinkNoGen<P, T>>>
     }
 }
 
+/// Moves the run of links from `first` to `last` to the place after the link at `p`.
+pub fn splice<P: PtrKey, T: Drop, S: SlotStack<Item = ArenaSlot<P, LinkNoGen<P, T>>>>(
+    arena: &mut Arena<P, LinkNoGen<P, T>, S>,
+    p: P::Inx,
+    first: P::Inx,
+    last: P::Inx,
+)
+    requires agrees { IsWellLinked (link_map (links_view P.Inx.packed_number arena.old)) }
+    requires before { HasLink (link_map (links_view P.Inx.packed_number arena.old))
+        (P.Inx.number p) }
+    requires first { HasLink (link_map (links_view P.Inx.packed_number arena.old))
+        (P.Inx.number first) }
+    requires last { HasLink (link_map (links_view P.Inx.packed_number arena.old))
+        (P.Inx.number last) }
+    requires apart { P.Inx.number p ≢ P.Inx.number last }
+    ensures { SplicesLinks P.Inx.packed_number (P.Inx.number p) (P.Inx.number first)
+        (P.Inx.number last) arena.old arena.new }
+{
+    let (prev, _) = beside(arena, first);
+    let (_, next) = beside(arena, last);
+    link_pair(arena, prev, next);
+    let (_, after) = beside(arena, p);
+    link_pairs(arena, (Some(p), Some(first)), (Some(last), after));
+}
+
 /// Moves the link at `i` to the place after the link at `j`, another one.
 pub fn move_link<P: PtrKey, T: Drop, S: SlotStack<Item = ArenaSlot<P, LinkNoGen<P, T>>>>(
     arena: &mut Arena<P, LinkNoGen<P, T>, S>,
@@ -98,8 +123,5 @@ pub fn move_link<P: PtrKey, T: Drop, S: SlotStack<Item = ArenaSlot<P, LinkNoGen<
     requires apart { P.Inx.number i ≢ P.Inx.number j }
     ensures { MovesLink P.Inx.packed_number (P.Inx.number i) (P.Inx.number j) arena.old arena.new }
 {
-    let (prev, next) = beside(arena, i);
-    link_pair(arena, prev, next);
-    let (_, after) = beside(arena, j);
-    link_pairs(arena, (Some(j), Some(i)), (Some(i), after));
+    splice(arena, j, i, i);
 }

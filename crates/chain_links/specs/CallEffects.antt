@@ -16,13 +16,14 @@ use Rattle.chain_laws.specs.Joins.{with_join, Connects}
 use Rattle.chain_laws.specs.MoveAfter.{with_move_after, MovesAfter}
 use Rattle.chain_laws.specs.Removals.{with_removal, Removes}
 use Rattle.chain_laws.specs.Reversals.{with_turns, Reverses}
+use Rattle.chain_laws.specs.Splices.{with_splice, Splices}
 use Rattle.chain_laws.specs.Walks.{Walker, walker_at, IsWalk}
 use Rattle.arena_traits.specs.Arena.{IsValid}
 use Rattle.arena_traits.specs.CallOutcomes.{ReportsOverflow}
 use Rattle.arena_traits.specs.Compressions.{overflows_after_compression}
 use Rattle.arena_traits.specs.Entries.{ArenaView, ArenaState, count, view_after_removal}
 use Rattle.chain_links.specs.CanonicalLayouts.{IsCanonicalLayout}
-use Rattle.chain_links.specs.ChainArena.{link_at, CanConnect, CanExchange, CanMove, IsLinkAt}
+use Rattle.chain_links.specs.ChainArena.{link_at, CanConnect, CanExchange, CanMove, CanSplice, IsLinkAt}
 use Rattle.chain_links.specs.Links.{link_view, borrowed_link}
 use Rattle.chain_links.specs.declared.links.Link.{Link}
 use Rattle.chain_links.specs.declared.links.RawLink.{RawLink}
@@ -59,6 +60,12 @@ module _ {A Gen T : Type 0} {view : A → ArenaView Gen T} {entry : A → ℕ �
     pub record IsMovedAfter (p q : ℕ) : Type 0 where
       pub moved : interlinks new ≡ with_move_after (interlinks old) p q
       pub chains : MovesAfter (interlinks old) (interlinks new) p q
+      pub view_after : view new ≡ view old
+
+    -- The run of links from `first` to `last` comes after the link at p.
+    pub record IsSpliced (p first last : ℕ) : Type 0 where
+      pub spliced : interlinks new ≡ with_splice (interlinks old) p first last
+      pub chains : Splices (interlinks old) (interlinks new) p first last
       pub view_after : view new ≡ view old
 
     -- The link at i is removed, its neighbors are linked, and the counter advances.
@@ -114,6 +121,11 @@ module _ {A Gen T : Type 0} {view : A → ArenaView Gen T} {entry : A → ℕ �
     abbrev pub MovesLinkAfter : A → P → P → Option Unit → A → Type 0
     MovesLinkAfter old p q None new = CanMove (entry old) (key p) (key q) → ⊥
     MovesLinkAfter old p q (Some done) new = CanMove (entry old) (key p) (key q) × IsMovedAfter old new (key p).0 (key q).0
+
+    -- `splice_after`: the run from `first` to `last` comes to follow the link of p, or it could not.
+    abbrev pub SplicesAfter : A → P → P → P → Option Unit → A → Type 0
+    SplicesAfter old p first last None new = CanSplice (entry old) (key p) (key first) (key last) → ⊥
+    SplicesAfter old p first last (Some done) new = CanSplice (entry old) (key p) (key first) (key last) × IsSpliced old new (key p).0 (key first).0 (key last).0
 
   module _ {P I W : Type 0} (pointers : PointerKind P I Gen W) where
     -- The same links without generations: that of p, and that at an index.

@@ -148,6 +148,13 @@ module _ {Gen T : Type 0} (entry : ℕ → Option (Gen × T)) where
     pub second_valid : IsValid entry q
     pub apart : p.0 ≢ q.0
 
+  -- A run from `first` to `last` may be moved after p: all are valid, and p is not `last`.
+  pub record CanSplice (p first last : ℕ × Gen) : Type 0 where
+    pub p_valid : IsValid entry p
+    pub first_valid : IsValid entry first
+    pub last_valid : IsValid entry last
+    pub apart : p.0 ≢ last.0
+
   -- The free index p has the value t, and every other entry is unchanged.
   pub record IsInserted (after : ℕ → Option (Gen × T)) (p : ℕ × Gen) (t : T) : Type 0 where
     pub free : entry p.0 ≡ None

@@ -9,7 +9,7 @@ ghost use Rattle.chain_laws.specs.Arrangements.{place_in};
 ghost use Rattle.chain_laws.specs.Walks.{Walker};
 ghost use Rattle.chain_laws.specs.declared.insert_kind.InsertKind.{InsertKind};
 ghost use Rattle.arena_traits.specs.Entries.{IsSoundView, index_of};
-ghost use Rattle.chain_links.specs.CallEffects.{AreNeighborLinks, ReadsLink, ReadsLinkNoGen, ReadsLinkAt, StartsWalk, ConnectsLinks, BreaksPrev, BreaksNext, ExchangesNext, ReversesChain, MovesLinkAfter, RemovesLink, RemovesLinkAt, CompressesLinks};
+ghost use Rattle.chain_links.specs.CallEffects.{AreNeighborLinks, ReadsLink, ReadsLinkNoGen, ReadsLinkAt, StartsWalk, ConnectsLinks, BreaksPrev, BreaksNext, ExchangesNext, ReversesChain, MovesLinkAfter, SplicesAfter, RemovesLink, RemovesLinkAt, CompressesLinks};
 ghost use Rattle.chain_links.specs.Walkers.{IsPassing};
 ghost use Rattle.chain_links.specs.Insertions.{MayInsertIn, InsertsLinkWithin, InsertsLink, InsertsAllowedLink};
 
@@ -42,7 +42,7 @@ pub trait ChainArenaTrait<P: PtrKey, T: Drop>: ArenaTrait<P, T> {
     ghost inserts: { Self → InsertKind P P.Inx → T → Self → P → Type 0 } = { λ _ _ _ _ _. ⊤ };
 
     // What it knows besides of the arenas before and after `connect`, `break_prev`, `break_next`,
-    // `exchange_next`, `reverse_chain`, `move_after` and `compress_canonical`.
+    // `exchange_next`, `reverse_chain`, `move_after`, `splice_after` and `compress_canonical`.
     ghost connects: { Self → P → P → Self → Type 0 } = { λ _ _ _ _. ⊤ };
 
     ghost breaks_prev: { Self → P → Self → Type 0 } = { λ _ _ _. ⊤ };
@@ -54,6 +54,8 @@ pub trait ChainArenaTrait<P: PtrKey, T: Drop>: ArenaTrait<P, T> {
     ghost reverses: { Self → P → Self → Type 0 } = { λ _ _ _. ⊤ };
 
     ghost moves: { Self → P → P → Self → Type 0 } = { λ _ _ _ _. ⊤ };
+
+    ghost splices: { Self → P → P → P → Self → Type 0 } = { λ _ _ _ _ _. ⊤ };
 
     ghost compresses_canonically: { Self → Self → Type 0 } = { λ _ _. ⊤ };
 
@@ -269,6 +271,21 @@ pub trait ChainArenaTrait<P: PtrKey, T: Drop>: ArenaTrait<P, T> {
         ensures outcome { MovesLinkAfter Self.state interlinks P.key self.old p q result self.new }
         ensures none { IfNone result (self.new ≡ self.old) }
         ensures implementation { OnSome result (moves self.old p q self.new) };
+
+    /// Moves the run of links from `first` to `last` to the place after the link of p, in O(1).
+    ///
+    /// The rest of the run's former chain stays linear or cyclic, and so does the chain of p, which
+    /// may be the same chain. Pointers and values stay. Returns `Some` exactly if the three
+    /// pointers are valid and p is not `last`. Otherwise returns `None` and changes nothing.
+    ///
+    /// `splice_after` does not detect that `last` does not follow `first` in one chain, or that p
+    /// is between them: this needs a walk of the run. The interlinks are then still those of
+    /// `with_splice`, so each link is still in one linear or cyclic chain.
+    fn splice_after(&mut self, p: P, first: P, last: P) -> Option<()>
+        ensures outcome { SplicesAfter Self.state interlinks P.key self.old p first last result
+            self.new }
+        ensures none { IfNone result (self.new ≡ self.old) }
+        ensures implementation { OnSome result (splices self.old p first last self.new) };
 
     /// Removes a link and returns it with the interlinks that it had, without their generations.
     ///

@@ -1,0 +1,5 @@
+-- Lemmas on moves of a run.
+pub mod Interlinks
+pub mod Undo
+pub mod Follows
+pub mod Chains
