@@ -27,7 +27,7 @@ use Rattle.arena_traits.specs.Growth.{RefusesToFit, RefusesOneMore}
 use Rattle.chain_links.specs.CallEffects.{IsTaken}
 use Rattle.arena_core.specs.PointerKinds.{PointerKind}
 use Rattle.chain_arena.specs.Runs.{AreSameButTouched, AreSameButCapacityAndTouched, AreSameResults, AreSameReplies, refused_memory, capacity_needed, HasCapacityAlready, RunWithSameCapacity, EndSame, RunIsDetermined, StepIsDetermined, RunIsDeterminedByCapacity}
-use Rattle.chain_arena.specs.Steps.{IsNewLinkAnyhow, InsertStep, InsertWithinStep, ConnectStep, BreakPrevStep, BreakNextStep, ExchangeStep, ReverseChainStep, MoveAfterStep, DrainChainStep, ReserveStep, Step, Run}
+use Rattle.chain_arena.specs.Steps.{IsNewLinkAnyhow, InsertStep, InsertWithinStep, ConnectStep, BreakPrevStep, BreakNextStep, ExchangeStep, ReverseChainStep, MoveAfterStep, SpliceAfterStep, DrainChainStep, ReserveStep, Step, Run}
 use Rattle.chain_arena.specs.declared.calls.Call.{Call}
 use Rattle.chain_arena.specs.declared.calls.Call.TheVariants as call
 use Rattle.chain_arena.specs.declared.calls.Reply.{Reply}
@@ -195,6 +195,12 @@ module _ {P T I Gen W : Type 0} (pointers : PointerKind P I Gen W) (same_key : (
   moves_same old a b p q (Some d) None one two = absurd (two.0 one.0.0)
   moves_same old a b p q (Some d) (Some e) one two = (refl, same one.2 two.2)
 
+  splices_same : (old a b : Links Gen T) (p first last : P) (r s : Option Unit) → SpliceAfterStep pointers old p first last r a → SpliceAfterStep pointers old p first last s b → Same r s a b
+  splices_same old a b p first last None None one two = (refl, same one.1 two.1)
+  splices_same old a b p first last None (Some d) one two = absurd (one.0 two.0.0)
+  splices_same old a b p first last (Some d) None one two = absurd (two.0 one.0.0)
+  splices_same old a b p first last (Some d) (Some e) one two = (refl, same one.2 two.2)
+
   breaks_prev_same : (old a b : Links Gen T) (p : P) (r s : Option Unit) → BreakPrevStep pointers old p r a → BreakPrevStep pointers old p s b → Same r s a b
   breaks_prev_same old a b p None None one two = (refl, same one.1 two.1)
   breaks_prev_same old a b p None (Some d) one two = absurd (none-some two.0.1 (sym (one.0 two.0.0) ∙ two.0.2))
@@ -344,6 +350,7 @@ module _ {P T I Gen W : Type 0} (pointers : PointerKind P I Gen W) (same_key : (
   step_same old (call.ExchangeNext p q) r s a b within_capacity one two = responded_same (λ (o : Option Unit). reply.Done (is_some o)) r s one.0 two.0 a b one.1 two.1 (exchanges_same old a b p q one.0 two.0 one.2 two.2)
   step_same old (call.ReverseChain p) r s a b within_capacity one two = responded_same (λ (o : Option Unit). reply.Done (is_some o)) r s one.0 two.0 a b one.1 two.1 (reverses_same old a b p one.0 two.0 one.2 two.2)
   step_same old (call.MoveAfter p q) r s a b within_capacity one two = responded_same (λ (o : Option Unit). reply.Done (is_some o)) r s one.0 two.0 a b one.1 two.1 (moves_same old a b p q one.0 two.0 one.2 two.2)
+  step_same old (call.SpliceAfter p first last) r s a b within_capacity one two = responded_same (λ (o : Option Unit). reply.Done (is_some o)) r s one.0 two.0 a b one.1 two.1 (splices_same old a b p first last one.0 two.0 one.2 two.2)
   step_same old (call.Remove p) r s a b within_capacity one two =
       let k = pointers.key p in
       let known = states_same {No = IsValid (entry old) k → ⊥} (link_view pointers.packed) (λ link. IsValid (entry old) k × IsTaken value_state link_map pointers old k.0 k.1 link a) (λ link. IsValid (entry old) k × IsTaken value_state link_map pointers old k.0 k.1 link b)

@@ -1,20 +1,23 @@
--- Effects of reversals and moves on a chain arena, from its state.
+-- Effects of reversals, and moves of links and runs, on a chain arena, from its state.
 use Rattle.std.proofs.Common.{◌≡◌, ◌≢◌, ◌↔◌, ℕ, List, Option, None, Some, refl, ap, sym, ◌∙◌, subst}
 use Rattle.std.specs.Prelude.{is_some}
 use Rattle.chain_laws.specs.Chains.{LinkMap, Interlinks, IsWellLinked, HasLink}
 use Rattle.chain_laws.specs.MoveAfter.{with_move_after, MovesAfter}
 use Rattle.chain_laws.specs.Reversals.{with_turns, Reverses}
+use Rattle.chain_laws.specs.Splices.{with_splice, Splices}
 use Rattle.chain_laws.specs.Walks.{IsWalk}
 use Rattle.chain_laws.proofs.MoveAfterLemmas.{move_agrees, move_moves}
 use Rattle.chain_laws.proofs.ReversalLemmas.Turns.{reversal_agrees}
 use Rattle.chain_laws.proofs.ReversalLemmas.Chains.{reversal_reverses}
+use Rattle.chain_laws.proofs.SpliceLemmas.Chains.{splice_splices}
+use Rattle.chain_laws.proofs.SpliceLemmas.Interlinks.{splice_agrees}
 use Rattle.chain_laws.proofs.WalkLemmas.Members.{walks_ahead}
 use Rattle.arena_traits.specs.Arena.{Arena}
 use Rattle.arena_traits.specs.Entries.{view_of}
-use Rattle.chain_links.specs.CallEffects.{IsReversed, IsMovedAfter}
+use Rattle.chain_links.specs.CallEffects.{IsReversed, IsMovedAfter, IsSpliced}
 use Rattle.chain_links.specs.ChainArena.{LinkView, link_map, values_of, value_state, with_link_map, interlinks_of}
 use Rattle.chain_links.proofs.ArenaInsertionLemmas.{slots-within}
-use Rattle.chain_arena.specs.Effects.{IsReversal, IsMove}
+use Rattle.chain_arena.specs.Effects.{IsReversal, IsMove, IsSplice}
 use Rattle.chain_linking.specs.ChainReversals.{walk_at}
 use Rattle.chain_linking.proofs.LinkWriteLemmas.{FitsLinks, FitsLinks-link_map, link_map-with_link_map, values_of-with_link_map}
 use Rattle.chain_linking.proofs.ReversalLemmas.{FitsLinks-with_turns}
@@ -75,4 +78,24 @@ module _ {Gen T : Type 0} (a b : Arena Gen (LinkView T)) where
       moved = move_reports;
       chains = subst (λ (m : LinkMap). MovesAfter (link_map a) m p q) (sym move_reports) moves;
       view_after = ap (λ (x : Arena Gen T). view_of x) (values (with_move_after (link_map a) p q) move_fits is);
+    }
+
+  module _ (p first last : ℕ) (is : IsSplice a p first last b) (agrees : IsWellLinked (link_map a)) (valid_p : HasLink (link_map a) p) (valid_first : HasLink (link_map a) first) (valid_last : HasLink (link_map a) last) (apart : p ≢ last) where
+    splices : Splices (link_map a) (with_splice (link_map a) p first last) p first last
+    splices = splice_splices (link_map a) p first last agrees valid_p valid_first valid_last apart
+
+    splice_fits : FitsLinks (with_splice (link_map a) p first last) a
+    splice_fits i = alike (with_splice (link_map a) p first last) (link_map a) i (splices.links i) ∙ FitsLinks-link_map a i
+
+    splice_reports : link_map b ≡ with_splice (link_map a) p first last
+    splice_reports = reports (with_splice (link_map a) p first last) splice_fits is
+
+    pub agrees_splice : IsWellLinked (link_map b)
+    agrees_splice = subst IsWellLinked (sym splice_reports) (splice_agrees (link_map a) p first last agrees valid_p valid_first valid_last apart)
+
+    pub spliced : IsSpliced value_state link_map a b p first last
+    spliced = record {
+      spliced = splice_reports;
+      chains = subst (λ (m : LinkMap). Splices (link_map a) m p first last) (sym splice_reports) splices;
+      view_after = ap (λ (x : Arena Gen T). view_of x) (values (with_splice (link_map a) p first last) splice_fits is);
     }

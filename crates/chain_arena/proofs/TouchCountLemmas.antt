@@ -26,7 +26,7 @@ use Rattle.chain_links.specs.CallEffects.{IsDisconnected, IsRemoved}
 use Rattle.chain_links.specs.Insertions.{IsLinkInserted}
 use Rattle.arena_core.specs.PointerKinds.{PointerKind}
 use Rattle.chain_arena.specs.Runs.{AreSameButTouched}
-use Rattle.chain_arena.specs.Steps.{IsNewLinkAnyhow, InsertStep, InsertWithinStep, ConnectStep, BreakPrevStep, BreakNextStep, ExchangeStep, ReverseChainStep, MoveAfterStep, IsRenewed, DrainChainStep, CompressStep, CompressCanonicalStep, ReserveStep, Step, Run}
+use Rattle.chain_arena.specs.Steps.{IsNewLinkAnyhow, InsertStep, InsertWithinStep, ConnectStep, BreakPrevStep, BreakNextStep, ExchangeStep, ReverseChainStep, MoveAfterStep, SpliceAfterStep, IsRenewed, DrainChainStep, CompressStep, CompressCanonicalStep, ReserveStep, Step, Run}
 use Rattle.chain_arena.specs.declared.calls.Call.{Call}
 use Rattle.chain_arena.specs.declared.calls.Call.TheVariants as call
 use Rattle.chain_arena.specs.declared.calls.Reply.{Reply}
@@ -180,6 +180,12 @@ module _ (n : ℕ) where
         let made = step.0.1 in
         ((step.0.0, record { moved = made.moved; chains = made.chains; view_after = ap touch_view made.view_after }), tt, ap touch step.2)
 
+    splices_touched : (p first last : P) (r : Option Unit) → SpliceAfterStep pointers old p first last r new → SpliceAfterStep pointers (touch old) p first last r (touch new)
+    splices_touched p first last None step = (step.0, ap touch step.1, tt)
+    splices_touched p first last (Some done) step =
+        let made = step.0.1 in
+        ((step.0.0, record { spliced = made.spliced; chains = made.chains; view_after = ap touch_view made.view_after }), tt, ap touch step.2)
+
     removed_touched : (i : ℕ) → IsRemoved value_state link_map old new pointers.following i → IsRemoved value_state link_map (touch old) (touch new) pointers.following i
     removed_touched i made = record { view_after = ap touch_view made.view_after; links = made.links; chains = made.chains }
 
@@ -312,6 +318,7 @@ module _ (n : ℕ) where
     step_touched old new (call.ExchangeNext p q) r step = (step.0, step.1, exchanges_touched pointers old new p q step.0 step.2)
     step_touched old new (call.ReverseChain p) r step = (step.0, step.1, reverses_touched pointers old new p step.0 step.2)
     step_touched old new (call.MoveAfter p q) r step = (step.0, step.1, moves_touched pointers old new p q step.0 step.2)
+    step_touched old new (call.SpliceAfter p first last) r step = (step.0, step.1, splices_touched pointers old new p first last step.0 step.2)
     step_touched old new (call.Remove p) r step = (
       step.0,
       step.1,

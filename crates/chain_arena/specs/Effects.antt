@@ -14,6 +14,7 @@ use Rattle.chain_laws.specs.Exchanges.{with_exchange, ExchangesPairs}
 use Rattle.chain_laws.specs.Joins.{with_join, AddsPair}
 use Rattle.chain_laws.specs.MoveAfter.{with_move_after}
 use Rattle.chain_laws.specs.Removals.{RemovesPairs}
+use Rattle.chain_laws.specs.Splices.{with_splice}
 use Rattle.chain_laws.specs.Walks.{IsWalk, TakesWalk}
 use Rattle.arena_traits.specs.Arena.{Arena, IsValid, HasCapacityFor, with_capacity_of}
 use Rattle.chain_links.specs.CallEffects.{IsRemoved}
@@ -56,6 +57,10 @@ module _ {Gen T : Type 0} where
   -- The link at p was moved after the link at q, with the whole state.
   abbrev pub IsMove : Links Gen T → (p q : ℕ) → Links Gen T → Type 0
   IsMove old p q new = new ≡ with_link_map old (with_move_after (link_map old) p q)
+
+  -- The run from `first` to `last` was moved after the link at p, with the whole state.
+  abbrev pub IsSplice : Links Gen T → (p first last : ℕ) → Links Gen T → Type 0
+  IsSplice old p first last new = new ≡ with_link_map old (with_splice (link_map old) p first last)
 
   -- The link at i is disconnected from its previous or next link.
   abbrev pub IsCutBefore : Links Gen T → ℕ → Links Gen T → Type 0

@@ -14,13 +14,13 @@ use Rattle.arena_traits.specs.CallOutcomes.{InvalidatesEntry, ClearsEntries, Com
 use Rattle.arena_traits.specs.Compressions.{values_in}
 use Rattle.arena_traits.specs.Entries.{entries}
 use Rattle.arena_traits.specs.Growth.{Reserves}
-use Rattle.chain_links.specs.CallEffects.{ConnectsLinks, BreaksPrev, BreaksNext, ExchangesNext, ReversesChain, MovesLinkAfter, RemovesLink, RemovesLinkAt, CompressesLinks}
+use Rattle.chain_links.specs.CallEffects.{ConnectsLinks, BreaksPrev, BreaksNext, ExchangesNext, ReversesChain, MovesLinkAfter, SplicesAfter, RemovesLink, RemovesLinkAt, CompressesLinks}
 use Rattle.chain_links.specs.ChainArena.{link_map, entry, values_of, value_view, value_state}
 use Rattle.chain_links.specs.Insertions.{InsertsLink, InsertsLinkWithin}
 use Rattle.chain_laws.specs.declared.insert_kind.InsertKind.{InsertKind}
 use Rattle.chain_links.specs.declared.links.RawLink.{RawLink}
 use Rattle.chain_compaction.specs.LinkCompressions.{ClosesHoles}
-use Rattle.chain_arena.specs.Effects.{Links, GrowsStackToFit, IsJoin, IsCutBefore, IsCutAfter, IsExchange, IsReversal, IsMove, IsRemoval, IsDrained}
+use Rattle.chain_arena.specs.Effects.{Links, GrowsStackToFit, IsJoin, IsCutBefore, IsCutAfter, IsExchange, IsReversal, IsMove, IsSplice, IsRemoval, IsDrained}
 use Rattle.chain_arena.specs.NewLinks.{IsNewLink}
 use Rattle.chain_arena.specs.declared.calls.Call.{Call}
 use Rattle.chain_arena.specs.declared.calls.Call.TheVariants as call
@@ -59,6 +59,11 @@ module _ {P I Gen W T : Type 0} (pointers : PointerKind P I Gen W) where
   abbrev pub MoveAfterStep : Links Gen T → P → P → Option Unit → Links Gen T → Type 0
   MoveAfterStep old p q returned new =
       MovesLinkAfter value_state link_map pointers.key old p q returned new × IfNone returned (new ≡ old) × OnSome returned (IsMove old (pointers.key p).0 (pointers.key q).0 new)
+
+  abbrev pub SpliceAfterStep : Links Gen T → P → P → P → Option Unit → Links Gen T → Type 0
+  SpliceAfterStep old p first last returned new =
+      SplicesAfter value_state link_map pointers.key old p first last returned new × IfNone returned (new ≡ old)
+      × OnSome returned (IsSplice old (pointers.key p).0 (pointers.key first).0 (pointers.key last).0 new)
 
   -- A removal by pointer, and one by index.
   abbrev pub RemoveStep : Links Gen T → P → InvalidationResult (RawLink (PackedOption I W) T) → Links Gen T → Type 0
@@ -107,6 +112,7 @@ module _ {P I Gen W T : Type 0} (pointers : PointerKind P I Gen W) where
   Step old (call.ExchangeNext p q) r new = (returned : Option Unit) × (r ≡ reply.Done (is_some returned)) × ExchangeStep old p q returned new
   Step old (call.ReverseChain p) r new = (returned : Option Unit) × (r ≡ reply.Done (is_some returned)) × ReverseChainStep old p returned new
   Step old (call.MoveAfter p q) r new = (returned : Option Unit) × (r ≡ reply.Done (is_some returned)) × MoveAfterStep old p q returned new
+  Step old (call.SpliceAfter p first last) r new = (returned : Option Unit) × (r ≡ reply.Done (is_some returned)) × SpliceAfterStep old p first last returned new
   Step old (call.Remove p) r new = (returned : InvalidationResult (RawLink (PackedOption I W) T)) × (r ≡ reply.Removed returned) × RemoveStep old p returned new
   Step old (call.RemoveInx i) r new = (returned : InvalidationResult (Gen × RawLink (PackedOption I W) T)) × (r ≡ reply.RemovedInx returned) × RemoveInxStep old i returned new
   Step old (call.Invalidate p) r new = (returned : InvalidationResult P) × (r ≡ reply.Renewed returned) × InvalidateStep old p returned new

@@ -39,6 +39,8 @@ pub enum Call<P: PtrKey, T> {
     ReverseChain(P),
     /// Moves the first link to the place after the second.
     MoveAfter(P, P),
+    /// Moves the run of links from the second to the third to the place after the first.
+    SpliceAfter(P, P, P),
     /// Removes a link.
     Remove(P),
     /// Removes the link at an index.
@@ -67,8 +69,8 @@ pub enum Call<P: PtrKey, T> {
 pub enum Reply<P: PtrKey, T> {
     /// Of an insertion: the pointer of the new link, or the error.
     Inserted(Result<P, ChainInsertionError>),
-    /// Of `Connect`, `BreakPrev`, `BreakNext`, `ExchangeNext`, `ReverseChain` and `MoveAfter`:
-    /// whether it was done.
+    /// Of `Connect`, `BreakPrev`, `BreakNext`, `ExchangeNext`, `ReverseChain`, `MoveAfter` and
+    /// `SpliceAfter`: whether it was done.
     Done(bool),
     /// Of `Remove`: the link, with the interlinks that it had.
     Removed(InvalidationResult<LinkNoGen<P, T>>),
@@ -104,6 +106,9 @@ pub fn apply<P: PtrKey, T: Drop, S: SlotStack<Item = ArenaSlot<P, LinkNoGen<P, T
         Call::ExchangeNext(p, q) => Reply::Done(arena.exchange_next(p, q).is_some()),
         Call::ReverseChain(p) => Reply::Done(arena.reverse_chain(p).is_some()),
         Call::MoveAfter(p, q) => Reply::Done(arena.move_after(p, q).is_some()),
+        Call::SpliceAfter(p, first, last) => {
+            Reply::Done(arena.splice_after(p, first, last).is_some())
+        }
         Call::Remove(p) => Reply::Removed(arena.remove_link_no_gen(p)),
         Call::RemoveInx(i) => Reply::RemovedInx(arena.remove_inx_link_no_gen(i)),
         Call::Invalidate(p) => Reply::Renewed(arena.invalidate(p)),

@@ -2,7 +2,7 @@
 ghost use Rattle.std.specs.Prelude.{◌≡◌, ◌↔◌, IsTrue, IfOk, OnErr};
 ghost use Rattle.arena_core.specs.Invalidation.{with_value_of};
 ghost use Rattle.chain_links.specs.Insertions.{MayInsertIn, InsertsLinkWithin, InsertsLink, InsertsAllowedLink};
-ghost use Rattle.chain_links.specs.ChainArena.{value_state, link_map, entry, CanMove};
+ghost use Rattle.chain_links.specs.ChainArena.{value_state, link_map, entry, CanMove, CanSplice};
 ghost use Rattle.chain_arena.specs.NewLinks.{IsNewLink};
 
 use crate::chain_advancer::ChainPtrAdvancer;
@@ -12,7 +12,7 @@ use arena_ptr::{
     AnyPointer, ChainInsertionError, GenKey, InvalidationOption, InvalidationResult, InxKey,
     PtrKey, ReallocationError, SlotStack,
 };
-use chain_linking::connection::{join, move_link, next_of, prev_of};
+use chain_linking::connection::{join, move_link, next_of, prev_of, splice};
 use chain_linking::link_writes::{link_pairs, neighbors, write_beside};
 use chain_linking::reversal::turn_walk;
 use chain_links::links::is_index;
@@ -23,7 +23,7 @@ impl<P: PtrKey, T: Drop, S: SlotStack<Item = ArenaSlot<P, LinkNoGen<P, T>>>> Cha
     for ChainArena<P, T, S> {
     ghost use Rattle.std.specs.Prelude.{◌≡◌};
     ghost use Rattle.chain_links.specs.ChainArena.{link_map};
-    ghost use Rattle.chain_arena.specs.Effects.{IsJoin, IsCutBefore, IsCutAfter, IsExchange, IsReversal, IsMove};
+    ghost use Rattle.chain_arena.specs.Effects.{IsJoin, IsCutBefore, IsCutAfter, IsExchange, IsReversal, IsMove, IsSplice};
     ghost use Rattle.chain_linking.specs.ChainArenaLaws.{links_exist};
     ghost use Rattle.chain_links.specs.Walkers.{walker_of};
 
@@ -46,6 +46,8 @@ impl<P: PtrKey, T: Drop, S: SlotStack<Item = ArenaSlot<P, LinkNoGen<P, T>>>> Cha
     ghost reverses = { λ a p b. IsReversal a (P.key p).0 b };
 
     ghost moves = { λ a p q b. IsMove a (P.key p).0 (P.key q).0 b };
+
+    ghost splices = { λ a p first last b. IsSplice a (P.key p).0 (P.key first).0 (P.key last).0 b };
 
     ghost compresses_canonically = { λ a b. b.stack_capacity ≡ a.stack_capacity };
 
@@ -218,6 +220,14 @@ impl<P: PtrKey, T: Drop, S: SlotStack<Item = ArenaSlot<P, LinkNoGen<P, T>>>> Cha
         Some(())
     }
 
+    fn splice_after(&mut self, p: P, first: P, last: P) -> Option<()> {
+        if !self.can_splice(p, first, last) {
+            return None;
+        }
+        splice(&mut self.arena, p.inx(), first.inx(), last.inx());
+        Some(())
+    }
+
     fn remove_link_no_gen(&mut self, p: P) -> InvalidationResult<LinkNoGen<P, T>> {
         if self.contains(p) {
             link_alone(self.unlink(p.inx()))
@@ -244,6 +254,17 @@ impl<P: PtrKey, T: Drop, S: SlotStack<Item = ArenaSlot<P, LinkNoGen<P, T>>>> Cha
         ensures { IsTrue result ↔ CanMove (entry self.now) (P.key p) (P.key q) }
     {
         !p.inx().is_same(q.inx()) && self.contains(p) && self.contains(q)
+    }
+
+    // Returns whether the run from `first` to `last` may be moved after `p`: all three are valid,
+    // and `p` is not `last`.
+    fn can_splice(&self, p: P, first: P, last: P) -> bool
+        ensures { IsTrue result ↔ CanSplice (entry self.now) (P.key p) (P.key first) (P.key last) }
+    {
+        !p.inx().is_same(last.inx())
+            && self.contains(p)
+            && self.contains(first)
+            && self.contains(last)
     }
 }
 

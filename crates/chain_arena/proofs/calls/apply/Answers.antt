@@ -47,6 +47,11 @@ returns-in-MoveAfter g c =
     let made = c.move_after.ensures in
     rw c.in-MoveAfter.is (record { step = (c.move_after.result, ap (λ b. reply.Done b) c.is_some-in-MoveAfter.ensures, (made.outcome, made.none, made.implementation)) })
 
+pub returns-in-SpliceAfter : goal.returns-in-SpliceAfter
+returns-in-SpliceAfter g c =
+    let made = c.splice_after.ensures in
+    rw c.in-SpliceAfter.is (record { step = (c.splice_after.result, ap (λ b. reply.Done b) c.is_some-in-SpliceAfter.ensures, (made.outcome, made.none, made.implementation)) })
+
 pub returns-in-Remove : goal.returns-in-Remove
 returns-in-Remove g c =
     let made = c.remove_link_no_gen.ensures in
