@@ -199,6 +199,8 @@ impl<P: PtrKey, T: Drop, A: ChainArenaTrait<P, T>> ChainArenaTrait<P, T> for For
 
     ghost moves = { λ v p q w. A.moves v.inner p q w.inner };
 
+    ghost splices = { λ v p first last w. A.splices v.inner p first last w.inner };
+
     ghost compresses_canonically = { λ v w. A.compresses_canonically v.inner w.inner };
 
     ghost passes = { λ v w arena returned given. A.passes v.inner w.inner arena.inner
@@ -310,6 +312,10 @@ impl<P: PtrKey, T: Drop, A: ChainArenaTrait<P, T>> ChainArenaTrait<P, T> for For
 
     fn move_after(&mut self, p: P, q: P) -> Option<()> {
         self.inner.move_after(p, q)
+    }
+
+    fn splice_after(&mut self, p: P, first: P, last: P) -> Option<()> {
+        self.inner.splice_after(p, first, last)
     }
 
     fn remove_link_no_gen(&mut self, p: P) -> InvalidationResult<LinkNoGen<P, T>> {

@@ -24,11 +24,7 @@ valid_last : (g : Over) (c : Else-not-can_splice g) → HasLink (link_map (links
 valid_last g c = valid_link (links_view g.P.Inx.InxKey.packed_number c.self.inside.arena) (g.P.PtrKey.key c.args.last) (can g c).last_valid
 
 is_splice : (g : Over) (c : After-splice g) → IsSplice (links_view g.P.Inx.InxKey.packed_number c.self.inside.arena) (g.P.PtrKey.key c.args.p).0 (g.P.PtrKey.key c.args.first).0 (g.P.PtrKey.key c.args.last).0 (links_view g.P.Inx.InxKey.packed_number c.splice.new.arena)
-is_splice g c =
-    let a = links_view g.P.Inx.InxKey.packed_number c.self.inside.arena in
-    c.splice.ensures.links
-    ∙ (ap₂ (λ (p first : ℕ). with_link_map a (with_splice (link_map a) p first (g.P.Inx.InxKey.number c.inx-3.result))) c.inx.ensures c.inx-2.ensures
-    ∙ ap (λ (last : ℕ). with_link_map a (with_splice (link_map a) (g.P.PtrKey.key c.args.p).0 (g.P.PtrKey.key c.args.first).0 last)) c.inx-3.ensures)
+is_splice g c = rw (← c.inx.ensures) (rw (← c.inx-2.ensures) (rw (← c.inx-3.ensures) c.splice.ensures.links))
 
 pub splice-requires-clause-before : goal.splice-requires-clause-before
 splice-requires-clause-before g c =
