@@ -1,5 +1,5 @@
 -- Effects of reversals, and moves of links and runs, on a chain arena, from its state.
-use Rattle.std.proofs.Common.{◌≡◌, ◌≢◌, ◌↔◌, ℕ, List, Option, None, Some, refl, ap, sym, ◌∙◌, subst}
+use Rattle.std.proofs.Common.{◌≡◌, ◌≢◌, ◌↔◌, ℕ, Option, None, Some, refl, ap, sym, ◌∙◌, subst}
 use Rattle.std.specs.Prelude.{is_some}
 use Rattle.chain_laws.specs.Chains.{LinkMap, Interlinks, IsWellLinked, HasLink}
 use Rattle.chain_laws.specs.MoveAfter.{with_move_after, MovesAfter}

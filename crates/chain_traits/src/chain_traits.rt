@@ -278,9 +278,9 @@ pub trait ChainArenaTrait<P: PtrKey, T: Drop>: ArenaTrait<P, T> {
     /// may be the same chain. Pointers and values stay. Returns `Some` exactly if the three
     /// pointers are valid and p is not `last`. Otherwise returns `None` and changes nothing.
     ///
-    /// `splice_after` does not detect that `last` does not follow `first` in one chain, or that p
-    /// is between them: this needs a walk of the run. The interlinks are then still those of
-    /// `with_splice`, so each link is still in one linear or cyclic chain.
+    /// `splice_after` does not detect that `first` to `last` is no run of one chain, or that p is in
+    /// the run: this needs an O(n) walk. The interlinks are then still those of `with_splice`, so
+    /// each link is still in one linear or cyclic chain.
     fn splice_after(&mut self, p: P, first: P, last: P) -> Option<()>
         ensures outcome { SplicesAfter Self.state interlinks P.key self.old p first last result
             self.new }

@@ -1,9 +1,8 @@
 -- The run is moved, and the laws of moves of a run state the rest.
-use Rattle.std.proofs.Common.{◌≡◌, ◌≢◌, ℕ, ap, ap₂, sym, ◌∙◌, subst}
+use Rattle.std.proofs.Common.{sym, subst}
 use Rattle.chain_laws.specs.Chains.{HasLink}
-use Rattle.chain_laws.specs.Splices.{with_splice}
 use Rattle.chain_links.specs.Links.{links_view}
-use Rattle.chain_links.specs.ChainArena.{link_map, with_link_map, entry, CanSplice}
+use Rattle.chain_links.specs.ChainArena.{link_map, entry, CanSplice}
 use Rattle.chain_linking.proofs.NeighborLemmas.{valid_link}
 use Rattle.chain_arena.specs.Effects.{IsSplice}
 use Rattle.chain_arena.proofs.ReverseAndMoveLemmas.{agrees_splice, spliced}
