@@ -6,8 +6,8 @@ use Rattle.chain_traits.specs.declared.chain_traits.ChainArenaTrait.{Ghosts}
 
 -- The members that the trait adds to an arena, in its order.
 abbrev pub chain_members : {A P T C D I G W : Type 0} → (A → LinkMap) → (C → Walker) → (A → InsertKind P I → T → A → P → Type 0) → (connects : A → P → P → A → Type 0) → (breaks_prev breaks_next : A → P → A → Type 0)
-    → (exchanges : A → P → P → A → Type 0) → (A → A → Type 0) → Ghosts A P T C D I G W
-chain_members interlinks walker inserts connects breaks_prev breaks_next exchanges compresses_canonically = record {
+    → (exchanges : A → P → P → A → Type 0) → (reverses : A → P → A → Type 0) → (moves : A → P → P → A → Type 0) → (splices : A → P → P → P → A → Type 0) → (A → A → Type 0) → Ghosts A P T C D I G W
+chain_members interlinks walker inserts connects breaks_prev breaks_next exchanges reverses moves splices compresses_canonically = record {
   interlinks = interlinks;
   walker = walker;
   inserts = inserts;
@@ -15,5 +15,8 @@ chain_members interlinks walker inserts connects breaks_prev breaks_next exchang
   breaks_prev = breaks_prev;
   breaks_next = breaks_next;
   exchanges = exchanges;
+  reverses = reverses;
+  moves = moves;
+  splices = splices;
   compresses_canonically = compresses_canonically;
 }

@@ -134,8 +134,8 @@ impl<P: PtrKey, T: Drop, A: ChainArenaTrait<P, T> + Drop> RunQueue<P, T, A> {
             (the_row P.row T.row A.row P.Inx.row P.Gen.row P.Inx.Word.row
             A.ChainPtrAdvancer.row A.PtrAdvancer.row P.PtrKey P.Inx.InxKey P.Gen.GenKey
             (chain_members A.interlinks A.walker A.inserts A.connects A.breaks_prev
-            A.breaks_next A.exchanges A.compresses_canonically) A.ArenaTrait A.PtrAdvancer.Advancer
-            A.ChainPtrAdvancer.Advancer)
+            A.breaks_next A.exchanges A.reverses A.moves A.splices A.compresses_canonically)
+            A.ArenaTrait A.PtrAdvancer.Advancer A.ChainPtrAdvancer.Advancer)
             T.row self.entry result
             (λ new t. OnSome result (new ≡ with_task self.old (P.key p).0 t))
             (λ new. new ≡ self.old)) }
