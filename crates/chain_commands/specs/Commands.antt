@@ -42,7 +42,7 @@ two_pointers [] = None
 two_pointers (word ∷ words) = option_zip (pointer_of word) (one_pointer words)
 
 -- Arguments that are three pointers.
-abbrev pub three_pointers : List (List ℕ) → Option (ToolPtr × ToolPtr × ToolPtr)
+abbrev pub three_pointers : List (List ℕ) → Option (ToolPtr × (ToolPtr × ToolPtr))
 three_pointers [] = None
 three_pointers (word ∷ words) = option_zip (pointer_of word) (two_pointers words)
 
@@ -114,7 +114,7 @@ command_of name arguments =
     else (if bytes_eq name (codes "exchange") then option_map (λ p. Change (ExchangeNext p.0 p.1)) (two_pointers arguments)
     else (if bytes_eq name (codes "reverse") then option_map (λ p. Change (ReverseChain p)) (one_pointer arguments)
     else (if bytes_eq name (codes "moveafter") then option_map (λ p. Change (MoveAfter p.0 p.1)) (two_pointers arguments)
-    else (if bytes_eq name (codes "spliceafter") then option_map (λ p. Change (SpliceAfter p.0 p.1 p.2)) (three_pointers arguments)
+    else (if bytes_eq name (codes "spliceafter") then option_map (λ p. Change (SpliceAfter p.0 p.1.0 p.1.1)) (three_pointers arguments)
     else (if bytes_eq name (codes "remove") then option_map Change (removal arguments)
     else (if bytes_eq name (codes "invalidate") then option_map (λ p. Change (Invalidate p)) (one_pointer arguments)
     else (if bytes_eq name (codes "drain") then option_map (λ a. Change (DrainChain a.0 a.1)) (pointer_and_number arguments)
