@@ -159,6 +159,9 @@ fn connect_former_neighbors<P: PtrKey, T: Drop, S: SlotStack<Item = ArenaSlot<P,
 ///
 /// Returns its generation and the link as it was. If there is none, returns `InvalidPtr` and
 /// changes nothing.
+///
+/// Reads the interlinks before the removal moves the link out as a whole: the removal of a neighbor
+/// just before may have written one of them, and a wide read waits for a narrow write to be done.
 pub fn remove_link_at<P: PtrKey, T: Drop, S: SlotStack<Item = ArenaSlot<P, LinkNoGen<P, T>>>>(
     arena: &mut Arena<P, LinkNoGen<P, T>, S>,
     i: P::Inx,
@@ -167,11 +170,18 @@ pub fn remove_link_at<P: PtrKey, T: Drop, S: SlotStack<Item = ArenaSlot<P, LinkN
     ensures { TakesLinkAt P.Inx.packed_number P.Gen.wraps P.Gen.following (P.Inx.number i) arena.old
         result arena.new }
 {
-    let (entry, overflow) = arena.remove_inx(i).overflowing();
-    match entry {
-        Some((generation, link)) => {
-            connect_former_neighbors(arena, i, link.prev(), link.next());
-            InvalidationResult::from_overflow(overflow, (generation, link))
+    match arena.get_inx(i) {
+        Some((_, link)) => {
+            let prev = link.prev();
+            let next = link.next();
+            let (entry, overflow) = arena.remove_inx(i).overflowing();
+            match entry {
+                Some((generation, link)) => {
+                    connect_former_neighbors(arena, i, prev, next);
+                    InvalidationResult::from_overflow(overflow, (generation, link))
+                }
+                None => proved_unreachable!(),
+            }
         }
         None => InvalidationResult::InvalidPtr,
     }
