@@ -5,7 +5,7 @@ use Rattle.std.proofs.Common.{refl, ap, sym, ◌∙◌, subst, inl, inr, arith}
 use Rattle.chain_laws.specs.Chains.{LinkMap, IsWellLinked, HasLink, HasLinksWithin, IsMember, AreDistinct, prev_in, next_in, prev_of, next_of}
 use Rattle.chain_laws.specs.Reversals.{turned, with_turn, with_turns}
 use Rattle.chain_laws.specs.Walks.{IsWalk, walk_ahead, step_forward, step_back}
-use Rattle.chain_laws.proofs.InterlinkLemmas.Inverses.{if_other, one_some}
+use Rattle.chain_laws.proofs.InterlinkLemmas.Inverses.{if_other, if_same, one_some}
 use Rattle.chain_laws.proofs.WalkLemmas.Ahead.{IsAhead, is_ahead, passes_list}
 use Rattle.chain_laws.proofs.WalkLemmas.Walker.{walk_passed}
 use Rattle.chain_laws.proofs.WalkLemmas.Members.{walks_ahead, walk_once, walk_valid, walk_bound}
@@ -17,6 +17,18 @@ use Rattle.chain_links.proofs.ArenaInsertionLemmas.{slots-within}
 use Rattle.chain_links.proofs.LinkStateLemmas.{entry_at-links_view}
 use Rattle.chain_linking.specs.ChainReversals.{arena_with_turn, arena_with_turns, walk_at}
 use Rattle.chain_linking.proofs.LinkWriteLemmas.{FitsLinks, FitsLinks-link_map, is_some-if, link_map-with_link_map, with_link_map-again, with_link_map-own}
+
+-- A walk that does not come back to its start goes on to the next link, and back as before.
+pub steps_unless : (start : ℕ) (next back : Option ℕ) → (next ≡ Some start → ⊥) → (next ≡ step_forward start next) × (back ≡ step_back start next back)
+steps_unless start None back apart = (refl, refl)
+steps_unless start (Some k) back apart = (sym (if_other k start _ _ other), sym (if_other k start _ _ other))
+  where
+    other : (k ≡ start) → ⊥
+    other same = apart (ap Some same)
+
+-- One that does is over.
+pub steps_nowhere : (start : ℕ) (next back : Option ℕ) → next ≡ Some start → (None ≡ step_forward start next) × (None ≡ step_back start next back)
+steps_nowhere start next back is = rw is (sym (if_same start start _ _ refl), sym (if_same start start _ _ refl))
 
 -- The interlinks of a link that is read.
 module _ {Gen K T : Type 0} (number : K → Option ℕ) (a : Arena Gen (RawLink K T)) (i : ℕ) (link : RawLink K T) (stored : option_map (λ (e : Gen × RawLink K T). e.1) (entry_at a i) ≡ Some link) where

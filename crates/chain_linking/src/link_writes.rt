@@ -160,8 +160,7 @@ fn connect_former_neighbors<P: PtrKey, T: Drop, S: SlotStack<Item = ArenaSlot<P,
 /// Returns its generation and the link as it was. If there is none, returns `InvalidPtr` and
 /// changes nothing.
 ///
-/// Reads the interlinks before the removal moves the link out as a whole: the removal of a neighbor
-/// just before may have written one of them, and a wide read waits for a narrow write to be done.
+/// The link is read before it is removed, so that LLVM tests its slot once.
 pub fn remove_link_at<P: PtrKey, T: Drop, S: SlotStack<Item = ArenaSlot<P, LinkNoGen<P, T>>>>(
     arena: &mut Arena<P, LinkNoGen<P, T>, S>,
     i: P::Inx,

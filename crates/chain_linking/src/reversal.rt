@@ -8,7 +8,7 @@ ghost use Rattle.chain_linking.specs.ChainReversals.{TurnsLink, TurnsWalk};
 
 use arena_base::{Arena, ArenaSlot, ArenaTrait, proved_unreachable};
 use arena_ptr::{PtrKey, SlotStack};
-use chain_links::walk_direction::step_both;
+use chain_links::links::is_index;
 use chain_links::{LinkNoGen, link_access};
 
 // Exchanges the interlinks of the link at `i`, and returns them as they were.
@@ -44,10 +44,11 @@ pub fn turn_walk<P: PtrKey, T: Drop, S: SlotStack<Item = ArenaSlot<P, LinkNoGen<
     loop {
         match forward {
             Some(i) => {
-                let beside = turn(arena, i);
-                let onward = step_both(start, beside.1, back);
-                forward = onward.0;
-                back = onward.1;
+                let next = turn(arena, i).1;
+                if is_index(next, start) {
+                    return;
+                }
+                forward = next;
             }
             None => match back {
                 Some(i) => back = turn(arena, i).0,
