@@ -14,3 +14,4 @@ pub mod ReversalLemmas
 pub mod MoveAfterLemmas
 pub mod MoveAfterWriteLemmas
 pub mod SpliceLemmas
+pub mod OrderLemmas

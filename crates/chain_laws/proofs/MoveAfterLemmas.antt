@@ -119,10 +119,12 @@ module _ (link_map : LinkMap) (p q : ℕ) (agrees : IsWellLinked link_map) (vali
         back i j (inr (inl e)) = ap (next_of link_map) (sym (one_some e.0)) ∙ followed ∙ ap (λ k. Some k) (sym e.1)
         back i j (inr (inr e)) = ap (next_of link_map) e.0 ∙ sym after_a ∙ e.1
 
+    -- p moved after a, which it followed, is where it was.
+    pub moved_same : with_move_after link_map p a ≡ link_map
+    moved_same = sym (insertion_is_determined_by_pairs rest link_map p (Some a) (next_of rest a) rest_agrees agrees free (position_after rest a p (next_of rest a) valid_a refl) reinserts)
+
     pub moved_back : with_move_after new p a ≡ link_map
-    moved_back =
-        ap (λ (m : LinkMap). with_insertion m p (Some a) (next_of m a)) ((removed_of_inserted_restores rest q p rest_agrees still_valid free).0)
-        ∙ sym (insertion_is_determined_by_pairs rest link_map p (Some a) (next_of rest a) rest_agrees agrees free (position_after rest a p (next_of rest a) valid_a refl) reinserts)
+    moved_back = ap (λ (m : LinkMap). with_insertion m p (Some a) (next_of m a)) ((removed_of_inserted_restores rest q p rest_agrees still_valid free).0) ∙ moved_same
 
 -- A move keeps the arena well linked, changes chains as stated, and is undone by a move back.
 pub move_agrees : MoveAgrees

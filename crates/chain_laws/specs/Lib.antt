@@ -16,4 +16,5 @@ pub mod Transfer
 pub mod Members
 pub mod MoveAfter
 pub mod Splices
+pub mod Orders
 pub mod Frame

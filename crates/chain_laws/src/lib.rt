@@ -12,6 +12,7 @@ pub mod insertion;
 pub mod join;
 pub mod membership;
 pub mod move_after;
+pub mod order;
 pub mod partition;
 pub mod removal;
 pub mod renaming;

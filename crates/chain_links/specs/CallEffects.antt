@@ -1,6 +1,6 @@
 -- The outcomes of calls on an arena of links, by the cases of their results. An arena is seen by its
 -- state and its interlinks. Those of insertions are in `Insertions`.
-use Rattle.std.specs.Prelude.{◌≡◌, ◌↔◌, ℕ, List, Bool, IsSome, IfSome, Option, None, Some}
+use Rattle.std.specs.Prelude.{◌≡◌, ◌↔◌, ℕ, List, [], ◌∷◌, map, Bool, IsSome, IfSome, Option, None, Some}
 use Rattle.std.specs.Option.{option_map}
 use Rattle.std.specs.Borrow.{Bor}
 use Rattle.arena_core.specs.Invalidation.{invalidation_option}
@@ -8,12 +8,13 @@ use Rattle.arena_core.specs.PointerKinds.{PointerKind}
 use Rattle.arena_core.specs.declared.invalidation.InvalidationOption.{InvalidationOption}
 use Rattle.arena_core.specs.declared.invalidation.InvalidationResult.{InvalidationResult}
 use Rattle.arena_core.specs.declared.packed_option.PackedOption.{PackedOption}
-use Rattle.chain_laws.specs.Chains.{LinkMap, prev_of, next_of}
+use Rattle.chain_laws.specs.Chains.{LinkMap, AreDistinct, prev_of, next_of}
 use Rattle.chain_laws.specs.Neighbors.{AreNeighbors}
 use Rattle.chain_laws.specs.Cuts.{without_pair, Cuts}
 use Rattle.chain_laws.specs.Exchanges.{with_exchange, Exchanges}
 use Rattle.chain_laws.specs.Joins.{with_join, Connects}
 use Rattle.chain_laws.specs.MoveAfter.{with_move_after, MovesAfter}
+use Rattle.chain_laws.specs.Orders.{with_order, PutsInOrder}
 use Rattle.chain_laws.specs.Removals.{with_removal, Removes}
 use Rattle.chain_laws.specs.Reversals.{with_turns, Reverses}
 use Rattle.chain_laws.specs.Splices.{with_splice, Splices}
@@ -23,10 +24,19 @@ use Rattle.arena_traits.specs.CallOutcomes.{ReportsOverflow}
 use Rattle.arena_traits.specs.Compressions.{overflows_after_compression}
 use Rattle.arena_traits.specs.Entries.{ArenaView, ArenaState, count, view_after_removal}
 use Rattle.chain_links.specs.CanonicalLayouts.{IsCanonicalLayout}
-use Rattle.chain_links.specs.ChainArena.{link_at, CanConnect, CanExchange, CanMove, CanSplice, IsLinkAt}
+use Rattle.chain_links.specs.ChainArena.{link_at, CanArrange, CanConnect, CanExchange, CanMove, CanSplice, IsLinkAt}
 use Rattle.chain_links.specs.Links.{link_view, borrowed_link}
 use Rattle.chain_links.specs.declared.links.Link.{Link}
 use Rattle.chain_links.specs.declared.links.RawLink.{RawLink}
+
+-- Arenas between which each link is moved after the one before it, the first after the link of p.
+abbrev pub AreMovedAfter : {A P : Type 0} → (A → P → P → A → Type 0) → A → P → List P → A → Type 0
+AreMovedAfter moves old p [] new = new ≡ old
+AreMovedAfter {A} moves old p (q ∷ order) new = (next : A) × moves old q p next × AreMovedAfter moves next q order new
+
+abbrev pub AreMovedInTurn : {A P : Type 0} → (A → P → P → A → Type 0) → A → List P → A → Type 0
+AreMovedInTurn moves old [] new = new ≡ old
+AreMovedInTurn moves old (p ∷ order) new = AreMovedAfter moves old p order new
 
 module _ {A Gen T : Type 0} {view : A → ArenaView Gen T} {entry : A → ℕ → Option (Gen × T)} (state : (a : A) → ArenaState (view a) (entry a)) (interlinks : A → LinkMap) where
   module _ (old new : A) where
@@ -66,6 +76,12 @@ module _ {A Gen T : Type 0} {view : A → ArenaView Gen T} {entry : A → ℕ �
     pub record IsSpliced (p first last : ℕ) : Type 0 where
       pub spliced : interlinks new ≡ with_splice (interlinks old) p first last
       pub chains : Splices (interlinks old) (interlinks new) p first last
+      pub view_after : view new ≡ view old
+
+    -- The links come to follow the first of them, in this order.
+    pub record IsPutInOrder (order : List ℕ) : Type 0 where
+      pub ordered : interlinks new ≡ with_order (interlinks old) order
+      pub chains : (x : ℕ) (followers : List ℕ) → order ≡ x ∷ followers → AreDistinct order → PutsInOrder (interlinks old) (interlinks new) x followers
       pub view_after : view new ≡ view old
 
     -- The link at i is removed, its neighbors are linked, and the counter advances.
@@ -126,6 +142,11 @@ module _ {A Gen T : Type 0} {view : A → ArenaView Gen T} {entry : A → ℕ �
     abbrev pub SplicesAfter : A → P → P → P → Option Unit → A → Type 0
     SplicesAfter old p first last None new = CanSplice (entry old) (key p) (key first) (key last) → ⊥
     SplicesAfter old p first last (Some done) new = CanSplice (entry old) (key p) (key first) (key last) × IsSpliced old new (key p).0 (key first).0 (key last).0
+
+    -- `arrange_chain`: the links come to follow the first of them, in this order, or they could not.
+    abbrev pub ArrangesLinks : A → List P → Option Unit → A → Type 0
+    ArrangesLinks old order None new = CanArrange (entry old) (map key order) → ⊥
+    ArrangesLinks old order (Some done) new = CanArrange (entry old) (map key order) × IsPutInOrder old new (map (λ p. (key p).0) order)
 
   module _ {P I W : Type 0} (pointers : PointerKind P I Gen W) where
     -- The same links without generations: that of p, and that at an index.

@@ -7,6 +7,7 @@ use Rattle.chain_laws.specs.WalksBack.{IsWalkBack}
 use Rattle.chain_laws.specs.Removals.{with_removal}
 use Rattle.chain_laws.specs.Joins.{with_next_at, with_prev_at}
 use Rattle.chain_laws.specs.Insertions.{with_insertion}
+use Rattle.chain_laws.specs.Orders.{AreApart}
 use Rattle.arena_traits.specs.Arena.{Arena, with_slot, entry_at, next_index, insert_next, remove_at, IsValid}
 use Rattle.arena_traits.specs.Entries.{ArenaView, ArenaState, view_of}
 use Rattle.arena_traits.specs.EntryLaws.{arena_state}
@@ -154,6 +155,11 @@ module _ {Gen T : Type 0} (entry : ℕ → Option (Gen × T)) where
     pub first_valid : IsValid entry first
     pub last_valid : IsValid entry last
     pub apart : p.0 ≢ last.0
+
+  -- Links may be put in an order: all are valid, and none is the same as the one after it.
+  pub record CanArrange (order : List (ℕ × Gen)) : Type 0 where
+    pub valid : All (λ p. IsValid entry p) order
+    pub apart : AreApart (map (λ p. p.0) order)
 
   -- The free index p has the value t, and every other entry is unchanged.
   pub record IsInserted (after : ℕ → Option (Gen × T)) (p : ℕ × Gen) (t : T) : Type 0 where

@@ -4,3 +4,4 @@ pub mod OutcomeLemmas
 pub mod GenericRemovalLemmas
 pub mod AdvancerWalkLemmas
 pub mod SecondCompressionLemmas
+pub mod LinkOrderLemmas

@@ -9,10 +9,11 @@ ghost use Rattle.chain_laws.specs.Arrangements.{place_in};
 ghost use Rattle.chain_laws.specs.Walks.{Walker};
 ghost use Rattle.chain_laws.specs.declared.insert_kind.InsertKind.{InsertKind};
 ghost use Rattle.arena_traits.specs.Entries.{IsSoundView, index_of};
-ghost use Rattle.chain_links.specs.CallEffects.{AreNeighborLinks, ReadsLink, ReadsLinkNoGen, ReadsLinkAt, StartsWalk, ConnectsLinks, BreaksPrev, BreaksNext, ExchangesNext, ReversesChain, MovesLinkAfter, SplicesAfter, RemovesLink, RemovesLinkAt, CompressesLinks};
+ghost use Rattle.chain_links.specs.CallEffects.{AreNeighborLinks, ReadsLink, ReadsLinkNoGen, ReadsLinkAt, StartsWalk, ConnectsLinks, BreaksPrev, BreaksNext, ExchangesNext, ReversesChain, MovesLinkAfter, SplicesAfter, ArrangesLinks, AreMovedInTurn, RemovesLink, RemovesLinkAt, CompressesLinks};
 ghost use Rattle.chain_links.specs.Walkers.{IsPassing};
 ghost use Rattle.chain_links.specs.Insertions.{MayInsertIn, InsertsLinkWithin, InsertsLink, InsertsAllowedLink};
 
+use crate::arrange::{can_arrange, move_in_turn};
 use arena_ptr::{
     AnyPointer, ChainInsertionError, GenKey, InvalidationOption, InvalidationResult, InxKey,
     PtrKey, ReallocationError,
@@ -286,6 +287,33 @@ pub trait ChainArenaTrait<P: PtrKey, T: Drop>: ArenaTrait<P, T> {
             self.new }
         ensures none { IfNone result (self.new ≡ self.old) }
         ensures implementation { OnSome result (splices self.old p first last self.new) };
+
+    /// Moves links so that they follow the first of `order` in that order, each directly after the
+    /// one before it.
+    ///
+    /// If `order` has each link of one chain once, this arranges the chain: a linear chain then
+    /// starts with the first, and a cyclic one stays cyclic. Links of other chains in `order` leave
+    /// their chains, which stay linear or cyclic. All other links stay in their order. Pointers and
+    /// values stay. Does not allocate.
+    ///
+    /// Returns `Some` exactly if all pointers are valid and none is equal to the one after it.
+    /// Otherwise returns `None` and changes nothing.
+    ///
+    /// `arrange_chain` does not detect that `order` has a link twice with others between. It then
+    /// moves this link twice, and the interlinks are still those of `with_order`.
+    final fn arrange_chain(&mut self, order: &[P]) -> Option<()>
+        ensures outcome { ArrangesLinks Self.state interlinks P.key self.old order.now result
+            self.new }
+        ensures none { IfNone result (self.new ≡ self.old) }
+        ensures implementation { OnSome result (AreMovedInTurn moves self.old order.now self.new) }
+    {
+        if !can_arrange(self, order) {
+            return None;
+        }
+        self.agrees();
+        move_in_turn(self, order);
+        Some(())
+    }
 
     /// Removes a link and returns it with the interlinks that it had, without their generations.
     ///

@@ -324,6 +324,19 @@ pub fn run_call<P: Numbered, A: ChainArenaTrait<P, u32> + Drop>(
     }
 }
 
+// Returns up to four pointers, each an index and a generation. An index 0 ends them.
+fn order_of<P: Numbered>(alloc: Global, numbers: [u32; 8]) -> Vec<P> {
+    let [n, g, m, h, l, i, k, j] = numbers;
+    let mut order = Vec::new(alloc);
+    for (index, generation) in [(n, g), (m, h), (l, i), (k, j)] {
+        if index == 0 {
+            break;
+        }
+        let _ = order.push(at::<P>((index, generation)));
+    }
+    order
+}
+
 fn change_links<P: Numbered, A: ChainArenaTrait<P, u32> + Drop>(
     alloc: Global,
     arena: &mut A,
@@ -336,6 +349,12 @@ fn change_links<P: Numbered, A: ChainArenaTrait<P, u32> + Drop>(
             alloc,
             arena
                 .splice_after(parsed.p, parsed.q, third_of(&parsed))
+                .is_some(),
+        ),
+        Do::Arrange => text(
+            alloc,
+            arena
+                .arrange_chain(&order_of(alloc, parsed.numbers))
                 .is_some(),
         ),
         Do::RemoveLink => text(alloc, bare_removal::<P>(arena.remove_link_no_gen(parsed.p))),

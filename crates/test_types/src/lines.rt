@@ -45,7 +45,7 @@ pub enum Do {
     All,
     Changes,
     // Changes of links. `InsertMany` counts the links inserted. `Linked 4 1 2 0 3 3` inserts four
-    // lone links, and connects 1 with 2 and 3 with itself.
+    // lone links, and connects 1 with 2 and 3 with itself. `Arrange` has up to four pointers.
     Insert,
     InsertMany,
     Linked,
@@ -57,6 +57,7 @@ pub enum Do {
     Reverse,
     MoveAfter,
     SpliceAfter,
+    Arrange,
     RemoveLink,
     Canonical,
     TakeNext,
@@ -159,9 +160,9 @@ const LINK_READS: [(&str, Do); 11] = named!(
     Changes
 );
 
-const LINK_CHANGES: [(&str, Do); 14] = named!(
+const LINK_CHANGES: [(&str, Do); 15] = named!(
     Insert InsertMany Linked InsertWithin Connect BreakPrev BreakNext Exchange Reverse MoveAfter
-    SpliceAfter RemoveLink Canonical TakeNext
+    SpliceAfter Arrange RemoveLink Canonical TakeNext
 );
 
 const CHANGES: [(&str, Do); 14] = named!(

@@ -272,6 +272,36 @@ MoveAfter 4 2 3 2 = true
 All = [((1, 2), 1, (1, 2), (1, 2)), ((2, 2), 2, (4, 2), (0, 0)), ((3, 2), 3, (0, 0), (4, 2)), ((4, 2), 4, (3, 2), (2, 2))]
 MoveAfter 3 2 1 2 = true
 All = [((1, 2), 1, (3, 2), (3, 2)), ((2, 2), 2, (4, 2), (0, 0)), ((3, 2), 3, (1, 2), (1, 2)), ((4, 2), 4, (0, 0), (2, 2))]
+# Links put in an order.
+# a linear chain, and the same order again
+Linked 4 1 2 3 4 = true
+Arrange 3 2 1 2 4 2 2 2 = true
+All = [((1, 2), 1, (3, 2), (4, 2)), ((2, 2), 2, (4, 2), (0, 0)), ((3, 2), 3, (0, 0), (1, 2)), ((4, 2), 4, (1, 2), (2, 2))]
+Arrange 3 2 1 2 4 2 2 2 = true
+All = [((1, 2), 1, (3, 2), (4, 2)), ((2, 2), 2, (4, 2), (0, 0)), ((3, 2), 3, (0, 0), (1, 2)), ((4, 2), 4, (1, 2), (2, 2))]
+# a ring
+Linked 4 1 2 3 4 1 = true
+Arrange 2 2 1 2 4 2 3 2 = true
+All = [((1, 2), 1, (2, 2), (4, 2)), ((2, 2), 2, (3, 2), (1, 2)), ((3, 2), 3, (4, 2), (2, 2)), ((4, 2), 4, (1, 2), (3, 2))]
+# a part of one chain, and a link of another
+Linked 5 1 2 3 0 4 5 = true
+Arrange 2 2 5 2 1 2 = true
+All = [((1, 2), 1, (5, 2), (3, 2)), ((2, 2), 2, (0, 0), (5, 2)), ((3, 2), 3, (1, 2), (0, 0)), ((4, 2), 4, (0, 0), (0, 0)), ((5, 2), 5, (2, 2), (1, 2))]
+# out of a ring, which stays one
+Linked 5 1 2 3 1 0 4 5 = true
+Arrange 4 2 3 2 1 2 = true
+All = [((1, 2), 1, (3, 2), (5, 2)), ((2, 2), 2, (2, 2), (2, 2)), ((3, 2), 3, (4, 2), (1, 2)), ((4, 2), 4, (0, 0), (3, 2)), ((5, 2), 5, (1, 2), (0, 0))]
+# none and one, what is refused, and one twice
+Linked 3 1 2 3 = true
+Arrange = true
+Arrange 2 2 = true
+Arrange 9 2 = false
+Arrange 3 2 2 3 1 2 = false
+Arrange 3 2 1 2 9 2 = false
+Arrange 3 2 3 2 1 2 = false
+All = [((1, 2), 1, (0, 0), (2, 2)), ((2, 2), 2, (1, 2), (3, 2)), ((3, 2), 3, (2, 2), (0, 0))]
+Arrange 1 2 3 2 1 2 = true
+All = [((1, 2), 1, (3, 2), (2, 2)), ((2, 2), 2, (1, 2), (0, 0)), ((3, 2), 3, (0, 0), (1, 2))]
 # Lookups, advancers, capacity and the counter.
 # on to the end and back to the start
 Linked 4 1 2 3 4 = true

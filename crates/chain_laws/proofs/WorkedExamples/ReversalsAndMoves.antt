@@ -1,10 +1,11 @@
--- Examples of reversals of a chain, and of moves of a link.
+-- Examples of reversals of a chain, and of moves of links.
 use Rattle.std.specs.Prelude.{◌≡◌, [], ◌∷◌, None, Some}
 use Rattle.std.proofs.Common.{refl}
 use Rattle.chain_laws.specs.Chains.{LinkMap}
 use Rattle.chain_laws.specs.Joins.{with_join, with_lone}
 use Rattle.chain_laws.specs.Reversals.{with_turns}
 use Rattle.chain_laws.specs.MoveAfter.{with_move_after}
+use Rattle.chain_laws.specs.Orders.{with_order}
 use Rattle.chain_laws.proofs.ChainLemmas.LinkedLists.{link}
 
 -- The empty arena.
@@ -58,3 +59,28 @@ left_ring = refl
 -- 2 moved after 1, where it is already.
 moved_nowhere : with_move_after three 2 1 2 ≡ three 2
 moved_nowhere = refl
+
+-- The linear chain put in the order 3 1 2.
+ordered_first : with_order three (3 ∷ 1 ∷ 2 ∷ []) 3 ≡ Some (link None (Some 1))
+ordered_first = refl
+
+ordered_middle : with_order three (3 ∷ 1 ∷ 2 ∷ []) 1 ≡ Some (link (Some 3) (Some 2))
+ordered_middle = refl
+
+ordered_last : with_order three (3 ∷ 1 ∷ 2 ∷ []) 2 ≡ Some (link (Some 1) None)
+ordered_last = refl
+
+-- The ring put in the order 1 3 2.
+ordered_ring : with_order ring (1 ∷ 3 ∷ 2 ∷ []) 1 ≡ Some (link (Some 2) (Some 3))
+ordered_ring = refl
+
+-- 2 and 1 put after 4: the linear chain is 3, the other one 4 2 1.
+left_alone : with_order three (4 ∷ 2 ∷ 1 ∷ []) 3 ≡ Some (link None None)
+left_alone = refl
+
+put_after : with_order three (4 ∷ 2 ∷ 1 ∷ []) 2 ≡ Some (link (Some 4) (Some 1))
+put_after = refl
+
+-- 3 put after 1: 2 stays after them.
+others_stay : with_order three (1 ∷ 3 ∷ []) 2 ≡ Some (link (Some 3) None)
+others_stay = refl
