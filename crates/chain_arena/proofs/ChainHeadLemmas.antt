@@ -5,7 +5,7 @@ use Rattle.std.specs.List.{AllZip, AllByRecursion}
 use Rattle.std.specs.Option.{option_map}
 use Rattle.std.proofs.Math.Decide.{ℕ_discrete}
 use Rattle.std.proofs.lemmas.Bool.{ne_eqb, eq-eqb}
-use Rattle.std.proofs.lemmas.List.{append-nil, append_assoc, length-replicate, get_or-set_same, get_or-set_other}
+use Rattle.std.proofs.lemmas.List.{append-nil, append_assoc, length-replicate, get_or_default, get_or-set_same, get_or-set_other}
 use Rattle.std.proofs.lemmas.List.Elements.{All-from_recursion, recursion_from_All}
 use Rattle.chain_laws.specs.Chains.{Chain, linear, cyclic, items, all_items, HasChain, IsMember, AreDistinct, IsChain, HasLink, IsWellLinked, AreChains, StartsAtLeast, IsSortedByLeast, first_or, prev_in, prev_of}
 use Rattle.chain_laws.specs.Walks.{IsWalk}
@@ -61,6 +61,12 @@ unmarked marks (i ∷ indexes) within j =
       λ h. (sym (marked_elsewhere marks i j other) ∙ (rest.0 h).0, ⊎_elim other (rest.0 h).1),
       λ h. rest.1 (marked_elsewhere marks i j other ∙ h.0, λ m. h.1 (inr m)),
     )
+
+-- The mark that was read is that of the index.
+pub is_marked-read : (marks : List Bool) (i place : ℕ) (b mark : Bool) → place + 1 ≡ i → place < length marks → mark ≡ slice_index_or marks place mark → mark ≡ b → is_marked marks i ≡ b
+is_marked-read marks i place b mark at below read is =
+    let n : i ≡ suc place = omega (arith, at) in
+    ap (is_marked marks) n ∙ (get_or_default marks place false mark below ∙ (sym read ∙ is))
 
 -- No index is marked at first.
 none_marked : (n j : ℕ) → is_marked (replicate n false) j ≡ false
@@ -120,14 +126,14 @@ module _ {Gen T : Type 0} (a : Arena Gen (LinkView T)) where
       by false is changed (inl none) = inl ((λ j m p. ⊎_elim (λ (same : e.0 ≡ j). some_of e.1.1.prev is (sym (prev-stored e all.0) ∙ (ap (prev_of (link_map a)) same ∙ p))) (λ (n : IsMember (map index links) j). none.0 j n p) m), none.1)
       by false is changed (inr start) = inr (later _ start)
 
-  module _ (i : ℕ) (head : (ℕ × Gen) × Bool) (links : List (ℕ × (Gen × LinkView T))) (walk : IsWalkOf a i links) where
-    was_found : IsFound head (map index links) (head_among head links)
-    was_found = head_found head links (recursion_from_All IsStored links walk.stored)
+  module _ (i : ℕ) (links : List (ℕ × (Gen × LinkView T))) (walk : IsWalkOf a i links) where
+    was_found : (head : (ℕ × Gen) × Bool) → IsFound head (map index links) (head_among head links)
+    was_found head = head_found head links (recursion_from_All IsStored links walk.stored)
 
     -- In a linear chain the start is found.
-    linear_head : (xs : List ℕ) → IsChain (link_map a) (linear xs) → IsMember xs i
+    linear_head : (head : (ℕ × Gen) × Bool) (xs : List ℕ) → IsChain (link_map a) (linear xs) → IsMember xs i
         → (first_or xs None ≡ Some (head_among head links).0.0) × IsValid (entry a) (head_among head links).0 × ((head_among head links).1 ≡ false)
-    linear_head xs chain has = by xs refl was_found
+    linear_head head xs chain has = by xs refl (was_found head)
       where
         among : (j : ℕ) → IsMember (map index links) j ↔ IsMember xs j
         among = walk_has (link_map a) i (map index links) (linear xs) walk.walk chain has
@@ -141,8 +147,8 @@ module _ {Gen T : Type 0} (a : Arena Gen (LinkView T)) where
             absurd (none.0 y ((among y).1 first) ((lines_end (link_map a) xs y chain first).1.1 (ap (λ zs. first_or zs None) is)))
 
     -- In a cyclic chain none is found.
-    cyclic_head : (xs : List ℕ) → IsChain (link_map a) (cyclic xs) → IsMember xs i → head_among head links ≡ head
-    cyclic_head xs chain has = by was_found
+    cyclic_head : (head : (ℕ × Gen) × Bool) (xs : List ℕ) → IsChain (link_map a) (cyclic xs) → IsMember xs i → head_among head links ≡ head
+    cyclic_head head xs chain has = by (was_found head)
       where
         among : (j : ℕ) → IsMember (map index links) j ↔ IsMember xs j
         among = walk_has (link_map a) i (map index links) (cyclic xs) walk.walk chain has
@@ -205,15 +211,14 @@ marks_chain key a p links old new head valid walk long marks found_head = record
     not_marked : (c : Chain) → IsChain (link_map a) c → IsMember (items c) i → (j : ℕ) → (is_marked new j ≡ false) ↔ ((is_marked old j ≡ false) × (IsMember (items c) j → ⊥))
     not_marked c chain has j =
         let among = walk_has (link_map a) i (map (λ e. e.0) links) c walk.walk chain has j in
-        let same = unmarked old (map (λ e. e.0) links) (walk_within a i (key p, true) links walk (length old) long) j in
-        (
+        let same = unmarked old (map (λ e. e.0) links) (walk_within a i links walk (length old) long) j in (
           λ h. let u = same.0 (sym (ap (λ m. is_marked m j) marks) ∙ h) in (u.0, λ m. u.1 (among.1 m)),
           λ h. ap (λ m. is_marked m j) marks ∙ same.1 (h.0, λ m. h.1 (among.0 m)),
         )
 
     in_linear : (xs : List ℕ) → IsChain (link_map a) (linear xs) → IsMember xs i → IsHead key a (linear xs) head
     in_linear xs chain has =
-        let h = linear_head a i (key p, true) links walk xs chain has in
+        let h = linear_head a i links walk (key p, true) xs chain has in
         record {
           first = h.0 ∙ ap (λ v. Some v.0.0) (sym found_head);
           valid = subst (λ v. IsValid (entry a) v.0) (sym found_head) h.1;
@@ -222,7 +227,7 @@ marks_chain key a p links old new head valid walk long marks found_head = record
 
     in_cyclic : (xs : List ℕ) → IsChain (link_map a) (cyclic (i ∷ xs)) → IsHead key a (cyclic (i ∷ xs)) head
     in_cyclic xs chain =
-        let h = found_head ∙ cyclic_head a i (key p, true) links walk (i ∷ xs) chain (inl refl) in
+        let h = found_head ∙ cyclic_head a i links walk (key p, true) (i ∷ xs) chain (inl refl) in
         record {
           first = ap (λ v. Some v.0.0) (sym h);
           valid = subst (λ v. IsValid (entry a) v.0) (sym h) valid;
@@ -271,6 +276,9 @@ module _ {P Gen T : Type 0} (key : P → ℕ × Gen) (a : Arena Gen (LinkView T)
 
       are : AreChains (link_map a) all.0
       are = chains_from_pairs (link_map a) all.0 all.1.partition all.1.interlinks
+
+  pub listing_at : (all es : List ((ℕ × Gen) × LinkView T)) (e : (ℕ × Gen) × LinkView T) (marks : List Bool) (heads : List (ChainHead P)) → all ≡ e ∷ es → IsListing all marks heads → IsListing (e ∷ es) marks heads
+  listing_at all es e marks heads is l = subst (λ (fs : List ((ℕ × Gen) × LinkView T)). IsListing fs marks heads) is l
 
   module _ (e : (ℕ × Gen) × LinkView T) (es : List ((ℕ × Gen) × LinkView T)) (marks : List Bool) (heads : List (ChainHead P)) (l : IsListing (e ∷ es) marks heads) where
     abbrev i : ℕ
