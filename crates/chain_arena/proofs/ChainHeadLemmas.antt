@@ -1,6 +1,6 @@
 -- The heads of all chains: marks, the head of a walk, and the loop over the links.
-use Rattle.std.proofs.Common.{◌≡◌, ◌≢◌, ◌↔◌, ℕ, zero, suc, ◌+◌, ◌<◌, ◌≤◌, ◌⊎◌, inl, inr, ⊎_elim, Bool, true, false, List, [], ◌∷◌, ◌++◌, length, map, replicate, get_or, Option, None, Some, refl, ap, sym, ◌∙◌, subst, arith}
-use Rattle.std.specs.Prelude.{◌==◌, cond, is_none, is_some, if◌then◌else◌, slice_index_or, slice_set, All}
+use Rattle.std.proofs.Common.{◌≡◌, ◌≢◌, ◌↔◌, ℕ, zero, suc, ◌+◌, ◌<◌, ◌≤◌, ◌⊎◌, inl, inr, ⊎_elim, Bool, true, false, List, [], ◌∷◌, ◌++◌, length, map, replicate, Option, None, Some, refl, ap, sym, ◌∙◌, subst, arith}
+use Rattle.std.specs.Prelude.{cond, is_none, is_some, if◌then◌else◌, slice_index_or, slice_set, All}
 use Rattle.std.specs.List.{AllZip, AllByRecursion}
 use Rattle.std.specs.Option.{option_map}
 use Rattle.std.proofs.Math.Decide.{ℕ_discrete}
@@ -8,7 +8,6 @@ use Rattle.std.proofs.lemmas.Bool.{ne_eqb, eq-eqb}
 use Rattle.std.proofs.lemmas.List.{append-nil, append_assoc, length-replicate, get_or_default, get_or-set_same, get_or-set_other}
 use Rattle.std.proofs.lemmas.List.Elements.{All-from_recursion, recursion_from_All}
 use Rattle.chain_laws.specs.Chains.{Chain, linear, cyclic, items, all_items, HasChain, IsMember, AreDistinct, IsChain, HasLink, IsWellLinked, AreChains, StartsAtLeast, IsSortedByLeast, first_or, prev_in, prev_of}
-use Rattle.chain_laws.specs.Walks.{IsWalk}
 use Rattle.chain_laws.specs.Neighbors.{AreTheChains}
 use Rattle.chain_laws.proofs.ListLemmas.Members.{IsMember-left, IsMember-right, IsMember-parts, AreDistinct-right, AreDistinct-apart}
 use Rattle.chain_laws.proofs.ChainLemmas.Uniqueness.{cyclic_prev_some, written_least}
@@ -239,7 +238,7 @@ marks_chain key a p links old new head valid walk long marks found_head = record
 module _ {P Gen T : Type 0} (key : P → ℕ × Gen) (a : Arena Gen (LinkView T)) where
   -- The entries are those from an index on. The chains that are left have the unmarked links, all
   -- of them from that index on, and with their heads the list is complete.
-  pub record IsListing (es : List ((ℕ × Gen) × LinkView T)) (marks : List Bool) (heads : List (ChainHead P)) : Type 0 where
+  pub record IsFindingHeads (es : List ((ℕ × Gen) × LinkView T)) (marks : List Bool) (heads : List (ChainHead P)) : Type 0 where
     pub from : ℕ
     pub entries_ascend : AscendsFrom from es
     pub entries_are : (j : ℕ) → from ≤ j → found j es ≡ entry_at a j
@@ -254,9 +253,9 @@ module _ {P Gen T : Type 0} (key : P → ℕ × Gen) (a : Arena Gen (LinkView T)
     pub complete : (more : List (ChainHead P)) → AllZip (IsHead key a) rest more → AreAllHeads key a (heads ++ more)
 
   -- No entry is passed yet.
-  pub listing_begins : (es : List ((ℕ × Gen) × LinkView T)) (marks : List Bool) (heads : List (ChainHead P)) → IsWellLinked (link_map a)
-      → es ≡ entries a → marks ≡ replicate (length a.slots) false → heads ≡ [] → IsListing es marks heads
-  listing_begins es marks heads agrees es_are marks_are heads_are = record {
+  pub finding_begins : (es : List ((ℕ × Gen) × LinkView T)) (marks : List Bool) (heads : List (ChainHead P)) → IsWellLinked (link_map a)
+      → es ≡ entries a → marks ≡ replicate (length a.slots) false → heads ≡ [] → IsFindingHeads es marks heads
+  finding_begins es marks heads agrees es_are marks_are heads_are = record {
     from = 1;
     entries_ascend = subst (AscendsFrom 1) (sym es_are) (entries_ascend a);
     entries_are = λ j low. ap (found j) es_are ∙ found-entries a j;
@@ -277,10 +276,10 @@ module _ {P Gen T : Type 0} (key : P → ℕ × Gen) (a : Arena Gen (LinkView T)
       are : AreChains (link_map a) all.0
       are = chains_from_pairs (link_map a) all.0 all.1.partition all.1.interlinks
 
-  pub listing_at : (all es : List ((ℕ × Gen) × LinkView T)) (e : (ℕ × Gen) × LinkView T) (marks : List Bool) (heads : List (ChainHead P)) → all ≡ e ∷ es → IsListing all marks heads → IsListing (e ∷ es) marks heads
-  listing_at all es e marks heads is l = subst (λ (fs : List ((ℕ × Gen) × LinkView T)). IsListing fs marks heads) is l
+  pub finding_at : (all es : List ((ℕ × Gen) × LinkView T)) (e : (ℕ × Gen) × LinkView T) (marks : List Bool) (heads : List (ChainHead P)) → all ≡ e ∷ es → IsFindingHeads all marks heads → IsFindingHeads (e ∷ es) marks heads
+  finding_at all es e marks heads is l = subst (λ (fs : List ((ℕ × Gen) × LinkView T)). IsFindingHeads fs marks heads) is l
 
-  module _ (e : (ℕ × Gen) × LinkView T) (es : List ((ℕ × Gen) × LinkView T)) (marks : List Bool) (heads : List (ChainHead P)) (l : IsListing (e ∷ es) marks heads) where
+  module _ (e : (ℕ × Gen) × LinkView T) (es : List ((ℕ × Gen) × LinkView T)) (marks : List Bool) (heads : List (ChainHead P)) (l : IsFindingHeads (e ∷ es) marks heads) where
     abbrev i : ℕ
     i = e.0.0
 
@@ -312,8 +311,8 @@ module _ {P Gen T : Type 0} (key : P → ℕ × Gen) (a : Arena Gen (LinkView T)
         ∙ l.entries_are j (let low = l.entries_ascend.0 in omega (arith, above, low))
 
     -- The chain of the first entry is listed already.
-    pub listing_skips : is_marked marks i ≡ true → IsListing es marks heads
-    listing_skips marked = record {
+    pub finding_skips : is_marked marks i ≡ true → IsFindingHeads es marks heads
+    finding_skips marked = record {
       from = suc i;
       entries_ascend = l.entries_ascend.1;
       entries_are = others_found;
@@ -388,7 +387,7 @@ module _ {P Gen T : Type 0} (key : P → ℕ × Gen) (a : Arena Gen (LinkView T)
         ),
       )
 
-      with_next : IsListing es new (heads ++ head ∷ [])
+      with_next : IsFindingHeads es new (heads ++ head ∷ [])
       with_next = record {
         from = suc i;
         entries_ascend = l.entries_ascend.1;
@@ -408,19 +407,21 @@ module _ {P Gen T : Type 0} (key : P → ℕ × Gen) (a : Arena Gen (LinkView T)
           above : (j : ℕ) → i ≤ j → (i ≡ j → ⊥) → suc i ≤ j
           above j low other = omega (arith, low, other)
 
-    pub listing_more : (head : ChainHead P) (new : List Bool) → is_marked marks i ≡ false → MarksChain key a i marks head new → IsListing es new (heads ++ head ∷ [])
-    listing_more head new free marks_new = by l.rest refl
+    pub finding_more : (old new left : List Bool) (head : ChainHead P) (more : List (ChainHead P)) → is_marked marks i ≡ false → old ≡ marks → MarksChain key a i old head new → left ≡ new → more ≡ heads ++ head ∷ []
+        → IsFindingHeads es left more
+    finding_more old new left head more free is_old marks_new is_left is_more =
+        subst (λ (hs : List (ChainHead P)). IsFindingHeads es left hs) (sym is_more) (subst (λ (m : List Bool). IsFindingHeads es m (heads ++ head ∷ [])) (sym is_left) (by l.rest refl))
       where
         in_rest : IsMember (all_items l.rest) i
         in_rest = (l.unmarked i has_link).0 free
 
-        by : (rest : List Chain) → l.rest ≡ rest → IsListing es new (heads ++ head ∷ [])
+        by : (rest : List Chain) → l.rest ≡ rest → IsFindingHeads es new (heads ++ head ∷ [])
         by [] is = absurd (subst (λ (ds : List Chain). IsMember (all_items ds) i) is in_rest)
-        by (c ∷ cs) is = with_next head new marks_new c cs is (subst (λ (ds : List Chain). IsMember (all_items ds) i) is in_rest)
+        by (c ∷ cs) is = with_next head new (subst (λ (m : List Bool). MarksChain key a i m head new) is_old marks_new) c cs is (subst (λ (ds : List Chain). IsMember (all_items ds) i) is in_rest)
 
   -- All entries are passed, so no chain is left.
-  pub listing_ends : (marks : List Bool) (heads : List (ChainHead P)) → IsListing [] marks heads → AreAllHeads key a heads
-  listing_ends marks heads l = by l.rest refl
+  pub finding_ends : (marks : List Bool) (heads : List (ChainHead P)) → IsFindingHeads [] marks heads → AreAllHeads key a heads
+  finding_ends marks heads l = by l.rest refl
     where
       by : (rest : List Chain) → l.rest ≡ rest → AreAllHeads key a heads
       by [] is = subst (AreAllHeads key a) (append-nil heads) (l.complete [] (subst (λ (ds : List Chain). AllZip (IsHead key a) ds []) (sym is) tt))

@@ -1,7 +1,7 @@
 -- The starts among the entries of an arena.
 use Rattle.std.specs.Prelude.{◌≡◌, ℕ, zero, suc, ◌+◌, Bool, true, false, not, is_none, is_some, if◌then◌else◌, List, [], ◌∷◌, slice_index_or, Option, None, Some}
 use Rattle.std.specs.Option.{option_map}
-use Rattle.std.proofs.Common.{refl, sym, ap, ◌∙◌, subst, inl, inr, ⊎_elim, arith}
+use Rattle.std.proofs.Common.{refl, sym, ap, ◌∙◌, subst, inl, inr, arith}
 use Rattle.chain_laws.specs.Chains.{IsWellLinked, HasLink, IsChain, linear, prev_in, prev_of}
 use Rattle.chain_laws.proofs.InterlinkLemmas.Inverses.{one_some}
 use Rattle.chain_laws.proofs.ChainLemmas.Existence.{has_chain}
