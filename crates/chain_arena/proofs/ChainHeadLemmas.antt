@@ -26,9 +26,14 @@ use Rattle.chain_linking.proofs.AdvancerLemmas.{valid_there}
 use Rattle.chain_traits.proofs.GenericArenaLemmas.{found_from}
 use Rattle.chain_arena.specs.declared.chains.ChainHead.{ChainHead}
 use Rattle.chain_arena.proofs.StartLemmas.{none_of}
-use Rattle.chain_arena.specs.ChainHeads.{IsHead, AreAllHeads, is_marked, with_marks, head_among, head_view, MarksChain}
+use Rattle.chain_arena.specs.ChainHeads.{IsHead, AreAllHeads, is_marked, MarksChain, MarksWalk}
 
 -- ---- marks
+
+-- The marks with these indexes marked, too.
+abbrev with_marks : List Bool → List ℕ → List Bool
+with_marks marks [] = marks
+with_marks marks (i ∷ indexes) = with_marks (with_slot marks i true) indexes
 
 marked_here : (marks : List Bool) (i : ℕ) → 1 ≤ i → i ≤ length marks → is_marked (with_slot marks i true) i ≡ true
 marked_here marks zero low high = absurd (omega (arith, low))
@@ -39,7 +44,7 @@ marked_elsewhere marks zero j other = refl
 marked_elsewhere marks (suc k) zero other = refl
 marked_elsewhere marks (suc k) (suc m) other = get_or-set_other marks k m true false (λ same. other (ap suc (sym same)))
 
-pub length-with_marks : (marks : List Bool) (indexes : List ℕ) → length (with_marks marks indexes) ≡ length marks
+length-with_marks : (marks : List Bool) (indexes : List ℕ) → length (with_marks marks indexes) ≡ length marks
 length-with_marks marks [] = refl
 length-with_marks marks (i ∷ indexes) = length-with_marks (with_slot marks i true) indexes ∙ length-with_slot marks i true
 
@@ -81,6 +86,16 @@ none_marked n (suc k) = by n k
 
 some_of : (o : Option ℕ) → is_none o ≡ false → o ≡ None → ⊥
 some_of o is none = let h : is_none o ≡ true = ap is_none none in absurd (let k = is in cc)
+
+-- A head with the index and generation of its pointer.
+abbrev pub head_view : {P Gen : Type 0} → (P → ℕ × Gen) → ChainHead P → (ℕ × Gen) × Bool
+head_view key head = (key head.first, head.is_cyclic)
+
+module _ {Gen T : Type 0} where
+  -- The last of the links without a previous link, as the head of a linear chain, or else `head`.
+  abbrev head_among : (ℕ × Gen) × Bool → List (ℕ × (Gen × LinkView T)) → (ℕ × Gen) × Bool
+  head_among head [] = head
+  head_among head (e ∷ links) = head_among (if is_none e.1.1.prev then ((e.0, e.1.0), false) else head) links
 
 module _ {Gen T : Type 0} (a : Arena Gen (LinkView T)) where
   abbrev index : ℕ × (Gen × LinkView T) → ℕ
@@ -194,10 +209,9 @@ marking_more old start all marks head next links rest e place b m steps at is ne
     length-slice_set n = length-with_slot marks (suc n) true
 
 -- The walk from p marks the links of its chain, and finds the head.
-pub marks_chain : {P Gen T : Type 0} (key : P → ℕ × Gen) (a : Arena Gen (LinkView T)) (p : P) (links : List (ℕ × (Gen × LinkView T))) (old new : List Bool) (head : ChainHead P)
-    → IsValid (entry a) (key p) → IsWalkOf a (key p).0 links → length a.slots ≤ length old → new ≡ with_marks old (map (λ e. e.0) links) → head_view key head ≡ head_among (key p, true) links
-    → MarksChain key a (key p).0 old head new
-marks_chain key a p links old new head valid walk long marks found_head = record {
+marks_chain : {P Gen T : Type 0} (key : P → ℕ × Gen) (p : P) (links : List (ℕ × (Gen × LinkView T))) (old new : List Bool) (head : ChainHead P)
+    → new ≡ with_marks old (map (λ e. e.0) links) → head_view key head ≡ head_among (key p, true) links → MarksWalk key p links old head new
+marks_chain key p links old new head marks found_head a valid walk long = record {
   long = ap length marks ∙ length-with_marks old (map (λ e. e.0) links);
   unmarked = not_marked;
   in_linear = in_linear;
@@ -232,6 +246,12 @@ marks_chain key a p links old new head valid walk long marks found_head = record
           valid = subst (λ v. IsValid (entry a) v.0) (sym h) valid;
           ring = ap (λ v. v.1) h;
         }
+
+-- Nothing is left of the walk.
+pub marking_ends : {P Gen T : Type 0} (key : P → ℕ × Gen) (p : P) (all links : List (ℕ × (Gen × LinkView T))) (old new : List Bool) (head : ChainHead P)
+    → IsMarking old (key p, true) all new (head_view key head) links → links ≡ [] → MarksWalk key p all old head new
+marking_ends key p all links old new head m none =
+    marks_chain key p all old new head (ap (λ l. with_marks new (map (λ e. e.0) l)) (sym none) ∙ m.marks_are) (ap (head_among (head_view key head)) (sym none) ∙ m.head_is)
 
 -- ---- the loop over all links
 

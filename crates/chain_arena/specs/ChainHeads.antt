@@ -1,10 +1,10 @@
 -- The chains of an arena, each by the pointer to its first link.
-use Rattle.std.specs.Prelude.{◌≡◌, ◌↔◌, ℕ, zero, suc, Bool, true, false, is_none, if◌then◌else◌, List, [], ◌∷◌, length, slice_index_or, None, Some}
+use Rattle.std.specs.Prelude.{◌≡◌, ◌↔◌, ℕ, zero, suc, ◌≤◌, Bool, true, false, List, ◌∷◌, length, slice_index_or, None, Some}
 use Rattle.std.specs.List.{AllZip}
-use Rattle.arena_traits.specs.Arena.{Arena, IsValid, with_slot}
+use Rattle.arena_traits.specs.Arena.{Arena, IsValid}
 use Rattle.chain_laws.specs.Chains.{Chain, linear, cyclic, items, first_or, IsMember, IsChain}
 use Rattle.chain_laws.specs.Neighbors.{AreTheChains}
-use Rattle.chain_links.specs.ChainArena.{LinkView, entry, link_map}
+use Rattle.chain_links.specs.ChainArena.{LinkView, entry, link_map, IsWalkOf}
 use Rattle.chain_arena.specs.declared.chains.ChainHead.{ChainHead}
 
 -- Whether a chain is cyclic.
@@ -25,33 +25,21 @@ module _ {P Gen T : Type 0} (key : P → ℕ × Gen) (a : Arena Gen (LinkView T)
     pub are : AreTheChains (link_map a) chains
     pub heads_are : AllZip IsHead chains heads
 
--- ---- marks
-
--- Whether an index is marked: its slot's mark.
+-- Whether an index is marked, in marks by slot.
 abbrev pub is_marked : List Bool → ℕ → Bool
 is_marked marks zero = false
 is_marked marks (suc k) = slice_index_or marks k false
 
--- The marks with these indexes marked, too.
-abbrev pub with_marks : List Bool → List ℕ → List Bool
-with_marks marks [] = marks
-with_marks marks (i ∷ indexes) = with_marks (with_slot marks i true) indexes
-
-module _ {Gen T : Type 0} where
-  -- The last of the links without a previous link, as the head of a linear chain, or else `head`.
-  abbrev pub head_among : (ℕ × Gen) × Bool → List (ℕ × (Gen × LinkView T)) → (ℕ × Gen) × Bool
-  head_among head [] = head
-  head_among head (e ∷ links) = head_among (if is_none e.1.1.prev then ((e.0, e.1.0), false) else head) links
-
--- A head with the index and generation of its pointer.
-abbrev pub head_view : {P Gen : Type 0} → (P → ℕ × Gen) → ChainHead P → (ℕ × Gen) × Bool
-head_view key head = (key head.first, head.is_cyclic)
-
-module _ {P Gen T : Type 0} (key : P → ℕ × Gen) where
-  -- The links of the chain of i are marked, too, and `head` is its head: from i, if it is cyclic.
-  pub record MarksChain (a : Arena Gen (LinkView T)) (i : ℕ) (old : List Bool) (head : ChainHead P) (new : List Bool) : Type 0 where
+module _ {P Gen T : Type 0} (key : P → ℕ × Gen) (a : Arena Gen (LinkView T)) where
+  -- Besides what was marked, the chain of i is, and `head` is its head: from i, if it is cyclic.
+  pub record MarksChain (i : ℕ) (old : List Bool) (head : ChainHead P) (new : List Bool) : Type 0 where
     pub long : length new ≡ length old
     pub unmarked : (c : Chain) → IsChain (link_map a) c → IsMember (items c) i
         → (j : ℕ) → (is_marked new j ≡ false) ↔ ((is_marked old j ≡ false) × (IsMember (items c) j → ⊥))
     pub in_linear : (xs : List ℕ) → IsChain (link_map a) (linear xs) → IsMember xs i → IsHead key a (linear xs) head
     pub in_cyclic : (xs : List ℕ) → IsChain (link_map a) (cyclic (i ∷ xs)) → IsHead key a (cyclic (i ∷ xs)) head
+
+-- The same, in any arena with this walk from p.
+abbrev pub MarksWalk : {P Gen T : Type 0} → (P → ℕ × Gen) → P → List (ℕ × (Gen × LinkView T)) → List Bool → ChainHead P → List Bool → Type 0
+MarksWalk {P} {Gen} {T} key p links old head new = (a : Arena Gen (LinkView T)) → IsValid (entry a) (key p) → IsWalkOf a (key p).0 links → length a.slots ≤ length old
+    → MarksChain key a (key p).0 old head new

@@ -1,8 +1,8 @@
 // The chains of an arena, each by its first link.
-ghost use Rattle.std.specs.Prelude.{◌≡◌, ◌≤◌, ◌+◌, length, replicate, map, All, false, true, IfOk};
+ghost use Rattle.std.specs.Prelude.{◌≡◌, ◌≤◌, ◌+◌, length, replicate, All, false, IfOk};
 ghost use Rattle.arena_traits.specs.Arena.{IsValid};
 ghost use Rattle.chain_links.specs.ChainArena.{entry};
-ghost use Rattle.chain_arena.specs.ChainHeads.{AreAllHeads, MarksChain, with_marks, head_view, head_among};
+ghost use Rattle.chain_arena.specs.ChainHeads.{AreAllHeads, MarksChain, MarksWalk};
 
 use crate::chain_arena::ChainArena;
 use crate::iterators::links_of;
@@ -41,8 +41,7 @@ fn mark_walk<P: PtrKey, T: Drop, S: SlotStack<Item = ArenaSlot<P, LinkNoGen<P, T
     marks: &mut [bool],
 ) -> ChainHead<P>
     requires { All (λ e. e.0 ≤ length marks.old) links }
-    ensures marks { marks.new ≡ with_marks marks.old (map (λ e. e.0) links.entry) }
-    ensures head { head_view P.key result ≡ head_among (P.key p, true) links.entry }
+    ensures { MarksWalk P.key p links.entry marks.old result marks.new }
 {
     let mut head = ChainHead {
         first: p,
@@ -72,9 +71,9 @@ fn no_marks<A: Allocator>(alloc: A, n: usize) -> Result<Vec<bool, A>, AllocError
 impl<P: PtrKey, T: Drop, S: SlotStack<Item = ArenaSlot<P, LinkNoGen<P, T>>>> ChainArena<P, T, S> {
     /// Returns the first link of each chain, in the order of the chains' least indexes.
     ///
-    /// Of a linear chain this is its start, of a cyclic one the link of least index. Each slot is
-    /// read once, and each link at most three times, which is not proved. Allocates the list, and
-    /// while it runs a mark for each slot.
+    /// Of a linear chain this is its start, of a cyclic one the link of least index. Reads each slot
+    /// once and each link at most twice more, which is not proved. Allocates the list, and a mark
+    /// for each slot that is freed again.
     ///
     /// # Errors
     ///

@@ -1,7 +1,6 @@
 -- What is left of the walk marks the rest of its links, and finds the head among them.
 use Rattle.std.proofs.Common.{true}
-use Rattle.chain_arena.specs.ChainHeads.{head_view}
-use Rattle.chain_arena.proofs.ChainHeadLemmas.{IsMarking}
+use Rattle.chain_arena.proofs.ChainHeadLemmas.{head_view, IsMarking}
 use Rattle.chain_arena.proofs.chains.mark_walk.Given as goal
 
 abbrev pub invariant-loop-q : goal.invariant-loop-q
