@@ -25,3 +25,4 @@ pub mod InsertEntryLemmas
 pub mod PointerTransferLemmas
 pub mod DrainLawLemmas
 pub mod StartLemmas
+pub mod ChainHeadLemmas

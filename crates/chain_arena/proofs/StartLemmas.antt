@@ -1,7 +1,7 @@
 -- The starts among the entries of an arena.
-use Rattle.std.specs.Prelude.{◌≡◌, ℕ, zero, suc, ◌+◌, Bool, true, false, is_none, if◌then◌else◌, List, [], ◌∷◌, slice_index_or, Option, None, Some}
+use Rattle.std.specs.Prelude.{◌≡◌, ℕ, zero, suc, ◌+◌, Bool, true, false, not, is_none, is_some, if◌then◌else◌, List, [], ◌∷◌, slice_index_or, Option, None, Some}
 use Rattle.std.specs.Option.{option_map}
-use Rattle.std.proofs.Common.{refl, sym, ap, ◌∙◌, subst, inl, inr, ⊎_elim, arith}
+use Rattle.std.proofs.Common.{refl, sym, ap, ◌∙◌, subst, inl, inr, arith}
 use Rattle.chain_laws.specs.Chains.{IsWellLinked, HasLink, IsChain, linear, prev_in, prev_of}
 use Rattle.chain_laws.proofs.InterlinkLemmas.Inverses.{one_some}
 use Rattle.chain_laws.proofs.ChainLemmas.Existence.{has_chain}
@@ -12,9 +12,16 @@ use Rattle.chain_links.specs.ChainArena.{LinkView, link_map, interlinks_of}
 use Rattle.chain_links.proofs.ArenaInsertionLemmas.{slots-within}
 use Rattle.chain_arena.specs.Starts.{HasPointer, starts_among, starts_of, AreStarts}
 
-none_of : (o : Option ℕ) → is_none o ≡ true → o ≡ None
+pub none_of : (o : Option ℕ) → is_none o ≡ true → o ≡ None
 none_of None is = refl
 none_of (Some x) is = absurd (let h = is in cc)
+
+-- Whether an interlink is missing, from the index read.
+pub missing : {I : Type 0} (number : I → ℕ) (o : Option I) (q : Option ℕ) (b : Bool) → option_map number o ≡ q → is_some o ≡ not b → is_none q ≡ b
+missing number None q true read is = ap is_none (sym read)
+missing number None q false read is = absurd (let h = is in cc)
+missing number (Some i) q true read is = absurd (let h = is in cc)
+missing number (Some i) q false read is = ap is_none (sym read)
 
 module _ {Gen T : Type 0} where
   -- The pointer's entry is k slots on, and its link has no previous link.

@@ -9,3 +9,4 @@ pub mod NewLinks
 pub mod PointerTransfers
 pub mod DrainLaws
 pub mod Starts
+pub mod ChainHeads

@@ -38,6 +38,7 @@ pub mod calls;
 mod chain_advancer;
 mod chain_arena;
 mod chain_drains;
+mod chains;
 mod copy;
 mod from_arena;
 mod impl_arena_trait;
@@ -62,6 +63,7 @@ pub use chain_links::{
     InsertKind, Link, LinkInsertKind, LinkNoGen, RawLink, links_compare_by_neighbors,
 };
 pub use chain_traits::ChainArenaTrait;
+pub use chains::ChainHead;
 pub use insert_entry::ChainArenaInsertEntry;
 pub use iterators::ValIter;
 pub use link_drains::LinkDrain;

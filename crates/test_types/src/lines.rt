@@ -114,6 +114,7 @@ pub enum Do {
     Walk,
     WalkBack,
     Starts,
+    Chains,
     Values,
     Links,
     LinksByReference,
@@ -175,9 +176,9 @@ const PLAIN_CALLS: [(&str, Do); 13] = named!(
     CompactWriting DropCompactor ForgetCompactor CopyHole
 );
 
-const OWN_READS: [(&str, Do); 17] = named!(
+const OWN_READS: [(&str, Do); 18] = named!(
     DrainTwo RemoveLinkInx DrainTaking Debug SlotsListed Clone CopyOver Value WriteValue
-    WriteValueInx Walk WalkBack Starts Values Links LinksByReference LinksUsedUp
+    WriteValueInx Walk WalkBack Starts Chains Values Links LinksByReference LinksUsedUp
 );
 
 const OWN_CALLS: [(&str, Do); 19] = named!(

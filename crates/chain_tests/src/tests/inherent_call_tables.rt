@@ -11,6 +11,7 @@ Walk 1 2 = [(P0[1](2), {(start), 3} 10), (P0[3](2), {1, 2} 20), (P0[2](2), {3, (
 Remove 3 2 = Success(20)
 Value 3 2 = None
 Walk 1 2 = [(P0[1](2), {(start), 2} 10), (P0[2](2), {1, (end)} 30)]
+Chains = Ok([ChainHead { first: P0[1](2), is_cyclic: false }])
 # a linear chain
 Linked 4 3 1 4 2 = true
 Walk 1 2 = [(P0[1](2), {3, 4} 1), (P0[4](2), {1, 2} 4), (P0[2](2), {4, (end)} 2), (P0[3](2), {(start), 1} 3)]
@@ -22,11 +23,13 @@ WalkBack 2 2 = [(P0[2](2), {4, (end)} 2), (P0[4](2), {1, 2} 4), (P0[1](2), {3, 4
 Starts = [P0[3](2)]
 BreakNext 1 2 = true
 Starts = [P0[3](2), P0[4](2)]
+Chains = Ok([ChainHead { first: P0[3](2), is_cyclic: false }, ChainHead { first: P0[4](2), is_cyclic: false }])
 # a ring of three, and a lone link
 Linked 4 1 2 3 1 = true
 Walk 2 2 = [(P0[2](2), {1, 3} 2), (P0[3](2), {2, 1} 3), (P0[1](2), {3, 2} 1)]
 WalkBack 2 2 = [(P0[2](2), {1, 3} 2), (P0[1](2), {3, 2} 1), (P0[3](2), {2, 1} 3)]
 WalkBack 4 2 = [(P0[4](2), {(start), (end)} 4)]
+Chains = Ok([ChainHead { first: P0[1](2), is_cyclic: true }, ChainHead { first: P0[4](2), is_cyclic: false }])
 # a ring of one, and one of two
 Linked 4 1 1 0 2 3 2 = true
 Walk 1 2 = [(P0[1](2), {1, 1} 1)]
@@ -34,6 +37,11 @@ Walk 3 2 = [(P0[3](2), {2, 2} 3), (P0[2](2), {3, 3} 2)]
 WalkBack 1 2 = [(P0[1](2), {1, 1} 1)]
 WalkBack 3 2 = [(P0[3](2), {2, 2} 3), (P0[2](2), {3, 3} 2)]
 Starts = [P0[4](2)]
+Chains = Ok([ChainHead { first: P0[1](2), is_cyclic: true }, ChainHead { first: P0[2](2), is_cyclic: true }, ChainHead { first: P0[4](2), is_cyclic: false }])
+# a linear chain from its greatest index to its least, a ring, and a hole
+Linked 5 5 1 0 4 2 4 = true
+Remove 3 2 = Success(3)
+Chains = Ok([ChainHead { first: P0[5](2), is_cyclic: false }, ChainHead { first: P0[2](2), is_cyclic: true }])
 ";
 
 // Loops over all links, and values by valid pointers and indexes.
@@ -75,6 +83,7 @@ Counter = Some(5)
 InsertMany 1 = 1
 Remove 1 2 = Success(1)
 Starts = []
+Chains = Ok([])
 Insert Disconnected 2 = Ok(P0[1](3))
 Walk 1 2 = None
 WalkBack 1 2 = None

@@ -77,6 +77,11 @@ pub(super) fn starts<S: SlotStack<Item = Slot>>(alloc: Global, arena: &ChainsOve
     text_of_all(alloc, arena.starts())
 }
 
+// Returns the first link of each chain.
+pub(super) fn chains<S: SlotStack<Item = Slot>>(alloc: Global, arena: &ChainsOver<S>) -> String {
+    text(alloc, arena.chains(alloc))
+}
+
 // Returns the links of a walk backwards, each with its current pointer.
 pub(super) fn walk_back<S: SlotStack<Item = Slot>>(
     alloc: Global,

@@ -5,6 +5,7 @@ use Rattle.std.specs.Option.{option_map}
 use Rattle.chain_links.specs.ChainArena.{LinkView}
 use Rattle.chain_links.specs.Links.{entry_views, link_view}
 use Rattle.chain_arena.specs.Starts.{starts_among}
+use Rattle.chain_arena.proofs.StartLemmas.{missing}
 use Rattle.chain_arena.proofs.starts.StartsIterator.next.Goals as goal
 
 -- Fewer are left after one was passed.
@@ -17,13 +18,6 @@ first_kept e es is = ap (λ b. if b then e.0 ∷ starts_among es else starts_amo
 
 first_passed : {Gen T : Type 0} (e : (ℕ × Gen) × LinkView T) (es : List ((ℕ × Gen) × LinkView T)) → is_none e.1.prev ≡ false → starts_among (e ∷ es) ≡ starts_among es
 first_passed e es is = ap (λ b. if b then e.0 ∷ starts_among es else starts_among es) is
-
--- Whether an interlink is missing, from the index read.
-missing : {I : Type 0} (number : I → ℕ) (o : Option I) (q : Option ℕ) (b : Bool) → option_map number o ≡ q → is_some o ≡ not b → is_none q ≡ b
-missing number None q true read is = ap is_none (sym read)
-missing number None q false read is = absurd (let h = is in cc)
-missing number (Some i) q true read is = absurd (let h = is in cc)
-missing number (Some i) q false read is = ap is_none (sym read)
 
 pub loop-item-init : goal.loop-item-init
 loop-item-init g c = refl
