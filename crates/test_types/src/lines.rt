@@ -96,10 +96,13 @@ pub enum Do {
     ForgetCompactor,
     CopyHole,
     // Inherent calls of an arena of links. `DrainTwo` reports whether the counter overflows at the
-    // first two links of a drain, `DrainTaking` is the call of lists.
+    // first two links of a drain, `DrainTaking` is the call of lists. `CarryChain` transfers a chain
+    // to an arena with two links and a hole, `CarryChainToFull` to one with a maximum of three.
     DrainTwo,
     RemoveLinkInx,
     DrainTaking,
+    CarryChain,
+    CarryChainToFull,
     // The text of the arena, all its slots, a clone with its next link, and a copy of a chain of so
     // many links without the second.
     Debug,
@@ -174,8 +177,8 @@ const PLAIN_CALLS: [(&str, Do); 13] = named!(
     CompactWriting DropCompactor ForgetCompactor CopyHole
 );
 
-const OWN_READS: [(&str, Do); 17] = named!(
-    DrainTwo RemoveLinkInx DrainTaking Debug SlotsListed Clone CopyOver Value WriteValue
+const OWN_READS: [(&str, Do); 19] = named!(
+    DrainTwo RemoveLinkInx DrainTaking CarryChain CarryChainToFull Debug SlotsListed Clone CopyOver Value WriteValue
     WriteValueInx Walk WalkBack Starts Values Links LinksByReference LinksUsedUp
 );
 
