@@ -19,17 +19,17 @@ use Rattle.arena_traits.specs.Arena.{Arena, IsListed, IsValid, entry_at, entry_c
 use Rattle.chain_links.specs.ChainArena.{LinkView, link_map, entry, values_of, interlinks_of, on_value, link_value as detached_value, insert_between, remove_link}
 use Rattle.chain_links.specs.Links.{link_view}
 use Rattle.chain_links.specs.declared.links.RawLink.{RawLink}
-use Rattle.chain_links.proofs.MappedArenaLemmas.{entry_at-with_each, length-with_each}
+use Rattle.chain_links.proofs.MappedArenaLemmas.{entry_at-with_each, generation_is, length-with_each}
 use Rattle.chain_links.proofs.ArenaInsertionLemmas.{link_map-next, values-count}
 use Rattle.chain_linking.proofs.UnlinkLemmas.{link_map-remove_link, values_of-remove_link}
 use Rattle.chain_arena.specs.Drains.{walk_left, without_each, IsDrainStep, after_times}
 use Rattle.chain_arena.specs.Transfers.{TransferredLink, old_index, overflows, IsMapCall}
-use Rattle.chain_arena.specs.ChainTransfers.{HaveSameChainsWithout, new_index, both_indexes, both_keys, IsInsertedNext, IsChainTransferred, AreEndsOf, moved_before, moved_after, with_moved}
+use Rattle.chain_arena.specs.ChainTransfers.{HaveSameChainsWithout, new_index, both_indexes, both_keys, IsInsertedNext, IsChainTransferred, AreEndsOf, link_before_moved, link_after_moved, with_moved_link}
 use Rattle.chain_arena.proofs.ChainDrainLemmas.{without_each-takes, without_each-counts}
 use Rattle.chain_arena.proofs.DrainLawLemmas.{slot_cleared}
 use Rattle.chain_arena.proofs.InsertionEffectLemmas.{link_map-insert_between, values_of-insert_between, known_more}
 use Rattle.chain_arena.proofs.TransferClosureLemmas.{overflows-append}
-use Rattle.chain_arena.proofs.ChainMoveLemmas.{IsUnderWay, IsNextMove, move_begins, move_ends, next_move}
+use Rattle.chain_arena.proofs.ChainMoveLemmas.{IsPartlyMoved, IsNextMove, move_begins, move_ends, next_move}
 
 module _ {G U : Type 0} (following : G → G) where
   -- One more removal.
@@ -49,14 +49,9 @@ next_of_values : {Gen T : Type 0} (a : Arena Gen (LinkView T)) → next_index (v
 next_of_values a = ap (first_or_next a.freed) (length-with_each detached_value a)
 
 -- A walk begins with its link.
-walk_first : (links : LinkMap) (i : ℕ) (walk : List ℕ) → IsWalk links i walk → (rest : List ℕ) × (walk ≡ i ∷ rest)
-walk_first links i _ (of_linear before after chain) = (after ++ reverse before, refl)
-walk_first links i _ (of_cyclic after chain) = (after, refl)
-
--- The generation of an entry, if there is one.
-abbrev generation_or : {G U : Type 0} → G → Option (G × U) → G
-generation_or g None = g
-generation_or g (Some e) = e.0
+walk_begins_with : (links : LinkMap) (i : ℕ) (walk : List ℕ) → IsWalk links i walk → (rest : List ℕ) × (walk ≡ i ∷ rest)
+walk_begins_with links i _ (of_linear before after chain) = (after ++ reverse before, refl)
+walk_begins_with links i _ (of_cyclic after chain) = (after, refl)
 
 -- The last and the first of some indexes are in no chain without them.
 apart_last : (ys : List ℕ) (o : Option ℕ) (d : Chain) → ((j : ℕ) → IsMember ys j → IsMember (items d) j → ⊥) → (HasIndex d o → ⊥) → HasIndex d (last_or ys o) → ⊥
@@ -75,13 +70,13 @@ apart_first ys o d apart none = by (first_or ys o) refl
 
 -- So are the links beside a new one.
 apart_beside : (closes is_back : Bool) (ys : List ℕ) (q : ℕ) (d : Chain) → ((j : ℕ) → IsMember ys j → IsMember (items d) j → ⊥) → (IsMember (items d) q → ⊥)
-    → (HasIndex d (moved_before closes is_back ys q) → ⊥) × (HasIndex d (moved_after closes is_back ys q) → ⊥)
+    → (HasIndex d (link_before_moved closes is_back ys q) → ⊥) × (HasIndex d (link_after_moved closes is_back ys q) → ⊥)
 apart_beside true is_back ys q d apart none = (apart_last ys (Some q) d apart none, apart_first ys (Some q) d apart none)
 apart_beside false true ys q d apart none = (λ h. h, apart_first ys None d apart (λ h. h))
 apart_beside false false ys q d apart none = (apart_last ys None d apart (λ h. h), λ h. h)
 
 -- A moved index is the new one, or was moved before.
-member_moved : (is_back : Bool) (ys : List ℕ) (q j : ℕ) → IsMember (with_moved is_back ys q) j → IsMember ys j ⊎ (q ≡ j)
+member_moved : (is_back : Bool) (ys : List ℕ) (q j : ℕ) → IsMember (with_moved_link is_back ys q) j → IsMember ys j ⊎ (q ≡ j)
 member_moved true ys q j (inl is) = inr is
 member_moved true ys q j (inr h) = inl h
 member_moved false ys q j h = by (IsMember-parts ys (q ∷ []) j h)
@@ -94,7 +89,7 @@ member_moved false ys q j h = by (IsMember-parts ys (q ∷ []) j h)
 -- There is capacity for the first link of a walk.
 pub has_capacity_first : (links : LinkMap) (i count capacity : ℕ) (walk : List ℕ) → IsWalk links i walk → count + length walk ≤ capacity → count < capacity
 has_capacity_first links i count capacity walk is_walk enough =
-    let w = walk_first links i walk is_walk in
+    let w = walk_begins_with links i walk is_walk in
     let more = ap (length {A = ℕ}) w.1 in
     omega (arith, enough, more)
 
@@ -104,7 +99,7 @@ module _ {Q P G Gen I U T F : Type 0} (key : Q → ℕ × G) (new_key : P → �
   pub record IsTransferUnderWay (src : Arena G (LinkView U)) (at : ℕ) (is_back : Bool) (ends : Option (I × I)) (f : F) (now : Arena Gen (LinkView T)) : Type 0 where
     pub transferred : List (TransferredLink Q P U T)
     pub ys : List ℕ
-    pub under_way : IsUnderWay (link_map source) (link_map src) (link_map now) is_back (map (both_indexes key new_key) transferred) ys (walk_left src at)
+    pub under_way : IsPartlyMoved (link_map source) (link_map src) (link_map now) is_back (map (both_indexes key new_key) transferred) ys (walk_left src at)
     pub bounds : AreEndsOf number ends ys
     pub member : (j : ℕ) → IsMember ys j → IsMember (map (new_index new_key) transferred) j
     pub walk : walk_left source i ≡ map (old_index key) transferred ++ walk_left src at
@@ -124,7 +119,7 @@ module _ {Q P G Gen I U T F : Type 0} (key : Q → ℕ × G) (new_key : P → �
   transfer_begins at is walk = record {
     transferred = [];
     ys = [];
-    under_way = subst (λ (n : ℕ). IsUnderWay (link_map source) (link_map source) (link_map start) false [] [] (walk_left source n)) (sym is) (move_begins (link_map source) (link_map start) i (walk_left source i) walk);
+    under_way = subst (λ (n : ℕ). IsPartlyMoved (link_map source) (link_map source) (link_map start) false [] [] (walk_left source n)) (sym is) (move_begins (link_map source) (link_map start) i (walk_left source i) walk);
     bounds = (refl, refl);
     member = λ j h. h;
     walk = ap (walk_left source) (sym is);
@@ -142,8 +137,8 @@ module _ {Q P G Gen I U T F : Type 0} (key : Q → ℕ × G) (new_key : P → �
 
   module _ (src : Arena G (LinkView U)) (at : ℕ) (is_back : Bool) (ends : Option (I × I)) (f : F) (now : Arena Gen (LinkView T)) (c : IsTransferUnderWay src at is_back ends f now) where
     -- While links are left, there is capacity for one more.
-    pub has_capacity : (n : ℕ) (rest : List ℕ) → walk_left src at ≡ n ∷ rest → entry_count start + length (walk_left source i) ≤ start.capacity → entry_count now < now.capacity
-    has_capacity n rest left enough =
+    pub capacity_left : (n : ℕ) (rest : List ℕ) → walk_left src at ≡ n ∷ rest → entry_count start + length (walk_left source i) ≤ start.capacity → entry_count now < now.capacity
+    capacity_left n rest left enough =
         let whole = ap (length {A = ℕ}) c.walk in
         let parts = length-append (map (old_index key) c.transferred) (walk_left src at) in
         let moved = length-map c.transferred (old_index key) in
@@ -162,24 +157,24 @@ module _ {Q P G Gen I U T F : Type 0} (key : Q → ℕ × G) (new_key : P → �
           (λ t. named ∙ ending.0 t, λ e. ending.1 (sym named ∙ e))
 
       -- There is an insertion position for the next link.
-      pub has_position : (ys : List ℕ) × AreEndsOf number ends ys × IsInsertPosition (link_map now) (next_index now) (moved_before closes is_back ys (next_index now)) (moved_after closes is_back ys (next_index now))
+      pub has_position : (ys : List ℕ) × AreEndsOf number ends ys × IsInsertPosition (link_map now) (next_index now) (link_before_moved closes is_back ys (next_index now)) (link_after_moved closes is_back ys (next_index now))
       has_position = (c.ys, c.bounds, moves_next.position (next_index now))
 
       -- There is capacity for it.
       pub has_capacity_next : entry_count start + length (walk_left source i) ≤ start.capacity → entry_count now < now.capacity
-      has_capacity_next = has_capacity at (walk_left out next) step.walk
+      has_capacity_next = capacity_left at (walk_left out next) step.walk
 
       module _ (ptr : Q) (value : InvalidationOption U) (to : P) (t : T) (called_next : F) (is_ptr : ptr ≡ (value_in gone).0) (is_value : (value_in value ≡ (value_in gone).1.t) × (is_overflow value ≡ is_overflow gone))
           (at_next : new_key to ≡ (next_index now, now.counter)) (called : Called call f (ptr, (value, (to, tt))) t called_next) (after : Arena Gen (LinkView T)) (ends_after : Option (I × I)) (listed : IsListed now)
-          (made : (after ≡ insert_between now t (moved_before closes is_back c.ys (next_index now)) (moved_after closes is_back c.ys (next_index now))) × AreEndsOf number ends_after (with_moved is_back c.ys (next_index now))) where
+          (made : (after ≡ insert_between now t (link_before_moved closes is_back c.ys (next_index now)) (link_after_moved closes is_back c.ys (next_index now))) × AreEndsOf number ends_after (with_moved_link is_back c.ys (next_index now))) where
         abbrev q : ℕ
         q = next_index now
 
         abbrev u : Option ℕ
-        u = moved_before closes is_back c.ys (next_index now)
+        u = link_before_moved closes is_back c.ys (next_index now)
 
         abbrev v : Option ℕ
-        v = moved_after closes is_back c.ys (next_index now)
+        v = link_after_moved closes is_back c.ys (next_index now)
 
         abbrev link : TransferredLink Q P U T
         link = record { from = ptr; value = value; to = to; returned = t }
@@ -244,11 +239,11 @@ module _ {Q P G Gen I U T F : Type 0} (key : Q → ℕ × G) (new_key : P → �
         links_left : link_map out ≡ with_removal (link_map src) at
         links_left = ap (λ (a : Arena G (LinkView U)). link_map a) step.state ∙ link_map-remove_link following src at
 
-        under_way_more : IsUnderWay (link_map source) (link_map out) (link_map after) is_end (map (both_indexes key new_key) more) (with_moved is_back c.ys q) (walk_left out next)
+        under_way_more : IsPartlyMoved (link_map source) (link_map out) (link_map after) is_end (map (both_indexes key new_key) more) (with_moved_link is_back c.ys q) (walk_left out next)
         under_way_more =
-            subst (λ (m : LinkMap). IsUnderWay (link_map source) m (link_map after) is_end (map (both_indexes key new_key) more) (with_moved is_back c.ys q) (walk_left out next)) (sym links_left)
-            (subst (λ (m : LinkMap). IsUnderWay (link_map source) (with_removal (link_map src) at) m is_end (map (both_indexes key new_key) more) (with_moved is_back c.ys q) (walk_left out next)) (sym links_after)
-            (subst (λ (ms : List (ℕ × ℕ)). IsUnderWay (link_map source) (with_removal (link_map src) at) (with_insertion (link_map now) q u v) is_end ms (with_moved is_back c.ys q) (walk_left out next)) (sym both_more)
+            subst (λ (m : LinkMap). IsPartlyMoved (link_map source) m (link_map after) is_end (map (both_indexes key new_key) more) (with_moved_link is_back c.ys q) (walk_left out next)) (sym links_left)
+            (subst (λ (m : LinkMap). IsPartlyMoved (link_map source) (with_removal (link_map src) at) m is_end (map (both_indexes key new_key) more) (with_moved_link is_back c.ys q) (walk_left out next)) (sym links_after)
+            (subst (λ (ms : List (ℕ × ℕ)). IsPartlyMoved (link_map source) (with_removal (link_map src) at) (with_insertion (link_map now) q u v) is_end ms (with_moved_link is_back c.ys q) (walk_left out next)) (sym both_more)
             (moves_next.under_way q free)))
 
         was_new : (j : ℕ) → IsMember (map (new_index new_key) c.transferred) j → IsMember (map (new_index new_key) more) j
@@ -276,7 +271,7 @@ module _ {Q P G Gen I U T F : Type 0} (key : Q → ℕ × G) (new_key : P → �
         pub transfer_continues : IsTransferUnderWay out next is_end ends_after called_next after
         transfer_continues = record {
           transferred = more;
-          ys = with_moved is_back c.ys q;
+          ys = with_moved_link is_back c.ys q;
           under_way = under_way_more;
           bounds = made.1;
           member = λ j h. ⊎_elim (λ (m : IsMember c.ys j). was_new j (c.member j m)) (λ (is : q ≡ j). is_new j is) (member_moved is_back c.ys q j h);
@@ -304,14 +299,14 @@ module _ {Q P G Gen I U T F : Type 0} (key : Q → ℕ × G) (new_key : P → �
       -- The first link is that of p, and is moved to q.
       first_moved : (moved : List (TransferredLink Q P U T)) (end : Arena Gen T) → walk_left source i ≡ map (old_index key) moved → All (λ c. entry source (old_index key c) ≡ Some ((key c.from).1, value_in c.value)) moved
           → FoldsTo (IsInsertedNext new_key) (values_of start) moved end → slice_get (map (both_keys key new_key) moved) 0 ≡ Some (p, new_key q)
-      first_moved [] end walk stored inserted = absurd (let w = walk_first (link_map source) i (walk_left source i) is_walk in let both = sym walk ∙ w.1 in cc)
+      first_moved [] end walk stored inserted = absurd (let w = walk_begins_with (link_map source) i (walk_left source i) is_walk in let both = sym walk ∙ w.1 in cc)
       first_moved (m ∷ moved) end walk stored inserted =
-          let w = walk_first (link_map source) i (walk_left source i) is_walk in
+          let w = walk_begins_with (link_map source) i (walk_left source i) is_walk in
           let both = sym walk ∙ w.1 in
           let index : (key m.from).0 ≡ p.0 = (let e : (key m.from).0 ≡ i = cc in e) ∙ sym is_at in
           let was = All-head (λ (c : TransferredLink Q P U T). entry source (old_index key c) ≡ Some ((key c.from).1, value_in c.value)) m moved stored in
           let entries = sym was ∙ (ap (entry source) index ∙ valid.stored) in
-          let generation : (key m.from).1 ≡ p.1 = ap (generation_or p.1) entries in
+          let generation : (key m.from).1 ≡ p.1 = generation_is (key m.from).1 p.1 (value_in m.value) valid.value entries in
           ap₂ (λ (k : ℕ × G) (l : ℕ × Gen). let o : Option ((ℕ × G) × (ℕ × Gen)) = Some (k, l) in o)
           (ap₂ (λ (n : ℕ) (g : G). let k : ℕ × G = (n, g) in k) index generation)
           (inserted.1.0 ∙ (ap (λ (n : ℕ). let k : ℕ × Gen = (n, start.counter) in k) (next_of_values start) ∙ sym at_next))
@@ -348,9 +343,9 @@ module _ {Gen T : Type 0} (old grown new : Arena Gen (LinkView T)) where
     reached = rw stack_capacity reached.reached;
   }
 
-  pub transferred_grown : {Q P G U F : Type 0} (key : Q → ℕ × G) (new_key : P → ℕ × Gen) (following : G → G) (wraps : G → Bool) (call : Mut F (Q × (InvalidationOption U × (P × Unit {0}))) T) (f : F) (p : ℕ × G) (q : P)
+  pub chain_transferred_grown : {Q P G U F : Type 0} (key : Q → ℕ × G) (new_key : P → ℕ × Gen) (following : G → G) (wraps : G → Bool) (call : Mut F (Q × (InvalidationOption U × (P × Unit {0}))) T) (f : F) (p : ℕ × G) (q : P)
       (source out : Arena G (LinkView U)) → grown ≡ with_capacity_of old grown → IsChainTransferred key new_key following wraps call f p q source out grown new → IsChainTransferred key new_key following wraps call f p q source out old new
-  transferred_grown key new_key following wraps call f p q source out is_grown moved =
+  chain_transferred_grown key new_key following wraps call f p q source out is_grown moved =
       let t = subst (λ (a : Arena Gen (LinkView T)). IsChainTransferred key new_key following wraps call f p q source out a new) is_grown moved in record {
         transferred = t.transferred;
         first = t.first;

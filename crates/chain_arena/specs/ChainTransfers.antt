@@ -74,16 +74,16 @@ AreEndsOf number ends ys = (option_map (λ e. number e.0) ends ≡ first_or ys N
 
 -- The links beside a new one at q, where `ys` are those moved so far, in the order of the chain. It
 -- closes the ring, or comes before the first, or after the last.
-abbrev pub moved_before : (closes is_back : Bool) → List ℕ → ℕ → Option ℕ
-moved_before true is_back ys q = last_or ys (Some q)
-moved_before false true ys q = None
-moved_before false false ys q = last_or ys None
+abbrev pub link_before_moved : (closes is_back : Bool) → List ℕ → ℕ → Option ℕ
+link_before_moved true is_back ys q = last_or ys (Some q)
+link_before_moved false true ys q = None
+link_before_moved false false ys q = last_or ys None
 
-abbrev pub moved_after : (closes is_back : Bool) → List ℕ → ℕ → Option ℕ
-moved_after true is_back ys q = first_or ys (Some q)
-moved_after false true ys q = first_or ys None
-moved_after false false ys q = None
+abbrev pub link_after_moved : (closes is_back : Bool) → List ℕ → ℕ → Option ℕ
+link_after_moved true is_back ys q = first_or ys (Some q)
+link_after_moved false true ys q = first_or ys None
+link_after_moved false false ys q = None
 
 -- The links moved then.
-abbrev pub with_moved : Bool → List ℕ → ℕ → List ℕ
-with_moved is_back ys q = if is_back then q ∷ ys else ys ++ q ∷ []
+abbrev pub with_moved_link : Bool → List ℕ → ℕ → List ℕ
+with_moved_link is_back ys q = if is_back then q ∷ ys else ys ++ q ∷ []

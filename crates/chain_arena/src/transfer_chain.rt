@@ -6,7 +6,7 @@ ghost use Rattle.chain_laws.specs.Insertions.{IsInsertPosition};
 ghost use Rattle.arena_traits.specs.Arena.{IsListed, IsValid, ReachesCapacity, entry_count, next_index, with_capacity_of};
 ghost use Rattle.chain_links.specs.ChainArena.{entry, insert_between, link_map};
 ghost use Rattle.chain_links.specs.Links.{link_view};
-ghost use Rattle.chain_arena.specs.ChainTransfers.{AreEndsOf, IsChainTransferred, TransfersOrRefuses, moved_after, moved_before, with_moved};
+ghost use Rattle.chain_arena.specs.ChainTransfers.{AreEndsOf, IsChainTransferred, TransfersOrRefuses, link_after_moved, link_before_moved, with_moved_link};
 ghost use Rattle.chain_arena.specs.Drains.{walk_left};
 ghost use Rattle.chain_arena.specs.Effects.{HaveSameCapacity, SucceedsOrRefuses};
 
@@ -212,15 +212,15 @@ fn insert_moved<P: PtrKey, T: Drop, S: SlotStack<Item = ArenaSlot<P, LinkNoGen<P
 ) -> Option<(P::Inx, P::Inx)>
     requires ends { (ys : List ℕ) × AreEndsOf P.Inx.number ends ys
         × IsInsertPosition (link_map target.old) (next_index target.old)
-        (moved_before closes is_back ys (next_index target.old))
-        (moved_after closes is_back ys (next_index target.old)) }
+        (link_before_moved closes is_back ys (next_index target.old))
+        (link_after_moved closes is_back ys (next_index target.old)) }
     requires capacity { entry_count target.old < target.old.capacity }
     requires index { (P.key to).0 ≡ next_index target.old }
     ensures inserted { (ys : List ℕ) → AreEndsOf P.Inx.number ends ys
         → (target.new ≡ insert_between target.old t
-        (moved_before closes is_back ys (next_index target.old))
-        (moved_after closes is_back ys (next_index target.old)))
-        × AreEndsOf P.Inx.number result (with_moved is_back ys (next_index target.old)) }
+        (link_before_moved closes is_back ys (next_index target.old))
+        (link_after_moved closes is_back ys (next_index target.old)))
+        × AreEndsOf P.Inx.number result (with_moved_link is_back ys (next_index target.old)) }
     ensures listed { IsListed target.old }
 {
     let i = to.inx();
@@ -237,8 +237,8 @@ fn beside_moved<P: PtrKey>(
     i: P::Inx,
 ) -> Beside<P::Inx>
     ensures { (ys : List ℕ) → AreEndsOf P.Inx.number ends ys
-        → (option_map P.Inx.number result.0 ≡ moved_before closes is_back ys (P.Inx.number i))
-        × (option_map P.Inx.number result.1 ≡ moved_after closes is_back ys (P.Inx.number i)) }
+        → (option_map P.Inx.number result.0 ≡ link_before_moved closes is_back ys (P.Inx.number i))
+        × (option_map P.Inx.number result.1 ≡ link_after_moved closes is_back ys (P.Inx.number i)) }
 {
     match ends {
         None => if closes {
@@ -259,7 +259,7 @@ fn beside_moved<P: PtrKey>(
 // Returns the ends of the moved links with a new one before the first or after the last.
 fn with_moved_end<I: InxKey>(is_back: bool, ends: Option<(I, I)>, i: I) -> Option<(I, I)>
     ensures { (ys : List ℕ) → AreEndsOf I.number ends ys
-        → AreEndsOf I.number result (with_moved is_back ys (I.number i)) }
+        → AreEndsOf I.number result (with_moved_link is_back ys (I.number i)) }
 {
     match ends {
         Some(ends) => if is_back {

@@ -2,7 +2,7 @@
 use Rattle.std.proofs.Common.{ℕ, ◌+◌, ◌≤◌, subst}
 use Rattle.arena_core.specs.SlotStack.{IsBeyond}
 use Rattle.arena_traits.specs.Arena.{ReachesCapacity, entry_count}
-use Rattle.chain_arena.proofs.ChainTransferLemmas.{reaches_grown, transferred_grown}
+use Rattle.chain_arena.proofs.ChainTransferLemmas.{reaches_grown, chain_transferred_grown}
 use Rattle.chain_arena.proofs.chain_arena.ChainArena.transfer_chain.Goals as goal
 
 pub returns-in-Ok-clause-transferred : goal.returns-in-Ok-clause-transferred
@@ -18,7 +18,7 @@ returns-in-Ok-clause-transferred g c =
       links.0,
       (
         (
-          transferred_grown old grown new _ _ _ _ _ _ _ _ _ _ c.in-Ok.ensures.after moved.transferred,
+          chain_transferred_grown old grown new _ _ _ _ _ _ _ _ _ _ c.in-Ok.ensures.after moved.transferred,
           reaches_grown old grown new reach greatest _ moved.capacity.0.0 moved.capacity.0.1 moved.capacity.1 held.0,
         ),
         held.1,
