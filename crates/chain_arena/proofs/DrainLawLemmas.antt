@@ -21,7 +21,7 @@ item_cleared (y ∷ xs) zero (suc m) x is = is
 item_cleared (y ∷ xs) (suc k) zero x is = is
 item_cleared (y ∷ xs) (suc k) (suc m) x is = item_cleared xs k m x is
 
-slot_cleared : {X : Type 0} (slots : List (Option X)) (i j : ℕ) (x : X) → slot_at (with_slot slots i None) j ≡ Some x → slot_at slots j ≡ Some x
+pub slot_cleared : {X : Type 0} (slots : List (Option X)) (i j : ℕ) (x : X) → slot_at (with_slot slots i None) j ≡ Some x → slot_at slots j ≡ Some x
 slot_cleared slots zero j x is = is
 slot_cleared slots (suc k) zero x is = absurd (cc)
 slot_cleared slots (suc k) (suc m) x is = item_cleared slots k m x is

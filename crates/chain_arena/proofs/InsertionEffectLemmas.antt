@@ -51,7 +51,7 @@ module _ {Gen T : Type 0} (a : Arena Gen (LinkView T)) (t : T) (listed : IsListe
         ∙ ap (λ (x : Arena Gen T). with_capacity_of x (values_of b)) (values_of-insert_between u v)
 
     -- There is one more link.
-    known_more : count (value_view b) ≡ count (value_view a) + 1
+    pub known_more : count (value_view b) ≡ count (value_view a) + 1
     known_more =
         ap (λ (x : Arena Gen T). length (entries x)) known_values
         ∙ (length-entries (insert_next (values_of a) t)

@@ -10,6 +10,8 @@ pub mod TransferSourceLemmas
 pub mod TransferClosureLemmas
 pub mod TransferLoopLemmas
 pub mod TransferGrowthLemmas
+pub mod ChainMoveLemmas
+pub mod ChainTransferLemmas
 pub mod ValueLoanLemmas
 pub mod LinkDrainLemmas
 pub mod RecastLemmas

@@ -16,7 +16,7 @@ use Rattle.chain_arena.specs.Transfers.{TransferredLink, old_index, overflows}
 
 module _ {Gen : Type 0} (following : Gen → Gen) (wraps : Gen → Bool) where
   -- The overflow of one more removal.
-  overflows-append : (n : ℕ) (g : Gen) → overflows following wraps (n + 1) g ≡ overflows following wraps n g ++ wraps (after_times following n g) ∷ []
+  pub overflows-append : (n : ℕ) (g : Gen) → overflows following wraps (n + 1) g ≡ overflows following wraps n g ++ wraps (after_times following n g) ∷ []
   overflows-append n g = ap (λ m. overflows following wraps m g) (let e : n + 1 ≡ suc n = omega arith in e) ∙ longer n g
     where
       longer : (n : ℕ) (g : Gen) → overflows following wraps (suc n) g ≡ overflows following wraps n g ++ wraps (after_times following n g) ∷ []

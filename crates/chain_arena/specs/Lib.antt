@@ -1,5 +1,6 @@
 pub mod Drains
 pub mod Transfers
+pub mod ChainTransfers
 pub mod LinkCopies
 pub mod Effects
 pub mod Steps

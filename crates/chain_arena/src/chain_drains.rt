@@ -82,7 +82,10 @@ impl<P: PtrKey, T: Drop, S: SlotStack<Item = ArenaSlot<P, LinkNoGen<P, T>>>> Cha
     // Removes the link at a number, and returns it after the number of its walk's next link.
     // Inlined, so the result need not go through memory.
     #[inline(always)]
-    fn drain_at(&mut self, at: usize) -> Option<(usize, InvalidationOption<(P, LinkNoGen<P, T>)>)>
+    pub(crate) fn drain_at(
+        &mut self,
+        at: usize,
+    ) -> Option<(usize, InvalidationOption<(P, LinkNoGen<P, T>)>)>
         ensures { MatchOption result ((walk_left self.old at ≡ []) × (self.new ≡ self.old))
             (λ e. IsDrainStep P.key P.Inx.packed_number P.Gen.following P.Gen.wraps self.old at e.1
             self.new e.0) }

@@ -51,6 +51,7 @@ mod link_drains;
 mod recast;
 mod starts;
 mod transfer;
+mod transfer_chain;
 mod visitors;
 
 pub use calls::{Call, Reply, apply, run_calls, runs_are_determined};

@@ -68,7 +68,7 @@ impl<P: PtrKey, T: Drop, S: SlotStack<Item = ArenaSlot<P, LinkNoGen<P, T>>>> Cha
     }
 
     // Grows to capacity for `n` links if it is less. Tests the greatest index before the maximum.
-    fn grow_to_hold(&mut self, n: usize) -> Result<(), ReallocationError>
+    pub(crate) fn grow_to_hold(&mut self, n: usize) -> Result<(), ReallocationError>
         ensures grown { SucceedsOrRefuses n P.Inx.greatest self.old.maximum
             (ReachesCapacity S.may_reach P.Inx.greatest n self.old self.new)
             (self.new ≡ self.old) result }

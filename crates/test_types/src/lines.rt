@@ -97,10 +97,13 @@ pub enum Do {
     ForgetCompactor,
     CopyHole,
     // Inherent calls of an arena of links. `DrainTwo` reports whether the counter overflows at the
-    // first two links of a drain, `DrainTaking` is the call of lists.
+    // first two links of a drain, `DrainTaking` is the call of lists. `CarryChain` transfers a chain
+    // to an arena with two links and a hole, `CarryChainToFull` to one with a maximum of three.
     DrainTwo,
     RemoveLinkInx,
     DrainTaking,
+    CarryChain,
+    CarryChainToFull,
     // The text of the arena, all its slots, a clone with its next link, and a copy of a chain of so
     // many links without the second.
     Debug,
@@ -176,9 +179,10 @@ const PLAIN_CALLS: [(&str, Do); 13] = named!(
     CompactWriting DropCompactor ForgetCompactor CopyHole
 );
 
-const OWN_READS: [(&str, Do); 18] = named!(
-    DrainTwo RemoveLinkInx DrainTaking Debug SlotsListed Clone CopyOver Value WriteValue
-    WriteValueInx Walk WalkBack Starts Chains Values Links LinksByReference LinksUsedUp
+const OWN_READS: [(&str, Do); 20] = named!(
+    DrainTwo RemoveLinkInx DrainTaking CarryChain CarryChainToFull Debug SlotsListed Clone CopyOver
+    Value WriteValue WriteValueInx Walk WalkBack Starts Chains Values Links LinksByReference
+    LinksUsedUp
 );
 
 const OWN_CALLS: [(&str, Do); 19] = named!(

@@ -1,7 +1,8 @@
-//! Runs the rows that any arena of links satisfies, at the chain arena and at a forwarding arena.
+//! Runs the rows that any arena of links satisfies, at the chain arena and at a forwarding arena, and
+//! those of transfers of one chain.
 
 use super::trait_calls::ROWS;
-use super::transfers::{TRANSFERS, run_trait_call};
+use super::transfers::{CHAIN_TRANSFERS, TRANSFERS, run_trait_call};
 use super::{RunsCalls, Slot, plays};
 use arena_base::{ArenaTrait, CompactArenaTrait};
 use arena_ptr::{ChunkStack, HeapStack, SlotStack, ToolPtr};
@@ -44,8 +45,15 @@ fn check_all<A: RunsCalls>(rt: &impl Abort, alloc: Global) {
     plays(rt, alloc, &mut arena, TRANSFERS);
 }
 
+// Runs the rows that only a chain arena has.
+fn check_own<A: RunsCalls>(rt: &impl Abort, alloc: Global) {
+    let mut arena = A::fresh(alloc);
+    plays(rt, alloc, &mut arena, CHAIN_TRANSFERS);
+}
+
 fn check_chains<P: Numbered, S: SlotStack<Item = Slot<P>>>(rt: &impl Abort, alloc: Global) {
     check_all::<ChainArena<P, u32, S>>(rt, alloc);
+    check_own::<ChainArena<P, u32, S>>(rt, alloc);
 }
 
 fn check_forwarding<P: Numbered, A: ChainArenaTrait<P, u32> + CompactArenaTrait<P, u32> + Drop>(

@@ -1,6 +1,6 @@
 //! The inherent calls of a chain arena that rows at any pointer make.
 
-use super::transfers::run_trait_call;
+use super::transfers::{carry_chain, run_trait_call};
 use super::{RunsCalls, Slot};
 use arena_base::ArenaTrait;
 use arena_ptr::{InvalidationOption, PtrKey, SlotStack};
@@ -36,6 +36,8 @@ fn run_own_call<P: Numbered, S: SlotStack<Item = Slot<P>>>(
     match parsed.call {
         Do::SetGeneration => text(alloc, arena.set_generation(P::generation_of(parsed.n))),
         Do::DrainTwo => text(alloc, drained_two(arena, parsed.p)),
+        Do::CarryChain => carry_chain(alloc, arena, parsed.p, 1000),
+        Do::CarryChainToFull => carry_chain(alloc, arena, parsed.p, 3),
         _ => run_call(alloc, arena, parsed),
     }
 }

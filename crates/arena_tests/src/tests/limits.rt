@@ -77,6 +77,13 @@ Connect 1 254 2 254 = true
 DrainTwo 1 254 = [Some(false), Some(true)]
 IsEmpty = true
 Counter = Some(2)
+# and by the second link of a transferred chain
+SetGeneration 254 = ()
+InsertMany 2 = 2
+Connect 1 254 2 254 = true
+CarryChain 1 254 = (Ok(Some(P0[2](3))), [(1(fe), 1, false, P0[2](3)), (2(fe), 2, true, P0[4](3))]) ({P0[1](2): {(start), 3} 91, P0[2](3): {(start), 4} 11, P0[3](2): {1, (end)} 93, P0[4](3): {2, (end)} 22}, Gen32 { number: 3 }, Some(1000), true)
+IsEmpty = true
+Counter = Some(2)
 # the greatest generation
 SetGeneration 254 = ()
 InsertMany 2 = 2

@@ -125,6 +125,67 @@ fn run_transfer<P: PtrKey + Debug, A: ChainArenaTrait<P, u32> + CompactArenaTrai
     transfer_to::<P, ToolPtr, A, LimitedStack<Slot<ToolPtr>>>(alloc, source, Gen32::of(n), &setup)
 }
 
+// Returns an arena with a maximum, a list of 91 and 93 at the indexes 1 and 3, and a hole between.
+fn list_with_hole<Q: PtrKey, R: LimitStack<Item = Slot<Q>>>(
+    alloc: Global,
+    most: usize,
+) -> ChainArena<Q, u32, R> {
+    let mut arena: ChainArena<Q, u32, R> = limited(alloc, most);
+    if let Ok(a) = arena.insert_reallocating(LinkInsertKind::Disconnected, 91) {
+        if let Ok(b) = arena.insert_reallocating(LinkInsertKind::ChainEnd(a), 92) {
+            let _ = arena.insert_reallocating(LinkInsertKind::ChainEnd(b), 93);
+            arena.remove(b);
+        }
+    }
+    arena
+}
+
+// Transfers a chain. The closure adds ten times the number of its call to each value.
+// Returns the result, and what the closure was passed, as `carry` does.
+fn move_chain<
+    P: PtrKey + Debug,
+    S: SlotStack<Item = Slot<P>>,
+    Q: PtrKey + Debug,
+    R: SlotStack<Item = Slot<Q>>,
+>(
+    alloc: Global,
+    source: &mut ChainArena<P, u32, S>,
+    p: P,
+    target: &mut ChainArena<Q, u32, R>,
+) -> String {
+    let mut visited: Vec<(P, u32, bool, Q)> = Vec::new(alloc);
+    let mut calls = 0u32;
+    let outcome = source.transfer_chain(p, target, |p, value, q| {
+        let (t, overflow) = value.overflowing();
+        let _ = visited.push((p, t, overflow, q));
+        calls = calls.saturating_add(10);
+        t.saturating_add(calls)
+    });
+    text(alloc, (outcome, visited))
+}
+
+fn carry_chain_to<
+    P: PtrKey + Debug,
+    S: SlotStack<Item = Slot<P>>,
+    Q: Ptr,
+    R: LimitStack<Item = Slot<Q>>,
+>(alloc: Global, source: &mut ChainArena<P, u32, S>, p: P, most: usize) -> String {
+    let mut target: ChainArena<Q, u32, R> = list_with_hole(alloc, most);
+    let reply = move_chain(alloc, source, p, &mut target);
+    in_one_line(alloc, reply.as_str(), contents(alloc, &target).as_str())
+}
+
+// Transfers the chain of `p` to an arena with two links, a hole between them, and a maximum.
+// Returns the result and the closure's arguments, and the target then.
+pub(super) fn carry_chain<P: PtrKey + Debug, S: SlotStack<Item = Slot<P>>>(
+    alloc: Global,
+    source: &mut ChainArena<P, u32, S>,
+    p: P,
+    most: usize,
+) -> String {
+    carry_chain_to::<P, S, ToolPtr, LimitedStack<Slot<ToolPtr>>>(alloc, source, p, most)
+}
+
 // Runs a transfer, or a call of the traits.
 pub(super) fn run_trait_call<
     P: Numbered,
@@ -200,5 +261,38 @@ Remove 256 2 = Success(256)
 CarryToBare 2 = (Err(BeyondMaxCapacity), []) ({Bare[1]: {1, 1} 5, Bare[2]: {2, 2} 6}, (), Some(2), true)
 Len = 255
 Along 3 2 = Some([(3, 2), (1, 2), (0, 0), (0, 0), (0, 0)])
+Counter = Some(3)
+";
+
+// Transfers of one chain. The first new link takes the hole at index 2, and the others are behind.
+pub(super) const CHAIN_TRANSFERS: &str = "\
+# a list from its middle, toward its end and then back to its start
+Linked 5 1 2 3 4 = true
+CarryChain 3 2 = (Ok(Some(P0[2](3))), [(P0[3](2), 3, false, P0[2](3)), (P0[4](2), 4, false, P0[4](3)), (P0[2](2), 2, false, P0[5](3)), (P0[1](2), 1, false, P0[6](3))]) ({P0[1](2): {(start), 3} 91, P0[2](3): {5, 4} 13, P0[3](2): {1, (end)} 93, P0[4](3): {2, (end)} 24, P0[5](3): {6, 2} 32, P0[6](3): {(start), 5} 41}, Gen32 { number: 3 }, Some(1000), true)
+All = [((5, 2), 5, (0, 0), (0, 0))]
+Counter = Some(6)
+# a ring, once around
+Linked 4 1 2 3 1 = true
+CarryChain 2 2 = (Ok(Some(P0[2](3))), [(P0[2](2), 2, false, P0[2](3)), (P0[3](2), 3, false, P0[4](3)), (P0[1](2), 1, false, P0[5](3))]) ({P0[1](2): {(start), 3} 91, P0[2](3): {5, 4} 12, P0[3](2): {1, (end)} 93, P0[4](3): {2, 5} 23, P0[5](3): {4, 2} 31}, Gen32 { number: 3 }, Some(1000), true)
+All = [((4, 2), 4, (0, 0), (0, 0))]
+Counter = Some(5)
+# a ring of one, and a lone link
+Linked 2 1 1 = true
+CarryChain 1 2 = (Ok(Some(P0[2](3))), [(P0[1](2), 1, false, P0[2](3))]) ({P0[1](2): {(start), 3} 91, P0[2](3): {2, 2} 11, P0[3](2): {1, (end)} 93}, Gen32 { number: 3 }, Some(1000), true)
+CarryChain 2 2 = (Ok(Some(P0[2](3))), [(P0[2](2), 2, false, P0[2](3))]) ({P0[1](2): {(start), 3} 91, P0[2](3): {(start), (end)} 12, P0[3](2): {1, (end)} 93}, Gen32 { number: 3 }, Some(1000), true)
+IsEmpty = true
+Counter = Some(4)
+# a list from its end
+Linked 3 1 2 3 = true
+CarryChain 3 2 = (Ok(Some(P0[2](3))), [(P0[3](2), 3, false, P0[2](3)), (P0[2](2), 2, false, P0[4](3)), (P0[1](2), 1, false, P0[5](3))]) ({P0[1](2): {(start), 3} 91, P0[2](3): {4, (end)} 13, P0[3](2): {1, (end)} 93, P0[4](3): {5, 2} 22, P0[5](3): {(start), 4} 31}, Gen32 { number: 3 }, Some(1000), true)
+IsEmpty = true
+Counter = Some(5)
+# a maximum of three: the pointer is checked before the maximum; on the error both are unchanged
+Linked 3 1 2 = true
+CarryChainToFull 1 9 = (Ok(None), []) ({P0[1](2): {(start), 3} 91, P0[3](2): {1, (end)} 93}, Gen32 { number: 3 }, Some(3), true)
+CarryChainToFull 1 2 = (Err(BeyondMaxCapacity), []) ({P0[1](2): {(start), 3} 91, P0[3](2): {1, (end)} 93}, Gen32 { number: 3 }, Some(3), true)
+Counter = Some(2)
+CarryChainToFull 3 2 = (Ok(Some(P0[2](3))), [(P0[3](2), 3, false, P0[2](3))]) ({P0[1](2): {(start), 3} 91, P0[2](3): {(start), (end)} 13, P0[3](2): {1, (end)} 93}, Gen32 { number: 3 }, Some(3), true)
+All = [((1, 2), 1, (0, 0), (2, 2)), ((2, 2), 2, (1, 2), (0, 0))]
 Counter = Some(3)
 ";
