@@ -80,6 +80,22 @@ impl<P: PtrKey, T: Drop, S: SlotStack<Item = ArenaSlot<P, LinkNoGen<P, T>>>> Cha
     /// end.
     ///
     /// Not in `triple_arena`.
+    ///
+    /// # Examples
+    ///
+    /// ```rust
+    /// let mut arena: ChainArena<ToolPtr, u32> = ChainArena::new(alloc);
+    /// let a = arena.insert_reallocating(LinkInsertKind::Disconnected, 1)?;
+    /// let b = arena.insert_reallocating(LinkInsertKind::ChainEnd(a), 2)?;
+    /// let c = arena.insert_reallocating(LinkInsertKind::ChainEnd(b), 3)?; // 1, 2, 3
+    /// let mut digits = 0u32;
+    /// if let Some(links) = arena.iter_chain_back(b) {
+    ///     for (_, link) in links {
+    ///         digits = digits.saturating_mul(10).saturating_add(link.t);
+    ///     }
+    /// }
+    /// assert!(rt; digits == 213); // from b back to the start, then from the end
+    /// ```
     pub fn iter_chain_back(&self, p: P) -> Option<ChainBackIter<'_, P, T, S>>
         ensures { MatchOption result (IsValid (entry self.now) (P.key p) → ⊥)
             (λ links. IsValid (entry self.now) (P.key p) × IsWalkBackOf self.now (P.key p).0 links

@@ -80,6 +80,20 @@ impl<P: PtrKey, T: Drop, S: SlotStack<Item = ArenaSlot<P, LinkNoGen<P, T>>>> Cha
     /// - `AllocError`: an allocation failed.
     ///
     /// Not in `triple_arena`.
+    ///
+    /// # Examples
+    ///
+    /// ```rust
+    /// let mut arena: ChainArena<ToolPtr, u32> = ChainArena::new(alloc);
+    /// let a = arena.insert_reallocating(LinkInsertKind::Disconnected, 1)?;
+    /// let b = arena.insert_reallocating(LinkInsertKind::ChainEnd(a), 2)?;
+    /// let c = arena.insert_reallocating(LinkInsertKind::ChainEnd(b), 3)?; // 1, 2, 3
+    /// arena.break_next(b); // 1, 2 and 3
+    /// arena.connect(b, a); // the first is a ring now
+    /// let heads = arena.chains(alloc)?;
+    /// assert!(rt; heads.len() == 2 && heads[0].first == a && heads[0].is_cyclic);
+    /// assert!(rt; heads[1].first == c && !heads[1].is_cyclic);
+    /// ```
     pub fn chains<A: Allocator + Clone>(&self, alloc: A) -> Result<Vec<ChainHead<P>, A>, AllocError>
         ensures { IfOk result (λ heads. AreAllHeads P.key self.now heads.items) }
     {

@@ -59,6 +59,20 @@ impl<P: PtrKey, T: Drop, S: SlotStack<Item = ArenaSlot<P, LinkNoGen<P, T>>>> Cha
     /// order: one for each such chain.
     ///
     /// It reads each slot once, and allocates nothing. Not in `triple_arena`.
+    ///
+    /// # Examples
+    ///
+    /// ```rust
+    /// let mut arena: ChainArena<ToolPtr, u32> = ChainArena::new(alloc);
+    /// let a = arena.insert_reallocating(LinkInsertKind::Disconnected, 1)?;
+    /// let b = arena.insert_reallocating(LinkInsertKind::ChainEnd(a), 2)?;
+    /// let c = arena.insert_reallocating(LinkInsertKind::ChainEnd(b), 3)?; // 1, 2, 3
+    /// arena.break_next(a); // 1 and 2, 3
+    /// let mut starts = arena.starts();
+    /// assert!(rt; starts.next() == Some(a));
+    /// assert!(rt; starts.next() == Some(b));
+    /// assert!(rt; starts.next() == None);
+    /// ```
     pub fn starts(&self) -> Starts<'_, P, T, S>
         ensures list { result ≡ starts_of self.now }
         ensures starts { AreStarts self.now result }

@@ -42,6 +42,18 @@ impl<P: PtrKey, T: Drop, S: SlotStack<Item = ArenaSlot<P, LinkNoGen<P, T>>>> Cha
     /// On error nothing has changed in either arena, and the closure was not called.
     ///
     /// Not in `triple_arena`.
+    ///
+    /// # Examples
+    ///
+    /// ```rust
+    /// let mut arena: ChainArena<ToolPtr, u32> = ChainArena::new(alloc);
+    /// let a = arena.insert_reallocating(LinkInsertKind::Disconnected, 1)?;
+    /// let b = arena.insert_reallocating(LinkInsertKind::ChainEnd(a), 2)?;
+    /// let c = arena.insert_reallocating(LinkInsertKind::ChainEnd(b), 3)?; // 1, 2, 3
+    /// let mut target: ChainArena<ToolPtr, u32> = ChainArena::new(alloc);
+    /// let moved = arena.transfer_chain(a, &mut target, |_old, value, _new| value.allow())?;
+    /// assert!(rt; moved.is_some() && arena.is_empty() && target.len() == 3);
+    /// ```
     pub fn transfer_chain<
         Q: PtrKey,
         U: Drop,

@@ -258,6 +258,17 @@ pub trait ChainArenaTrait<P: PtrKey, T: Drop>: ArenaTrait<P, T> {
     /// A linear chain then starts with its former end, and a cyclic one goes around the other way.
     /// Pointers and all other chains stay. Returns `Some` exactly if `p` is valid. Otherwise returns
     /// `None` and changes nothing. Writes each link of the chain once.
+    ///
+    /// # Examples
+    ///
+    /// ```rust
+    /// let mut arena: ChainArena<ToolPtr, u32> = ChainArena::new(alloc);
+    /// let a = arena.insert_reallocating(LinkInsertKind::Disconnected, 1)?;
+    /// let b = arena.insert_reallocating(LinkInsertKind::ChainEnd(a), 2)?;
+    /// let c = arena.insert_reallocating(LinkInsertKind::ChainEnd(b), 3)?; // 1, 2, 3
+    /// arena.reverse_chain(b); // 3, 2, 1
+    /// assert!(rt; arena.are_neighbors(c, b) && arena.are_neighbors(b, a));
+    /// ```
     fn reverse_chain(&mut self, p: P) -> Option<()>
         ensures outcome { ReversesChain Self.state interlinks P.key self.old p result self.new }
         ensures none { IfNone result (self.new ≡ self.old) }
@@ -268,6 +279,17 @@ pub trait ChainArenaTrait<P: PtrKey, T: Drop>: ArenaTrait<P, T> {
     /// The rest of its former chain stays linear or cyclic, as after a removal; so does the chain
     /// of q, as after an insertion. The pointer and the value of p stay. Returns `Some` exactly if
     /// both pointers are valid and p is not q. Otherwise returns `None` and changes nothing.
+    ///
+    /// # Examples
+    ///
+    /// ```rust
+    /// let mut arena: ChainArena<ToolPtr, u32> = ChainArena::new(alloc);
+    /// let a = arena.insert_reallocating(LinkInsertKind::Disconnected, 1)?;
+    /// let b = arena.insert_reallocating(LinkInsertKind::ChainEnd(a), 2)?;
+    /// let c = arena.insert_reallocating(LinkInsertKind::ChainEnd(b), 3)?; // 1, 2, 3
+    /// arena.move_after(a, c); // 2, 3, 1
+    /// assert!(rt; arena.are_neighbors(c, a) && !arena.are_neighbors(a, b));
+    /// ```
     fn move_after(&mut self, p: P, q: P) -> Option<()>
         ensures outcome { MovesLinkAfter Self.state interlinks P.key self.old p q result self.new }
         ensures none { IfNone result (self.new ≡ self.old) }
@@ -282,6 +304,18 @@ pub trait ChainArenaTrait<P: PtrKey, T: Drop>: ArenaTrait<P, T> {
     /// `splice_after` does not detect that `first` to `last` is no run of one chain, or that p is in
     /// the run: this needs an O(n) walk. The interlinks are then still those of `with_splice`, so
     /// each link is still in one linear or cyclic chain.
+    ///
+    /// # Examples
+    ///
+    /// ```rust
+    /// let mut arena: ChainArena<ToolPtr, u32> = ChainArena::new(alloc);
+    /// let a = arena.insert_reallocating(LinkInsertKind::Disconnected, 1)?;
+    /// let b = arena.insert_reallocating(LinkInsertKind::ChainEnd(a), 2)?;
+    /// let c = arena.insert_reallocating(LinkInsertKind::ChainEnd(b), 3)?; // 1, 2, 3
+    /// let d = arena.insert_reallocating(LinkInsertKind::Disconnected, 4)?;
+    /// arena.splice_after(d, a, b); // 4, 1, 2 and 3
+    /// assert!(rt; arena.are_neighbors(d, a) && !arena.are_neighbors(b, c));
+    /// ```
     fn splice_after(&mut self, p: P, first: P, last: P) -> Option<()>
         ensures outcome { SplicesAfter Self.state interlinks P.key self.old p first last result
             self.new }
@@ -301,6 +335,17 @@ pub trait ChainArenaTrait<P: PtrKey, T: Drop>: ArenaTrait<P, T> {
     ///
     /// `arrange_chain` does not detect that `order` has a link twice with others between. It then
     /// moves this link twice, and the interlinks are still those of `with_order`.
+    ///
+    /// # Examples
+    ///
+    /// ```rust
+    /// let mut arena: ChainArena<ToolPtr, u32> = ChainArena::new(alloc);
+    /// let a = arena.insert_reallocating(LinkInsertKind::Disconnected, 1)?;
+    /// let b = arena.insert_reallocating(LinkInsertKind::ChainEnd(a), 2)?;
+    /// let c = arena.insert_reallocating(LinkInsertKind::ChainEnd(b), 3)?; // 1, 2, 3
+    /// arena.arrange_chain([c, a, b].as_slice()); // 3, 1, 2
+    /// assert!(rt; arena.are_neighbors(c, a) && arena.are_neighbors(a, b));
+    /// ```
     final fn arrange_chain(&mut self, order: &[P]) -> Option<()>
         ensures outcome { ArrangesLinks Self.state interlinks P.key self.old order.now result
             self.new }
