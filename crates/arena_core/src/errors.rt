@@ -16,6 +16,13 @@ impl From<alloc::AllocError> for AllocError {
     }
 }
 
+// So that `vec.push(x)?` may fail in one function with it. The value is dropped.
+impl<T: Drop> From<AllocFailed<T>> for AllocError {
+    fn from(_refused: AllocFailed<T>) -> AllocError {
+        AllocError
+    }
+}
+
 impl fmt::Display for AllocError {
     ghost output = { λ _. Some (codes "allocation failed, or no index is left") };
 
@@ -37,6 +44,28 @@ pub enum ReallocationError {
     AllocError,
     /// The size needed is above the stack's maximum.
     BeyondMaxCapacity,
+}
+
+impl From<AllocError> for ReallocationError {
+    ghost use Rattle.std.specs.Prelude.{◌≡◌};
+    ghost use Rattle.arena_core.specs.declared.errors.ReallocationError.TheVariants as refused;
+
+    ghost from_gives = { λ _ e. e ≡ refused.AllocError };
+
+    fn from(_refused: AllocError) -> ReallocationError {
+        ReallocationError::AllocError
+    }
+}
+
+impl From<alloc::AllocError> for ReallocationError {
+    ghost use Rattle.std.specs.Prelude.{◌≡◌};
+    ghost use Rattle.arena_core.specs.declared.errors.ReallocationError.TheVariants as refused;
+
+    ghost from_gives = { λ _ e. e ≡ refused.AllocError };
+
+    fn from(_refused: alloc::AllocError) -> ReallocationError {
+        ReallocationError::AllocError
+    }
 }
 
 // So that `vec.push(x)?` and a growth may fail in one function. The value is dropped.
@@ -126,6 +155,28 @@ impl From<ReallocationError> for ChainInsertionError {
             ReallocationError::BeyondMaxCapacity => ChainInsertionError::BeyondMaxCapacity,
             ReallocationError::AllocError => ChainInsertionError::AllocError,
         }
+    }
+}
+
+impl From<AllocError> for ChainInsertionError {
+    ghost use Rattle.std.specs.Prelude.{◌≡◌};
+    ghost use Rattle.arena_core.specs.declared.errors.ChainInsertionError.TheVariants as failed;
+
+    ghost from_gives = { λ _ e. e ≡ failed.AllocError };
+
+    fn from(_refused: AllocError) -> ChainInsertionError {
+        ChainInsertionError::AllocError
+    }
+}
+
+impl From<alloc::AllocError> for ChainInsertionError {
+    ghost use Rattle.std.specs.Prelude.{◌≡◌};
+    ghost use Rattle.arena_core.specs.declared.errors.ChainInsertionError.TheVariants as failed;
+
+    ghost from_gives = { λ _ e. e ≡ failed.AllocError };
+
+    fn from(_refused: alloc::AllocError) -> ChainInsertionError {
+        ChainInsertionError::AllocError
     }
 }
 

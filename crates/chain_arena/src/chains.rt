@@ -7,10 +7,10 @@ ghost use Rattle.chain_arena.specs.ChainHeads.{AreAllHeads, MarksChain, MarksWal
 use crate::chain_arena::ChainArena;
 use crate::iterators::links_of;
 use arena_base::{ArenaSlot, proved_unreachable};
-use arena_ptr::{InxKey, PtrKey, SlotStack};
+use arena_ptr::{AllocError, InxKey, PtrKey, SlotStack};
 use chain_linking::ChainIter;
 use chain_links::LinkNoGen;
-use std::alloc::{AllocError, Allocator};
+use std::alloc::Allocator;
 
 /// The first link of a chain, and whether the chain is cyclic.
 ///
