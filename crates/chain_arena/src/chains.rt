@@ -72,8 +72,8 @@ impl<P: PtrKey, T: Drop, S: SlotStack<Item = ArenaSlot<P, LinkNoGen<P, T>>>> Cha
     /// Returns the first link of each chain, in the order of the chains' least indexes.
     ///
     /// Of a linear chain this is its start, of a cyclic one the link of least index. Reads each slot
-    /// once and each link at most twice more, which is not proved. Allocates the list, and a mark
-    /// for each slot that is freed again.
+    /// once and each link at most twice more, which is not proved. Allocates the list and, until it
+    /// returns, a mark for each slot.
     ///
     /// # Errors
     ///

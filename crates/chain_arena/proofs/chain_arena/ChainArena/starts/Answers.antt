@@ -1,5 +1,5 @@
 -- The starts among all links.
-use Rattle.std.proofs.Common.{◌≡◌, ℕ, ◌≤◌, Bool, true, false, List, [], ◌∷◌, length, ap, sym, ◌∙◌, subst, arith}
+use Rattle.std.proofs.Common.{ℕ, ◌≤◌, Bool, true, false, List, [], ◌∷◌, length, ap, sym, ◌∙◌, subst, arith}
 use Rattle.std.specs.Prelude.{is_none, if◌then◌else◌}
 use Rattle.chain_links.specs.ChainArena.{LinkView, on_value}
 use Rattle.chain_links.specs.Links.{entry_views, link_view}
