@@ -15,6 +15,8 @@ mod session;
 pub use documents::renumber;
 pub use mesh::{merge, split};
 pub use moves::move_after;
-pub use own_calls::{compress_canonical_counted, remove_chain, transfer_canonical_reallocating};
+pub use own_calls::{
+    compress_canonical_counted, remove_chain, transfer_canonical_reallocating, transfer_chain,
+};
 pub use queue::{cancel, spawn};
 pub use session::run_on;

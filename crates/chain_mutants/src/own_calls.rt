@@ -1,7 +1,9 @@
 // Forwarding wrappers of calls that no trait has, or whose contract states more than the trait's.
-ghost use Rattle.std.specs.Prelude.{◌≡◌, ◌≤◌, ◌+◌, IsOk, OnSome};
-ghost use Rattle.arena_traits.specs.Arena.{ReachesCapacity};
+ghost use Rattle.std.specs.Prelude.{◌≡◌, ◌≤◌, ◌+◌, length, IsOk, OnSome};
+ghost use Rattle.arena_traits.specs.Arena.{IsValid, ReachesCapacity, entry_count};
 ghost use Rattle.arena_traits.specs.Entries.{count};
+ghost use Rattle.chain_links.specs.ChainArena.{entry};
+ghost use Rattle.chain_arena.specs.ChainTransfers.{IsChainTransferred, TransfersOrRefuses};
 ghost use Rattle.chain_arena.specs.Drains.{walk_left, without_each};
 ghost use Rattle.chain_arena.specs.Effects.{HaveSameCapacity, SucceedsOrRefuses};
 ghost use Rattle.chain_arena.specs.Transfers.{IsTransfer};
@@ -67,4 +69,32 @@ pub fn transfer_canonical_reallocating<
         → IsOk result × HaveSameCapacity target.new target.old }
 {
     target.transfer_canonical_reallocating(new_generation, source, map)
+}
+
+/// Forwards to `ChainArena::transfer_chain`, under its outcome.
+pub fn transfer_chain<
+    P: PtrKey,
+    T: Drop,
+    S: SlotStack<Item = ArenaSlot<P, LinkNoGen<P, T>>>,
+    Q: PtrKey,
+    U: Drop,
+    R: SlotStack<Item = ArenaSlot<Q, LinkNoGen<Q, U>>>,
+    F: FnMut(P, InvalidationOption<T>, Q) -> U + Drop,
+>(
+    source: &mut ChainArena<P, T, S>,
+    p: P,
+    target: &mut ChainArena<Q, U, R>,
+    map: F,
+) -> Result<Option<Q>, ReallocationError>
+    requires { F.IsAlwaysCallable map }
+    ensures { TransfersOrRefuses (IsValid (entry source.old) (P.key p))
+        (entry_count target.old + length (walk_left source.old (P.key p).0)) Q.Inx.greatest
+        target.old.maximum
+        (λ q. IsChainTransferred P.key Q.key P.Gen.following P.Gen.wraps F.FnMut map (P.key p) q
+        source.old source.new target.old target.new
+        × ReachesCapacity R.may_reach Q.Inx.greatest
+        (entry_count target.old + length (walk_left source.old (P.key p).0)) target.old target.new)
+        ((source.new ≡ source.old) × (target.new ≡ target.old)) result }
+{
+    source.transfer_chain(p, target, map)
 }

@@ -340,11 +340,14 @@ pub trait ChainArenaTrait<P: PtrKey, T: Drop>: ArenaTrait<P, T> {
     ///
     /// ```rust
     /// let mut arena: ChainArena<ToolPtr, u32> = ChainArena::new(alloc);
-    /// let a = arena.insert_reallocating(LinkInsertKind::Disconnected, 1)?;
-    /// let b = arena.insert_reallocating(LinkInsertKind::ChainEnd(a), 2)?;
-    /// let c = arena.insert_reallocating(LinkInsertKind::ChainEnd(b), 3)?; // 1, 2, 3
-    /// arena.arrange_chain([c, a, b].as_slice()); // 3, 1, 2
-    /// assert!(rt; arena.are_neighbors(c, a) && arena.are_neighbors(a, b));
+    /// let a = arena.insert_reallocating(LinkInsertKind::Disconnected, 3)?;
+    /// let b = arena.insert_reallocating(LinkInsertKind::ChainEnd(a), 1)?;
+    /// let c = arena.insert_reallocating(LinkInsertKind::ChainEnd(b), 2)?; // 3, 1, 2
+    /// if let Some(mut order) = walk(&arena, alloc, a)? {
+    ///     order.sort_by_key(|p| arena.get(*p).copied())?;
+    ///     arena.arrange_chain(&order); // 1, 2, 3
+    /// }
+    /// assert!(rt; arena.are_neighbors(b, c) && arena.are_neighbors(c, a));
     /// ```
     final fn arrange_chain(&mut self, order: &[P]) -> Option<()>
         ensures outcome { ArrangesLinks Self.state interlinks P.key self.old order.now result

@@ -13,4 +13,4 @@ mod trait_calls;
 pub use layouts::arrange;
 pub use links::{join, link_pair};
 pub use stacks::{reserve_to, slot_at};
-pub use trait_calls::{break_next, compress_canonical, remove_link_no_gen};
+pub use trait_calls::{break_next, compress_canonical, remove_link_no_gen, splice_after};

@@ -1,5 +1,5 @@
 // Functions of `ChainArenaTrait`.
-ghost use Rattle.chain_links.specs.CallEffects.{BreaksNext, RemovesLink, CompressesLinks};
+ghost use Rattle.chain_links.specs.CallEffects.{BreaksNext, SplicesAfter, RemovesLink, CompressesLinks};
 
 use arena_ptr::{AnyPointer, InvalidationOption, InvalidationResult, PtrKey};
 use chain_links::LinkNoGen;
@@ -10,6 +10,18 @@ pub fn break_next<P: PtrKey, T: Drop, A: ChainArenaTrait<P, T>>(arena: &mut A, p
     ensures { BreaksNext A.state A.interlinks P.key arena.old p result arena.new }
 {
     arena.break_next(p)
+}
+
+/// Forwards to `ChainArenaTrait::splice_after`, under its outcome.
+pub fn splice_after<P: PtrKey, T: Drop, A: ChainArenaTrait<P, T>>(
+    arena: &mut A,
+    p: P,
+    first: P,
+    last: P,
+) -> Option<()>
+    ensures { SplicesAfter A.state A.interlinks P.key arena.old p first last result arena.new }
+{
+    arena.splice_after(p, first, last)
 }
 
 /// Forwards to `ChainArenaTrait::remove_link_no_gen`, under its outcome.
