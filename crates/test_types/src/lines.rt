@@ -107,12 +107,14 @@ pub enum Do {
     SlotsListed,
     Clone,
     CopyOver,
-    // Values by valid pointers and indexes, walks, and loops over all links.
+    // Values by valid pointers and indexes, walks, and loops over all links. `AlongBack` is an
+    // advancer backwards; the link of the second pointer is removed after its first step.
     Value,
     WriteValue,
     WriteValueInx,
     Walk,
     WalkBack,
+    AlongBack,
     Starts,
     Values,
     Links,
@@ -175,9 +177,9 @@ const PLAIN_CALLS: [(&str, Do); 13] = named!(
     CompactWriting DropCompactor ForgetCompactor CopyHole
 );
 
-const OWN_READS: [(&str, Do); 17] = named!(
+const OWN_READS: [(&str, Do); 18] = named!(
     DrainTwo RemoveLinkInx DrainTaking Debug SlotsListed Clone CopyOver Value WriteValue
-    WriteValueInx Walk WalkBack Starts Values Links LinksByReference LinksUsedUp
+    WriteValueInx Walk WalkBack AlongBack Starts Values Links LinksByReference LinksUsedUp
 );
 
 const OWN_CALLS: [(&str, Do); 19] = named!(
