@@ -7,14 +7,14 @@ use Rattle.std.proofs.lemmas.List.Sums.{sum_by-cons}
 use Rattle.std.proofs.lemmas.List.Elements.{All-from_recursion}
 use Rattle.chain_laws.specs.Chains.{IsWellLinked, HasLink, IsMember, AreDistinct, prev_of}
 use Rattle.chain_laws.specs.Walks.{IsWalk}
-use Rattle.chain_laws.specs.WalksBack.{IsWalkBack}
+use Rattle.chain_laws.specs.WalksBack.{IsWalkBack, back_ahead}
 use Rattle.chain_laws.proofs.WalkLemmas.WalkBack.{length_among}
 use Rattle.chain_laws.proofs.WalkLemmas.Members.{has_walk, walk_valid, walk_once}
 use Rattle.chain_laws.proofs.WalkLemmas.Walker.{walk_passed}
 use Rattle.chain_laws.proofs.WalkLemmas.Backward.{back_bound, back_once, back_passed, back_valid, has_walk_back}
 use Rattle.arena_traits.specs.Arena.{Arena, entry_at, entry_count}
 use Rattle.chain_links.specs.ChainArena.{LinkView, interlinks_of, link_map, IsWalkOf, IsWalkBackOf}
-use Rattle.chain_links.specs.Walkers.{links_at, links_ahead, links_back_ahead}
+use Rattle.chain_links.specs.Walkers.{end_in, links_at, links_ahead, links_back_ahead}
 use Rattle.chain_links.proofs.ArenaInsertionLemmas.{link_map-within, some_entry}
 
 -- The indexes of the entries, counted from k.
@@ -100,6 +100,14 @@ module _ {Gen T : Type 0} where
         walk = subst (IsWalkBack (link_map a) i) (sym (index-links_at a walk.0 each)) walk.1;
         stored = All-from_recursion (StoredAs a) (links_at a walk.0) (links_at-are_stored a walk.0);
       })
+
+  -- What it passes, by indexes.
+  pub back_ahead-walk : (a : Arena Gen (LinkView T)) (i : ℕ) → IsWellLinked (link_map a) → HasLink (link_map a) i → IsWalkBack (link_map a) i (back_ahead (entry_count a) (link_map a) i (end_in a i) (Some i))
+  back_ahead-walk a i agrees valid =
+      let walk = has_walk_back (link_map a) (length a.slots) i agrees (link_map-within a) valid in
+      let each = back_valid (link_map a) i walk.0 walk.1 in
+      let passed = back_passed (entry_count a) (length a.slots) (link_map a) i walk.0 walk.1 (length-le_entries a walk.0 (back_once (link_map a) i walk.0 walk.1) each) (back_bound (link_map a) (length a.slots) i walk.0 (link_map-within a) walk.1) in
+      subst (IsWalkBack (link_map a) i) (sym passed) walk.1
 
   -- A walk back has at most as many links as the arena.
   pub length-walk_back : (a : Arena Gen (LinkView T)) (i : ℕ) (links : List (ℕ × (Gen × LinkView T))) → IsWalkBackOf a i links → length links ≤ entry_count a

@@ -5,6 +5,7 @@ pub mod ReverseAndMoveLemmas
 pub mod DeterminismLemmas
 pub mod ChainDrainLemmas
 pub mod ChainIterLemmas
+pub mod BackAdvancerLemmas
 pub mod TransferTargetLemmas
 pub mod TransferSourceLemmas
 pub mod TransferClosureLemmas

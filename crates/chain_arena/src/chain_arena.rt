@@ -1,15 +1,18 @@
 ghost use Rattle.std.specs.Prelude.{◌≡◌, ◌≤◌, length, All, MatchOption, IfOk, OnErr};
 ghost use Rattle.chain_laws.specs.Chains.{IsWellLinked};
 ghost use Rattle.chain_laws.specs.Neighbors.{HasOneSetOfChains};
+ghost use Rattle.chain_laws.specs.WalksBack.{IsWalkBack};
 ghost use Rattle.arena_core.specs.Invalidation.{invalidation_option};
 ghost use Rattle.arena_traits.specs.Arena.{entry_count, with_counter, with_maximum, HasCapacityFor, IsListed, IsValid};
 ghost use Rattle.arena_traits.specs.Entries.{IsSoundView};
 ghost use Rattle.chain_links.specs.ChainArena.{entry, value_view, link_map, IsWalkOf, IsWalkBackOf};
+ghost use Rattle.chain_linking.specs.BackSteps.{back_walker_at, passes_back};
 ghost use Rattle.chain_compaction.specs.Layouts.{ReportsAll, ReportsLayout, AreAllMoves};
 ghost use Rattle.chain_compaction.specs.PointerMoves.{ArePointerMoves};
 ghost use Rattle.chain_arena.specs.Effects.{AddsWork, IsBackedBy};
 ghost use Rattle.chain_arena.specs.Steps.{RemoveInxStep, CompressCanonicalStep};
 
+use crate::back_advancer::ChainBackAdvancer;
 use crate::visitors::{MapVisitor, MoveLister};
 use arena_base::{Arena, ArenaSlot, ArenaTrait, Work};
 use arena_ptr::{
@@ -106,6 +109,35 @@ impl<P: PtrKey, T: Drop, S: SlotStack<Item = ArenaSlot<P, LinkNoGen<P, T>>>> Cha
         } else {
             None
         }
+    }
+
+    /// Returns an advancer backwards along the chain of `p`, or `None` if `p` is not valid.
+    ///
+    /// It goes in the order of `iter_chain_back`, and makes at most as many steps as there are links
+    /// now, whatever arenas it is passed.
+    ///
+    /// Not in `triple_arena`.
+    pub fn advancer_chain_back(&self, p: P) -> Option<ChainBackAdvancer<P>>
+        ensures { MatchOption result (IsValid (entry self.now) (P.key p) → ⊥)
+            (λ a. IsValid (entry self.now) (P.key p)
+            × (a ≡ back_walker_at (entry_count self.now) (P.key p).0)) }
+    {
+        if self.arena.contains(p) {
+            Some(ChainBackAdvancer::new(self.arena.len(), p.inx()))
+        } else {
+            None
+        }
+    }
+
+    /// States that an advancer backwards along the chain of `p` passes the walk back from `p`,
+    /// while the arena stays the same.
+    ///
+    /// Has no effect. Each `advance` takes one step of the advancer's walker.
+    pub fn advancer_passes_the_walk_back(&self, p: P)
+        ensures { IsValid (entry self.now) (P.key p) → IsWalkBack (link_map self.now) (P.key p).0
+            (passes_back self.now (back_walker_at (entry_count self.now) (P.key p).0)) }
+    {
+        self.invariants();
     }
 
     /// States what holds in every chain arena.

@@ -34,6 +34,7 @@
 #![tactic(auto)]
 
 mod arena_text;
+mod back_advancer;
 pub mod calls;
 mod chain_advancer;
 mod chain_arena;
@@ -54,6 +55,7 @@ mod transfer;
 mod transfer_chain;
 mod visitors;
 
+pub use back_advancer::ChainBackAdvancer;
 pub use calls::{Call, Reply, apply, run_calls, runs_are_determined};
 pub use chain_advancer::ChainPtrAdvancer;
 pub use chain_arena::ChainArena;

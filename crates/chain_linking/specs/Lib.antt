@@ -6,3 +6,4 @@ pub mod WalkSteps
 pub mod Agreement
 pub mod ChainArenaLaws
 pub mod Iterators
+pub mod BackSteps

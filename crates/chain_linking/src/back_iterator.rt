@@ -31,9 +31,9 @@ fn next_before<P: PtrKey, T: Drop, S: SlotStack<Item = ArenaSlot<P, LinkNoGen<P,
     }
 }
 
-// Returns the last link of the chain of `start`: the end, or the link before `start` if the chain
-// is cyclic.
-fn end_of_chain<P: PtrKey, T: Drop, S: SlotStack<Item = ArenaSlot<P, LinkNoGen<P, T>>>>(
+/// Returns the last link of the chain of `start`: the end, or the link before `start` if the chain
+/// is cyclic.
+pub fn end_of_chain<P: PtrKey, T: Drop, S: SlotStack<Item = ArenaSlot<P, LinkNoGen<P, T>>>>(
     arena: &Arena<P, LinkNoGen<P, T>, S>,
     start: P::Inx,
 ) -> P::Inx

@@ -4,6 +4,7 @@
 
 pub mod agreement;
 pub mod back_iterator;
+pub mod back_step;
 pub mod chain_iterators;
 pub mod connection;
 pub mod destinations;

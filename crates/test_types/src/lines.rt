@@ -110,12 +110,14 @@ pub enum Do {
     SlotsListed,
     Clone,
     CopyOver,
-    // Values by valid pointers and indexes, walks, and loops over all links.
+    // Values by valid pointers and indexes, walks, and loops over all links. `AlongBack` is an
+    // advancer backwards; the link of the second pointer is removed after its first step.
     Value,
     WriteValue,
     WriteValueInx,
     Walk,
     WalkBack,
+    AlongBack,
     Starts,
     Chains,
     Values,
@@ -179,10 +181,10 @@ const PLAIN_CALLS: [(&str, Do); 13] = named!(
     CompactWriting DropCompactor ForgetCompactor CopyHole
 );
 
-const OWN_READS: [(&str, Do); 20] = named!(
+const OWN_READS: [(&str, Do); 21] = named!(
     DrainTwo RemoveLinkInx DrainTaking CarryChain CarryChainToFull Debug SlotsListed Clone CopyOver
-    Value WriteValue WriteValueInx Walk WalkBack Starts Chains Values Links LinksByReference
-    LinksUsedUp
+    Value WriteValue WriteValueInx Walk WalkBack AlongBack Starts Chains Values Links
+    LinksByReference LinksUsedUp
 );
 
 const OWN_CALLS: [(&str, Do); 19] = named!(

@@ -20,6 +20,8 @@ WalkBack 4 2 = [(P0[4](2), {1, 2} 4), (P0[1](2), {3, 4} 1), (P0[3](2), {(start),
 WalkBack 1 2 = [(P0[1](2), {3, 4} 1), (P0[3](2), {(start), 1} 3), (P0[2](2), {4, (end)} 2), (P0[4](2), {1, 2} 4)]
 WalkBack 3 2 = [(P0[3](2), {(start), 1} 3), (P0[2](2), {4, (end)} 2), (P0[4](2), {1, 2} 4), (P0[1](2), {3, 4} 1)]
 WalkBack 2 2 = [(P0[2](2), {4, (end)} 2), (P0[4](2), {1, 2} 4), (P0[1](2), {3, 4} 1), (P0[3](2), {(start), 1} 3)]
+AlongBack 1 2 9 2 = Some([P0[1](2), P0[3](2), P0[2](2), P0[4](2)])
+AlongBack 3 2 9 2 = Some([P0[3](2), P0[2](2), P0[4](2), P0[1](2)])
 Starts = [P0[3](2)]
 BreakNext 1 2 = true
 Starts = [P0[3](2), P0[4](2)]
@@ -30,6 +32,18 @@ Walk 2 2 = [(P0[2](2), {1, 3} 2), (P0[3](2), {2, 1} 3), (P0[1](2), {3, 2} 1)]
 WalkBack 2 2 = [(P0[2](2), {1, 3} 2), (P0[1](2), {3, 2} 1), (P0[3](2), {2, 1} 3)]
 WalkBack 4 2 = [(P0[4](2), {(start), (end)} 4)]
 Chains = Ok([ChainHead { first: P0[1](2), is_cyclic: true }, ChainHead { first: P0[4](2), is_cyclic: false }])
+AlongBack 2 2 9 2 = Some([P0[2](2), P0[1](2), P0[3](2)])
+AlongBack 4 2 9 2 = Some([P0[4](2)])
+# an advancer backwards, while the end is removed
+Linked 4 1 2 3 4 = true
+AlongBack 2 2 4 2 = Some([P0[2](2), P0[1](2), P0[3](2)])
+# its start is removed
+Linked 4 1 2 3 4 = true
+AlongBack 2 2 2 2 = Some([P0[2](2), P0[1](2)])
+# the link that is next is removed
+Linked 4 1 2 3 4 = true
+AlongBack 3 2 2 2 = Some([P0[3](2)])
+AlongBack 2 2 9 2 = None
 # a ring of one, and one of two
 Linked 4 1 1 0 2 3 2 = true
 Walk 1 2 = [(P0[1](2), {1, 1} 1)]

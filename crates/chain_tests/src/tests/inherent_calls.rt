@@ -11,7 +11,8 @@ use super::entries::{
 use super::fallible_insertion::{dig, fill};
 use super::indexing::{value_at, write_at, write_at_index};
 use super::iterators::{
-    chains, indexes, links, links_by_reference, links_used_up, starts, values, walk, walk_back,
+    along_back, chains, indexes, links, links_by_reference, links_used_up, starts, values, walk,
+    walk_back,
 };
 use super::scripts::{Parsed, RunsCalls, run_call};
 use super::{ChainsOver, Slot, fresh};
@@ -31,6 +32,7 @@ fn run_own_call<S: SlotStack<Item = Slot>>(
         Do::WriteValueInx => text(alloc, write_at_index(arena, parsed.i, parsed.t)),
         Do::Walk => walk(alloc, arena, parsed.p),
         Do::WalkBack => walk_back(alloc, arena, parsed.p),
+        Do::AlongBack => text(alloc, along_back(alloc, arena, parsed.p, parsed.q)),
         Do::Starts => starts(alloc, arena),
         Do::Chains => chains(alloc, arena),
         Do::Values => values(alloc, arena),

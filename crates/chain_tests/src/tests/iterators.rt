@@ -5,12 +5,31 @@ ghost use Rattle.arena_ptr.specs.Indexes.{number_of_inx32};
 ghost use Rattle.arena_traits.specs.Entries.{entries, index_of};
 
 use super::{ChainsOver, Slot, fresh, text_of_all};
-use arena_base::Iter;
+use arena_base::{Advancer, ArenaTrait, Iter};
 use arena_ptr::{Inx32, PtrKey, SlotStack, ToolPtr};
 use chain_arena::LinkNoGen;
 use std::alloc::{AllocError, Global};
 use std::mem;
 use test_types::lines::text;
+
+// Returns the pointers of an advancer backwards along the chain of p, of which q is removed after its
+// first step.
+pub(super) fn along_back<S: SlotStack<Item = Slot>>(
+    alloc: Global,
+    arena: &mut ChainsOver<S>,
+    p: ToolPtr,
+    q: ToolPtr,
+) -> Option<Vec<ToolPtr>> {
+    let mut along = arena.advancer_chain_back(p)?;
+    let mut passed = Vec::new(alloc);
+    for _ in 0..=arena.len() {
+        if let Some(at) = along.advance(arena) {
+            let _ = passed.push(at);
+        }
+        arena.remove(q);
+    }
+    Some(passed)
+}
 
 // Returns the indexes of all links.
 pub(super) fn indexes<S: SlotStack<Item = Slot>>(
