@@ -75,8 +75,8 @@ impl<P: PtrKey, T: Drop, S: SlotStack<Item = ArenaSlot<P, LinkNoGen<P, T>>>> Cha
             (entry_count target.old + length (walk_left self.old (P.key p).0)) target.old
             target.new)
             ((self.new ≡ self.old) × (target.new ≡ target.old)) result }
-        ensures within { entry_count target.old + length (walk_left self.old (P.key p).0) ≤ target.old.capacity
-            → IsOk result × HaveSameCapacity target.new target.old }
+        ensures within { entry_count target.old + length (walk_left self.old (P.key p).0)
+            ≤ target.old.capacity → IsOk result × HaveSameCapacity target.new target.old }
     {
         match self.chain_len(p) {
             Some(n) => match target.grow_by(n) {
