@@ -97,7 +97,7 @@ impl<P: PtrKey, T: Drop, S: SlotStack<Item = ArenaSlot<P, LinkNoGen<P, T>>>> Cha
 
     /// Returns an advancer backwards along the chain of `p`, or `None` if `p` is not valid.
     ///
-    /// It goes in the order of `iter_chain_back`, and makes at most as many steps as there are links
+    /// It goes in the order of `iter_chain_back`. It makes at most as many steps as there are links
     /// now, whatever arenas it is passed.
     ///
     /// Not in `triple_arena`.
