@@ -113,8 +113,8 @@ impl<P: PtrKey, T: Drop, S: SlotStack<Item = ArenaSlot<P, LinkNoGen<P, T>>>> Cha
 
     /// Returns an advancer backwards along the chain of `p`, or `None` if `p` is not valid.
     ///
-    /// It goes in the order of `iter_chain_back`, and makes at most as many steps as there are
-    /// links now, whatever arenas it is passed.
+    /// It goes in the order of `iter_chain_back`. It makes at most as many steps as there are links
+    /// now, whatever arenas it is passed.
     ///
     /// Not in `triple_arena`.
     pub fn advancer_chain_back(&self, p: P) -> Option<ChainBackAdvancer<P>>

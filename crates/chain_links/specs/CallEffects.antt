@@ -24,7 +24,7 @@ use Rattle.arena_traits.specs.CallOutcomes.{ReportsOverflow}
 use Rattle.arena_traits.specs.Compressions.{overflows_after_compression}
 use Rattle.arena_traits.specs.Entries.{ArenaView, ArenaState, count, view_after_removal}
 use Rattle.chain_links.specs.CanonicalLayouts.{IsCanonicalLayout}
-use Rattle.chain_links.specs.ChainArena.{link_at, CanArrange, CanConnect, CanExchange, CanMove, CanSplice, IsLinkAt}
+use Rattle.chain_links.specs.ChainArena.{link_at, CanPutInOrder, CanConnect, CanExchange, CanMove, CanSplice, IsLinkAt}
 use Rattle.chain_links.specs.Links.{link_view, borrowed_link}
 use Rattle.chain_links.specs.declared.links.Link.{Link}
 use Rattle.chain_links.specs.declared.links.RawLink.{RawLink}
@@ -145,8 +145,8 @@ module _ {A Gen T : Type 0} {view : A → ArenaView Gen T} {entry : A → ℕ �
 
     -- `arrange_chain`: the links come to follow the first of them, in this order, or they could not.
     abbrev pub ArrangesLinks : A → List P → Option Unit → A → Type 0
-    ArrangesLinks old order None new = CanArrange (entry old) (map key order) → ⊥
-    ArrangesLinks old order (Some done) new = CanArrange (entry old) (map key order) × IsPutInOrder old new (map (λ p. (key p).0) order)
+    ArrangesLinks old order None new = CanPutInOrder (entry old) (map key order) → ⊥
+    ArrangesLinks old order (Some done) new = CanPutInOrder (entry old) (map key order) × IsPutInOrder old new (map (λ p. (key p).0) order)
 
   module _ {P I W : Type 0} (pointers : PointerKind P I Gen W) where
     -- The same links without generations: that of p, and that at an index.

@@ -157,7 +157,7 @@ module _ {Gen T : Type 0} (entry : ℕ → Option (Gen × T)) where
     pub apart : p.0 ≢ last.0
 
   -- Links may be put in an order: all are valid, and none is the same as the one after it.
-  pub record CanArrange (order : List (ℕ × Gen)) : Type 0 where
+  pub record CanPutInOrder (order : List (ℕ × Gen)) : Type 0 where
     pub valid : All (λ p. IsValid entry p) order
     pub apart : AreApart (map (λ p. p.0) order)
 

@@ -10,24 +10,24 @@ use Rattle.chain_laws.proofs.OrderLemmas.{order_puts_in_order}
 use Rattle.arena_traits.specs.Arena.{IsValid}
 use Rattle.arena_traits.specs.Entries.{ArenaView, ArenaState, found}
 use Rattle.chain_links.specs.CallEffects.{MovesLinkAfter, AreMovedAfter, IsPutInOrder}
-use Rattle.chain_links.specs.ChainArena.{CanArrange, CanMove}
+use Rattle.chain_links.specs.ChainArena.{CanPutInOrder, CanMove}
 use Rattle.chain_traits.proofs.GenericArenaLemmas.{valid_link}
 
 module _ {Gen T : Type 0} (entry : ℕ → Option (Gen × T)) where
-  pub arrange_one : (p : ℕ × Gen) → IsValid entry p → CanArrange entry (p ∷ [])
+  pub arrange_one : (p : ℕ × Gen) → IsValid entry p → CanPutInOrder entry (p ∷ [])
   arrange_one p valid = record { valid = All-cons (IsValid entry) p [] valid (All-nil (IsValid entry)); apart = (λ e. cc, tt) }
 
-  pub arrange_more : (p q : ℕ × Gen) (order : List (ℕ × Gen)) → IsValid entry p → q.0 ≢ p.0 → CanArrange entry (q ∷ order) → CanArrange entry (p ∷ q ∷ order)
+  pub arrange_more : (p q : ℕ × Gen) (order : List (ℕ × Gen)) → IsValid entry p → q.0 ≢ p.0 → CanPutInOrder entry (q ∷ order) → CanPutInOrder entry (p ∷ q ∷ order)
   arrange_more p q order valid other can = record { valid = All-cons (IsValid entry) p (q ∷ order) valid can.valid; apart = (λ e. other (one_some e), can.apart) }
 
-  pub arrange_first : (p : ℕ × Gen) (order : List (ℕ × Gen)) → CanArrange entry (p ∷ order) → IsValid entry p
+  pub arrange_first : (p : ℕ × Gen) (order : List (ℕ × Gen)) → CanPutInOrder entry (p ∷ order) → IsValid entry p
   arrange_first p order can = All-head (IsValid entry) p order can.valid
 
-  pub arrange_rest : (p : ℕ × Gen) (order : List (ℕ × Gen)) → CanArrange entry (p ∷ order) → CanArrange entry order
+  pub arrange_rest : (p : ℕ × Gen) (order : List (ℕ × Gen)) → CanPutInOrder entry (p ∷ order) → CanPutInOrder entry order
   arrange_rest p order can = record { valid = All-tail (IsValid entry) p order can.valid; apart = can.apart.1 }
 
   -- The second may be moved after the first.
-  pub can_move_second : (p q : ℕ × Gen) (order : List (ℕ × Gen)) → CanArrange entry (p ∷ q ∷ order) → CanMove entry q p
+  pub can_move_second : (p q : ℕ × Gen) (order : List (ℕ × Gen)) → CanPutInOrder entry (p ∷ q ∷ order) → CanMove entry q p
   can_move_second p q order can = record {
     first_valid = arrange_first q order (arrange_rest p (q ∷ order) can);
     second_valid = arrange_first p (q ∷ order) can;
@@ -40,9 +40,9 @@ at_item followers i q low is = at_drop_more (λ l. l) followers i q low ∙ ap (
 
 -- After the last item only the one before is left.
 pub tested_all : {Gen T P : Type 0} (entry : ℕ → Option (Gen × T)) (key : P → ℕ × Gen) (whole : Type 0) (before : P) (followers : List P) (i : ℕ) → length followers ≤ i
-    → (CanArrange entry (map key (before ∷ drop i followers)) ↔ whole) → IsValid entry (key before) → whole
+    → (CanPutInOrder entry (map key (before ∷ drop i followers)) ↔ whole) → IsValid entry (key before) → whole
 tested_all entry key whole before followers i end same valid =
-    same.0 (subst (λ l. CanArrange entry (map key (before ∷ l))) (sym (at_drop_all (λ l. l) followers i end)) (arrange_one entry (key before) valid))
+    same.0 (subst (λ l. CanPutInOrder entry (map key (before ∷ l))) (sym (at_drop_all (λ l. l) followers i end)) (arrange_one entry (key before) valid))
 
 -- A test whether two indexes are equal.
 module _ {I : Type 0} (number : I → ℕ) (i j : I) (result test : Bool) (m n : ℕ) (tests : (test ≡ true) ↔ (i ≡ j)) (is : result ≡ test) (at_i : number i ≡ m) (at_j : number j ≡ n) where
@@ -57,23 +57,23 @@ module _ {I : Type 0} (number : I → ℕ) (i j : I) (result test : Bool) (m n :
 
 -- Pointers tested one after another.
 module _ {Gen T P : Type 0} (entry : ℕ → Option (Gen × T)) (key : P → ℕ × Gen) (whole : Type 0) (before q : P) (followers : List P) (i : ℕ) (low : i < length followers) (is : q ≡ get_or followers i q)
-    (same : CanArrange entry (map key (before ∷ drop i followers)) ↔ whole) where
+    (same : CanPutInOrder entry (map key (before ∷ drop i followers)) ↔ whole) where
   here : map key (before ∷ drop i followers) ≡ key before ∷ key q ∷ map key (drop (i + 1) followers)
   here = ap (λ l. map key (before ∷ l)) (at_item followers i q low is)
 
-  pub test_goes_on : IsValid entry (key before) → (key q).0 ≢ (key before).0 → CanArrange entry (map key (q ∷ drop (i + 1) followers)) ↔ whole
+  pub test_goes_on : IsValid entry (key before) → (key q).0 ≢ (key before).0 → CanPutInOrder entry (map key (q ∷ drop (i + 1) followers)) ↔ whole
   test_goes_on valid other = (
-    λ can. same.0 (subst (CanArrange entry) (sym here) (arrange_more entry (key before) (key q) _ valid other can)),
-    λ all. arrange_rest entry (key before) _ (subst (CanArrange entry) here (same.1 all)),
+    λ can. same.0 (subst (CanPutInOrder entry) (sym here) (arrange_more entry (key before) (key q) _ valid other can)),
+    λ all. arrange_rest entry (key before) _ (subst (CanPutInOrder entry) here (same.1 all)),
   )
 
   pub test_fails : (IsValid entry (key q) → (key q).0 ≡ (key before).0) → whole → ⊥
   test_fails wrong all =
-      let can = can_move_second entry (key before) (key q) _ (subst (CanArrange entry) here (same.1 all)) in
+      let can = can_move_second entry (key before) (key q) _ (subst (CanPutInOrder entry) here (same.1 all)) in
       can.apart (wrong can.first_valid)
 
 -- An arena with the same entries.
-same_order : {Gen T : Type 0} (entry other : ℕ → Option (Gen × T)) (order : List (ℕ × Gen)) → ((i : ℕ) → other i ≡ entry i) → CanArrange entry order → CanArrange other order
+same_order : {Gen T : Type 0} (entry other : ℕ → Option (Gen × T)) (order : List (ℕ × Gen)) → ((i : ℕ) → other i ≡ entry i) → CanPutInOrder entry order → CanPutInOrder other order
 same_order entry other order same can = record {
   valid = λ k d low. let here = can.valid k d low in record { value = here.value; stored = same _ ∙ here.stored };
   apart = can.apart;
@@ -88,7 +88,7 @@ module _ {A Gen T P : Type 0} {view : A → ArenaView Gen T} {entry : A → ℕ 
   -- The followers left are still to be moved.
   pub record IsPutting (start now : A) (first before : P) (followers left : List P) : Type 0 where
     pub same_view : view now ≡ view start
-    pub can : CanArrange (entry now) (map key (before ∷ left))
+    pub can : CanPutInOrder (entry now) (map key (before ∷ left))
     pub links : with_followers (interlinks now) (index before) (map index left) ≡ with_followers (interlinks start) (index first) (map index followers)
     pub moved : (end : A) → AreMovedAfter moves now before left end → AreMovedAfter moves start first followers end
 
@@ -112,7 +112,7 @@ module _ {A Gen T P : Type 0} {view : A → ArenaView Gen T} {entry : A → ℕ 
   put start now first before followers at = (at.links, at.same_view, at.moved now refl)
 
   -- All links are moved.
-  pub is_put : (old new : A) (order : List P) → ((i : ℕ) → is_some (interlinks old i) ≡ is_some (entry old i)) → IsWellLinked (interlinks old) → CanArrange (entry old) (map key order)
+  pub is_put : (old new : A) (order : List P) → ((i : ℕ) → is_some (interlinks old i) ≡ is_some (entry old i)) → IsWellLinked (interlinks old) → CanPutInOrder (entry old) (map key order)
       → interlinks new ≡ with_order (interlinks old) (map index order) → view new ≡ view old → IsPutInOrder state interlinks old new (map index order)
   is_put old new order stored agrees can links same = record {
     ordered = links;

@@ -3,7 +3,7 @@ ghost use Rattle.std.specs.Prelude.{◌≡◌, ◌↔◌, ◌∷◌, map, IsTrue
 ghost use Rattle.arena_traits.specs.Arena.{IsValid};
 ghost use Rattle.chain_laws.specs.Orders.{with_followers, with_order};
 ghost use Rattle.chain_links.specs.CallEffects.{AreMovedAfter, AreMovedInTurn};
-ghost use Rattle.chain_links.specs.ChainArena.{CanArrange};
+ghost use Rattle.chain_links.specs.ChainArena.{CanPutInOrder};
 
 use crate::chain_traits::ChainArenaTrait;
 use arena_ptr::{InxKey, PtrKey};
@@ -15,7 +15,8 @@ fn can_follow<P: PtrKey, T: Drop, A: ChainArenaTrait<P, T>>(
     followers: &[P],
 ) -> bool
     requires { IsValid (A.entry arena.now) (P.key first) }
-    ensures { IsTrue result ↔ CanArrange (A.entry arena.now) (map P.key (first ∷ followers.now)) }
+    ensures { IsTrue result ↔ CanPutInOrder (A.entry arena.now)
+        (map P.key (first ∷ followers.now)) }
 {
     let mut before = first;
     for q in followers {
@@ -29,7 +30,7 @@ fn can_follow<P: PtrKey, T: Drop, A: ChainArenaTrait<P, T>>(
 
 // Returns whether all pointers are valid, and none is at the index of the one after it.
 pub fn can_arrange<P: PtrKey, T: Drop, A: ChainArenaTrait<P, T>>(arena: &A, order: &[P]) -> bool
-    ensures { IsTrue result ↔ CanArrange (A.entry arena.now) (map P.key order.now) }
+    ensures { IsTrue result ↔ CanPutInOrder (A.entry arena.now) (map P.key order.now) }
 {
     match order.split_first() {
         Some((first, followers)) => arena.contains(*first) && can_follow(arena, *first, followers),
@@ -43,7 +44,7 @@ fn move_followers<P: PtrKey, T: Drop, A: ChainArenaTrait<P, T>>(
     first: P,
     followers: &[P],
 )
-    requires { CanArrange (A.entry arena.old) (map P.key (first ∷ followers.now)) }
+    requires { CanPutInOrder (A.entry arena.old) (map P.key (first ∷ followers.now)) }
     ensures links { A.interlinks arena.new ≡ with_followers (A.interlinks arena.old)
         (P.key first).0 (map (λ q. (P.key q).0) followers.now) }
     ensures view { A.view arena.new ≡ A.view arena.old }
@@ -58,7 +59,7 @@ fn move_followers<P: PtrKey, T: Drop, A: ChainArenaTrait<P, T>>(
 
 // Puts links in an order.
 pub fn move_in_turn<P: PtrKey, T: Drop, A: ChainArenaTrait<P, T>>(arena: &mut A, order: &[P])
-    requires { CanArrange (A.entry arena.old) (map P.key order.now) }
+    requires { CanPutInOrder (A.entry arena.old) (map P.key order.now) }
     ensures links { A.interlinks arena.new ≡ with_order (A.interlinks arena.old)
         (map (λ q. (P.key q).0) order.now) }
     ensures view { A.view arena.new ≡ A.view arena.old }

@@ -343,10 +343,15 @@ pub trait ChainArenaTrait<P: PtrKey, T: Drop>: ArenaTrait<P, T> {
     /// let a = arena.insert_reallocating(LinkInsertKind::Disconnected, 3)?;
     /// let b = arena.insert_reallocating(LinkInsertKind::ChainEnd(a), 1)?;
     /// let c = arena.insert_reallocating(LinkInsertKind::ChainEnd(b), 2)?; // 3, 1, 2
-    /// if let Some(mut order) = walk(&arena, alloc, a)? {
-    ///     order.sort_by_key(|p| arena.get(*p).copied())?;
-    ///     arena.arrange_chain(&order); // 1, 2, 3
+    /// let mut keyed = Vec::new(alloc);
+    /// if let Some(pointers) = walk(&arena, alloc, a)? {
+    ///     for p in &pointers {
+    ///         keyed.push((arena.get(*p).copied(), *p))?;
+    ///     }
     /// }
+    /// keyed.sort_by_key(|e| e.0)?;
+    /// let order: Vec<ToolPtr> = keyed.iter().map(|e| e.1).collect(alloc)?;
+    /// arena.arrange_chain(&order); // 1, 2, 3
     /// assert!(rt; arena.are_neighbors(b, c) && arena.are_neighbors(c, a));
     /// ```
     final fn arrange_chain(&mut self, order: &[P]) -> Option<()>

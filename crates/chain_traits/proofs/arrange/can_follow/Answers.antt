@@ -1,7 +1,7 @@
 -- Each test goes on with the pointer tested, or the order is refused.
 use Rattle.std.proofs.Common.{◌≡◌, ◌∷◌, map, Bool, true, false, rules}
 use Rattle.arena_traits.specs.Arena.{IsValid}
-use Rattle.chain_links.specs.ChainArena.{CanArrange}
+use Rattle.chain_links.specs.ChainArena.{CanPutInOrder}
 use Rattle.chain_traits.proofs.LinkOrderLemmas.{are_same, are_other, test_goes_on, test_fails, tested_all}
 use Rattle.chain_traits.proofs.arrange.can_follow.Goals as goal
 use Rattle.chain_traits.proofs.arrange.can_follow.Goals.{then-not-contains-via-then-not-contains, then-not-contains-via-else-not-contains+then-is_same}
@@ -18,7 +18,7 @@ loop-q-preserved g c =
     let j = c.inx-else-not-contains.result in
     record {
       valid = c.contains.ensures.0 c.if-not-contains.false;
-      same = test_goes_on (g.A.ArenaTrait.entry c.args.arena.now) g.P.PtrKey.key (CanArrange (g.A.ArenaTrait.entry c.args.arena.now) (map g.P.PtrKey.key (c.args.first ∷ c.args.followers.now))) c.loop-q.before c.q-item.result
+      same = test_goes_on (g.A.ArenaTrait.entry c.args.arena.now) g.P.PtrKey.key (CanPutInOrder (g.A.ArenaTrait.entry c.args.arena.now) (map g.P.PtrKey.key (c.args.first ∷ c.args.followers.now))) c.loop-q.before c.q-item.result
           c.args.followers.now c.loop-q.q-index c.loop-q-test.true c.q-item.is c.loop-q.invariant.same c.loop-q.invariant.valid
           (are_other g.P.Inx.InxKey.number i j c.is_same.result _ _ _ (g.met.P.Inx.InxKey.same_is_equal i j) c.is_same.ensures c.inx.ensures c.inx-else-not-contains.ensures
           (g.met.P.Inx.InxKey.same_number i j) c.if-is_same.false);
