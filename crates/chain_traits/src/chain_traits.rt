@@ -344,11 +344,7 @@ pub trait ChainArenaTrait<P: PtrKey, T: Drop>: ArenaTrait<P, T> {
     /// let b = arena.insert_reallocating(LinkInsertKind::ChainEnd(a), 1)?;
     /// let c = arena.insert_reallocating(LinkInsertKind::ChainEnd(b), 2)?; // 3, 1, 2
     /// let mut keyed = Vec::new(alloc);
-    /// if let Some(pointers) = walk(&arena, alloc, a)? {
-    ///     for p in &pointers {
-    ///         keyed.push((arena.get(*p).copied(), *p))?;
-    ///     }
-    /// }
+    /// if let Some(links) = arena.iter_chain(a) { for (p, link) in links { keyed.push((link.t, p))?; } }
     /// keyed.sort_by_key(|e| e.0)?;
     /// let order: Vec<ToolPtr> = keyed.iter().map(|e| e.1).collect(alloc)?;
     /// arena.arrange_chain(&order); // 1, 2, 3
