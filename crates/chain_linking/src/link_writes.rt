@@ -159,8 +159,6 @@ fn connect_former_neighbors<P: PtrKey, T: Drop, S: SlotStack<Item = ArenaSlot<P,
 ///
 /// Returns its generation and the link as it was. If there is none, returns `InvalidPtr` and
 /// changes nothing.
-///
-/// The link is read before it is removed, so that LLVM tests its slot once.
 pub fn remove_link_at<P: PtrKey, T: Drop, S: SlotStack<Item = ArenaSlot<P, LinkNoGen<P, T>>>>(
     arena: &mut Arena<P, LinkNoGen<P, T>, S>,
     i: P::Inx,
@@ -169,18 +167,11 @@ pub fn remove_link_at<P: PtrKey, T: Drop, S: SlotStack<Item = ArenaSlot<P, LinkN
     ensures { TakesLinkAt P.Inx.packed_number P.Gen.wraps P.Gen.following (P.Inx.number i) arena.old
         result arena.new }
 {
-    match arena.get_inx(i) {
-        Some((_, link)) => {
-            let prev = link.prev();
-            let next = link.next();
-            let (entry, overflow) = arena.remove_inx(i).overflowing();
-            match entry {
-                Some((generation, link)) => {
-                    connect_former_neighbors(arena, i, prev, next);
-                    InvalidationResult::from_overflow(overflow, (generation, link))
-                }
-                None => proved_unreachable!(),
-            }
+    let (entry, overflow) = arena.remove_inx(i).overflowing();
+    match entry {
+        Some((generation, link)) => {
+            connect_former_neighbors(arena, i, link.prev(), link.next());
+            InvalidationResult::from_overflow(overflow, (generation, link))
         }
         None => InvalidationResult::InvalidPtr,
     }

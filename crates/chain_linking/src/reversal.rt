@@ -7,8 +7,7 @@ ghost use Rattle.chain_links.specs.Links.{links_view};
 ghost use Rattle.chain_linking.specs.ChainReversals.{TurnsLink, TurnsWalk};
 
 use arena_base::{Arena, ArenaSlot, ArenaTrait, proved_unreachable};
-use arena_ptr::{PtrKey, SlotStack};
-use chain_links::links::is_index;
+use arena_ptr::{InxKey, PtrKey, SlotStack};
 use chain_links::{LinkNoGen, link_access};
 
 // Exchanges the interlinks of the link at `i`, and returns them as they were.
@@ -39,21 +38,20 @@ pub fn turn_walk<P: PtrKey, T: Drop, S: SlotStack<Item = ArenaSlot<P, LinkNoGen<
         ≡ prev_of (link_map (links_view P.Inx.packed_number arena.old)) (P.Inx.number start) }
     ensures { TurnsWalk P.Inx.packed_number (P.Inx.number start) arena.old arena.new }
 {
-    let mut forward = Some(start);
-    let mut back = back;
+    let mut at = start;
     loop {
-        match forward {
-            Some(i) => {
-                let next = turn(arena, i).1;
-                if is_index(next, start) {
+        match turn(arena, at).1 {
+            Some(k) => {
+                if k.is_same(start) {
                     return;
                 }
-                forward = next;
+                at = k;
             }
-            None => match back {
-                Some(i) => back = turn(arena, i).0,
-                None => return,
-            },
+            None => break,
         }
+    }
+    let mut back = back;
+    while let Some(i) = back {
+        back = turn(arena, i).0;
     }
 }
