@@ -1,14 +1,14 @@
 -- An insertion in an arena, as the traits state it.
-use Rattle.std.proofs.Common.{◌≡◌, ℕ, ◌+◌, ◌<◌, length, Option, Some, Result, Ok, Err, inl, ap, sym, ◌∙◌, arith}
+use Rattle.std.proofs.Common.{◌≡◌, ℕ, ◌+◌, length, Option, Some, Result, Ok, Err, ap, sym, ◌∙◌, arith}
 use Rattle.arena_core.specs.declared.errors.ReallocationError.{ReallocationError}
-use Rattle.arena_traits.specs.Arena.{Arena, IsListed, IsWithinReach, entry_count, next_index, insert_next, with_capacity_of, without_first}
+use Rattle.arena_traits.specs.Arena.{Arena, IsListed, next_index, insert_next, with_capacity_of, without_first}
 use Rattle.arena_traits.specs.Entries.{Slots, entries, view_of}
 use Rattle.arena_traits.specs.EntryLaws.{arena_state}
 use Rattle.arena_traits.specs.Growth.{GrowsForOneMore}
 use Rattle.arena_traits.specs.CallOutcomes.{IsEntryInserted, InsertsEntryWithin, InsertsEntry}
 use Rattle.arena_traits.proofs.ArenaViewLemmas.{length-entries, count-filled}
 use Rattle.arena_traits.proofs.InsertionLemmas.{inserted_at, length-filled}
-use Rattle.arena_base.specs.Growths.{InsertsWithin, InsertsIfFree, InsertsAfterGrowth, InsertsGrowing}
+use Rattle.arena_base.specs.Growths.{InsertsIfFree, InsertsAfterGrowth, InsertsGrowing}
 
 module _ {Gen T : Type 0} (old new : Arena Gen T) (t : T) where
   entry_inserted : (p : ℕ × Gen) → IsListed old → p ≡ (next_index old, old.counter) → new ≡ with_capacity_of (insert_next old t) new → IsEntryInserted arena_state old t p new

@@ -209,8 +209,7 @@ impl<P: PtrKey, T: Drop, S: SlotStack<Item = ArenaSlot<P, T>>> CompactArenaTrait
     for Arena<P, T, S> {}
 
 impl<P: PtrKey, T: Drop, S: SlotStack<Item = ArenaSlot<P, T>>> PlainArenaTrait<P, T>
-    for Arena<P, T, S>
-{
+    for Arena<P, T, S> {
     ghost use Rattle.std.specs.Prelude.{◌≡◌, ◌+◌};
     ghost use Rattle.arena_traits.specs.Arena.{entry_count, insert_next, with_capacity_of, IsWithinReach};
 

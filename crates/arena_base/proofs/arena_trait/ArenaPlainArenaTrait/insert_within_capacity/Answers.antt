@@ -1,5 +1,4 @@
 -- The inherent insertion, as the trait states it.
-use Rattle.std.proofs.Common.{◌≡◌, inl, ap}
 use Rattle.arena_base.proofs.InsertedEntryLemmas.{inserts_within}
 use Rattle.arena_base.proofs.arena_trait.ArenaPlainArenaTrait.insert_within_capacity.Goals as goal
 
