@@ -114,9 +114,10 @@ module _ {A Gen T : Type 0} {view : A → ArenaView Gen T} {entry : A → ℕ �
         view_after = is.view_after;
       }
 
--- What each call does to a value, it does to the value of each link of the walk.
-module _ {F P T Gen : Type 0} (g : Mut F (P × (MutBor T × Unit {0})) (Unit {0} × (MutBor T × Unit {0}))) (key : P → ℕ × Gen) (Writes : T → T → Type 0)
-    (each : (f : F) (v : LinkVisit P T) (next : F) → IsLinkVisit g f v next → Writes v.value v.left) (old new : ℕ → Option (Gen × T)) where
+-- What each call does to a value, it does to the value of each link of the walk. `Keeps` holds of
+-- the closure's state before and after each call, as what it captured.
+module _ {F P T Gen : Type 0} (g : Mut F (P × (MutBor T × Unit {0})) (Unit {0} × (MutBor T × Unit {0}))) (key : P → ℕ × Gen) (Keeps : F → Type 0) (Writes : T → T → Type 0)
+    (each : (f : F) (v : LinkVisit P T) (next : F) → Keeps f → IsLinkVisit g f v next → Writes v.value v.left × Keeps next) (old new : ℕ → Option (Gen × T)) where
   -- The entry at i keeps its generation, and its value is written.
   pub record IsWrittenAt (i : ℕ) : Type 0 where
     pub generation : Gen
@@ -129,23 +130,25 @@ module _ {F P T Gen : Type 0} (g : Mut F (P × (MutBor T × Unit {0})) (Unit {0}
   same_first : {X : Type 0} (x y : X) (xs ys : List X) → x ∷ xs ≡ y ∷ ys → (x ≡ y) × (xs ≡ ys)
   same_first x y xs ys same = (let h = same in cc, let h = same in cc)
 
-  written_at : (visits : List (LinkVisit P T)) (f last : F) → FoldsTo (IsLinkVisit g) f visits last → map (λ v. Some ((key v.ptr).1, v.value)) visits ≡ map old (map (λ v. (key v.ptr).0) visits)
-      → map (λ v. Some ((key v.ptr).1, v.left)) visits ≡ map new (map (λ v. (key v.ptr).0) visits) → (i : ℕ) → IsMember (map (λ v. (key v.ptr).0) visits) i → IsWrittenAt i
-  written_at [] f last folds before after i has = absurd has
-  written_at (v ∷ visits) f last folds before after i (inl same) =
+  written_at : (visits : List (LinkVisit P T)) (f last : F) → Keeps f → FoldsTo (IsLinkVisit g) f visits last
+      → map (λ v. Some ((key v.ptr).1, v.value)) visits ≡ map old (map (λ v. (key v.ptr).0) visits) → map (λ v. Some ((key v.ptr).1, v.left)) visits ≡ map new (map (λ v. (key v.ptr).0) visits)
+      → (i : ℕ) → IsMember (map (λ v. (key v.ptr).0) visits) i → IsWrittenAt i
+  written_at [] f last keeps folds before after i has = absurd has
+  written_at (v ∷ visits) f last keeps folds before after i (inl same) =
       let was = (same_first _ _ _ _ before).0 in
       let is = (same_first _ _ _ _ after).0 in
-      subst IsWrittenAt same (record { generation = (key v.ptr).1; value = v.value; left = v.left; was_stored = sym was; stored = sym is; writes = each f v folds.0 folds.1 })
-  written_at (v ∷ visits) f last folds before after i (inr has) = written_at visits folds.0 last folds.2 (same_first _ _ _ _ before).1 (same_first _ _ _ _ after).1 i has
+      subst IsWrittenAt same (record { generation = (key v.ptr).1; value = v.value; left = v.left; was_stored = sym was; stored = sym is; writes = (each f v folds.0 keeps folds.1).0 })
+  written_at (v ∷ visits) f last keeps folds before after i (inr has) =
+      written_at visits folds.0 last (each f v folds.0 keeps folds.1).1 folds.2 (same_first _ _ _ _ before).1 (same_first _ _ _ _ after).1 i has
 
-  pub each_written : (f : F) (walk : List ℕ) → VisitsWalk g key f old new walk → (i : ℕ) → IsMember walk i → IsWrittenAt i
-  each_written f walk made i has = written_at made.visits f made.last made.in_turn (made.before ∙ ap (map old) (sym made.indexes)) (made.after ∙ ap (map new) (sym made.indexes)) i
+  pub each_written : (f : F) (walk : List ℕ) → Keeps f → VisitsWalk g key f old new walk → (i : ℕ) → IsMember walk i → IsWrittenAt i
+  each_written f walk keeps made i has = written_at made.visits f made.last keeps made.in_turn (made.before ∙ ap (map old) (sym made.indexes)) (made.after ∙ ap (map new) (sym made.indexes)) i
       (subst (λ (l : List ℕ). IsMember l i) (sym made.indexes) has)
 
--- A closure that applies a function to each value applies it along the walk.
-pub each_mapped : {F P T Gen : Type 0} (g : Mut F (P × (MutBor T × Unit {0})) (Unit {0} × (MutBor T × Unit {0}))) (key : P → ℕ × Gen) (h : T → T)
-    → ((f : F) (v : LinkVisit P T) (next : F) → IsLinkVisit g f v next → v.left ≡ h v.value) → (old new : ℕ → Option (Gen × T)) (f : F) (walk : List ℕ) → VisitsWalk g key f old new walk
-    → (i : ℕ) → IsMember walk i → new i ≡ option_map (λ e. (e.0, h e.1)) (old i)
-each_mapped {T = T} {Gen = Gen} g key h each old new f walk made i has =
-    let is = each_written g key (λ value left. left ≡ h value) each old new f walk made i has in
+-- A closure that applies a function to each value, and stays as it was, applies it along the walk.
+pub each_mapped : {F P T Gen : Type 0} (g : Mut F (P × (MutBor T × Unit {0})) (Unit {0} × (MutBor T × Unit {0}))) (key : P → ℕ × Gen) (h : T → T) (f : F)
+    → ((v : LinkVisit P T) (next : F) → IsLinkVisit g f v next → (v.left ≡ h v.value) × (next ≡ f)) → (old new : ℕ → Option (Gen × T)) (walk : List ℕ)
+    → VisitsWalk g key f old new walk → (i : ℕ) → IsMember walk i → new i ≡ option_map (λ e. (e.0, h e.1)) (old i)
+each_mapped {T = T} {Gen = Gen} g key h f each old new walk made i has =
+    let is = each_written g key (λ u. u ≡ f) (λ value left. left ≡ h value) (λ u v next same called. each v next (subst (λ w. IsLinkVisit g w v next) same called)) old new f walk refl made i has in
     is.stored ∙ (ap (λ (t : T). let o : Option (Gen × T) = Some (is.generation, t) in o) is.writes ∙ sym (ap (option_map (λ (e : Gen × T). (e.0, h e.1))) is.was_stored))
