@@ -1,8 +1,8 @@
 -- The effect of insertions and removals on lists, linear or cyclic.
-use Rattle.std.proofs.Common.{◌≡◌, ◌≢◌, ℕ, List, [], ◌∷◌, ◌++◌, map, Option, None, Some, refl, sym, ap, ◌∙◌, subst}
-use Rattle.std.specs.Prelude.{is_some, false}
+use Rattle.std.proofs.Common.{◌≡◌, ◌≢◌, ℕ, List, [], ◌∷◌, ◌++◌, map, Option, Some, refl, sym, ap, ◌∙◌, subst}
+use Rattle.std.specs.Prelude.{is_some}
 use Rattle.std.proofs.lemmas.List.{map-append}
-use Rattle.chain_laws.specs.Chains.{LinkMap, Interlinks, Chain, linear, cyclic, items, IsChain, IsMember, AreDistinct, IsWellLinked, prev_of, next_of}
+use Rattle.chain_laws.specs.Chains.{LinkMap, Chain, linear, cyclic, items, IsChain, IsMember, AreDistinct, IsWellLinked, prev_of, next_of}
 use Rattle.chain_laws.specs.declared.insert_kind.InsertKind.{InsertKind}
 use Rattle.chain_laws.specs.declared.insert_kind.InsertKind.TheVariants.{NextTo, PrevTo}
 use Rattle.chain_laws.specs.Insertions.{link_before, link_after}
