@@ -1,20 +1,19 @@
 -- The arena that links are transferred from: the chains left in it, by the traits alone.
 use Rattle.std.proofs.Common.{◌≡◌, ◌≢◌, ℕ, suc, ◌+◌, ◌≤◌, ◌<◌, ◌⊎◌, inl, inr, Bool, true, false, List, [], ◌∷◌, ◌++◌, length, Option, None, Some, refl, sym, ap, ◌∙◌, subst, length-append, arith}
-use Rattle.std.specs.Prelude.{is_some, cond, ◌==◌}
+use Rattle.std.specs.Prelude.{is_some}
 use Rattle.std.specs.Option.{option_map}
-use Rattle.std.proofs.lemmas.Bool.{eqb-true}
 use Rattle.std.proofs.Math.Decide.{ℕ_discrete}
 use Rattle.chain_laws.specs.Chains.{LinkMap, Interlinks, Chain, items, IsMember, HasLink, IsInOrder, IsWellLinked, AreChains, first_or, next_of}
 use Rattle.chain_laws.specs.Removals.{with_removal}
 use Rattle.chain_laws.specs.Walks.{step_forward}
 use Rattle.chain_laws.specs.ChainStart.{chain_of}
 use Rattle.chain_laws.specs.Transfer.{with_rest}
-use Rattle.chain_laws.proofs.InterlinkLemmas.Inverses.{if_same, if_other}
+use Rattle.chain_laws.proofs.InterlinkLemmas.Inverses.{if_same}
 use Rattle.chain_laws.proofs.ListLemmas.Members.{filled-IsMember}
 use Rattle.chain_laws.proofs.ChainLemmas.Uniqueness.{chain_valid, chain_filled}
 use Rattle.chain_laws.proofs.TransferLemmas.Source.{items_of, least_is_next, first_is_taken}
 use Rattle.chain_laws.proofs.RemovalLemmas.Pairs.{HasLink-removed}
-use Rattle.arena_traits.specs.Entries.{ArenaView, found, without_index, view_after_removal, AscendsFrom}
+use Rattle.arena_traits.specs.Entries.{ArenaView, found, view_after_removal, AscendsFrom}
 use Rattle.arena_traits.specs.declared.cursor.Cursor.{Cursor}
 use Rattle.arena_traits.specs.declared.cursor.Cursor.TheVariants.{Up}
 use Rattle.arena_traits.proofs.EntrySearchLemmas.{found-kept}
