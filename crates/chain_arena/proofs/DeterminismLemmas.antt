@@ -24,10 +24,10 @@ use Rattle.chain_links.specs.Links.{link_view, pair_view}
 use Rattle.chain_arena.specs.Effects.{Links, GrowsStackToFit, IsCut, HaveSameCapacity}
 use Rattle.chain_arena.specs.NewLinks.{with_new_link}
 use Rattle.arena_traits.specs.Growth.{RefusesToFit, RefusesOneMore}
-use Rattle.chain_links.specs.CallEffects.{IsTaken}
+use Rattle.chain_links.specs.CallEffects.{IsTaken, AreMovedAfter, AreMovedInTurn}
 use Rattle.arena_core.specs.PointerKinds.{PointerKind}
 use Rattle.chain_arena.specs.Runs.{AreSameButTouched, AreSameButCapacityAndTouched, AreSameResults, AreSameReplies, refused_memory, capacity_needed, HasCapacityAlready, RunWithSameCapacity, EndSame, RunIsDetermined, StepIsDetermined, RunIsDeterminedByCapacity}
-use Rattle.chain_arena.specs.Steps.{IsNewLinkAnyhow, InsertStep, InsertWithinStep, ConnectStep, BreakPrevStep, BreakNextStep, ExchangeStep, ReverseChainStep, MoveAfterStep, SpliceAfterStep, DrainChainStep, ReserveStep, Step, Run}
+use Rattle.chain_arena.specs.Steps.{IsNewLinkAnyhow, InsertStep, InsertWithinStep, ConnectStep, BreakPrevStep, BreakNextStep, ExchangeStep, ReverseChainStep, MoveAfterStep, SpliceAfterStep, IsMoveOf, ArrangeChainStep, DrainChainStep, ReserveStep, Step, Run}
 use Rattle.chain_arena.specs.declared.calls.Call.{Call}
 use Rattle.chain_arena.specs.declared.calls.Call.TheVariants as call
 use Rattle.chain_arena.specs.declared.calls.Reply.{Reply}
@@ -201,6 +201,21 @@ module _ {P T I Gen W : Type 0} (pointers : PointerKind P I Gen W) (same_key : (
   splices_same old a b p first last (Some d) None one two = absurd (two.0 one.0.0)
   splices_same old a b p first last (Some d) (Some e) one two = (refl, same one.2 two.2)
 
+  moved_after_same : (old a b : Links Gen T) (p : P) (order : List P) → AreMovedAfter (IsMoveOf pointers) old p order a → AreMovedAfter (IsMoveOf pointers) old p order b → a ≡ b
+  moved_after_same old a b p [] one two = same one two
+  moved_after_same old a b p (q ∷ order) one two =
+      moved_after_same one.0 a b q order one.2 (subst (λ (x : Links Gen T). AreMovedAfter (IsMoveOf pointers) x q order b) (same two.1 one.1) two.2)
+
+  moved_in_turn_same : (old a b : Links Gen T) (order : List P) → AreMovedInTurn (IsMoveOf pointers) old order a → AreMovedInTurn (IsMoveOf pointers) old order b → a ≡ b
+  moved_in_turn_same old a b [] one two = same one two
+  moved_in_turn_same old a b (p ∷ order) one two = moved_after_same old a b p order one two
+
+  arranges_same : (old a b : Links Gen T) (order : List P) (r s : Option Unit) → ArrangeChainStep pointers old order r a → ArrangeChainStep pointers old order s b → Same r s a b
+  arranges_same old a b order None None one two = (refl, same one.1 two.1)
+  arranges_same old a b order None (Some d) one two = absurd (one.0 two.0.0)
+  arranges_same old a b order (Some d) None one two = absurd (two.0 one.0.0)
+  arranges_same old a b order (Some d) (Some e) one two = (refl, moved_in_turn_same old a b order one.2 two.2)
+
   breaks_prev_same : (old a b : Links Gen T) (p : P) (r s : Option Unit) → BreakPrevStep pointers old p r a → BreakPrevStep pointers old p s b → Same r s a b
   breaks_prev_same old a b p None None one two = (refl, same one.1 two.1)
   breaks_prev_same old a b p None (Some d) one two = absurd (none-some two.0.1 (sym (one.0 two.0.0) ∙ two.0.2))
@@ -351,6 +366,7 @@ module _ {P T I Gen W : Type 0} (pointers : PointerKind P I Gen W) (same_key : (
   step_same old (call.ReverseChain p) r s a b within_capacity one two = responded_same (λ (o : Option Unit). reply.Done (is_some o)) r s one.0 two.0 a b one.1 two.1 (reverses_same old a b p one.0 two.0 one.2 two.2)
   step_same old (call.MoveAfter p q) r s a b within_capacity one two = responded_same (λ (o : Option Unit). reply.Done (is_some o)) r s one.0 two.0 a b one.1 two.1 (moves_same old a b p q one.0 two.0 one.2 two.2)
   step_same old (call.SpliceAfter p first last) r s a b within_capacity one two = responded_same (λ (o : Option Unit). reply.Done (is_some o)) r s one.0 two.0 a b one.1 two.1 (splices_same old a b p first last one.0 two.0 one.2 two.2)
+  step_same old (call.ArrangeChain order) r s a b within_capacity one two = responded_same (λ (o : Option Unit). reply.Done (is_some o)) r s one.0 two.0 a b one.1 two.1 (arranges_same old a b order.items one.0 two.0 one.2 two.2)
   step_same old (call.Remove p) r s a b within_capacity one two =
       let k = pointers.key p in
       let known = states_same {No = IsValid (entry old) k → ⊥} (link_view pointers.packed) (λ link. IsValid (entry old) k × IsTaken value_state link_map pointers old k.0 k.1 link a) (λ link. IsValid (entry old) k × IsTaken value_state link_map pointers old k.0 k.1 link b)

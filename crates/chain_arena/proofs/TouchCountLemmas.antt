@@ -22,11 +22,11 @@ use Rattle.arena_traits.proofs.CallOutcomeLemmas.{reports_more}
 use Rattle.chain_links.specs.ChainArena.{link_map, value_view, value_state, entry, link_value, values_of, link_of, remove_link}
 use Rattle.chain_arena.specs.Drains.{without_each}
 use Rattle.chain_arena.specs.Effects.{Links, IsCut, IsRemoval}
-use Rattle.chain_links.specs.CallEffects.{IsDisconnected, IsRemoved}
+use Rattle.chain_links.specs.CallEffects.{IsDisconnected, IsRemoved, AreMovedAfter, AreMovedInTurn}
 use Rattle.chain_links.specs.Insertions.{IsLinkInserted}
 use Rattle.arena_core.specs.PointerKinds.{PointerKind}
 use Rattle.chain_arena.specs.Runs.{AreSameButTouched}
-use Rattle.chain_arena.specs.Steps.{IsNewLinkAnyhow, InsertStep, InsertWithinStep, ConnectStep, BreakPrevStep, BreakNextStep, ExchangeStep, ReverseChainStep, MoveAfterStep, SpliceAfterStep, IsRenewed, DrainChainStep, CompressStep, CompressCanonicalStep, ReserveStep, Step, Run}
+use Rattle.chain_arena.specs.Steps.{IsNewLinkAnyhow, InsertStep, InsertWithinStep, ConnectStep, BreakPrevStep, BreakNextStep, ExchangeStep, ReverseChainStep, MoveAfterStep, SpliceAfterStep, IsMoveOf, ArrangeChainStep, IsRenewed, DrainChainStep, CompressStep, CompressCanonicalStep, ReserveStep, Step, Run}
 use Rattle.chain_arena.specs.declared.calls.Call.{Call}
 use Rattle.chain_arena.specs.declared.calls.Call.TheVariants as call
 use Rattle.chain_arena.specs.declared.calls.Reply.{Reply}
@@ -138,6 +138,17 @@ module _ (n : ℕ) where
   abbrev touch_view : {Gen T : Type 0} → ArenaView Gen T → ArenaView Gen T
   touch_view v = record v { slots = option_map (λ (s : Slots). record s { touched = n }) v.slots }
 
+  module _ {P I Gen W T : Type 0} (pointers : PointerKind P I Gen W) where
+    moved_after_touched : (old new : Links Gen T) (p : P) (order : List P) → AreMovedAfter (IsMoveOf pointers) old p order new
+        → AreMovedAfter (IsMoveOf pointers) (touch old) p order (touch new)
+    moved_after_touched old new p [] moved = ap touch moved
+    moved_after_touched old new p (q ∷ order) moved = (touch moved.0, ap touch moved.1, moved_after_touched moved.0 new q order moved.2)
+
+    moved_in_turn_touched : (old new : Links Gen T) (order : List P) → AreMovedInTurn (IsMoveOf pointers) old order new
+        → AreMovedInTurn (IsMoveOf pointers) (touch old) order (touch new)
+    moved_in_turn_touched old new [] moved = ap touch moved
+    moved_in_turn_touched old new (p ∷ order) moved = moved_after_touched old new p order moved
+
   module _ {P I Gen W T : Type 0} (pointers : PointerKind P I Gen W) (old new : Links Gen T) where
     connects_touched : (p q : P) (r : Option Unit) → ConnectStep pointers old p q r new → ConnectStep pointers (touch old) p q r (touch new)
     connects_touched p q None step = (step.0, ap touch step.1, tt)
@@ -185,6 +196,12 @@ module _ (n : ℕ) where
     splices_touched p first last (Some done) step =
         let made = step.0.1 in
         ((step.0.0, record { spliced = made.spliced; chains = made.chains; view_after = ap touch_view made.view_after }), tt, ap touch step.2)
+
+    arranges_touched : (order : List P) (r : Option Unit) → ArrangeChainStep pointers old order r new → ArrangeChainStep pointers (touch old) order r (touch new)
+    arranges_touched order None step = (step.0, ap touch step.1, tt)
+    arranges_touched order (Some done) step =
+        let made = step.0.1 in
+        ((step.0.0, record { ordered = made.ordered; chains = made.chains; view_after = ap touch_view made.view_after }), tt, moved_in_turn_touched pointers old new order step.2)
 
     removed_touched : (i : ℕ) → IsRemoved value_state link_map old new pointers.following i → IsRemoved value_state link_map (touch old) (touch new) pointers.following i
     removed_touched i made = record { view_after = ap touch_view made.view_after; links = made.links; chains = made.chains }
@@ -319,6 +336,7 @@ module _ (n : ℕ) where
     step_touched old new (call.ReverseChain p) r step = (step.0, step.1, reverses_touched pointers old new p step.0 step.2)
     step_touched old new (call.MoveAfter p q) r step = (step.0, step.1, moves_touched pointers old new p q step.0 step.2)
     step_touched old new (call.SpliceAfter p first last) r step = (step.0, step.1, splices_touched pointers old new p first last step.0 step.2)
+    step_touched old new (call.ArrangeChain order) r step = (step.0, step.1, arranges_touched pointers old new order.items step.0 step.2)
     step_touched old new (call.Remove p) r step = (
       step.0,
       step.1,

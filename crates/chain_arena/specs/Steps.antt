@@ -14,7 +14,7 @@ use Rattle.arena_traits.specs.CallOutcomes.{InvalidatesEntry, ClearsEntries, Com
 use Rattle.arena_traits.specs.Compressions.{values_in}
 use Rattle.arena_traits.specs.Entries.{entries}
 use Rattle.arena_traits.specs.Growth.{Reserves}
-use Rattle.chain_links.specs.CallEffects.{ConnectsLinks, BreaksPrev, BreaksNext, ExchangesNext, ReversesChain, MovesLinkAfter, SplicesAfter, RemovesLink, RemovesLinkAt, CompressesLinks}
+use Rattle.chain_links.specs.CallEffects.{ConnectsLinks, BreaksPrev, BreaksNext, ExchangesNext, ReversesChain, MovesLinkAfter, SplicesAfter, ArrangesLinks, AreMovedInTurn, RemovesLink, RemovesLinkAt, CompressesLinks}
 use Rattle.chain_links.specs.ChainArena.{link_map, entry, values_of, value_view, value_state}
 use Rattle.chain_links.specs.Insertions.{InsertsLink, InsertsLinkWithin}
 use Rattle.chain_laws.specs.declared.insert_kind.InsertKind.{InsertKind}
@@ -65,6 +65,15 @@ module _ {P I Gen W T : Type 0} (pointers : PointerKind P I Gen W) where
       SplicesAfter value_state link_map pointers.key old p first last returned new × IfNone returned (new ≡ old)
       × OnSome returned (IsSplice old (pointers.key p).0 (pointers.key first).0 (pointers.key last).0 new)
 
+  -- The link of p was moved after the link of q.
+  abbrev pub IsMoveOf : Links Gen T → P → P → Links Gen T → Type 0
+  IsMoveOf old p q new = IsMove old (pointers.key p).0 (pointers.key q).0 new
+
+  -- Links were put in an order, each moved after the one before it.
+  abbrev pub ArrangeChainStep : Links Gen T → List P → Option Unit → Links Gen T → Type 0
+  ArrangeChainStep old order returned new =
+      ArrangesLinks value_state link_map pointers.key old order returned new × IfNone returned (new ≡ old) × OnSome returned (AreMovedInTurn IsMoveOf old order new)
+
   -- A removal by pointer, and one by index.
   abbrev pub RemoveStep : Links Gen T → P → InvalidationResult (RawLink (PackedOption I W) T) → Links Gen T → Type 0
   RemoveStep old p returned new =
@@ -113,6 +122,7 @@ module _ {P I Gen W T : Type 0} (pointers : PointerKind P I Gen W) where
   Step old (call.ReverseChain p) r new = (returned : Option Unit) × (r ≡ reply.Done (is_some returned)) × ReverseChainStep old p returned new
   Step old (call.MoveAfter p q) r new = (returned : Option Unit) × (r ≡ reply.Done (is_some returned)) × MoveAfterStep old p q returned new
   Step old (call.SpliceAfter p first last) r new = (returned : Option Unit) × (r ≡ reply.Done (is_some returned)) × SpliceAfterStep old p first last returned new
+  Step old (call.ArrangeChain order) r new = (returned : Option Unit) × (r ≡ reply.Done (is_some returned)) × ArrangeChainStep old order.items returned new
   Step old (call.Remove p) r new = (returned : InvalidationResult (RawLink (PackedOption I W) T)) × (r ≡ reply.Removed returned) × RemoveStep old p returned new
   Step old (call.RemoveInx i) r new = (returned : InvalidationResult (Gen × RawLink (PackedOption I W) T)) × (r ≡ reply.RemovedInx returned) × RemoveInxStep old i returned new
   Step old (call.Invalidate p) r new = (returned : InvalidationResult P) × (r ≡ reply.Renewed returned) × InvalidateStep old p returned new

@@ -41,6 +41,8 @@ pub enum Call<P: PtrKey, T> {
     MoveAfter(P, P),
     /// Moves the run of links from the second to the third to the place after the first.
     SpliceAfter(P, P, P),
+    /// Puts links in an order, each directly after the one before it.
+    ArrangeChain(Vec<P>),
     /// Removes a link.
     Remove(P),
     /// Removes the link at an index.
@@ -69,8 +71,8 @@ pub enum Call<P: PtrKey, T> {
 pub enum Reply<P: PtrKey, T> {
     /// Of an insertion: the pointer of the new link, or the error.
     Inserted(Result<P, ChainInsertionError>),
-    /// Of `Connect`, `BreakPrev`, `BreakNext`, `ExchangeNext`, `ReverseChain`, `MoveAfter` and
-    /// `SpliceAfter`: whether it was done.
+    /// Of `Connect`, `BreakPrev`, `BreakNext`, `ExchangeNext`, `ReverseChain`, `MoveAfter`,
+    /// `SpliceAfter` and `ArrangeChain`: whether it was done.
     Done(bool),
     /// Of `Remove`: the link, with the interlinks that it had.
     Removed(InvalidationResult<LinkNoGen<P, T>>),
@@ -109,6 +111,7 @@ pub fn apply<P: PtrKey, T: Drop, S: SlotStack<Item = ArenaSlot<P, LinkNoGen<P, T
         Call::SpliceAfter(p, first, last) => {
             Reply::Done(arena.splice_after(p, first, last).is_some())
         }
+        Call::ArrangeChain(order) => Reply::Done(arena.arrange_chain(&order).is_some()),
         Call::Remove(p) => Reply::Removed(arena.remove_link_no_gen(p)),
         Call::RemoveInx(i) => Reply::RemovedInx(arena.remove_inx_link_no_gen(i)),
         Call::Invalidate(p) => Reply::Renewed(arena.invalidate(p)),

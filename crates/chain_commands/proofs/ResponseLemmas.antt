@@ -4,7 +4,7 @@ use Rattle.std.proofs.lemmas.Bool.{false≢true}
 use Rattle.arena_ptr.specs.declared.generation.gen32.Gen32.{Gen32}
 use Rattle.chain_links.specs.ChainArena.{LinkView}
 use Rattle.chain_commands.specs.declared.command.Command.{Command}
-use Rattle.chain_commands.specs.declared.command.Command.TheVariants.{Change, Show, Chain, Len, Moves}
+use Rattle.chain_commands.specs.declared.command.Command.TheVariants.{Change, Arrange, Show, Chain, Len, Moves}
 use Rattle.chain_commands.specs.declared.command.Line.{Line}
 use Rattle.chain_commands.specs.declared.command.Line.TheVariants.{Good}
 use Rattle.chain_commands.specs.Responses.{ToolLinks, RespondsToCommand, RespondsToLine, LeavesStep, ExecutesLine, walked_text, walk_text}
@@ -20,7 +20,8 @@ module _ {T E : Type 0} where
   unended_err : (old new : ToolLinks) (line : Line) (command : Command) (words : List ℕ) (r : Result T E) → Good command ≡ line → RespondsToCommand old command words new
       → ((reset : Bool) → command ≡ Moves reset → IsOk r) → OnErr r ((new ≡ old) ⊎ LeavesStep old line new)
   unended_err old new line command words (Ok x) is gives ends = tt
-  unended_err old new line (Change call) words (Err e) is gives ends = inr (call, words, sym is, gives)
+  unended_err old new line (Change call) words (Err e) is gives ends = inr (Change call, call, words, sym is, refl, gives)
+  unended_err old new line (Arrange order) words (Err e) is gives ends = inr (Arrange order, gives.0, words, sym is, gives.1, gives.2)
   unended_err old new line (Show p) words (Err e) is gives ends = inl gives.1
   unended_err old new line (Chain p) words (Err e) is gives ends = inl gives.1
   unended_err old new line Len words (Err e) is gives ends = inl gives.1

@@ -1,15 +1,15 @@
 -- The commands of the program, as parsed from lines.
-use Rattle.std.specs.Prelude.{ℕ, nat_lt, Bool, true, false, if◌then◌else◌, List, [], ◌∷◌, length, codes, bytes_eq, Option, Some, None, option_and_then}
+use Rattle.std.specs.Prelude.{◌≡◌, ℕ, nat_lt, Bool, true, false, if◌then◌else◌, List, [], ◌∷◌, length, codes, bytes_eq, Option, Some, None, option_and_then}
 use Rattle.std.specs.Option.{option_map, option_or, option_zip}
 use Rattle.arena_ptr.specs.declared.index.inx32.Inx32.{Inx32}
 use Rattle.arena_ptr.specs.declared.tool_ptr.ToolPtr.{ToolPtr}
 use Rattle.arena_ptr.specs.declared.generation.gen32.Gen32.{Gen32}
 use Rattle.chain_arena.specs.declared.calls.Call.{Call}
-use Rattle.chain_arena.specs.declared.calls.Call.TheVariants.{Insert, InsertWithin, Connect, BreakPrev, BreakNext, ExchangeNext, ReverseChain, MoveAfter, SpliceAfter, Remove, RemoveInx, Invalidate, DrainChain, Clear, Compress, CompressCanonical, Reserve, SetGeneration, IncGeneration}
+use Rattle.chain_arena.specs.declared.calls.Call.TheVariants.{Insert, InsertWithin, Connect, BreakPrev, BreakNext, ExchangeNext, ReverseChain, MoveAfter, SpliceAfter, ArrangeChain, Remove, RemoveInx, Invalidate, DrainChain, Clear, Compress, CompressCanonical, Reserve, SetGeneration, IncGeneration}
 use Rattle.chain_laws.specs.declared.insert_kind.InsertKind.{InsertKind}
 use Rattle.chain_laws.specs.declared.insert_kind.InsertKind.TheVariants as kinds
 use Rattle.chain_commands.specs.declared.command.Command.{Command}
-use Rattle.chain_commands.specs.declared.command.Command.TheVariants.{Change, Show, Chain, Len, Moves}
+use Rattle.chain_commands.specs.declared.command.Command.TheVariants.{Change, Arrange, Show, Chain, Len, Moves}
 use Rattle.chain_commands.specs.declared.command.Line.{Line}
 use Rattle.chain_commands.specs.declared.command.Line.TheVariants as lines
 use Rattle.chain_commands.specs.Words.{words_of, number_of, index_word, generation_of, pointer_of, without_return}
@@ -45,6 +45,21 @@ two_pointers (word ∷ words) = option_zip (pointer_of word) (one_pointer words)
 abbrev pub three_pointers : List (List ℕ) → Option (ToolPtr × (ToolPtr × ToolPtr))
 three_pointers [] = None
 three_pointers (word ∷ words) = option_zip (pointer_of word) (two_pointers words)
+
+-- The pointers that words state, if each word states one.
+abbrev pub pointers_of : List (List ℕ) → Option (List ToolPtr)
+pointers_of [] = Some []
+pointers_of (word ∷ words) = option_map (λ p. p.0 ∷ p.1) (option_zip (pointer_of word) (pointers_of words))
+
+-- Arguments that are one or more pointers.
+abbrev pub order_of : List (List ℕ) → Option (List ToolPtr)
+order_of [] = None
+order_of (word ∷ words) = pointers_of (word ∷ words)
+
+-- The call that puts links in an order. The capacity of its `Vec` is left open.
+abbrev pub IsArrangement : List ToolPtr → LinkCall → Type 0
+IsArrangement order (ArrangeChain links) = links.items ≡ order
+IsArrangement order call = ⊥
 
 -- Arguments that are a pointer and a number.
 abbrev pub pointer_and_number : List (List ℕ) → Option (ToolPtr × ℕ)
@@ -103,9 +118,9 @@ insertion (name ∷ x ∷ value ∷ []) = option_zip (kind_beside name x) (numbe
 insertion (name ∷ x ∷ y ∷ value ∷ []) = option_zip (kind_between name x y) (number_of value)
 insertion words = None
 
--- The command with this name and these arguments.
-abbrev pub command_of : List ℕ → List (List ℕ) → Option Command
-command_of name arguments =
+-- The command with this name and these arguments, except `arrange`.
+abbrev pub short_command : List ℕ → List (List ℕ) → Option Command
+short_command name arguments =
     if bytes_eq name (codes "add") then option_map (λ a. Change (Insert a.0 a.1)) (insertion arguments)
     else (if bytes_eq name (codes "addwithin") then option_map (λ a. Change (InsertWithin a.0 a.1)) (insertion arguments)
     else (if bytes_eq name (codes "connect") then option_map (λ p. Change (Connect p.0 p.1)) (two_pointers arguments)
@@ -129,6 +144,10 @@ command_of name arguments =
     else (if bytes_eq name (codes "len") then option_map (λ none. Len) (no_arguments arguments)
     else (if bytes_eq name (codes "moves") then option_map Moves (reset_of arguments)
     else None)))))))))))))))))))))
+
+-- The command with this name and these arguments.
+abbrev pub command_of : List ℕ → List (List ℕ) → Option Command
+command_of name arguments = if bytes_eq name (codes "arrange") then option_map Arrange (order_of arguments) else short_command name arguments
 
 abbrev pub line_with : Option Command → Line
 line_with None = lines.Bad

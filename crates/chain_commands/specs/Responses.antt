@@ -27,9 +27,9 @@ use Rattle.chain_arena.specs.Steps.{Step}
 use Rattle.chain_arena.specs.declared.calls.Call.TheVariants.{CompressCanonical}
 use Rattle.chain_arena.specs.declared.calls.Reply.{Reply}
 use Rattle.chain_arena.specs.declared.calls.Reply.TheVariants.{Inserted, Done, Removed, RemovedInx, Renewed, Drained, Counted, Reserved, Set}
-use Rattle.chain_commands.specs.Commands.{LinkCall}
+use Rattle.chain_commands.specs.Commands.{LinkCall, IsArrangement}
 use Rattle.chain_commands.specs.declared.command.Command.{Command}
-use Rattle.chain_commands.specs.declared.command.Command.TheVariants.{Change, Show, Chain, Len, Moves}
+use Rattle.chain_commands.specs.declared.command.Command.TheVariants.{Change, Arrange, Show, Chain, Len, Moves}
 use Rattle.chain_commands.specs.declared.command.Line.{Line}
 use Rattle.chain_commands.specs.declared.command.Line.TheVariants.{Blank, Bad, Good}
 
@@ -179,6 +179,7 @@ pub record RespondsToMoves (old : ToolLinks) (reset : Bool) (text : List ℕ) (n
 -- The response to a command, and the arena after it.
 abbrev pub RespondsToCommand : ToolLinks → Command → List ℕ → ToolLinks → Type 0
 RespondsToCommand old (Change call) text new = RespondsToCall old call text new
+RespondsToCommand old (Arrange order) text new = (call : LinkCall) × IsArrangement order call × RespondsToCall old call text new
 RespondsToCommand old (Show p) text new = RespondsToShow old (key_of p) text × (new ≡ old)
 RespondsToCommand old (Chain p) text new = RespondsToChain old (key_of p) text × (new ≡ old)
 RespondsToCommand old (Moves reset) text new = RespondsToMoves old reset text new
@@ -190,9 +191,15 @@ RespondsToLine old Blank text new = (text ≡ []) × (new ≡ old)
 RespondsToLine old Bad text new = (text ≡ codes "bad line" ++ 10 ∷ []) × (new ≡ old)
 RespondsToLine old (Good command) text new = (words : List ℕ) × (text ≡ words ++ 10 ∷ []) × RespondsToCommand old command words new
 
+-- The command makes this call.
+abbrev pub MakesCall : Command → LinkCall → Type 0
+MakesCall (Change call) made = made ≡ call
+MakesCall (Arrange order) made = IsArrangement order made
+MakesCall command made = ⊥
+
 -- The line is a call that has taken effect.
 abbrev pub LeavesStep : ToolLinks → Line → ToolLinks → Type 0
-LeavesStep old line new = (call : LinkCall) × (text : List ℕ) × (line ≡ Good (Change call)) × RespondsToCall old call text new
+LeavesStep old line new = (command : Command) × (call : LinkCall) × (text : List ℕ) × (line ≡ Good command) × MakesCall command call × RespondsToCall old call text new
 
 -- The result of `moves F`: its response is in the text, which has capacity for a line feed. If an
 -- allocation failed, nothing has changed.

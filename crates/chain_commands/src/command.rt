@@ -1,19 +1,23 @@
 //! Commands, and the parser of lines.
-ghost use Rattle.std.specs.Prelude.{◌≡◌, bytes_eq, option_and_then, option_map};
+ghost use Rattle.std.specs.Prelude.{◌≡◌, IfOk, bytes_eq, option_and_then, option_map};
 ghost use Rattle.chain_laws.specs.declared.insert_kind.InsertKind.TheVariants.{AtInterlink, AtInterlinkInx, Bridge, BridgeInx};
 ghost use Rattle.chain_commands.specs.Words.{generation_of, words_of};
-ghost use Rattle.chain_commands.specs.Commands.{by_either, one_word, one_number, one_pointer, two_pointers, three_pointers, pointer_and_number, no_arguments, reset_of, removal, kind_alone, kind_beside, kind_between, insertion, command_of, line_of};
+ghost use Rattle.chain_commands.specs.Commands.{by_either, one_word, one_number, one_pointer, two_pointers, three_pointers, pointer_and_number, no_arguments, reset_of, removal, kind_alone, kind_beside, kind_between, insertion, short_command, command_of, line_of};
 
 use crate::command::Command::Change;
 use crate::lexer::{index, next_word, number, pointer};
+use crate::order::Order;
 use arena_ptr::{Gen32, Inx32, ToolPtr};
 use chain_arena::{Call, LinkInsertKind};
+use std::alloc::{AllocError, Global};
 
 /// A command with its arguments.
 #[derive(Drop)]
 pub enum Command {
     /// A call that may change the links.
     Change(Call<ToolPtr, u32>),
+    /// `arrange P Q ..`: puts links in this order.
+    Arrange(Order),
     /// `show P`: the value and the neighbors of a link.
     Show(ToolPtr),
     /// `chain P`: the walk of a chain from a link.
@@ -37,25 +41,39 @@ pub enum Line {
 
 /// Parses a line.
 ///
-/// A line of more than 200 bytes is `Bad`.
-pub fn parse(line: &[u8]) -> Line
-    ensures { result ≡ line_of line.now }
+/// A line of more than 200 bytes is `Bad`. Only `arrange` allocates.
+///
+/// # Errors
+///
+/// - `AllocError`: an allocation for an order failed.
+pub fn parse(alloc: Global, line: &[u8]) -> Result<Line, AllocError>
+    ensures { IfOk result (λ parsed. parsed ≡ line_of line.now) }
 {
     if line.len() > 200 {
-        return Line::Bad;
+        return Ok(Line::Bad);
     }
     match next_word(line.strip_suffix(b"\r").unwrap_or(line)) {
-        None => Line::Blank,
-        Some((name, arguments)) => match command_of(name, arguments) {
-            None => Line::Bad,
-            Some(command) => Line::Good(command),
+        None => Ok(Line::Blank),
+        Some((name, arguments)) => match command_of(alloc, name, arguments)? {
+            None => Ok(Line::Bad),
+            Some(command) => Ok(Line::Good(command)),
         },
     }
 }
 
 /// Parses the command with this name and these arguments.
-fn command_of(name: &[u8], words: &[u8]) -> Option<Command>
-    ensures { result ≡ command_of name.now (words_of words.now) }
+fn command_of(alloc: Global, name: &[u8], words: &[u8]) -> Result<Option<Command>, AllocError>
+    ensures { IfOk result (λ command. command ≡ command_of name.now (words_of words.now)) }
+{
+    if is(name, "arrange") {
+        return Ok(Order::parse(alloc, words)?.map(Command::Arrange));
+    }
+    Ok(short_command(name, words))
+}
+
+/// Parses the command with this name and these arguments, except `arrange`.
+fn short_command(name: &[u8], words: &[u8]) -> Option<Command>
+    ensures { result ≡ short_command name.now (words_of words.now) }
 {
     match name {
         n if is(n, "add") => insertion(words).map(|(kind, t)| Change(Call::Insert { kind, t })),

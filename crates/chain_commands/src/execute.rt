@@ -16,6 +16,7 @@ use std::alloc::AllocError;
 ///
 /// # Errors
 ///
+/// - `AllocError`: an allocation for an order failed; nothing has changed.
 /// - `AllocError`: an allocation for the response failed. A call may have taken effect; any other
 ///   line has not.
 pub fn respond<S: SlotStack<Item = ArenaSlot<ToolPtr, LinkNoGen<ToolPtr, u32>>>>(
@@ -26,10 +27,11 @@ pub fn respond<S: SlotStack<Item = ArenaSlot<ToolPtr, LinkNoGen<ToolPtr, u32>>>>
     ensures { ExecutesLine result arena.old (line_of line.now) (string_bytes text.new) arena.new }
 {
     text.clear();
-    match parse(line) {
+    match parse(*text.allocator(), line)? {
         Line::Blank => return Ok(()),
         Line::Bad => text.push_str("bad line")?,
         Line::Good(Command::Change(call)) => push_reply(text, apply(arena, call))?,
+        Line::Good(Command::Arrange(order)) => push_reply(text, apply(arena, order.into_call()))?,
         Line::Good(Command::Show(p)) => show(arena, p, text)?,
         Line::Good(Command::Chain(p)) => chain(arena, p, text)?,
         Line::Good(Command::Len) => write!(text, "count {}", arena.len())?,

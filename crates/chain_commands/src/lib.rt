@@ -5,6 +5,7 @@ pub mod command;
 mod execute;
 mod infallible_text;
 mod lexer;
+pub mod order;
 mod reply_text;
 mod session;
 

@@ -13,7 +13,7 @@ ghost use Rattle.chain_arena.specs.declared.calls.Call.TheVariants.{Insert, Inse
 ghost use Rattle.chain_arena.specs.declared.calls.Call.TheVariants.{RemoveInx, DrainChain};
 ghost use Rattle.chain_arena.specs.declared.calls.Call.TheVariants.{Compress, CompressCanonical};
 ghost use Rattle.chain_arena.specs.declared.calls.Call.TheVariants.{Reserve, IncGeneration};
-ghost use Rattle.chain_commands.specs.declared.command.Command.TheVariants.{Change, Len, Moves};
+ghost use Rattle.chain_commands.specs.declared.command.Command.TheVariants.{Change, Arrange, Len, Moves};
 ghost use Rattle.chain_commands.specs.declared.command.Line.TheVariants.{Blank, Bad, Good};
 ghost use Rattle.chain_commands.specs.Words.{lines_of, whole_lines, without_return, words_of};
 ghost use Rattle.chain_commands.specs.Words.{number_of, index_word, pointer_of};
@@ -119,6 +119,11 @@ fn definitions()
         × ((p : ToolPtr) → pointer_of (codes "1.2") ≡ Some p
         → line_of (codes "drain 1.2 3") ≡ Good (Change (DrainChain p 3)))
         × (line_of (codes "drain") ≡ Bad) }
+    ensures orders { ((p q : ToolPtr) → pointer_of (codes "1.2") ≡ Some p
+        → pointer_of (codes "3.2") ≡ Some q
+        → line_of (codes "arrange 3.2 1.2") ≡ Good (Arrange (q ∷ p ∷ [])))
+        × (line_of (codes "arrange") ≡ Bad)
+        × (line_of (codes "arrange 1") ≡ Bad) }
     ensures others { (line_of (codes " len ") ≡ Good Len)
         × (line_of (codes "compress reset") ≡ Good (Change (Compress true)))
         × (line_of (codes "canonical reset") ≡ Good (Change (CompressCanonical true)))
@@ -312,11 +317,12 @@ const CUTTING_TABLE: (&str, &str) = (
         chain 1.2\nbreaknext 2.2\nbreakprev 1.2\nexchange 4.2 1.2\ninvalidate 3.2\nshow 4.2\n\
         drain 4.2 1\nlen\nadd alone 9\ndrain 1.2 9\nclear\nadd alone 1\nadd end 1.8 2\nadd end 2.8 3\n\
         reverse 2.8\nchain 3.8\nmoveafter 3.8 1.8\nchain 2.8\nmoveafter 2.8 2.8\nreverse 3.2\n\
-        spliceafter 3.8 2.8 1.8\nchain 3.8\nspliceafter 1.8 3.8 1.8\n",
+        spliceafter 3.8 2.8 1.8\nchain 3.8\nspliceafter 1.8 3.8 1.8\narrange 2.8 3.8 1.8\nchain 2.8\n\
+        arrange 1.8\narrange 1.8 1.8\narrange 3.8 9.8\nchain 2.8\n",
     "at 1.2\nat 2.2\nat 3.2\nat 4.2\nok\n1.2:1 3.2:3 4.2:4\nok\n1.2:1 2.2:2 3.2:3 4.2:4\nok\nnone\nnone\n\
         at 3.3\nprev 3.3 next - value 4\ncount 1\ncount 2\nat 3.5\ncount 2\nok\nat 1.8\nat 2.8\nat 3.8\nok\n\
         3.8:3 2.8:2 1.8:1\nok\n2.8:2 1.8:1 3.8:3\nnone\nnone\nok\n\
-        3.8:3 2.8:2 1.8:1\nnone\n",
+        3.8:3 2.8:2 1.8:1\nnone\nok\n2.8:2 3.8:3 1.8:1\nok\nnone\nnone\n2.8:2 3.8:3 1.8:1\n",
 );
 
 const COMPRESSION_TABLE: (&str, &str) = (
@@ -353,7 +359,7 @@ const REMOVED_BY_INDEX: (&str, &str) = (
     "at 1.2\nat 2.2\nvalue 1\nnone\nnone\nprev - next - value 2\nok\nok\nat 1.4\n",
 );
 
-const MALFORMED_STEPS: [(&str, &str); 26] = [
+const MALFORMED_STEPS: [(&str, &str); 29] = [
     ("reserve\n", "bad line\n"),
     ("reserve x\n", "bad line\n"),
     ("setgen\n", "bad line\n"),
@@ -367,6 +373,9 @@ const MALFORMED_STEPS: [(&str, &str); 26] = [
     ("reverse 1\n", "bad line\n"),
     ("moveafter 1.2\n", "bad line\n"),
     ("spliceafter 1.2 1.2\n", "bad line\n"),
+    ("arrange\n", "bad line\n"),
+    ("arrange 1\n", "bad line\n"),
+    ("arrange 1.2 2.2 3\n", "bad line\n"),
     ("invalidate 1\n", "bad line\n"),
     ("drain 1.2\n", "bad line\n"),
     ("drain 1 2\n", "bad line\n"),

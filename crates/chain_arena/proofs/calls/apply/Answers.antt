@@ -1,6 +1,7 @@
 -- Each call is a step.
-use Rattle.std.proofs.Common.{refl, ap}
+use Rattle.std.proofs.Common.{refl, ap, subst}
 use Rattle.arena_core.proofs.PointerKindLemmas.{kind_by}
+use Rattle.chain_arena.specs.Steps.{ArrangeChainStep}
 use Rattle.chain_arena.specs.declared.calls.Reply.TheVariants as reply
 use Rattle.chain_arena.proofs.CallStepLemmas.{inserted_anyhow}
 use Rattle.chain_arena.proofs.calls.apply.Goals as goal
@@ -51,6 +52,13 @@ pub returns-in-SpliceAfter : goal.returns-in-SpliceAfter
 returns-in-SpliceAfter g c =
     let made = c.splice_after.ensures in
     rw c.in-SpliceAfter.is (record { step = (c.splice_after.result, ap (λ b. reply.Done b) c.is_some-in-SpliceAfter.ensures, (made.outcome, made.none, made.implementation)) })
+
+pub returns-in-ArrangeChain : goal.returns-in-ArrangeChain
+returns-in-ArrangeChain g c =
+    let made = c.arrange_chain.ensures in
+    let step = subst (λ order. ArrangeChainStep (kind_by g.P.PtrKey g.P.Inx.InxKey g.P.Gen.GenKey) c.args.arena.now order c.arrange_chain.result c.arrange_chain.new.self) c.deref.ensures.value
+    (made.outcome, made.none, made.implementation) in
+    rw c.in-ArrangeChain.is (record { step = (c.arrange_chain.result, ap (λ b. reply.Done b) c.is_some-in-ArrangeChain.ensures, step) })
 
 pub returns-in-Remove : goal.returns-in-Remove
 returns-in-Remove g c =

@@ -9,12 +9,12 @@ returns-in-None c =
     let stripped = return_stripped c.args.line c.strip_suffix.result c.unwrap_or.result c.strip_suffix.ensures.cases c.unwrap_or.ensures in
     sym (line_of-words c.args.line.now c.unwrap_or.result.now _ (omega (arith, c.if-line-gt200.false)) stripped c.in-None.ensures.end)
 
-pub returns-in-None-command_of : goal.returns-in-None-command_of
-returns-in-None-command_of c =
+pub returns-in-None-2 : goal.returns-in-None-2
+returns-in-None-2 c =
     let stripped = return_stripped c.args.line c.strip_suffix.result c.unwrap_or.result c.strip_suffix.ensures.cases c.unwrap_or.ensures in
-    ap line_with c.in-None-command_of.ensures ∙ sym (line_of-words c.args.line.now c.unwrap_or.result.now _ (omega (arith, c.if-line-gt200.false)) stripped c.in-Some.ensures.word)
+    ap line_with (sym c.in-None-2.is ∙ c.in_ok-command_of-in-Some.ensures) ∙ sym (line_of-words c.args.line.now c.unwrap_or.result.now _ (omega (arith, c.if-line-gt200.false)) stripped c.in-Some.ensures.word)
 
-pub returns-in-Some-command_of : goal.returns-in-Some-command_of
-returns-in-Some-command_of c =
+pub returns-in-Some-2 : goal.returns-in-Some-2
+returns-in-Some-2 c =
     let stripped = return_stripped c.args.line c.strip_suffix.result c.unwrap_or.result c.strip_suffix.ensures.cases c.unwrap_or.ensures in
-    ap line_with c.in-Some-command_of.ensures ∙ sym (line_of-words c.args.line.now c.unwrap_or.result.now _ (omega (arith, c.if-line-gt200.false)) stripped c.in-Some.ensures.word)
+    ap line_with (sym c.in-Some-2.is ∙ c.in_ok-command_of-in-Some.ensures) ∙ sym (line_of-words c.args.line.now c.unwrap_or.result.now _ (omega (arith, c.if-line-gt200.false)) stripped c.in-Some.ensures.word)

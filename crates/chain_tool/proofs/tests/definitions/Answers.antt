@@ -1,10 +1,10 @@
 -- The definitions evaluated on small texts.
-use Rattle.std.proofs.Common.{◌≡◌, ℕ, List, [], None, Some, ap, refl}
+use Rattle.std.proofs.Common.{◌≡◌, ℕ, List, [], ◌∷◌, None, Some, ap, refl}
 use Rattle.std.specs.Prelude.{codes}
 use Rattle.std.specs.Option.{option_map, option_zip}
 use Rattle.chain_laws.specs.declared.insert_kind.InsertKind.TheVariants.{ChainEnd, NextToInx, BridgeInx}
 use Rattle.chain_arena.specs.declared.calls.Call.TheVariants.{Insert, InsertWithin, Remove, RemoveInx, DrainChain}
-use Rattle.chain_commands.specs.declared.command.Command.TheVariants.{Change}
+use Rattle.chain_commands.specs.declared.command.Command.TheVariants.{Change, Arrange}
 use Rattle.chain_commands.specs.Commands.{line_with, by_either}
 use Rattle.chain_commands.specs.Transcripts.{AreComplete, by_line_feed, by_the_end}
 use Rattle.chain_commands.specs.Words.{index_named, generation_of}
@@ -34,6 +34,11 @@ returns c = record {
     λ p is. ap (λ o. line_with (option_map Change (by_either Remove RemoveInx o None))) is,
     λ i is. ap (λ o. line_with (option_map Change (by_either Remove RemoveInx None o))) is,
     λ p is. ap (λ o. line_with (option_map (λ a. Change (DrainChain a.0 a.1)) (option_zip o (Some 3)))) is,
+    refl,
+  );
+  orders = (
+    λ p q is_p is_q. (λ t. line_with (option_map Arrange (option_map (λ x. x.0 ∷ x.1) (option_zip (is_q t) (option_map (λ x. x.0 ∷ x.1) (option_zip (is_p t) (Some []))))))),
+    refl,
     refl,
   );
   others = (refl, refl, refl, refl, refl, refl, refl, refl);
