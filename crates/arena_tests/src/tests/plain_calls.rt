@@ -218,7 +218,10 @@ fn run_plain_trait_call<P: Numbered, S: SlotStack<Item = PlainSlot<P>>>(
         Do::InsertByTrait => text(alloc, insert_by_trait(arena, parsed.t)),
         Do::WithinByTrait => text(alloc, insert_within_by_trait(arena, parsed.t)),
         Do::InsertForwarded => {
-            text(alloc, insert_forwarded::<P, Arena<P, u32, S>>(alloc, parsed.t))
+            text(
+                alloc,
+                insert_forwarded::<P, Arena<P, u32, S>>(alloc, parsed.t),
+            )
         }
         _ => run_whole_call(alloc, arena, parsed),
     }
