@@ -335,8 +335,8 @@ pub fn run_call<P: Numbered, A: ChainArenaTrait<P, u32> + Drop>(
     }
 }
 
-// Returns up to four pointers, each an index and a generation. An index 0 ends them.
-fn order_of<P: Numbered>(alloc: Global, numbers: [u32; 8]) -> Vec<P> {
+/// Returns up to four pointers, each an index and a generation. An index 0 ends them.
+pub fn order_of<P: Numbered>(alloc: Global, numbers: [u32; 8]) -> Vec<P> {
     let [n, g, m, h, l, i, k, j] = numbers;
     let mut order = Vec::new(alloc);
     for (index, generation) in [(n, g), (m, h), (l, i), (k, j)] {

@@ -7,11 +7,12 @@ use arena_ptr::{AllocError, LimitStack, SlotStack, ToolPtr};
 use chain_arena::{Call, LinkInsertKind, Reply, run_calls};
 use std::alloc::Global;
 use std::process::Abort;
+use test_types::calls::order_of;
 use test_types::lines::{Do, parse_call, text, third_of};
 use test_types::numbered::Numbered;
 
 // Returns the call of a line, or `None` if lists of calls have no such call.
-pub(super) fn call(parsed: Parsed) -> Option<Call<ToolPtr, u32>> {
+pub(super) fn call(alloc: Global, parsed: Parsed) -> Option<Call<ToolPtr, u32>> {
     let (kind, p, q, t) = (parsed.kind, parsed.p, parsed.q, parsed.t);
     match parsed.call {
         Do::Insert => Some(Call::Insert { kind, t }),
@@ -23,6 +24,7 @@ pub(super) fn call(parsed: Parsed) -> Option<Call<ToolPtr, u32>> {
         Do::Reverse => Some(Call::ReverseChain(p)),
         Do::MoveAfter => Some(Call::MoveAfter(p, q)),
         Do::SpliceAfter => Some(Call::SpliceAfter(p, q, third_of(&parsed))),
+        Do::Arrange => Some(Call::ArrangeChain(order_of(alloc, parsed.numbers))),
         Do::RemoveLink => Some(Call::Remove(p)),
         Do::RemoveLinkInx => Some(Call::RemoveInx(parsed.i)),
         Do::Invalidate => Some(Call::Invalidate(p)),
@@ -50,7 +52,7 @@ fn calls_of(alloc: Global, table: &str) -> Vec<Call<ToolPtr, u32>> {
     for line in table.lines() {
         if let Some((made, _)) = line.split_once(" = ")
             && let Some(parsed) = parse_call(made)
-            && let Some(made) = call(parsed)
+            && let Some(made) = call(alloc, parsed)
         {
             let _ = calls.push(made);
         }
@@ -192,6 +194,12 @@ MoveAfter 1 3 2 2 = false
 MoveAfter 3 2 1 2 = true
 SpliceAfter 1 2 3 2 3 2 = true
 SpliceAfter 3 2 3 2 3 2 = false
+Arrange 3 2 1 2 = true
+Arrange 3 2 3 2 = false
+Arrange 3 2 1 3 = false
+Arrange = true
+BreakPrev 3 2 = false
+Arrange 1 2 3 2 = true
 BreakNext 2 2 = true
 BreakNext 2 2 = false
 BreakPrev 3 2 = true

@@ -21,7 +21,7 @@ pub(super) fn run_call<S: SlotStack<Item = Slot>>(
     arena: &mut ChainsOver<S>,
     parsed: Parsed,
 ) -> String {
-    match call(parsed) {
+    match call(alloc, parsed) {
         Some(call) => reply_text(alloc, apply(arena, call)),
         None => lookup(alloc, arena, parsed),
     }
