@@ -5,10 +5,11 @@ use Rattle.std.proofs.lemmas.Bool.{cases_eq, eq-eqb, ne_eqb}
 use Rattle.arena_traits.specs.Entries.{found, without_index, AscendsFrom}
 
 module _ {Gen T : Type 0} where
-  at_first : (e : (ℕ × Gen) × T) (i : ℕ) (es : List ((ℕ × Gen) × T)) → e.0.0 ≡ i → found i (e ∷ es) ≡ Some (e.0.1, e.1)
+  -- Lookup returns the first entry at its index, or else searches the rest.
+  pub at_first : (e : (ℕ × Gen) × T) (i : ℕ) (es : List ((ℕ × Gen) × T)) → e.0.0 ≡ i → found i (e ∷ es) ≡ Some (e.0.1, e.1)
   at_first e i es is = ap (λ b. cond b (Some (e.0.1, e.1)) (found i es)) (eq-eqb e.0.0 i is)
 
-  past_first : (e : (ℕ × Gen) × T) (i : ℕ) (es : List ((ℕ × Gen) × T)) → e.0.0 ≢ i → found i (e ∷ es) ≡ found i es
+  pub past_first : (e : (ℕ × Gen) × T) (i : ℕ) (es : List ((ℕ × Gen) × T)) → e.0.0 ≢ i → found i (e ∷ es) ≡ found i es
   past_first e i es other = ap (λ b. cond b (Some (e.0.1, e.1)) (found i es)) (ne_eqb e.0.0 i other)
 
   without_first : (e : (ℕ × Gen) × T) (n : ℕ) (es : List ((ℕ × Gen) × T)) → e.0.0 ≡ n → without_index n (e ∷ es) ≡ es

@@ -1,5 +1,5 @@
 -- The state of a generational arena in contracts, and the effect of each call.
-use Rattle.std.specs.Prelude.{◌≡◌, ℕ, zero, suc, ◌+◌, ◌≤◌, ◌⊎◌, ⊤, min, Bool, false, List, [], ◌∷◌, ◌++◌, length, count_by, is_some, slice_index_or, slice_set}
+use Rattle.std.specs.Prelude.{◌≡◌, ◌≢◌, ℕ, zero, suc, ◌+◌, ◌≤◌, ◌⊎◌, ⊤, min, Bool, false, List, [], ◌∷◌, ◌++◌, length, count_by, is_some, slice_index_or, slice_set}
 use Rattle.std.specs.Prelude.{Option, None, Some}
 use Rattle.std.specs.Option.{option_map}
 use Rattle.std.specs.Borrow.{Bor}
@@ -89,6 +89,13 @@ module _ {Gen T : Type 0} where
   pub record IsValid (entry : ℕ → Option (Gen × T)) (p : ℕ × Gen) : Type 0 where
     pub value : T
     pub stored : entry p.0 ≡ Some (p.1, value)
+
+  -- The free index of p gets an entry with p's generation and the value t, and every other entry
+  -- is unchanged.
+  pub record IsInserted (entry after : ℕ → Option (Gen × T)) (p : ℕ × Gen) (t : T) : Type 0 where
+    pub free : entry p.0 ≡ None
+    pub stored : after p.0 ≡ Some (p.1, t)
+    pub rest : (i : ℕ) → i ≢ p.0 → after i ≡ entry i
 
   -- An entry read through a borrow.
   abbrev pub borrowed_entry : Gen × Bor T → Gen × T

@@ -1,13 +1,16 @@
 -- The outcomes of calls on an arena, by the cases of their results.
-use Rattle.std.specs.Prelude.{◌≡◌, ℕ, ◌<◌, ◌≤◌, Bool, true, false, IfSome, Option, None, Some, Result, Ok, Err}
+use Rattle.std.specs.Prelude.{◌≡◌, ℕ, ◌+◌, ◌<◌, ◌≤◌, Bool, true, false, IfSome, Option, None, Some, Result, Ok, Err}
+use Rattle.std.specs.Option.{option_map}
 use Rattle.arena_core.specs.Invalidation.{invalidation_option}
 use Rattle.arena_core.specs.PointerKinds.{PointerKind}
 use Rattle.arena_core.specs.SlotStack.{IsWithinMaximum}
+use Rattle.arena_core.specs.declared.errors.ReallocationError.{ReallocationError}
 use Rattle.arena_core.specs.declared.invalidation.InvalidationOption.{InvalidationOption}
 use Rattle.arena_core.specs.declared.invalidation.InvalidationResult.{InvalidationResult}
 use Rattle.arena_core.specs.declared.invalidation.InvalidationResult.TheVariants.{Success, GenerationOverflow, InvalidPtr}
-use Rattle.arena_traits.specs.Arena.{IsValid, overflows_after_clear}
-use Rattle.arena_traits.specs.Entries.{ArenaView, ArenaState, count, IsNew, view_after_removal, view_after_invalidation, view_after_clear}
+use Rattle.arena_traits.specs.Arena.{IsValid, IsInserted, overflows_after_clear}
+use Rattle.arena_traits.specs.Entries.{ArenaView, ArenaState, count, HasFreeCapacity, IsNew, next_slot, with_next_filled, view_with_value, view_after_removal, view_after_invalidation, view_after_clear}
+use Rattle.arena_traits.specs.Growth.{IsFull, IsGrowthResult, RefusesOneMore, GrowsForOneMore}
 use Rattle.arena_traits.specs.Compressions.{IsCompressed, overflows_after_compression}
 
 -- The outcome of a removal or invalidation: `invalid` if there is no such entry; else what was
@@ -21,6 +24,36 @@ ReportsOverflow wraps counter invalid done (GenerationOverflow x) = IfSome count
 abbrev pub StartsWithCapacity : {A Gen T E : Type 0} → (A → ArenaView Gen T) → Gen → ℕ → ℕ → Result A E → Type 0
 StartsWithCapacity view first greatest n (Ok a) = IsNew first (view a) × (n ≤ (view a).capacity) × (n ≤ greatest) × IsWithinMaximum (view a).maximum n
 StartsWithCapacity view first greatest n (Err why) = 0 < n
+
+module _ {A Gen T : Type 0} {view : A → ArenaView Gen T} {entry : A → ℕ → Option (Gen × T)} (state : (a : A) → ArenaState (view a) (entry a)) where
+  -- The value t is inserted at p: at the next slot, and with the counter as its generation, if these
+  -- are known. The counter is unchanged.
+  pub record IsEntryInserted (old : A) (t : T) (p : ℕ × Gen) (new : A) : Type 0 where
+    pub entries : IsInserted (entry old) (entry new) p t
+    pub more : count (view new) ≡ count (view old) + 1
+    pub generation : IfSome (view old).counter (λ g. p.1 ≡ g)
+    pub index : IfSome (view old).slots (λ slots. p.0 ≡ next_slot slots)
+    pub slots : (view new).slots ≡ option_map with_next_filled (view old).slots
+    pub counter : (view new).counter ≡ (view old).counter
+    pub maximum : (view new).maximum ≡ (view old).maximum
+
+  module _ {P : Type 0} (key : P → ℕ × Gen) where
+    -- `insert_within_capacity`: t is inserted and the capacity stays, or the arena is full.
+    abbrev pub InsertsEntryWithin : {E : Type 0} → A → T → Result P E → A → Type 0
+    InsertsEntryWithin old t (Ok p) new = HasFreeCapacity (view old) × IsEntryInserted old t (key p) new × ((view new).capacity ≡ (view old).capacity)
+    InsertsEntryWithin old t (Err why) new = IsFull (view old)
+
+    -- `insert_reallocating`: t is inserted, after a growth if the arena was full, or the growth is
+    -- refused.
+    abbrev pub InsertsEntry : ℕ → A → T → Result P ReallocationError → A → Type 0
+    InsertsEntry greatest old t result new =
+        IsGrowthResult (RefusesOneMore (view old)) (λ p. IsEntryInserted old t (key p) new × GrowsForOneMore greatest (view old) (view new)) result
+
+    -- `replace`: t becomes the value of the entry of p, and the former value is returned, if p is
+    -- valid.
+    abbrev pub ReplacesValue : A → P → T → Option T → A → Type 0
+    ReplacesValue old p t None new = IsValid (entry old) (key p) → ⊥
+    ReplacesValue old p t (Some former) new = (entry old (key p).0 ≡ Some ((key p).1, former)) × (view new ≡ view_with_value (view old) (key p).0 t)
 
 module _ {A Gen T : Type 0} {view : A → ArenaView Gen T} {entry : A → ℕ → Option (Gen × T)} (state : (a : A) → ArenaState (view a) (entry a)) {P I W : Type 0} (pointers : PointerKind P I Gen W) where
   -- The value t of the entry at i, with generation g, is removed.

@@ -6,5 +6,5 @@ mod entry_laws;
 mod traits;
 
 pub use cursor::Cursor;
-pub use entry_laws::entries_determine_occupancy;
-pub use traits::{Advancer, ArenaTrait, CompactArenaTrait};
+pub use entry_laws::{entries_determine_occupancy, writes_change_one_value};
+pub use traits::{Advancer, ArenaTrait, CompactArenaTrait, PlainArenaTrait};

@@ -1,5 +1,5 @@
 // The traits by which code can be generic over arenas.
-ghost use Rattle.std.specs.Prelude.{◌≡◌, ℕ, ◌≤◌, ◌↔◌, ⊤, [], IsTrue, IsSome, IfSome, OnSome, IfNone, IfOk, OnErr, Some, None, Option, if◌then◌else◌};
+ghost use Rattle.std.specs.Prelude.{◌≡◌, ℕ, ◌≤◌, ◌↔◌, ⊤, [], IsTrue, IsSome, IfSome, OnSome, IfNone, IfOk, OnOk, OnErr, Some, None, Option, if◌then◌else◌};
 ghost use Rattle.std.specs.Option.{option_map, option_copied_mut};
 ghost use Rattle.std.specs.Borrow.{LendsSo, sem};
 ghost use Rattle.arena_core.specs.SlotStack.{IsWithinMaximum};
@@ -7,16 +7,17 @@ ghost use Rattle.arena_core.specs.Invalidation.{value_within};
 ghost use Rattle.arena_traits.specs.Arena.{IsValid, borrowed_entry};
 ghost use Rattle.arena_traits.specs.Entries.{ArenaView, ArenaState, IsSoundView, IsNew, count, first_key, last_key, view_with_value};
 ghost use Rattle.arena_traits.specs.Growth.{Reserves};
-ghost use Rattle.arena_traits.specs.CallOutcomes.{StartsWithCapacity, RemovesEntry, RemovesEntryAt, InvalidatesEntry, ClearsEntries, CompressesEntries};
+ghost use Rattle.arena_traits.specs.CallOutcomes.{StartsWithCapacity, ReplacesValue, InsertsEntryWithin, InsertsEntry, RemovesEntry, RemovesEntryAt, InvalidatesEntry, ClearsEntries, CompressesEntries};
 ghost use Rattle.arena_traits.specs.Advancers.{IsAdvance};
 ghost use Rattle.arena_traits.specs.Compressions.{VisitsAll, values_in};
 ghost use Rattle.arena_traits.specs.declared.cursor.Cursor.{Cursor};
 
 use arena_core::{
-    AllocError, AnyPointer, GenKey, InvalidationOption, InvalidationResult, InxKey, PtrKey,
-    ReallocationError, SlotStack,
+    AllocError, AnyPointer, GenKey, InvalidationOption, InvalidationResult, InxKey,
+    NotWithinCapacityError, PtrKey, ReallocationError, SlotStack,
 };
 use std::alloc::Global;
+use std::mem;
 
 /// A walk over a collection that is passed to each call, so no borrow is kept.
 ///
@@ -158,6 +159,20 @@ pub trait ArenaTrait<P: PtrKey, T: Drop> {
         ensures value { IfSome result (λ t. entry self.old (P.key p).0 ≡ Some
             ((P.key p).1, t.now)) };
 
+    /// Replaces the value of an entry and returns the former one, or `None` if `p` is not valid.
+    ///
+    /// With `None` nothing changes, and `t` is dropped.
+    final fn replace(&mut self, p: P, t: T) -> Option<T>
+        ensures outcome { ReplacesValue state P.key self.old p t result self.new }
+        ensures invalid { IfNone result (self.new ≡ self.old) }
+        ensures implementation { OnSome result (writes self.old (P.key p).0 t self.new) }
+    {
+        match self.get_mut(p) {
+            Some(value) => Some(mem::replace(value, t)),
+            None => None,
+        }
+    }
+
     /// Returns the generation and the value at an index, or `None` if no entry is there.
     fn get_inx(&self, i: P::Inx) -> Option<(P::Gen, &T)>
         ensures { option_map borrowed_entry result ≡ entry self.now (P.Inx.number i) };
@@ -277,3 +292,43 @@ pub trait ArenaTrait<P: PtrKey, T: Drop> {
 ///
 /// Port of `CompactArenaTrait`, a marker without functions.
 pub trait CompactArenaTrait<P: PtrKey, T: Drop>: ArenaTrait<P, T> {}
+
+/// An arena into which values are inserted without a kind: the implementation chooses the pointer.
+///
+/// Not in `triple_arena`, where each arena has its own insertions.
+pub trait PlainArenaTrait<P: PtrKey, T: Drop>: ArenaTrait<P, T> {
+    // An arena's own guarantee for the insertion of a value into the first arena.
+    ghost inserts: { Self → T → Self → Type 0 } = { λ _ _ _. ⊤ };
+
+    /// Inserts a value within the capacity and returns its pointer.
+    ///
+    /// No entry was at its index. Its generation is the counter, which does not change. Does not
+    /// allocate.
+    ///
+    /// # Errors
+    ///
+    /// `NotWithinCapacityError`: there are as many entries as the capacity. Nothing changes then,
+    /// and `t` is dropped.
+    fn insert_within_capacity(&mut self, t: T) -> Result<P, NotWithinCapacityError>
+        ensures outcome { InsertsEntryWithin Self.state P.key self.old t result self.new }
+        ensures err { OnErr result (self.new ≡ self.old) }
+        ensures implementation { OnOk result (inserts self.old t self.new) };
+
+    /// Inserts a value and returns its pointer; a full arena grows first.
+    ///
+    /// No entry was at its index. Its generation is the counter, which does not change.
+    ///
+    /// # Errors
+    ///
+    /// In the order in which they are tested:
+    ///
+    /// - `BeyondMaxCapacity`: the arena is full, and one entry more is above the maximum.
+    /// - `AllocError`: the arena is full, and one entry more is above the greatest index, or an
+    ///   allocation failed.
+    ///
+    /// On error the arena is unchanged, and `t` is dropped.
+    fn insert_reallocating(&mut self, t: T) -> Result<P, ReallocationError>
+        ensures outcome { InsertsEntry Self.state P.key P.Inx.greatest self.old t result self.new }
+        ensures err { OnErr result (self.new ≡ self.old) }
+        ensures implementation { OnOk result (inserts self.old t self.new) };
+}
