@@ -14,3 +14,4 @@ mod SoundnessLemmas
 mod TrimLemmas
 mod ArenaModelLemmas
 mod TallyLemmas
+pub mod InsertedEntryLemmas

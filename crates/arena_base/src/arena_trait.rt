@@ -9,10 +9,10 @@ use crate::advancer::PtrAdvancer;
 use crate::arena::Arena;
 use crate::slot::{ArenaSlot, number_of, position_of};
 use arena_core::{
-    AllocError, GenKey, InvalidationOption, InvalidationResult, InxKey, PtrKey, ReallocationError,
-    SlotStack, proved_unreachable,
+    AllocError, GenKey, InvalidationOption, InvalidationResult, InxKey, NotWithinCapacityError,
+    PtrKey, ReallocationError, SlotStack, proved_unreachable,
 };
-use arena_traits::{ArenaTrait, CompactArenaTrait, Cursor};
+use arena_traits::{ArenaTrait, CompactArenaTrait, Cursor, PlainArenaTrait};
 use std::alloc::Global;
 
 impl<P: PtrKey, T: Drop, S: SlotStack<Item = ArenaSlot<P, T>>> ArenaTrait<P, T> for Arena<P, T, S> {
@@ -207,6 +207,25 @@ impl<P: PtrKey, T: Drop, S: SlotStack<Item = ArenaSlot<P, T>>> ArenaTrait<P, T> 
 
 impl<P: PtrKey, T: Drop, S: SlotStack<Item = ArenaSlot<P, T>>> CompactArenaTrait<P, T>
     for Arena<P, T, S> {}
+
+impl<P: PtrKey, T: Drop, S: SlotStack<Item = ArenaSlot<P, T>>> PlainArenaTrait<P, T>
+    for Arena<P, T, S> {
+    ghost use Rattle.std.specs.Prelude.{◌≡◌, ◌+◌};
+    ghost use Rattle.arena_traits.specs.Arena.{entry_count, insert_next, with_capacity_of, IsWithinReach};
+
+    ghost inserts = { λ a t b. (b ≡ with_capacity_of (insert_next a t) b)
+        × IsWithinReach S.may_reach (entry_count a + 1) a b };
+
+    fn insert_within_capacity(&mut self, t: T) -> Result<P, NotWithinCapacityError> {
+        self.invariants();
+        Arena::insert_within_capacity(self, t)
+    }
+
+    fn insert_reallocating(&mut self, t: T) -> Result<P, ReallocationError> {
+        self.invariants();
+        Arena::insert_reallocating(self, t)
+    }
+}
 
 // Returns the counter after `count` entries were cleared, and whether it overflowed.
 fn after_clear<G: GenKey>(counter: G, count: usize) -> (G, bool)

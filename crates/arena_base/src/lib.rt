@@ -19,7 +19,10 @@ mod tally;
 pub use advancer::PtrAdvancer;
 pub use arena::Arena;
 pub use arena_core::{assume_proved, proved_unreachable};
-pub use arena_traits::{Advancer, ArenaTrait, CompactArenaTrait, entries_determine_occupancy};
+pub use arena_traits::{
+    Advancer, ArenaTrait, CompactArenaTrait, PlainArenaTrait, entries_determine_occupancy,
+    writes_change_one_value,
+};
 pub use compactor::{Compactor, SlotAccess, Work};
 pub use copy::ClosureMap;
 pub use copy_traits::{ArenaCloneFromWith, ValueMap};

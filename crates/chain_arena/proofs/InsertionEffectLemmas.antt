@@ -13,7 +13,8 @@ use Rattle.arena_traits.proofs.ArenaViewLemmas.{length-entries, count-filled}
 use Rattle.chain_links.specs.ChainArena.{LinkView, link_value, values_of, value_view, value_state, link_map, lone, insert_lone, insert_between}
 use Rattle.chain_links.specs.Insertions.{IsInsertedBetween, IsLinkInserted, before_new, after_new}
 use Rattle.chain_links.proofs.MappedArenaLemmas.{with_each-insert_next, length-with_each, listed-with_each}
-use Rattle.chain_links.proofs.ArenaInsertionLemmas.{link_map-insert_lone, link_map-next, inserted_at, length-filled}
+use Rattle.chain_links.proofs.ArenaInsertionLemmas.{link_map-insert_lone, link_map-next}
+use Rattle.arena_traits.proofs.InsertionLemmas.{inserted_at, length-filled}
 use Rattle.chain_arena.specs.NewLinks.{with_new_link}
 use Rattle.chain_linking.proofs.LinkWriteLemmas.{FitsLinks, FitsLinks-link_map, FitsLinks-with_next_at, FitsLinks-with_prev_at, link_map-with_link_map, values_of-with_link_map}
 

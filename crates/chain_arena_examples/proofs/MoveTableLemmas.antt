@@ -10,7 +10,7 @@ use Rattle.chain_laws.proofs.InterlinkLemmas.Inverses.{if_same, if_other}
 use Rattle.std.specs.Prelude.{slice_set}
 use Rattle.arena_traits.specs.Arena.{slot_at, with_slot}
 use Rattle.arena_traits.proofs.ArenaViewLemmas.{length-with_slot}
-use Rattle.chain_links.proofs.ArenaInsertionLemmas.{slot_at-written}
+use Rattle.arena_traits.proofs.InsertionLemmas.{slot_at-written}
 use Rattle.chain_arena_examples.specs.MoveTables.{with_move, with_moves}
 
 -- An empty table has no moves.

@@ -20,7 +20,7 @@ use Rattle.chain_links.specs.Links.{link_view, held_in}
 use Rattle.chain_compaction.specs.DetachedLinks.{detached_values, body_interlinks, link_map_in, IsWork}
 use Rattle.chain_links.proofs.MappedArenaLemmas.{map-with_slot, slot_at-map}
 use Rattle.chain_links.proofs.LinkStateLemmas.{slot_at-changed}
-use Rattle.chain_links.proofs.ArenaInsertionLemmas.{slot_at-written}
+use Rattle.arena_traits.proofs.InsertionLemmas.{slot_at-written}
 
 -- A write of one entry that leaves what `f` sees of it.
 module _ {Gen X Y : Type 0} (f : Gen × X → Y) (slots : List (Option (Gen × X))) (n : ℕ) (l w : X)

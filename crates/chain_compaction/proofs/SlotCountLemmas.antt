@@ -7,7 +7,8 @@ use Rattle.chain_laws.specs.Chains.{Interlinks}
 use Rattle.chain_laws.proofs.InterlinkLemmas.Inverses.{if_same, if_other}
 use Rattle.arena_traits.specs.Arena.{slot_at, with_slot}
 use Rattle.chain_compaction.specs.Permutations.{HasDestination, waits, waiting_count}
-use Rattle.chain_links.proofs.ArenaInsertionLemmas.{slot_at-written, slots-within}
+use Rattle.chain_links.proofs.ArenaInsertionLemmas.{slots-within}
+use Rattle.arena_traits.proofs.InsertionLemmas.{slot_at-written}
 
 module _ {X : Type 0} where
   pub slot_at-same : (xs : List (Option X)) (i : ℕ) (x : Option X) → 1 ≤ i → i ≤ length xs → slot_at (with_slot xs i x) i ≡ x

@@ -10,7 +10,7 @@ use Rattle.chain_laws.specs.Frame.{IsDisjointFrom, links_named}
 use Rattle.chain_laws.proofs.ChainLemmas.Frame.{insertion_keeps_others}
 use Rattle.chain_laws.proofs.ListLemmas.MemberLaws.{once_in_middle}
 use Rattle.arena_traits.specs.Entries.{ArenaView, ArenaState, index_of}
-use Rattle.chain_links.specs.ChainArena.{IsInserted}
+use Rattle.arena_traits.specs.Arena.{IsInserted}
 use Rattle.chain_links.specs.Insertions.{IsInsertedBetween}
 use Rattle.chain_examples.specs.Lists.{Item, AreEntries, indexes, IsListOf, KeepsWithout, InsertsAfter, InsertsBefore, IsRemovedFromList, ChangesOnlyListsOf, IsItemInserted, IsItemStarted, IsItemAfter, IsItemBefore}
 use Rattle.chain_traits.proofs.GenericRemovalLemmas.{same_entry}

@@ -14,7 +14,7 @@ use Rattle.arena_traits.specs.Arena.{IsValid}
 use Rattle.arena_traits.specs.Entries.{ArenaView, ArenaState, count, index_of, first_key, found, AscendsFrom}
 use Rattle.chain_links.specs.Insertions.{IsInsertedBetween}
 use Rattle.chain_laws.proofs.WalkLemmas.WalkBack.{length_among}
-use Rattle.chain_traits.proofs.GenericArenaLemmas.{found_has}
+use Rattle.chain_links.proofs.OccupiedIndexLemmas.{found_has}
 use Rattle.chain_examples.specs.Lists.{Item, AreEntries, indexes, IsQueueOrder}
 use Rattle.chain_examples.specs.QueueOrder.{Queue, IsAmong, IsCancelled, items_from, with_entry_first, queue_order, rotation}
 use Rattle.chain_traits.proofs.GenericRemovalLemmas.{HasGone}

@@ -12,10 +12,10 @@ use Rattle.chain_laws.proofs.InterlinkLemmas.Inverses.{one_some}
 use Rattle.chain_laws.proofs.ChainLemmas.MemberLaws.{chains_share_each, members_are_links}
 use Rattle.chain_laws.proofs.ExchangeLemmas.Pairs.{exchanged_with_itself}
 use Rattle.arena_core.specs.Numbers.{IsWithin}
-use Rattle.arena_traits.specs.Arena.{IsValid}
+use Rattle.arena_traits.specs.Arena.{IsValid, IsInserted}
 use Rattle.arena_traits.specs.Entries.{ArenaView, ArenaState, index_of, first_key}
 use Rattle.chain_links.specs.CallEffects.{IsExchanged, ExchangesNext}
-use Rattle.chain_links.specs.ChainArena.{CanExchange, IsInserted, ptr_at}
+use Rattle.chain_links.specs.ChainArena.{CanExchange, ptr_at}
 use Rattle.chain_traits.proofs.GenericArenaLemmas.{some_valid, valid_some, links_within}
 use Rattle.chain_examples.specs.Lists.{Item, AreEntries, indexes, IsRing, KeepsWithout, InsertsAfter, InsertsBefore}
 use Rattle.chain_examples.specs.Rings.{AllCyclic, AllInRings, IsCutInTwo, AreMerged, AreCopied, IsSplit, IsBridged, CutAndMergeRestore}

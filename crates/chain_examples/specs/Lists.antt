@@ -6,12 +6,11 @@ use Rattle.arena_core.specs.declared.errors.ChainInsertionError.{ChainInsertionE
 use Rattle.arena_core.specs.declared.errors.ReallocationError.{ReallocationError}
 use Rattle.chain_laws.specs.Chains.{LinkMap, Chain, linear, cyclic, IsChain, IsMember}
 use Rattle.chain_laws.specs.Frame.{IsDisjointFrom}
-use Rattle.arena_traits.specs.Arena.{IsValid}
+use Rattle.arena_traits.specs.Arena.{IsValid, IsInserted}
 use Rattle.arena_traits.specs.Entries.{ArenaView, ArenaState, count, index_of, first_key}
 use Rattle.arena_traits.specs.CallOutcomes.{IsEntryRemoved}
 use Rattle.arena_traits.specs.Growth.{IsGrowthResult, RefusesOneMore, GrowsForOneMore}
 use Rattle.chain_links.specs.Insertions.{IsInsertionResult}
-use Rattle.chain_links.specs.ChainArena.{IsInserted}
 
 -- An item: its pointer's index and generation, and its value.
 abbrev pub Item : Type 0 → Type 0 → Type 0

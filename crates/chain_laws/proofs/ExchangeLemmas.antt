@@ -3,3 +3,4 @@ pub mod Swaps
 pub mod Pairs
 pub mod Chains
 pub mod Determinacy
+pub mod Merges

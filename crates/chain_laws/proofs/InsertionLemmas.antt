@@ -5,3 +5,4 @@ pub mod Undo
 pub mod Chains
 pub mod Determinacy
 pub mod Writes
+pub mod Growth

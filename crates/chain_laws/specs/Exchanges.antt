@@ -1,5 +1,5 @@
 -- Exchanges of what follows two links.
-use Rattle.std.specs.Prelude.{◌≡◌, ◌≢◌, ◌↔◌, ℕ, ◌⊎◌, List, [], ◌∷◌, ◌++◌, Some}
+use Rattle.std.specs.Prelude.{◌≡◌, ◌≢◌, ◌↔◌, ℕ, ◌+◌, ◌⊎◌, List, [], ◌∷◌, ◌++◌, length, Some}
 use Rattle.chain_laws.specs.Chains.{LinkMap, linear, cyclic, IsMember, IsChain, HasLink, HasLinksWithin, IsWellLinked, next_of}
 use Rattle.chain_laws.specs.Neighbors.{AreNeighbors, IsRotation}
 use Rattle.chain_laws.specs.Joins.{with_neighbors, KeepsChainsWithout, HaveSameChains}
@@ -87,3 +87,15 @@ ExchangeMergesCycles = (link_map : LinkMap) (p q : ℕ) (xs ys : List ℕ) → I
     → IsMember xs p → IsMember ys q → (IsMember xs q → ⊥)
     → (x : List ℕ) × (y : List ℕ) × IsRotation (cyclic xs) (cyclic (p ∷ x)) × IsRotation (cyclic ys) (cyclic (q ∷ y))
     × IsChain (with_exchange link_map p q) (cyclic (p ∷ y ++ q ∷ x))
+
+-- One cyclic chain has the items of both lists, and is as long as both.
+pub record IsMerged (link_map : LinkMap) (xs ys : List ℕ) : Type 0 where
+  pub merged : List ℕ
+  pub chain : IsChain link_map (cyclic merged)
+  pub members : (i : ℕ) → IsMember merged i ↔ (IsMember xs i ⊎ IsMember ys i)
+  pub size : length merged ≡ length xs + length ys
+
+-- The chain merged from two cyclic ones has the links of both.
+abbrev pub MergedCycleHasBoth : Type 0
+MergedCycleHasBoth = (old new : LinkMap) (p q : ℕ) (xs ys : List ℕ) → Exchanges old new p q → IsChain old (cyclic xs) → IsChain old (cyclic ys)
+    → IsMember xs p → IsMember ys q → (IsMember xs q → ⊥) → IsMerged new xs ys

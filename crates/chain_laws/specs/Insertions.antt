@@ -1,5 +1,5 @@
 -- What each kind of insertion requires, which links the new one comes between, and insertions.
-use Rattle.std.specs.Prelude.{◌≡◌, ◌↔◌, ℕ, ◌⊎◌, List, [], ◌∷◌, ◌++◌, Option, None, Some}
+use Rattle.std.specs.Prelude.{◌≡◌, ◌↔◌, ℕ, ◌+◌, ◌⊎◌, List, [], ◌∷◌, ◌++◌, length, Option, None, Some}
 use Rattle.chain_laws.specs.Chains.{LinkMap, Chain, linear, cyclic, items, IsMember, IsChain, HasLink, HasLinksWithin, IsWellLinked, first_or, last_or, prev_of, next_of}
 use Rattle.chain_laws.specs.Neighbors.{AreNeighbors}
 use Rattle.chain_laws.specs.Joins.{with_neighbors, with_lone, AreEndAndStart, HaveSameChains}
@@ -106,6 +106,18 @@ pub record Inserts (old new : LinkMap) (q : ℕ) (u v : Option ℕ) : Type 0 whe
   pub rest : (c : Chain) → (IsMember (items c) q → ⊥) → (HasIndex c u → ⊥) → (HasIndex c v → ⊥) → IsChain old c ↔ IsChain new c
   pub links : (i : ℕ) → HasLink new i ↔ (HasLink old i ⊎ (i ≡ q))
 
+-- A chain has the items that it had and q, and is one longer.
+pub record HasGrownBy (shape : List ℕ → Chain) (new : LinkMap) (q : ℕ) (xs : List ℕ) : Type 0 where
+  pub grown : List ℕ
+  pub chain : IsChain new (shape grown)
+  pub members : (i : ℕ) → IsMember grown i ↔ ((i ≡ q) ⊎ IsMember xs i)
+  pub size : length grown ≡ length xs + 1
+
+-- The chain of a, linear or cyclic, has grown by q.
+abbrev pub GrowsChainsOf : LinkMap → LinkMap → ℕ → ℕ → Type 0
+GrowsChainsOf old new q a = (xs : List ℕ) → IsMember xs a
+    → (IsChain old (linear xs) → HasGrownBy linear new q xs) × (IsChain old (cyclic xs) → HasGrownBy cyclic new q xs)
+
 -- A kind whose requirements hold gives an insertion position.
 abbrev pub KindGivesAPosition : (P I : Type 0) → Type 0
 KindGivesAPosition P I = (place : P → ℕ) (number : I → ℕ) (link_map : LinkMap) (kind : InsertKind P I) (q : ℕ) → IsWellLinked link_map
@@ -124,6 +136,11 @@ InsertionInPairs = (link_map : LinkMap) (q : ℕ) (u v : Option ℕ) → IsWellL
 -- An insertion changes chains as `Inserts` states.
 abbrev pub InsertionInserts : Type 0
 InsertionInserts = (link_map : LinkMap) (q : ℕ) (u v : Option ℕ) → link_map q ≡ None → Inserts link_map (with_insertion link_map q u v) q u v
+
+-- A link inserted directly after a, or directly before it, goes into the chain of a.
+abbrev pub InsertionGrowsTheChain : Type 0
+InsertionGrowsTheChain = (old new : LinkMap) (a q : ℕ)
+    → (Inserts old new q (Some a) (next_of old a) → GrowsChainsOf old new q a) × (Inserts old new q (prev_of old a) (Some a) → GrowsChainsOf old new q a)
 
 -- `Inserts` gives exactly the chains of the insertion.
 abbrev pub InsertionIsDetermined : Type 0

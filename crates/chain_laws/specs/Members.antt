@@ -55,6 +55,10 @@ ChainsShareEach = (link_map : LinkMap) (c other : Chain) (i j : ℕ) → IsChain
 abbrev pub RotationsHaveTheSame : Type 0
 RotationsHaveTheSame = (c other : Chain) (i : ℕ) → IsRotation c other → IsMember (items c) i ↔ IsMember (items other) i
 
+-- A rotation of a chain is as long as the chain.
+abbrev pub RotationsAreAsLong : Type 0
+RotationsAreAsLong = (c other : Chain) → IsRotation c other → length (items other) ≡ length (items c)
+
 -- The items of all chains are the items of each of them.
 abbrev pub MemberInAll : Type 0
 MemberInAll = (chains : List Chain) (i : ℕ) → IsMember (all_items chains) i ↔ ((c : Chain) × HasChain chains c × IsMember (items c) i)
@@ -75,6 +79,7 @@ SharedMemberLaws = record {
   together : NeighborsShareAChain;
   each : ChainsShareEach;
   rotated : RotationsHaveTheSame;
+  as_long : RotationsAreAsLong;
   in_all : MemberInAll;
 }
 
@@ -91,6 +96,10 @@ MemberInRotation = (xs ys : List ℕ) (i : ℕ) → IsMember (xs ++ ys) i ↔ Is
 -- x in the middle adds only x to the items.
 abbrev pub MemberInMiddle : Type 0
 MemberInMiddle = (xs ys : List ℕ) (x i : ℕ) → IsMember (xs ++ x ∷ ys) i ↔ ((i ≡ x) ⊎ IsMember (xs ++ ys) i)
+
+-- x, inserted after a, adds only x to the items.
+abbrev pub MemberAfterItem : Type 0
+MemberAfterItem = (xs ys : List ℕ) (a x i : ℕ) → IsMember (xs ++ a ∷ x ∷ ys) i ↔ ((i ≡ x) ⊎ IsMember (xs ++ a ∷ ys) i)
 
 -- A list has i exactly if it is some items, i, and some items.
 abbrev pub MembersSplitAList : Type 0
@@ -110,6 +119,7 @@ ListMemberLaws = record {
   in_join : MemberInJoin;
   in_turn : MemberInRotation;
   in_middle : MemberInMiddle;
+  after_item : MemberAfterItem;
   written : MembersSplitAList;
   decided : MembershipIsDecided;
   filled : MemberIsFilled;
@@ -135,6 +145,11 @@ OnceAtOnePlace = (before after others rest : List ℕ) (i : ℕ) → AreDistinct
 -- A list without repetition is no longer than one with all its items.
 abbrev pub OnceIsNoLonger : Type 0
 OnceIsNoLonger = (xs ys : List ℕ) → AreDistinct xs → ((i : ℕ) → IsMember xs i → IsMember ys i) → length xs ≤ length ys
+
+-- Distinct indexes with links are at most as many as all indexes with links.
+abbrev pub DistinctLinksFit : Type 0
+DistinctLinksFit = (link_map : LinkMap) (all xs : List ℕ) → ((i : ℕ) → HasLink link_map i → IsMember all i) → AreDistinct xs → ((i : ℕ) → IsMember xs i → HasLink link_map i)
+    → length xs ≤ length all
 
 -- When a list has no repetition, and what follows.
 abbrev pub DistinctItemLaws : Type 0

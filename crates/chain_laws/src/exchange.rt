@@ -1,6 +1,6 @@
 //! Laws of exchanges of what follows two links.
 
-ghost use Rattle.chain_laws.specs.Exchanges.{ExchangeAgrees, ExchangeInPairs, ExchangeExchanges, ExchangeSplitsACycle, ExchangeMergesCycles};
+ghost use Rattle.chain_laws.specs.Exchanges.{ExchangeAgrees, ExchangeInPairs, ExchangeExchanges, ExchangeSplitsACycle, ExchangeMergesCycles, MergedCycleHasBoth};
 ghost use Rattle.chain_laws.specs.Exchanges.{ExchangeIsDetermined, ExchangeIsDeterminedByPairs, ExchangeTwiceRestores, ExchangeWithItselfKeeps, ExchangeIsMutual};
 
 /// States that an exchange keeps the arena well linked.
@@ -23,6 +23,11 @@ pub fn exchange_exchanges()
 /// States that an exchange splits one cyclic chain or merges two, wherever they are written from.
 pub fn exchange_of_cycles()
     ensures { ExchangeSplitsACycle × ExchangeMergesCycles }
+{}
+
+/// States that the chain merged from two cyclic ones has the links of both and no others.
+pub fn merged_cycle_has_both()
+    ensures { MergedCycleHasBoth }
 {}
 
 /// States that `Exchanges`, or `ExchangesPairs` with a well-linked result, gives exactly the chains

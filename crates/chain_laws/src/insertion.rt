@@ -1,6 +1,6 @@
 //! Laws of insertions of any kind.
 
-ghost use Rattle.chain_laws.specs.Insertions.{KindGivesAPosition, InsertionAgrees, InsertionInPairs, InsertionInserts, InsertionIsDetermined, InsertionIsDeterminedByPairs, RemovalOfInsertedRestores};
+ghost use Rattle.chain_laws.specs.Insertions.{KindGivesAPosition, InsertionAgrees, InsertionInPairs, InsertionInserts, InsertionGrowsTheChain, InsertionIsDetermined, InsertionIsDeterminedByPairs, RemovalOfInsertedRestores};
 
 /// States that a kind whose requirements hold gives an insertion position.
 pub fn kind_gives_a_position<P, I>()
@@ -21,6 +21,11 @@ pub fn insertion_in_pairs()
 /// stay.
 pub fn insertion_inserts()
     ensures { InsertionInserts }
+{}
+
+/// States that the chain of the link beside a new one has the links that it had and the new one.
+pub fn insertion_grows_the_chain()
+    ensures { InsertionGrowsTheChain }
 {}
 
 /// States that `Inserts`, or `InsertsPairs` with a well-linked result, gives exactly the chains of

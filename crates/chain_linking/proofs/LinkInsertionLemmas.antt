@@ -16,7 +16,8 @@ use Rattle.arena_traits.specs.Arena.{Arena, entry_at, next_index, insert_next, I
 use Rattle.chain_links.specs.ChainArena.{LinkView, lone, new_link, with_links_to, insert_lone, insert_between, link_map, relink, with_link_map, interlinks_of}
 use Rattle.chain_links.proofs.LinkStateLemmas.{is_relinked}
 use Rattle.chain_linking.proofs.NeighborLemmas.{if_each}
-use Rattle.chain_links.proofs.ArenaInsertionLemmas.{link_map-next, AreFree, slot_at-filled, length-filled, listed-links_view, links_view-insert_next}
+use Rattle.chain_links.proofs.ArenaInsertionLemmas.{link_map-next, listed-links_view, links_view-insert_next}
+use Rattle.arena_traits.proofs.InsertionLemmas.{AreFree, slot_at-filled, length-filled}
 use Rattle.chain_linking.proofs.LinkWriteLemmas.{relink-own, FitsLinks, link_map-with_link_map, with_link_map-again}
 use Rattle.chain_links.proofs.MappedArenaLemmas.{is_some-map}
 

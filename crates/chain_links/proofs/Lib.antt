@@ -3,3 +3,4 @@ pub mod MappedArenaLemmas
 pub mod LinkStateLemmas
 pub mod RestLemmas
 pub mod CallEffectLemmas
+pub mod OccupiedIndexLemmas

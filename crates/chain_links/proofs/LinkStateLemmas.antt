@@ -1,21 +1,17 @@
 -- The state of a chain arena, entry by entry.
 use Rattle.std.proofs.Common.{◌≡◌, ℕ, zero, suc, ◌+◌, List, [], ◌∷◌, length, true, false, Option, None, Some, refl, ap, sym, ◌∙◌, arith}
 use Rattle.std.specs.Prelude.{slice_index_or, slice_set, ◌==◌, if◌then◌else◌}
-use Rattle.std.proofs.Math.Dec.{eqb-suc-suc}
 use Rattle.std.specs.Option.{option_map}
 use Rattle.std.proofs.lemmas.List.{ext_get_or}
 use Rattle.chain_laws.specs.Chains.{LinkMap}
 use Rattle.chain_laws.proofs.InterlinkLemmas.Inverses.{if_same, if_other}
 use Rattle.arena_traits.proofs.ArenaViewLemmas.{length-with_slot}
+use Rattle.arena_traits.proofs.InsertionLemmas.{if_suc}
 use Rattle.chain_links.proofs.MappedArenaLemmas.{entry_at-with_each, length-with_each}
 use Rattle.chain_links.specs.declared.links.RawLink.{RawLink}
 use Rattle.chain_links.specs.Links.{link_view, pair_view, links_view}
 use Rattle.arena_traits.specs.Arena.{Arena, slot_at, with_slot, entry_at, with_value}
 use Rattle.chain_links.specs.ChainArena.{LinkView, relink, relink_from, with_link_map}
-
--- Numbers are equal exactly if their successors are.
-pub if_suc : {A : Type 0} (j k : ℕ) (x y : A) → (if j == k then x else y) ≡ (if suc j == suc k then x else y)
-if_suc j k x y = ap (λ b. if b then x else y) (sym (eqb-suc-suc j k))
 
 -- Lookup in a list with one item changed.
 slice_index_or-slice_set : {X : Type 0} (xs : List (Option X)) (k j : ℕ) (f : Option X → Option X) → f None ≡ None

@@ -161,12 +161,6 @@ module _ {Gen T : Type 0} (entry : ℕ → Option (Gen × T)) where
     pub valid : All (λ p. IsValid entry p) order
     pub apart : AreApart (map (λ p. p.0) order)
 
-  -- The free index p has the value t, and every other entry is unchanged.
-  pub record IsInserted (after : ℕ → Option (Gen × T)) (p : ℕ × Gen) (t : T) : Type 0 where
-    pub free : entry p.0 ≡ None
-    pub stored : after p.0 ≡ Some (p.1, t)
-    pub rest : (i : ℕ) → i ≢ p.0 → after i ≡ entry i
-
 module _ {Gen T : Type 0} (entry : ℕ → Option (Gen × T)) (interlinks : LinkMap) where
   -- The link at an index.
   abbrev pub link_at : ℕ → Option (Gen × LinkView T)

@@ -10,10 +10,9 @@ use Rattle.arena_core.specs.declared.errors.ReallocationError.TheVariants as ref
 use Rattle.chain_laws.specs.Chains.{LinkMap}
 use Rattle.chain_laws.specs.Insertions.{MayInsert, link_before, link_after, with_insertion, InsertsPairs, Inserts}
 use Rattle.chain_laws.specs.declared.insert_kind.InsertKind.{InsertKind}
-use Rattle.arena_traits.specs.Arena.{IsValid}
+use Rattle.arena_traits.specs.Arena.{IsValid, IsInserted}
 use Rattle.arena_traits.specs.Entries.{ArenaView, ArenaState, HasFreeCapacity, next_slot, with_next_filled}
 use Rattle.arena_traits.specs.Growth.{IsGrowthResult, IsFull, RefusesOneMore, GrowsForOneMore}
-use Rattle.chain_links.specs.ChainArena.{IsInserted}
 
 -- Why an insertion is refused. `may`: the requirement of its kind is met. `refuses`: a growth fails
 -- for that reason.

@@ -15,20 +15,13 @@ use Rattle.arena_traits.specs.Entries.{found, first_key, index_of, AscendsFrom}
 use Rattle.arena_traits.specs.Advancers.{entries_at_or_above, IsAdvance}
 use Rattle.arena_traits.specs.declared.cursor.Cursor.{Cursor}
 use Rattle.arena_traits.specs.declared.cursor.Cursor.TheVariants.{Up}
+use Rattle.chain_links.proofs.OccupiedIndexLemmas.{found_has}
 
 module _ {Gen T : Type 0} where
   -- Entries that rise from an index are at or above it.
   pub entries_at_or_above-ascends : (i j : ℕ) (es : List ((ℕ × Gen) × T)) → i ≤ j → AscendsFrom j es → entries_at_or_above i es ≡ es
   entries_at_or_above-ascends i j [] below ascends = refl
   entries_at_or_above-ascends i j (e ∷ es) below ascends = ap (λ b. cond b (e ∷ es) (entries_at_or_above i es)) (le-leb i e.0.0 (omega (arith, below, ascends.0)))
-
-  -- A found index is that of an entry.
-  pub found_has : (i : ℕ) (es : List ((ℕ × Gen) × T)) → is_some (found i es) ≡ true → IsMember (map index_of es) i
-  found_has i [] some = absurd (let h = some in cc)
-  found_has i (e ∷ es) some = by (e.0.0 == i) refl some (found_has i es) where
-    by : (b : Bool) → (e.0.0 == i) ≡ b → is_some (cond b (Some (e.0.1, e.1)) (found i es)) ≡ true → (is_some (found i es) ≡ true → IsMember (map index_of es) i) → IsMember (map index_of (e ∷ es)) i
-    by true same some rest = inl (eqb-true e.0.0 i same)
-    by false other some rest = inr (rest some)
 
   pub has_within : (greatest i : ℕ) (es : List ((ℕ × Gen) × T)) → AllByRecursion (λ e. IsWithin greatest (index_of e)) es → IsMember (map index_of es) i → IsWithin greatest i
   has_within greatest i [] within has = absurd has

@@ -1,8 +1,8 @@
 -- Lemmas on the items of a chain and their neighbors.
-use Rattle.std.proofs.Common.{◌≡◌, ℕ, List, [], ◌∷◌, ◌++◌, Option, None, Some, refl, sym, ap, ◌∙◌, subst, subst₂}
+use Rattle.std.proofs.Common.{◌≡◌, ℕ, List, [], ◌∷◌, ◌++◌, length, length-append, arith, Option, None, Some, refl, sym, ap, ◌∙◌, subst, subst₂}
 use Rattle.chain_laws.specs.Chains.{linear, cyclic, IsMember, IsChain, AreLinked, first_or, last_or, prev_in, next_in, prev_of, next_of}
 use Rattle.chain_laws.specs.Members.{MembersAreLinks, FreeIsInNoChain, MembersNameNeighbors, PlacesInALine, PlacesInARing, LinesEnd, RingsAreCyclic}
-use Rattle.chain_laws.specs.Members.{NeighborsShareAChain, ChainsShareEach, RotationsHaveTheSame, MemberInAll}
+use Rattle.chain_laws.specs.Members.{NeighborsShareAChain, ChainsShareEach, RotationsHaveTheSame, RotationsAreAsLong, MemberInAll}
 use Rattle.chain_laws.proofs.ListLemmas.Members.{IsMember-rotated, IsMember-written, first_or-append, last_or-append}
 use Rattle.chain_laws.proofs.InterlinkLemmas.Inverses.{one_some}
 use Rattle.chain_laws.proofs.ChainLemmas.LinkedLists.{link, AreLinked-first, AreLinked-last}
@@ -86,6 +86,13 @@ rotations_have_the_same (cyclic xs) (cyclic ys) i same = (
   λ has. subst (λ (zs : List ℕ). IsMember zs i) (sym same.3) (IsMember-rotated same.0 same.1 i (subst (λ (zs : List ℕ). IsMember zs i) same.2 has)),
   λ has. subst (λ (zs : List ℕ). IsMember zs i) (sym same.2) (IsMember-rotated same.1 same.0 i (subst (λ (zs : List ℕ). IsMember zs i) same.3 has)),
 )
+
+-- A rotation is as long.
+pub rotations_are_as_long : RotationsAreAsLong
+rotations_are_as_long (linear xs) (linear ys) same = sym (ap length same)
+rotations_are_as_long (linear xs) (cyclic ys) same = absurd same
+rotations_are_as_long (cyclic xs) (linear ys) same = absurd same
+rotations_are_as_long (cyclic xs) (cyclic ys) same = omega (arith, ap length same.2, ap length same.3, length-append same.0 same.1, length-append same.1 same.0)
 
 -- The items of all chains are the items of each.
 pub member_in_all : MemberInAll

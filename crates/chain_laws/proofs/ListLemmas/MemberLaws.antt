@@ -1,7 +1,7 @@
 -- Laws of the members of lists, as equivalences.
 use Rattle.std.proofs.Common.{ℕ, inl, inr, ⊎_elim, List, [], ◌∷◌, sym, subst}
 use Rattle.chain_laws.specs.Chains.{IsMember}
-use Rattle.chain_laws.specs.Members.{MemberInJoin, MemberInRotation, MemberInMiddle, MembersSplitAList, MemberIsFilled, OnceInJoin, OnceInRotation, OnceInMiddle}
+use Rattle.chain_laws.specs.Members.{MemberInJoin, MemberInRotation, MemberInMiddle, MemberAfterItem, MembersSplitAList, MemberIsFilled, OnceInJoin, OnceInRotation, OnceInMiddle}
 use Rattle.chain_laws.proofs.ListLemmas.Members.{IsMember-left, IsMember-right, IsMember-parts, IsMember-middle, IsMember-rotated, IsMember-written, IsMember-filled, filled-IsMember}
 use Rattle.chain_laws.proofs.ListLemmas.Members.{AreDistinct-left, AreDistinct-right, AreDistinct-apart, AreDistinct-append, AreDistinct-rotated}
 
@@ -18,6 +18,18 @@ pub member_in_middle : MemberInMiddle
 member_in_middle [] ys x i = (⊎_elim (λ e. inl (sym e)) (λ h. inr h), ⊎_elim (λ e. inl (sym e)) (λ h. inr h))
 member_in_middle (y ∷ xs) ys x i =
     let rest = member_in_middle xs ys x i in (
+      ⊎_elim (λ e. inr (inl e)) (λ h. ⊎_elim (λ e. inl e) (λ k. inr (inr k)) (rest.0 h)),
+      ⊎_elim (λ e. inr (rest.1 (inl e))) (⊎_elim (λ e. inl e) (λ h. inr (rest.1 (inr h)))),
+    )
+
+-- An item inserted after another one.
+pub member_after_item : MemberAfterItem
+member_after_item [] ys a x i = (
+  ⊎_elim (λ e. inr (inl e)) (⊎_elim (λ e. inl (sym e)) (λ h. inr (inr h))),
+  ⊎_elim (λ e. inr (inl (sym e))) (⊎_elim (λ e. inl e) (λ h. inr (inr h))),
+)
+member_after_item (y ∷ xs) ys a x i =
+    let rest = member_after_item xs ys a x i in (
       ⊎_elim (λ e. inr (inl e)) (λ h. ⊎_elim (λ e. inl e) (λ k. inr (inr k)) (rest.0 h)),
       ⊎_elim (λ e. inr (rest.1 (inl e))) (⊎_elim (λ e. inl e) (λ h. inr (rest.1 (inr h)))),
     )
