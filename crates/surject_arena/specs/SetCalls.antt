@@ -1,5 +1,5 @@
 -- The outcomes of calls on a surjection arena, by the cases of their results.
-use Rattle.std.specs.Prelude.{◌≡◌, ◌≢◌, ◌↔◌, ℕ, ◌+◌, ◌-◌, ◌<◌, ◌≤◌, ◌⊎◌, List, map, length, Bool, IsSome, IfSome, Option, None, Some, Result, Ok, Err}
+use Rattle.std.specs.Prelude.{◌≡◌, ◌≢◌, ◌↔◌, ℕ, ◌+◌, ◌-◌, ◌<◌, ◌≤◌, ◌⊎◌, ◌^◌, min, List, map, length, Bool, IsSome, IfSome, Option, None, Some, Result, Ok, Err}
 use Rattle.std.specs.Option.{option_map}
 use Rattle.std.specs.Borrow.{Bor}
 use Rattle.arena_core.specs.SlotStack.{IsWithinMaximum}
@@ -35,6 +35,10 @@ module _ {Gen K V : Type 0} where
     pub redirected : s.redirected ≡ 0
 
   module _ (old new : Surjection Gen K V) where
+    -- Only the capacity for keys may have grown.
+    abbrev pub GrowsKeys : Type 0
+    GrowsKeys = (new ≡ record old { keys = with_capacity old.keys new.keys.capacity }) × (old.keys.capacity ≤ new.keys.capacity)
+
     -- The key k at p is in a new set, which has the value t.
     pub record IsSetAdded (k : K) (t : V) (p : ℕ × Gen) : Type 0 where
       pub set : ℕ × Gen
@@ -68,7 +72,7 @@ module _ {Gen K V : Type 0} where
       pub valued : HasValue old to value size
       pub dropped : HasValue old from t more
       pub values : new.values ≡ view_after_removal following (view_with_value old.values to.0 (value, size + more)) from.0
-      pub redirected : new.redirected ≡ old.redirected + more
+      pub redirected : new.redirected ≡ min (old.redirected + more) (2 ^ 128 - 1)
 
     -- The set v of p and the set w of q are united, and r is the pointer of the two whose set had
     -- the value t. The larger set keeps its value, or v if both have as many keys.

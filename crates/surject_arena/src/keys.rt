@@ -69,7 +69,8 @@ pub(crate) fn redirect<P: PtrKey, K: Drop, A: ChainArenaTrait<P, Member<P, K>>>(
     ensures indexes { map index_of (A.view keys.new).entries
         ≡ map index_of (A.view keys.old).entries }
     ensures view { A.view keys.new ≡ record (A.view keys.old) {
-        entries = (A.view keys.new).entries } }
+      entries = (A.view keys.new).entries;
+    } }
     ensures links { A.interlinks keys.new ≡ A.interlinks keys.old }
 {
     advancer_passes_the_walk(&*keys, q);
