@@ -7,3 +7,4 @@ mod RedirectLemmas
 mod CallLemmas
 mod UnionLemmas
 mod KeySetLemmas
+mod HistoryLemmas

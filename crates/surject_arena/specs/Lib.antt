@@ -1,3 +1,4 @@
+pub mod Histories
 pub mod KeySets
 pub mod Partitions
 pub mod SetCalls

@@ -1,7 +1,7 @@
 -- Keys in sets: each set is one cyclic chain of keys, and its value counts them.
 --
 -- Inside the crate only. A set is named by the index and generation of its value.
-use Rattle.std.specs.Prelude.{◌≡◌, ◌≢◌, ◌↔◌, ℕ, List, length, map, Option, None, Some}
+use Rattle.std.specs.Prelude.{◌≡◌, ◌↔◌, ℕ, List, length, map, Option, Some}
 use Rattle.std.specs.Option.{option_map}
 use Rattle.chain_laws.specs.Chains.{LinkMap, cyclic, IsChain, IsMember}
 use Rattle.chain_laws.specs.Walks.{IsWalk}

@@ -1,5 +1,5 @@
 -- The outcomes of calls on a surjection arena, by the cases of their results.
-use Rattle.std.specs.Prelude.{◌≡◌, ◌≢◌, ◌↔◌, ℕ, ◌+◌, ◌-◌, ◌<◌, ◌≤◌, ◌⊎◌, ◌^◌, min, List, map, length, Bool, IsSome, IfSome, Option, None, Some, Result, Ok, Err}
+use Rattle.std.specs.Prelude.{◌≡◌, ◌≢◌, ◌↔◌, ℕ, ◌+◌, ◌-◌, ◌<◌, ◌≤◌, ◌⊎◌, ◌^◌, min, map, IsSome, IfSome, Option, None, Some, Result, Ok, Err}
 use Rattle.std.specs.Option.{option_map}
 use Rattle.std.specs.Borrow.{Bor}
 use Rattle.arena_core.specs.SlotStack.{IsWithinMaximum}
@@ -14,7 +14,7 @@ use Rattle.arena_traits.specs.CallOutcomes.{ReportsOverflow}
 use Rattle.arena_traits.specs.Entries.{ArenaView, IsNew, index_of, count, with_capacity, next_slot, with_next_filled, view_with_value, view_after_removal, view_after_clear}
 use Rattle.arena_traits.specs.Growth.{IsGrowthResult, RefusesOneMore, GrowsForOneMore}
 use Rattle.chain_links.specs.Insertions.{IsInsertionResult}
-use Rattle.surject_arena.specs.Surjections.{Surjection, entry_in, key_at, set_at, IsKey, IsKeyOf, HasValue, AreKeysOf}
+use Rattle.surject_arena.specs.Surjections.{Surjection, entry_in, key_at, set_at, IsKey, IsKeyOf, HasValue}
 
 -- The value x is inserted at p: at the next slot, and with the counter as its generation, if these
 -- are known. The counter is unchanged.

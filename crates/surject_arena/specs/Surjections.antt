@@ -1,5 +1,5 @@
 -- A surjection arena in contracts: keys in sets, and one value for each set.
-use Rattle.std.specs.Prelude.{◌≡◌, ◌↔◌, ℕ, List, map, length, Option, None, Some}
+use Rattle.std.specs.Prelude.{◌≡◌, ◌↔◌, ℕ, List, map, length, Option, Some}
 use Rattle.std.specs.Option.{option_map}
 use Rattle.chain_laws.specs.Chains.{IsMember, AreDistinct}
 use Rattle.arena_traits.specs.Arena.{IsValid}

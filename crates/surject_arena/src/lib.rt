@@ -6,12 +6,14 @@
 //! and taken apart.
 #![tactic(auto)]
 
+mod histories;
 mod key_set;
 mod keys;
 mod members;
 mod surject;
 mod values;
 
+pub use histories::sets_are_the_classes;
 pub use key_set::KeySet;
 pub use members::{Counted, Member};
 pub use surject::SurjectArena;

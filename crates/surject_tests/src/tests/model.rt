@@ -149,6 +149,9 @@ fn remove<A: ChainArenaTrait<ToolPtr, Key> + Drop, B: PlainArenaTrait<ToolPtr, V
     model: &mut Model,
     k: usize,
 ) -> bool {
+    if k >= model.entries.len() {
+        return false;
+    }
     let e = model.entries.swap_remove(k);
     let last = size_of(model.entries.as_slice(), e.set) == 0;
     match sets.remove_key(e.p) {

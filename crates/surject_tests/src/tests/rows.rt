@@ -219,9 +219,9 @@ pub fn first_wrong<
     B: PlainArenaTrait<ToolPtr, Value> + Drop,
 >(alloc: Global, sets: &mut Sets<A, B>) -> Result<usize, AllocError> {
     let mut ptrs: Vec<ToolPtr> = Vec::new(alloc);
-    let mut n = 0;
+    let mut n: usize = 0;
     for (op, a, b, wanted) in ROWS {
-        n += 1;
+        n = n.wrapping_add(1);
         let (p, q) = (at(ptrs.as_slice(), a), at(ptrs.as_slice(), b));
         let (got, inserted) = respond(sets, op, p, q, (a, b));
         if got != wanted {
