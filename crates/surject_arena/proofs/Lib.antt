@@ -1,0 +1,10 @@
+mod OptionLemmas
+mod ViewLemmas
+mod PartitionLemmas
+mod SetReadLemmas
+mod SetChangeLemmas
+mod RedirectLemmas
+mod CallLemmas
+mod UnionLemmas
+mod KeySetLemmas
+mod HistoryLemmas

@@ -1,0 +1,50 @@
+-- Lists of changes that only add keys and unite sets, and the sets that they make.
+use Rattle.std.specs.Prelude.{◌≡◌, ◌↔◌, ◌⊎◌, ℕ, List, [], ◌∷◌}
+use Rattle.surject_arena.specs.Surjections.{Surjection, IsKey, AreInOneSet, IsSurjection}
+use Rattle.surject_arena.specs.SetCalls.{GrowsKeys, IsSetAdded, IsKeyAdded, AreUnited}
+
+-- A change, by the pointers of its keys: a key comes into a set of its own, or beside another key;
+-- the sets of two keys become one; or only a capacity grows.
+pub data Change (Gen : Type 0) : Type 0 where
+  starts_set : ℕ × Gen → Change Gen
+  adds_key : ℕ × Gen → ℕ × Gen → Change Gen
+  unites : ℕ × Gen → ℕ × Gen → Change Gen
+  grows : Change Gen
+
+module _ {Gen K V : Type 0} (following : Gen → Gen) where
+  -- What a call states where it succeeded.
+  abbrev pub Makes : Surjection Gen K V → Change Gen → Surjection Gen K V → Type 0
+  Makes old (starts_set p) new = (k : K) × (t : V) × IsSetAdded old new k t p
+  Makes old (adds_key p q) new = (k : K) × IsKeyAdded old new p k q
+  Makes old (unites p q) new = (t : V) × (r : ℕ × Gen) × AreUnited old new following p q t r
+  Makes old grows new = GrowsKeys old new
+
+  -- Changes one after another. Each begins with sets that have values, as those of every arena do.
+  abbrev pub History : Surjection Gen K V → List (Change Gen) → Surjection Gen K V → Type 0
+  History old [] new = new ≡ old
+  History old (change ∷ changes) new = IsSurjection old × (mid : Surjection Gen K V) × Makes old change mid × History mid changes new
+
+module _ {Gen : Type 0} where
+  -- The pairs of keys that changes put into one set.
+  abbrev pub pairs_of : List (Change Gen) → List ((ℕ × Gen) × (ℕ × Gen))
+  pairs_of [] = []
+  pairs_of (starts_set p ∷ changes) = pairs_of changes
+  pairs_of (adds_key p q ∷ changes) = (p, q) ∷ pairs_of changes
+  pairs_of (unites p q ∷ changes) = (p, q) ∷ pairs_of changes
+  pairs_of (grows ∷ changes) = pairs_of changes
+
+  abbrev pub HasPair : List ((ℕ × Gen) × (ℕ × Gen)) → ℕ × Gen → ℕ × Gen → Type 0
+  HasPair [] p q = ⊥
+  HasPair (pair ∷ pairs) p q = (pair ≡ (p, q)) ⊎ HasPair pairs p q
+
+-- The least equivalence that has these pairs.
+pub data AreEquated {Gen : Type 0} (pairs : List ((ℕ × Gen) × (ℕ × Gen))) : ℕ × Gen → ℕ × Gen → Type 0 where
+  itself : (p : ℕ × Gen) → AreEquated pairs p p
+  paired : (p q : ℕ × Gen) → HasPair pairs p q → AreEquated pairs p q
+  turned : (p q : ℕ × Gen) → AreEquated pairs p q → AreEquated pairs q p
+  chained : (p q r : ℕ × Gen) → AreEquated pairs p q → AreEquated pairs q r → AreEquated pairs p r
+
+-- After such changes of an arena without keys, keys are in one set exactly if the pairs equate them.
+abbrev pub SetsAreTheClasses : (Gen K V : Type 0) → Type 0
+SetsAreTheClasses Gen K V = (following : Gen → Gen) (old new : Surjection Gen K V) (changes : List (Change Gen)) → old.keys.entries ≡ [] → History following old changes new → IsSurjection new
+    → (p q : ℕ × Gen) → AreInOneSet new p q ↔ (IsKey new p × IsKey new q × AreEquated (pairs_of changes) p q)

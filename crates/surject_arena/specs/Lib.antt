@@ -1,0 +1,5 @@
+pub mod Histories
+pub mod KeySets
+pub mod Partitions
+pub mod SetCalls
+pub mod Surjections
