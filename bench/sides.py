@@ -40,35 +40,51 @@ OURS = {
 
 def make_workspace(workspace, names):
     """Writes a workspace with programs of OURS and copies of built crates of this repository."""
-    below = crates_below("chain_arena")
-    run = subprocess.run(["rt", "lib"], cwd=f"{ROOT}/crates/chain_arena", stdin=subprocess.DEVNULL, capture_output=True, text=True)
-    if run.returncode:
-        sys.exit(f"chain_arena: rt lib exited with status {run.returncode}\n{run.stdout[-2000:]}{run.stderr[-2000:]}")
+    lines = [f"{name}: arena_base arena_ptr chain_arena" for name in names]
+    copy_crates(workspace, ["chain_arena"], lines)
+    for name in names:
+        write_program(f"{workspace}/crates/{name}", *OURS[name][2:])
+
+
+def copy_crates(workspace, crates, programs):
+    """Writes a workspace with copies of crates of this repository, once built, and with these lines for programs."""
+    below = {}
+    for crate in crates:
+        below.update(crates_below(crate))
+        run = subprocess.run(["rt", "lib"], cwd=f"{ROOT}/crates/{crate}", stdin=subprocess.DEVNULL, capture_output=True, text=True)
+        if run.returncode:
+            sys.exit(f"{crate}: rt lib exited with status {run.returncode}\n{run.stdout[-2000:]}{run.stderr[-2000:]}")
     for crate in below:
         for part in ("src", "specs", "proofs", "out/rlib"):
             copy = f"{workspace}/crates/{crate}/{part}"
             shutil.rmtree(copy, ignore_errors=True)
             shutil.copytree(f"{ROOT}/crates/{crate}/{part}", copy)
     with open(f"{workspace}/crates.txt", "w", encoding="utf-8") as file:
-        file.write("\n".join([*below.values(), *(f"{name}: arena_base arena_ptr chain_arena" for name in names), ""]))
+        file.write("\n".join([*below.values(), *programs, ""]))
     shutil.copyfile(f"{ROOT}/HANDLES", f"{workspace}/HANDLES")
-    for name in names:
-        write_program(f"{workspace}/crates/{name}", *OURS[name][2:])
 
 
 def write_program(folder, pointer, value):
     """Writes the program of bench/ for a type of pointers and one of values."""
+    types = {"pub type Ptr = arena_ptr::ToolPtr;": f"pub type Ptr = arena_ptr::{pointer};", "pub type Value = u32;": f"pub type Value = {value};"}
+    write_sources(folder, f"{ROOT}/bench", types)
+
+
+def write_sources(folder, sources, replaced):
+    """Writes a crate with the `.rt.txt` files of a folder, after replacements in them, and without proofs by hand."""
     shutil.rmtree(f"{folder}/src", ignore_errors=True)
     for part in ("src", "specs", "proofs"):
         os.makedirs(f"{folder}/{part}", exist_ok=True)
     for part in ("specs", "proofs"):
         open(f"{folder}/{part}/Lib.antt", "w", encoding="utf-8").close()
-    for name in os.listdir(f"{ROOT}/bench"):
+    for name in os.listdir(sources):
         if name.endswith(".rt.txt"):
-            with open(f"{ROOT}/bench/{name}", encoding="utf-8") as file:
-                text = file.read().replace("pub type Ptr = arena_ptr::ToolPtr;", f"pub type Ptr = arena_ptr::{pointer};")
+            with open(f"{sources}/{name}", encoding="utf-8") as file:
+                text = file.read()
+            for old, new in replaced.items():
+                text = text.replace(old, new)
             with open(f"{folder}/src/{name[:-len('.txt')]}", "w", encoding="utf-8") as file:
-                file.write(text.replace("pub type Value = u32;", f"pub type Value = {value};"))
+                file.write(text)
 
 
 def build_proved(folder, *arguments):
@@ -132,13 +148,20 @@ def rust_sides(options):
     return sides + slotmap, responses, notes
 
 
+def debian_options():
+    """Returns the options by which cargo takes crates from Debian's packages, if they are on this machine."""
+    if not os.path.isdir(DEBIAN):
+        return []
+    return ["--config", 'source.crates-io.replace-with="debian"', "--config", f'source.debian.directory="{DEBIAN}"']
+
+
 def slotmap_sides(cargo_options):
     """Returns the side over a SlotMap, if it can be built, and a note if not.
 
     Offline, the sources of slotmap are those of Debian's package librust-slotmap-dev.
     """
-    if cargo_options and os.path.isdir(DEBIAN):
-        cargo_options = [*cargo_options, "--config", 'source.crates-io.replace-with="debian"', "--config", f'source.debian.directory="{DEBIAN}"']
+    if cargo_options:
+        cargo_options = [*cargo_options, *debian_options()]
     folder, error = cargo_build(f"{ROOT}/compare/slotmap_links", "release", *cargo_options)
     if folder is None:
         return [], [f"slotmap is not available ({error}): it is left out."]
