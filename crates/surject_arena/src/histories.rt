@@ -1,5 +1,5 @@
 // Laws of lists of calls.
-ghost use Rattle.surject_arena.specs.Histories.{SetsAreTheClasses};
+ghost use Rattle.surject_arena.specs.Histories.{SetsAreTheClasses, RedirectsFew};
 
 /// States that after any insertions and unions, keys are in one set exactly if they are equal by the
 /// pairs that were united, or inserted beside one another.
@@ -7,4 +7,12 @@ ghost use Rattle.surject_arena.specs.Histories.{SetsAreTheClasses};
 /// The least equivalence with these pairs is `AreEquated`. Has no effect.
 pub fn sets_are_the_classes<Gen, K, V>()
     ensures { SetsAreTheClasses Gen K V }
+{}
+
+/// States that n insertions and any unions redirect at most n * log2(n) keys in all, log2(n) being
+/// rounded up.
+///
+/// A key is redirected only into a set at least twice as large. Has no effect.
+pub fn redirects_are_few<Gen, K, V>()
+    ensures { RedirectsFew Gen K V }
 {}
