@@ -11,9 +11,9 @@ use Rattle.surject_arena.proofs.OptionLemmas.{same_some, none_some}
 
 module _ {Gen X : Type 0} where
   -- The weights of all values together.
-  abbrev pub total : (X → ℕ) → List ((ℕ × Gen) × X) → ℕ
-  total weight [] = 0
-  total weight (e ∷ es) = weight e.1 + total weight es
+  abbrev pub total_weight : (X → ℕ) → List ((ℕ × Gen) × X) → ℕ
+  total_weight weight [] = 0
+  total_weight weight (e ∷ es) = weight e.1 + total_weight weight es
 
   -- Each index has one entry at most.
   abbrev pub AreOnce : List ((ℕ × Gen) × X) → Type 0
@@ -38,27 +38,27 @@ module _ {Gen X : Type 0} where
       by false is rest = ap suc (rest is)
 
   -- A removal takes the weight of its entry, and a write replaces it.
-  pub total-without : (weight : X → ℕ) (i : ℕ) (es : List ((ℕ × Gen) × X)) (x : Gen × X) → found i es ≡ Some x → total weight es ≡ weight x.1 + total weight (without_index i es)
-  total-without weight i [] x stored = absurd (cc)
-  total-without weight i (e ∷ es) x stored = by (e.0.0 == i) stored (total-without weight i es x)
+  pub weight-without : (weight : X → ℕ) (i : ℕ) (es : List ((ℕ × Gen) × X)) (x : Gen × X) → found i es ≡ Some x → total_weight weight es ≡ weight x.1 + total_weight weight (without_index i es)
+  weight-without weight i [] x stored = absurd (cc)
+  weight-without weight i (e ∷ es) x stored = by (e.0.0 == i) stored (weight-without weight i es x)
     where
-      by : (b : Bool) → cond b (Some (e.0.1, e.1)) (found i es) ≡ Some x → (found i es ≡ Some x → total weight es ≡ weight x.1 + total weight (without_index i es))
-          → weight e.1 + total weight es ≡ weight x.1 + total weight (cond b es (e ∷ without_index i es))
-      by true is rest = ap (λ (y : Gen × X). weight y.1 + total weight es) (same_some (e.0.1, e.1) x is)
+      by : (b : Bool) → cond b (Some (e.0.1, e.1)) (found i es) ≡ Some x → (found i es ≡ Some x → total_weight weight es ≡ weight x.1 + total_weight weight (without_index i es))
+          → weight e.1 + total_weight weight es ≡ weight x.1 + total_weight weight (cond b es (e ∷ without_index i es))
+      by true is rest = ap (λ (y : Gen × X). weight y.1 + total_weight weight es) (same_some (e.0.1, e.1) x is)
       by false is rest = omega (arith, rest is)
 
-  pub total-written : (weight : X → ℕ) (i : ℕ) (t : X) (es : List ((ℕ × Gen) × X)) (x : Gen × X) → found i es ≡ Some x → total weight (with_replacement i (valued t) es) + weight x.1 ≡ total weight es + weight t
-  total-written weight i t [] x stored = absurd (cc)
-  total-written weight i t (e ∷ es) x stored = by (e.0.0 == i) stored (total-written weight i t es x)
+  pub weight-written : (weight : X → ℕ) (i : ℕ) (t : X) (es : List ((ℕ × Gen) × X)) (x : Gen × X) → found i es ≡ Some x → total_weight weight (with_replacement i (valued t) es) + weight x.1 ≡ total_weight weight es + weight t
+  weight-written weight i t [] x stored = absurd (cc)
+  weight-written weight i t (e ∷ es) x stored = by (e.0.0 == i) stored (weight-written weight i t es x)
     where
-      by : (b : Bool) → cond b (Some (e.0.1, e.1)) (found i es) ≡ Some x → (found i es ≡ Some x → total weight (with_replacement i (valued t) es) + weight x.1 ≡ total weight es + weight t)
-          → total weight (cond b (((i, e.0.1), t) ∷ es) (e ∷ with_replacement i (valued t) es)) + weight x.1 ≡ (weight e.1 + total weight es) + weight t
+      by : (b : Bool) → cond b (Some (e.0.1, e.1)) (found i es) ≡ Some x → (found i es ≡ Some x → total_weight weight (with_replacement i (valued t) es) + weight x.1 ≡ total_weight weight es + weight t)
+          → total_weight weight (cond b (((i, e.0.1), t) ∷ es) (e ∷ with_replacement i (valued t) es)) + weight x.1 ≡ (weight e.1 + total_weight weight es) + weight t
       by true is rest = let same : weight e.1 ≡ weight x.1 = ap (λ (y : Gen × X). weight y.1) (same_some (e.0.1, e.1) x is) in omega (arith, same)
       by false is rest = omega (arith, rest is)
 
   -- An entry weighs no more than all.
-  pub weight_within : (weight : X → ℕ) (i : ℕ) (es : List ((ℕ × Gen) × X)) (x : Gen × X) → found i es ≡ Some x → weight x.1 ≤ total weight es
-  weight_within weight i es x stored = omega (arith, total-without weight i es x stored)
+  pub weight_within : (weight : X → ℕ) (i : ℕ) (es : List ((ℕ × Gen) × X)) (x : Gen × X) → found i es ≡ Some x → weight x.1 ≤ total_weight weight es
+  weight_within weight i es x stored = omega (arith, weight-without weight i es x stored)
 
   -- Removals and writes keep indexes distinct.
   pub once-without : (i : ℕ) (es : List ((ℕ × Gen) × X)) → AreOnce es → AreOnce (without_index i es)
@@ -90,14 +90,14 @@ module _ {Gen X : Type 0} where
 
   -- A list that is no longer than distinct entries, and has them all, has them only.
   same_entries : (weight : X → ℕ) (es fs : List ((ℕ × Gen) × X)) → AreOnce es → length fs ≤ length es → ((i : ℕ) (x : Gen × X) → found i es ≡ Some x → found i fs ≡ Some x)
-      → (total weight fs ≡ total weight es) × AreOnce fs × ((i : ℕ) → found i fs ≡ found i es)
+      → (total_weight weight fs ≡ total_weight weight es) × AreOnce fs × ((i : ℕ) → found i fs ≡ found i es)
   same_entries weight [] [] once short has = (refl, tt, λ i. refl)
   same_entries weight [] (f ∷ fs) once short has = absurd (omega (arith, short))
   same_entries weight (e ∷ es) fs once short has =
       let at = has e.0.0 (e.0.1, e.1) (at_first e e.0.0 es refl) in
       let longer = length-without e.0.0 fs (e.0.1, e.1) at in
       let rest = same_entries weight es (without_index e.0.0 fs) once.1 (omega (arith, short, longer)) has_rest in
-      (omega (arith, total-without weight e.0.0 fs (e.0.1, e.1) at, rest.0), once_with e.0.0 fs (rest.2 e.0.0 ∙ once.0) rest.1, λ i. by i at rest.2 (cases_eq e.0.0 i))
+      (omega (arith, weight-without weight e.0.0 fs (e.0.1, e.1) at, rest.0), once_with e.0.0 fs (rest.2 e.0.0 ∙ once.0) rest.1, λ i. by i at rest.2 (cases_eq e.0.0 i))
     where
       has_rest : (i : ℕ) (x : Gen × X) → found i es ≡ Some x → found i (without_index e.0.0 fs) ≡ Some x
       has_rest i x stored =
@@ -109,11 +109,11 @@ module _ {Gen X : Type 0} where
       by i at rest (inr other) = sym (found-kept i e.0.0 fs (λ same. other (sym same))) ∙ (rest i ∙ sym (past_first e i es other))
 
   -- An insertion adds its weight, and keeps indexes distinct.
-  pub total-added : (weight : X → ℕ) (old new : ArenaView Gen X) (t : X) (p : ℕ × Gen) → AreOnce old.entries → IsAdded old t p new → (total weight new.entries ≡ weight t + total weight old.entries) × AreOnce new.entries
-  total-added weight old new t p once added =
+  pub weight-added : (weight : X → ℕ) (old new : ArenaView Gen X) (t : X) (p : ℕ × Gen) → AreOnce old.entries → IsAdded old t p new → (total_weight weight new.entries ≡ weight t + total_weight weight old.entries) × AreOnce new.entries
+  weight-added weight old new t p once added =
       let longer = length-without p.0 new.entries (p.1, t) added.entries.stored in
       let rest = same_entries weight old.entries (without_index p.0 new.entries) once (omega (arith, longer, added.more)) has in
-      (omega (arith, total-without weight p.0 new.entries (p.1, t) added.entries.stored, rest.0), once_with p.0 new.entries (rest.2 p.0 ∙ added.entries.free) rest.1)
+      (omega (arith, weight-without weight p.0 new.entries (p.1, t) added.entries.stored, rest.0), once_with p.0 new.entries (rest.2 p.0 ∙ added.entries.free) rest.1)
     where
       has : (i : ℕ) (x : Gen × X) → found i old.entries ≡ Some x → found i (without_index p.0 new.entries) ≡ Some x
       has i x stored =

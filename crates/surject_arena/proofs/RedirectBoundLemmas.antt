@@ -8,11 +8,11 @@ use Rattle.chain_laws.specs.Chains.{IsMember}
 use Rattle.arena_traits.specs.Entries.{found, without_index, with_replacement}
 use Rattle.arena_traits.proofs.EntryChangeLemmas.{valued, found-written, found-unwritten}
 use Rattle.arena_traits.proofs.EntrySearchLemmas.{at_first, found-kept}
-use Rattle.surject_arena.specs.Histories.{Change, starts_set, adds_key, unites, grows, Makes, History, inserted, RedirectsFew}
+use Rattle.surject_arena.specs.Histories.{Change, starts_set, adds_key, unites, grows, Makes, History, insertion_count, RedirectsFew}
 use Rattle.surject_arena.specs.Surjections.{Surjection, set_at, HasValue, IsSurjection}
 use Rattle.surject_arena.specs.SetCalls.{IsAbsorbed}
 use Rattle.surject_arena.proofs.OptionLemmas.{same_some, none_some}
-use Rattle.surject_arena.proofs.EntrySumLemmas.{AreOnce, total, total-added, total-written, total-without, weight_within, once-written, once-without}
+use Rattle.surject_arena.proofs.EntrySumLemmas.{AreOnce, total_weight, weight-added, weight-written, weight-without, weight_within, once-written, once-without}
 use Rattle.surject_arena.proofs.HistoryLemmas.{same_name}
 
 -- How often a set of n keys can double and have at most 2 ^ d.
@@ -59,10 +59,10 @@ some_member (m ∷ items) i in_items = omega arith
 module _ {Gen K V : Type 0} where
   -- All keys that values count, and what their sets can still cost.
   abbrev counted_in : Surjection Gen K V → ℕ
-  counted_in s = total (λ t. t.1) s.values.entries
+  counted_in s = total_weight (λ t. t.1) s.values.entries
 
   abbrev cost_of : ℕ → Surjection Gen K V → ℕ
-  cost_of d s = total (λ t. cost d t.1) s.values.entries
+  cost_of d s = total_weight (λ t. cost d t.1) s.values.entries
 
   -- A change that inserts n keys redirects no more than it frees and the new keys may cost.
   record IsPaid (d : ℕ) (old new : Surjection Gen K V) (n : ℕ) : Type 0 where
@@ -107,15 +107,15 @@ module _ {Gen K V : Type 0} where
         still : found from.0 written ≡ Some (from.1, (t, absorbs.more))
         still = found-unwritten from.0 to.0 sum old.values.entries apart ∙ absorbs.dropped
 
-        after : (weight : V × ℕ → ℕ) → weight (t, absorbs.more) + total weight new.values.entries + weight (absorbs.value, absorbs.size) ≡ total weight old.values.entries + weight sum
+        after : (weight : V × ℕ → ℕ) → weight (t, absorbs.more) + total_weight weight new.values.entries + weight (absorbs.value, absorbs.size) ≡ total_weight weight old.values.entries + weight sum
         after weight =
-            let at : total weight new.values.entries ≡ total weight (without_index from.0 written) = ap (λ s. total weight s.entries) absorbs.values in
-            omega (arith, at, total-without weight from.0 written (from.1, (t, absorbs.more)) still, total-written weight to.0 sum old.values.entries (to.1, (absorbs.value, absorbs.size)) absorbs.valued)
+            let at : total_weight weight new.values.entries ≡ total_weight weight (without_index from.0 written) = ap (λ s. total_weight weight s.entries) absorbs.values in
+            omega (arith, at, weight-without weight from.0 written (from.1, (t, absorbs.more)) still, weight-written weight to.0 sum old.values.entries (to.1, (absorbs.value, absorbs.size)) absorbs.valued)
 
     set_is_paid : (p : ℕ × Gen) → Makes following old (starts_set p) new → IsPaid d old new 1
     set_is_paid p made =
-        let sizes = total-added (λ t. t.1) old.values new.values (made.1, 1) made.2.set once made.2.value in
-        let costs = total-added (λ t. cost d t.1) old.values new.values (made.1, 1) made.2.set once made.2.value in
+        let sizes = weight-added (λ t. t.1) old.values new.values (made.1, 1) made.2.set once made.2.value in
+        let costs = weight-added (λ t. cost d t.1) old.values new.values (made.1, 1) made.2.set once made.2.value in
         record { once = sizes.1; counted = sizes.0; cost = omega (arith, costs.0, cost_one d, made.2.redirected) }
 
     key_is_paid : (p q : ℕ × Gen) → Makes following old (adds_key p q) new → IsPaid d old new 1
@@ -128,10 +128,10 @@ module _ {Gen K V : Type 0} where
         more : V × ℕ
         more = (made.1.value, made.1.size + 1)
 
-        after : (weight : V × ℕ → ℕ) → total weight new.values.entries + weight (made.1.value, made.1.size) ≡ total weight old.values.entries + weight more
+        after : (weight : V × ℕ → ℕ) → total_weight weight new.values.entries + weight (made.1.value, made.1.size) ≡ total_weight weight old.values.entries + weight more
         after weight =
-            let at : total weight new.values.entries ≡ total weight (with_replacement made.1.set.0 (λ e. (e.0, more)) old.values.entries) = ap (λ s. total weight s.entries) made.1.values in
-            omega (arith, at, total-written weight made.1.set.0 more old.values.entries (made.1.set.1, (made.1.value, made.1.size)) made.1.valued)
+            let at : total_weight weight new.values.entries ≡ total_weight weight (with_replacement made.1.set.0 (λ e. (e.0, more)) old.values.entries) = ap (λ s. total_weight weight s.entries) made.1.values in
+            omega (arith, at, weight-written weight made.1.set.0 more old.values.entries (made.1.set.1, (made.1.value, made.1.size)) made.1.valued)
 
     union_is_paid : (p q : ℕ × Gen) → Makes following old (unites p q) new → counted_in old ≤ 2 ^ d → IsPaid d old new 0
     union_is_paid p q made few = ⊎_elim
@@ -165,17 +165,17 @@ module _ {Gen K V : Type 0} where
         let products : both * d ≡ n * d + m * d = ap (λ (k : ℕ). k * d) sum ∙ add-mul n m d in
         omega (arith, products, paid.cost, rest paid.once (omega (arith, few, sum, paid.counted)))
 
-    history_is_paid : (changes : List (Change Gen)) (old new : Surjection Gen K V) → AreOnce old.values.entries → inserted changes + counted_in old ≤ 2 ^ d → History following old changes new
-        → new.redirected ≤ old.redirected + cost_of d old + inserted changes * d
+    history_is_paid : (changes : List (Change Gen)) (old new : Surjection Gen K V) → AreOnce old.values.entries → insertion_count changes + counted_in old ≤ 2 ^ d → History following old changes new
+        → new.redirected ≤ old.redirected + cost_of d old + insertion_count changes * d
     history_is_paid [] old new once few same = let redirected = ap (λ (s : Surjection Gen K V). s.redirected) same in omega (arith, redirected)
     history_is_paid (starts_set p ∷ changes) old new once few history =
-        paid_before old history.1 new 1 (inserted changes) (1 + inserted changes) refl few (set_is_paid d following old history.1 history.0 once p history.2) (λ still more. history_is_paid changes history.1 new still more history.3)
+        paid_before old history.1 new 1 (insertion_count changes) (1 + insertion_count changes) refl few (set_is_paid d following old history.1 history.0 once p history.2) (λ still more. history_is_paid changes history.1 new still more history.3)
     history_is_paid (adds_key p q ∷ changes) old new once few history =
-        paid_before old history.1 new 1 (inserted changes) (1 + inserted changes) refl few (key_is_paid d following old history.1 history.0 once p q history.2) (λ still more. history_is_paid changes history.1 new still more history.3)
+        paid_before old history.1 new 1 (insertion_count changes) (1 + insertion_count changes) refl few (key_is_paid d following old history.1 history.0 once p q history.2) (λ still more. history_is_paid changes history.1 new still more history.3)
     history_is_paid (unites p q ∷ changes) old new once few history =
-        paid_before old history.1 new 0 (inserted changes) (inserted changes) (omega arith) few (union_is_paid d following old history.1 history.0 once p q history.2 (omega (arith, few))) (λ still more. history_is_paid changes history.1 new still more history.3)
+        paid_before old history.1 new 0 (insertion_count changes) (insertion_count changes) (omega arith) few (union_is_paid d following old history.1 history.0 once p q history.2 (omega (arith, few))) (λ still more. history_is_paid changes history.1 new still more history.3)
     history_is_paid (grows ∷ changes) old new once few history =
-        paid_before old history.1 new 0 (inserted changes) (inserted changes) (omega arith) few (growth_is_paid d following old history.1 history.0 once history.2) (λ still more. history_is_paid changes history.1 new still more history.3)
+        paid_before old history.1 new 0 (insertion_count changes) (insertion_count changes) (omega arith) few (growth_is_paid d following old history.1 history.0 once history.2) (λ still more. history_is_paid changes history.1 new still more history.3)
 
   -- Without keys there are no values.
   no_values : (s : Surjection Gen K V) → IsSurjection s → s.keys.entries ≡ [] → s.values.entries ≡ []
@@ -191,6 +191,6 @@ pub redirects_are_few : (Gen K V : Type 0) → RedirectsFew Gen K V
 redirects_are_few Gen K V following old new [] d empty same few = let redirected = ap (λ (s : Surjection Gen K V). s.redirected) same in omega (arith, redirected)
 redirects_are_few Gen K V following old new (change ∷ changes) d empty history few =
     let none = no_values old history.0 empty in
-    let counted : counted_in old ≡ 0 = ap (total (λ t. t.1)) none in
-    let costs : cost_of d old ≡ 0 = ap (total (λ t. cost d t.1)) none in
+    let counted : counted_in old ≡ 0 = ap (total_weight (λ t. t.1)) none in
+    let costs : cost_of d old ≡ 0 = ap (total_weight (λ t. cost d t.1)) none in
     omega (arith, costs, history_is_paid d following (change ∷ changes) old new (subst AreOnce (sym none) tt) (omega (arith, few, counted)) history)

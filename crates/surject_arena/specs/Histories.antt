@@ -1,4 +1,5 @@
--- Lists of changes that only add keys and unite sets, and the sets that they make.
+-- Lists of changes that only add keys and unite sets, the sets that they make, and how many keys they
+-- redirect.
 use Rattle.std.specs.Prelude.{◌≡◌, ◌↔◌, ◌⊎◌, ℕ, ◌+◌, ◌*◌, ◌^◌, ◌≤◌, List, [], ◌∷◌}
 use Rattle.surject_arena.specs.Surjections.{Surjection, IsKey, AreInOneSet, IsSurjection}
 use Rattle.surject_arena.specs.SetCalls.{GrowsKeys, IsSetAdded, IsKeyAdded, AreUnited}
@@ -33,17 +34,17 @@ module _ {Gen : Type 0} where
   pairs_of (unites p q ∷ changes) = (p, q) ∷ pairs_of changes
   pairs_of (grows ∷ changes) = pairs_of changes
 
-  -- How many keys changes insert.
-  abbrev pub inserted : List (Change Gen) → ℕ
-  inserted [] = 0
-  inserted (starts_set p ∷ changes) = 1 + inserted changes
-  inserted (adds_key p q ∷ changes) = 1 + inserted changes
-  inserted (unites p q ∷ changes) = inserted changes
-  inserted (grows ∷ changes) = inserted changes
-
   abbrev pub HasPair : List ((ℕ × Gen) × (ℕ × Gen)) → ℕ × Gen → ℕ × Gen → Type 0
   HasPair [] p q = ⊥
   HasPair (pair ∷ pairs) p q = (pair ≡ (p, q)) ⊎ HasPair pairs p q
+
+  -- How many keys changes insert.
+  abbrev pub insertion_count : List (Change Gen) → ℕ
+  insertion_count [] = 0
+  insertion_count (starts_set p ∷ changes) = 1 + insertion_count changes
+  insertion_count (adds_key p q ∷ changes) = 1 + insertion_count changes
+  insertion_count (unites p q ∷ changes) = insertion_count changes
+  insertion_count (grows ∷ changes) = insertion_count changes
 
 -- The least equivalence that has these pairs.
 pub data AreEquated {Gen : Type 0} (pairs : List ((ℕ × Gen) × (ℕ × Gen))) : ℕ × Gen → ℕ × Gen → Type 0 where
@@ -57,8 +58,8 @@ abbrev pub SetsAreTheClasses : (Gen K V : Type 0) → Type 0
 SetsAreTheClasses Gen K V = (following : Gen → Gen) (old new : Surjection Gen K V) (changes : List (Change Gen)) → old.keys.entries ≡ [] → History following old changes new → IsSurjection new
     → (p q : ℕ × Gen) → AreInOneSet new p q ↔ (IsKey new p × IsKey new q × AreEquated (pairs_of changes) p q)
 
--- After such changes of an arena without keys, which insert at most 2 ^ d keys, unions redirected at
--- most d keys for each that was inserted.
+-- If such changes of an arena without keys insert at most 2 ^ d keys, they redirect at most d keys for
+-- each one that they insert.
 abbrev pub RedirectsFew : (Gen K V : Type 0) → Type 0
-RedirectsFew Gen K V = (following : Gen → Gen) (old new : Surjection Gen K V) (changes : List (Change Gen)) (d : ℕ) → old.keys.entries ≡ [] → History following old changes new → inserted changes ≤ 2 ^ d
-    → new.redirected ≤ old.redirected + inserted changes * d
+RedirectsFew Gen K V = (following : Gen → Gen) (old new : Surjection Gen K V) (changes : List (Change Gen)) (d : ℕ) → old.keys.entries ≡ [] → History following old changes new → insertion_count changes ≤ 2 ^ d
+    → new.redirected ≤ old.redirected + insertion_count changes * d
