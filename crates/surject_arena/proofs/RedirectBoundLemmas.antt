@@ -1,4 +1,4 @@
--- How many keys unions redirect.
+-- How many keys unions redirect: each time that a key is redirected, its set at least doubles.
 use Rattle.std.proofs.Common.{◌≡◌, ◌≢◌, ℕ, zero, suc, ◌+◌, ◌-◌, ◌*◌, ◌^◌, ◌≤◌, ⊎_elim, List, [], ◌∷◌, length, Some, refl, sym, ap, ◌∙◌, subst, arith}
 use Rattle.std.specs.Prelude.{min}
 use Rattle.std.specs.Option.{option_map}
@@ -15,7 +15,7 @@ use Rattle.surject_arena.proofs.OptionLemmas.{same_some, none_some}
 use Rattle.surject_arena.proofs.EntrySumLemmas.{AreOnce, total_weight, weight-added, weight-written, weight-without, weight_within, once-written, once-without}
 use Rattle.surject_arena.proofs.HistoryLemmas.{same_name}
 
--- How often a set of n keys can double and have at most 2 ^ d.
+-- How many times n, if it is not 0, can double and stay within 2 ^ d.
 abbrev doublings : ℕ → ℕ → ℕ
 doublings zero n = 0
 doublings (suc d) n = doublings d n + min 1 (suc (2 ^ d) - n)
@@ -28,6 +28,7 @@ doublings-falls : (d a b : ℕ) → a ≤ b → doublings d b ≤ doublings d a
 doublings-falls zero a b small = omega arith
 doublings-falls (suc d) a b small = omega (arith, small, doublings-falls d a b small)
 
+-- A number at least twice as large can double once less.
 doublings-drops : (d a n : ℕ) → 1 ≤ a → a + a ≤ n → n ≤ 2 ^ d → doublings d n + 1 ≤ doublings d a
 doublings-drops zero a n some double small = absurd (omega (arith, some, double, small))
 doublings-drops (suc d) a n some double small = ⊎_elim
@@ -35,7 +36,7 @@ doublings-drops (suc d) a n some double small = ⊎_elim
     (λ below. omega (arith, double, below, doublings-drops d a n some double below))
     (cases_lt (2 ^ d) n)
 
--- The weight of a set: the redirections that doublings of it can still cost.
+-- An upper bound of the redirections that n keys of one set can still take.
 abbrev cost : ℕ → ℕ → ℕ
 cost d n = n * doublings d n
 
@@ -45,7 +46,8 @@ cost_one d = omega (arith, doublings-bound d 1)
 cost_more : (d n : ℕ) → cost d (n + 1) ≤ cost d n + d
 cost_more d n = omega (arith, add-mul n 1 (doublings d (n + 1)), doublings-bound d (n + 1), mul-le-mul_left n (doublings-falls d n (n + 1) (omega arith)))
 
--- Where the smaller set moves, its keys lose a doubling each, and the others gain none.
+-- The keys of the smaller set can double once less, and the others no more than before. So the cost
+-- falls by the redirections of the union.
 cost_merged : (d a b : ℕ) → 1 ≤ a → a ≤ b → b + a ≤ 2 ^ d → a + cost d (b + a) ≤ cost d b + cost d a
 cost_merged d a b some smaller small =
     let falls = doublings-falls d b (b + a) (omega arith) in
@@ -57,14 +59,15 @@ some_member [] i in_items = absurd in_items
 some_member (m ∷ items) i in_items = omega arith
 
 module _ {Gen K V : Type 0} where
-  -- All keys that values count, and what their sets can still cost.
+  -- The number of keys that the values count, and the cost of all sets together.
   abbrev counted_in : Surjection Gen K V → ℕ
   counted_in s = total_weight (λ t. t.1) s.values.entries
 
   abbrev cost_of : ℕ → Surjection Gen K V → ℕ
   cost_of d s = total_weight (λ t. cost d t.1) s.values.entries
 
-  -- A change that inserts n keys redirects no more than it frees and the new keys may cost.
+  -- A change inserts n keys. What it redirects is within what the cost falls by, plus d for each of
+  -- these keys.
   record IsPaid (d : ℕ) (old new : Surjection Gen K V) (n : ℕ) : Type 0 where
     pub once : AreOnce new.values.entries
     pub counted : counted_in new ≡ n + counted_in old
@@ -80,8 +83,8 @@ module _ {Gen K V : Type 0} where
 
     absorbed_is_paid : (to from : ℕ × Gen) (t : V) (absorbs : IsAbsorbed old new following to from t) → absorbs.more ≤ absorbs.size → counted_in old ≤ 2 ^ d → IsPaid d old new 0
     absorbed_is_paid to from t absorbs smaller few =
-        let sizes = after (λ t. t.1) in
-        let costs = after (λ t. cost d t.1) in
+        let sizes = weights (λ t. t.1) in
+        let costs = weights (λ t. cost d t.1) in
         let within : absorbs.size + absorbs.more ≤ counted_in new = weight_within (λ t. t.1) to.0 new.values.entries (to.1, (absorbs.value, absorbs.size + absorbs.more)) united in
         let same : counted_in new ≡ 0 + counted_in old = omega (arith, sizes) in
         let paid = cost_merged d absorbs.more absorbs.size (not_empty from t absorbs.more absorbs.dropped) smaller (omega (arith, within, same, few)) in
@@ -107,8 +110,8 @@ module _ {Gen K V : Type 0} where
         still : found from.0 written ≡ Some (from.1, (t, absorbs.more))
         still = found-unwritten from.0 to.0 sum old.values.entries apart ∙ absorbs.dropped
 
-        after : (weight : V × ℕ → ℕ) → weight (t, absorbs.more) + total_weight weight new.values.entries + weight (absorbs.value, absorbs.size) ≡ total_weight weight old.values.entries + weight sum
-        after weight =
+        weights : (weight : V × ℕ → ℕ) → weight (t, absorbs.more) + total_weight weight new.values.entries + weight (absorbs.value, absorbs.size) ≡ total_weight weight old.values.entries + weight sum
+        weights weight =
             let at : total_weight weight new.values.entries ≡ total_weight weight (without_index from.0 written) = ap (λ s. total_weight weight s.entries) absorbs.values in
             omega (arith, at, weight-without weight from.0 written (from.1, (t, absorbs.more)) still, weight-written weight to.0 sum old.values.entries (to.1, (absorbs.value, absorbs.size)) absorbs.valued)
 
@@ -121,15 +124,15 @@ module _ {Gen K V : Type 0} where
     key_is_paid : (p q : ℕ × Gen) → Makes following old (adds_key p q) new → IsPaid d old new 1
     key_is_paid p q made = record {
       once = subst (λ s. AreOnce s.entries) (sym made.1.values) (once-written made.1.set.0 more old.values.entries once);
-      counted = omega (arith, after (λ t. t.1));
-      cost = omega (arith, after (λ t. cost d t.1), cost_more d made.1.size, made.1.redirected);
+      counted = omega (arith, weights (λ t. t.1));
+      cost = omega (arith, weights (λ t. cost d t.1), cost_more d made.1.size, made.1.redirected);
     }
       where
         more : V × ℕ
         more = (made.1.value, made.1.size + 1)
 
-        after : (weight : V × ℕ → ℕ) → total_weight weight new.values.entries + weight (made.1.value, made.1.size) ≡ total_weight weight old.values.entries + weight more
-        after weight =
+        weights : (weight : V × ℕ → ℕ) → total_weight weight new.values.entries + weight (made.1.value, made.1.size) ≡ total_weight weight old.values.entries + weight more
+        weights weight =
             let at : total_weight weight new.values.entries ≡ total_weight weight (with_replacement made.1.set.0 (λ e. (e.0, more)) old.values.entries) = ap (λ s. total_weight weight s.entries) made.1.values in
             omega (arith, at, weight-written weight made.1.set.0 more old.values.entries (made.1.set.1, (made.1.value, made.1.size)) made.1.valued)
 
@@ -158,7 +161,7 @@ module _ {Gen K V : Type 0} where
     }
 
   module _ (d : ℕ) (following : Gen → Gen) where
-    -- What is paid for one change and for those after it is paid for all.
+    -- The bound for one change and the bound for those after it give the bound for both.
     paid_before : (old mid new : Surjection Gen K V) (n m both : ℕ) → both ≡ n + m → both + counted_in old ≤ 2 ^ d → IsPaid d old mid n
         → (AreOnce mid.values.entries → m + counted_in mid ≤ 2 ^ d → new.redirected ≤ mid.redirected + cost_of d mid + m * d) → new.redirected ≤ old.redirected + cost_of d old + both * d
     paid_before old mid new n m both sum few paid rest =

@@ -9,11 +9,11 @@ pub fn sets_are_the_classes<Gen, K, V>()
     ensures { SetsAreTheClasses Gen K V }
 {}
 
-/// States that n insertions and any unions redirect at most n * log2(n) keys in all, where log2(n) is
-/// rounded up.
+/// States that in an arena without keys, n insertions and any unions redirect at most n * log2(n)
+/// keys in all, where log2(n) is rounded up.
 ///
-/// The keys are those that `redirected` counts. Each time that a key is redirected, its set at least
-/// doubles. Has no effect.
+/// `redirected` counts these keys, up to 2^128 - 1. Each time that a key is redirected, its set at
+/// least doubles. Has no effect.
 pub fn redirects_are_few<Gen, K, V>()
     ensures { RedirectsFew Gen K V }
 {}
