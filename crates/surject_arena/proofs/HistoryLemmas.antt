@@ -73,7 +73,7 @@ module _ {Gen K V : Type 0} where
   key_stored s p w in_w = ap (option_map (λ e. (e.0, e.1.0))) in_w.1
 
   -- The name of a set with a value is determined by its index.
-  same_name : (s : Surjection Gen K V) (u w : ℕ × Gen) (t r : V) (n m : ℕ) → HasValue s u t n → HasValue s w r m → u.0 ≡ w.0 → u ≡ w
+  pub same_name : (s : Surjection Gen K V) (u w : ℕ × Gen) (t r : V) (n m : ℕ) → HasValue s u t n → HasValue s w r m → u.0 ≡ w.0 → u ≡ w
   same_name s u w t r n m has_u has_w same =
       let both : (u.1, (t, n)) ≡ (w.1, (r, m)) = same_some (u.1, (t, n)) (w.1, (r, m)) (sym has_u ∙ (ap (entry_in s.values) same ∙ has_w)) in
       name_is u w same (ap (λ (x : Gen × (V × ℕ)). x.0) both)

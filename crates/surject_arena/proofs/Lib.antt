@@ -8,3 +8,5 @@ mod CallLemmas
 mod UnionLemmas
 mod KeySetLemmas
 mod HistoryLemmas
+mod EntrySumLemmas
+mod RedirectBoundLemmas

@@ -1,5 +1,6 @@
--- Lists of changes that only add keys and unite sets, and the sets that they make.
-use Rattle.std.specs.Prelude.{◌≡◌, ◌↔◌, ◌⊎◌, ℕ, List, [], ◌∷◌}
+-- Lists of changes that only add keys and unite sets, the sets that they make, and how many keys they
+-- redirect.
+use Rattle.std.specs.Prelude.{◌≡◌, ◌↔◌, ◌⊎◌, ℕ, ◌+◌, ◌*◌, ◌^◌, ◌≤◌, List, [], ◌∷◌}
 use Rattle.surject_arena.specs.Surjections.{Surjection, IsKey, AreInOneSet, IsSurjection}
 use Rattle.surject_arena.specs.SetCalls.{GrowsKeys, IsSetAdded, IsKeyAdded, AreUnited}
 
@@ -37,6 +38,14 @@ module _ {Gen : Type 0} where
   HasPair [] p q = ⊥
   HasPair (pair ∷ pairs) p q = (pair ≡ (p, q)) ⊎ HasPair pairs p q
 
+  -- How many keys changes insert.
+  abbrev pub insertion_count : List (Change Gen) → ℕ
+  insertion_count [] = 0
+  insertion_count (starts_set p ∷ changes) = 1 + insertion_count changes
+  insertion_count (adds_key p q ∷ changes) = 1 + insertion_count changes
+  insertion_count (unites p q ∷ changes) = insertion_count changes
+  insertion_count (grows ∷ changes) = insertion_count changes
+
 -- The least equivalence that has these pairs.
 pub data AreEquated {Gen : Type 0} (pairs : List ((ℕ × Gen) × (ℕ × Gen))) : ℕ × Gen → ℕ × Gen → Type 0 where
   itself : (p : ℕ × Gen) → AreEquated pairs p p
@@ -48,3 +57,9 @@ pub data AreEquated {Gen : Type 0} (pairs : List ((ℕ × Gen) × (ℕ × Gen)))
 abbrev pub SetsAreTheClasses : (Gen K V : Type 0) → Type 0
 SetsAreTheClasses Gen K V = (following : Gen → Gen) (old new : Surjection Gen K V) (changes : List (Change Gen)) → old.keys.entries ≡ [] → History following old changes new → IsSurjection new
     → (p q : ℕ × Gen) → AreInOneSet new p q ↔ (IsKey new p × IsKey new q × AreEquated (pairs_of changes) p q)
+
+-- If such changes of an arena without keys insert at most 2 ^ d keys, they redirect at most d keys for
+-- each one that they insert.
+abbrev pub RedirectsFew : (Gen K V : Type 0) → Type 0
+RedirectsFew Gen K V = (following : Gen → Gen) (old new : Surjection Gen K V) (changes : List (Change Gen)) (d : ℕ) → old.keys.entries ≡ [] → History following old changes new → insertion_count changes ≤ 2 ^ d
+    → new.redirected ≤ old.redirected + insertion_count changes * d

@@ -13,7 +13,7 @@ mod members;
 mod surject;
 mod values;
 
-pub use histories::sets_are_the_classes;
+pub use histories::{redirects_are_few, sets_are_the_classes};
 pub use key_set::KeySet;
 pub use members::{Counted, Member};
 pub use surject::SurjectArena;
