@@ -1,22 +1,23 @@
 -- The arena that links are transferred from: the chains left in it, by the traits alone.
 use Rattle.std.proofs.Common.{◌≡◌, ◌≢◌, ℕ, suc, ◌+◌, ◌≤◌, ◌<◌, ◌⊎◌, inl, inr, Bool, true, false, List, [], ◌∷◌, ◌++◌, length, Option, None, Some, refl, sym, ap, ◌∙◌, subst, length-append, arith}
-use Rattle.std.specs.Prelude.{is_some, cond, ◌==◌}
+use Rattle.std.specs.Prelude.{is_some}
 use Rattle.std.specs.Option.{option_map}
-use Rattle.std.proofs.lemmas.Bool.{eqb-true}
 use Rattle.std.proofs.Math.Decide.{ℕ_discrete}
 use Rattle.chain_laws.specs.Chains.{LinkMap, Interlinks, Chain, items, IsMember, HasLink, IsInOrder, IsWellLinked, AreChains, first_or, next_of}
 use Rattle.chain_laws.specs.Removals.{with_removal}
 use Rattle.chain_laws.specs.Walks.{step_forward}
 use Rattle.chain_laws.specs.ChainStart.{chain_of}
 use Rattle.chain_laws.specs.Transfer.{with_rest}
-use Rattle.chain_laws.proofs.InterlinkLemmas.Inverses.{if_same, if_other}
+use Rattle.chain_laws.proofs.InterlinkLemmas.Inverses.{if_same}
 use Rattle.chain_laws.proofs.ListLemmas.Members.{filled-IsMember}
 use Rattle.chain_laws.proofs.ChainLemmas.Uniqueness.{chain_valid, chain_filled}
 use Rattle.chain_laws.proofs.TransferLemmas.Source.{items_of, least_is_next, first_is_taken}
 use Rattle.chain_laws.proofs.RemovalLemmas.Pairs.{HasLink-removed}
-use Rattle.arena_traits.specs.Entries.{ArenaView, found, without_index, view_after_removal, AscendsFrom}
+use Rattle.arena_traits.specs.Entries.{ArenaView, found, view_after_removal, AscendsFrom}
 use Rattle.arena_traits.specs.declared.cursor.Cursor.{Cursor}
 use Rattle.arena_traits.specs.declared.cursor.Cursor.TheVariants.{Up}
+use Rattle.arena_traits.proofs.EntrySearchLemmas.{found-kept}
+use Rattle.chain_traits.proofs.GenericRemovalLemmas.{one_less}
 use Rattle.chain_arena.specs.Drains.{after_times}
 use Rattle.chain_arena.specs.Transfers.{entries_removed}
 use Rattle.chain_traits.specs.DrainOrder.{IsNextChain}
@@ -26,23 +27,6 @@ tail_in_order : (c : Chain) (rest : List Chain) → IsInOrder (c ∷ rest) → I
 tail_in_order c rest order = record { written = λ d h. order.written d (inr h); ascends = order.ascends.1 }
 
 module _ {Gen T : Type 0} where
-  -- A removal keeps all other entries.
-  found-without : (i j : ℕ) (es : List ((ℕ × Gen) × T)) → i ≢ j → found i (without_index j es) ≡ found i es
-  found-without i j [] ne = refl
-  found-without i j (e ∷ es) ne = by (e.0.0 == j) refl (found-without i j es ne) where
-    by : (b : Bool) → (e.0.0 == j) ≡ b → found i (without_index j es) ≡ found i es → found i (cond b es (e ∷ without_index j es)) ≡ found i (e ∷ es)
-    by true same rest = sym (if_other e.0.0 i (Some (e.0.1, e.1)) (found i es) (λ own. ne (sym own ∙ eqb-true e.0.0 j same)))
-    by false other rest = ap (λ o. cond (e.0.0 == i) (Some (e.0.1, e.1)) o) rest
-
-  -- One entry less is left.
-  length-without : (i : ℕ) (es : List ((ℕ × Gen) × T)) → is_some (found i es) ≡ true → length (without_index i es) + 1 ≡ length es
-  length-without i [] some = absurd (let h = some in cc)
-  length-without i (e ∷ es) some = by (e.0.0 == i) refl some (length-without i es) where
-    by : (b : Bool) → (e.0.0 == i) ≡ b → is_some (cond b (Some (e.0.1, e.1)) (found i es)) ≡ true → (is_some (found i es) ≡ true → length (without_index i es) + 1 ≡ length es)
-        → length (cond b es (e ∷ without_index i es)) + 1 ≡ length (e ∷ es)
-    by true same there rest = omega arith
-    by false other there rest = omega (arith, rest there)
-
   -- Entries that are found only from an index on ascend from there.
   ascends_from : (from low : ℕ) (es : List ((ℕ × Gen) × T)) → AscendsFrom low es → ((j : ℕ) → is_some (found j es) ≡ true → from ≤ j) → AscendsFrom from es
   ascends_from from low [] ascends found_low = tt
@@ -83,7 +67,7 @@ module _ {Gen T : Type 0} (following : Gen → Gen) where
   pub found-entries_removed : (s : ArenaView Gen T) (xs : List ℕ) (i : ℕ) → (IsMember xs i → ⊥) → found i (entries_removed following s xs).entries ≡ found i s.entries
   found-entries_removed s [] i none = refl
   found-entries_removed s (x ∷ xs) i none =
-      found-entries_removed (view_after_removal following s x) xs i (λ h. none (inr h)) ∙ found-without i x s.entries (λ same. none (inl (sym same)))
+      found-entries_removed (view_after_removal following s x) xs i (λ h. none (inr h)) ∙ found-kept i x s.entries (λ same. none (inl (sym same)))
 
   -- Links were taken out of a source: these chains are left, the first of them in part. Links
   -- outside that part are at or above the advancer's index.
@@ -148,7 +132,7 @@ module _ {Gen T : Type 0} (following : Gen → Gen) where
               chains = subst (λ (m : LinkMap). AreChains m (with_rest is_cyclic xs rest)) (sym passed) w.0;
               order = d.order;
               same = is ∙ (ap (λ (s : ArenaView Gen T). view_after_removal following s i) d.same ∙ sym (entries_removed-append source taken i));
-              size = omega (arith, d.size, ap (λ (s : ArenaView Gen T). length s.entries) is, length-without i view_after.entries first_found, length-append taken (i ∷ []));
+              size = omega (arith, d.size, ap (λ (s : ArenaView Gen T). length s.entries) is, one_less i view_after.entries first_found, length-append taken (i ∷ []));
               from = d.from;
               up = d.up;
               low = λ j v. let u = (HasLink-removed links i j).0 (subst (λ (m : LinkMap). HasLink m j) passed v) in stays j u.1 (d.low j u.0);

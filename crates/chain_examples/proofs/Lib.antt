@@ -8,3 +8,4 @@ mod TaskLemmas
 mod DocumentLemmas
 mod QueueOrderLemmas
 mod ValueWriteLemmas
+mod OwnerLemmas

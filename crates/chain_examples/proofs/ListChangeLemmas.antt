@@ -1,8 +1,8 @@
 -- The effect of insertions and removals on lists, linear or cyclic.
-use Rattle.std.proofs.Common.{◌≡◌, ◌≢◌, ℕ, List, [], ◌∷◌, ◌++◌, map, Option, None, Some, refl, sym, ap, ◌∙◌, subst}
-use Rattle.std.specs.Prelude.{is_some, false}
+use Rattle.std.proofs.Common.{◌≡◌, ◌≢◌, ℕ, List, [], ◌∷◌, ◌++◌, map, Option, Some, refl, sym, ap, ◌∙◌, subst}
+use Rattle.std.specs.Prelude.{is_some}
 use Rattle.std.proofs.lemmas.List.{map-append}
-use Rattle.chain_laws.specs.Chains.{LinkMap, Interlinks, Chain, linear, cyclic, items, IsChain, IsMember, AreDistinct, IsWellLinked, prev_of, next_of}
+use Rattle.chain_laws.specs.Chains.{LinkMap, Chain, linear, cyclic, items, IsChain, IsMember, AreDistinct, IsWellLinked, prev_of, next_of}
 use Rattle.chain_laws.specs.declared.insert_kind.InsertKind.{InsertKind}
 use Rattle.chain_laws.specs.declared.insert_kind.InsertKind.TheVariants.{NextTo, PrevTo}
 use Rattle.chain_laws.specs.Insertions.{link_before, link_after}
@@ -12,17 +12,10 @@ use Rattle.chain_laws.proofs.ListLemmas.MemberLaws.{once_in_middle}
 use Rattle.arena_traits.specs.Entries.{ArenaView, ArenaState, index_of}
 use Rattle.arena_traits.specs.Arena.{IsInserted}
 use Rattle.chain_links.specs.Insertions.{IsInsertedBetween}
+use Rattle.chain_links.proofs.OccupiedIndexLemmas.{unlinked}
 use Rattle.chain_examples.specs.Lists.{Item, AreEntries, indexes, IsListOf, KeepsWithout, InsertsAfter, InsertsBefore, IsRemovedFromList, ChangesOnlyListsOf, IsItemInserted, IsItemStarted, IsItemAfter, IsItemBefore}
 use Rattle.chain_traits.proofs.GenericRemovalLemmas.{same_entry}
 use Rattle.chain_examples.proofs.ItemListLemmas.{are_stored-append, are_stored-left, are_stored-right, are_stored-frame, stored_kept}
-
--- There is no link where there is no entry.
-pub unlinked : {Gen T : Type 0} (entry : ℕ → Option (Gen × T)) (links : LinkMap) (i : ℕ) → is_some (links i) ≡ is_some (entry i) → entry i ≡ None → links i ≡ None
-unlinked entry links i alike free = by (links i) (alike ∙ ap is_some free)
-  where
-    by : (o : Option Interlinks) → is_some o ≡ false → o ≡ None
-    by None none = refl
-    by (Some link) none = absurd (cc)
 
 -- A list without indexes is empty.
 pub no_items : {Gen T : Type 0} (xs : List (Item Gen T)) → indexes xs ≡ [] → xs ≡ []

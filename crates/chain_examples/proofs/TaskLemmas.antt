@@ -12,7 +12,8 @@ use Rattle.chain_examples.specs.Lists.{Item, indexes, IsQueueOrder}
 use Rattle.arena_traits.specs.Growth.{IsGrowthResult, Reserves, RefusesOneMore}
 use Rattle.chain_examples.specs.QueueOrder.{Queue, IsAmong, with_task, queue_order, AppendsNewTask, IsTaskLast, arena_view}
 use Rattle.chain_examples.proofs.ItemListLemmas.{are_stored-some}
-use Rattle.chain_examples.proofs.ValueWriteLemmas.{valued, found-stored, indexes-written, first_key-written, are_stored-written, some-written, value_there, values_elsewhere}
+use Rattle.arena_traits.proofs.EntryChangeLemmas.{valued, value_there, values_elsewhere}
+use Rattle.chain_examples.proofs.ValueWriteLemmas.{found-stored, indexes-written, first_key-written, are_stored-written, some-written}
 use Rattle.chain_examples.proofs.QueueOrderLemmas.{settle, order_length, among_stored, valid_task, order_in, queue_in}
 
 module _ {Gen T : Type 0} where
@@ -80,7 +81,7 @@ module _ {A Gen T : Type 0} {view : A → ArenaView Gen T} {entry : A → ℕ �
 
   pub task_written : (i : ℕ) (t : T) → view b ≡ view_with_value (view a) i t → interlinks b ≡ interlinks a → IsQueue (with_task (queue_in state interlinks a current) i t)
   task_written i t was same =
-      let now = settle state interlinks b current _ (order-written (entry a) (interlinks a) current _ is (entry b) (interlinks b) i t (value_there state interlinks a b i t was) (values_elsewhere state interlinks a b i t was) same) in
+      let now = settle state interlinks b current _ (order-written (entry a) (interlinks a) current _ is (entry b) (interlinks b) i t (value_there state a b i t was) (values_elsewhere state a b i t was) same) in
       record { holds = now.holds; queue_is = λ k. record { order = now.is_found k; capacity = (ap (λ (s : ArenaView Gen T). s.capacity) was) k; maximum = (ap (λ (s : ArenaView Gen T). s.maximum) was) k } }
 
 -- The growth of an arena is that of its queue.

@@ -1,50 +1,19 @@
 -- Writing the value at an index: its effect on entries, lists and texts.
 use Rattle.std.proofs.Common.{◌≡◌, ◌≢◌, ℕ, inl, inr, ⊎_elim, List, [], ◌∷◌, ◌++◌, Option, None, Some, refl, sym, ap, ◌∙◌, subst}
-use Rattle.std.specs.Prelude.{◌==◌, cond, is_some}
+use Rattle.std.specs.Prelude.{is_some}
 use Rattle.std.specs.Option.{option_map}
-use Rattle.std.proofs.lemmas.Bool.{cases_eq, eq-eqb, ne_eqb}
+use Rattle.std.proofs.lemmas.Bool.{cases_eq}
 use Rattle.std.proofs.lemmas.List.{map-append}
 use Rattle.chain_laws.specs.Chains.{LinkMap, linear, IsChain, IsMember, AreDistinct}
 use Rattle.arena_traits.specs.Entries.{ArenaView, ArenaState, found, first_key, index_of, with_replacement, view_with_value}
+use Rattle.arena_traits.proofs.EntrySearchLemmas.{at_first, past_first}
+use Rattle.arena_traits.proofs.EntryChangeLemmas.{valued, writes_first, writes_later, value_there, values_elsewhere}
 use Rattle.chain_examples.specs.Lists.{Item, AreEntries, indexes}
 use Rattle.chain_examples.specs.Texts.{HasNewValue}
 use Rattle.chain_examples.proofs.ItemListLemmas.{are_stored-append, are_stored-left, are_stored-right, are_stored-frame}
 use Rattle.chain_examples.proofs.DocumentLemmas.{apart, has_left, has_right}
 
 module _ {Gen T : Type 0} where
-  -- An entry with another value.
-  abbrev pub valued : T → Gen × T → Gen × T
-  valued t e = (e.0, t)
-
-  -- Lookup returns the first item at its index, or else searches the rest.
-  at_first : (e : Item Gen T) (i : ℕ) (es : List (Item Gen T)) → e.0.0 ≡ i → found i (e ∷ es) ≡ Some (e.0.1, e.1)
-  at_first e i es is = ap (λ b. cond b (Some (e.0.1, e.1)) (found i es)) (eq-eqb e.0.0 i is)
-
-  past_first : (e : Item Gen T) (i : ℕ) (es : List (Item Gen T)) → e.0.0 ≢ i → found i (e ∷ es) ≡ found i es
-  past_first e i es other = ap (λ b. cond b (Some (e.0.1, e.1)) (found i es)) (ne_eqb e.0.0 i other)
-
-  -- A write changes the first item at its index, or else the rest.
-  writes_first : (i : ℕ) (t : T) (e : Item Gen T) (es : List (Item Gen T)) → e.0.0 ≡ i → with_replacement i (valued t) (e ∷ es) ≡ ((i, e.0.1), t) ∷ es
-  writes_first i t e es is = ap (λ b. cond b (((i, e.0.1), t) ∷ es) (e ∷ with_replacement i (valued t) es)) (eq-eqb e.0.0 i is)
-
-  writes_later : (i : ℕ) (t : T) (e : Item Gen T) (es : List (Item Gen T)) → e.0.0 ≢ i → with_replacement i (valued t) (e ∷ es) ≡ e ∷ with_replacement i (valued t) es
-  writes_later i t e es other = ap (λ b. cond b (((i, e.0.1), t) ∷ es) (e ∷ with_replacement i (valued t) es)) (ne_eqb e.0.0 i other)
-
-  -- Lookup finds the new value at the index, and the old ones elsewhere.
-  pub found-written : (i : ℕ) (t : T) (es : List (Item Gen T)) → found i (with_replacement i (valued t) es) ≡ option_map (valued t) (found i es)
-  found-written i t [] = refl
-  found-written i t (e ∷ es) = ⊎_elim
-      (λ is. ap (found i) (writes_first i t e es is) ∙ (at_first ((i, e.0.1), t) i es refl ∙ sym (ap (option_map (valued t)) (at_first e i es is))))
-      (λ other. ap (found i) (writes_later i t e es other) ∙ (past_first e i (with_replacement i (valued t) es) other ∙ (found-written i t es ∙ sym (ap (option_map (valued t)) (past_first e i es other)))))
-      (cases_eq e.0.0 i)
-
-  pub found-unwritten : (k i : ℕ) (t : T) (es : List (Item Gen T)) → k ≢ i → found k (with_replacement i (valued t) es) ≡ found k es
-  found-unwritten k i t [] other = refl
-  found-unwritten k i t (e ∷ es) other = ⊎_elim
-      (λ is. ap (found k) (writes_first i t e es is) ∙ (past_first ((i, e.0.1), t) k es (λ same. other (sym same)) ∙ sym (past_first e k es (λ same. other (sym same ∙ is)))))
-      (λ differs. ap (found k) (writes_later i t e es differs) ∙ ap (cond (e.0.0 == k) (Some (e.0.1, e.1))) (found-unwritten k i t es other))
-      (cases_eq e.0.0 i)
-
   -- Indexes and the first pointer are unchanged.
   pub indexes-written : (i : ℕ) (t : T) (es : List (Item Gen T)) → indexes (with_replacement i (valued t) es) ≡ indexes es
   indexes-written i t [] = refl
@@ -98,12 +67,6 @@ module _ {Gen T : Type 0} where
 -- A value written in an arena.
 module _ {A Gen T : Type 0} {view : A → ArenaView Gen T} {entry : A → ℕ → Option (Gen × T)} (state : (a : A) → ArenaState (view a) (entry a)) (interlinks : A → LinkMap)
     (a b : A) (i : ℕ) (t : T) (was : view b ≡ view_with_value (view a) i t) where
-  pub value_there : entry b i ≡ option_map (valued t) (entry a i)
-  value_there = sym ((state b).finds i) ∙ (ap (λ (s : ArenaView Gen T). found i s.entries) was ∙ (found-written i t (view a).entries ∙ ap (option_map (valued t)) ((state a).finds i)))
-
-  pub values_elsewhere : (k : ℕ) → k ≢ i → entry b k ≡ entry a k
-  values_elsewhere k other = sym ((state b).finds k) ∙ (ap (λ (s : ArenaView Gen T). found k s.entries) was ∙ (found-unwritten k i t (view a).entries other ∙ (state a).finds k))
-
   -- The item of a text has the new value, and the others keep theirs.
   pub has_new_value : (g : Gen) → interlinks b ≡ interlinks a → HasNewValue state interlinks a b (i, g) t
   has_new_value g same = record {
@@ -114,12 +77,12 @@ module _ {A Gen T : Type 0} {view : A → ArenaView Gen T} {entry : A → ℕ �
         record {
           chain = subst (λ (l : List ℕ). IsChain (interlinks b) (linear l)) indexes_stay (subst (λ (l : LinkMap). IsChain l (linear (indexes (before ++ ((i, g), s) ∷ after)))) (sym same) is.chain);
           are_stored = are_stored-append (entry b) before (((i, g), t) ∷ after)
-              (are_stored-frame (entry a) (entry b) before (λ k has. values_elsewhere k (λ is_i. other (has_left before after i (subst (IsMember (indexes before)) is_i has)))) (are_stored-left (entry a) before (((i, g), s) ∷ after) is.are_stored))
-              (value_there ∙ ap (option_map (valued t)) right.0, are_stored-frame (entry a) (entry b) after (λ k has. values_elsewhere k (λ is_i. other (has_right before after i (subst (IsMember (indexes after)) is_i has)))) right.1);
+              (are_stored-frame (entry a) (entry b) before (λ k has. values_elsewhere state a b i t was k (λ is_i. other (has_left before after i (subst (IsMember (indexes before)) is_i has)))) (are_stored-left (entry a) before (((i, g), s) ∷ after) is.are_stored))
+              (value_there state a b i t was ∙ ap (option_map (valued t)) right.0, are_stored-frame (entry a) (entry b) after (λ k has. values_elsewhere state a b i t was k (λ is_i. other (has_right before after i (subst (IsMember (indexes after)) is_i has)))) right.1);
         };
     others = λ items absent is. record {
       chain = subst (λ (l : LinkMap). IsChain l (linear (indexes items))) (sym same) is.chain;
-      are_stored = are_stored-frame (entry a) (entry b) items (λ k has. values_elsewhere k (λ is_i. absent.0 (subst (IsMember (indexes items)) is_i has))) is.are_stored;
+      are_stored = are_stored-frame (entry a) (entry b) items (λ k has. values_elsewhere state a b i t was k (λ is_i. absent.0 (subst (IsMember (indexes items)) is_i has))) is.are_stored;
     };
     view_after = was;
     order = same;

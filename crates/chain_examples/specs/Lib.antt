@@ -4,3 +4,4 @@ pub mod Texts
 pub mod QueueOrder
 pub mod Rows
 pub mod Sizes
+pub mod Owners

@@ -1,8 +1,9 @@
 //! Short functions on any arena of links, proved from the contract of `ChainArenaTrait` alone.
 //!
-//! `docs/PROOF_GUIDE.md` explains them. Only the last, `after`, needs a proof written by hand.
+//! `docs/PROOF_GUIDE.md` explains them. Only the last two, `after` and `set_owners`, need a proof
+//! written by hand.
 
-ghost use Rattle.std.specs.Prelude.{◌≡◌, ◌↔◌, ℕ, List, None, Some, IsSome, IfSome, IsTrue, IsFalse, IfOk, OnErr};
+ghost use Rattle.std.specs.Prelude.{◌≡◌, ◌↔◌, ℕ, List, None, Some, IsSome, IfSome, OnSome, IfNone, IsTrue, IsFalse, IfOk, OnErr};
 ghost use Rattle.std.specs.Option.{option_map};
 ghost use Rattle.chain_laws.specs.Chains.{linear, cyclic, IsChain, first_or, last_or, next_of};
 ghost use Rattle.chain_laws.specs.declared.insert_kind.InsertKind.TheVariants.{NextTo};
@@ -11,10 +12,12 @@ ghost use Rattle.arena_traits.specs.Arena.{IsValid};
 ghost use Rattle.chain_links.specs.CallEffects.{IsConnected, IsRemoved};
 ghost use Rattle.chain_links.specs.ChainArena.{CanConnect};
 ghost use Rattle.chain_links.specs.Insertions.{InsertsLink};
+ghost use Rattle.chain_examples.specs.Owners.{GivesOwners};
 
 use arena_ptr::{AnyPointer, ChainInsertionError, GenKey, InxKey, PtrKey};
 use chain_links::LinkInsertKind;
 use chain_traits::ChainArenaTrait;
+use chain_traits::walks::for_each_in_chain;
 
 /// Connects `p` to `q`, so that `q` is the link after `p`, and returns whether it succeeded.
 ///
@@ -109,4 +112,20 @@ pub fn after<P: PtrKey, T: Drop, A: ChainArenaTrait<P, T>>(arena: &A, p: P) -> O
         Some(link) => link.next(),
         None => None,
     }
+}
+
+/// Gives each link of the chain of `p` another owner, which is the second part of its value.
+///
+/// Returns `None` if `p` is not valid; the arena is unchanged then.
+pub fn set_owners<P: PtrKey, K: Drop, A: ChainArenaTrait<P, (K, P)>>(
+    arena: &mut A,
+    p: P,
+    owner: P,
+) -> Option<()>
+    ensures owners { OnSome result (GivesOwners (A.entry arena.old) (A.entry arena.new)
+        (A.interlinks arena.old) (P.key p).0 owner) }
+    ensures links { A.interlinks arena.new ≡ A.interlinks arena.old }
+    ensures none { IfNone result (arena.new ≡ arena.old) }
+{
+    for_each_in_chain(arena, p, |_q: P, value: &mut (K, P)| value.1 = owner)
 }

@@ -9,19 +9,11 @@ use Rattle.chain_laws.specs.Chains.{LinkMap, IsWellLinked}
 use Rattle.chain_laws.specs.Removals.{with_removal, Removes}
 use Rattle.chain_laws.proofs.RemovalLemmas.Chains.{removed_removes}
 use Rattle.arena_traits.specs.Arena.{IsValid}
-use Rattle.arena_traits.specs.Entries.{ArenaView, ArenaState, count, found, without_index, AscendsFrom, view_after_removal}
+use Rattle.arena_traits.specs.Entries.{ArenaView, ArenaState, count, found, without_index, view_after_removal}
 use Rattle.arena_traits.specs.CallOutcomes.{IsEntryRemoved, RemovesEntry}
-use Rattle.arena_traits.proofs.EntrySearchLemmas.{found-gone, found-kept}
+use Rattle.arena_traits.proofs.EntryChangeLemmas.{entry_gone, entry_kept}
 
 module _ {Gen T : Type 0} where
-  -- A removal empties its index and changes no other entry.
-  module _ (entry after : ℕ → Option (Gen × T)) (es fs : List ((ℕ × Gen) × T)) (n : ℕ) (ascends : AscendsFrom 1 es) (was : (i : ℕ) → found i es ≡ entry i) (finds : (i : ℕ) → found i fs ≡ after i) (gone : fs ≡ without_index n es) where
-    pub entry_gone : after n ≡ None
-    entry_gone = sym (finds n) ∙ (ap (found n) gone ∙ found-gone n 1 es ascends)
-
-    pub entry_kept : (i : ℕ) → i ≢ n → after i ≡ entry i
-    entry_kept i other = sym (finds i) ∙ (ap (found i) gone ∙ (found-kept i n es other ∙ was i))
-
   -- A removal leaves one entry less.
   pub one_less : (i : ℕ) (es : List ((ℕ × Gen) × T)) → is_some (found i es) ≡ true → suc (length (without_index i es)) ≡ length es
   one_less i [] some = absurd (let h = some in cc)
@@ -61,8 +53,8 @@ module _ {A Gen T : Type 0} {view : A → ArenaView Gen T} {entry : A → ℕ �
       value = λ v. let both = sym removed.0 ∙ v.stored in ap Some (ap (λ (e : Gen × T). e.1) (ap (λ (o : Option (Gen × T)). unwrap_or o ((pointers.key p).1, t)) both));
       some = λ is. record {
         was_stored = record { value = t; stored = removed.0 };
-        gone = entry_gone (entry old) (entry new) (view old).entries (view new).entries (pointers.key p).0 (state old).ascends (state old).finds (state new).finds entries;
-        kept = entry_kept (entry old) (entry new) (view old).entries (view new).entries (pointers.key p).0 (state old).ascends (state old).finds (state new).finds entries;
+        gone = entry_gone state old new (pointers.key p).0 entries;
+        kept = entry_kept state old new (pointers.key p).0 entries;
         relinked = passed;
         chains = subst (λ (l : LinkMap). Removes (links old) l (pointers.key p).0) (sym passed) (removed_removes (links old) (pointers.key p).0 agrees);
         one_fewer = let one = one_less (pointers.key p).0 (view old).entries (ap is_some ((state old).finds (pointers.key p).0) ∙ ap is_some removed.0) in let many = ap length entries in omega arith;

@@ -5,3 +5,4 @@ pub mod GenericRemovalLemmas
 pub mod AdvancerWalkLemmas
 pub mod SecondCompressionLemmas
 pub mod LinkOrderLemmas
+pub mod ChainVisitLemmas

@@ -1,2 +1,3 @@
 pub mod DrainOrder
 pub mod CompressionLaws
+pub mod ChainVisits

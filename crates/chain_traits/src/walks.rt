@@ -1,8 +1,9 @@
 //! Walks along one chain, in any arena of links.
-ghost use Rattle.std.specs.Prelude.{◌≡◌, ◌↔◌, IsSome, IfSome, IfOk, All, map};
+ghost use Rattle.std.specs.Prelude.{◌≡◌, ◌↔◌, IsSome, IfSome, IfNone, IfOk, All, map};
 ghost use Rattle.chain_laws.specs.Walks.{IsWalk, passes_ahead, walker_at};
 ghost use Rattle.arena_traits.specs.Arena.{IsValid};
 ghost use Rattle.arena_traits.specs.Entries.{count};
+ghost use Rattle.chain_traits.specs.ChainVisits.{VisitsChain};
 
 use crate::chain_traits::ChainArenaTrait;
 use arena_ptr::{InxKey, PtrKey};
@@ -52,4 +53,42 @@ pub fn walk<P: PtrKey, T: Drop, A: ChainArenaTrait<P, T>>(
         ptrs.push(q)?;
     }
     Ok(Some(ptrs))
+}
+
+/// Calls a closure with the pointer and the value of each link of one chain, to write the values.
+///
+/// It is called once for each link, in walk order: from `p` to the end, then from the link before
+/// `p` back to the start; a cyclic chain once around. Pointers, interlinks and the values of all
+/// other chains stay. Returns `Some` exactly if `p` is valid. Otherwise returns `None` and changes
+/// nothing. Does not allocate.
+///
+/// # Examples
+///
+/// ```rust
+/// let mut arena: ChainArena<ToolPtr, u32> = ChainArena::new(alloc);
+/// let a = arena.insert_reallocating(LinkInsertKind::Disconnected, 1)?;
+/// let b = arena.insert_reallocating(LinkInsertKind::ChainEnd(a), 2)?;
+/// for_each_in_chain(&mut arena, a, |_, value| *value = 7); // 7, 7
+/// assert!(rt; arena.get(a) == Some(&7) && arena.get(b) == Some(&7));
+/// ```
+pub fn for_each_in_chain<P: PtrKey, T: Drop, A: ChainArenaTrait<P, T>, F: FnMut(P, &mut T) + Drop>(
+    arena: &mut A,
+    p: P,
+    mut f: F,
+) -> Option<()>
+    requires { F.IsAlwaysCallable f }
+    ensures outcome { VisitsChain A.state A.interlinks F.FnMut P.key f arena.old p result arena.new }
+    ensures none { IfNone result (arena.new ≡ arena.old) }
+{
+    advancer_passes_the_walk(&*arena, p);
+    let mut along = match arena.advancer_chain(p) {
+        Some(along) => along,
+        None => return None,
+    };
+    while let Some(q) = along.advance(&*arena) {
+        if let Some(value) = arena.get_mut(q) {
+            f(q, value);
+        }
+    }
+    Some(())
 }

@@ -3,10 +3,10 @@
 //! It knows only the contract of that arena, so it is an arena of links by the trait clauses alone.
 
 use arena_ptr::{
-    AllocError, AnyPointer, ChainInsertionError, InvalidationOption, InvalidationResult, PtrKey,
-    ReallocationError,
+    AllocError, AnyPointer, ChainInsertionError, InvalidationOption, InvalidationResult,
+    NotWithinCapacityError, PtrKey, ReallocationError,
 };
-use arena_traits::{Advancer, ArenaTrait, CompactArenaTrait};
+use arena_traits::{Advancer, ArenaTrait, CompactArenaTrait, PlainArenaTrait};
 use chain_links::{Link, LinkInsertKind, LinkNoGen};
 use chain_traits::ChainArenaTrait;
 use std::alloc::Global;
@@ -174,6 +174,18 @@ impl<P: PtrKey, T: Drop, A: ArenaTrait<P, T>> ArenaTrait<P, T> for ForwardingAre
 
 impl<P: PtrKey, T: Drop, A: CompactArenaTrait<P, T>> CompactArenaTrait<P, T>
     for ForwardingArena<A> {}
+
+impl<P: PtrKey, T: Drop, A: PlainArenaTrait<P, T>> PlainArenaTrait<P, T> for ForwardingArena<A> {
+    ghost inserts = { λ v t w. A.inserts v.inner t w.inner };
+
+    fn insert_within_capacity(&mut self, t: T) -> Result<P, NotWithinCapacityError> {
+        self.inner.insert_within_capacity(t)
+    }
+
+    fn insert_reallocating(&mut self, t: T) -> Result<P, ReallocationError> {
+        self.inner.insert_reallocating(t)
+    }
+}
 
 impl<P: PtrKey, T: Drop, A: ChainArenaTrait<P, T>> ChainArenaTrait<P, T> for ForwardingArena<A> {
     ghost use Rattle.std.specs.Prelude.{◌≡◌, ◌↔◌, IsTrue, IfOk, OnErr};

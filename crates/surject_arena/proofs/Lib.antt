@@ -6,3 +6,4 @@ mod SetChangeLemmas
 mod RedirectLemmas
 mod CallLemmas
 mod UnionLemmas
+mod KeySetLemmas

@@ -1,6 +1,7 @@
 -- Optional values, and those that a function was applied to.
 use Rattle.std.proofs.Common.{◌≡◌, Option, None, Some, refl, sym, ap, ◌∙◌}
 use Rattle.std.specs.Option.{option_map}
+use Rattle.std.specs.Prelude.{IfSome, is_some, true}
 
 pub same_some : {X : Type 0} (a b : X) → Some a ≡ Some b → a ≡ b
 same_some a b is = cc
@@ -16,3 +17,8 @@ from_mapped f (Some x) y is = (x, refl, same_some (f x) y is)
 pub mapped_twice : {X Y Z : Type 0} (f : X → Y) (g : Y → Z) (o : Option X) → option_map g (option_map f o) ≡ option_map (λ x. g (f x)) o
 mapped_twice f g None = refl
 mapped_twice f g (Some x) = refl
+
+-- A fact of what was returned implies another, since something was.
+pub if_some_to : {R V : Type 0} {X Z : R → Type 0} (o : Option R) → (is_some o ≡ true → V) → IfSome o X → (V → (r : R) → X r → Z r) → IfSome o Z
+if_some_to None valid holds so = tt
+if_some_to (Some r) valid holds so = so (valid refl) r holds

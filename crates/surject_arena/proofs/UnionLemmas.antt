@@ -9,7 +9,7 @@ use Rattle.chain_laws.specs.Chains.{LinkMap, next_of}
 use Rattle.chain_laws.specs.Exchanges.{Exchanges}
 use Rattle.chain_links.specs.CallEffects.{ExchangesNext, IsExchanged}
 use Rattle.chain_links.specs.ChainArena.{CanExchange}
-use Rattle.surject_arena.specs.Partitions.{counted, member_view, counted_view, set_in, size_in, IsSet, IsPartition, AreRedirected}
+use Rattle.surject_arena.specs.Partitions.{counted, member_view, counted_view, set_in, size_in, IsSet, IsPartition, AreRedirected, IsRedirection}
 use Rattle.surject_arena.specs.Surjections.{Surjection, map_view, IsKeyOf, HasValue}
 use Rattle.surject_arena.specs.SetCalls.{IsAbsorbed}
 use Rattle.surject_arena.specs.declared.members.Member.{Member}
@@ -59,29 +59,28 @@ module _ {A B P Gen K V : Type 0} (key : P → ℕ × Gen) (following : Gen → 
   set_w : IsSet (set_in key (kentry a0)) (links a0) (key w) m
   set_w = is.sets (key w) m was_w
 
-  module _ (redirects : IsValid (kentry a0) (key q) → AreRedirected (kentry a0) (kentry a1) (links a0) (key q).0 v) (indexes : map index_of (kview a1).entries ≡ map index_of (kview a0).entries)
-      (frame : kview a1 ≡ with_entries (kview a0) (kview a1).entries) (same_links : links a1 ≡ links a0) (e : Option Unit) (exchanges : ExchangesNext kstate links key a1 p q e a2)
+  module _ (redirection : IsRedirection kstate links key a0 q v a1) (e : Option Unit) (exchanges : ExchangesNext kstate links key a1 p q e a2)
       (writes : (t : V) (x : ℕ) → ventry b0 (key v).0 ≡ Some ((key v).1, counted t x) → vview b1 ≡ view_with_value (vview b0) (key v).0 (counted t (n + m))) (o : Option V)
       (takes : (t : V) (x : ℕ) → ventry b1 (key w).0 ≡ Some ((key w).1, counted t x) → (o ≡ Some t) × (vview b2 ≡ view_after_removal following (vview b1) (key w).0)) where
     can : CanExchange (kentry a1) (links a1) (key p) (key q)
     can = record {
-      first_valid = still_valid key (kentry a0) (kentry a1) (links a0) (key q).0 v (key w) m (redirects in_w.0) set_w in_w.1 (key p) in_v.0;
-      second_valid = still_valid key (kentry a0) (kentry a1) (links a0) (key q).0 v (key w) m (redirects in_w.0) set_w in_w.1 (key q) in_w.0;
-      first_next = subst (λ (l : LinkMap). is_some (next_of l (key p).0) ≡ true) (sym same_links) (has_next key kstate vstate a0 b0 r (links a0) is (key p).0 (key v) in_v.1);
-      second_next = subst (λ (l : LinkMap). is_some (next_of l (key q).0) ≡ true) (sym same_links) (has_next key kstate vstate a0 b0 r (links a0) is (key q).0 (key w) in_w.1);
+      first_valid = still_valid key (kentry a0) (kentry a1) (links a0) (key q).0 v (key w) m (redirection.redirected in_w.0) set_w in_w.1 (key p) in_v.0;
+      second_valid = still_valid key (kentry a0) (kentry a1) (links a0) (key q).0 v (key w) m (redirection.redirected in_w.0) set_w in_w.1 (key q) in_w.0;
+      first_next = subst (λ (l : LinkMap). is_some (next_of l (key p).0) ≡ true) (sym redirection.same_links) (has_next key kstate vstate a0 b0 r (links a0) is (key p).0 (key v) in_v.1);
+      second_next = subst (λ (l : LinkMap). is_some (next_of l (key q).0) ≡ true) (sym redirection.same_links) (has_next key kstate vstate a0 b0 r (links a0) is (key q).0 (key w) in_w.1);
     }
 
     made : IsExchanged kstate links a1 a2 (key p).0 (key q).0
     made = exchange_made kstate links key a1 a2 p q e exchanges can
 
     merged : Exchanges (links a0) (links a2) (key p).0 (key q).0
-    merged = subst (λ (l : LinkMap). Exchanges l (links a2) (key p).0 (key q).0) same_links made.chains
+    merged = subst (λ (l : LinkMap). Exchanges l (links a2) (key p).0 (key q).0) redirection.same_links made.chains
 
     same : (i : ℕ) → kentry a2 i ≡ kentry a1 i
     same = same_entries kstate a1 a2 (ap (λ (s : ArenaView Gen (Member P K)). s.entries) made.view_after)
 
     redirected : AreRedirected (kentry a0) (kentry a2) (links a0) (key q).0 v
-    redirected = let is_redirected = redirects in_w.0 in record {
+    redirected = let is_redirected = redirection.redirected in_w.0 in record {
       items = is_redirected.items;
       walk = is_redirected.walk;
       there = λ i has. same i ∙ is_redirected.there i has;
@@ -111,8 +110,8 @@ module _ {A B P Gen K V : Type 0} (key : P → ℕ × Gen) (following : Gen → 
       sets = λ i not_w. set_seen key kstate vstate a2 b2 s i
           ∙ (stayed key (kentry a0) (kentry a2) (links a0) (key q).0 v (key w) m redirected set_w in_w.1 i (λ at. not_w (set_seen key kstate vstate a0 b0 r i ∙ at)) ∙ sym (set_seen key kstate vstate a0 b0 r i));
       keys = λ i. key_seen key kstate vstate a2 b2 s i ∙ (keys_stayed key (kentry a0) (kentry a2) (links a0) (key q).0 v (key w) m redirected set_w in_w.1 i ∙ sym (key_seen key kstate vstate a0 b0 r i));
-      indexes = index-each (member_view key) (kview a2).entries ∙ (ap (λ (x : ArenaView Gen (Member P K)). map index_of x.entries) made.view_after ∙ (indexes ∙ sym (index-each (member_view key) (kview a0).entries)));
-      key_sizes = ap (map_view (member_view key)) (made.view_after ∙ (frame ∙ ap (λ (x : ArenaView Gen (Member P K)). with_entries (kview a0) x.entries) (sym made.view_after)));
+      indexes = index-each (member_view key) (kview a2).entries ∙ (ap (λ (x : ArenaView Gen (Member P K)). map index_of x.entries) made.view_after ∙ (redirection.indexes ∙ sym (index-each (member_view key) (kview a0).entries)));
+      key_sizes = ap (map_view (member_view key)) (made.view_after ∙ (redirection.rest ∙ ap (λ (x : ArenaView Gen (Member P K)). with_entries (kview a0) x.entries) (sym made.view_after)));
       value = value_v.0;
       size = n;
       more = m;

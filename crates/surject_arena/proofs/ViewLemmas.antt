@@ -7,7 +7,7 @@ use Rattle.arena_core.specs.SlotStack.{IsBeyond}
 use Rattle.arena_core.specs.declared.errors.ReallocationError.{ReallocationError}
 use Rattle.arena_core.specs.declared.errors.ReallocationError.TheVariants as refused
 use Rattle.arena_traits.specs.Arena.{IsInserted, IsValid}
-use Rattle.arena_traits.specs.Entries.{ArenaView, ArenaState, AscendsFrom, Slots, count, found, index_of, next_slot, with_next_filled, with_replacement, without_index, view_with_value, view_after_removal}
+use Rattle.arena_traits.specs.Entries.{ArenaView, ArenaState, AscendsFrom, Slots, IsNew, count, found, index_of, next_slot, with_next_filled, with_replacement, without_index, view_with_value, view_after_removal}
 use Rattle.arena_traits.specs.Growth.{RefusesOneMore, GrowsToFit, GrowsForOneMore}
 use Rattle.chain_links.specs.ChainArena.{on_value}
 use Rattle.surject_arena.specs.Surjections.{map_view, entry_in}
@@ -64,6 +64,9 @@ module _ {Gen X Y : Type 0} (f : X → Y) where
 
   pub written-each : (s : ArenaView Gen X) (i : ℕ) (t : X) → map_view f (view_with_value s i t) ≡ view_with_value (map_view f s) i (f t)
   written-each s i t = ap (with_entries (map_view f s)) (sym (with_replacement-each i t s.entries))
+
+  pub new-each : (first : Gen) (s : ArenaView Gen X) → IsNew first s → IsNew first (map_view f s)
+  new-each first s is = record { entries = ap (map each) is.entries; counter = is.counter; slots = is.slots }
 
   pub count-each : (s : ArenaView Gen X) → count (map_view f s) ≡ count s
   count-each s = length-map s.entries each

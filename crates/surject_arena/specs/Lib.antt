@@ -1,3 +1,4 @@
+pub mod KeySets
 pub mod Partitions
 pub mod SetCalls
 pub mod Surjections

@@ -1,11 +1,12 @@
 -- Keys in sets: each set is one cyclic chain of keys, and its value counts them.
 --
 -- Inside the crate only. A set is named by the index and generation of its value.
-use Rattle.std.specs.Prelude.{◌≡◌, ◌≢◌, ◌↔◌, ℕ, List, length, Option, None, Some}
+use Rattle.std.specs.Prelude.{◌≡◌, ◌≢◌, ◌↔◌, ℕ, List, length, map, Option, None, Some}
 use Rattle.std.specs.Option.{option_map}
 use Rattle.chain_laws.specs.Chains.{LinkMap, cyclic, IsChain, IsMember}
 use Rattle.chain_laws.specs.Walks.{IsWalk}
-use Rattle.arena_traits.specs.Entries.{ArenaView}
+use Rattle.arena_traits.specs.Arena.{IsValid}
+use Rattle.arena_traits.specs.Entries.{ArenaView, ArenaState, index_of}
 use Rattle.surject_arena.specs.Surjections.{Surjection, map_view}
 use Rattle.surject_arena.specs.declared.members.Member.{Member}
 use Rattle.surject_arena.specs.declared.members.Counted.{Counted}
@@ -59,3 +60,10 @@ pub record AreRedirected {P Gen K : Type 0} (entry after : ℕ → Option (Gen �
   pub walk : IsWalk links j items
   pub there : (i : ℕ) → IsMember items i → after i ≡ option_map (λ e. (e.0, member e.1.key w)) (entry i)
   pub rest : (i : ℕ) → (IsMember items i → ⊥) → after i ≡ entry i
+
+-- The chain of q is redirected to w, if q is valid. Only values of entries change.
+pub record IsRedirection {A P Gen K : Type 0} {view : A → ArenaView Gen (Member P K)} {entry : A → ℕ → Option (Gen × Member P K)} (state : (a : A) → ArenaState (view a) (entry a)) (links : A → LinkMap) (key : P → ℕ × Gen) (old : A) (q w : P) (new : A) : Type 0 where
+  pub redirected : IsValid (entry old) (key q) → AreRedirected (entry old) (entry new) (links old) (key q).0 w
+  pub indexes : map index_of (view new).entries ≡ map index_of (view old).entries
+  pub rest : view new ≡ record (view old) { entries = (view new).entries }
+  pub same_links : links new ≡ links old

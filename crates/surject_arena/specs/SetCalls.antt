@@ -7,9 +7,11 @@ use Rattle.arena_core.specs.PointerKinds.{PointerKind}
 use Rattle.arena_core.specs.declared.errors.ChainInsertionError.{ChainInsertionError}
 use Rattle.arena_core.specs.declared.errors.ReallocationError.{ReallocationError}
 use Rattle.arena_core.specs.declared.invalidation.InvalidationResult.{InvalidationResult}
-use Rattle.arena_traits.specs.Arena.{IsInserted}
+use Rattle.arena_core.specs.Invalidation.{invalidation_option}
+use Rattle.arena_core.specs.declared.invalidation.InvalidationOption.{InvalidationOption}
+use Rattle.arena_traits.specs.Arena.{IsInserted, overflows_after_clear}
 use Rattle.arena_traits.specs.CallOutcomes.{ReportsOverflow}
-use Rattle.arena_traits.specs.Entries.{ArenaView, IsNew, index_of, count, with_capacity, next_slot, with_next_filled, view_with_value, view_after_removal}
+use Rattle.arena_traits.specs.Entries.{ArenaView, IsNew, index_of, count, with_capacity, next_slot, with_next_filled, view_with_value, view_after_removal, view_after_clear}
 use Rattle.arena_traits.specs.Growth.{IsGrowthResult, RefusesOneMore, GrowsForOneMore}
 use Rattle.chain_links.specs.Insertions.{IsInsertionResult}
 use Rattle.surject_arena.specs.Surjections.{Surjection, entry_in, key_at, set_at, IsKey, IsKeyOf, HasValue, AreKeysOf}
@@ -25,6 +27,10 @@ pub record IsAdded {Gen X : Type 0} (old : ArenaView Gen X) (x : X) (p : ℕ × 
   pub counter : new.counter ≡ old.counter
   pub maximum : new.maximum ≡ old.maximum
 
+-- A view of a new arena, with capacity for n entries.
+abbrev pub IsNewFor : {Gen X : Type 0} → Gen → ℕ → ℕ → ArenaView Gen X → Type 0
+IsNewFor first greatest n a = IsNew first a × (n ≤ a.capacity) × (n ≤ greatest) × IsWithinMaximum a.maximum n
+
 module _ {Gen K V : Type 0} where
   -- `new`: there are no keys and no values, and no capacity.
   pub record StartsEmpty (first : Gen) (s : Surjection Gen K V) : Type 0 where
@@ -33,6 +39,11 @@ module _ {Gen K V : Type 0} where
     pub key_capacity : s.keys.capacity ≡ 0
     pub value_capacity : s.values.capacity ≡ 0
     pub redirected : s.redirected ≡ 0
+
+  -- `with_capacity`: there are no keys and no values, and capacity for so many, or there could not be.
+  abbrev pub StartsWithCapacities : {E : Type 0} → Gen → ℕ → ℕ → ℕ → Result (Surjection Gen K V) E → Type 0
+  StartsWithCapacities first greatest n m (Ok s) = IsNewFor first greatest n s.keys × IsNewFor first greatest m s.values × (s.redirected ≡ 0)
+  StartsWithCapacities first greatest n m (Err why) = (0 < n) ⊎ (0 < m)
 
   module _ (old new : Surjection Gen K V) where
     -- Only the capacity for keys may have grown.
@@ -138,6 +149,15 @@ module _ {Gen K V : Type 0} where
   abbrev pub ReplacesValueOf : {P : Type 0} → (P → ℕ × Gen) → Surjection Gen K V → P → V → Option V → Surjection Gen K V → Type 0
   ReplacesValueOf key old p t None new = IsKey old (key p) → ⊥
   ReplacesValueOf key old p t (Some former) new = IsValueReplaced old new (key p) t former
+
+  -- `clear`: no keys and values are left, and whether the counter of keys wrapped is reported.
+  abbrev pub ClearsSets : {P I W : Type 0} → PointerKind P I Gen W → Surjection Gen K V → InvalidationOption Unit → Surjection Gen K V → Type 0
+  ClearsSets pointers old result new = record {
+    keys : new.keys ≡ view_after_clear pointers.following old.keys;
+    values : new.values ≡ view_after_clear pointers.following old.values;
+    redirected : new.redirected ≡ old.redirected;
+    overflow : IfSome old.keys.counter (λ g. result ≡ invalidation_option (overflows_after_clear pointers.wraps (count old.keys) g) tt);
+  }
 
   -- `get_key`, `get_val`, `len_key_set`: the key of p, the value of its set, and how many keys have
   -- it, if p is valid.

@@ -6,10 +6,12 @@
 //! and taken apart.
 #![tactic(auto)]
 
+mod key_set;
 mod keys;
 mod members;
 mod surject;
 mod values;
 
+pub use key_set::KeySet;
 pub use members::{Counted, Member};
 pub use surject::SurjectArena;

@@ -6,13 +6,16 @@ ghost use Rattle.arena_traits.specs.Arena.{IsValid};
 ghost use Rattle.arena_traits.specs.Entries.{AscendsFrom, count, HasFreeCapacity};
 ghost use Rattle.arena_traits.specs.Growth.{GrowsForOneMore, RefusesOneMore, IsGrowthResult};
 ghost use Rattle.surject_arena.specs.Surjections.{IsKey, IsKeyOf, AreInOneSet, IsSurjection};
-ghost use Rattle.surject_arena.specs.SetCalls.{StartsEmpty, IsSetAdded, IsAbsorbed, InsertsSet, InsertsKey, UnitesSets, RemovesKey, ReplacesValueOf, ReadsKey, ReadsValue, CountsKeys, GrowsKeys};
+ghost use Rattle.surject_arena.specs.KeySets.{ListsSet};
+ghost use Rattle.surject_arena.specs.SetCalls.{StartsEmpty, StartsWithCapacities, ClearsSets, IsSetAdded, IsAbsorbed, InsertsSet, InsertsKey, UnitesSets, RemovesKey, ReplacesValueOf, ReadsKey, ReadsValue, CountsKeys, GrowsKeys};
 
+use crate::key_set::{KeySet, keys_from};
 use crate::keys::{is_in_set, redirect, set_of};
 use crate::members::{Counted, Member};
 use crate::values::{release, replace_value, set_size, size_of, take_value};
 use arena_ptr::{
-    AnyPointer, ChainInsertionError, GenKey, InvalidationResult, InxKey, PtrKey, ReallocationError,
+    AllocError, AnyPointer, ChainInsertionError, GenKey, InvalidationOption, InvalidationResult,
+    InxKey, PtrKey, ReallocationError,
 };
 use arena_traits::{ArenaTrait, PlainArenaTrait};
 use chain_links::LinkInsertKind;
@@ -78,6 +81,30 @@ impl<
             values: B::new(alloc),
             redirected: 0,
             of: PhantomData,
+        }
+    }
+
+    /// Returns an arena without keys and values, with a capacity of at least so many of each.
+    ///
+    /// # Errors
+    ///
+    /// `AllocError`: `keys` or `values` is above the greatest index or the maximum of a new stack,
+    /// or an allocation failed.
+    pub fn with_capacity(alloc: Global, keys: usize, values: usize) -> Result<Self, AllocError>
+        ensures { StartsWithCapacities P.Gen.first P.Inx.greatest keys values result }
+    {
+        let keys = match A::with_min_capacity(alloc, keys) {
+            Ok(keys) => keys,
+            Err(e) => return Err(e),
+        };
+        match B::with_min_capacity(alloc, values) {
+            Ok(values) => Ok(SurjectArena {
+                keys,
+                values,
+                redirected: 0,
+                of: PhantomData,
+            }),
+            Err(e) => Err(e),
         }
     }
 
@@ -182,6 +209,16 @@ impl<
             },
             None => None,
         }
+    }
+
+    /// Returns an iterator over the pointers of the keys in the set of `p`, each once, or `None` if
+    /// `p` is not the pointer of a key.
+    ///
+    /// It begins with `p` and does not allocate.
+    pub fn key_set(&self, p: P) -> Option<KeySet<'_, P, K, A>>
+        ensures { ListsSet self.now P.key p result }
+    {
+        keys_from(&self.keys, p)
     }
 
     // Grows to a capacity for one more key, if there is none.
@@ -305,6 +342,17 @@ impl<
             Some(w) => replace_value(&mut self.values, w, v),
             None => None,
         }
+    }
+
+    /// Removes all keys and values. The capacities stay.
+    ///
+    /// Each counter is incremented once if there were entries. Returns `GenerationOverflow` if that
+    /// of the keys wrapped to two.
+    pub fn clear(&mut self) -> InvalidationOption<()>
+        ensures { ClearsSets ⟦<P as AnyPointer>⟧.pointers self.old result self.new }
+    {
+        self.values.clear();
+        self.keys.clear()
     }
 
     // Puts the keys of the set `w`, of which `q` is one, into the set `v`, of which `p` is one.

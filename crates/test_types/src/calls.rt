@@ -7,7 +7,7 @@ use arena_ptr::{AllocError, InvalidationOption, InvalidationResult, PtrKey};
 use arena_traits::{Advancer, ArenaTrait};
 use chain_links::{Link, LinkInsertKind, LinkNoGen};
 use chain_traits::ChainArenaTrait;
-use chain_traits::walks::walk;
+use chain_traits::walks::{for_each_in_chain, walk};
 use std::alloc::Global;
 use std::mem;
 
@@ -200,6 +200,16 @@ fn take_next<P: PtrKey, A: ChainArenaTrait<P, u32>>(arena: &mut A, i: P::Inx) ->
     }
 }
 
+// Adds ten times the number of the closure's call to each value of a chain.
+fn write_chain<P: PtrKey, A: ChainArenaTrait<P, u32>>(arena: &mut A, p: P) -> bool {
+    let mut calls = 0u32;
+    for_each_in_chain(arena, p, |_q: P, t: &mut u32| {
+        calls = calls.saturating_add(10);
+        *t = t.saturating_add(calls);
+    })
+    .is_some()
+}
+
 fn lookup<P: Numbered, A: ArenaTrait<P, u32> + Drop>(
     alloc: Global,
     arena: &A,
@@ -249,6 +259,7 @@ pub fn run_arena_call<P: Numbered, A: ArenaTrait<P, u32> + Drop>(
     match parsed.call {
         Do::Write => text(alloc, overwrite(arena.get_mut(parsed.p), parsed.t)),
         Do::WriteInx => text(alloc, overwrite(arena.get_inx_mut(parsed.i), parsed.t)),
+        Do::Replace => text(alloc, arena.replace(parsed.p, parsed.t)),
         Do::Remove => text(alloc, arena.remove(parsed.p)),
         Do::RemoveInx => {
             let removed = arena.remove_inx(parsed.i);
@@ -357,6 +368,7 @@ fn change_links<P: Numbered, A: ChainArenaTrait<P, u32> + Drop>(
                 .arrange_chain(&order_of(alloc, parsed.numbers))
                 .is_some(),
         ),
+        Do::WriteChain => text(alloc, write_chain(arena, parsed.p)),
         Do::RemoveLink => text(alloc, bare_removal::<P>(arena.remove_link_no_gen(parsed.p))),
         Do::Canonical => text(alloc, arena.compress_canonical(parsed.n > 0)),
         Do::TakeNext => text(alloc, take_next(arena, parsed.i)),

@@ -46,6 +46,7 @@ pub enum Do {
     Changes,
     // Changes of links. `InsertMany` counts the links inserted. `Linked 4 1 2 0 3 3` inserts four
     // lone links, and connects 1 with 2 and 3 with itself. `Arrange` has up to four pointers.
+    // `WriteChain` adds ten times the number of the closure's call to each value of a chain.
     Insert,
     InsertMany,
     Linked,
@@ -58,6 +59,7 @@ pub enum Do {
     MoveAfter,
     SpliceAfter,
     Arrange,
+    WriteChain,
     RemoveLink,
     Canonical,
     TakeNext,
@@ -65,6 +67,7 @@ pub enum Do {
     // the closure's arguments. A plain arena has `Insert`, `InsertMany` and `InsertWithin`, too.
     Write,
     WriteInx,
+    Replace,
     Remove,
     RemoveInx,
     Invalidate,
@@ -79,13 +82,18 @@ pub enum Do {
     CarryAsFive,
     CarryToFull,
     CarryToBare,
-    // Calls of a plain arena. A vacant entry is filled, or dropped. `Slots` counts the slots,
+    // Calls of a plain arena. `InsertByTrait` and `WithinByTrait` are those of its trait, and
+    // `InsertForwarded` inserts into a forwarding arena over a new one, by each of the two. A vacant
+    // entry is filled, or dropped. `Slots` counts the slots,
     // `Entries` lists the entries, and `Drain` leaves no entry. `Compact` moves an entry to a
     // second pointer, and `CompactWriting` first overwrites its value. `CopyHole` copies three
     // entries without the second.
     Generation,
     SetGeneration,
     IncGeneration,
+    InsertByTrait,
+    WithinByTrait,
+    InsertForwarded,
     InsertByEntry,
     DropEntry,
     Slots,
@@ -166,19 +174,19 @@ const LINK_READS: [(&str, Do); 11] = named!(
     Changes
 );
 
-const LINK_CHANGES: [(&str, Do); 15] = named!(
+const LINK_CHANGES: [(&str, Do); 16] = named!(
     Insert InsertMany Linked InsertWithin Connect BreakPrev BreakNext Exchange Reverse MoveAfter
-    SpliceAfter Arrange RemoveLink Canonical TakeNext
+    SpliceAfter Arrange WriteChain RemoveLink Canonical TakeNext
 );
 
-const CHANGES: [(&str, Do); 14] = named!(
-    Write WriteInx Remove RemoveInx Invalidate Clear ClearAndReserve Reserve Compress CompressWith
-    CarryOut CarryAsFive CarryToFull CarryToBare
+const CHANGES: [(&str, Do); 15] = named!(
+    Write WriteInx Replace Remove RemoveInx Invalidate Clear ClearAndReserve Reserve Compress
+    CompressWith CarryOut CarryAsFive CarryToFull CarryToBare
 );
 
-const PLAIN_CALLS: [(&str, Do); 13] = named!(
-    Generation SetGeneration IncGeneration InsertByEntry DropEntry Slots Entries Drain Compact
-    CompactWriting DropCompactor ForgetCompactor CopyHole
+const PLAIN_CALLS: [(&str, Do); 16] = named!(
+    Generation SetGeneration IncGeneration InsertByTrait WithinByTrait InsertForwarded InsertByEntry
+    DropEntry Slots Entries Drain Compact CompactWriting DropCompactor ForgetCompactor CopyHole
 );
 
 const OWN_READS: [(&str, Do); 21] = named!(

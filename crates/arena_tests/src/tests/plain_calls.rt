@@ -5,8 +5,11 @@ ghost use Rattle.std.specs.Iterator.{IsFinite};
 ghost use Rattle.arena_traits.specs.Arena.{slot_at};
 
 use super::RunsCalls;
-use arena_base::{Arena, ArenaCloneFromWith, ArenaSlot, ArenaTrait, Compactor, SlotAccess, Work};
+use arena_base::{
+    Arena, ArenaCloneFromWith, ArenaSlot, ArenaTrait, Compactor, PlainArenaTrait, SlotAccess, Work,
+};
 use arena_ptr::{InxKey, NotWithinCapacityError, PtrKey, ReallocationError, SlotStack};
+use forwarding_arena::ForwardingArena;
 use std::alloc::{AllocError, Global};
 use std::fmt::Debug;
 use std::mem;
@@ -46,6 +49,35 @@ fn enter<P: PtrKey, S: SlotStack<Item = PlainSlot<P>>>(
         }
         Err(error) => Err(error),
     }
+}
+
+fn insert_by_trait<P: PtrKey, A: PlainArenaTrait<P, u32>>(
+    arena: &mut A,
+    t: u32,
+) -> Result<P, ReallocationError> {
+    arena.insert_reallocating(t)
+}
+
+fn insert_within_by_trait<P: PtrKey, A: PlainArenaTrait<P, u32>>(
+    arena: &mut A,
+    t: u32,
+) -> Result<P, NotWithinCapacityError> {
+    arena.insert_within_capacity(t)
+}
+
+// Inserts into a new forwarding arena, within the capacity and with growth, and returns its length.
+fn insert_forwarded<P: PtrKey, A: PlainArenaTrait<P, u32> + Drop>(
+    alloc: Global,
+    t: u32,
+) -> (
+    Result<P, NotWithinCapacityError>,
+    Result<P, ReallocationError>,
+    usize,
+) {
+    let mut arena = ForwardingArena::<A>::new(alloc);
+    let within = insert_within_by_trait::<P, ForwardingArena<A>>(&mut arena, t);
+    let grown = insert_by_trait::<P, ForwardingArena<A>>(&mut arena, t);
+    (within, grown, arena.len())
 }
 
 fn text_of_all<T: Debug + Drop, I: Iterator<Item = T> + Drop>(alloc: Global, items: I) -> String
@@ -172,6 +204,22 @@ fn run_plain_call<P: Numbered, S: SlotStack<Item = PlainSlot<P>>>(
         Do::InsertByEntry => text(alloc, enter(arena, Some(parsed.t))),
         Do::DropEntry => text(alloc, enter(arena, None)),
         Do::Slots => text(alloc, arena.backing().len()),
+        _ => run_plain_trait_call(alloc, arena, parsed),
+    }
+}
+
+// Runs an insertion of the trait.
+fn run_plain_trait_call<P: Numbered, S: SlotStack<Item = PlainSlot<P>>>(
+    alloc: Global,
+    arena: &mut Arena<P, u32, S>,
+    parsed: ParsedCall<P>,
+) -> String {
+    match parsed.call {
+        Do::InsertByTrait => text(alloc, insert_by_trait(arena, parsed.t)),
+        Do::WithinByTrait => text(alloc, insert_within_by_trait(arena, parsed.t)),
+        Do::InsertForwarded => {
+            text(alloc, insert_forwarded::<P, Arena<P, u32, S>>(alloc, parsed.t))
+        }
         _ => run_whole_call(alloc, arena, parsed),
     }
 }

@@ -58,6 +58,17 @@ Len = 0
 Counter = Some(6)
 Insert 5 = Ok(1(6))
 Drain = [(1(6), 5)]
+# the insertions of the trait, and a replaced value
+WithinByTrait 10 = Err(NotWithinCapacityError)
+InsertByTrait 10 = Ok(1(2))
+Reserve 2 = Ok(())
+WithinByTrait 20 = Ok(2(2))
+Remove 1 2 = Success(10)
+InsertByTrait 30 = Ok(1(3))
+Replace 1 3 31 = Some(30)
+Replace 1 2 32 = None
+Entries = [(1(3), 31), (2(2), 20)]
+InsertForwarded 7 = (Err(NotWithinCapacityError), Ok(1(2)), 1)
 ";
 
 // Which index and generation comes next, up to the greatest of each.
@@ -94,6 +105,7 @@ InsertMany 255 = 255
 Len = 255
 Capacities = (255, 255)
 Insert 255 = Err(AllocError)
+InsertByTrait 255 = Err(AllocError)
 InsertWithin 255 = Err(NotWithinCapacityError)
 InsertByEntry 255 = Err(NotWithinCapacityError)
 Reserve 256 = Err(AllocError)
@@ -270,6 +282,7 @@ Insert 1 = Ok(1(2))
 Insert 2 = Ok(2(2))
 Insert 3 = Err(BeyondMaxCapacity)
 InsertWithin 3 = Err(NotWithinCapacityError)
+InsertByTrait 3 = Err(BeyondMaxCapacity)
 ";
 
 // Under the same maximum, a copy of three slots is refused.

@@ -389,4 +389,15 @@ Remove 1 2 = Success(1)
 CompressWith 0 = (Success(()), [(P0[2](2), 2, P0[1](4)), (P0[3](2), 3, P0[2](4)), (P0[4](2), 4, P0[3](4))])
 All = [((1, 4), 12, (1, 4), (1, 4)), ((2, 4), 23, (0, 0), (3, 4)), ((3, 4), 34, (2, 4), (0, 0))]
 Insert Disconnected 9 = Ok(P0[4](4))
+# the values of a chain are written in walk order
+Linked 4 1 2 3 = true
+WriteChain 2 2 = true
+All = [((1, 2), 31, (0, 0), (2, 2)), ((2, 2), 12, (1, 2), (3, 2)), ((3, 2), 23, (2, 2), (0, 0)), ((4, 2), 4, (0, 0), (0, 0))]
+WriteChain 2 3 = false
+Replace 4 2 5 = Some(4)
+Get 4 2 = Some(5)
+# those of a ring once around
+Linked 3 1 2 3 1 = true
+WriteChain 2 2 = true
+All = [((1, 2), 31, (3, 2), (2, 2)), ((2, 2), 12, (1, 2), (3, 2)), ((3, 2), 23, (2, 2), (1, 2))]
 ";

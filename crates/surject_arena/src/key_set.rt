@@ -1,0 +1,62 @@
+// The keys of one set, without memory.
+ghost use Rattle.std.specs.Prelude.{◌≡◌};
+ghost use Rattle.std.specs.Iterator.{YieldsFirstBy, item_count};
+ghost use Rattle.surject_arena.specs.KeySets.{ListsKeys};
+
+use crate::members::Member;
+use arena_ptr::PtrKey;
+use arena_traits::Advancer;
+use chain_traits::ChainArenaTrait;
+use chain_traits::walks::advancer_passes_the_walk;
+use std::marker::{Model, PhantomData};
+
+/// An iterator over the pointers of the keys of one set, seen as the list of those left.
+///
+/// Made by `SurjectArena::key_set`.
+#[derive(Drop)]
+pub struct KeySet<'a, P: PtrKey, K: Drop, A: ChainArenaTrait<P, Member<P, K>>> {
+    keys: &'a A,
+    along: A::ChainPtrAdvancer,
+    of: PhantomData<(P, K)>,
+}
+
+impl<'a, P: PtrKey, K: Drop, A: ChainArenaTrait<P, Member<P, K>>> Model for KeySet<'a, P, K, A> {
+    ghost use Rattle.std.specs.Prelude.{ℕ, List};
+    ghost use Rattle.chain_laws.specs.Walks.{passes_ahead};
+    ghost use Rattle.surject_arena.specs.KeySets.{pointers_at};
+
+    ghost Value = { List (ℕ × P.Gen) };
+
+    ghost view = { λ it. pointers_at (A.entry it.keys.now) (passes_ahead (A.interlinks it.keys.now)
+        (A.walker it.along)) };
+}
+
+// Returns an iterator over the keys of the set of `p`, or `None` if `p` is not valid.
+pub(crate) fn keys_from<P: PtrKey, K: Drop, A: ChainArenaTrait<P, Member<P, K>>>(
+    keys: &A,
+    p: P,
+) -> Option<KeySet<'_, P, K, A>>
+    ensures { ListsKeys A.state A.interlinks P.key keys.now p result }
+{
+    advancer_passes_the_walk(keys, p);
+    match keys.advancer_chain(p) {
+        Some(along) => Some(KeySet {
+            keys,
+            along,
+            of: PhantomData,
+        }),
+        None => None,
+    }
+}
+
+impl<'a, P: PtrKey, K: Drop, A: ChainArenaTrait<P, Member<P, K>>> Iterator for KeySet<'a, P, K, A> {
+    type Item = P;
+
+    ghost next_gives = { YieldsFirstBy P.key (λ rest. rest) };
+
+    ghost remaining = { item_count (λ rest. rest) };
+
+    fn next(&mut self) -> Option<P> {
+        self.along.advance(self.keys)
+    }
+}

@@ -1,0 +1,5 @@
+//! Tests of `surject_arena`.
+#![tactic(auto)]
+
+#[cfg(test)]
+mod tests;
