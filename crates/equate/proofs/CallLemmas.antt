@@ -1,5 +1,5 @@
 -- What changes of the map of words and of the arena do to the classes.
-use Rattle.std.proofs.Common.{◌≡◌, ◌≢◌, ℕ, List, map, Bool, Option, None, Some, IfNone, is_some, Result, Ok, Err, OnErr, option_map, String, string_bytes, string_eq, bytes_eq, Global, HashMap, true, false, refl, sym, ap, ◌∙◌, subst}
+use Rattle.std.proofs.Common.{◌≡◌, ◌≢◌, ℕ, List, map, Bool, Option, None, Some, IfNone, is_some, Result, Ok, Err, OnErr, option_map, String, string_bytes, string_eq, bytes_eq, Global, HashMap, false, refl, sym, ap, ◌∙◌, subst}
 use Rattle.std.specs.HashMap.{get, get_by_text, UpdatesBy}
 use Rattle.arena_traits.specs.Entries.{AscendsFrom}
 use Rattle.arena_traits.specs.CallOutcomes.{ReportsOverflow}

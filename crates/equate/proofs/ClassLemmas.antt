@@ -1,9 +1,8 @@
 -- Words by the sets of their pointers.
-use Rattle.std.proofs.Common.{◌≡◌, ◌≢◌, ◌⊎◌, inl, inr, ℕ, List, Option, None, Some, is_some, true, option_map, String, string_bytes, Global, refl, sym, ap, ◌∙◌, subst, ⊎_elim}
-use Rattle.std.specs.Prelude.{◌↔◌}
+use Rattle.std.proofs.Common.{◌≡◌, inl, inr, ℕ, List, Option, None, Some, is_some, true, option_map, String, string_bytes, Global, refl, sym, ap, ◌∙◌, subst}
 use Rattle.arena_traits.specs.Entries.{found}
-use Rattle.surject_arena.specs.Surjections.{Surjection, entry_in, key_at, set_at, IsKeyOf}
-use Rattle.equate.specs.WordClasses.{WordClasses, word_at, pointer_in, pointer_of, Agree, AreEqual, AreKept, IsKnown, IsInClassOf, IsInEitherClass}
+use Rattle.surject_arena.specs.Surjections.{Surjection, entry_in, set_at, IsKeyOf}
+use Rattle.equate.specs.WordClasses.{WordClasses, word_at, pointer_of, Agree, AreEqual, AreKept, IsInEitherClass}
 
 pub same_some : {X : Type 0} (a b : X) → Some a ≡ Some b → a ≡ b
 same_some a b is = cc

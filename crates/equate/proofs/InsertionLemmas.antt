@@ -1,7 +1,7 @@
 -- A word that was not known is inserted into a class of its own.
-use Rattle.std.proofs.Common.{◌≡◌, ◌≢◌, ◌⊎◌, inl, inr, ℕ, List, Option, None, Some, is_some, true, String, string_bytes, Global, refl, sym, ap, ◌∙◌, subst, ⊎_elim}
+use Rattle.std.proofs.Common.{◌≡◌, ◌≢◌, ◌⊎◌, inl, inr, ℕ, List, None, Some, is_some, true, String, string_bytes, Global, refl, sym, ap, ◌∙◌, subst, ⊎_elim}
 use Rattle.std.proofs.lemmas.Bool.{cases_eq}
-use Rattle.surject_arena.specs.Surjections.{Surjection, entry_in, set_at, IsSurjection}
+use Rattle.surject_arena.specs.Surjections.{entry_in, set_at, IsSurjection}
 use Rattle.surject_arena.specs.SetCalls.{IsSetAdded}
 use Rattle.equate.specs.WordClasses.{WordClasses, word_at, pointer_of, Agree, AreEqual, IsInterned}
 use Rattle.equate.proofs.TableLemmas.{cases_word}

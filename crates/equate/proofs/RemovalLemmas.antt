@@ -1,12 +1,11 @@
 -- A word is removed from its class.
-use Rattle.std.proofs.Common.{◌≡◌, ◌≢◌, ◌⊎◌, inl, inr, ℕ, List, Option, None, Some, is_some, true, String, string_bytes, Global, refl, sym, ap, ◌∙◌, subst, ⊎_elim}
+use Rattle.std.proofs.Common.{◌≡◌, ◌≢◌, ℕ, List, Option, None, Some, String, Global, refl, sym, ap, ◌∙◌, ⊎_elim}
 use Rattle.std.proofs.lemmas.Bool.{cases_eq}
 use Rattle.arena_traits.specs.Entries.{AscendsFrom, ArenaView, found}
 use Rattle.arena_traits.proofs.EntrySearchLemmas.{found-gone, found-kept}
-use Rattle.surject_arena.specs.Surjections.{Surjection, entry_in, set_at}
+use Rattle.surject_arena.specs.Surjections.{entry_in}
 use Rattle.surject_arena.specs.SetCalls.{IsKeyTaken}
 use Rattle.equate.specs.WordClasses.{WordClasses, word_at, pointer_of, Agree, AreEqual, IsDropped}
-use Rattle.equate.proofs.TableLemmas.{cases_word}
 use Rattle.equate.proofs.ClassLemmas.{same_some, not_none, word_in, set_in, IsIn, equal_in, equal_from}
 
 module _ {Gen : Type 0} (following : Gen → Gen) (old new : WordClasses Gen) (agree : Agree old.table old.arena) (ascends : AscendsFrom 1 old.arena.keys.entries) (word : List ℕ) (p : ℕ × Gen) (k : String Global) (o : Option Unit)

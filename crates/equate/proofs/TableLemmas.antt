@@ -1,6 +1,6 @@
 -- The pointers in a table, after changes of the map of words.
 use Rattle.std.proofs.Common.{◌≡◌, ◌≢◌, ◌⊎◌, inl, inr, ℕ, List, [], ◌∷◌, map, Bool, true, false, cond, Option, None, Some, option_map, String, string_bytes, string_eq, bytes_eq, is_some, Global, HashMap, refl, sym, ap, ◌∙◌, subst, ⊎_elim}
-use Rattle.std.specs.HashMap.{get, get_by_text, UpdatesBy, IsReordered}
+use Rattle.std.specs.HashMap.{get, get_by_text, UpdatesBy}
 use Rattle.std.specs.Map.{lookup}
 use Rattle.std.proofs.lemmas.Bool.{cases_Bool, cond-true, cond-false, false_from_ne_true, both_ways}
 use Rattle.std.proofs.lemmas.Map.Text.{is_text, hash_map_updates_text}

@@ -1,12 +1,11 @@
 -- The classes of two words become one.
-use Rattle.std.proofs.Common.{◌≡◌, ◌≢◌, ◌⊎◌, inl, inr, ℕ, List, Bool, Option, None, Some, is_some, true, false, String, string_bytes, Global, refl, sym, ap, ◌∙◌, subst, ⊎_elim}
-use Rattle.std.specs.Prelude.{◌↔◌}
+use Rattle.std.proofs.Common.{◌≡◌, ◌≢◌, ◌⊎◌, inl, inr, ℕ, List, Some, true, false, String, string_bytes, Global, refl, sym, ap, ◌∙◌, subst, ⊎_elim}
 use Rattle.std.specs.Option.{option_map}
 use Rattle.std.proofs.lemmas.Bool.{cases_eq}
 use Rattle.surject_arena.specs.Surjections.{Surjection, entry_in, set_at, key_at, IsSurjection, HasValue}
 use Rattle.surject_arena.specs.SetCalls.{IsAbsorbed, AreUnited as SetsAreUnited}
-use Rattle.equate.specs.WordClasses.{WordClasses, word_at, pointer_of, Agree, AreEqual, AreUnited, JoinsClasses, IsInClassOf, IsInEitherClass}
-use Rattle.equate.proofs.ClassLemmas.{same_some, not_none, same_pair, set_stored, IsIn, equal_in, equal_from, in_one, key_in, known_in, either_equal, equal_sym, equal_trans}
+use Rattle.equate.specs.WordClasses.{WordClasses, pointer_of, Agree, AreEqual, AreUnited, JoinsClasses, IsInEitherClass}
+use Rattle.equate.proofs.ClassLemmas.{same_some, same_pair, set_stored, IsIn, equal_in, equal_from, in_one, key_in, known_in, either_equal, equal_sym, equal_trans}
 
 -- Two sets with values are the same or not.
 cases_set : {Gen V K : Type 0} (s : Surjection Gen K V) (v w : ℕ × Gen) (t u : V) (n m : ℕ) → HasValue s v t n → HasValue s w u m → (v ≡ w) ⊎ (v ≢ w)

@@ -1,6 +1,5 @@
-use Rattle.std.proofs.Common.{◌≡◌, ◌↔◌, IsTrue, is_some, refl, ap, subst}
+use Rattle.std.proofs.Common.{◌↔◌, IsTrue, is_some, refl, ap, subst}
 use Rattle.surject_arena.specs.Surjections.{AreInOneSet}
-use Rattle.equate.specs.WordClasses.{WordClasses}
 use Rattle.equate.proofs.CallLemmas.{found_here, not_found, unknown_by, equal_by}
 use Rattle.equate.proofs.equations.Equations.are_equal.Goals as goal
 

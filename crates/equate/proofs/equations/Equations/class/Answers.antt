@@ -1,6 +1,6 @@
-use Rattle.std.proofs.Common.{◌≡◌, Some, is_some, refl, sym, ap, subst}
+use Rattle.std.proofs.Common.{◌≡◌, Some, is_some, sym, ap, subst}
 use Rattle.std.proofs.lemmas.Option.{IfSome_then}
-use Rattle.equate.specs.WordClasses.{WordClasses, pointer_of, ListsClass}
+use Rattle.equate.specs.WordClasses.{pointer_of}
 use Rattle.equate.proofs.CallLemmas.{seen, found_here, not_found, unknown_by, pointer_valid}
 use Rattle.equate.proofs.equations.Equations.class.Goals as goal
 

@@ -1,4 +1,4 @@
-use Rattle.std.proofs.Common.{◌≡◌, is_some, sym, ap, ◌∙◌}
+use Rattle.std.proofs.Common.{is_some, sym, ap, ◌∙◌}
 use Rattle.equate.proofs.TableLemmas.{is_some_mapped}
 use Rattle.equate.proofs.equations.Equations.contains.Goals as goal
 

@@ -1,5 +1,5 @@
-use Rattle.std.proofs.Common.{◌≡◌, is_some, option_map, refl, sym, ap, ◌∙◌}
-use Rattle.equate.proofs.TableLemmas.{pointer_read, is_some_mapped}
+use Rattle.std.proofs.Common.{is_some, option_map, refl, sym, ap, ◌∙◌}
+use Rattle.equate.proofs.TableLemmas.{pointer_read}
 use Rattle.equate.proofs.CallLemmas.{removal_agrees, removal_drops, absence_drops}
 use Rattle.equate.proofs.equations.Equations.drop_word.Goals as goal
 

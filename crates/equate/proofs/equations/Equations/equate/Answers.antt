@@ -1,4 +1,4 @@
-use Rattle.std.proofs.Common.{◌≡◌, ◌∙◌}
+use Rattle.std.proofs.Common.{◌∙◌}
 use Rattle.equate.proofs.CallLemmas.{on_err}
 use Rattle.equate.proofs.EquationLemmas.{kept_after_first, first_here, equate_joins, equate_two}
 use Rattle.equate.proofs.equations.Equations.equate.Goals as goal

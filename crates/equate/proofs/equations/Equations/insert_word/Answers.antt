@@ -1,7 +1,6 @@
 -- The table is reordered, and the word inserted into both.
 use Rattle.std.proofs.Common.{◌≡◌, None, refl, sym, ap, subst}
-use Rattle.surject_arena.specs.Surjections.{Surjection}
-use Rattle.equate.specs.WordClasses.{WordClasses, pointer_of}
+use Rattle.equate.specs.WordClasses.{pointer_of}
 use Rattle.equate.proofs.CallLemmas.{on_err, reordered_agree, reordered_kept, insertion_agrees, insertion_interns}
 use Rattle.equate.proofs.equations.Equations.insert_word.Goals as goal
 

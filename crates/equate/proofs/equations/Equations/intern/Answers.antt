@@ -1,5 +1,5 @@
 use Rattle.std.proofs.Common.{◌≡◌, Some, sym, subst}
-use Rattle.equate.specs.WordClasses.{WordClasses, IsInterned, pointer_of}
+use Rattle.equate.specs.WordClasses.{pointer_of}
 use Rattle.equate.proofs.InsertionLemmas.{stays_interned}
 use Rattle.equate.proofs.CallLemmas.{seen, found_here, not_found}
 use Rattle.equate.proofs.equations.Equations.intern.Goals as goal

@@ -1,4 +1,4 @@
-use Rattle.std.proofs.Common.{◌≡◌, option_map, sym, ap, ◌∙◌}
+use Rattle.std.proofs.Common.{option_map, sym, ap, ◌∙◌}
 use Rattle.equate.proofs.TableLemmas.{pointer_read}
 use Rattle.equate.proofs.equations.Equations.pointer.Goals as goal
 

@@ -1,5 +1,3 @@
-use Rattle.std.proofs.Common.{◌≡◌, sym, subst}
-use Rattle.equate.specs.WordClasses.{WordClasses, pointer_of}
 use Rattle.equate.proofs.CallLemmas.{union_unites}
 use Rattle.equate.proofs.equations.Equations.unite.Goals as goal
 

@@ -1,4 +1,3 @@
-use Rattle.std.proofs.Common.{◌≡◌, Some, sym, subst}
 use Rattle.std.proofs.lemmas.Option.{IfSome_then}
 use Rattle.equate.proofs.CallLemmas.{seen, word_read}
 use Rattle.equate.proofs.equations.Equations.word.Goals as goal
