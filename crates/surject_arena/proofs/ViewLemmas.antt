@@ -1,5 +1,5 @@
 -- Views with a function applied to each value.
-use Rattle.std.proofs.Common.{◌≡◌, ◌≢◌, ℕ, ◌+◌, List, [], ◌∷◌, length, map, Bool, true, false, Option, None, Some, refl, sym, ap, ◌∙◌, subst, arith}
+use Rattle.std.proofs.Common.{◌≡◌, ◌≢◌, ℕ, suc, ◌+◌, List, [], ◌∷◌, length, map, Bool, true, false, Option, None, Some, refl, sym, ap, ◌∙◌, subst, arith}
 use Rattle.std.specs.Prelude.{◌==◌, cond, IfSome}
 use Rattle.std.specs.Option.{option_map}
 use Rattle.std.proofs.lemmas.List.{length-map}
@@ -7,7 +7,7 @@ use Rattle.arena_core.specs.SlotStack.{IsBeyond}
 use Rattle.arena_core.specs.declared.errors.ReallocationError.{ReallocationError}
 use Rattle.arena_core.specs.declared.errors.ReallocationError.TheVariants as refused
 use Rattle.arena_traits.specs.Arena.{IsInserted, IsValid}
-use Rattle.arena_traits.specs.Entries.{ArenaView, ArenaState, Slots, IsNew, count, found, index_of, next_slot, with_next_filled, with_replacement, without_index, view_with_value, view_after_removal}
+use Rattle.arena_traits.specs.Entries.{ArenaView, ArenaState, AscendsFrom, Slots, IsNew, count, found, index_of, next_slot, with_next_filled, with_replacement, without_index, view_with_value, view_after_removal}
 use Rattle.arena_traits.specs.Growth.{RefusesOneMore, GrowsToFit, GrowsForOneMore}
 use Rattle.chain_links.specs.ChainArena.{on_value}
 use Rattle.surject_arena.specs.Surjections.{map_view, entry_in}
@@ -53,6 +53,10 @@ module _ {Gen X Y : Type 0} (f : X → Y) where
   pub index-each : (es : List ((ℕ × Gen) × X)) → map index_of (map each es) ≡ map index_of es
   index-each [] = refl
   index-each (e ∷ es) = ap (λ l. e.0.0 ∷ l) (index-each es)
+
+  pub ascends-each : (i : ℕ) (es : List ((ℕ × Gen) × X)) → AscendsFrom i es → AscendsFrom i (map each es)
+  ascends-each i [] is = tt
+  ascends-each i (e ∷ es) is = (is.0, ascends-each (suc e.0.0) es is.1)
 
   -- Removals and writes of mapped views.
   pub removed-each : (following : Gen → Gen) (s : ArenaView Gen X) (i : ℕ) → map_view f (view_after_removal following s i) ≡ view_after_removal following (map_view f s) i

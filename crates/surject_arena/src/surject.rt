@@ -3,7 +3,7 @@ ghost use Rattle.std.specs.Prelude.{◌≡◌, ◌≢◌, ◌↔◌, ◌+◌, �
 ghost use Rattle.std.specs.Option.{option_map};
 ghost use Rattle.arena_core.specs.Invalidation.{value_within};
 ghost use Rattle.arena_traits.specs.Arena.{IsValid};
-ghost use Rattle.arena_traits.specs.Entries.{count, HasFreeCapacity};
+ghost use Rattle.arena_traits.specs.Entries.{AscendsFrom, count, HasFreeCapacity};
 ghost use Rattle.arena_traits.specs.Growth.{GrowsForOneMore, RefusesOneMore, IsGrowthResult};
 ghost use Rattle.surject_arena.specs.Surjections.{IsKey, IsKeyOf, AreInOneSet, IsSurjection};
 ghost use Rattle.surject_arena.specs.KeySets.{ListsSet};
@@ -150,6 +150,15 @@ impl<
         ensures { IsSurjection self.now }
     {
         let _ = &self.keys;
+    }
+
+    /// States that the keys ascend by index, so each index has at most one key.
+    ///
+    /// Has no effect.
+    pub fn keys_ascend(&self)
+        ensures { AscendsFrom 1 self.now.keys.entries }
+    {
+        self.keys.agrees();
     }
 
     /// Returns whether `p` is the pointer of a key.

@@ -1,0 +1,7 @@
+mod TableLemmas
+mod ClassLemmas
+mod InsertionLemmas
+mod UnionLemmas
+mod RemovalLemmas
+mod CallLemmas
+mod EquationLemmas

@@ -1,0 +1,17 @@
+//! A program that keeps words in classes of equal words, over a surjection arena.
+#![tactic(auto)]
+
+mod equations;
+mod line;
+mod session;
+mod status;
+#[cfg(test)]
+mod tests;
+
+use status::{Status, respond_to_input};
+use std::io::{BufWriter, writer};
+
+fn main(rt: HostRuntime) -> Status {
+    let responses = BufWriter::new(rt.alloc(), writer(&rt));
+    respond_to_input(rt.alloc(), &mut rt.reader(), responses, &mut rt.stderr())
+}
