@@ -5,9 +5,11 @@ use Rattle.equate.specs.WordClasses.{WordClasses, pointer_of, AreEqual, IsKnown,
 
 module _ {Gen : Type 0} (old one two : WordClasses Gen) (a b : List ℕ) (p q : ℕ × Gen) (first : IsInterned old one a p) where
   -- The second word may not be interned.
-  pub kept_after_first : AreKept one two → KeepsClasses old two
-  kept_after_first are x y known_x known_y =
-      (λ equal. (first.kept x y known_x known_y).0 ((are.classes x y).0 equal), λ equal. (are.classes x y).1 ((first.kept x y known_x known_y).1 equal))
+  pub kept_after_first : AreKept one two → KeepsClasses old two × KeepsPointers old two a a
+  kept_after_first are = (
+    λ x y known_x known_y. (λ equal. (first.kept x y known_x known_y).0 ((are.classes x y).0 equal), λ equal. (are.classes x y).1 ((first.kept x y known_x known_y).1 equal)),
+    λ x known. are.pointers x ∙ first.pointers x known,
+  )
 
   before : (x : List ℕ) → IsKnown old x ⊎ ((x ≢ a) × (x ≢ b)) → IsKnown old x ⊎ ((x ≢ a) × (x ≢ a))
   before x (inl was) = inl was

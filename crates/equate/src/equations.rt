@@ -107,7 +107,8 @@ impl<
         ensures two { IfOk result (λ two. IsTrue two
             ↔ (IsInClassOf self.old a.now b.now → ⊥)) }
         ensures pointers { KeepsPointers self.old self.new a.now b.now }
-        ensures err { OnErr result (KeepsClasses self.old self.new) }
+        ensures err { OnErr result (KeepsClasses self.old self.new
+            × KeepsPointers self.old self.new a.now a.now) }
     {
         let p = self.intern(a)?;
         let q = self.intern(b)?;

@@ -4,7 +4,7 @@ use Rattle.equate.proofs.EquationLemmas.{kept_after_first, first_here, equate_jo
 use Rattle.equate.proofs.equations.Equations.equate.Goals as goal
 
 pub returns-in_err-p-clause-err : goal.returns-in_err-p-clause-err
-returns-in_err-p-clause-err g c = on_err c.from_residual.result (λ x y known_x known_y. c.in_err-p.ensures.err.classes x y)
+returns-in_err-p-clause-err g c = on_err c.from_residual.result (λ x y known_x known_y. c.in_err-p.ensures.err.classes x y, λ x known. c.in_err-p.ensures.err.pointers x)
 
 pub returns-in_err-q-clause-err : goal.returns-in_err-q-clause-err
 returns-in_err-q-clause-err g c =
