@@ -5,6 +5,7 @@ mod SetReadLemmas
 mod SetChangeLemmas
 mod RedirectLemmas
 mod CallLemmas
+mod WriteLemmas
 mod UnionLemmas
 mod KeySetLemmas
 mod HistoryLemmas

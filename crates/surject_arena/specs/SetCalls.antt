@@ -112,6 +112,14 @@ module _ {Gen K V : Type 0} where
           ⊎ ((o ≡ Some value) × (size ≡ 1) × (new.values ≡ view_after_removal following old.values set.0))
       pub redirected : new.redirected ≡ old.redirected
 
+    -- The key at p is k in place of `former`.
+    pub record IsKeyReplaced (p : ℕ × Gen) (k former : K) : Type 0 where
+      pub set : ℕ × Gen
+      pub stored : entry_in old.keys p.0 ≡ Some (p.1, (former, set))
+      pub keys : new.keys ≡ view_with_value old.keys p.0 (k, set)
+      pub values : new.values ≡ old.values
+      pub redirected : new.redirected ≡ old.redirected
+
     -- The value of the set of p is t in place of `former`.
     pub record IsValueReplaced (p : ℕ × Gen) (t former : V) : Type 0 where
       pub set : ℕ × Gen

@@ -1,13 +1,15 @@
 // The surjection arena.
 ghost use Rattle.std.specs.Prelude.{◌≡◌, ◌≢◌, ◌↔◌, ◌+◌, ◌<◌, ◌^◌, ◌-◌, ℕ, List, length, min, IsTrue, IsSome, IfSome, IfNone, IfOk, OnErr, IsOk, Some, None};
 ghost use Rattle.std.specs.Option.{option_map};
+ghost use Rattle.std.specs.Borrow.{LendsSo, sem};
 ghost use Rattle.arena_core.specs.Invalidation.{value_within};
 ghost use Rattle.arena_traits.specs.Arena.{IsValid};
 ghost use Rattle.arena_traits.specs.Entries.{count, HasFreeCapacity};
 ghost use Rattle.arena_traits.specs.Growth.{GrowsForOneMore, RefusesOneMore, IsGrowthResult};
-ghost use Rattle.surject_arena.specs.Surjections.{IsKey, IsKeyOf, AreInOneSet, IsSurjection};
+ghost use Rattle.surject_arena.specs.Surjections.{IsKey, IsKeyOf, AreInOneSet, IsSurjection, HasValue, key_at};
 ghost use Rattle.surject_arena.specs.KeySets.{ListsSet};
-ghost use Rattle.surject_arena.specs.SetCalls.{StartsEmpty, StartsWithCapacities, ClearsSets, IsSetAdded, IsAbsorbed, InsertsSet, InsertsKey, UnitesSets, RemovesKey, ReplacesValueOf, ReadsKey, ReadsValue, CountsKeys, GrowsKeys};
+ghost use Rattle.surject_arena.specs.Rows.{chain_members, plain_members};
+ghost use Rattle.surject_arena.specs.SetCalls.{StartsEmpty, StartsWithCapacities, ClearsSets, IsSetAdded, IsAbsorbed, InsertsSet, InsertsKey, UnitesSets, RemovesKey, IsKeyReplaced, IsValueReplaced, ReplacesValueOf, ReadsKey, ReadsValue, CountsKeys, GrowsKeys};
 
 use crate::key_set::{KeySet, keys_from};
 use crate::keys::{is_in_set, redirect, set_of};
@@ -72,6 +74,8 @@ impl<
     A: ChainArenaTrait<P, Member<P, K>> + Drop,
     B: PlainArenaTrait<P, Counted<V>> + Drop,
 > SurjectArena<P, K, V, A, B> {
+    ghost use Rattle.surject_arena.specs.contracts.surject.SurjectArena.{the_row};
+
     /// Returns an arena without keys and values, without allocating.
     pub fn new(alloc: Global) -> Self
         ensures { StartsEmpty P.Gen.first result }
@@ -210,6 +214,58 @@ impl<
         ensures { ListsSet self.now P.key p result }
     {
         keys_from(&self.keys, p)
+    }
+
+    /// Returns a key, for writing, or `None` if `p` is not its pointer.
+    ///
+    /// Writing through the reference keeps the sets, the values and all pointers.
+    pub fn get_key_mut(&mut self, p: P) -> Option<&mut K>
+        ensures* writes_back { sem 𝓛 (LendsSo
+            (the_row P.row K.row V.row A.row B.row P.Inx.row P.Gen.row P.Inx.Word.row
+            A.ChainPtrAdvancer.row A.PtrAdvancer.row B.PtrAdvancer.row P.PtrKey P.Inx.InxKey
+            P.Gen.GenKey (chain_members A.interlinks A.walker A.inserts A.connects A.breaks_prev
+            A.breaks_next A.exchanges A.reverses A.moves A.splices A.compresses_canonically)
+            A.ArenaTrait A.PtrAdvancer.Advancer A.ChainPtrAdvancer.Advancer
+            (plain_members B.inserts) B.ArenaTrait B.PtrAdvancer.Advancer)
+            K.row self.entry result
+            (λ new k. IfSome result (λ was. IsKeyReplaced self.old new (P.key p) k was.now))
+            (λ new. new ≡ self.old)) }
+        ensures some { IsSome result ↔ IsKey self.old (P.key p) }
+        ensures key { IfSome result (λ k. key_at self.old (P.key p).0
+            ≡ Some ((P.key p).1, k.now)) }
+    {
+        match self.keys.get_mut(p) {
+            Some(e) => Some(&mut e.key),
+            None => None,
+        }
+    }
+
+    /// Returns the value of the set of `p`, for writing, or `None` if `p` is not the pointer of a
+    /// key.
+    ///
+    /// Writing through the reference keeps the sets, the keys and all pointers.
+    pub fn get_val_mut(&mut self, p: P) -> Option<&mut V>
+        ensures* writes_back { sem 𝓛 (LendsSo
+            (the_row P.row K.row V.row A.row B.row P.Inx.row P.Gen.row P.Inx.Word.row
+            A.ChainPtrAdvancer.row A.PtrAdvancer.row B.PtrAdvancer.row P.PtrKey P.Inx.InxKey
+            P.Gen.GenKey (chain_members A.interlinks A.walker A.inserts A.connects A.breaks_prev
+            A.breaks_next A.exchanges A.reverses A.moves A.splices A.compresses_canonically)
+            A.ArenaTrait A.PtrAdvancer.Advancer A.ChainPtrAdvancer.Advancer
+            (plain_members B.inserts) B.ArenaTrait B.PtrAdvancer.Advancer)
+            V.row self.entry result
+            (λ new t. IfSome result (λ was. IsValueReplaced self.old new (P.key p) t was.now))
+            (λ new. new ≡ self.old)) }
+        ensures some { IsSome result ↔ IsKey self.old (P.key p) }
+        ensures value { IfSome result (λ t. (w : ℕ × P.Gen) × (n : ℕ)
+            × IsKeyOf self.old w (P.key p) × HasValue self.old w t.now n) }
+    {
+        match set_of(&self.keys, p) {
+            Some(w) => match self.values.get_mut(w) {
+                Some(e) => Some(&mut e.value),
+                None => None,
+            },
+            None => None,
+        }
     }
 
     // Grows to a capacity for one more key, if there is none.
