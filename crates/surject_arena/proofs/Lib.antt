@@ -7,5 +7,6 @@ mod RedirectLemmas
 mod CallLemmas
 mod WriteLemmas
 mod UnionLemmas
+mod SplitLemmas
 mod KeySetLemmas
 mod HistoryLemmas

@@ -9,10 +9,10 @@ ghost use Rattle.arena_traits.specs.Growth.{GrowsForOneMore, RefusesOneMore, IsG
 ghost use Rattle.surject_arena.specs.Surjections.{IsKey, IsKeyOf, AreInOneSet, IsSurjection, HasValue, key_at};
 ghost use Rattle.surject_arena.specs.KeySets.{ListsSet};
 ghost use Rattle.surject_arena.specs.Rows.{chain_members, plain_members};
-ghost use Rattle.surject_arena.specs.SetCalls.{StartsEmpty, StartsWithCapacities, ClearsSets, IsSetAdded, IsAbsorbed, InsertsSet, InsertsKey, UnitesSets, RemovesKey, IsKeyReplaced, IsValueReplaced, ReplacesValueOf, ReadsKey, ReadsValue, CountsKeys, GrowsKeys};
+ghost use Rattle.surject_arena.specs.SetCalls.{StartsEmpty, StartsWithCapacities, ClearsSets, IsSetAdded, IsAbsorbed, InsertsSet, InsertsKey, UnitesSets, RemovesKey, IsKeyReplaced, IsValueReplaced, IsKeySetApart, SplitsKey, ReplacesValueOf, ReadsKey, ReadsValue, CountsKeys, GrowsKeys};
 
 use crate::key_set::{KeySet, keys_from};
-use crate::keys::{is_in_set, redirect, set_of};
+use crate::keys::{is_in_set, leave_ring, put_into, redirect, set_of};
 use crate::members::{Counted, Member};
 use crate::values::{release, replace_value, set_size, size_of, take_value};
 use arena_ptr::{
@@ -389,6 +389,61 @@ impl<
             Some(w) => replace_value(&mut self.values, w, v),
             None => None,
         }
+    }
+
+    // Puts a key that is not alone in its set `w` into a new set, which has the value `v`.
+    fn set_apart(&mut self, p: P, w: P, v: V) -> Result<(), ReallocationError>
+        requires key { IsKeyOf self.old (P.key w) (P.key p) }
+        requires shared { (t : V) (n : ℕ) → HasValue self.old (P.key w) t n → 1 < n }
+        ensures outcome { IsGrowthResult (RefusesOneMore self.old.values)
+            (λ done. IsKeySetApart self.old self.new (P.key p) v
+            × GrowsForOneMore P.Inx.greatest self.old.values self.new.values) result }
+        ensures err { OnErr result (self.new ≡ self.old) }
+    {
+        let n = size_of(&self.values, w);
+        let own = match self
+            .values
+            .insert_reallocating(Counted { value: v, size: 1 })
+        {
+            Ok(own) => own,
+            Err(e) => return Err(e),
+        };
+        set_size(&mut self.values, w, n - 1);
+        put_into(&mut self.keys, p, own);
+        leave_ring(&mut self.keys, p);
+        Ok(())
+    }
+
+    /// Puts a key into a set of its own, which has the value `v`. The pointer of the key stays.
+    ///
+    /// The other keys of its former set stay there, with their value. If there are none, the value
+    /// is replaced, and the former one is returned.
+    ///
+    /// # Errors
+    ///
+    /// In the order in which they are tested:
+    ///
+    /// - `FailedLinkRequirement`: `p` is not the pointer of a key.
+    /// - `BeyondMaxCapacity`: the key is not alone, and one more value is above the maximum.
+    /// - `AllocError`: the key is not alone, and one more value is above the greatest index, or an
+    ///   allocation failed.
+    ///
+    /// On error the arena is unchanged, and `v` is dropped.
+    pub fn split_key(&mut self, p: P, v: V) -> Result<Option<V>, ChainInsertionError>
+        ensures outcome { SplitsKey P.key P.Inx.greatest self.old p v result self.new }
+        ensures err { OnErr result (self.new ≡ self.old) }
+    {
+        let w = match set_of(&self.keys, p) {
+            Some(w) => w,
+            None => return Err(ChainInsertionError::FailedLinkRequirement),
+        };
+        if size_of(&self.values, w) > 1 {
+            return match self.set_apart(p, w, v) {
+                Ok(()) => Ok(None),
+                Err(e) => Err(ChainInsertionError::from(e)),
+            };
+        }
+        Ok(replace_value(&mut self.values, w, v))
     }
 
     /// Removes all keys and values. The capacities stay.

@@ -1,5 +1,5 @@
 -- The member is written with another key and the same set.
-use Rattle.std.proofs.Common.{◌≡◌, refl, ap, ◌∙◌}
+use Rattle.std.proofs.Common.{refl, ap, ◌∙◌}
 use Rattle.std.specs.Option.{option_map}
 use Rattle.surject_arena.specs.Partitions.{member, member_view}
 use Rattle.surject_arena.proofs.ViewLemmas.{valid-each, each-valid}

@@ -1,8 +1,8 @@
 -- The value is written, and its size stays.
-use Rattle.std.proofs.Common.{◌≡◌, refl, ap, ◌∙◌}
+use Rattle.std.proofs.Common.{refl}
 use Rattle.surject_arena.specs.Partitions.{member_view, counted}
 use Rattle.surject_arena.proofs.ViewLemmas.{valid-each, each-valid}
-use Rattle.surject_arena.proofs.SetReadLemmas.{seen, key_of, has_value, valued}
+use Rattle.surject_arena.proofs.SetReadLemmas.{key_of, has_value, valued}
 use Rattle.surject_arena.proofs.WriteLemmas.{same_sizes, value_replaced}
 use Rattle.surject_arena.proofs.surject.SurjectArena.get_val_mut.Goals as goal
 
