@@ -1,6 +1,7 @@
 -- The outcomes of calls, by those of the two arenas.
 use Rattle.std.proofs.Common.{◌≡◌, ◌≢◌, ℕ, zero, suc, ◌+◌, ◌-◌, ◌<◌, ◌≤◌, ◌⊎◌, inl, inr, ⊎_elim, List, [], ◌∷◌, length, map, Option, None, Some, Result, Ok, Err, refl, sym, ap, ◌∙◌, subst, arith}
 use Rattle.std.proofs.lemmas.Bool.{cases_eq}
+use Rattle.arena_core.specs.Errors.{insertion_error}
 use Rattle.arena_core.specs.declared.errors.ChainInsertionError.{ChainInsertionError}
 use Rattle.arena_core.specs.declared.errors.ChainInsertionError.TheVariants as failed
 use Rattle.arena_core.specs.declared.errors.ReallocationError.{ReallocationError}
@@ -27,7 +28,7 @@ few_or_many zero = inl (omega arith)
 few_or_many (suc zero) = inl (omega arith)
 few_or_many (suc (suc n)) = inr (omega arith)
 
-at_least_one : (xs : List ℕ) → xs ≢ [] → 1 ≤ length xs
+pub at_least_one : (xs : List ℕ) → xs ≢ [] → 1 ≤ length xs
 at_least_one [] filled = absurd (filled refl)
 at_least_one (x ∷ xs) filled = omega arith
 
@@ -58,6 +59,11 @@ refusal_to may might refuses also_refuses forth back so failed.FailedLinkRequire
 refusal_to may might refuses also_refuses forth back so failed.BeyondMaxCapacity is = (forth is.0, so refused.BeyondMaxCapacity is.1)
 refusal_to may might refuses also_refuses forth back so failed.AllocError is = (forth is.0, so refused.AllocError is.1)
 refusal_to may might refuses also_refuses forth back so failed.NotWithinCapacity is = is
+
+-- A refused growth as a refusal of an insertion.
+pub refusal_of : (may : Type 0) (refuses : ReallocationError → Type 0) → may → (why : ReallocationError) → refuses why → IsInsertionRefusal may refuses (insertion_error why)
+refusal_of may refuses m refused.BeyondMaxCapacity is = (m, is)
+refusal_of may refuses m refused.AllocError is = (m, is)
 
 module _ {A B P Gen K V : Type 0} (key : P → ℕ × Gen) (following : Gen → Gen) {kview : A → ArenaView Gen (Member P K)} {kentry : A → ℕ → Option (Gen × Member P K)} (kstate : (a : A) → ArenaState (kview a) (kentry a)) (links : A → LinkMap)
     {vview : B → ArenaView Gen (Counted V)} {ventry : B → ℕ → Option (Gen × Counted V)} (vstate : (b : B) → ArenaState (vview b) (ventry b)) (a c : A) (b d : B) (r : ℕ)

@@ -5,7 +5,9 @@ mod SetReadLemmas
 mod SetChangeLemmas
 mod RedirectLemmas
 mod CallLemmas
+mod WriteLemmas
 mod UnionLemmas
+mod SplitLemmas
 mod KeySetLemmas
 mod HistoryLemmas
 mod EntrySumLemmas

@@ -22,3 +22,8 @@ mapped_twice f g (Some x) = refl
 pub if_some_to : {R V : Type 0} {X Z : R → Type 0} (o : Option R) → (is_some o ≡ true → V) → IfSome o X → (V → (r : R) → X r → Z r) → IfSome o Z
 if_some_to None valid holds so = tt
 if_some_to (Some r) valid holds so = so (valid refl) r holds
+
+-- An option that is some holds a value.
+pub is_there : {X : Type 0} (o : Option X) → is_some o ≡ true → (x : X) × (o ≡ Some x)
+is_there None some = absurd (cc)
+is_there (Some x) some = (x, refl)

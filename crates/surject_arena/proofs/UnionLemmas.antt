@@ -22,7 +22,7 @@ use Rattle.surject_arena.proofs.SetChangeLemmas.{same_entries, value_written, si
 use Rattle.surject_arena.proofs.RedirectLemmas.{moved, stayed, keys_stayed, still_valid}
 
 -- An exchange that is possible is made.
-exchange_made : {A Gen T P : Type 0} {view : A → ArenaView Gen T} {entry : A → ℕ → Option (Gen × T)} (state : (a : A) → ArenaState (view a) (entry a)) (links : A → LinkMap) (key : P → ℕ × Gen) (a b : A) (p q : P) (o : Option Unit)
+pub exchange_made : {A Gen T P : Type 0} {view : A → ArenaView Gen T} {entry : A → ℕ → Option (Gen × T)} (state : (a : A) → ArenaState (view a) (entry a)) (links : A → LinkMap) (key : P → ℕ × Gen) (a b : A) (p q : P) (o : Option Unit)
     → ExchangesNext state links key a p q o b → CanExchange (entry a) (links a) (key p) (key q) → IsExchanged state links a b (key p).0 (key q).0
 exchange_made state links key a b p q None is can = absurd (is can)
 exchange_made state links key a b p q (Some done) is can = is.1

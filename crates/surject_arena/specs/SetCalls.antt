@@ -14,7 +14,7 @@ use Rattle.arena_traits.specs.CallOutcomes.{ReportsOverflow}
 use Rattle.arena_traits.specs.Entries.{ArenaView, IsNew, index_of, count, with_capacity, next_slot, with_next_filled, view_with_value, view_after_removal, view_after_clear}
 use Rattle.arena_traits.specs.Growth.{IsGrowthResult, RefusesOneMore, GrowsForOneMore}
 use Rattle.chain_links.specs.Insertions.{IsInsertionResult}
-use Rattle.surject_arena.specs.Surjections.{Surjection, entry_in, key_at, set_at, IsKey, IsKeyOf, HasValue}
+use Rattle.surject_arena.specs.Surjections.{Surjection, entry_in, key_at, set_at, IsKey, IsKeyOf, HasValue, SharesSet, IsAlone}
 
 -- The value x is inserted at p: at the next slot, and with the counter as its generation, if these
 -- are known. The counter is unchanged.
@@ -112,6 +112,14 @@ module _ {Gen K V : Type 0} where
           ⊎ ((o ≡ Some value) × (size ≡ 1) × (new.values ≡ view_after_removal following old.values set.0))
       pub redirected : new.redirected ≡ old.redirected
 
+    -- The key at p is k in place of `former`.
+    pub record IsKeyReplaced (p : ℕ × Gen) (k former : K) : Type 0 where
+      pub set : ℕ × Gen
+      pub stored : entry_in old.keys p.0 ≡ Some (p.1, (former, set))
+      pub keys : new.keys ≡ view_with_value old.keys p.0 (k, set)
+      pub values : new.values ≡ old.values
+      pub redirected : new.redirected ≡ old.redirected
+
     -- The value of the set of p is t in place of `former`.
     pub record IsValueReplaced (p : ℕ × Gen) (t former : V) : Type 0 where
       pub set : ℕ × Gen
@@ -121,6 +129,28 @@ module _ {Gen K V : Type 0} where
       pub values : new.values ≡ view_with_value old.values set.0 (t, size)
       pub keys : new.keys ≡ old.keys
       pub redirected : new.redirected ≡ old.redirected
+
+    -- The key at p is in a new set, which has the value t. Its former set counts one key less.
+    pub record IsKeySetApart (p : ℕ × Gen) (t : V) : Type 0 where
+      pub set : ℕ × Gen
+      pub own : ℕ × Gen
+      pub key : K
+      pub stored : entry_in old.keys p.0 ≡ Some (p.1, (key, set))
+      pub keys : new.keys ≡ view_with_value old.keys p.0 (key, own)
+      pub value : V
+      pub size : ℕ
+      pub valued : HasValue old set value size
+      pub shared : 1 < size
+      pub grown : ArenaView Gen (V × ℕ)
+      pub added : IsAdded old.values (t, 1) own grown
+      pub values : new.values ≡ view_with_value grown set.0 (value, size - 1)
+      pub redirected : new.redirected ≡ old.redirected
+
+    -- The key at p is alone in a set with the value t. It shared its set before; or it was alone, and
+    -- its value was replaced.
+    abbrev pub IsKeySplit : ℕ → ℕ × Gen → V → Option V → Type 0
+    IsKeySplit greatest p t None = IsKeySetApart p t × GrowsForOneMore greatest old.values new.values
+    IsKeySplit greatest p t (Some former) = IsAlone old p × IsValueReplaced p t former
 
   -- `insert`: a key is inserted into a set of its own, after growths if the arenas were full, or
   -- one of them could not grow.
@@ -149,6 +179,12 @@ module _ {Gen K V : Type 0} where
   abbrev pub ReplacesValueOf : {P : Type 0} → (P → ℕ × Gen) → Surjection Gen K V → P → V → Option V → Surjection Gen K V → Type 0
   ReplacesValueOf key old p t None new = IsKey old (key p) → ⊥
   ReplacesValueOf key old p t (Some former) new = IsValueReplaced old new (key p) t former
+
+  -- `split_key`: the key of p comes to be alone in its set, or it could not. Only a key that shares
+  -- its set needs capacity for a value.
+  abbrev pub SplitsKey : {P : Type 0} → (P → ℕ × Gen) → ℕ → Surjection Gen K V → P → V → Result (Option V) ChainInsertionError → Surjection Gen K V → Type 0
+  SplitsKey key greatest old p t result new =
+      IsInsertionResult (IsKey old (key p)) (λ why. SharesSet old (key p) × RefusesOneMore old.values why) (λ o. IsKeySplit old new greatest (key p) t o) result
 
   -- `clear`: no keys and values are left, and whether the counter of keys wrapped is reported.
   abbrev pub ClearsSets : {P I W : Type 0} → PointerKind P I Gen W → Surjection Gen K V → InvalidationOption Unit → Surjection Gen K V → Type 0

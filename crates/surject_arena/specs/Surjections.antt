@@ -1,5 +1,5 @@
 -- A surjection arena in contracts: keys in sets, and one value for each set.
-use Rattle.std.specs.Prelude.{◌≡◌, ◌↔◌, ℕ, List, map, length, Option, Some}
+use Rattle.std.specs.Prelude.{◌≡◌, ◌↔◌, ◌<◌, ℕ, List, map, length, Option, Some}
 use Rattle.std.specs.Option.{option_map}
 use Rattle.chain_laws.specs.Chains.{IsMember, AreDistinct}
 use Rattle.arena_traits.specs.Arena.{IsValid}
@@ -51,6 +51,14 @@ module _ {Gen K V : Type 0} (s : Surjection Gen K V) where
   -- The set w has the value t and n keys.
   abbrev pub HasValue : ℕ × Gen → V → ℕ → Type 0
   HasValue w t n = entry_in s.values w.0 ≡ Some (w.1, (t, n))
+
+  -- p is the pointer of a key, and other keys are in its set.
+  abbrev pub SharesSet : ℕ × Gen → Type 0
+  SharesSet p = (w : ℕ × Gen) × (t : V) × (n : ℕ) × IsKeyOf w p × HasValue w t n × (1 < n)
+
+  -- p is the pointer of a key, which is alone in its set.
+  abbrev pub IsAlone : ℕ × Gen → Type 0
+  IsAlone p = (w : ℕ × Gen) × (t : V) × IsKeyOf w p × HasValue w t 1
 
   -- The keys of the set w are at these indexes, each once.
   pub record AreKeysOf (w : ℕ × Gen) (indexes : List ℕ) : Type 0 where

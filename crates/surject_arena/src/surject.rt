@@ -1,16 +1,18 @@
 // The surjection arena.
 ghost use Rattle.std.specs.Prelude.{◌≡◌, ◌≢◌, ◌↔◌, ◌+◌, ◌<◌, ◌^◌, ◌-◌, ℕ, List, length, min, IsTrue, IsSome, IfSome, IfNone, IfOk, OnErr, IsOk, Some, None};
 ghost use Rattle.std.specs.Option.{option_map};
+ghost use Rattle.std.specs.Borrow.{LendsSo, sem};
 ghost use Rattle.arena_core.specs.Invalidation.{value_within};
 ghost use Rattle.arena_traits.specs.Arena.{IsValid};
 ghost use Rattle.arena_traits.specs.Entries.{AscendsFrom, count, HasFreeCapacity};
 ghost use Rattle.arena_traits.specs.Growth.{GrowsForOneMore, RefusesOneMore, IsGrowthResult};
-ghost use Rattle.surject_arena.specs.Surjections.{IsKey, IsKeyOf, AreInOneSet, IsSurjection};
+ghost use Rattle.surject_arena.specs.Surjections.{IsKey, IsKeyOf, AreInOneSet, IsSurjection, HasValue, key_at};
 ghost use Rattle.surject_arena.specs.KeySets.{ListsSet};
-ghost use Rattle.surject_arena.specs.SetCalls.{StartsEmpty, StartsWithCapacities, ClearsSets, IsSetAdded, IsAbsorbed, InsertsSet, InsertsKey, UnitesSets, RemovesKey, ReplacesValueOf, ReadsKey, ReadsValue, CountsKeys, GrowsKeys};
+ghost use Rattle.surject_arena.specs.Rows.{chain_members, plain_members};
+ghost use Rattle.surject_arena.specs.SetCalls.{StartsEmpty, StartsWithCapacities, ClearsSets, IsSetAdded, IsAbsorbed, InsertsSet, InsertsKey, UnitesSets, RemovesKey, IsKeyReplaced, IsValueReplaced, IsKeySetApart, SplitsKey, ReplacesValueOf, ReadsKey, ReadsValue, CountsKeys, GrowsKeys};
 
 use crate::key_set::{KeySet, keys_from};
-use crate::keys::{is_in_set, redirect, set_of};
+use crate::keys::{is_in_set, leave_ring, put_into, redirect, set_of};
 use crate::members::{Counted, Member};
 use crate::values::{release, replace_value, set_size, size_of, take_value};
 use arena_ptr::{
@@ -72,6 +74,8 @@ impl<
     A: ChainArenaTrait<P, Member<P, K>> + Drop,
     B: PlainArenaTrait<P, Counted<V>> + Drop,
 > SurjectArena<P, K, V, A, B> {
+    ghost use Rattle.surject_arena.specs.contracts.surject.SurjectArena.{the_row};
+
     /// Returns an arena without keys and values, without allocating.
     pub fn new(alloc: Global) -> Self
         ensures { StartsEmpty P.Gen.first result }
@@ -221,6 +225,58 @@ impl<
         keys_from(&self.keys, p)
     }
 
+    /// Returns a key, for writing, or `None` if `p` is not its pointer.
+    ///
+    /// Writing through the reference keeps the sets, the values and all pointers.
+    pub fn get_key_mut(&mut self, p: P) -> Option<&mut K>
+        ensures* writes_back { sem 𝓛 (LendsSo
+            (the_row P.row K.row V.row A.row B.row P.Inx.row P.Gen.row P.Inx.Word.row
+            A.ChainPtrAdvancer.row A.PtrAdvancer.row B.PtrAdvancer.row P.PtrKey P.Inx.InxKey
+            P.Gen.GenKey (chain_members A.interlinks A.walker A.inserts A.connects A.breaks_prev
+            A.breaks_next A.exchanges A.reverses A.moves A.splices A.compresses_canonically)
+            A.ArenaTrait A.PtrAdvancer.Advancer A.ChainPtrAdvancer.Advancer
+            (plain_members B.inserts) B.ArenaTrait B.PtrAdvancer.Advancer)
+            K.row self.entry result
+            (λ new k. IfSome result (λ was. IsKeyReplaced self.old new (P.key p) k was.now))
+            (λ new. new ≡ self.old)) }
+        ensures some { IsSome result ↔ IsKey self.old (P.key p) }
+        ensures key { IfSome result (λ k. key_at self.old (P.key p).0
+            ≡ Some ((P.key p).1, k.now)) }
+    {
+        match self.keys.get_mut(p) {
+            Some(e) => Some(&mut e.key),
+            None => None,
+        }
+    }
+
+    /// Returns the value of the set of `p`, for writing, or `None` if `p` is not the pointer of a
+    /// key.
+    ///
+    /// Writing through the reference keeps the sets, the keys and all pointers.
+    pub fn get_val_mut(&mut self, p: P) -> Option<&mut V>
+        ensures* writes_back { sem 𝓛 (LendsSo
+            (the_row P.row K.row V.row A.row B.row P.Inx.row P.Gen.row P.Inx.Word.row
+            A.ChainPtrAdvancer.row A.PtrAdvancer.row B.PtrAdvancer.row P.PtrKey P.Inx.InxKey
+            P.Gen.GenKey (chain_members A.interlinks A.walker A.inserts A.connects A.breaks_prev
+            A.breaks_next A.exchanges A.reverses A.moves A.splices A.compresses_canonically)
+            A.ArenaTrait A.PtrAdvancer.Advancer A.ChainPtrAdvancer.Advancer
+            (plain_members B.inserts) B.ArenaTrait B.PtrAdvancer.Advancer)
+            V.row self.entry result
+            (λ new t. IfSome result (λ was. IsValueReplaced self.old new (P.key p) t was.now))
+            (λ new. new ≡ self.old)) }
+        ensures some { IsSome result ↔ IsKey self.old (P.key p) }
+        ensures value { IfSome result (λ t. (w : ℕ × P.Gen) × (n : ℕ)
+            × IsKeyOf self.old w (P.key p) × HasValue self.old w t.now n) }
+    {
+        match set_of(&self.keys, p) {
+            Some(w) => match self.values.get_mut(w) {
+                Some(e) => Some(&mut e.value),
+                None => None,
+            },
+            None => None,
+        }
+    }
+
     // Grows to a capacity for one more key, if there is none.
     fn reserve_key(&mut self) -> Result<(), ReallocationError>
         ensures outcome { IsGrowthResult (RefusesOneMore self.old.keys)
@@ -342,6 +398,61 @@ impl<
             Some(w) => replace_value(&mut self.values, w, v),
             None => None,
         }
+    }
+
+    // Puts a key that is not alone in its set `w` into a new set, which has the value `v`.
+    fn set_apart(&mut self, p: P, w: P, v: V) -> Result<(), ReallocationError>
+        requires key { IsKeyOf self.old (P.key w) (P.key p) }
+        requires shared { (t : V) (n : ℕ) → HasValue self.old (P.key w) t n → 1 < n }
+        ensures outcome { IsGrowthResult (RefusesOneMore self.old.values)
+            (λ done. IsKeySetApart self.old self.new (P.key p) v
+            × GrowsForOneMore P.Inx.greatest self.old.values self.new.values) result }
+        ensures err { OnErr result (self.new ≡ self.old) }
+    {
+        let n = size_of(&self.values, w);
+        let own = match self
+            .values
+            .insert_reallocating(Counted { value: v, size: 1 })
+        {
+            Ok(own) => own,
+            Err(e) => return Err(e),
+        };
+        set_size(&mut self.values, w, n - 1);
+        put_into(&mut self.keys, p, own);
+        leave_ring(&mut self.keys, p);
+        Ok(())
+    }
+
+    /// Puts a key into a set of its own, which has the value `v`. The pointer of the key stays.
+    ///
+    /// The other keys of its former set stay there, with their value. If there are none, the value
+    /// is replaced, and the former one is returned.
+    ///
+    /// # Errors
+    ///
+    /// In the order in which they are tested:
+    ///
+    /// - `FailedLinkRequirement`: `p` is not the pointer of a key.
+    /// - `BeyondMaxCapacity`: the key is not alone, and one more value is above the maximum.
+    /// - `AllocError`: the key is not alone, and one more value is above the greatest index, or an
+    ///   allocation failed.
+    ///
+    /// On error the arena is unchanged, and `v` is dropped.
+    pub fn split_key(&mut self, p: P, v: V) -> Result<Option<V>, ChainInsertionError>
+        ensures outcome { SplitsKey P.key P.Inx.greatest self.old p v result self.new }
+        ensures err { OnErr result (self.new ≡ self.old) }
+    {
+        let w = match set_of(&self.keys, p) {
+            Some(w) => w,
+            None => return Err(ChainInsertionError::FailedLinkRequirement),
+        };
+        if size_of(&self.values, w) > 1 {
+            return match self.set_apart(p, w, v) {
+                Ok(()) => Ok(None),
+                Err(e) => Err(ChainInsertionError::from(e)),
+            };
+        }
+        Ok(replace_value(&mut self.values, w, v))
     }
 
     /// Removes all keys and values. The capacities stay.

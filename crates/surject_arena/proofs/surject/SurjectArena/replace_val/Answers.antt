@@ -1,13 +1,11 @@
 -- The value is replaced, and its size stays.
-use Rattle.std.proofs.Common.{◌≡◌, Some, refl, sym, ap, ◌∙◌, subst}
+use Rattle.std.proofs.Common.{◌≡◌, refl, sym, subst}
 use Rattle.std.specs.Prelude.{IfNone}
-use Rattle.surject_arena.specs.Partitions.{counted, member_view, counted_view}
-use Rattle.surject_arena.specs.Surjections.{map_view}
+use Rattle.surject_arena.specs.Partitions.{member_view}
 use Rattle.surject_arena.specs.SetCalls.{ReplacesValueOf}
-use Rattle.surject_arena.proofs.ViewLemmas.{each-valid, written-each}
-use Rattle.surject_arena.proofs.SetReadLemmas.{seen, key_of, has_value, valued}
-use Rattle.surject_arena.proofs.SetChangeLemmas.{same_partition}
-use Rattle.surject_arena.proofs.CallLemmas.{partition_kept}
+use Rattle.surject_arena.proofs.ViewLemmas.{each-valid}
+use Rattle.surject_arena.proofs.SetReadLemmas.{seen, valued}
+use Rattle.surject_arena.proofs.WriteLemmas.{same_sizes, value_replaced}
 use Rattle.surject_arena.proofs.surject.SurjectArena.replace_val.Goals as goal
 
 pub invariant_of-self : goal.invariant_of-self
@@ -18,8 +16,7 @@ invariant_of-self g c =
     let w = key c.in-Some.w in
     let known = valued key g.A.ArenaTrait.state g.B.ArenaTrait.state a b 0 (g.A.ChainArenaTrait.interlinks a) c.self.invariant (key c.args.p).0 w c.in-Some.ensures.set in
     let replaced = c.replace_value.ensures known.0 known.1 known.2 in
-    same_partition _ _ _ _ _ _ c.self.invariant (λ i. refl) refl
-    (partition_kept key g.P.Gen.GenKey.following g.A.ArenaTrait.state g.A.ChainArenaTrait.interlinks g.B.ArenaTrait.state a a b c.replace_value.new.values 0 c.self.invariant w known.0 c.args.v known.1 known.2 replaced.1)
+    same_sizes key g.A.ArenaTrait.state g.A.ChainArenaTrait.interlinks g.B.ArenaTrait.state a b 0 c.self.invariant (key c.args.p) c.replace_value.new.values w known.0 c.args.v known.1 known.2 replaced.1 g.P.Gen.GenKey.following
 
 pub returns-in-Some-clause-outcome : goal.returns-in-Some-clause-outcome
 returns-in-Some-clause-outcome g c =
@@ -31,15 +28,8 @@ returns-in-Some-clause-outcome g c =
     let w = key c.in-Some.w in
     let known = valued key g.A.ArenaTrait.state g.B.ArenaTrait.state a b r (g.A.ChainArenaTrait.interlinks a) c.self.invariant p.0 w c.in-Some.ensures.set in
     let replaced = c.replace_value.ensures known.0 known.1 known.2 in
-    rw (← c.self.view_is) (subst (λ o. ReplacesValueOf key (seen key g.A.ArenaTrait.state g.B.ArenaTrait.state a b r) c.args.p c.args.v o (seen key g.A.ArenaTrait.state g.B.ArenaTrait.state a c.replace_value.new.values r)) (sym replaced.0) (record {
-      set = w;
-      key = key_of key g.A.ArenaTrait.state g.B.ArenaTrait.state a b r p w (c.in-Some.ensures.some.0 refl) c.in-Some.ensures.set;
-      size = known.1;
-      valued = has_value key g.A.ArenaTrait.state g.B.ArenaTrait.state a b r w known.0 known.1 known.2;
-      values = ap (map_view counted_view) replaced.1 ∙ written-each counted_view (g.B.ArenaTrait.view b) w.0 (counted c.args.v known.1);
-      keys = refl;
-      redirected = refl;
-    }))
+    rw (← c.self.view_is) (subst (λ o. ReplacesValueOf key (seen key g.A.ArenaTrait.state g.B.ArenaTrait.state a b r) c.args.p c.args.v o (seen key g.A.ArenaTrait.state g.B.ArenaTrait.state a c.replace_value.new.values r)) (sym replaced.0) (
+    value_replaced key g.A.ArenaTrait.state g.A.ChainArenaTrait.interlinks g.B.ArenaTrait.state a b r c.self.invariant p c.replace_value.new.values w known.0 c.args.v known.1 known.2 replaced.1 (c.in-Some.ensures.some.0 refl) c.in-Some.ensures.set))
 
 pub returns-in-Some-clause-none : goal.returns-in-Some-clause-none
 returns-in-Some-clause-none g c =
