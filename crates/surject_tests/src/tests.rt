@@ -4,12 +4,13 @@ mod model;
 mod rows;
 
 use arena_base::{Arena, ArenaSlot};
-use arena_ptr::{HeapStack, ToolPtr};
+use arena_ptr::{ChainInsertionError, HeapStack, LimitedStack, PtrKey, ToolPtr};
+use arena_traits::PlainArenaTrait;
 use chain_arena::{ChainArena, LinkNoGen};
 use std::alloc::Global;
 use std::process::Abort;
 use surject_arena::{Counted, Member, SurjectArena};
-use test_types::FailingStack;
+use test_types::{EightSlots, FailingStack};
 
 // A key and a value, both numbers.
 type Key = Member<ToolPtr, u32>;
@@ -28,6 +29,9 @@ type Values = Arena<ToolPtr, Value, HeapStack<ValueSlot>>;
 type ScarceKeys = ChainArena<ToolPtr, Key, FailingStack<HeapStack<KeySlot>>>;
 
 type ScarceValues = Arena<ToolPtr, Value, FailingStack<HeapStack<ValueSlot>>>;
+
+// An arena of at most eight values.
+type EightValues = Arena<ToolPtr, Value, EightSlots<LimitedStack<ValueSlot>>>;
 
 type Sets<A, B> = SurjectArena<ToolPtr, u32, u32, A, B>;
 
@@ -93,4 +97,53 @@ fn capacities_are_reserved(rt: HostRuntime) {
         }
         Err(_) => holds(&rt, "memory", false),
     }
+}
+
+// Fills the values, and returns why a key is not split off then. Before, key 2 is beside key 1.
+fn refused_split<B: PlainArenaTrait<ToolPtr, Value> + Drop>(
+    sets: &mut Sets<Keys, B>,
+    full: usize,
+) -> Option<ChainInsertionError> {
+    let first = match (sets.insert(1, 5), sets.insert(1, 5)) {
+        (Ok(p), _) | (Err(_), Ok(p)) => p,
+        _ => return None,
+    };
+    let second = match sets.insert_key(first, 2) {
+        Ok(p) => p,
+        Err(_) => return None,
+    };
+    for _ in 0..64 {
+        if sets.len_vals() >= full && sets.len_vals() == sets.capacity_vals() {
+            break;
+        }
+        let _ = sets.insert(3, 6);
+    }
+    match sets.split_key(second, 7) {
+        Err(e)
+            if sets.in_same_set(first, second)
+                && sets.get_val(second) == Some(&5)
+                && sets.len_key_set(first) == Some(2) => { Some(e) }
+        _ => None,
+    }
+}
+
+#[test]
+fn splits_are_refused(rt: HostRuntime) {
+    let mut scarce: Sets<Keys, ScarceValues> = SurjectArena::new(rt.alloc());
+    holds(
+        &rt,
+        "memory",
+        refused_split(&mut scarce, 1) == Some(ChainInsertionError::AllocError),
+    );
+    let mut eight: Sets<Keys, EightValues> = SurjectArena::new(rt.alloc());
+    holds(
+        &rt,
+        "maximum",
+        refused_split(&mut eight, 8) == Some(ChainInsertionError::BeyondMaxCapacity),
+    );
+    holds(
+        &rt,
+        "pointer",
+        eight.split_key(ToolPtr::invalid(), 7) == Err(ChainInsertionError::FailedLinkRequirement),
+    );
 }

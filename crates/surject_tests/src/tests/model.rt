@@ -5,6 +5,7 @@ use arena_ptr::{InvalidationResult, ToolPtr};
 use arena_traits::PlainArenaTrait;
 use chain_traits::ChainArenaTrait;
 use std::alloc::{AllocError, Global};
+use std::mem;
 
 // A key: its pointer, itself, and its set.
 #[derive(Clone, Copy)]
@@ -51,6 +52,12 @@ fn value_of(model: &Model, set: usize) -> u32 {
     match model.values.get(set) {
         Some(v) => *v,
         None => 0,
+    }
+}
+
+fn write_value(model: &mut Model, set: usize, value: u32) {
+    if let Some(v) = model.values.get_mut(set) {
+        *v = value;
     }
 }
 
@@ -168,6 +175,58 @@ fn remove<A: ChainArenaTrait<ToolPtr, Key> + Drop, B: PlainArenaTrait<ToolPtr, V
     }
 }
 
+// Splits a key off, and returns whether its value was replaced exactly if it was alone.
+fn split<A: ChainArenaTrait<ToolPtr, Key> + Drop, B: PlainArenaTrait<ToolPtr, Value> + Drop>(
+    sets: &mut Sets<A, B>,
+    model: &mut Model,
+    k: usize,
+    e: Entry,
+    value: u32,
+) -> Result<bool, AllocError> {
+    let alone = size_of(model.entries.as_slice(), e.set) == 1;
+    let former = value_of(model, e.set);
+    match sets.split_key(e.p, value) {
+        Ok(Some(v)) => {
+            write_value(model, e.set, value);
+            Ok(alone && v == former)
+        }
+        Ok(None) => {
+            let set = model.values.len();
+            model.values.push(value)?;
+            if let Some(d) = model.entries.get_mut(k) {
+                d.set = set;
+            }
+            Ok(!alone)
+        }
+        Err(_) => Ok(!alone),
+    }
+}
+
+// Writes a key and the value of its set in place, and returns whether both are there.
+fn write<A: ChainArenaTrait<ToolPtr, Key> + Drop, B: PlainArenaTrait<ToolPtr, Value> + Drop>(
+    sets: &mut Sets<A, B>,
+    model: &mut Model,
+    k: usize,
+    e: Entry,
+    n: u32,
+) -> bool {
+    if let Some(d) = model.entries.get_mut(k) {
+        d.key = n;
+    }
+    write_value(model, e.set, n);
+    let key = match sets.get_key_mut(e.p) {
+        Some(key) => mem::replace(key, n) == e.key,
+        None => false,
+    };
+    match sets.get_val_mut(e.p) {
+        Some(value) => {
+            *value = n;
+            key
+        }
+        None => false,
+    }
+}
+
 // Makes a random call in both, and returns whether it did the same.
 fn step<A: ChainArenaTrait<ToolPtr, Key> + Drop, B: PlainArenaTrait<ToolPtr, Value> + Drop>(
     sets: &mut Sets<A, B>,
@@ -175,7 +234,7 @@ fn step<A: ChainArenaTrait<ToolPtr, Key> + Drop, B: PlainArenaTrait<ToolPtr, Val
     seed: &mut u32,
 ) -> Result<bool, AllocError> {
     let count = model.entries.len();
-    let call = random(seed, 8);
+    let call = random(seed, 10);
     let key = *seed;
     let i = random(seed, count);
     let j = random(seed, count);
@@ -187,6 +246,8 @@ fn step<A: ChainArenaTrait<ToolPtr, Key> + Drop, B: PlainArenaTrait<ToolPtr, Val
         0 | 1 if count < 24 => insert(sets, model, key),
         2 if count < 24 => insert_beside(sets, model, e, key),
         3 | 4 => Ok(union(sets, model, e, d)),
+        5 => split(sets, model, i, e, key),
+        6 => Ok(write(sets, model, i, e, key)),
         _ => Ok(remove(sets, model, i)),
     }
 }

@@ -5,6 +5,7 @@ use arena_ptr::{InvalidationResult, PtrKey, ToolPtr};
 use arena_traits::PlainArenaTrait;
 use chain_traits::ChainArenaTrait;
 use std::alloc::{AllocError, Global};
+use std::mem;
 
 // A call. Keys are named by the order of their insertion, from 0 on.
 #[derive(Clone, Copy)]
@@ -18,8 +19,13 @@ enum Op {
     Union,
     // Removes a key: 0 for none, or the key and the value, 9 if that stays.
     Remove,
+    // Splits a key off: 0 for none, 1 if others were in its set, or the former value, and 2.
+    Split,
     // Replaces a value: the former one, or 9 for none.
     Replace,
+    // Writes a key, or a value, in place: the former one, or 9 for none.
+    WriteKey,
+    WriteValue,
     // Whether two keys are in one set.
     InOneSet,
     // The key and its value, and how many have it; 0 for none.
@@ -35,7 +41,7 @@ enum Op {
 // A call, two arguments, and what it yields in decimal digits.
 type Row = (Op, u32, u32, u32);
 
-const ROWS: [Row; 43] = [
+const ROWS: [Row; 64] = [
     (Op::Count, 0, 0, 0),
     (Op::Insert, 1, 5, 1),
     (Op::Insert, 2, 6, 1),
@@ -77,10 +83,33 @@ const ROWS: [Row; 43] = [
     (Op::List, 0, 0, 0),
     (Op::Remove, 2, 0, 39),
     (Op::Read, 1, 0, 233),
+    // The others stay in their set.
+    (Op::Split, 3, 8, 1),
+    (Op::Read, 3, 0, 481),
+    (Op::Read, 1, 0, 232),
+    (Op::InOneSet, 3, 1, 0),
+    (Op::InOneSet, 4, 1, 1),
+    (Op::List, 1, 0, 29),
+    (Op::List, 4, 0, 92),
+    (Op::List, 3, 0, 4),
+    (Op::Count, 0, 0, 323),
+    // It is alone, so its value is replaced.
+    (Op::Split, 3, 5, 82),
+    (Op::Read, 3, 0, 451),
+    (Op::Split, 0, 1, 0),
+    (Op::Union, 3, 1, 51),
+    (Op::Read, 3, 0, 433),
+    (Op::Count, 0, 0, 314),
+    (Op::WriteKey, 3, 7, 4),
+    (Op::WriteKey, 0, 1, 9),
+    (Op::Read, 3, 0, 733),
+    (Op::WriteValue, 4, 6, 3),
+    (Op::WriteValue, 0, 1, 9),
+    (Op::Read, 1, 0, 263),
     (Op::Insert, 6, 7, 1),
     (Op::Remove, 5, 0, 67),
     (Op::Clear, 0, 0, 0),
-    (Op::Count, 0, 0, 3),
+    (Op::Count, 0, 0, 4),
 ];
 
 fn digits(n: u32, digit: u32) -> u32 {
@@ -135,6 +164,44 @@ fn remove<A: ChainArenaTrait<ToolPtr, Key> + Drop, B: PlainArenaTrait<ToolPtr, V
     match sets.remove_key(p) {
         InvalidationResult::Success((k, v)) => digits(k, v.unwrap_or(9)),
         _ => 0,
+    }
+}
+
+// Splits a key off; if memory is refused, a second time.
+fn split<A: ChainArenaTrait<ToolPtr, Key> + Drop, B: PlainArenaTrait<ToolPtr, Value> + Drop>(
+    sets: &mut Sets<A, B>,
+    p: ToolPtr,
+    v: u32,
+) -> u32 {
+    for _ in 0..2 {
+        match sets.split_key(p, v) {
+            Ok(Some(former)) => return digits(former, 2),
+            Ok(None) => return 1,
+            Err(_) => {}
+        }
+    }
+    0
+}
+
+fn write_key<A: ChainArenaTrait<ToolPtr, Key> + Drop, B: PlainArenaTrait<ToolPtr, Value> + Drop>(
+    sets: &mut Sets<A, B>,
+    p: ToolPtr,
+    k: u32,
+) -> u32 {
+    match sets.get_key_mut(p) {
+        Some(key) => mem::replace(key, k),
+        None => 9,
+    }
+}
+
+fn write_value<A: ChainArenaTrait<ToolPtr, Key> + Drop, B: PlainArenaTrait<ToolPtr, Value> + Drop>(
+    sets: &mut Sets<A, B>,
+    p: ToolPtr,
+    v: u32,
+) -> u32 {
+    match sets.get_val_mut(p) {
+        Some(value) => mem::replace(value, v),
+        None => 9,
     }
 }
 
@@ -193,6 +260,9 @@ fn respond<A: ChainArenaTrait<ToolPtr, Key> + Drop, B: PlainArenaTrait<ToolPtr, 
         }
         Op::Union => (union(sets, p, q), None),
         Op::Remove => (remove(sets, p), None),
+        Op::Split => (split(sets, p, b), None),
+        Op::WriteKey => (write_key(sets, p, b), None),
+        Op::WriteValue => (write_value(sets, p, b), None),
         Op::Replace => (sets.replace_val(p, b).unwrap_or(9), None),
         Op::InOneSet => (sets.in_same_set(p, q) as u32, None),
         Op::Read => (read(sets, p), None),
