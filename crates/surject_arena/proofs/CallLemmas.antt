@@ -1,5 +1,5 @@
 -- The outcomes of calls, by those of the two arenas.
-use Rattle.std.proofs.Common.{◌≡◌, ◌≢◌, ℕ, zero, suc, ◌+◌, ◌-◌, ◌<◌, ◌≤◌, ◌⊎◌, inl, inr, ⊎_elim, List, [], ◌∷◌, length, map, Option, None, Some, Result, Ok, Err, refl, sym, ap, ◌∙◌, subst, arith}
+use Rattle.std.proofs.Common.{◌≡◌, ◌≢◌, ℕ, zero, suc, ◌+◌, ◌-◌, ◌<◌, ◌≤◌, ◌⊎◌, inl, inr, ⊎_elim, List, [], ◌∷◌, length, Option, None, Some, Result, Ok, Err, refl, sym, ap, ◌∙◌, subst, arith}
 use Rattle.std.proofs.lemmas.Bool.{cases_eq}
 use Rattle.arena_core.specs.Errors.{insertion_error}
 use Rattle.arena_core.specs.declared.errors.ChainInsertionError.{ChainInsertionError}
@@ -14,7 +14,7 @@ use Rattle.chain_laws.specs.Chains.{LinkMap, IsWellLinked}
 use Rattle.chain_laws.specs.Removals.{with_removal, Removes}
 use Rattle.chain_laws.proofs.RemovalLemmas.Chains.{removed_removes}
 use Rattle.chain_links.specs.Insertions.{IsInsertionRefusal}
-use Rattle.surject_arena.specs.Partitions.{member, counted, member_view, counted_view, set_in, size_in, IsSet, IsPartition}
+use Rattle.surject_arena.specs.Partitions.{counted, member_view, counted_view, set_in, size_in, IsPartition}
 use Rattle.surject_arena.specs.Surjections.{Surjection, map_view}
 use Rattle.surject_arena.specs.SetCalls.{IsAdded, GrowsKeys, IsSetAdded, InsertsSet, IsKeyTaken}
 use Rattle.surject_arena.specs.declared.members.Member.{Member}

@@ -8,7 +8,7 @@ use Rattle.chain_laws.specs.Walks.{Walker, IsWalk, passes_ahead, step_of}
 use Rattle.chain_laws.proofs.WalkLemmas.Members.{walk_has, walk_once}
 use Rattle.chain_laws.proofs.WalkLemmas.Steps.{step_ahead}
 use Rattle.surject_arena.specs.KeySets.{pointers_at, ArePointersOf}
-use Rattle.surject_arena.specs.Partitions.{member_view, set_in, size_in, IsPartition}
+use Rattle.surject_arena.specs.Partitions.{set_in, size_in, IsPartition}
 use Rattle.surject_arena.specs.Surjections.{IsKeyOf, AreKeysOf}
 use Rattle.surject_arena.specs.declared.members.Member.{Member}
 use Rattle.surject_arena.specs.declared.members.Counted.{Counted}

@@ -1,14 +1,13 @@
 -- What calls do to the sets, by the entries of the two arenas.
-use Rattle.std.proofs.Common.{◌≡◌, ◌≢◌, ℕ, ◌+◌, ◌-◌, ◌<◌, ◌≤◌, List, Option, None, Some, refl, sym, ap, ◌∙◌, subst}
-use Rattle.std.specs.Prelude.{◌↔◌}
+use Rattle.std.proofs.Common.{◌≡◌, ◌≢◌, ℕ, ◌+◌, ◌-◌, ◌<◌, ◌≤◌, Option, None, Some, sym, ap, ◌∙◌, subst}
 use Rattle.std.specs.Option.{option_map}
-use Rattle.arena_traits.specs.Arena.{IsInserted, IsValid}
+use Rattle.arena_traits.specs.Arena.{IsInserted}
 use Rattle.arena_traits.specs.Entries.{ArenaView, ArenaState, found, view_with_value, view_after_removal}
 use Rattle.arena_traits.proofs.EntryChangeLemmas.{entry_gone, entry_kept, value_there, values_elsewhere}
 use Rattle.chain_laws.specs.Chains.{LinkMap, cyclic, IsChain, IsWellLinked, next_of}
 use Rattle.chain_laws.specs.Insertions.{Inserts}
 use Rattle.chain_laws.specs.Removals.{Removes}
-use Rattle.surject_arena.specs.Partitions.{member, counted, set_in, size_in, IsSet, IsPartition}
+use Rattle.surject_arena.specs.Partitions.{member, counted, set_in, size_in, IsPartition}
 use Rattle.surject_arena.specs.declared.members.Member.{Member}
 use Rattle.surject_arena.specs.declared.members.Counted.{Counted}
 use Rattle.surject_arena.proofs.OptionLemmas.{none_some}

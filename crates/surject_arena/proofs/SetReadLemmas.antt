@@ -1,20 +1,20 @@
 -- What contracts see of two arenas, by the entries of both.
-use Rattle.std.proofs.Common.{◌≡◌, ◌≢◌, ℕ, ◌+◌, ◌≤◌, List, length, map, Option, None, Some, refl, sym, ap, ◌∙◌, subst, arith}
-use Rattle.std.specs.Prelude.{◌↔◌, is_some, true}
+use Rattle.std.proofs.Common.{◌≡◌, ◌≢◌, ℕ, ◌+◌, ◌≤◌, map, Option, Some, sym, ap, ◌∙◌, arith}
+use Rattle.std.specs.Prelude.{is_some, true}
 use Rattle.std.specs.Option.{option_map}
 use Rattle.std.proofs.lemmas.List.{length-map}
 use Rattle.arena_traits.specs.Arena.{IsValid}
-use Rattle.arena_traits.specs.Entries.{ArenaView, ArenaState, count, found, index_of}
+use Rattle.arena_traits.specs.Entries.{ArenaView, ArenaState, count, index_of}
 use Rattle.chain_laws.specs.Chains.{LinkMap, IsMember, next_of}
 use Rattle.chain_laws.proofs.ListLemmas.Members.{filled-IsMember}
 use Rattle.chain_laws.proofs.ChainLemmas.MemberLaws.{rings_are_cyclic}
 use Rattle.chain_links.specs.ChainArena.{on_value}
 use Rattle.chain_links.proofs.OccupiedIndexLemmas.{found_has}
-use Rattle.surject_arena.specs.Partitions.{member, counted, member_view, counted_view, surjection_of, set_in, size_in, IsSet, IsPartition}
-use Rattle.surject_arena.specs.Surjections.{Surjection, map_view, entry_in, key_at, set_at, IsKey, IsKeyOf, HasValue, AreKeysOf, IsSurjection}
+use Rattle.surject_arena.specs.Partitions.{counted, member_view, counted_view, surjection_of, set_in, size_in, IsSet, IsPartition}
+use Rattle.surject_arena.specs.Surjections.{Surjection, key_at, set_at, IsKeyOf, HasValue, IsSurjection}
 use Rattle.surject_arena.specs.declared.members.Member.{Member}
 use Rattle.surject_arena.specs.declared.members.Counted.{Counted}
-use Rattle.surject_arena.proofs.OptionLemmas.{same_some, none_some, from_mapped, mapped_twice}
+use Rattle.surject_arena.proofs.OptionLemmas.{same_some, from_mapped, mapped_twice}
 use Rattle.surject_arena.proofs.PartitionLemmas.{set_fits, sets_fit}
 use Rattle.surject_arena.proofs.ViewLemmas.{entry-each, stored-each, each-stored}
 

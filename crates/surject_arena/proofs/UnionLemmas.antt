@@ -1,7 +1,6 @@
 -- Two sets become one: keys are redirected, two cycles are merged, and one value is removed.
-use Rattle.std.proofs.Common.{◌≡◌, ◌≢◌, ℕ, ◌+◌, ◌-◌, ◌^◌, ◌≤◌, List, map, min, Option, None, Some, refl, sym, ap, ◌∙◌, subst}
+use Rattle.std.proofs.Common.{◌≡◌, ◌≢◌, ℕ, ◌+◌, ◌-◌, ◌^◌, ◌≤◌, map, min, Option, None, Some, sym, ap, ◌∙◌, subst}
 use Rattle.std.specs.Prelude.{is_some, true}
-use Rattle.std.specs.Option.{option_map}
 use Rattle.arena_traits.specs.Arena.{IsValid}
 use Rattle.arena_traits.specs.Entries.{ArenaView, ArenaState, count, index_of, view_with_value, view_after_removal}
 use Rattle.arena_traits.proofs.EntryChangeLemmas.{values_elsewhere}
@@ -10,7 +9,7 @@ use Rattle.chain_laws.specs.Exchanges.{Exchanges}
 use Rattle.chain_links.specs.CallEffects.{ExchangesNext, IsExchanged}
 use Rattle.chain_links.specs.ChainArena.{CanExchange}
 use Rattle.surject_arena.specs.Partitions.{counted, member_view, counted_view, set_in, size_in, IsSet, IsPartition, AreRedirected, IsRedirection}
-use Rattle.surject_arena.specs.Surjections.{Surjection, map_view, IsKeyOf, HasValue}
+use Rattle.surject_arena.specs.Surjections.{map_view, IsKeyOf, HasValue}
 use Rattle.surject_arena.specs.SetCalls.{IsAbsorbed}
 use Rattle.surject_arena.specs.declared.members.Member.{Member}
 use Rattle.surject_arena.specs.declared.members.Counted.{Counted}

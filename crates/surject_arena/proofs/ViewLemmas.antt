@@ -1,5 +1,5 @@
 -- Views with a function applied to each value.
-use Rattle.std.proofs.Common.{◌≡◌, ◌≢◌, ℕ, suc, ◌+◌, List, [], ◌∷◌, length, map, Bool, true, false, Option, None, Some, refl, sym, ap, ◌∙◌, subst, arith}
+use Rattle.std.proofs.Common.{◌≡◌, ℕ, suc, ◌+◌, List, [], ◌∷◌, map, Bool, true, false, Option, Some, refl, sym, ap, ◌∙◌, subst, arith}
 use Rattle.std.specs.Prelude.{◌==◌, cond, IfSome}
 use Rattle.std.specs.Option.{option_map}
 use Rattle.std.proofs.lemmas.List.{length-map}
@@ -7,7 +7,7 @@ use Rattle.arena_core.specs.SlotStack.{IsBeyond}
 use Rattle.arena_core.specs.declared.errors.ReallocationError.{ReallocationError}
 use Rattle.arena_core.specs.declared.errors.ReallocationError.TheVariants as refused
 use Rattle.arena_traits.specs.Arena.{IsInserted, IsValid}
-use Rattle.arena_traits.specs.Entries.{ArenaView, ArenaState, AscendsFrom, Slots, IsNew, count, found, index_of, next_slot, with_next_filled, with_replacement, without_index, view_with_value, view_after_removal}
+use Rattle.arena_traits.specs.Entries.{ArenaView, ArenaState, AscendsFrom, IsNew, count, found, index_of, next_slot, with_next_filled, with_replacement, without_index, view_with_value, view_after_removal}
 use Rattle.arena_traits.specs.Growth.{RefusesOneMore, GrowsToFit, GrowsForOneMore}
 use Rattle.chain_links.specs.ChainArena.{on_value}
 use Rattle.surject_arena.specs.Surjections.{map_view, entry_in}

@@ -1,5 +1,5 @@
 -- The size decides whether the value stays.
-use Rattle.std.proofs.Common.{◌≡◌, ◌≤◌, ◌<◌, ◌-◌, refl, sym, ap, ◌∙◌, arith}
+use Rattle.std.proofs.Common.{◌-◌, refl, ap, ◌∙◌, arith}
 use Rattle.arena_traits.specs.Entries.{view_with_value}
 use Rattle.surject_arena.specs.Partitions.{counted}
 use Rattle.surject_arena.proofs.SetReadLemmas.{size_stored}

@@ -1,5 +1,5 @@
 -- The value that is read is the one that is replaced; its size stays.
-use Rattle.std.proofs.Common.{◌≡◌, Some, sym, ap, ◌∙◌}
+use Rattle.std.proofs.Common.{Some, sym, ap, ◌∙◌}
 use Rattle.arena_traits.specs.Entries.{view_with_value}
 use Rattle.surject_arena.specs.Partitions.{counted}
 use Rattle.surject_arena.proofs.OptionLemmas.{same_some}

@@ -1,5 +1,4 @@
 -- Where a size is known there is a value.
-use Rattle.std.proofs.Common.{◌≡◌}
 use Rattle.surject_arena.specs.Partitions.{counted}
 use Rattle.surject_arena.proofs.SetReadLemmas.{value_sized}
 use Rattle.surject_arena.proofs.values.size_of.Goals as goal

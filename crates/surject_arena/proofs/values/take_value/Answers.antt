@@ -1,5 +1,5 @@
 -- A removal of a value that is there returns it.
-use Rattle.std.proofs.Common.{◌≡◌, sym, ◌∙◌}
+use Rattle.std.proofs.Common.{sym, ◌∙◌}
 use Rattle.arena_core.specs.Invalidation.{value_within}
 use Rattle.arena_core.proofs.PointerKindLemmas.{kind_by}
 use Rattle.arena_traits.specs.Arena.{IsValid}

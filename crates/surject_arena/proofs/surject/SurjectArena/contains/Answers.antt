@@ -1,7 +1,5 @@
-use Rattle.std.proofs.Common.{◌≡◌}
 use Rattle.surject_arena.specs.Partitions.{member_view}
 use Rattle.surject_arena.proofs.ViewLemmas.{valid-each, each-valid}
-use Rattle.surject_arena.proofs.PartitionLemmas.{set_fits}
 use Rattle.surject_arena.proofs.surject.SurjectArena.contains.Goals as goal
 
 pub returns : goal.returns

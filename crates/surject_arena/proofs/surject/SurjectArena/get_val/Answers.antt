@@ -1,5 +1,5 @@
 -- The value of the key's set is there.
-use Rattle.std.proofs.Common.{◌≡◌, refl}
+use Rattle.std.proofs.Common.{refl}
 use Rattle.surject_arena.specs.Partitions.{member_view, counted}
 use Rattle.surject_arena.proofs.ViewLemmas.{valid-each, each-valid}
 use Rattle.surject_arena.proofs.SetReadLemmas.{key_of, has_value, valued}

@@ -1,11 +1,10 @@
 -- The key follows `p` in its chain, and is counted.
-use Rattle.std.proofs.Common.{◌≡◌, ◌<◌, ◌+◌, refl, ap, ◌∙◌, arith}
+use Rattle.std.proofs.Common.{◌+◌, refl, ap, ◌∙◌, arith}
 use Rattle.arena_traits.specs.Arena.{IsValid}
-use Rattle.arena_traits.specs.Entries.{view_with_value}
 use Rattle.arena_traits.specs.Growth.{RefusesOneMore}
 use Rattle.chain_links.proofs.OccupiedIndexLemmas.{unlinked}
 use Rattle.surject_arena.specs.Partitions.{member, counted, member_view, counted_view}
-use Rattle.surject_arena.specs.Surjections.{map_view, IsKey}
+use Rattle.surject_arena.specs.Surjections.{map_view}
 use Rattle.surject_arena.proofs.ViewLemmas.{valid-each, each-valid, added-each, written-each, grows-each, refuses-each}
 use Rattle.surject_arena.proofs.SetReadLemmas.{key_of, has_value, size_read, size_fits, size_stored}
 use Rattle.surject_arena.proofs.SetChangeLemmas.{with_key, value_written, sizes_elsewhere}

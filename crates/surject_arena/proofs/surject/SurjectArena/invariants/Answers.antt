@@ -1,6 +1,4 @@
-use Rattle.std.proofs.Common.{◌≡◌}
 use Rattle.surject_arena.proofs.SetReadLemmas.{is_surjection}
-use Rattle.surject_arena.proofs.SetChangeLemmas.{same_partition}
 use Rattle.surject_arena.proofs.surject.SurjectArena.invariants.Goals as goal
 
 pub returns : goal.returns

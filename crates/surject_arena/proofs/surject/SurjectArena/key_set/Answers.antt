@@ -1,5 +1,5 @@
 -- The walk from a key passes the keys of its set.
-use Rattle.std.proofs.Common.{◌≡◌, sym, subst}
+use Rattle.std.proofs.Common.{sym, subst}
 use Rattle.surject_arena.specs.KeySets.{ArePointersOf}
 use Rattle.surject_arena.specs.Partitions.{member_view}
 use Rattle.surject_arena.proofs.OptionLemmas.{if_some_to}

@@ -1,4 +1,3 @@
-use Rattle.std.proofs.Common.{◌≡◌}
 use Rattle.surject_arena.specs.Partitions.{member_view}
 use Rattle.surject_arena.proofs.ViewLemmas.{ascends-each}
 use Rattle.surject_arena.proofs.surject.SurjectArena.keys_ascend.Goals as goal

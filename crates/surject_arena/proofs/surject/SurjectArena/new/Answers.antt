@@ -1,6 +1,5 @@
 -- Arenas without entries have no sets.
-use Rattle.std.proofs.Common.{◌≡◌, sym, ap, ◌∙◌}
-use Rattle.std.specs.Option.{option_map}
+use Rattle.std.proofs.Common.{sym, ap, ◌∙◌}
 use Rattle.arena_traits.specs.Entries.{found}
 use Rattle.surject_arena.proofs.SetChangeLemmas.{no_sets}
 use Rattle.surject_arena.proofs.surject.SurjectArena.new.Goals as goal

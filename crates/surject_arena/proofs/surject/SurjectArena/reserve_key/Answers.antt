@@ -1,8 +1,6 @@
 -- A growth keeps the entries and the links.
 use Rattle.std.proofs.Common.{◌≡◌, refl, ap}
 use Rattle.std.specs.Option.{option_map}
-use Rattle.arena_traits.specs.Entries.{with_capacity}
-use Rattle.arena_traits.specs.Growth.{RefusesToFit, GrowsToFit}
 use Rattle.chain_traits.proofs.OutcomeLemmas.{either_grown}
 use Rattle.surject_arena.proofs.SetChangeLemmas.{same_partition, same_entries}
 use Rattle.surject_arena.proofs.surject.SurjectArena.reserve_key.Goals as goal

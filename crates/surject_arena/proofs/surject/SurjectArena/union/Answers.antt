@@ -1,5 +1,5 @@
 -- The smaller set is put into the larger one.
-use Rattle.std.proofs.Common.{◌≡◌, ◌<◌, ◌≤◌, inl, inr, None, refl, sym, ap, ◌∙◌, subst, arith}
+use Rattle.std.proofs.Common.{inl, inr, refl, sym, ap, ◌∙◌, subst, arith}
 use Rattle.surject_arena.specs.SetCalls.{UnitesSets}
 use Rattle.surject_arena.proofs.OptionLemmas.{same_some}
 use Rattle.surject_arena.proofs.SetReadLemmas.{seen, key_of, of_key, has_value, size_read}

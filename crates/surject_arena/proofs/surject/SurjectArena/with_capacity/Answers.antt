@@ -1,5 +1,5 @@
 -- The views are those of two new arenas.
-use Rattle.std.proofs.Common.{◌≡◌, inl, inr, refl}
+use Rattle.std.proofs.Common.{inl, inr, refl}
 use Rattle.surject_arena.specs.Partitions.{member_view, counted_view}
 use Rattle.surject_arena.proofs.ViewLemmas.{new-each}
 use Rattle.surject_arena.proofs.surject.SurjectArena.with_capacity.Goals as goal
