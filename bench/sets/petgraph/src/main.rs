@@ -110,12 +110,12 @@ fn look_up<S: Sets>(sets: &S, keys: u32) -> u64 {
     sum
 }
 
-// The value of a set is that of its root here, so only the time is compared.
+// The value of a set is that of its root here, which may be another one than ours. Each is below `keys`.
 fn read<S: Sets>(sets: &S, values: &[u32], keys: u32) -> u64 {
     let (mut seed, mut sum) = (7, 0);
     for _ in 0..keys {
         seed = next(seed);
-        sum += u64::from(values[sets.root((seed >> 1) % keys) as usize] & 1);
+        sum += u64::from(values[sets.root((seed >> 1) % keys) as usize] < keys);
     }
     sum
 }
