@@ -57,6 +57,7 @@ fn number_on_walk<P: PtrKey>(neighbor: Option<P::Inx>, start: usize) -> Option<u
 }
 
 // Returns the number of the link after the one with number `n` on a walk, if the walk goes on.
+#[inline(always)]
 fn step_at<P: PtrKey, T: Drop, S: SlotStack<Item = LinkSlot<P, T>>>(
     compactor: &mut Compactor<'_, P, LinkNoGen<P, T>, S>,
     n: usize,
@@ -121,16 +122,41 @@ fn unnumbered_links<P: PtrKey, T: Drop, S: SlotStack<Item = LinkSlot<P, T>>>(
     (links, count, slots)
 }
 
-// Returns `at`, or 0 if the list of `left` links ends there.
-fn wrapped_index(at: usize, left: usize) -> usize
-    requires { 0 < left }
-    ensures { result < left }
+// Takes a step of each of the first `left` walks, which are at the links `now` and began at the
+// links `starts`. Removes the walks that end, and returns how many are left.
+#[inline(always)]
+fn step_each<P: PtrKey, T: Drop, S: SlotStack<Item = LinkSlot<P, T>>>(
+    compactor: &mut Compactor<'_, P, LinkNoGen<P, T>, S>,
+    now: &mut [usize; 16],
+    starts: &mut [usize; 16],
+    left: usize,
+    is_forward: bool,
+) -> usize
+    requires { left ≤ 16 }
+    ensures fewer { result ≤ left }
+    ensures read { HasReadSlots compactor.old compactor.new left }
 {
-    if at < left { at } else { 0 }
+    let mut rest = left;
+    let mut turn = 0;
+    while turn < rest {
+        match step_at(compactor, now[turn], starts[turn], is_forward) {
+            Some(number) => {
+                now[turn] = number;
+                turn += 1;
+            }
+            None => {
+                rest -= 1;
+                now[turn] = now[rest];
+                starts[turn] = starts[rest];
+            }
+        }
+    }
+    rest
 }
 
 // Walks along the chains of `count` links in turn, by `next` or by `prev`, until each walk ends or
-// `limit` links were read. Returns the number of links that were read.
+// a further round could read more than `limit` links. Returns a bound on the links that were read.
+#[inline(always)]
 fn read_along<P: PtrKey, T: Drop, S: SlotStack<Item = LinkSlot<P, T>>>(
     compactor: &mut Compactor<'_, P, LinkNoGen<P, T>, S>,
     links: [usize; 16],
@@ -145,26 +171,12 @@ fn read_along<P: PtrKey, T: Drop, S: SlotStack<Item = LinkSlot<P, T>>>(
     let mut starts = links;
     let mut now = links;
     let mut left = count;
-    let mut at = 0;
-    for reads in 0..limit {
-        if left == 0 {
-            return reads;
-        }
-        let turn = wrapped_index(at, left);
-        match step_at(compactor, now[turn], starts[turn], is_forward) {
-            Some(number) => {
-                now[turn] = number;
-                at = turn + 1;
-            }
-            None => {
-                left -= 1;
-                now[turn] = now[left];
-                starts[turn] = starts[left];
-                at = turn;
-            }
-        }
+    let mut reads = 0;
+    while left > 0 && left <= limit - reads {
+        reads += left;
+        left = step_each(compactor, &mut now, &mut starts, left, is_forward);
     }
-    limit
+    reads
 }
 
 /// Reads along the chains of up to 16 links from position `k` on, if a neighbor of the link there

@@ -1,12 +1,14 @@
 -- The links that were read, and the number of walks that are left.
-use Rattle.std.proofs.Common.{◌≡◌, ◌≤◌, length}
+use Rattle.std.proofs.Common.{◌≤◌, ◌-◌}
 use Rattle.chain_compaction.specs.SlotReads.{HasReadSlots}
 use Rattle.chain_compaction.proofs.read_ahead.read_along.Given as goal
 
-abbrev pub invariant-loop-reads : goal.invariant-loop-reads
-invariant-loop-reads g l = record {
-  now : length l.now ≡ 16;
-  starts : length l.starts ≡ 16;
+abbrev pub invariant-loop-left : goal.invariant-loop-left
+invariant-loop-left g l = record {
   left : l.left ≤ 16;
+  few : l.reads ≤ l.limit;
   read : HasReadSlots l.fn.compactor l.compactor l.reads;
 }
+
+abbrev pub decreases-loop-left : goal.decreases-loop-left
+decreases-loop-left g l = l.limit - l.reads
