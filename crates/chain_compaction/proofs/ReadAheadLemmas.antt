@@ -1,10 +1,32 @@
--- Reads of several slots after one another.
-use Rattle.std.proofs.Common.{ℕ, ◌+◌, ◌≤◌, refl, arith}
+-- Reads of several slots after one another, and lists of positions to read.
+use Rattle.std.proofs.Common.{◌≡◌, ℕ, ◌+◌, ◌<◌, ◌≤◌, List, length, slice_index, slice_set, ap, refl, arith}
+use Rattle.std.proofs.Math.Decide.{ℕ_discrete}
+use Rattle.std.proofs.lemmas.List.{get_or-set_same, get_or-set_other}
 use Rattle.arena_base.specs.declared.compactor.Compactor.{Compactor}
-use Rattle.chain_compaction.specs.SlotReads.{HasReadSlot, HasReadSlots}
+use Rattle.chain_compaction.specs.SlotReads.{AreBelow, HasReadSlot, HasReadSlots}
 use Rattle.chain_compaction.proofs.DetachedLinkLemmas.{work-none, work-touched, work-more, work-few}
 use Rattle.chain_compaction.proofs.LinkLoanLemmas.{detached_then}
 use Rattle.chain_compaction.proofs.WorkCountLemmas.{counts_none, counts_on}
+
+-- A position below the limit is written.
+pub below_replaced : (limit : ℕ) (positions : List ℕ) (count t k : ℕ) → t < length positions → k < limit → AreBelow limit positions count → AreBelow limit (slice_set positions t k) count
+below_replaced limit positions count t k inside low all p first = by (ℕ_discrete p t)
+  where
+    by : Dec (p ≡ t) → slice_index (slice_set positions t k) p < limit
+    by (yes same) = omega (arith, low, ap (λ q. slice_index (slice_set positions t k) q) same, get_or-set_same positions t k 0 inside)
+    by (no differs) = omega (arith, all p first, get_or-set_other positions t p k 0 differs)
+
+-- One more position below the limit is listed.
+pub below_added : (limit : ℕ) (positions : List ℕ) (count k : ℕ) → count < length positions → k < limit → AreBelow limit positions count → AreBelow limit (slice_set positions count k) (count + 1)
+below_added limit positions count k inside low all p first = by (ℕ_discrete p count)
+  where
+    by : Dec (p ≡ count) → slice_index (slice_set positions count k) p < limit
+    by (yes same) = omega (arith, low, ap (λ q. slice_index (slice_set positions count k) q) same, get_or-set_same positions count k 0 inside)
+    by (no differs) = let before : p < count = omega (arith, first, differs) in omega (arith, all p before, get_or-set_other positions count p k 0 differs)
+
+-- Fewer of the positions.
+pub below_fewer : (limit : ℕ) (positions : List ℕ) (count fewer : ℕ) → fewer ≤ count → AreBelow limit positions count → AreBelow limit positions fewer
+below_fewer limit positions count fewer few all p first = let before : p < count = omega (arith, first, few) in all p before
 
 module _ {P T S Inx Gen Word : Type 0} where
   -- The reads of two parts together.

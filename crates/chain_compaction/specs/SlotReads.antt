@@ -1,5 +1,5 @@
 -- Reads and other touches of slots.
-use Rattle.std.specs.Prelude.{◌≡◌, ℕ, ◌≤◌, Option, Some}
+use Rattle.std.specs.Prelude.{◌≡◌, ℕ, ◌≤◌, ◌<◌, List, slice_index, Option, Some}
 use Rattle.std.specs.Option.{option_map}
 use Rattle.chain_laws.specs.Chains.{prev_of, next_of}
 use Rattle.arena_traits.specs.Arena.{slot_at}
@@ -9,6 +9,10 @@ use Rattle.chain_links.specs.declared.links.RawLink.{RawLink}
 use Rattle.chain_links.specs.Links.{destination_at}
 use Rattle.chain_compaction.specs.DetachedLinks.{link_map_in, IsWork}
 use Rattle.chain_compaction.specs.WorkCounts.{CountsWork}
+
+-- Each of the first `count` positions is below the limit.
+abbrev pub AreBelow : ℕ → List ℕ → ℕ → Type 0
+AreBelow limit positions count = (p : ℕ) → p < count → slice_index positions p < limit
 
 module _ {P T S Inx Gen Word : Type 0} where
   -- A compactor has counted one touch.

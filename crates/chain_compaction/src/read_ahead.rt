@@ -3,13 +3,13 @@
 // The walk along a chain waits for each link, since the link names the next one. Here several
 // chains are walked in turn, so that these waits overlap, and their links are then in the cache.
 // Before a round of moves the slots of all destinations are read, for the same reason.
-ghost use Rattle.std.specs.Prelude.{◌≡◌, ◌≤◌, ◌<◌, ◌+◌, ◌*◌, ◌-◌, ℕ, length, slice_index};
+ghost use Rattle.std.specs.Prelude.{◌≡◌, ◌≤◌, ◌<◌, ◌+◌, ◌*◌, ◌-◌, IfSome};
 ghost use Rattle.std.specs.Option.{option_map};
 ghost use Rattle.chain_compaction.specs.LinkPasses.{HasPosition};
-ghost use Rattle.chain_compaction.specs.SlotReads.{HasReadSlot, HasReadSlots, HasPrefetchedNext};
+ghost use Rattle.chain_compaction.specs.SlotReads.{AreBelow, HasReadSlot, HasReadSlots, HasPrefetchedNext};
 
 use crate::slot_access::{LinkSlot, read_link};
-use arena_base::{Compactor, SlotAccess, inx_at, number_of};
+use arena_base::{Compactor, SlotAccess, inx_at, number_of, position_of};
 use arena_ptr::{InxKey, PtrKey, SlotStack};
 use chain_links::LinkNoGen;
 
@@ -49,51 +49,62 @@ fn is_far<P: PtrKey>(k: usize, neighbor: Option<P::Inx>) -> bool {
     }
 }
 
-// Returns the number of a neighbor, or `None` if there is none or it is `start`, where the walk
+// Returns the position of a neighbor, or `None` if there is none or it is `start`, where the walk
 // began.
-fn number_on_walk<P: PtrKey>(neighbor: Option<P::Inx>, start: usize) -> Option<usize> {
-    let number = number_of::<P>(neighbor?);
-    if number == start { None } else { Some(number) }
+fn position_on_walk<P: PtrKey>(neighbor: Option<P::Inx>, start: usize) -> Option<usize>
+    ensures { IfSome result (λ k. k < P.Inx.greatest) }
+{
+    match neighbor {
+        Some(i) => {
+            let k = position_of::<P>(i);
+            if k == start { None } else { Some(k) }
+        }
+        None => None,
+    }
 }
 
-// Returns the number of the link after the one with number `n` on a walk, if the walk goes on.
+// Returns the position of the link after the one at position `k` on a walk, if the walk goes on.
 #[inline(always)]
 fn step_at<P: PtrKey, T: Drop, S: SlotStack<Item = LinkSlot<P, T>>>(
     compactor: &mut Compactor<'_, P, LinkNoGen<P, T>, S>,
-    n: usize,
+    k: usize,
     start: usize,
     is_forward: bool,
 ) -> Option<usize>
-    ensures { HasReadSlots compactor.old compactor.new 1 }
+    requires { k < P.Inx.greatest }
+    ensures read { HasReadSlot compactor.old compactor.new }
+    ensures within { IfSome result (λ k. k < P.Inx.greatest) }
 {
-    let link = read_link(compactor, P::Inx::try_from_usize(n)?);
-    number_on_walk::<P>(if is_forward { link.next } else { link.prev }, start)
+    let link = read_link(compactor, inx_at::<P>(k));
+    position_on_walk::<P>(if is_forward { link.next } else { link.prev }, start)
 }
 
 // Returns whether two links are at most two slots apart, which are then in the cache together.
-fn are_close(a: Option<usize>, b: Option<usize>) -> bool {
+fn are_close<P: PtrKey>(a: Option<P::Inx>, b: Option<P::Inx>) -> bool {
     match (a, b) {
-        (Some(a), Some(b)) => a.abs_diff(b) <= 2,
+        (Some(a), Some(b)) => number_of::<P>(a).abs_diff(number_of::<P>(b)) <= 2,
         _ => false,
     }
 }
 
-// Returns whether to walk from the link at `i`, and the number of the link after it. The link has
-// to be without a destination, and the link after it not close to `last`, the one after the last
-// link listed: chains that grew in turn lie beside each other.
+// Returns whether to walk from the link at `i`, and the index after it. The link has to be without a
+// destination, and the link after it not close to `last`, the one after the last link listed: chains
+// that grew in turn lie beside each other.
 fn prefetch_candidate<P: PtrKey, T: Drop, S: SlotStack<Item = LinkSlot<P, T>>>(
     compactor: &mut Compactor<'_, P, LinkNoGen<P, T>, S>,
     i: P::Inx,
-    last: Option<usize>,
-) -> (bool, Option<usize>)
+    last: Option<P::Inx>,
+) -> (bool, Option<P::Inx>)
     ensures { HasReadSlot compactor.old compactor.new }
 {
     let link = read_link(compactor, i);
-    let after = number_on_walk::<P>(link.next, 0);
-    (link.is_fresh() && !are_close(after, last), after)
+    (
+        link.is_fresh() && !are_close::<P>(link.next, last),
+        link.next,
+    )
 }
 
-// Lists the numbers of up to 16 links to walk from, of the 64 slots from position `k` on. Returns
+// Lists the positions of up to 16 links to walk from, of the 64 slots from position `k` on. Returns
 // the list, its length, and the number of slots that were read.
 fn unnumbered_links<P: PtrKey, T: Drop, S: SlotStack<Item = LinkSlot<P, T>>>(
     compactor: &mut Compactor<'_, P, LinkNoGen<P, T>, S>,
@@ -102,6 +113,7 @@ fn unnumbered_links<P: PtrKey, T: Drop, S: SlotStack<Item = LinkSlot<P, T>>>(
     requires { HasPosition P.Inx.greatest k compactor.old }
     ensures count { result.1 ≤ 16 }
     ensures few { result.2 ≤ 64 }
+    ensures within { AreBelow P.Inx.greatest result.0 result.1 }
     ensures read { HasReadSlots compactor.old compactor.new result.2 }
 {
     let mut links = [0; 16];
@@ -112,9 +124,10 @@ fn unnumbered_links<P: PtrKey, T: Drop, S: SlotStack<Item = LinkSlot<P, T>>>(
         if count == 16 {
             return (links, count, j);
         }
-        let (is_listed, after) = prefetch_candidate(compactor, inx_at::<P>(k + j), last);
+        let position = k + j;
+        let (is_listed, after) = prefetch_candidate(compactor, inx_at::<P>(position), last);
         if is_listed {
-            links[count] = k + j + 1;
+            links[count] = position;
             count += 1;
             last = after;
         }
@@ -122,8 +135,8 @@ fn unnumbered_links<P: PtrKey, T: Drop, S: SlotStack<Item = LinkSlot<P, T>>>(
     (links, count, slots)
 }
 
-// Takes a step of each of the first `left` walks, which are at the links `now` and began at the
-// links `starts`. Removes the walks that end, and returns how many are left.
+// Takes a step of each of the first `left` walks, which are at the positions `now` and began at the
+// positions `starts`. Removes the walks that end, and returns how many are left.
 #[inline(always)]
 fn step_each<P: PtrKey, T: Drop, S: SlotStack<Item = LinkSlot<P, T>>>(
     compactor: &mut Compactor<'_, P, LinkNoGen<P, T>, S>,
@@ -132,16 +145,18 @@ fn step_each<P: PtrKey, T: Drop, S: SlotStack<Item = LinkSlot<P, T>>>(
     left: usize,
     is_forward: bool,
 ) -> usize
-    requires { left ≤ 16 }
+    requires few { left ≤ 16 }
+    requires within { AreBelow P.Inx.greatest now.old left }
     ensures fewer { result ≤ left }
+    ensures within { AreBelow P.Inx.greatest now.new result }
     ensures read { HasReadSlots compactor.old compactor.new left }
 {
     let mut rest = left;
     let mut turn = 0;
     while turn < rest {
         match step_at(compactor, now[turn], starts[turn], is_forward) {
-            Some(number) => {
-                now[turn] = number;
+            Some(k) => {
+                now[turn] = k;
                 turn += 1;
             }
             None => {
@@ -155,7 +170,7 @@ fn step_each<P: PtrKey, T: Drop, S: SlotStack<Item = LinkSlot<P, T>>>(
 }
 
 // Walks along the chains of `count` links in turn, by `next` or by `prev`, until each walk ends or
-// a further round could read more than `limit` links. Returns a bound on the links that were read.
+// one more round could read more than `limit` links. Returns the number of links that were read.
 #[inline(always)]
 fn read_along<P: PtrKey, T: Drop, S: SlotStack<Item = LinkSlot<P, T>>>(
     compactor: &mut Compactor<'_, P, LinkNoGen<P, T>, S>,
@@ -164,7 +179,8 @@ fn read_along<P: PtrKey, T: Drop, S: SlotStack<Item = LinkSlot<P, T>>>(
     is_forward: bool,
     limit: usize,
 ) -> usize
-    requires { count ≤ 16 }
+    requires count { count ≤ 16 }
+    requires within { AreBelow P.Inx.greatest links count }
     ensures few { result ≤ limit }
     ensures read { HasReadSlots compactor.old compactor.new result }
 {
@@ -253,7 +269,7 @@ pub(crate) fn read_destinations<P: PtrKey, T: Drop, S: SlotStack<Item = LinkSlot
     is_wanted: bool,
 ) -> bool
     requires left { left ≤ 64 }
-    requires within { (p : ℕ) → p < left → slice_index positions.now p < P.Inx.greatest }
+    requires within { AreBelow P.Inx.greatest positions.now left }
     ensures { HasReadSlots compactor.old compactor.new (2 * left) }
 {
     if !is_wanted {
