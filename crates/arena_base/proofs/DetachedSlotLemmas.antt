@@ -10,11 +10,11 @@ use Rattle.arena_base.specs.DetachedSlots.{DetachedView, with_placed_entry, deta
 use Rattle.arena_base.specs.Slots.{entry_of, entry_in, allocated_slot, free_slot, with_value_in, with_generation_in, with_generation_at, detached_view}
 use Rattle.arena_base.specs.declared.slot.ArenaSlot.{ArenaSlot}
 use Rattle.arena_base.specs.declared.slot.ArenaSlot.TheVariants.{Allocated, Free}
-use Rattle.arena_base.proofs.SlotLemmas.{entry_at-position, with_slot-position}
+use Rattle.arena_base.proofs.SlotLemmas.{entry_at-position, with_slot-position, slice_index_or-map}
 use Rattle.arena_base.proofs.ArenaModelLemmas.{entry_of-written}
 
 module _ {X : Type 0} where
-  slot_at-position : (xs : List (Option X)) (k n : ℕ) → k + 1 ≡ n → slice_index_or xs k None ≡ slot_at xs n
+  pub slot_at-position : (xs : List (Option X)) (k n : ℕ) → k + 1 ≡ n → slice_index_or xs k None ≡ slot_at xs n
   slot_at-position xs k n at = let next : suc k ≡ n = omega (arith, at) in ap (slot_at xs) next
 
 -- The last of two writes to a slot counts.
@@ -74,6 +74,15 @@ module _ {P T Inx Gen Word : Type 0} where
       ∙ (ap (λ fs. slice_set fs j (regenerated g (slot_at es from))) (sym (with_slot-position es i from (slot_at es to) at_from))
       ∙ sym (with_slot-position (with_slot es from (slot_at es to)) j to (regenerated g (slot_at es from)) at_to)))) in
       ap (λ fs. let h : DetachedView Gen T = record { slots = fs; stack_capacity = capacity; maximum = maximum } in h) all
+
+  -- The entry from the first slot is in the second after a swap.
+  pub entry_after_swap : (slots : List (ArenaSlot P T Inx Gen Word)) (i j : ℕ) → i < length slots → j < length slots → entry_in (slice_get (swap slots i j) j) ≡ slice_index_or (map entry_of slots) i None
+  entry_after_swap slots i j first second =
+      let es : List (Option (Gen × T)) = map entry_of slots in
+      let with_other = slice_set es i (slice_index_or es j None) in
+      sym (slice_index_or-map (swap slots i j) j)
+      ∙ (ap (λ fs. slice_index_or fs j None) (map-swap slots i j first second)
+      ∙ get_or-set_same with_other j (slice_index_or es i None) None (omega (arith, second, length-set es i (slice_index_or es j None), length-map slots entry_of)))
 
   -- Swapping and then setting a generation is a placement.
   pub detached_placed : (slots : List (ArenaSlot P T Inx Gen Word)) (capacity : ℕ) (maximum : Option ℕ) (i j from to : ℕ) (g : Gen) → i + 1 ≡ from → j + 1 ≡ to → i < length slots → j < length slots

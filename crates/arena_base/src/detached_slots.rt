@@ -51,6 +51,7 @@ impl<P: PtrKey, T: Drop, S: SlotStack<Item = ArenaSlot<P, T>>> DetachedSlots<P, 
     pub(crate) fn place(&mut self, from: P::Inx, to: P::Inx, generation: P::Gen)
         requires from { P.Inx.number from ≤ length self.old.slots }
         requires to { P.Inx.number to ≤ length self.old.slots }
+        requires entry { IsSome (slot_at self.old.slots (P.Inx.number from)) }
         ensures { self.new ≡ with_placed_entry self.old (P.Inx.number from)
             (P.Inx.number to) generation }
     {

@@ -1,5 +1,5 @@
 // A slot of an arena, and the operations on a stack of slots.
-ghost use Rattle.std.specs.Prelude.{◌≡◌, ◌+◌, ◌<◌, length, slice_get, is_none};
+ghost use Rattle.std.specs.Prelude.{◌≡◌, ◌+◌, ◌<◌, length, slice_get, is_none, IsSome};
 ghost use Rattle.std.specs.Option.{option_map, option_copied_mut};
 ghost use Rattle.std.specs.Borrow.{LendsIf, sem};
 ghost use Rattle.arena_base.specs.Slots.{entry_of, entry_in, with_value_in, IsFree};
@@ -133,20 +133,21 @@ pub(crate) fn write_at<P: PtrKey, T: Drop, S: SlotStack<Item = ArenaSlot<P, T>>>
     }
 }
 
-// Sets the generation of the entry at position `k`, if there is one.
+// Sets the generation of the entry at position `k`. It does not test whether there is one.
 pub(crate) fn regenerate_at<P: PtrKey, T: Drop, S: SlotStack<Item = ArenaSlot<P, T>>>(
     slots: &mut S,
     k: usize,
     generation: P::Gen,
 )
+    requires { IsSome (entry_in (slice_get (S.items slots.old) k)) }
     ensures { RegeneratesSlot S.items S.capacity S.maximum k generation slots.old slots.new }
 {
     match slots.get_mut(k) {
         Some(slot) => match slot {
             ArenaSlot::Allocated(g, _) => *g = generation,
-            ArenaSlot::Free(_) => {}
+            ArenaSlot::Free(_) => proved_unreachable!(),
         },
-        None => {}
+        None => proved_unreachable!(),
     }
 }
 

@@ -1,12 +1,12 @@
 -- Writes the slot that was read.
-use Rattle.std.proofs.Common.{sym, refl, ap, ◌∙◌}
-use Rattle.arena_base.proofs.SlotLemmas.{with_generation_at-set, with_generation_at-none}
+use Rattle.std.proofs.Common.{sym, ap, ◌∙◌}
+use Rattle.arena_base.proofs.SlotLemmas.{with_generation_at-set}
 use Rattle.std.specs.Prelude.{slice_set}
 use Rattle.arena_base.specs.Slots.{allocated_slot, with_generation_in}
 use Rattle.arena_base.proofs.slot.regenerate_at.Goals as goal
 
-pub returns-in-Allocated : goal.returns-in-Allocated
-returns-in-Allocated g c =
+pub returns : goal.returns
+returns g c =
     let slots = c.args.slots.now in
     let items = g.S.SlotStack.items slots in
     let k = c.args.k in
@@ -16,21 +16,3 @@ returns-in-Allocated g c =
           ∙ (ap (λ s. slice_set items k (with_generation_in s c.args.generation)) (sym c.in-Allocated.is) ∙ with_generation_at-set items k c.in-Some.slot.now c.args.generation (sym c.in-Some.ensures.value));
       bounds = (g.met.S.SlotStack.capacity_written slots k slot, g.met.S.SlotStack.maximum_written slots k slot);
     }
-
-pub returns-in-Free : goal.returns-in-Free
-returns-in-Free g c =
-    let slots = c.args.slots.now in
-    let items = g.S.SlotStack.items slots in
-    let k = c.args.k in
-    let slot = c.in-Some.slot.now in
-    record {
-      items = g.met.S.SlotStack.items_written slots k slot
-          ∙ (ap (slice_set items k) (c.in-Free.is ∙ ap (λ s. with_generation_in s c.args.generation) (sym c.in-Free.is)) ∙ with_generation_at-set items k slot c.args.generation (sym c.in-Some.ensures.value));
-      bounds = (g.met.S.SlotStack.capacity_written slots k slot, g.met.S.SlotStack.maximum_written slots k slot);
-    }
-
-pub returns-in-None : goal.returns-in-None
-returns-in-None g c = record {
-  items = with_generation_at-none (g.S.SlotStack.items c.args.slots.now) c.args.k c.args.generation c.in-None.ensures.value;
-  bounds = (refl, refl);
-}

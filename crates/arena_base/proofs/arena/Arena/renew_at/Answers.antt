@@ -7,6 +7,12 @@ use Rattle.arena_base.proofs.SoundnessLemmas.{rewritten, closed, walked_all}
 use Rattle.arena_base.proofs.ArenaModelLemmas.{viewed_renewed_slot}
 use Rattle.arena_base.proofs.arena.Arena.renew_at.Goals as goal
 
+pub regenerate_at-requires : goal.regenerate_at-requires
+regenerate_at-requires g c =
+    let items = g.S.SlotStack.items c.self.inside.slots in
+    let some = rw (← c.self.view_is, entry_at-position items c.position_of.result (g.P.Inx.InxKey.number c.args.i) c.position_of.ensures) at c.requires in
+    some
+
 pub invariant_of-self : goal.invariant_of-self
 invariant_of-self g c =
     let number = g.P.Inx.InxKey.number in

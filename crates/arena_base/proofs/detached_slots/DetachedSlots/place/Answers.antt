@@ -1,9 +1,9 @@
 -- The two slots are swapped, and the entry at the second gets the generation.
-use Rattle.std.proofs.Common.{length, ap, arith}
+use Rattle.std.proofs.Common.{length, map, ap, arith}
 use Rattle.std.specs.Prelude.{swap}
 use Rattle.std.proofs.lemmas.List.{length-map}
 use Rattle.arena_base.specs.Slots.{entry_of}
-use Rattle.arena_base.proofs.DetachedSlotLemmas.{detached_placed, length-swap, length-with_generation_at}
+use Rattle.arena_base.proofs.DetachedSlotLemmas.{detached_placed, entry_after_swap, slot_at-position, length-swap, length-with_generation_at}
 use Rattle.arena_base.proofs.detached_slots.DetachedSlots.place.Goals as goal
 
 pub swap-requires : goal.swap-requires
@@ -14,6 +14,13 @@ swap-requires g c =
       i_in_bounds = omega (arith, long, length-map items entry_of, c.position_of.ensures, c.requires.from);
       j_in_bounds = omega (arith, long, length-map items entry_of, c.position_of-to.ensures, c.requires.to);
     }
+
+pub regenerate_at-requires : goal.regenerate_at-requires
+regenerate_at-requires g c =
+    let items = g.S.SlotStack.items c.self.inside.slots in
+    let long = ap (λ h. length h.slots) c.self.view_is in
+    let some = rw (← c.self.view_is) at c.requires.entry in
+    rw (c.swap.ensures.items, entry_after_swap items c.position_of.result c.position_of-to.result (omega (arith, long, length-map items entry_of, c.position_of.ensures, c.requires.from)) (omega (arith, long, length-map items entry_of, c.position_of-to.ensures, c.requires.to)), slot_at-position (map entry_of items) c.position_of.result (g.P.Inx.InxKey.number c.args.from) c.position_of.ensures) some
 
 pub invariant_of-self : goal.invariant_of-self
 invariant_of-self g c =
