@@ -3,18 +3,18 @@ use Rattle.std.proofs.Common.{◌≡◌, ◌≢◌, ℕ, zero, suc, ◌+◌, ◌
 use Rattle.std.specs.Prelude.{true, false, IsSome, slice_index_or, slice_get, slice_set, swap}
 use Rattle.std.specs.Option.{option_map}
 use Rattle.std.proofs.Math.Decide.{ℕ_discrete}
-use Rattle.std.proofs.lemmas.List.{length-map, length-set, map-set, set-set, get_or-set_same}
+use Rattle.std.proofs.lemmas.List.{length-map, length-set, map-set, set-set, get_or-set_same, get_or-set_other}
 use Rattle.arena_core.specs.declared.packed_option.PackedOption.{PackedOption}
 use Rattle.arena_traits.specs.Arena.{slot_at, with_slot}
 use Rattle.arena_base.specs.DetachedSlots.{DetachedView, with_placed_entry, detached_with_value}
 use Rattle.arena_base.specs.Slots.{entry_of, entry_in, allocated_slot, free_slot, with_value_in, with_generation_in, with_generation_at, detached_view}
 use Rattle.arena_base.specs.declared.slot.ArenaSlot.{ArenaSlot}
 use Rattle.arena_base.specs.declared.slot.ArenaSlot.TheVariants.{Allocated, Free}
-use Rattle.arena_base.proofs.SlotLemmas.{entry_at-position, with_slot-position, slice_index_or-map}
+use Rattle.arena_base.proofs.SlotLemmas.{entry_at-position, with_slot-position}
 use Rattle.arena_base.proofs.ArenaModelLemmas.{entry_of-written}
 
 module _ {X : Type 0} where
-  pub slot_at-position : (xs : List (Option X)) (k n : ℕ) → k + 1 ≡ n → slice_index_or xs k None ≡ slot_at xs n
+  slot_at-position : (xs : List (Option X)) (k n : ℕ) → k + 1 ≡ n → slice_index_or xs k None ≡ slot_at xs n
   slot_at-position xs k n at = let next : suc k ≡ n = omega (arith, at) in ap (slot_at xs) next
 
 -- The last of two writes to a slot counts.
@@ -75,38 +75,30 @@ module _ {P T Inx Gen Word : Type 0} where
       ∙ sym (with_slot-position (with_slot es from (slot_at es to)) j to (regenerated g (slot_at es from)) at_to)))) in
       ap (λ fs. let h : DetachedView Gen T = record { slots = fs; stack_capacity = capacity; maximum = maximum } in h) all
 
-  -- The entry from the first slot is in the second after a swap.
-  pub entry_after_swap : (slots : List (ArenaSlot P T Inx Gen Word)) (i j : ℕ) → i < length slots → j < length slots → entry_in (slice_get (swap slots i j) j) ≡ slice_index_or (map entry_of slots) i None
-  entry_after_swap slots i j first second =
-      let es : List (Option (Gen × T)) = map entry_of slots in
-      let with_other = slice_set es i (slice_index_or es j None) in
-      sym (slice_index_or-map (swap slots i j) j)
-      ∙ (ap (λ fs. slice_index_or fs j None) (map-swap slots i j first second)
-      ∙ get_or-set_same with_other j (slice_index_or es i None) None (omega (arith, second, length-set es i (slice_index_or es j None), length-map slots entry_of)))
-
-  -- Swapping and then setting a generation is a placement.
+  -- Setting a generation and swapping is a placement.
   pub detached_placed : (slots : List (ArenaSlot P T Inx Gen Word)) (capacity : ℕ) (maximum : Option ℕ) (i j from to : ℕ) (g : Gen) → i + 1 ≡ from → j + 1 ≡ to → i < length slots → j < length slots
-      → detached_view (with_generation_at (swap slots i j) j g) capacity maximum ≡ with_placed_entry (detached_view slots capacity maximum) from to g
-  detached_placed slots capacity maximum i j from to g at_from at_to first second = detached_moved_to slots (with_generation_at (swap slots i j) j g) capacity maximum i j from to g at_from at_to all
+      → detached_view (swap (with_generation_at slots i g) i j) capacity maximum ≡ with_placed_entry (detached_view slots capacity maximum) from to g
+  detached_placed slots capacity maximum i j from to g at_from at_to first second = detached_moved_to slots (swap (with_generation_at slots i g) i j) capacity maximum i j from to g at_from at_to (all ∙ by (ℕ_discrete j i))
     where
-      es : List (Option (Gen × T))
-      es = map entry_of slots
+      inside : i < length (map entry_of slots)
+      inside = omega (arith, first, length-map slots entry_of)
 
-      moved : Option (Gen × T)
-      moved = slice_index_or es i None
+      long : length (with_generation_at slots i g) ≡ length slots
+      long = length-with_generation_at slots i g
 
-      with_other : List (Option (Gen × T))
-      with_other = slice_set es i (slice_index_or es j None)
+      with_generation : map entry_of (with_generation_at slots i g) ≡ slice_set (map entry_of slots) i (regenerated g (slice_index_or (map entry_of slots) i None))
+      with_generation = map-with_generation_at slots i g
 
-      inside : j < length with_other
-      inside = omega (arith, second, length-set es i (slice_index_or es j None), length-map slots entry_of)
-
-      all : map entry_of (with_generation_at (swap slots i j) j g) ≡ slice_set with_other j (regenerated g moved)
+      all : map entry_of (swap (with_generation_at slots i g) i j) ≡ slice_set (slice_set (map entry_of slots) i (slice_index_or (slice_set (map entry_of slots) i (regenerated g (slice_index_or (map entry_of slots) i None))) j None)) j (regenerated g (slice_index_or (map entry_of slots) i None))
       all =
-          map-with_generation_at (swap slots i j) j g
-          ∙ (ap (λ fs. slice_set fs j (regenerated g (slice_index_or fs j None))) (map-swap slots i j first second)
-          ∙ (ap (λ o. slice_set (slice_set with_other j moved) j (regenerated g o)) (get_or-set_same with_other j moved None inside)
-          ∙ set-set with_other j moved (regenerated g moved)))
+          map-swap (with_generation_at slots i g) i j (omega (arith, first, long)) (omega (arith, second, long))
+          ∙ (ap (λ fs. slice_set (slice_set fs i (slice_index_or fs j None)) j (slice_index_or fs i None)) with_generation
+          ∙ (ap (λ o. slice_set (slice_set (slice_set (map entry_of slots) i (regenerated g (slice_index_or (map entry_of slots) i None))) i (slice_index_or (slice_set (map entry_of slots) i (regenerated g (slice_index_or (map entry_of slots) i None))) j None)) j o) (get_or-set_same (map entry_of slots) i (regenerated g (slice_index_or (map entry_of slots) i None)) None inside)
+          ∙ ap (λ fs. slice_set fs j (regenerated g (slice_index_or (map entry_of slots) i None))) (set-set (map entry_of slots) i (regenerated g (slice_index_or (map entry_of slots) i None)) (slice_index_or (slice_set (map entry_of slots) i (regenerated g (slice_index_or (map entry_of slots) i None))) j None))))
+
+      by : Dec (j ≡ i) → slice_set (slice_set (map entry_of slots) i (slice_index_or (slice_set (map entry_of slots) i (regenerated g (slice_index_or (map entry_of slots) i None))) j None)) j (regenerated g (slice_index_or (map entry_of slots) i None)) ≡ slice_set (slice_set (map entry_of slots) i (slice_index_or (map entry_of slots) j None)) j (regenerated g (slice_index_or (map entry_of slots) i None))
+      by (yes s) = at_one (map entry_of slots) i j s (slice_index_or (slice_set (map entry_of slots) i (regenerated g (slice_index_or (map entry_of slots) i None))) j None) (slice_index_or (map entry_of slots) j None) (regenerated g (slice_index_or (map entry_of slots) i None))
+      by (no differs) = ap (λ o. slice_set (slice_set (map entry_of slots) i o) j (regenerated g (slice_index_or (map entry_of slots) i None))) (get_or-set_other (map entry_of slots) i j (regenerated g (slice_index_or (map entry_of slots) i None)) None differs)
 
   -- Moving an entry to a free slot or its own is a placement.
   pub detached_moved : (slots : List (ArenaSlot P T Inx Gen Word)) (capacity : ℕ) (maximum : Option ℕ) (i j from to : ℕ) (g h : Gen) (t : T) (next : PackedOption Inx Word) → i + 1 ≡ from → j + 1 ≡ to

@@ -46,8 +46,7 @@ impl<P: PtrKey, T: Drop, S: SlotStack<Item = ArenaSlot<P, T>>> DetachedSlots<P, 
         }
     }
 
-    // Swaps two slots and then sets the generation of the entry at the second: a write just before
-    // the swap would delay its reads.
+    // Swaps two slots and sets the generation of the entry that is moved to the second.
     pub(crate) fn place(&mut self, from: P::Inx, to: P::Inx, generation: P::Gen)
         requires from { P.Inx.number from ≤ length self.old.slots }
         requires to { P.Inx.number to ≤ length self.old.slots }
@@ -55,9 +54,9 @@ impl<P: PtrKey, T: Drop, S: SlotStack<Item = ArenaSlot<P, T>>> DetachedSlots<P, 
         ensures { self.new ≡ with_placed_entry self.old (P.Inx.number from)
             (P.Inx.number to) generation }
     {
-        let to = position_of::<P>(to);
-        self.slots.swap(position_of::<P>(from), to);
-        regenerate_at(&mut self.slots, to, generation);
+        let from = position_of::<P>(from);
+        regenerate_at(&mut self.slots, from, generation);
+        self.slots.swap(from, position_of::<P>(to));
     }
 
     // Moves an entry to a free slot, or keeps it in its own, and sets its generation.
