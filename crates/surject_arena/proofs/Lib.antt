@@ -11,4 +11,6 @@ mod SplitLemmas
 mod KeySetLemmas
 mod HistoryLemmas
 mod EntrySumLemmas
+mod SetReductionLemmas
+mod BesideLemmas
 mod RedirectBoundLemmas
