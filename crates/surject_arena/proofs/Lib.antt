@@ -13,4 +13,5 @@ mod HistoryLemmas
 mod EntrySumLemmas
 mod SetReductionLemmas
 mod BesideLemmas
+mod IterLemmas
 mod RedirectBoundLemmas

@@ -7,11 +7,12 @@ ghost use Rattle.arena_traits.specs.Arena.{IsValid};
 ghost use Rattle.arena_traits.specs.Entries.{AscendsFrom, count, HasFreeCapacity};
 ghost use Rattle.arena_traits.specs.Growth.{GrowsForOneMore, RefusesOneMore, IsGrowthResult};
 ghost use Rattle.surject_arena.specs.Surjections.{IsKey, IsKeyOf, AreInOneSet, SharesSet, IsAlone, IsSurjection, HasValue, key_at};
-ghost use Rattle.surject_arena.specs.KeySets.{ListsSet};
+ghost use Rattle.surject_arena.specs.KeySets.{ListsSet, all_pointers};
 ghost use Rattle.surject_arena.specs.SetRemovals.{IsSetReduced, RemovesSet};
 ghost use Rattle.surject_arena.specs.Rows.{chain_members, plain_members};
 ghost use Rattle.surject_arena.specs.SetCalls.{StartsEmpty, StartsWithCapacities, ClearsSets, IsSetAdded, IsAbsorbed, InsertsSet, InsertsKey, UnitesSets, RemovesKey, IsKeyReplaced, IsValueReplaced, IsKeySetApart, SplitsKey, ReplacesValueOf, ReadsKey, ReadsValue, CountsKeys, GrowsKeys};
 
+use crate::iter::{Iter, all_keys};
 use crate::key_set::{KeySet, keys_from};
 use crate::keys::{is_in_set, key_after, leave_ring, put_into, redirect, set_of};
 use crate::members::{Counted, Member};
@@ -224,6 +225,13 @@ impl<
         ensures { ListsSet self.now P.key p result }
     {
         keys_from(&self.keys, p)
+    }
+
+    /// Returns an iterator over the pointers of all keys, each once, by ascending index.
+    pub fn iter(&self) -> Iter<'_, P, K, A>
+        ensures { result ≡ all_pointers self.now }
+    {
+        all_keys(&self.keys)
     }
 
     /// Returns a key, for writing, or `None` if `p` is not its pointer.
