@@ -1,5 +1,5 @@
 -- Removals of whole sets.
-use Rattle.std.specs.Prelude.{◌≡◌, ◌≢◌, ℕ, zero, suc, ◌+◌, ◌||◌, List, [], ◌∷◌, length, Bool, false, IfSome, Option, None, Some}
+use Rattle.std.specs.Prelude.{◌≡◌, ◌≢◌, ℕ, zero, suc, ◌+◌, ◌||◌, List, [], ◌∷◌, length, Bool, false, IfSome, None, Some}
 use Rattle.arena_core.specs.PointerKinds.{PointerKind}
 use Rattle.arena_core.specs.declared.invalidation.InvalidationResult.{InvalidationResult}
 use Rattle.arena_traits.specs.CallOutcomes.{ReportsOverflow}

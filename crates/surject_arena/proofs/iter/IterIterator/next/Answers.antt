@@ -1,5 +1,5 @@
 -- The advancer yields the first pointer ahead.
-use Rattle.surject_arena.proofs.IterLemmas.{still_ascending, yields, goes_on}
+use Rattle.surject_arena.proofs.IterLemmas.{yields, goes_on}
 use Rattle.surject_arena.proofs.iter.IterIterator.next.Goals as goal
 
 pub returns-clause-steps : goal.returns-clause-steps

@@ -4,7 +4,7 @@ use Rattle.std.specs.Prelude.{◌||◌}
 use Rattle.arena_core.specs.Invalidation.{is_overflow_result}
 use Rattle.surject_arena.specs.Surjections.{IsKey}
 use Rattle.surject_arena.specs.SetRemovals.{wraps_within, IsSetRemoved}
-use Rattle.surject_arena.proofs.SetReductionLemmas.{reports_flag, key_returned, last_value_returned, whole_set_removed}
+use Rattle.surject_arena.proofs.SetReductionLemmas.{reports_flag, key_returned, whole_set_removed}
 use Rattle.surject_arena.proofs.surject.SurjectArena.remove.Goals as goal
 
 pub remove_others-wrapped-requires : goal.remove_others-wrapped-requires
