@@ -28,7 +28,7 @@ module _ {Gen X : Type 0} where
       (λ other. inr (other, ap (λ b. cond b es (e ∷ without_index i es)) (ne_eqb e.0.0 i other)))
       (cases_eq e.0.0 i)
 
-  length-without : (i : ℕ) (es : List ((ℕ × Gen) × X)) (x : Gen × X) → found i es ≡ Some x → length es ≡ suc (length (without_index i es))
+  pub length-without : (i : ℕ) (es : List ((ℕ × Gen) × X)) (x : Gen × X) → found i es ≡ Some x → length es ≡ suc (length (without_index i es))
   length-without i [] x stored = absurd (cc)
   length-without i (e ∷ es) x stored = by (e.0.0 == i) stored (length-without i es x)
     where

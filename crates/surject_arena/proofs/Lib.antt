@@ -11,4 +11,7 @@ mod SplitLemmas
 mod KeySetLemmas
 mod HistoryLemmas
 mod EntrySumLemmas
+mod SetReductionLemmas
+mod BesideLemmas
+mod IterLemmas
 mod RedirectBoundLemmas

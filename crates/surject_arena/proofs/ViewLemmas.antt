@@ -54,6 +54,10 @@ module _ {Gen X Y : Type 0} (f : X → Y) where
   index-each [] = refl
   index-each (e ∷ es) = ap (λ l. e.0.0 ∷ l) (index-each es)
 
+  pub pointers-each : (es : List ((ℕ × Gen) × X)) → map (λ (e : (ℕ × Gen) × Y). e.0) (map each es) ≡ map (λ (e : (ℕ × Gen) × X). e.0) es
+  pointers-each [] = refl
+  pointers-each (e ∷ es) = ap (λ l. e.0 ∷ l) (pointers-each es)
+
   pub ascends-each : (i : ℕ) (es : List ((ℕ × Gen) × X)) → AscendsFrom i es → AscendsFrom i (map each es)
   ascends-each i [] is = tt
   ascends-each i (e ∷ es) is = (is.0, ascends-each (suc e.0.0) es is.1)

@@ -1,7 +1,9 @@
 -- The pointers of the keys of a set as a list.
-use Rattle.std.specs.Prelude.{◌≡◌, ◌↔◌, ℕ, List, [], ◌∷◌, map, All, IsSome, IfSome, Option, None, Some}
+use Rattle.std.specs.Prelude.{◌≡◌, ◌↔◌, ⊤, ℕ, List, [], ◌∷◌, map, All, IsSome, IfSome, Option, None, Some}
 use Rattle.arena_traits.specs.Arena.{IsValid}
 use Rattle.arena_traits.specs.Entries.{ArenaView, ArenaState}
+use Rattle.arena_traits.specs.declared.cursor.Cursor.{Cursor}
+use Rattle.arena_traits.specs.declared.cursor.Cursor.TheVariants.{Up, Down, Nowhere}
 use Rattle.chain_laws.specs.Chains.{LinkMap}
 use Rattle.chain_laws.specs.Walks.{IsWalk}
 use Rattle.surject_arena.specs.Surjections.{Surjection, IsKey, IsKeyOf, AreKeysOf}
@@ -19,7 +21,17 @@ module _ {A P Gen T : Type 0} {view : A → ArenaView Gen T} {entry : A → ℕ 
     keys : IfSome result (λ keys. (walk : List ℕ) × IsWalk (interlinks a) (key p).0 walk × (keys ≡ pointers_at (entry a) walk));
   }
 
+-- The cursor of an advancer by ascending index, which may be at its end.
+abbrev pub IsAscending : Cursor → Type 0
+IsAscending (Up i) = ⊤
+IsAscending (Down i) = ⊥
+IsAscending Nowhere = ⊤
+
 module _ {Gen K V : Type 0} (s : Surjection Gen K V) where
+  -- The pointers of all keys, by ascending index.
+  abbrev pub all_pointers : List (ℕ × Gen)
+  all_pointers = map (λ e. e.0) s.keys.entries
+
   -- The pointers of the keys of the set w, each once.
   pub record ArePointersOf (w : ℕ × Gen) (pointers : List (ℕ × Gen)) : Type 0 where
     pub once : AreKeysOf s w (map (λ p. p.0) pointers)

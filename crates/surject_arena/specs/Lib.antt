@@ -1,3 +1,4 @@
+pub mod SetRemovals
 pub mod Histories
 pub mod KeySets
 pub mod Partitions

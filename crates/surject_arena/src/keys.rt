@@ -3,7 +3,7 @@ ghost use Rattle.std.specs.Prelude.{◌≡◌, ◌↔◌, ℕ, List, [], ◌∷�
 ghost use Rattle.std.specs.Option.{option_map, option_and_then};
 ghost use Rattle.arena_traits.specs.Arena.{IsValid};
 ghost use Rattle.arena_traits.specs.Entries.{view_with_value};
-ghost use Rattle.chain_laws.specs.Chains.{cyclic, IsChain, prev_of};
+ghost use Rattle.chain_laws.specs.Chains.{cyclic, IsChain, prev_of, next_of};
 ghost use Rattle.chain_links.specs.CallEffects.{IsExchanged};
 ghost use Rattle.chain_links.specs.ChainArena.{ptr_at};
 ghost use Rattle.surject_arena.specs.Partitions.{member, set_in, IsRedirection};
@@ -67,6 +67,21 @@ fn before<P: PtrKey, K: Drop, A: ChainArenaTrait<P, Member<P, K>>>(keys: &A, p: 
 {
     match keys.get_link(p) {
         Some(link) => link.prev(),
+        None => None,
+    }
+}
+
+// Returns the pointer of the key after a key in its chain.
+pub(crate) fn key_after<P: PtrKey, K: Drop, A: ChainArenaTrait<P, Member<P, K>>>(
+    keys: &A,
+    p: P,
+) -> Option<P>
+    ensures some { IsSome result → IsValid (A.entry keys.now) (P.key p) }
+    ensures after { IsValid (A.entry keys.now) (P.key p) → option_map P.key result
+        ≡ option_and_then (ptr_at (A.entry keys.now)) (next_of (A.interlinks keys.now) (P.key p).0) }
+{
+    match keys.get_link(p) {
+        Some(link) => link.next(),
         None => None,
     }
 }

@@ -7,6 +7,7 @@
 #![tactic(auto)]
 
 mod histories;
+mod iter;
 mod key_set;
 mod keys;
 mod members;
@@ -14,6 +15,7 @@ mod surject;
 mod values;
 
 pub use histories::{redirects_are_few, sets_are_the_classes};
+pub use iter::Iter;
 pub use key_set::KeySet;
 pub use members::{Counted, Member};
 pub use surject::SurjectArena;

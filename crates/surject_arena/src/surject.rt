@@ -6,13 +6,15 @@ ghost use Rattle.arena_core.specs.Invalidation.{value_within};
 ghost use Rattle.arena_traits.specs.Arena.{IsValid};
 ghost use Rattle.arena_traits.specs.Entries.{AscendsFrom, count, HasFreeCapacity};
 ghost use Rattle.arena_traits.specs.Growth.{GrowsForOneMore, RefusesOneMore, IsGrowthResult};
-ghost use Rattle.surject_arena.specs.Surjections.{IsKey, IsKeyOf, AreInOneSet, IsSurjection, HasValue, key_at};
-ghost use Rattle.surject_arena.specs.KeySets.{ListsSet};
+ghost use Rattle.surject_arena.specs.Surjections.{IsKey, IsKeyOf, AreInOneSet, SharesSet, IsAlone, IsSurjection, HasValue, key_at};
+ghost use Rattle.surject_arena.specs.KeySets.{ListsSet, all_pointers};
+ghost use Rattle.surject_arena.specs.SetRemovals.{IsSetReduced, RemovesSet};
 ghost use Rattle.surject_arena.specs.Rows.{chain_members, plain_members};
 ghost use Rattle.surject_arena.specs.SetCalls.{StartsEmpty, StartsWithCapacities, ClearsSets, IsSetAdded, IsAbsorbed, InsertsSet, InsertsKey, UnitesSets, RemovesKey, IsKeyReplaced, IsValueReplaced, IsKeySetApart, SplitsKey, ReplacesValueOf, ReadsKey, ReadsValue, CountsKeys, GrowsKeys};
 
+use crate::iter::{Iter, all_keys};
 use crate::key_set::{KeySet, keys_from};
-use crate::keys::{is_in_set, leave_ring, put_into, redirect, set_of};
+use crate::keys::{is_in_set, key_after, leave_ring, put_into, redirect, set_of};
 use crate::members::{Counted, Member};
 use crate::values::{release, replace_value, set_size, size_of, take_value};
 use arena_ptr::{
@@ -225,6 +227,13 @@ impl<
         keys_from(&self.keys, p)
     }
 
+    /// Returns an iterator over the pointers of all keys, each once, by ascending index.
+    pub fn iter(&self) -> Iter<'_, P, K, A>
+        ensures { result ≡ all_pointers self.now }
+    {
+        all_keys(&self.keys)
+    }
+
     /// Returns a key, for writing, or `None` if `p` is not its pointer.
     ///
     /// Writing through the reference keeps the sets, the values and all pointers.
@@ -384,6 +393,60 @@ impl<
                 InvalidationResult::GenerationOverflow((m.key, release(&mut self.values, m.set)))
             }
             InvalidationResult::InvalidPtr => InvalidationResult::InvalidPtr,
+        }
+    }
+
+    // Returns the key after `p` in its set, unless that is `p` itself.
+    fn beside(&self, p: P) -> Option<P>
+        ensures some { IfSome result (λ q. AreInOneSet self.now (P.key p) (P.key q)
+            × SharesSet self.now (P.key p) × ((P.key q).0 ≢ (P.key p).0)) }
+        ensures none { IfNone result (IsKey self.now (P.key p) → IsAlone self.now (P.key p)) }
+    {
+        let q = key_after(&self.keys, p)?;
+        if q.is_same(p) {
+            return None;
+        }
+        Some(q)
+    }
+
+    // Removes the other keys of the set of `p`, and returns whether the counter of keys wrapped.
+    fn remove_others(&mut self, p: P) -> bool
+        requires { IsKey self.old (P.key p) }
+        ensures reduced { IsSetReduced self.old self.new P.Gen.wraps P.Gen.following (P.key p) result }
+        ensures alone { IsAlone self.new (P.key p) }
+    {
+        self.invariants();
+        let mut wrapped = false;
+        while let Some(q) = self.beside(p) {
+            self.keys_ascend();
+            let (_, overflow) = self.remove_key(q).overflowing();
+            wrapped |= overflow;
+        }
+        wrapped
+    }
+
+    /// Removes the set of `p`, all of its keys and their value, and returns the value.
+    ///
+    /// The keys are dropped. The counter of keys is incremented for each of them; if that wraps to
+    /// two, the set is removed all the same, and the value is returned in `GenerationOverflow`.
+    /// Returns `InvalidPtr` if `p` is not the pointer of a key; nothing changes then.
+    pub fn remove(&mut self, p: P) -> InvalidationResult<V>
+        ensures outcome { RemovesSet self.old self.new ⟦<P as AnyPointer>⟧.pointers p result }
+        ensures invalid { IfNone (value_within result) (self.new ≡ self.old) }
+    {
+        if !self.contains(p) {
+            return InvalidationResult::InvalidPtr;
+        }
+        let wrapped = self.remove_others(p);
+        self.invariants();
+        self.keys_ascend();
+        let (removed, overflow) = self.remove_key(p).overflowing();
+        match removed {
+            Some((_, value)) => match value {
+                Some(v) => InvalidationResult::from_overflow(wrapped | overflow, v),
+                None => unreachable!(),
+            },
+            None => unreachable!(),
         }
     }
 

@@ -1,24 +1,21 @@
 // Random calls beside a model: a list of keys, each with the number of its set.
 
-use super::{Key, Sets, Value};
-use arena_ptr::{InvalidationResult, ToolPtr};
-use arena_traits::PlainArenaTrait;
-use chain_traits::ChainArenaTrait;
+use super::test_sets::TestSets;
+use arena_ptr::{InvalidationResult, InxKey, PtrKey};
 use std::alloc::{AllocError, Global};
-use std::mem;
 
 // A key: its pointer, itself, and its set.
 #[derive(Clone, Copy)]
-struct Entry {
-    p: ToolPtr,
+struct Entry<P> {
+    p: P,
     key: u32,
     set: usize,
 }
 
 // The keys, and the value of each set that there ever was.
 #[derive(Drop)]
-struct Model {
-    entries: Vec<Entry>,
+struct Model<P> {
+    entries: Vec<Entry<P>>,
     values: Vec<u32>,
 }
 
@@ -29,7 +26,7 @@ fn random(seed: &mut u32, n: usize) -> usize {
     if n == 0 { 0 } else { high % n }
 }
 
-fn size_of(entries: &[Entry], set: usize) -> usize {
+fn size_of<P: PtrKey>(entries: &[Entry<P>], set: usize) -> usize {
     let mut n: usize = 0;
     for e in entries {
         if e.set == set {
@@ -40,7 +37,7 @@ fn size_of(entries: &[Entry], set: usize) -> usize {
 }
 
 // Puts the keys of a set into another one.
-fn redirect(entries: &mut [Entry], from: usize, to: usize) {
+fn redirect<P: PtrKey>(entries: &mut [Entry<P>], from: usize, to: usize) {
     for e in entries {
         if e.set == from {
             e.set = to;
@@ -48,54 +45,71 @@ fn redirect(entries: &mut [Entry], from: usize, to: usize) {
     }
 }
 
-fn value_of(model: &Model, set: usize) -> u32 {
+fn value_of<P: PtrKey>(model: &Model<P>, set: usize) -> u32 {
     match model.values.get(set) {
         Some(v) => *v,
         None => 0,
     }
 }
 
-fn write_value(model: &mut Model, set: usize, value: u32) {
+fn write_value<P: PtrKey>(model: &mut Model<P>, set: usize, value: u32) {
     if let Some(v) = model.values.get_mut(set) {
         *v = value;
     }
 }
 
 // Returns whether the key has its value, size and pointer.
-fn reads_alike<A: ChainArenaTrait<ToolPtr, Key> + Drop, B: PlainArenaTrait<ToolPtr, Value> + Drop>(
-    sets: &Sets<A, B>,
-    model: &Model,
-    e: Entry,
-) -> bool {
+fn reads_alike<P: PtrKey, T: TestSets<P>>(sets: &T, model: &Model<P>, e: Entry<P>) -> bool {
     let value = value_of(model, e.set);
     let size = size_of(model.entries.as_slice(), e.set);
     sets.contains(e.p)
-        && sets.get_key(e.p) == Some(&e.key)
-        && sets.get_val(e.p) == Some(&value)
+        && sets.get_key(e.p) == Some(e.key)
+        && sets.get_val(e.p) == Some(value)
         && sets.len_key_set(e.p) == Some(size)
 }
 
+// Returns whether two keys are in one set exactly if they are in the model.
+fn joins_alike<P: PtrKey, T: TestSets<P>>(sets: &T, e: Entry<P>, d: Entry<P>) -> bool {
+    sets.in_same_set(e.p, d.p) == (e.set == d.set)
+}
+
 // Returns whether the key is in one set with the same keys.
-fn joined_alike<A: ChainArenaTrait<ToolPtr, Key> + Drop, B: PlainArenaTrait<ToolPtr, Value> + Drop>(
-    sets: &Sets<A, B>,
-    entries: &[Entry],
-    e: Entry,
-) -> bool {
+fn joined_alike<P: PtrKey, T: TestSets<P>>(sets: &T, entries: &[Entry<P>], e: Entry<P>) -> bool {
     for d in entries {
-        if sets.in_same_set(e.p, d.p) != (e.set == d.set) {
+        if !joins_alike(sets, e, *d) {
             return false;
         }
     }
     true
 }
 
+// Returns whether the keys are valid, and their indexes ascend.
+fn are_ascending<P: PtrKey, T: TestSets<P>>(sets: &T, keys: &[P]) -> bool {
+    let mut last = 0;
+    for p in keys {
+        let p = *p;
+        let i = p.inx().try_into_usize().unwrap_or(0);
+        if i <= last || !sets.contains(p) {
+            return false;
+        }
+        last = i;
+    }
+    true
+}
+
+// Returns whether as many keys are listed, by ascending index.
+fn lists_alike<P: PtrKey, T: TestSets<P>>(alloc: Global, sets: &T, count: usize) -> bool {
+    let mut keys = Vec::new(alloc);
+    match sets.iter(&mut keys) {
+        Ok(()) => keys.len() == count && are_ascending(sets, keys.as_slice()),
+        Err(_) => false,
+    }
+}
+
 // Returns whether the whole state is that of the model.
-fn agrees<A: ChainArenaTrait<ToolPtr, Key> + Drop, B: PlainArenaTrait<ToolPtr, Value> + Drop>(
-    sets: &Sets<A, B>,
-    model: &Model,
-) -> bool {
+fn agrees<P: PtrKey, T: TestSets<P>>(alloc: Global, sets: &T, model: &Model<P>) -> bool {
     let entries = model.entries.as_slice();
-    if sets.len_keys() != entries.len() {
+    if sets.len_keys() != entries.len() || !lists_alike(alloc, sets, entries.len()) {
         return false;
     }
     for e in entries {
@@ -106,9 +120,9 @@ fn agrees<A: ChainArenaTrait<ToolPtr, Key> + Drop, B: PlainArenaTrait<ToolPtr, V
     true
 }
 
-fn insert<A: ChainArenaTrait<ToolPtr, Key> + Drop, B: PlainArenaTrait<ToolPtr, Value> + Drop>(
-    sets: &mut Sets<A, B>,
-    model: &mut Model,
+fn insert<P: PtrKey, T: TestSets<P>>(
+    sets: &mut T,
+    model: &mut Model<P>,
     key: u32,
 ) -> Result<bool, AllocError> {
     if let Ok(p) = sets.insert(key, key) {
@@ -119,10 +133,12 @@ fn insert<A: ChainArenaTrait<ToolPtr, Key> + Drop, B: PlainArenaTrait<ToolPtr, V
     Ok(true)
 }
 
-fn insert_beside<
-    A: ChainArenaTrait<ToolPtr, Key> + Drop,
-    B: PlainArenaTrait<ToolPtr, Value> + Drop,
->(sets: &mut Sets<A, B>, model: &mut Model, e: Entry, key: u32) -> Result<bool, AllocError> {
+fn insert_beside<P: PtrKey, T: TestSets<P>>(
+    sets: &mut T,
+    model: &mut Model<P>,
+    e: Entry<P>,
+    key: u32,
+) -> Result<bool, AllocError> {
     if let Ok(p) = sets.insert_key(e.p, key) {
         model.entries.push(Entry { p, key, set: e.set })?;
     }
@@ -130,11 +146,11 @@ fn insert_beside<
 }
 
 // Unites two sets, and returns whether the right value was removed.
-fn union<A: ChainArenaTrait<ToolPtr, Key> + Drop, B: PlainArenaTrait<ToolPtr, Value> + Drop>(
-    sets: &mut Sets<A, B>,
-    model: &mut Model,
-    e: Entry,
-    d: Entry,
+fn union<P: PtrKey, T: TestSets<P>>(
+    sets: &mut T,
+    model: &mut Model<P>,
+    e: Entry<P>,
+    d: Entry<P>,
 ) -> bool {
     let united = sets.union(e.p, d.p);
     if e.set == d.set {
@@ -147,15 +163,14 @@ fn union<A: ChainArenaTrait<ToolPtr, Key> + Drop, B: PlainArenaTrait<ToolPtr, Va
         (e.set, d.set, d.p)
     };
     redirect(model.entries.as_mut_slice(), from, to);
-    united == Some((value_of(model, from), p))
+    match united {
+        Some((value, q)) => value == value_of(model, from) && q.is_same(p),
+        None => false,
+    }
 }
 
 // Removes a key, and returns whether its value was removed exactly if it was the last.
-fn remove<A: ChainArenaTrait<ToolPtr, Key> + Drop, B: PlainArenaTrait<ToolPtr, Value> + Drop>(
-    sets: &mut Sets<A, B>,
-    model: &mut Model,
-    k: usize,
-) -> bool {
+fn remove<P: PtrKey, T: TestSets<P>>(sets: &mut T, model: &mut Model<P>, k: usize) -> bool {
     if k >= model.entries.len() {
         return false;
     }
@@ -175,12 +190,27 @@ fn remove<A: ChainArenaTrait<ToolPtr, Key> + Drop, B: PlainArenaTrait<ToolPtr, V
     }
 }
 
+// Removes a set, and returns whether its value was returned.
+fn remove_set<P: PtrKey, T: TestSets<P>>(sets: &mut T, model: &mut Model<P>, e: Entry<P>) -> bool {
+    let mut k: usize = 0;
+    for _ in 0..model.entries.len() {
+        match model.entries.get(k) {
+            Some(d) if d.set != e.set => k = k.saturating_add(1),
+            Some(_) => {
+                model.entries.swap_remove(k);
+            }
+            None => {}
+        }
+    }
+    sets.remove(e.p) == InvalidationResult::Success(value_of(model, e.set))
+}
+
 // Splits a key off, and returns whether its value was replaced exactly if it was alone.
-fn split<A: ChainArenaTrait<ToolPtr, Key> + Drop, B: PlainArenaTrait<ToolPtr, Value> + Drop>(
-    sets: &mut Sets<A, B>,
-    model: &mut Model,
+fn split<P: PtrKey, T: TestSets<P>>(
+    sets: &mut T,
+    model: &mut Model<P>,
     k: usize,
-    e: Entry,
+    e: Entry<P>,
     value: u32,
 ) -> Result<bool, AllocError> {
     let alone = size_of(model.entries.as_slice(), e.set) == 1;
@@ -203,38 +233,28 @@ fn split<A: ChainArenaTrait<ToolPtr, Key> + Drop, B: PlainArenaTrait<ToolPtr, Va
 }
 
 // Writes a key and the value of its set in place, and returns whether both are there.
-fn write<A: ChainArenaTrait<ToolPtr, Key> + Drop, B: PlainArenaTrait<ToolPtr, Value> + Drop>(
-    sets: &mut Sets<A, B>,
-    model: &mut Model,
+fn write<P: PtrKey, T: TestSets<P>>(
+    sets: &mut T,
+    model: &mut Model<P>,
     k: usize,
-    e: Entry,
+    e: Entry<P>,
     n: u32,
 ) -> bool {
     if let Some(d) = model.entries.get_mut(k) {
         d.key = n;
     }
     write_value(model, e.set, n);
-    let key = match sets.get_key_mut(e.p) {
-        Some(key) => mem::replace(key, n) == e.key,
-        None => false,
-    };
-    match sets.get_val_mut(e.p) {
-        Some(value) => {
-            *value = n;
-            key
-        }
-        None => false,
-    }
+    sets.write_key(e.p, n) == Some(e.key) && sets.write_val(e.p, n).is_some()
 }
 
 // Makes a random call in both, and returns whether it did the same.
-fn step<A: ChainArenaTrait<ToolPtr, Key> + Drop, B: PlainArenaTrait<ToolPtr, Value> + Drop>(
-    sets: &mut Sets<A, B>,
-    model: &mut Model,
+fn step<P: PtrKey, T: TestSets<P>>(
+    sets: &mut T,
+    model: &mut Model<P>,
     seed: &mut u32,
 ) -> Result<bool, AllocError> {
     let count = model.entries.len();
-    let call = random(seed, 10);
+    let call = random(seed, 20);
     let key = *seed;
     let i = random(seed, count);
     let j = random(seed, count);
@@ -243,28 +263,30 @@ fn step<A: ChainArenaTrait<ToolPtr, Key> + Drop, B: PlainArenaTrait<ToolPtr, Val
         _ => return insert(sets, model, key),
     };
     match call {
-        0 | 1 if count < 24 => insert(sets, model, key),
-        2 if count < 24 => insert_beside(sets, model, e, key),
-        3 | 4 => Ok(union(sets, model, e, d)),
-        5 => split(sets, model, i, e, key),
-        6 => Ok(write(sets, model, i, e, key)),
+        0..=4 => insert(sets, model, key),
+        5 | 6 => insert_beside(sets, model, e, key),
+        7..=10 => Ok(union(sets, model, e, d)),
+        11 | 12 => split(sets, model, i, e, key),
+        13 | 14 => Ok(write(sets, model, i, e, key)),
+        15 => Ok(remove_set(sets, model, e)),
         _ => Ok(remove(sets, model, i)),
     }
 }
 
 // Makes random calls, and returns the number of the first after which the states differ, from 1 on,
 // or 0.
-pub fn first_difference<
-    A: ChainArenaTrait<ToolPtr, Key> + Drop,
-    B: PlainArenaTrait<ToolPtr, Value> + Drop,
->(alloc: Global, sets: &mut Sets<A, B>, calls: u32) -> Result<u32, AllocError> {
-    let mut model = Model {
+pub fn first_difference<P: PtrKey, T: TestSets<P>>(
+    alloc: Global,
+    calls: u32,
+) -> Result<u32, AllocError> {
+    let mut sets: T = T::new(alloc);
+    let mut model: Model<P> = Model {
         entries: Vec::new(alloc),
         values: Vec::new(alloc),
     };
     let mut seed = 1;
     for n in 0..calls {
-        if !step(sets, &mut model, &mut seed)? || !agrees(sets, &model) {
+        if !step(&mut sets, &mut model, &mut seed)? || !agrees(alloc, &sets, &model) {
             return Ok(n + 1);
         }
     }

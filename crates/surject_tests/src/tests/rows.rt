@@ -1,11 +1,8 @@
 // Rows of calls and what they yield.
 
-use super::{Key, Sets, Value};
-use arena_ptr::{InvalidationResult, PtrKey, ToolPtr};
-use arena_traits::PlainArenaTrait;
-use chain_traits::ChainArenaTrait;
+use super::test_sets::TestSets;
+use arena_ptr::{InvalidationResult, PtrKey};
 use std::alloc::{AllocError, Global};
-use std::mem;
 
 // A call. Keys are named by the order of their insertion, from 0 on.
 #[derive(Clone, Copy)]
@@ -21,6 +18,8 @@ enum Op {
     Remove,
     // Splits a key off: 0 for none, 1 if others were in its set, or the former value, and 2.
     Split,
+    // Removes a whole set: 0 for none, or the value.
+    RemoveSet,
     // Replaces a value: the former one, or 9 for none.
     Replace,
     // Writes a key, or a value, in place: the former one, or 9 for none.
@@ -32,6 +31,8 @@ enum Op {
     Read,
     // The keys of a set, from one on; 0 for none.
     List,
+    // All keys, by ascending index; 0 for none.
+    ListAll,
     // The number of keys and of values, and of keys that unions redirected.
     Count,
     // Removes all: 0.
@@ -41,7 +42,8 @@ enum Op {
 // A call, two arguments, and what it yields in decimal digits.
 type Row = (Op, u32, u32, u32);
 
-const ROWS: [Row; 64] = [
+// Insertions and unions.
+const UNIONS: [Row; 23] = [
     (Op::Count, 0, 0, 0),
     (Op::Insert, 1, 5, 1),
     (Op::Insert, 2, 6, 1),
@@ -67,6 +69,10 @@ const ROWS: [Row; 64] = [
     (Op::Beside, 1, 9, 1),
     (Op::Read, 4, 0, 954),
     (Op::Count, 0, 0, 522),
+];
+
+// A last union, and removals of keys.
+const REMOVALS: [Row; 16] = [
     (Op::Union, 0, 3, 82),
     (Op::Union, 3, 4, 0),
     (Op::Read, 3, 0, 455),
@@ -83,6 +89,10 @@ const ROWS: [Row; 64] = [
     (Op::List, 0, 0, 0),
     (Op::Remove, 2, 0, 39),
     (Op::Read, 1, 0, 233),
+];
+
+// Splits and writes.
+const SPLITS: [Row; 23] = [
     // The others stay in their set.
     (Op::Split, 3, 8, 1),
     (Op::Read, 3, 0, 481),
@@ -108,8 +118,29 @@ const ROWS: [Row; 64] = [
     (Op::Read, 1, 0, 263),
     (Op::Insert, 6, 7, 1),
     (Op::Remove, 5, 0, 67),
+];
+
+// Removals of whole sets.
+const WHOLE_SETS: [Row; 18] = [
+    // The next key is inserted at the index of key 2, which is third.
+    (Op::ListAll, 0, 0, 279),
+    (Op::Insert, 5, 4, 1),
+    (Op::ListAll, 0, 0, 2579),
+    (Op::RemoveSet, 4, 0, 6),
+    (Op::Count, 0, 0, 114),
+    (Op::ListAll, 0, 0, 5),
+    (Op::Read, 3, 0, 0),
+    (Op::Read, 6, 0, 541),
+    (Op::RemoveSet, 1, 0, 0),
+    (Op::RemoveSet, 6, 0, 4),
+    (Op::ListAll, 0, 0, 0),
+    (Op::Count, 0, 0, 4),
+    (Op::Insert, 8, 7, 1),
+    (Op::Beside, 7, 9, 1),
+    (Op::Count, 0, 0, 214),
     (Op::Clear, 0, 0, 0),
     (Op::Count, 0, 0, 4),
+    (Op::ListAll, 0, 0, 0),
 ];
 
 fn digits(n: u32, digit: u32) -> u32 {
@@ -121,11 +152,7 @@ fn number(n: usize) -> u32 {
 }
 
 // Inserts a key; if memory is refused, a second time.
-fn insert<A: ChainArenaTrait<ToolPtr, Key> + Drop, B: PlainArenaTrait<ToolPtr, Value> + Drop>(
-    sets: &mut Sets<A, B>,
-    k: u32,
-    v: u32,
-) -> Option<ToolPtr> {
+fn insert<P: PtrKey, T: TestSets<P>>(sets: &mut T, k: u32, v: u32) -> Option<P> {
     for _ in 0..3 {
         if let Ok(p) = sets.insert(k, v) {
             return Some(p);
@@ -134,10 +161,7 @@ fn insert<A: ChainArenaTrait<ToolPtr, Key> + Drop, B: PlainArenaTrait<ToolPtr, V
     None
 }
 
-fn insert_beside<
-    A: ChainArenaTrait<ToolPtr, Key> + Drop,
-    B: PlainArenaTrait<ToolPtr, Value> + Drop,
->(sets: &mut Sets<A, B>, p: ToolPtr, k: u32) -> Option<ToolPtr> {
+fn insert_beside<P: PtrKey, T: TestSets<P>>(sets: &mut T, p: P, k: u32) -> Option<P> {
     for _ in 0..2 {
         if let Ok(q) = sets.insert_key(p, k) {
             return Some(q);
@@ -146,33 +170,29 @@ fn insert_beside<
     None
 }
 
-fn union<A: ChainArenaTrait<ToolPtr, Key> + Drop, B: PlainArenaTrait<ToolPtr, Value> + Drop>(
-    sets: &mut Sets<A, B>,
-    p: ToolPtr,
-    q: ToolPtr,
-) -> u32 {
+fn union<P: PtrKey, T: TestSets<P>>(sets: &mut T, p: P, q: P) -> u32 {
     match sets.union(p, q) {
-        Some((v, r)) => digits(v, if r == p { 1 } else { 2 }),
+        Some((v, r)) => digits(v, if r.is_same(p) { 1 } else { 2 }),
         None => 0,
     }
 }
 
-fn remove<A: ChainArenaTrait<ToolPtr, Key> + Drop, B: PlainArenaTrait<ToolPtr, Value> + Drop>(
-    sets: &mut Sets<A, B>,
-    p: ToolPtr,
-) -> u32 {
+fn remove<P: PtrKey, T: TestSets<P>>(sets: &mut T, p: P) -> u32 {
     match sets.remove_key(p) {
         InvalidationResult::Success((k, v)) => digits(k, v.unwrap_or(9)),
         _ => 0,
     }
 }
 
+fn remove_set<P: PtrKey, T: TestSets<P>>(sets: &mut T, p: P) -> u32 {
+    match sets.remove(p) {
+        InvalidationResult::Success(v) => v,
+        _ => 0,
+    }
+}
+
 // Splits a key off; if memory is refused, a second time.
-fn split<A: ChainArenaTrait<ToolPtr, Key> + Drop, B: PlainArenaTrait<ToolPtr, Value> + Drop>(
-    sets: &mut Sets<A, B>,
-    p: ToolPtr,
-    v: u32,
-) -> u32 {
+fn split<P: PtrKey, T: TestSets<P>>(sets: &mut T, p: P, v: u32) -> u32 {
     for _ in 0..2 {
         match sets.split_key(p, v) {
             Ok(Some(former)) => return digits(former, 2),
@@ -183,56 +203,39 @@ fn split<A: ChainArenaTrait<ToolPtr, Key> + Drop, B: PlainArenaTrait<ToolPtr, Va
     0
 }
 
-fn write_key<A: ChainArenaTrait<ToolPtr, Key> + Drop, B: PlainArenaTrait<ToolPtr, Value> + Drop>(
-    sets: &mut Sets<A, B>,
-    p: ToolPtr,
-    k: u32,
-) -> u32 {
-    match sets.get_key_mut(p) {
-        Some(key) => mem::replace(key, k),
-        None => 9,
-    }
-}
-
-fn write_value<A: ChainArenaTrait<ToolPtr, Key> + Drop, B: PlainArenaTrait<ToolPtr, Value> + Drop>(
-    sets: &mut Sets<A, B>,
-    p: ToolPtr,
-    v: u32,
-) -> u32 {
-    match sets.get_val_mut(p) {
-        Some(value) => mem::replace(value, v),
-        None => 9,
-    }
-}
-
-fn read<A: ChainArenaTrait<ToolPtr, Key> + Drop, B: PlainArenaTrait<ToolPtr, Value> + Drop>(
-    sets: &Sets<A, B>,
-    p: ToolPtr,
-) -> u32 {
+fn read<P: PtrKey, T: TestSets<P>>(sets: &T, p: P) -> u32 {
     match (sets.get_key(p), sets.get_val(p), sets.len_key_set(p)) {
-        (Some(k), Some(v), Some(n)) => digits(digits(*k, *v), number(n)),
+        (Some(k), Some(v), Some(n)) => digits(digits(k, v), number(n)),
         _ => 0,
     }
 }
 
-fn list<A: ChainArenaTrait<ToolPtr, Key> + Drop, B: PlainArenaTrait<ToolPtr, Value> + Drop>(
-    sets: &Sets<A, B>,
-    p: ToolPtr,
-) -> u32 {
+// Returns the digits of keys.
+fn digits_of<P: PtrKey, T: TestSets<P>>(sets: &T, keys: &[P]) -> u32 {
     let mut n = 0;
-    if let Some(keys) = sets.key_set(p) {
-        for q in keys {
-            if let Some(k) = sets.get_key(q) {
-                n = digits(n, *k);
-            }
-        }
+    for q in keys {
+        n = digits(n, sets.get_key(*q).unwrap_or(0));
     }
     n
 }
 
-fn count<A: ChainArenaTrait<ToolPtr, Key> + Drop, B: PlainArenaTrait<ToolPtr, Value> + Drop>(
-    sets: &Sets<A, B>,
-) -> u32 {
+fn list<P: PtrKey, T: TestSets<P>>(alloc: Global, sets: &T, p: P) -> u32 {
+    let mut keys = Vec::new(alloc);
+    match sets.key_set(p, &mut keys) {
+        Ok(()) => digits_of(sets, keys.as_slice()),
+        Err(_) => 0,
+    }
+}
+
+fn list_all<P: PtrKey, T: TestSets<P>>(alloc: Global, sets: &T) -> u32 {
+    let mut keys = Vec::new(alloc);
+    match sets.iter(&mut keys) {
+        Ok(()) => digits_of(sets, keys.as_slice()),
+        Err(_) => 0,
+    }
+}
+
+fn count<P: PtrKey, T: TestSets<P>>(sets: &T) -> u32 {
     let redirected = u32::try_from(sets.redirected()).unwrap_or(u32::MAX);
     digits(
         digits(number(sets.len_keys()), number(sets.len_vals())),
@@ -241,13 +244,14 @@ fn count<A: ChainArenaTrait<ToolPtr, Key> + Drop, B: PlainArenaTrait<ToolPtr, Va
 }
 
 // Makes a call on the keys inserted so far, and returns what it yields, and a new key.
-fn respond<A: ChainArenaTrait<ToolPtr, Key> + Drop, B: PlainArenaTrait<ToolPtr, Value> + Drop>(
-    sets: &mut Sets<A, B>,
+fn respond<P: PtrKey, T: TestSets<P>>(
+    alloc: Global,
+    sets: &mut T,
     op: Op,
-    p: ToolPtr,
-    q: ToolPtr,
+    p: P,
+    q: P,
     arguments: (u32, u32),
-) -> (u32, Option<ToolPtr>) {
+) -> (u32, Option<P>) {
     let (a, b) = arguments;
     match op {
         Op::Insert => {
@@ -261,12 +265,14 @@ fn respond<A: ChainArenaTrait<ToolPtr, Key> + Drop, B: PlainArenaTrait<ToolPtr, 
         Op::Union => (union(sets, p, q), None),
         Op::Remove => (remove(sets, p), None),
         Op::Split => (split(sets, p, b), None),
-        Op::WriteKey => (write_key(sets, p, b), None),
-        Op::WriteValue => (write_value(sets, p, b), None),
+        Op::WriteKey => (sets.write_key(p, b).unwrap_or(9), None),
+        Op::WriteValue => (sets.write_val(p, b).unwrap_or(9), None),
+        Op::RemoveSet => (remove_set(sets, p), None),
         Op::Replace => (sets.replace_val(p, b).unwrap_or(9), None),
         Op::InOneSet => (sets.in_same_set(p, q) as u32, None),
         Op::Read => (read(sets, p), None),
-        Op::List => (list(sets, p), None),
+        Op::List => (list(alloc, sets, p), None),
+        Op::ListAll => (list_all(alloc, sets), None),
         Op::Count => (count(sets), None),
         Op::Clear => {
             sets.clear();
@@ -275,25 +281,27 @@ fn respond<A: ChainArenaTrait<ToolPtr, Key> + Drop, B: PlainArenaTrait<ToolPtr, 
     }
 }
 
-fn at(ptrs: &[ToolPtr], n: u32) -> ToolPtr {
+fn at<P: PtrKey>(ptrs: &[P], n: u32) -> P {
     match ptrs.get(n as usize) {
         Some(p) => *p,
-        None => ToolPtr::invalid(),
+        None => P::invalid(),
     }
 }
 
-// Makes the calls of all rows, and returns the number of the first that yields something else, from
-// 1 on, or 0.
-pub fn first_wrong<
-    A: ChainArenaTrait<ToolPtr, Key> + Drop,
-    B: PlainArenaTrait<ToolPtr, Value> + Drop,
->(alloc: Global, sets: &mut Sets<A, B>) -> Result<usize, AllocError> {
-    let mut ptrs: Vec<ToolPtr> = Vec::new(alloc);
+// Makes the calls of rows, and returns the number of the first that yields something else, from 1
+// on, or 0.
+fn wrong_row<P: PtrKey, T: TestSets<P>>(
+    alloc: Global,
+    sets: &mut T,
+    ptrs: &mut Vec<P>,
+    rows: &[Row],
+) -> Result<usize, AllocError> {
     let mut n: usize = 0;
-    for (op, a, b, wanted) in ROWS {
+    for row in rows {
+        let (op, a, b, wanted) = *row;
         n = n.wrapping_add(1);
         let (p, q) = (at(ptrs.as_slice(), a), at(ptrs.as_slice(), b));
-        let (got, inserted) = respond(sets, op, p, q, (a, b));
+        let (got, inserted) = respond(alloc, sets, op, p, q, (a, b));
         if got != wanted {
             return Ok(n);
         }
@@ -302,4 +310,49 @@ pub fn first_wrong<
         }
     }
     Ok(0)
+}
+
+fn wrong_union<P: PtrKey, T: TestSets<P>>(
+    alloc: Global,
+    sets: &mut T,
+    ptrs: &mut Vec<P>,
+) -> Result<usize, AllocError> {
+    wrong_row(alloc, sets, ptrs, &UNIONS)
+}
+
+fn wrong_removal<P: PtrKey, T: TestSets<P>>(
+    alloc: Global,
+    sets: &mut T,
+    ptrs: &mut Vec<P>,
+) -> Result<usize, AllocError> {
+    wrong_row(alloc, sets, ptrs, &REMOVALS)
+}
+
+fn wrong_split<P: PtrKey, T: TestSets<P>>(
+    alloc: Global,
+    sets: &mut T,
+    ptrs: &mut Vec<P>,
+) -> Result<usize, AllocError> {
+    wrong_row(alloc, sets, ptrs, &SPLITS)
+}
+
+fn wrong_set_removal<P: PtrKey, T: TestSets<P>>(
+    alloc: Global,
+    sets: &mut T,
+    ptrs: &mut Vec<P>,
+) -> Result<usize, AllocError> {
+    wrong_row(alloc, sets, ptrs, &WHOLE_SETS)
+}
+
+// Makes the calls of all tables, and returns the number of the first row of each that yields
+// something else, or 0.
+pub fn wrong_rows<P: PtrKey, T: TestSets<P>>(alloc: Global) -> Result<[usize; 4], AllocError> {
+    let mut sets = T::new(alloc);
+    let mut ptrs: Vec<P> = Vec::new(alloc);
+    Ok([
+        wrong_union(alloc, &mut sets, &mut ptrs)?,
+        wrong_removal(alloc, &mut sets, &mut ptrs)?,
+        wrong_split(alloc, &mut sets, &mut ptrs)?,
+        wrong_set_removal(alloc, &mut sets, &mut ptrs)?,
+    ])
 }
