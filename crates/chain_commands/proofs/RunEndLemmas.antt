@@ -6,27 +6,27 @@ use Rattle.chain_commands.specs.declared.session.ToolError.{ToolError}
 use Rattle.chain_commands.specs.declared.session.ToolError.TheVariants as errors
 use Rattle.chain_commands.specs.Words.{all_but_last, lines_of, whole_lines}
 use Rattle.chain_commands.specs.Commands.{line_of}
-use Rattle.chain_commands.specs.Responses.{ToolLinks, RespondsToLine, LeavesStep}
+use Rattle.chain_commands.specs.Responses.{ToolArenas, LeavesStep}
 use Rattle.chain_commands.specs.Transcripts.{Transcribes, by_line_feed, by_the_end, IsCutShort, between, within, TranscribesSome, before, after, Ends}
 use Rattle.chain_commands.specs.Progress.{TranscribesOne, Progress, HasProgressed}
 use Rattle.chain_commands.proofs.LineSplitLemmas.{all_but_last-append}
 use Rattle.chain_commands.proofs.ProgressLemmas.{Transcribes-more}
 
 -- The run has executed what was read so far.
-pub record HasRead (old new : ToolLinks) (kept : List ℕ) (left left_after held held_after : Option (List ℕ)) : Type 0 where
+pub record HasRead (old new : ToolArenas) (kept : List ℕ) (left left_after held held_after : Option (List ℕ)) : Type 0 where
   pub read : List ℕ
   pub reads : Consumes left left_after read
   pub so_far : Progress old read new kept held held_after
 
 -- Nothing has been read.
-pub HasRead-nothing : (links : ToolLinks) (kept : List ℕ) (left held : Option (List ℕ)) → kept ≡ [] → HasRead links links kept left left held held
+pub HasRead-nothing : (links : ToolArenas) (kept : List ℕ) (left held : Option (List ℕ)) → kept ≡ [] → HasRead links links kept left left held held
 HasRead-nothing links kept left held none = record {
   read = [];
   reads = Consumes-nil left;
   so_far = record { lines = []; rest = []; text = []; cut = refl; keeps = none; responses = (refl, refl); writes = Appends-nil held };
 }
 
-module _ (old now : ToolLinks) (kept : List ℕ) (left left_now held held_now : Option (List ℕ)) (has : HasRead old now kept left left_now held held_now) where
+module _ (old now : ToolArenas) (kept : List ℕ) (left left_now held held_now : Option (List ℕ)) (has : HasRead old now kept left left_now held held_now) where
   -- A flush keeps the progress of the run.
   pub HasRead-flushed : (held_after : Option (List ℕ)) → Keeps held_now held_after → HasRead old now kept left left_now held held_after
   HasRead-flushed held_after keeps = record {
@@ -44,7 +44,7 @@ module _ (old now : ToolLinks) (kept : List ℕ) (left left_now held held_now : 
   }
 
   -- One more piece is read.
-  pub HasRead-fed : {A : Type 0} (x : A) (new : ToolLinks) (kept_after piece : List ℕ) (left_after held_after : Option (List ℕ)) → Consumes left_now left_after piece
+  pub HasRead-fed : {A : Type 0} (x : A) (new : ToolArenas) (kept_after piece : List ℕ) (left_after held_after : Option (List ℕ)) → Consumes left_now left_after piece
       → HasProgressed (Ok x) old (has.read ++ piece) new kept_after held held_after → HasRead old new kept_after left left_after held held_after
   HasRead-fed x new kept_after piece left_after held_after reads so_far = record {
     read = has.read ++ piece;
@@ -53,7 +53,7 @@ module _ (old now : ToolLinks) (kept : List ℕ) (left left_now held held_now : 
   }
 
   -- The run stops at a piece.
-  pub Ends-fed : (A B : Type 0) (error : ToolError) (r : Result B ToolError) (new : ToolLinks) (kept_after piece : List ℕ) (left_after held_after : Option (List ℕ)) → Consumes left_now left_after piece
+  pub Ends-fed : (A B : Type 0) (error : ToolError) (r : Result B ToolError) (new : ToolArenas) (kept_after piece : List ℕ) (left_after held_after : Option (List ℕ)) → Consumes left_now left_after piece
       → HasProgressed {A = A} (Err error) old (has.read ++ piece) new kept_after held held_after → r ≡ Err error → Ends r old new left left_after held held_after
   Ends-fed A B error r new kept_after piece left_after held_after reads is_error is = subst (λ q. Ends q old new left left_after held held_after) (sym is) (by_error error is_error)
     where
@@ -94,7 +94,7 @@ module _ (old now : ToolLinks) (kept : List ℕ) (left left_now held held_now : 
   })
 
   -- The last line is executed.
-  pub Ends-finished : (B : Type 0) (r : Result B ToolError) (new : ToolLinks) (left_after held_after : Option (List ℕ)) → Consumes left_now left_after [] → IsAtEnd left_after
+  pub Ends-finished : (B : Type 0) (r : Result B ToolError) (new : ToolArenas) (left_after held_after : Option (List ℕ)) → Consumes left_now left_after [] → IsAtEnd left_after
       → ((rest : List ℕ) → kept ≡ take 201 rest → TranscribesOne r now new (rest ++ []) held_now held_after) → Ends r old new left left_after held held_after
   Ends-finished B r new left_after held_after reads end responded =
       by_result r (subst (λ l. TranscribesOne r now new l held_now held_after) (append-nil has.so_far.rest) (responded has.so_far.rest has.so_far.keeps))
@@ -138,7 +138,7 @@ module _ (old now : ToolLinks) (kept : List ℕ) (left left_now held held_now : 
       }
 
 -- If the buffer cannot be allocated, nothing is read and nothing is written.
-pub Ends-no_capacity : (B : Type 0) (r : Result B ToolError) (error : ToolError) (links : ToolLinks) (left held : Option (List ℕ)) → error ≡ errors.Memory → r ≡ Err error → Ends r links links left left held held
+pub Ends-no_capacity : (B : Type 0) (r : Result B ToolError) (error : ToolError) (links : ToolArenas) (left held : Option (List ℕ)) → error ≡ errors.Memory → r ≡ Err error → Ends r links links left left held held
 Ends-no_capacity B r error links left held memory is = subst (λ q. Ends q links links left left held held) (sym (is ∙ ap Err memory)) (record {
   read = [];
   lines = [];

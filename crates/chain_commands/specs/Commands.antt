@@ -8,8 +8,9 @@ use Rattle.chain_arena.specs.declared.calls.Call.{Call}
 use Rattle.chain_arena.specs.declared.calls.Call.TheVariants.{Insert, InsertWithin, Connect, BreakPrev, BreakNext, ExchangeNext, ReverseChain, MoveAfter, SpliceAfter, ArrangeChain, Remove, RemoveInx, Invalidate, DrainChain, Clear, Compress, CompressCanonical, Reserve, SetGeneration, IncGeneration}
 use Rattle.chain_laws.specs.declared.insert_kind.InsertKind.{InsertKind}
 use Rattle.chain_laws.specs.declared.insert_kind.InsertKind.TheVariants as kinds
+use Rattle.arena_pairs.specs.declared.calls.PairCall.{PairCall}
 use Rattle.chain_commands.specs.declared.command.Command.{Command}
-use Rattle.chain_commands.specs.declared.command.Command.TheVariants.{Change, Arrange, Show, Chain, Len, Moves}
+use Rattle.chain_commands.specs.declared.command.Command.TheVariants.{Change, Arrange, Show, Chain, Len, Moves, Transfer, Other}
 use Rattle.chain_commands.specs.declared.command.Line.{Line}
 use Rattle.chain_commands.specs.declared.command.Line.TheVariants as lines
 use Rattle.chain_commands.specs.Words.{words_of, number_of, index_word, generation_of, pointer_of, without_return}
@@ -21,6 +22,10 @@ Kind = InsertKind ToolPtr Inx32
 -- Calls that may change the links.
 abbrev pub LinkCall : Type 0
 LinkCall = Call ToolPtr ℕ Inx32 Gen32 ℕ
+
+-- Calls that may change two arenas.
+abbrev pub ArenaCall : Type 0
+ArenaCall = PairCall ToolPtr ℕ Inx32 Gen32 ℕ
 
 -- Arguments that are one word.
 abbrev pub one_word : List (List ℕ) → Option (List ℕ)
@@ -118,6 +123,17 @@ insertion (name ∷ x ∷ value ∷ []) = option_zip (kind_beside name x) (numbe
 insertion (name ∷ x ∷ y ∷ value ∷ []) = option_zip (kind_between name x y) (number_of value)
 insertion words = None
 
+-- The command with this name and these arguments if it is no call on one arena.
+abbrev pub remaining_command : List ℕ → List (List ℕ) → Option Command
+remaining_command name arguments =
+    if bytes_eq name (codes "show") then option_map Show (one_pointer arguments)
+    else (if bytes_eq name (codes "chain") then option_map Chain (one_pointer arguments)
+    else (if bytes_eq name (codes "len") then option_map (λ none. Len) (no_arguments arguments)
+    else (if bytes_eq name (codes "moves") then option_map Moves (reset_of arguments)
+    else (if bytes_eq name (codes "transfer") then option_map Transfer (one_pointer arguments)
+    else (if bytes_eq name (codes "other") then option_map (λ none. Other) (no_arguments arguments)
+    else None)))))
+
 -- The command with this name and these arguments, except `arrange`.
 abbrev pub short_command : List ℕ → List (List ℕ) → Option Command
 short_command name arguments =
@@ -139,11 +155,7 @@ short_command name arguments =
     else (if bytes_eq name (codes "reserve") then option_map (λ n. Change (Reserve n)) (one_number arguments)
     else (if bytes_eq name (codes "setgen") then option_map (λ g. Change (SetGeneration g)) (option_and_then generation_of (one_number arguments))
     else (if bytes_eq name (codes "incgen") then option_map (λ none. Change IncGeneration) (no_arguments arguments)
-    else (if bytes_eq name (codes "show") then option_map Show (one_pointer arguments)
-    else (if bytes_eq name (codes "chain") then option_map Chain (one_pointer arguments)
-    else (if bytes_eq name (codes "len") then option_map (λ none. Len) (no_arguments arguments)
-    else (if bytes_eq name (codes "moves") then option_map Moves (reset_of arguments)
-    else None)))))))))))))))))))))
+    else remaining_command name arguments)))))))))))))))))
 
 -- The command with this name and these arguments.
 abbrev pub command_of : List ℕ → List (List ℕ) → Option Command

@@ -5,7 +5,7 @@ use Rattle.chain_commands.specs.declared.session.ToolError.{ToolError}
 use Rattle.chain_commands.specs.declared.session.ToolError.TheVariants as errors
 use Rattle.chain_commands.specs.Words.{lines_of, whole_lines}
 use Rattle.chain_commands.specs.Commands.{line_of}
-use Rattle.chain_commands.specs.Responses.{ToolLinks, RespondsToLine, LeavesStep}
+use Rattle.chain_commands.specs.Responses.{ToolArenas, RespondsToLine, LeavesStep}
 use Rattle.chain_commands.specs.Transcripts.{Transcribes, IsCutShort, TranscribesSome}
 
 -- The result of writing a text: all is written, or a first part if the writer fails.
@@ -25,7 +25,7 @@ KeepsMore returned kept kept_after more = record {
 
 -- One executed line: the response is written, in part if the writer fails. After an allocation
 -- failure nothing is written, and only a call may have taken effect.
-abbrev pub TranscribesOne : {A : Type 0} → Result A ToolError → ToolLinks → ToolLinks → List ℕ → Option (List ℕ) → Option (List ℕ) → Type 0
+abbrev pub TranscribesOne : {A : Type 0} → Result A ToolError → ToolArenas → ToolArenas → List ℕ → Option (List ℕ) → Option (List ℕ) → Type 0
 TranscribesOne (Ok x) old new line held held_after = (text : List ℕ) × RespondsToLine old (line_of line) text new × Appends held held_after text
 TranscribesOne (Err errors.Read) old new line held held_after = ⊥
 TranscribesOne (Err errors.Write) old new line held held_after = (front : List ℕ) × (rest : List ℕ) × RespondsToLine old (line_of line) (front ++ rest) new × Appends held held_after front
@@ -33,7 +33,7 @@ TranscribesOne (Err errors.Memory) old new line held held_after = Keeps held hel
 
 -- The result of a line whose beginning was kept, up to 201 bytes, and whose end is `front`: it is
 -- executed, and then nothing is kept.
-abbrev pub EndsLine : {A : Type 0} → Result A ToolError → ToolLinks → (kept front : List ℕ) → Option (List ℕ) → ToolLinks → List ℕ → Option (List ℕ) → Type 0
+abbrev pub EndsLine : {A : Type 0} → Result A ToolError → ToolArenas → (kept front : List ℕ) → Option (List ℕ) → ToolArenas → List ℕ → Option (List ℕ) → Type 0
 EndsLine returned old kept front held new kept_after held_after = record {
   responded : (rest : List ℕ) → kept ≡ take 201 rest → TranscribesOne returned old new (rest ++ front) held held_after;
   empty : OnOk returned (kept_after ≡ []);
@@ -41,7 +41,7 @@ EndsLine returned old kept front held new kept_after held_after = record {
 
 -- The whole lines read so far are executed. At most 201 bytes of the rest are kept, which suffice
 -- because a line of more than 200 bytes is bad.
-pub record Progress (old : ToolLinks) (read : List ℕ) (new : ToolLinks) (kept : List ℕ) (held held_after : Option (List ℕ)) : Type 0 where
+pub record Progress (old : ToolArenas) (read : List ℕ) (new : ToolArenas) (kept : List ℕ) (held held_after : Option (List ℕ)) : Type 0 where
   pub lines : List (List ℕ)
   pub rest : List ℕ
   pub text : List ℕ
@@ -51,13 +51,13 @@ pub record Progress (old : ToolLinks) (read : List ℕ) (new : ToolLinks) (kept 
   pub writes : Appends held held_after text
 
 -- The progress after more was read; at a fault only whole lines have been executed.
-abbrev pub HasProgressed : {A : Type 0} → Result A ToolError → ToolLinks → List ℕ → ToolLinks → List ℕ → Option (List ℕ) → Option (List ℕ) → Type 0
+abbrev pub HasProgressed : {A : Type 0} → Result A ToolError → ToolArenas → List ℕ → ToolArenas → List ℕ → Option (List ℕ) → Option (List ℕ) → Type 0
 HasProgressed (Ok x) old read new kept held held_after = Progress old read new kept held held_after
 HasProgressed (Err errors.Read) old read new kept held held_after = ⊥
 HasProgressed (Err errors.Write) old read new kept held held_after = (text : List ℕ) × IsCutShort old new (whole_lines read) text × Appends held held_after text
 HasProgressed (Err errors.Memory) old read new kept held held_after = (text : List ℕ) × TranscribesSome old new (whole_lines read) text × Appends held held_after text
 
 -- The progress before a piece of input determines the progress after it.
-abbrev pub ExtendsProgress : {A : Type 0} → Result A ToolError → List ℕ → ToolLinks → List ℕ → Option (List ℕ) → ToolLinks → List ℕ → Option (List ℕ) → Type 0
+abbrev pub ExtendsProgress : {A : Type 0} → Result A ToolError → List ℕ → ToolArenas → List ℕ → Option (List ℕ) → ToolArenas → List ℕ → Option (List ℕ) → Type 0
 ExtendsProgress returned piece now kept held_now new kept_after held_after =
-    (old : ToolLinks) (read : List ℕ) (held : Option (List ℕ)) → Progress old read now kept held held_now → HasProgressed returned old (read ++ piece) new kept_after held held_after
+    (old : ToolArenas) (read : List ℕ) (held : Option (List ℕ)) → Progress old read now kept held held_now → HasProgressed returned old (read ++ piece) new kept_after held held_after

@@ -1,4 +1,4 @@
--- The response of the program to a line, and the arena after it.
+-- The response of the program to a line, and the arenas after it.
 use Rattle.std.specs.Prelude.{◌≡◌, ℕ, ◌+◌, ◌≤◌, ◌⊎◌, List, ◌∷◌, [], ◌++◌, map, length, codes, decimal, String, string_bytes, Bool, true, false, Option, None, Some, Result, Ok, Err, OnOk, OnErr}
 use Rattle.std.specs.List.{join_with_byte, concat}
 use Rattle.std.specs.String.{string_capacity}
@@ -27,15 +27,23 @@ use Rattle.chain_arena.specs.Steps.{Step}
 use Rattle.chain_arena.specs.declared.calls.Call.TheVariants.{CompressCanonical}
 use Rattle.chain_arena.specs.declared.calls.Reply.{Reply}
 use Rattle.chain_arena.specs.declared.calls.Reply.TheVariants.{Inserted, Done, Removed, RemovedInx, Renewed, Drained, Counted, Reserved, Set}
-use Rattle.chain_commands.specs.Commands.{LinkCall, IsArrangement}
+use Rattle.arena_pairs.specs.PairSteps.{LinksPair, PairStep}
+use Rattle.arena_pairs.specs.declared.calls.PairCall.TheVariants.{First, TransferToSecond}
+use Rattle.arena_pairs.specs.declared.calls.PairReply.{PairReply}
+use Rattle.arena_pairs.specs.declared.calls.PairReply.TheVariants.{Replied, Transferred}
+use Rattle.chain_commands.specs.Commands.{LinkCall, ArenaCall, IsArrangement}
 use Rattle.chain_commands.specs.declared.command.Command.{Command}
-use Rattle.chain_commands.specs.declared.command.Command.TheVariants.{Change, Arrange, Show, Chain, Len, Moves}
+use Rattle.chain_commands.specs.declared.command.Command.TheVariants.{Change, Arrange, Show, Chain, Len, Moves, Transfer, Other}
 use Rattle.chain_commands.specs.declared.command.Line.{Line}
 use Rattle.chain_commands.specs.declared.command.Line.TheVariants.{Blank, Bad, Good}
 
--- The arenas of the program: links of numbers, with 32-bit indexes and generations.
+-- An arena of the program: links of numbers, with 32-bit indexes and generations.
 abbrev pub ToolLinks : Type 0
 ToolLinks = Arena Gen32 (LinkView ℕ)
+
+-- Both arenas of the program: the one of the commands, and the other one.
+abbrev pub ToolArenas : Type 0
+ToolArenas = LinksPair Gen32 ℕ
 
 -- The text of a pointer: its index, a dot and its generation.
 abbrev pub pointer_text : ℕ × Gen32 → List ℕ
@@ -99,6 +107,10 @@ abbrev pub growth_refusal_text : ReallocationError → List ℕ
 growth_refusal_text refused.AllocError = codes "refused memory"
 growth_refusal_text refused.BeyondMaxCapacity = codes "refused limit"
 
+-- The replies to calls that may change two arenas.
+abbrev pub ArenaReply : Type 0
+ArenaReply = PairReply ToolPtr ℕ Inx32 Gen32 ℕ
+
 -- The text of the reply to a call.
 abbrev pub reply_text : Reply ToolPtr ℕ Inx32 Gen32 ℕ → List ℕ
 reply_text (Inserted (Ok p)) = at_text p
@@ -114,6 +126,13 @@ reply_text (Counted returned) = counted_text returned
 reply_text (Reserved (Ok done)) = codes "ok"
 reply_text (Reserved (Err error)) = growth_refusal_text error
 reply_text Set = codes "ok"
+
+-- The text of the reply to a call on two arenas.
+abbrev pub pair_reply_text : ArenaReply → List ℕ
+pair_reply_text (Replied reply) = reply_text reply
+pair_reply_text (Transferred (Ok (Some p))) = at_text p
+pair_reply_text (Transferred (Ok None)) = codes "none"
+pair_reply_text (Transferred (Err error)) = growth_refusal_text error
 
 -- The greatest 32-bit index.
 abbrev pub greatest_index : ℕ
@@ -132,8 +151,12 @@ tool_pointers = record {
 }
 
 -- A call is a step, and its response is the text of the reply.
-abbrev pub RespondsToCall : ToolLinks → LinkCall → List ℕ → ToolLinks → Type 0
-RespondsToCall old call text new = (reply : Reply ToolPtr ℕ Inx32 Gen32 ℕ) × Step tool_pointers old call reply new × (text ≡ reply_text reply)
+abbrev pub RespondsToCall : ToolArenas → ArenaCall → List ℕ → ToolArenas → Type 0
+RespondsToCall old call text new = (reply : ArenaReply) × PairStep tool_pointers old call reply new × (text ≡ pair_reply_text reply)
+
+-- `other` exchanges the arenas.
+abbrev pub RespondsToOther : ToolArenas → List ℕ → ToolArenas → Type 0
+RespondsToOther old text new = (text ≡ codes "ok") × (new ≡ (old.1, old.0))
 
 pub data RespondsToShow (old : ToolLinks) (p : ℕ × Gen32) (text : List ℕ) : Type 0 where
   link : (prev next : Option (ℕ × Gen32)) (value : ℕ) → IsLinkIn old p prev next value → text ≡ show_text prev next value → RespondsToShow old p text
@@ -176,30 +199,33 @@ pub record RespondsToMoves (old : ToolLinks) (reset : Bool) (text : List ℕ) (n
   pub all : AreAllMoves key_of (value_view old) (link_map old) new.counter moves
   pub text_is : text ≡ moves_text moves known
 
--- The response to a command, and the arena after it.
-abbrev pub RespondsToCommand : ToolLinks → Command → List ℕ → ToolLinks → Type 0
-RespondsToCommand old (Change call) text new = RespondsToCall old call text new
-RespondsToCommand old (Arrange order) text new = (call : LinkCall) × IsArrangement order call × RespondsToCall old call text new
-RespondsToCommand old (Show p) text new = RespondsToShow old (key_of p) text × (new ≡ old)
-RespondsToCommand old (Chain p) text new = RespondsToChain old (key_of p) text × (new ≡ old)
-RespondsToCommand old (Moves reset) text new = RespondsToMoves old reset text new
-RespondsToCommand old Len text new = (text ≡ codes "count " ++ decimal (entry_count old)) × (new ≡ old)
+-- The response to a command, and the arenas after it.
+abbrev pub RespondsToCommand : ToolArenas → Command → List ℕ → ToolArenas → Type 0
+RespondsToCommand old (Change call) text new = RespondsToCall old (First call) text new
+RespondsToCommand old (Arrange order) text new = (call : LinkCall) × IsArrangement order call × RespondsToCall old (First call) text new
+RespondsToCommand old (Transfer p) text new = RespondsToCall old (TransferToSecond p) text new
+RespondsToCommand old (Show p) text new = RespondsToShow old.0 (key_of p) text × (new ≡ old)
+RespondsToCommand old (Chain p) text new = RespondsToChain old.0 (key_of p) text × (new ≡ old)
+RespondsToCommand old (Moves reset) text new = RespondsToMoves old.0 reset text new.0 × (new.1 ≡ old.1)
+RespondsToCommand old Len text new = (text ≡ codes "count " ++ decimal (entry_count old.0)) × (new ≡ old)
+RespondsToCommand old Other text new = RespondsToOther old text new
 
--- The response to a line, which ends with a line feed, and the arena after it.
-abbrev pub RespondsToLine : ToolLinks → Line → List ℕ → ToolLinks → Type 0
+-- The response to a line, which ends with a line feed, and the arenas after it.
+abbrev pub RespondsToLine : ToolArenas → Line → List ℕ → ToolArenas → Type 0
 RespondsToLine old Blank text new = (text ≡ []) × (new ≡ old)
 RespondsToLine old Bad text new = (text ≡ codes "bad line" ++ 10 ∷ []) × (new ≡ old)
 RespondsToLine old (Good command) text new = (words : List ℕ) × (text ≡ words ++ 10 ∷ []) × RespondsToCommand old command words new
 
 -- The command makes this call.
-abbrev pub MakesCall : Command → LinkCall → Type 0
-MakesCall (Change call) made = made ≡ call
-MakesCall (Arrange order) made = IsArrangement order made
+abbrev pub MakesCall : Command → ArenaCall → Type 0
+MakesCall (Change call) made = made ≡ First call
+MakesCall (Arrange order) made = (call : LinkCall) × IsArrangement order call × (made ≡ First call)
+MakesCall (Transfer p) made = made ≡ TransferToSecond p
 MakesCall command made = ⊥
 
 -- The line is a call that has taken effect.
-abbrev pub LeavesStep : ToolLinks → Line → ToolLinks → Type 0
-LeavesStep old line new = (command : Command) × (call : LinkCall) × (text : List ℕ) × (line ≡ Good command) × MakesCall command call × RespondsToCall old call text new
+abbrev pub LeavesStep : ToolArenas → Line → ToolArenas → Type 0
+LeavesStep old line new = (command : Command) × (call : ArenaCall) × (text : List ℕ) × (line ≡ Good command) × MakesCall command call × RespondsToCall old call text new
 
 -- The result of `moves F`: its response is in the text, which has capacity for a line feed. If an
 -- allocation failed, nothing has changed.
@@ -210,9 +236,21 @@ ExecutesMoves returned old reset text new = record {
   err : OnErr returned (new ≡ old);
 }
 
+-- The result of a call: it is made, and its response is in the text unless an allocation failed.
+abbrev pub ExecutesCall : {A E : Type 0} → Result A E → ToolArenas → ArenaCall → List ℕ → ToolArenas → Type 0
+ExecutesCall returned old call text new = (reply : ArenaReply) × PairStep tool_pointers old call reply new × OnOk returned (text ≡ pair_reply_text reply)
+
+-- The result of `other`: its response and a line feed are in the text. If an allocation failed,
+-- nothing has changed.
+abbrev pub ExecutesOther : {A E : Type 0} → Result A E → ToolArenas → List ℕ → ToolArenas → Type 0
+ExecutesOther returned old text new = record {
+  ok : OnOk returned ((text ≡ codes "ok\n") × (new ≡ (old.1, old.0)));
+  err : OnErr returned (new ≡ old);
+}
+
 -- The result of a line: its response is in the text. If an allocation failed, only a call may have
 -- taken effect.
-abbrev pub ExecutesLine : {A E : Type 0} → Result A E → ToolLinks → Line → List ℕ → ToolLinks → Type 0
+abbrev pub ExecutesLine : {A E : Type 0} → Result A E → ToolArenas → Line → List ℕ → ToolArenas → Type 0
 ExecutesLine returned old line text new = record {
   ok : OnOk returned (RespondsToLine old line text new);
   err : OnErr returned ((new ≡ old) ⊎ LeavesStep old line new);

@@ -5,16 +5,16 @@ use Rattle.chain_commands.specs.declared.session.ToolError.{ToolError}
 use Rattle.chain_commands.specs.declared.session.ToolError.TheVariants as errors
 use Rattle.chain_commands.specs.Words.{lines_of, whole_lines}
 use Rattle.chain_commands.specs.Commands.{line_of}
-use Rattle.chain_commands.specs.Responses.{ToolLinks, RespondsToLine, LeavesStep}
+use Rattle.chain_commands.specs.Responses.{ToolArenas, RespondsToLine, LeavesStep}
 
--- The responses to lines, one after another, and the arena after them.
-abbrev pub Transcribes : ToolLinks → List (List ℕ) → List ℕ → ToolLinks → Type 0
+-- The responses to lines, one after another, and the arenas after them.
+abbrev pub Transcribes : ToolArenas → List (List ℕ) → List ℕ → ToolArenas → Type 0
 Transcribes old [] text new = (text ≡ []) × (new ≡ old)
-Transcribes old (line ∷ lines) text new = (mid : ToolLinks) × (first : List ℕ) × (rest : List ℕ) × RespondsToLine old (line_of line) first mid × Transcribes mid lines rest new × (text ≡ first ++ rest)
+Transcribes old (line ∷ lines) text new = (mid : ToolArenas) × (first : List ℕ) × (rest : List ℕ) × RespondsToLine old (line_of line) first mid × Transcribes mid lines rest new × (text ≡ first ++ rest)
 
 -- A complete run: nothing is left unread, and the responses to all lines are written, nothing else.
 -- Readers and writers are described by their remaining and held bytes, as far as these are known.
-pub record TranscribesAll (old new : ToolLinks) (left left_after held held_after : Option (List ℕ)) : Type 0 where
+pub record TranscribesAll (old new : ToolArenas) (left left_after held held_after : Option (List ℕ)) : Type 0 where
   pub read : List ℕ
   pub text : List ℕ
   pub reads : Consumes left left_after read
@@ -23,7 +23,7 @@ pub record TranscribesAll (old new : ToolLinks) (left left_after held held_after
   pub responses : Transcribes old (lines_of read) text new
 
 -- A run whose reader fails: the responses to all whole lines that were read are written.
-pub record StopsReading (old new : ToolLinks) (left left_after held held_after : Option (List ℕ)) : Type 0 where
+pub record StopsReading (old new : ToolArenas) (left left_after held held_after : Option (List ℕ)) : Type 0 where
   pub read : List ℕ
   pub text : List ℕ
   pub reads : Consumes left left_after read
@@ -37,14 +37,14 @@ pub data AreComplete (read : List ℕ) (left_after : Option (List ℕ)) : List (
   by_the_end : IsAtEnd left_after → AreComplete read left_after (lines_of read)
 
 -- The responses to some first lines, the last one possibly in part.
-pub data IsCutShort (old new : ToolLinks) : List (List ℕ) → List ℕ → Type 0 where
+pub data IsCutShort (old new : ToolArenas) : List (List ℕ) → List ℕ → Type 0 where
   between : (responded others : List (List ℕ)) (text : List ℕ) → Transcribes old responded text new → IsCutShort old new (responded ++ others) text
-  within : (responded others : List (List ℕ)) (line : List ℕ) (mid : ToolLinks) (text front rest : List ℕ)
+  within : (responded others : List (List ℕ)) (line : List ℕ) (mid : ToolArenas) (text front rest : List ℕ)
       → Transcribes old responded text mid → RespondsToLine mid (line_of line) (front ++ rest) new → IsCutShort old new (responded ++ line ∷ others) (text ++ front)
 
--- A run whose writer fails: the arena is as the complete lines executed so far leave it, the last
--- one included.
-pub record StopsWriting (old new : ToolLinks) (left left_after held held_after : Option (List ℕ)) : Type 0 where
+-- A run whose writer fails: the arenas are as the complete lines executed so far leave them, the
+-- last one included.
+pub record StopsWriting (old new : ToolArenas) (left left_after held held_after : Option (List ℕ)) : Type 0 where
   pub read : List ℕ
   pub lines : List (List ℕ)
   pub text : List ℕ
@@ -54,13 +54,13 @@ pub record StopsWriting (old new : ToolLinks) (left left_after held held_after :
   pub responses : IsCutShort old new lines text
 
 -- The responses to some first lines; the next line, if a call, may have taken effect.
-pub data TranscribesSome (old new : ToolLinks) : List (List ℕ) → List ℕ → Type 0 where
+pub data TranscribesSome (old new : ToolArenas) : List (List ℕ) → List ℕ → Type 0 where
   before : (responded others : List (List ℕ)) (text : List ℕ) → Transcribes old responded text new → TranscribesSome old new (responded ++ others) text
-  after : (responded others : List (List ℕ)) (line : List ℕ) (mid : ToolLinks) (text : List ℕ)
+  after : (responded others : List (List ℕ)) (line : List ℕ) (mid : ToolArenas) (text : List ℕ)
       → Transcribes old responded text mid → LeavesStep mid (line_of line) new → TranscribesSome old new (responded ++ line ∷ others) text
 
 -- A run in which an allocation fails: the responses to some first complete lines are written.
-pub record StopsForMemory (old new : ToolLinks) (left left_after held held_after : Option (List ℕ)) : Type 0 where
+pub record StopsForMemory (old new : ToolArenas) (left left_after held held_after : Option (List ℕ)) : Type 0 where
   pub read : List ℕ
   pub lines : List (List ℕ)
   pub text : List ℕ
@@ -70,7 +70,7 @@ pub record StopsForMemory (old new : ToolLinks) (left left_after held held_after
   pub responses : TranscribesSome old new lines text
 
 -- The end of a run, by its result.
-abbrev pub Ends : {A : Type 0} → Result A ToolError → ToolLinks → ToolLinks → Option (List ℕ) → Option (List ℕ) → Option (List ℕ) → Option (List ℕ) → Type 0
+abbrev pub Ends : {A : Type 0} → Result A ToolError → ToolArenas → ToolArenas → Option (List ℕ) → Option (List ℕ) → Option (List ℕ) → Option (List ℕ) → Type 0
 Ends (Ok x) old new left left_after held held_after = TranscribesAll old new left left_after held held_after
 Ends (Err errors.Read) old new left left_after held held_after = StopsReading old new left left_after held held_after
 Ends (Err errors.Write) old new left left_after held held_after = StopsWriting old new left left_after held held_after

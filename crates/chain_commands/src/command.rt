@@ -2,7 +2,7 @@
 ghost use Rattle.std.specs.Prelude.{◌≡◌, IfOk, bytes_eq, option_and_then, option_map};
 ghost use Rattle.chain_laws.specs.declared.insert_kind.InsertKind.TheVariants.{AtInterlink, AtInterlinkInx, Bridge, BridgeInx};
 ghost use Rattle.chain_commands.specs.Words.{generation_of, words_of};
-ghost use Rattle.chain_commands.specs.Commands.{by_either, one_word, one_number, one_pointer, two_pointers, three_pointers, pointer_and_number, no_arguments, reset_of, removal, kind_alone, kind_beside, kind_between, insertion, short_command, command_of, line_of};
+ghost use Rattle.chain_commands.specs.Commands.{by_either, one_word, one_number, one_pointer, two_pointers, three_pointers, pointer_and_number, no_arguments, reset_of, removal, kind_alone, kind_beside, kind_between, insertion, short_command, remaining_command, command_of, line_of};
 
 use crate::command::Command::Change;
 use crate::lexer::{index, next_word, number, pointer};
@@ -26,6 +26,10 @@ pub enum Command {
     Len,
     /// `moves F`: compresses canonically and lists the old and the new pointer of each link.
     Moves(bool),
+    /// `transfer P`: moves a chain to the other arena.
+    Transfer(ToolPtr),
+    /// `other`: makes the other arena the one of the lines that follow.
+    Other,
 }
 
 /// A parsed line.
@@ -104,10 +108,21 @@ fn short_command(name: &[u8], words: &[u8]) -> Option<Command>
         n if is(n, "reserve") => Some(Change(Call::Reserve(one_number(words)? as usize))),
         n if is(n, "setgen") => Some(Change(Call::SetGeneration(one_generation(words)?))),
         n if is(n, "incgen") => no_arguments(words).map(|()| Change(Call::IncGeneration)),
+        _ => remaining_command(name, words),
+    }
+}
+
+/// Parses the command with this name and these arguments if it is no call on one arena.
+fn remaining_command(name: &[u8], words: &[u8]) -> Option<Command>
+    ensures { result ≡ remaining_command name.now (words_of words.now) }
+{
+    match name {
         n if is(n, "show") => Some(Command::Show(one_pointer(words)?)),
         n if is(n, "chain") => Some(Command::Chain(one_pointer(words)?)),
         n if is(n, "len") => no_arguments(words).map(|()| Command::Len),
         n if is(n, "moves") => Some(Command::Moves(reset(words)?)),
+        n if is(n, "transfer") => Some(Command::Transfer(one_pointer(words)?)),
+        n if is(n, "other") => no_arguments(words).map(|()| Command::Other),
         _ => None,
     }
 }

@@ -1,9 +1,10 @@
 //! The texts of responses.
 ghost use Rattle.std.specs.Prelude.{◌≡◌, ◌++◌, OnOk, string_bytes, option_map};
 ghost use Rattle.arena_ptr.specs.ToolPtr.{key_of};
-ghost use Rattle.chain_commands.specs.Responses.{pointer_text, refusal_text, reply_text, neighbor_text, show_text, passed_text, walk_text};
+ghost use Rattle.chain_commands.specs.Responses.{pointer_text, refusal_text, growth_refusal_text, reply_text, pair_reply_text, neighbor_text, show_text, passed_text, walk_text};
 
 use arena_base::ArenaSlot;
+use arena_pairs::PairReply;
 use arena_ptr::InvalidationResult::{GenerationOverflow, InvalidPtr, Success};
 use arena_ptr::{
     ChainInsertionError, InvalidationOption, PtrKey, ReallocationError, SlotStack, ToolPtr,
@@ -83,11 +84,20 @@ pub fn push_reply(text: &mut String, reply: Reply<ToolPtr, u32>) -> Result<(), A
         Reply::Counted(InvalidationOption::Success(())) => text.push_str("ok"),
         Reply::Counted(InvalidationOption::GenerationOverflow(())) => text.push_str("ok overflow"),
         Reply::Reserved(Ok(())) => text.push_str("ok"),
-        Reply::Reserved(Err(ReallocationError::AllocError)) => text.push_str("refused memory"),
-        Reply::Reserved(Err(ReallocationError::BeyondMaxCapacity)) => text.push_str(
-            "refused limit",
-        ),
+        Reply::Reserved(Err(error)) => text.push_str(growth_refusal(error)),
         Reply::Set => text.push_str("ok"),
+    }
+}
+
+/// Appends the reply to a call on two arenas to a text.
+pub fn push_pair_reply(text: &mut String, reply: PairReply<ToolPtr, u32>) -> Result<(), AllocError>
+    ensures { OnOk result (string_bytes text.new ≡ string_bytes text.old ++ pair_reply_text reply) }
+{
+    match reply {
+        PairReply::Replied(reply) => push_reply(text, reply),
+        PairReply::Transferred(Ok(Some(p))) => push_pointer(text, "at ", p),
+        PairReply::Transferred(Ok(None)) => text.push_str("none"),
+        PairReply::Transferred(Err(error)) => text.push_str(growth_refusal(error)),
     }
 }
 
@@ -100,6 +110,16 @@ fn refusal(error: ChainInsertionError) -> &'static str
         ChainInsertionError::NotWithinCapacity => "refused capacity",
         ChainInsertionError::AllocError => "refused memory",
         ChainInsertionError::BeyondMaxCapacity => "refused limit",
+    }
+}
+
+/// Returns the reason that a growth failed.
+fn growth_refusal(error: ReallocationError) -> &'static str
+    ensures { result.now ≡ growth_refusal_text error }
+{
+    match error {
+        ReallocationError::AllocError => "refused memory",
+        ReallocationError::BeyondMaxCapacity => "refused limit",
     }
 }
 

@@ -3,7 +3,7 @@ ghost use Rattle.std.specs.Prelude.{◌≡◌, None};
 ghost use Rattle.arena_ptr.specs.Generations.{two32};
 ghost use Rattle.arena_traits.specs.Arena.{new_arena};
 ghost use Rattle.chain_commands.specs.declared.session.ToolError.TheVariants.{Memory};
-ghost use Rattle.chain_commands.specs.Responses.{ToolLinks};
+ghost use Rattle.chain_commands.specs.Responses.{ToolArenas};
 ghost use Rattle.chain_commands.specs.Progress.{EndsLine, ExtendsProgress, WritesText, KeepsMore};
 ghost use Rattle.chain_commands.specs.Transcripts.{Ends};
 
@@ -72,19 +72,20 @@ fn buffer_line(line: &mut Vec<u8>, more: &[u8]) -> Result<(), ToolError>
 /// If nothing was kept, the line is read in place.
 fn end_line<W: Write, S: SlotStack<Item = ArenaSlot<ToolPtr, LinkNoGen<ToolPtr, u32>>>>(
     arena: &mut ChainArena<ToolPtr, u32, S>,
+    other: &mut ChainArena<ToolPtr, u32, S>,
     line: &mut Vec<u8>,
     front: &[u8],
     text: &mut String,
     writer: &mut W,
 ) -> Result<(), ToolError>
-    ensures { EndsLine result arena.old line.old.items front.now (W.contents writer.old) arena.new
-        line.new.items (W.contents writer.new) }
+    ensures { EndsLine result (arena.old, other.old) line.old.items front.now
+        (W.contents writer.old) (arena.new, other.new) line.new.items (W.contents writer.new) }
 {
     if line.is_empty() {
-        respond(arena, front, text)?;
+        respond(arena, other, front, text)?;
     } else {
         buffer_line(line, front)?;
-        respond(arena, line, text)?;
+        respond(arena, other, line, text)?;
         line.clear();
     }
     write_fully(writer, text.as_bytes())
@@ -94,26 +95,27 @@ fn end_line<W: Write, S: SlotStack<Item = ArenaSlot<ToolPtr, LinkNoGen<ToolPtr, 
 /// line.
 fn feed<W: Write, S: SlotStack<Item = ArenaSlot<ToolPtr, LinkNoGen<ToolPtr, u32>>>>(
     arena: &mut ChainArena<ToolPtr, u32, S>,
+    other: &mut ChainArena<ToolPtr, u32, S>,
     piece: &[u8],
     line: &mut Vec<u8>,
     text: &mut String,
     writer: &mut W,
 ) -> Result<(), ToolError>
-    ensures { ExtendsProgress result piece.now arena.old line.old.items
-        (W.contents writer.old) arena.new
-        line.new.items (W.contents writer.new) }
+    ensures { ExtendsProgress result piece.now (arena.old, other.old) line.old.items
+        (W.contents writer.old) (arena.new, other.new) line.new.items (W.contents writer.new) }
 {
     let mut left = piece;
     while let Some((front, back)) = split_at_byte(b'\n', left) {
-        end_line(arena, line, front, text, writer)?;
+        end_line(arena, other, line, front, text, writer)?;
         left = back;
     }
     buffer_line(line, left)
 }
 
-/// Runs the lines of a reader on an arena and writes their responses to a writer.
+/// Runs the lines of a reader on two arenas and writes their responses to a writer.
 ///
-/// The writer is flushed before each read.
+/// The commands are executed on `arena`, and `other` exchanges both. The writer is flushed before
+/// each read.
 ///
 /// # Errors
 ///
@@ -125,11 +127,12 @@ fn feed<W: Write, S: SlotStack<Item = ArenaSlot<ToolPtr, LinkNoGen<ToolPtr, u32>
 pub fn run_on<R: Read, W: Write, S: SlotStack<Item = ArenaSlot<ToolPtr, LinkNoGen<ToolPtr, u32>>>>(
     alloc: Global,
     arena: &mut ChainArena<ToolPtr, u32, S>,
+    other: &mut ChainArena<ToolPtr, u32, S>,
     reader: &mut R,
     writer: &mut W,
 ) -> Result<(), ToolError>
-    ensures { Ends result arena.old arena.new (R.remaining reader.old) (R.remaining reader.new)
-        (W.contents writer.old) (W.contents writer.new) }
+    ensures { Ends result (arena.old, other.old) (arena.new, other.new) (R.remaining reader.old)
+        (R.remaining reader.new) (W.contents writer.old) (W.contents writer.new) }
 {
     let mut piece = vec![in alloc; 0u8; 65536]?;
     let mut line = Vec::new(alloc);
@@ -143,17 +146,17 @@ pub fn run_on<R: Read, W: Write, S: SlotStack<Item = ArenaSlot<ToolPtr, LinkNoGe
             return Err(ToolError::Read);
         };
         if n == 0 {
-            end_line(arena, &mut line, b"", &mut text, writer)?;
+            end_line(arena, other, &mut line, b"", &mut text, writer)?;
             return writer.flush().or(Err(ToolError::Write));
         }
-        feed(arena, &piece[..n], &mut line, &mut text, writer)?;
+        feed(arena, other, &piece[..n], &mut line, &mut text, writer)?;
     }
     Err(ToolError::Read)
 }
 
-/// Runs the lines of a reader on a new arena, as `run_on` does.
+/// Runs the lines of a reader on two new arenas, as `run_on` does.
 ///
-/// The arena has no links, counter 2, capacity 0 and no maximum.
+/// Each arena has no links, counter 2, capacity 0 and no maximum.
 ///
 /// # Errors
 ///
@@ -163,9 +166,11 @@ pub fn run<R: Read, W: Write>(
     reader: &mut R,
     writer: &mut W,
 ) -> Result<(), ToolError>
-    ensures { (new : ToolLinks) × Ends result (new_arena two32 None) new (R.remaining reader.old)
-        (R.remaining reader.new) (W.contents writer.old) (W.contents writer.new) }
+    ensures { (new : ToolArenas) × Ends result (new_arena two32 None, new_arena two32 None) new
+        (R.remaining reader.old) (R.remaining reader.new) (W.contents writer.old)
+        (W.contents writer.new) }
 {
     let mut arena: ChainArena<ToolPtr, u32> = ChainArena::new(alloc);
-    run_on(alloc, &mut arena, reader, writer)
+    let mut other: ChainArena<ToolPtr, u32> = ChainArena::new(alloc);
+    run_on(alloc, &mut arena, &mut other, reader, writer)
 }

@@ -12,11 +12,12 @@ use std::io::{Read, Write};
 pub fn run_on<R: Read, W: Write, S: SlotStack<Item = ArenaSlot<ToolPtr, LinkNoGen<ToolPtr, u32>>>>(
     alloc: Global,
     arena: &mut ChainArena<ToolPtr, u32, S>,
+    other: &mut ChainArena<ToolPtr, u32, S>,
     reader: &mut R,
     writer: &mut W,
 ) -> Result<(), ToolError>
-    ensures { Ends result arena.old arena.new (R.remaining reader.old) (R.remaining reader.new)
-        (W.contents writer.old) (W.contents writer.new) }
+    ensures { Ends result (arena.old, other.old) (arena.new, other.new) (R.remaining reader.old)
+        (R.remaining reader.new) (W.contents writer.old) (W.contents writer.new) }
 {
-    chain_commands::run_on(alloc, arena, reader, writer)
+    chain_commands::run_on(alloc, arena, other, reader, writer)
 }

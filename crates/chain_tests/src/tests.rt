@@ -11,6 +11,7 @@ mod indexing;
 mod inherent_call_tables;
 mod inherent_calls;
 mod iterators;
+mod pair_lists;
 mod plain_copies;
 mod recast;
 mod scripts;

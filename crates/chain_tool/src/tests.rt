@@ -13,7 +13,7 @@ ghost use Rattle.chain_arena.specs.declared.calls.Call.TheVariants.{Insert, Inse
 ghost use Rattle.chain_arena.specs.declared.calls.Call.TheVariants.{RemoveInx, DrainChain};
 ghost use Rattle.chain_arena.specs.declared.calls.Call.TheVariants.{Compress, CompressCanonical};
 ghost use Rattle.chain_arena.specs.declared.calls.Call.TheVariants.{Reserve, IncGeneration};
-ghost use Rattle.chain_commands.specs.declared.command.Command.TheVariants.{Change, Arrange, Len, Moves};
+ghost use Rattle.chain_commands.specs.declared.command.Command.TheVariants.{Change, Arrange, Len, Moves, Transfer, Other};
 ghost use Rattle.chain_commands.specs.declared.command.Line.TheVariants.{Blank, Bad, Good};
 ghost use Rattle.chain_commands.specs.Words.{lines_of, whole_lines, without_return, words_of};
 ghost use Rattle.chain_commands.specs.Words.{number_of, index_word, pointer_of};
@@ -65,7 +65,8 @@ fn carried_out<S: SlotStack<Item = Slot>>(
 ) -> (Result<(), ToolError>, Vec<u8>) {
     let mut reader = input.as_bytes();
     let mut written = Vec::new(alloc);
-    let result = run_on(alloc, arena, &mut reader, &mut written);
+    let mut other = LinksOver::<S>::new(alloc);
+    let result = run_on(alloc, arena, &mut other, &mut reader, &mut written);
     (result, written)
 }
 
@@ -128,6 +129,9 @@ fn definitions()
         × (line_of (codes "compress reset") ≡ Good (Change (Compress true)))
         × (line_of (codes "canonical reset") ≡ Good (Change (CompressCanonical true)))
         × (line_of (codes "moves reset") ≡ Good (Moves true))
+        × (line_of (codes "other") ≡ Good Other)
+        × ((p : ToolPtr) → pointer_of (codes "1.2") ≡ Some p
+        → line_of (codes "transfer 1.2") ≡ Good (Transfer p))
         × (line_of (codes "reserve 9") ≡ Good (Change (Reserve 9)))
         × (line_of (codes "incgen") ≡ Good (Change IncGeneration))
         × (line_of (codes "setgen 0") ≡ Bad)
@@ -359,6 +363,14 @@ const REMOVED_BY_INDEX: (&str, &str) = (
     "at 1.2\nat 2.2\nvalue 1\nnone\nnone\nprev - next - value 2\nok\nok\nat 1.4\n",
 );
 
+/// A link is moved from the second arena to the first, and a chain back.
+const TRANSFER_TABLE: (&str, &str) = (
+    "add alone 10\nadd end 1.2 20\nother\nlen\nadd alone 30\ntransfer 1.2\nlen\nother\nchain 1.2\nshow 3.2\n\
+        transfer 2.2\ntransfer 2.2\nlen\nother\nchain 2.3\ntransfer\ntransfer 2\nother 1\n",
+    "at 1.2\nat 2.2\nok\ncount 0\nat 1.2\nat 3.2\ncount 0\nok\n1.2:10 2.2:20\nprev - next - value 30\n\
+        at 1.3\nnone\ncount 1\nok\n2.3:10 1.3:20\nbad line\nbad line\nbad line\n",
+);
+
 const MALFORMED_STEPS: [(&str, &str); 29] = [
     ("reserve\n", "bad line\n"),
     ("reserve x\n", "bad line\n"),
@@ -420,8 +432,8 @@ const OVERFLOWS: [(&str, &str); 6] = [
 ];
 
 /// Texts that run one after another on an arena with a maximum of two. The arenas are one that has
-/// a link already, a full one, and one of capacity two.
-const LIMITED: [&[(&str, &str)]; 3] = [
+/// a link already, a full one, one of capacity two, and a full one to which a chain is moved.
+const LIMITED: [&[(&str, &str)]; 4] = [
     &[
         ("add alone 5\n", "at 1.2\n"),
         ("add alone 6\nconnect 2.2 1.2\n", "at 2.2\nok\n"),
@@ -435,6 +447,10 @@ const LIMITED: [&[(&str, &str)]; 3] = [
         "reserve 2\naddwithin alone 1\naddwithin alone 2\naddwithin alone 3\nadd alone 3\nadd end 9.9 3\n\
         remove 1.2\naddwithin alone 3\n",
         "ok\nat 1.2\nat 2.2\nrefused capacity\nrefused limit\nrefused link\nvalue 1\nat 1.3\n",
+    )],
+    &[(
+        "add alone 1\nadd alone 2\nother\nadd alone 3\ntransfer 1.2\nlen\nother\nlen\n",
+        "at 1.2\nat 2.2\nok\nat 1.2\nrefused limit\ncount 1\nok\ncount 2\n",
     )],
 ];
 
@@ -473,7 +489,7 @@ const SAMPLE: (&str, &str) = (
 );
 
 /// Whole runs: a text, and the output.
-static RUNS: [(&str, &str); 15] = [
+static RUNS: [(&str, &str); 16] = [
     SAMPLE,
     LINES_OF_EVERY_SORT,
     TWO_LONE_LINKS_CONNECTED,
@@ -485,6 +501,7 @@ static RUNS: [(&str, &str); 15] = [
     COMPRESSION_TABLE,
     CANONICAL_TABLE,
     MOVES_TABLE,
+    TRANSFER_TABLE,
     OVERFLOW_TABLE,
     REMOVED_BY_INDEX,
     EACH_KIND_BY_POINTER,

@@ -66,7 +66,8 @@ fn ends_at_the_fault<S: SlotStack<Item = Slot>>(
     };
     let mut written = Vec::new(alloc);
     let mut arena = LinksOver::<S>::new(alloc);
-    let result = run_on(alloc, &mut arena, &mut reader, &mut written);
+    let mut other = LinksOver::<S>::new(alloc);
+    let result = run_on(alloc, &mut arena, &mut other, &mut reader, &mut written);
     (
         result == Err(ToolError::Read),
         are_whole(left, written.as_slice(), arena.len()),
@@ -188,7 +189,8 @@ fn run_to<S: SlotStack<Item = Slot>>(
 ) -> (Result<(), ToolError>, usize) {
     let mut reader = "add alone 1\nadd alone 2\nadd alone 3\n".as_bytes();
     let mut arena = LinksOver::<S>::new(alloc);
-    let result = run_on(alloc, &mut arena, &mut reader, writer);
+    let mut other = LinksOver::<S>::new(alloc);
+    let result = run_on(alloc, &mut arena, &mut other, &mut reader, writer);
     (result, arena.len())
 }
 
@@ -314,7 +316,8 @@ fn run_to_buffer<S: SlotStack<Item = Slot>>(
 {
     let mut reader = input.as_bytes();
     let mut buffer = written.as_mut_slice();
-    let result = run_on(alloc, arena, &mut reader, &mut buffer);
+    let mut other = LinksOver::<S>::new(alloc);
+    let result = run_on(alloc, arena, &mut other, &mut reader, &mut buffer);
     (result, reader.len(), written_of(200, buffer.len()))
 }
 

@@ -1,7 +1,9 @@
 -- The executed line is what was kept, followed by the front of the piece.
-use Rattle.std.proofs.Common.{◌≡◌, List, ℕ, [], ◌++◌, take, ap, ◌∙◌, sym, subst, refl, string_bytes, Result, Ok, Err, OnOk, IsErrAnd, arith}
+use Rattle.std.proofs.Common.{◌≡◌, List, ℕ, ◌++◌, take, ap, ◌∙◌, sym, subst, refl, string_bytes, Result, Ok, Err, OnOk, IsErrAnd, arith}
 use Rattle.chain_commands.specs.Commands.{line_of}
+use Rattle.chain_commands.specs.Responses.{ToolArenas}
 use Rattle.chain_commands.specs.Progress.{TranscribesOne}
+use Rattle.chain_commands.proofs.ResponseLemmas.{same_arenas}
 use Rattle.chain_commands.proofs.ProgressLemmas.{responses-line, response-written, response-fails, none_kept, line_in_place}
 use Rattle.chain_commands.proofs.LineSplitLemmas.{line_of-take}
 use Rattle.chain_commands.proofs.session.end_line.Goals as goal
@@ -51,7 +53,7 @@ returns g c =
           let none = none_kept _ _ _ (omega (arith, c.args.line.now.ok.0)) c.is_empty.ensures w.if-is_empty.true in
           record {
             responded = λ rest is.
-                subst (λ a. TranscribesOne r c.args.arena.now a (rest ++ front) _ _) (sym w.arena-is)
+                subst (λ (arenas : ToolArenas). TranscribesOne r (c.args.arena.now, c.args.other.now) arenas (rest ++ front) (g.W.Write.contents c.args.writer.now) (g.W.Write.contents c.write_fully.new.writer)) (sym (same_arenas w.arena-is w.other-is))
                 (responses-line r _ _ front (rest ++ front) _ _ (line_in_place _ rest front front none is refl)
                 (response-written r _ _ front (string_bytes w.respond.new.text) _ _ _ w.in_ok-respond.ensures.ok (c.as_bytes.ensures.value ∙ ap string_bytes w.text-is) c.write_fully.ensures));
             empty = anyhow r (ap (λ l. l.items) w.line-is ∙ none);
@@ -60,7 +62,7 @@ returns g c =
           let whole = w.deref.result.now in
           record {
             responded = λ rest is.
-                subst (λ a. TranscribesOne r c.args.arena.now a (rest ++ front) _ _) (sym w.arena-is)
+                subst (λ (arenas : ToolArenas). TranscribesOne r (c.args.arena.now, c.args.other.now) arenas (rest ++ front) (g.W.Write.contents c.args.writer.now) (g.W.Write.contents c.write_fully.new.writer)) (sym (same_arenas w.arena-is w.other-is))
                 (responses-line r _ _ whole (rest ++ front) _ _ (line_joined whole _ (rest ++ front) w.deref.ensures.value (w.in_ok-buffer_line.ensures.ok rest is))
                 (response-written r _ _ whole (string_bytes w.respond-else-is_empty.new.text) _ _ _ w.in_ok-respond-2.ensures.ok (c.as_bytes.ensures.value ∙ ap string_bytes w.text-is) c.write_fully.ensures));
             empty = anyhow r (ap (λ l. l.items) w.line-is ∙ w.clear.ensures.items);

@@ -8,7 +8,7 @@ pub loop-front-init : goal.loop-front-init
 loop-front-init g c = (
   [],
   refl,
-  λ old read held so_far. subst (λ l. Progress old l c.args.arena.now c.args.line.now.items held (g.W.Write.contents c.args.writer.now)) (sym (append-nil read)) so_far,
+  λ old read held so_far. subst (λ l. Progress old l (c.args.arena.now, c.args.other.now) c.args.line.now.items held (g.W.Write.contents c.args.writer.now)) (sym (append-nil read)) so_far,
 )
 
 pub returns-in_err-end_line : goal.returns-in_err-end_line

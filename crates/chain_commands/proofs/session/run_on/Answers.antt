@@ -1,4 +1,4 @@
-use Rattle.std.proofs.Common.{◌≡◌, ℕ, ◌<◌, ◌≤◌, List, ◌++◌, length, take, drop, ap, ◌∙◌, sym, subst, refl, arith, Result, Ok, Err, IfErr}
+use Rattle.std.proofs.Common.{◌≡◌, ℕ, List, ◌++◌, length, take, drop, ap, ◌∙◌, sym, subst, refl, arith, Result, Ok, Err, IfErr}
 use Rattle.std.proofs.lemmas.Result.{err_from_is_err_and}
 use Rattle.std.specs.Result.{result_or}
 use Rattle.std.proofs.Math.Seq.{take-append_seam}
@@ -9,7 +9,7 @@ use Rattle.chain_commands.specs.declared.session.ToolError.TheVariants as errors
 use Rattle.chain_commands.specs.Transcripts.{Ends}
 use Rattle.chain_commands.specs.Progress.{HasProgressed}
 use Rattle.chain_commands.proofs.ProgressLemmas.{response-flushed}
-use Rattle.chain_commands.proofs.RunEndLemmas.{HasRead, HasRead-nothing, HasRead-flushed, HasRead-fed, Ends-fed, Ends-unread, Ends-unflushed, Ends-finished, Ends-no_capacity}
+use Rattle.chain_commands.proofs.RunEndLemmas.{HasRead-nothing, HasRead-flushed, HasRead-fed, Ends-fed, Ends-unread, Ends-unflushed, Ends-finished, Ends-no_capacity}
 use Rattle.chain_commands.proofs.session.run_on.Goals as goal
 
 -- A failed flush is a failure of the writer.
@@ -42,7 +42,7 @@ returns-in_err-end_line g c =
     let has = HasRead-flushed _ _ _ _ _ _ _ c.loop.invariant.read _ c.flush.ensures.bytes in
     let read = c.in-Ok.ensures.bytes in
     let p = err_from_is_err_and c.from_residual-in_err-end_line.result c.from_residual-in_err-end_line.ensures.1 in
-    subst (λ (q : Result (Unit {0}) ToolError). Ends q c.args.arena.now c.end_line.new.arena (g.R.Read.remaining c.args.reader.now) (g.R.Read.remaining c.read.new.self) (g.W.Write.contents c.args.writer.now) (g.W.Write.contents c.end_line.new.writer))
+    subst (λ (q : Result (Unit {0}) ToolError). Ends q (c.args.arena.now, c.args.other.now) (c.end_line.new.arena, c.end_line.new.other) (g.R.Read.remaining c.args.reader.now) (g.R.Read.remaining c.read.new.self) (g.W.Write.contents c.args.writer.now) (g.W.Write.contents c.end_line.new.writer))
     (sym (p.1 ∙ ap Err p.2))
     (Ends-finished _ _ _ _ _ _ _ has (Unit {0}) (Err c.in_err-end_line.field-0.0) _ _ _
     (subst (λ n. Consumes (g.R.Read.remaining c.loop.reader) (g.R.Read.remaining c.read.new.self) (take n c.read.new.buf)) c.if-n-eq0.true read.0)
@@ -63,7 +63,7 @@ returns-in_err-feed g c =
     let same = piece_read c.in-Ok.n c.loop.piece.len c.read.new.buf c.loop.piece.items c.deref.result.now (omega (arith, c.deref_mut.ensures.len)) c.deref.ensures.value in
     let p = err_from_is_err_and c.from_residual-in_err-feed.result c.from_residual-in_err-feed.ensures.1 in
     Ends-fed _ _ _ _ _ _ _ has (Unit {0}) (Unit {0}) c.in_err-feed.field-0.0 c.from_residual-in_err-feed.result _ _ (take c.in-Ok.n c.read.new.buf) _ _ c.in-Ok.ensures.bytes.0
-    (subst (λ l. HasProgressed {A = Unit {0}} (Err c.in_err-feed.field-0.0) c.args.arena.now (has.read ++ l) c.feed.new.arena c.feed.new.line.items (g.W.Write.contents c.args.writer.now) (g.W.Write.contents c.feed.new.writer)) same
+    (subst (λ l. HasProgressed {A = Unit {0}} (Err c.in_err-feed.field-0.0) (c.args.arena.now, c.args.other.now) (has.read ++ l) (c.feed.new.arena, c.feed.new.other) c.feed.new.line.items (g.W.Write.contents c.args.writer.now) (g.W.Write.contents c.feed.new.writer)) same
     (c.in_err-feed.ensures _ has.read _ has.so_far)) (p.1 ∙ ap Err p.2)
 
 pub loop-preserved : goal.loop-preserved
@@ -73,7 +73,7 @@ loop-preserved g c =
     record {
       some = c.loop.invariant.some;
       read = HasRead-fed _ _ _ _ _ _ _ has c.in_ok-feed.field-0 _ _ (take c.in-Ok.n c.read.new.buf) _ _ c.in-Ok.ensures.bytes.0
-          (subst (λ l. HasProgressed {A = Unit {0}} (Ok c.in_ok-feed.field-0) c.args.arena.now (has.read ++ l) c.feed.new.arena c.feed.new.line.items (g.W.Write.contents c.args.writer.now) (g.W.Write.contents c.feed.new.writer)) same
+          (subst (λ l. HasProgressed {A = Unit {0}} (Ok c.in_ok-feed.field-0) (c.args.arena.now, c.args.other.now) (has.read ++ l) (c.feed.new.arena, c.feed.new.other) c.feed.new.line.items (g.W.Write.contents c.args.writer.now) (g.W.Write.contents c.feed.new.writer)) same
           (c.in_ok-feed.ensures _ has.read _ has.so_far));
     }
 

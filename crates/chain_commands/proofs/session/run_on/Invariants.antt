@@ -6,5 +6,5 @@ use Rattle.chain_commands.proofs.session.run_on.Given as goal
 abbrev pub invariant-loop : goal.invariant-loop
 invariant-loop g l = record {
   some : 0 < l.piece.len;
-  read : HasRead l.initial.arena l.arena l.line.items (g.R.Read.remaining l.initial.reader) (g.R.Read.remaining l.reader) (g.W.Write.contents l.initial.writer) (g.W.Write.contents l.writer);
+  read : HasRead (l.initial.arena, l.initial.other) (l.arena, l.other) l.line.items (g.R.Read.remaining l.initial.reader) (g.R.Read.remaining l.reader) (g.W.Write.contents l.initial.writer) (g.W.Write.contents l.writer);
 }

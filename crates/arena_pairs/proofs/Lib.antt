@@ -1,0 +1,2 @@
+mod KeptValueLemmas
+mod PairRunLemmas
