@@ -1,5 +1,5 @@
 // The surjection arena.
-ghost use Rattle.std.specs.Prelude.{◌≡◌, ◌≢◌, ◌↔◌, ◌+◌, ◌<◌, ◌^◌, ◌-◌, ℕ, List, length, min, IsTrue, IsSome, IfSome, IfNone, IfOk, OnErr, IsOk, Some, None};
+ghost use Rattle.std.specs.Prelude.{◌≡◌, ◌≢◌, ◌↔◌, ◌+◌, ◌<◌, ◌^◌, ◌-◌, ℕ, List, length, min, IsTrue, IsSome, IfSome, IfNone, IfOk, OnErr, IsOk, MatchOption, Some, None};
 ghost use Rattle.std.specs.Option.{option_map};
 ghost use Rattle.std.specs.Borrow.{LendsSo, sem};
 ghost use Rattle.arena_core.specs.Invalidation.{value_within};
@@ -409,12 +409,16 @@ impl<
         Some(q)
     }
 
-    // Removes the other keys of the set of `p`, and returns whether the counter of keys wrapped.
-    fn remove_others(&mut self, p: P) -> bool
-        requires { IsKey self.old (P.key p) }
-        ensures reduced { IsSetReduced self.old self.new P.Gen.wraps P.Gen.following (P.key p) result }
-        ensures alone { IsAlone self.new (P.key p) }
+    // Removes the other keys of the set of `p`, and returns whether the counter of keys wrapped, or
+    // `None` if `p` is not the pointer of a key; nothing changes then.
+    fn remove_others(&mut self, p: P) -> Option<bool>
+        ensures { MatchOption result ((IsKey self.old (P.key p) → ⊥) × (self.new ≡ self.old))
+            (λ wrapped. IsSetReduced self.old self.new P.Gen.wraps P.Gen.following (P.key p) wrapped
+            × IsAlone self.new (P.key p)) }
     {
+        if !self.contains(p) {
+            return None;
+        }
         self.invariants();
         let mut wrapped = false;
         while let Some(q) = self.beside(p) {
@@ -422,7 +426,7 @@ impl<
             let (_, overflow) = self.remove_key(q).overflowing();
             wrapped |= overflow;
         }
-        wrapped
+        Some(wrapped)
     }
 
     /// Removes the set of `p`, all of its keys and their value, and returns the value.
@@ -434,10 +438,10 @@ impl<
         ensures outcome { RemovesSet self.old self.new ⟦<P as AnyPointer>⟧.pointers p result }
         ensures invalid { IfNone (value_within result) (self.new ≡ self.old) }
     {
-        if !self.contains(p) {
-            return InvalidationResult::InvalidPtr;
-        }
-        let wrapped = self.remove_others(p);
+        let wrapped = match self.remove_others(p) {
+            Some(wrapped) => wrapped,
+            None => return InvalidationResult::InvalidPtr,
+        };
         self.invariants();
         self.keys_ascend();
         let (removed, overflow) = self.remove_key(p).overflowing();
