@@ -4,7 +4,7 @@ use Rattle.std.specs.Prelude.{codes}
 use Rattle.std.specs.Option.{option_map, option_zip}
 use Rattle.chain_laws.specs.declared.insert_kind.InsertKind.TheVariants.{ChainEnd, NextToInx, BridgeInx}
 use Rattle.chain_arena.specs.declared.calls.Call.TheVariants.{Insert, InsertWithin, Remove, RemoveInx, DrainChain}
-use Rattle.chain_commands.specs.declared.command.Command.TheVariants.{Change, Arrange}
+use Rattle.chain_commands.specs.declared.command.Command.TheVariants.{Change, Arrange, Transfer}
 use Rattle.chain_commands.specs.Commands.{line_with, by_either}
 use Rattle.chain_commands.specs.Transcripts.{AreComplete, by_line_feed, by_the_end}
 use Rattle.chain_commands.specs.Words.{index_named, generation_of}
@@ -41,6 +41,6 @@ returns c = record {
     refl,
     refl,
   );
-  others = (refl, refl, refl, refl, refl, refl, refl, refl);
+  others = (refl, refl, refl, refl, refl, λ p is. ap (λ o. line_with (option_map Transfer o)) is, refl, refl, refl, refl);
   complete = (none_complete, by_the_end refl);
 }
