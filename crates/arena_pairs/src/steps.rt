@@ -10,6 +10,7 @@ use chain_arena::{ChainArena, LinkNoGen, apply};
 ///
 /// A call on one arena leaves the other unchanged. A transfer is that of
 /// `ChainArena::transfer_chain`, and keeps each value. A call that fails changes neither arena.
+#[inline(always)]
 pub fn apply_to_pair<P: PtrKey, T: Drop, S: SlotStack<Item = ArenaSlot<P, LinkNoGen<P, T>>>>(
     first: &mut ChainArena<P, T, S>,
     second: &mut ChainArena<P, T, S>,

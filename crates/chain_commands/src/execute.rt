@@ -51,6 +51,7 @@ pub fn respond<S: SlotStack<Item = ArenaSlot<ToolPtr, LinkNoGen<ToolPtr, u32>>>>
 }
 
 /// Makes a call and writes its response.
+#[inline(always)]
 fn make_call<S: SlotStack<Item = ArenaSlot<ToolPtr, LinkNoGen<ToolPtr, u32>>>>(
     arena: &mut ChainArena<ToolPtr, u32, S>,
     other: &mut ChainArena<ToolPtr, u32, S>,

@@ -90,6 +90,7 @@ pub fn push_reply(text: &mut String, reply: Reply<ToolPtr, u32>) -> Result<(), A
 }
 
 /// Appends the reply to a call on two arenas to a text.
+#[inline(always)]
 pub fn push_pair_reply(text: &mut String, reply: PairReply<ToolPtr, u32>) -> Result<(), AllocError>
     ensures { OnOk result (string_bytes text.new ≡ string_bytes text.old ++ pair_reply_text reply) }
 {
