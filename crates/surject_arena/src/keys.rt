@@ -63,7 +63,8 @@ pub(crate) fn put_into<P: PtrKey, K: Drop, A: ChainArenaTrait<P, Member<P, K>>>(
 // Returns the pointer of the key before a key in its chain.
 fn before<P: PtrKey, K: Drop, A: ChainArenaTrait<P, Member<P, K>>>(keys: &A, p: P) -> Option<P>
     ensures { IsValid (A.entry keys.now) (P.key p) → option_map P.key result
-        ≡ option_and_then (ptr_at (A.entry keys.now)) (prev_of (A.interlinks keys.now) (P.key p).0) }
+        ≡ option_and_then (ptr_at (A.entry keys.now))
+        (prev_of (A.interlinks keys.now) (P.key p).0) }
 {
     match keys.get_link(p) {
         Some(link) => link.prev(),
@@ -78,7 +79,8 @@ pub(crate) fn key_after<P: PtrKey, K: Drop, A: ChainArenaTrait<P, Member<P, K>>>
 ) -> Option<P>
     ensures some { IsSome result → IsValid (A.entry keys.now) (P.key p) }
     ensures after { IsValid (A.entry keys.now) (P.key p) → option_map P.key result
-        ≡ option_and_then (ptr_at (A.entry keys.now)) (next_of (A.interlinks keys.now) (P.key p).0) }
+        ≡ option_and_then (ptr_at (A.entry keys.now))
+        (next_of (A.interlinks keys.now) (P.key p).0) }
 {
     match keys.get_link(p) {
         Some(link) => link.next(),
