@@ -1,6 +1,6 @@
 -- Numbering of chains by their least index: the beginning, one more slot, and the end.
-use Rattle.std.proofs.Common.{◌≡◌, ℕ, ◌+◌, ◌-◌, ◌*◌, ◌<◌, ◌≤◌, ◌⊎◌, inl, inr, List, [], ◌∷◌, ◌++◌, length, Option, None, Some, true, false, refl, sym, ap, ◌∙◌, subst, arith}
-use Rattle.std.specs.Prelude.{count_by, is_none, is_some}
+use Rattle.std.proofs.Common.{◌≡◌, ◌≢◌, ℕ, ◌+◌, ◌-◌, ◌*◌, ◌<◌, ◌≤◌, ◌⊎◌, inl, inr, List, [], ◌∷◌, ◌++◌, length, slice_index, Option, None, Some, true, false, refl, sym, ap, ◌∙◌, subst, arith}
+use Rattle.std.specs.Prelude.{count_by, is_none, is_some, IfSome}
 use Rattle.std.specs.Option.{option_map, option_and_then}
 use Rattle.std.proofs.lemmas.List.{length-append, append-nil}
 use Rattle.std.proofs.Math.Decide.{ℕ_discrete}
@@ -10,7 +10,8 @@ use Rattle.chain_laws.specs.Neighbors.{AreTheChains}
 use Rattle.chain_laws.specs.ChainStart.{IsStart}
 use Rattle.chain_laws.proofs.ListLemmas.Members.{IsMember-left, IsMember-right, IsMember-parts, AreDistinct-apart, length_bound}
 use Rattle.chain_laws.proofs.ChainLemmas.LinkedLists.{IsChain-frame}
-use Rattle.chain_laws.proofs.ChainLemmas.Uniqueness.{HasAllNeighbors, chain_closed, written_least}
+use Rattle.chain_laws.proofs.ChainLemmas.Uniqueness.{HasAllNeighbors, chain_closed, chains_share, written_least}
+use Rattle.chain_laws.proofs.ChainLemmas.ChainLists.{IsMember-all_items, chain_at}
 use Rattle.chain_laws.proofs.ChainLemmas.NeighborPairs.{chains_from_pairs}
 use Rattle.chain_laws.proofs.ChainLemmas.Partitions.{the_chains}
 use Rattle.chain_laws.proofs.TransferLemmas.Target.{all_items-append}
@@ -23,6 +24,7 @@ use Rattle.chain_links.specs.Links.{pair_view, destination_of, destination_at}
 use Rattle.chain_compaction.specs.DetachedLinks.{body_interlinks, link_map_in, IsWork}
 use Rattle.chain_compaction.specs.Layouts.{ReportsMoves}
 use Rattle.chain_compaction.specs.Destinations.{HasChainFrom, renamed_link, is_fresh, AreNumbered, AreRelinked, CanNumber, IsChainNumbered, AreAllNumbered}
+use Rattle.chain_compaction.specs.FoundStarts.{AreStarts, AreStartsOfFresh}
 use Rattle.chain_links.proofs.ArenaInsertionLemmas.{slots-within}
 use Rattle.chain_compaction.proofs.DetachedLinkLemmas.{work-none, work-more, work-few}
 use Rattle.chain_compaction.proofs.ArrangementLemmas.{count-stored}
@@ -34,6 +36,11 @@ use Rattle.chain_compaction.proofs.LinkRewriteLemmas.{viewed_as, relinked_none, 
 ascends-right : (cs ds : List Chain) → IsSortedByLeast (cs ++ ds) → IsSortedByLeast ds
 ascends-right [] ds r = r
 ascends-right (c ∷ cs) ds r = ascends-right cs ds r.1
+
+has_chain-left : (cs ds : List Chain) (d : Chain) → HasChain cs d → HasChain (cs ++ ds) d
+has_chain-left [] ds d h = absurd h
+has_chain-left (c ∷ cs) ds d (inl e) = inl e
+has_chain-left (c ∷ cs) ds d (inr h) = inr (has_chain-left cs ds d h)
 
 has_chain-right : (cs ds : List Chain) (d : Chain) → HasChain ds d → HasChain (cs ++ ds) d
 has_chain-right [] ds d h = h
@@ -177,6 +184,38 @@ module _ {Gen K T F P : Type 0} (number : K → Option ℕ) (g : F → P → P �
     rest_valid : (j : ℕ) → IsMember (all_items o.rest) j → HasLink (link_map_in number old.slots) j
     rest_valid j h = (o.are.partition.valid j).1 (subst (λ (xs : List ℕ). IsMember xs j) (sym all_parts) (IsMember-right (all_items o.done) (all_items o.rest) j h))
 
+    -- A link without a destination is in no chain that is numbered.
+    not_numbered : (i : ℕ) → is_fresh number (slot_at now.slots i) ≡ true → IsMember (all_items o.done) i → ⊥
+    not_numbered i fresh h =
+        let p = has-place 1 (all_items o.done) i h in
+        let none : None ≡ Some p.0 = sym (fresh_none number (slot_at now.slots i) fresh) ∙ (o.numbered.destinations i ∙ p.1) in
+        absurd (cc)
+
+    -- Its chain is unchanged.
+    kept_chain : (i : ℕ) → is_fresh number (slot_at now.slots i) ≡ true → (c : Chain) → IsChain (link_map_in number old.slots) c → IsMember (items c) i → IsChain (link_map_in number now.slots) c
+    kept_chain i fresh c h m = IsChain-frame (link_map_in number old.slots) (link_map_in number now.slots) c (λ j n. sym (as_old j (out j n))) h
+      where
+        out : (j : ℕ) → IsMember (items c) j → IsMember (all_items o.done) j → ⊥
+        out j n d =
+            let e = chain_at o.done j d in
+            let among : HasChain o.chains e.0 = subst (λ (cs : List Chain). HasChain cs e.0) (sym o.parts) (has_chain-left o.done o.rest e.0 e.1) in
+            not_numbered i fresh (IsMember-all_items o.done e.0 i e.1 (chains_share (link_map_in number old.slots) c e.0 j i h (are.each e.0 among) n e.2 m))
+
+    -- Its start was the same before.
+    start_was : (i start : ℕ) → is_fresh number (slot_at now.slots i) ≡ true → IsStart (link_map_in number now.slots) i start → IsStart (link_map_in number old.slots) i start
+    start_was i start fresh from = record {
+      in_linear = λ xs h m. from.in_linear xs (kept_chain i fresh (linear xs) h m) m;
+      in_cyclic = λ xs h. from.in_cyclic xs (kept_chain i fresh (cyclic (i ∷ xs)) h (inl refl));
+    }
+
+    -- Starts that were known or are found now.
+    pub order_starts : (mid : DetachedView Gen (RawLink K T)) → mid ≡ now → (was first : ℕ) (known starts : List ℕ) → AreStarts (link_map_in number old.slots) was known
+        → ((first ≡ was) × (starts ≡ known)) ⊎ AreStartsOfFresh number mid.slots first starts → AreStarts (link_map_in number old.slots) first starts
+    order_starts mid lookup was first known starts at (inl e) = subst (λ (n : ℕ). AreStarts (link_map_in number old.slots) n starts) (sym e.0) (subst (AreStarts (link_map_in number old.slots) was) (sym e.1) at)
+    order_starts mid lookup was first known starts at (inr found) =
+        let here = subst (λ (h : DetachedView Gen (RawLink K T)). AreStartsOfFresh number h.slots first starts) lookup found in
+        λ d some. start_was (first + d + 1) (slice_index starts d) (here.1 d some) (here.0 d some)
+
     -- No link is left.
     ended : ((y : ℕ) → IsMember (all_items o.rest) y → ⊥) → k ≤ length old.slots → AreAllNumbered number g key generation f last old now before after count
     ended none few = record {
@@ -256,10 +295,7 @@ module _ {Gen K T F P : Type 0} (number : K → Option ℕ) (g : F → P → P �
       -- The next slot holds the first link of the next chain.
       module _ (fresh : is_fresh number (slot_at now.slots i) ≡ true) where
         not_done : IsMember (all_items o.done) i → ⊥
-        not_done h =
-            let p = has-place 1 (all_items o.done) i h in
-            let none : None ≡ Some p.0 = sym (fresh_none number (slot_at now.slots i) fresh) ∙ (o.numbered.destinations i ∙ p.1) in
-            absurd (cc)
+        not_done = not_numbered i fresh
 
         stored : HasLink (link_map_in number old.slots) i
         stored = let s = fresh_reported number (slot_at now.slots i) fresh in record { link = s.0; links = sym (as_old i not_done) ∙ s.1 }
@@ -301,6 +337,18 @@ module _ {Gen K T F P : Type 0} (number : K → Option ℕ) (g : F → P → P �
                 let same : x ≡ i = omega arith in
                 let at : start ≡ i = from.in_cyclic xs (subst (λ (z : ℕ). IsChain (link_map_in number now.slots) (cyclic (z ∷ xs))) same h) in
                 ap (λ (z : ℕ). Some z) (same ∙ sym at)
+
+        -- A start that was known is still that.
+        start_is : (start : ℕ) → IsStart (link_map_in number old.slots) i start → IsStart (link_map_in number now.slots) i start
+        start_is start from = record {
+          in_linear = λ xs h m. from.in_linear xs (was_chain (linear xs) h m) m;
+          in_cyclic = λ xs h. from.in_cyclic xs (was_chain (cyclic (i ∷ xs)) h (inl refl));
+        }
+          where
+            was_chain : (c : Chain) → IsChain (link_map_in number now.slots) c → IsMember (items c) i → IsChain (link_map_in number old.slots) c
+            was_chain c h m =
+                IsChain-frame (link_map_in number now.slots) (link_map_in number old.slots) c
+                (λ j n. as_old j (apart j (chains_share (link_map_in number now.slots) c the_next.first i j h first_chain m the_next.has n))) h
 
         -- The chain is found from i.
         found_from : HasChainFrom (link_map_in number now.slots) i
@@ -348,6 +396,16 @@ module _ {Gen K T F P : Type 0} (number : K → Option ℕ) (g : F → P → P �
         module _ (mid : DetachedView Gen (RawLink K T)) (lookup : mid ≡ now) where
           pub order_found : HasChainFrom (link_map_in number mid.slots) i
           order_found = subst (λ (h : DetachedView Gen (RawLink K T)). HasChainFrom (link_map_in number h.slots) i) (sym lookup) found_from
+
+          -- The start that is known, if it is.
+          pub order_known : {I : Type 0} (index : I → ℕ) → ((j : I) → 1 ≤ index j) → (first : ℕ) (found : List ℕ) (known : Option I) → AreStarts (link_map_in number old.slots) first found
+              → IfSome known (λ j. first ≤ k) → IfSome known (λ j. index j ≡ slice_index found (k - first)) → IfSome known (λ j. IsStart (link_map_in number mid.slots) i (index j))
+          order_known index least first found None at behind reads = tt
+          order_known index least first found (Some j) at behind reads =
+              let some : slice_index found (k - first) ≢ 0 = λ none. (let low : 1 ≤ index j = least j in omega (arith, low, reads, none)) in
+              let here : first + (k - first) + 1 ≡ i = omega (arith, behind, is) in
+              subst (λ (h : DetachedView Gen (RawLink K T)). IsStart (link_map_in number h.slots) i (index j)) (sym lookup)
+              (start_is (index j) (subst (IsStart (link_map_in number old.slots) i) (sym reads) (subst (λ (n : ℕ). IsStart (link_map_in number old.slots) n (slice_index found (k - first))) here (at (k - first) some))))
 
           -- The state after the walk back.
           module _ (was_stored : DetachedView Gen (RawLink K T)) (walked : was_stored ≡ mid) (start : ℕ) (from : IsStart (link_map_in number mid.slots) i start) where

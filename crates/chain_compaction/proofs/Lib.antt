@@ -19,6 +19,7 @@ pub mod ArrangementLemmas
 pub mod CanonicalLayoutLemmas
 pub mod SlotReadLemmas
 pub mod ReadAheadLemmas
+pub mod FoundStartLemmas
 pub mod MovedNeighborLemmas
 pub mod LinkLoanLemmas
 pub mod CompressionStepLemmas

@@ -8,5 +8,6 @@ pub mod Permutations
 pub mod Destinations
 pub mod PointerMoves
 pub mod OrderedLinks
+pub mod FoundStarts
 pub mod BlockMoves
 pub mod LinkPasses

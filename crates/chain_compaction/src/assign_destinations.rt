@@ -1,7 +1,8 @@
 // Numbering of chains by their least index, linear ones from their start, cyclic ones from their
 // least index.
-ghost use Rattle.std.specs.Prelude.{◌≡◌, ◌<◌, ◌↔◌, ◌⊎◌, IsSome, Some, IsTrue};
+ghost use Rattle.std.specs.Prelude.{◌≡◌, ◌<◌, ◌↔◌, ◌⊎◌, IsSome, IfSome, Some, IsTrue};
 ghost use Rattle.std.specs.Option.{option_map};
+ghost use Rattle.chain_laws.specs.ChainStart.{IsStart};
 ghost use Rattle.chain_compaction.specs.DetachedLinks.{link_map_in, IsWork};
 ghost use Rattle.chain_compaction.specs.WorkCounts.{CountsWork};
 ghost use Rattle.chain_compaction.specs.Destinations.{HasChainFrom, number_after, IsRingClosed, FindsStart, CanNumberFrom, NumbersChain, NumbersAll};
@@ -67,6 +68,28 @@ fn start_at<P: PtrKey, T: Drop, S: SlotStack<Item = LinkSlot<P, T>>>(
         on = next;
     }
     proved_unreachable!()
+}
+
+// Returns where the chain of `i` is numbered from, as `start_at` does, without a walk if it is known.
+#[inline(always)]
+fn start_from<P: PtrKey, T: Drop, S: SlotStack<Item = LinkSlot<P, T>>>(
+    compactor: &mut Compactor<'_, P, LinkNoGen<P, T>, S>,
+    i: P::Inx,
+    known: Option<P::Inx>,
+    limit: usize,
+) -> (P::Inx, usize)
+    requires chain { HasChainFrom (link_map_in P.Inx.packed_number compactor.old.detached.slots)
+        (P.Inx.number i) }
+    requires known { IfSome known
+        (λ start. IsStart (link_map_in P.Inx.packed_number compactor.old.detached.slots)
+        (P.Inx.number i) (P.Inx.number start)) }
+    ensures { FindsStart P.Inx.packed_number compactor.old compactor.new (P.Inx.number i)
+        (P.Inx.number result.0) limit result.1 }
+{
+    match known {
+        Some(start) => (start, 0),
+        None => start_at(compactor, i, limit),
+    }
 }
 
 // Returns the destination of the link after the one just numbered, where `before` links precede the
@@ -183,8 +206,9 @@ pub fn number_all<P: PtrKey, T: Drop, S: SlotStack<Item = LinkSlot<P, T>>, V: Vi
         if !link.is_fresh() {
             continue;
         }
-        ahead = read_ahead(compactor, k, link.prev, link.next, ahead);
-        let (start, reads) = start_at(compactor, i, ahead.credit);
+        read_ahead(compactor, k, link.prev, link.next, &mut ahead);
+        let known = ahead.start_of::<P::Inx>(k);
+        let (start, reads) = start_from(compactor, i, known, ahead.credit);
         let (visited, numbered) = number_chain(compactor, start, count, generation, visitor);
         visitor = visited;
         ahead.credit = (ahead.credit - reads).saturating_add(numbered.saturating_sub(count));
