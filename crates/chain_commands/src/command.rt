@@ -128,10 +128,24 @@ fn remaining_command(name: &[u8], words: &[u8]) -> Option<Command>
 }
 
 /// Returns whether a word equals `text`.
+///
+/// For a constant text, the loop is compiled to comparisons with its bytes.
+#[inline(always)]
 fn is(word: &[u8], text: &str) -> bool
     ensures { result ≡ bytes_eq word.now text.now }
 {
-    word == text.as_bytes()
+    let bytes = text.as_bytes();
+    if word.len() != bytes.len() {
+        return false;
+    }
+    let mut i = 0;
+    while i < bytes.len() {
+        if word[i] != bytes[i] {
+            return false;
+        }
+        i += 1;
+    }
+    true
 }
 
 /// Parses an insertion: the kind of the new link, its neighbors, and its value at the end.
