@@ -58,9 +58,10 @@ pub fn parse(alloc: Global, line: &[u8]) -> Result<Line, AllocError>
     }
     match next_word(line.strip_suffix(b"\r").unwrap_or(line)) {
         None => Ok(Line::Blank),
-        Some((name, arguments)) => match command_of(alloc, name, arguments)? {
-            None => Ok(Line::Bad),
-            Some(command) => Ok(Line::Good(command)),
+        Some((name, arguments)) => match command_of(alloc, name, arguments) {
+            Ok(Some(command)) => Ok(Line::Good(command)),
+            Ok(None) => Ok(Line::Bad),
+            Err(error) => Err(error),
         },
     }
 }
@@ -304,6 +305,7 @@ fn one_generation(arguments: &[u8]) -> Option<Gen32>
 }
 
 /// Parses the arguments as one pointer.
+#[inline(always)]
 fn one_pointer(arguments: &[u8]) -> Option<ToolPtr>
     ensures { result ≡ one_pointer (words_of arguments.now) }
 {
@@ -311,6 +313,7 @@ fn one_pointer(arguments: &[u8]) -> Option<ToolPtr>
 }
 
 /// Parses the arguments as two pointers.
+#[inline(always)]
 fn two_pointers(arguments: &[u8]) -> Option<(ToolPtr, ToolPtr)>
     ensures { result ≡ two_pointers (words_of arguments.now) }
 {

@@ -14,6 +14,7 @@ use itoa::Buffer;
 use std::alloc::AllocError;
 
 /// Appends a number to a text.
+#[inline(always)]
 fn push_number(text: &mut String, n: usize) -> Result<(), AllocError>
     ensures { OnOk result (string_bytes text.new ≡ string_bytes text.old ++ decimal n) }
 {
