@@ -17,7 +17,7 @@ pub fn next_word(text: &[u8]) -> Option<(&[u8], &[u8])>
 }
 
 /// Returns the parts of a text before and after the first such byte, or `None` if there is none.
-pub fn split_at_byte(byte: u8, text: &[u8]) -> Option<(&[u8], &[u8])>
+fn split_at_byte(byte: u8, text: &[u8]) -> Option<(&[u8], &[u8])>
     ensures { IsSplitAtByte byte (λ part. part.now) result text.now }
 {
     let (front, back) = text.split_at(text.iter().take_while(|c| **c != byte).count());
@@ -27,7 +27,7 @@ pub fn split_at_byte(byte: u8, text: &[u8]) -> Option<(&[u8], &[u8])>
     }
 }
 
-/// Returns the first line of a text, without its line feed, and the rest, or `None` if no line ends.
+/// Returns the first line of a text without its line feed, and the rest, or `None` if none ends.
 pub fn next_line(text: &[u8]) -> Option<(&[u8], &[u8])>
     ensures { IsSplitAtByte 10 (λ part. part.now) result text.now }
 {
