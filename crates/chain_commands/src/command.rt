@@ -58,9 +58,10 @@ pub fn parse(alloc: Global, line: &[u8]) -> Result<Line, AllocError>
     }
     match next_word(line.strip_suffix(b"\r").unwrap_or(line)) {
         None => Ok(Line::Blank),
-        Some((name, arguments)) => match command_of(alloc, name, arguments)? {
-            None => Ok(Line::Bad),
-            Some(command) => Ok(Line::Good(command)),
+        Some((name, arguments)) => match command_of(alloc, name, arguments) {
+            Ok(Some(command)) => Ok(Line::Good(command)),
+            Ok(None) => Ok(Line::Bad),
+            Err(error) => Err(error),
         },
     }
 }
@@ -128,10 +129,24 @@ fn remaining_command(name: &[u8], words: &[u8]) -> Option<Command>
 }
 
 /// Returns whether a word equals `text`.
+///
+/// For a constant text, the loop is compiled to comparisons with its bytes.
+#[inline(always)]
 fn is(word: &[u8], text: &str) -> bool
     ensures { result ≡ bytes_eq word.now text.now }
 {
-    word == text.as_bytes()
+    let bytes = text.as_bytes();
+    if word.len() != bytes.len() {
+        return false;
+    }
+    let mut i = 0;
+    while i < bytes.len() {
+        if word[i] != bytes[i] {
+            return false;
+        }
+        i += 1;
+    }
+    true
 }
 
 /// Parses an insertion: the kind of the new link, its neighbors, and its value at the end.
@@ -290,6 +305,7 @@ fn one_generation(arguments: &[u8]) -> Option<Gen32>
 }
 
 /// Parses the arguments as one pointer.
+#[inline(always)]
 fn one_pointer(arguments: &[u8]) -> Option<ToolPtr>
     ensures { result ≡ one_pointer (words_of arguments.now) }
 {
@@ -297,6 +313,7 @@ fn one_pointer(arguments: &[u8]) -> Option<ToolPtr>
 }
 
 /// Parses the arguments as two pointers.
+#[inline(always)]
 fn two_pointers(arguments: &[u8]) -> Option<(ToolPtr, ToolPtr)>
     ensures { result ≡ two_pointers (words_of arguments.now) }
 {

@@ -1,16 +1,17 @@
 //! Execution of lines: each command is one step of the arenas, one lookup, or their exchange.
 ghost use Rattle.std.specs.Prelude.{OnOk, string_bytes};
 ghost use Rattle.arena_ptr.specs.ToolPtr.{key_of};
+ghost use Rattle.arena_pairs.specs.declared.calls.PairCall.TheVariants.{First, TransferToSecond};
 ghost use Rattle.chain_commands.specs.Commands.{line_of};
-ghost use Rattle.chain_commands.specs.Responses.{RespondsToShow, RespondsToChain, ExecutesCall, ExecutesOther, ExecutesMoves, ExecutesLine};
+ghost use Rattle.chain_commands.specs.Responses.{ToolLinks, RespondsToShow, RespondsToChain, ExecutesCall, ExecutesOther, ExecutesMoves, ExecutesLine};
 
 use crate::command::{Command, Line, parse};
 use crate::infallible_text::{moves_text_capacity, write_moves};
-use crate::reply_text::{push_link, push_pair_reply, push_walk};
+use crate::reply_text::{push_count, push_link, push_pair_reply, push_reply, push_walk};
 use arena_base::{ArenaSlot, ArenaTrait};
 use arena_pairs::{PairCall, apply_to_pair};
 use arena_ptr::{SlotStack, ToolPtr};
-use chain_arena::{ChainArena, ChainArenaTrait, LinkNoGen};
+use chain_arena::{Call, ChainArena, ChainArenaTrait, LinkNoGen, apply};
 use std::alloc::AllocError;
 use std::mem::swap;
 
@@ -34,35 +35,47 @@ pub fn respond<S: SlotStack<Item = ArenaSlot<ToolPtr, LinkNoGen<ToolPtr, u32>>>>
     match parse(*text.allocator(), line)? {
         Line::Blank => return Ok(()),
         Line::Bad => text.push_str("bad line")?,
-        Line::Good(Command::Change(call)) => make_call(arena, other, PairCall::First(call), text)?,
-        Line::Good(Command::Arrange(order)) => {
-            make_call(arena, other, PairCall::First(order.into_call()), text)?
-        }
-        Line::Good(Command::Transfer(p)) => {
-            make_call(arena, other, PairCall::TransferToSecond(p), text)?
-        }
+        Line::Good(Command::Change(call)) => make_call(arena, call, text)?,
+        Line::Good(Command::Arrange(order)) => make_call(arena, order.into_call(), text)?,
+        Line::Good(Command::Transfer(p)) => transfer(arena, other, p, text)?,
         Line::Good(Command::Other) => return exchange(arena, other, text),
         Line::Good(Command::Show(p)) => show(arena, p, text)?,
         Line::Good(Command::Chain(p)) => chain(arena, p, text)?,
-        Line::Good(Command::Len) => write!(text, "count {}", arena.len())?,
+        Line::Good(Command::Len) => push_count(text, arena.len())?,
         Line::Good(Command::Moves(reset)) => moves(arena, reset, text)?,
     }
     text.push_str("\n")
 }
 
-/// Makes a call and writes its response.
+/// Makes a call on one arena and writes its response.
 #[inline(always)]
 fn make_call<S: SlotStack<Item = ArenaSlot<ToolPtr, LinkNoGen<ToolPtr, u32>>>>(
     arena: &mut ChainArena<ToolPtr, u32, S>,
-    other: &mut ChainArena<ToolPtr, u32, S>,
-    call: PairCall<ToolPtr, u32>,
+    call: Call<ToolPtr, u32>,
     text: &mut String,
 ) -> Result<(), AllocError>
-    ensures { ExecutesCall result (arena.old, other.old) call (string_bytes text.new)
-        (arena.new, other.new) }
+    ensures { (other : ToolLinks) → ExecutesCall result (arena.old, other) (First call)
+        (string_bytes text.new) (arena.new, other) }
 {
     text.clear();
-    push_pair_reply(text, apply_to_pair(arena, other, call))
+    push_reply(text, apply(arena, call))
+}
+
+/// Executes `transfer P` and writes its response.
+fn transfer<S: SlotStack<Item = ArenaSlot<ToolPtr, LinkNoGen<ToolPtr, u32>>>>(
+    arena: &mut ChainArena<ToolPtr, u32, S>,
+    other: &mut ChainArena<ToolPtr, u32, S>,
+    p: ToolPtr,
+    text: &mut String,
+) -> Result<(), AllocError>
+    ensures { ExecutesCall result (arena.old, other.old) (TransferToSecond p)
+        (string_bytes text.new) (arena.new, other.new) }
+{
+    text.clear();
+    push_pair_reply(
+        text,
+        apply_to_pair(arena, other, PairCall::TransferToSecond(p)),
+    )
 }
 
 /// Executes `other`: writes its response and a line feed, and exchanges the arenas.

@@ -3,6 +3,7 @@ ghost use Rattle.std.specs.Prelude.{◌≡◌};
 ghost use Rattle.chain_commands.specs.Words.{IsFirstWord, IsSplitAtByte, number_of, index_word, pointer_of};
 
 use arena_ptr::{Gen32, Inx32, PtrKey, ToolPtr};
+use memchr::memchr;
 
 /// Returns the first word of a text and the rest, or `None` if there is no word.
 pub fn next_word(text: &[u8]) -> Option<(&[u8], &[u8])>
@@ -16,12 +17,22 @@ pub fn next_word(text: &[u8]) -> Option<(&[u8], &[u8])>
 }
 
 /// Returns the parts of a text before and after the first such byte, or `None` if there is none.
-pub fn split_at_byte(byte: u8, text: &[u8]) -> Option<(&[u8], &[u8])>
+fn split_at_byte(byte: u8, text: &[u8]) -> Option<(&[u8], &[u8])>
     ensures { IsSplitAtByte byte (λ part. part.now) result text.now }
 {
     let (front, back) = text.split_at(text.iter().take_while(|c| **c != byte).count());
     match back.split_first() {
         Some((_, back)) => Some((front, back)),
+        None => None,
+    }
+}
+
+/// Returns the first line of a text without its line feed, and the rest, or `None` if none ends.
+pub fn next_line(text: &[u8]) -> Option<(&[u8], &[u8])>
+    ensures { IsSplitAtByte 10 (λ part. part.now) result text.now }
+{
+    match memchr(b'\n', text) {
+        Some(end) => Some((&text[..end], &text[end + 1..])),
         None => None,
     }
 }

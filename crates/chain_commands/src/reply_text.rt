@@ -1,7 +1,7 @@
 //! The texts of responses.
-ghost use Rattle.std.specs.Prelude.{◌≡◌, ◌++◌, OnOk, string_bytes, option_map};
+ghost use Rattle.std.specs.Prelude.{◌≡◌, ◌++◌, OnOk, string_bytes, codes, decimal, option_map};
 ghost use Rattle.arena_ptr.specs.ToolPtr.{key_of};
-ghost use Rattle.chain_commands.specs.Responses.{pointer_text, refusal_text, growth_refusal_text, reply_text, pair_reply_text, neighbor_text, show_text, passed_text, walk_text};
+ghost use Rattle.chain_commands.specs.Responses.{pointer_text, refusal_text, growth_refusal_text, reply_text, pair_reply_text, at_text, value_text, neighbor_text, show_text, passed_text, walk_text};
 
 use arena_base::ArenaSlot;
 use arena_pairs::PairReply;
@@ -13,16 +13,39 @@ use chain_arena::{ChainIter, LinkNoGen, Reply};
 use itoa::Buffer;
 use std::alloc::AllocError;
 
-/// Appends a word and a pointer to a text.
-fn push_pointer(text: &mut String, word: &str, p: ToolPtr) -> Result<(), AllocError>
+/// Appends a number to a text.
+#[inline(always)]
+fn push_number(text: &mut String, n: usize) -> Result<(), AllocError>
+    ensures { OnOk result (string_bytes text.new ≡ string_bytes text.old ++ decimal n) }
+{
+    text.push_str(Buffer::new().format(n))
+}
+
+/// Appends the value of a removed link to a text.
+fn push_value(text: &mut String, value: u32) -> Result<(), AllocError>
+    ensures { OnOk result (string_bytes text.new ≡ string_bytes text.old ++ value_text value) }
+{
+    text.push_str("value ")?;
+    push_number(text, value as usize)
+}
+
+/// Appends a pointer to a text.
+fn push_pointer(text: &mut String, p: ToolPtr) -> Result<(), AllocError>
     ensures { OnOk result (string_bytes text.new
-        ≡ string_bytes text.old ++ (word.now ++ pointer_text (key_of p))) }
+        ≡ string_bytes text.old ++ pointer_text (key_of p)) }
 {
     let mut buffer = Buffer::new();
-    text.push_str(word)?;
     text.push_str(buffer.format(p.inx().get()))?;
     text.push_str(".")?;
     text.push_str(buffer.format(p.generation().get()))
+}
+
+/// Appends the new pointer of a link to a text.
+fn push_at(text: &mut String, p: ToolPtr) -> Result<(), AllocError>
+    ensures { OnOk result (string_bytes text.new ≡ string_bytes text.old ++ at_text p) }
+{
+    text.push_str("at ")?;
+    push_pointer(text, p)
 }
 
 /// Appends the pointer of a neighbor to a text, or a dash if there is none.
@@ -31,7 +54,7 @@ fn push_neighbor(text: &mut String, neighbor: Option<ToolPtr>) -> Result<(), All
         (option_map key_of neighbor)) }
 {
     match neighbor {
-        Some(p) => push_pointer(text, "", p),
+        Some(p) => push_pointer(text, p),
         None => text.push_str("-"),
     }
 }
@@ -51,35 +74,33 @@ pub fn push_link(
     push_neighbor(text, prev)?;
     text.push_str(" next ")?;
     push_neighbor(text, next)?;
-    write!(text, " value {value}")
+    text.push_str(" value ")?;
+    push_number(text, value as usize)
 }
 
 /// Appends the reply to a call to a text.
+#[inline(always)]
 pub fn push_reply(text: &mut String, reply: Reply<ToolPtr, u32>) -> Result<(), AllocError>
     ensures { OnOk result (string_bytes text.new ≡ string_bytes text.old ++ reply_text reply) }
 {
     match reply {
-        Reply::Inserted(Ok(p)) => push_pointer(text, "at ", p),
+        Reply::Inserted(Ok(p)) => push_at(text, p),
         Reply::Inserted(Err(error)) => text.push_str(refusal(error)),
         Reply::Done(true) => text.push_str("ok"),
         Reply::Done(false) => text.push_str("none"),
-        Reply::Removed(Success(link)) => write!(text, "value {}", link.t),
-        Reply::Removed(GenerationOverflow(link)) => write!(text, "value {} overflow", link.t),
+        Reply::Removed(Success(link)) => push_value(text, link.t),
+        Reply::Removed(GenerationOverflow(link)) => push_overflown(text, link.t),
         Reply::Removed(InvalidPtr) => text.push_str("none"),
-        Reply::RemovedInx(Success((_, link))) => write!(text, "value {}", link.t),
-        Reply::RemovedInx(GenerationOverflow((_, link))) => write!(
-            text,
-            "value {} overflow",
-            link.t
-        ),
+        Reply::RemovedInx(Success((_, link))) => push_value(text, link.t),
+        Reply::RemovedInx(GenerationOverflow((_, link))) => push_overflown(text, link.t),
         Reply::RemovedInx(InvalidPtr) => text.push_str("none"),
-        Reply::Renewed(Success(p)) => push_pointer(text, "at ", p),
+        Reply::Renewed(Success(p)) => push_at(text, p),
         Reply::Renewed(GenerationOverflow(p)) => {
-            push_pointer(text, "at ", p)?;
+            push_at(text, p)?;
             text.push_str(" overflow")
         }
         Reply::Renewed(InvalidPtr) => text.push_str("none"),
-        Reply::Drained(Some(count)) => write!(text, "count {count}"),
+        Reply::Drained(Some(count)) => push_count(text, count),
         Reply::Drained(None) => text.push_str("none"),
         Reply::Counted(InvalidationOption::Success(())) => text.push_str("ok"),
         Reply::Counted(InvalidationOption::GenerationOverflow(())) => text.push_str("ok overflow"),
@@ -89,14 +110,31 @@ pub fn push_reply(text: &mut String, reply: Reply<ToolPtr, u32>) -> Result<(), A
     }
 }
 
+/// Appends a number of links to a text.
+pub fn push_count(text: &mut String, count: usize) -> Result<(), AllocError>
+    ensures { OnOk result (string_bytes text.new
+        ≡ string_bytes text.old ++ (codes "count " ++ decimal count)) }
+{
+    text.push_str("count ")?;
+    push_number(text, count)
+}
+
+/// Appends the value of a removed link to a text, and that the counter overflowed.
+fn push_overflown(text: &mut String, value: u32) -> Result<(), AllocError>
+    ensures { OnOk result (string_bytes text.new
+        ≡ string_bytes text.old ++ (value_text value ++ codes " overflow")) }
+{
+    push_value(text, value)?;
+    text.push_str(" overflow")
+}
+
 /// Appends the reply to a call on two arenas to a text.
-#[inline(always)]
 pub fn push_pair_reply(text: &mut String, reply: PairReply<ToolPtr, u32>) -> Result<(), AllocError>
     ensures { OnOk result (string_bytes text.new ≡ string_bytes text.old ++ pair_reply_text reply) }
 {
     match reply {
         PairReply::Replied(reply) => push_reply(text, reply),
-        PairReply::Transferred(Ok(Some(p))) => push_pointer(text, "at ", p),
+        PairReply::Transferred(Ok(Some(p))) => push_at(text, p),
         PairReply::Transferred(Ok(None)) => text.push_str("none"),
         PairReply::Transferred(Err(error)) => text.push_str(growth_refusal(error)),
     }
@@ -129,8 +167,9 @@ fn push_passed(text: &mut String, p: ToolPtr, value: u32) -> Result<(), AllocErr
     ensures { OnOk result (string_bytes text.new ≡ string_bytes text.old ++ passed_text
         (key_of p) value) }
 {
-    push_pointer(text, "", p)?;
-    write!(text, ":{value}")
+    push_pointer(text, p)?;
+    text.push_str(":")?;
+    push_number(text, value as usize)
 }
 
 /// Appends the links of a walk to a text, separated by spaces.

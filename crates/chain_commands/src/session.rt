@@ -8,7 +8,7 @@ ghost use Rattle.chain_commands.specs.Progress.{EndsLine, ExtendsProgress, Write
 ghost use Rattle.chain_commands.specs.Transcripts.{Ends};
 
 use crate::execute::respond;
-use crate::lexer::split_at_byte;
+use crate::lexer::next_line;
 use arena_base::{ArenaSlot, ArenaTrait};
 use arena_ptr::{SlotStack, ToolPtr};
 use chain_arena::{ChainArena, LinkNoGen};
@@ -105,7 +105,7 @@ fn feed<W: Write, S: SlotStack<Item = ArenaSlot<ToolPtr, LinkNoGen<ToolPtr, u32>
         (W.contents writer.old) (arena.new, other.new) line.new.items (W.contents writer.new) }
 {
     let mut left = piece;
-    while let Some((front, back)) = split_at_byte(b'\n', left) {
+    while let Some((front, back)) = next_line(left) {
         end_line(arena, other, line, front, text, writer)?;
         left = back;
     }

@@ -9,12 +9,12 @@ returns-in-None c =
     let stripped = return_stripped c.args.line c.strip_suffix.result c.unwrap_or.result c.strip_suffix.ensures.cases c.unwrap_or.ensures in
     sym (line_of-words c.args.line.now c.unwrap_or.result.now _ (omega (arith, c.if-line-gt200.false)) stripped c.in-None.ensures.end)
 
-pub returns-in-None-2 : goal.returns-in-None-2
-returns-in-None-2 c =
+pub returns-in-Ok-None : goal.returns-in-Ok-None
+returns-in-Ok-None c =
     let stripped = return_stripped c.args.line c.strip_suffix.result c.unwrap_or.result c.strip_suffix.ensures.cases c.unwrap_or.ensures in
-    ap line_with (sym c.in-None-2.is ∙ c.in_ok-command_of-in-Some.ensures) ∙ sym (line_of-words c.args.line.now c.unwrap_or.result.now _ (omega (arith, c.if-line-gt200.false)) stripped c.in-Some.ensures.word)
+    ap line_with (sym c.in-Ok-None.field-0-is ∙ c.in-Ok-None.ensures) ∙ sym (line_of-words c.args.line.now c.unwrap_or.result.now _ (omega (arith, c.if-line-gt200.false)) stripped c.in-Some.ensures.word)
 
-pub returns-in-Some-2 : goal.returns-in-Some-2
-returns-in-Some-2 c =
+pub returns-in-Ok-Some : goal.returns-in-Ok-Some
+returns-in-Ok-Some c =
     let stripped = return_stripped c.args.line c.strip_suffix.result c.unwrap_or.result c.strip_suffix.ensures.cases c.unwrap_or.ensures in
-    ap line_with (sym c.in-Some-2.is ∙ c.in_ok-command_of-in-Some.ensures) ∙ sym (line_of-words c.args.line.now c.unwrap_or.result.now _ (omega (arith, c.if-line-gt200.false)) stripped c.in-Some.ensures.word)
+    ap line_with (sym c.in-Ok-Some.field-0-is ∙ c.in-Ok-Some.ensures) ∙ sym (line_of-words c.args.line.now c.unwrap_or.result.now _ (omega (arith, c.if-line-gt200.false)) stripped c.in-Some.ensures.word)
