@@ -14,14 +14,14 @@ use Rattle.chain_laws.proofs.RenamingLemmas.Positions.{place-apart}
 use Rattle.surject_arena.specs.Partitions.{counted, member_view, counted_view, set_in, size_in, IsSet, IsPartition}
 use Rattle.surject_arena.specs.Renames.{HasPlaces, AreMatched, IsRenamed, keys_of}
 use Rattle.surject_arena.specs.SetCompressions.{IsMoved, AreSetsCompressed}
-use Rattle.surject_arena.specs.Surjections.{Surjection, IsKeyOf, AreInOneSet}
+use Rattle.surject_arena.specs.Surjections.{Surjection, IsKey, IsKeyOf, AreInOneSet}
 use Rattle.surject_arena.specs.declared.members.Counted.{Counted}
 use Rattle.surject_arena.specs.declared.members.Member.{Member}
 use Rattle.surject_arena.proofs.MoveLemmas.{numbered, all_found, moved_to, moved_from, with_generation, same_values, values_each, compressed-each}
 use Rattle.surject_arena.proofs.OptionLemmas.{same_some, from_mapped}
 use Rattle.surject_arena.proofs.PartitionLemmas.{name_is}
 use Rattle.surject_arena.proofs.SetReadLemmas.{seen, key_of, of_key, set_stored, size_stored, value_sized}
-use Rattle.surject_arena.proofs.ViewLemmas.{each, index-each, each-valid}
+use Rattle.surject_arena.proofs.ViewLemmas.{each, index-each, each-valid, valid-each}
 
 module _ (to : ℕ → Option ℕ) where
   -- The new indexes of a list.
@@ -212,6 +212,18 @@ module _ {A B P Gen K V : Type 0} (key : P → ℕ × Gen) {kview : A → ArenaV
         let index : there.0 ≡ q.0 = same_some there.0 q.0 (sym there.2 ∙ place-each (member_view key) (kview a).entries p.0 q.0 moved.place) in
         (there.1, there.3, key_of key kstate vstate c d r q there.1 (each-valid (member_view key) kstate c q moved.is) (ap (set_in key (kentry c)) (sym index) ∙ there.4))
 
+    moved_pointer : (p : ℕ × Gen) → IsKey old p → (q : ℕ × Gen) × IsMoved old.keys new.keys p q
+    moved_pointer p valid =
+        let was = each-valid (member_view key) kstate a p valid in
+        let m = moved_to Renames 1 (kview a).entries (kview c).entries renames (numbered 1 _ (kview c).entries keys.indexes) p.0 (p.1, was.value) ((kstate a).finds p.0 ∙ was.stored) in (
+          (m.to, m.entry.0),
+          record {
+            was = valid;
+            place = subst (λ (l : List ℕ). place_in l p.0 ≡ Some m.to) (sym (index-each (member_view key) (kview a).entries)) m.place;
+            is = valid-each (member_view key) kstate c (m.to, m.entry.0) (record { value = m.entry.1; stored = sym ((kstate c).finds m.to) ∙ m.stored });
+          },
+        )
+
     moved_name : (w v : ℕ × Gen) → IsMoved old.values new.values w v → Moves w v
     moved_name w v moved =
         let valid : IsValid (ventry d) v = each-valid counted_view vstate d v moved.is in
@@ -239,6 +251,7 @@ module _ {A B P Gen K V : Type 0} (key : P → ℕ × Gen) {kview : A → ArenaV
     sets_compressed = record {
       keys = compressed-each (member_view key) first following reset (kview a) (kview c) keys;
       values = compressed-each counted_view first following reset (vview b) (vview d) values;
+      moved = moved_pointer;
       values_stay = values_each counted_view (vview d).entries ∙ (ap (map counted_view) stay ∙ sym (values_each counted_view (vview b).entries));
       sets = λ p p' w w' move_p move_w own.
           let there = moved_key p p' w move_p own in

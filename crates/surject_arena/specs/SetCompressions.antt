@@ -7,7 +7,7 @@ use Rattle.arena_traits.specs.Arena.{IsValid}
 use Rattle.arena_traits.specs.Compressions.{IsCompressed, overflows_after_compression, values_in}
 use Rattle.arena_traits.specs.Entries.{ArenaView, count, index_of}
 use Rattle.chain_laws.specs.Arrangements.{place_in}
-use Rattle.surject_arena.specs.Surjections.{Surjection, entry_in, IsKeyOf, AreInOneSet}
+use Rattle.surject_arena.specs.Surjections.{Surjection, entry_in, IsKey, IsKeyOf, AreInOneSet}
 
 -- The place of an index among those of the entries, from 1 on.
 abbrev pub place_among : {Gen X : Type 0} → List ((ℕ × Gen) × X) → ℕ → Option ℕ
@@ -24,11 +24,13 @@ module _ {Gen K V : Type 0} where
   abbrev pub keys_in : Surjection Gen K V → List ((ℕ × Gen) × K)
   keys_in s = map (λ e. (e.0, e.1.0)) s.keys.entries
 
-  -- Keys and values are compressed. Each value keeps its number of keys, and each key its value: it
-  -- is in the set that its former set is moved to. Keys are in one set exactly if they were.
+  -- Keys and values are compressed, so each key is moved. Each value keeps its number of keys, and
+  -- each key its value: it is in the set that its former set is moved to. Keys are in one set exactly
+  -- if they were.
   pub record AreSetsCompressed (first : Gen) (following : Gen → Gen) (reset : Bool) (old new : Surjection Gen K V) : Type 0 where
     pub keys : IsCompressed first following reset old.keys new.keys
     pub values : IsCompressed first following reset old.values new.values
+    pub moved : (p : ℕ × Gen) → IsKey old p → (p' : ℕ × Gen) × IsMoved old.keys new.keys p p'
     pub values_stay : values_in new.values.entries ≡ values_in old.values.entries
     pub sets : (p p' w w' : ℕ × Gen) → IsMoved old.keys new.keys p p' → IsMoved old.values new.values w w' → IsKeyOf old w p → IsKeyOf new w' p'
     pub together : (p p' q q' : ℕ × Gen) → IsMoved old.keys new.keys p p' → IsMoved old.keys new.keys q q' → AreInOneSet old p q ↔ AreInOneSet new p' q'
