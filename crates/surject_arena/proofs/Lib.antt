@@ -1,7 +1,11 @@
 mod OptionLemmas
 mod ViewLemmas
+mod MoveLemmas
+mod PlaceLemmas
+mod VisitLemmas
 mod PartitionLemmas
 mod SetReadLemmas
+mod CompressionLemmas
 mod SetChangeLemmas
 mod RedirectLemmas
 mod CallLemmas

@@ -1,7 +1,7 @@
 -- Optional values, and those that a function was applied to.
-use Rattle.std.proofs.Common.{◌≡◌, Option, None, Some, refl, sym, ◌∙◌}
+use Rattle.std.proofs.Common.{◌≡◌, Option, None, Some, Result, Ok, Err, refl, sym, ◌∙◌}
 use Rattle.std.specs.Option.{option_map}
-use Rattle.std.specs.Prelude.{IfSome, is_some, true}
+use Rattle.std.specs.Prelude.{IfSome, IfOk, is_some, true}
 
 pub same_some : {X : Type 0} (a b : X) → Some a ≡ Some b → a ≡ b
 same_some a b is = cc
@@ -27,3 +27,8 @@ if_some_to (Some r) valid holds so = so (valid refl) r holds
 pub is_there : {X : Type 0} (o : Option X) → is_some o ≡ true → (x : X) × (o ≡ Some x)
 is_there None some = absurd (cc)
 is_there (Some x) some = (x, refl)
+
+-- What holds of a value implies another fact of it, if there is one.
+pub if_ok_to : {V E : Type 0} {X Z : V → Type 0} (r : Result V E) → IfOk r X → ((v : V) → X v → Z v) → IfOk r Z
+if_ok_to (Ok v) holds so = so v holds
+if_ok_to (Err e) holds so = tt

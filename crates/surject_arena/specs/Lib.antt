@@ -1,3 +1,5 @@
+pub mod Renames
+pub mod SetCompressions
 pub mod SetRemovals
 pub mod Histories
 pub mod KeySets

@@ -6,6 +6,7 @@
 //! and taken apart.
 #![tactic(auto)]
 
+mod compression;
 mod histories;
 mod iter;
 mod key_set;

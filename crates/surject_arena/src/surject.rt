@@ -4,14 +4,17 @@ ghost use Rattle.std.specs.Option.{option_map};
 ghost use Rattle.std.specs.Borrow.{LendsSo, sem};
 ghost use Rattle.arena_core.specs.Invalidation.{value_within};
 ghost use Rattle.arena_traits.specs.Arena.{IsValid};
+ghost use Rattle.arena_traits.specs.Compressions.{VisitsAll, values_in};
 ghost use Rattle.arena_traits.specs.Entries.{AscendsFrom, count, HasFreeCapacity};
 ghost use Rattle.arena_traits.specs.Growth.{GrowsForOneMore, RefusesOneMore, IsGrowthResult};
 ghost use Rattle.surject_arena.specs.Surjections.{IsKey, IsKeyOf, AreInOneSet, SharesSet, IsAlone, IsSurjection, HasValue, key_at};
 ghost use Rattle.surject_arena.specs.KeySets.{ListsSet, all_pointers};
+ghost use Rattle.surject_arena.specs.SetCompressions.{CompressesSets, keys_in};
 ghost use Rattle.surject_arena.specs.SetRemovals.{IsSetReduced, RemovesSet};
 ghost use Rattle.surject_arena.specs.Rows.{chain_members, plain_members};
 ghost use Rattle.surject_arena.specs.SetCalls.{StartsEmpty, StartsWithCapacities, ClearsSets, IsSetAdded, IsAbsorbed, InsertsSet, InsertsKey, UnitesSets, RemovesKey, IsKeyReplaced, IsValueReplaced, IsKeySetApart, SplitsKey, ReplacesValueOf, ReadsKey, ReadsValue, CountsKeys, GrowsKeys};
 
+use crate::compression::{Names, compress_keys, compress_values, places_of};
 use crate::iter::{Iter, all_keys};
 use crate::key_set::{KeySet, keys_from};
 use crate::keys::{is_in_set, key_after, leave_ring, put_into, redirect, set_of};
@@ -531,6 +534,63 @@ impl<
     {
         self.values.clear();
         self.keys.clear()
+    }
+
+    /// Compacts the keys: the key of the k-th least index is moved to index k. So are the values.
+    ///
+    /// In that order, `map` is called once for each key, with its old pointer, the key, for writing,
+    /// and its new pointer. Two keys are in one set exactly if they were before, and each set keeps
+    /// its value. The capacities stay.
+    ///
+    /// With `reset` both counters become two. Otherwise the counter of an arena with entries is
+    /// incremented once. Returns `GenerationOverflow` if that of the keys wrapped to two.
+    ///
+    /// # Errors
+    ///
+    /// `AllocError`: there are values, and the allocation of a number for each index up to their
+    /// greatest failed. Nothing changes then, and `map` is not called.
+    pub fn compress_with<F: FnMut(P, &mut K, P) + Drop>(
+        &mut self,
+        alloc: Global,
+        reset: bool,
+        map: F,
+    ) -> Result<InvalidationOption<()>, AllocError>
+        requires { F.IsAlwaysCallable map }
+        ensures outcome { CompressesSets ⟦<P as AnyPointer>⟧.pointers self.old reset result
+            self.new }
+        ensures visits { IfOk result (λ _. VisitsAll F.FnMut P.key map (keys_in self.old)
+            (keys_in self.new)) }
+        ensures err { OnErr result (self.new ≡ self.old) }
+    {
+        let places = match places_of(&self.values, alloc) {
+            Ok(places) => places,
+            Err(_) => return Err(AllocError),
+        };
+        let first = compress_values(&mut self.values, reset);
+        let names = Names { places, first };
+        Ok(compress_keys(&mut self.keys, reset, &names, map))
+    }
+
+    /// Compacts the keys and the values as `compress_with` does, without a closure. Each key stays
+    /// the same.
+    ///
+    /// Returns `GenerationOverflow` if the counter of keys wrapped to two.
+    ///
+    /// # Errors
+    ///
+    /// `AllocError`: there are values, and the allocation of a number for each index up to their
+    /// greatest failed. Nothing changes then.
+    pub fn compress(
+        &mut self,
+        alloc: Global,
+        reset: bool,
+    ) -> Result<InvalidationOption<()>, AllocError>
+        ensures outcome { CompressesSets ⟦<P as AnyPointer>⟧.pointers self.old reset result
+            self.new }
+        ensures keys { IfOk result (λ _. values_in (keys_in self.new) ≡ values_in (keys_in self.old)) }
+        ensures err { OnErr result (self.new ≡ self.old) }
+    {
+        self.compress_with(alloc, reset, |_p: P, _k: &mut K, _q: P| {})
     }
 
     // Puts the keys of the set `w`, of which `q` is one, into the set `v`, of which `p` is one.

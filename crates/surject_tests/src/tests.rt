@@ -33,9 +33,22 @@ fn holds(rt: &impl Abort, what: &str, condition: bool) {
     assert!(rt; condition, "{what}");
 }
 
+// Which tests are run.
+#[derive(Clone, Copy)]
+enum Part {
+    All,
+    // Those that pass if one request for memory is refused.
+    Refusal,
+}
+
 // Runs all tests at arenas that refuse every other growth, the second first, and have a maximum:
 // eight values, and more keys.
-fn check_sets<P: PtrKey, T: TestSets<P>>(rt: &impl Abort, alloc: Global) {
+fn check_sets<P: PtrKey, T: TestSets<P>>(rt: &impl Abort, alloc: Global, part: Part) {
+    let compresses = refusals::compresses_or_not::<P, T>(alloc);
+    holds(rt, "compressions", compresses == Some(true));
+    if let Part::Refusal = part {
+        return;
+    }
     holds(
         rt,
         "rows",
@@ -57,31 +70,42 @@ fn check_arenas<
     P: PtrKey,
     A: ChainArenaTrait<P, Key<P>> + Drop,
     B: PlainArenaTrait<P, Value> + Drop,
->(rt: &impl Abort, alloc: Global) {
-    check_sets::<P, Sets<P, A, B>>(rt, alloc);
+>(rt: &impl Abort, alloc: Global, part: Part) {
+    check_sets::<P, Sets<P, A, B>>(rt, alloc, part);
 }
 
 // Names the arena of keys over any stack, since stacks are named at less cost than arenas.
 fn check_keys<P: PtrKey, S: SlotStack<Item = KeySlot<P>>, B: PlainArenaTrait<P, Value> + Drop>(
     rt: &impl Abort,
     alloc: Global,
+    part: Part,
 ) {
-    check_arenas::<P, ChainArena<P, Key<P>, S>, B>(rt, alloc);
+    check_arenas::<P, ChainArena<P, Key<P>, S>, B>(rt, alloc, part);
 }
 
 // Names that of values, too.
 fn check_over<P: PtrKey, S: SlotStack<Item = KeySlot<P>>, T: SlotStack<Item = ValueSlot<P>>>(
     rt: &impl Abort,
     alloc: Global,
+    part: Part,
 ) {
-    check_keys::<P, S, Arena<P, Value, T>>(rt, alloc);
+    check_keys::<P, S, Arena<P, Value, T>>(rt, alloc, part);
 }
 
-#[test]
-fn sets_pass_all_tests(rt: HostRuntime) {
+fn check_part(rt: &impl Abort, alloc: Global, part: Part) {
     check_over::<
         ToolPtr,
         ScarceStack<LimitedStack<KeySlot<ToolPtr>>, 16>,
         ScarceStack<LimitedStack<ValueSlot<ToolPtr>>, 8>,
-    >(&rt, rt.alloc());
+    >(rt, alloc, part);
+}
+
+#[test]
+fn sets_pass_all_tests(rt: HostRuntime) {
+    check_part(&rt, rt.alloc(), Part::All);
+}
+
+#[test]
+fn a_compression_may_be_refused(rt: HostRuntime) {
+    check_part(&rt, rt.alloc(), Part::Refusal);
 }

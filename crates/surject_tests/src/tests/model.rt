@@ -247,14 +247,59 @@ fn write<P: PtrKey, T: TestSets<P>>(
     sets.write_key(e.p, n) == Some(e.key) && sets.write_val(e.p, n).is_some()
 }
 
+// Returns whether the k-th pair leads to index k, for each k.
+fn are_numbered<P: PtrKey>(moves: &[(P, P)]) -> bool {
+    let mut k: usize = 0;
+    for (_, q) in moves {
+        k = k.saturating_add(1);
+        if q.inx().try_into_usize() != Some(k) {
+            return false;
+        }
+    }
+    true
+}
+
+// Returns the new pointer of a key.
+fn destination_of<P: PtrKey>(moves: &[(P, P)], p: P) -> Option<P> {
+    for (from, to) in moves {
+        if from.is_same(p) {
+            return Some(*to);
+        }
+    }
+    None
+}
+
+// Compresses, and returns whether each key was moved. A second compression with `reset` moves none.
+fn compress<P: PtrKey, T: TestSets<P>>(
+    alloc: Global,
+    sets: &mut T,
+    model: &mut Model<P>,
+    reset: bool,
+) -> Result<bool, AllocError> {
+    let mut moves: Vec<(P, P)> = Vec::new(alloc);
+    sets.compress_with(alloc, reset, &mut moves)?;
+    let mut all = moves.len() == model.entries.len() && are_numbered(moves.as_slice());
+    for e in model.entries.as_mut_slice() {
+        match destination_of(moves.as_slice(), e.p) {
+            Some(q) => e.p = q,
+            None => all = false,
+        }
+    }
+    if reset {
+        sets.compress(alloc, true)?;
+    }
+    Ok(all)
+}
+
 // Makes a random call in both, and returns whether it did the same.
 fn step<P: PtrKey, T: TestSets<P>>(
+    alloc: Global,
     sets: &mut T,
     model: &mut Model<P>,
     seed: &mut u32,
 ) -> Result<bool, AllocError> {
     let count = model.entries.len();
-    let call = random(seed, 20);
+    let call = random(seed, 21);
     let key = *seed;
     let i = random(seed, count);
     let j = random(seed, count);
@@ -269,6 +314,7 @@ fn step<P: PtrKey, T: TestSets<P>>(
         11 | 12 => split(sets, model, i, e, key),
         13 | 14 => Ok(write(sets, model, i, e, key)),
         15 => Ok(remove_set(sets, model, e)),
+        16 => compress(alloc, sets, model, i < j),
         _ => Ok(remove(sets, model, i)),
     }
 }
@@ -286,7 +332,7 @@ pub fn first_difference<P: PtrKey, T: TestSets<P>>(
     };
     let mut seed = 1;
     for n in 0..calls {
-        if !step(&mut sets, &mut model, &mut seed)? || !agrees(alloc, &sets, &model) {
+        if !step(alloc, &mut sets, &mut model, &mut seed)? || !agrees(alloc, &sets, &model) {
             return Ok(n + 1);
         }
     }

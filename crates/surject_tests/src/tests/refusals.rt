@@ -95,3 +95,48 @@ pub fn refuses_splits<P: PtrKey, T: TestSets<P>>(alloc: Global) -> Result<bool, 
         Err(_) => Ok(false),
     }
 }
+
+// Inserts a key into a set of its own, if one of several attempts succeeds.
+fn insert<P: PtrKey, T: TestSets<P>>(sets: &mut T, k: u32) -> Option<P> {
+    for _ in 0..8 {
+        if let Ok(p) = sets.insert(k, k) {
+            return Some(p);
+        }
+    }
+    None
+}
+
+// Makes a set of the keys 2 and 3 at the indexes 2 and 3, and returns their pointers.
+fn two_keys<P: PtrKey, T: TestSets<P>>(sets: &mut T) -> Option<(P, P)> {
+    let a = insert(sets, 1)?;
+    let b = insert(sets, 2)?;
+    let c = insert(sets, 3)?;
+    sets.remove(a).allow()?;
+    sets.union(c, b)?;
+    Some((b, c))
+}
+
+// Returns whether these are the pointers of the two keys.
+fn has_both<P: PtrKey, T: TestSets<P>>(sets: &T, b: P, c: P) -> bool {
+    sets.get_key(b) == Some(2)
+        && sets.get_key(c) == Some(3)
+        && sets.in_same_set(b, c)
+        && sets.get_val(b) == Some(3)
+        && sets.len_key_set(c) == Some(2)
+}
+
+// Compresses the set of the two keys, and returns whether that moved both, and a refused attempt
+// changed nothing. One of two attempts has to succeed.
+pub fn compresses_or_not<P: PtrKey, T: TestSets<P>>(alloc: Global) -> Option<bool> {
+    let mut sets = T::new(alloc);
+    let (b, c) = two_keys(&mut sets)?;
+    for _ in 0..2 {
+        if sets.compress(alloc, false).is_ok() {
+            return Some(sets.len_keys() == 2 && !sets.contains(b) && !sets.contains(c));
+        }
+        if !has_both(&sets, b, c) {
+            return Some(false);
+        }
+    }
+    None
+}

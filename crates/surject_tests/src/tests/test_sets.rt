@@ -57,6 +57,16 @@ pub trait TestSets<P: PtrKey>: Drop {
     fn write_val(&mut self, p: P, v: u32) -> Option<u32>;
 
     fn clear(&mut self);
+
+    // Lists the old and the new pointer of each key.
+    fn compress_with(
+        &mut self,
+        alloc: Global,
+        reset: bool,
+        moves: &mut Vec<(P, P)>,
+    ) -> Result<(), AllocError>;
+
+    fn compress(&mut self, alloc: Global, reset: bool) -> Result<(), AllocError>;
 }
 
 impl<P: PtrKey, A: ChainArenaTrait<P, Key<P>> + Drop, B: PlainArenaTrait<P, Value> + Drop> TestSets<
@@ -170,5 +180,27 @@ impl<P: PtrKey, A: ChainArenaTrait<P, Key<P>> + Drop, B: PlainArenaTrait<P, Valu
 
     fn clear(&mut self) {
         SurjectArena::clear(self);
+    }
+
+    fn compress_with(
+        &mut self,
+        alloc: Global,
+        reset: bool,
+        moves: &mut Vec<(P, P)>,
+    ) -> Result<(), AllocError> {
+        let visit = |p: P, _k: &mut u32, q: P| {
+            let _ = moves.push((p, q));
+        };
+        match SurjectArena::compress_with(self, alloc, reset, visit) {
+            Ok(_) => Ok(()),
+            Err(_) => Err(AllocError),
+        }
+    }
+
+    fn compress(&mut self, alloc: Global, reset: bool) -> Result<(), AllocError> {
+        match SurjectArena::compress(self, alloc, reset) {
+            Ok(_) => Ok(()),
+            Err(_) => Err(AllocError),
+        }
     }
 }
