@@ -113,6 +113,25 @@ impl<'a, P: PtrKey, F> KeyVisitor<'a, P, F> {
     }
 }
 
+// Compacts the keys, and calls a closure with each and its set. Two clauses with labels are a goal
+// each: `reset` says nothing, but so the proof that a closure is callable is short.
+fn compress_members<
+    P: PtrKey,
+    K: Drop,
+    A: ArenaTrait<P, Member<P, K>>,
+    F: FnMut(P, &mut Member<P, K>, P) + Drop,
+>(keys: &mut A, reset: bool, map: F) -> InvalidationOption<()>
+    requires callable { F.IsAlwaysCallable map }
+    requires reset { reset ≡ reset }
+    ensures outcome { CompressesEntries A.state ⟦<P as AnyPointer>⟧.pointers keys.old reset result
+        keys.new }
+    ensures visits { VisitsAll F.FnMut P.key map (A.view keys.old).entries
+        (A.view keys.new).entries }
+    ensures implementation { A.compresses keys.old keys.new }
+{
+    keys.compress_with(reset, map)
+}
+
 // Compacts the keys, renames the set of each, and calls a closure with each.
 pub(crate) fn compress_keys<
     P: PtrKey,
@@ -132,7 +151,8 @@ pub(crate) fn compress_keys<
         (A.view keys.new).entries }
 {
     let mut visitor = KeyVisitor { names, map };
-    keys.compress_with(
+    compress_members(
+        keys,
         reset,
         |p: P, e: &mut Member<P, K>, q: P|
             requires { F.IsAlwaysCallable visitor.map }
