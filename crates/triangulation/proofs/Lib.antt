@@ -1,0 +1,4 @@
+pub mod ClippingLemmas
+pub mod CornerLemmas
+pub mod RingClippingLemmas
+pub mod OutlineLemmas
