@@ -27,7 +27,7 @@ stored_left : {Gen T : Type 0} (entry : ℕ → Option (Gen × T)) (xs ys : List
 stored_left entry [] ys a = tt
 stored_left entry (x ∷ xs) ys a = (a.0, stored_left entry xs ys a.1)
 
-stored_right : {Gen T : Type 0} (entry : ℕ → Option (Gen × T)) (xs ys : List (Item Gen T)) → AreEntries entry (xs ++ ys) → AreEntries entry ys
+pub stored_right : {Gen T : Type 0} (entry : ℕ → Option (Gen × T)) (xs ys : List (Item Gen T)) → AreEntries entry (xs ++ ys) → AreEntries entry ys
 stored_right entry [] ys a = a
 stored_right entry (x ∷ xs) ys a = stored_right entry xs ys a.1
 

@@ -2,3 +2,4 @@ pub mod ClippingLemmas
 pub mod CornerLemmas
 pub mod RingClippingLemmas
 pub mod OutlineLemmas
+pub mod ReadingLemmas

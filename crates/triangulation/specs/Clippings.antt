@@ -1,8 +1,9 @@
 -- Rings of corners while ears are clipped.
-use Rattle.std.specs.Prelude.{◌≡◌, ℕ, ℤ, pos, ◌+ℤ◌, ◌<ℤ◌, ◌+◌, ◌≤◌, List, [], ◌∷◌, ◌++◌, map, length, All, Contains, Option, Some, Result, Ok, Err}
+use Rattle.std.specs.Prelude.{◌≡◌, ℕ, ℤ, pos, ◌+ℤ◌, ◌<ℤ◌, ◌+◌, ◌≤◌, ◌<◌, List, [], ◌∷◌, ◌++◌, map, length, All, Contains, Option, Some, Result, Ok, Err}
 use Rattle.std.specs.declared.vec.Vec.{Vec}
 use Rattle.std.specs.declared.alloc.Global.{Global}
 use Rattle.chain_laws.specs.Chains.{LinkMap}
+use Rattle.arena_traits.specs.Arena.{IsValid}
 use Rattle.arena_traits.specs.Entries.{ArenaView, ArenaState, first_key}
 use Rattle.chain_examples.specs.Lists.{Item, IsRing}
 use Rattle.triangulation.specs.declared.points.Point.{Point}
@@ -78,6 +79,23 @@ module _ {A Gen : Type 0} {view : A → ArenaView Gen Point} {entry : A → ℕ 
   -- `clip_ears`: the ring of `start`, with so many corners, is clipped to two corners, or why not.
   abbrev pub ClipsEars : A → ℕ × Gen → ℕ → Result (Vec Triangle Global) TriangulationError → Type 0
   ClipsEars arena start corners (Ok triangles) = (items : List (Item Gen Point)) → IsRingFrom state interlinks arena start items → length items ≡ corners → 2 ≤ corners → IsTriangulation (points items) triangles.items
+  ClipsEars arena start corners (Err why.InvalidPointer) = ⊥
   ClipsEars arena start corners (Err why.TooFewCorners) = ⊥
   ClipsEars arena start corners (Err why.NoEar) = Unit {0}
   ClipsEars arena start corners (Err why.AllocError) = Unit {0}
+
+  -- `outline`: the points of the ring from `p` on, or why not.
+  abbrev pub ReadsOutline : A → ℕ × Gen → Result (Vec Point Global) TriangulationError → Type 0
+  ReadsOutline arena p (Ok read) = IsValid (entry arena) p × ((items : List (Item Gen Point)) → IsRingFrom state interlinks arena p items → points items ≡ read.items)
+  ReadsOutline arena p (Err why.InvalidPointer) = IsValid (entry arena) p → ⊥
+  ReadsOutline arena p (Err why.TooFewCorners) = ⊥
+  ReadsOutline arena p (Err why.NoEar) = ⊥
+  ReadsOutline arena p (Err why.AllocError) = IsValid (entry arena) p
+
+  -- `triangulate`: the ring from `p` on is triangulated, or why not.
+  abbrev pub Triangulates : A → ℕ × Gen → Result (Vec Triangle Global) TriangulationError → Type 0
+  Triangulates arena p (Ok triangles) = IsValid (entry arena) p × ((items : List (Item Gen Point)) → IsRingFrom state interlinks arena p items → IsTriangulation (points items) triangles.items)
+  Triangulates arena p (Err why.InvalidPointer) = IsValid (entry arena) p → ⊥
+  Triangulates arena p (Err why.TooFewCorners) = IsValid (entry arena) p × ((items : List (Item Gen Point)) → IsRingFrom state interlinks arena p items → length items < 3)
+  Triangulates arena p (Err why.NoEar) = IsValid (entry arena) p × ((items : List (Item Gen Point)) → IsRingFrom state interlinks arena p items → 3 ≤ length items)
+  Triangulates arena p (Err why.AllocError) = IsValid (entry arena) p

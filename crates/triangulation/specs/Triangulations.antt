@@ -40,6 +40,7 @@ pub record IsTriangulation (corners : List Point) (triangles : List Triangle) : 
 -- `triangulate_points`: the corners are triangulated, or why they are not.
 abbrev pub TriangulatesPoints : List Point → Result (Vec Triangle Global) TriangulationError → Type 0
 TriangulatesPoints corners (Ok triangles) = IsTriangulation corners triangles.items
+TriangulatesPoints corners (Err why.InvalidPointer) = ⊥
 TriangulatesPoints corners (Err why.TooFewCorners) = length corners < 3
 TriangulatesPoints corners (Err why.NoEar) = 3 ≤ length corners
 TriangulatesPoints corners (Err why.AllocError) = 3 ≤ length corners

@@ -9,6 +9,8 @@ use std::fmt;
 /// The reason why a polygon is not triangulated.
 #[derive(Debug, Clone, Copy, PartialEq, Eq)]
 pub enum TriangulationError {
+    /// The starting corner's pointer is not valid.
+    InvalidPointer,
     /// The polygon has fewer than three corners.
     TooFewCorners,
     /// Corners remain of which none is an ear, as in a clockwise or a self-intersecting polygon.
@@ -32,6 +34,7 @@ impl<T: Drop> From<AllocFailed<T>> for TriangulationError {
 impl fmt::Display for TriangulationError {
     fn fmt<W: fmt::Write>(&self, f: &mut fmt::Formatter<W>) -> fmt::Result {
         f.write_str(match self {
+            TriangulationError::InvalidPointer => "the pointer of the first corner is not valid",
             TriangulationError::TooFewCorners => "the polygon has fewer than three corners",
             TriangulationError::NoEar => "no remaining corner is an ear",
             TriangulationError::AllocError => "allocation failed, or the arena is full",

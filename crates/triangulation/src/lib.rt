@@ -9,4 +9,4 @@ mod triangulation;
 
 pub use errors::TriangulationError;
 pub use points::{Point, Triangle, orientation};
-pub use triangulation::triangulate_points;
+pub use triangulation::{triangulate, triangulate_points};
