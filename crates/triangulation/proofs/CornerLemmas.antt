@@ -1,5 +1,5 @@
 -- Corners of a ring: the next one, its point, and the ring from there on.
-use Rattle.std.proofs.Common.{◌≡◌, ℕ, List, [], ◌∷◌, ◌++◌, Option, None, Some, refl, sym, ap, ◌∙◌, subst}
+use Rattle.std.proofs.Common.{◌≡◌, ℕ, List, [], ◌∷◌, ◌++◌, Option, Some, sym, ap, ◌∙◌, subst}
 use Rattle.std.specs.Prelude.{IfSome}
 use Rattle.std.specs.Borrow.{Bor}
 use Rattle.std.specs.Option.{option_map}
@@ -7,7 +7,7 @@ use Rattle.std.proofs.lemmas.List.{map-append}
 use Rattle.chain_laws.specs.Chains.{LinkMap, cyclic, IsChain}
 use Rattle.chain_laws.proofs.ChainLemmas.Rotations.{rotated}
 use Rattle.chain_laws.proofs.InterlinkLemmas.Inverses.{one_some}
-use Rattle.arena_traits.specs.Entries.{ArenaView, ArenaState, index_of, first_key}
+use Rattle.arena_traits.specs.Entries.{ArenaView, ArenaState, index_of}
 use Rattle.chain_examples.specs.Lists.{Item, AreEntries, indexes, IsRing}
 use Rattle.chain_examples.specs.Rings.{ReadsNextInRing}
 

@@ -1,11 +1,11 @@
 -- Rings that are built corner by corner.
-use Rattle.std.proofs.Common.{◌≡◌, ℕ, List, [], ◌∷◌, ◌++◌, Option, None, Some, refl, sym, ap, ◌∙◌, subst}
+use Rattle.std.proofs.Common.{◌≡◌, ℕ, List, [], ◌∷◌, ◌++◌, Option, Some, refl, sym, ap, ◌∙◌, subst}
 use Rattle.std.proofs.lemmas.List.{map-append, append_assoc}
 use Rattle.chain_laws.specs.Chains.{LinkMap, cyclic}
 use Rattle.arena_traits.specs.Entries.{ArenaView, ArenaState, first_key}
 use Rattle.chain_examples.specs.Lists.{Item, IsRing, InsertsAfter}
 use Rattle.triangulation.specs.declared.points.Point.{Point}
-use Rattle.triangulation.specs.Clippings.{points, IsRingFrom, IsRingBetween, IsRingOf}
+use Rattle.triangulation.specs.Clippings.{IsRingBetween, IsRingOf}
 
 first_stays : {Gen T : Type 0} (xs : List (Item Gen T)) (e : Item Gen T) (k : ℕ × Gen) → first_key xs ≡ Some k → first_key (xs ++ e ∷ []) ≡ Some k
 first_stays [] e k is = absurd (let none = is in cc)

@@ -1,17 +1,15 @@
 -- Turns of a ring of corners, and the removal of an ear's corner from it.
-use Rattle.std.proofs.Common.{◌≡◌, ◌≢◌, ℕ, suc, ◌+◌, ◌-◌, ◌≤◌, ◌<◌, ℤ, pos, ◌<ℤ◌, List, [], ◌∷◌, ◌++◌, map, length, Option, None, Some, refl, sym, ap, ◌∙◌, subst, arith}
+use Rattle.std.proofs.Common.{◌≡◌, ℕ, ◌-◌, ◌≤◌, List, [], ◌∷◌, ◌++◌, length, Option, None, Some, refl, sym, ap, ◌∙◌, subst, arith}
 use Rattle.std.specs.Option.{option_map}
 use Rattle.std.proofs.lemmas.List.{map-append, length-map}
 use Rattle.arena_core.specs.PointerKinds.{PointerKind}
 use Rattle.chain_laws.specs.Chains.{LinkMap, cyclic}
 use Rattle.chain_laws.proofs.InterlinkLemmas.Inverses.{one_some}
-use Rattle.arena_traits.specs.Arena.{IsValid}
-use Rattle.arena_traits.specs.Entries.{ArenaView, ArenaState, first_key}
+use Rattle.arena_traits.specs.Entries.{ArenaView, ArenaState}
 use Rattle.chain_examples.specs.Lists.{Item, IsRing, RemovesItem}
 use Rattle.chain_examples.specs.Rings.{ReadsNextInRing}
 use Rattle.triangulation.specs.declared.points.Point.{Point}
 use Rattle.triangulation.specs.declared.points.Triangle.{Triangle}
-use Rattle.triangulation.specs.Triangulations.{triangle_area}
 use Rattle.triangulation.specs.Clippings.{points, IsClipping, IsSameOutline, IsRingFrom, IsTurned, IsEarAfter, HasEar, IsRemaining}
 use Rattle.triangulation.proofs.ClippingLemmas.{outline_same, outline_then, outline_turned, ear_clipped}
 use Rattle.triangulation.proofs.CornerLemmas.{ring_at, ring_turned, value_read}
@@ -57,7 +55,7 @@ module _ {A Gen : Type 0} {view : A → ArenaView Gen Point} {entry : A → ℕ 
       by (x ∷ y ∷ z ∷ rest) from outline long =
           let is = ear x y z rest from in
           let same : x ∷ y ∷ z ∷ rest ≡ (p, t.a) ∷ (corner, t.b) ∷ z ∷ rest =
-              ap (λ (e : Item Gen Point). e ∷ y ∷ z ∷ rest) (item_same x.0 p x.1 t.a (one_some from.first) (sym is.1)) ∙ ap (λ (e : Item Gen Point). (p, t.a) ∷ e ∷ z ∷ rest) (item_same y.0 corner y.1 t.b (sym is.0) (sym is.2)) in
+          ap (λ (e : Item Gen Point). e ∷ y ∷ z ∷ rest) (item_same x.0 p x.1 t.a (one_some from.first) (sym is.1)) ∙ ap (λ (e : Item Gen Point). (p, t.a) ∷ e ∷ z ∷ rest) (item_same y.0 corner y.1 t.b (sym is.0) (sym is.2)) in
           record {
             last = z;
             rest = rest;

@@ -9,13 +9,13 @@ use std::fmt;
 /// The reason why a polygon is not triangulated.
 #[derive(Debug, Clone, Copy, PartialEq, Eq)]
 pub enum TriangulationError {
-    /// The starting corner's pointer is not valid.
+    /// The pointer of the first corner is not valid.
     InvalidPointer,
     /// The polygon has fewer than three corners.
     TooFewCorners,
-    /// Corners remain of which none is an ear, as in a clockwise or a self-intersecting polygon.
+    /// No remaining corner is an ear, as if the corners turn clockwise or sides cross.
     NoEar,
-    /// An allocation failed, or the arena cannot hold the corners.
+    /// An allocation failed, or the corners exceed the greatest index.
     AllocError,
 }
 

@@ -1,4 +1,4 @@
-//! Triangulation of lists of corners.
+//! Triangulation of a polygon of a mesh, or of a list of corners.
 
 ghost use Rattle.triangulation.specs.Triangulations.{TriangulatesPoints};
 ghost use Rattle.triangulation.specs.Clippings.{Triangulates};
@@ -12,7 +12,20 @@ use chain_examples::Mesh;
 use chain_traits::ChainArenaTrait;
 use std::alloc::Global;
 
-/// Triangulates the polygon of `start`, which is only read.
+/// Triangulates a polygon of a mesh by ear clipping, and returns the triangles.
+///
+/// `start` is any of its corners. The mesh is only read: the ears are clipped from a copy.
+///
+/// The corners must turn counterclockwise. Each is a corner of some triangle, also if it is on the
+/// line through its neighbors. So `n` corners have `n - 2` triangles, whose areas add up to that of
+/// the polygon.
+///
+/// # Errors
+///
+/// - `InvalidPointer`: `start` is not valid.
+/// - `TooFewCorners`: the polygon has fewer than three corners.
+/// - `NoEar`: no remaining corner is an ear, as if the corners turn clockwise or sides cross.
+/// - `AllocError`: an allocation failed, or the copy exceeds the greatest index.
 pub fn triangulate<P: PtrKey, A: ChainArenaTrait<P, Point> + Drop>(
     polygons: &Mesh<P, Point, A>,
     alloc: Global,
@@ -26,7 +39,13 @@ pub fn triangulate<P: PtrKey, A: ChainArenaTrait<P, Point> + Drop>(
     }
 }
 
-/// Triangulates the polygon with these corners, counterclockwise.
+/// Triangulates the polygon with these corners, as `triangulate` does.
+///
+/// # Errors
+///
+/// - `TooFewCorners`: there are fewer than three corners.
+/// - `NoEar`: no remaining corner is an ear, as if the corners turn clockwise or sides cross.
+/// - `AllocError`: an allocation failed, or the corners exceed the greatest index.
 pub fn triangulate_points<P: PtrKey, A: ChainArenaTrait<P, Point> + Drop>(
     alloc: Global,
     corners: &[Point],

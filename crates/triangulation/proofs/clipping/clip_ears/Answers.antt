@@ -1,5 +1,5 @@
 -- One ear is clipped at a time.
-use Rattle.std.proofs.Common.{◌≡◌, ◌-◌, ◌≤◌, List, [], ◌∷◌, ◌++◌, length, sym, subst, arith}
+use Rattle.std.proofs.Common.{◌≡◌, ◌-◌, List, length, sym, subst, arith}
 use Rattle.std.proofs.lemmas.List.{length-map}
 use Rattle.chain_examples.specs.Lists.{Item}
 use Rattle.triangulation.specs.declared.points.Point.{Point}
@@ -17,15 +17,18 @@ loop-left-init g c = record {
 }
 
 pub loop-left-preserved : goal.loop-left-preserved
-loop-left-preserved g c = record { remaining = λ items from number. (
-    let state = g.A.ArenaTrait.state in
-    let links = g.A.ChainArenaTrait.interlinks in
-    let key = g.P.PtrKey.key in
-    let ear = c.in-Some.ear in
-    let before = c.loop-left.invariant.remaining items from number in
-    let found = c.in-Some.ensures before.remaining before.ring (omega (arith, before.number, c.loop-left-test.true)) in
-    subst (λ (ts : List Triangle). IsRemaining state links c.remove.new.self items ts (key ear.before) (c.loop-left.left - 1)) (sym c.in_ok-push.ensures.items)
-    (remaining_shrinks state links (kind_by g.P.PtrKey g.P.Inx.InxKey g.P.Gen.GenKey) c.loop-left.ring c.remove.new.self ear.corner c.remove.result items c.loop-left.triangles.items (key c.loop-left.start) (key ear.before) c.loop-left.left ear.triangle before found c.remove.ensures)); enough = λ enough. omega (arith, c.loop-left-test.true) }
+loop-left-preserved g c = record {
+  remaining = λ items from number. (
+      let state = g.A.ArenaTrait.state in
+      let links = g.A.ChainArenaTrait.interlinks in
+      let key = g.P.PtrKey.key in
+      let ear = c.in-Some.ear in
+      let before = c.loop-left.invariant.remaining items from number in
+      let found = c.in-Some.ensures before.remaining before.ring (omega (arith, before.number, c.loop-left-test.true)) in
+      subst (λ (ts : List Triangle). IsRemaining state links c.remove.new.self items ts (key ear.before) (c.loop-left.left - 1)) (sym c.in_ok-push.ensures.items)
+      (remaining_shrinks state links (kind_by g.P.PtrKey g.P.Inx.InxKey g.P.Gen.GenKey) c.loop-left.ring c.remove.new.self ear.corner c.remove.result items c.loop-left.triangles.items (key c.loop-left.start) (key ear.before) c.loop-left.left ear.triangle before found c.remove.ensures));
+  enough = λ enough. omega (arith, c.loop-left-test.true);
+}
 
 pub returns : goal.returns
 returns g c = λ items from number enough.

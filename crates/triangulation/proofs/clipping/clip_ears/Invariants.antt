@@ -1,5 +1,5 @@
 -- What is left of each list of the ring.
-use Rattle.std.proofs.Common.{◌≡◌, ◌≤◌, ◌-◌, List, length}
+use Rattle.std.proofs.Common.{◌≡◌, ◌≤◌, List, length}
 use Rattle.chain_examples.specs.Lists.{Item}
 use Rattle.triangulation.specs.declared.points.Point.{Point}
 use Rattle.triangulation.specs.Clippings.{IsRingFrom, IsRemaining}

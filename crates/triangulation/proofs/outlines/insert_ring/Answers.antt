@@ -1,8 +1,8 @@
 -- Each corner is inserted after the last one.
-use Rattle.std.proofs.Common.{pos, List, [], ◌∷◌, ◌++◌, ap, sym, take}
+use Rattle.std.proofs.Common.{pos, List, ◌∷◌, ap}
 use Rattle.std.proofs.lemmas.List.{take_more}
 use Rattle.triangulation.specs.declared.points.Point.{Point}
-use Rattle.triangulation.proofs.OutlineLemmas.{ring_begins, ring_grows, ring_ends}
+use Rattle.triangulation.proofs.OutlineLemmas.{ring_begins, ring_grows}
 use Rattle.triangulation.proofs.outlines.insert_ring.Goals as goal
 
 pub loop-corner-init : goal.loop-corner-init

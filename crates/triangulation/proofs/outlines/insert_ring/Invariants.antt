@@ -1,5 +1,5 @@
 -- The corners so far are a ring.
-use Rattle.std.proofs.Common.{List, ◌∷◌, take}
+use Rattle.std.proofs.Common.{◌∷◌, take}
 use Rattle.triangulation.specs.Clippings.{IsRingBetween}
 use Rattle.triangulation.proofs.outlines.insert_ring.Given as goal
 

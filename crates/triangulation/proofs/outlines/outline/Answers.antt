@@ -1,5 +1,5 @@
 -- The corners are read until the start comes again, after at most as many as there are.
-use Rattle.std.proofs.Common.{◌≡◌, ℕ, refl, sym, ap, ◌∙◌, arith, rules}
+use Rattle.std.proofs.Common.{◌≡◌, refl, sym, ap, ◌∙◌, arith, rules}
 use Rattle.std.specs.Prelude.{is_some, true}
 use Rattle.std.proofs.lemmas.Bool.{false≢true}
 use Rattle.triangulation.proofs.ReadingLemmas.{few_corners, ring_of_valid, read_starts, more_corners, valid_here, value_here, next_exists, read_more, read_all}
@@ -39,8 +39,7 @@ returns-then-is_same g c =
     let arena = c.args.polygons.now in
     let key = g.P.PtrKey.key in
     let occupied : is_some c.get.result ≡ true = search rules in
-    let back = ap key ((g.met.P.PtrKey.same_is_equal c.in-Some-next.next c.args.start).0 (sym c.is_same.ensures ∙ c.if-is_same.true)) in
-    (
+    let back = ap key ((g.met.P.PtrKey.same_is_equal c.in-Some-next.next c.args.start).0 (sym c.is_same.ensures ∙ c.if-is_same.true)) in (
       c.get.ensures.some.0 occupied,
       λ items from.
           let is = c.loop.invariant items from in
