@@ -8,13 +8,13 @@ use Rattle.polygon_laws.specs.Areas as area
 use Rattle.polygon_laws.proofs.AreaLemmas.{area_of_turn, area_of_ear, area_of_triangle, area_of_edges}
 use Rattle.triangulation.specs.declared.points.Point.{Point}
 use Rattle.triangulation.specs.declared.points.Triangle.{Triangle}
-use Rattle.triangulation.specs.Triangulations.{coordinates, double_area, triangle_area, total_area, IsTriangleOf, IsTriangulation}
-use Rattle.triangulation.specs.Clippings.{IsClipping, IsSameOutline}
+use Rattle.triangulation.specs.Triangulations.{IsClipping, coordinates, double_area, triangle_area, total_area, IsTriangleOf, IsTriangulation}
+use Rattle.triangulation.specs.Clippings.{IsSameOutline}
 
-in_tail : {X : Type 0} (e : X) (es : List X) (p : X) → Contains es p → Contains (e ∷ es) p
+pub in_tail : {X : Type 0} (e : X) (es : List X) (p : X) → Contains es p → Contains (e ∷ es) p
 in_tail e es p has = Contains-append_right (e ∷ []) es p has
 
-at_head : {X : Type 0} (e : X) (es : List X) → Contains (e ∷ es) e
+pub at_head : {X : Type 0} (e : X) (es : List X) → Contains (e ∷ es) e
 at_head e es = Contains-append_left (e ∷ []) es e (0, omega arith, refl)
 
 head_or_tail : {X : Type 0} (e : X) (es : List X) (p : X) (R : Type 0) → Contains (e ∷ es) p → (e ≡ p → R) → (Contains es p → R) → R

@@ -3,3 +3,4 @@ pub mod CornerLemmas
 pub mod RingClippingLemmas
 pub mod OutlineLemmas
 pub mod ReadingLemmas
+pub mod EarSearchLemmas

@@ -72,7 +72,7 @@ module _ {A Gen : Type 0} {view : A → ArenaView Gen Point} {entry : A → ℕ 
       pub value_here : (v : Point) → entry a at.0 ≡ Some (at.1, v) → v ≡ is.here.1
       value_here v reads = value_read (entry a) at is.here v reads is.place stored_here
 
-      ring_here : IsRing state interlinks a (is.here ∷ (is.rest ++ is.passed))
+      pub ring_here : IsRing state interlinks a (is.here ∷ (is.rest ++ is.passed))
       ring_here = ring_turned state interlinks a is.passed (is.here ∷ is.rest) (subst (λ (l : List (Item Gen Point)). IsRing state interlinks a l) is.split from.ring)
 
       module _ {P : Type 0} (key : P → ℕ × Gen) (p : P) (same : key p ≡ at) (r : Option P) (reads : ReadsNextInRing state interlinks key a p r) where
@@ -83,7 +83,7 @@ module _ {A Gen : Type 0} {view : A → ArenaView Gen Point} {entry : A → ℕ 
         next_exists none = not_none (is.rest ++ is.passed) is.here (sym next_here ∙ ap (option_map key) none)
 
         module _ (q : P) (got : r ≡ Some q) where
-          next_key : Some (key q) ≡ first_key ((is.rest ++ is.passed) ++ is.here ∷ [])
+          pub next_key : Some (key q) ≡ first_key ((is.rest ++ is.passed) ++ is.here ∷ [])
           next_key = sym (ap (option_map key) got) ∙ next_here
 
           -- One corner more.

@@ -10,7 +10,8 @@ use Rattle.chain_examples.specs.Lists.{Item, IsRing, RemovesItem}
 use Rattle.chain_examples.specs.Rings.{ReadsNextInRing}
 use Rattle.triangulation.specs.declared.points.Point.{Point}
 use Rattle.triangulation.specs.declared.points.Triangle.{Triangle}
-use Rattle.triangulation.specs.Clippings.{points, IsClipping, IsSameOutline, IsRingFrom, IsTurned, IsEarAfter, HasEar, IsRemaining}
+use Rattle.triangulation.specs.Triangulations.{IsClipping}
+use Rattle.triangulation.specs.Clippings.{points, IsSameOutline, IsRingFrom, IsTurned, IsEarAfter, HasEar, IsRemaining}
 use Rattle.triangulation.proofs.ClippingLemmas.{outline_same, outline_then, outline_turned, ear_clipped}
 use Rattle.triangulation.proofs.CornerLemmas.{ring_at, ring_turned, value_read}
 

@@ -1,5 +1,5 @@
 -- Rings of corners while ears are clipped.
-use Rattle.std.specs.Prelude.{◌≡◌, ℕ, pos, ◌+ℤ◌, ◌<ℤ◌, ◌+◌, ◌≤◌, ◌<◌, List, [], ◌∷◌, ◌++◌, map, length, All, Contains, Option, Some, Result, Ok, Err}
+use Rattle.std.specs.Prelude.{◌≡◌, ℕ, pos, ◌<ℤ◌, ◌+◌, ◌≤◌, ◌<◌, List, [], ◌∷◌, ◌++◌, map, length, Contains, Option, Some, Result, Ok, Err}
 use Rattle.std.specs.declared.vec.Vec.{Vec}
 use Rattle.std.specs.declared.alloc.Global.{Global}
 use Rattle.chain_laws.specs.Chains.{LinkMap}
@@ -10,18 +10,11 @@ use Rattle.triangulation.specs.declared.points.Point.{Point}
 use Rattle.triangulation.specs.declared.points.Triangle.{Triangle}
 use Rattle.triangulation.specs.declared.errors.TriangulationError.{TriangulationError}
 use Rattle.triangulation.specs.declared.errors.TriangulationError.TheVariants as why
-use Rattle.triangulation.specs.Triangulations.{double_area, triangle_area, total_area, IsTriangleOf, IsTriangulation}
+use Rattle.triangulation.specs.Triangulations.{double_area, triangle_area, IsTriangulation, IsInTriangle, BeginsWithEar, HasNoEar, IsClipping, IsStuck}
 
 -- The points of items.
 abbrev pub points : {Gen : Type 0} → List (Item Gen Point) → List Point
 points items = map (λ e. e.1) items
-
--- The triangles and the remaining corners are together the polygon.
-pub record IsClipping (corners : List Point) (triangles : List Triangle) (remaining : List Point) : Type 0 where
-  pub number : length triangles + length remaining ≡ length corners
-  pub each : All (IsTriangleOf corners) triangles
-  pub areas : total_area triangles +ℤ double_area remaining ≡ double_area corners
-  pub among : (p : Point) → Contains remaining p → Contains corners p
 
 -- The same polygon, listed from another corner.
 pub record IsSameOutline (corners turned : List Point) : Type 0 where
@@ -39,6 +32,18 @@ module _ {A Gen : Type 0} {view : A → ArenaView Gen Point} {entry : A → ℕ 
   abbrev pub IsEarAfter : A → ℕ × Gen → ℕ × Gen → Triangle → Type 0
   IsEarAfter arena p corner t = (a c b : Item Gen Point) (rest : List (Item Gen Point)) → IsRingFrom arena p (a ∷ c ∷ b ∷ rest)
       → (corner ≡ c.0) × (t.a ≡ a.1) × (t.b ≡ c.1) × (t.c ≡ b.1) × (pos 0 <ℤ triangle_area t)
+
+  -- The corners from `p` on, of which there are so many, do not begin with an ear.
+  abbrev pub SeesNoEar : A → ℕ × Gen → ℕ → Type 0
+  SeesNoEar arena p corners = (items : List (Item Gen Point)) → IsRingFrom arena p items → length items ≡ corners → BeginsWithEar (points items) → ⊥
+
+  -- No list of the ring of `start`, of so many corners, begins with an ear.
+  abbrev pub FindsNoEar : A → ℕ × Gen → ℕ → Type 0
+  FindsNoEar arena start corners = (items : List (Item Gen Point)) → IsRingFrom arena start items → length items ≡ corners → HasNoEar (points items)
+
+  -- One of the corners after `start`, up to two before it, is in the triangle.
+  abbrev pub HoldsCorner : A → ℕ × Gen → ℕ → Triangle → Type 0
+  HoldsCorner arena start corners t = (b : Item Gen Point) (rest more : List (Item Gen Point)) → IsRingFrom arena start (b ∷ rest ++ more) → length rest + 3 ≡ corners → (p : Point) × Contains (points rest) p × IsInTriangle t p
 
   -- An ear of the ring of these items, at `corner` after `p`.
   pub record HasEar (arena : A) (items : List (Item Gen Point)) (p corner : ℕ × Gen) (t : Triangle) : Type 0 where
@@ -81,7 +86,7 @@ module _ {A Gen : Type 0} {view : A → ArenaView Gen Point} {entry : A → ℕ 
   ClipsEars arena start corners (Ok triangles) = (items : List (Item Gen Point)) → IsRingFrom state interlinks arena start items → length items ≡ corners → 2 ≤ corners → IsTriangulation (points items) triangles.items
   ClipsEars arena start corners (Err why.InvalidPointer) = ⊥
   ClipsEars arena start corners (Err why.TooFewCorners) = ⊥
-  ClipsEars arena start corners (Err why.NoEar) = Unit {0}
+  ClipsEars arena start corners (Err why.NoEar) = (items : List (Item Gen Point)) → IsRingFrom state interlinks arena start items → length items ≡ corners → 2 ≤ corners → IsStuck (points items)
   ClipsEars arena start corners (Err why.AllocError) = Unit {0}
 
   -- `outline`: the points of the ring from `p` on, or why not.
@@ -97,5 +102,5 @@ module _ {A Gen : Type 0} {view : A → ArenaView Gen Point} {entry : A → ℕ 
   Triangulates arena p (Ok triangles) = IsValid (entry arena) p × ((items : List (Item Gen Point)) → IsRingFrom state interlinks arena p items → IsTriangulation (points items) triangles.items)
   Triangulates arena p (Err why.InvalidPointer) = IsValid (entry arena) p → ⊥
   Triangulates arena p (Err why.TooFewCorners) = IsValid (entry arena) p × ((items : List (Item Gen Point)) → IsRingFrom state interlinks arena p items → length items < 3)
-  Triangulates arena p (Err why.NoEar) = IsValid (entry arena) p × ((items : List (Item Gen Point)) → IsRingFrom state interlinks arena p items → 3 ≤ length items)
+  Triangulates arena p (Err why.NoEar) = IsValid (entry arena) p × ((items : List (Item Gen Point)) → IsRingFrom state interlinks arena p items → IsStuck (points items))
   Triangulates arena p (Err why.AllocError) = IsValid (entry arena) p

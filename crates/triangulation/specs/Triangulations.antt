@@ -1,5 +1,5 @@
 -- Triangulations of polygons.
-use Rattle.std.specs.Prelude.{◌≡◌, ℤ, pos, ◌+ℤ◌, ◌<ℤ◌, ◌+◌, List, [], ◌∷◌, map, length, All, Contains, ◌<◌, ◌≤◌, Result, Ok, Err}
+use Rattle.std.specs.Prelude.{◌≡◌, ◌≢◌, ℕ, ◌≤ℤ◌, ◌++◌, take, drop, ℤ, pos, ◌+ℤ◌, ◌<ℤ◌, ◌+◌, List, [], ◌∷◌, map, length, All, Contains, ◌<◌, ◌≤◌, Result, Ok, Err}
 use Rattle.std.specs.declared.vec.Vec.{Vec}
 use Rattle.std.specs.declared.alloc.Global.{Global}
 use Rattle.polygon_laws.specs.Areas as area
@@ -37,10 +37,50 @@ pub record IsTriangulation (corners : List Point) (triangles : List Triangle) : 
   pub each : All (IsTriangleOf corners) triangles
   pub areas : total_area triangles ≡ double_area corners
 
+-- A point is in a triangle or on its sides, and is none of its corners.
+pub record IsInTriangle (t : Triangle) (p : Point) : Type 0 where
+  pub not_first : p ≢ t.a
+  pub not_second : p ≢ t.b
+  pub not_third : p ≢ t.c
+  pub first_side : pos 0 ≤ℤ area.orientation (coordinates t.a) (coordinates t.b) (coordinates p)
+  pub second_side : pos 0 ≤ℤ area.orientation (coordinates t.b) (coordinates t.c) (coordinates p)
+  pub third_side : pos 0 ≤ℤ area.orientation (coordinates t.c) (coordinates t.a) (coordinates p)
+
+-- A triangle is counterclockwise, and none of the other corners is in it.
+pub record IsEar (t : Triangle) (others : List Point) : Type 0 where
+  pub positive : pos 0 <ℤ triangle_area t
+  pub empty : (p : Point) → Contains others p → IsInTriangle t p → ⊥
+
+-- The first three corners are an ear.
+abbrev pub BeginsWithEar : List Point → Type 0
+BeginsWithEar [] = ⊥
+BeginsWithEar (a ∷ []) = ⊥
+BeginsWithEar (a ∷ b ∷ []) = ⊥
+BeginsWithEar (a ∷ b ∷ c ∷ others) = IsEar (record { a = a; b = b; c = c }) others
+
+-- No three corners in a row are an ear.
+abbrev pub HasNoEar : List Point → Type 0
+HasNoEar corners = (n : ℕ) → n < length corners → BeginsWithEar (drop n corners ++ take n corners) → ⊥
+
+-- The triangles and the remaining corners are together the polygon.
+pub record IsClipping (corners : List Point) (triangles : List Triangle) (remaining : List Point) : Type 0 where
+  pub number : length triangles + length remaining ≡ length corners
+  pub each : All (IsTriangleOf corners) triangles
+  pub areas : total_area triangles +ℤ double_area remaining ≡ double_area corners
+  pub among : (p : Point) → Contains remaining p → Contains corners p
+
+-- Triangles were clipped until at least three corners were left, of which none is an ear.
+pub record IsStuck (corners : List Point) : Type 0 where
+  pub triangles : List Triangle
+  pub remaining : List Point
+  pub clipping : IsClipping corners triangles remaining
+  pub three : 3 ≤ length remaining
+  pub none : HasNoEar remaining
+
 -- `triangulate_points`: the corners are triangulated, or why they are not.
 abbrev pub TriangulatesPoints : List Point → Result (Vec Triangle Global) TriangulationError → Type 0
 TriangulatesPoints corners (Ok triangles) = IsTriangulation corners triangles.items
 TriangulatesPoints corners (Err why.InvalidPointer) = ⊥
 TriangulatesPoints corners (Err why.TooFewCorners) = length corners < 3
-TriangulatesPoints corners (Err why.NoEar) = 3 ≤ length corners
+TriangulatesPoints corners (Err why.NoEar) = IsStuck corners
 TriangulatesPoints corners (Err why.AllocError) = 3 ≤ length corners

@@ -1,8 +1,8 @@
 //! Ears of a ring of corners, and their removal.
 
-ghost use Rattle.std.specs.Prelude.{◌≡◌, ◌≤◌, ◌↔◌, List, IfSome, length};
+ghost use Rattle.std.specs.Prelude.{◌≡◌, ◌≤◌, ◌↔◌, List, IfSome, IfNone, IsTrue, length};
 ghost use Rattle.chain_examples.specs.Lists.{Item};
-ghost use Rattle.triangulation.specs.Clippings.{IsRingFrom, IsEarAfter, HasEar, ClipsEars};
+ghost use Rattle.triangulation.specs.Clippings.{IsRingFrom, IsEarAfter, HasEar, ClipsEars, SeesNoEar, FindsNoEar, HoldsCorner};
 
 use crate::errors::TriangulationError;
 use crate::points::{Point, Triangle, is_in_triangle, is_left};
@@ -28,6 +28,7 @@ fn ear_after<P: PtrKey, A: ChainArenaTrait<P, Point> + Drop>(
     ensures before { IfSome result (λ ear. ear.before ≡ before) }
     ensures ear { IfSome result (λ ear. IsEarAfter A.state A.interlinks ring.now (P.key before)
         (P.key ear.corner) ear.triangle) }
+    ensures none { IfNone result (SeesNoEar A.state A.interlinks ring.now (P.key before) corners) }
 {
     let corner = ring.next(before)?;
     let after = ring.next(corner)?;
@@ -52,17 +53,22 @@ fn holds_corner<P: PtrKey, A: ChainArenaTrait<P, Point> + Drop>(
     triangle: Triangle,
     start: P,
     corners: usize,
-) -> bool {
+) -> bool
+    ensures { IsTrue result → HoldsCorner A.state A.interlinks ring.now (P.key start) corners
+        triangle }
+{
     let mut at = start;
     for _ in 3..corners {
         at = match ring.next(at) {
             Some(next) => next,
             None => return true,
         };
-        if let Some(p) = ring.get(at) {
-            if is_in_triangle(*p, triangle) {
-                return true;
-            }
+        let point = match ring.get(at) {
+            Some(point) => *point,
+            None => return true,
+        };
+        if is_in_triangle(point, triangle) {
+            return true;
         }
     }
     false
@@ -74,13 +80,15 @@ fn find_ear<P: PtrKey, A: ChainArenaTrait<P, Point> + Drop>(
     start: P,
     corners: usize,
 ) -> Option<Ear<P>>
-    ensures { IfSome result (λ ear. (items : List (Item P.Gen Point)) → IsRingFrom A.state A.interlinks ring.now (P.key start) items
+    ensures ear { IfSome result (λ ear. (items : List (Item P.Gen Point)) → IsRingFrom A.state A.interlinks ring.now (P.key start) items
         → 3 ≤ length items → HasEar A.state A.interlinks ring.now items (P.key ear.before) (P.key ear.corner) ear.triangle) }
+    ensures none { IfNone result (FindsNoEar A.state A.interlinks ring.now (P.key start) corners) }
 {
     let mut before = start;
     for _ in 0..corners {
-        if let Some(ear) = ear_after(ring, before, corners) {
-            return Some(ear);
+        match ear_after(ring, before, corners) {
+            Some(ear) => return Some(ear),
+            None => {}
         }
         before = ring.next(before)?;
     }

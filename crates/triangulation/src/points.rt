@@ -1,8 +1,8 @@
 //! Points with integer coordinates, their orientation, and triangles.
 
-ghost use Rattle.std.specs.Prelude.{◌≡◌, ◌↔◌, ◌≤◌, ◌^◌, pos, ◌-ℤ◌, ◌*ℤ◌, ◌<ℤ◌, IsTrue, unsigned_abs};
+ghost use Rattle.std.specs.Prelude.{◌≡◌, ◌↔◌, ◌≤◌, ◌^◌, pos, ◌-ℤ◌, ◌*ℤ◌, ◌<ℤ◌, ◌≤ℤ◌, IsTrue, unsigned_abs};
 ghost use Rattle.polygon_laws.specs.Areas as area;
-ghost use Rattle.triangulation.specs.Triangulations.{coordinates};
+ghost use Rattle.triangulation.specs.Triangulations.{coordinates, IsInTriangle};
 
 /// A point with integer coordinates.
 #[derive(Clone, Copy, Debug, PartialEq, Eq)]
@@ -57,12 +57,20 @@ fn product(a: i128, b: i128) -> i128
     a * b
 }
 
+/// Returns whether `r` is to the left of the line from `p` to `q`, or on it.
+pub fn is_left_or_on(p: Point, q: Point, r: Point) -> bool
+    ensures { IsTrue result
+        ↔ (pos 0 ≤ℤ area.orientation (coordinates p) (coordinates q) (coordinates r)) }
+{
+    orientation(p, q, r) >= 0
+}
+
 /// Returns whether a point is in a triangle or on its sides, and is none of its corners.
-pub fn is_in_triangle(p: Point, t: Triangle) -> bool {
-    p != t.a
-        && p != t.b
-        && p != t.c
-        && orientation(t.a, t.b, p) >= 0
-        && orientation(t.b, t.c, p) >= 0
-        && orientation(t.c, t.a, p) >= 0
+pub fn is_in_triangle(p: Point, t: Triangle) -> bool
+    ensures { IsTrue result → IsInTriangle t p }
+{
+    if p == t.a || p == t.b || p == t.c {
+        return false;
+    }
+    is_left_or_on(t.a, t.b, p) && is_left_or_on(t.b, t.c, p) && is_left_or_on(t.c, t.a, p)
 }
