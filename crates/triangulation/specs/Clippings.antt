@@ -54,6 +54,10 @@ module _ {A Gen : Type 0} {view : A → ArenaView Gen Point} {entry : A → ℕ 
     pub outline : IsSameOutline (points items) (points ((p, t.a) ∷ (corner, t.b) ∷ last ∷ rest))
     pub positive : pos 0 <ℤ triangle_area t
 
+  -- An ear is found in the ring of `start`, if it has three corners or more.
+  abbrev pub FindsEar : A → ℕ × Gen → (p corner : ℕ × Gen) → Triangle → Type 0
+  FindsEar arena start p corner t = (items : List (Item Gen Point)) → IsRingFrom arena start items → 3 ≤ length items → HasEar arena items p corner t
+
   -- The ring of these items, listed from the corner of `p` on.
   pub record IsTurned (arena : A) (items : List (Item Gen Point)) (p : ℕ × Gen) : Type 0 where
     pub turned : List (Item Gen Point)

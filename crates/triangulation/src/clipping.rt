@@ -1,8 +1,7 @@
 //! Ears of a ring of corners, and their removal.
 
-ghost use Rattle.std.specs.Prelude.{◌≡◌, ◌≤◌, ◌↔◌, List, IfSome, IfNone, IsTrue, length};
-ghost use Rattle.chain_examples.specs.Lists.{Item};
-ghost use Rattle.triangulation.specs.Clippings.{IsRingFrom, IsEarAfter, HasEar, ClipsEars, SeesNoEar, FindsNoEar, HoldsCorner};
+ghost use Rattle.std.specs.Prelude.{◌≡◌, IfSome, IfNone, IsTrue};
+ghost use Rattle.triangulation.specs.Clippings.{IsEarAfter, SeesNoEar, HoldsCorner, FindsEar, FindsNoEar, ClipsEars};
 
 use crate::errors::TriangulationError;
 use crate::points::{Point, Triangle, is_in_triangle, is_left};
@@ -80,8 +79,8 @@ fn find_ear<P: PtrKey, A: ChainArenaTrait<P, Point> + Drop>(
     start: P,
     corners: usize,
 ) -> Option<Ear<P>>
-    ensures ear { IfSome result (λ ear. (items : List (Item P.Gen Point)) → IsRingFrom A.state A.interlinks ring.now (P.key start) items
-        → 3 ≤ length items → HasEar A.state A.interlinks ring.now items (P.key ear.before) (P.key ear.corner) ear.triangle) }
+    ensures ear { IfSome result (λ ear. FindsEar A.state A.interlinks ring.now (P.key start)
+        (P.key ear.before) (P.key ear.corner) ear.triangle) }
     ensures none { IfNone result (FindsNoEar A.state A.interlinks ring.now (P.key start) corners) }
 {
     let mut before = start;

@@ -22,6 +22,9 @@ const BOW: [(i32, i32); 4] = [(0, 0), (2, 2), (2, 0), (0, 2)];
 // The second corner is on the lower side.
 const FLAT: [(i32, i32); 5] = [(0, 0), (2, 0), (4, 0), (4, 4), (0, 4)];
 
+// The last corner is in the triangle of the first three, so these are no ear.
+const DART: [(i32, i32); 4] = [(0, 4), (0, 0), (4, 0), (1, 1)];
+
 const LINE: [(i32, i32); 3] = [(0, 0), (1, 0), (2, 0)];
 
 const PAIR: [(i32, i32); 2] = [(0, 0), (1, 0)];
@@ -95,6 +98,7 @@ fn holds(rt: &impl Abort, what: &str, condition: bool) {
 fn check_shapes<P: PtrKey, A: ChainArenaTrait<P, Point> + Drop>(rt: &impl Abort, alloc: Global) {
     holds(rt, "square", total::<P, A>(alloc, &SQUARE) == Ok((2, 18)));
     holds(rt, "bend", total::<P, A>(alloc, &BEND) == Ok((4, 24)));
+    holds(rt, "dart", total::<P, A>(alloc, &DART) == Ok((2, 8)));
     holds(rt, "comb", total::<P, A>(alloc, &COMB) == Ok((18, 232)));
     holds(rt, "flat", total::<P, A>(alloc, &FLAT) == Ok((3, 32)));
     let all: i128 = 36_893_488_130_239_234_050;
@@ -111,7 +115,9 @@ fn check_refusals<P: PtrKey, A: ChainArenaTrait<P, Point> + Drop>(rt: &impl Abor
 }
 
 // The second polygon of a mesh, a triangle, and its first corner once it is removed.
-fn in_mesh<P: PtrKey, A: ChainArenaTrait<P, Point> + Drop>(alloc: Global) -> Option<(Total, Total)> {
+fn in_mesh<P: PtrKey, A: ChainArenaTrait<P, Point> + Drop>(
+    alloc: Global,
+) -> Option<(Total, Total)> {
     let mut mesh: Mesh<P, Point, A> = Mesh::new(alloc);
     mesh.start(Point { x: 9, y: 9 }).ok()?;
     let first = mesh.start(Point { x: 0, y: 0 }).ok()?;
@@ -125,7 +131,11 @@ fn in_mesh<P: PtrKey, A: ChainArenaTrait<P, Point> + Drop>(alloc: Global) -> Opt
 
 fn check_mesh<P: PtrKey, A: ChainArenaTrait<P, Point> + Drop>(rt: &impl Abort, alloc: Global) {
     let gone = Err(TriangulationError::InvalidPointer);
-    holds(rt, "mesh", in_mesh::<P, A>(alloc) == Some((Ok((1, 20)), gone)));
+    holds(
+        rt,
+        "mesh",
+        in_mesh::<P, A>(alloc) == Some((Ok((1, 20)), gone)),
+    );
 }
 
 #[test]
