@@ -12,7 +12,7 @@ use std::alloc::Global;
 
 // A corner, the pointer of the corner before it, and the triangle of both and the next one.
 #[derive(Clone, Copy)]
-pub struct Ear<P: PtrKey> {
+struct Ear<P: PtrKey> {
     before: P,
     corner: P,
     triangle: Triangle,
