@@ -8,7 +8,7 @@ use Rattle.polygon_laws.specs.Areas as area
 use Rattle.polygon_laws.proofs.AreaLemmas.{area_of_turn, area_of_ear, area_of_triangle, area_of_edges}
 use Rattle.triangulation.specs.declared.points.Point.{Point}
 use Rattle.triangulation.specs.declared.points.Triangle.{Triangle}
-use Rattle.triangulation.specs.Triangulations.{IsClipping, coordinates, double_area, triangle_area, total_area, IsTriangleOf, IsTriangulation}
+use Rattle.triangulation.specs.Triangulations.{IsClipping, coordinates, polygon_area, triangle_area, total_area, IsTriangleOf, IsTriangulation}
 use Rattle.triangulation.specs.Clippings.{IsSameOutline}
 
 pub in_tail : {X : Type 0} (e : X) (es : List X) (p : X) → Contains es p → Contains (e ∷ es) p
@@ -45,13 +45,13 @@ total_more (s ∷ ts) t = grouped (triangle_area s) (total_area ts) (triangle_ar
     grouped x y z w is = omega (arith, ints, is)
 
 -- The area of an ear and of what is left.
-ear_area : (t : Triangle) (rest : List Point) → double_area (t.a ∷ t.b ∷ t.c ∷ rest) ≡ triangle_area t +ℤ double_area (t.a ∷ t.c ∷ rest)
+ear_area : (t : Triangle) (rest : List Point) → polygon_area (t.a ∷ t.b ∷ t.c ∷ rest) ≡ triangle_area t +ℤ polygon_area (t.a ∷ t.c ∷ rest)
 ear_area t rest =
     area_of_ear (coordinates t.a) (coordinates t.b) (coordinates t.c) (map coordinates rest)
-    ∙ ap (λ (x : ℤ). x +ℤ double_area (t.a ∷ t.c ∷ rest)) (area_of_triangle (coordinates t.a) (coordinates t.b) (coordinates t.c))
+    ∙ ap (λ (x : ℤ). x +ℤ polygon_area (t.a ∷ t.c ∷ rest)) (area_of_triangle (coordinates t.a) (coordinates t.b) (coordinates t.c))
 
 pub clipping_starts : (corners : List Point) → IsClipping corners [] corners
-clipping_starts corners = record { number = omega arith; each = All-nil (IsTriangleOf corners); areas = zero_plus (double_area corners); among = λ p has. has }
+clipping_starts corners = record { number = omega arith; each = All-nil (IsTriangleOf corners); areas = zero_plus (polygon_area corners); among = λ p has. has }
   where
     zero_plus : (x : ℤ) → pos 0 +ℤ x ≡ x
     zero_plus x = omega (arith, ints)
@@ -67,7 +67,7 @@ ear_clipped corners ts remaining t rest clipping outline positive = record {
     third = whole t.c (in_tail t.a (t.b ∷ t.c ∷ rest) t.c (in_tail t.b (t.c ∷ rest) t.c (at_head t.c rest)));
     positive = positive;
   });
-  areas = moved (total_area ts) (triangle_area t) (double_area (t.a ∷ t.c ∷ rest)) (double_area remaining) (double_area corners) (total_area (ts ++ t ∷ [])) (double_area (t.a ∷ t.b ∷ t.c ∷ rest))
+  areas = moved (total_area ts) (triangle_area t) (polygon_area (t.a ∷ t.c ∷ rest)) (polygon_area remaining) (polygon_area corners) (total_area (ts ++ t ∷ [])) (polygon_area (t.a ∷ t.b ∷ t.c ∷ rest))
       clipping.areas outline.area (ear_area t rest) (total_more ts t);
   among = λ p has. whole p (head_or_tail t.a (t.c ∷ rest) p (Contains (t.a ∷ t.b ∷ t.c ∷ rest) p) has
       (λ is. subst (λ (q : Point). Contains (t.a ∷ t.b ∷ t.c ∷ rest) q) is (at_head t.a (t.b ∷ t.c ∷ rest)))
@@ -87,7 +87,7 @@ clipping_ends corners ts (p ∷ []) two clipping = absurd (omega (arith, two))
 clipping_ends corners ts (p ∷ q ∷ []) two clipping = record {
   number = clipping.number;
   each = clipping.each;
-  areas = without (total_area ts) (double_area (p ∷ q ∷ [])) (double_area corners) clipping.areas ((area_of_edges (coordinates p) (coordinates q)).1);
+  areas = without (total_area ts) (polygon_area (p ∷ q ∷ [])) (polygon_area corners) clipping.areas ((area_of_edges (coordinates p) (coordinates q)).1);
 }
   where
     without : (total none all : ℤ) → total +ℤ none ≡ all → none ≡ pos 0 → total ≡ all

@@ -10,7 +10,7 @@ use Rattle.triangulation.specs.declared.points.Point.{Point}
 use Rattle.triangulation.specs.declared.points.Triangle.{Triangle}
 use Rattle.triangulation.specs.declared.errors.TriangulationError.{TriangulationError}
 use Rattle.triangulation.specs.declared.errors.TriangulationError.TheVariants as why
-use Rattle.triangulation.specs.Triangulations.{double_area, triangle_area, IsTriangulation, IsInTriangle, BeginsWithEar, HasNoEar, IsClipping, IsStuck}
+use Rattle.triangulation.specs.Triangulations.{polygon_area, triangle_area, IsTriangulation, IsInTriangle, BeginsWithEar, HasNoEar, IsClipping, IsStuck}
 
 -- The points of items.
 abbrev pub points : {Gen : Type 0} → List (Item Gen Point) → List Point
@@ -19,7 +19,7 @@ points items = map (λ e. e.1) items
 -- The same polygon, listed from another corner.
 pub record IsSameOutline (corners turned : List Point) : Type 0 where
   pub number : length turned ≡ length corners
-  pub area : double_area turned ≡ double_area corners
+  pub area : polygon_area turned ≡ polygon_area corners
   pub among : (p : Point) → Contains turned p → Contains corners p
 
 module _ {A Gen : Type 0} {view : A → ArenaView Gen Point} {entry : A → ℕ → Option (Gen × Point)} (state : (a : A) → ArenaState (view a) (entry a)) (interlinks : A → LinkMap) where

@@ -13,8 +13,8 @@ abbrev pub coordinates : Point → area.Point
 coordinates p = (p.x, p.y)
 
 -- Twice the signed area of a polygon with these corners.
-abbrev pub double_area : List Point → ℤ
-double_area corners = area.double_area (map coordinates corners)
+abbrev pub polygon_area : List Point → ℤ
+polygon_area corners = area.double_area (map coordinates corners)
 
 -- Twice the signed area of a triangle, and the sum of these of several.
 abbrev pub triangle_area : Triangle → ℤ
@@ -35,7 +35,7 @@ pub record IsTriangleOf (corners : List Point) (t : Triangle) : Type 0 where
 pub record IsTriangulation (corners : List Point) (triangles : List Triangle) : Type 0 where
   pub number : length triangles + 2 ≡ length corners
   pub each : All (IsTriangleOf corners) triangles
-  pub areas : total_area triangles ≡ double_area corners
+  pub areas : total_area triangles ≡ polygon_area corners
 
 -- A point is in a triangle or on its sides, and is none of its corners.
 pub record IsInTriangle (t : Triangle) (p : Point) : Type 0 where
@@ -66,7 +66,7 @@ HasNoEar corners = (n : ℕ) → n < length corners → BeginsWithEar (drop n co
 pub record IsClipping (corners : List Point) (triangles : List Triangle) (remaining : List Point) : Type 0 where
   pub number : length triangles + length remaining ≡ length corners
   pub each : All (IsTriangleOf corners) triangles
-  pub areas : total_area triangles +ℤ double_area remaining ≡ double_area corners
+  pub areas : total_area triangles +ℤ polygon_area remaining ≡ polygon_area corners
   pub among : (p : Point) → Contains remaining p → Contains corners p
 
 -- Triangles were clipped until at least three corners were left, of which none is an ear.
