@@ -1,0 +1,5 @@
+use Rattle.polygon_laws.proofs.AreaLemmas.{area_of_ear}
+use Rattle.polygon_laws.proofs.ear_splits_the_area.Goals as goal
+
+pub returns : goal.returns
+returns c = area_of_ear

@@ -1,0 +1,34 @@
+-- Rings that are built corner by corner.
+use Rattle.std.proofs.Common.{◌≡◌, ℕ, List, [], ◌∷◌, ◌++◌, Option, Some, refl, sym, ap, ◌∙◌, subst}
+use Rattle.std.proofs.lemmas.List.{map-append, append_assoc}
+use Rattle.chain_laws.specs.Chains.{LinkMap, cyclic}
+use Rattle.arena_traits.specs.Entries.{ArenaView, ArenaState, first_key}
+use Rattle.chain_examples.specs.Lists.{Item, IsRing, InsertsAfter}
+use Rattle.triangulation.specs.declared.points.Point.{Point}
+use Rattle.triangulation.specs.Clippings.{IsRingBetween, IsRingOf}
+
+first_stays : {Gen T : Type 0} (xs : List (Item Gen T)) (e : Item Gen T) (k : ℕ × Gen) → first_key xs ≡ Some k → first_key (xs ++ e ∷ []) ≡ Some k
+first_stays [] e k is = absurd (let none = is in cc)
+first_stays (x ∷ xs) e k is = is
+
+module _ {A Gen : Type 0} {view : A → ArenaView Gen Point} {entry : A → ℕ → Option (Gen × Point)} (state : (a : A) → ArenaState (view a) (entry a)) (interlinks : A → LinkMap) where
+  pub ring_begins : (a : A) (start : ℕ × Gen) (x : Point) → IsRing state interlinks a ((start, x) ∷ []) → IsRingBetween state interlinks a start start (x ∷ [])
+  ring_begins a start x is = record { before = []; point = x; ring = record { ring = is; first = refl }; all = refl }
+
+  -- One corner more is inserted at the end.
+  pub ring_grows : (old new : A) (start last next : ℕ × Gen) (x : Point) (corners more : List Point) → IsRingBetween state interlinks old start last corners → InsertsAfter state interlinks cyclic old new last (next, x) → more ≡ corners ++ x ∷ []
+      → IsRingBetween state interlinks new start next more
+  ring_grows old new start last next x corners more ring inserts is =
+      let items = ring.before ++ (last, ring.point) ∷ [] in
+      record {
+        before = items;
+        point = x;
+        ring = record {
+          ring = subst (λ (l : List (Item Gen Point)). IsRing state interlinks new l) (sym (append_assoc ring.before ((last, ring.point) ∷ []) ((next, x) ∷ []))) (inserts ring.point ring.before [] ring.ring.ring);
+          first = first_stays items (next, x) start ring.ring.first;
+        };
+        all = map-append (λ (e : Item Gen Point). e.1) items ((next, x) ∷ []) ∙ (ap (λ (l : List Point). l ++ x ∷ []) ring.all ∙ sym is);
+      }
+
+  pub ring_ends : (a : A) (start last : ℕ × Gen) (corners all : List Point) → IsRingBetween state interlinks a start last corners → corners ≡ all → IsRingOf state interlinks a start all
+  ring_ends a start last corners all ring is = record { items = ring.before ++ (last, ring.point) ∷ []; ring = ring.ring; all = ring.all ∙ is }

@@ -1,0 +1,88 @@
+-- Turns of a ring of corners, and the removal of an ear's corner from it.
+use Rattle.std.proofs.Common.{◌≡◌, ℕ, ◌-◌, ◌≤◌, List, [], ◌∷◌, ◌++◌, length, Option, None, Some, refl, sym, ap, ◌∙◌, subst, arith}
+use Rattle.std.specs.Option.{option_map}
+use Rattle.std.proofs.lemmas.List.{map-append, length-map}
+use Rattle.arena_core.specs.PointerKinds.{PointerKind}
+use Rattle.chain_laws.specs.Chains.{LinkMap, cyclic}
+use Rattle.chain_laws.proofs.InterlinkLemmas.Inverses.{one_some}
+use Rattle.arena_traits.specs.Entries.{ArenaView, ArenaState}
+use Rattle.chain_examples.specs.Lists.{Item, IsRing, RemovesItem}
+use Rattle.chain_examples.specs.Rings.{ReadsNextInRing}
+use Rattle.triangulation.specs.declared.points.Point.{Point}
+use Rattle.triangulation.specs.declared.points.Triangle.{Triangle}
+use Rattle.triangulation.specs.Triangulations.{IsClipping}
+use Rattle.triangulation.specs.Clippings.{points, IsSameOutline, IsRingFrom, IsTurned, IsEarAfter, HasEar, IsRemaining}
+use Rattle.triangulation.proofs.ClippingLemmas.{outline_same, outline_then, outline_turned, ear_clipped}
+use Rattle.triangulation.proofs.CornerLemmas.{ring_at, ring_turned, value_read}
+
+item_same : {Gen : Type 0} (k j : ℕ × Gen) (s t : Point) → k ≡ j → s ≡ t → Path (Item Gen Point) (k, s) (j, t)
+item_same {Gen} k j s t one two = ap (λ (i : ℕ × Gen). the_item i s) one ∙ ap (λ (u : Point). the_item j u) two
+  where
+    the_item : ℕ × Gen → Point → Item Gen Point
+    the_item i u = (i, u)
+
+module _ {A Gen : Type 0} {view : A → ArenaView Gen Point} {entry : A → ℕ → Option (Gen × Point)} (state : (a : A) → ArenaState (view a) (entry a)) (interlinks : A → LinkMap) where
+  pub turn_starts : (a : A) (items : List (Item Gen Point)) (p : ℕ × Gen) → IsRingFrom state interlinks a p items → IsTurned state interlinks a items p
+  turn_starts a items p from = record { turned = items; ring = from; outline = outline_same (points items) }
+
+  -- One corner further.
+  pub turn_goes_on : {P : Type 0} (key : P → ℕ × Gen) (a : A) (items : List (Item Gen Point)) (p q : P) (r : Option P) → ReadsNextInRing state interlinks key a p r → r ≡ Some q
+      → IsTurned state interlinks a items (key p) → IsTurned state interlinks a items (key q)
+  turn_goes_on key a items p q r reads is turn = by turn.turned turn.ring turn.outline
+    where
+      by : (turned : List (Item Gen Point)) → IsRingFrom state interlinks a (key p) turned → IsSameOutline (points items) (points turned) → IsTurned state interlinks a items (key q)
+      by [] from outline = absurd (let none = from.first in cc)
+      by (e ∷ es) from outline =
+          let same = sym (one_some from.first) in
+          let ring = ring_at state interlinks a (key p) e es same from.ring in
+          record {
+            turned = es ++ (key p, e.1) ∷ [];
+            ring = record {
+              ring = ring_turned state interlinks a ((key p, e.1) ∷ []) es ring;
+              first = sym (reads.next e.1 es ring) ∙ ap (option_map key) is;
+            };
+            outline = outline_then (points items) (points (e ∷ es)) (points (es ++ (key p, e.1) ∷ [])) outline
+                (subst (λ (l : List Point). IsSameOutline (points (e ∷ es)) l) (sym (map-append (λ (x : Item Gen Point). x.1) es ((key p, e.1) ∷ []))) (outline_turned e.1 (points es)));
+          }
+
+  -- An ear that was seen is one of the ring.
+  pub ear_seen : (a : A) (items : List (Item Gen Point)) (p corner : ℕ × Gen) (t : Triangle) → IsTurned state interlinks a items p → 3 ≤ length items → IsEarAfter state interlinks a p corner t → HasEar state interlinks a items p corner t
+  ear_seen a items p corner t turn three ear = by turn.turned turn.ring turn.outline (omega (arith, three, turn.outline.number, length-map turn.turned (λ (x : Item Gen Point). x.1), length-map items (λ (x : Item Gen Point). x.1)))
+    where
+      by : (turned : List (Item Gen Point)) → IsRingFrom state interlinks a p turned → IsSameOutline (points items) (points turned) → 3 ≤ length turned → HasEar state interlinks a items p corner t
+      by [] from outline long = absurd (omega (arith, long))
+      by (x ∷ []) from outline long = absurd (omega (arith, long))
+      by (x ∷ y ∷ []) from outline long = absurd (omega (arith, long))
+      by (x ∷ y ∷ z ∷ rest) from outline long =
+          let is = ear x y z rest from in
+          let same : x ∷ y ∷ z ∷ rest ≡ (p, t.a) ∷ (corner, t.b) ∷ z ∷ rest =
+          ap (λ (e : Item Gen Point). e ∷ y ∷ z ∷ rest) (item_same x.0 p x.1 t.a (one_some from.first) (sym is.1)) ∙ ap (λ (e : Item Gen Point). (p, t.a) ∷ e ∷ z ∷ rest) (item_same y.0 corner y.1 t.b (sym is.0) (sym is.2)) in
+          record {
+            last = z;
+            rest = rest;
+            ring = subst (λ (l : List (Item Gen Point)). IsRing state interlinks a l) same from.ring;
+            third = is.3;
+            outline = subst (λ (l : List (Item Gen Point)). IsSameOutline (points items) (points l)) same outline;
+            positive = is.4;
+          }
+
+  -- The corner of an ear is removed from its ring.
+  module _ {P I W : Type 0} (pointers : PointerKind P I Gen W) (old new : A) where
+    pub ear_removed : (q : P) (result : Option Point) (items : List (Item Gen Point)) (p : ℕ × Gen) (t : Triangle) (ear : HasEar state interlinks old items p (pointers.key q) t) → RemovesItem state interlinks cyclic pointers old q result new
+        → IsRing state interlinks new ((p, t.a) ∷ ear.last ∷ ear.rest)
+    ear_removed q None items p t ear removes = absurd (removes.0 (record { value = t.b; stored = ear.ring.are_stored.1.0 }))
+    ear_removed q (Some v) items p t ear removes =
+        let same : v ≡ t.b = value_read (entry old) (pointers.key q) (pointers.key q, t.b) v removes.removed.0 refl ear.ring.are_stored.1.0 in
+        removes.list ((p, t.a) ∷ []) (ear.last ∷ ear.rest) (subst (λ (w : Point). IsRing state interlinks old ((p, t.a) ∷ (pointers.key q, w) ∷ ear.last ∷ ear.rest)) (sym same) ear.ring) (λ none. cc)
+
+    -- One ear more is clipped.
+    pub remaining_shrinks : (q : P) (result : Option Point) (items : List (Item Gen Point)) (ts : List Triangle) (start p : ℕ × Gen) (left : ℕ) (t : Triangle) (before : IsRemaining state interlinks old items ts start left)
+        → HasEar state interlinks old before.remaining p (pointers.key q) t → RemovesItem state interlinks cyclic pointers old q result new → IsRemaining state interlinks new items (ts ++ t ∷ []) p (left - 1)
+    remaining_shrinks q result items ts start p left t before ear removes = record {
+      remaining = (p, t.a) ∷ ear.last ∷ ear.rest;
+      ring = record { ring = ear_removed q result before.remaining p t ear removes; first = refl };
+      number = omega (arith, before.number, ear.outline.number, length-map before.remaining (λ (x : Item Gen Point). x.1), length-map ear.rest (λ (x : Item Gen Point). x.1));
+      clipping = subst (λ (w : Point). IsClipping (points items) (ts ++ t ∷ []) (t.a ∷ w ∷ points ear.rest)) ear.third
+          (ear_clipped (points items) ts (points before.remaining) t (points ear.rest) before.clipping
+          (subst (λ (w : Point). IsSameOutline (points before.remaining) (t.a ∷ t.b ∷ w ∷ points ear.rest)) (sym ear.third) ear.outline) ear.positive);
+    }

@@ -1,0 +1,110 @@
+-- Rings of corners while ears are clipped.
+use Rattle.std.specs.Prelude.{◌≡◌, ℕ, pos, ◌<ℤ◌, ◌+◌, ◌≤◌, ◌<◌, List, [], ◌∷◌, ◌++◌, map, length, Contains, Option, Some, Result, Ok, Err}
+use Rattle.std.specs.declared.vec.Vec.{Vec}
+use Rattle.std.specs.declared.alloc.Global.{Global}
+use Rattle.chain_laws.specs.Chains.{LinkMap}
+use Rattle.arena_traits.specs.Arena.{IsValid}
+use Rattle.arena_traits.specs.Entries.{ArenaView, ArenaState, first_key}
+use Rattle.chain_examples.specs.Lists.{Item, IsRing}
+use Rattle.triangulation.specs.declared.points.Point.{Point}
+use Rattle.triangulation.specs.declared.points.Triangle.{Triangle}
+use Rattle.triangulation.specs.declared.errors.TriangulationError.{TriangulationError}
+use Rattle.triangulation.specs.declared.errors.TriangulationError.TheVariants as why
+use Rattle.triangulation.specs.Triangulations.{polygon_area, triangle_area, IsTriangulation, IsInTriangle, BeginsWithEar, HasNoEar, IsClipping, IsStuck}
+
+-- The points of items.
+abbrev pub points : {Gen : Type 0} → List (Item Gen Point) → List Point
+points items = map (λ e. e.1) items
+
+-- The same polygon, listed from another corner.
+pub record IsSameOutline (corners turned : List Point) : Type 0 where
+  pub number : length turned ≡ length corners
+  pub area : polygon_area turned ≡ polygon_area corners
+  pub among : (p : Point) → Contains turned p → Contains corners p
+
+module _ {A Gen : Type 0} {view : A → ArenaView Gen Point} {entry : A → ℕ → Option (Gen × Point)} (state : (a : A) → ArenaState (view a) (entry a)) (interlinks : A → LinkMap) where
+  -- A ring from the corner of `p` on.
+  pub record IsRingFrom (arena : A) (p : ℕ × Gen) (items : List (Item Gen Point)) : Type 0 where
+    pub ring : IsRing state interlinks arena items
+    pub first : first_key items ≡ Some p
+
+  -- The triangle of `p` and the two corners after it, of which `corner` is the first.
+  abbrev pub IsEarAfter : A → ℕ × Gen → ℕ × Gen → Triangle → Type 0
+  IsEarAfter arena p corner t = (a c b : Item Gen Point) (rest : List (Item Gen Point)) → IsRingFrom arena p (a ∷ c ∷ b ∷ rest)
+      → (corner ≡ c.0) × (t.a ≡ a.1) × (t.b ≡ c.1) × (t.c ≡ b.1) × (pos 0 <ℤ triangle_area t)
+
+  -- The corners from `p` on, of which there are so many, do not begin with an ear.
+  abbrev pub SeesNoEar : A → ℕ × Gen → ℕ → Type 0
+  SeesNoEar arena p corners = (items : List (Item Gen Point)) → IsRingFrom arena p items → length items ≡ corners → BeginsWithEar (points items) → ⊥
+
+  -- No list of the ring of `start`, of so many corners, begins with an ear.
+  abbrev pub FindsNoEar : A → ℕ × Gen → ℕ → Type 0
+  FindsNoEar arena start corners = (items : List (Item Gen Point)) → IsRingFrom arena start items → length items ≡ corners → HasNoEar (points items)
+
+  -- One of the corners after `start`, up to two before it, is in the triangle.
+  abbrev pub HoldsCorner : A → ℕ × Gen → ℕ → Triangle → Type 0
+  HoldsCorner arena start corners t = (b : Item Gen Point) (rest more : List (Item Gen Point)) → IsRingFrom arena start (b ∷ rest ++ more) → length rest + 3 ≡ corners → (p : Point) × Contains (points rest) p × IsInTriangle t p
+
+  -- An ear of the ring of these items, at `corner` after `p`.
+  pub record HasEar (arena : A) (items : List (Item Gen Point)) (p corner : ℕ × Gen) (t : Triangle) : Type 0 where
+    pub last : Item Gen Point
+    pub rest : List (Item Gen Point)
+    pub ring : IsRing state interlinks arena ((p, t.a) ∷ (corner, t.b) ∷ last ∷ rest)
+    pub third : t.c ≡ last.1
+    pub outline : IsSameOutline (points items) (points ((p, t.a) ∷ (corner, t.b) ∷ last ∷ rest))
+    pub positive : pos 0 <ℤ triangle_area t
+
+  -- An ear is found in the ring of `start`, if it has three corners or more.
+  abbrev pub FindsEar : A → ℕ × Gen → (p corner : ℕ × Gen) → Triangle → Type 0
+  FindsEar arena start p corner t = (items : List (Item Gen Point)) → IsRingFrom arena start items → 3 ≤ length items → HasEar arena items p corner t
+
+  -- The ring of these items, listed from the corner of `p` on.
+  pub record IsTurned (arena : A) (items : List (Item Gen Point)) (p : ℕ × Gen) : Type 0 where
+    pub turned : List (Item Gen Point)
+    pub ring : IsRingFrom arena p turned
+    pub outline : IsSameOutline (points items) (points turned)
+
+  -- What is left of the ring of these items.
+  pub record IsRemaining (arena : A) (items : List (Item Gen Point)) (triangles : List Triangle) (p : ℕ × Gen) (left : ℕ) : Type 0 where
+    pub remaining : List (Item Gen Point)
+    pub ring : IsRingFrom arena p remaining
+    pub number : length remaining ≡ left
+    pub clipping : IsClipping (points items) triangles (points remaining)
+
+  -- A ring of these corners, from the first one on.
+  pub record IsRingOf (arena : A) (start : ℕ × Gen) (corners : List Point) : Type 0 where
+    pub items : List (Item Gen Point)
+    pub ring : IsRingFrom arena start items
+    pub all : points items ≡ corners
+
+  -- A ring of these corners, from the first one to the last.
+  pub record IsRingBetween (arena : A) (start last : ℕ × Gen) (corners : List Point) : Type 0 where
+    pub before : List (Item Gen Point)
+    pub point : Point
+    pub ring : IsRingFrom arena start (before ++ (last, point) ∷ [])
+    pub all : points (before ++ (last, point) ∷ []) ≡ corners
+
+module _ {A Gen : Type 0} {view : A → ArenaView Gen Point} {entry : A → ℕ → Option (Gen × Point)} (state : (a : A) → ArenaState (view a) (entry a)) (interlinks : A → LinkMap) where
+  -- `clip_ears`: the ring of `start`, with so many corners, is clipped to two corners, or why not.
+  abbrev pub ClipsEars : A → ℕ × Gen → ℕ → Result (Vec Triangle Global) TriangulationError → Type 0
+  ClipsEars arena start corners (Ok triangles) = (items : List (Item Gen Point)) → IsRingFrom state interlinks arena start items → length items ≡ corners → 2 ≤ corners → IsTriangulation (points items) triangles.items
+  ClipsEars arena start corners (Err why.InvalidPointer) = ⊥
+  ClipsEars arena start corners (Err why.TooFewCorners) = ⊥
+  ClipsEars arena start corners (Err why.NoEar) = (items : List (Item Gen Point)) → IsRingFrom state interlinks arena start items → length items ≡ corners → 2 ≤ corners → IsStuck (points items)
+  ClipsEars arena start corners (Err why.AllocError) = Unit {0}
+
+  -- `outline`: the points of the ring from `p` on, or why not.
+  abbrev pub ReadsOutline : A → ℕ × Gen → Result (Vec Point Global) TriangulationError → Type 0
+  ReadsOutline arena p (Ok read) = IsValid (entry arena) p × ((items : List (Item Gen Point)) → IsRingFrom state interlinks arena p items → points items ≡ read.items)
+  ReadsOutline arena p (Err why.InvalidPointer) = IsValid (entry arena) p → ⊥
+  ReadsOutline arena p (Err why.TooFewCorners) = ⊥
+  ReadsOutline arena p (Err why.NoEar) = ⊥
+  ReadsOutline arena p (Err why.AllocError) = IsValid (entry arena) p
+
+  -- `triangulate`: the ring from `p` on is triangulated, or why not.
+  abbrev pub Triangulates : A → ℕ × Gen → Result (Vec Triangle Global) TriangulationError → Type 0
+  Triangulates arena p (Ok triangles) = IsValid (entry arena) p × ((items : List (Item Gen Point)) → IsRingFrom state interlinks arena p items → IsTriangulation (points items) triangles.items)
+  Triangulates arena p (Err why.InvalidPointer) = IsValid (entry arena) p → ⊥
+  Triangulates arena p (Err why.TooFewCorners) = IsValid (entry arena) p × ((items : List (Item Gen Point)) → IsRingFrom state interlinks arena p items → length items < 3)
+  Triangulates arena p (Err why.NoEar) = IsValid (entry arena) p × ((items : List (Item Gen Point)) → IsRingFrom state interlinks arena p items → IsStuck (points items))
+  Triangulates arena p (Err why.AllocError) = IsValid (entry arena) p

@@ -1,0 +1,2 @@
+pub mod Triangulations
+pub mod Clippings

@@ -1,0 +1,67 @@
+//! Rings of corners, copied from lists and into them.
+
+ghost use Rattle.std.specs.Prelude.{◌≡◌, ◌∷◌, IfOk, IfErr};
+ghost use Rattle.triangulation.specs.Clippings.{IsRingOf, ReadsOutline};
+ghost use Rattle.triangulation.specs.declared.errors.TriangulationError.TheVariants as why;
+
+use crate::errors::TriangulationError;
+use crate::points::Point;
+use arena_ptr::PtrKey;
+use chain_examples::Mesh;
+use chain_traits::ChainArenaTrait;
+use std::alloc::Global;
+
+// Inserts a ring of corners and returns the pointer of the first one.
+pub fn insert_ring<P: PtrKey, A: ChainArenaTrait<P, Point> + Drop>(
+    ring: &mut Mesh<P, Point, A>,
+    first: Point,
+    others: &[Point],
+) -> Result<P, TriangulationError>
+    ensures ring { IfOk result (λ start. IsRingOf A.state A.interlinks ring.new (P.key start)
+        (first ∷ others.now)) }
+    ensures err { IfErr result (λ e. e ≡ why.AllocError) }
+{
+    let start = match ring.start(first) {
+        Ok(start) => start,
+        Err(_) => return Err(TriangulationError::AllocError),
+    };
+    let mut last = start;
+    for corner in others {
+        last = match ring.insert_after(last, *corner) {
+            Ok(corner) => corner,
+            Err(_) => return Err(TriangulationError::AllocError),
+        };
+    }
+    Ok(start)
+}
+
+// Returns the points of the polygon of `start`, from `start` on.
+pub fn outline<P: PtrKey, A: ChainArenaTrait<P, Point> + Drop>(
+    polygons: &Mesh<P, Point, A>,
+    alloc: Global,
+    start: P,
+) -> Result<Vec<Point>, TriangulationError>
+    ensures { ReadsOutline A.state A.interlinks polygons.now (P.key start) result }
+{
+    if polygons.get(start).is_none() {
+        return Err(TriangulationError::InvalidPointer);
+    }
+    polygons.all_in_polygons();
+    let mut points = Vec::new(alloc);
+    let mut at = start;
+    for _ in 0..polygons.len() {
+        let point = match polygons.get(at) {
+            Some(point) => *point,
+            None => unreachable!(),
+        };
+        points.push(point)?;
+        at = match polygons.next(at) {
+            Some(next) => next,
+            None => unreachable!(),
+        };
+        if at.is_same(start) {
+            return Ok(points);
+        }
+    }
+    unreachable!()
+}

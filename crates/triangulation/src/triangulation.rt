@@ -1,0 +1,63 @@
+//! Triangulation of a polygon of a mesh, or of a list of corners.
+
+ghost use Rattle.triangulation.specs.Triangulations.{TriangulatesPoints};
+ghost use Rattle.triangulation.specs.Clippings.{Triangulates};
+
+use crate::clipping::clip_ears;
+use crate::errors::TriangulationError;
+use crate::outlines::{insert_ring, outline};
+use crate::points::{Point, Triangle};
+use arena_ptr::PtrKey;
+use chain_examples::Mesh;
+use chain_traits::ChainArenaTrait;
+use std::alloc::Global;
+
+/// Triangulates a polygon of a mesh by ear clipping, and returns the triangles.
+///
+/// `start` is any of its corners. The mesh is only read: the ears are clipped from a copy.
+///
+/// The corners must turn counterclockwise. Each is a corner of some triangle, also if it is on the
+/// line through its neighbors. So `n` corners have `n - 2` triangles, whose areas add up to that of
+/// the polygon.
+///
+/// # Errors
+///
+/// - `InvalidPointer`: `start` is not valid.
+/// - `TooFewCorners`: the polygon has fewer than three corners.
+/// - `NoEar`: no remaining corner is an ear, as if the corners turn clockwise or sides cross.
+/// - `AllocError`: an allocation failed, or the copy exceeds the greatest index.
+pub fn triangulate<P: PtrKey, A: ChainArenaTrait<P, Point> + Drop>(
+    polygons: &Mesh<P, Point, A>,
+    alloc: Global,
+    start: P,
+) -> Result<Vec<Triangle>, TriangulationError>
+    ensures { Triangulates A.state A.interlinks polygons.now (P.key start) result }
+{
+    match outline(polygons, alloc, start) {
+        Ok(corners) => triangulate_points::<P, A>(alloc, &corners),
+        Err(e) => Err(e),
+    }
+}
+
+/// Triangulates the polygon with these corners, as `triangulate` does.
+///
+/// # Errors
+///
+/// - `TooFewCorners`: there are fewer than three corners.
+/// - `NoEar`: no remaining corner is an ear, as if the corners turn clockwise or sides cross.
+/// - `AllocError`: an allocation failed, or the corners exceed the greatest index.
+pub fn triangulate_points<P: PtrKey, A: ChainArenaTrait<P, Point> + Drop>(
+    alloc: Global,
+    corners: &[Point],
+) -> Result<Vec<Triangle>, TriangulationError>
+    ensures { TriangulatesPoints corners.now result }
+{
+    if corners.len() < 3 {
+        return Err(TriangulationError::TooFewCorners);
+    }
+    let mut ring: Mesh<P, Point, A> = Mesh::new(alloc);
+    match insert_ring(&mut ring, corners[0], &corners[1..]) {
+        Ok(start) => clip_ears(&mut ring, alloc, start, corners.len()),
+        Err(e) => Err(e),
+    }
+}

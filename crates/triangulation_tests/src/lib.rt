@@ -1,0 +1,5 @@
+//! Tests of `triangulation`.
+#![tactic(auto)]
+
+#[cfg(test)]
+mod tests;
