@@ -6,6 +6,7 @@ use arena_ptr::{Gen32, Inx32, PtrKey, ToolPtr};
 use memchr::memchr;
 
 /// Returns the first word of a text and the rest, or `None` if there is no word.
+#[inline(always)]
 pub fn next_word(text: &[u8]) -> Option<(&[u8], &[u8])>
     ensures { IsFirstWord (λ part. part.now) result text.now }
 {
@@ -17,6 +18,7 @@ pub fn next_word(text: &[u8]) -> Option<(&[u8], &[u8])>
 }
 
 /// Returns the parts of a text before and after the first such byte, or `None` if there is none.
+#[inline(always)]
 fn split_at_byte(byte: u8, text: &[u8]) -> Option<(&[u8], &[u8])>
     ensures { IsSplitAtByte byte (λ part. part.now) result text.now }
 {
@@ -38,6 +40,7 @@ pub fn next_line(text: &[u8]) -> Option<(&[u8], &[u8])>
 }
 
 /// Parses a number of 1 to 10 digits, up to 4294967295.
+#[inline(always)]
 pub fn number(word: &[u8]) -> Option<u32>
     ensures { result ≡ number_of word.now }
 {
@@ -55,6 +58,7 @@ pub fn number(word: &[u8]) -> Option<u32>
 }
 
 /// Parses an index: a number of at least 1.
+#[inline(always)]
 pub fn index(word: &[u8]) -> Option<Inx32>
     ensures { result ≡ index_word word.now }
 {
@@ -62,6 +66,7 @@ pub fn index(word: &[u8]) -> Option<Inx32>
 }
 
 /// Parses a pointer: an index, a dot and a generation.
+#[inline(always)]
 pub fn pointer(word: &[u8]) -> Option<ToolPtr>
     ensures { result ≡ pointer_of word.now }
 {
