@@ -103,7 +103,7 @@ module _ {A Gen : Type 0} {view : A → ArenaView Gen Point} {entry : A → ℕ 
 
   -- `triangulate`: the ring from `p` on is triangulated, or why not.
   abbrev pub Triangulates : A → ℕ × Gen → Result (Vec Triangle Global) TriangulationError → Type 0
-  Triangulates arena p (Ok triangles) = IsValid (entry arena) p × ((items : List (Item Gen Point)) → IsRingFrom state interlinks arena p items → IsTriangulation (points items) triangles.items)
+  Triangulates arena p (Ok triangles) = IsValid (entry arena) p × ((items : List (Item Gen Point)) → IsRingFrom state interlinks arena p items → (3 ≤ length items) × IsTriangulation (points items) triangles.items)
   Triangulates arena p (Err why.InvalidPointer) = IsValid (entry arena) p → ⊥
   Triangulates arena p (Err why.TooFewCorners) = IsValid (entry arena) p × ((items : List (Item Gen Point)) → IsRingFrom state interlinks arena p items → length items < 3)
   Triangulates arena p (Err why.NoEar) = IsValid (entry arena) p × ((items : List (Item Gen Point)) → IsRingFrom state interlinks arena p items → IsStuck (points items))

@@ -79,7 +79,7 @@ pub record IsStuck (corners : List Point) : Type 0 where
 
 -- `triangulate_points`: the corners are triangulated, or why they are not.
 abbrev pub TriangulatesPoints : List Point → Result (Vec Triangle Global) TriangulationError → Type 0
-TriangulatesPoints corners (Ok triangles) = IsTriangulation corners triangles.items
+TriangulatesPoints corners (Ok triangles) = (3 ≤ length corners) × IsTriangulation corners triangles.items
 TriangulatesPoints corners (Err why.InvalidPointer) = ⊥
 TriangulatesPoints corners (Err why.TooFewCorners) = length corners < 3
 TriangulatesPoints corners (Err why.NoEar) = IsStuck corners
