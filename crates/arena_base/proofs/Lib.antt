@@ -5,9 +5,12 @@ pub mod SlotPartitionLemmas
 pub mod FoldLemmas
 mod FreeListLemmas
 pub mod CompactedArenaLemmas
+mod CloneLemmas
 mod DetachedSlotLemmas
+mod ExchangeLemmas
 pub mod PackedSlotLemmas
 pub mod EntryRangeLemmas
+pub mod ExchangeLemmas
 pub mod ArenaGrowthLemmas
 pub mod SlotLemmas
 mod SoundnessLemmas

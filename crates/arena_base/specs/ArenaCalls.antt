@@ -1,11 +1,11 @@
 -- What the calls on an arena return, and what they change.
-use Rattle.std.specs.Prelude.{◌≡◌, ℕ, ◌+◌, ◌^◌, ◌<◌, ◌≤◌, ◌↔◌, min, Bool, IsTrue, List, [], ◌∷◌, map, drop, length, Option, None, slice_index_or, IfSome, IfNone}
+use Rattle.std.specs.Prelude.{◌≡◌, ℕ, ◌+◌, ◌^◌, ◌<◌, ◌≤◌, ◌↔◌, min, Bool, IsTrue, List, [], ◌∷◌, map, drop, length, Option, None, Some, slice_index_or, IfSome, IfNone}
 use Rattle.std.specs.Borrow.{Bor}
 use Rattle.std.specs.Option.{option_map}
 use Rattle.arena_core.specs.Invalidation.{invalidation_option}
 use Rattle.arena_core.specs.declared.invalidation.InvalidationOption.{InvalidationOption}
 use Rattle.arena_core.specs.declared.packed_option.PackedOption.{PackedOption}
-use Rattle.arena_traits.specs.Arena.{Arena, entry_count, invalidate_at, with_counter, HasCapacityFor}
+use Rattle.arena_traits.specs.Arena.{Arena, entry_at, entry_count, invalidate_at, with_counter, with_value, HasCapacityFor}
 use Rattle.arena_traits.specs.Compressions.{counter_after_compression, overflows_after_compression}
 use Rattle.arena_traits.specs.Entries.{entries, entries_from, key_at, IsNextEntry}
 use Rattle.arena_base.specs.DetachedSlots.{DetachedView, detached_of, arena_without_slots}
@@ -50,6 +50,10 @@ TakesNext key from old result new = record {
 }
 
 module _ {Gen T : Type 0} where
+  -- The entries at two indexes have each other's value.
+  abbrev pub IsExchanged : Arena Gen T → ℕ → ℕ → Arena Gen T → Type 0
+  IsExchanged old i j new = (g h : Gen) (t u : T) → entry_at old i ≡ Some (g, t) → entry_at old j ≡ Some (h, u) → new ≡ with_value (with_value old i u) j t
+
   -- There are as many entries as the capacity, or not.
   abbrev pub ReportsFull : ℕ → Arena Gen T → Bool → Type 0
   ReportsFull greatest a result = record {

@@ -28,6 +28,21 @@ module _ {S P T Inx Gen Word : Type 0} (items : S → List (ArenaSlot P T Inx Ge
     bounds : KeepsBounds capacity maximum old new;
   }
 
+  -- The entry at position k gets the value t, and its former value is returned.
+  abbrev pub ReplacesValueAt : ℕ → T → S → T → S → Type 0
+  ReplacesValueAt k t old result new = record {
+    items : (g : Gen) (u : T) → slice_get (items old) k ≡ Some (allocated_slot g u) → (result ≡ u) × (items new ≡ slice_set (items old) k (allocated_slot g t));
+    bounds : KeepsBounds capacity maximum old new;
+  }
+
+  -- The entries at positions k and m have each other's value.
+  abbrev pub ExchangesValuesAt : ℕ → ℕ → S → S → Type 0
+  ExchangesValuesAt k m old new = record {
+    items : (g h : Gen) (t u : T) → slice_get (items old) k ≡ Some (allocated_slot g t) → slice_get (items old) m ≡ Some (allocated_slot h u)
+        → items new ≡ slice_set (slice_set (items old) k (allocated_slot g u)) m (allocated_slot h t);
+    bounds : KeepsBounds capacity maximum old new;
+  }
+
   -- The free slot at position k gets an entry, and the freed index that it named is returned.
   abbrev pub FillsSlot : ℕ → Gen → T → S → PackedOption Inx Word → S → Type 0
   FillsSlot k generation t old result new = record {

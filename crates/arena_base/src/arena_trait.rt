@@ -212,9 +212,12 @@ impl<P: PtrKey, T: Drop, S: SlotStack<Item = ArenaSlot<P, T>>> PlainArenaTrait<P
     for Arena<P, T, S> {
     ghost use Rattle.std.specs.Prelude.{◌≡◌, ◌+◌};
     ghost use Rattle.arena_traits.specs.Arena.{entry_count, insert_next, with_capacity_of, IsWithinReach};
+    ghost use Rattle.arena_base.specs.ArenaCalls.{IsExchanged};
 
     ghost inserts = { λ a t b. (b ≡ with_capacity_of (insert_next a t) b)
         × IsWithinReach S.may_reach (entry_count a + 1) a b };
+
+    ghost swaps = { IsExchanged };
 
     fn insert_within_capacity(&mut self, t: T) -> Result<P, NotWithinCapacityError> {
         self.invariants();
@@ -224,6 +227,16 @@ impl<P: PtrKey, T: Drop, S: SlotStack<Item = ArenaSlot<P, T>>> PlainArenaTrait<P
     fn insert_reallocating(&mut self, t: T) -> Result<P, ReallocationError> {
         self.invariants();
         Arena::insert_reallocating(self, t)
+    }
+
+    fn swap(&mut self, p: P, q: P) -> Option<()> {
+        if !self.contains(p) || !self.contains(q) {
+            return None;
+        }
+        if number_of::<P>(p.inx()) != number_of::<P>(q.inx()) {
+            self.exchange_at(p.inx(), q.inx());
+        }
+        Some(())
     }
 }
 

@@ -6,7 +6,8 @@ use crate::arena::Arena;
 use crate::copy_traits::{ArenaCloneFromWith, ValueMap};
 use crate::slot::{ArenaSlot, inx_at};
 use arena_core::{AllocError, InxKey, PtrKey, ReallocationError, SlotStack, proved_unreachable};
-use arena_traits::ArenaTrait;
+use arena_traits::{ArenaTrait, CloneArenaTrait};
+use std::alloc::Global;
 
 /// A `ValueMap` by a closure, which is called with the pointer and the value of each entry.
 #[derive(Drop)]
@@ -116,5 +117,36 @@ impl<P: PtrKey, T: Drop, S: SlotStack<Item = ArenaSlot<P, T>>> ArenaCloneFromWit
         values: M,
     ) -> (Result<(), ReallocationError>, M) {
         Arena::clone_from_by(self, source, values)
+    }
+}
+
+// Clones each value for a copy.
+#[derive(Drop)]
+struct ValueClones;
+
+impl<P: PtrKey, T: Clone> ValueMap<P, T, T> for ValueClones {
+    ghost use Rattle.std.specs.Prelude.{⊤};
+
+    ghost is_ready = { λ _. ⊤ };
+
+    ghost makes = { λ _ _ u t _. T.is_clone u t };
+
+    ghost may_refuse = { λ _ u. ¬ (T.is_infallible u) };
+
+    fn map_value(&mut self, _p: P, u: &T) -> Result<T, AllocError> {
+        let t = u.clone()?;
+        Ok(t)
+    }
+}
+
+impl<P: PtrKey, T: Clone, S: SlotStack<Item = ArenaSlot<P, T>>> CloneArenaTrait<P, T>
+    for Arena<P, T, S> {
+    fn try_clone(&self, alloc: Global) -> Result<Self, ReallocationError> {
+        let mut copy: Arena<P, T, S> = Arena::new(alloc);
+        let (done, _) = copy.clone_from_by(self, ValueClones);
+        match done {
+            Ok(()) => Ok(copy),
+            Err(e) => Err(e),
+        }
     }
 }

@@ -11,6 +11,7 @@ mod copy;
 mod copy_traits;
 mod detached_slots;
 mod entry;
+mod exchange;
 mod free_list;
 mod iterators;
 mod slot;
@@ -20,8 +21,8 @@ pub use advancer::PtrAdvancer;
 pub use arena::Arena;
 pub use arena_core::{assume_proved, proved_unreachable};
 pub use arena_traits::{
-    Advancer, ArenaTrait, CompactArenaTrait, PlainArenaTrait, entries_determine_occupancy,
-    writes_change_one_value,
+    Advancer, ArenaTrait, CloneArenaTrait, CompactArenaTrait, PlainArenaTrait,
+    entries_determine_occupancy, writes_change_one_value,
 };
 pub use compactor::{Compactor, SlotAccess, Work};
 pub use copy::ClosureMap;

@@ -9,7 +9,7 @@ use Rattle.arena_core.specs.declared.invalidation.InvalidationOption.{Invalidati
 use Rattle.arena_core.specs.declared.invalidation.InvalidationResult.{InvalidationResult}
 use Rattle.arena_core.specs.declared.invalidation.InvalidationResult.TheVariants.{Success, GenerationOverflow, InvalidPtr}
 use Rattle.arena_traits.specs.Arena.{IsValid, IsInserted, overflows_after_clear}
-use Rattle.arena_traits.specs.Entries.{ArenaView, ArenaState, count, HasFreeCapacity, IsNew, next_slot, with_next_filled, view_with_value, view_after_removal, view_after_invalidation, view_after_clear}
+use Rattle.arena_traits.specs.Entries.{ArenaView, ArenaState, count, HasFreeCapacity, IsNew, next_slot, with_next_filled, with_totals_zero, view_with_value, view_after_removal, view_after_invalidation, view_after_clear}
 use Rattle.arena_traits.specs.Growth.{IsFull, IsGrowthResult, RefusesOneMore, GrowsForOneMore}
 use Rattle.arena_traits.specs.Compressions.{IsCompressed, overflows_after_compression}
 
@@ -55,6 +55,13 @@ module _ {A Gen T : Type 0} {view : A → ArenaView Gen T} {entry : A → ℕ �
     ReplacesValue old p t None new = IsValid (entry old) (key p) → ⊥
     ReplacesValue old p t (Some former) new = (entry old (key p).0 ≡ Some ((key p).1, former)) × (view new ≡ view_with_value (view old) (key p).0 t)
 
+    -- `swap`: the entries of p and q have each other's value, if both pointers are valid.
+    abbrev pub SwapsValues : A → P → P → Option (Unit {0}) → A → Type 0
+    SwapsValues old p q None new = IsValid (entry old) (key p) → IsValid (entry old) (key q) → ⊥
+    SwapsValues old p q (Some done) new = (t u : T) × (entry old (key p).0 ≡ Some ((key p).1, t))
+        × (entry old (key q).0 ≡ Some ((key q).1, u))
+        × (view new ≡ view_with_value (view_with_value (view old) (key p).0 u) (key q).0 t)
+
 module _ {A Gen T : Type 0} {view : A → ArenaView Gen T} {entry : A → ℕ → Option (Gen × T)} (state : (a : A) → ArenaState (view a) (entry a)) {P I W : Type 0} (pointers : PointerKind P I Gen W) where
   -- The value t of the entry at i, with generation g, is removed.
   abbrev pub IsEntryRemoved : A → ℕ → Gen → T → A → Type 0
@@ -94,3 +101,15 @@ module _ {A Gen T : Type 0} {view : A → ArenaView Gen T} {entry : A → ℕ �
     compressed : IsCompressed pointers.first pointers.following reset (view old) (view new);
     overflow : IfSome (view old).counter (λ g. result ≡ invalidation_option (overflows_after_compression pointers.wraps reset (count (view old)) g) tt);
   }
+
+-- A copy of an arena: the same entries, counter and freed list. Its totals begin at 0, and it has
+-- its own capacity and maximum.
+pub record IsCopied {Gen T : Type 0} (old copy : ArenaView Gen T) : Type 0 where
+  pub entries : copy.entries ≡ old.entries
+  pub counter : copy.counter ≡ old.counter
+  pub slots : copy.slots ≡ option_map with_totals_zero old.slots
+
+-- `try_clone`: a copy is made, or memory for slots or values was refused.
+abbrev pub MakesCopy : {A Gen T E : Type 0} → (A → ArenaView Gen T) → A → Result A E → Type 0
+MakesCopy view old (Ok copy) = IsCopied (view old) (view copy)
+MakesCopy view old (Err why) = IfSome (view old).slots (λ slots. 0 < slots.count)

@@ -40,6 +40,10 @@ count_with_next (i ∷ freed) n = n
 abbrev pub with_next_filled : Slots → Slots
 with_next_filled slots = record slots { count = count_with_next slots.freed slots.count; freed = without_first slots.freed; placed = slots.placed + 1 }
 
+-- The same slots, with nothing counted.
+abbrev pub with_totals_zero : Slots → Slots
+with_totals_zero slots = record slots { placed = 0; touched = 0 }
+
 -- No slots are left.
 abbrev pub without_slots : Slots → Slots
 without_slots slots = record slots { count = 0; freed = [] }

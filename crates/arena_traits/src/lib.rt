@@ -7,4 +7,4 @@ mod traits;
 
 pub use cursor::Cursor;
 pub use entry_laws::{entries_determine_occupancy, writes_change_one_value};
-pub use traits::{Advancer, ArenaTrait, CompactArenaTrait, PlainArenaTrait};
+pub use traits::{Advancer, ArenaTrait, CloneArenaTrait, CompactArenaTrait, PlainArenaTrait};

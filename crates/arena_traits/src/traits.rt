@@ -7,7 +7,7 @@ ghost use Rattle.arena_core.specs.Invalidation.{value_within};
 ghost use Rattle.arena_traits.specs.Arena.{IsValid, borrowed_entry};
 ghost use Rattle.arena_traits.specs.Entries.{ArenaView, ArenaState, IsSoundView, IsNew, count, first_key, last_key, view_with_value};
 ghost use Rattle.arena_traits.specs.Growth.{Reserves};
-ghost use Rattle.arena_traits.specs.CallOutcomes.{StartsWithCapacity, ReplacesValue, InsertsEntryWithin, InsertsEntry, RemovesEntry, RemovesEntryAt, InvalidatesEntry, ClearsEntries, CompressesEntries};
+ghost use Rattle.arena_traits.specs.CallOutcomes.{StartsWithCapacity, MakesCopy, ReplacesValue, SwapsValues, InsertsEntryWithin, InsertsEntry, RemovesEntry, RemovesEntryAt, InvalidatesEntry, ClearsEntries, CompressesEntries};
 ghost use Rattle.arena_traits.specs.Advancers.{IsAdvance};
 ghost use Rattle.arena_traits.specs.Compressions.{VisitsAll, values_in};
 ghost use Rattle.arena_traits.specs.declared.cursor.Cursor.{Cursor};
@@ -300,6 +300,9 @@ pub trait PlainArenaTrait<P: PtrKey, T: Drop>: ArenaTrait<P, T> {
     // An arena's own guarantee for the insertion of a value into the first arena.
     ghost inserts: { Self → T → Self → Type 0 } = { λ _ _ _. ⊤ };
 
+    // An arena's own guarantee for the exchange of the values at two indexes of the first arena.
+    ghost swaps: { Self → ℕ → ℕ → Self → Type 0 } = { λ _ _ _ _. ⊤ };
+
     /// Inserts a value within the capacity and returns its pointer.
     ///
     /// No entry was at its index. Its generation is the counter, which does not change. Does not
@@ -331,4 +334,29 @@ pub trait PlainArenaTrait<P: PtrKey, T: Drop>: ArenaTrait<P, T> {
         ensures outcome { InsertsEntry Self.state P.key P.Inx.greatest self.old t result self.new }
         ensures err { OnErr result (self.new ≡ self.old) }
         ensures implementation { OnOk result (inserts self.old t self.new) };
+
+    /// Exchanges the values of two entries, or returns `None` if `p` or `q` is not valid.
+    ///
+    /// Pointers and generations stay. With `None` nothing changes, nor does it if `p` is `q`.
+    fn swap(&mut self, p: P, q: P) -> Option<()>
+        ensures outcome { SwapsValues Self.state P.key self.old p q result self.new }
+        ensures invalid { IfNone result (self.new ≡ self.old) }
+        ensures implementation { OnSome result (swaps self.old (P.key p).0 (P.key q).0 self.new) };
+}
+
+/// A plain arena of which a copy can be made.
+///
+/// Not in `triple_arena`, where `Clone` is implemented, which cannot report that memory was refused.
+pub trait CloneArenaTrait<P: PtrKey, T: Clone>: PlainArenaTrait<P, T> {
+    /// Returns a copy over new slots, with clones of the values, which have to equal them.
+    ///
+    /// All pointers are valid in the copy, too. A maximum is not copied.
+    ///
+    /// # Errors
+    ///
+    /// - `BeyondMaxCapacity`: there are more slots than the maximum of new slots.
+    /// - `AllocError`: an allocation failed, for the slots or in the clone of a value.
+    fn try_clone(&self, alloc: Global) -> Result<Self, ReallocationError>
+        requires clones_equal { (x y : T) → T.is_clone x y → y ≡ x }
+        ensures { MakesCopy Self.view self.now result };
 }
