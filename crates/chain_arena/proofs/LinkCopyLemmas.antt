@@ -15,7 +15,8 @@ use Rattle.arena_traits.specs.Arena.{Arena, slot_at, new_arena}
 use Rattle.arena_traits.specs.Entries.{ArenaView, Slots, entries_from, entries}
 use Rattle.arena_base.specs.Copies.{Copied, Makes, CopiesBy, IsCopyBy, IsCopyCall, HasRefusable, HasSlotsOf, IsAbandonedCopy, generations}
 use Rattle.chain_links.specs.declared.links.RawLink.{RawLink}
-use Rattle.chain_links.specs.ChainArena.{LinkView, on_value, interlinks_in, interlinks_of, link_map, values_of}
+use Rattle.chain_links.specs.ChainArena.{LinkView, on_value, interlinks_in, interlinks_of, link_map, value_view, values_of}
+use Rattle.chain_traits.specs.Clones.{CopiesLinks}
 use Rattle.chain_links.specs.Links.{link_view, links_view, pair_view, held_in, destination_of, AreAtRest}
 use Rattle.chain_arena.specs.LinkCopies.{MakesLink, MakesOf, RefusesOf, IsLinkCopyBy, IsClone, CopiesOrRefuses, CopiesOrLacksCapacity, ClonesOrRefuses}
 use Rattle.arena_base.proofs.SlotCopyLemmas.{made_by, copy_by}
@@ -266,6 +267,23 @@ pub refuses_clone : {Gen T : Type 0} (may_reach : ℕ → Option ℕ → ℕ →
     → (r ≡ Err refused.BeyondMaxCapacity) ↔ IsBeyond maximum (length source.slots) → ClonesOrRefuses may_reach greatest first maximum source (Err why)
 refuses_clone may_reach greatest first maximum source r refused.BeyondMaxCapacity is known = known.0 is
 refuses_clone may_reach greatest first maximum source r refused.AllocError is known = λ over. let h = sym is ∙ known.1 over in absurd (cc)
+
+-- A clone, as generic code sees it.
+pub copies_links : {Gen T : Type 0} (may_reach : ℕ → Option ℕ → ℕ → ℕ → Type 0) (greatest : ℕ) (first : Gen) (maximum : Option ℕ) (source : Arena Gen (LinkView T)) (r : Result (Arena Gen (LinkView T)) ReallocationError)
+    → ClonesOrRefuses may_reach greatest first maximum source r → (source.slots ≡ [] → IsOk r) → CopiesLinks value_view link_map source r
+copies_links {Gen} {T} may_reach greatest first maximum source (Ok copy) cloned none = (
+  record {
+    entries = ap (λ (a : Arena Gen (LinkView T)). (value_view a).entries) cloned.0;
+    counter = ap (λ (a : Arena Gen (LinkView T)). (value_view a).counter) cloned.0;
+    slots = ap (λ (a : Arena Gen (LinkView T)). (value_view a).slots) cloned.0;
+  },
+  ap (λ (a : Arena Gen (LinkView T)). link_map a) cloned.0,
+)
+copies_links {Gen} {T} may_reach greatest first maximum source (Err why) cloned none = omega (arith, some source.slots (λ is. false≢true (none is)), length-with_each {X = LinkView T} (λ l. l.value) source)
+  where
+    some : {X : Type 0} (xs : List X) → (xs ≡ [] → ⊥) → 1 ≤ length xs
+    some [] filled = absurd (filled refl)
+    some (x ∷ xs) filled = omega arith
 
 -- What follows from a success and from either sort of refusal.
 pub either_way : {X E A B C D N : Type 0} (r : Result X E) → (A → B → C) → (D → C) → (N → C) → OnOk r A → OnOk r B → OnErr r (D ⊎ N) → C

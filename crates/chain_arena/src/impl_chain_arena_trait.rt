@@ -17,7 +17,8 @@ use chain_linking::link_writes::{link_pairs, neighbors, write_beside};
 use chain_linking::reversal::turn_walk;
 use chain_links::links::is_index;
 use chain_links::{Link, LinkInsertKind, LinkNoGen};
-use chain_traits::ChainArenaTrait;
+use chain_traits::{ChainArenaTrait, CloneChainArenaTrait};
+use std::alloc::Global;
 
 impl<P: PtrKey, T: Drop, S: SlotStack<Item = ArenaSlot<P, LinkNoGen<P, T>>>> ChainArenaTrait<P, T>
     for ChainArena<P, T, S> {
@@ -278,5 +279,12 @@ pub(crate) fn link_alone<G: Drop, L>(removed: InvalidationResult<(G, L)>) -> Inv
             link,
         ),
         InvalidationResult::InvalidPtr => InvalidationResult::InvalidPtr,
+    }
+}
+
+impl<P: PtrKey, T: Clone, S: SlotStack<Item = ArenaSlot<P, LinkNoGen<P, T>>>>
+    CloneChainArenaTrait<P, T> for ChainArena<P, T, S> {
+    fn try_clone(&self, alloc: Global) -> Result<Self, ReallocationError> {
+        ChainArena::clone(self, alloc)
     }
 }

@@ -65,7 +65,7 @@ pub use chain_linking::{ChainBackIter, ChainIter, links_agree};
 pub use chain_links::{
     InsertKind, Link, LinkInsertKind, LinkNoGen, RawLink, links_compare_by_neighbors,
 };
-pub use chain_traits::ChainArenaTrait;
+pub use chain_traits::{ChainArenaTrait, CloneChainArenaTrait};
 pub use chains::ChainHead;
 pub use insert_entry::ChainArenaInsertEntry;
 pub use iterators::ValIter;

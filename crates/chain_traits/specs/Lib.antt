@@ -1,3 +1,4 @@
+pub mod Clones
 pub mod DrainOrder
 pub mod CompressionLaws
 pub mod ChainVisits

@@ -12,6 +12,7 @@ mod CallLemmas
 mod WriteLemmas
 mod UnionLemmas
 mod SplitLemmas
+mod SwapLemmas
 mod KeySetLemmas
 mod HistoryLemmas
 mod EntrySumLemmas

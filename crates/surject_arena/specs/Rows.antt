@@ -1,4 +1,5 @@
 -- The ghost members of the traits of arenas, for the row of `SurjectArena` in loans.
+use Rattle.std.specs.Prelude.{ℕ}
 use Rattle.chain_laws.specs.Chains.{LinkMap}
 use Rattle.chain_laws.specs.Walks.{Walker}
 use Rattle.chain_laws.specs.declared.insert_kind.InsertKind.{InsertKind}
@@ -22,6 +23,6 @@ chain_members interlinks walker inserts connects breaks_prev breaks_next exchang
   compresses_canonically = compresses_canonically;
 }
 
--- The member that `PlainArenaTrait` adds to an arena.
-abbrev pub plain_members : {A P T D I G W : Type 0} → (A → T → A → Type 0) → PlainGhosts A P T D I G W
-plain_members inserts = record { inserts = inserts }
+-- The members that `PlainArenaTrait` adds to an arena.
+abbrev pub plain_members : {A P T D I G W : Type 0} → (A → T → A → Type 0) → (A → ℕ → ℕ → A → Type 0) → PlainGhosts A P T D I G W
+plain_members inserts swaps = record { inserts = inserts; swaps = swaps }

@@ -10,7 +10,7 @@ use Rattle.arena_core.specs.declared.invalidation.InvalidationResult.{Invalidati
 use Rattle.arena_core.specs.Invalidation.{invalidation_option}
 use Rattle.arena_core.specs.declared.invalidation.InvalidationOption.{InvalidationOption}
 use Rattle.arena_traits.specs.Arena.{IsInserted, overflows_after_clear}
-use Rattle.arena_traits.specs.CallOutcomes.{ReportsOverflow}
+use Rattle.arena_traits.specs.CallOutcomes.{ReportsOverflow, IsCopied}
 use Rattle.arena_traits.specs.Entries.{ArenaView, IsNew, index_of, count, with_capacity, next_slot, with_next_filled, view_with_value, view_after_removal, view_after_clear}
 use Rattle.arena_traits.specs.Growth.{IsGrowthResult, RefusesOneMore, GrowsForOneMore}
 use Rattle.chain_links.specs.Insertions.{IsInsertionResult}
@@ -130,6 +130,27 @@ module _ {Gen K V : Type 0} where
       pub keys : new.keys ≡ old.keys
       pub redirected : new.redirected ≡ old.redirected
 
+    -- The sets v and w have each other's value.
+    pub record AreValuesSwapped (v w : ℕ × Gen) : Type 0 where
+      pub first_value : V
+      pub first_size : ℕ
+      pub first_valued : HasValue old v first_value first_size
+      pub second_value : V
+      pub second_size : ℕ
+      pub second_valued : HasValue old w second_value second_size
+      pub values : new.values ≡ view_with_value (view_with_value old.values v.0 (second_value, first_size)) w.0 (first_value, second_size)
+      pub keys : new.keys ≡ old.keys
+      pub redirected : new.redirected ≡ old.redirected
+
+    -- The set v of p and the set w of q have each other's value, or they are one set and nothing
+    -- changes.
+    pub record AreSetsSwapped (p q : ℕ × Gen) : Type 0 where
+      pub v : ℕ × Gen
+      pub w : ℕ × Gen
+      pub first : IsKeyOf old v p
+      pub second : IsKeyOf old w q
+      pub swapped : ((v ≡ w) × (new ≡ old)) ⊎ ((v.0 ≢ w.0) × AreValuesSwapped v w)
+
     -- The key at p is in a new set, which has the value t. Its former set counts one key less.
     pub record IsKeySetApart (p : ℕ × Gen) (t : V) : Type 0 where
       pub set : ℕ × Gen
@@ -180,6 +201,11 @@ module _ {Gen K V : Type 0} where
   ReplacesValueOf key old p t None new = IsKey old (key p) → ⊥
   ReplacesValueOf key old p t (Some former) new = IsValueReplaced old new (key p) t former
 
+  -- `swap_vals`: the sets of p and q have each other's value, if both are valid.
+  abbrev pub SwapsValuesOf : {P : Type 0} → (P → ℕ × Gen) → Surjection Gen K V → P → P → Option (Unit {0}) → Surjection Gen K V → Type 0
+  SwapsValuesOf key old p q None new = IsKey old (key p) → IsKey old (key q) → ⊥
+  SwapsValuesOf key old p q (Some done) new = AreSetsSwapped old new (key p) (key q)
+
   -- `split_key`: the key of p comes to be alone in its set, or it could not. Only a key that shares
   -- its set needs capacity for a value.
   abbrev pub SplitsKey : {P : Type 0} → (P → ℕ × Gen) → ℕ → Surjection Gen K V → P → V → Result (Option V) ChainInsertionError → Surjection Gen K V → Type 0
@@ -194,6 +220,11 @@ module _ {Gen K V : Type 0} where
     redirected : new.redirected ≡ old.redirected;
     overflow : IfSome old.keys.counter (λ g. result ≡ invalidation_option (overflows_after_clear pointers.wraps (count old.keys) g) tt);
   }
+
+  -- `clone`: a copy of both arenas is made, or memory for slots, keys or values was refused.
+  abbrev pub CopiesSets : {E : Type 0} → Surjection Gen K V → Result (Surjection Gen K V) E → Type 0
+  CopiesSets old (Ok copy) = IsCopied old.keys copy.keys × IsCopied old.values copy.values × (copy.redirected ≡ old.redirected)
+  CopiesSets old (Err why) = IfSome old.keys.slots (λ slots. 0 < slots.count) ⊎ IfSome old.values.slots (λ slots. 0 < slots.count)
 
   -- `get_key`, `get_val`, `len_key_set`: the key of p, the value of its set, and how many keys have
   -- it, if p is valid.

@@ -6,6 +6,7 @@
 //! and taken apart.
 #![tactic(auto)]
 
+mod clones;
 mod compression;
 mod histories;
 mod iter;

@@ -12,14 +12,14 @@ ghost use Rattle.surject_arena.specs.KeySets.{ListsSet, all_pointers};
 ghost use Rattle.surject_arena.specs.SetCompressions.{CompressesSets, keys_in};
 ghost use Rattle.surject_arena.specs.SetRemovals.{IsSetReduced, RemovesSet};
 ghost use Rattle.surject_arena.specs.Rows.{chain_members, plain_members};
-ghost use Rattle.surject_arena.specs.SetCalls.{StartsEmpty, StartsWithCapacities, ClearsSets, IsSetAdded, IsAbsorbed, InsertsSet, InsertsKey, UnitesSets, RemovesKey, IsKeyReplaced, IsValueReplaced, IsKeySetApart, SplitsKey, ReplacesValueOf, ReadsKey, ReadsValue, CountsKeys, GrowsKeys};
+ghost use Rattle.surject_arena.specs.SetCalls.{StartsEmpty, StartsWithCapacities, ClearsSets, IsSetAdded, IsAbsorbed, InsertsSet, InsertsKey, UnitesSets, RemovesKey, IsKeyReplaced, IsValueReplaced, IsKeySetApart, SplitsKey, ReplacesValueOf, SwapsValuesOf, CopiesSets, ReadsKey, ReadsValue, CountsKeys, GrowsKeys};
 
 use crate::compression::{Names, compress_keys, compress_values, places_of};
 use crate::iter::{Iter, all_keys};
 use crate::key_set::{KeySet, keys_from};
 use crate::keys::{is_in_set, key_after, leave_ring, put_into, redirect, set_of};
 use crate::members::{Counted, Member};
-use crate::values::{release, replace_value, set_size, size_of, take_value};
+use crate::values::{release, replace_value, set_size, size_of, swap_values, take_value};
 use arena_ptr::{
     AllocError, AnyPointer, ChainInsertionError, GenKey, InvalidationOption, InvalidationResult,
     InxKey, PtrKey, ReallocationError,
@@ -48,10 +48,10 @@ pub struct SurjectArena<
     A: ChainArenaTrait<P, Member<P, K>> + Drop,
     B: PlainArenaTrait<P, Counted<V>> + Drop,
 > {
-    keys: A,
-    values: B,
-    redirected: u128,
-    of: PhantomData<(P, K, V)>,
+    pub(crate) keys: A,
+    pub(crate) values: B,
+    pub(crate) redirected: u128,
+    pub(crate) of: PhantomData<(P, K, V)>,
 }
 
 impl<
@@ -247,7 +247,7 @@ impl<
             P.Gen.GenKey (chain_members A.interlinks A.walker A.inserts A.connects A.breaks_prev
             A.breaks_next A.exchanges A.reverses A.moves A.splices A.compresses_canonically)
             A.ArenaTrait A.PtrAdvancer.Advancer A.ChainPtrAdvancer.Advancer
-            (plain_members B.inserts) B.ArenaTrait B.PtrAdvancer.Advancer)
+            (plain_members B.inserts B.swaps) B.ArenaTrait B.PtrAdvancer.Advancer)
             K.row self.entry result
             (λ new k. IfSome result (λ was. IsKeyReplaced self.old new (P.key p) k was.now))
             (λ new. new ≡ self.old)) }
@@ -272,7 +272,7 @@ impl<
             P.Gen.GenKey (chain_members A.interlinks A.walker A.inserts A.connects A.breaks_prev
             A.breaks_next A.exchanges A.reverses A.moves A.splices A.compresses_canonically)
             A.ArenaTrait A.PtrAdvancer.Advancer A.ChainPtrAdvancer.Advancer
-            (plain_members B.inserts) B.ArenaTrait B.PtrAdvancer.Advancer)
+            (plain_members B.inserts B.swaps) B.ArenaTrait B.PtrAdvancer.Advancer)
             V.row self.entry result
             (λ new t. IfSome result (λ was. IsValueReplaced self.old new (P.key p) t was.now))
             (λ new. new ≡ self.old)) }
@@ -470,6 +470,23 @@ impl<
         }
     }
 
+    /// Exchanges the values of the sets of `p` and `q`.
+    ///
+    /// The sets keep their keys. If they are one set, nothing changes. Returns `None` if `p` or `q`
+    /// is not the pointer of a key; nothing changes then.
+    pub fn swap_vals(&mut self, p: P, q: P) -> Option<()>
+        ensures outcome { SwapsValuesOf P.key self.old p q result self.new }
+        ensures none { IfNone result (self.new ≡ self.old) }
+    {
+        let v = set_of(&self.keys, p)?;
+        let w = set_of(&self.keys, q)?;
+        if v.is_same(w) {
+            return Some(());
+        }
+        swap_values(&mut self.values, v, w);
+        Some(())
+    }
+
     // Puts a key that is not alone in its set `w` into a new set, which has the value `v`.
     fn set_apart(&mut self, p: P, w: P, v: V) -> Result<(), ReallocationError>
         requires key { IsKeyOf self.old (P.key w) (P.key p) }
@@ -587,7 +604,8 @@ impl<
     ) -> Result<InvalidationOption<()>, AllocError>
         ensures outcome { CompressesSets ⟦<P as AnyPointer>⟧.pointers self.old reset result
             self.new }
-        ensures keys { IfOk result (λ _. values_in (keys_in self.new) ≡ values_in (keys_in self.old)) }
+        ensures keys { IfOk result (λ _. values_in (keys_in self.new)
+            ≡ values_in (keys_in self.old)) }
         ensures err { OnErr result (self.new ≡ self.old) }
     {
         self.compress_with(alloc, reset, |_p: P, _k: &mut K, _q: P| {})

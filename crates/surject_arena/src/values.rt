@@ -1,11 +1,11 @@
 // Calls on the arena of values, each with the number of its keys.
-ghost use Rattle.std.specs.Prelude.{◌≡◌, ◌≤◌, ◌<◌, ◌-◌, ℕ, Some, None};
+ghost use Rattle.std.specs.Prelude.{◌≡◌, ◌≢◌, ◌≤◌, ◌<◌, ◌-◌, ℕ, Some, None};
 ghost use Rattle.arena_traits.specs.Entries.{view_with_value, view_after_removal};
 ghost use Rattle.surject_arena.specs.Partitions.{counted, size_in};
 
 use crate::members::Counted;
 use arena_ptr::{GenKey, InxKey, PtrKey};
-use arena_traits::ArenaTrait;
+use arena_traits::{ArenaTrait, PlainArenaTrait};
 use std::mem;
 
 // Returns the number of keys of a value.
@@ -48,6 +48,25 @@ pub(crate) fn replace_value<P: PtrKey, V: Drop, B: ArenaTrait<P, Counted<V>>>(
         Some(e) => Some(mem::replace(&mut e.value, t)),
         None => None,
     }
+}
+
+// Exchanges the values of two sets, which keep their numbers of keys.
+pub(crate) fn swap_values<P: PtrKey, V: Drop, B: PlainArenaTrait<P, Counted<V>>>(
+    values: &mut B,
+    v: P,
+    w: P,
+)
+    ensures { (P.key v).0 ≢ (P.key w).0 → (t u : V) (n m : ℕ)
+        → B.entry values.old (P.key v).0 ≡ Some ((P.key v).1, counted t n)
+        → B.entry values.old (P.key w).0 ≡ Some ((P.key w).1, counted u m)
+        → B.view values.new ≡ view_with_value (view_with_value (B.view values.old) (P.key v).0
+        (counted u n)) (P.key w).0 (counted t m) }
+{
+    let n = size_of(&*values, v);
+    let m = size_of(&*values, w);
+    set_size(values, v, m);
+    set_size(values, w, n);
+    values.swap(v, w);
 }
 
 // Removes a value and returns it.
