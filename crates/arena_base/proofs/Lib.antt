@@ -10,7 +10,6 @@ mod DetachedSlotLemmas
 mod ExchangeLemmas
 pub mod PackedSlotLemmas
 pub mod EntryRangeLemmas
-pub mod ExchangeLemmas
 pub mod ArenaGrowthLemmas
 pub mod SlotLemmas
 mod SoundnessLemmas

@@ -10,9 +10,9 @@ use self::scarce_stack::ScarceStack;
 use self::test_sets::TestSets;
 use arena_base::{Arena, ArenaSlot};
 use arena_ptr::{LimitedStack, PtrKey, SlotStack, ToolPtr};
-use arena_traits::PlainArenaTrait;
+use arena_traits::CloneArenaTrait;
 use chain_arena::{ChainArena, LinkNoGen};
-use chain_traits::ChainArenaTrait;
+use chain_traits::CloneChainArenaTrait;
 use std::alloc::Global;
 use std::process::Abort;
 use surject_arena::{Counted, Member, SurjectArena};
@@ -46,6 +46,7 @@ enum Part {
 fn check_sets<P: PtrKey, T: TestSets<P>>(rt: &impl Abort, alloc: Global, part: Part) {
     let compresses = refusals::compresses_or_not::<P, T>(alloc);
     holds(rt, "compressions", compresses == Some(true));
+    holds(rt, "calls", model::agrees_or_gives_up::<P, T>(alloc, 60));
     if let Part::Refusal = part {
         return;
     }
@@ -68,14 +69,14 @@ fn check_sets<P: PtrKey, T: TestSets<P>>(rt: &impl Abort, alloc: Global, part: P
 // Runs them at any two arenas.
 fn check_arenas<
     P: PtrKey,
-    A: ChainArenaTrait<P, Key<P>> + Drop,
-    B: PlainArenaTrait<P, Value> + Drop,
+    A: CloneChainArenaTrait<P, Key<P>> + Drop,
+    B: CloneArenaTrait<P, Value> + Drop,
 >(rt: &impl Abort, alloc: Global, part: Part) {
     check_sets::<P, Sets<P, A, B>>(rt, alloc, part);
 }
 
 // Names the arena of keys over any stack, since stacks are named at less cost than arenas.
-fn check_keys<P: PtrKey, S: SlotStack<Item = KeySlot<P>>, B: PlainArenaTrait<P, Value> + Drop>(
+fn check_keys<P: PtrKey, S: SlotStack<Item = KeySlot<P>>, B: CloneArenaTrait<P, Value> + Drop>(
     rt: &impl Abort,
     alloc: Global,
     part: Part,
@@ -106,6 +107,6 @@ fn sets_pass_all_tests(rt: HostRuntime) {
 }
 
 #[test]
-fn a_compression_may_be_refused(rt: HostRuntime) {
+fn a_request_may_be_refused(rt: HostRuntime) {
     check_part(&rt, rt.alloc(), Part::Refusal);
 }

@@ -98,26 +98,32 @@ fn are_ascending<P: PtrKey, T: TestSets<P>>(sets: &T, keys: &[P]) -> bool {
 }
 
 // Returns whether as many keys are listed, by ascending index.
-fn lists_alike<P: PtrKey, T: TestSets<P>>(alloc: Global, sets: &T, count: usize) -> bool {
+fn lists_alike<P: PtrKey, T: TestSets<P>>(
+    alloc: Global,
+    sets: &T,
+    count: usize,
+) -> Result<bool, AllocError> {
     let mut keys = Vec::new(alloc);
-    match sets.iter(&mut keys) {
-        Ok(()) => keys.len() == count && are_ascending(sets, keys.as_slice()),
-        Err(_) => false,
-    }
+    sets.iter(&mut keys)?;
+    Ok(keys.len() == count && are_ascending(sets, keys.as_slice()))
 }
 
 // Returns whether the whole state is that of the model.
-fn agrees<P: PtrKey, T: TestSets<P>>(alloc: Global, sets: &T, model: &Model<P>) -> bool {
+fn agrees<P: PtrKey, T: TestSets<P>>(
+    alloc: Global,
+    sets: &T,
+    model: &Model<P>,
+) -> Result<bool, AllocError> {
     let entries = model.entries.as_slice();
-    if sets.len_keys() != entries.len() || !lists_alike(alloc, sets, entries.len()) {
-        return false;
+    if sets.len_keys() != entries.len() || !lists_alike(alloc, sets, entries.len())? {
+        return Ok(false);
     }
     for e in entries {
         if !reads_alike(sets, model, *e) || !joined_alike(sets, entries, *e) {
-            return false;
+            return Ok(false);
         }
     }
-    true
+    Ok(true)
 }
 
 fn insert<P: PtrKey, T: TestSets<P>>(
@@ -247,6 +253,36 @@ fn write<P: PtrKey, T: TestSets<P>>(
     sets.write_key(e.p, n) == Some(e.key) && sets.write_val(e.p, n).is_some()
 }
 
+// Exchanges the values of two sets, and returns whether that was done.
+fn swap<P: PtrKey, T: TestSets<P>>(
+    sets: &mut T,
+    model: &mut Model<P>,
+    e: Entry<P>,
+    d: Entry<P>,
+) -> bool {
+    let (v, w) = (value_of(model, e.set), value_of(model, d.set));
+    write_value(model, e.set, w);
+    write_value(model, d.set, v);
+    sets.swap_vals(e.p, d.p).is_some()
+}
+
+// Replaces the arena by its copy, and returns whether clearing the former one leaves that alone.
+fn copy<P: PtrKey, T: TestSets<P>>(
+    alloc: Global,
+    sets: &mut T,
+    model: &Model<P>,
+) -> Result<bool, AllocError> {
+    match sets.copy(alloc) {
+        Some(copy) => {
+            sets.clear();
+            let agree = agrees(alloc, &copy, model)?;
+            *sets = copy;
+            Ok(agree)
+        }
+        None => Ok(true),
+    }
+}
+
 // Returns whether the k-th pair leads to index k, for each k.
 fn are_numbered<P: PtrKey>(moves: &[(P, P)]) -> bool {
     let mut k: usize = 0;
@@ -269,7 +305,8 @@ fn destination_of<P: PtrKey>(moves: &[(P, P)], p: P) -> Option<P> {
     None
 }
 
-// Compresses, and returns whether each key was moved. A second compression with `reset` moves none.
+// Compresses, and returns whether each key was moved, or none if memory was refused. A second
+// compression with `reset` moves none.
 fn compress<P: PtrKey, T: TestSets<P>>(
     alloc: Global,
     sets: &mut T,
@@ -277,7 +314,10 @@ fn compress<P: PtrKey, T: TestSets<P>>(
     reset: bool,
 ) -> Result<bool, AllocError> {
     let mut moves: Vec<(P, P)> = Vec::new(alloc);
-    sets.compress_with(alloc, reset, &mut moves)?;
+    moves.reserve(model.entries.len())?;
+    if sets.compress_with(alloc, reset, &mut moves).is_err() {
+        return Ok(moves.is_empty());
+    }
     let mut all = moves.len() == model.entries.len() && are_numbered(moves.as_slice());
     for e in model.entries.as_mut_slice() {
         match destination_of(moves.as_slice(), e.p) {
@@ -286,7 +326,7 @@ fn compress<P: PtrKey, T: TestSets<P>>(
         }
     }
     if reset {
-        sets.compress(alloc, true)?;
+        let _ = sets.compress(alloc, true);
     }
     Ok(all)
 }
@@ -299,7 +339,7 @@ fn step<P: PtrKey, T: TestSets<P>>(
     seed: &mut u32,
 ) -> Result<bool, AllocError> {
     let count = model.entries.len();
-    let call = random(seed, 21);
+    let call = random(seed, 24);
     let key = *seed;
     let i = random(seed, count);
     let j = random(seed, count);
@@ -315,6 +355,8 @@ fn step<P: PtrKey, T: TestSets<P>>(
         13 | 14 => Ok(write(sets, model, i, e, key)),
         15 => Ok(remove_set(sets, model, e)),
         16 => compress(alloc, sets, model, i < j),
+        17 | 18 => Ok(swap(sets, model, e, d)),
+        19 => copy(alloc, sets, model),
         _ => Ok(remove(sets, model, i)),
     }
 }
@@ -332,9 +374,23 @@ pub fn first_difference<P: PtrKey, T: TestSets<P>>(
     };
     let mut seed = 1;
     for n in 0..calls {
-        if !step(alloc, &mut sets, &mut model, &mut seed)? || !agrees(alloc, &sets, &model) {
+        if !step(alloc, &mut sets, &mut model, &mut seed)? || !agrees(alloc, &sets, &model)? {
             return Ok(n + 1);
         }
     }
     Ok(0)
+}
+
+// Returns whether one of two runs of random calls ends without a difference, and none with one. A
+// run is given up if memory for the model is refused.
+pub fn agrees_or_gives_up<P: PtrKey, T: TestSets<P>>(alloc: Global, calls: u32) -> bool {
+    let mut ended = false;
+    for _ in 0..2 {
+        match first_difference::<P, T>(alloc, calls) {
+            Ok(0) => ended = true,
+            Ok(_) => return false,
+            Err(_) => {}
+        }
+    }
+    ended
 }

@@ -25,6 +25,8 @@ enum Op {
     // Writes a key, or a value, in place: the former one, or 9 for none.
     WriteKey,
     WriteValue,
+    // Exchanges the values of two sets: 1, or 0 if either argument is no key.
+    Swap,
     // Whether two keys are in one set.
     InOneSet,
     // The key and its value, and how many have it; 0 for none.
@@ -91,8 +93,8 @@ const REMOVALS: [Row; 16] = [
     (Op::Read, 1, 0, 233),
 ];
 
-// Splits and writes.
-const SPLITS: [Row; 23] = [
+// Splits, writes and exchanges.
+const SPLITS: [Row; 31] = [
     // The others stay in their set.
     (Op::Split, 3, 8, 1),
     (Op::Read, 3, 0, 481),
@@ -117,6 +119,14 @@ const SPLITS: [Row; 23] = [
     (Op::WriteValue, 0, 1, 9),
     (Op::Read, 1, 0, 263),
     (Op::Insert, 6, 7, 1),
+    (Op::Swap, 1, 5, 1),
+    (Op::Read, 1, 0, 273),
+    (Op::Read, 5, 0, 661),
+    (Op::Swap, 5, 3, 1),
+    (Op::Swap, 3, 4, 1),
+    (Op::Read, 4, 0, 963),
+    (Op::Swap, 0, 1, 0),
+    (Op::Swap, 1, 0, 0),
     (Op::Remove, 5, 0, 67),
 ];
 
@@ -269,6 +279,7 @@ fn respond<P: PtrKey, T: TestSets<P>>(
         Op::WriteValue => (sets.write_val(p, b).unwrap_or(9), None),
         Op::RemoveSet => (remove_set(sets, p), None),
         Op::Replace => (sets.replace_val(p, b).unwrap_or(9), None),
+        Op::Swap => (sets.swap_vals(p, q).is_some() as u32, None),
         Op::InOneSet => (sets.in_same_set(p, q) as u32, None),
         Op::Read => (read(sets, p), None),
         Op::List => (list(alloc, sets, p), None),

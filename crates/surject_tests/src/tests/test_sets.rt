@@ -2,8 +2,8 @@
 
 use super::{Key, Sets, Value};
 use arena_ptr::{ChainInsertionError, InvalidationResult, PtrKey, ReallocationError};
-use arena_traits::PlainArenaTrait;
-use chain_traits::ChainArenaTrait;
+use arena_traits::CloneArenaTrait;
+use chain_traits::CloneChainArenaTrait;
 use std::alloc::{AllocError, Global};
 use std::mem;
 use surject_arena::SurjectArena;
@@ -52,6 +52,8 @@ pub trait TestSets<P: PtrKey>: Drop {
 
     fn replace_val(&mut self, p: P, v: u32) -> Option<u32>;
 
+    fn swap_vals(&mut self, p: P, q: P) -> Option<()>;
+
     fn write_key(&mut self, p: P, k: u32) -> Option<u32>;
 
     fn write_val(&mut self, p: P, v: u32) -> Option<u32>;
@@ -67,11 +69,16 @@ pub trait TestSets<P: PtrKey>: Drop {
     ) -> Result<(), AllocError>;
 
     fn compress(&mut self, alloc: Global, reset: bool) -> Result<(), AllocError>;
+
+    // Returns a copy, unless memory was refused.
+    fn copy(&self, alloc: Global) -> Option<Self>;
 }
 
-impl<P: PtrKey, A: ChainArenaTrait<P, Key<P>> + Drop, B: PlainArenaTrait<P, Value> + Drop> TestSets<
-    P,
-> for Sets<P, A, B> {
+impl<
+    P: PtrKey,
+    A: CloneChainArenaTrait<P, Key<P>> + Drop,
+    B: CloneArenaTrait<P, Value> + Drop,
+> TestSets<P> for Sets<P, A, B> {
     fn new(alloc: Global) -> Self {
         SurjectArena::new(alloc)
     }
@@ -164,6 +171,10 @@ impl<P: PtrKey, A: ChainArenaTrait<P, Key<P>> + Drop, B: PlainArenaTrait<P, Valu
         SurjectArena::replace_val(self, p, v)
     }
 
+    fn swap_vals(&mut self, p: P, q: P) -> Option<()> {
+        SurjectArena::swap_vals(self, p, q)
+    }
+
     fn write_key(&mut self, p: P, k: u32) -> Option<u32> {
         match SurjectArena::get_key_mut(self, p) {
             Some(key) => Some(mem::replace(key, k)),
@@ -202,5 +213,9 @@ impl<P: PtrKey, A: ChainArenaTrait<P, Key<P>> + Drop, B: PlainArenaTrait<P, Valu
             Ok(_) => Ok(()),
             Err(_) => Err(AllocError),
         }
+    }
+
+    fn copy(&self, alloc: Global) -> Option<Self> {
+        SurjectArena::clone(self, alloc).ok()
     }
 }
