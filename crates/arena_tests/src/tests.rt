@@ -1,5 +1,6 @@
 mod any_arena;
 mod arena_text;
+mod exchanges;
 mod inherent_calls;
 mod limits;
 mod plain_arenas;

@@ -178,12 +178,18 @@ impl<P: PtrKey, T: Drop, A: CompactArenaTrait<P, T>> CompactArenaTrait<P, T>
 impl<P: PtrKey, T: Drop, A: PlainArenaTrait<P, T>> PlainArenaTrait<P, T> for ForwardingArena<A> {
     ghost inserts = { λ v t w. A.inserts v.inner t w.inner };
 
+    ghost swaps = { λ v i j w. A.swaps v.inner i j w.inner };
+
     fn insert_within_capacity(&mut self, t: T) -> Result<P, NotWithinCapacityError> {
         self.inner.insert_within_capacity(t)
     }
 
     fn insert_reallocating(&mut self, t: T) -> Result<P, ReallocationError> {
         self.inner.insert_reallocating(t)
+    }
+
+    fn swap(&mut self, p: P, q: P) -> Option<()> {
+        self.inner.swap(p, q)
     }
 }
 
