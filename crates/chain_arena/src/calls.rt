@@ -140,7 +140,8 @@ fn reserve<P: PtrKey, T: Drop, S: SlotStack<Item = ArenaSlot<P, LinkNoGen<P, T>>
 }
 
 // Removes the chain of `p` and returns how many links were taken one by one. `None`: `p` is not
-// valid.
+// valid. It is not inlined, so that its loop has the registers for itself.
+#[inline(never)]
 fn drain<P: PtrKey, T: Drop, S: SlotStack<Item = ArenaSlot<P, LinkNoGen<P, T>>>>(
     arena: &mut ChainArena<P, T, S>,
     p: P,
@@ -171,14 +172,16 @@ fn take_links<P: PtrKey, T: Drop, S: SlotStack<Item = ArenaSlot<P, LinkNoGen<P, 
         ≡ without_each P.Gen.following links.old.arena.now
         (walk_left links.old.arena.now links.old.at) }
 {
-    let mut count = 0;
-    while count < take {
+    // Counted down, so the test of a step needs no second register. A plain difference would let
+    // LLVM count up again.
+    let mut left = take;
+    while left > 0 {
         match links.next() {
-            Some(_) => count += 1,
-            None => return count,
+            Some(_) => left -= 1,
+            None => return take.saturating_sub(left),
         }
     }
-    count
+    take
 }
 
 /// Makes calls in order and returns their replies, one per call.
