@@ -282,8 +282,10 @@ pub(crate) fn link_alone<G: Drop, L>(removed: InvalidationResult<(G, L)>) -> Inv
     }
 }
 
-impl<P: PtrKey, T: Clone, S: SlotStack<Item = ArenaSlot<P, LinkNoGen<P, T>>>>
-    CloneChainArenaTrait<P, T> for ChainArena<P, T, S> {
+impl<P: PtrKey, T: Clone, S: SlotStack<Item = ArenaSlot<P, LinkNoGen<P, T>>>> CloneChainArenaTrait<
+    P,
+    T,
+> for ChainArena<P, T, S> {
     fn try_clone(&self, alloc: Global) -> Result<Self, ReallocationError> {
         ChainArena::clone(self, alloc)
     }

@@ -26,16 +26,16 @@ module _ {Gen T : Type 0} where
   written_apart i j x y [] apart = refl
   written_apart i j x y (e ∷ es) apart = ⊎_elim
       (λ is.
-          let later : e.0.0 ≢ j = λ at. apart (sym is ∙ at) in
-          ap (with_replacement j (valued y)) (writes_first i x e es is) ∙ (writes_later j y ((i, e.0.1), x) es apart
-          ∙ sym (ap (with_replacement i (valued x)) (writes_later j y e es later) ∙ writes_first i x e (with_replacement j (valued y) es) is)))
+      let later : e.0.0 ≢ j = λ at. apart (sym is ∙ at) in
+      ap (with_replacement j (valued y)) (writes_first i x e es is) ∙ (writes_later j y ((i, e.0.1), x) es apart
+      ∙ sym (ap (with_replacement i (valued x)) (writes_later j y e es later) ∙ writes_first i x e (with_replacement j (valued y) es) is)))
       (λ other. ⊎_elim
-          (λ at. ap (with_replacement j (valued y)) (writes_later i x e es other) ∙ (writes_first j y e (with_replacement i (valued x) es) at
-              ∙ sym (ap (with_replacement i (valued x)) (writes_first j y e es at) ∙ writes_later i x ((j, e.0.1), y) es (λ same. apart (sym same)))))
-          (λ differs. ap (with_replacement j (valued y)) (writes_later i x e es other) ∙ (writes_later j y e (with_replacement i (valued x) es) differs
-              ∙ (ap (λ rest. e ∷ rest) (written_apart i j x y es apart)
-              ∙ sym (ap (with_replacement i (valued x)) (writes_later j y e es differs) ∙ writes_later i x e (with_replacement j (valued y) es) other))))
-          (cases_eq e.0.0 j))
+      (λ at. ap (with_replacement j (valued y)) (writes_later i x e es other) ∙ (writes_first j y e (with_replacement i (valued x) es) at
+      ∙ sym (ap (with_replacement i (valued x)) (writes_first j y e es at) ∙ writes_later i x ((j, e.0.1), y) es (λ same. apart (sym same)))))
+      (λ differs. ap (with_replacement j (valued y)) (writes_later i x e es other) ∙ (writes_later j y e (with_replacement i (valued x) es) differs
+      ∙ (ap (λ rest. e ∷ rest) (written_apart i j x y es apart)
+      ∙ sym (ap (with_replacement i (valued x)) (writes_later j y e es differs) ∙ writes_later i x e (with_replacement j (valued y) es) other))))
+      (cases_eq e.0.0 j))
       (cases_eq e.0.0 i)
 
   -- Of two writes at each of two indexes, the second ones count.
@@ -72,8 +72,8 @@ module _ {B Gen V : Type 0} {view : B → ArenaView Gen (Counted V)} {entry : B 
   pub swapped_sizes : (j : ℕ) → size_in (entry d) j ≡ size_in (entry b) j
   swapped_sizes j = ⊎_elim (at_second j)
       (λ other. ⊎_elim (at_first j)
-          (λ differs. ap size_of (found_now j ∙ (found-unwritten j w.0 (counted t m) once other ∙ (found-unwritten j v.0 (counted u n) (view b).entries differs ∙ (state b).finds j))))
-          (cases_eq j v.0))
+      (λ differs. ap size_of (found_now j ∙ (found-unwritten j w.0 (counted t m) once other ∙ (found-unwritten j v.0 (counted u n) (view b).entries differs ∙ (state b).finds j))))
+      (cases_eq j v.0))
       (cases_eq j w.0)
 
   -- The same exchange as contracts see it.

@@ -19,5 +19,5 @@ returns g c apart t u n m first second =
     let size_m = c.size_of-m.ensures m (size_stored (g.B.ArenaTrait.entry b) w.0 w.1 u m second) in
     let one = c.set_size.ensures t n first ∙ ap (λ k. view_with_value (view b) v.0 (counted t k)) size_m in
     let two = c.set_size-2.ensures u m (second_kept state key b mid c.set_size-2.new.values c.swap.new.self c.args.v c.args.w t u n m apart first second one)
-        ∙ ap (λ k. view_with_value (view mid) w.0 (counted u k)) size_n in
+    ∙ ap (λ k. view_with_value (view mid) w.0 (counted u k)) size_n in
     swapped_back state key b mid c.set_size-2.new.values c.swap.new.self c.args.v c.args.w t u n m apart first second one two c.swap.result c.swap.ensures.outcome

@@ -70,15 +70,18 @@ returns-clause-outcome g c =
       w = w;
       first = key_of key g.A.ArenaTrait.state g.B.ArenaTrait.state a b r (key c.args.p) v (c.in_ok-v.ensures.some.0 refl) c.in_ok-v.ensures.set;
       second = key_of key g.A.ArenaTrait.state g.B.ArenaTrait.state a b r (key c.args.q) w (c.in_ok-w.ensures.some.0 refl) c.in_ok-w.ensures.set;
-      swapped = inr (other, record {
-        first_value = t.0;
-        first_size = t.1;
-        first_valued = has_value key g.A.ArenaTrait.state g.B.ArenaTrait.state a b r v t.0 t.1 t.2;
-        second_value = u.0;
-        second_size = u.1;
-        second_valued = has_value key g.A.ArenaTrait.state g.B.ArenaTrait.state a b r w u.0 u.1 u.2;
-        values = swapped_view g.B.ArenaTrait.state b c.swap_values.new.values v w t.0 u.0 t.1 u.1 other t.2 u.2 (c.swap_values.ensures other t.0 u.0 t.1 u.1 t.2 u.2);
-        keys = refl;
-        redirected = refl;
-      });
+      swapped = inr (
+        other,
+        record {
+          first_value = t.0;
+          first_size = t.1;
+          first_valued = has_value key g.A.ArenaTrait.state g.B.ArenaTrait.state a b r v t.0 t.1 t.2;
+          second_value = u.0;
+          second_size = u.1;
+          second_valued = has_value key g.A.ArenaTrait.state g.B.ArenaTrait.state a b r w u.0 u.1 u.2;
+          values = swapped_view g.B.ArenaTrait.state b c.swap_values.new.values v w t.0 u.0 t.1 u.1 other t.2 u.2 (c.swap_values.ensures other t.0 u.0 t.1 u.1 t.2 u.2);
+          keys = refl;
+          redirected = refl;
+        },
+      );
     })
