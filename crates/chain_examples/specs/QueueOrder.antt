@@ -1,8 +1,8 @@
 -- The view of a run queue in contracts, and what its calls do to the order of tasks.
-use Rattle.std.specs.Prelude.{◌≡◌, ◌⊎◌, ℕ, zero, suc, ◌+◌, ◌≤◌, length, List, [], ◌∷◌, ◌++◌, IfSome, IfNone, OnErr, Option, None, Some, Result}
+use Rattle.std.specs.Prelude.{◌≡◌, ◌≢◌, ◌⊎◌, ℕ, zero, suc, ◌+◌, ◌≤◌, length, List, [], ◌∷◌, ◌++◌, IfSome, IfNone, OnErr, Option, None, Some, Result, is_some, true}
 use Rattle.std.specs.Option.{option_map, option_or}
 use Rattle.arena_core.specs.declared.errors.ReallocationError.{ReallocationError}
-use Rattle.chain_laws.specs.Chains.{LinkMap, IsMember, next_of}
+use Rattle.chain_laws.specs.Chains.{LinkMap, cyclic, IsChain, IsMember, next_of}
 use Rattle.arena_traits.specs.Entries.{ArenaView, ArenaState, first_key, with_replacement}
 use Rattle.arena_traits.specs.Growth.{IsGrowthResult, Reserves, RefusesOneMore, GrowsForOneMore}
 use Rattle.chain_lists.specs.Lists.{Item, AreEntries, indexes}
