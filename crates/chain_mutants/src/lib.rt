@@ -8,8 +8,8 @@
 mod documents;
 mod moves;
 mod own_calls;
-mod polygons;
 mod queue;
+mod rings;
 mod session;
 
 pub use documents::renumber;
@@ -17,6 +17,6 @@ pub use moves::move_after;
 pub use own_calls::{
     compress_canonical_counted, remove_chain, transfer_canonical_reallocating, transfer_chain,
 };
-pub use polygons::{exchange, split};
 pub use queue::{cancel, spawn};
+pub use rings::{exchange, split};
 pub use session::run_on;
