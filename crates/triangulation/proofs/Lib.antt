@@ -7,3 +7,4 @@ pub mod EarSearchLemmas
 pub mod RingPathLemmas
 pub mod JoiningLemmas
 pub mod RingCheckLemmas
+pub mod WholeRingLemmas

@@ -2,7 +2,7 @@
 
 ghost use Rattle.std.specs.Prelude.{codes, Some};
 
-use std::alloc::AllocFailed;
+use std::alloc::{AllocError, AllocFailed};
 use std::error::Error;
 use std::fmt;
 
@@ -55,6 +55,17 @@ impl<T: Drop> From<AllocFailed<T>> for TriangulationError {
     ghost from_gives = { λ _ e. e ≡ why.AllocError };
 
     fn from(_refused: AllocFailed<T>) -> TriangulationError {
+        TriangulationError::AllocError
+    }
+}
+
+impl From<AllocError> for TriangulationError {
+    ghost use Rattle.std.specs.Prelude.{◌≡◌};
+    ghost use Rattle.triangulation.specs.declared.errors.TriangulationError.TheVariants as why;
+
+    ghost from_gives = { λ _ e. e ≡ why.AllocError };
+
+    fn from(_error: AllocError) -> TriangulationError {
         TriangulationError::AllocError
     }
 }

@@ -5,8 +5,10 @@
 #![tactic(auto)]
 
 mod areas;
+mod bounds;
 mod bridges;
 mod clipping;
+mod corner_index;
 mod errors;
 mod holes;
 mod joining;

@@ -3,46 +3,8 @@
 ghost use Rattle.std.specs.Prelude.{◌<◌, ◌≤◌, length, IsTrue, IsFalse};
 ghost use Rattle.triangulation.specs.Polygons.{AreAround, IsAcross, RangesMeet, SegmentsMeet, CrossesRay, IsCrossing, IsOutside, IsInside, IsEdgeOf, MeetsEdge, RingsMeet};
 
+use crate::bounds::BoundingBox;
 use crate::points::{Point, is_left, orientation};
-
-// The bounding box of a ring.
-#[derive(Clone, Copy)]
-pub struct BoundingBox {
-    left: i32,
-    right: i32,
-    bottom: i32,
-    top: i32,
-}
-
-// Returns the bounding box of the corners.
-pub fn bounds(ring: &[Point]) -> BoundingBox
-    requires { 0 < length ring.now }
-{
-    let first = ring[0];
-    let mut around = BoundingBox {
-        left: first.x,
-        right: first.x,
-        bottom: first.y,
-        top: first.y,
-    };
-    for p in ring {
-        around.left = around.left.min(p.x);
-        around.right = around.right.max(p.x);
-        around.bottom = around.bottom.min(p.y);
-        around.top = around.top.max(p.y);
-    }
-    around
-}
-
-impl BoundingBox {
-    // Returns whether the bounding box of an edge has a point in this one.
-    fn meet_edge(&self, a: Point, b: Point) -> bool {
-        a.x.min(b.x) <= self.right
-            && a.x.max(b.x) >= self.left
-            && a.y.min(b.y) <= self.top
-            && a.y.max(b.y) >= self.bottom
-    }
-}
 
 // Returns whether an edge of the first ring and an edge of the second one have a common point.
 pub fn rings_meet(one: &[Point], other: &[Point], around: &BoundingBox) -> bool
@@ -53,7 +15,9 @@ pub fn rings_meet(one: &[Point], other: &[Point], around: &BoundingBox) -> bool
     }
     let mut a = one[one.len() - 1];
     for b in one {
-        if around.meet_edge(a, *b) && edge_meets(a, *b, other) {
+        if around.meets(&BoundingBox::empty().with_point(a).with_point(*b))
+            && edge_meets(a, *b, other)
+        {
             return true;
         }
         a = *b;

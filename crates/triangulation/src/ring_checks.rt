@@ -5,8 +5,9 @@ ghost use Rattle.triangulation.specs.Polygons.{rings_of, HasCorner, IsReason, Is
 ghost use Rattle.triangulation.specs.declared.points.Point.{Point};
 
 use crate::areas::double_area;
+use crate::bounds::BoundingBox;
 use crate::errors::{PolygonError, Ring};
-use crate::meetings::{bounds, is_inside, rings_meet};
+use crate::meetings::{is_inside, rings_meet};
 use crate::points::Point;
 
 // Checks that the outline is a ring with an area.
@@ -39,7 +40,7 @@ pub fn check_places(outline: &[Point], holes: &[Vec<Point>]) -> Result<(), Polyg
 {
     for i in 0..holes.len() {
         let hole: &[Point] = &holes[i];
-        if rings_meet(outline, hole, &bounds(hole)) {
+        if rings_meet(outline, hole, &BoundingBox::of_ring(hole)) {
             return Err(PolygonError::Meets(i, Ring::Outline));
         }
         if !is_inside(hole[0], outline) {
@@ -60,7 +61,7 @@ fn check_pairs(holes: &[Vec<Point>], i: usize) -> Result<(), PolygonError>
     ensures { (outline : List Point) → IfErr result (IsReason outline (rings_of holes.now)) }
 {
     let hole: &[Point] = &holes[i];
-    let around = bounds(hole);
+    let around = BoundingBox::of_ring(hole);
     for j in 0..i {
         let other: &[Point] = &holes[j];
         if rings_meet(other, hole, &around) {
