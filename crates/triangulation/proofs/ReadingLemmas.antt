@@ -30,7 +30,7 @@ not_none : {Gen T : Type 0} (xs : List (Item Gen T)) (e : Item Gen T) → first_
 not_none [] e none = let h = none in cc
 not_none (x ∷ xs) e none = let h = none in cc
 
-stored_some : {Gen T : Type 0} (entry : ℕ → Option (Gen × T)) (xs : List (Item Gen T)) (i : ℕ) → AreEntries entry xs → IsMember (indexes xs) i → is_some (entry i) ≡ true
+pub stored_some : {Gen T : Type 0} (entry : ℕ → Option (Gen × T)) (xs : List (Item Gen T)) (i : ℕ) → AreEntries entry xs → IsMember (indexes xs) i → is_some (entry i) ≡ true
 stored_some entry [] i s has = absurd has
 stored_some entry (x ∷ xs) i s (inl is) = ap (λ k. is_some (entry k)) (sym is) ∙ ap is_some s.0
 stored_some entry (x ∷ xs) i s (inr has) = stored_some entry xs i s.1 has

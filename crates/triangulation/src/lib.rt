@@ -4,12 +4,23 @@
 //! areas of the triangles add up to the area of the polygon.
 #![tactic(auto)]
 
+mod areas;
+mod bounds;
+mod bridges;
 mod clipping;
+mod corner_index;
 mod errors;
+mod holes;
+mod joining;
+mod meetings;
 mod outlines;
 mod points;
+mod polygons;
+mod ring_checks;
 mod triangulation;
 
-pub use errors::TriangulationError;
+pub use areas::double_area;
+pub use errors::{PolygonError, Ring, TriangulationError};
 pub use points::{Point, Triangle, orientation};
+pub use polygons::triangulate_polygon;
 pub use triangulation::{triangulate, triangulate_points};

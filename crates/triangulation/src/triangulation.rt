@@ -4,6 +4,7 @@ ghost use Rattle.triangulation.specs.Triangulations.{TriangulatesPoints};
 ghost use Rattle.triangulation.specs.Clippings.{Triangulates};
 
 use crate::clipping::clip_ears;
+use crate::corner_index::CornerIndex;
 use crate::errors::TriangulationError;
 use crate::outlines::{insert_ring, outline};
 use crate::points::{Point, Triangle};
@@ -56,8 +57,12 @@ pub fn triangulate_points<P: PtrKey, A: ChainArenaTrait<P, Point> + Drop>(
         return Err(TriangulationError::TooFewCorners);
     }
     let mut ring: Mesh<P, Point, A> = Mesh::new(alloc);
-    match insert_ring(&mut ring, corners[0], &corners[1..]) {
-        Ok(start) => clip_ears(&mut ring, alloc, start, corners.len()),
+    let mut pointers = Vec::with_capacity(alloc, corners.len())?;
+    match insert_ring(&mut ring, &mut pointers, corners[0], &corners[1..]) {
+        Ok(start) => {
+            let index = CornerIndex::new(alloc, corners, pointers)?;
+            clip_ears(&mut ring, &index, corners, alloc, start)
+        }
         Err(e) => Err(e),
     }
 }

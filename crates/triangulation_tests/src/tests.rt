@@ -63,7 +63,7 @@ const COMB: [(i32, i32); 20] = [
     (0, 10),
 ];
 
-fn total_of(triangles: &[Triangle]) -> (usize, i128) {
+pub fn total_of(triangles: &[Triangle]) -> (usize, i128) {
     let mut sum: i128 = 0;
     for t in triangles {
         sum = sum.wrapping_add(orientation(t.a, t.b, t.c));
@@ -71,7 +71,7 @@ fn total_of(triangles: &[Triangle]) -> (usize, i128) {
     (triangles.len(), sum)
 }
 
-fn points_of(alloc: Global, corners: &[(i32, i32)]) -> Result<Vec<Point>, TriangulationError> {
+pub fn points_of(alloc: Global, corners: &[(i32, i32)]) -> Result<Vec<Point>, TriangulationError> {
     let mut points = Vec::new(alloc);
     for corner in corners {
         points.push(Point {
@@ -91,7 +91,7 @@ fn total<P: PtrKey, A: ChainArenaTrait<P, Point> + Drop>(
     Ok(total_of(&triangles))
 }
 
-fn holds(rt: &impl Abort, what: &str, condition: bool) {
+pub fn holds(rt: &impl Abort, what: &str, condition: bool) {
     assert!(rt; condition, "{what}");
 }
 
