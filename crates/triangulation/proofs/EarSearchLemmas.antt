@@ -8,8 +8,8 @@ use Rattle.chain_laws.specs.Chains.{LinkMap}
 use Rattle.chain_laws.proofs.InterlinkLemmas.Inverses.{one_some}
 use Rattle.arena_traits.specs.Arena.{IsValid}
 use Rattle.arena_traits.specs.Entries.{ArenaView, ArenaState, count, first_key}
-use Rattle.chain_examples.specs.Lists.{Item}
-use Rattle.chain_examples.specs.Rings.{ReadsNextInRing}
+use Rattle.chain_lists.specs.Lists.{Item}
+use Rattle.polygons.specs.Rings.{ReadsNextInRing}
 use Rattle.triangulation.specs.declared.points.Point.{Point}
 use Rattle.triangulation.specs.declared.points.Triangle.{Triangle}
 use Rattle.triangulation.specs.Triangulations.{IsEar, BeginsWithEar, HasNoEar}

@@ -3,7 +3,7 @@ use Rattle.std.proofs.Common.{◌≡◌, ℕ, ◌+◌, length, arith, List, [], 
 use Rattle.std.proofs.lemmas.List.{map-append, append_assoc, length-append}
 use Rattle.chain_laws.specs.Chains.{LinkMap, cyclic}
 use Rattle.arena_traits.specs.Entries.{ArenaView, ArenaState, count, first_key}
-use Rattle.chain_examples.specs.Lists.{Item, IsRing, InsertsAfter}
+use Rattle.chain_lists.specs.Lists.{Item, IsRing, InsertsAfter}
 use Rattle.triangulation.specs.declared.points.Point.{Point}
 use Rattle.triangulation.specs.Clippings.{IsRingBetween, IsRingOf}
 

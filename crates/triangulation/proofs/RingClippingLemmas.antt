@@ -6,8 +6,8 @@ use Rattle.arena_core.specs.PointerKinds.{PointerKind}
 use Rattle.chain_laws.specs.Chains.{LinkMap, cyclic}
 use Rattle.chain_laws.proofs.InterlinkLemmas.Inverses.{one_some}
 use Rattle.arena_traits.specs.Entries.{ArenaView, ArenaState, count}
-use Rattle.chain_examples.specs.Lists.{Item, IsRing, RemovesItem}
-use Rattle.chain_examples.specs.Rings.{ReadsNextInRing}
+use Rattle.chain_lists.specs.Lists.{Item, IsRing, RemovesItem}
+use Rattle.polygons.specs.Rings.{ReadsNextInRing}
 use Rattle.triangulation.specs.declared.points.Point.{Point}
 use Rattle.triangulation.specs.declared.points.Triangle.{Triangle}
 use Rattle.triangulation.specs.Triangulations.{IsClipping}

@@ -8,7 +8,7 @@ use Rattle.chain_laws.proofs.WalkLemmas.WalkBack.{length_among}
 use Rattle.chain_laws.proofs.InterlinkLemmas.Inverses.{one_some}
 use Rattle.arena_traits.specs.Entries.{ArenaView, ArenaState, count, index_of}
 use Rattle.chain_links.proofs.OccupiedIndexLemmas.{found_has}
-use Rattle.chain_examples.specs.Lists.{Item, AreEntries, indexes, IsRing}
+use Rattle.chain_lists.specs.Lists.{Item, AreEntries, indexes, IsRing}
 use Rattle.triangulation.specs.declared.points.Point.{Point}
 use Rattle.triangulation.specs.declared.points.Triangle.{Triangle}
 use Rattle.triangulation.specs.Triangulations.{IsInTriangle}

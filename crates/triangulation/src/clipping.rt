@@ -7,8 +7,8 @@ use crate::corner_index::{CornerIndex, holds_corner};
 use crate::errors::TriangulationError;
 use crate::points::{Point, Triangle, is_left};
 use arena_ptr::PtrKey;
-use chain_examples::Mesh;
 use chain_traits::ChainArenaTrait;
+use polygons::Polygons;
 use std::alloc::Global;
 
 // Three corners in a row, and their triangle.
@@ -22,7 +22,7 @@ struct Ear<P: PtrKey> {
 
 // Returns the ear at the corner after `before`, if there is one.
 fn ear_after<P: PtrKey, A: ChainArenaTrait<P, Point> + Drop>(
-    ring: &Mesh<P, Point, A>,
+    ring: &Polygons<P, Point, A>,
     index: &CornerIndex<P>,
     corners: &[Point],
     before: P,
@@ -52,7 +52,7 @@ fn ear_after<P: PtrKey, A: ChainArenaTrait<P, Point> + Drop>(
 
 // Returns the first ear from `start` on in its ring, which has so many corners, if it has one.
 fn find_ear<P: PtrKey, A: ChainArenaTrait<P, Point> + Drop>(
-    ring: &Mesh<P, Point, A>,
+    ring: &Polygons<P, Point, A>,
     index: &CornerIndex<P>,
     corners: &[Point],
     start: P,
@@ -75,10 +75,10 @@ fn find_ear<P: PtrKey, A: ChainArenaTrait<P, Point> + Drop>(
 
 // Clips the ears of the ring of `start` until two corners are left, and returns the triangles.
 //
-// The ring is alone in the mesh, and has as many corners as the list. After an ear, the search goes
+// The ring is alone in its arena, and has as many corners as the list. After an ear, the search goes
 // on two corners further, so that triangles stay small.
 pub fn clip_ears<P: PtrKey, A: ChainArenaTrait<P, Point> + Drop>(
-    ring: &mut Mesh<P, Point, A>,
+    ring: &mut Polygons<P, Point, A>,
     index: &CornerIndex<P>,
     corners: &[Point],
     alloc: Global,

@@ -6,8 +6,8 @@ ghost use Rattle.triangulation.specs.Clippings.{HoldsCorner};
 use crate::bounds::BoundingBox;
 use crate::points::{Point, Triangle, is_in_triangle};
 use arena_ptr::PtrKey;
-use chain_examples::Mesh;
 use chain_traits::ChainArenaTrait;
+use polygons::Polygons;
 use std::alloc::{AllocError, Global};
 
 // The number of corners in a block, and of blocks in a group.
@@ -72,7 +72,7 @@ fn groups_of(alloc: Global, blocks: &[BoundingBox]) -> Result<Vec<BoundingBox>, 
 //
 // `corners` are those of which the index was created.
 pub fn holds_corner<P: PtrKey, A: ChainArenaTrait<P, Point> + Drop>(
-    ring: &Mesh<P, Point, A>,
+    ring: &Polygons<P, Point, A>,
     index: &CornerIndex<P>,
     corners: &[Point],
     triangle: Triangle,
@@ -92,7 +92,7 @@ pub fn holds_corner<P: PtrKey, A: ChainArenaTrait<P, Point> + Drop>(
 
 // Returns whether a corner of a group of blocks is in the triangle.
 fn group_holds_corner<P: PtrKey, A: ChainArenaTrait<P, Point> + Drop>(
-    ring: &Mesh<P, Point, A>,
+    ring: &Polygons<P, Point, A>,
     index: &CornerIndex<P>,
     corners: &[Point],
     group: usize,
@@ -115,7 +115,7 @@ fn group_holds_corner<P: PtrKey, A: ChainArenaTrait<P, Point> + Drop>(
 
 // Returns whether a corner of a block is in the triangle.
 fn block_holds_corner<P: PtrKey, A: ChainArenaTrait<P, Point> + Drop>(
-    ring: &Mesh<P, Point, A>,
+    ring: &Polygons<P, Point, A>,
     index: &CornerIndex<P>,
     corners: &[Point],
     block: usize,
@@ -139,7 +139,7 @@ fn block_holds_corner<P: PtrKey, A: ChainArenaTrait<P, Point> + Drop>(
 
 // Returns whether a corner is still in the ring, and in the triangle.
 fn is_there<P: PtrKey, A: ChainArenaTrait<P, Point> + Drop>(
-    ring: &Mesh<P, Point, A>,
+    ring: &Polygons<P, Point, A>,
     corner: P,
     triangle: Triangle,
 ) -> bool

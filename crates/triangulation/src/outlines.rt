@@ -7,14 +7,14 @@ ghost use Rattle.triangulation.specs.declared.errors.TriangulationError.TheVaria
 use crate::errors::TriangulationError;
 use crate::points::Point;
 use arena_ptr::PtrKey;
-use chain_examples::Mesh;
 use chain_traits::ChainArenaTrait;
+use polygons::Polygons;
 use std::alloc::Global;
 
-// Inserts a ring of corners into an empty mesh, and returns the pointer of the first one. The
+// Inserts a ring of corners into an empty arena, and returns the pointer of the first one. The
 // pointers of all are appended to a list.
 pub fn insert_ring<P: PtrKey, A: ChainArenaTrait<P, Point> + Drop>(
-    ring: &mut Mesh<P, Point, A>,
+    ring: &mut Polygons<P, Point, A>,
     pointers: &mut Vec<P>,
     first: Point,
     others: &[Point],
@@ -42,7 +42,7 @@ pub fn insert_ring<P: PtrKey, A: ChainArenaTrait<P, Point> + Drop>(
 
 // Returns the points of the polygon of `start`, from `start` on.
 pub fn outline<P: PtrKey, A: ChainArenaTrait<P, Point> + Drop>(
-    polygons: &Mesh<P, Point, A>,
+    polygons: &Polygons<P, Point, A>,
     alloc: Global,
     start: P,
 ) -> Result<Vec<Point>, TriangulationError>

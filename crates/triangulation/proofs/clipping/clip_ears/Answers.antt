@@ -1,7 +1,7 @@
 -- One ear is clipped at a time.
 use Rattle.std.proofs.Common.{◌≡◌, ◌-◌, List, length, sym, subst, arith}
 use Rattle.std.proofs.lemmas.List.{length-map}
-use Rattle.chain_examples.specs.Lists.{Item}
+use Rattle.chain_lists.specs.Lists.{Item}
 use Rattle.triangulation.specs.declared.points.Point.{Point}
 use Rattle.arena_core.proofs.PointerKindLemmas.{kind_by}
 use Rattle.triangulation.specs.declared.points.Triangle.{Triangle}

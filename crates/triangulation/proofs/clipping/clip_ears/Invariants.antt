@@ -1,6 +1,6 @@
 -- What is left of each list of the ring.
 use Rattle.std.proofs.Common.{◌≤◌, List, length}
-use Rattle.chain_examples.specs.Lists.{Item}
+use Rattle.chain_lists.specs.Lists.{Item}
 use Rattle.triangulation.specs.declared.points.Point.{Point}
 use Rattle.triangulation.specs.Clippings.{IsRingFrom, IsWholeRing, IsRemaining}
 use Rattle.triangulation.proofs.clipping.clip_ears.Given as goal

@@ -1,7 +1,7 @@
 -- Each list of the ring can be turned to the present corner, and no list before it begins with an
 -- ear.
 use Rattle.std.proofs.Common.{◌<◌, ℕ, List, ◌++◌, take, drop, length}
-use Rattle.chain_examples.specs.Lists.{Item}
+use Rattle.chain_lists.specs.Lists.{Item}
 use Rattle.triangulation.specs.declared.points.Point.{Point}
 use Rattle.triangulation.specs.Triangulations.{BeginsWithEar}
 use Rattle.triangulation.specs.Clippings.{points, IsRingFrom, IsWholeRing, IsTurned}

@@ -4,7 +4,7 @@ use Rattle.triangulation.specs.declared.points.Point.{Point}
 use Rattle.triangulation.specs.Triangulations.{IsTriangulation}
 use Rattle.triangulation.specs.Polygons.{rings_of}
 use Rattle.triangulation.proofs.JoiningLemmas.{polygon_triangulated}
-use Rattle.triangulation.proofs.polygons.triangulate_polygon.Goals as goal
+use Rattle.triangulation.proofs.with_holes.triangulate_polygon.Goals as goal
 
 pub returns-in_err-check_outline : goal.returns-in_err-check_outline
 returns-in_err-check_outline g c = let reason = c.in_err-check_outline.ensures.reason (rings_of c.args.holes.now) in search rules

@@ -6,7 +6,7 @@ use Rattle.std.specs.declared.alloc.Global.{Global}
 use Rattle.triangulation.specs.declared.points.Point.{Point}
 use Rattle.triangulation.specs.Polygons.{rings_of, AreJoined, IsJoinedRing}
 use Rattle.triangulation.proofs.JoiningLemmas.{ring_joined}
-use Rattle.triangulation.proofs.polygons.joined_ring.Goals as goal
+use Rattle.triangulation.proofs.with_holes.joined_ring.Goals as goal
 
 -- What follows of the value follows of the result.
 if_ok : {X E : Type 0} (P Q : X → Type 0) (r : Result X E) → IfOk r P → ((x : X) → P x → Q x) → IfOk r Q
