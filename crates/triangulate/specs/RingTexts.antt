@@ -26,7 +26,7 @@ AreNoSpaces line from to = (k : ℕ) → from ≤ k → k < to → IsFalse (is_s
 pub record IsDecimal (word : List ℕ) (value : ℤ) : Type 0 where
   pub some : 0 < length word
   pub digits : AllDigits 10 word
-  pub value : value ≡ pos (digits_value 10 word)
+  pub number : value ≡ pos (digits_value 10 word)
 
 -- Digits, with or without a minus sign.
 abbrev pub IsNumeral : List ℕ → ℤ → Type 0

@@ -29,6 +29,11 @@ impl View {
     }
 }
 
+/// Returns the difference of two coordinates.
+fn extent(low: i32, high: i32) -> i64 {
+    i64::from(high) - i64::from(low)
+}
+
 fn view_of(triangles: &[Triangle]) -> View {
     let mut view = match triangles.first() {
         Some(t) => View {
@@ -58,16 +63,18 @@ pub fn push_head(text: &mut String, triangles: &[Triangle]) -> Result<(), AllocE
     text.push_str(" ")?;
     push_number(text, -i64::from(view.top))?;
     text.push_str(" ")?;
-    push_number(text, i64::from(view.right) - i64::from(view.left))?;
+    push_number(text, extent(view.left, view.right))?;
     text.push_str(" ")?;
-    push_number(text, i64::from(view.top) - i64::from(view.bottom))?;
-    text.push_str("\">\n<g transform=\"scale(1 -1)\" stroke=\"#fff\" stroke-width=\".6\" ")?;
-    text.push_str("stroke-linejoin=\"round\">\n")
+    push_number(text, extent(view.bottom, view.top))?;
+    text.push_str("\">\n<style>path{vector-effect:non-scaling-stroke;stroke:#fff;")?;
+    text.push_str(
+        "stroke-width:.6px;stroke-linejoin:round}</style>\n<g transform=\"scale(1 -1)\">\n",
+    )
 }
 
 /// Appends a triangle, of which so many came before.
 pub fn push_path(text: &mut String, number: usize, t: Triangle) -> Result<(), AllocError> {
-    text.push_str("<path vector-effect=\"non-scaling-stroke\" fill=\"")?;
+    text.push_str("<path fill=\"")?;
     text.push_str(COLORS[number % 6])?;
     text.push_str("\" d=\"M")?;
     push_triangle(text, t)?;

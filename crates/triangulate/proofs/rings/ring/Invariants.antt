@@ -3,8 +3,8 @@ use Rattle.std.proofs.Common.{◌≤◌, ◌-◌, length}
 use Rattle.triangulate.proofs.RingTextLemmas.{IsReadTo}
 use Rattle.triangulate.proofs.rings.ring.Given as goal
 
-abbrev pub invariant-loop-at : goal.invariant-loop-at
-invariant-loop-at l = record { read : IsReadTo l.line l.at l.points.items; within : l.at ≤ length l.line }
+abbrev pub invariant-loop-points : goal.invariant-loop-points
+invariant-loop-points l = record { read : IsReadTo l.line l.at l.points.items; within : l.at ≤ length l.line }
 
-abbrev pub decreases-loop-at : goal.decreases-loop-at
-decreases-loop-at l = length l.line - l.at
+abbrev pub decreases-loop-points : goal.decreases-loop-points
+decreases-loop-points l = length l.line - l.at
