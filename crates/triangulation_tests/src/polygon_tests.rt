@@ -11,14 +11,41 @@ use triangulation::{Point, PolygonError, Ring, triangulate_polygon};
 // The number of triangles and twice their area.
 type Total = Result<(usize, i128), PolygonError>;
 
+type Corners<'a> = &'a [(i32, i32)];
+
 const SQUARE: [(i32, i32); 4] = [(0, 0), (12, 0), (12, 12), (0, 12)];
 
-const REVERSED: [(i32, i32); 4] = [(0, 12), (12, 12), (12, 0), (0, 0)];
+const CLOCKWISE: [(i32, i32); 4] = [(0, 12), (12, 12), (12, 0), (0, 0)];
+
+const MIDDLE: [(i32, i32); 4] = [(4, 4), (8, 4), (8, 8), (4, 8)];
+
+const INNER: [(i32, i32); 3] = [(5, 5), (6, 5), (5, 6)];
+
+// In a row with the middle one, beginning and ending at the height of its corners.
+const LEFT: [(i32, i32); 4] = [(1, 4), (1, 8), (3, 8), (3, 4)];
+
+const RIGHT: [(i32, i32); 4] = [(9, 4), (11, 4), (11, 8), (9, 8)];
+
+const OUTSIDE: [(i32, i32); 3] = [(14, 4), (18, 4), (18, 8)];
+
+const CROSSING: [(i32, i32); 3] = [(8, 8), (14, 8), (8, 10)];
+
+// A corner is on the outline.
+const TOUCHING: [(i32, i32); 3] = [(8, 8), (12, 9), (8, 10)];
+
+// A corner is that of the middle one.
+const KISSING: [(i32, i32); 3] = [(8, 8), (10, 9), (9, 10)];
+
+const FLAT: [(i32, i32); 3] = [(1, 1), (2, 2), (3, 3)];
+
+const PAIR: [(i32, i32); 2] = [(1, 1), (2, 2)];
+
+const BOW: [(i32, i32); 4] = [(0, 0), (4, 4), (4, 0), (0, 8)];
 
 fn total<P: PtrKey, A: ChainArenaTrait<P, Point> + Drop>(
     alloc: Global,
-    outline: &[(i32, i32)],
-    holes: &[&[(i32, i32)]],
+    outline: Corners<'_>,
+    holes: &[Corners<'_>],
 ) -> Total {
     let mut rings = Vec::new(alloc);
     for hole in holes {
@@ -31,33 +58,74 @@ fn total<P: PtrKey, A: ChainArenaTrait<P, Point> + Drop>(
 }
 
 fn check_holes<P: PtrKey, A: ChainArenaTrait<P, Point> + Drop>(rt: &impl Abort, alloc: Global) {
-    let one: [&[(i32, i32)]; 1] = [&[(4, 4), (8, 4), (8, 8), (4, 8)]];
     holds(
         rt,
-        "one hole",
+        "none",
+        total::<P, A>(alloc, &CLOCKWISE, &[]) == Ok((2, 288)),
+    );
+    let one: [Corners<'_>; 1] = [&MIDDLE];
+    holds(
+        rt,
+        "one",
         total::<P, A>(alloc, &SQUARE, &one) == Ok((8, 256)),
     );
     holds(
         rt,
-        "reversed",
-        total::<P, A>(alloc, &REVERSED, &one) == Ok((8, 256)),
+        "turned",
+        total::<P, A>(alloc, &CLOCKWISE, &one) == Ok((8, 256)),
     );
-    let outside: [&[(i32, i32)]; 1] = [&[(14, 4), (18, 4), (18, 8), (14, 8)]];
+    let three: [Corners<'_>; 3] = [&RIGHT, &LEFT, &MIDDLE];
     holds(
         rt,
-        "outside",
-        total::<P, A>(alloc, &SQUARE, &outside) == Err(PolygonError::Outside(0)),
-    );
-    let meets: [&[(i32, i32)]; 1] = [&[(4, 4), (12, 4), (8, 8), (4, 8)]];
-    let meeting = PolygonError::Meets(0, Ring::Outline);
-    holds(
-        rt,
-        "meets",
-        total::<P, A>(alloc, &SQUARE, &meets) == Err(meeting),
+        "three",
+        total::<P, A>(alloc, &SQUARE, &three) == Ok((20, 224)),
     );
 }
 
+fn check_places<P: PtrKey, A: ChainArenaTrait<P, Point> + Drop>(rt: &impl Abort, alloc: Global) {
+    let outline = Err(PolygonError::Meets(0, Ring::Outline));
+    holds(
+        rt,
+        "crossing",
+        total::<P, A>(alloc, &SQUARE, &[&CROSSING]) == outline,
+    );
+    holds(
+        rt,
+        "touching",
+        total::<P, A>(alloc, &SQUARE, &[&TOUCHING]) == outline,
+    );
+    let first = Err(PolygonError::Meets(1, Ring::Hole(0)));
+    holds(
+        rt,
+        "kissing",
+        total::<P, A>(alloc, &SQUARE, &[&MIDDLE, &KISSING]) == first,
+    );
+    let outside = Err(PolygonError::Outside(1));
+    holds(
+        rt,
+        "outside",
+        total::<P, A>(alloc, &SQUARE, &[&MIDDLE, &OUTSIDE]) == outside,
+    );
+}
+
+fn check_rings<P: PtrKey, A: ChainArenaTrait<P, Point> + Drop>(rt: &impl Abort, alloc: Global) {
+    let inner = Err(PolygonError::InHole(1, 0));
+    holds(
+        rt,
+        "inner",
+        total::<P, A>(alloc, &SQUARE, &[&MIDDLE, &INNER]) == inner,
+    );
+    let flat = Err(PolygonError::NoArea(Ring::Hole(0)));
+    holds(rt, "flat", total::<P, A>(alloc, &SQUARE, &[&FLAT]) == flat);
+    let few = Err(PolygonError::TooFewCorners(Ring::Outline));
+    holds(rt, "pair", total::<P, A>(alloc, &PAIR, &[]) == few);
+    let no_ear = Err(PolygonError::NoEar);
+    holds(rt, "bow", total::<P, A>(alloc, &BOW, &[]) == no_ear);
+}
+
 #[test]
-fn polygons_with_holes(rt: HostRuntime) {
+fn polygons_with_holes_are_triangulated(rt: HostRuntime) {
     check_holes::<ToolPtr, ChainArena<ToolPtr, Point>>(&rt, rt.alloc());
+    check_places::<ToolPtr, ChainArena<ToolPtr, Point>>(&rt, rt.alloc());
+    check_rings::<ToolPtr, ChainArena<ToolPtr, Point>>(&rt, rt.alloc());
 }
