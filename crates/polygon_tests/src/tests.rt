@@ -2,6 +2,7 @@
 //!
 //! The rows of a table are calls with what becomes of the polygons. A call that fails is made once
 //! more, since it may have been refused memory; the polygons show whether the refusal changed them.
+//! A table is run once more if the memory for its own lists is refused.
 
 use arena_base::ArenaSlot;
 use arena_ptr::{ChunkStack, HeapStack, LimitedStack, PtrKey, SlotStack, ToolPtr};
@@ -124,7 +125,11 @@ fn with_polygon<P: PtrKey, A: ChainArenaTrait<P, u32> + Drop>(
     corners: &[P],
     digits: u64,
 ) -> u64 {
-    let mut all = if digits == 0 { 0 } else { digits.wrapping_mul(10) };
+    let mut all = if digits == 0 {
+        0
+    } else {
+        digits.wrapping_mul(10)
+    };
     for p in corners {
         if !is_linked(polygons, *p) {
             return 99;
@@ -287,7 +292,10 @@ fn check<P: PtrKey, A: ChainArenaTrait<P, u32> + Drop>(
     tables: &[&[Row]],
 ) {
     for (table, rows) in tables.iter().enumerate() {
-        let wrong = first_wrong::<P, A>(alloc, rows);
+        let wrong = match first_wrong::<P, A>(alloc, rows) {
+            Err(_) => first_wrong::<P, A>(alloc, rows),
+            done => done,
+        };
         assert!(rt; wrong == Ok(None), "table {table}, {wrong:?}");
     }
 }
