@@ -9,7 +9,7 @@ use Rattle.chain_laws.proofs.RenamingLemmas.Chains.{renaming_carries_chains}
 use Rattle.arena_traits.specs.Entries.{ArenaView, ArenaState}
 use Rattle.chain_links.specs.ChainArena.{ptr_at}
 use Rattle.chain_compaction.specs.PointerMoves.{ArePointerMoves}
-use Rattle.chain_examples.specs.Lists.{Item, AreEntries, indexes, IsText}
+use Rattle.chain_lists.specs.Lists.{Item, AreEntries, indexes, IsText}
 use Rattle.chain_arena_examples.specs.Renumbering.{Move, AreMovedTo}
 use Rattle.chain_arena_examples.proofs.MappedListLemmas.{map_has_of}
 use Rattle.chain_arena_examples.proofs.PointerPairLemmas.{move_keeps}

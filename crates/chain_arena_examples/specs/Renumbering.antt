@@ -6,7 +6,7 @@ use Rattle.arena_traits.specs.Arena.{IsValid}
 use Rattle.arena_traits.specs.Entries.{ArenaView, ArenaState}
 use Rattle.chain_links.specs.CanonicalLayouts.{IsCanonicalLayout}
 use Rattle.chain_compaction.specs.PointerMoves.{ArePointerMoves}
-use Rattle.chain_examples.specs.Lists.{Item, IsText}
+use Rattle.chain_lists.specs.Lists.{Item, IsText}
 
 -- The old pointer of an item, and its new one.
 abbrev pub Move : Type 0 → Type 0

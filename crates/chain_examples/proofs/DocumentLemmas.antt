@@ -16,41 +16,15 @@ use Rattle.arena_traits.specs.Entries.{ArenaView, ArenaState, index_of, first_ke
 use Rattle.chain_links.specs.CallEffects.{BreaksNext, BreaksPrev, ConnectsLinks}
 use Rattle.chain_links.specs.ChainArena.{CanConnect, ptr_at}
 use Rattle.chain_traits.proofs.GenericRemovalLemmas.{same_entry}
-use Rattle.chain_examples.specs.Lists.{Item, AreEntries, indexes, IsText, KeepsWithout}
+use Rattle.chain_lists.specs.Lists.{Item, AreEntries, indexes, IsText, KeepsWithout}
 use Rattle.chain_examples.specs.Texts.{IsTogether, IsSplitAfter, IsSplitBefore, AreJoined}
-use Rattle.chain_examples.proofs.ItemListLemmas.{are_stored-append, are_stored-left, are_stored-right}
-use Rattle.chain_examples.proofs.ListChangeLemmas.{parts, whole, stays}
+use Rattle.chain_lists.proofs.ItemListLemmas.{are_stored-append, are_stored-left, are_stored-right, last_apart, last_is}
+use Rattle.chain_lists.proofs.ListChangeLemmas.{parts, whole, stays}
 
 module _ {Gen T : Type 0} where
-  -- A nonempty list has a last item.
-  pub last_apart : (e : Item Gen T) (es : List (Item Gen T)) → (before : List (Item Gen T)) × (last : Item Gen T) × (e ∷ es ≡ before ++ last ∷ [])
-  last_apart e [] = ([], e, refl)
-  last_apart e (f ∷ fs) =
-      let rest = last_apart f fs in
-      (e ∷ rest.0, rest.1, ap (λ (l : List (Item Gen T)). e ∷ l) rest.2)
-
-  pub last_is : (before : List (Item Gen T)) (e : Item Gen T) → last_key (before ++ e ∷ []) ≡ Some e.0
-  last_is before e = ap first_key (reverse-append before (e ∷ []))
-
   pub filled : (before : List (Item Gen T)) (e : Item Gen T) (after : List (Item Gen T)) → before ++ e ∷ after ≢ []
   filled [] e after none = cc
   filled (b ∷ before) e after none = cc
-
-  -- The index of `e` differs from those of all other items.
-  pub apart : (before : List (Item Gen T)) (e : Item Gen T) (after : List (Item Gen T)) → AreDistinct (indexes (before ++ e ∷ after))
-      → (IsMember (indexes (before ++ after)) e.0.0 → ⊥) × AreDistinct (indexes (before ++ after))
-  apart before e after once =
-      let both = (once_in_middle (indexes before) (indexes after) e.0.0).0 (subst AreDistinct (map-append index_of before (e ∷ after)) once) in
-      (λ has. both.0 (subst (λ (l : List ℕ). IsMember l e.0.0) (map-append index_of before after) has), subst AreDistinct (sym (map-append index_of before after)) both.1)
-
-  pub has_left : (before after : List (Item Gen T)) (i : ℕ) → IsMember (indexes before) i → IsMember (indexes (before ++ after)) i
-  has_left before after i has = subst (λ (l : List ℕ). IsMember l i) (sym (map-append index_of before after)) (IsMember-left (indexes before) (indexes after) i has)
-
-  pub has_right : (before after : List (Item Gen T)) (i : ℕ) → IsMember (indexes after) i → IsMember (indexes (before ++ after)) i
-  has_right before after i has = subst (λ (l : List ℕ). IsMember l i) (sym (map-append index_of before after)) (IsMember-right (indexes before) (indexes after) i has)
-
-  pub has_parts : (before after : List (Item Gen T)) (i : ℕ) → IsMember (indexes (before ++ after)) i → IsMember (indexes before) i ⊎ IsMember (indexes after) i
-  has_parts before after i has = IsMember-parts (indexes before) (indexes after) i (subst (λ (l : List ℕ). IsMember l i) (map-append index_of before after) has)
 
 module _ {A Gen T : Type 0} {view : A → ArenaView Gen T} {entry : A → ℕ → Option (Gen × T)} (state : (a : A) → ArenaState (view a) (entry a)) (interlinks : A → LinkMap) where
   -- The pointer `o`, if any, occurs only in texts that contain `p`.

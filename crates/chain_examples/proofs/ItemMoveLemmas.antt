@@ -7,9 +7,10 @@ use Rattle.chain_laws.proofs.ChainLemmas.MemberLaws.{chains_share_each}
 use Rattle.chain_laws.proofs.ListLemmas.Members.{AreDistinct-apart}
 use Rattle.chain_laws.proofs.InterlinkLemmas.Inverses.{one_some}
 use Rattle.arena_traits.specs.Entries.{ArenaView, ArenaState, index_of, first_key, last_key}
-use Rattle.chain_examples.specs.Lists.{Item, indexes, IsText, KeepsWithout}
+use Rattle.chain_lists.specs.Lists.{Item, indexes, IsText, KeepsWithout}
 use Rattle.chain_examples.specs.Texts.{IsSplitAfter, IsSplitBefore, AreJoined, IsClosed, IsSeparated, IsPutAfter, IsMovedAfter}
-use Rattle.chain_examples.proofs.DocumentLemmas.{StoredWith, last_apart, last_is, filled, apart, has_left, has_right, has_parts}
+use Rattle.chain_examples.proofs.DocumentLemmas.{StoredWith, filled}
+use Rattle.chain_lists.proofs.ItemListLemmas.{last_apart, last_is, apart, among-left, among-right, among-parts}
 
 module _ {Gen T : Type 0} where
   -- The first and the last item of a list are members.
@@ -22,7 +23,7 @@ module _ {Gen T : Type 0} where
   last_has k (x ∷ xs) last =
       let l = last_apart x xs in
       let same = one_some (last ∙ (ap last_key l.2 ∙ last_is l.0 l.1)) in
-      subst (λ (ys : List (Item Gen T)). IsMember (indexes ys) k.0) (sym l.2) (has_right l.0 (l.1 ∷ []) k.0 (inl (ap (λ (p : ℕ × Gen). p.0) (sym same))))
+      subst (λ (ys : List (Item Gen T)). IsMember (indexes ys) k.0) (sym l.2) (among-right l.0 (l.1 ∷ []) k.0 (inl (ap (λ (p : ℕ × Gen). p.0) (sym same))))
 
   -- Inserting `f` after `e` adds only its index, and keeps indexes distinct.
   has_without : (before : List (Item Gen T)) (e f : Item Gen T) (after : List (Item Gen T)) (i : ℕ) → IsMember (indexes (before ++ e ∷ f ∷ after)) i → (f.0.0 ≡ i) ⊎ IsMember (indexes (before ++ e ∷ after)) i
@@ -92,10 +93,10 @@ module _ {A Gen T : Type 0} {view : A → ArenaView Gen T} {entry : A → ℕ �
         let two = apart before (p, t) after is.chain.1 in
         let last = u_is t before after is in
         let first = v_is t before after is in (
-          closed.others ((p, t) ∷ []) (is_apart u (λ k is_u. two.0 (has_left before after p.0 (subst (IsMember (indexes before)) (sym (is_u.0)) (last_has k before (sym is_u.1 ∙ last))))))
-              (is_apart v (λ k is_v. two.0 (has_right before after p.0 (subst (IsMember (indexes after)) (sym (is_v.0)) (first_has k after (sym is_v.1 ∙ first))))))
+          closed.others ((p, t) ∷ []) (is_apart u (λ k is_u. two.0 (among-left before after p.0 (subst (IsMember (indexes before)) (sym (is_u.0)) (last_has k before (sym is_u.1 ∙ last))))))
+              (is_apart v (λ k is_v. two.0 (among-right before after p.0 (subst (IsMember (indexes after)) (sym (is_v.0)) (first_has k after (sym is_v.1 ∙ first))))))
               end.0,
-          λ something. closed.texts before after last first (λ some. kept before ((λ has. two.0 (has_left before after p.0 has)), tt) (begin.1 some)) end.1 two.1 something,
+          λ something. closed.texts before after last first (λ some. kept before ((λ has. two.0 (among-left before after p.0 has)), tt) (begin.1 some)) end.1 two.1 something,
         )
       where
         is_apart : (o : Option (ℕ × Gen)) → ((k : ℕ × Gen) → (p.0 ≡ k.0) × (o ≡ Some k) → ⊥) → IfSome o (λ k. ¬ IsMember (indexes ((p, t) ∷ [])) k.0)
@@ -118,16 +119,16 @@ module _ {A Gen T : Type 0} {view : A → ArenaView Gen T} {entry : A → ℕ �
         let two = apart before (q, s) after once in
         let no_q : IsMember (indexes ((p, t) ∷ [])) q.0 → ⊥ = λ has. ⊎_elim other (λ none. none) has in
         let no_p : IsMember (indexes (before ++ (q, s) ∷ after)) p.0 → ⊥ =
-        λ has. no_q ((chains_share_each (interlinks old) (linear (p.0 ∷ [])) (linear (indexes (before ++ (q, s) ∷ after))) p.0 q.0 alone.chain is.chain (inl refl) has).1 (has_right before ((q, s) ∷ after) q.0 (inl refl))) in
+        λ has. no_q ((chains_share_each (interlinks old) (linear (p.0 ∷ [])) (linear (indexes (before ++ (q, s) ∷ after))) p.0 q.0 alone.chain is.chain (inl refl) has).1 (among-right before ((q, s) ∷ after) q.0 (inl refl))) in
         let left = joins s t before [] end.0 (kept ((p, t) ∷ []) (no_q, tt) alone) (λ has. no_p (in_both has)) in
         subst (IsText state interlinks new) (append_assoc before ((q, s) ∷ (p, t) ∷ []) after)
         (closed.texts (before ++ (q, s) ∷ (p, t) ∷ []) after (sym (ap first_key (reverse-append before ((q, s) ∷ (p, t) ∷ [])))) (v_is s before after is) (λ some. left)
-        (λ some. stay after ((λ has. two.0 (has_right before after q.0 has)), ((λ has. no_p (has_right before ((q, s) ∷ after) p.0 (inr has))), tt)) (end.1 some))
+        (λ some. stay after ((λ has. two.0 (among-right before after q.0 has)), ((λ has. no_p (among-right before ((q, s) ∷ after) p.0 (inr has))), tt)) (end.1 some))
         (subst (λ (xs : List (Item Gen T)). AreDistinct (indexes xs)) (sym (append_assoc before ((q, s) ∷ (p, t) ∷ []) after)) (once_with before (q, s) (p, t) after once no_p))
         (λ none. filled before (q, s) ((p, t) ∷ after) (sym (append_assoc before ((q, s) ∷ (p, t) ∷ []) after) ∙ none)))
       where
         in_both : IsMember (indexes (before ++ (q, s) ∷ [])) p.0 → IsMember (indexes (before ++ (q, s) ∷ after)) p.0
-        in_both has = ⊎_elim (λ l. has_left before ((q, s) ∷ after) p.0 l) (λ r. ⊎_elim (λ same. has_right before ((q, s) ∷ after) p.0 (inl same)) (λ none. absurd none) r) (has_parts before ((q, s) ∷ []) p.0 has)
+        in_both has = ⊎_elim (λ l. among-left before ((q, s) ∷ after) p.0 l) (λ r. ⊎_elim (λ same. among-right before ((q, s) ∷ after) p.0 (inl same)) (λ none. absurd none) r) (among-parts before ((q, s) ∷ []) p.0 has)
 
     -- Putting `p` after `q` keeps every text without `p` and `q`.
     pub keeps_put : KeepsWithout state interlinks linear old ended (q ∷ []) → KeepsWithout state interlinks linear ended joined (q ∷ p ∷ []) → IsClosed state interlinks joined new (Some p) v
@@ -143,14 +144,14 @@ module _ {A Gen T : Type 0} {view : A → ArenaView Gen T} {entry : A → ℕ �
           let one = stored t before after is in
           let two = apart before (p, t) after is.chain.1 in
           put s t left right one.0 (subst (IsText state interlinks alone) same (one.1 (λ none. filled left (q, s) right (sym same ∙ none))))
-          (λ is_q. two.0 (subst (λ (xs : List (Item Gen T)). IsMember (indexes xs) p.0) (sym same) (has_right left ((q, s) ∷ right) p.0 (inl (sym is_q)))));
+          (λ is_q. two.0 (subst (λ (xs : List (Item Gen T)). IsMember (indexes xs) p.0) (sym same) (among-right left ((q, s) ∷ right) p.0 (inl (sym is_q)))));
       across = λ s t before after left right is there apart_q.
           let one = stored t before after is in
           let two = apart before (p, t) after is.chain.1 in
           let no_p : IsMember (indexes (left ++ (q, s) ∷ right)) p.0 → ⊥ = λ has. apart_q ((chains_share_each (interlinks old) (linear (indexes (before ++ (p, t) ∷ after))) (linear (indexes (left ++ (q, s) ∷ right))) p.0 q.0
-          is.chain there.chain (has_right before ((p, t) ∷ after) p.0 (inl refl)) has).1 (has_right left ((q, s) ∷ right) q.0 (inl refl))) in (
-            put s t left right one.0 (others (left ++ (q, s) ∷ right) (no_p, tt) there) (λ is_q. apart_q (has_right before ((p, t) ∷ after) q.0 (inl is_q))),
-            λ something. rest (before ++ after) (two.0, ((λ has. apart_q (⊎_elim (λ l. has_left before ((p, t) ∷ after) q.0 l) (λ r. has_right before ((p, t) ∷ after) q.0 (inr r)) (has_parts before after q.0 has))), tt))
+          is.chain there.chain (among-right before ((p, t) ∷ after) p.0 (inl refl)) has).1 (among-right left ((q, s) ∷ right) q.0 (inl refl))) in (
+            put s t left right one.0 (others (left ++ (q, s) ∷ right) (no_p, tt) there) (λ is_q. apart_q (among-right before ((p, t) ∷ after) q.0 (inl is_q))),
+            λ something. rest (before ++ after) (two.0, ((λ has. apart_q (⊎_elim (λ l. among-left before ((p, t) ∷ after) q.0 l) (λ r. among-right before ((p, t) ∷ after) q.0 (inr r)) (among-parts before after q.0 has))), tt))
                 (one.1 something),
           );
     }

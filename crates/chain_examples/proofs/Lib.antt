@@ -1,11 +1,5 @@
-mod ListChangeLemmas
-mod ItemListLemmas
 mod ItemMoveLemmas
-mod ItemRemovalLemmas
-mod RingLemmas
-mod MeshInvariantLemmas
 mod TaskLemmas
 mod DocumentLemmas
 mod QueueOrderLemmas
-mod ValueWriteLemmas
 mod OwnerLemmas

@@ -15,10 +15,10 @@ use Rattle.arena_traits.specs.Entries.{ArenaView, ArenaState, count, index_of, f
 use Rattle.chain_links.specs.Insertions.{IsInsertedBetween}
 use Rattle.chain_laws.proofs.WalkLemmas.WalkBack.{length_among}
 use Rattle.chain_links.proofs.OccupiedIndexLemmas.{found_has}
-use Rattle.chain_examples.specs.Lists.{Item, AreEntries, indexes, IsQueueOrder}
-use Rattle.chain_examples.specs.QueueOrder.{Queue, IsAmong, IsCancelled, items_from, with_entry_first, queue_order, rotation}
+use Rattle.chain_lists.specs.Lists.{Item, AreEntries, indexes}
+use Rattle.chain_examples.specs.QueueOrder.{IsQueueOrder, Queue, IsAmong, IsCancelled, items_from, with_entry_first, queue_order, rotation}
 use Rattle.chain_traits.proofs.GenericRemovalLemmas.{HasGone}
-use Rattle.chain_examples.proofs.ItemListLemmas.{are_stored-append, are_stored-left, are_stored-right, are_stored-frame, among-left, among-right, stored_kept, are_stored-some, ascends_once, has_found}
+use Rattle.chain_lists.proofs.ItemListLemmas.{are_stored-append, are_stored-left, are_stored-right, are_stored-frame, among-left, among-right, stored_kept, are_stored-some, ascends_once, has_found}
 
 module _ {Gen T : Type 0} where
   -- A task was appended.

@@ -8,12 +8,12 @@ use Rattle.arena_core.specs.declared.errors.ReallocationError.TheVariants as ref
 use Rattle.chain_laws.specs.Chains.{LinkMap, cyclic, IsChain, IsMember, AreDistinct}
 use Rattle.arena_traits.specs.Arena.{IsCapacityFor, IsValid}
 use Rattle.arena_traits.specs.Entries.{ArenaView, ArenaState, count, found, with_replacement, view_with_value}
-use Rattle.chain_examples.specs.Lists.{Item, indexes, IsQueueOrder}
+use Rattle.chain_lists.specs.Lists.{Item, indexes}
+use Rattle.chain_examples.specs.QueueOrder.{IsQueueOrder, Queue, IsAmong, with_task, queue_order, AppendsNewTask, IsTaskLast, arena_view}
 use Rattle.arena_traits.specs.Growth.{IsGrowthResult, Reserves, RefusesOneMore}
-use Rattle.chain_examples.specs.QueueOrder.{Queue, IsAmong, with_task, queue_order, AppendsNewTask, IsTaskLast, arena_view}
-use Rattle.chain_examples.proofs.ItemListLemmas.{are_stored-some}
+use Rattle.chain_lists.proofs.ItemListLemmas.{are_stored-some}
 use Rattle.arena_traits.proofs.EntryChangeLemmas.{valued, value_there, values_elsewhere}
-use Rattle.chain_examples.proofs.ValueWriteLemmas.{found-stored, indexes-written, first_key-written, are_stored-written, some-written}
+use Rattle.chain_lists.proofs.ValueWriteLemmas.{found-stored, indexes-written, first_key-written, are_stored-written, some-written}
 use Rattle.chain_examples.proofs.QueueOrderLemmas.{settle, order_length, among_stored, valid_task, order_in, queue_in}
 
 module _ {Gen T : Type 0} where

@@ -1,11 +1,19 @@
 -- The view of a run queue in contracts, and what its calls do to the order of tasks.
-use Rattle.std.specs.Prelude.{◌≡◌, ◌⊎◌, ℕ, zero, suc, ◌+◌, ◌≤◌, length, List, [], ◌∷◌, ◌++◌, IfSome, IfNone, OnErr, Option, None, Some, Result}
+use Rattle.std.specs.Prelude.{◌≡◌, ◌≢◌, ◌⊎◌, ℕ, zero, suc, ◌+◌, ◌≤◌, length, List, [], ◌∷◌, ◌++◌, IfSome, IfNone, OnErr, Option, None, Some, Result, is_some, true}
 use Rattle.std.specs.Option.{option_map, option_or}
 use Rattle.arena_core.specs.declared.errors.ReallocationError.{ReallocationError}
-use Rattle.chain_laws.specs.Chains.{LinkMap, IsMember, next_of}
+use Rattle.chain_laws.specs.Chains.{LinkMap, cyclic, IsChain, IsMember, next_of}
 use Rattle.arena_traits.specs.Entries.{ArenaView, ArenaState, first_key, with_replacement}
 use Rattle.arena_traits.specs.Growth.{IsGrowthResult, Reserves, RefusesOneMore, GrowsForOneMore}
-use Rattle.chain_examples.specs.Lists.{Item, IsQueueOrder, indexes}
+use Rattle.chain_lists.specs.Lists.{Item, AreEntries, indexes}
+
+module _ {Gen T : Type 0} (entry : ℕ → Option (Gen × T)) (links : LinkMap) where
+  -- `order` lists all entries of the arena, which form one ring, from the current one on.
+  pub record IsQueueOrder (current : Option (ℕ × Gen)) (order : List (Item Gen T)) : Type 0 where
+    pub first : current ≡ first_key order
+    pub ring : order ≢ [] → IsChain links (cyclic (indexes order))
+    pub are_stored : AreEntries entry order
+    pub all : (i : ℕ) → is_some (entry i) ≡ true → IsMember (indexes order) i
 
 -- A run queue: its tasks in turn, the current one first, its capacity, and the limit of that, if
 -- any.

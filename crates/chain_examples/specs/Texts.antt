@@ -3,9 +3,9 @@ use Rattle.std.specs.Prelude.{◌≡◌, ◌≢◌, ◌↔◌, ℕ, List, [], �
 use Rattle.std.specs.Option.{option_map}
 use Rattle.chain_laws.specs.Chains.{LinkMap, linear, IsMember, AreDistinct, next_of, prev_of}
 use Rattle.arena_traits.specs.Arena.{IsValid}
-use Rattle.arena_traits.specs.Entries.{ArenaView, ArenaState, first_key, last_key, view_with_value}
+use Rattle.arena_traits.specs.Entries.{ArenaView, ArenaState, first_key, last_key}
 use Rattle.chain_links.specs.ChainArena.{CanConnect}
-use Rattle.chain_examples.specs.Lists.{Item, indexes, IsText, KeepsWithout, ChangesOnlyListsOf}
+use Rattle.chain_lists.specs.Lists.{Item, indexes, IsText, KeepsWithout, ChangesOnlyListsOf}
 
 module _ {A Gen T : Type 0} {view : A → ArenaView Gen T} {entry : A → ℕ → Option (Gen × T)} (state : (a : A) → ArenaState (view a) (entry a)) (interlinks : A → LinkMap) (arena : A) where
   -- `q` is in no text without `p`.
@@ -76,15 +76,6 @@ module _ {A Gen T : Type 0} {view : A → ArenaView Gen T} {entry : A → ℕ �
         → AreDistinct (indexes (before ++ after)) → before ++ after ≢ [] → IsText state interlinks new (before ++ after)
     -- Texts that contain neither are unchanged.
     pub others : (items : List (Item Gen T)) → IfSome u (λ p. ¬ IsMember (indexes items) p.0) → IfSome v (λ q. ¬ IsMember (indexes items) q.0) → IsText state interlinks old items → IsText state interlinks new items
-
--- The item of `p` has the value `t`; all pointers and the order of each text are unchanged.
-pub record HasNewValue {A Gen T : Type 0} {view : A → ArenaView Gen T} {entry : A → ℕ → Option (Gen × T)} (state : (a : A) → ArenaState (view a) (entry a)) (interlinks : A → LinkMap) (old new : A)
-    (p : ℕ × Gen) (t : T) : Type 0 where
-  pub text : (s : T) (before after : List (Item Gen T)) → IsText state interlinks old (before ++ (p, s) ∷ after)
-      → IsText state interlinks new (before ++ (p, t) ∷ after)
-  pub others : KeepsWithout state interlinks linear old new (p ∷ [])
-  pub view_after : view new ≡ view_with_value (view old) p.0 t
-  pub order : interlinks new ≡ interlinks old
 
 module _ {A Gen T : Type 0} {view : A → ArenaView Gen T} {entry : A → ℕ → Option (Gen × T)} (state : (a : A) → ArenaState (view a) (entry a)) (interlinks : A → LinkMap) where
   -- A call that can be made changes only the texts of some pointers; otherwise nothing changes.

@@ -5,14 +5,14 @@ ghost use Rattle.std.specs.Option.{option_map};
 ghost use Rattle.std.specs.Borrow.{Lends, LendsSo, sem};
 ghost use Rattle.chain_laws.specs.Chains.{linear};
 ghost use Rattle.arena_traits.specs.Arena.{IsValid};
-ghost use Rattle.chain_examples.specs.Rows.{chain_members};
-ghost use Rattle.chain_examples.specs.Sizes.{ReservesMore, StartsEmpty, CountsEntries, ReportsCapacity};
-ghost use Rattle.chain_examples.specs.Lists.{StartsList, InsertsItemAfter, InsertsItemBefore, RemovesItem, ReadsItem};
-ghost use Rattle.chain_examples.specs.Texts.{HasTextNeighbors, ClosesTexts, PutsAfter, HasNewValue, ReadsNext, ReadsPrev, SplitsAfter, SplitsBefore, JoinsTexts, SeparatesItem, MovesItemAfter};
+ghost use Rattle.chain_lists.specs.Rows.{chain_members};
+ghost use Rattle.chain_lists.specs.Sizes.{ReservesMore, StartsEmpty, CountsEntries, ReportsCapacity};
+ghost use Rattle.chain_lists.specs.Lists.{StartsList, InsertsItemAfter, InsertsItemBefore, RemovesItem, ReadsItem, HasNewValue};
+ghost use Rattle.chain_examples.specs.Texts.{HasTextNeighbors, ClosesTexts, PutsAfter, ReadsNext, ReadsPrev, SplitsAfter, SplitsBefore, JoinsTexts, SeparatesItem, MovesItemAfter};
 
-use crate::growth::reserve;
 use arena_ptr::{AnyPointer, ChainInsertionError, GenKey, InxKey, PtrKey, ReallocationError};
 use chain_links::LinkInsertKind;
+use chain_lists::reserve;
 use chain_traits::ChainArenaTrait;
 use std::alloc::Global;
 use std::marker::{Model, PhantomData};
@@ -132,7 +132,7 @@ impl<P: PtrKey, T: Drop, A: ChainArenaTrait<P, T> + Drop> Documents<P, T, A> {
             A.ArenaTrait A.PtrAdvancer.Advancer A.ChainPtrAdvancer.Advancer)
             T.row self.entry result
             (λ new t. OnSome result
-            (HasNewValue A.state A.interlinks self.old new (P.key p) t))
+            (HasNewValue A.state A.interlinks linear self.old new (P.key p) t))
             (λ new. new ≡ self.old)) }
         ensures some { IsSome result ↔ IsValid (A.entry self.old) (P.key p) }
         ensures paragraph { IfSome result (λ t. A.entry self.old (P.key p).0

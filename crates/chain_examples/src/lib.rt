@@ -1,5 +1,4 @@
-//! Examples of code on arenas of links: a run queue, a polygon mesh, ordered documents, and short
-//! functions.
+//! Examples of code on arenas of links: a run queue, ordered documents, and short functions.
 //!
 //! The data structures work over any arena of links, and are proved from the contracts of
 //! `ChainArenaTrait` alone. Their own contracts are about lists rather than links.
@@ -7,11 +6,8 @@
 #![tactic(auto)]
 
 mod documents;
-mod growth;
-mod mesh;
 mod queue;
 pub mod tutorial;
 
 pub use documents::Documents;
-pub use mesh::{Mesh, cut_and_merge_restore};
 pub use queue::RunQueue;

@@ -5,14 +5,14 @@ ghost use Rattle.std.specs.Option.{option_map};
 ghost use Rattle.std.specs.Borrow.{LendsSo, sem};
 ghost use Rattle.arena_traits.specs.Arena.{IsValid};
 ghost use Rattle.arena_traits.specs.Entries.{count, first_key, found};
-ghost use Rattle.chain_examples.specs.QueueOrder.{IsAmong, IsFirstWithout, KeepsCapacity, ReservesTasks, SpawnsTask, arena_view, with_task, RotatesTasks, CancelsTask, TakesFirst, InsertsLast};
-ghost use Rattle.chain_examples.specs.Rows.{chain_members};
-ghost use Rattle.chain_examples.specs.Lists.{Item, IsQueueOrder};
-ghost use Rattle.chain_examples.specs.Sizes.{StartsEmpty, CountsEntries, ReportsCapacity};
+ghost use Rattle.chain_examples.specs.QueueOrder.{IsAmong, IsFirstWithout, KeepsCapacity, ReservesTasks, SpawnsTask, arena_view, with_task, RotatesTasks, CancelsTask, TakesFirst, InsertsLast, IsQueueOrder};
+ghost use Rattle.chain_lists.specs.Rows.{chain_members};
+ghost use Rattle.chain_lists.specs.Lists.{Item};
+ghost use Rattle.chain_lists.specs.Sizes.{StartsEmpty, CountsEntries, ReportsCapacity};
 
-use crate::growth::reserve;
 use arena_ptr::{GenKey, InxKey, PtrKey, ReallocationError};
 use chain_links::LinkInsertKind;
+use chain_lists::reserve;
 use chain_traits::ChainArenaTrait;
 use std::alloc::{AllocError, Allocator, Global};
 use std::marker::{Model, PhantomData};
@@ -34,8 +34,7 @@ pub struct RunQueue<P: PtrKey, T: Drop, A: ChainArenaTrait<P, T> + Drop> {
 impl<P: PtrKey, T: Drop, A: ChainArenaTrait<P, T> + Drop> Model for RunQueue<P, T, A> {
     ghost use Rattle.std.specs.Option.{option_map};
     ghost use Rattle.arena_traits.specs.Entries.{count};
-    ghost use Rattle.chain_examples.specs.Lists.{IsQueueOrder};
-    ghost use Rattle.chain_examples.specs.QueueOrder.{Queue, queue_order};
+    ghost use Rattle.chain_examples.specs.QueueOrder.{IsQueueOrder, Queue, queue_order};
 
     ghost Value = { Queue P.Gen T };
 

@@ -6,17 +6,17 @@
 #![tactic(auto)]
 
 mod documents;
-mod mesh;
 mod moves;
 mod own_calls;
 mod queue;
+mod rings;
 mod session;
 
 pub use documents::renumber;
-pub use mesh::{merge, split};
 pub use moves::move_after;
 pub use own_calls::{
     compress_canonical_counted, remove_chain, transfer_canonical_reallocating, transfer_chain,
 };
 pub use queue::{cancel, spawn};
+pub use rings::{exchange, split};
 pub use session::run_on;

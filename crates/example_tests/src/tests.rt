@@ -6,7 +6,6 @@
 
 mod bookmarks;
 mod documents;
-mod mesh;
 mod no_memory;
 mod own_calls;
 mod run_queue;
@@ -71,7 +70,6 @@ fn value_of(t: Option<&u32>) -> u32 {
 enum Yield<P> {
     Begun(Result<P, ReallocationError>),
     Inserted(Result<P, ChainInsertionError>),
-    Split(Result<Option<(P, P)>, ReallocationError>),
     Found(Option<P>),
     Removed(Option<u32>),
     Done(Option<()>),
@@ -81,13 +79,11 @@ enum Yield<P> {
 }
 
 // Returns the number of what a call yields: 0 for an error or none, and 1 for what is done or true.
-// A split into two copies has the numbers of both.
 fn yielded<P: Named>(what: Yield<P>) -> u32 {
     match what {
         Yield::Begun(Ok(p)) | Yield::Inserted(Ok(p)) | Yield::Found(Some(p)) => p.number(),
-        Yield::Split(Ok(Some((p, q)))) => p.number().wrapping_mul(256).wrapping_add(q.number()),
         Yield::Removed(Some(t)) => t,
-        Yield::Split(Ok(None)) | Yield::Done(Some(())) | Yield::Is(true) => 1,
+        Yield::Done(Some(())) | Yield::Is(true) => 1,
         Yield::Count(n) => u32::try_from(n).unwrap_or(u32::MAX),
         Yield::Number(n) => n,
         _ => 0,
@@ -135,17 +131,16 @@ enum Part {
 // compared in few places.
 type Wrong = Option<usize>;
 
-// What is wrong with a queue, three meshes and texts.
-type AllWrong = [Wrong; 5];
+// What is wrong with a queue and texts, or with three others.
+type AllWrong = [Wrong; 3];
 
-const RIGHT: AllWrong = [None; 5];
+const RIGHT: AllWrong = [None; 3];
 
 fn all_wrong<P: Named, A: ChainArenaTrait<P, u32> + Drop>(alloc: Global, part: Part) -> AllWrong {
     let queue = run_queue::wrong::<P, A>(alloc, part);
-    let [square, hole, corner] = mesh::wrong::<P, A>(alloc, part);
     let mut texts = Documents::<P, u32, A>::new(alloc);
     let documents = documents::wrong(&mut texts, documents::rows(part));
-    [queue, square, hole, corner, documents]
+    [queue, documents, None]
 }
 
 fn all_wrong_by_forwarding<P: Named, A: ChainArenaTrait<P, u32> + Drop>(
@@ -175,7 +170,7 @@ fn results<P: Named, A: OwnCalls<P>>(alloc: Global, part: Part) -> [AllWrong; 3]
         Part::WithinEight => first_capacity::<P, A>(alloc) == 8,
         Part::NoMemory => {
             let calls = wrong_unless(no_memory::are_right::<P, A>(alloc));
-            return [RIGHT, RIGHT, [calls, None, None, None, None]];
+            return [RIGHT, RIGHT, [calls, None, None]];
         }
         _ => true,
     };
@@ -183,11 +178,7 @@ fn results<P: Named, A: OwnCalls<P>>(alloc: Global, part: Part) -> [AllWrong; 3]
     let forwarded = all_wrong_by_forwarding::<P, A>(alloc, part);
     let (edits, are_right) = bookmarks::wrong::<P, A>(alloc);
     let marks = wrong_unless(are_right);
-    [
-        own,
-        forwarded,
-        [edits, marks, wrong_unless(is_made), None, None],
-    ]
+    [own, forwarded, [edits, marks, wrong_unless(is_made)]]
 }
 
 fn none_wrong(rt: &impl Abort, tables: &[Wrong]) {

@@ -7,7 +7,7 @@ use Rattle.std.proofs.lemmas.Int.{ints}
 use Rattle.polygon_laws.specs.Areas.{Point, edge_area, path_area, double_area, AreaIsZeroWithoutEdges, TriangleIsOriented, AreaIsThatOfAnyTurn, ReversalNegatesArea, DiagonalSplitsArea, EarSplitsArea, BridgeAddsAreas}
 
 -- A path is split at one of its corners.
-path_split : (ps : List Point) (p : Point) (qs : List Point) → path_area (ps ++ p ∷ qs) ≡ path_area (ps ++ p ∷ []) +ℤ path_area (p ∷ qs)
+pub path_split : (ps : List Point) (p : Point) (qs : List Point) → path_area (ps ++ p ∷ qs) ≡ path_area (ps ++ p ∷ []) +ℤ path_area (p ∷ qs)
 path_split [] p qs = omega (arith, ints)
 path_split (o ∷ []) p qs = omega (arith, ints)
 path_split (o ∷ n ∷ ps) p qs = let rest = path_split (n ∷ ps) p qs in omega (arith, ints, rest)

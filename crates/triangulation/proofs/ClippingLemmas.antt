@@ -17,7 +17,7 @@ in_tail e es p has = Contains-append_right (e ∷ []) es p has
 pub at_head : {X : Type 0} (e : X) (es : List X) → Contains (e ∷ es) e
 at_head e es = Contains-append_left (e ∷ []) es e (0, omega arith, refl)
 
-head_or_tail : {X : Type 0} (e : X) (es : List X) (p : X) (R : Type 0) → Contains (e ∷ es) p → (e ≡ p → R) → (Contains es p → R) → R
+pub head_or_tail : {X : Type 0} (e : X) (es : List X) (p : X) (R : Type 0) → Contains (e ∷ es) p → (e ≡ p → R) → (Contains es p → R) → R
 head_or_tail e es p R has first rest = ⊎_elim (λ one. ⊎_elim (λ none. absurd (omega (arith, none.1))) first (Contains-push_cases [] e p one)) rest (Contains-append_cases (e ∷ []) es p has)
 
 pub outline_same : (ps : List Point) → IsSameOutline ps ps
@@ -79,6 +79,17 @@ ear_clipped corners ts remaining t rest clipping outline positive = record {
 
     moved : (total ear left before all more listed : ℤ) → total +ℤ before ≡ all → listed ≡ before → listed ≡ ear +ℤ left → more ≡ total +ℤ ear → more +ℤ left ≡ all
     moved total ear left before all more listed one two three four = omega (arith, ints, one, two, three, four)
+
+-- The remaining corners are listed from the next one on.
+pub clipping_turned : (corners : List Point) (ts : List Triangle) (x : Point) (xs : List Point) → IsClipping corners ts (x ∷ xs) → IsClipping corners ts (xs ++ x ∷ [])
+clipping_turned corners ts x xs clipping =
+    let turned = outline_turned x xs in
+    record {
+      number = omega (arith, clipping.number, turned.number);
+      each = clipping.each;
+      areas = ap (λ (z : ℤ). total_area ts +ℤ z) turned.area ∙ clipping.areas;
+      among = λ p has. clipping.among p (turned.among p has);
+    }
 
 -- When two corners are left, the polygon is triangulated.
 pub clipping_ends : (corners : List Point) (ts : List Triangle) (remaining : List Point) → length remaining ≡ 2 → IsClipping corners ts remaining → IsTriangulation corners ts

@@ -8,8 +8,8 @@ use Rattle.chain_laws.specs.Chains.{LinkMap, cyclic, IsChain}
 use Rattle.chain_laws.proofs.ChainLemmas.Rotations.{rotated}
 use Rattle.chain_laws.proofs.InterlinkLemmas.Inverses.{one_some}
 use Rattle.arena_traits.specs.Entries.{ArenaView, ArenaState, index_of}
-use Rattle.chain_examples.specs.Lists.{Item, AreEntries, indexes, IsRing}
-use Rattle.chain_examples.specs.Rings.{ReadsNextInRing}
+use Rattle.chain_lists.specs.Lists.{Item, AreEntries, indexes, IsRing}
+use Rattle.polygons.specs.Rings.{ReadsNextInRing}
 
 -- The value of an item is what its pointer reads.
 pub value_read : {Gen T : Type 0} (entry : ℕ → Option (Gen × T)) (k : ℕ × Gen) (e : Item Gen T) (t : T) → entry k.0 ≡ Some (k.1, t) → k ≡ e.0 → entry e.0.0 ≡ Some (e.0.1, e.1) → t ≡ e.1

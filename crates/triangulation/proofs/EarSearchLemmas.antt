@@ -7,9 +7,9 @@ use Rattle.std.proofs.lemmas.Bool.{cases_order}
 use Rattle.chain_laws.specs.Chains.{LinkMap}
 use Rattle.chain_laws.proofs.InterlinkLemmas.Inverses.{one_some}
 use Rattle.arena_traits.specs.Arena.{IsValid}
-use Rattle.arena_traits.specs.Entries.{ArenaView, ArenaState, first_key}
-use Rattle.chain_examples.specs.Lists.{Item}
-use Rattle.chain_examples.specs.Rings.{ReadsNextInRing}
+use Rattle.arena_traits.specs.Entries.{ArenaView, ArenaState, count, first_key}
+use Rattle.chain_lists.specs.Lists.{Item}
+use Rattle.polygons.specs.Rings.{ReadsNextInRing}
 use Rattle.triangulation.specs.declared.points.Point.{Point}
 use Rattle.triangulation.specs.declared.points.Triangle.{Triangle}
 use Rattle.triangulation.specs.Triangulations.{IsEar, BeginsWithEar, HasNoEar}
@@ -37,20 +37,6 @@ tail_of (x ∷ xs) = xs
 abbrev head_of : {X : Type 0} → List X → Option X
 head_of [] = None
 head_of (x ∷ xs) = Some x
-
--- An item before the length of the first part is in it.
-in_front : {Gen : Type 0} (rest more ps : List (Item Gen Point)) (here : Item Gen Point) (after : List (Item Gen Point)) → rest ++ more ≡ ps ++ here ∷ after → length ps < length rest → Contains (points rest) here.1
-in_front [] more ps here after same less = absurd (omega (arith, less))
-in_front (e ∷ es) more [] here after same less = subst (λ (x : Item _ Point). Contains (points (e ∷ es)) x.1) (one_some (ap head_of same)) (at_head e.1 (points es))
-in_front (e ∷ es) more (p ∷ ps) here after same less = in_tail e.1 (points es) here.1 (in_front es more ps here after (ap tail_of same) (omega (arith, less)))
-
--- After one step or more, the corner is in the part behind the first one.
-pub among_others : {Gen : Type 0} (b : Item Gen Point) (rest more : List (Item Gen Point)) (at : ℕ × Gen) (read : List Point) (n : ℕ) (is : IsRead (b ∷ rest ++ more) at read n) → 1 ≤ n → n ≤ length rest → Contains (points rest) is.here.1
-among_others b rest more at read n is one few = by is.passed is.split (omega (arith, is.number, one)) (omega (arith, is.number, few))
-  where
-    by : (passed : List (Item _ Point)) → b ∷ (rest ++ more) ≡ passed ++ is.here ∷ is.rest → 1 ≤ length passed → length passed ≤ length rest → Contains (points rest) is.here.1
-    by [] split low high = absurd (omega (arith, low))
-    by (p ∷ ps) split low high = in_front rest more ps is.here is.rest (ap tail_of split) (omega (arith, high))
 
 module _ {A Gen : Type 0} {view : A → ArenaView Gen Point} {entry : A → ℕ → Option (Gen × Point)} (state : (a : A) → ArenaState (view a) (entry a)) (interlinks : A → LinkMap) where
   module _ (a : A) (start : ℕ × Gen) (items : List (Item Gen Point)) (from : IsRingFrom state interlinks a start items) where
@@ -84,10 +70,10 @@ module _ {A Gen : Type 0} {view : A → ArenaView Gen Point} {entry : A → ℕ 
             }
 
       -- The list that begins there, of which the first three corners are no ear.
-      pub none_there : (corners : ℕ) → length items ≡ corners → SeesNoEar state interlinks a at corners → BeginsWithEar (points (drop n items ++ take n items)) → ⊥
-      none_there corners number sees ear = sees (is.place.here ∷ (is.place.rest ++ is.place.passed))
+      pub none_there : count (view a) ≡ length items → SeesNoEar state interlinks a at → BeginsWithEar (points (drop n items ++ take n items)) → ⊥
+      none_there alone sees ear = sees (is.place.here ∷ (is.place.rest ++ is.place.passed))
           (record { ring = ring_here state interlinks a start items from at is.read n is.place; first = ap Some (sym is.place.place) })
-          (omega (arith, number, ap length is.place.split, length-append is.place.passed (is.place.here ∷ is.place.rest), length-append is.place.rest is.place.passed))
+          (record { number = refl; alone = omega (arith, alone, ap length is.place.split, length-append is.place.passed (is.place.here ∷ is.place.rest), length-append is.place.rest is.place.passed) })
           (subst (λ (l : List (Item Gen Point)). BeginsWithEar (points l)) turned ear)
         where
           turned : drop n items ++ take n items ≡ is.place.here ∷ (is.place.rest ++ is.place.passed)

@@ -4,3 +4,7 @@ pub mod RingClippingLemmas
 pub mod OutlineLemmas
 pub mod ReadingLemmas
 pub mod EarSearchLemmas
+pub mod RingPathLemmas
+pub mod JoiningLemmas
+pub mod RingCheckLemmas
+pub mod WholeRingLemmas

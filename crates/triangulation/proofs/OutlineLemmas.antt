@@ -1,9 +1,9 @@
 -- Rings that are built corner by corner.
-use Rattle.std.proofs.Common.{◌≡◌, ℕ, List, [], ◌∷◌, ◌++◌, Option, Some, refl, sym, ap, ◌∙◌, subst}
-use Rattle.std.proofs.lemmas.List.{map-append, append_assoc}
+use Rattle.std.proofs.Common.{◌≡◌, ℕ, ◌+◌, length, arith, List, [], ◌∷◌, ◌++◌, Option, Some, refl, sym, ap, ◌∙◌, subst}
+use Rattle.std.proofs.lemmas.List.{map-append, append_assoc, length-append}
 use Rattle.chain_laws.specs.Chains.{LinkMap, cyclic}
-use Rattle.arena_traits.specs.Entries.{ArenaView, ArenaState, first_key}
-use Rattle.chain_examples.specs.Lists.{Item, IsRing, InsertsAfter}
+use Rattle.arena_traits.specs.Entries.{ArenaView, ArenaState, count, first_key}
+use Rattle.chain_lists.specs.Lists.{Item, IsRing, InsertsAfter}
 use Rattle.triangulation.specs.declared.points.Point.{Point}
 use Rattle.triangulation.specs.Clippings.{IsRingBetween, IsRingOf}
 
@@ -12,13 +12,13 @@ first_stays [] e k is = absurd (let none = is in cc)
 first_stays (x ∷ xs) e k is = is
 
 module _ {A Gen : Type 0} {view : A → ArenaView Gen Point} {entry : A → ℕ → Option (Gen × Point)} (state : (a : A) → ArenaState (view a) (entry a)) (interlinks : A → LinkMap) where
-  pub ring_begins : (a : A) (start : ℕ × Gen) (x : Point) → IsRing state interlinks a ((start, x) ∷ []) → IsRingBetween state interlinks a start start (x ∷ [])
-  ring_begins a start x is = record { before = []; point = x; ring = record { ring = is; first = refl }; all = refl }
+  pub ring_begins : (a : A) (start : ℕ × Gen) (x : Point) → IsRing state interlinks a ((start, x) ∷ []) → count (view a) ≡ 1 → IsRingBetween state interlinks a start start (x ∷ [])
+  ring_begins a start x is one = record { before = []; point = x; ring = record { ring = is; first = refl }; all = refl; alone = one }
 
   -- One corner more is inserted at the end.
-  pub ring_grows : (old new : A) (start last next : ℕ × Gen) (x : Point) (corners more : List Point) → IsRingBetween state interlinks old start last corners → InsertsAfter state interlinks cyclic old new last (next, x) → more ≡ corners ++ x ∷ []
+  pub ring_grows : (old new : A) (start last next : ℕ × Gen) (x : Point) (corners more : List Point) → IsRingBetween state interlinks old start last corners → InsertsAfter state interlinks cyclic old new last (next, x) → count (view new) ≡ count (view old) + 1 → more ≡ corners ++ x ∷ []
       → IsRingBetween state interlinks new start next more
-  ring_grows old new start last next x corners more ring inserts is =
+  ring_grows old new start last next x corners more ring inserts size is =
       let items = ring.before ++ (last, ring.point) ∷ [] in
       record {
         before = items;
@@ -28,7 +28,8 @@ module _ {A Gen : Type 0} {view : A → ArenaView Gen Point} {entry : A → ℕ 
           first = first_stays items (next, x) start ring.ring.first;
         };
         all = map-append (λ (e : Item Gen Point). e.1) items ((next, x) ∷ []) ∙ (ap (λ (l : List Point). l ++ x ∷ []) ring.all ∙ sym is);
+        alone = omega (arith, size, ring.alone, ap length is, length-append corners (x ∷ []));
       }
 
   pub ring_ends : (a : A) (start last : ℕ × Gen) (corners all : List Point) → IsRingBetween state interlinks a start last corners → corners ≡ all → IsRingOf state interlinks a start all
-  ring_ends a start last corners all ring is = record { items = ring.before ++ (last, ring.point) ∷ []; ring = ring.ring; all = ring.all ∙ is }
+  ring_ends a start last corners all ring is = record { items = ring.before ++ (last, ring.point) ∷ []; ring = ring.ring; all = ring.all ∙ is; alone = ring.alone ∙ ap length is }

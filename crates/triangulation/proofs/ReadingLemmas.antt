@@ -10,8 +10,8 @@ use Rattle.chain_laws.proofs.InterlinkLemmas.Inverses.{one_some}
 use Rattle.arena_traits.specs.Arena.{IsValid}
 use Rattle.arena_traits.specs.Entries.{ArenaView, ArenaState, count, index_of, first_key}
 use Rattle.chain_links.proofs.OccupiedIndexLemmas.{found_has}
-use Rattle.chain_examples.specs.Lists.{Item, AreEntries, indexes, IsRing}
-use Rattle.chain_examples.specs.Rings.{AllInRings, ReadsNextInRing}
+use Rattle.chain_lists.specs.Lists.{Item, AreEntries, indexes, IsRing}
+use Rattle.polygons.specs.Rings.{AllInRings, ReadsNextInRing}
 use Rattle.triangulation.specs.declared.points.Point.{Point}
 use Rattle.triangulation.specs.Clippings.{points, IsRingFrom}
 use Rattle.triangulation.proofs.CornerLemmas.{stored_right, ring_turned, value_read}
@@ -30,7 +30,7 @@ not_none : {Gen T : Type 0} (xs : List (Item Gen T)) (e : Item Gen T) → first_
 not_none [] e none = let h = none in cc
 not_none (x ∷ xs) e none = let h = none in cc
 
-stored_some : {Gen T : Type 0} (entry : ℕ → Option (Gen × T)) (xs : List (Item Gen T)) (i : ℕ) → AreEntries entry xs → IsMember (indexes xs) i → is_some (entry i) ≡ true
+pub stored_some : {Gen T : Type 0} (entry : ℕ → Option (Gen × T)) (xs : List (Item Gen T)) (i : ℕ) → AreEntries entry xs → IsMember (indexes xs) i → is_some (entry i) ≡ true
 stored_some entry [] i s has = absurd has
 stored_some entry (x ∷ xs) i s (inl is) = ap (λ k. is_some (entry k)) (sym is) ∙ ap is_some s.0
 stored_some entry (x ∷ xs) i s (inr has) = stored_some entry xs i s.1 has
@@ -49,7 +49,7 @@ module _ {A Gen : Type 0} {view : A → ArenaView Gen Point} {entry : A → ℕ 
       omega (arith, among, length-map items index_of, length-map (view a).entries index_of)
 
   pub ring_of_valid : (a : A) (p : ℕ × Gen) → AllInRings state interlinks a → IsValid (entry a) p → (items : List (Item Gen Point)) × IsRingFrom state interlinks a p items
-  ring_of_valid a p all valid = let ring = all (p, valid.value) valid.stored in ((p, valid.value) ∷ ring.0, record { ring = ring.1; first = refl })
+  ring_of_valid a p all valid = let ring = all (p, valid.value) valid.stored in ((p, valid.value) ∷ ring.others, record { ring = ring.ring; first = refl })
 
   module _ (a : A) (start : ℕ × Gen) (items : List (Item Gen Point)) (from : IsRingFrom state interlinks a start items) where
     pub read_starts : (read : List Point) → read ≡ [] → IsRead items start read 0

@@ -4,8 +4,8 @@ use Rattle.std.specs.declared.vec.Vec.{Vec}
 use Rattle.std.specs.declared.alloc.Global.{Global}
 use Rattle.chain_laws.specs.Chains.{LinkMap}
 use Rattle.arena_traits.specs.Arena.{IsValid}
-use Rattle.arena_traits.specs.Entries.{ArenaView, ArenaState, first_key}
-use Rattle.chain_examples.specs.Lists.{Item, IsRing}
+use Rattle.arena_traits.specs.Entries.{ArenaView, ArenaState, count, first_key}
+use Rattle.chain_lists.specs.Lists.{Item, IsRing}
 use Rattle.triangulation.specs.declared.points.Point.{Point}
 use Rattle.triangulation.specs.declared.points.Triangle.{Triangle}
 use Rattle.triangulation.specs.declared.errors.TriangulationError.{TriangulationError}
@@ -28,35 +28,41 @@ module _ {A Gen : Type 0} {view : A → ArenaView Gen Point} {entry : A → ℕ 
     pub ring : IsRing state interlinks arena items
     pub first : first_key items ≡ Some p
 
-  -- The triangle of `p` and the two corners after it, of which `corner` is the first.
-  abbrev pub IsEarAfter : A → ℕ × Gen → ℕ × Gen → Triangle → Type 0
-  IsEarAfter arena p corner t = (a c b : Item Gen Point) (rest : List (Item Gen Point)) → IsRingFrom arena p (a ∷ c ∷ b ∷ rest)
-      → (corner ≡ c.0) × (t.a ≡ a.1) × (t.b ≡ c.1) × (t.c ≡ b.1) × (pos 0 <ℤ triangle_area t)
+  -- The list of a ring that is alone in the arena, with so many corners.
+  pub record IsWholeRing (arena : A) (items : List (Item Gen Point)) (corners : ℕ) : Type 0 where
+    pub number : length items ≡ corners
+    pub alone : count (view arena) ≡ corners
 
-  -- The corners from `p` on, of which there are so many, do not begin with an ear.
-  abbrev pub SeesNoEar : A → ℕ × Gen → ℕ → Type 0
-  SeesNoEar arena p corners = (items : List (Item Gen Point)) → IsRingFrom arena p items → length items ≡ corners → BeginsWithEar (points items) → ⊥
+  -- The triangle of `p` and the two corners after it.
+  abbrev pub IsEarAfter : A → (p corner after : ℕ × Gen) → Triangle → Type 0
+  IsEarAfter arena p corner after t = (a c b : Item Gen Point) (rest : List (Item Gen Point)) → IsRingFrom arena p (a ∷ c ∷ b ∷ rest)
+      → (corner ≡ c.0) × (after ≡ b.0) × (t.a ≡ a.1) × (t.b ≡ c.1) × (t.c ≡ b.1) × (pos 0 <ℤ triangle_area t)
+
+  -- The corners from `p` on do not begin with an ear.
+  abbrev pub SeesNoEar : A → ℕ × Gen → Type 0
+  SeesNoEar arena p = (items : List (Item Gen Point)) → IsRingFrom arena p items → IsWholeRing arena items (length items) → BeginsWithEar (points items) → ⊥
 
   -- No list of the ring of `start`, of so many corners, begins with an ear.
   abbrev pub FindsNoEar : A → ℕ × Gen → ℕ → Type 0
-  FindsNoEar arena start corners = (items : List (Item Gen Point)) → IsRingFrom arena start items → length items ≡ corners → HasNoEar (points items)
+  FindsNoEar arena start corners = (items : List (Item Gen Point)) → IsRingFrom arena start items → IsWholeRing arena items corners → HasNoEar (points items)
 
-  -- One of the corners after `start`, up to two before it, is in the triangle.
-  abbrev pub HoldsCorner : A → ℕ × Gen → ℕ → Triangle → Type 0
-  HoldsCorner arena start corners t = (b : Item Gen Point) (rest more : List (Item Gen Point)) → IsRingFrom arena start (b ∷ rest ++ more) → length rest + 3 ≡ corners → (p : Point) × Contains (points rest) p × IsInTriangle t p
+  -- An entry of the arena is a corner in the triangle.
+  pub record HoldsCorner (arena : A) (t : Triangle) : Type 0 where
+    pub at : ℕ × Gen
+    pub point : Point
+    pub stored : entry arena at.0 ≡ Some (at.1, point)
+    pub inside : IsInTriangle t point
 
-  -- An ear of the ring of these items, at `corner` after `p`.
-  pub record HasEar (arena : A) (items : List (Item Gen Point)) (p corner : ℕ × Gen) (t : Triangle) : Type 0 where
-    pub last : Item Gen Point
+  -- An ear of the ring of these items: three corners in a row, of which the first is `p`.
+  pub record HasEar (arena : A) (items : List (Item Gen Point)) (p corner after : ℕ × Gen) (t : Triangle) : Type 0 where
     pub rest : List (Item Gen Point)
-    pub ring : IsRing state interlinks arena ((p, t.a) ∷ (corner, t.b) ∷ last ∷ rest)
-    pub third : t.c ≡ last.1
-    pub outline : IsSameOutline (points items) (points ((p, t.a) ∷ (corner, t.b) ∷ last ∷ rest))
+    pub ring : IsRing state interlinks arena ((p, t.a) ∷ (corner, t.b) ∷ (after, t.c) ∷ rest)
+    pub outline : IsSameOutline (points items) (points ((p, t.a) ∷ (corner, t.b) ∷ (after, t.c) ∷ rest))
     pub positive : pos 0 <ℤ triangle_area t
 
   -- An ear is found in the ring of `start`, if it has three corners or more.
-  abbrev pub FindsEar : A → ℕ × Gen → (p corner : ℕ × Gen) → Triangle → Type 0
-  FindsEar arena start p corner t = (items : List (Item Gen Point)) → IsRingFrom arena start items → 3 ≤ length items → HasEar arena items p corner t
+  abbrev pub FindsEar : A → ℕ × Gen → (p corner after : ℕ × Gen) → Triangle → Type 0
+  FindsEar arena start p corner after t = (items : List (Item Gen Point)) → IsRingFrom arena start items → 3 ≤ length items → HasEar arena items p corner after t
 
   -- The ring of these items, listed from the corner of `p` on.
   pub record IsTurned (arena : A) (items : List (Item Gen Point)) (p : ℕ × Gen) : Type 0 where
@@ -68,7 +74,7 @@ module _ {A Gen : Type 0} {view : A → ArenaView Gen Point} {entry : A → ℕ 
   pub record IsRemaining (arena : A) (items : List (Item Gen Point)) (triangles : List Triangle) (p : ℕ × Gen) (left : ℕ) : Type 0 where
     pub remaining : List (Item Gen Point)
     pub ring : IsRingFrom arena p remaining
-    pub number : length remaining ≡ left
+    pub whole : IsWholeRing arena remaining left
     pub clipping : IsClipping (points items) triangles (points remaining)
 
   -- A ring of these corners, from the first one on.
@@ -76,6 +82,7 @@ module _ {A Gen : Type 0} {view : A → ArenaView Gen Point} {entry : A → ℕ 
     pub items : List (Item Gen Point)
     pub ring : IsRingFrom arena start items
     pub all : points items ≡ corners
+    pub alone : count (view arena) ≡ length corners
 
   -- A ring of these corners, from the first one to the last.
   pub record IsRingBetween (arena : A) (start last : ℕ × Gen) (corners : List Point) : Type 0 where
@@ -83,14 +90,15 @@ module _ {A Gen : Type 0} {view : A → ArenaView Gen Point} {entry : A → ℕ 
     pub point : Point
     pub ring : IsRingFrom arena start (before ++ (last, point) ∷ [])
     pub all : points (before ++ (last, point) ∷ []) ≡ corners
+    pub alone : count (view arena) ≡ length corners
 
 module _ {A Gen : Type 0} {view : A → ArenaView Gen Point} {entry : A → ℕ → Option (Gen × Point)} (state : (a : A) → ArenaState (view a) (entry a)) (interlinks : A → LinkMap) where
   -- `clip_ears`: the ring of `start`, with so many corners, is clipped to two corners, or why not.
   abbrev pub ClipsEars : A → ℕ × Gen → ℕ → Result (Vec Triangle Global) TriangulationError → Type 0
-  ClipsEars arena start corners (Ok triangles) = (items : List (Item Gen Point)) → IsRingFrom state interlinks arena start items → length items ≡ corners → 2 ≤ corners → IsTriangulation (points items) triangles.items
+  ClipsEars arena start corners (Ok triangles) = (items : List (Item Gen Point)) → IsRingFrom state interlinks arena start items → IsWholeRing state interlinks arena items corners → 2 ≤ corners → IsTriangulation (points items) triangles.items
   ClipsEars arena start corners (Err why.InvalidPointer) = ⊥
   ClipsEars arena start corners (Err why.TooFewCorners) = ⊥
-  ClipsEars arena start corners (Err why.NoEar) = (items : List (Item Gen Point)) → IsRingFrom state interlinks arena start items → length items ≡ corners → 2 ≤ corners → IsStuck (points items)
+  ClipsEars arena start corners (Err why.NoEar) = (items : List (Item Gen Point)) → IsRingFrom state interlinks arena start items → IsWholeRing state interlinks arena items corners → 2 ≤ corners → IsStuck (points items)
   ClipsEars arena start corners (Err why.AllocError) = Unit {0}
 
   -- `outline`: the points of the ring from `p` on, or why not.

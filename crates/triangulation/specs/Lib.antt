@@ -1,2 +1,3 @@
 pub mod Triangulations
 pub mod Clippings
+pub mod Polygons

@@ -1,33 +1,36 @@
 //! Ears of a ring of corners, and their removal.
 
-ghost use Rattle.std.specs.Prelude.{◌≡◌, IfSome, IfNone, IsTrue};
-ghost use Rattle.triangulation.specs.Clippings.{IsEarAfter, SeesNoEar, HoldsCorner, FindsEar, FindsNoEar, ClipsEars};
+ghost use Rattle.std.specs.Prelude.{◌≡◌, length, IfSome, IfNone};
+ghost use Rattle.triangulation.specs.Clippings.{IsEarAfter, SeesNoEar, FindsEar, FindsNoEar, ClipsEars};
 
+use crate::corner_index::{CornerIndex, holds_corner};
 use crate::errors::TriangulationError;
-use crate::points::{Point, Triangle, is_in_triangle, is_left};
+use crate::points::{Point, Triangle, is_left};
 use arena_ptr::PtrKey;
-use chain_examples::Mesh;
 use chain_traits::ChainArenaTrait;
+use polygons::Polygons;
 use std::alloc::Global;
 
-// A corner, the pointer of the corner before it, and the triangle of both and the next one.
+// Three corners in a row, and their triangle.
 #[derive(Clone, Copy)]
 struct Ear<P: PtrKey> {
     before: P,
     corner: P,
+    after: P,
     triangle: Triangle,
 }
 
 // Returns the ear at the corner after `before`, if there is one.
 fn ear_after<P: PtrKey, A: ChainArenaTrait<P, Point> + Drop>(
-    ring: &Mesh<P, Point, A>,
+    ring: &Polygons<P, Point, A>,
+    index: &CornerIndex<P>,
+    corners: &[Point],
     before: P,
-    corners: usize,
 ) -> Option<Ear<P>>
     ensures before { IfSome result (λ ear. ear.before ≡ before) }
     ensures ear { IfSome result (λ ear. IsEarAfter A.state A.interlinks ring.now (P.key before)
-        (P.key ear.corner) ear.triangle) }
-    ensures none { IfNone result (SeesNoEar A.state A.interlinks ring.now (P.key before) corners) }
+        (P.key ear.corner) (P.key ear.after) ear.triangle) }
+    ensures none { IfNone result (SeesNoEar A.state A.interlinks ring.now (P.key before)) }
 {
     let corner = ring.next(before)?;
     let after = ring.next(corner)?;
@@ -35,10 +38,11 @@ fn ear_after<P: PtrKey, A: ChainArenaTrait<P, Point> + Drop>(
     let b = *ring.get(corner)?;
     let c = *ring.get(after)?;
     let triangle = Triangle { a, b, c };
-    if is_left(a, b, c) && !holds_corner(ring, triangle, after, corners) {
+    if is_left(a, b, c) && !holds_corner(ring, index, corners, triangle) {
         Some(Ear {
             before,
             corner,
+            after,
             triangle,
         })
     } else {
@@ -46,46 +50,21 @@ fn ear_after<P: PtrKey, A: ChainArenaTrait<P, Point> + Drop>(
     }
 }
 
-// Returns whether one of the corners after `start` is in the triangle.
-fn holds_corner<P: PtrKey, A: ChainArenaTrait<P, Point> + Drop>(
-    ring: &Mesh<P, Point, A>,
-    triangle: Triangle,
-    start: P,
-    corners: usize,
-) -> bool
-    ensures { IsTrue result → HoldsCorner A.state A.interlinks ring.now (P.key start) corners
-        triangle }
-{
-    let mut at = start;
-    for _ in 3..corners {
-        at = match ring.next(at) {
-            Some(next) => next,
-            None => return true,
-        };
-        let point = match ring.get(at) {
-            Some(point) => *point,
-            None => return true,
-        };
-        if is_in_triangle(point, triangle) {
-            return true;
-        }
-    }
-    false
-}
-
-// Returns an ear of the ring of `start`, if it has one.
+// Returns the first ear from `start` on in its ring, which has so many corners, if it has one.
 fn find_ear<P: PtrKey, A: ChainArenaTrait<P, Point> + Drop>(
-    ring: &Mesh<P, Point, A>,
+    ring: &Polygons<P, Point, A>,
+    index: &CornerIndex<P>,
+    corners: &[Point],
     start: P,
-    corners: usize,
+    left: usize,
 ) -> Option<Ear<P>>
     ensures ear { IfSome result (λ ear. FindsEar A.state A.interlinks ring.now (P.key start)
-        (P.key ear.before) (P.key ear.corner) ear.triangle) }
-    ensures none { IfNone result (FindsNoEar A.state A.interlinks ring.now (P.key start) corners) }
+        (P.key ear.before) (P.key ear.corner) (P.key ear.after) ear.triangle) }
+    ensures none { IfNone result (FindsNoEar A.state A.interlinks ring.now (P.key start) left) }
 {
     let mut before = start;
-    for _ in 0..corners {
-        match ear_after(ring, before, corners) {
+    for _ in 0..left {
+        match ear_after(ring, index, corners, before) {
             Some(ear) => return Some(ear),
             None => {}
         }
@@ -95,25 +74,29 @@ fn find_ear<P: PtrKey, A: ChainArenaTrait<P, Point> + Drop>(
 }
 
 // Clips the ears of the ring of `start` until two corners are left, and returns the triangles.
+//
+// The ring is alone in its arena, and has as many corners as the list. After an ear, the search goes
+// on two corners further, so that triangles stay small.
 pub fn clip_ears<P: PtrKey, A: ChainArenaTrait<P, Point> + Drop>(
-    ring: &mut Mesh<P, Point, A>,
+    ring: &mut Polygons<P, Point, A>,
+    index: &CornerIndex<P>,
+    corners: &[Point],
     alloc: Global,
     start: P,
-    corners: usize,
 ) -> Result<Vec<Triangle>, TriangulationError>
-    ensures { ClipsEars A.state A.interlinks ring.old (P.key start) corners result }
+    ensures { ClipsEars A.state A.interlinks ring.old (P.key start) (length corners.now) result }
 {
-    let mut triangles = Vec::new(alloc);
+    let mut triangles = Vec::with_capacity(alloc, corners.len())?;
     let mut start = start;
-    let mut left = corners;
+    let mut left = corners.len();
     while left > 2 {
-        let ear = match find_ear(&*ring, start, left) {
+        let ear = match find_ear(&*ring, index, corners, start, left) {
             Some(ear) => ear,
             None => return Err(TriangulationError::NoEar),
         };
         triangles.push(ear.triangle)?;
         ring.remove(ear.corner);
-        start = ear.before;
+        start = ear.after;
         left -= 1;
     }
     Ok(triangles)

@@ -1,15 +1,26 @@
 //! Triangulation of polygons by ear clipping, exact over integer coordinates.
 //!
-//! `triangulate` reads a polygon of a `Mesh` over any arena of links. Its contract states that the
-//! areas of the triangles add up to the area of the polygon.
+//! `triangulate` reads one of the `Polygons` in any arena of links. Its contract states that the areas
+//! of the triangles add up to the area of the polygon.
 #![tactic(auto)]
 
+mod areas;
+mod bounds;
+mod bridges;
 mod clipping;
+mod corner_index;
 mod errors;
+mod holes;
+mod joining;
+mod meetings;
 mod outlines;
 mod points;
+mod ring_checks;
 mod triangulation;
+mod with_holes;
 
-pub use errors::TriangulationError;
+pub use areas::double_area;
+pub use errors::{PolygonError, Ring, TriangulationError};
 pub use points::{Point, Triangle, orientation};
 pub use triangulation::{triangulate, triangulate_points};
+pub use with_holes::triangulate_polygon;

@@ -1,22 +1,25 @@
 //! Rings of corners, copied from lists and into them.
 
-ghost use Rattle.std.specs.Prelude.{◌≡◌, ◌∷◌, IfOk, IfErr};
+ghost use Rattle.std.specs.Prelude.{◌≡◌, [], ◌∷◌, IfOk, IfErr};
 ghost use Rattle.triangulation.specs.Clippings.{IsRingOf, ReadsOutline};
 ghost use Rattle.triangulation.specs.declared.errors.TriangulationError.TheVariants as why;
 
 use crate::errors::TriangulationError;
 use crate::points::Point;
 use arena_ptr::PtrKey;
-use chain_examples::Mesh;
 use chain_traits::ChainArenaTrait;
+use polygons::Polygons;
 use std::alloc::Global;
 
-// Inserts a ring of corners and returns the pointer of the first one.
+// Inserts a ring of corners into an empty arena, and returns the pointer of the first one. The
+// pointers of all are appended to a list.
 pub fn insert_ring<P: PtrKey, A: ChainArenaTrait<P, Point> + Drop>(
-    ring: &mut Mesh<P, Point, A>,
+    ring: &mut Polygons<P, Point, A>,
+    pointers: &mut Vec<P>,
     first: Point,
     others: &[Point],
 ) -> Result<P, TriangulationError>
+    requires { (A.view ring.old).entries ≡ [] }
     ensures ring { IfOk result (λ start. IsRingOf A.state A.interlinks ring.new (P.key start)
         (first ∷ others.now)) }
     ensures err { IfErr result (λ e. e ≡ why.AllocError) }
@@ -25,19 +28,21 @@ pub fn insert_ring<P: PtrKey, A: ChainArenaTrait<P, Point> + Drop>(
         Ok(start) => start,
         Err(_) => return Err(TriangulationError::AllocError),
     };
+    pointers.push(start)?;
     let mut last = start;
     for corner in others {
         last = match ring.insert_after(last, *corner) {
             Ok(corner) => corner,
             Err(_) => return Err(TriangulationError::AllocError),
         };
+        pointers.push(last)?;
     }
     Ok(start)
 }
 
 // Returns the points of the polygon of `start`, from `start` on.
 pub fn outline<P: PtrKey, A: ChainArenaTrait<P, Point> + Drop>(
-    polygons: &Mesh<P, Point, A>,
+    polygons: &Polygons<P, Point, A>,
     alloc: Global,
     start: P,
 ) -> Result<Vec<Point>, TriangulationError>

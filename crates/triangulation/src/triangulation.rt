@@ -1,20 +1,21 @@
-//! Triangulation of a polygon of a mesh, or of a list of corners.
+//! Triangulation of a polygon in an arena, or of a list of corners.
 
 ghost use Rattle.triangulation.specs.Triangulations.{TriangulatesPoints};
 ghost use Rattle.triangulation.specs.Clippings.{Triangulates};
 
 use crate::clipping::clip_ears;
+use crate::corner_index::CornerIndex;
 use crate::errors::TriangulationError;
 use crate::outlines::{insert_ring, outline};
 use crate::points::{Point, Triangle};
 use arena_ptr::PtrKey;
-use chain_examples::Mesh;
 use chain_traits::ChainArenaTrait;
+use polygons::Polygons;
 use std::alloc::Global;
 
-/// Triangulates a polygon of a mesh by ear clipping, and returns the triangles.
+/// Triangulates a polygon by ear clipping, and returns the triangles.
 ///
-/// `start` is any of its corners. The mesh is only read: the ears are clipped from a copy.
+/// `start` is any of its corners. The polygons are only read: the ears are clipped from a copy.
 ///
 /// The corners must turn counterclockwise. Each is a corner of some triangle, also if it is on the
 /// line through its neighbors. So `n` corners have `n - 2` triangles, whose areas add up to that of
@@ -27,7 +28,7 @@ use std::alloc::Global;
 /// - `NoEar`: no remaining corner is an ear, as if the corners turn clockwise or sides cross.
 /// - `AllocError`: an allocation failed, or the copy exceeds the greatest index.
 pub fn triangulate<P: PtrKey, A: ChainArenaTrait<P, Point> + Drop>(
-    polygons: &Mesh<P, Point, A>,
+    polygons: &Polygons<P, Point, A>,
     alloc: Global,
     start: P,
 ) -> Result<Vec<Triangle>, TriangulationError>
@@ -55,9 +56,13 @@ pub fn triangulate_points<P: PtrKey, A: ChainArenaTrait<P, Point> + Drop>(
     if corners.len() < 3 {
         return Err(TriangulationError::TooFewCorners);
     }
-    let mut ring: Mesh<P, Point, A> = Mesh::new(alloc);
-    match insert_ring(&mut ring, corners[0], &corners[1..]) {
-        Ok(start) => clip_ears(&mut ring, alloc, start, corners.len()),
+    let mut ring: Polygons<P, Point, A> = Polygons::new(alloc);
+    let mut pointers = Vec::with_capacity(alloc, corners.len())?;
+    match insert_ring(&mut ring, &mut pointers, corners[0], &corners[1..]) {
+        Ok(start) => {
+            let index = CornerIndex::new(alloc, corners, pointers)?;
+            clip_ears(&mut ring, &index, corners, alloc, start)
+        }
         Err(e) => Err(e),
     }
 }

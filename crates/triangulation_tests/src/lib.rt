@@ -2,4 +2,6 @@
 #![tactic(auto)]
 
 #[cfg(test)]
+mod polygon_tests;
+#[cfg(test)]
 mod tests;

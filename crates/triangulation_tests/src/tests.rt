@@ -2,7 +2,7 @@
 
 use arena_ptr::{PtrKey, ToolPtr};
 use chain_arena::ChainArena;
-use chain_examples::Mesh;
+use polygons::Polygons;
 use chain_traits::ChainArenaTrait;
 use std::alloc::Global;
 use std::process::Abort;
@@ -63,7 +63,7 @@ const COMB: [(i32, i32); 20] = [
     (0, 10),
 ];
 
-fn total_of(triangles: &[Triangle]) -> (usize, i128) {
+pub fn total_of(triangles: &[Triangle]) -> (usize, i128) {
     let mut sum: i128 = 0;
     for t in triangles {
         sum = sum.wrapping_add(orientation(t.a, t.b, t.c));
@@ -71,7 +71,7 @@ fn total_of(triangles: &[Triangle]) -> (usize, i128) {
     (triangles.len(), sum)
 }
 
-fn points_of(alloc: Global, corners: &[(i32, i32)]) -> Result<Vec<Point>, TriangulationError> {
+pub fn points_of(alloc: Global, corners: &[(i32, i32)]) -> Result<Vec<Point>, TriangulationError> {
     let mut points = Vec::new(alloc);
     for corner in corners {
         points.push(Point {
@@ -91,7 +91,7 @@ fn total<P: PtrKey, A: ChainArenaTrait<P, Point> + Drop>(
     Ok(total_of(&triangles))
 }
 
-fn holds(rt: &impl Abort, what: &str, condition: bool) {
+pub fn holds(rt: &impl Abort, what: &str, condition: bool) {
     assert!(rt; condition, "{what}");
 }
 
@@ -114,27 +114,27 @@ fn check_refusals<P: PtrKey, A: ChainArenaTrait<P, Point> + Drop>(rt: &impl Abor
     holds(rt, "pair", total::<P, A>(alloc, &PAIR) == too_few);
 }
 
-// The second polygon of a mesh, a triangle, and its first corner once it is removed.
-fn in_mesh<P: PtrKey, A: ChainArenaTrait<P, Point> + Drop>(
+// The second polygon in an arena, a triangle, and its first corner once it is removed.
+fn in_arena<P: PtrKey, A: ChainArenaTrait<P, Point> + Drop>(
     alloc: Global,
 ) -> Option<(Total, Total)> {
-    let mut mesh: Mesh<P, Point, A> = Mesh::new(alloc);
-    mesh.start(Point { x: 9, y: 9 }).ok()?;
-    let first = mesh.start(Point { x: 0, y: 0 }).ok()?;
-    let second = mesh.insert_after(first, Point { x: 5, y: 0 }).ok()?;
-    mesh.insert_after(second, Point { x: 0, y: 4 }).ok()?;
-    let whole = triangulate(&mesh, alloc, second).map(|triangles| total_of(&triangles));
-    mesh.remove(second);
-    let gone = triangulate(&mesh, alloc, second).map(|triangles| total_of(&triangles));
+    let mut polygons: Polygons<P, Point, A> = Polygons::new(alloc);
+    polygons.start(Point { x: 9, y: 9 }).ok()?;
+    let first = polygons.start(Point { x: 0, y: 0 }).ok()?;
+    let second = polygons.insert_after(first, Point { x: 5, y: 0 }).ok()?;
+    polygons.insert_after(second, Point { x: 0, y: 4 }).ok()?;
+    let whole = triangulate(&polygons, alloc, second).map(|triangles| total_of(&triangles));
+    polygons.remove(second);
+    let gone = triangulate(&polygons, alloc, second).map(|triangles| total_of(&triangles));
     Some((whole, gone))
 }
 
-fn check_mesh<P: PtrKey, A: ChainArenaTrait<P, Point> + Drop>(rt: &impl Abort, alloc: Global) {
+fn check_second<P: PtrKey, A: ChainArenaTrait<P, Point> + Drop>(rt: &impl Abort, alloc: Global) {
     let gone = Err(TriangulationError::InvalidPointer);
     holds(
         rt,
-        "mesh",
-        in_mesh::<P, A>(alloc) == Some((Ok((1, 20)), gone)),
+        "second",
+        in_arena::<P, A>(alloc) == Some((Ok((1, 20)), gone)),
     );
 }
 
@@ -142,5 +142,5 @@ fn check_mesh<P: PtrKey, A: ChainArenaTrait<P, Point> + Drop>(rt: &impl Abort, a
 fn polygons_are_triangulated(rt: HostRuntime) {
     check_shapes::<ToolPtr, ChainArena<ToolPtr, Point>>(&rt, rt.alloc());
     check_refusals::<ToolPtr, ChainArena<ToolPtr, Point>>(&rt, rt.alloc());
-    check_mesh::<ToolPtr, ChainArena<ToolPtr, Point>>(&rt, rt.alloc());
+    check_second::<ToolPtr, ChainArena<ToolPtr, Point>>(&rt, rt.alloc());
 }

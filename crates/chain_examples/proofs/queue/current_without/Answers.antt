@@ -1,7 +1,8 @@
 -- Proof by cases on the position of the cancelled task in the turn.
 use Rattle.std.proofs.Common.{◌≡◌, ◌∙◌, ap, sym, subst, List, ◌∷◌, ◌++◌, Some}
 use Rattle.arena_traits.specs.Entries.{first_key}
-use Rattle.chain_examples.specs.Lists.{Item, IsQueueOrder}
+use Rattle.chain_lists.specs.Lists.{Item}
+use Rattle.chain_examples.specs.QueueOrder.{IsQueueOrder}
 use Rattle.chain_examples.proofs.QueueOrderLemmas.{is_first, stays_first}
 use Rattle.chain_examples.proofs.queue.current_without.Goals as goal
 

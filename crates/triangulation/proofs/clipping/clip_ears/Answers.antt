@@ -1,7 +1,7 @@
 -- One ear is clipped at a time.
 use Rattle.std.proofs.Common.{◌≡◌, ◌-◌, List, length, sym, subst, arith}
 use Rattle.std.proofs.lemmas.List.{length-map}
-use Rattle.chain_examples.specs.Lists.{Item}
+use Rattle.chain_lists.specs.Lists.{Item}
 use Rattle.triangulation.specs.declared.points.Point.{Point}
 use Rattle.arena_core.proofs.PointerKindLemmas.{kind_by}
 use Rattle.triangulation.specs.declared.points.Triangle.{Triangle}
@@ -13,37 +13,37 @@ use Rattle.triangulation.proofs.clipping.clip_ears.Goals as goal
 
 pub loop-left-init : goal.loop-left-init
 loop-left-init g c = record {
-  remaining = λ items from number. record { remaining = items; ring = from; number = number; clipping = subst (λ (ts : List Triangle). IsClipping (points items) ts (points items)) (sym c.new-triangles.ensures.items) (clipping_starts (points items)) };
+  remaining = λ items from whole. record { remaining = items; ring = from; whole = whole; clipping = subst (λ (ts : List Triangle). IsClipping (points items) ts (points items)) (sym c.in_ok-triangles.ensures.items) (clipping_starts (points items)) };
   enough = λ enough. enough;
 }
 
 pub loop-left-preserved : goal.loop-left-preserved
 loop-left-preserved g c = record {
-  remaining = λ items from number. (
+  remaining = λ items from whole. (
       let state = g.A.ArenaTrait.state in
       let links = g.A.ChainArenaTrait.interlinks in
       let key = g.P.PtrKey.key in
       let ear = c.in-Some.ear in
-      let before = c.loop-left.invariant.remaining items from number in
-      let found = c.in-Some.ensures.ear before.remaining before.ring (omega (arith, before.number, c.loop-left-test.true)) in
-      subst (λ (ts : List Triangle). IsRemaining state links c.remove.new.self items ts (key ear.before) (c.loop-left.left - 1)) (sym c.in_ok-push.ensures.items)
-      (remaining_shrinks state links (kind_by g.P.PtrKey g.P.Inx.InxKey g.P.Gen.GenKey) c.loop-left.ring c.remove.new.self ear.corner c.remove.result items c.loop-left.triangles.items (key c.loop-left.start) (key ear.before) c.loop-left.left ear.triangle before found c.remove.ensures));
+      let before = c.loop-left.invariant.remaining items from whole in
+      let found = c.in-Some.ensures.ear before.remaining before.ring (omega (arith, before.whole.number, c.loop-left-test.true)) in
+      subst (λ (ts : List Triangle). IsRemaining state links c.remove.new.self items ts (key ear.after) (c.loop-left.left - 1)) (sym c.in_ok-push.ensures.items)
+      (remaining_shrinks state links (kind_by g.P.PtrKey g.P.Inx.InxKey g.P.Gen.GenKey) c.loop-left.ring c.remove.new.self ear.corner c.remove.result items c.loop-left.triangles.items (key c.loop-left.start) (key ear.before) (key ear.after) c.loop-left.left ear.triangle before found c.remove.ensures));
   enough = λ enough. omega (arith, c.loop-left-test.true);
 }
 
 pub returns : goal.returns
-returns g c = λ items from number enough.
-    let rest = c.loop-left.invariant.remaining items from number in
-    let two : length (points rest.remaining) ≡ 2 = omega (arith, length-map rest.remaining (λ (x : Item g.row.P-Gen.Denot Point). x.1), rest.number, c.loop-left-test.false, c.loop-left.invariant.enough enough) in
+returns g c = λ items from whole enough.
+    let rest = c.loop-left.invariant.remaining items from whole in
+    let two : length (points rest.remaining) ≡ 2 = omega (arith, length-map rest.remaining (λ (x : Item g.row.P-Gen.Denot Point). x.1), rest.whole.number, c.loop-left-test.false, c.loop-left.invariant.enough enough) in
     clipping_ends (points items) c.loop-left.triangles.items (points rest.remaining) two rest.clipping
 
 pub returns-in-None : goal.returns-in-None
-returns-in-None g c = λ items from number enough.
-    let rest = c.loop-left.invariant.remaining items from number in
+returns-in-None g c = λ items from whole enough.
+    let rest = c.loop-left.invariant.remaining items from whole in
     record {
       triangles = c.loop-left.triangles.items;
       remaining = points rest.remaining;
       clipping = rest.clipping;
-      three = omega (arith, length-map rest.remaining (λ (x : Item g.row.P-Gen.Denot Point). x.1), rest.number, c.loop-left-test.true);
-      none = c.in-None.ensures.none rest.remaining rest.ring rest.number;
+      three = omega (arith, length-map rest.remaining (λ (x : Item g.row.P-Gen.Denot Point). x.1), rest.whole.number, c.loop-left-test.true);
+      none = c.in-None.ensures.none rest.remaining rest.ring rest.whole;
     }

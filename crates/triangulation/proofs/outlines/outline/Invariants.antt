@@ -1,6 +1,6 @@
 -- The corners before the present one have been read.
 use Rattle.std.proofs.Common.{List}
-use Rattle.chain_examples.specs.Lists.{Item}
+use Rattle.chain_lists.specs.Lists.{Item}
 use Rattle.triangulation.specs.declared.points.Point.{Point}
 use Rattle.triangulation.specs.Clippings.{IsRingFrom}
 use Rattle.triangulation.proofs.ReadingLemmas.{IsRead}

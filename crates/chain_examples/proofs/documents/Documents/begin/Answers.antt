@@ -3,7 +3,7 @@ use Rattle.std.proofs.Common.{refl}
 use Rattle.chain_laws.specs.Chains.{linear}
 use Rattle.chain_laws.specs.declared.insert_kind.InsertKind.TheVariants.{Disconnected}
 use Rattle.chain_traits.proofs.OutcomeLemmas.{growth_to}
-use Rattle.chain_examples.proofs.ListChangeLemmas.{item_started}
+use Rattle.chain_lists.proofs.ListChangeLemmas.{item_started}
 use Rattle.chain_examples.proofs.documents.Documents.begin.Goals as goal
 
 pub returns : goal.returns

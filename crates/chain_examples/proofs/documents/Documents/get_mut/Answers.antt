@@ -1,6 +1,7 @@
 -- The value is written, and the paragraph keeps its position.
 use Rattle.std.proofs.Common.{refl, ◌∙◌}
-use Rattle.chain_examples.proofs.ValueWriteLemmas.{has_new_value}
+use Rattle.chain_laws.specs.Chains.{linear}
+use Rattle.chain_lists.proofs.ValueWriteLemmas.{has_new_value}
 use Rattle.chain_examples.proofs.documents.Documents.get_mut.Goals as goal
 
 pub returns-in-Some : goal.returns-in-Some
@@ -10,7 +11,7 @@ returns-in-Some g c =
         refl,
         (λ w.
             let held = rw c.in-Some.is at (c.get_mut.follows.holds w) in
-            rw (← c.self.view_is) (has_new_value g.A.ArenaTrait.state g.A.ChainArenaTrait.interlinks c.self.inside.paragraphs _ p.0 w held.0 p.1 (g.met.A.ChainArenaTrait.write_keeps _ _ _ _ held.1))),
+            rw (← c.self.view_is) (has_new_value g.A.ArenaTrait.state g.A.ChainArenaTrait.interlinks linear (λ l. refl) c.self.inside.paragraphs _ p.0 w held.0 p.1 (g.met.A.ChainArenaTrait.write_keeps _ _ _ _ held.1))),
         refl,
       ),
       record {

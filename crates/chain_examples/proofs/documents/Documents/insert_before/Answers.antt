@@ -3,7 +3,7 @@ use Rattle.std.proofs.Common.{refl}
 use Rattle.chain_laws.specs.Chains.{linear}
 use Rattle.arena_traits.specs.Growth.{RefusesOneMore}
 use Rattle.chain_traits.proofs.OutcomeLemmas.{insertion_to}
-use Rattle.chain_examples.proofs.ListChangeLemmas.{item_before}
+use Rattle.chain_lists.proofs.ListChangeLemmas.{item_before}
 use Rattle.chain_examples.proofs.documents.Documents.insert_before.Goals as goal
 
 pub returns : goal.returns

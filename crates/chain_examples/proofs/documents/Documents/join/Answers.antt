@@ -2,7 +2,7 @@
 use Rattle.std.proofs.Common.{[], ◌∷◌}
 use Rattle.chain_laws.specs.Chains.{linear}
 use Rattle.chain_examples.proofs.DocumentLemmas.{connects_if, connects_on, connects_view, joins, keeps_joined}
-use Rattle.chain_examples.proofs.ListChangeLemmas.{changes_only}
+use Rattle.chain_lists.proofs.ListChangeLemmas.{changes_only}
 use Rattle.chain_examples.proofs.documents.Documents.join.Goals as goal
 
 pub returns : goal.returns

@@ -3,7 +3,7 @@ use Rattle.std.proofs.Common.{◌≡◌, [], ◌∷◌, ◌∙◌, sym, refl}
 use Rattle.std.proofs.lemmas.Bool.{false≢true}
 use Rattle.arena_traits.specs.Arena.{IsValid}
 use Rattle.chain_laws.specs.Chains.{linear}
-use Rattle.chain_examples.proofs.ListChangeLemmas.{changes_only}
+use Rattle.chain_lists.proofs.ListChangeLemmas.{changes_only}
 use Rattle.chain_examples.proofs.ItemMoveLemmas.{moved_after, keeps_moved}
 use Rattle.chain_examples.proofs.documents.Documents.move_after.Goals as goal
 

@@ -1,7 +1,7 @@
 -- The text of `q` is split after `q`, and both sides are joined with `p`.
 use Rattle.std.proofs.Common.{[], ◌∷◌, ◌∙◌}
 use Rattle.chain_laws.specs.Chains.{linear}
-use Rattle.chain_examples.proofs.ListChangeLemmas.{changes_only}
+use Rattle.chain_lists.proofs.ListChangeLemmas.{changes_only}
 use Rattle.chain_traits.proofs.OutcomeLemmas.{from_mapped}
 use Rattle.chain_examples.proofs.ItemMoveLemmas.{put_after, keeps_put}
 use Rattle.chain_examples.proofs.documents.Documents.put_after.Goals as goal

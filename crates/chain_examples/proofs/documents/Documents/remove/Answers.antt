@@ -5,7 +5,7 @@ use Rattle.arena_core.specs.Invalidation.{value_within}
 use Rattle.chain_laws.specs.Chains.{linear}
 use Rattle.chain_traits.proofs.OutcomeLemmas.{on_some}
 use Rattle.chain_traits.proofs.GenericRemovalLemmas.{TakesEntry, removal}
-use Rattle.chain_examples.proofs.ItemRemovalLemmas.{removes_item}
+use Rattle.chain_lists.proofs.ItemRemovalLemmas.{removes_item}
 use Rattle.chain_examples.proofs.documents.Documents.remove.Given.{Over}
 use Rattle.chain_examples.proofs.documents.Documents.remove.Goals.{After-allow}
 use Rattle.chain_examples.proofs.documents.Documents.remove.Goals as goal

@@ -1,7 +1,7 @@
 -- The text is split around the paragraph, and its neighbors are joined.
 use Rattle.std.proofs.Common.{[], ◌∷◌, ◌∙◌, refl}
 use Rattle.chain_laws.specs.Chains.{linear}
-use Rattle.chain_examples.proofs.ListChangeLemmas.{changes_only}
+use Rattle.chain_lists.proofs.ListChangeLemmas.{changes_only}
 use Rattle.chain_examples.proofs.ItemMoveLemmas.{stored_alone, keeps_alone}
 use Rattle.chain_examples.proofs.DocumentLemmas.{in_a_text}
 use Rattle.chain_examples.proofs.documents.Documents.set_apart.Goals as goal

@@ -3,7 +3,7 @@ use Rattle.std.proofs.Common.{[], ◌∷◌}
 use Rattle.chain_laws.specs.Chains.{linear, next_of}
 use Rattle.chain_laws.specs.Cuts.{Cuts}
 use Rattle.chain_examples.proofs.DocumentLemmas.{Breaks, breaks_next_if, breaks_next, breaks_next_view, is_split_after, keeps_ended}
-use Rattle.chain_examples.proofs.ListChangeLemmas.{changes_only}
+use Rattle.chain_lists.proofs.ListChangeLemmas.{changes_only}
 use Rattle.chain_examples.proofs.documents.Documents.split_after.Given.{Over}
 use Rattle.chain_examples.proofs.documents.Documents.split_after.Goals.{After-break_next}
 use Rattle.chain_examples.proofs.documents.Documents.split_after.Goals as goal

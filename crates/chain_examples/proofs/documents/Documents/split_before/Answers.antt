@@ -3,7 +3,7 @@ use Rattle.std.proofs.Common.{[], ◌∷◌}
 use Rattle.chain_laws.specs.Chains.{linear, prev_of}
 use Rattle.chain_laws.specs.Cuts.{Cuts}
 use Rattle.chain_examples.proofs.DocumentLemmas.{Breaks, breaks_prev_if, breaks_prev, breaks_prev_view, is_split_before, keeps_begun}
-use Rattle.chain_examples.proofs.ListChangeLemmas.{changes_only}
+use Rattle.chain_lists.proofs.ListChangeLemmas.{changes_only}
 use Rattle.chain_examples.proofs.documents.Documents.split_before.Given.{Over}
 use Rattle.chain_examples.proofs.documents.Documents.split_before.Goals.{After-break_prev}
 use Rattle.chain_examples.proofs.documents.Documents.split_before.Goals as goal

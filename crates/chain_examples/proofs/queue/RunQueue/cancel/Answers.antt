@@ -4,8 +4,8 @@ use Rattle.std.specs.Option.{option_map}
 use Rattle.std.specs.Prelude.{is_some, true}
 use Rattle.arena_core.proofs.PointerKindLemmas.{kind_by}
 use Rattle.arena_core.specs.Invalidation.{value_within}
-use Rattle.chain_examples.specs.Lists.{Item, IsQueueOrder}
-use Rattle.chain_examples.specs.QueueOrder.{IsCancelled}
+use Rattle.chain_lists.specs.Lists.{Item}
+use Rattle.chain_examples.specs.QueueOrder.{IsQueueOrder, IsCancelled}
 use Rattle.chain_traits.proofs.OutcomeLemmas.{on_some}
 use Rattle.chain_traits.proofs.GenericRemovalLemmas.{TakesEntry, removal}
 use Rattle.chain_examples.proofs.QueueOrderLemmas.{IsLeft, no_task, task_removed, queue_in, order_in}

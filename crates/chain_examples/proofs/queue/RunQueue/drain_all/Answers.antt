@@ -1,7 +1,7 @@
 -- A drained task was the first in turn, and all fit in the result.
 use Rattle.std.proofs.Common.{List, ◌++◌, map, ap, sym, ◌∙◌, length, append_assoc, arith}
 use Rattle.std.proofs.lemmas.List.{append-nil, nil_from_length}
-use Rattle.chain_examples.specs.Lists.{Item}
+use Rattle.chain_lists.specs.Lists.{Item}
 use Rattle.chain_examples.proofs.queue.RunQueue.drain_all.Goals as goal
 
 pub loop-k-preserved : goal.loop-k-preserved

@@ -1,6 +1,6 @@
 -- The drained tasks followed by the turn are the old turn, and all fit in the result.
 use Rattle.std.proofs.Common.{◌≡◌, ◌++◌, ◌+◌, ◌≤◌, length, map, vec_len, vec_capacity}
-use Rattle.chain_examples.specs.Lists.{Item}
+use Rattle.chain_lists.specs.Lists.{Item}
 use Rattle.chain_examples.specs.QueueOrder.{KeepsCapacity}
 use Rattle.chain_examples.proofs.queue.RunQueue.drain_all.Given as goal
 

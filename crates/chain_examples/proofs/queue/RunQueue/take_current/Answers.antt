@@ -2,7 +2,7 @@
 use Rattle.std.proofs.Common.{◌≡◌, ℕ, inl, List, [], ◌∷◌, Option, None, Some}
 use Rattle.std.specs.Prelude.{IfSome, IfNone}
 use Rattle.arena_traits.specs.Entries.{first_key}
-use Rattle.chain_examples.specs.Lists.{Item}
+use Rattle.chain_lists.specs.Lists.{Item}
 use Rattle.chain_examples.specs.QueueOrder.{Queue, IsAmong, IsCancelled}
 use Rattle.chain_examples.proofs.QueueOrderLemmas.{first_cancelled}
 use Rattle.chain_examples.proofs.queue.RunQueue.take_current.Goals as goal

@@ -1,0 +1,4 @@
+pub mod ItemListLemmas
+pub mod ListChangeLemmas
+pub mod ItemRemovalLemmas
+pub mod ValueWriteLemmas

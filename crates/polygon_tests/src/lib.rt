@@ -1,0 +1,5 @@
+//! Tests of `polygons`.
+#![tactic(auto)]
+
+#[cfg(test)]
+mod tests;

@@ -1,0 +1,4 @@
+mod CyclicLemmas
+mod RingLemmas
+mod WalkedRingLemmas
+mod RingRemovalLemmas

@@ -1,0 +1,109 @@
+//! Numbers in lines of text.
+
+ghost use Rattle.std.specs.Prelude.{◌≡◌, ◌≤◌, ◌<◌, ◌^◌, ℕ, length, slice_index, IfOk, IsTrue, IsFalse};
+ghost use Rattle.triangulate.specs.RingTexts.{is_space, IsDecimal, IsNumeral, IsNumberAt, AreSpaces, AreNoSpaces};
+
+/// The reason why a line is not a ring.
+#[derive(Clone, Copy, Debug, PartialEq, Eq)]
+pub enum LineError {
+    /// A word is not a number of at most ten digits.
+    NotANumber,
+    /// The line ends after the first coordinate of a point.
+    OddNumber,
+    /// A coordinate is beyond 2 ^ 30.
+    TooLarge,
+    /// An allocation failed.
+    Memory,
+}
+
+/// Returns whether a byte separates numbers.
+fn is_space(byte: u8) -> bool
+    ensures { result ≡ is_space byte }
+{
+    byte == b' ' || byte == b'\t' || byte == b'\r'
+}
+
+/// Returns the index of the first byte from `from` on that is no space, or the length.
+pub fn end_of_spaces(line: &[u8], from: usize) -> usize
+    requires { from ≤ length line.now }
+    ensures order { from ≤ result }
+    ensures end { result ≤ length line.now }
+    ensures spaces { AreSpaces line.now from result }
+{
+    let mut at = from;
+    while at < line.len() && is_space(line[at]) {
+        at += 1;
+    }
+    at
+}
+
+/// Returns the index of the first space from `from` on, or the length.
+fn end_of_word(line: &[u8], from: usize) -> usize
+    requires { from ≤ length line.now }
+    ensures order { from ≤ result }
+    ensures end { result ≤ length line.now }
+    ensures word { AreNoSpaces line.now from result }
+    ensures after { result < length line.now → IsTrue (is_space (slice_index line.now result)) }
+{
+    for at in from..line.len() {
+        if is_space(line[at]) {
+            return at;
+        }
+    }
+    line.len()
+}
+
+/// Parses the next number from `from` on, and returns it with the index at which its word ends.
+///
+/// # Errors
+///
+/// - `OddNumber`: there is no word from `from` on.
+/// - `NotANumber`: the word is not a number of at most ten digits.
+/// - `TooLarge`: the number is beyond 2 ^ 30.
+pub fn number_at(line: &[u8], from: usize) -> Result<(i32, usize), LineError>
+    requires { from ≤ length line.now }
+    ensures { IfOk result (λ found. IsNumberAt line.now from found.1 found.0) }
+{
+    let start = end_of_spaces(line, from);
+    let end = end_of_word(line, start);
+    if start == end {
+        return Err(LineError::OddNumber);
+    }
+    match coordinate(&line[start..end]) {
+        Ok(value) => Ok((value, end)),
+        Err(error) => Err(error),
+    }
+}
+
+/// Parses a number, with or without a minus sign.
+fn coordinate(word: &[u8]) -> Result<i32, LineError>
+    ensures { IfOk result (λ value. IsNumeral word.now value) }
+{
+    if word.is_empty() || word[0] != b'-' {
+        return magnitude(word);
+    }
+    match magnitude(&word[1..]) {
+        Ok(value) => Ok(-value),
+        Err(error) => Err(error),
+    }
+}
+
+/// Parses a number of digits, up to 2 ^ 30.
+fn magnitude(digits: &[u8]) -> Result<i32, LineError>
+    ensures { IfOk result (λ value. IsDecimal digits.now value) }
+{
+    if digits.is_empty() || digits.len() > 10 {
+        return Err(LineError::NotANumber);
+    }
+    let mut value = 0u64;
+    for digit in digits {
+        if !digit.is_ascii_digit() {
+            return Err(LineError::NotANumber);
+        }
+        value = value * 10 + u64::from(*digit - b'0');
+    }
+    if value > 1 << 30 {
+        return Err(LineError::TooLarge);
+    }
+    Ok(value as i32)
+}

@@ -1,0 +1,92 @@
+//! Rings in lines of text.
+
+ghost use Rattle.std.specs.Prelude.{◌<◌, length, IfOk};
+ghost use Rattle.triangulate.specs.RingTexts.{texts_of, IsRingText, AreRingTexts, IsTriangulated};
+ghost use Rattle.triangulation.specs.Polygons.{rings_of};
+
+use crate::numbers::{LineError, end_of_spaces, number_at};
+use arena_ptr::PtrKey;
+use chain_traits::ChainArenaTrait;
+use std::alloc::{AllocFailed, Global};
+use triangulation::{Point, PolygonError, Triangle, triangulate_polygon};
+
+impl<T: Drop> From<AllocFailed<T>> for LineError {
+    fn from(_refused: AllocFailed<T>) -> LineError {
+        LineError::Memory
+    }
+}
+
+/// The reason why a polygon is refused.
+#[derive(Clone, Copy, Debug, PartialEq, Eq)]
+pub enum Refusal {
+    /// The line of this index, from the first one of the polygon on, is not a ring.
+    Line(usize, LineError),
+    /// The rings are not a polygon that can be triangulated.
+    Polygon(PolygonError),
+}
+
+/// Parses a ring: the points of a line, each of two numbers, separated by spaces.
+///
+/// # Errors
+///
+/// - `NotANumber`, `TooLarge`: a word is not a number, or beyond 2 ^ 30.
+/// - `OddNumber`: the last point has one number.
+/// - `Memory`: an allocation failed.
+fn ring(alloc: Global, line: &[u8]) -> Result<Vec<Point>, LineError>
+    ensures { IfOk result (λ ring. IsRingText line.now 0 ring.items) }
+{
+    let mut points = Vec::new(alloc);
+    let mut at = 0;
+    while end_of_spaces(line, at) < line.len() {
+        let x = number_at(line, at)?;
+        let y = number_at(line, x.1)?;
+        points.push(Point { x: x.0, y: y.0 })?;
+        at = y.1;
+    }
+    Ok(points)
+}
+
+/// Parses the rings of a polygon, one in each line.
+fn rings(alloc: Global, lines: &[Vec<u8>]) -> Result<Vec<Vec<Point>>, Refusal>
+    ensures { IfOk result (λ rings. AreRingTexts (texts_of lines.now) (rings_of rings.items)) }
+{
+    let mut rings = Vec::new(alloc);
+    for i in 0..lines.len() {
+        let points = match ring(alloc, &lines[i]) {
+            Ok(points) => points,
+            Err(error) => return Err(Refusal::Line(i, error)),
+        };
+        match rings.push(points) {
+            Ok(()) => {}
+            Err(_) => return Err(Refusal::Polygon(PolygonError::AllocError)),
+        }
+    }
+    Ok(rings)
+}
+
+/// Triangulates the polygon whose outline is the first line, and whose holes are the others.
+///
+/// # Errors
+///
+/// - `Line`: a line is not a ring.
+/// - `Polygon`: the reason of `triangulate_polygon`, or an allocation failed.
+pub fn triangulate_lines<P: PtrKey, A: ChainArenaTrait<P, Point> + Drop>(
+    alloc: Global,
+    lines: Vec<Vec<u8>>,
+) -> Result<Vec<Triangle>, Refusal>
+    requires { 0 < length lines.items }
+    ensures { IfOk result (λ triangles. IsTriangulated (texts_of lines.items) triangles.items) }
+{
+    let rings = match rings(alloc, &lines) {
+        Ok(rings) => rings,
+        Err(refusal) => return Err(refusal),
+    };
+    drop(lines);
+    match rings.split_first() {
+        Some((outline, holes)) => match triangulate_polygon::<P, A>(alloc, outline, holes) {
+            Ok(triangles) => Ok(triangles),
+            Err(error) => Err(Refusal::Polygon(error)),
+        },
+        None => Err(Refusal::Polygon(PolygonError::AllocError)),
+    }
+}

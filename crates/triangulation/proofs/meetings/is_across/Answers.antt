@@ -1,0 +1,13 @@
+-- The two orientations are around 0.
+use Rattle.std.proofs.Common.{◌≡◌, ℤ, to_z, of_z, ◌∙◌, subst, rules}
+use Rattle.std.specs.Int.{w128}
+use Rattle.std.proofs.lemmas.Int.{to_z-of_z}
+use Rattle.triangulation.specs.Polygons.{AreAround}
+use Rattle.triangulation.proofs.meetings.is_across.Goals as goal
+
+around_same : (a b c d : ℤ) → a ≡ c → b ≡ d → AreAround a b → AreAround c d
+around_same a b c d one two are = subst (λ (z : ℤ). AreAround z d) one (subst (λ (z : ℤ). AreAround a z) two are)
+
+pub returns : goal.returns
+returns c = λ true. around_same (to_z w128 (of_z w128 c.orientation.result)) (to_z w128 (of_z w128 c.orientation-2.result)) _ _
+    (to_z-of_z w128 c.orientation.result (search rules) ∙ c.orientation.ensures) (to_z-of_z w128 c.orientation-2.result (search rules) ∙ c.orientation-2.ensures) (c.are_around.ensures true)

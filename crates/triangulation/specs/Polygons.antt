@@ -1,0 +1,195 @@
+-- Polygons with holes, and their triangulations.
+use Rattle.std.specs.Prelude.{◌≡◌, ℕ, ℤ, pos, neg_ℤ, ◌+ℤ◌, ◌-ℤ◌, ◌+◌, ◌*◌, ◌<◌, ◌≤ℤ◌, ◌<ℤ◌, ◌⊎◌, List, [], ◌∷◌, ◌++◌, map, length, All, Contains, HoldsAt, unsigned_abs, Result, Ok, Err}
+use Rattle.std.specs.declared.vec.Vec.{Vec}
+use Rattle.std.specs.declared.alloc.Global.{Global}
+use Rattle.polygon_laws.specs.Areas as area
+use Rattle.triangulation.specs.declared.points.Point.{Point}
+use Rattle.triangulation.specs.declared.points.Triangle.{Triangle}
+use Rattle.triangulation.specs.declared.joining.Turn.{Turn}
+use Rattle.triangulation.specs.declared.joining.Turn.TheVariants as turn
+use Rattle.triangulation.specs.declared.errors.Ring.{Ring}
+use Rattle.triangulation.specs.declared.errors.Ring.TheVariants as which
+use Rattle.triangulation.specs.declared.errors.PolygonError.{PolygonError}
+use Rattle.triangulation.specs.declared.errors.PolygonError.TheVariants as why
+use Rattle.triangulation.specs.Triangulations.{coordinates, polygon_area, total_area, IsTriangleOf, IsStuck}
+
+-- The corners of each ring.
+abbrev pub rings_of : List (Vec Point Global) → List (List Point)
+rings_of rings = map (λ ring. ring.items) rings
+
+-- The corners of several rings, one ring after the other.
+abbrev pub corners_of : List (List Point) → List Point
+corners_of [] = []
+corners_of (ring ∷ rings) = ring ++ corners_of rings
+
+-- Twice the area of a ring, whichever way it turns.
+abbrev pub ring_area : List Point → ℕ
+ring_area ring = unsigned_abs (polygon_area ring)
+
+-- Twice the area of several rings together.
+abbrev pub rings_area : List (List Point) → ℕ
+rings_area [] = 0
+rings_area (ring ∷ rings) = ring_area ring + rings_area rings
+
+-- Twice the area of an outline without its holes.
+abbrev pub area_without_holes : List Point → List (List Point) → ℤ
+area_without_holes outline holes = pos (ring_area outline) -ℤ pos (rings_area holes)
+
+-- Triangles of a polygon with holes: n + 2h - 2 of them, if it has n corners and h holes.
+pub record IsPolygonTriangulation (outline : List Point) (holes : List (List Point)) (triangles : List Triangle) : Type 0 where
+  pub number : length triangles + 2 ≡ length (corners_of (outline ∷ holes)) + 2 * length holes
+  pub each : All (IsTriangleOf (corners_of (outline ∷ holes))) triangles
+  pub areas : total_area triangles ≡ area_without_holes outline holes
+
+-- One ring that goes along an outline, its holes, and both sides of a bridge to each hole.
+pub record IsJoinedRing (outline : List Point) (holes : List (List Point)) (joined : List Point) : Type 0 where
+  pub number : length joined ≡ length (corners_of (outline ∷ holes)) + 2 * length holes
+  pub area : polygon_area joined ≡ area_without_holes outline holes
+  pub among : (p : Point) → Contains joined p → Contains (corners_of (outline ∷ holes)) p
+
+-- Twice the signed area of several rings together.
+abbrev pub signed_areas : List (List Point) → ℤ
+signed_areas [] = pos 0
+signed_areas (ring ∷ rings) = polygon_area ring +ℤ signed_areas rings
+
+abbrev pub HasCorner : Vec Point Global → Type 0
+HasCorner ring = 0 < length ring.items
+
+abbrev pub turned_area : Turn → List Point → ℤ
+turned_area turn.Counterclockwise ring = pos (ring_area ring)
+turned_area turn.Clockwise ring = neg_ℤ (pos (ring_area ring))
+
+-- A ring of this signed area turns in the given direction, or has no area.
+abbrev pub TurnsTo : Turn → ℤ → Type 0
+TurnsTo turn.Counterclockwise z = pos 0 ≤ℤ z
+TurnsTo turn.Clockwise z = z ≤ℤ pos 0
+
+-- The same corners, in the given direction.
+pub record IsTurnedTo (direction : Turn) (ring turned : List Point) : Type 0 where
+  pub number : length turned ≡ length ring
+  pub area : polygon_area turned ≡ turned_area direction ring
+  pub among : (p : Point) → Contains turned p → Contains ring p
+
+-- The rings, each clockwise, in any order.
+pub record AreClockwise (rings turned : List (List Point)) : Type 0 where
+  pub number : length turned ≡ length rings
+  pub corners : length (corners_of turned) ≡ length (corners_of rings)
+  pub area : signed_areas turned ≡ neg_ℤ (pos (rings_area rings))
+  pub among : (p : Point) → Contains (corners_of turned) p → Contains (corners_of rings) p
+
+-- A ring that goes along both rings and both sides of a bridge between them.
+pub record IsBridged (outline hole joined : List Point) : Type 0 where
+  pub number : length joined ≡ length outline + length hole + 2
+  pub area : polygon_area joined ≡ polygon_area outline +ℤ polygon_area hole
+  pub among : (p : Point) → Contains joined p → Contains (outline ++ hole) p
+
+-- The same for several holes.
+pub record AreJoined (outline : List Point) (holes : List (List Point)) (joined : List Point) : Type 0 where
+  pub number : length joined ≡ length (corners_of (outline ∷ holes)) + 2 * length holes
+  pub area : polygon_area joined ≡ polygon_area outline +ℤ signed_areas holes
+  pub among : (p : Point) → Contains joined p → Contains (corners_of (outline ∷ holes)) p
+
+-- A property of one of the rings.
+abbrev pub HoldsOf : (List Point → Type 0) → List Point → List (List Point) → Ring → Type 0
+HoldsOf P outline holes which.Outline = P outline
+HoldsOf P outline holes (which.Hole i) = HoldsAt P holes i
+
+-- The ray from p to the right crosses the edge from a to b.
+abbrev pub CrossesRay : Point → Point → Point → Type 0
+CrossesRay p a b = ((a.y ≤ℤ p.y) × (p.y <ℤ b.y) × (pos 0 <ℤ area.orientation (coordinates a) (coordinates b) (coordinates p)))
+    ⊎ ((b.y ≤ℤ p.y) × (p.y <ℤ a.y) × (pos 0 <ℤ area.orientation (coordinates b) (coordinates a) (coordinates p)))
+
+-- The number of crossings of one edge.
+abbrev pub IsCrossing : Point → Point → Point → ℕ → Type 0
+IsCrossing p a b n = (CrossesRay p a b × (n ≡ 1)) ⊎ ((CrossesRay p a b → ⊥) × (n ≡ 0))
+
+-- The ray from p to the right crosses so many edges of an open path.
+abbrev pub HasCrossings : Point → List Point → ℕ → Type 0
+HasCrossings p [] n = n ≡ 0
+HasCrossings p (a ∷ []) n = n ≡ 0
+HasCrossings p (a ∷ b ∷ path) n = (k m : ℕ) × IsCrossing p a b k × HasCrossings p (b ∷ path) m × (n ≡ k + m)
+
+-- The path along the edges of a ring, from its last corner to its last corner.
+pub record IsAround (ring path : List Point) : Type 0 where
+  pub front : List Point
+  pub last : Point
+  pub corners : ring ≡ front ++ last ∷ []
+  pub whole : path ≡ last ∷ ring
+
+-- Even and odd numbers of crossings of a ring.
+pub record IsOutside (p : Point) (ring : List Point) : Type 0 where
+  pub path : List Point
+  pub around : IsAround ring path
+  pub half : ℕ
+  pub crossings : HasCrossings p path (2 * half)
+
+pub record IsInside (p : Point) (ring : List Point) : Type 0 where
+  pub path : List Point
+  pub around : IsAround ring path
+  pub half : ℕ
+  pub crossings : HasCrossings p path (2 * half + 1)
+
+-- Two numbers are on different sides of a third, or one of them is there: not both beyond it.
+abbrev pub AreAround : ℤ → ℤ → Type 0
+AreAround a b = ((pos 0 <ℤ a) × (pos 0 <ℤ b) → ⊥) × ((a <ℤ pos 0) × (b <ℤ pos 0) → ⊥)
+
+-- c and d are not both on one side of the line through a and b.
+abbrev pub IsAcross : Point → Point → Point → Point → Type 0
+IsAcross a b c d = AreAround (area.orientation (coordinates a) (coordinates b) (coordinates c)) (area.orientation (coordinates a) (coordinates b) (coordinates d))
+
+-- The ranges from a to b and from c to d have a common number.
+abbrev pub RangesMeet : ℤ → ℤ → ℤ → ℤ → Type 0
+RangesMeet a b c d = ((a <ℤ c) × (a <ℤ d) × (b <ℤ c) × (b <ℤ d) → ⊥) × ((c <ℤ a) × (c <ℤ b) × (d <ℤ a) × (d <ℤ b) → ⊥)
+
+-- The segments from a to b and from c to d have a common point: neither is on one side of the other,
+-- and their bounding boxes meet.
+pub record SegmentsMeet (a b c d : Point) : Type 0 where
+  pub first : IsAcross a b c d
+  pub second : IsAcross c d a b
+  pub horizontal : RangesMeet a.x b.x c.x d.x
+  pub vertical : RangesMeet a.y b.y c.y d.y
+
+-- An edge of a ring.
+pub record IsEdgeOf (a b : Point) (ring : List Point) : Type 0 where
+  pub path : List Point
+  pub around : IsAround ring path
+  pub before : List Point
+  pub after : List Point
+  pub edge : path ≡ before ++ a ∷ b ∷ after
+
+-- An edge has a common point with one of a ring.
+pub record MeetsEdge (a b : Point) (ring : List Point) : Type 0 where
+  pub c : Point
+  pub d : Point
+  pub edge : IsEdgeOf c d ring
+  pub meet : SegmentsMeet a b c d
+
+-- Two rings have edges with a common point.
+pub record RingsMeet (one other : List Point) : Type 0 where
+  pub a : Point
+  pub b : Point
+  pub edge : IsEdgeOf a b one
+  pub meets : MeetsEdge a b other
+
+-- A corner of a ring has a property.
+abbrev pub HasCornerThat : (Point → Type 0) → List Point → Type 0
+HasCornerThat P ring = (p : Point) × Contains ring p × P p
+
+-- A ring has fewer than three corners or no area.
+abbrev pub IsRingFault : List Point → Ring → PolygonError → Type 0
+IsRingFault corners ring error = ((error ≡ why.TooFewCorners ring) × (length corners < 3)) ⊎ ((error ≡ why.NoArea ring) × (polygon_area corners ≡ pos 0))
+
+-- A witness for each refusal.
+abbrev pub IsReason : List Point → List (List Point) → PolygonError → Type 0
+IsReason outline holes (why.TooFewCorners ring) = HoldsOf (λ corners. length corners < 3) outline holes ring
+IsReason outline holes (why.NoArea ring) = HoldsOf (λ corners. polygon_area corners ≡ pos 0) outline holes ring
+IsReason outline holes (why.Meets i ring) = HoldsOf (λ corners. HoldsAt (RingsMeet corners) holes i) outline holes ring
+IsReason outline holes (why.Outside i) = HoldsAt (HasCornerThat (λ p. IsOutside p outline)) holes i
+IsReason outline holes (why.InHole i j) = HoldsAt (λ ring. HoldsAt (HasCornerThat (λ p. IsInside p ring)) holes i) holes j
+IsReason outline holes why.NoEar = (joined : List Point) × IsJoinedRing outline holes joined × IsStuck joined
+IsReason outline holes why.AllocError = Unit {0}
+
+-- `triangulate_polygon`: the polygon is triangulated, or why not.
+abbrev pub TriangulatesPolygon : List Point → List (List Point) → Result (Vec Triangle Global) PolygonError → Type 0
+TriangulatesPolygon outline holes (Ok triangles) = IsPolygonTriangulation outline holes triangles.items
+TriangulatesPolygon outline holes (Err error) = IsReason outline holes error
