@@ -1,5 +1,5 @@
 -- Rings in lines of text.
-use Rattle.std.proofs.Common.{◌≡◌, ℕ, ◌+◌, ◌≤◌, ◌<◌, List, [], ◌∷◌, ◌++◌, length, refl, sym, ap, ◌∙◌, subst, arith}
+use Rattle.std.proofs.Common.{◌≡◌, ℕ, List, [], ◌∷◌, ◌++◌, sym, ap, ◌∙◌, subst}
 use Rattle.std.proofs.lemmas.List.{append_assoc, append-nil}
 use Rattle.triangulation.specs.declared.points.Point.{Point}
 use Rattle.triangulate.specs.RingTexts.{IsNumberAt, IsRingText, AreRingTexts}

@@ -1,5 +1,5 @@
 -- One point more is read.
-use Rattle.std.proofs.Common.{◌≡◌, ◌≤◌, ◌<◌, ℤ, length, to_z, of_z, sym, subst, arith, rules, w32}
+use Rattle.std.proofs.Common.{◌≡◌, ℤ, to_z, of_z, sym, subst, arith, rules, w32}
 use Rattle.std.proofs.lemmas.Int.{to_z-of_z}
 use Rattle.triangulate.specs.RingTexts.{IsNumberAt}
 use Rattle.triangulate.proofs.RingTextLemmas.{read_more, read_all}
