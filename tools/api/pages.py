@@ -1,8 +1,13 @@
 """Writes the API as Markdown: a page for each crate, and an index."""
+import os
 import re
+
+from sources.items import ROOT
 
 from .entries import all_pages, code, meaning
 from .topics import CRATES
+
+FOLDER = f"{ROOT}/docs/api"
 
 HOW_TO_READ = """A clause is shown with its label. It holds after the call; one that begins with `requires` has to hold before it, and a starred one is
 about memory and loans. Below a trait that a type implements are its ghost members, and the clauses that its calls have beside those of
@@ -137,3 +142,22 @@ def markdown_pages():
     pages = [index_page(crate_pages), *map(crate_page_of, crate_pages)]
     targets = {key: (page.name, anchor) for page in pages for key, anchor in page.anchors.items()}
     return {f"{page.name}.md": page.text(targets) for page in pages}
+
+
+def outdated_pages():
+    """Returns the names of the pages that are missing, not current, or not written any more."""
+    pages, current = markdown_pages(), {}
+    for name in os.listdir(FOLDER) if os.path.isdir(FOLDER) else []:
+        with open(f"{FOLDER}/{name}", encoding="utf-8") as file:
+            current[name] = file.read()
+    return sorted(name for name in pages.keys() | current.keys() if pages.get(name) != current.get(name))
+
+
+def write_pages():
+    pages = markdown_pages()
+    os.makedirs(FOLDER, exist_ok=True)
+    for name in set(os.listdir(FOLDER)) - pages.keys():
+        os.remove(f"{FOLDER}/{name}")
+    for name, text in pages.items():
+        with open(f"{FOLDER}/{name}", "w", encoding="utf-8") as file:
+            file.write(text)

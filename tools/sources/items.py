@@ -227,7 +227,7 @@ class Crate:
 
     def __init__(self, name):
         self.name, self.modules = name, {}
-        self.read_module((), "lib")
+        self.read_module((), "lib" if os.path.exists(f"{ROOT}/crates/{name}/src/lib.rt") else "main")
 
     def read_module(self, path, file):
         """Reads a module and the modules that it declares, except tests."""
@@ -245,9 +245,19 @@ class Crate:
         """The names that each module imports, each with its path and whether it is public."""
         return {path: [it for item in items if item.kind == "use" for it in names_of_use(item)] for path, items in self.modules.items()}
 
+    def all_members(self):
+        """Yields each item with its module, and the items in blocks of `impl` and `trait`."""
+        for module, items in self.modules.items():
+            for item in items:
+                yield module, item
+                if item.kind in ("impl", "trait") and item.body:
+                    yield from ((module, it) for it in item.items)
+
     def find(self, module, path):
-        """Returns the item that a path in a module resolves to, or `None` for an item of std."""
+        """Returns the item that a path in a module resolves to, or `None` for an item of std or a local name."""
         first, rest = path[0], path[1:]
+        if not rest and first in ("crate", "self", "super"):
+            return None
         if first == "crate":
             return self.find_in((), rest)
         if first == "self":
@@ -263,6 +273,8 @@ class Crate:
     def find_in(self, module, path):
         """Returns the item at a path below a module."""
         name, rest = path[0], path[1:]
+        if module not in self.modules:
+            return None
         if rest and (*module, name) in self.modules:
             return self.find_in((*module, name), rest)
         for item in self.modules[module]:
@@ -333,3 +345,36 @@ def names_of_use(item):
 
     read(0, ())
     return found
+
+
+# ---------------------------------------------------------------- the repository
+
+
+def files_below(*tops):
+    """Yields the paths of all files below folders of the repository, without what the toolchain writes."""
+    for top in tops:
+        for folder, folders, names in os.walk(f"{ROOT}/{top}"):
+            folders[:] = sorted(it for it in folders if it not in ("out", "target"))
+            yield from (os.path.relpath(f"{folder}/{name}", ROOT) for name in sorted(names))
+
+
+def items_in_file(path):
+    """Yields all items of a source file, also those in blocks."""
+
+    def inner(items):
+        for it in items:
+            yield it
+            if it.kind in ("impl", "trait", "mod") and it.body:
+                yield from inner(it.items)
+
+    file = source(path)
+    yield from inner(items_of(file, 0, len(file.text)))
+
+
+def type_names(item):
+    """Returns the names of the trait and the type of an `impl`, or of a trait, without parameters and bounds."""
+    head = re.sub(r"\bwhere\b.*", "", item.head.replace("->", ""), flags=re.S)
+    while re.search(r"<[^<>]*>", head):
+        head = re.sub(r"<[^<>]*>", "", head)
+    names = re.findall(r"\b[A-Z]\w*", head)
+    return names if item.kind == "impl" else names[:1]

@@ -36,6 +36,11 @@ class Word:
         return " ".join(it for it in names if not spec(self.path).is_constructor(it))
 
     @property
+    def fields(self):
+        """Returns the types of the fields of a record, by name."""
+        return dict(re.findall(r"^ +(?:pub )?(\w+) : (.*)", self.text, flags=re.M))
+
+    @property
     def is_short(self):
         return self.text.count("\n") < MAX_DEFINITION_LINES
 
