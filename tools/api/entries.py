@@ -8,9 +8,9 @@ import os
 import re
 
 from sources.items import ROOT, close_of, crate, head_line, one_line, skip_spaces
-from sources.pages import meanings
 from sources.words import words_of_item
 
+from .meanings import MEANINGS
 from .topics import CRATES, by_topic
 
 KINDS = {"type": ("struct", "enum", "type"), "trait": ("trait",), "function": ("fn", "macro_rules!", "const", "static")}
@@ -89,17 +89,13 @@ def first_sentence(docs):
 # ---------------------------------------------------------------- words
 
 
-# Comments that need the one before them.
-GOES_ON = re.compile(r"(These|The same|Such|Besides|Both|That|It|Likewise|As|This)\b")
-
-
 def meaning(word):
-    """Returns the meaning of a word in one line: the first sentence of its comment, its row in the glossary, or its definition."""
-    known = meanings().get((word.path, word.name))
-    if word.comment and not (known and GOES_ON.match(word.comment)):
-        return as_markdown(first_sentence(word.comment).rstrip("."))
+    """Returns the meaning of a word in one line: that of `MEANINGS`, the first sentence of its comment, or its definition."""
+    known = MEANINGS.get(word.path, {}).get(word.name)
     if known:
         return known
+    if word.comment:
+        return as_markdown(first_sentence(word.comment).rstrip("."))
     lines = definition_text(word).split("\n")[len(word.scope) :]
     equations = [it.strip() for it in lines if " = " in it]
     return code(equations[0] if len(equations) == 1 and len(equations[0]) < 120 else one_line(lines[0]))

@@ -5,6 +5,7 @@ defined in the file that its row or the last one before it leads to. A link has 
 import os
 import re
 
+from api.meanings import MEANINGS
 from sources.items import ROOT, files_below, items_in_file, source
 from sources.pages import read, words_of_glossary
 from sources.words import spec
@@ -37,6 +38,14 @@ def glossary_problems():
     for name, path, _ in words_of_glossary():
         if re.split(r"[.:\s]", name)[-1] not in definitions(path):
             yield f"docs/GLOSSARY.md: {name} in {path}"
+
+
+def meaning_problems():
+    """Yields the words in tools/api/meanings.py that their file does not define."""
+    for path, words in MEANINGS.items():
+        for name in words:
+            if name not in definitions(path):
+                yield f"tools/api/meanings.py: {name} in {path}"
 
 
 def anchors(path):
@@ -87,4 +96,4 @@ def name_problems():
 
 
 def problems():
-    return sorted({*name_problems(), *glossary_problems(), *link_problems()})
+    return sorted({*name_problems(), *glossary_problems(), *meaning_problems(), *link_problems()})

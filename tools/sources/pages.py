@@ -34,9 +34,3 @@ def words_of_glossary():
             path = target or path
             if path:
                 yield name, path, cells[-1]
-
-
-@functools.cache
-def meanings():
-    """Returns the meanings of the glossary by file and word."""
-    return {(path, name): meaning for name, path, meaning in words_of_glossary()}
