@@ -1,4 +1,5 @@
-"""Checks that each name in code on the pages exists: names of clauses, calls and definitions in the crates, and paths of files.
+"""Checks that each name in code on the pages exists: names of clauses, calls and definitions in the crates, and paths of files. A call, as
+`f(x)`, has to name a function of a crate other than those of tests.
 
 Commands, licenses and names of the toolchain are skipped, and so are pages that quote the Rust crate. A word of the glossary has to be
 defined in the file that its row or the last one before it leads to. A link has to lead to a file, and to a heading there."""
@@ -12,9 +13,12 @@ from sources.words import spec
 
 PAGES = (
     "README.md", "CHANGELOG.md", "CONTRIBUTING.md", "docs/ARCHITECTURE.md", "docs/CLI.md", "docs/DIAGRAMS.md", "docs/GLOSSARY.md",
-    "docs/GUARANTEES.md", "docs/GUIDE.md", "docs/PROOF_GUIDE.md",
+    "docs/GUARANTEES.md", "docs/GUIDE.md", "docs/PROOF_GUIDE.md", "docs/DECISIONS.md",
 )
 SKIPPED = re.compile(r"rt |--|error\[|this crate|it is not|the run|expected a|rattle|LICENSE|HANDLES|RT_JOBS|proofs/m/|proofs/FUNCTION|proofs/MODULE|proofs/NAME|mod NAME|Rattle.mine|SHORTER_PROOFS|crates/mine|mine:|crates.txt|Lts|Tie")
+
+# `f` is any function, and `same` compares texts in tests.
+OTHER_CALLS = {"f", "same"}
 
 
 def path_exists(path, all_files):
@@ -31,6 +35,29 @@ def definitions(path):
         return {*words, *(name for it in words.values() for name in it.fields)}
     inside = re.findall(r"^\s*(?:pub )?(\w+)\s*(?:[,({]|$)", source(path).code, flags=re.M)
     return {*(it.name for it in items_in_file(path)), *inside}
+
+
+def callable_names():
+    """Returns the names of all functions, variants, macros and definitions of the crates, other than those of tests."""
+    found = set()
+    for path in files_below("crates"):
+        if re.match(r"crates/\w+_(tests|mutants)/", path):
+            continue
+        if path.endswith(".rt") and "/src/" in path and "/tests" not in path:
+            items = list(items_in_file(path))
+            found.update(it.name for it in items if it.kind in ("fn", "macro_rules!"))
+            found.update(name for it in items if it.kind == "enum" and it.body for name in re.findall(r"^\s*(\w+)", it.file.code[it.body[0] : it.body[1]], flags=re.M))
+    return found
+
+
+def call_problems():
+    """Yields the calls on the pages, as `f(x)`, whose function no crate defines."""
+    known = callable_names() | OTHER_CALLS
+    for page in PAGES:
+        for code in re.findall(r"`([^`\n]+)`", re.sub(r"```.*?```", "", read(page), flags=re.S)):
+            for name in re.findall(r"(?<![\w#\]])([a-z_]\w*)\(", code):
+                if name not in known:
+                    yield f"{page}: no crate has a function {name}"
 
 
 def glossary_problems():
@@ -96,4 +123,4 @@ def name_problems():
 
 
 def problems():
-    return sorted({*name_problems(), *glossary_problems(), *meaning_problems(), *link_problems()})
+    return sorted({*name_problems(), *call_problems(), *glossary_problems(), *meaning_problems(), *link_problems()})
