@@ -11,7 +11,7 @@ from sources.items import ROOT, close_of, crate, head_line, one_line, skip_space
 from sources.words import words_of_item
 
 from .meanings import MEANINGS
-from .topics import CRATES, by_topic
+from .topics import CRATES, INTERNAL, by_topic
 
 KINDS = {"type": ("struct", "enum", "type"), "trait": ("trait",), "function": ("fn", "macro_rules!", "const", "static")}
 
@@ -47,6 +47,8 @@ class CratePage:
         items = sorted(crate(name).public_items(), key=lambda it: (it[2].count("::"), it[2].lower()))
         functions = []
         for home, item, path in items:
+            if path.startswith(tuple(f"{it}::" for it in INTERNAL)):
+                continue
             if home.name != name and home.name in CRATES and home.is_public(item):
                 self.elsewhere.append((path, item))
             elif item.kind in KINDS["trait"]:

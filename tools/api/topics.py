@@ -20,6 +20,9 @@ CRATES = {
     "chain_laws": "Laws about chains. Each is a function with an empty body: a call of it brings its clauses into a proof.",
 }
 
+# Modules that are public for the crates that link and move links, and are not for users.
+INTERNAL = ("link_access", "walk_direction")
+
 # The topics of calls, each with a pattern for their names. The first pattern that matches decides.
 TOPICS = {
     "Insertion": r"insert\w*|entry_insert\w*|can_insert|start|begin|spawn",
