@@ -125,8 +125,9 @@ def definition_text(word):
 
 
 def docs_of(text):
-    """Returns a doc comment whose headings are replaced by bold lines."""
-    return re.sub(r"^#+ (.*)$", r"**\1**", text.strip(), flags=re.M)
+    """Returns a doc comment whose headings are replaced by bold lines, and links to paths of Rust by their texts."""
+    text = re.sub(r"\[([^\]]+)\]\(crate::[^)]*\)", r"\1", text.strip())
+    return re.sub(r"^#+ (.*)$", r"**\1**", text, flags=re.M)
 
 
 def code(text):

@@ -114,7 +114,8 @@ def crate_page_of(crate_page):
                 page.heading(3, topic, topic, f"{owner} {topic}")
             for it in some:
                 add_entry(page, it, 4 if topic else 3)
-    for title, entries in ("Types", crate_page.types), ("Traits", crate_page.traits), ("Laws", crate_page.laws):
+    laws = [(f"Laws of {module}" if module else "Laws", some) for module, some in crate_page.laws_by_module()]
+    for title, entries in [("Types", crate_page.types), ("Traits", crate_page.traits), *laws]:
         if entries:
             page.heading(2, title, title)
             for it in entries:

@@ -45,7 +45,7 @@ td { padding: .35rem .6rem .35rem 0; border-bottom: 1px solid var(--line); verti
 #found { display: none; position: absolute; top: 100%; left: 0; right: 0; max-height: 75vh; overflow: auto; padding: .6rem 1.2rem; background: var(--back); border-bottom: 1px solid var(--line); }
 #found a { display: block; padding: .3rem 0; color: inherit; }
 #found small { color: var(--muted); }
-@media (max-width: 50rem) { .columns { display: block; } nav { display: none; } main { padding: 1rem; } }
+@media (max-width: 50rem) { .columns { display: block; } nav { display: none; } main { padding: 1rem; } article .source { float: none; display: block; } }
 """
 
 SEARCH = """const entries = %s;
@@ -210,7 +210,8 @@ class Site:
                 main += [f"<h3>{topic}</h3>"] if topic else []
                 main += [self.article(it) for it in some]
                 contents.append(self.contents(f"{owner or 'Functions'}{f': {topic}' if topic else ''}", some))
-        for title, some in ("Types", page.types), ("Traits", page.traits), ("Laws", page.laws):
+        laws = [(f"Laws of {module}" if module else "Laws", some) for module, some in page.laws_by_module()]
+        for title, some in [("Types", page.types), ("Traits", page.traits), *laws]:
             if some:
                 main += [f"<h2>{title}</h2>", *(self.article(it) for it in some)]
                 contents.append(self.contents(title, some))
