@@ -29,7 +29,9 @@ def path_exists(path, all_files):
 
 
 def definitions(path):
-    """Returns the names that a file defines."""
+    """Returns the names that a file defines, or none if there is no such file."""
+    if not os.path.isfile(f"{ROOT}/{path}"):
+        return set()
     if path.endswith(".antt"):
         words = spec(path).words
         return {*words, *(name for it in words.values() for name in it.fields)}
