@@ -7,7 +7,9 @@ from typing import NamedTuple
 
 ROOT = os.path.dirname(os.path.dirname(os.path.abspath(__file__)))
 
-# Arguments, and the output that they must have: 400 operations, in two rounds over 200 links. docs/BENCHMARKS.md has the sum.
+# Arguments, and the output that they must have: 400 operations, in two rounds over 200 links. The sum was computed independently of the
+# program. Link k has the index k, the generation 2 and the value (k - 1) % 10. A round starts with the sum 0. Each link multiplies it
+# by 31 and adds (2^33 + k) xor value, modulo 2^64.
 CHECKED_RUN = ["walk", "200", "10", "2", "all"], "walk: 400 operations, sum 11310695771671459584\n"
 
 # The folder of Debian's packages of Rust sources. Cargo can use it as a directory source.

@@ -1,7 +1,7 @@
 //! Tests that a refused allocation changes nothing, and that a second attempt has the result that
 //! the first would have had.
 //!
-//! Here a stack refuses every other growth. `tools/test_alloc_failures` refuses each request for
+//! Here a stack refuses every other growth. `tools/test alloc_failures` refuses each request for
 //! memory in turn, in the tests that allow it. They require that one of two attempts or runs
 //! succeeds, so with ample memory each does.
 

@@ -270,7 +270,7 @@ fn is_beginning(written: &str, want: &str) -> bool {
 /// did all.
 type Outcome = (bool, bool);
 
-/// Checks two runs. One request is refused in both at most, as by `tools/test_alloc_failures`, so
+/// Checks two runs. One request is refused in both at most, as by `tools/test alloc_failures`, so
 /// one of them does all. With ample memory both do.
 fn check_both(rt: &impl Abort, runs: [Outcome; 2]) {
     let [

@@ -333,7 +333,7 @@ fn adds_blocks<S: SlotStack<Item = u32>>(rt: &impl Abort, stack: &mut S) -> bool
     is_grown
 }
 
-// Where one request is refused, as by `tools/test_alloc_failures`, one of two stacks grows at once.
+// Where one request is refused, as by `tools/test alloc_failures`, one of two stacks grows at once.
 #[test]
 fn blocks_or_none(rt: HostRuntime) {
     let mut one = ChunkStack::<u32>::new(rt.alloc());

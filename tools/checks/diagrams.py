@@ -1,15 +1,13 @@
-#!/usr/bin/env python3
-"""Runs the rows of docs/DIAGRAMS.md by the program, and prints responses that do not match.
+"""Runs the rows of docs/DIAGRAMS.md by the program, `chain_tool`.
 
 For each row, the chains before are built and the call is made. Then each chain after is walked, and its first link is shown.
-Rows with words beside their call are skipped. `rt try` runs the program without proofs.
-"""
-import os
+Rows with words beside their call are skipped. `rt try` runs the program without proofs."""
 import re
 import subprocess
-import sys
 
-ROOT = os.path.dirname(os.path.dirname(os.path.abspath(__file__)))
+from sources.items import ROOT
+from sources.pages import read, table_rows
+
 KINDS = {"Disconnected": "alone", "SingleLinkCyclic": "ring", "ChainEnd": "end", "ChainStart": "start", "NextTo": "after"}
 KINDS.update({"PrevTo": "before", "AtInterlink": "between", "Bridge": "bridge"})
 CALLS = {"connect": "connect", "break_next": "breaknext", "break_prev": "breakprev", "exchange_next": "exchange", "remove": "remove"}
@@ -64,35 +62,31 @@ def chains_of(cell):
 
 def rows():
     """Yields the name of each call, the letters of its arguments, and the chains before and after it."""
-    with open(f"{ROOT}/docs/DIAGRAMS.md", encoding="utf-8") as file:
-        text = file.read()
-    for part in text.split("\n## "):
-        for line in part.split("\n"):
-            cells = [it.strip() for it in line.strip("|").split("|")] if line.startswith("|") else []
-            if len(cells) != 3 or cells[1] in ("Before", "---"):
-                continue
-            calls = re.findall(r"`([^`]+)`", cells[0]) if cells[0].startswith("`") else ["exchange_next(p, q)"]
-            for call in calls if not re.sub(r"`[^`]+`|, ", "", cells[0]) or not cells[0].startswith("`") else []:
-                name, arguments = re.match(r"(\w+)(.*)", call).groups()
-                letters = re.findall(r"(?<=[ (:])[a-z](?=[,) ])", arguments)
-                yield name, letters, chains_of(cells[1]), chains_of(cells[2])
+    for cells in table_rows(read("docs/DIAGRAMS.md")):
+        calls = re.findall(r"`([^`]+)`", cells[0]) if cells[0].startswith("`") else ["exchange_next(p, q)"]
+        for call in calls if not re.sub(r"`[^`]+`|, ", "", cells[0]) or not cells[0].startswith("`") else []:
+            name, arguments = re.match(r"(\w+)(.*)", call).groups()
+            letters = re.findall(r"(?<=[ (:])[a-z](?=[,) ])", arguments)
+            yield name, letters, chains_of(cells[1]), chains_of(cells[2])
 
 
-def main():
-    run, count = Run(), 0
+def script():
+    """Returns the lines for all rows."""
+    run = Run()
     for name, letters, before, after in rows():
         indexes = run.build(before)
         run.call(name, letters, indexes)
         run.expect(after, indexes)
-        count += 1
-    script = "".join(f"{line}\n" for line, _ in run.lines)
-    result = subprocess.run(["rt", "try"], cwd=f"{ROOT}/crates/chain_tool", input=script, capture_output=True, text=True)
+    return run.lines
+
+
+def run_problems():
+    lines = script()
+    text = "".join(f"{line}\n" for line, _ in lines)
+    result = subprocess.run(["rt", "try"], cwd=f"{ROOT}/crates/chain_tool", input=text, capture_output=True, text=True)
     responses = result.stdout.split("\n")
-    wrong = [(line, expected, it) for (line, expected), it in zip(run.lines, responses) if expected not in (None, it)]
-    for line, expected, response in wrong:
-        print(f"{line}: {response}, expected {expected}")
-    print(f"{count} rows, {len(run.lines)} lines, {len(wrong)} unexpected responses")
-    return 1 if wrong or not count or len(responses) < len(run.lines) else 0
-
-
-sys.exit(main())
+    if not lines or len(responses) < len(lines):
+        yield f"docs/DIAGRAMS.md: {len(responses)} responses to {len(lines)} lines"
+    for (line, expected), response in zip(lines, responses):
+        if expected not in (None, response):
+            yield f"docs/DIAGRAMS.md: {line}: {response}, expected {expected}"

@@ -1,22 +1,16 @@
-#!/usr/bin/env python3
-"""Measures unions and lookups of `SurjectArena`, petgraph's `UnionFind` and two plain arrays, and prints a table in markdown.
+"""Measures unions and lookups of `SurjectArena`, petgraph's `UnionFind` and two plain arrays, and prints a table in Markdown.
 
 Our side is the program in `bench/sets/`, which `rt run` proves and builds in a workspace with copies of this repository's crates. The
 other two are built by cargo from `bench/sets/petgraph`. Each run unites as many random pairs as there are keys, and the lookups come
 after all paths of the other sides are compressed. Runs alternate between the sides, and the best counts. Each prints a sum over what
-its calls returned. If that of a side differs from ours, this program exits. The gate does not run it.
-"""
+its calls returned. If that of a side differs from ours, this program exits."""
 import argparse
-import os
 import sys
 import tempfile
 
-ROOT = os.path.dirname(os.path.dirname(os.path.abspath(__file__)))
-sys.path.insert(0, f"{ROOT}/bench")
-sys.dont_write_bytecode = True
-
-import measures  # noqa: E402
-import sides  # noqa: E402
+import measures
+import sides
+from sides import ROOT
 
 CASES = {"union": "`union` of two random keys' sets", "same": "`in_same_set` of two random keys", "value": "`get_val` of a random key"}
 
@@ -45,12 +39,13 @@ def best_times(programs, case, keys, runs):
     return {name: min(it[name].nanoseconds for it in outputs) / keys for name in programs}
 
 
-def main():
-    parser = argparse.ArgumentParser(description=__doc__, formatter_class=argparse.RawDescriptionHelpFormatter)
+def print_sets(arguments):
+    """Prints the table for the options of `tools/bench sets`."""
+    parser = argparse.ArgumentParser(prog="bench sets", description=__doc__, formatter_class=argparse.RawDescriptionHelpFormatter)
     parser.add_argument("--keys", type=int, nargs="+", default=[20_000, 1_000_000], metavar="N", help="the numbers of keys (20000 1000000)")
     parser.add_argument("--runs", type=int, default=15, metavar="N", help="the number of runs (15)")
     parser.add_argument("--workspace", default=f"{tempfile.gettempdir()}/set_bench", metavar="FOLDER", help="the folder in which set_bench is proved and kept")
-    options = parser.parse_args()
+    options = parser.parse_args(arguments)
     programs = {"ours": [our_program(options.workspace)], **other_programs()}
     print(f"|Nanoseconds an operation|keys|{'|'.join(programs)}|")
     print("|---" * (2 + len(programs)) + "|")
@@ -58,7 +53,3 @@ def main():
         for case, text in CASES.items():
             times = best_times(programs, case, keys, options.runs)
             print(f"|{text}|{keys:,}|{'|'.join(f'{it:.1f}' for it in times.values())}|", flush=True)
-
-
-if __name__ == "__main__":
-    main()

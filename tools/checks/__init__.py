@@ -1,0 +1,1 @@
+"""The parts of `tools/check`. Each has a function `problems` that returns a line for each problem."""

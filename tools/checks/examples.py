@@ -1,0 +1,141 @@
+"""Checks the examples of the pages.
+
+Read from the pages and sources:
+
+- The lines of the example session of docs/CLI.md are `crates/chain_tool/sample`. They have the same responses in the script on which
+  `rt ci` runs the program, `crates/chain_tool/stdin` and `stdout`.
+- README's diagram and its example without the test are in the docs of `crates/chain_arena`.
+- GUIDE's example that sorts a chain is in a doc comment.
+- The examples of docs/PROOF_GUIDE.md are in `crates/chain_examples`, which `rt ci` proves.
+
+Run by `rt try`, without proofs, in copies of this repository:
+
+- README's example passes its test. So do the examples in the doc comments of calls: each is the body of a test with the runtime `rt`
+  and the allocator `alloc`.
+- README's commands succeed, other than the gate."""
+import os
+import re
+import shutil
+import subprocess
+import tempfile
+import textwrap
+
+from sources.items import ROOT, files_below, items_in_file
+from sources.pages import code_blocks, read, table_rows
+
+# Before the tests made from doc comments.
+DOC_TESTS = """#![tactic(auto)]
+
+use arena_base::ArenaTrait;
+use arena_ptr::{ChainInsertionError, ToolPtr};
+use chain_arena::{ChainArena, ChainArenaTrait, LinkInsertKind};
+use chain_traits::walks::for_each_in_chain;
+use std::alloc::Global;
+"""
+
+
+def session():
+    """Returns the lines of the example session of docs/CLI.md with their responses."""
+    page = read("docs/CLI.md")
+    part = page[page.index("## Example session") : page.index("## Commands")]
+    return [tuple(it.strip("`") for it in cells) for cells in table_rows(part)]
+
+
+def script_with_responses():
+    """Returns each line of the program's script that has a response, with its response. A byte is a character."""
+    script, responses = (read(f"crates/chain_tool/{name}", "latin-1") for name in ("stdin", "stdout"))
+    lines = [line for line in script.split("\n") if len(line) > 200 or line.removesuffix("\r").strip(" ")]
+    return list(zip(lines, responses.removesuffix("\n").split("\n"), strict=True))
+
+
+def session_is_sample():
+    script, rows = script_with_responses(), session()
+    is_in_script = any(script[at : at + len(rows)] == rows for at in range(len(script)))
+    return is_in_script and [line for line, _ in rows] == read("crates/chain_tool/sample").splitlines()
+
+
+def doc_comment_examples():
+    """Returns the Rust code in the doc comments of all crates."""
+    paths = [it for it in files_below("crates") if it.endswith(".rt") and "/src/" in it and "```rust" in read(it)]
+    return [code for path in paths for it in items_in_file(path) for code in code_blocks(it.docs, "rust")]
+
+
+def is_in_doc_comments(code):
+    """Returns whether the lines of an example are in doc comments, up to comments."""
+    lines = [line.partition("//")[0].split() for it in doc_comment_examples() for line in it.splitlines()]
+    return all(line.split() in lines for line in code.splitlines())
+
+
+def is_in_crate_docs(page):
+    docs = "".join(f"{line[4:]}\n" for line in read("crates/chain_arena/src/lib.rt").splitlines() if line.startswith("//!"))
+    # Leaves out the test, since a crate whose files name a test has to have one.
+    code = re.search(r"```rust\n.*?^}\n", page, flags=re.S | re.M)[0]
+    return code_blocks(page, "text")[0] in docs and code in docs
+
+
+def problems():
+    if not session_is_sample():
+        yield "docs/CLI.md: the example session is not the sample of the program, with the responses of its script"
+    if not is_in_crate_docs(read("README.md")):
+        yield "README.md: the diagram or the example is not in the docs of chain_arena"
+    sorts = [it for it in code_blocks(read("docs/GUIDE.md"), "rust") if "arrange_chain" in it]
+    if not sorts or not all(map(is_in_doc_comments, sorts)):
+        yield "docs/GUIDE.md: the example that sorts is not in a doc comment"
+    tutorial = read("crates/chain_examples/src/tutorial.rt")
+    for it in code_blocks(read("docs/PROOF_GUIDE.md"), "rust"):
+        if it not in tutorial:
+            yield f"docs/PROOF_GUIDE.md: this example is not in tutorial.rt: {it.splitlines()[0]} .."
+
+
+# ---------------------------------------------------------------- with the toolchain
+
+
+def doc_tests(examples):
+    tests = [
+        f"#[test]\nfn example_{k}(rt: HostRuntime) -> Result<(), ChainInsertionError> {{\n    let alloc: Global = rt.alloc();\n{textwrap.indent(code, '    ')}    Ok(())\n}}\n"
+        for k, code in enumerate(examples, 1)
+    ]
+    return "\n".join([DOC_TESTS, *tests])
+
+
+def passes_tests(line, code, count):
+    """Returns whether the tests of a crate `mine` with this code pass, which are `count`. Its line is added to crates.txt."""
+    with tempfile.TemporaryDirectory() as folder:
+        copy = f"{folder}/copy"
+        shutil.copytree(ROOT, copy, ignore=shutil.ignore_patterns("out"), symlinks=True)
+        os.makedirs(f"{copy}/crates/mine/src")
+        with open(f"{copy}/crates/mine/src/lib.rt", "w", encoding="utf-8") as file:
+            file.write(code)
+        with open(f"{copy}/crates.txt", "a", encoding="utf-8") as file:
+            file.write(line + "\n")
+        run = subprocess.run(["rt", "try", "--test"], cwd=f"{copy}/crates/mine", capture_output=True, text=True)
+    return f"test result: ok. {count} passed" in run.stdout + run.stderr
+
+
+def crate_line(page):
+    """Returns the line of README for crates.txt."""
+    return re.search(r"the line `(mine: [^`]*)`", page)[1]
+
+
+def commands_succeed(page):
+    """Runs README's commands: the program on its sample, and a copy into another repository. The gate is not run."""
+    lines = [line.partition("#")[0].strip() for block in code_blocks(page, "sh") for line in block.splitlines()]
+    commands = [it for it in lines if it]
+    if len(commands) != 3 or commands[1] != ".ci/run":
+        return False
+    program = subprocess.run(["bash", "-c", commands[0]], cwd=ROOT, capture_output=True, text=True)
+    with tempfile.TemporaryDirectory() as dest:
+        script = commands[2].replace("DEST", dest)
+        vendor = subprocess.run(["bash", "-c", script], cwd=ROOT, capture_output=True, text=True)
+    responses = "".join(f"{response}\n" for _, response in session())
+    return program.stdout == responses and vendor.returncode == 0
+
+
+def run_problems():
+    page, examples = read("README.md"), doc_comment_examples()
+    if not passes_tests(crate_line(page), code_blocks(page, "rust")[0], 1):
+        yield "README.md: the example does not pass its test"
+    if not examples or not passes_tests(f"{crate_line(page)} chain_traits", doc_tests(examples), len(examples)):
+        yield "an example of a doc comment does not pass its test"
+    if not commands_succeed(page):
+        yield "README.md: a command does not succeed, or the program does not print the responses of the session"
