@@ -1,6 +1,6 @@
 -- Searching a ring for an ear.
 use Rattle.std.proofs.Common.{◌≡◌, ℕ, ◌+◌, ◌≤◌, ◌<◌, ⊎_elim, List, [], ◌∷◌, ◌++◌, length, take, drop, Option, None, Some, refl, sym, ap, ◌∙◌, subst, arith}
-use Rattle.std.specs.Prelude.{Contains, IfNone}
+use Rattle.std.specs.Prelude.{IfNone}
 use Rattle.std.proofs.Math.Seq.{take-append_seam, drop-append_seam}
 use Rattle.std.proofs.lemmas.List.{map-append, append_assoc, length-append, length-map, take-map, drop-map}
 use Rattle.std.proofs.lemmas.Bool.{cases_order}
@@ -14,7 +14,6 @@ use Rattle.triangulation.specs.declared.points.Point.{Point}
 use Rattle.triangulation.specs.declared.points.Triangle.{Triangle}
 use Rattle.triangulation.specs.Triangulations.{IsEar, BeginsWithEar, HasNoEar}
 use Rattle.triangulation.specs.Clippings.{points, IsRingFrom, SeesNoEar}
-use Rattle.triangulation.proofs.ClippingLemmas.{in_tail, at_head}
 use Rattle.triangulation.proofs.ReadingLemmas.{IsRead, read_starts, ring_here, next_key, next_exists, valid_here}
 
 -- The corner after so many others.

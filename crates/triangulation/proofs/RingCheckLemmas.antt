@@ -5,10 +5,8 @@ use Rattle.std.specs.declared.vec.Vec.{Vec}
 use Rattle.std.specs.declared.alloc.Global.{Global}
 use Rattle.std.proofs.lemmas.List.Elements.{Contains-get_or}
 use Rattle.triangulation.specs.declared.points.Point.{Point}
-use Rattle.triangulation.specs.declared.errors.Ring.{Ring}
 use Rattle.triangulation.specs.declared.errors.Ring.TheVariants as which
 use Rattle.triangulation.specs.declared.errors.PolygonError.{PolygonError}
-use Rattle.triangulation.specs.declared.errors.PolygonError.TheVariants as why
 use Rattle.triangulation.specs.Triangulations.{polygon_area}
 use Rattle.triangulation.specs.Polygons.{rings_of, HasCornerThat, IsRingFault, IsReason}
 use Rattle.triangulation.proofs.RingPathLemmas.{origin}

@@ -1,5 +1,5 @@
 -- Rings of corners while ears are clipped.
-use Rattle.std.specs.Prelude.{◌≡◌, ℕ, pos, ◌<ℤ◌, ◌+◌, ◌≤◌, ◌<◌, List, [], ◌∷◌, ◌++◌, map, length, Contains, Option, Some, Result, Ok, Err}
+use Rattle.std.specs.Prelude.{◌≡◌, ℕ, ◌≤◌, ◌<◌, List, [], ◌∷◌, ◌++◌, map, length, Contains, Option, Some, Result, Ok, Err}
 use Rattle.std.specs.declared.vec.Vec.{Vec}
 use Rattle.std.specs.declared.alloc.Global.{Global}
 use Rattle.chain_laws.specs.Chains.{LinkMap}
@@ -10,7 +10,7 @@ use Rattle.triangulation.specs.declared.points.Point.{Point}
 use Rattle.triangulation.specs.declared.points.Triangle.{Triangle}
 use Rattle.triangulation.specs.declared.errors.TriangulationError.{TriangulationError}
 use Rattle.triangulation.specs.declared.errors.TriangulationError.TheVariants as why
-use Rattle.triangulation.specs.Triangulations.{polygon_area, triangle_area, IsTriangulation, IsInTriangle, IsEar, IsTurnOf, BeginsWithEar, HasNoEar, IsClipping, IsStuck}
+use Rattle.triangulation.specs.Triangulations.{polygon_area, IsTriangulation, IsInTriangle, IsEar, IsTurnOf, BeginsWithEar, HasNoEar, IsClipping, IsStuck}
 
 -- The points of items.
 abbrev pub points : {Gen : Type 0} → List (Item Gen Point) → List Point

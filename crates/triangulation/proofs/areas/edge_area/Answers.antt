@@ -1,5 +1,5 @@
 -- The difference of two products of coordinates.
-use Rattle.std.proofs.Common.{◌≡◌, ℤ, ◌≤◌, ◌^◌, ◌*ℤ◌, ◌-ℤ◌, unsigned_abs, to_z, of_z, ap, ◌∙◌, arith, rules, w32}
+use Rattle.std.proofs.Common.{◌≡◌, ℤ, ◌*ℤ◌, ◌-ℤ◌, ap, ◌∙◌, arith, rules, w32}
 use Rattle.std.specs.Int.{w128}
 use Rattle.std.proofs.lemmas.Int.{ints, to_z-of_z, fits_signed_from_abs}
 use Rattle.triangulation.proofs.areas.edge_area.Goals as goal

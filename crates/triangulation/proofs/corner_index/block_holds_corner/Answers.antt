@@ -1,7 +1,6 @@
 -- One more corner is clear of the triangle.
-use Rattle.std.proofs.Common.{◌≡◌, ◌<◌, ◌/◌, ℕ, pos, length, map, get_or, min, sym, ◌∙◌, subst, arith}
+use Rattle.std.proofs.Common.{◌≡◌, ◌<◌, ◌/◌, ℕ, length, map, get_or, min, arith}
 use Rattle.std.proofs.lemmas.Option.{slice_get_read, slice_get-get_or}
-use Rattle.triangulation.specs.declared.points.Point.{Point}
 use Rattle.triangulation.specs.CornerIndexes.{IsClearAt}
 use Rattle.triangulation.proofs.EarSearchLemmas.{below_more}
 use Rattle.triangulation.proofs.RingPathLemmas.{origin}

@@ -1,5 +1,5 @@
 -- The corners of one more group are clear of the triangle.
-use Rattle.std.proofs.Common.{◌≡◌, ◌<◌, ◌/◌, ℕ, length, map, get_or, refl, sym, ap, ◌∙◌, subst, arith}
+use Rattle.std.proofs.Common.{◌≡◌, ◌/◌, ℕ, map, refl, sym, ◌∙◌, subst, arith}
 use Rattle.std.proofs.lemmas.Bool.{false≢true}
 use Rattle.triangulation.specs.declared.bounds.BoundingBox.{BoundingBox}
 use Rattle.triangulation.specs.CornerIndexes.{IsInBox, IsClearAt}

@@ -5,7 +5,7 @@ use Rattle.std.specs.declared.alloc.Global.{Global}
 use Rattle.std.proofs.lemmas.List.{take_more, map-append}
 use Rattle.triangulation.specs.declared.points.Point.{Point}
 use Rattle.triangulation.specs.Polygons.{rings_of, IsBridged, AreJoined}
-use Rattle.triangulation.proofs.JoiningLemmas.{join_starts, join_more}
+use Rattle.triangulation.proofs.JoiningLemmas.{join_more}
 use Rattle.triangulation.proofs.joining.joined.Goals as goal
 
 pub loop-hole-preserved : goal.loop-hole-preserved

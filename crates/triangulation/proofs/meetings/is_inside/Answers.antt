@@ -1,6 +1,5 @@
 -- The number of crossings is even outside and odd inside.
-use Rattle.std.proofs.Common.{◌≡◌, ◌+◌, ◌*◌, ◌/◌, ◌%◌, nat_eq, IsTrue, rules, ℕ, List, subst, arith}
-use Rattle.triangulation.specs.declared.points.Point.{Point}
+use Rattle.std.proofs.Common.{◌≡◌, ◌+◌, ◌*◌, ◌/◌, ◌%◌, nat_eq, IsTrue, rules, ℕ, subst, arith}
 use Rattle.triangulation.specs.Polygons.{HasCrossings}
 use Rattle.triangulation.proofs.RingPathLemmas.{crossings_more, crossings_end}
 use Rattle.triangulation.proofs.meetings.is_inside.Goals as goal

@@ -1,5 +1,5 @@
 -- Each test gives one part.
-use Rattle.std.proofs.Common.{◌≡◌, ℤ, to_z, of_z, subst, rules, w32}
+use Rattle.std.proofs.Common.{◌≡◌, ℤ, subst, rules, w32}
 use Rattle.std.proofs.lemmas.Int.{to_z-of_z}
 use Rattle.triangulation.specs.Polygons.{RangesMeet}
 use Rattle.triangulation.proofs.meetings.segments_meet.Goals as goal

@@ -1,5 +1,5 @@
 -- One hole more has corners.
-use Rattle.std.proofs.Common.{◌<◌, length, get_or, List, subst, arith}
+use Rattle.std.proofs.Common.{List, subst, arith}
 use Rattle.std.specs.Prelude.{All}
 use Rattle.std.specs.declared.vec.Vec.{Vec}
 use Rattle.std.specs.declared.alloc.Global.{Global}

@@ -1,5 +1,5 @@
 -- The corners are listed and form a ring, which is clipped.
-use Rattle.std.proofs.Common.{◌≡◌, pos, List, ◌∷◌, map, length, sym, ap, ◌∙◌, subst, arith}
+use Rattle.std.proofs.Common.{List, map, sym, subst, arith}
 use Rattle.triangulation.specs.declared.points.Point.{Point}
 use Rattle.triangulation.specs.Clippings.{IsRingOf}
 use Rattle.triangulation.specs.CornerIndexes.{AreListed}
