@@ -245,4 +245,5 @@ polygon_triangulated outline holes joined triangles ring is = record {
   number = omega (arith, ring.number, is.number);
   each = All-weaker (IsTriangleOf joined) (IsTriangleOf (corners_of (outline ∷ holes))) (λ t of. record { first = ring.among t.a of.first; second = ring.among t.b of.second; third = ring.among t.c of.third; positive = of.positive }) triangles is.each;
   areas = is.areas ∙ ring.area;
+  ears = (joined, ring, is.ears);
 }

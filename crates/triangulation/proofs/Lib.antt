@@ -8,3 +8,5 @@ pub mod RingPathLemmas
 pub mod JoiningLemmas
 pub mod RingCheckLemmas
 pub mod WholeRingLemmas
+pub mod TriangleLemmas
+pub mod CornerIndexLemmas

@@ -1,6 +1,7 @@
 -- Turns of a ring of corners, and the removal of an ear's corner from it.
-use Rattle.std.proofs.Common.{◌≡◌, ℕ, ◌+◌, ◌-◌, ◌≤◌, List, [], ◌∷◌, ◌++◌, length, Option, None, Some, refl, sym, ap, ◌∙◌, subst, arith}
+use Rattle.std.proofs.Common.{◌≡◌, ℕ, ◌+◌, ◌-◌, ◌≤◌, ⊎_elim, List, [], ◌∷◌, ◌++◌, length, Option, None, Some, refl, sym, ap, ◌∙◌, subst, arith}
 use Rattle.std.specs.Option.{option_map}
+use Rattle.std.proofs.lemmas.Bool.{cases_order}
 use Rattle.std.proofs.lemmas.List.{map-append, length-map, length-append}
 use Rattle.arena_core.specs.PointerKinds.{PointerKind}
 use Rattle.chain_laws.specs.Chains.{LinkMap, cyclic}
@@ -62,7 +63,7 @@ module _ {A Gen : Type 0} {view : A → ArenaView Gen Point} {entry : A → ℕ 
             rest = rest;
             ring = subst (λ (l : List (Item Gen Point)). IsRing state interlinks a l) same from.ring;
             outline = subst (λ (l : List (Item Gen Point)). IsSameOutline (points items) (points l)) same outline;
-            positive = is.5;
+            ear = is.5;
           }
 
   -- The corner of an ear is removed from its ring.
@@ -73,6 +74,14 @@ module _ {A Gen : Type 0} {view : A → ArenaView Gen Point} {entry : A → ℕ 
     ear_removed q (Some v) items p after t ear removes =
         let same : v ≡ t.b = value_read (entry old) (pointers.key q) (pointers.key q, t.b) v removes.removed.0 refl ear.ring.are_stored.1.0 in
         (removes.list ((p, t.a) ∷ []) ((after, t.c) ∷ ear.rest) (subst (λ (w : Point). IsRing state interlinks old ((p, t.a) ∷ (pointers.key q, w) ∷ (after, t.c) ∷ ear.rest)) (sym same) ear.ring) (λ none. cc), removes.size)
+
+    -- No entry is new.
+    pub entries_kept : (q : P) (result : Option Point) → RemovesItem state interlinks cyclic pointers old q result new → (i : ℕ) (e : Gen × Point) → entry new i ≡ Some e → entry old i ≡ Some e
+    entries_kept q None removes i e is = subst (λ (a : A). entry a i ≡ Some e) removes.1 is
+    entries_kept q (Some v) removes i e is = ⊎_elim (λ same. absurd (let none : None ≡ Some e = sym removes.gone ∙ (ap (entry new) (sym same) ∙ is) in cc)) (λ other. ⊎_elim (λ below. others (λ at. omega (arith, at, below))) (λ above. others (λ at. omega (arith, at, above))) other) (cases_order i (pointers.key q).0)
+      where
+        others : (i ≡ (pointers.key q).0 → ⊥) → entry old i ≡ Some e
+        others differs = sym (removes.entries i differs) ∙ is
 
     -- One ear more is clipped.
     pub remaining_shrinks : (q : P) (result : Option Point) (items : List (Item Gen Point)) (ts : List Triangle) (start p after : ℕ × Gen) (left : ℕ) (t : Triangle) (before : IsRemaining state interlinks old items ts start left)
@@ -87,5 +96,5 @@ module _ {A Gen : Type 0} {view : A → ArenaView Gen Point} {entry : A → ℕ 
             alone = omega (arith, before.whole.alone, shrunk.1);
           };
           clipping = subst (λ (l : List Point). IsClipping (points items) (ts ++ t ∷ []) (t.c ∷ l)) (sym (map-append (λ (x : Item Gen Point). x.1) ear.rest ((p, t.a) ∷ [])))
-              (clipping_turned (points items) (ts ++ t ∷ []) t.a (t.c ∷ points ear.rest) (ear_clipped (points items) ts (points before.remaining) t (points ear.rest) before.clipping ear.outline ear.positive));
+              (clipping_turned (points items) (ts ++ t ∷ []) t.a (t.c ∷ points ear.rest) (ear_clipped (points items) ts (points before.remaining) t (points ear.rest) before.clipping ear.outline ear.ear));
         }

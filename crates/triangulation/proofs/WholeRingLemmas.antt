@@ -27,6 +27,12 @@ item_or_none {Gen} entry (x ∷ xs) k v s is = ⊎_elim (λ same. inl (subst (λ
     later : Contains (points xs) v ⊎ (IsMember (indexes xs) k.0 → ⊥) → (x.0.0 ≡ k.0 → ⊥) → Contains (points (x ∷ xs)) v ⊎ (IsMember (indexes (x ∷ xs)) k.0 → ⊥)
     later rest differ = ⊎_elim (λ has. inl (in_tail x.1 (points xs) v has)) (λ none. inr (λ has. ⊎_elim differ none has)) rest
 
+-- A point of the items is stored.
+pub stored_point : {Gen : Type 0} (entry : ℕ → Option (Gen × Point)) (items : List (Item Gen Point)) (p : Point) → AreEntries entry items → Contains (points items) p → (k : ℕ × Gen) × (entry k.0 ≡ Some (k.1, p))
+stored_point entry [] p stored has = absurd (omega (arith, has.1))
+stored_point {Gen} entry (x ∷ xs) p stored has = head_or_tail x.1 (points xs) p ((k : ℕ × Gen) × (entry k.0 ≡ Some (k.1, p))) has
+    (λ same. (x.0, subst (λ (q : Point). entry x.0.0 ≡ Some (x.0.1, q)) same stored.0)) (λ later. stored_point entry xs p stored.1 later)
+
 module _ {A Gen : Type 0} {view : A → ArenaView Gen Point} {entry : A → ℕ → Option (Gen × Point)} (state : (a : A) → ArenaState (view a) (entry a)) (interlinks : A → LinkMap) where
   pub all_in_ring : (a : A) (items : List (Item Gen Point)) → IsRing state interlinks a items → count (view a) ≡ length items → (k : ℕ × Gen) (v : Point) → entry a k.0 ≡ Some (k.1, v) → Contains (points items) v
   all_in_ring a items ring alone k v is = ⊎_elim (λ has. has) (λ none. absurd (omega (arith, alone, length_among (k.0 ∷ indexes items) (map index_of (view a).entries) (none, ring.chain.1) among, length-map items index_of, length-map (view a).entries index_of))) (item_or_none (entry a) items k v ring.are_stored is)

@@ -1,5 +1,5 @@
 -- Rings of corners while ears are clipped.
-use Rattle.std.specs.Prelude.{◌≡◌, ℕ, pos, ◌<ℤ◌, ◌≤◌, ◌<◌, List, [], ◌∷◌, ◌++◌, map, length, Contains, Option, Some, Result, Ok, Err}
+use Rattle.std.specs.Prelude.{◌≡◌, ℕ, ◌≤◌, ◌<◌, List, [], ◌∷◌, ◌++◌, map, length, Contains, Option, Some, Result, Ok, Err}
 use Rattle.std.specs.declared.vec.Vec.{Vec}
 use Rattle.std.specs.declared.alloc.Global.{Global}
 use Rattle.chain_laws.specs.Chains.{LinkMap}
@@ -10,7 +10,7 @@ use Rattle.triangulation.specs.declared.points.Point.{Point}
 use Rattle.triangulation.specs.declared.points.Triangle.{Triangle}
 use Rattle.triangulation.specs.declared.errors.TriangulationError.{TriangulationError}
 use Rattle.triangulation.specs.declared.errors.TriangulationError.TheVariants as why
-use Rattle.triangulation.specs.Triangulations.{polygon_area, triangle_area, IsTriangulation, IsInTriangle, BeginsWithEar, HasNoEar, IsClipping, IsStuck}
+use Rattle.triangulation.specs.Triangulations.{polygon_area, IsTriangulation, IsInTriangle, IsEar, IsTurnOf, BeginsWithEar, HasNoEar, IsClipping, IsStuck}
 
 -- The points of items.
 abbrev pub points : {Gen : Type 0} → List (Item Gen Point) → List Point
@@ -21,6 +21,7 @@ pub record IsSameOutline (corners turned : List Point) : Type 0 where
   pub number : length turned ≡ length corners
   pub area : polygon_area turned ≡ polygon_area corners
   pub among : (p : Point) → Contains turned p → Contains corners p
+  pub turn : IsTurnOf corners turned
 
 module _ {A Gen : Type 0} {view : A → ArenaView Gen Point} {entry : A → ℕ → Option (Gen × Point)} (state : (a : A) → ArenaState (view a) (entry a)) (interlinks : A → LinkMap) where
   -- A ring from the corner of `p` on.
@@ -33,10 +34,10 @@ module _ {A Gen : Type 0} {view : A → ArenaView Gen Point} {entry : A → ℕ 
     pub number : length items ≡ corners
     pub alone : count (view arena) ≡ corners
 
-  -- The triangle of `p` and the two corners after it.
+  -- The triangle of `p` and the two corners after it is an ear.
   abbrev pub IsEarAfter : A → (p corner after : ℕ × Gen) → Triangle → Type 0
   IsEarAfter arena p corner after t = (a c b : Item Gen Point) (rest : List (Item Gen Point)) → IsRingFrom arena p (a ∷ c ∷ b ∷ rest)
-      → (corner ≡ c.0) × (after ≡ b.0) × (t.a ≡ a.1) × (t.b ≡ c.1) × (t.c ≡ b.1) × (pos 0 <ℤ triangle_area t)
+      → (corner ≡ c.0) × (after ≡ b.0) × (t.a ≡ a.1) × (t.b ≡ c.1) × (t.c ≡ b.1) × IsEar t (points rest)
 
   -- The corners from `p` on do not begin with an ear.
   abbrev pub SeesNoEar : A → ℕ × Gen → Type 0
@@ -58,7 +59,7 @@ module _ {A Gen : Type 0} {view : A → ArenaView Gen Point} {entry : A → ℕ 
     pub rest : List (Item Gen Point)
     pub ring : IsRing state interlinks arena ((p, t.a) ∷ (corner, t.b) ∷ (after, t.c) ∷ rest)
     pub outline : IsSameOutline (points items) (points ((p, t.a) ∷ (corner, t.b) ∷ (after, t.c) ∷ rest))
-    pub positive : pos 0 <ℤ triangle_area t
+    pub ear : IsEar t (points rest)
 
   -- An ear is found in the ring of `start`, if it has three corners or more.
   abbrev pub FindsEar : A → ℕ × Gen → (p corner after : ℕ × Gen) → Triangle → Type 0

@@ -1,3 +1,4 @@
 pub mod Triangulations
+pub mod CornerIndexes
 pub mod Clippings
 pub mod Polygons

@@ -11,7 +11,7 @@ use Rattle.triangulation.specs.declared.errors.Ring.{Ring}
 use Rattle.triangulation.specs.declared.errors.Ring.TheVariants as which
 use Rattle.triangulation.specs.declared.errors.PolygonError.{PolygonError}
 use Rattle.triangulation.specs.declared.errors.PolygonError.TheVariants as why
-use Rattle.triangulation.specs.Triangulations.{coordinates, polygon_area, total_area, IsTriangleOf, IsStuck}
+use Rattle.triangulation.specs.Triangulations.{coordinates, polygon_area, total_area, IsTriangleOf, AreAllEarsOf, IsStuck}
 
 -- The corners of each ring.
 abbrev pub rings_of : List (Vec Point Global) → List (List Point)
@@ -35,17 +35,19 @@ rings_area (ring ∷ rings) = ring_area ring + rings_area rings
 abbrev pub area_without_holes : List Point → List (List Point) → ℤ
 area_without_holes outline holes = pos (ring_area outline) -ℤ pos (rings_area holes)
 
--- Triangles of a polygon with holes: n + 2h - 2 of them, if it has n corners and h holes.
-pub record IsPolygonTriangulation (outline : List Point) (holes : List (List Point)) (triangles : List Triangle) : Type 0 where
-  pub number : length triangles + 2 ≡ length (corners_of (outline ∷ holes)) + 2 * length holes
-  pub each : All (IsTriangleOf (corners_of (outline ∷ holes))) triangles
-  pub areas : total_area triangles ≡ area_without_holes outline holes
-
 -- One ring that goes along an outline, its holes, and both sides of a bridge to each hole.
 pub record IsJoinedRing (outline : List Point) (holes : List (List Point)) (joined : List Point) : Type 0 where
   pub number : length joined ≡ length (corners_of (outline ∷ holes)) + 2 * length holes
   pub area : polygon_area joined ≡ area_without_holes outline holes
   pub among : (p : Point) → Contains joined p → Contains (corners_of (outline ∷ holes)) p
+
+-- Triangles of a polygon with holes: n + 2h - 2 of them, if it has n corners and h holes.
+-- They are ears of a ring that goes along the outline and the holes.
+pub record IsPolygonTriangulation (outline : List Point) (holes : List (List Point)) (triangles : List Triangle) : Type 0 where
+  pub number : length triangles + 2 ≡ length (corners_of (outline ∷ holes)) + 2 * length holes
+  pub each : All (IsTriangleOf (corners_of (outline ∷ holes))) triangles
+  pub areas : total_area triangles ≡ area_without_holes outline holes
+  pub ears : (joined : List Point) × IsJoinedRing outline holes joined × AreAllEarsOf joined triangles
 
 -- Twice the signed area of several rings together.
 abbrev pub signed_areas : List (List Point) → ℤ

@@ -31,12 +31,6 @@ pub record IsTriangleOf (corners : List Point) (t : Triangle) : Type 0 where
   pub third : Contains corners t.c
   pub positive : pos 0 <ℤ triangle_area t
 
--- Two triangles fewer than corners, which have the polygon's area together.
-pub record IsTriangulation (corners : List Point) (triangles : List Triangle) : Type 0 where
-  pub number : length triangles + 2 ≡ length corners
-  pub each : All (IsTriangleOf corners) triangles
-  pub areas : total_area triangles ≡ polygon_area corners
-
 -- A point is in a triangle or on its sides, and is none of its corners.
 pub record IsInTriangle (t : Triangle) (p : Point) : Type 0 where
   pub not_first : p ≢ t.a
@@ -51,6 +45,28 @@ pub record IsEar (t : Triangle) (others : List Point) : Type 0 where
   pub positive : pos 0 <ℤ triangle_area t
   pub empty : (p : Point) → Contains others p → IsInTriangle t p → ⊥
 
+-- The same ring, listed from another corner.
+pub data IsTurnOf : List Point → List Point → Type 0 where
+  unturned : (corners : List Point) → IsTurnOf corners corners
+  turned_on : (a : Point) (others turned : List Point) → IsTurnOf (others ++ a ∷ []) turned → IsTurnOf (a ∷ others) turned
+
+-- Each triangle is an ear of the corners that the ones before it leave, and `rest` is left at last.
+abbrev pub AreEarsOf : List Point → List Triangle → List Point → Type 0
+AreEarsOf corners [] rest = IsTurnOf corners rest
+AreEarsOf corners (t ∷ ts) rest = (others : List Point) × IsTurnOf corners (t.a ∷ t.b ∷ t.c ∷ others) × IsEar t others × AreEarsOf (t.a ∷ t.c ∷ others) ts rest
+
+-- Ears are clipped until two corners are left.
+abbrev pub AreAllEarsOf : List Point → List Triangle → Type 0
+AreAllEarsOf corners triangles = (a b : Point) × AreEarsOf corners triangles (a ∷ b ∷ [])
+
+-- Two triangles fewer than corners, which have the polygon's area together. Each is an ear of the
+-- corners that the ones before it leave.
+pub record IsTriangulation (corners : List Point) (triangles : List Triangle) : Type 0 where
+  pub number : length triangles + 2 ≡ length corners
+  pub each : All (IsTriangleOf corners) triangles
+  pub areas : total_area triangles ≡ polygon_area corners
+  pub ears : AreAllEarsOf corners triangles
+
 -- The first three corners are an ear.
 abbrev pub BeginsWithEar : List Point → Type 0
 BeginsWithEar [] = ⊥
@@ -62,12 +78,13 @@ BeginsWithEar (a ∷ b ∷ c ∷ others) = IsEar (record { a = a; b = b; c = c }
 abbrev pub HasNoEar : List Point → Type 0
 HasNoEar corners = (n : ℕ) → n < length corners → BeginsWithEar (drop n corners ++ take n corners) → ⊥
 
--- The triangles and the remaining corners are together the polygon.
+-- The triangles and the remaining corners are together the polygon. The triangles are its ears.
 pub record IsClipping (corners : List Point) (triangles : List Triangle) (remaining : List Point) : Type 0 where
   pub number : length triangles + length remaining ≡ length corners
   pub each : All (IsTriangleOf corners) triangles
   pub areas : total_area triangles +ℤ polygon_area remaining ≡ polygon_area corners
   pub among : (p : Point) → Contains remaining p → Contains corners p
+  pub ears : AreEarsOf corners triangles remaining
 
 -- Triangles were clipped until at least three corners were left, of which none is an ear.
 pub record IsStuck (corners : List Point) : Type 0 where

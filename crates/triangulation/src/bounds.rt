@@ -1,5 +1,9 @@
 //! Bounding boxes.
 
+ghost use Rattle.std.specs.Prelude.{pos, ◌<ℤ◌, ◌≤ℤ◌, ◌↔◌, All, IsTrue};
+ghost use Rattle.triangulation.specs.Triangulations.{triangle_area, IsInTriangle};
+ghost use Rattle.triangulation.specs.CornerIndexes.{IsInBox, BoxHasAllOf};
+
 use crate::points::{Point, Triangle};
 
 // The least rectangle with sides along the axes that has some points.
@@ -23,7 +27,10 @@ impl BoundingBox {
     }
 
     // Returns the bounding box of these points and `p`.
-    pub fn with_point(self, p: Point) -> BoundingBox {
+    pub fn with_point(self, p: Point) -> BoundingBox
+        ensures point { IsInBox result p }
+        ensures rest { BoxHasAllOf result self }
+    {
         BoundingBox {
             left: self.left.min(p.x),
             right: self.right.max(p.x),
@@ -33,7 +40,10 @@ impl BoundingBox {
     }
 
     // Returns the bounding box of the points of both.
-    pub fn with_box(self, other: BoundingBox) -> BoundingBox {
+    pub fn with_box(self, other: BoundingBox) -> BoundingBox
+        ensures first { BoxHasAllOf result self }
+        ensures second { BoxHasAllOf result other }
+    {
         BoundingBox {
             left: self.left.min(other.left),
             right: self.right.max(other.right),
@@ -43,7 +53,9 @@ impl BoundingBox {
     }
 
     // Returns the bounding box of a triangle.
-    pub fn of_triangle(t: Triangle) -> BoundingBox {
+    pub fn of_triangle(t: Triangle) -> BoundingBox
+        ensures { pos 0 <ℤ triangle_area t → (p : Point) → IsInTriangle t p → IsInBox result p }
+    {
         BoundingBox::empty()
             .with_point(t.a)
             .with_point(t.b)
@@ -51,7 +63,9 @@ impl BoundingBox {
     }
 
     // Returns the bounding box of the corners.
-    pub fn of_ring(ring: &[Point]) -> BoundingBox {
+    pub fn of_ring(ring: &[Point]) -> BoundingBox
+        ensures { All (IsInBox result) ring.now }
+    {
         let mut around = BoundingBox::empty();
         for p in ring {
             around = around.with_point(*p);
@@ -59,8 +73,21 @@ impl BoundingBox {
         around
     }
 
+    // Returns the bounding box of several boxes.
+    pub fn of_boxes(boxes: &[BoundingBox]) -> BoundingBox
+        ensures { All (BoxHasAllOf result) boxes.now }
+    {
+        let mut around = BoundingBox::empty();
+        for part in boxes {
+            around = around.with_box(*part);
+        }
+        around
+    }
+
     // Returns whether both have a common point.
-    pub fn meets(&self, other: &BoundingBox) -> bool {
+    pub fn meets(&self, other: &BoundingBox) -> bool
+        ensures { (p : Point) → IsInBox self.now p → IsInBox other.now p → IsTrue result }
+    {
         self.left <= other.right
             && other.left <= self.right
             && self.bottom <= other.top
@@ -68,7 +95,16 @@ impl BoundingBox {
     }
 
     // Returns whether a point is in the box.
-    pub fn has(&self, p: Point) -> bool {
-        self.left <= p.x && p.x <= self.right && self.bottom <= p.y && p.y <= self.top
+    pub fn has(&self, p: Point) -> bool
+        ensures { IsTrue result ↔ IsInBox self.now p }
+    {
+        is_between(self.left, p.x, self.right) && is_between(self.bottom, p.y, self.top)
     }
+}
+
+// Returns whether a coordinate is in a range.
+fn is_between(low: i32, x: i32, high: i32) -> bool
+    ensures { IsTrue result ↔ ((low ≤ℤ x) × (x ≤ℤ high)) }
+{
+    low <= x && x <= high
 }

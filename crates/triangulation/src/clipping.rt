@@ -1,7 +1,8 @@
 //! Ears of a ring of corners, and their removal.
 
-ghost use Rattle.std.specs.Prelude.{◌≡◌, length, IfSome, IfNone};
+ghost use Rattle.std.specs.Prelude.{◌≡◌, map, length, IfSome, IfNone};
 ghost use Rattle.triangulation.specs.Clippings.{IsEarAfter, SeesNoEar, FindsEar, FindsNoEar, ClipsEars};
+ghost use Rattle.triangulation.specs.CornerIndexes.{IsIndexOf};
 
 use crate::corner_index::{CornerIndex, holds_corner};
 use crate::errors::TriangulationError;
@@ -27,6 +28,8 @@ fn ear_after<P: PtrKey, A: ChainArenaTrait<P, Point> + Drop>(
     corners: &[Point],
     before: P,
 ) -> Option<Ear<P>>
+    requires { IsIndexOf (A.entry ring.now) (map P.key index.now.pointers.items) corners.now
+        index.now.blocks.items index.now.groups.items }
     ensures before { IfSome result (λ ear. ear.before ≡ before) }
     ensures ear { IfSome result (λ ear. IsEarAfter A.state A.interlinks ring.now (P.key before)
         (P.key ear.corner) (P.key ear.after) ear.triangle) }
@@ -58,6 +61,8 @@ fn find_ear<P: PtrKey, A: ChainArenaTrait<P, Point> + Drop>(
     start: P,
     left: usize,
 ) -> Option<Ear<P>>
+    requires { IsIndexOf (A.entry ring.now) (map P.key index.now.pointers.items) corners.now
+        index.now.blocks.items index.now.groups.items }
     ensures ear { IfSome result (λ ear. FindsEar A.state A.interlinks ring.now (P.key start)
         (P.key ear.before) (P.key ear.corner) (P.key ear.after) ear.triangle) }
     ensures none { IfNone result (FindsNoEar A.state A.interlinks ring.now (P.key start) left) }
@@ -84,6 +89,8 @@ pub fn clip_ears<P: PtrKey, A: ChainArenaTrait<P, Point> + Drop>(
     alloc: Global,
     start: P,
 ) -> Result<Vec<Triangle>, TriangulationError>
+    requires { IsIndexOf (A.entry ring.old) (map P.key index.now.pointers.items) corners.now
+        index.now.blocks.items index.now.groups.items }
     ensures { ClipsEars A.state A.interlinks ring.old (P.key start) (length corners.now) result }
 {
     let mut triangles = Vec::with_capacity(alloc, corners.len())?;

@@ -1,7 +1,8 @@
 //! Rings of corners, copied from lists and into them.
 
-ghost use Rattle.std.specs.Prelude.{◌≡◌, [], ◌∷◌, IfOk, IfErr};
+ghost use Rattle.std.specs.Prelude.{◌≡◌, [], ◌∷◌, map, IfOk, IfErr};
 ghost use Rattle.triangulation.specs.Clippings.{IsRingOf, ReadsOutline};
+ghost use Rattle.triangulation.specs.CornerIndexes.{AreListed};
 ghost use Rattle.triangulation.specs.declared.errors.TriangulationError.TheVariants as why;
 
 use crate::errors::TriangulationError;
@@ -12,16 +13,19 @@ use polygons::Polygons;
 use std::alloc::Global;
 
 // Inserts a ring of corners into an empty arena, and returns the pointer of the first one. The
-// pointers of all are appended to a list.
+// pointers of all are appended to an empty list.
 pub fn insert_ring<P: PtrKey, A: ChainArenaTrait<P, Point> + Drop>(
     ring: &mut Polygons<P, Point, A>,
     pointers: &mut Vec<P>,
     first: Point,
     others: &[Point],
 ) -> Result<P, TriangulationError>
-    requires { (A.view ring.old).entries ≡ [] }
+    requires ring { (A.view ring.old).entries ≡ [] }
+    requires pointers { pointers.old.items ≡ [] }
     ensures ring { IfOk result (λ start. IsRingOf A.state A.interlinks ring.new (P.key start)
         (first ∷ others.now)) }
+    ensures listed { IfOk result (λ start. AreListed (A.entry ring.new)
+        (map P.key pointers.new.items) (first ∷ others.now)) }
     ensures err { IfErr result (λ e. e ≡ why.AllocError) }
 {
     let start = match ring.start(first) {

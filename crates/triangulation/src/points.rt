@@ -67,7 +67,7 @@ pub fn is_left_or_on(p: Point, q: Point, r: Point) -> bool
 
 /// Returns whether a point is in a triangle or on its sides, and is none of its corners.
 pub fn is_in_triangle(p: Point, t: Triangle) -> bool
-    ensures { IsTrue result → IsInTriangle t p }
+    ensures { IsTrue result ↔ IsInTriangle t p }
 {
     if p == t.a || p == t.b || p == t.c {
         return false;

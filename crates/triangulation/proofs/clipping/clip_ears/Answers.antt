@@ -8,12 +8,14 @@ use Rattle.triangulation.specs.declared.points.Triangle.{Triangle}
 use Rattle.triangulation.specs.Triangulations.{IsClipping}
 use Rattle.triangulation.specs.Clippings.{points, IsRemaining}
 use Rattle.triangulation.proofs.ClippingLemmas.{clipping_starts, clipping_ends}
-use Rattle.triangulation.proofs.RingClippingLemmas.{remaining_shrinks}
+use Rattle.triangulation.proofs.RingClippingLemmas.{remaining_shrinks, entries_kept}
+use Rattle.triangulation.proofs.CornerIndexLemmas.{index_kept}
 use Rattle.triangulation.proofs.clipping.clip_ears.Goals as goal
 
 pub loop-left-init : goal.loop-left-init
 loop-left-init g c = record {
   remaining = λ items from whole. record { remaining = items; ring = from; whole = whole; clipping = subst (λ (ts : List Triangle). IsClipping (points items) ts (points items)) (sym c.in_ok-triangles.ensures.items) (clipping_starts (points items)) };
+  index = c.requires;
   enough = λ enough. enough;
 }
 
@@ -28,6 +30,10 @@ loop-left-preserved g c = record {
       let found = c.in-Some.ensures.ear before.remaining before.ring (omega (arith, before.whole.number, c.loop-left-test.true)) in
       subst (λ (ts : List Triangle). IsRemaining state links c.remove.new.self items ts (key ear.after) (c.loop-left.left - 1)) (sym c.in_ok-push.ensures.items)
       (remaining_shrinks state links (kind_by g.P.PtrKey g.P.Inx.InxKey g.P.Gen.GenKey) c.loop-left.ring c.remove.new.self ear.corner c.remove.result items c.loop-left.triangles.items (key c.loop-left.start) (key ear.before) (key ear.after) c.loop-left.left ear.triangle before found c.remove.ensures));
+  index = (
+      let entry = g.A.ArenaTrait.entry in
+      let kept = entries_kept g.A.ArenaTrait.state g.A.ChainArenaTrait.interlinks (kind_by g.P.PtrKey g.P.Inx.InxKey g.P.Gen.GenKey) c.loop-left.ring c.remove.new.self c.in-Some.ear.corner c.remove.result c.remove.ensures in
+      index_kept (entry c.loop-left.ring) (entry c.remove.new.self) _ _ _ _ kept c.loop-left.invariant.index);
   enough = λ enough. omega (arith, c.loop-left-test.true);
 }
 

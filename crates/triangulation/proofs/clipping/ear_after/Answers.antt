@@ -11,7 +11,7 @@ use Rattle.triangulation.specs.Triangulations.{triangle_area, IsInTriangle}
 use Rattle.triangulation.specs.Clippings.{points, IsRingFrom, SeesNoEar}
 use Rattle.triangulation.proofs.CornerLemmas.{value_got, ring_turned, next_is_second}
 use Rattle.triangulation.proofs.EarSearchLemmas.{three_first, reach_starts, reach_next, next_there, valid_there, if_none, begins_long, the_triangle, triangle_same}
-use Rattle.triangulation.proofs.WholeRingLemmas.{all_in_ring, others_have}
+use Rattle.triangulation.proofs.WholeRingLemmas.{all_in_ring, others_have, stored_point}
 use Rattle.triangulation.proofs.clipping.ear_after.Goals.{else-is_left-via-then-is_left+else-not-holds_corner, else-is_left-via-else-is_left}
 use Rattle.triangulation.proofs.clipping.ear_after.Goals as goal
 
@@ -32,7 +32,12 @@ returns-then-not-holds_corner-clause-ear g c = λ a m b rest from.
       value_got entry (key c.args.before) a c.get.result c.in_ok-a.field-0 c.get.ensures.value c.in_ok-a.was at_a stored.0,
       value_got entry (key c.in_ok-corner.corner) m c.get-2.result c.in_ok-b.field-0 c.get-2.ensures.value c.in_ok-b.was at_m stored.1.0,
       value_got entry (key c.in_ok-after.after) b c.get-3.result c.in_ok-c.field-0 c.get-3.ensures.value c.in_ok-c.was at_b stored.1.1.0,
-      c.is_left.ensures.0 c.if-is_left.true,
+      record {
+        positive = c.is_left.ensures.0 c.if-is_left.true;
+        empty = λ p has inside.
+            let at = stored_point entry rest p stored.1.1.1 has in
+            c.holds_corner.ensures.none c.if-not-holds_corner.true (record { at = at.0; point = p; stored = at.1; inside = inside });
+      },
     )
 
 pub returns-in_err-corner-clause-none : goal.returns-in_err-corner-clause-none
@@ -56,6 +61,18 @@ returns-in_err-after-clause-none g c =
     let long = begins_long items ear in
     let one = reach_next state links arena start items from start 0 (reach_starts state links arena start items from) key c.args.before refl c.next.result c.next.ensures c.in_ok-corner.corner c.in_ok-corner.was (omega (arith, long)) in
     next_there state links arena start items from (key c.in_ok-corner.corner) (0 + 1) one key c.in_ok-corner.corner refl c.next-2.result c.next-2.ensures c.in_err-after.was)
+
+pub returns-in_err-a-clause-none : goal.returns-in_err-a-clause-none
+returns-in_err-a-clause-none g c =
+    let state = g.A.ArenaTrait.state in
+    let links = g.A.ChainArenaTrait.interlinks in
+    let arena = c.args.ring.now in
+    let start = g.P.PtrKey.key c.args.before in
+    if_none (SeesNoEar state links arena start) c.from_residual-in_err-a.result (λ items from number ear.
+    let some = c.get.ensures.some.1 (valid_there state links arena start items from start 0 (reach_starts state links arena start items from)) in
+    let none = ap is_some c.in_err-a.was in
+    let both = sym some ∙ none in
+    absurd (cc))
 
 pub returns-in_err-c-clause-none : goal.returns-in_err-c-clause-none
 returns-in_err-c-clause-none g c =
@@ -92,7 +109,7 @@ returns-else-is_left-clause-none g c = λ items from number ear.
     (value_got entry (key c.in_ok-after.after) b c.get-3.result c.in_ok-c.field-0 c.get-3.ensures.value c.in_ok-c.was at_b ring.are_stored.1.1.0) in
     elim c.else-is_left.branch [
       | else-is_left-via-then-is_left+else-not-holds_corner w ↦
-          let held = w.holds_corner.ensures w.if-not-holds_corner.false in
+          let held = w.holds_corner.ensures.some w.if-not-holds_corner.false in
           let inside = subst (λ (t : Triangle). IsInTriangle t held.point) same held.inside in
           is.empty held.point (others_have (the_triangle a.1 m.1 b.1) (points rest) held.point (all_in_ring state links arena (a ∷ m ∷ b ∷ rest) ring holds.1 held.at held.point held.stored) inside) inside
       | else-is_left-via-else-is_left w ↦

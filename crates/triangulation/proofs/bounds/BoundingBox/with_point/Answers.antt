@@ -1,0 +1,20 @@
+-- Each side is beyond the point, and beyond the side before.
+use Rattle.std.proofs.Common.{arith}
+use Rattle.std.proofs.lemmas.Int.{ints}
+use Rattle.triangulation.proofs.bounds.BoundingBox.with_point.Goals as goal
+
+pub returns-clause-point : goal.returns-clause-point
+returns-clause-point c = record {
+  left = let bound = c.min.ensures.other_bound in omega (arith, ints, bound);
+  right = let bound = c.max.ensures.other_bound in omega (arith, ints, bound);
+  bottom = let bound = c.min-2.ensures.other_bound in omega (arith, ints, bound);
+  top = let bound = c.max-2.ensures.other_bound in omega (arith, ints, bound);
+}
+
+pub returns-clause-rest : goal.returns-clause-rest
+returns-clause-rest c = λ p inside. record {
+  left = let bound = c.min.ensures.self_bound in let is = inside.left in omega (arith, ints, bound, is);
+  right = let bound = c.max.ensures.self_bound in let is = inside.right in omega (arith, ints, bound, is);
+  bottom = let bound = c.min-2.ensures.self_bound in let is = inside.bottom in omega (arith, ints, bound, is);
+  top = let bound = c.max-2.ensures.self_bound in let is = inside.top in omega (arith, ints, bound, is);
+}
