@@ -164,7 +164,8 @@ fn is_there_within<P: PtrKey, A: ChainArenaTrait<P, Point> + Drop>(
 ) -> bool
     requires { (p : Point) → IsInTriangle triangle p → IsInBox around.now p }
     ensures some { IsTrue result → HoldsCorner A.state A.interlinks ring.now triangle }
-    ensures none { IsFalse result → A.entry ring.now (P.key corner).0 ≡ Some ((P.key corner).1, point)
+    ensures none { IsFalse result
+        → A.entry ring.now (P.key corner).0 ≡ Some ((P.key corner).1, point)
         → IsInTriangle triangle point → ⊥ }
 {
     around.has(point) && is_in_triangle(point, triangle) && is_there(ring, corner, triangle)

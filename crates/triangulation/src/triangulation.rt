@@ -19,7 +19,7 @@ use std::alloc::Global;
 ///
 /// The corners must turn counterclockwise. Each is a corner of some triangle, also if it is on the
 /// line through its neighbors. So `n` corners have `n - 2` triangles, whose areas add up to that of
-/// the polygon.
+/// the polygon. When a triangle is clipped, no remaining corner is in it.
 ///
 /// # Errors
 ///
