@@ -2,8 +2,8 @@
 
 use arena_ptr::{PtrKey, ToolPtr};
 use chain_arena::ChainArena;
-use polygons::Polygons;
 use chain_traits::ChainArenaTrait;
+use polygons::Polygons;
 use std::alloc::Global;
 use std::process::Abort;
 use triangulation::{
