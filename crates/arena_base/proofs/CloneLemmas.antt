@@ -1,12 +1,14 @@
 -- Copies whose values equal those of the source.
-use Rattle.std.proofs.Common.{◌≡◌, ◌↔◌, ℕ, ◌<◌, ◌≤◌, List, [], ◌∷◌, ◌++◌, length, map, Option, Some, Result, Err, IsOk, ◌⊎◌, inl, inr, arith, refl, ap, sym, ◌∙◌}
+use Rattle.std.proofs.Common.{◌≡◌, ◌↔◌, ℕ, ◌<◌, ◌≤◌, List, [], ◌∷◌, ◌++◌, length, map, Option, option_map, Some, Result, Err, IsOk, ◌⊎◌, inl, inr, arith, refl, ap, sym, ◌∙◌, subst}
 use Rattle.std.specs.Prelude.{is_ok}
 use Rattle.std.proofs.lemmas.Bool.{false≢true}
 use Rattle.std.specs.List.{FoldsTo}
+use Rattle.arena_core.specs.SlotStack.{IsBeyond}
 use Rattle.arena_core.specs.declared.errors.ReallocationError.{ReallocationError}
-use Rattle.arena_traits.specs.Arena.{Arena}
-use Rattle.arena_traits.specs.CallOutcomes.{IsCopied}
-use Rattle.arena_traits.specs.Entries.{Slots, entries_from, entries, view_of, IsNew}
+use Rattle.arena_core.specs.declared.errors.ReallocationError.TheVariants as refused
+use Rattle.arena_traits.specs.Arena.{Arena, HasCapacityFor, IsCapacityFor, new_arena}
+use Rattle.arena_traits.specs.CallOutcomes.{IsCopied, RefusesCopy}
+use Rattle.arena_traits.specs.Entries.{Slots, entries_from, entries, view_of}
 use Rattle.arena_base.specs.Copies.{Copied, Makes, CopiesBy, HasRefusable, HasSlotsOf, with_slots_of}
 use Rattle.arena_base.proofs.SlotCopyLemmas.{copy_viewed}
 
@@ -19,13 +21,17 @@ module _ {F P T Gen : Type 0} (is_clone : T → T → Type 0) (equal : (x y : T)
   made_equal [] f last folds = refl
   made_equal (c ∷ made) f last folds = λ i. (key c.pointer, equal c.value c.returned folds.1 i) ∷ made_equal made folds.0 last folds.2 i
 
-  pub clone_viewed : (f last : F) (first : Gen) (source old new : Arena Gen T) → IsNew first (view_of old) → HasSlotsOf source old new → CopiesBy Clones key f (entries source) (entries new) last → IsCopied (view_of source) (view_of new)
-  clone_viewed f last first source old new begins has made =
+  pub clone_viewed : (greatest : ℕ) (maximum : Option ℕ) (f last : F) (first : Gen) (source old new : Arena Gen T) → old ≡ new_arena first maximum → HasCapacityFor greatest (length source.slots) new
+      → HasSlotsOf source old new → CopiesBy Clones key f (entries source) (entries new) last → IsCopied greatest maximum (view_of source) (view_of new)
+  clone_viewed greatest maximum f last first source old new begins fits has made =
       let copy = copy_viewed Clones key f last source old new has made in
+      let most : new.maximum ≡ maximum = copy.maximum ∙ ap (λ (a : Arena Gen T). a.maximum) begins in
       record {
         entries = sym made.after ∙ (made_equal made.made f last made.in_turn ∙ made.before);
         counter = copy.counter;
-        slots = copy.slots ∙ ap (λ (s : Slots). Some (with_slots_of source s)) begins.slots;
+        slots = copy.slots ∙ ap (λ (a : Arena Gen T). option_map (with_slots_of source) (view_of a).slots) begins;
+        maximum = most;
+        capacity = subst (λ m. IsCapacityFor greatest m (length source.slots) new.capacity) most fits.0;
       }
 
 -- Without slots no copy is refused.
@@ -41,3 +47,9 @@ refused_with_slots may_refuse key [] capacity r e is within = absurd (by (within
     by (inl ok) = false≢true (sym (ap is_ok is) ∙ ok)
     by (inr refused) = none_among refused.before refused.after (key refused.pointer, refused.value) refused.stored
 refused_with_slots may_refuse key (s ∷ slots) capacity r e is within = omega arith
+
+-- A copy over new slots is refused as the copy to a new arena is.
+pub refuses_copy : (maximum : Option ℕ) (n : ℕ) (r : Result (Unit {0}) ReallocationError) (why : ReallocationError) → r ≡ Err why → 0 < n
+    → (r ≡ Err refused.BeyondMaxCapacity) ↔ IsBeyond maximum n → RefusesCopy maximum n why
+refuses_copy maximum n r refused.BeyondMaxCapacity is some known = known.0 is
+refuses_copy maximum n r refused.AllocError is some known = (some, λ over. let h = sym is ∙ known.1 over in absurd (cc))

@@ -141,6 +141,13 @@ impl<P: PtrKey, T: Clone> ValueMap<P, T, T> for ValueClones {
 
 impl<P: PtrKey, T: Clone, S: SlotStack<Item = ArenaSlot<P, T>>> CloneArenaTrait<P, T>
     for Arena<P, T, S> {
+    ghost use Rattle.arena_traits.specs.Arena.{ReachesCapacity, new_arena};
+
+    ghost initial_maximum = { S.initial_maximum };
+
+    ghost clones = { λ a b. ReachesCapacity S.may_reach P.Inx.greatest (length a.slots)
+        (new_arena P.Gen.first S.initial_maximum) b };
+
     fn try_clone(&self, alloc: Global) -> Result<Self, ReallocationError> {
         let mut copy: Arena<P, T, S> = Arena::new(alloc);
         let (done, _) = copy.clone_from_by(self, ValueClones);

@@ -3,12 +3,13 @@ use Rattle.std.specs.Prelude.{◌≡◌, ℕ, ◌+◌, ◌<◌, ◌≤◌, Bool,
 use Rattle.std.specs.Option.{option_map}
 use Rattle.arena_core.specs.Invalidation.{invalidation_option}
 use Rattle.arena_core.specs.PointerKinds.{PointerKind}
-use Rattle.arena_core.specs.SlotStack.{IsWithinMaximum}
+use Rattle.arena_core.specs.SlotStack.{IsWithinMaximum, IsBeyond}
 use Rattle.arena_core.specs.declared.errors.ReallocationError.{ReallocationError}
+use Rattle.arena_core.specs.declared.errors.ReallocationError.TheVariants as refused
 use Rattle.arena_core.specs.declared.invalidation.InvalidationOption.{InvalidationOption}
 use Rattle.arena_core.specs.declared.invalidation.InvalidationResult.{InvalidationResult}
 use Rattle.arena_core.specs.declared.invalidation.InvalidationResult.TheVariants.{Success, GenerationOverflow, InvalidPtr}
-use Rattle.arena_traits.specs.Arena.{IsValid, IsInserted, overflows_after_clear}
+use Rattle.arena_traits.specs.Arena.{IsValid, IsInserted, IsCapacityFor, overflows_after_clear}
 use Rattle.arena_traits.specs.Entries.{ArenaView, ArenaState, count, HasFreeCapacity, IsNew, next_slot, with_next_filled, with_totals_zero, view_with_value, view_after_removal, view_after_invalidation, view_after_clear}
 use Rattle.arena_traits.specs.Growth.{IsFull, IsGrowthResult, RefusesOneMore, GrowsForOneMore}
 use Rattle.arena_traits.specs.Compressions.{IsCompressed, overflows_after_compression}
@@ -102,14 +103,22 @@ module _ {A Gen T : Type 0} {view : A → ArenaView Gen T} {entry : A → ℕ �
     overflow : IfSome (view old).counter (λ g. result ≡ invalidation_option (overflows_after_compression pointers.wraps reset (count (view old)) g) tt);
   }
 
--- A copy of an arena: the same entries, counter and freed list. Its totals begin at 0, and it has
--- its own capacity and maximum.
-pub record IsCopied {Gen T : Type 0} (old copy : ArenaView Gen T) : Type 0 where
+-- A copy of an arena over new slots of the initial maximum: the same entries, counter and freed
+-- list, and capacity for the slots. Its totals begin at 0.
+pub record IsCopied {Gen T : Type 0} (greatest : ℕ) (initial : Option ℕ) (old copy : ArenaView Gen T) : Type 0 where
   pub entries : copy.entries ≡ old.entries
   pub counter : copy.counter ≡ old.counter
   pub slots : copy.slots ≡ option_map with_totals_zero old.slots
+  pub maximum : copy.maximum ≡ initial
+  pub capacity : IfSome old.slots (λ slots. IsCapacityFor greatest initial slots.count copy.capacity)
 
--- `try_clone`: a copy is made, or memory for slots or values was refused.
-abbrev pub MakesCopy : {A Gen T E : Type 0} → (A → ArenaView Gen T) → A → Result A E → Type 0
-MakesCopy view old (Ok copy) = IsCopied (view old) (view copy)
-MakesCopy view old (Err why) = IfSome (view old).slots (λ slots. 0 < slots.count)
+-- Why a copy of n slots over new slots of this maximum is refused: n exceeds it; or an allocation
+-- fails, for the slots or in the clone of a value.
+abbrev pub RefusesCopy : Option ℕ → ℕ → ReallocationError → Type 0
+RefusesCopy maximum n refused.BeyondMaxCapacity = IsBeyond maximum n
+RefusesCopy maximum n refused.AllocError = (0 < n) × (IsBeyond maximum n → ⊥)
+
+-- `try_clone`: a copy is made, or refused.
+abbrev pub MakesCopy : {A Gen T : Type 0} → (A → ArenaView Gen T) → ℕ → Option ℕ → A → Result A ReallocationError → Type 0
+MakesCopy view greatest maximum old (Ok copy) = IsCopied greatest maximum (view old) (view copy)
+MakesCopy view greatest maximum old (Err why) = IfSome (view old).slots (λ slots. RefusesCopy maximum slots.count why)

@@ -348,15 +348,25 @@ pub trait PlainArenaTrait<P: PtrKey, T: Drop>: ArenaTrait<P, T> {
 ///
 /// Not in `triple_arena`, where `Clone` is implemented, which cannot report that memory was refused.
 pub trait CloneArenaTrait<P: PtrKey, T: Clone>: PlainArenaTrait<P, T> {
+    // The maximum of new slots.
+    ghost initial_maximum: { Option ℕ };
+
+    // An arena's own guarantee for a copy, the second arena, of the first.
+    ghost clones: { Self → Self → Type 0 } = { λ _ _. ⊤ };
+
     /// Returns a copy over new slots, with clones of the values, which have to equal them.
     ///
     /// All pointers are valid in the copy, too. A maximum is not copied.
     ///
     /// # Errors
     ///
+    /// In the order in which they are tested:
+    ///
     /// - `BeyondMaxCapacity`: there are more slots than the maximum of new slots.
-    /// - `AllocError`: an allocation failed, for the slots or in the clone of a value.
+    /// - `AllocError`: an allocation failed, for the slots or in the clone of a value. Without
+    ///   slots none can.
     fn try_clone(&self, alloc: Global) -> Result<Self, ReallocationError>
         requires clones_equal { (x y : T) → T.is_clone x y → y ≡ x }
-        ensures { MakesCopy Self.view self.now result };
+        ensures outcome { MakesCopy Self.view P.Inx.greatest initial_maximum self.now result }
+        ensures implementation { IfOk result (clones self.now) };
 }

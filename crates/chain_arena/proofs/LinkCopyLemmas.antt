@@ -1,5 +1,5 @@
 -- Copies of an arena of links: their interlinks, values and views.
-use Rattle.std.proofs.Common.{◌≡◌, ◌↔◌, ℕ, zero, suc, ◌≤◌, List, [], ◌∷◌, ◌++◌, length, map, Option, None, Some, Result, Ok, Err, OnOk, OnErr, IsOk, ◌⊎◌, inl, inr, arith, refl, ap, sym, ◌∙◌, subst}
+use Rattle.std.proofs.Common.{◌≡◌, ◌↔◌, ℕ, zero, suc, ◌≤◌, List, [], ◌∷◌, ◌++◌, length, map, Option, None, Some, Result, Ok, Err, OnOk, OnErr, IsOk, IfOk, ◌⊎◌, inl, inr, arith, refl, ap, sym, ◌∙◌, subst, subst₂}
 use Rattle.std.specs.Prelude.{is_ok}
 use Rattle.std.specs.Option.{option_map, option_and_then}
 use Rattle.std.proofs.lemmas.Bool.{false≢true}
@@ -11,7 +11,7 @@ use Rattle.arena_core.specs.SlotStack.{IsBeyond}
 use Rattle.arena_core.specs.declared.errors.ReallocationError.{ReallocationError}
 use Rattle.arena_core.specs.declared.errors.ReallocationError.TheVariants as refused
 use Rattle.chain_laws.specs.Chains.{Interlinks, IsWellLinked}
-use Rattle.arena_traits.specs.Arena.{Arena, slot_at, new_arena}
+use Rattle.arena_traits.specs.Arena.{Arena, IsCapacityFor, ReachesCapacity, slot_at, new_arena}
 use Rattle.arena_traits.specs.Entries.{ArenaView, Slots, entries_from, entries}
 use Rattle.arena_base.specs.Copies.{Copied, Makes, CopiesBy, IsCopyBy, IsCopyCall, HasRefusable, HasSlotsOf, IsAbandonedCopy, generations}
 use Rattle.chain_links.specs.declared.links.RawLink.{RawLink}
@@ -270,20 +270,32 @@ refuses_clone may_reach greatest first maximum source r refused.AllocError is kn
 
 -- A clone, as generic code sees it.
 pub copies_links : {Gen T : Type 0} (may_reach : ℕ → Option ℕ → ℕ → ℕ → Type 0) (greatest : ℕ) (first : Gen) (maximum : Option ℕ) (source : Arena Gen (LinkView T)) (r : Result (Arena Gen (LinkView T)) ReallocationError)
-    → ClonesOrRefuses may_reach greatest first maximum source r → (source.slots ≡ [] → IsOk r) → CopiesLinks value_view link_map source r
-copies_links {Gen} {T} may_reach greatest first maximum source (Ok copy) cloned none = (
-  record {
-    entries = ap (λ (a : Arena Gen (LinkView T)). (value_view a).entries) cloned.0;
-    counter = ap (λ (a : Arena Gen (LinkView T)). (value_view a).counter) cloned.0;
-    slots = ap (λ (a : Arena Gen (LinkView T)). (value_view a).slots) cloned.0;
-  },
-  ap (λ (a : Arena Gen (LinkView T)). link_map a) cloned.0,
-)
-copies_links {Gen} {T} may_reach greatest first maximum source (Err why) cloned none = omega (arith, some source.slots (λ is. false≢true (none is)), length-with_each {X = LinkView T} (λ l. l.value) source)
+    → ClonesOrRefuses may_reach greatest first maximum source r → (source.slots ≡ [] → IsOk r) → CopiesLinks value_view link_map greatest maximum source r
+copies_links {Gen} {T} may_reach greatest first maximum source (Ok copy) cloned none =
+    let most : copy.maximum ≡ maximum = ap (λ (a : Arena Gen (LinkView T)). a.maximum) cloned.0 in (
+      record {
+        entries = ap (λ (a : Arena Gen (LinkView T)). (value_view a).entries) cloned.0;
+        counter = ap (λ (a : Arena Gen (LinkView T)). (value_view a).counter) cloned.0;
+        slots = ap (λ (a : Arena Gen (LinkView T)). (value_view a).slots) cloned.0;
+        maximum = most;
+        capacity = subst₂ (λ m n. IsCapacityFor greatest m n copy.capacity) most (sym (length-with_each {X = LinkView T} (λ l. l.value) source)) cloned.1.capacity.0;
+      },
+      ap (λ (a : Arena Gen (LinkView T)). link_map a) cloned.0,
+    )
+copies_links {Gen} {T} may_reach greatest first maximum source (Err refused.BeyondMaxCapacity) cloned none = subst (IsBeyond maximum) (sym (length-with_each {X = LinkView T} (λ l. l.value) source)) cloned
+copies_links {Gen} {T} may_reach greatest first maximum source (Err refused.AllocError) cloned none =
+    let same = length-with_each {X = LinkView T} (λ l. l.value) source in
+    (omega (arith, some source.slots (λ is. false≢true (none is)), same), λ over. cloned (subst (IsBeyond maximum) same over))
   where
     some : {X : Type 0} (xs : List X) → (xs ≡ [] → ⊥) → 1 ≤ length xs
     some [] filled = absurd (filled refl)
     some (x ∷ xs) filled = omega arith
+
+-- A clone's capacity, if a clone was made.
+pub clone_reaches : {Gen T : Type 0} (may_reach : ℕ → Option ℕ → ℕ → ℕ → Type 0) (greatest : ℕ) (first : Gen) (maximum : Option ℕ) (source : Arena Gen (LinkView T)) (r : Result (Arena Gen (LinkView T)) ReallocationError)
+    → ClonesOrRefuses may_reach greatest first maximum source r → IfOk r (λ copy. IsClone first maximum source copy × ReachesCapacity may_reach greatest (length source.slots) (new_arena first maximum) copy)
+clone_reaches may_reach greatest first maximum source (Ok copy) cloned = (cloned.0, cloned.1)
+clone_reaches may_reach greatest first maximum source (Err why) cloned = tt
 
 -- What follows from a success and from either sort of refusal.
 pub either_way : {X E A B C D N : Type 0} (r : Result X E) → (A → B → C) → (D → C) → (N → C) → OnOk r A → OnOk r B → OnErr r (D ⊎ N) → C

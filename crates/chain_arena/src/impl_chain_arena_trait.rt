@@ -286,6 +286,15 @@ impl<P: PtrKey, T: Clone, S: SlotStack<Item = ArenaSlot<P, LinkNoGen<P, T>>>> Cl
     P,
     T,
 > for ChainArena<P, T, S> {
+    ghost use Rattle.std.specs.Prelude.{length};
+    ghost use Rattle.arena_traits.specs.Arena.{ReachesCapacity, new_arena};
+    ghost use Rattle.chain_arena.specs.LinkCopies.{IsClone};
+
+    ghost initial_maximum = { S.initial_maximum };
+
+    ghost clones = { λ a b. IsClone P.Gen.first S.initial_maximum a b × ReachesCapacity
+        S.may_reach P.Inx.greatest (length a.slots) (new_arena P.Gen.first S.initial_maximum) b };
+
     fn try_clone(&self, alloc: Global) -> Result<Self, ReallocationError> {
         ChainArena::clone(self, alloc)
     }

@@ -10,7 +10,7 @@ use Rattle.arena_core.specs.declared.invalidation.InvalidationResult.{Invalidati
 use Rattle.arena_core.specs.Invalidation.{invalidation_option}
 use Rattle.arena_core.specs.declared.invalidation.InvalidationOption.{InvalidationOption}
 use Rattle.arena_traits.specs.Arena.{IsInserted, overflows_after_clear}
-use Rattle.arena_traits.specs.CallOutcomes.{ReportsOverflow, IsCopied}
+use Rattle.arena_traits.specs.CallOutcomes.{ReportsOverflow, IsCopied, RefusesCopy}
 use Rattle.arena_traits.specs.Entries.{ArenaView, IsNew, index_of, count, with_capacity, next_slot, with_next_filled, view_with_value, view_after_removal, view_after_clear}
 use Rattle.arena_traits.specs.Growth.{IsGrowthResult, RefusesOneMore, GrowsForOneMore}
 use Rattle.chain_links.specs.Insertions.{IsInsertionResult}
@@ -221,10 +221,12 @@ module _ {Gen K V : Type 0} where
     overflow : IfSome old.keys.counter (λ g. result ≡ invalidation_option (overflows_after_clear pointers.wraps (count old.keys) g) tt);
   }
 
-  -- `clone`: a copy of both arenas is made, or memory for slots, keys or values was refused.
-  abbrev pub CopiesSets : {E : Type 0} → Surjection Gen K V → Result (Surjection Gen K V) E → Type 0
-  CopiesSets old (Ok copy) = IsCopied old.keys copy.keys × IsCopied old.values copy.values × (copy.redirected ≡ old.redirected)
-  CopiesSets old (Err why) = IfSome old.keys.slots (λ slots. 0 < slots.count) ⊎ IfSome old.values.slots (λ slots. 0 < slots.count)
+  -- `clone`: a copy of both arenas is made, of the keys first, or one of them is refused.
+  abbrev pub CopiesSets : ℕ → Option ℕ → Option ℕ → Surjection Gen K V → Result (Surjection Gen K V) ReallocationError → Type 0
+  CopiesSets greatest most_keys most_values old (Ok copy) = IsCopied greatest most_keys old.keys copy.keys × IsCopied greatest most_values old.values copy.values × (copy.redirected ≡ old.redirected)
+  CopiesSets greatest most_keys most_values old (Err why) =
+      IfSome old.keys.slots (λ slots. RefusesCopy most_keys slots.count why)
+      ⊎ (IfSome old.keys.slots (λ slots. IsWithinMaximum most_keys slots.count) × IfSome old.values.slots (λ slots. RefusesCopy most_values slots.count why))
 
   -- `get_key`, `get_val`, `len_key_set`: the key of p, the value of its set, and how many keys have
   -- it, if p is valid.

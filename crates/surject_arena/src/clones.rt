@@ -53,12 +53,15 @@ impl<
     ///
     /// # Errors
     ///
+    /// In the order in which they are tested, for the keys and then for the values:
+    ///
     /// - `BeyondMaxCapacity`: there are more slots than the maximum of new slots.
     /// - `AllocError`: an allocation failed, for the slots or in the clone of a key or value.
+    ///   Without slots none can.
     pub fn clone(&self, alloc: Global) -> Result<Self, ReallocationError>
         requires keys_equal { (x y : K) → K.is_clone x y → y ≡ x }
         requires values_equal { (x y : V) → V.is_clone x y → y ≡ x }
-        ensures { CopiesSets self.now result }
+        ensures { CopiesSets P.Inx.greatest A.initial_maximum B.initial_maximum self.now result }
     {
         let keys = self.keys.try_clone(alloc)?;
         let values = self.values.try_clone(alloc)?;

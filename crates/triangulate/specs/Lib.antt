@@ -1,1 +1,2 @@
+pub mod LinePolygons
 pub mod RingTexts

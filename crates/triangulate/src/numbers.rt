@@ -1,7 +1,7 @@
 //! Numbers in lines of text.
 
-ghost use Rattle.std.specs.Prelude.{◌≡◌, ◌≤◌, ◌<◌, ◌^◌, ℕ, length, slice_index, IfOk, IsTrue, IsFalse};
-ghost use Rattle.triangulate.specs.RingTexts.{is_space, IsDecimal, IsNumeral, IsNumberAt, AreSpaces, AreNoSpaces};
+ghost use Rattle.std.specs.Prelude.{◌≡◌, ◌≤◌, ◌<◌, length, slice_index, IsTrue, IsFalse};
+ghost use Rattle.triangulate.specs.RingTexts.{is_space, IsDecimal, IsNumeral, ParsesWord, ParsesNumber, AreSpaces, AreNoSpaces};
 
 /// The reason why a line is not a ring.
 #[derive(Clone, Copy, Debug, PartialEq, Eq)]
@@ -29,6 +29,7 @@ pub fn end_of_spaces(line: &[u8], from: usize) -> usize
     ensures order { from ≤ result }
     ensures end { result ≤ length line.now }
     ensures spaces { AreSpaces line.now from result }
+    ensures after { result < length line.now → IsFalse (is_space (slice_index line.now result)) }
 {
     let mut at = from;
     while at < line.len() && is_space(line[at]) {
@@ -62,7 +63,7 @@ fn end_of_word(line: &[u8], from: usize) -> usize
 /// - `TooLarge`: the number is beyond 2 ^ 30.
 pub fn number_at(line: &[u8], from: usize) -> Result<(i32, usize), LineError>
     requires { from ≤ length line.now }
-    ensures { IfOk result (λ found. IsNumberAt line.now from found.1 found.0) }
+    ensures { ParsesNumber line.now from result }
 {
     let start = end_of_spaces(line, from);
     let end = end_of_word(line, start);
@@ -77,7 +78,7 @@ pub fn number_at(line: &[u8], from: usize) -> Result<(i32, usize), LineError>
 
 /// Parses a number, with or without a minus sign.
 fn coordinate(word: &[u8]) -> Result<i32, LineError>
-    ensures { IfOk result (λ value. IsNumeral word.now value) }
+    ensures { ParsesWord IsNumeral word.now result }
 {
     if word.is_empty() || word[0] != b'-' {
         return magnitude(word);
@@ -90,7 +91,7 @@ fn coordinate(word: &[u8]) -> Result<i32, LineError>
 
 /// Parses a number of digits, up to 2 ^ 30.
 fn magnitude(digits: &[u8]) -> Result<i32, LineError>
-    ensures { IfOk result (λ value. IsDecimal digits.now value) }
+    ensures { ParsesWord IsDecimal digits.now result }
 {
     if digits.is_empty() || digits.len() > 10 {
         return Err(LineError::NotANumber);

@@ -1,8 +1,8 @@
 //! Rings in lines of text.
 
-ghost use Rattle.std.specs.Prelude.{◌<◌, length, IfOk};
-ghost use Rattle.triangulate.specs.RingTexts.{texts_of, IsRingText, AreRingTexts, IsTriangulated};
-ghost use Rattle.triangulation.specs.Polygons.{rings_of};
+ghost use Rattle.std.specs.Prelude.{◌<◌, length};
+ghost use Rattle.triangulate.specs.LinePolygons.{ParsesRings, TriangulatesLines};
+ghost use Rattle.triangulate.specs.RingTexts.{texts_of, ParsesRing};
 
 use crate::numbers::{LineError, end_of_spaces, number_at};
 use arena_ptr::PtrKey;
@@ -11,6 +11,11 @@ use std::alloc::{AllocFailed, Global};
 use triangulation::{Point, PolygonError, Triangle, triangulate_polygon};
 
 impl<T: Drop> From<AllocFailed<T>> for LineError {
+    ghost use Rattle.std.specs.Prelude.{◌≡◌};
+    ghost use Rattle.triangulate.specs.declared.numbers.LineError.TheVariants as why;
+
+    ghost from_gives = { λ _ e. e ≡ why.Memory };
+
     fn from(_refused: AllocFailed<T>) -> LineError {
         LineError::Memory
     }
@@ -33,7 +38,7 @@ pub enum Refusal {
 /// - `OddNumber`: the last point has one number.
 /// - `Memory`: an allocation failed.
 fn ring(alloc: Global, line: &[u8]) -> Result<Vec<Point>, LineError>
-    ensures { IfOk result (λ ring. IsRingText line.now 0 ring.items) }
+    ensures { ParsesRing line.now result }
 {
     let mut points = Vec::new(alloc);
     let mut at = 0;
@@ -48,7 +53,7 @@ fn ring(alloc: Global, line: &[u8]) -> Result<Vec<Point>, LineError>
 
 /// Parses the rings of a polygon, one in each line.
 fn rings(alloc: Global, lines: &[Vec<u8>]) -> Result<Vec<Vec<Point>>, Refusal>
-    ensures { IfOk result (λ rings. AreRingTexts (texts_of lines.now) (rings_of rings.items)) }
+    ensures { ParsesRings (texts_of lines.now) result }
 {
     let mut rings = Vec::new(alloc);
     for i in 0..lines.len() {
@@ -75,7 +80,7 @@ pub fn triangulate_lines<P: PtrKey, A: ChainArenaTrait<P, Point> + Drop>(
     lines: Vec<Vec<u8>>,
 ) -> Result<Vec<Triangle>, Refusal>
     requires { 0 < length lines.items }
-    ensures { IfOk result (λ triangles. IsTriangulated (texts_of lines.items) triangles.items) }
+    ensures { TriangulatesLines (texts_of lines.items) result }
 {
     let rings = match rings(alloc, &lines) {
         Ok(rings) => rings,
@@ -87,6 +92,6 @@ pub fn triangulate_lines<P: PtrKey, A: ChainArenaTrait<P, Point> + Drop>(
             Ok(triangles) => Ok(triangles),
             Err(error) => Err(Refusal::Polygon(error)),
         },
-        None => Err(Refusal::Polygon(PolygonError::AllocError)),
+        None => unreachable!(),
     }
 }

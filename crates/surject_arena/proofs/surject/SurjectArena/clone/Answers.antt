@@ -7,8 +7,8 @@ use Rattle.surject_arena.proofs.surject.SurjectArena.clone.Goals as goal
 pub invariant_of-result : goal.invariant_of-result
 invariant_of-result g c =
     let key = g.P.PtrKey.key in
-    let keys = c.in_ok-keys.ensures in
-    let values = c.in_ok-values.ensures in
+    let keys = c.in_ok-keys.ensures.outcome in
+    let values = c.in_ok-values.ensures.outcome in
     same_partition _ _ _ _ _ _ c.self.invariant
     (λ i. ap (option_map (λ e. key e.1.set)) (same_entries g.A.ArenaTrait.state c.self.inside.keys c.in_ok-keys.keys keys.0.entries i))
     keys.1

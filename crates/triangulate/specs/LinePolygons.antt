@@ -1,0 +1,50 @@
+-- Polygons in lines of text, one ring in each line.
+use Rattle.std.specs.Prelude.{◌≡◌, ℕ, ◌<◌, ◌⊎◌, List, [], ◌∷◌, length, take, Result, Ok, Err}
+use Rattle.std.specs.List.{HoldsAt}
+use Rattle.std.specs.declared.vec.Vec.{Vec}
+use Rattle.std.specs.declared.alloc.Global.{Global}
+use Rattle.triangulation.specs.declared.points.Point.{Point}
+use Rattle.triangulation.specs.declared.points.Triangle.{Triangle}
+use Rattle.triangulation.specs.declared.errors.PolygonError.{PolygonError}
+use Rattle.triangulation.specs.declared.errors.PolygonError.TheVariants as polygon
+use Rattle.triangulation.specs.Polygons.{rings_of, IsPolygonTriangulation, IsReason}
+use Rattle.triangulate.specs.declared.numbers.LineError.{LineError}
+use Rattle.triangulate.specs.declared.rings.Refusal.{Refusal}
+use Rattle.triangulate.specs.declared.rings.Refusal.TheVariants as refusal
+use Rattle.triangulate.specs.RingTexts.{AreRingTexts, ParsesRing}
+
+-- The line at an index is the first one that is not parsed, for this error.
+pub record IsFirstUnparsed (lines : List (List ℕ)) (i : ℕ) (error : LineError) : Type 0 where
+  pub within : i < length lines
+  pub rings : List (List Point)
+  pub before : AreRingTexts (take i lines) rings
+  pub line : HoldsAt (λ line. ParsesRing line (Err error)) lines i
+
+-- The lines have the rings of a polygon that is refused, for this error.
+pub record IsPolygonRefused (lines : List (List ℕ)) (error : PolygonError) : Type 0 where
+  pub outline : List Point
+  pub holes : List (List Point)
+  pub rings : AreRingTexts lines (outline ∷ holes)
+  pub reason : IsReason outline holes error
+
+-- Why lines are refused: one has no ring; or memory was refused; or their polygon is refused.
+abbrev pub AreRefused : List (List ℕ) → Refusal → Type 0
+AreRefused lines (refusal.Line i error) = IsFirstUnparsed lines i error
+AreRefused lines (refusal.Polygon error) = (error ≡ polygon.AllocError) ⊎ IsPolygonRefused lines error
+
+-- `rings`: the rings of the lines, or why there are none.
+abbrev pub ParsesRings : List (List ℕ) → Result (Vec (Vec Point Global) Global) Refusal → Type 0
+ParsesRings lines (Ok rings) = AreRingTexts lines (rings_of rings.items)
+ParsesRings lines (Err why) = AreRefused lines why
+
+-- Triangles of the polygon in these lines, of which the first is its outline.
+pub record IsTriangulated (lines : List (List ℕ)) (triangles : List Triangle) : Type 0 where
+  pub outline : List Point
+  pub holes : List (List Point)
+  pub rings : AreRingTexts lines (outline ∷ holes)
+  pub triangulation : IsPolygonTriangulation outline holes triangles
+
+-- `triangulate_lines`: the polygon in these lines is triangulated, or why not.
+abbrev pub TriangulatesLines : List (List ℕ) → Result (Vec Triangle Global) Refusal → Type 0
+TriangulatesLines lines (Ok triangles) = IsTriangulated lines triangles.items
+TriangulatesLines lines (Err why) = AreRefused lines why
