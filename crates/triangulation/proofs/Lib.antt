@@ -10,3 +10,4 @@ pub mod RingCheckLemmas
 pub mod WholeRingLemmas
 pub mod TriangleLemmas
 pub mod CornerIndexLemmas
+pub mod MeetingLemmas

@@ -139,9 +139,13 @@ AreAround a b = ((pos 0 <ℤ a) × (pos 0 <ℤ b) → ⊥) × ((a <ℤ pos 0) ×
 abbrev pub IsAcross : Point → Point → Point → Point → Type 0
 IsAcross a b c d = AreAround (area.orientation (coordinates a) (coordinates b) (coordinates c)) (area.orientation (coordinates a) (coordinates b) (coordinates d))
 
+-- The range from a to b is below that from c to d.
+abbrev pub IsRangeBelow : ℤ → ℤ → ℤ → ℤ → Type 0
+IsRangeBelow a b c d = (a <ℤ c) × (a <ℤ d) × (b <ℤ c) × (b <ℤ d)
+
 -- The ranges from a to b and from c to d have a common number.
 abbrev pub RangesMeet : ℤ → ℤ → ℤ → ℤ → Type 0
-RangesMeet a b c d = ((a <ℤ c) × (a <ℤ d) × (b <ℤ c) × (b <ℤ d) → ⊥) × ((c <ℤ a) × (c <ℤ b) × (d <ℤ a) × (d <ℤ b) → ⊥)
+RangesMeet a b c d = (IsRangeBelow a b c d → ⊥) × (IsRangeBelow c d a b → ⊥)
 
 -- The segments from a to b and from c to d have a common point: neither is on one side of the other,
 -- and their bounding boxes meet.

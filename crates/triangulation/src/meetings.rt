@@ -1,14 +1,18 @@
 //! Whether rings have common points, and whether points are inside them.
 
-ghost use Rattle.std.specs.Prelude.{◌<◌, ◌≤◌, length, IsTrue, IsFalse};
-ghost use Rattle.triangulation.specs.Polygons.{AreAround, IsAcross, RangesMeet, SegmentsMeet, CrossesRay, IsCrossing, IsOutside, IsInside, IsEdgeOf, MeetsEdge, RingsMeet};
+ghost use Rattle.std.specs.Prelude.{◌<◌, ◌≤◌, ◌↔◌, length, All, IsTrue, IsFalse};
+ghost use Rattle.triangulation.specs.CornerIndexes.{IsInBox};
+ghost use Rattle.triangulation.specs.Polygons.{AreAround, IsAcross, IsRangeBelow, RangesMeet, SegmentsMeet, CrossesRay, IsCrossing, IsOutside, IsInside, IsEdgeOf, MeetsEdge, RingsMeet};
 
 use crate::bounds::BoundingBox;
 use crate::points::{Point, is_left, orientation};
 
 // Returns whether an edge of the first ring and an edge of the second one have a common point.
+//
+// `around` is the bounding box of the second ring.
 pub fn rings_meet(one: &[Point], other: &[Point], around: &BoundingBox) -> bool
-    ensures { IsTrue result → RingsMeet one.now other.now }
+    ensures meet { IsTrue result → RingsMeet one.now other.now }
+    ensures found { All (IsInBox around.now) other.now → RingsMeet one.now other.now → IsTrue result }
 {
     if one.is_empty() {
         return false;
@@ -27,7 +31,7 @@ pub fn rings_meet(one: &[Point], other: &[Point], around: &BoundingBox) -> bool
 
 // Returns whether the edge from `a` to `b` and an edge of the ring have a common point.
 fn edge_meets(a: Point, b: Point, ring: &[Point]) -> bool
-    ensures { IsTrue result → MeetsEdge a b ring.now }
+    ensures { IsTrue result ↔ MeetsEdge a b ring.now }
 {
     if ring.is_empty() {
         return false;
@@ -44,7 +48,7 @@ fn edge_meets(a: Point, b: Point, ring: &[Point]) -> bool
 
 // Returns whether two segments have a common point.
 fn segments_meet(a: Point, b: Point, c: Point, d: Point) -> bool
-    ensures { IsTrue result → SegmentsMeet a b c d }
+    ensures { IsTrue result ↔ SegmentsMeet a b c d }
 {
     if !ranges_meet(a.x, b.x, c.x, d.x) {
         return false;
@@ -60,24 +64,28 @@ fn segments_meet(a: Point, b: Point, c: Point, d: Point) -> bool
 
 // Returns whether the ranges from `a` to `b` and from `c` to `d` have a common number.
 fn ranges_meet(a: i32, b: i32, c: i32, d: i32) -> bool
-    ensures { IsTrue result → RangesMeet a b c d }
+    ensures { IsTrue result ↔ RangesMeet a b c d }
 {
-    if a < c && a < d && b < c && b < d {
-        return false;
-    }
-    !(c < a && c < b && d < a && d < b)
+    !is_range_below(a, b, c, d) && !is_range_below(c, d, a, b)
+}
+
+// Returns whether the range from `a` to `b` is below that from `c` to `d`.
+fn is_range_below(a: i32, b: i32, c: i32, d: i32) -> bool
+    ensures { IsTrue result ↔ IsRangeBelow a b c d }
+{
+    a < c && a < d && b < c && b < d
 }
 
 // Returns whether `c` and `d` are not both on one side of the line through `a` and `b`.
 fn is_across(a: Point, b: Point, c: Point, d: Point) -> bool
-    ensures { IsTrue result → IsAcross a b c d }
+    ensures { IsTrue result ↔ IsAcross a b c d }
 {
     are_around(orientation(a, b, c), orientation(a, b, d))
 }
 
 // Returns whether two numbers are not both positive and not both negative.
 fn are_around(a: i128, b: i128) -> bool
-    ensures { IsTrue result → AreAround a b }
+    ensures { IsTrue result ↔ AreAround a b }
 {
     if a > 0 {
         b <= 0

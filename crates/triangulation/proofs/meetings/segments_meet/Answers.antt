@@ -1,17 +1,35 @@
--- Each test gives one part.
-use Rattle.std.proofs.Common.{◌≡◌, ℤ, subst, rules, w32}
-use Rattle.std.proofs.lemmas.Int.{to_z-of_z}
+-- Each test decides one part.
+use Rattle.std.proofs.Common.{ℤ, IsTrue, rules}
+use Rattle.std.specs.Prelude.{◌↔◌}
+use Rattle.std.proofs.lemmas.Bool.{both_ways, false≢true}
 use Rattle.triangulation.specs.Polygons.{RangesMeet}
+use Rattle.triangulation.proofs.MeetingLemmas.{of_passed}
 use Rattle.triangulation.proofs.meetings.segments_meet.Goals as goal
 
-ranges_same : (a b c d e f g h : ℤ) → a ≡ e → b ≡ f → c ≡ g → d ≡ h → RangesMeet a b c d → RangesMeet e f g h
-ranges_same a b c d e f g h one two three four meet =
-    subst (λ (z : ℤ). RangesMeet z f g h) one (subst (λ (z : ℤ). RangesMeet a z g h) two (subst (λ (z : ℤ). RangesMeet a b z h) three (subst (λ (z : ℤ). RangesMeet a b c z) four meet)))
+pub returns-then-not-ranges_meet : goal.returns-then-not-ranges_meet
+returns-then-not-ranges_meet c =
+    let result = c.ranges_meet.result in
+    let test = of_passed (λ (k l m n : ℤ). IsTrue result ↔ RangesMeet k l m n) c.args.a.x c.args.b.x c.args.c.x c.args.d.x (search rules) (search rules) (search rules) (search rules) c.ranges_meet.ensures in
+    (λ false. absurd (false≢true false), λ meet. absurd (both_ways result c.if-not-ranges_meet.true (test.1 meet.horizontal)))
+
+pub returns-then-not-ranges_meet-2 : goal.returns-then-not-ranges_meet-2
+returns-then-not-ranges_meet-2 c =
+    let result = c.ranges_meet-2.result in
+    let test = of_passed (λ (k l m n : ℤ). IsTrue result ↔ RangesMeet k l m n) c.args.a.y c.args.b.y c.args.c.y c.args.d.y (search rules) (search rules) (search rules) (search rules) c.ranges_meet-2.ensures in
+    (λ false. absurd (false≢true false), λ meet. absurd (both_ways result c.if-not-ranges_meet-2.true (test.1 meet.vertical)))
 
 pub returns : goal.returns
-returns c = λ true. record {
-  first = c.is_across.ensures c.if-not-is_across.false;
-  second = c.is_across-2.ensures true;
-  horizontal = ranges_same _ _ _ _ c.args.a.x c.args.b.x c.args.c.x c.args.d.x (to_z-of_z w32 c.args.a.x (search rules)) (to_z-of_z w32 c.args.b.x (search rules)) (to_z-of_z w32 c.args.c.x (search rules)) (to_z-of_z w32 c.args.d.x (search rules)) (c.ranges_meet.ensures c.if-not-ranges_meet.false);
-  vertical = ranges_same _ _ _ _ c.args.a.y c.args.b.y c.args.c.y c.args.d.y (to_z-of_z w32 c.args.a.y (search rules)) (to_z-of_z w32 c.args.b.y (search rules)) (to_z-of_z w32 c.args.c.y (search rules)) (to_z-of_z w32 c.args.d.y (search rules)) (c.ranges_meet-2.ensures c.if-not-ranges_meet-2.false);
-}
+returns c =
+    let first = c.ranges_meet.result in
+    let second = c.ranges_meet-2.result in
+    let across = of_passed (λ (k l m n : ℤ). IsTrue first ↔ RangesMeet k l m n) c.args.a.x c.args.b.x c.args.c.x c.args.d.x (search rules) (search rules) (search rules) (search rules) c.ranges_meet.ensures in
+    let up = of_passed (λ (k l m n : ℤ). IsTrue second ↔ RangesMeet k l m n) c.args.a.y c.args.b.y c.args.c.y c.args.d.y (search rules) (search rules) (search rules) (search rules) c.ranges_meet-2.ensures in
+    (
+      λ true. record {
+        first = c.is_across.ensures.0 c.if-not-is_across.false;
+        second = c.is_across-2.ensures.0 true;
+        horizontal = across.0 c.if-not-ranges_meet.false;
+        vertical = up.0 c.if-not-ranges_meet-2.false;
+      },
+      λ meet. c.is_across-2.ensures.1 meet.second,
+    )
