@@ -1,5 +1,5 @@
 -- Polygons with holes, and their triangulations.
-use Rattle.std.specs.Prelude.{◌≡◌, ℕ, ℤ, pos, neg_ℤ, ◌+ℤ◌, ◌-ℤ◌, ◌+◌, ◌*◌, ◌<◌, ◌≤ℤ◌, ◌<ℤ◌, ◌⊎◌, List, [], ◌∷◌, ◌++◌, map, length, All, Contains, HoldsAt, unsigned_abs, Result, Ok, Err}
+use Rattle.std.specs.Prelude.{◌≡◌, ◌≢◌, ℕ, ℤ, pos, neg_ℤ, ◌+ℤ◌, ◌-ℤ◌, ◌+◌, ◌*◌, ◌<◌, ◌≤◌, ◌≤ℤ◌, ◌<ℤ◌, ◌⊎◌, List, [], ◌∷◌, ◌++◌, map, length, slice_index_or, All, AllPairs, Contains, HoldsAt, unsigned_abs, Result, Ok, Err}
 use Rattle.std.specs.declared.vec.Vec.{Vec}
 use Rattle.std.specs.declared.alloc.Global.{Global}
 use Rattle.polygon_laws.specs.Areas as area
@@ -181,6 +181,32 @@ pub record RingsMeet (one other : List Point) : Type 0 where
 abbrev pub HasCornerThat : (Point → Type 0) → List Point → Type 0
 HasCornerThat P ring = (p : Point) × Contains ring p × P p
 
+-- A ring has three corners or more, and an area.
+pub record HasArea (corners : List Point) : Type 0 where
+  pub three : 3 ≤ length corners
+  pub area : polygon_area corners ≢ pos 0
+
+-- A hole is inside an outline: they have no common point, and a corner of the hole is inside.
+pub record IsHoleIn (outline hole : List Point) : Type 0 where
+  pub apart : ¬ RingsMeet outline hole
+  pub inside : HasCornerThat (λ p. IsInside p outline) hole
+
+-- Two holes have no common point, and a corner of each is outside the other.
+pub record AreDisjoint (one other : List Point) : Type 0 where
+  pub apart : ¬ RingsMeet one other
+  pub first : HasCornerThat (λ p. IsOutside p other) one
+  pub second : HasCornerThat (λ p. IsOutside p one) other
+
+-- Rings that have areas. Each hole is inside the outline and outside the other holes.
+pub record IsPolygonWithHoles (outline : List Point) (holes : List (List Point)) : Type 0 where
+  pub rings : All HasArea (outline ∷ holes)
+  pub inside : All (IsHoleIn outline) holes
+  pub apart : AllPairs AreDisjoint holes
+
+-- The hole at an index and each one before it are disjoint.
+abbrev pub IsDisjointFromEarlier : List (List Point) → ℕ → Type 0
+IsDisjointFromEarlier holes i = (j : ℕ) → j < i → (d : List Point) → AreDisjoint (slice_index_or holes j d) (slice_index_or holes i d)
+
 -- A ring has fewer than three corners or no area.
 abbrev pub IsRingFault : List Point → Ring → PolygonError → Type 0
 IsRingFault corners ring error = ((error ≡ why.TooFewCorners ring) × (length corners < 3)) ⊎ ((error ≡ why.NoArea ring) × (polygon_area corners ≡ pos 0))
@@ -195,7 +221,7 @@ IsReason outline holes (why.InHole i j) = HoldsAt (λ ring. HoldsAt (HasCornerTh
 IsReason outline holes why.NoEar = (joined : List Point) × IsJoinedRing outline holes joined × IsStuck joined
 IsReason outline holes why.AllocError = Unit {0}
 
--- `triangulate_polygon`: the polygon is triangulated, or why not.
+-- `triangulate_polygon`: the rings are a polygon and it is triangulated, or why not.
 abbrev pub TriangulatesPolygon : List Point → List (List Point) → Result (Vec Triangle Global) PolygonError → Type 0
-TriangulatesPolygon outline holes (Ok triangles) = IsPolygonTriangulation outline holes triangles.items
+TriangulatesPolygon outline holes (Ok triangles) = IsPolygonWithHoles outline holes × IsPolygonTriangulation outline holes triangles.items
 TriangulatesPolygon outline holes (Err error) = IsReason outline holes error

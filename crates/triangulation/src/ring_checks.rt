@@ -1,7 +1,7 @@
 //! The checks of a polygon before it is triangulated.
 
-ghost use Rattle.std.specs.Prelude.{◌<◌, ◌≤◌, length, All, List, OnOk, IfErr};
-ghost use Rattle.triangulation.specs.Polygons.{rings_of, HasCorner, IsReason, IsRingFault};
+ghost use Rattle.std.specs.Prelude.{◌<◌, length, All, AllPairs, List, OnOk, IfErr};
+ghost use Rattle.triangulation.specs.Polygons.{rings_of, HasCorner, HasArea, IsHoleIn, AreDisjoint, IsDisjointFromEarlier, IsReason, IsRingFault};
 ghost use Rattle.triangulation.specs.declared.points.Point.{Point};
 
 use crate::areas::double_area;
@@ -12,7 +12,7 @@ use crate::points::Point;
 
 // Checks that the outline is a ring with an area.
 pub fn check_outline(outline: &[Point]) -> Result<(), PolygonError>
-    ensures corners { OnOk result (3 ≤ length outline.now) }
+    ensures area { OnOk result (HasArea outline.now) }
     ensures reason { (holes : List (List Point)) → IfErr result (IsReason outline.now holes) }
 {
     check_ring(outline, Ring::Outline)
@@ -21,6 +21,7 @@ pub fn check_outline(outline: &[Point]) -> Result<(), PolygonError>
 // Checks that each hole is a ring with an area.
 pub fn check_holes(outline: &[Point], holes: &[Vec<Point>]) -> Result<(), PolygonError>
     ensures corners { OnOk result (All HasCorner holes.now) }
+    ensures areas { OnOk result (All HasArea (rings_of holes.now)) }
     ensures reason { IfErr result (IsReason outline.now (rings_of holes.now)) }
 {
     for i in 0..holes.len() {
@@ -36,7 +37,9 @@ pub fn check_holes(outline: &[Point], holes: &[Vec<Point>]) -> Result<(), Polygo
 pub fn check_places(outline: &[Point], holes: &[Vec<Point>]) -> Result<(), PolygonError>
     requires outline { 0 < length outline.now }
     requires holes { All HasCorner holes.now }
-    ensures { IfErr result (IsReason outline.now (rings_of holes.now)) }
+    ensures inside { OnOk result (All (IsHoleIn outline.now) (rings_of holes.now)) }
+    ensures apart { OnOk result (AllPairs AreDisjoint (rings_of holes.now)) }
+    ensures reason { IfErr result (IsReason outline.now (rings_of holes.now)) }
 {
     for i in 0..holes.len() {
         let hole: &[Point] = &holes[i];
@@ -54,11 +57,12 @@ pub fn check_places(outline: &[Point], holes: &[Vec<Point>]) -> Result<(), Polyg
     Ok(())
 }
 
-// Checks that the hole at `i` and the holes before it are apart.
+// Checks that the hole at `i` and each hole before it are disjoint.
 fn check_pairs(holes: &[Vec<Point>], i: usize) -> Result<(), PolygonError>
     requires index { i < length holes.now }
     requires corners { All HasCorner holes.now }
-    ensures { (outline : List Point) → IfErr result (IsReason outline (rings_of holes.now)) }
+    ensures apart { OnOk result (IsDisjointFromEarlier (rings_of holes.now) i) }
+    ensures reason { (outline : List Point) → IfErr result (IsReason outline (rings_of holes.now)) }
 {
     let hole: &[Point] = &holes[i];
     let around = BoundingBox::of_ring(hole);
@@ -79,7 +83,7 @@ fn check_pairs(holes: &[Vec<Point>], i: usize) -> Result<(), PolygonError>
 
 // Checks that a ring has three corners or more, and an area.
 fn check_ring(corners: &[Point], ring: Ring) -> Result<(), PolygonError>
-    ensures corners { OnOk result (3 ≤ length corners.now) }
+    ensures area { OnOk result (HasArea corners.now) }
     ensures reason { IfErr result (IsRingFault corners.now ring) }
 {
     if corners.len() < 3 {
