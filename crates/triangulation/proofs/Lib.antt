@@ -11,3 +11,4 @@ pub mod WholeRingLemmas
 pub mod TriangleLemmas
 pub mod CornerIndexLemmas
 pub mod MeetingLemmas
+pub mod CrossingLemmas

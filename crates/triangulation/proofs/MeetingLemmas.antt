@@ -24,7 +24,7 @@ end_of [] = origin
 end_of (a ∷ []) = a
 end_of (a ∷ b ∷ path) = end_of (b ∷ path)
 
-end_of-push : (path : List Point) (a : Point) → end_of (path ++ a ∷ []) ≡ a
+pub end_of-push : (path : List Point) (a : Point) → end_of (path ++ a ∷ []) ≡ a
 end_of-push [] a = refl
 end_of-push (x ∷ []) a = refl
 end_of-push (x ∷ y ∷ path) a = end_of-push (y ∷ path) a

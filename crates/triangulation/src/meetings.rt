@@ -99,8 +99,8 @@ fn are_around(a: i128, b: i128) -> bool
 // Returns whether a point is inside a ring, by the number of edges to its right.
 pub fn is_inside(p: Point, ring: &[Point]) -> bool
     requires { 0 < length ring.now }
-    ensures outside { IsFalse result → IsOutside p ring.now }
-    ensures inside { IsTrue result → IsInside p ring.now }
+    ensures outside { IsFalse result ↔ IsOutside p ring.now }
+    ensures inside { IsTrue result ↔ IsInside p ring.now }
 {
     let mut crossings: usize = 0;
     let mut a = ring[ring.len() - 1];

@@ -18,7 +18,7 @@ returns-then-not-is_inside-clause-reason c =
     let holes = c.args.holes.now in
     let hole = c.index-holes-i.result in
     let some : HasCorner hole = subst HasCorner (sym c.index-holes-i.is) (All-get_or HasCorner holes c.loop-i.i hole c.loop-i-test.true c.requires.holes) in
-    let outside : IsOutside (get_or hole.items 0 origin) outline = subst (λ (l : List Point). IsOutside (get_or l 0 origin) outline) c.deref-hole.ensures.value (c.is_inside.ensures.outside c.if-not-is_inside.true) in
+    let outside : IsOutside (get_or hole.items 0 origin) outline = subst (λ (l : List Point). IsOutside (get_or l 0 origin) outline) c.deref-hole.ensures.value (c.is_inside.ensures.outside.0 c.if-not-is_inside.true) in
     holds_at (HasCornerThat (λ p. IsOutside p outline)) holes c.loop-i.i hole c.loop-i-test.true c.index-holes-i.is (first_that (λ p. IsOutside p outline) hole.items some outside)
 
 pub returns-in-Err-clause-reason : goal.returns-in-Err-clause-reason
@@ -33,7 +33,7 @@ loop-i-preserved c =
     let some : HasCorner hole = subst HasCorner (sym c.index-holes-i.is) (All-get_or HasCorner holes c.loop-i.i hole c.loop-i-test.true c.requires.holes) in
     let is : IsHoleIn outline ring = record {
       apart = λ meet. both_ways c.rings_meet.result c.if-rings_meet.false (c.rings_meet.ensures.found c.of_ring.ensures meet);
-      inside = first_that (λ p. IsInside p outline) ring (omega (arith, some, c.deref-hole.ensures.len)) (c.is_inside.ensures.inside c.if-not-is_inside.false);
+      inside = first_that (λ p. IsInside p outline) ring (omega (arith, some, c.deref-hole.ensures.len)) (c.is_inside.ensures.inside.0 c.if-not-is_inside.false);
     } in
     let items : IsHoleIn outline hole.items = subst (IsHoleIn outline) c.deref-hole.ensures.value is in
     record {
