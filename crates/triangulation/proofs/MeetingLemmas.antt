@@ -1,5 +1,5 @@
 -- Segments and rings that meet.
-use Rattle.std.proofs.Common.{◌≡◌, ℕ, ◌+◌, ◌<◌, ◌≤◌, zero, suc, ℤ, ◌≤ℤ◌, ◌<ℤ◌, IsTrue, to_z, of_z, List, [], ◌∷◌, ◌++◌, length, take, get_or, refl, sym, ap, ◌∙◌, subst, arith, w32, below_more, length-append}
+use Rattle.std.proofs.Common.{◌≡◌, ℕ, ◌+◌, ◌<◌, ◌≤◌, ℤ, ◌≤ℤ◌, to_z, of_z, List, [], ◌∷◌, ◌++◌, length, take, get_or, refl, sym, ap, ◌∙◌, subst, arith, w32, below_more, length-append}
 use Rattle.std.specs.Prelude.{FitsSigned, All, Contains}
 use Rattle.std.proofs.lemmas.Int.{ints, to_z-of_z, by_lt_z}
 use Rattle.std.proofs.lemmas.List.Elements.{All-cons, All-contains, Contains-push, Contains-append_right}

@@ -197,7 +197,8 @@ pub record AreDisjoint (one other : List Point) : Type 0 where
   pub first : HasCornerThat (λ p. IsOutside p other) one
   pub second : HasCornerThat (λ p. IsOutside p one) other
 
--- Rings that have areas. Each hole is inside the outline and outside the other holes.
+-- Rings that have areas. Each hole is inside the outline and outside the other holes. Sides of one
+-- ring may cross.
 pub record IsPolygonWithHoles (outline : List Point) (holes : List (List Point)) : Type 0 where
   pub rings : All HasArea (outline ∷ holes)
   pub inside : All (IsHoleIn outline) holes

@@ -1,8 +1,6 @@
 -- The edges of the ring are tested one by one. Boxes that do not meet exclude a common point.
-use Rattle.std.proofs.Common.{◌≡◌, ◌+◌, ◌<◌, false, get_or}
-use Rattle.std.specs.Prelude.{All}
+use Rattle.std.proofs.Common.{get_or}
 use Rattle.std.proofs.lemmas.Bool.{both_ways}
-use Rattle.triangulation.specs.CornerIndexes.{IsInBox}
 use Rattle.triangulation.specs.Polygons.{MeetsEdge}
 use Rattle.triangulation.proofs.RingPathLemmas.{origin, path_more, path_edge}
 use Rattle.triangulation.proofs.MeetingLemmas.{no_edge_more, no_edge_end, box_of_meeting}
@@ -23,8 +21,8 @@ loop-b-preserved c =
           (λ meets. elim c.else-meets.branch [
             | else-meets-via-then-meets+else-edge_meets w ↦ both_ways w.edge_meets.result w.if-edge_meets.false (w.edge_meets.ensures.1 meets)
             | else-meets-via-else-meets w ↦
-            let common = box_of_meeting box.result around a b other (box.ensures.rest a c.with_point.ensures.point) box.ensures.point all meets in
-            both_ways c.meets.result w.if-meets.false (c.meets.ensures common.0 common.2 common.1)
+                let common = box_of_meeting box.result around a b other (box.ensures.rest a c.with_point.ensures.point) box.ensures.point all meets in
+                both_ways c.meets.result w.if-meets.false (c.meets.ensures common.0 common.2 common.1)
           ]);
     }
 

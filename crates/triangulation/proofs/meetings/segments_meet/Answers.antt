@@ -23,8 +23,7 @@ returns c =
     let first = c.ranges_meet.result in
     let second = c.ranges_meet-2.result in
     let across = of_passed (λ (k l m n : ℤ). IsTrue first ↔ RangesMeet k l m n) c.args.a.x c.args.b.x c.args.c.x c.args.d.x (search rules) (search rules) (search rules) (search rules) c.ranges_meet.ensures in
-    let up = of_passed (λ (k l m n : ℤ). IsTrue second ↔ RangesMeet k l m n) c.args.a.y c.args.b.y c.args.c.y c.args.d.y (search rules) (search rules) (search rules) (search rules) c.ranges_meet-2.ensures in
-    (
+    let up = of_passed (λ (k l m n : ℤ). IsTrue second ↔ RangesMeet k l m n) c.args.a.y c.args.b.y c.args.c.y c.args.d.y (search rules) (search rules) (search rules) (search rules) c.ranges_meet-2.ensures in (
       λ true. record {
         first = c.is_across.ensures.0 c.if-not-is_across.false;
         second = c.is_across-2.ensures.0 true;

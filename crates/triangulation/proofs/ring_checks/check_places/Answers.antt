@@ -1,5 +1,5 @@
 -- The first corner of a hole is outside the outline, or one hole more is in place.
-use Rattle.std.proofs.Common.{◌≡◌, ◌<◌, ◌≤◌, ℕ, List, length, get_or, sym, ap, ◌∙◌, subst, arith, below_more}
+use Rattle.std.proofs.Common.{List, get_or, sym, subst, arith, below_more}
 use Rattle.std.specs.Prelude.{All}
 use Rattle.std.specs.declared.vec.Vec.{Vec}
 use Rattle.std.specs.declared.alloc.Global.{Global}
@@ -7,7 +7,7 @@ use Rattle.std.proofs.lemmas.Bool.{both_ways}
 use Rattle.std.proofs.lemmas.List.{take_all, length-map}
 use Rattle.std.proofs.lemmas.List.Elements.{All-get_or, All-more, All-map}
 use Rattle.triangulation.specs.declared.points.Point.{Point}
-use Rattle.triangulation.specs.Polygons.{rings_of, HasCorner, HasCornerThat, IsInside, IsOutside, RingsMeet, IsHoleIn, IsDisjointFromEarlier}
+use Rattle.triangulation.specs.Polygons.{rings_of, HasCorner, HasCornerThat, IsInside, IsOutside, IsHoleIn, IsDisjointFromEarlier}
 use Rattle.triangulation.proofs.RingPathLemmas.{origin}
 use Rattle.triangulation.proofs.RingCheckLemmas.{holds_at, first_that}
 use Rattle.triangulation.proofs.ring_checks.check_places.Goals as goal

@@ -19,8 +19,7 @@ returns-in-Ok-triangulate_points g c =
       rings = All-cons HasArea outline holes c.in_ok-check_outline.ensures.area c.in_ok-check_holes.ensures.areas;
       inside = c.in_ok-check_places.ensures.inside;
       apart = c.in_ok-check_places.ensures.apart;
-    } in
-    (
+    } in (
       polygon,
       polygon_triangulated outline holes c.in-Ok.ring.items triangles c.in-Ok.ensures
           (subst (λ (l : List Point). IsTriangulation l triangles) c.deref.ensures.value (c.in-Ok-triangulate_points.ensures.1)),
