@@ -7,7 +7,7 @@ use Rattle.triangulation.specs.declared.points.Point.{Point}
 use Rattle.triangulation.specs.declared.points.Triangle.{Triangle}
 use Rattle.triangulation.specs.declared.errors.PolygonError.{PolygonError}
 use Rattle.triangulation.specs.declared.errors.PolygonError.TheVariants as polygon
-use Rattle.triangulation.specs.Polygons.{rings_of, IsPolygonTriangulation, IsReason}
+use Rattle.triangulation.specs.Polygons.{rings_of, IsPolygonWithHoles, IsPolygonTriangulation, IsReason}
 use Rattle.triangulate.specs.declared.numbers.LineError.{LineError}
 use Rattle.triangulate.specs.declared.rings.Refusal.{Refusal}
 use Rattle.triangulate.specs.declared.rings.Refusal.TheVariants as refusal
@@ -42,6 +42,7 @@ pub record IsTriangulated (lines : List (List ℕ)) (triangles : List Triangle) 
   pub outline : List Point
   pub holes : List (List Point)
   pub rings : AreRingTexts lines (outline ∷ holes)
+  pub polygon : IsPolygonWithHoles outline holes
   pub triangulation : IsPolygonTriangulation outline holes triangles
 
 -- `triangulate_lines`: the polygon in these lines is triangulated, or why not.
