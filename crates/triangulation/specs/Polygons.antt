@@ -212,13 +212,18 @@ IsDisjointFromEarlier holes i = (j : ℕ) → j < i → (d : List Point) → Are
 abbrev pub IsRingFault : List Point → Ring → PolygonError → Type 0
 IsRingFault corners ring error = ((error ≡ why.TooFewCorners ring) × (length corners < 3)) ⊎ ((error ≡ why.NoArea ring) × (polygon_area corners ≡ pos 0))
 
+-- A ring is not the hole at this index.
+abbrev pub IsAnotherRing : ℕ → Ring → Type 0
+IsAnotherRing i which.Outline = Unit {0}
+IsAnotherRing i (which.Hole j) = i ≢ j
+
 -- A witness for each refusal.
 abbrev pub IsReason : List Point → List (List Point) → PolygonError → Type 0
 IsReason outline holes (why.TooFewCorners ring) = HoldsOf (λ corners. length corners < 3) outline holes ring
 IsReason outline holes (why.NoArea ring) = HoldsOf (λ corners. polygon_area corners ≡ pos 0) outline holes ring
-IsReason outline holes (why.Meets i ring) = HoldsOf (λ corners. HoldsAt (RingsMeet corners) holes i) outline holes ring
+IsReason outline holes (why.Meets i ring) = IsAnotherRing i ring × HoldsOf (λ corners. HoldsAt (RingsMeet corners) holes i) outline holes ring
 IsReason outline holes (why.Outside i) = HoldsAt (HasCornerThat (λ p. IsOutside p outline)) holes i
-IsReason outline holes (why.InHole i j) = HoldsAt (λ ring. HoldsAt (HasCornerThat (λ p. IsInside p ring)) holes i) holes j
+IsReason outline holes (why.InHole i j) = (i ≢ j) × HoldsAt (λ ring. HoldsAt (HasCornerThat (λ p. IsInside p ring)) holes i) holes j
 IsReason outline holes why.NoEar = (joined : List Point) × IsJoinedRing outline holes joined × IsStuck joined
 IsReason outline holes why.AllocError = Unit {0}
 
