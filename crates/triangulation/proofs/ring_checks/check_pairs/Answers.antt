@@ -18,9 +18,10 @@ returns-then-is_inside-clause-reason c =
     let some : HasCorner hole = subst HasCorner (sym c.index-holes-i.is) (All-get_or HasCorner holes c.args.i hole c.requires.index c.requires.corners) in
     let inside : IsInside (get_or hole.items 0 origin) other.items = subst (λ (l : List Point). IsInside (get_or hole.items 0 origin) l) c.deref-other.ensures.value (subst (λ (l : List Point). IsInside (get_or l 0 origin) c.deref-other.result.now) c.deref-hole.ensures.value (c.is_inside.ensures.inside.0 c.if-is_inside.true)) in
     λ outline. (
-        omega arith,
-        holds_at (λ ring. HoldsAt (HasCornerThat (λ p. IsInside p ring)) (rings_of holes) c.args.i) holes c.loop-j.j other less c.index-holes-j.is
-            (holds_at (HasCornerThat (λ p. IsInside p other.items)) holes c.args.i hole c.requires.index c.index-holes-i.is (first_that (λ p. IsInside p other.items) hole.items some inside)))
+      omega arith,
+      holds_at (λ ring. HoldsAt (HasCornerThat (λ p. IsInside p ring)) (rings_of holes) c.args.i) holes c.loop-j.j other less c.index-holes-j.is
+          (holds_at (HasCornerThat (λ p. IsInside p other.items)) holes c.args.i hole c.requires.index c.index-holes-i.is (first_that (λ p. IsInside p other.items) hole.items some inside)),
+    )
 
 pub returns-then-is_inside-2-clause-reason : goal.returns-then-is_inside-2-clause-reason
 returns-then-is_inside-2-clause-reason c =
@@ -31,9 +32,10 @@ returns-then-is_inside-2-clause-reason c =
     let some : HasCorner other = subst HasCorner (sym c.index-holes-j.is) (All-get_or HasCorner holes c.loop-j.j other less c.requires.corners) in
     let inside : IsInside (get_or other.items 0 origin) hole.items = subst (λ (l : List Point). IsInside (get_or other.items 0 origin) l) c.deref-hole.ensures.value (subst (λ (l : List Point). IsInside (get_or l 0 origin) c.deref-hole.result.now) c.deref-other.ensures.value (c.is_inside-in-loop-j.ensures.inside.0 c.if-is_inside-2.true)) in
     λ outline. (
-        omega arith,
-        holds_at (λ ring. HoldsAt (HasCornerThat (λ p. IsInside p ring)) (rings_of holes) c.loop-j.j) holes c.args.i hole c.requires.index c.index-holes-i.is
-            (holds_at (HasCornerThat (λ p. IsInside p hole.items)) holes c.loop-j.j other less c.index-holes-j.is (first_that (λ p. IsInside p hole.items) other.items some inside)))
+      omega arith,
+      holds_at (λ ring. HoldsAt (HasCornerThat (λ p. IsInside p ring)) (rings_of holes) c.loop-j.j) holes c.args.i hole c.requires.index c.index-holes-i.is
+          (holds_at (HasCornerThat (λ p. IsInside p hole.items)) holes c.loop-j.j other less c.index-holes-j.is (first_that (λ p. IsInside p hole.items) other.items some inside)),
+    )
 
 pub loop-j-preserved : goal.loop-j-preserved
 loop-j-preserved c =
