@@ -33,7 +33,8 @@ pub fn check_holes(outline: &[Point], holes: &[Vec<Point>]) -> Result<(), Polygo
     Ok(())
 }
 
-// Checks that each hole is inside the outline and that rings have no common points.
+// Checks that each hole is inside the outline, that none is in another one, and that rings have no
+// common points.
 pub fn check_places(outline: &[Point], holes: &[Vec<Point>]) -> Result<(), PolygonError>
     requires outline { 0 < length outline.now }
     requires holes { All HasCorner holes.now }
