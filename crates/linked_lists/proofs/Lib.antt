@@ -1,0 +1,5 @@
+mod RingLemmas
+mod ListLemmas
+mod InsertionLemmas
+mod ReadingLemmas
+mod ChangeLemmas

@@ -1,0 +1,89 @@
+-- Reads of lists by reads of their rings.
+use Rattle.std.proofs.Common.{◌≡◌, ◌≢◌, ℕ, inl, inr, ⊎_elim, List, [], ◌∷◌, ◌++◌, map, Option, None, Some, refl, sym, ap, ◌∙◌, subst, append_assoc}
+use Rattle.std.specs.Prelude.{◌⊎◌}
+use Rattle.std.specs.Option.{option_map}
+use Rattle.chain_laws.specs.Chains.{LinkMap}
+use Rattle.chain_laws.proofs.InterlinkLemmas.Inverses.{one_some}
+use Rattle.arena_traits.specs.Entries.{ArenaView, ArenaState, first_key, last_key}
+use Rattle.chain_lists.specs.Lists.{Item, AreEntries, IsRing}
+use Rattle.chain_lists.proofs.ItemListLemmas.{are_stored-left, are_stored-right, last_apart, last_is}
+use Rattle.linked_lists.specs.declared.entry.Entry.{Entry}
+use Rattle.linked_lists.specs.declared.entry.Entry.TheVariants as entries
+use Rattle.linked_lists.specs.LinkedLists.{as_item, ring_of, IsHandle, HasItem, IsItem, IsList, ReadsFirst, ReadsLast, ReadsNext, ReadsPrev}
+use Rattle.linked_lists.specs.RingCalls.{KeepsItemOnly, ReadsNextLink, ReadsPrevLink}
+use Rattle.linked_lists.proofs.RingLemmas.{ring_rotated}
+use Rattle.linked_lists.proofs.ListLemmas.{ring_parts, head_or_item, item_of}
+
+module _ {Gen T P : Type 0} (entry : ℕ → Option (Gen × Entry T)) (key : P → ℕ × Gen) where
+  -- The pointer of an item is returned, and a handle is not.
+  item_stays : (q r : Option P) → KeepsItemOnly entry key q r → (k : ℕ × Gen) → option_map key q ≡ Some k → IsItem entry k → option_map key r ≡ Some k
+  item_stays None r kept k is item = absurd (let none = is in cc)
+  item_stays (Some q) r kept k is item = ap (option_map key) (kept.item (subst (IsItem entry) (sym (one_some is)) item)) ∙ is
+
+  head_goes : (q r : Option P) → KeepsItemOnly entry key q r → (k : ℕ × Gen) → option_map key q ≡ Some k → IsHandle entry k → option_map key r ≡ None
+  head_goes None r kept k is head = absurd (let none = is in cc)
+  head_goes (Some q) r kept k is head = ap (option_map key) (kept.none (λ item. head_or_item entry k (key q) item.value head item.stored (sym (ap (λ (p : ℕ × Gen). p.0) (one_some is)))))
+
+  -- The first item before a head, or after one, is returned, if there is one.
+  first_item : (q r : Option P) → KeepsItemOnly entry key q r → (h : ℕ × Gen) (xs : List (Item Gen T)) (more : List (Item Gen (Entry T))) → IsHandle entry h → AreEntries entry (map as_item xs)
+      → option_map key q ≡ first_key (map as_item xs ++ (h, entries.Head) ∷ more) → option_map key r ≡ first_key xs
+  first_item q r kept h [] more head stored is = head_goes q r kept h is head
+  first_item q r kept h (x ∷ xs) more head stored is = item_stays q r kept x.0 is (record { value = x.1; stored = stored.0 })
+
+  last_item : (q r : Option P) → KeepsItemOnly entry key q r → (h : ℕ × Gen) (xs : List (Item Gen T)) (more : List (Item Gen (Entry T))) → IsHandle entry h → AreEntries entry (map as_item xs)
+      → option_map key q ≡ last_key (more ++ ring_of h xs) → option_map key r ≡ last_key xs
+  last_item q r kept h [] more head stored is = head_goes q r kept h (is ∙ last_is more (h, entries.Head)) head
+  last_item q r kept h (x ∷ xs) more head stored is =
+      let last = last_apart x xs in
+      let ring = ap (ring_of h) last.2 ∙ ring_parts h last.0 (last.1 ∷ []) in
+      let apart : more ++ ring_of h (x ∷ xs) ≡ (more ++ ring_of h last.0) ++ as_item last.1 ∷ [] = ap (λ (l : List (Item Gen (Entry T))). more ++ l) ring ∙ sym (append_assoc more (ring_of h last.0) (as_item last.1 ∷ [])) in
+      let item = are_stored-right entry (ring_of h last.0) (as_item last.1 ∷ []) (subst (AreEntries entry) ring (head, stored)) in
+      item_stays q r kept last.1.0 (is ∙ (ap last_key apart ∙ last_is (more ++ ring_of h last.0) (as_item last.1))) (record { value = last.1.1; stored = item.0 })
+      ∙ sym (ap last_key last.2 ∙ last_is last.0 last.1)
+
+module _ {A Gen T : Type 0} {view : A → ArenaView Gen (Entry T)} {entry : A → ℕ → Option (Gen × Entry T)} (state : (a : A) → ArenaState (view a) (entry a)) (interlinks : A → LinkMap) {P : Type 0} (key : P → ℕ × Gen) (a : A) (p : P) (q r : Option P) (kept : KeepsItemOnly (entry a) key q r) where
+  pub reads_first : IsHandle (entry a) (key p) → ReadsNextLink state interlinks key a p q → ReadsFirst state interlinks key a p r
+  reads_first head reads = record {
+    none = λ no. absurd (no head);
+    first = λ items is. first_item (entry a) key q r kept (key p) items [] is.are_stored.0 is.are_stored.1 (reads entries.Head (map as_item items) is);
+  }
+
+  pub reads_last : IsHandle (entry a) (key p) → ReadsPrevLink state interlinks key a p q → ReadsLast state interlinks key a p r
+  reads_last head reads = record {
+    none = λ no. absurd (no head);
+    last = λ items is. last_item (entry a) key q r kept (key p) items [] is.are_stored.0 is.are_stored.1 (reads entries.Head (map as_item items) is);
+  }
+
+  -- The ring of a list from an item on.
+  from_item : (h : ℕ × Gen) (t : T) (before after : List (Item Gen T)) → IsList state interlinks a h (before ++ (key p, t) ∷ after) → IsRing state interlinks a ((key p, entries.Item t) ∷ map as_item after ++ ring_of h before)
+  from_item h t before after is = ring_rotated state interlinks a (ring_of h before) ((key p, entries.Item t) ∷ map as_item after) (subst (IsRing state interlinks a) (ring_parts h before ((key p, t) ∷ after)) is)
+
+  pub reads_next : IsItem (entry a) (key p) → ReadsNextLink state interlinks key a p q → ReadsNext state interlinks key a p r
+  reads_next item reads = record {
+    none = λ no. absurd (no item);
+    next = λ h t before after is.
+        let ring = from_item h t before after is in
+        let read = reads (entries.Item t) (map as_item after ++ ring_of h before) ring in
+        first_item (entry a) key q r kept h after (map as_item before ++ (key p, entries.Item t) ∷ []) is.are_stored.0 (are_stored-left (entry a) (map as_item after) (ring_of h before) ring.are_stored.1)
+        (read ∙ ap first_key (append_assoc (map as_item after) (ring_of h before) ((key p, entries.Item t) ∷ [])));
+  }
+
+  pub reads_prev : IsItem (entry a) (key p) → ReadsPrevLink state interlinks key a p q → ReadsPrev state interlinks key a p r
+  reads_prev item reads = record {
+    none = λ no. absurd (no item);
+    prev = λ h t before after is.
+        let ring = from_item h t before after is in
+        last_item (entry a) key q r kept h before ((key p, entries.Item t) ∷ map as_item after) is.are_stored.0 (are_stored-right (entry a) (map as_item after) (ring_of h before) ring.are_stored.1).1
+        (reads (entries.Item t) (map as_item after ++ ring_of h before) ring);
+  }
+
+-- Without an item, none is read.
+module _ {A Gen T : Type 0} {view : A → ArenaView Gen (Entry T)} {entry : A → ℕ → Option (Gen × Entry T)} (state : (a : A) → ArenaState (view a) (entry a)) (interlinks : A → LinkMap) {P : Type 0} (key : P → ℕ × Gen) (a : A) (p : P) (no : IsItem (entry a) (key p) → ⊥) where
+  absent : (h : ℕ × Gen) (t : T) (before after : List (Item Gen T)) → IsList state interlinks a h (before ++ (key p, t) ∷ after) → ⊥
+  absent h t before after is = no (record { value = t; stored = item_of state interlinks a h (key p) t before after is })
+
+  pub no_next : ReadsNext state interlinks key a p None
+  no_next = record { none = λ no. refl; next = λ h t before after is. absurd (absent h t before after is) }
+
+  pub no_prev : ReadsPrev state interlinks key a p None
+  no_prev = record { none = λ no. refl; prev = λ h t before after is. absurd (absent h t before after is) }

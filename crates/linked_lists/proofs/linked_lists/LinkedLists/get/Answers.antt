@@ -1,0 +1,9 @@
+-- Without an entry there is no item.
+use Rattle.linked_lists.proofs.ListLemmas.{item_valid}
+use Rattle.linked_lists.proofs.linked_lists.LinkedLists.get.Goals as goal
+
+pub returns-in-None : goal.returns-in-None
+returns-in-None g c = rw (← c.self.view_is) (record {
+  some = ((λ no. absurd (let h = no in cc)), λ item. absurd (let some = c.in-None.ensures.some.1 (item_valid (g.A.ArenaTrait.entry c.self.inside.arena) (g.P.PtrKey.key c.args.p) item.value item.stored) in cc));
+  value = tt;
+})

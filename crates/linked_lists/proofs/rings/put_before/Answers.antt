@@ -1,0 +1,19 @@
+-- The new link precedes `p` in its ring, and is in no other ring.
+use Rattle.std.proofs.Common.{refl}
+use Rattle.chain_laws.specs.Chains.{cyclic}
+use Rattle.arena_traits.specs.Growth.{RefusesOneMore}
+use Rattle.chain_traits.proofs.OutcomeLemmas.{insertion_to}
+use Rattle.chain_lists.proofs.ListChangeLemmas.{item_before}
+use Rattle.linked_lists.proofs.rings.put_before.Goals as goal
+
+pub returns : goal.returns
+returns g c =
+    let a = c.args.arena.now in
+    let p = g.P.PtrKey.key c.args.p in
+    record {
+      outcome = insertion_to _ (RefusesOneMore (g.A.ArenaTrait.view a)) _ _ c.insert_reallocating.result c.insert_reallocating.ensures.outcome (λ q gained. (
+        item_before g.A.ArenaTrait.state g.A.ChainArenaTrait.interlinks g.met.A.ChainArenaTrait.links_are_entries cyclic a c.insert_reallocating.new.self c.agrees.ensures (g.P.PtrKey.key q) c.args.value p gained.0 (λ x y. (gained.0.chains.before p.0 refl refl x y).1),
+        gained.1,
+      ));
+      err = c.insert_reallocating.ensures.err;
+    }

@@ -1,0 +1,264 @@
+-- Linked lists in an arena of links: what is a list, and what the calls of `LinkedLists` read and
+-- change.
+use Rattle.std.specs.Prelude.{◌≡◌, ◌≢◌, ◌↔◌, ℕ, List, [], ◌∷◌, ◌++◌, map, IsSome, IfSome, OnErr, Option, None, Some, Result, Ok, Err}
+use Rattle.std.specs.Option.{option_map}
+use Rattle.std.specs.Borrow.{Bor}
+use Rattle.arena_core.specs.PointerKinds.{PointerKind}
+use Rattle.arena_core.specs.declared.errors.ChainInsertionError.{ChainInsertionError}
+use Rattle.arena_core.specs.declared.errors.ReallocationError.{ReallocationError}
+use Rattle.chain_laws.specs.Chains.{LinkMap, IsMember}
+use Rattle.arena_traits.specs.Arena.{IsValid}
+use Rattle.arena_traits.specs.Entries.{ArenaView, ArenaState, first_key, last_key, view_with_value}
+use Rattle.arena_traits.specs.CallOutcomes.{IsEntryInserted, IsEntryRemoved}
+use Rattle.arena_traits.specs.Growth.{IsGrowthResult, RefusesOneMore, GrowsForOneMore}
+use Rattle.chain_links.specs.Insertions.{IsInsertionResult}
+use Rattle.chain_lists.specs.Lists.{Item, indexes, IsRing}
+use Rattle.linked_lists.specs.declared.entry.Entry.{Entry}
+use Rattle.linked_lists.specs.declared.entry.Entry.TheVariants as entries
+
+-- The handle is none of these.
+abbrev pub IsNoneOf : {Gen : Type 0} → List (ℕ × Gen) → ℕ × Gen → Type 0
+IsNoneOf [] k = Unit {0}
+IsNoneOf (h ∷ hs) k = (k ≢ h) × IsNoneOf hs k
+
+module _ {Gen T : Type 0} where
+  -- The entry of an item, and the ring of a list: its head, then its items.
+  abbrev pub as_item : Item Gen T → Item Gen (Entry T)
+  as_item e = (e.0, entries.Item e.1)
+
+  abbrev pub ring_of : ℕ × Gen → List (Item Gen T) → List (Item Gen (Entry T))
+  ring_of h items = (h, entries.Head) ∷ map as_item items
+
+  -- The pointers of items.
+  abbrev pub pointers_of : List (Item Gen T) → List (ℕ × Gen)
+  pointers_of items = map (λ e. e.0) items
+
+  -- `h` is the handle of a list.
+  abbrev pub IsHandle : (ℕ → Option (Gen × Entry T)) → ℕ × Gen → Type 0
+  IsHandle entry h = entry h.0 ≡ Some (h.1, entries.Head)
+
+  -- `p` is the pointer of an item with the value `t`.
+  abbrev pub HasItem : (ℕ → Option (Gen × Entry T)) → ℕ × Gen → T → Type 0
+  HasItem entry p t = entry p.0 ≡ Some (p.1, entries.Item t)
+
+  -- `p` is the pointer of an item.
+  pub record IsItem (entry : ℕ → Option (Gen × Entry T)) (p : ℕ × Gen) : Type 0 where
+    pub value : T
+    pub stored : HasItem entry p value
+
+  -- `get`: the value of `p` is read, if `p` is an item.
+  abbrev pub ReadsValue : (ℕ → Option (Gen × Entry T)) → ℕ × Gen → Option (Bor T) → Type 0
+  ReadsValue entry p result = record {
+    some : IsSome result ↔ IsItem entry p;
+    value : IfSome result (λ t. HasItem entry p t.now);
+  }
+
+-- An arena is seen by its state and its interlinks.
+module _ {A Gen T : Type 0} {view : A → ArenaView Gen (Entry T)} {entry : A → ℕ → Option (Gen × Entry T)} (state : (a : A) → ArenaState (view a) (entry a)) (interlinks : A → LinkMap) where
+  module _ (arena : A) where
+    -- The list with the handle `h` has these items, in order.
+    abbrev pub IsList : ℕ × Gen → List (Item Gen T) → Type 0
+    IsList h items = IsRing state interlinks arena (ring_of h items)
+
+    -- The index is that of a list's handle or of one of its items.
+    pub record IsInList (i : ℕ) : Type 0 where
+      pub handle : ℕ × Gen
+      pub items : List (Item Gen T)
+      pub list : IsList handle items
+      pub among : IsMember (indexes (ring_of handle items)) i
+
+    -- Each entry is in a list.
+    abbrev pub EachInList : Type 0
+    EachInList = (i : ℕ) → IsSome (entry arena i) → IsInList i
+
+    -- The item of `p` is in a list, between others.
+    pub record HasPlace (p : ℕ × Gen) (t : T) : Type 0 where
+      pub handle : ℕ × Gen
+      pub before : List (Item Gen T)
+      pub after : List (Item Gen T)
+      pub list : IsList handle (before ++ (p, t) ∷ after)
+
+    -- Each handle has a list, each item is in a list, and lists that share an index are the same.
+    pub record AllInLists : Type 0 where
+      pub lists : (h : ℕ × Gen) → IsHandle (entry arena) h → (items : List (Item Gen T)) × IsList h items
+      pub items : (p : ℕ × Gen) (t : T) → HasItem (entry arena) p t → HasPlace p t
+      pub once : (h k : ℕ × Gen) (xs ys : List (Item Gen T)) (i : ℕ) → IsList h xs → IsList k ys
+          → IsMember (indexes (ring_of h xs)) i → IsMember (indexes (ring_of k ys)) i → (h ≡ k) × (xs ≡ ys)
+
+  module _ (old new : A) where
+    -- Every list whose handle is none of these keeps its items.
+    abbrev pub KeepsOthers : List (ℕ × Gen) → Type 0
+    KeepsOthers hs = (k : ℕ × Gen) (items : List (Item Gen T)) → IsNoneOf hs k → IsList old k items → IsList new k items
+
+    -- The list of `h` comes to have these items, and every other list keeps its items.
+    pub record Becomes (h : ℕ × Gen) (items : List (Item Gen T)) : Type 0 where
+      pub list : IsList new h items
+      pub others : KeepsOthers (h ∷ [])
+
+    -- `e` is inserted at the start or the end of the list of `h`, or directly after or before `p`.
+    abbrev pub GrowsAtStart : ℕ × Gen → Item Gen T → Type 0
+    GrowsAtStart h e = (items : List (Item Gen T)) → IsList old h items → Becomes h (e ∷ items)
+
+    abbrev pub GrowsAtEnd : ℕ × Gen → Item Gen T → Type 0
+    GrowsAtEnd h e = (items : List (Item Gen T)) → IsList old h items → Becomes h (items ++ e ∷ [])
+
+    abbrev pub GrowsAfter : ℕ × Gen → Item Gen T → Type 0
+    GrowsAfter p e = (h : ℕ × Gen) (t : T) (before after : List (Item Gen T)) → IsList old h (before ++ (p, t) ∷ after) → Becomes h (before ++ (p, t) ∷ e ∷ after)
+
+    abbrev pub GrowsBefore : ℕ × Gen → Item Gen T → Type 0
+    GrowsBefore p e = (h : ℕ × Gen) (t : T) (before after : List (Item Gen T)) → IsList old h (before ++ (p, t) ∷ after) → Becomes h (before ++ e ∷ (p, t) ∷ after)
+
+    -- `h` is the handle of a new, empty list.
+    pub record IsListStarted (h : ℕ × Gen) : Type 0 where
+      pub list : IsList new h []
+      pub head : IsEntryInserted state old entries.Head h new
+      pub others : KeepsOthers []
+
+    -- The item `e` is inserted, and its list becomes what `grows` states.
+    pub record IsItemAdded (grows : Item Gen T → Type 0) (e : Item Gen T) : Type 0 where
+      pub list : grows e
+      pub item : IsEntryInserted state old (entries.Item e.1) e.0 new
+
+    -- The value of `p` becomes `t`; all pointers and the order of each list are unchanged.
+    pub record HasNewValue (p : ℕ × Gen) (t : T) : Type 0 where
+      pub list : (h : ℕ × Gen) (s : T) (before after : List (Item Gen T)) → IsList old h (before ++ (p, s) ∷ after) → Becomes h (before ++ (p, t) ∷ after)
+      pub view_after : view new ≡ view_with_value (view old) p.0 (entries.Item t)
+      pub links : interlinks new ≡ interlinks old
+
+    -- The item of `p`, with the value `t`, leaves its list and is removed.
+    pub record IsItemRemoved {P I W : Type 0} (pointers : PointerKind P I Gen W) (p : ℕ × Gen) (t : T) : Type 0 where
+      pub removed : IsEntryRemoved state pointers old p.0 p.1 (entries.Item t) new
+      pub list : (h : ℕ × Gen) (before after : List (Item Gen T)) → IsList old h (before ++ (p, t) ∷ after) → Becomes h (before ++ after)
+
+    -- The entries, the counter and the capacity are unchanged.
+    abbrev pub KeepsEntries : Type 0
+    KeepsEntries = (entry new ≡ entry old) × (view new ≡ view old)
+
+    -- The item of `p` leaves its list. Then it is inserted where `place` states: the handle, the
+    -- items of that list without `p`, and its items with `p`.
+    pub record IsItemMoved (p : ℕ × Gen) (place : ℕ × Gen → Item Gen T → List (Item Gen T) → List (Item Gen T) → Type 0) : Type 0 where
+      pub within : (h : ℕ × Gen) (t : T) (before after items : List (Item Gen T)) → IsList old h (before ++ (p, t) ∷ after)
+          → place h (p, t) (before ++ after) items → Becomes h items
+      pub between : (h k : ℕ × Gen) (t : T) (before after others items : List (Item Gen T)) → h ≢ k → IsList old h (before ++ (p, t) ∷ after) → IsList old k others
+          → place k (p, t) others items → IsList new h (before ++ after) × IsList new k items × KeepsOthers (h ∷ k ∷ [])
+      pub entries : KeepsEntries
+
+    -- The items of the list of `k` are moved behind those of the list of `h`.
+    pub record IsAppended (h k : ℕ × Gen) : Type 0 where
+      pub lists : (xs ys : List (Item Gen T)) → IsList old h xs → IsList old k ys → IsList new h (xs ++ ys) × IsList new k []
+      pub others : KeepsOthers (h ∷ k ∷ [])
+      pub entries : KeepsEntries
+
+    -- The items from `p` on are moved to the new list of `q`.
+    pub record IsSplitOff (p q : ℕ × Gen) : Type 0 where
+      pub lists : (h : ℕ × Gen) (t : T) (before after : List (Item Gen T)) → IsList old h (before ++ (p, t) ∷ after)
+          → Becomes h before × IsList new q ((p, t) ∷ after)
+      pub head : IsEntryInserted state old entries.Head q new
+
+module _ {Gen T : Type 0} where
+  -- Where an item is moved: to the start or the end of the list of `h`, or directly after `q`.
+  abbrev pub AtStart : ℕ × Gen → ℕ × Gen → Item Gen T → List (Item Gen T) → List (Item Gen T) → Type 0
+  AtStart h k e others items = (k ≡ h) × (items ≡ e ∷ others)
+
+  abbrev pub AtEnd : ℕ × Gen → ℕ × Gen → Item Gen T → List (Item Gen T) → List (Item Gen T) → Type 0
+  AtEnd h k e others items = (k ≡ h) × (items ≡ others ++ e ∷ [])
+
+  abbrev pub DirectlyAfter : ℕ × Gen → ℕ × Gen → Item Gen T → List (Item Gen T) → List (Item Gen T) → Type 0
+  DirectlyAfter q k e others items = (s : T) × (x : List (Item Gen T)) × (y : List (Item Gen T)) × (others ≡ x ++ (q, s) ∷ y) × (items ≡ x ++ (q, s) ∷ e ∷ y)
+
+module _ {A Gen T : Type 0} {view : A → ArenaView Gen (Entry T)} {entry : A → ℕ → Option (Gen × Entry T)} (state : (a : A) → ArenaState (view a) (entry a)) (interlinks : A → LinkMap) where
+  module _ {P : Type 0} (key : P → ℕ × Gen) where
+    -- `first` and `last`: the first and the last item of the list of `h`, if `h` is a handle.
+    abbrev pub ReadsFirst : A → P → Option P → Type 0
+    ReadsFirst arena h result = record {
+      none : ¬ IsHandle (entry arena) (key h) → result ≡ None;
+      first : (items : List (Item Gen T)) → IsList state interlinks arena (key h) items → option_map key result ≡ first_key items;
+    }
+
+    abbrev pub ReadsLast : A → P → Option P → Type 0
+    ReadsLast arena h result = record {
+      none : ¬ IsHandle (entry arena) (key h) → result ≡ None;
+      last : (items : List (Item Gen T)) → IsList state interlinks arena (key h) items → option_map key result ≡ last_key items;
+    }
+
+    -- `next` and `prev`: the item after `p` and the item before it, if `p` is an item.
+    abbrev pub ReadsNext : A → P → Option P → Type 0
+    ReadsNext arena p result = record {
+      none : ¬ IsItem (entry arena) (key p) → result ≡ None;
+      next : (h : ℕ × Gen) (t : T) (before after : List (Item Gen T)) → IsList state interlinks arena h (before ++ (key p, t) ∷ after) → option_map key result ≡ first_key after;
+    }
+
+    abbrev pub ReadsPrev : A → P → Option P → Type 0
+    ReadsPrev arena p result = record {
+      none : ¬ IsItem (entry arena) (key p) → result ≡ None;
+      prev : (h : ℕ × Gen) (t : T) (before after : List (Item Gen T)) → IsList state interlinks arena h (before ++ (key p, t) ∷ after) → option_map key result ≡ last_key before;
+    }
+
+    -- `walk`: the pointers are those of the items of the list of `h`.
+    abbrev pub ListsItems : A → P → List P → Type 0
+    ListsItems arena h pointers = (items : List (Item Gen T)) × IsList state interlinks arena (key h) items × (map key pointers ≡ pointers_of items)
+
+    -- `new_list`: an empty list is created, after a growth if the arena was full.
+    abbrev pub StartsList : ℕ → A → Result P ReallocationError → A → Type 0
+    StartsList greatest old result new = record {
+      outcome : IsGrowthResult (RefusesOneMore (view old)) (λ q. IsListStarted state interlinks old new (key q) × GrowsForOneMore greatest (view old) (view new)) result;
+      err : OnErr result (new ≡ old);
+    }
+
+    -- An insertion of `t`, after such a growth. `may`: the pointer is of the kind that is required.
+    abbrev pub AddsItem : ℕ → (may : Type 0) → (grows : A → A → Item Gen T → Type 0) → A → T → Result P ChainInsertionError → A → Type 0
+    AddsItem greatest may grows old t result new = record {
+      outcome : IsInsertionResult may (RefusesOneMore (view old)) (λ q. IsItemAdded state interlinks old new (grows old new) (key q, t) × GrowsForOneMore greatest (view old) (view new)) result;
+      err : OnErr result (new ≡ old);
+    }
+
+    -- `push_front`, `push_back`, `insert_after` and `insert_before`.
+    abbrev pub PushesFront : ℕ → A → P → T → Result P ChainInsertionError → A → Type 0
+    PushesFront greatest old h t result new = AddsItem greatest (IsHandle (entry old) (key h)) (λ a b. GrowsAtStart state interlinks a b (key h)) old t result new
+
+    abbrev pub PushesBack : ℕ → A → P → T → Result P ChainInsertionError → A → Type 0
+    PushesBack greatest old h t result new = AddsItem greatest (IsHandle (entry old) (key h)) (λ a b. GrowsAtEnd state interlinks a b (key h)) old t result new
+
+    abbrev pub InsertsAfterItem : ℕ → A → P → T → Result P ChainInsertionError → A → Type 0
+    InsertsAfterItem greatest old p t result new = AddsItem greatest (IsItem (entry old) (key p)) (λ a b. GrowsAfter state interlinks a b (key p)) old t result new
+
+    abbrev pub InsertsBeforeItem : ℕ → A → P → T → Result P ChainInsertionError → A → Type 0
+    InsertsBeforeItem greatest old p t result new = AddsItem greatest (IsItem (entry old) (key p)) (λ a b. GrowsBefore state interlinks a b (key p)) old t result new
+
+    -- `split_off`: the items from `p` on are moved to a new list, if `p` is an item.
+    abbrev pub SplitsOff : ℕ → A → P → Result (Option P) ReallocationError → A → Type 0
+    SplitsOff greatest old p (Ok None) new = (IsItem (entry old) (key p) → ⊥) × (new ≡ old)
+    SplitsOff greatest old p (Ok (Some q)) new =
+        IsItem (entry old) (key p) × IsSplitOff state interlinks old new (key p) (key q) × GrowsForOneMore greatest (view old) (view new)
+    SplitsOff greatest old p (Err why) new = IsItem (entry old) (key p) × RefusesOneMore (view old) why × (new ≡ old)
+
+  -- `replace`: the value of `p` becomes `t`, and the former one is returned, if `p` is an item.
+  abbrev pub ReplacesItem : A → ℕ × Gen → T → Option T → A → Type 0
+  ReplacesItem old p t None new = (IsItem (entry old) p → ⊥) × (new ≡ old)
+  ReplacesItem old p t (Some former) new = HasItem (entry old) p former × HasNewValue state interlinks old new p t
+
+  -- `remove`: the item of `p` is removed and its value returned, if `p` is an item.
+  abbrev pub RemovesItem : {P I W : Type 0} → PointerKind P I Gen W → A → P → Option T → A → Type 0
+  RemovesItem pointers old p None new = (IsItem (entry old) (pointers.key p) → ⊥) × (new ≡ old)
+  RemovesItem pointers old p (Some t) new = IsItemRemoved state interlinks old new pointers (pointers.key p) t
+
+  -- `move_to_front` and `move_to_back`: the item of `p` is moved to the start or the end of the list
+  -- of `h`.
+  abbrev pub MovesToFront : A → (p h : ℕ × Gen) → Option Unit → A → Type 0
+  MovesToFront old p h None new = (IsItem (entry old) p × IsHandle (entry old) h → ⊥) × (new ≡ old)
+  MovesToFront old p h (Some done) new = IsItem (entry old) p × IsHandle (entry old) h × IsItemMoved state interlinks old new p (AtStart h)
+
+  abbrev pub MovesToBack : A → (p h : ℕ × Gen) → Option Unit → A → Type 0
+  MovesToBack old p h None new = (IsItem (entry old) p × IsHandle (entry old) h → ⊥) × (new ≡ old)
+  MovesToBack old p h (Some done) new = IsItem (entry old) p × IsHandle (entry old) h × IsItemMoved state interlinks old new p (AtEnd h)
+
+  -- `move_after`: the item of `p` is moved directly behind the item of `q`, if these are two.
+  abbrev pub MovesAfterItem : A → (p q : ℕ × Gen) → Option Unit → A → Type 0
+  MovesAfterItem old p q None new = (IsItem (entry old) p × IsItem (entry old) q × (p ≢ q) → ⊥) × (new ≡ old)
+  MovesAfterItem old p q (Some done) new = IsItem (entry old) p × IsItem (entry old) q × (p ≢ q) × IsItemMoved state interlinks old new p (DirectlyAfter q)
+
+  -- `append`: the items of the list of `k` are moved behind those of the list of `h`, if these are
+  -- two lists.
+  abbrev pub AppendsList : A → (h k : ℕ × Gen) → Option Unit → A → Type 0
+  AppendsList old h k None new = (IsHandle (entry old) h × IsHandle (entry old) k × (h ≢ k) → ⊥) × (new ≡ old)
+  AppendsList old h k (Some done) new = IsHandle (entry old) h × IsHandle (entry old) k × (h ≢ k) × IsAppended state interlinks old new h k

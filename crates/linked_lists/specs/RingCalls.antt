@@ -1,0 +1,31 @@
+-- What the calls on rings below `LinkedLists` read and change.
+use Rattle.std.specs.Prelude.{◌≡◌, ◌≢◌, ℕ, List, [], ◌∷◌, ◌++◌, OnErr, Option, None, Some, Result}
+use Rattle.std.specs.Option.{option_map}
+use Rattle.chain_laws.specs.Chains.{LinkMap}
+use Rattle.arena_traits.specs.Entries.{ArenaView, ArenaState, first_key, last_key}
+use Rattle.chain_lists.specs.Lists.{Item, IsRing}
+use Rattle.linked_lists.specs.declared.entry.Entry.{Entry}
+use Rattle.linked_lists.specs.declared.entry.Entry.TheVariants as entries
+use Rattle.linked_lists.specs.LinkedLists.{IsItem}
+
+-- The value of an item.
+abbrev pub value_in : {T : Type 0} → Option (Entry T) → Option T
+value_in None = None
+value_in (Some entries.Head) = None
+value_in (Some (entries.Item t)) = Some t
+
+-- The pointer is returned exactly if it is the pointer of an item.
+abbrev pub KeepsItemOnly : {Gen T P : Type 0} → (ℕ → Option (Gen × Entry T)) → (P → ℕ × Gen) → Option P → Option P → Type 0
+KeepsItemOnly entry key None result = result ≡ None
+KeepsItemOnly entry key (Some p) result = record {
+  item : IsItem entry (key p) → result ≡ Some p;
+  none : (IsItem entry (key p) → ⊥) → result ≡ None;
+}
+
+module _ {A Gen V : Type 0} {view : A → ArenaView Gen V} {entry : A → ℕ → Option (Gen × V)} (state : (a : A) → ArenaState (view a) (entry a)) (interlinks : A → LinkMap) {P : Type 0} (key : P → ℕ × Gen) where
+  -- The link after `p` in its ring, and the link before it.
+  abbrev pub ReadsNextLink : A → P → Option P → Type 0
+  ReadsNextLink arena p result = (v : V) (others : List (Item Gen V)) → IsRing state interlinks arena ((key p, v) ∷ others) → option_map key result ≡ first_key (others ++ (key p, v) ∷ [])
+
+  abbrev pub ReadsPrevLink : A → P → Option P → Type 0
+  ReadsPrevLink arena p result = (v : V) (others : List (Item Gen V)) → IsRing state interlinks arena ((key p, v) ∷ others) → option_map key result ≡ last_key ((key p, v) ∷ others)

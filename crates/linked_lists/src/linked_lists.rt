@@ -1,0 +1,309 @@
+//! Linked lists, whose links are all stored in one arena.
+
+ghost use Rattle.std.specs.Prelude.{◌≡◌, ◌↔◌, [], IsTrue, IsSome, IfSome, IfOk, None, Some};
+ghost use Rattle.arena_traits.specs.Entries.{IsNew};
+ghost use Rattle.chain_lists.specs.Sizes.{ReservesMore, CountsEntries, ReportsCapacity};
+ghost use Rattle.linked_lists.specs.LinkedLists.{AllInLists, IsHandle, IsItem, ReadsValue, ReadsFirst, ReadsLast, ReadsNext, ReadsPrev, StartsList, PushesFront, PushesBack, InsertsAfterItem, InsertsBeforeItem, RemovesItem, ReplacesItem};
+ghost use Rattle.linked_lists.specs.RingCalls.{KeepsItemOnly};
+
+use crate::entry::{Entry, value_of};
+use crate::rings::{next_link, prev_link, put_after, put_before, start_ring, take};
+use arena_ptr::{AnyPointer, ChainInsertionError, GenKey, InxKey, PtrKey, ReallocationError};
+use chain_lists::reserve;
+use chain_traits::ChainArenaTrait;
+use std::alloc::{AllocError, Global};
+use std::marker::{Model, PhantomData};
+
+/// Doubly linked lists in one arena. Each list has a handle and items.
+///
+/// Creating a list returns its handle, which is valid while the list exists, whatever happens to
+/// its items. Inserting an item returns its pointer, which identifies the item until it is removed.
+/// The pointer of an item is no handle, and a handle is no item. A handle or pointer that was
+/// removed is not valid, until the generation counter of the arena wraps.
+///
+/// Contracts see the arena. A list is the list of its items (`IsList`), each with its pointer's
+/// index and generation.
+#[derive(Drop)]
+pub struct LinkedLists<P: PtrKey, T: Drop, A: ChainArenaTrait<P, Entry<T>> + Drop> {
+    arena: A,
+    of: PhantomData<(P, T)>,
+}
+
+impl<P: PtrKey, T: Drop, A: ChainArenaTrait<P, Entry<T>> + Drop> Model for LinkedLists<P, T, A> {
+    ghost use Rattle.linked_lists.specs.LinkedLists.{EachInList};
+
+    ghost Value = { A };
+
+    ghost view = { λ m. m.arena };
+
+    ghost invariant = { λ m. EachInList A.state A.interlinks m.arena };
+}
+
+impl<P: PtrKey, T: Drop, A: ChainArenaTrait<P, Entry<T>> + Drop> LinkedLists<P, T, A> {
+    /// Creates an empty collection of lists. It does not allocate.
+    pub fn new(alloc: Global) -> Self
+        ensures new { IsNew P.Gen.first (A.view result) }
+        ensures capacity { (A.view result).capacity ≡ 0 }
+    {
+        LinkedLists {
+            arena: A::new(alloc),
+            of: PhantomData,
+        }
+    }
+
+    /// Returns the number of items and of lists, taken together: each list has a head.
+    pub fn len(&self) -> usize
+        ensures { CountsEntries (A.view self.now) result }
+    {
+        self.arena.len()
+    }
+
+    /// Returns `true` if there are no lists.
+    pub fn is_empty(&self) -> bool
+        ensures { IsTrue result ↔ ((A.view self.now).entries ≡ []) }
+    {
+        self.arena.is_empty()
+    }
+
+    /// Returns the number of items and lists that can be held without growing.
+    pub fn capacity(&self) -> usize
+        ensures { ReportsCapacity (A.view self.now) P.Inx.greatest result }
+    {
+        self.arena.capacity()
+    }
+
+    /// Returns the maximum capacity, or `None` if there is no limit.
+    pub fn max_capacity(&self) -> Option<usize>
+        ensures { result ≡ (A.view self.now).maximum }
+    {
+        self.arena.max_capacity()
+    }
+
+    /// Reserves capacity for at least `additional` more items and lists.
+    ///
+    /// Does nothing if the capacity suffices.
+    ///
+    /// # Errors
+    ///
+    /// - `BeyondMaxCapacity`: growth would exceed the maximum.
+    /// - `AllocError`: growth would exceed the greatest index, or an allocation failed.
+    ///
+    /// On error, nothing changes.
+    pub fn reserve(&mut self, additional: usize) -> Result<(), ReallocationError>
+        ensures { ReservesMore A.state A.interlinks P.Inx.greatest additional self.old result
+            self.new }
+    {
+        reserve(&mut self.arena, additional)
+    }
+
+    /// States that each handle has a list, each item is in exactly one list, and lists share no
+    /// item.
+    ///
+    /// Has no effect.
+    pub fn all_in_lists(&self)
+        ensures { AllInLists A.state A.interlinks self.now }
+    {
+        self.arena.agrees();
+    }
+
+    /// Returns whether `h` is the handle of a list.
+    pub fn is_list(&self, h: P) -> bool
+        ensures { IsTrue result ↔ IsHandle (A.entry self.now) (P.key h) }
+    {
+        match self.arena.get(h) {
+            Some(Entry::Head) => true,
+            _ => false,
+        }
+    }
+
+    /// Returns whether `p` is the pointer of an item.
+    pub fn is_item(&self, p: P) -> bool
+        ensures { IsTrue result ↔ IsItem (A.entry self.now) (P.key p) }
+    {
+        self.get(p).is_some()
+    }
+
+    /// Returns a reference to the value of an item, or `None` if `p` is not an item.
+    pub fn get(&self, p: P) -> Option<&T>
+        ensures { ReadsValue (A.entry self.now) (P.key p) result }
+    {
+        match self.arena.get(p) {
+            Some(entry) => match entry {
+                Entry::Item(value) => Some(value),
+                Entry::Head => None,
+            },
+            None => None,
+        }
+    }
+
+    // Returns the pointer if it is the pointer of an item, and `None` otherwise.
+    fn item_only(&self, pointer: Option<P>) -> Option<P>
+        ensures { KeepsItemOnly (A.entry self.now) P.key pointer result }
+    {
+        match pointer {
+            Some(p) => { if self.is_item(p) { Some(p) } else { None } }
+            None => None,
+        }
+    }
+
+    /// Returns the pointer of the first item of a list, or `None` if the list is empty or `h` is
+    /// not a handle.
+    pub fn first(&self, h: P) -> Option<P>
+        ensures { ReadsFirst A.state A.interlinks P.key self.now h result }
+    {
+        if !self.is_list(h) {
+            return None;
+        }
+        self.item_only(next_link(&self.arena, h))
+    }
+
+    /// Returns the pointer of the last item of a list, or `None` if the list is empty or `h` is not
+    /// a handle.
+    pub fn last(&self, h: P) -> Option<P>
+        ensures { ReadsLast A.state A.interlinks P.key self.now h result }
+    {
+        if !self.is_list(h) {
+            return None;
+        }
+        self.item_only(prev_link(&self.arena, h))
+    }
+
+    /// Returns the pointer of the item after an item, or `None` if it is the last one or `p` is not
+    /// an item.
+    pub fn next(&self, p: P) -> Option<P>
+        ensures { ReadsNext A.state A.interlinks P.key self.now p result }
+    {
+        if !self.is_item(p) {
+            return None;
+        }
+        self.item_only(next_link(&self.arena, p))
+    }
+
+    /// Returns the pointer of the item before an item, or `None` if it is the first one or `p` is
+    /// not an item.
+    pub fn prev(&self, p: P) -> Option<P>
+        ensures { ReadsPrev A.state A.interlinks P.key self.now p result }
+    {
+        if !self.is_item(p) {
+            return None;
+        }
+        self.item_only(prev_link(&self.arena, p))
+    }
+
+    /// Creates an empty list and returns its handle.
+    ///
+    /// # Errors
+    ///
+    /// - `BeyondMaxCapacity`: growth would exceed the maximum.
+    /// - `AllocError`: growth would exceed the greatest index, or an allocation failed.
+    ///
+    /// On error, nothing changes.
+    pub fn new_list(&mut self) -> Result<P, ReallocationError>
+        ensures { StartsList A.state A.interlinks P.key P.Inx.greatest self.old result self.new }
+    {
+        start_ring(&mut self.arena, Entry::Head)
+    }
+
+    /// Inserts an item at the start of a list and returns its pointer.
+    ///
+    /// # Errors
+    ///
+    /// - `FailedLinkRequirement`: `h` is not a handle.
+    /// - `BeyondMaxCapacity`: growth would exceed the maximum.
+    /// - `AllocError`: growth would exceed the greatest index, or an allocation failed.
+    ///
+    /// On error, nothing changes and the value is dropped.
+    pub fn push_front(&mut self, h: P, value: T) -> Result<P, ChainInsertionError>
+        ensures { PushesFront A.state A.interlinks P.key P.Inx.greatest self.old h value result
+            self.new }
+    {
+        if !self.is_list(h) {
+            return Err(ChainInsertionError::FailedLinkRequirement);
+        }
+        put_after(&mut self.arena, h, Entry::Item(value))
+    }
+
+    /// Inserts an item at the end of a list and returns its pointer.
+    ///
+    /// # Errors
+    ///
+    /// - `FailedLinkRequirement`: `h` is not a handle.
+    /// - `BeyondMaxCapacity`: growth would exceed the maximum.
+    /// - `AllocError`: growth would exceed the greatest index, or an allocation failed.
+    ///
+    /// On error, nothing changes and the value is dropped.
+    pub fn push_back(&mut self, h: P, value: T) -> Result<P, ChainInsertionError>
+        ensures { PushesBack A.state A.interlinks P.key P.Inx.greatest self.old h value result
+            self.new }
+    {
+        if !self.is_list(h) {
+            return Err(ChainInsertionError::FailedLinkRequirement);
+        }
+        put_before(&mut self.arena, h, Entry::Item(value))
+    }
+
+    /// Inserts an item directly after another one and returns its pointer.
+    ///
+    /// # Errors
+    ///
+    /// - `FailedLinkRequirement`: `p` is not an item.
+    /// - `BeyondMaxCapacity`: growth would exceed the maximum.
+    /// - `AllocError`: growth would exceed the greatest index, or an allocation failed.
+    ///
+    /// On error, nothing changes and the value is dropped.
+    pub fn insert_after(&mut self, p: P, value: T) -> Result<P, ChainInsertionError>
+        ensures { InsertsAfterItem A.state A.interlinks P.key P.Inx.greatest self.old p value result
+            self.new }
+    {
+        if !self.is_item(p) {
+            return Err(ChainInsertionError::FailedLinkRequirement);
+        }
+        put_after(&mut self.arena, p, Entry::Item(value))
+    }
+
+    /// Inserts an item directly before another one and returns its pointer.
+    ///
+    /// # Errors
+    ///
+    /// - `FailedLinkRequirement`: `p` is not an item.
+    /// - `BeyondMaxCapacity`: growth would exceed the maximum.
+    /// - `AllocError`: growth would exceed the greatest index, or an allocation failed.
+    ///
+    /// On error, nothing changes and the value is dropped.
+    pub fn insert_before(&mut self, p: P, value: T) -> Result<P, ChainInsertionError>
+        ensures { InsertsBeforeItem A.state A.interlinks P.key P.Inx.greatest self.old p value
+            result self.new }
+    {
+        if !self.is_item(p) {
+            return Err(ChainInsertionError::FailedLinkRequirement);
+        }
+        put_before(&mut self.arena, p, Entry::Item(value))
+    }
+
+    /// Replaces the value of an item and returns the former one.
+    ///
+    /// All pointers and the order of each list stay. Returns `None` and changes nothing if `p` is
+    /// not an item; `value` is dropped then.
+    pub fn replace(&mut self, p: P, value: T) -> Option<T>
+        ensures { ReplacesItem A.state A.interlinks self.old (P.key p) value result self.new }
+    {
+        if !self.is_item(p) {
+            return None;
+        }
+        value_of(self.arena.replace(p, Entry::Item(value)))
+    }
+
+    /// Removes an item from its list and returns its value.
+    ///
+    /// The other items keep their order, and the capacity stays the same. Returns `None` and
+    /// changes nothing if `p` is not an item.
+    pub fn remove(&mut self, p: P) -> Option<T>
+        ensures { RemovesItem A.state A.interlinks ⟦<P as AnyPointer>⟧.pointers self.old p result
+            self.new }
+    {
+        if !self.is_item(p) {
+            return None;
+        }
+        value_of(take(&mut self.arena, p))
+    }
+}

@@ -1,0 +1,76 @@
+//! Insertions and removals in the rings of an arena of links.
+
+ghost use Rattle.chain_laws.specs.Chains.{cyclic};
+ghost use Rattle.chain_lists.specs.Lists.{StartsList, InsertsItemAfter, InsertsItemBefore, RemovesItem};
+ghost use Rattle.linked_lists.specs.RingCalls.{ReadsNextLink, ReadsPrevLink};
+
+use arena_ptr::{AnyPointer, ChainInsertionError, GenKey, InxKey, PtrKey, ReallocationError};
+use chain_links::LinkInsertKind;
+use chain_traits::ChainArenaTrait;
+
+// Creates a ring of one link and returns the link's pointer.
+pub(crate) fn start_ring<P: PtrKey, V: Drop, A: ChainArenaTrait<P, V>>(
+    arena: &mut A,
+    value: V,
+) -> Result<P, ReallocationError>
+    ensures { StartsList A.state A.interlinks cyclic P.key P.Inx.greatest
+        arena.old value result arena.new }
+{
+    arena.agrees();
+    arena.insert(LinkInsertKind::SingleLinkCyclic, value)
+}
+
+// Inserts a link directly after another one and returns its pointer.
+pub(crate) fn put_after<P: PtrKey, V: Drop, A: ChainArenaTrait<P, V>>(
+    arena: &mut A,
+    p: P,
+    value: V,
+) -> Result<P, ChainInsertionError>
+    ensures { InsertsItemAfter A.state A.interlinks cyclic P.key P.Inx.greatest
+        arena.old (P.key p) value result arena.new }
+{
+    arena.agrees();
+    arena.insert_reallocating(LinkInsertKind::NextTo(p), value)
+}
+
+// Inserts a link directly before another one and returns its pointer.
+pub(crate) fn put_before<P: PtrKey, V: Drop, A: ChainArenaTrait<P, V>>(
+    arena: &mut A,
+    p: P,
+    value: V,
+) -> Result<P, ChainInsertionError>
+    ensures { InsertsItemBefore A.state A.interlinks cyclic P.key P.Inx.greatest
+        arena.old (P.key p) value result arena.new }
+{
+    arena.agrees();
+    arena.insert_reallocating(LinkInsertKind::PrevTo(p), value)
+}
+
+// Removes a link and returns its value.
+pub(crate) fn take<P: PtrKey, V: Drop, A: ChainArenaTrait<P, V>>(arena: &mut A, p: P) -> Option<V>
+    ensures { RemovesItem A.state A.interlinks cyclic ⟦<P as AnyPointer>⟧.pointers arena.old p
+        result arena.new }
+{
+    arena.agrees();
+    arena.remove(p).allow()
+}
+
+// Returns the pointer of the next link, or `None` if `p` is not valid.
+pub(crate) fn next_link<P: PtrKey, V: Drop, A: ChainArenaTrait<P, V>>(arena: &A, p: P) -> Option<P>
+    ensures { ReadsNextLink A.state A.interlinks P.key arena.now p result }
+{
+    match arena.get_link(p) {
+        Some(link) => link.next(),
+        None => None,
+    }
+}
+
+// Returns the pointer of the previous link, or `None` if `p` is not valid.
+pub(crate) fn prev_link<P: PtrKey, V: Drop, A: ChainArenaTrait<P, V>>(arena: &A, p: P) -> Option<P>
+    ensures { ReadsPrevLink A.state A.interlinks P.key arena.now p result }
+{
+    match arena.get_link(p) {
+        Some(link) => link.prev(),
+        None => None,
+    }
+}
