@@ -3,3 +3,4 @@ mod ListLemmas
 mod InsertionLemmas
 mod ReadingLemmas
 mod ChangeLemmas
+mod MoveLemmas

@@ -135,6 +135,12 @@ module _ {A Gen T : Type 0} {view : A → ArenaView Gen (Entry T)} {entry : A �
     pub all_in_lists : EachInList state interlinks a → AllInLists state interlinks a
     all_in_lists each = record { lists = list_of each; items = place_of each; once = one_list }
 
+    -- The links of a list are those of the list of its handle.
+    pub links_of_handle : (k h : ℕ × Gen) (ys xs : List (Item Gen T)) (i : ℕ) → IsList state interlinks a k ys → IsList state interlinks a h xs → k ≡ h → IsMember (indexes (ring_of k ys)) i → IsMember (indexes (ring_of h xs)) i
+    links_of_handle k h ys xs i one two same among =
+        let here = subst (λ (q : ℕ × Gen). IsList state interlinks a q ys) same one in
+        subst (λ (l : List (Item Gen T)). IsMember (indexes (ring_of h l)) i) (same_list h ys xs here two) (subst (λ (q : ℕ × Gen). IsMember (indexes (ring_of q ys)) i) same among)
+
   module _ (old new : A) where
     -- A change of rings with `p` changes only the list of `p`.
     pub keeps_others : (h p : ℕ × Gen) (xs : List (Item Gen T)) → KeepsWithout state interlinks cyclic old new (p ∷ []) → IsList state interlinks old h xs → IsMember (indexes (ring_of h xs)) p.0
@@ -153,12 +159,28 @@ module _ {A Gen T : Type 0} {view : A → ArenaView Gen (Entry T)} {entry : A �
         record {
           handle = at.handle;
           items = at.items;
-          list = is.others at.handle at.items (
-            (λ same.
-                let here = subst (λ (q : ℕ × Gen). IsList state interlinks old q at.items) same at.list in
-                elsewhere.1 (subst (λ (l : List (Item Gen T)). IsMember (indexes (ring_of h l)) i) (same_list old h at.items xs here was) (subst (λ (q : ℕ × Gen). IsMember (indexes (ring_of q at.items)) i) same at.among))),
-            tt,
-          ) at.list;
+          list = is.others at.handle at.items ((λ same. elsewhere.1 (links_of_handle old at.handle h at.items xs i at.list was same at.among)), tt) at.list;
           among = at.among;
         })
         (IsMember-or_not (indexes (ring_of h ys)) i)
+
+    -- The same after a change of two lists.
+    pub each_kept_two : EachInList state interlinks old → (h k : ℕ × Gen) (xs ys us vs : List (Item Gen T)) → IsList state interlinks old h xs → IsList state interlinks old k ys
+        → IsList state interlinks new h us → IsList state interlinks new k vs → KeepsOthers state interlinks old new (h ∷ k ∷ [])
+        → ((i : ℕ) → is_some (entry new i) ≡ true → (IsMember (indexes (ring_of h us)) i → ⊥) → (IsMember (indexes (ring_of k vs)) i → ⊥)
+        → (is_some (entry old i) ≡ true) × (IsMember (indexes (ring_of h xs)) i → ⊥) × (IsMember (indexes (ring_of k ys)) i → ⊥)) → EachInList state interlinks new
+    each_kept_two each h k xs ys us vs one two now_one now_two others rest i some = ⊎_elim
+        (λ has. record { handle = h; items = us; list = now_one; among = has })
+        (λ no_h. ⊎_elim
+        (λ has. record { handle = k; items = vs; list = now_two; among = has })
+        (λ no_k.
+        let elsewhere = rest i some no_h no_k in
+        let at = each i elsewhere.0 in
+        record {
+          handle = at.handle;
+          items = at.items;
+          list = others at.handle at.items ((λ same. elsewhere.1 (links_of_handle old at.handle h at.items xs i at.list one same at.among)), ((λ same. elsewhere.2 (links_of_handle old at.handle k at.items ys i at.list two same at.among)), tt)) at.list;
+          among = at.among;
+        })
+        (IsMember-or_not (indexes (ring_of k vs)) i))
+        (IsMember-or_not (indexes (ring_of h us)) i)

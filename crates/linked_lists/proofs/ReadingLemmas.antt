@@ -4,15 +4,16 @@ use Rattle.std.specs.Prelude.{◌⊎◌}
 use Rattle.std.specs.Option.{option_map}
 use Rattle.chain_laws.specs.Chains.{LinkMap}
 use Rattle.chain_laws.proofs.InterlinkLemmas.Inverses.{one_some}
+use Rattle.arena_traits.specs.Arena.{IsValid}
 use Rattle.arena_traits.specs.Entries.{ArenaView, ArenaState, first_key, last_key}
 use Rattle.chain_lists.specs.Lists.{Item, AreEntries, IsRing}
 use Rattle.chain_lists.proofs.ItemListLemmas.{are_stored-left, are_stored-right, last_apart, last_is}
 use Rattle.linked_lists.specs.declared.entry.Entry.{Entry}
 use Rattle.linked_lists.specs.declared.entry.Entry.TheVariants as entries
-use Rattle.linked_lists.specs.LinkedLists.{as_item, ring_of, IsHandle, HasItem, IsItem, IsList, ReadsFirst, ReadsLast, ReadsNext, ReadsPrev}
-use Rattle.linked_lists.specs.RingCalls.{KeepsItemOnly, ReadsNextLink, ReadsPrevLink}
+use Rattle.linked_lists.specs.LinkedLists.{as_item, ring_of, IsHandle, HasItem, IsItem, IsList, EachInList, ReadsFirst, ReadsLast, ReadsNext, ReadsPrev}
+use Rattle.linked_lists.specs.RingCalls.{KeepsItemOnly, ReadsNextLink, ReadsPrevLink, EndsList}
 use Rattle.linked_lists.proofs.RingLemmas.{ring_rotated}
-use Rattle.linked_lists.proofs.ListLemmas.{ring_parts, head_or_item, item_of}
+use Rattle.linked_lists.proofs.ListLemmas.{ring_parts, head_or_item, item_of, list_of}
 
 module _ {Gen T P : Type 0} (entry : ℕ → Option (Gen × Entry T)) (key : P → ℕ × Gen) where
   -- The pointer of an item is returned, and a handle is not.
@@ -87,3 +88,23 @@ module _ {A Gen T : Type 0} {view : A → ArenaView Gen (Entry T)} {entry : A �
 
   pub no_prev : ReadsPrev state interlinks key a p None
   no_prev = record { none = λ no. refl; prev = λ h t before after is. absurd (absent h t before after is) }
+
+-- The link before a head is the last one of its list.
+module _ {A Gen T : Type 0} {view : A → ArenaView Gen (Entry T)} {entry : A → ℕ → Option (Gen × Entry T)} (state : (a : A) → ArenaState (view a) (entry a)) (interlinks : A → LinkMap) where
+  pub ends_valid : (a : A) (h l : ℕ × Gen) → EachInList state interlinks a → IsHandle (entry a) h → EndsList state interlinks a h l → IsValid (entry a) l
+  ends_valid a h l each head last =
+      let list = list_of state interlinks a each h head in
+      let apart = last_apart (h, entries.Head) (map as_item list.0) in
+      let same : l ≡ apart.1.0 = one_some (last list.0 list.1 ∙ (ap last_key apart.2 ∙ last_is apart.0 apart.1)) in
+      let stored = are_stored-right (entry a) apart.0 (apart.1 ∷ []) (subst (AreEntries (entry a)) apart.2 list.1.are_stored) in
+      subst (IsValid (entry a)) (sym same) (record { value = apart.1.1; stored = stored.0 })
+
+  module _ {P : Type 0} (key : P → ℕ × Gen) (a : A) (h : P) where
+    pub ends_list : (l : P) → ReadsPrevLink state interlinks key a h (Some l) → EndsList state interlinks a (key h) (key l)
+    ends_list l reads items is = reads entries.Head (map as_item items) is
+
+    pub has_end : EachInList state interlinks a → IsHandle (entry a) (key h) → ReadsPrevLink state interlinks key a h None → ⊥
+    has_end each head reads =
+        let list = list_of state interlinks a each (key h) head in
+        let apart = last_apart (key h, entries.Head) (map as_item list.0) in
+        absurd (let none = reads entries.Head (map as_item list.0) list.1 ∙ (ap last_key apart.2 ∙ last_is apart.0 apart.1) in cc)

@@ -6,7 +6,7 @@ use Rattle.arena_traits.specs.Entries.{ArenaView, ArenaState, first_key, last_ke
 use Rattle.chain_lists.specs.Lists.{Item, IsRing}
 use Rattle.linked_lists.specs.declared.entry.Entry.{Entry}
 use Rattle.linked_lists.specs.declared.entry.Entry.TheVariants as entries
-use Rattle.linked_lists.specs.LinkedLists.{IsItem}
+use Rattle.linked_lists.specs.LinkedLists.{IsItem, IsList, ring_of}
 
 -- The value of an item.
 abbrev pub value_in : {T : Type 0} → Option (Entry T) → Option T
@@ -29,3 +29,8 @@ module _ {A Gen V : Type 0} {view : A → ArenaView Gen V} {entry : A → ℕ �
 
   abbrev pub ReadsPrevLink : A → P → Option P → Type 0
   ReadsPrevLink arena p result = (v : V) (others : List (Item Gen V)) → IsRing state interlinks arena ((key p, v) ∷ others) → option_map key result ≡ last_key ((key p, v) ∷ others)
+
+module _ {A Gen T : Type 0} {view : A → ArenaView Gen (Entry T)} {entry : A → ℕ → Option (Gen × Entry T)} (state : (a : A) → ArenaState (view a) (entry a)) (interlinks : A → LinkMap) where
+  -- `l` is the last link of the list of `h`.
+  abbrev pub EndsList : A → (h l : ℕ × Gen) → Type 0
+  EndsList arena h l = (items : List (Item Gen T)) → IsList state interlinks arena h items → Some l ≡ last_key (ring_of h items)

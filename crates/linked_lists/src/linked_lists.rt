@@ -1,13 +1,14 @@
 //! Linked lists, whose links are all stored in one arena.
 
 ghost use Rattle.std.specs.Prelude.{◌≡◌, ◌↔◌, [], IsTrue, IsSome, IfSome, IfOk, None, Some};
+ghost use Rattle.arena_traits.specs.Arena.{IsValid};
 ghost use Rattle.arena_traits.specs.Entries.{IsNew};
 ghost use Rattle.chain_lists.specs.Sizes.{ReservesMore, CountsEntries, ReportsCapacity};
-ghost use Rattle.linked_lists.specs.LinkedLists.{AllInLists, IsHandle, IsItem, ReadsValue, ReadsFirst, ReadsLast, ReadsNext, ReadsPrev, StartsList, PushesFront, PushesBack, InsertsAfterItem, InsertsBeforeItem, RemovesItem, ReplacesItem};
-ghost use Rattle.linked_lists.specs.RingCalls.{KeepsItemOnly};
+ghost use Rattle.linked_lists.specs.LinkedLists.{AllInLists, IsHandle, IsItem, ReadsValue, ReadsFirst, ReadsLast, ReadsNext, ReadsPrev, StartsList, PushesFront, PushesBack, InsertsAfterItem, InsertsBeforeItem, RemovesItem, ReplacesItem, MovesToFront, MovesToBack, MovesAfterItem};
+ghost use Rattle.linked_lists.specs.RingCalls.{KeepsItemOnly, EndsList};
 
 use crate::entry::{Entry, value_of};
-use crate::rings::{next_link, prev_link, put_after, put_before, start_ring, take};
+use crate::rings::{are_same, next_link, prev_link, put_after, put_before, start_ring, take};
 use arena_ptr::{AnyPointer, ChainInsertionError, GenKey, InxKey, PtrKey, ReallocationError};
 use chain_lists::reserve;
 use chain_traits::ChainArenaTrait;
@@ -143,6 +144,18 @@ impl<P: PtrKey, T: Drop, A: ChainArenaTrait<P, Entry<T>> + Drop> LinkedLists<P, 
         match pointer {
             Some(p) => { if self.is_item(p) { Some(p) } else { None } }
             None => None,
+        }
+    }
+
+    // Returns the pointer of the last link of a list: its last item, or its head if it is empty.
+    fn last_link(&self, h: P) -> P
+        requires { IsHandle (A.entry self.now) (P.key h) }
+        ensures valid { IsValid (A.entry self.now) (P.key result) }
+        ensures last { EndsList A.state A.interlinks self.now (P.key h) (P.key result) }
+    {
+        match prev_link(&self.arena, h) {
+            Some(last) => last,
+            None => unreachable!(),
         }
     }
 
@@ -305,5 +318,60 @@ impl<P: PtrKey, T: Drop, A: ChainArenaTrait<P, Entry<T>> + Drop> LinkedLists<P, 
             return None;
         }
         value_of(take(&mut self.arena, p))
+    }
+
+    /// Moves an item to the start of a list, its own or another one.
+    ///
+    /// Its pointer and all other items stay. Returns `None` and changes nothing if `p` is not an
+    /// item or `h` is not a handle.
+    pub fn move_to_front(&mut self, p: P, h: P) -> Option<()>
+        ensures { MovesToFront A.state A.interlinks self.old (P.key p) (P.key h) result self.new }
+    {
+        if !self.is_item(p) {
+            return None;
+        }
+        if !self.is_list(h) {
+            return None;
+        }
+        self.arena.move_after(p, h)
+    }
+
+    /// Moves an item to the end of a list, its own or another one.
+    ///
+    /// Its pointer and all other items stay. Returns `None` and changes nothing if `p` is not an
+    /// item or `h` is not a handle.
+    pub fn move_to_back(&mut self, p: P, h: P) -> Option<()>
+        ensures { MovesToBack A.state A.interlinks self.old (P.key p) (P.key h) result self.new }
+    {
+        if !self.is_item(p) {
+            return None;
+        }
+        if !self.is_list(h) {
+            return None;
+        }
+        let last = self.last_link(h);
+        if are_same(last, p) {
+            return Some(());
+        }
+        self.arena.move_after(p, last)
+    }
+
+    /// Moves an item directly behind another one, in the same list or in another one.
+    ///
+    /// Its pointer and all other items stay. Returns `None` and changes nothing if `p` or `q` is
+    /// not an item, or if both are the same item.
+    pub fn move_after(&mut self, p: P, q: P) -> Option<()>
+        ensures { MovesAfterItem A.state A.interlinks self.old (P.key p) (P.key q) result self.new }
+    {
+        if !self.is_item(p) {
+            return None;
+        }
+        if !self.is_item(q) {
+            return None;
+        }
+        if are_same(p, q) {
+            return None;
+        }
+        self.arena.move_after(p, q)
     }
 }

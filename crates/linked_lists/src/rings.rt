@@ -1,5 +1,6 @@
 //! Insertions and removals in the rings of an arena of links.
 
+ghost use Rattle.std.specs.Prelude.{◌≡◌, ◌↔◌, IsTrue};
 ghost use Rattle.chain_laws.specs.Chains.{cyclic};
 ghost use Rattle.chain_lists.specs.Lists.{StartsList, InsertsItemAfter, InsertsItemBefore, RemovesItem};
 ghost use Rattle.linked_lists.specs.RingCalls.{ReadsNextLink, ReadsPrevLink};
@@ -73,4 +74,11 @@ pub(crate) fn prev_link<P: PtrKey, V: Drop, A: ChainArenaTrait<P, V>>(arena: &A,
         Some(link) => link.prev(),
         None => None,
     }
+}
+
+// Returns whether two pointers have the same index and generation.
+pub(crate) fn are_same<P: PtrKey>(p: P, q: P) -> bool
+    ensures { IsTrue result ↔ (P.key p ≡ P.key q) }
+{
+    p.is_same(q)
 }
