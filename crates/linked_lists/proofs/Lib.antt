@@ -4,3 +4,6 @@ mod InsertionLemmas
 mod ReadingLemmas
 mod ChangeLemmas
 mod MoveLemmas
+mod RunLemmas
+mod HandleLemmas
+mod SplitLemmas

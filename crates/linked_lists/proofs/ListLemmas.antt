@@ -135,6 +135,17 @@ module _ {A Gen T : Type 0} {view : A → ArenaView Gen (Entry T)} {entry : A �
     pub all_in_lists : EachInList state interlinks a → AllInLists state interlinks a
     all_in_lists each = record { lists = list_of each; items = place_of each; once = one_list }
 
+    -- If all are in lists, each entry is in a list.
+    pub each_of_all : AllInLists state interlinks a → EachInList state interlinks a
+    each_of_all all i some = by (entry a i) refl some
+      where
+        by : (o : Option (Gen × Entry T)) → entry a i ≡ o → is_some (entry a i) ≡ true → IsInList state interlinks a i
+        by None is some = absurd (let none = ap is_some is in let both = sym some ∙ none in cc)
+        by (Some (g, entries.Head)) is some = let list = all.lists (i, g) is in record { handle = (i, g); items = list.0; list = list.1; among = inl refl }
+        by (Some (g, entries.Item t)) is some =
+            let at = all.items (i, g) t is in
+            record { handle = at.handle; items = at.before ++ ((i, g), t) ∷ at.after; list = at.list; among = ring_has at.handle (at.before ++ ((i, g), t) ∷ at.after) i (inr (among-right at.before (((i, g), t) ∷ at.after) i (inl refl))) }
+
     -- The links of a list are those of the list of its handle.
     pub links_of_handle : (k h : ℕ × Gen) (ys xs : List (Item Gen T)) (i : ℕ) → IsList state interlinks a k ys → IsList state interlinks a h xs → k ≡ h → IsMember (indexes (ring_of k ys)) i → IsMember (indexes (ring_of h xs)) i
     links_of_handle k h ys xs i one two same among =

@@ -194,6 +194,13 @@ module _ {A Gen T : Type 0} {view : A → ArenaView Gen (Entry T)} {entry : A �
       prev : (h : ℕ × Gen) (t : T) (before after : List (Item Gen T)) → IsList state interlinks arena h (before ++ (key p, t) ∷ after) → option_map key result ≡ last_key before;
     }
 
+    -- `list_of`: the handle of the list of `p`, if `p` is an item.
+    abbrev pub ReadsHandle : A → P → Option P → Type 0
+    ReadsHandle arena p result = record {
+      none : ¬ IsItem (entry arena) (key p) → result ≡ None;
+      handle : (h : ℕ × Gen) (t : T) (before after : List (Item Gen T)) → IsList state interlinks arena h (before ++ (key p, t) ∷ after) → option_map key result ≡ Some h;
+    }
+
     -- `walk`: the pointers are those of the items of the list of `h`.
     abbrev pub ListsItems : A → P → List P → Type 0
     ListsItems arena h pointers = (items : List (Item Gen T)) × IsList state interlinks arena (key h) items × (map key pointers ≡ pointers_of items)

@@ -1,12 +1,14 @@
 -- What the calls on rings below `LinkedLists` read and change.
 use Rattle.std.specs.Prelude.{◌≡◌, ◌≢◌, ℕ, List, [], ◌∷◌, ◌++◌, OnErr, Option, None, Some, Result}
 use Rattle.std.specs.Option.{option_map}
-use Rattle.chain_laws.specs.Chains.{LinkMap}
+use Rattle.chain_laws.specs.Chains.{LinkMap, IsMember}
+use Rattle.chain_laws.specs.Walks.{IsWalk}
+use Rattle.arena_traits.specs.Arena.{IsValid}
 use Rattle.arena_traits.specs.Entries.{ArenaView, ArenaState, first_key, last_key}
 use Rattle.chain_lists.specs.Lists.{Item, IsRing}
 use Rattle.linked_lists.specs.declared.entry.Entry.{Entry}
 use Rattle.linked_lists.specs.declared.entry.Entry.TheVariants as entries
-use Rattle.linked_lists.specs.LinkedLists.{IsItem, IsList, ring_of}
+use Rattle.linked_lists.specs.LinkedLists.{IsHandle, IsItem, IsList, ring_of}
 
 -- The value of an item.
 abbrev pub value_in : {T : Type 0} → Option (Entry T) → Option T
@@ -22,6 +24,11 @@ KeepsItemOnly entry key (Some p) result = record {
   none : (IsItem entry (key p) → ⊥) → result ≡ None;
 }
 
+-- A head on the walk from `p` is found, if there is one.
+abbrev pub FindsHead : {Gen T P : Type 0} → (ℕ → Option (Gen × Entry T)) → LinkMap → (P → ℕ × Gen) → ℕ × Gen → Option P → Type 0
+FindsHead {Gen} entry links key p None = IsValid entry p → (walk : List ℕ) (k : ℕ × Gen) → IsWalk links p.0 walk → IsHandle entry k → IsMember walk k.0 → ⊥
+FindsHead entry links key p (Some h) = IsHandle entry (key h) × (walk : List ℕ) × IsWalk links p.0 walk × IsMember walk (key h).0
+
 module _ {A Gen V : Type 0} {view : A → ArenaView Gen V} {entry : A → ℕ → Option (Gen × V)} (state : (a : A) → ArenaState (view a) (entry a)) (interlinks : A → LinkMap) {P : Type 0} (key : P → ℕ × Gen) where
   -- The link after `p` in its ring, and the link before it.
   abbrev pub ReadsNextLink : A → P → Option P → Type 0
@@ -34,3 +41,7 @@ module _ {A Gen T : Type 0} {view : A → ArenaView Gen (Entry T)} {entry : A �
   -- `l` is the last link of the list of `h`.
   abbrev pub EndsList : A → (h l : ℕ × Gen) → Type 0
   EndsList arena h l = (items : List (Item Gen T)) → IsList state interlinks arena h items → Some l ≡ last_key (ring_of h items)
+
+  -- `l` is the last link of the list of `p`.
+  abbrev pub EndsListOf : A → (p l : ℕ × Gen) → Type 0
+  EndsListOf arena p l = (h : ℕ × Gen) (t : T) (before after : List (Item Gen T)) → IsList state interlinks arena h (before ++ (p, t) ∷ after) → Some l ≡ last_key (ring_of h (before ++ (p, t) ∷ after))

@@ -4,11 +4,13 @@ ghost use Rattle.std.specs.Prelude.{◌≡◌, ◌↔◌, [], IsTrue, IsSome, If
 ghost use Rattle.arena_traits.specs.Arena.{IsValid};
 ghost use Rattle.arena_traits.specs.Entries.{IsNew};
 ghost use Rattle.chain_lists.specs.Sizes.{ReservesMore, CountsEntries, ReportsCapacity};
-ghost use Rattle.linked_lists.specs.LinkedLists.{AllInLists, IsHandle, IsItem, ReadsValue, ReadsFirst, ReadsLast, ReadsNext, ReadsPrev, StartsList, PushesFront, PushesBack, InsertsAfterItem, InsertsBeforeItem, RemovesItem, ReplacesItem, MovesToFront, MovesToBack, MovesAfterItem};
-ghost use Rattle.linked_lists.specs.RingCalls.{KeepsItemOnly, EndsList};
+ghost use Rattle.linked_lists.specs.LinkedLists.{AllInLists, IsHandle, IsItem, ReadsValue, ReadsFirst, ReadsLast, ReadsNext, ReadsPrev, ReadsHandle, StartsList, PushesFront, PushesBack, InsertsAfterItem, InsertsBeforeItem, RemovesItem, ReplacesItem, MovesToFront, MovesToBack, MovesAfterItem, AppendsList, SplitsOff};
+ghost use Rattle.linked_lists.specs.RingCalls.{KeepsItemOnly, EndsList, EndsListOf};
 
 use crate::entry::{Entry, value_of};
-use crate::rings::{are_same, next_link, prev_link, put_after, put_before, start_ring, take};
+use crate::rings::{
+    are_same, find_head, is_head, next_link, prev_link, put_after, put_before, start_ring, take,
+};
 use arena_ptr::{AnyPointer, ChainInsertionError, GenKey, InxKey, PtrKey, ReallocationError};
 use chain_lists::reserve;
 use chain_traits::ChainArenaTrait;
@@ -111,10 +113,7 @@ impl<P: PtrKey, T: Drop, A: ChainArenaTrait<P, Entry<T>> + Drop> LinkedLists<P, 
     pub fn is_list(&self, h: P) -> bool
         ensures { IsTrue result ↔ IsHandle (A.entry self.now) (P.key h) }
     {
-        match self.arena.get(h) {
-            Some(Entry::Head) => true,
-            _ => false,
-        }
+        is_head(&self.arena, h)
     }
 
     /// Returns whether `p` is the pointer of an item.
@@ -201,6 +200,18 @@ impl<P: PtrKey, T: Drop, A: ChainArenaTrait<P, Entry<T>> + Drop> LinkedLists<P, 
             return None;
         }
         self.item_only(prev_link(&self.arena, p))
+    }
+
+    /// Returns the handle of the list that an item is in, or `None` if `p` is not an item.
+    ///
+    /// Takes as many steps as there are items from `p` on.
+    pub fn list_of(&self, p: P) -> Option<P>
+        ensures { ReadsHandle A.state A.interlinks P.key self.now p result }
+    {
+        if !self.is_item(p) {
+            return None;
+        }
+        find_head(&self.arena, p)
     }
 
     /// Creates an empty list and returns its handle.
@@ -373,5 +384,69 @@ impl<P: PtrKey, T: Drop, A: ChainArenaTrait<P, Entry<T>> + Drop> LinkedLists<P, 
             return None;
         }
         self.arena.move_after(p, q)
+    }
+
+    /// Moves all items of the list of `k` behind those of the list of `h`, in O(1).
+    ///
+    /// The list of `k` is empty then, and its handle stays valid. Pointers to items stay. Returns
+    /// `None` and changes nothing if `h` or `k` is not a handle, or if both are the same handle.
+    pub fn append(&mut self, h: P, k: P) -> Option<()>
+        ensures { AppendsList A.state A.interlinks self.old (P.key h) (P.key k) result self.new }
+    {
+        if !self.is_list(h) {
+            return None;
+        }
+        if !self.is_list(k) {
+            return None;
+        }
+        if are_same(h, k) {
+            return None;
+        }
+        match self.first(k) {
+            Some(first) => {
+                let end = self.last_link(h);
+                let last = self.last_link(k);
+                self.arena.splice_after(end, first, last)
+            }
+            None => Some(()),
+        }
+    }
+
+    // Returns the pointer of the last item of the list of `p`.
+    fn end_of_list_of(&self, p: P) -> P
+        requires { IsItem (A.entry self.now) (P.key p) }
+        ensures valid { IsValid (A.entry self.now) (P.key result) }
+        ensures last { EndsListOf A.state A.interlinks self.now (P.key p) (P.key result) }
+    {
+        self.all_in_lists();
+        match self.list_of(p) {
+            Some(h) => self.last_link(h),
+            None => unreachable!(),
+        }
+    }
+
+    /// Moves the items of a list from `p` on to a new list and returns the new handle.
+    ///
+    /// Pointers to items stay. Returns `Ok(None)` and changes nothing if `p` is not an item.
+    ///
+    /// Takes as many steps as there are items from `p` on, to find the end of the list.
+    ///
+    /// # Errors
+    ///
+    /// - `BeyondMaxCapacity`: growth would exceed the maximum.
+    /// - `AllocError`: growth would exceed the greatest index, or an allocation failed.
+    ///
+    /// On error, nothing changes.
+    pub fn split_off(&mut self, p: P) -> Result<Option<P>, ReallocationError>
+        ensures { SplitsOff A.state A.interlinks P.key P.Inx.greatest self.old p result self.new }
+    {
+        if !self.is_item(p) {
+            return Ok(None);
+        }
+        self.all_in_lists();
+        let last = self.end_of_list_of(p);
+        let q = self.new_list()?;
+        self.arena.splice_after(q, p, last);
+        Ok(Some(q))
     }
 }

@@ -3,11 +3,15 @@
 ghost use Rattle.std.specs.Prelude.{◌≡◌, ◌↔◌, IsTrue};
 ghost use Rattle.chain_laws.specs.Chains.{cyclic};
 ghost use Rattle.chain_lists.specs.Lists.{StartsList, InsertsItemAfter, InsertsItemBefore, RemovesItem};
-ghost use Rattle.linked_lists.specs.RingCalls.{ReadsNextLink, ReadsPrevLink};
+ghost use Rattle.linked_lists.specs.LinkedLists.{IsHandle};
+ghost use Rattle.linked_lists.specs.RingCalls.{ReadsNextLink, ReadsPrevLink, FindsHead};
 
+use crate::entry::Entry;
 use arena_ptr::{AnyPointer, ChainInsertionError, GenKey, InxKey, PtrKey, ReallocationError};
+use arena_traits::Advancer;
 use chain_links::LinkInsertKind;
 use chain_traits::ChainArenaTrait;
+use chain_traits::walks::advancer_passes_the_walk;
 
 // Creates a ring of one link and returns the link's pointer.
 pub(crate) fn start_ring<P: PtrKey, V: Drop, A: ChainArenaTrait<P, V>>(
@@ -81,4 +85,34 @@ pub(crate) fn are_same<P: PtrKey>(p: P, q: P) -> bool
     ensures { IsTrue result ↔ (P.key p ≡ P.key q) }
 {
     p.is_same(q)
+}
+
+// Returns whether `h` is the pointer of a head.
+pub(crate) fn is_head<P: PtrKey, T: Drop, A: ChainArenaTrait<P, Entry<T>>>(arena: &A, h: P) -> bool
+    ensures { IsTrue result ↔ IsHandle (A.entry arena.now) (P.key h) }
+{
+    match arena.get(h) {
+        Some(Entry::Head) => true,
+        _ => false,
+    }
+}
+
+// Returns the first head on the walk from `p`, if there is one.
+pub(crate) fn find_head<P: PtrKey, T: Drop, A: ChainArenaTrait<P, Entry<T>>>(
+    arena: &A,
+    p: P,
+) -> Option<P>
+    ensures { FindsHead (A.entry arena.now) (A.interlinks arena.now) P.key (P.key p) result }
+{
+    advancer_passes_the_walk(arena, p);
+    let mut along = match arena.advancer_chain(p) {
+        Some(along) => along,
+        None => return None,
+    };
+    while let Some(q) = along.advance(arena) {
+        if is_head(arena, q) {
+            return Some(q);
+        }
+    }
+    None
 }
