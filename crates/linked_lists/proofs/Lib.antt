@@ -7,3 +7,4 @@ mod MoveLemmas
 mod RunLemmas
 mod HandleLemmas
 mod SplitLemmas
+mod WalkedLemmas

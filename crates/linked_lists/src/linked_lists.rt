@@ -1,10 +1,10 @@
 //! Linked lists, whose links are all stored in one arena.
 
-ghost use Rattle.std.specs.Prelude.{◌≡◌, ◌↔◌, [], IsTrue, IsSome, IfSome, IfOk, None, Some};
+ghost use Rattle.std.specs.Prelude.{◌≡◌, ◌↔◌, List, [], ◌∷◌, ◌++◌, IsTrue, IsSome, IfSome, IfOk, None, Some};
 ghost use Rattle.arena_traits.specs.Arena.{IsValid};
 ghost use Rattle.arena_traits.specs.Entries.{IsNew};
 ghost use Rattle.chain_lists.specs.Sizes.{ReservesMore, CountsEntries, ReportsCapacity};
-ghost use Rattle.linked_lists.specs.LinkedLists.{AllInLists, IsHandle, IsItem, ReadsValue, ReadsFirst, ReadsLast, ReadsNext, ReadsPrev, ReadsHandle, StartsList, PushesFront, PushesBack, InsertsAfterItem, InsertsBeforeItem, RemovesItem, ReplacesItem, MovesToFront, MovesToBack, MovesAfterItem, AppendsList, SplitsOff};
+ghost use Rattle.linked_lists.specs.LinkedLists.{AllInLists, IsHandle, IsItem, ReadsValue, ReadsFirst, ReadsLast, ReadsNext, ReadsPrev, ReadsHandle, ListsItems, StartsList, PushesFront, PushesBack, InsertsAfterItem, InsertsBeforeItem, RemovesItem, ReplacesItem, MovesToFront, MovesToBack, MovesAfterItem, AppendsList, SplitsOff};
 ghost use Rattle.linked_lists.specs.RingCalls.{KeepsItemOnly, EndsList, EndsListOf};
 
 use crate::entry::{Entry, value_of};
@@ -14,6 +14,7 @@ use crate::rings::{
 use arena_ptr::{AnyPointer, ChainInsertionError, GenKey, InxKey, PtrKey, ReallocationError};
 use chain_lists::reserve;
 use chain_traits::ChainArenaTrait;
+use chain_traits::walks::walk;
 use std::alloc::{AllocError, Global};
 use std::marker::{Model, PhantomData};
 
@@ -449,4 +450,36 @@ impl<P: PtrKey, T: Drop, A: ChainArenaTrait<P, Entry<T>> + Drop> LinkedLists<P, 
         self.arena.splice_after(q, p, last);
         Ok(Some(q))
     }
+
+    /// Returns the pointers of the items of a list, in order, or `None` if `h` is not a handle.
+    ///
+    /// # Errors
+    ///
+    /// - `AllocError`: an allocation failed.
+    pub fn walk(&self, alloc: Global, h: P) -> Result<Option<Vec<P>>, AllocError>
+        ensures some { IfOk result (λ r. IsSome r ↔ IsHandle (A.entry self.now) (P.key h)) }
+        ensures items { IfOk result (λ r. IfSome r (λ pointers. ListsItems A.state A.interlinks
+            P.key self.now h pointers.items)) }
+    {
+        self.all_in_lists();
+        if !self.is_list(h) {
+            return Ok(None);
+        }
+        match self.first(h) {
+            Some(first) => match walk(&self.arena, alloc, first)? {
+                Some(pointers) => Ok(Some(without_last(pointers))),
+                None => unreachable!(),
+            },
+            None => Ok(Some(Vec::new(alloc))),
+        }
+    }
+}
+
+// Removes the last pointer.
+fn without_last<P: PtrKey>(mut pointers: Vec<P>) -> Vec<P>
+    ensures { (others : List P) (last : P) → pointers.items ≡ others ++ last ∷ []
+        → result.items ≡ others }
+{
+    pointers.pop();
+    pointers
 }
