@@ -97,6 +97,9 @@ module _ {A Gen T : Type 0} {view : A → ArenaView Gen (Entry T)} {entry : A �
             (is.list (ring_of h before) (map as_item after) (subst (IsRing state interlinks old) (ring_parts h before ((pointers.key p, t) ∷ after)) was) (λ none. cc));
         others = keeps_others state interlinks old new h (pointers.key p) (before ++ (pointers.key p, t) ∷ after) is.others was (has_item state interlinks old new (pointers.key p) (pointers.key p, t) h t before after);
       };
+      gone = is.gone;
+      entries = is.entries;
+      size = is.size;
     }
 
     pub removes_item : (r : Option (Entry T)) → IsItem (entry old) (pointers.key p) → rings.RemovesItem state interlinks cyclic pointers old p r new → RemovesItem state interlinks pointers old p (value_in r) new

@@ -8,3 +8,4 @@ mod RunLemmas
 mod HandleLemmas
 mod SplitLemmas
 mod WalkedLemmas
+mod ListRemovalLemmas

@@ -1,6 +1,6 @@
 -- Linked lists in an arena of links: what is a list, and what the calls of `LinkedLists` read and
 -- change.
-use Rattle.std.specs.Prelude.{◌≡◌, ◌≢◌, ◌↔◌, ℕ, List, [], ◌∷◌, ◌++◌, map, IsSome, IfSome, OnErr, Option, None, Some, Result, Ok, Err}
+use Rattle.std.specs.Prelude.{◌≡◌, ◌≢◌, ◌↔◌, ℕ, ◌+◌, List, [], ◌∷◌, ◌++◌, map, length, IsSome, IfSome, OnErr, Option, None, Some, Result, Ok, Err}
 use Rattle.std.specs.Option.{option_map}
 use Rattle.std.specs.Borrow.{Bor}
 use Rattle.arena_core.specs.PointerKinds.{PointerKind}
@@ -8,7 +8,7 @@ use Rattle.arena_core.specs.declared.errors.ChainInsertionError.{ChainInsertionE
 use Rattle.arena_core.specs.declared.errors.ReallocationError.{ReallocationError}
 use Rattle.chain_laws.specs.Chains.{LinkMap, IsMember}
 use Rattle.arena_traits.specs.Arena.{IsValid}
-use Rattle.arena_traits.specs.Entries.{ArenaView, ArenaState, first_key, last_key, view_with_value}
+use Rattle.arena_traits.specs.Entries.{ArenaView, ArenaState, count, first_key, last_key, view_with_value, view_after_removal}
 use Rattle.arena_traits.specs.CallOutcomes.{IsEntryInserted, IsEntryRemoved}
 use Rattle.arena_traits.specs.Growth.{IsGrowthResult, RefusesOneMore, GrowsForOneMore}
 use Rattle.chain_links.specs.Insertions.{IsInsertionResult}
@@ -20,6 +20,11 @@ use Rattle.linked_lists.specs.declared.entry.Entry.TheVariants as entries
 abbrev pub IsNoneOf : {Gen : Type 0} → List (ℕ × Gen) → ℕ × Gen → Type 0
 IsNoneOf [] k = Unit {0}
 IsNoneOf (h ∷ hs) k = (k ≢ h) × IsNoneOf hs k
+
+-- The view after the entries at these indexes are removed, one after another.
+abbrev pub view_after_removals : {Gen V : Type 0} → (Gen → Gen) → ArenaView Gen V → List ℕ → ArenaView Gen V
+view_after_removals following s [] = s
+view_after_removals following s (i ∷ rest) = view_after_removals following (view_after_removal following s i) rest
 
 module _ {Gen T : Type 0} where
   -- The entry of an item, and the ring of a list: its head, then its items.
@@ -129,6 +134,21 @@ module _ {A Gen T : Type 0} {view : A → ArenaView Gen (Entry T)} {entry : A �
     pub record IsItemRemoved {P I W : Type 0} (pointers : PointerKind P I Gen W) (p : ℕ × Gen) (t : T) : Type 0 where
       pub removed : IsEntryRemoved state pointers old p.0 p.1 (entries.Item t) new
       pub list : (h : ℕ × Gen) (before after : List (Item Gen T)) → IsList old h (before ++ (p, t) ∷ after) → Becomes h (before ++ after)
+      pub gone : entry new p.0 ≡ None
+      pub entries : (i : ℕ) → i ≢ p.0 → entry new i ≡ entry old i
+      pub size : count (view old) ≡ count (view new) + 1
+
+    -- The entries at these indexes are removed, one after another, and all others stay.
+    pub record AreEntriesRemoved (following : Gen → Gen) (removed : List ℕ) : Type 0 where
+      pub view_after : view new ≡ view_after_removals following (view old) removed
+      pub gone : (i : ℕ) → IsMember removed i → entry new i ≡ None
+      pub entries : (i : ℕ) → (IsMember removed i → ⊥) → entry new i ≡ entry old i
+
+    -- The items of the list of `h` are removed, from the first one on, and its head after them.
+    pub record IsListRemoved (following : Gen → Gen) (h : ℕ × Gen) (items : List (Item Gen T)) : Type 0 where
+      pub list : IsList old h items
+      pub removed : AreEntriesRemoved following (indexes items ++ h.0 ∷ [])
+      pub others : KeepsOthers (h ∷ [])
 
     -- The entries, the counter and the capacity are unchanged.
     abbrev pub KeepsEntries : Type 0
@@ -269,3 +289,9 @@ module _ {A Gen T : Type 0} {view : A → ArenaView Gen (Entry T)} {entry : A �
   abbrev pub AppendsList : A → (h k : ℕ × Gen) → Option Unit → A → Type 0
   AppendsList old h k None new = (IsHandle (entry old) h × IsHandle (entry old) k × (h ≢ k) → ⊥) × (new ≡ old)
   AppendsList old h k (Some done) new = IsHandle (entry old) h × IsHandle (entry old) k × (h ≢ k) × IsAppended state interlinks old new h k
+
+  -- `remove_list`: the list of `h` is removed and the number of its items returned, if `h` is a
+  -- handle.
+  abbrev pub RemovesList : (Gen → Gen) → A → ℕ × Gen → Option ℕ → A → Type 0
+  RemovesList following old h None new = (IsHandle (entry old) h → ⊥) × (new ≡ old)
+  RemovesList following old h (Some n) new = (items : List (Item Gen T)) × IsListRemoved state interlinks old new following h items × (n ≡ length items)

@@ -1,14 +1,14 @@
 -- What the calls on rings below `LinkedLists` read and change.
-use Rattle.std.specs.Prelude.{◌≡◌, ◌≢◌, ℕ, List, [], ◌∷◌, ◌++◌, OnErr, Option, None, Some, Result}
+use Rattle.std.specs.Prelude.{◌≡◌, ◌≢◌, ℕ, List, [], ◌∷◌, ◌++◌, length, Option, None, Some}
 use Rattle.std.specs.Option.{option_map}
 use Rattle.chain_laws.specs.Chains.{LinkMap, IsMember}
 use Rattle.chain_laws.specs.Walks.{IsWalk}
 use Rattle.arena_traits.specs.Arena.{IsValid}
 use Rattle.arena_traits.specs.Entries.{ArenaView, ArenaState, first_key, last_key}
-use Rattle.chain_lists.specs.Lists.{Item, IsRing}
+use Rattle.chain_lists.specs.Lists.{Item, indexes, IsRing}
 use Rattle.linked_lists.specs.declared.entry.Entry.{Entry}
 use Rattle.linked_lists.specs.declared.entry.Entry.TheVariants as entries
-use Rattle.linked_lists.specs.LinkedLists.{IsHandle, IsItem, IsList, ring_of}
+use Rattle.linked_lists.specs.LinkedLists.{IsHandle, IsItem, IsList, KeepsOthers, AreEntriesRemoved, ring_of}
 
 -- The value of an item.
 abbrev pub value_in : {T : Type 0} → Option (Entry T) → Option T
@@ -45,3 +45,8 @@ module _ {A Gen T : Type 0} {view : A → ArenaView Gen (Entry T)} {entry : A �
   -- `l` is the last link of the list of `p`.
   abbrev pub EndsListOf : A → (p l : ℕ × Gen) → Type 0
   EndsListOf arena p l = (h : ℕ × Gen) (t : T) (before after : List (Item Gen T)) → IsList state interlinks arena h (before ++ (p, t) ∷ after) → Some l ≡ last_key (ring_of h (before ++ (p, t) ∷ after))
+
+  -- The items of the list of `h` are removed, from the first one on, and their number is returned.
+  abbrev pub EmptiesList : (Gen → Gen) → A → ℕ × Gen → ℕ → A → Type 0
+  EmptiesList following old h n new = (items : List (Item Gen T)) × IsList state interlinks old h items × IsList state interlinks new h []
+      × AreEntriesRemoved state interlinks old new following (indexes items) × KeepsOthers state interlinks old new (h ∷ []) × (n ≡ length items)

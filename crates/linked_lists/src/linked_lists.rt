@@ -4,8 +4,8 @@ ghost use Rattle.std.specs.Prelude.{◌≡◌, ◌↔◌, List, [], ◌∷◌, �
 ghost use Rattle.arena_traits.specs.Arena.{IsValid};
 ghost use Rattle.arena_traits.specs.Entries.{IsNew};
 ghost use Rattle.chain_lists.specs.Sizes.{ReservesMore, CountsEntries, ReportsCapacity};
-ghost use Rattle.linked_lists.specs.LinkedLists.{AllInLists, IsHandle, IsItem, ReadsValue, ReadsFirst, ReadsLast, ReadsNext, ReadsPrev, ReadsHandle, ListsItems, StartsList, PushesFront, PushesBack, InsertsAfterItem, InsertsBeforeItem, RemovesItem, ReplacesItem, MovesToFront, MovesToBack, MovesAfterItem, AppendsList, SplitsOff};
-ghost use Rattle.linked_lists.specs.RingCalls.{KeepsItemOnly, EndsList, EndsListOf};
+ghost use Rattle.linked_lists.specs.LinkedLists.{AllInLists, IsHandle, IsItem, ReadsValue, ReadsFirst, ReadsLast, ReadsNext, ReadsPrev, ReadsHandle, ListsItems, StartsList, PushesFront, PushesBack, InsertsAfterItem, InsertsBeforeItem, RemovesItem, ReplacesItem, MovesToFront, MovesToBack, MovesAfterItem, AppendsList, SplitsOff, RemovesList};
+ghost use Rattle.linked_lists.specs.RingCalls.{KeepsItemOnly, EndsList, EndsListOf, EmptiesList};
 
 use crate::entry::{Entry, value_of};
 use crate::rings::{
@@ -472,6 +472,36 @@ impl<P: PtrKey, T: Drop, A: ChainArenaTrait<P, Entry<T>> + Drop> LinkedLists<P, 
             },
             None => Ok(Some(Vec::new(alloc))),
         }
+    }
+
+    // Removes all items of a list, from the first one on, and returns how many they were.
+    fn remove_items(&mut self, h: P) -> usize
+        requires { IsHandle (A.entry self.old) (P.key h) }
+        ensures { EmptiesList A.state A.interlinks P.Gen.following self.old (P.key h) result
+            self.new }
+    {
+        self.all_in_lists();
+        let links = self.len();
+        while let Some(p) = self.first(h) {
+            self.remove(p);
+        }
+        links - self.len()
+    }
+
+    /// Removes a list, drops its items, and returns how many they were.
+    ///
+    /// All other lists and the capacity stay the same. Returns `None` and changes nothing if `h` is
+    /// not a handle.
+    pub fn remove_list(&mut self, h: P) -> Option<usize>
+        ensures { RemovesList A.state A.interlinks P.Gen.following self.old (P.key h) result
+            self.new }
+    {
+        if !self.is_list(h) {
+            return None;
+        }
+        let items = self.remove_items(h);
+        take(&mut self.arena, h);
+        Some(items)
     }
 }
 
