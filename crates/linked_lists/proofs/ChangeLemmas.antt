@@ -5,7 +5,6 @@ use Rattle.std.proofs.lemmas.Bool.{cases_eq}
 use Rattle.arena_core.specs.PointerKinds.{PointerKind}
 use Rattle.arena_core.specs.declared.errors.ReallocationError.{ReallocationError}
 use Rattle.chain_laws.specs.Chains.{LinkMap, cyclic, IsChain, IsMember}
-use Rattle.arena_traits.specs.Arena.{IsValid}
 use Rattle.arena_traits.specs.Entries.{ArenaView, ArenaState}
 use Rattle.arena_traits.specs.CallOutcomes.{ReplacesValue}
 use Rattle.arena_traits.specs.Growth.{IsGrowthResult, RefusesOneMore, GrowsForOneMore}
@@ -18,9 +17,9 @@ use Rattle.chain_lists.proofs.ListChangeLemmas.{stays}
 use Rattle.chain_lists.proofs.ValueWriteLemmas.{has_new_value}
 use Rattle.linked_lists.specs.declared.entry.Entry.{Entry}
 use Rattle.linked_lists.specs.declared.entry.Entry.TheVariants as entries
-use Rattle.linked_lists.specs.LinkedLists.{as_item, ring_of, IsHandle, HasItem, IsItem, IsList, EachInList, Becomes, KeepsOthers, IsListStarted, StartsList, HasNewValue, ReplacesItem, IsItemRemoved, RemovesItem}
+use Rattle.linked_lists.specs.LinkedLists.{as_item, ring_of, IsItem, EachInList, IsListStarted, CreatesList, ValueBecomes, ReplacesItem, LeavesList, RemovesListItem}
 use Rattle.linked_lists.specs.RingCalls.{value_in}
-use Rattle.linked_lists.proofs.ListLemmas.{ring_parts, ring_has, ring_member, ring_more, keeps_others, each_kept, list_of, place_of, item_valid, head_or_item}
+use Rattle.linked_lists.proofs.ListLemmas.{ring_parts, ring_has, ring_member, ring_more, keeps_others, each_kept, place_of, item_valid, head_or_item}
 use Rattle.linked_lists.proofs.InsertionLemmas.{has_item}
 
 module _ {A Gen T : Type 0} {view : A → ArenaView Gen (Entry T)} {entry : A → ℕ → Option (Gen × Entry T)} (state : (a : A) → ArenaState (view a) (entry a)) (interlinks : A → LinkMap) where
@@ -48,10 +47,10 @@ module _ {A Gen T : Type 0} {view : A → ArenaView Gen (Entry T)} {entry : A �
       (cases_eq i h.0)
 
   module _ {P : Type 0} (key : P → ℕ × Gen) (greatest : ℕ) (old new : A) (o : Result P ReallocationError) where
-    pub starts_list : rings.StartsList state interlinks cyclic key greatest old entries.Head o new → StartsList state interlinks key greatest old o new
+    pub starts_list : rings.StartsList state interlinks cyclic key greatest old entries.Head o new → CreatesList state interlinks key greatest old o new
     starts_list is = record { outcome = growth_to (RefusesOneMore (view old)) _ _ o is.outcome (λ q done. (list_started old new (key q) done.0, done.1)); err = is.err }
 
-    pub each_list_started : EachInList state interlinks old → StartsList state interlinks key greatest old o new → EachInList state interlinks new
+    pub each_list_started : EachInList state interlinks old → CreatesList state interlinks key greatest old o new → EachInList state interlinks new
     each_list_started each is = by o is.outcome is.err
       where
         by : (r : Result P ReallocationError) → IsGrowthResult (RefusesOneMore (view old)) (λ q. IsListStarted state interlinks old new (key q) × GrowsForOneMore greatest (view old) (view new)) r → OnErr r (new ≡ old) → EachInList state interlinks new
@@ -60,7 +59,7 @@ module _ {A Gen T : Type 0} {view : A → ArenaView Gen (Entry T)} {entry : A �
 
   module _ (old new : A) where
     -- A value is written.
-    new_value : (p : ℕ × Gen) (t : T) → rings.HasNewValue state interlinks cyclic old new p (entries.Item t) → HasNewValue state interlinks old new p t
+    new_value : (p : ℕ × Gen) (t : T) → rings.HasNewValue state interlinks cyclic old new p (entries.Item t) → ValueBecomes state interlinks old new p t
     new_value p t is = record {
       list = λ h s before after was. record {
         list = subst (IsRing state interlinks new) (sym (ring_parts h before ((p, t) ∷ after)))
@@ -89,7 +88,7 @@ module _ {A Gen T : Type 0} {view : A → ArenaView Gen (Entry T)} {entry : A �
 
   -- An item leaves its list and the arena.
   module _ {P I W : Type 0} (pointers : PointerKind P I Gen W) (old new : A) (p : P) where
-    item_removed : (t : T) → rings.IsItemRemoved state interlinks cyclic old new pointers (pointers.key p, entries.Item t) → IsItemRemoved state interlinks old new pointers (pointers.key p) t
+    item_removed : (t : T) → rings.IsItemRemoved state interlinks cyclic old new pointers (pointers.key p, entries.Item t) → LeavesList state interlinks old new pointers (pointers.key p) t
     item_removed t is = record {
       removed = is.removed;
       list = λ h before after was. record {
@@ -102,7 +101,7 @@ module _ {A Gen T : Type 0} {view : A → ArenaView Gen (Entry T)} {entry : A �
       size = is.size;
     }
 
-    pub removes_item : (r : Option (Entry T)) → IsItem (entry old) (pointers.key p) → rings.RemovesItem state interlinks cyclic pointers old p r new → RemovesItem state interlinks pointers old p (value_in r) new
+    pub removes_item : (r : Option (Entry T)) → IsItem (entry old) (pointers.key p) → rings.RemovesItem state interlinks cyclic pointers old p r new → RemovesListItem state interlinks pointers old p (value_in r) new
     removes_item None item is = absurd (is.0 (item_valid (entry old) (pointers.key p) item.value item.stored))
     removes_item (Some entries.Head) item is = absurd (head_or_item (entry old) (pointers.key p) (pointers.key p) item.value is.removed.0 item.stored refl)
     removes_item (Some (entries.Item t)) item is = item_removed t is

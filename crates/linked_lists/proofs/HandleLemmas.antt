@@ -1,7 +1,6 @@
 -- The head on the walk from an item is the handle of its list.
-use Rattle.std.proofs.Common.{◌≡◌, ◌≢◌, ℕ, inl, inr, ⊎_elim, List, [], ◌∷◌, ◌++◌, map, Option, None, Some, refl, sym, ap, ◌∙◌, subst}
+use Rattle.std.proofs.Common.{◌≡◌, ℕ, inl, inr, ⊎_elim, List, [], ◌∷◌, ◌++◌, Option, None, Some, refl, sym, ap, ◌∙◌, subst}
 use Rattle.std.specs.Prelude.{is_some, true}
-use Rattle.std.specs.Option.{option_map}
 use Rattle.chain_laws.specs.Chains.{LinkMap, cyclic, IsMember, HasLink}
 use Rattle.chain_laws.specs.Walks.{IsWalk, Walker, step_of, passes_ahead}
 use Rattle.chain_laws.proofs.WalkLemmas.Members.{walk_has, walk_valid, walk_of_chain}
@@ -9,7 +8,7 @@ use Rattle.chain_laws.proofs.WalkLemmas.Steps.{step_ahead}
 use Rattle.chain_laws.proofs.InterlinkLemmas.Inverses.{one_some}
 use Rattle.arena_traits.specs.Arena.{IsValid}
 use Rattle.arena_traits.specs.Entries.{ArenaView, ArenaState, last_key}
-use Rattle.chain_lists.specs.Lists.{Item, indexes}
+use Rattle.chain_lists.specs.Lists.{indexes}
 use Rattle.chain_lists.proofs.ItemListLemmas.{same_pointer}
 use Rattle.linked_lists.specs.declared.entry.Entry.{Entry}
 use Rattle.linked_lists.specs.LinkedLists.{ring_of, IsHandle, IsItem, IsList, HasPlace, ReadsHandle}

@@ -1,20 +1,20 @@
 -- The effect of insertions on lists.
-use Rattle.std.proofs.Common.{◌≡◌, ◌≢◌, ℕ, inl, inr, ⊎_elim, List, [], ◌∷◌, ◌++◌, map, Option, None, Some, refl, sym, ap, ◌∙◌, subst}
-use Rattle.std.specs.Prelude.{is_some, true, OnErr, Result, Ok, Err}
+use Rattle.std.proofs.Common.{◌≡◌, ℕ, inl, inr, ⊎_elim, List, [], ◌∷◌, ◌++◌, map, Option, refl, sym, ap, ◌∙◌, subst}
+use Rattle.std.specs.Prelude.{is_some, OnErr, Result, Ok, Err}
 use Rattle.std.proofs.lemmas.List.{append-nil}
 use Rattle.arena_core.specs.declared.errors.ChainInsertionError.{ChainInsertionError}
 use Rattle.arena_core.specs.declared.errors.ChainInsertionError.TheVariants as failed
 use Rattle.arena_core.specs.declared.errors.ReallocationError.{ReallocationError}
 use Rattle.chain_laws.specs.Chains.{LinkMap, cyclic, IsMember}
-use Rattle.arena_traits.specs.Arena.{IsValid, IsInserted}
+use Rattle.arena_traits.specs.Arena.{IsInserted}
 use Rattle.arena_traits.specs.Entries.{ArenaView, ArenaState}
 use Rattle.arena_traits.specs.Growth.{RefusesOneMore, GrowsForOneMore}
-use Rattle.chain_links.specs.Insertions.{IsInsertionResult, IsInsertionRefusal}
+use Rattle.chain_links.specs.Insertions.{IsInsertionResult}
 use Rattle.chain_lists.specs.Lists.{Item, indexes, IsRing, IsItemAfter, IsItemBefore, InsertsItemAfter, InsertsItemBefore}
 use Rattle.chain_lists.proofs.ItemListLemmas.{among-right}
 use Rattle.linked_lists.specs.declared.entry.Entry.{Entry}
 use Rattle.linked_lists.specs.declared.entry.Entry.TheVariants as entries
-use Rattle.linked_lists.specs.LinkedLists.{as_item, ring_of, IsHandle, HasItem, IsItem, IsList, EachInList, Becomes, GrowsAtStart, GrowsAtEnd, GrowsAfter, GrowsBefore, IsItemAdded, AddsItem}
+use Rattle.linked_lists.specs.LinkedLists.{as_item, ring_of, IsHandle, IsItem, IsList, EachInList, Becomes, GrowsAtStart, GrowsAtEnd, GrowsAfter, GrowsBefore, IsItemAdded, AddsItem}
 use Rattle.linked_lists.proofs.RingLemmas.{ring_rotated}
 use Rattle.linked_lists.proofs.ListLemmas.{ring_parts, ring_has, ring_more, keeps_others, each_kept, list_of, place_of, item_valid, head_valid}
 

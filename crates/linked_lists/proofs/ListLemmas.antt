@@ -1,5 +1,5 @@
 -- Lists as rings: each list has one handle, and each item of an arena is in one list.
-use Rattle.std.proofs.Common.{◌≡◌, ◌≢◌, ℕ, inl, inr, ⊎_elim, List, [], ◌∷◌, ◌++◌, map, Option, None, Some, refl, sym, ap, ◌∙◌, subst}
+use Rattle.std.proofs.Common.{◌≡◌, ℕ, inl, inr, ⊎_elim, List, [], ◌∷◌, ◌++◌, map, Option, None, Some, refl, sym, ap, ◌∙◌, subst}
 use Rattle.std.specs.Prelude.{◌⊎◌, is_some, true}
 use Rattle.std.proofs.lemmas.List.{map-append}
 use Rattle.chain_laws.specs.Chains.{LinkMap, cyclic, IsMember}
@@ -9,11 +9,11 @@ use Rattle.chain_laws.proofs.InterlinkLemmas.Inverses.{one_some}
 use Rattle.chain_laws.proofs.ListLemmas.Members.{IsMember-or_not}
 use Rattle.arena_traits.specs.Arena.{IsValid}
 use Rattle.arena_traits.specs.Entries.{ArenaView, ArenaState}
-use Rattle.chain_lists.specs.Lists.{Item, AreEntries, indexes, IsRing, KeepsWithout}
+use Rattle.chain_lists.specs.Lists.{Item, AreEntries, indexes, KeepsWithout}
 use Rattle.chain_lists.proofs.ItemListLemmas.{same_items, same_pointer, are_stored-right, among-left, among-right, among-parts}
 use Rattle.linked_lists.specs.declared.entry.Entry.{Entry}
 use Rattle.linked_lists.specs.declared.entry.Entry.TheVariants as entries
-use Rattle.linked_lists.specs.LinkedLists.{as_item, ring_of, IsHandle, HasItem, IsItem, IsList, IsInList, EachInList, HasPlace, AllInLists, KeepsOthers, Becomes}
+use Rattle.linked_lists.specs.LinkedLists.{as_item, ring_of, IsHandle, HasItem, IsList, IsInList, EachInList, HasPlace, AllInLists, KeepsOthers, Becomes}
 
 module _ {Gen T : Type 0} where
   -- Items have the indexes of their entries.

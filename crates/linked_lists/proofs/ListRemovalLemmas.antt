@@ -1,19 +1,17 @@
 -- Removing the items of a list one by one, and then its head.
-use Rattle.std.proofs.Common.{◌≡◌, ◌≢◌, ℕ, ◌+◌, ◌<◌, inl, inr, ⊎_elim, List, [], ◌∷◌, ◌++◌, map, Option, None, Some, refl, sym, ap, ◌∙◌, subst, append_assoc, arith}
-use Rattle.std.specs.Prelude.{length, is_some, true}
+use Rattle.std.proofs.Common.{◌≡◌, ◌≢◌, ℕ, ◌+◌, ◌<◌, inl, ⊎_elim, List, [], ◌∷◌, ◌++◌, Option, None, Some, refl, sym, ap, ◌∙◌, subst, append_assoc, arith}
+use Rattle.std.specs.Prelude.{length, is_some}
 use Rattle.std.proofs.lemmas.Bool.{cases_eq}
 use Rattle.std.proofs.lemmas.List.{map-append, append-nil, length-append}
 use Rattle.arena_core.specs.PointerKinds.{PointerKind}
 use Rattle.chain_laws.specs.Chains.{LinkMap, cyclic, IsMember}
 use Rattle.chain_laws.proofs.InterlinkLemmas.Inverses.{one_some}
 use Rattle.chain_laws.proofs.ListLemmas.Members.{IsMember-left, IsMember-right, IsMember-parts}
-use Rattle.arena_traits.specs.Arena.{IsValid}
-use Rattle.arena_traits.specs.Entries.{ArenaView, ArenaState, count, index_of, first_key, view_after_removal}
+use Rattle.arena_traits.specs.Entries.{ArenaView, ArenaState, count, index_of, view_after_removal}
 use Rattle.chain_lists.specs.Lists as rings
 use Rattle.chain_lists.specs.Lists.{Item, indexes}
 use Rattle.linked_lists.specs.declared.entry.Entry.{Entry}
-use Rattle.linked_lists.specs.declared.entry.Entry.TheVariants as entries
-use Rattle.linked_lists.specs.LinkedLists.{ring_of, view_after_removals, IsHandle, HasItem, IsItem, IsList, EachInList, AllInLists, KeepsOthers, AreEntriesRemoved, IsItemRemoved, RemovesItem, ReadsFirst, RemovesList}
+use Rattle.linked_lists.specs.LinkedLists.{ring_of, view_after_removals, IsHandle, HasItem, IsItem, IsList, EachInList, AllInLists, KeepsOthers, AreEntriesRemoved, LeavesList, RemovesListItem, ReadsFirst, RemovesList}
 use Rattle.linked_lists.specs.RingCalls.{EmptiesList}
 use Rattle.linked_lists.proofs.ListLemmas.{same_handle, links_of_handle, head_valid}
 
@@ -64,7 +62,7 @@ module _ {A Gen T : Type 0} {view : A → ArenaView Gen (Entry T)} {entry : A �
     first_left [] is = absurd (let some = reads.first [] is in cc)
     first_left (e ∷ es) is = (e, es, refl, one_some (reads.first (e ∷ es) is), is.are_stored.1.0)
 
-    goes_on : (t : T) → IsItemRemoved state interlinks now new pointers (pointers.key p) t → IsPartlyEmptied pointers.following old new (pointers.key h)
+    goes_on : (t : T) → LeavesList state interlinks now new pointers (pointers.key p) t → IsPartlyEmptied pointers.following old new (pointers.key h)
     goes_on t is = by (first_left part.rest part.list)
       where
         by : (e : Item Gen T) × (rest : List (Item Gen T)) × (part.rest ≡ e ∷ rest) × (pointers.key p ≡ e.0) × HasItem (entry now) e.0 e.1 → IsPartlyEmptied pointers.following old new (pointers.key h)
@@ -92,11 +90,11 @@ module _ {A Gen T : Type 0} {view : A → ArenaView Gen (Entry T)} {entry : A �
         by (e, rest, rest_is, same, stored) = record { value = e.1; stored = subst (λ (k : ℕ × Gen). HasItem (entry now) k e.1) (sym same) stored }
 
     -- Removing the first item goes on, with fewer entries.
-    pub removal_goes_on : (r : Option T) → RemovesItem state interlinks pointers now p r new → IsPartlyEmptied pointers.following old new (pointers.key h)
+    pub removal_goes_on : (r : Option T) → RemovesListItem state interlinks pointers now p r new → IsPartlyEmptied pointers.following old new (pointers.key h)
     removal_goes_on None removes = absurd (removes.0 first_is_item)
     removal_goes_on (Some t) removes = goes_on t removes
 
-    pub fewer_left : (r : Option T) → RemovesItem state interlinks pointers now p r new → count (view new) < count (view now)
+    pub fewer_left : (r : Option T) → RemovesListItem state interlinks pointers now p r new → count (view new) < count (view now)
     fewer_left None removes = absurd (removes.0 first_is_item)
     fewer_left (Some t) removes = omega (arith, removes.size)
 

@@ -11,12 +11,12 @@ use Rattle.arena_traits.specs.Entries.{ArenaView, ArenaState, index_of, last_key
 use Rattle.chain_links.specs.CallEffects.{MovesLinkAfter}
 use Rattle.chain_links.specs.ChainArena.{CanMove}
 use Rattle.chain_traits.proofs.GenericRemovalLemmas.{same_entry}
-use Rattle.chain_lists.specs.Lists.{Item, AreEntries, indexes, IsRing}
+use Rattle.chain_lists.specs.Lists.{Item, indexes, IsRing}
 use Rattle.chain_lists.proofs.ItemListLemmas.{are_stored-append, are_stored-left, are_stored-right, same_pointer, among-left, among-right, among-parts, last_apart, last_is, apart}
 use Rattle.chain_lists.proofs.ListChangeLemmas.{parts, whole, stays}
 use Rattle.linked_lists.specs.declared.entry.Entry.{Entry}
 use Rattle.linked_lists.specs.declared.entry.Entry.TheVariants as entries
-use Rattle.linked_lists.specs.LinkedLists.{as_item, ring_of, IsHandle, HasItem, IsItem, IsList, EachInList, Becomes, KeepsOthers, KeepsEntries, IsItemMoved, AtStart, AtEnd, DirectlyAfter, MovesToFront, MovesToBack, MovesAfterItem}
+use Rattle.linked_lists.specs.LinkedLists.{as_item, ring_of, IsHandle, IsItem, IsList, EachInList, Becomes, KeepsOthers, KeepsEntries, IsItemMoved, AtStart, AtEnd, DirectlyAfter, MovesToFront, MovesToBack, MovesAfterItem}
 use Rattle.linked_lists.proofs.RingLemmas.{ring_rotated}
 use Rattle.linked_lists.proofs.ListLemmas.{indexes-items, ring_parts, ring_has, ring_member, ring_more, same_handle, same_list, list_of, place_of, item_of, head_or_item, item_valid, head_valid, each_kept, each_kept_two}
 use Rattle.linked_lists.proofs.InsertionLemmas.{has_item}

@@ -1,6 +1,5 @@
 -- Reads of lists by reads of their rings.
-use Rattle.std.proofs.Common.{◌≡◌, ◌≢◌, ℕ, inl, inr, ⊎_elim, List, [], ◌∷◌, ◌++◌, map, Option, None, Some, refl, sym, ap, ◌∙◌, subst, append_assoc}
-use Rattle.std.specs.Prelude.{◌⊎◌}
+use Rattle.std.proofs.Common.{◌≡◌, ℕ, List, [], ◌∷◌, ◌++◌, map, Option, None, Some, refl, sym, ap, ◌∙◌, subst, append_assoc}
 use Rattle.std.specs.Option.{option_map}
 use Rattle.chain_laws.specs.Chains.{LinkMap}
 use Rattle.chain_laws.proofs.InterlinkLemmas.Inverses.{one_some}
@@ -10,7 +9,7 @@ use Rattle.chain_lists.specs.Lists.{Item, AreEntries, IsRing}
 use Rattle.chain_lists.proofs.ItemListLemmas.{are_stored-left, are_stored-right, last_apart, last_is}
 use Rattle.linked_lists.specs.declared.entry.Entry.{Entry}
 use Rattle.linked_lists.specs.declared.entry.Entry.TheVariants as entries
-use Rattle.linked_lists.specs.LinkedLists.{as_item, ring_of, IsHandle, HasItem, IsItem, IsList, EachInList, ReadsFirst, ReadsLast, ReadsNext, ReadsPrev}
+use Rattle.linked_lists.specs.LinkedLists.{as_item, ring_of, IsHandle, IsItem, IsList, EachInList, ReadsFirst, ReadsLast, ReadsNext, ReadsPrev}
 use Rattle.linked_lists.specs.RingCalls.{KeepsItemOnly, ReadsNextLink, ReadsPrevLink, EndsList}
 use Rattle.linked_lists.proofs.RingLemmas.{ring_rotated}
 use Rattle.linked_lists.proofs.ListLemmas.{ring_parts, head_or_item, item_of, list_of}

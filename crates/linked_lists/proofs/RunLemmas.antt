@@ -1,25 +1,24 @@
 -- The effect on lists of moving a run of items behind another link.
 use Rattle.std.proofs.Common.{◌≡◌, ◌≢◌, ℕ, inl, inr, ⊎_elim, List, [], ◌∷◌, ◌++◌, map, Option, None, Some, refl, sym, ap, ◌∙◌, subst, append_assoc}
-use Rattle.std.specs.Prelude.{is_some, true, IfNone}
+use Rattle.std.specs.Prelude.{is_some, IfNone}
 use Rattle.std.specs.Option.{option_map}
 use Rattle.std.proofs.lemmas.List.{map-append, append-nil}
-use Rattle.chain_laws.specs.Chains.{LinkMap, cyclic, IsChain, IsMember, first_or, last_or}
+use Rattle.chain_laws.specs.Chains.{LinkMap, cyclic, IsChain, IsMember, last_or}
 use Rattle.chain_laws.specs.Splices.{Splices, IsRun}
 use Rattle.chain_laws.proofs.InterlinkLemmas.Inverses.{one_some}
 use Rattle.chain_laws.proofs.ListLemmas.Members.{last_or-append}
 use Rattle.arena_traits.specs.Arena.{IsValid}
 use Rattle.arena_traits.specs.Entries.{ArenaView, ArenaState, index_of, first_key, last_key}
 use Rattle.chain_links.specs.CallEffects.{SplicesAfter}
-use Rattle.chain_links.specs.ChainArena.{CanSplice}
-use Rattle.chain_lists.specs.Lists.{Item, AreEntries, indexes, IsRing}
+use Rattle.chain_lists.specs.Lists.{Item, indexes, IsRing}
 use Rattle.chain_lists.proofs.ItemListLemmas.{are_stored-append, are_stored-left, are_stored-right, among-left, among-right, among-parts, last_apart, last_is, last_key-cons}
 use Rattle.chain_lists.proofs.ListChangeLemmas.{parts, whole, stays}
 use Rattle.linked_lists.specs.declared.entry.Entry.{Entry}
 use Rattle.linked_lists.specs.declared.entry.Entry.TheVariants as entries
-use Rattle.linked_lists.specs.LinkedLists.{as_item, ring_of, IsHandle, HasItem, IsItem, IsList, EachInList, KeepsOthers, KeepsEntries, IsAppended, AppendsList, ReadsFirst}
+use Rattle.linked_lists.specs.LinkedLists.{as_item, ring_of, IsHandle, IsList, EachInList, KeepsOthers, KeepsEntries, IsAppended, AppendsList, ReadsFirst}
 use Rattle.linked_lists.specs.RingCalls.{EndsList}
 use Rattle.linked_lists.proofs.RingLemmas.{ring_rotated}
-use Rattle.linked_lists.proofs.ListLemmas.{ring_parts, ring_has, ring_member, same_handle, same_list, list_of, item_valid, head_valid, each_kept_two}
+use Rattle.linked_lists.proofs.ListLemmas.{ring_parts, ring_has, ring_member, same_handle, same_list, list_of, item_valid, each_kept_two}
 use Rattle.linked_lists.proofs.MoveLemmas.{entries_kept}
 
 module _ {Gen V : Type 0} where

@@ -1,10 +1,8 @@
 -- The effect on lists of moving the items from one on to a new list.
 use Rattle.std.proofs.Common.{◌≡◌, ◌≢◌, ℕ, inl, inr, ⊎_elim, List, [], ◌∷◌, ◌++◌, map, Option, None, Some, refl, sym, ap, ◌∙◌, subst, append_assoc}
-use Rattle.std.specs.Prelude.{is_some, true, IfNone, Result, Ok, Err}
-use Rattle.std.proofs.lemmas.Bool.{cases_eq}
+use Rattle.std.specs.Prelude.{is_some, Ok}
 use Rattle.std.proofs.lemmas.List.{append-nil}
-use Rattle.arena_core.specs.declared.errors.ReallocationError.{ReallocationError}
-use Rattle.chain_laws.specs.Chains.{LinkMap, cyclic, IsMember}
+use Rattle.chain_laws.specs.Chains.{LinkMap, IsMember}
 use Rattle.chain_laws.specs.Splices.{Splices, IsRun}
 use Rattle.chain_laws.proofs.ListLemmas.Members.{IsMember-or_not}
 use Rattle.arena_traits.specs.Arena.{IsValid, IsInserted}
@@ -12,15 +10,14 @@ use Rattle.arena_traits.specs.Entries.{ArenaView, ArenaState, count, last_key}
 use Rattle.arena_traits.specs.CallOutcomes.{IsEntryInserted}
 use Rattle.arena_traits.specs.Growth.{GrowsForOneMore}
 use Rattle.chain_links.specs.CallEffects.{SplicesAfter}
-use Rattle.chain_links.specs.ChainArena.{CanSplice}
 use Rattle.chain_lists.specs.Lists.{Item, indexes, IsRing}
 use Rattle.chain_lists.proofs.ItemListLemmas.{are_stored-some, among-left, among-right, among-parts, last_apart, last_is}
 use Rattle.linked_lists.specs.declared.entry.Entry.{Entry}
 use Rattle.linked_lists.specs.declared.entry.Entry.TheVariants as entries
-use Rattle.linked_lists.specs.LinkedLists.{as_item, ring_of, IsHandle, HasItem, IsItem, IsList, EachInList, Becomes, KeepsOthers, KeepsEntries, IsListStarted, IsSplitOff, SplitsOff}
+use Rattle.linked_lists.specs.LinkedLists.{as_item, ring_of, IsItem, IsList, EachInList, KeepsOthers, KeepsEntries, IsListStarted, IsSplitOff, SplitsOff}
 use Rattle.linked_lists.specs.RingCalls.{EndsListOf}
 use Rattle.linked_lists.proofs.RingLemmas.{ring_rotated}
-use Rattle.linked_lists.proofs.ListLemmas.{ring_parts, ring_has, ring_member, same_handle, place_of, item_valid, links_of_handle}
+use Rattle.linked_lists.proofs.ListLemmas.{ring_parts, same_handle, place_of, item_valid, links_of_handle}
 use Rattle.linked_lists.proofs.InsertionLemmas.{has_item}
 use Rattle.linked_lists.proofs.MoveLemmas.{entries_kept}
 use Rattle.linked_lists.proofs.RunLemmas.{is_run, last_among, run_leaves, run_comes, run_elsewhere}

@@ -7,7 +7,6 @@ use Rattle.arena_core.specs.PointerKinds.{PointerKind}
 use Rattle.arena_core.specs.declared.errors.ChainInsertionError.{ChainInsertionError}
 use Rattle.arena_core.specs.declared.errors.ReallocationError.{ReallocationError}
 use Rattle.chain_laws.specs.Chains.{LinkMap, IsMember}
-use Rattle.arena_traits.specs.Arena.{IsValid}
 use Rattle.arena_traits.specs.Entries.{ArenaView, ArenaState, count, first_key, last_key, view_with_value, view_after_removal}
 use Rattle.arena_traits.specs.CallOutcomes.{IsEntryInserted, IsEntryRemoved}
 use Rattle.arena_traits.specs.Growth.{IsGrowthResult, RefusesOneMore, GrowsForOneMore}
@@ -125,13 +124,13 @@ module _ {A Gen T : Type 0} {view : A → ArenaView Gen (Entry T)} {entry : A �
       pub item : IsEntryInserted state old (entries.Item e.1) e.0 new
 
     -- The value of `p` becomes `t`; all pointers and the order of each list are unchanged.
-    pub record HasNewValue (p : ℕ × Gen) (t : T) : Type 0 where
+    pub record ValueBecomes (p : ℕ × Gen) (t : T) : Type 0 where
       pub list : (h : ℕ × Gen) (s : T) (before after : List (Item Gen T)) → IsList old h (before ++ (p, s) ∷ after) → Becomes h (before ++ (p, t) ∷ after)
       pub view_after : view new ≡ view_with_value (view old) p.0 (entries.Item t)
       pub links : interlinks new ≡ interlinks old
 
     -- The item of `p`, with the value `t`, leaves its list and is removed.
-    pub record IsItemRemoved {P I W : Type 0} (pointers : PointerKind P I Gen W) (p : ℕ × Gen) (t : T) : Type 0 where
+    pub record LeavesList {P I W : Type 0} (pointers : PointerKind P I Gen W) (p : ℕ × Gen) (t : T) : Type 0 where
       pub removed : IsEntryRemoved state pointers old p.0 p.1 (entries.Item t) new
       pub list : (h : ℕ × Gen) (before after : List (Item Gen T)) → IsList old h (before ++ (p, t) ∷ after) → Becomes h (before ++ after)
       pub gone : entry new p.0 ≡ None
@@ -226,8 +225,8 @@ module _ {A Gen T : Type 0} {view : A → ArenaView Gen (Entry T)} {entry : A �
     ListsItems arena h pointers = (items : List (Item Gen T)) × IsList state interlinks arena (key h) items × (map key pointers ≡ pointers_of items)
 
     -- `new_list`: an empty list is created, after a growth if the arena was full.
-    abbrev pub StartsList : ℕ → A → Result P ReallocationError → A → Type 0
-    StartsList greatest old result new = record {
+    abbrev pub CreatesList : ℕ → A → Result P ReallocationError → A → Type 0
+    CreatesList greatest old result new = record {
       outcome : IsGrowthResult (RefusesOneMore (view old)) (λ q. IsListStarted state interlinks old new (key q) × GrowsForOneMore greatest (view old) (view new)) result;
       err : OnErr result (new ≡ old);
     }
@@ -262,12 +261,12 @@ module _ {A Gen T : Type 0} {view : A → ArenaView Gen (Entry T)} {entry : A �
   -- `replace`: the value of `p` becomes `t`, and the former one is returned, if `p` is an item.
   abbrev pub ReplacesItem : A → ℕ × Gen → T → Option T → A → Type 0
   ReplacesItem old p t None new = (IsItem (entry old) p → ⊥) × (new ≡ old)
-  ReplacesItem old p t (Some former) new = HasItem (entry old) p former × HasNewValue state interlinks old new p t
+  ReplacesItem old p t (Some former) new = HasItem (entry old) p former × ValueBecomes state interlinks old new p t
 
   -- `remove`: the item of `p` is removed and its value returned, if `p` is an item.
-  abbrev pub RemovesItem : {P I W : Type 0} → PointerKind P I Gen W → A → P → Option T → A → Type 0
-  RemovesItem pointers old p None new = (IsItem (entry old) (pointers.key p) → ⊥) × (new ≡ old)
-  RemovesItem pointers old p (Some t) new = IsItemRemoved state interlinks old new pointers (pointers.key p) t
+  abbrev pub RemovesListItem : {P I W : Type 0} → PointerKind P I Gen W → A → P → Option T → A → Type 0
+  RemovesListItem pointers old p None new = (IsItem (entry old) (pointers.key p) → ⊥) × (new ≡ old)
+  RemovesListItem pointers old p (Some t) new = LeavesList state interlinks old new pointers (pointers.key p) t
 
   -- `move_to_front` and `move_to_back`: the item of `p` is moved to the start or the end of the list
   -- of `h`.

@@ -4,7 +4,7 @@ ghost use Rattle.std.specs.Prelude.{◌≡◌, ◌↔◌, List, [], ◌∷◌, �
 ghost use Rattle.arena_traits.specs.Arena.{IsValid};
 ghost use Rattle.arena_traits.specs.Entries.{IsNew};
 ghost use Rattle.chain_lists.specs.Sizes.{ReservesMore, CountsEntries, ReportsCapacity};
-ghost use Rattle.linked_lists.specs.LinkedLists.{AllInLists, IsHandle, IsItem, ReadsValue, ReadsFirst, ReadsLast, ReadsNext, ReadsPrev, ReadsHandle, ListsItems, StartsList, PushesFront, PushesBack, InsertsAfterItem, InsertsBeforeItem, RemovesItem, ReplacesItem, MovesToFront, MovesToBack, MovesAfterItem, AppendsList, SplitsOff, RemovesList};
+ghost use Rattle.linked_lists.specs.LinkedLists.{AllInLists, IsHandle, IsItem, ReadsValue, ReadsFirst, ReadsLast, ReadsNext, ReadsPrev, ReadsHandle, ListsItems, CreatesList, PushesFront, PushesBack, InsertsAfterItem, InsertsBeforeItem, RemovesListItem, ReplacesItem, MovesToFront, MovesToBack, MovesAfterItem, AppendsList, SplitsOff, RemovesList};
 ghost use Rattle.linked_lists.specs.RingCalls.{KeepsItemOnly, EndsList, EndsListOf, EmptiesList};
 
 use crate::entry::{Entry, value_of};
@@ -224,7 +224,7 @@ impl<P: PtrKey, T: Drop, A: ChainArenaTrait<P, Entry<T>> + Drop> LinkedLists<P, 
     ///
     /// On error, nothing changes.
     pub fn new_list(&mut self) -> Result<P, ReallocationError>
-        ensures { StartsList A.state A.interlinks P.key P.Inx.greatest self.old result self.new }
+        ensures { CreatesList A.state A.interlinks P.key P.Inx.greatest self.old result self.new }
     {
         start_ring(&mut self.arena, Entry::Head)
     }
@@ -323,7 +323,7 @@ impl<P: PtrKey, T: Drop, A: ChainArenaTrait<P, Entry<T>> + Drop> LinkedLists<P, 
     /// The other items keep their order, and the capacity stays the same. Returns `None` and
     /// changes nothing if `p` is not an item.
     pub fn remove(&mut self, p: P) -> Option<T>
-        ensures { RemovesItem A.state A.interlinks ⟦<P as AnyPointer>⟧.pointers self.old p result
+        ensures { RemovesListItem A.state A.interlinks ⟦<P as AnyPointer>⟧.pointers self.old p result
             self.new }
     {
         if !self.is_item(p) {

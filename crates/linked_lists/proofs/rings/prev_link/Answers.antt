@@ -1,5 +1,5 @@
 -- A link of a ring reads its neighbor in the ring.
-use Rattle.std.proofs.Common.{◌∙◌, ap, refl}
+use Rattle.std.proofs.Common.{◌∙◌, ap}
 use Rattle.std.specs.Option.{option_map}
 use Rattle.linked_lists.proofs.RingLemmas.{ring_precedes, in_a_ring}
 use Rattle.linked_lists.proofs.rings.prev_link.Goals as goal

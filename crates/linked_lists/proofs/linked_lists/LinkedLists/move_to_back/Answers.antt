@@ -1,5 +1,5 @@
 -- The item comes after the last link.
-use Rattle.std.proofs.Common.{refl, sym, subst}
+use Rattle.std.proofs.Common.{refl, subst}
 use Rattle.linked_lists.specs.LinkedLists.{MovesToBack}
 use Rattle.linked_lists.specs.RingCalls.{EndsList}
 use Rattle.linked_lists.proofs.MoveLemmas.{moved_to_back, at_end_already, each_to_back}

@@ -1,7 +1,5 @@
 -- The item has the new value.
-use Rattle.std.proofs.Common.{◌≡◌, refl}
-use Rattle.std.specs.Prelude.{is_some, true}
-use Rattle.chain_traits.proofs.OutcomeLemmas.{on_some}
+use Rattle.std.proofs.Common.{refl}
 use Rattle.linked_lists.specs.LinkedLists.{IsItem, ReplacesItem}
 use Rattle.linked_lists.specs.RingCalls.{value_in}
 use Rattle.linked_lists.proofs.ChangeLemmas.{replaces_item, each_replaced}
