@@ -12,6 +12,7 @@ CRATES = {
     "arena_core": "What arenas require of pointers and of stacks of slots; results and errors.",
     "arena_pairs": "Calls on two chain arenas as values, with transfers of chains between them.",
     "surject_arena": "Keys in sets, with one value for each set: a union-find whose sets can be listed and shrunk.",
+    "linked_lists": "Linked lists that share one arena, each with a handle that stays valid.",
     "polygons": "Polygons over any arena of links, each a ring of corners.",
     "chain_lists": "Lists of items stored in any arena of links, as words of contracts, and `reserve`.",
     "chain_examples": "Two data structures over any arena of links, and the examples of the guide to proofs.",
@@ -27,11 +28,11 @@ INTERNAL = ("link_access", "walk_direction")
 
 # The topics of calls, each with a pattern for their names. The first pattern that matches decides.
 TOPICS = {
-    "Insertion": r"insert\w*|entry_insert\w*|can_insert|start|begin|spawn",
-    "Lookups": r"contains|get|get_inx|get_inx_unwrap|get_\w*link\w*|get_key|get_val|are_\w+|find_\w+|in_same_set|same_polygon|len_key_set|key_set|current|next|prev",
+    "Insertion": r"insert\w*|entry_insert\w*|can_insert|start|begin|spawn|push_\w+|new_list|new_queue",
+    "Lookups": r"contains|get|get_inx|get_inx_unwrap|get_\w*link\w*|get_key|get_val|are_\w+|find_\w+|in_same_set|same_polygon|len_key_set|key_set|current|next|prev|first|last|is_list|is_item|list_of",
     "Writes of values": r"get_mut|get_\w*_mut|get_inx_mut\w*|replace\w*|swap\w*|for_each\w*|arena_mut",
     "Walks and lists": r"iter\w*|advancer\w*|walk\w*|starts|chains",
-    "Changes of chains": r"connect|break_\w+|exchange_\w+|reverse_\w+|move_\w+|splice_\w+|arrange_\w+|union|join|split\w*|exchange|reverse",
+    "Changes of chains": r"connect|break_\w+|exchange_\w+|reverse_\w+|move_\w+|splice_\w+|arrange_\w+|union|join|append|split\w*|exchange|reverse|wake_\w+",
     "Removal": r"remove\w*|invalidate|clear|drain\w*|cancel|all_removed\w*",
     "Compression": r"compress\w*|compactor",
     "Transfers and copies": r"transfer\w*|clone\w*|try_clone",

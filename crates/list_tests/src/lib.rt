@@ -1,0 +1,5 @@
+//! Tests of linked lists.
+#![tactic(auto)]
+
+#[cfg(test)]
+mod tests;
