@@ -13,6 +13,7 @@ CRATES = {
     "arena_pairs": "Calls on two chain arenas as values, with transfers of chains between them.",
     "surject_arena": "Keys in sets, with one value for each set: a union-find whose sets can be listed and shrunk.",
     "linked_lists": "Linked lists that share one arena, each with a handle that stays valid.",
+    "run_queues": "Tasks in queues and wait lists, which take turns.",
     "polygons": "Polygons over any arena of links, each a ring of corners.",
     "chain_lists": "Lists of items stored in any arena of links, as words of contracts, and `reserve`.",
     "chain_examples": "Two data structures over any arena of links, and the examples of the guide to proofs.",

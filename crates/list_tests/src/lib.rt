@@ -1,5 +1,7 @@
-//! Tests of linked lists.
+//! Tests of linked lists and of run queues.
 #![tactic(auto)]
 
+#[cfg(test)]
+mod queues;
 #[cfg(test)]
 mod tests;

@@ -1,0 +1,5 @@
+mod TurnLemmas
+mod FairnessLemmas
+mod StepLemmas
+mod HistoryLemmas
+mod WakingLemmas

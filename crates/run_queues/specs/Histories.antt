@@ -1,0 +1,79 @@
+-- Calls on queues, one after another, and the steps that they make in each queue.
+use Rattle.std.specs.Prelude.{◌≡◌, ◌≢◌, ◌⊎◌, ℕ, List, [], ◌∷◌, ◌++◌, Option}
+use Rattle.arena_core.specs.PointerKinds.{PointerKind}
+use Rattle.chain_laws.specs.Chains.{LinkMap}
+use Rattle.arena_traits.specs.Entries.{ArenaView, ArenaState}
+use Rattle.chain_lists.specs.Lists.{Item}
+use Rattle.linked_lists.specs.declared.entry.Entry.{Entry}
+use Rattle.linked_lists.specs.LinkedLists.{pointers_of, IsHandle, HasItem, IsItem, IsList, AllInLists, IsListStarted, GrowsAtEnd, IsItemAdded, ValueBecomes, LeavesList, IsItemMoved, IsAppended, AtEnd}
+use Rattle.run_queues.specs.Turns.{Step, IsAmong, HasTurn, Leaves}
+use Rattle.run_queues.specs.RunQueues.{IsTurnTaken, IsOneWoken, TakesSteps}
+
+-- A call that succeeded, with its queues and its task. Calls that fail change nothing.
+pub data Change (Gen : Type 0) : Type 0 where
+  creates : (q : ℕ × Gen) → Change Gen
+  spawns : (q p : ℕ × Gen) → Change Gen
+  gives_turn : (q p : ℕ × Gen) → Change Gen
+  moves : (p q : ℕ × Gen) → Change Gen
+  wakes_one : (l q p : ℕ × Gen) → Change Gen
+  wakes_all : (l q : ℕ × Gen) → Change Gen
+  replaces : (p : ℕ × Gen) → Change Gen
+  cancels : (p : ℕ × Gen) → Change Gen
+  grows : Change Gen
+
+module _ {Gen : Type 0} where
+  -- The change can take the task `p` out of the queue of `q`.
+  abbrev pub TakesAway : Change Gen → (q p : ℕ × Gen) → Type 0
+  TakesAway (creates h) q p = ⊥
+  TakesAway (spawns h r) q p = ⊥
+  TakesAway (gives_turn h r) q p = ⊥
+  TakesAway (moves r h) q p = r ≡ p
+  TakesAway (wakes_one l h r) q p = r ≡ p
+  TakesAway (wakes_all l h) q p = l ≡ q
+  TakesAway (replaces r) q p = ⊥
+  TakesAway (cancels r) q p = r ≡ p
+  TakesAway grows q p = ⊥
+
+  -- One of the changes can take `p` out of the queue of `q`.
+  abbrev pub OneTakesAway : List (Change Gen) → (q p : ℕ × Gen) → Type 0
+  OneTakesAway [] q p = ⊥
+  OneTakesAway (change ∷ changes) q p = TakesAway change q p ⊎ OneTakesAway changes q p
+
+module _ {A Gen T : Type 0} {view : A → ArenaView Gen (Entry T)} {entry : A → ℕ → Option (Gen × Entry T)} (state : (a : A) → ArenaState (view a) (entry a)) (interlinks : A → LinkMap)
+    {P I W : Type 0} (pointers : PointerKind P I Gen W) where
+  -- What each call states where it succeeds.
+  abbrev pub Makes : A → Change Gen → A → Type 0
+  Makes old (creates q) new = IsListStarted state interlinks old new q
+  Makes old (spawns q p) new = IsHandle (entry old) q × (t : T) × IsItemAdded state interlinks old new (GrowsAtEnd state interlinks old new q) (p, t)
+  Makes old (gives_turn q p) new = IsTurnTaken state interlinks old new q p
+  Makes old (moves p q) new = IsItem (entry old) p × IsHandle (entry old) q × IsItemMoved state interlinks old new p (AtEnd q)
+  Makes old (wakes_one l q p) new = IsOneWoken state interlinks old new l q p
+  Makes old (wakes_all l q) new = IsHandle (entry old) q × IsHandle (entry old) l × (q ≢ l) × IsAppended state interlinks old new q l
+  Makes old (replaces p) new = (t : T) × (former : T) × HasItem (entry old) p former × ValueBecomes state interlinks old new p t
+  Makes old (cancels p) new = (t : T) × LeavesList state interlinks old new pointers p t
+  Makes old grows new = (entry new ≡ entry old) × (interlinks new ≡ interlinks old)
+
+  -- Changes one after another. Before each, each task is in exactly one queue, as always.
+  abbrev pub History : A → List (Change Gen) → A → Type 0
+  History old [] new = new ≡ old
+  History old (change ∷ changes) new = AllInLists state interlinks old × (mid : A) × Makes old change mid × History mid changes new
+
+  -- These steps happen in the queue of `q`. Only `next` gives a turn, and only a change that takes
+  -- tasks away lets one leave.
+  pub record AreStepsOf (old : A) (change : Change Gen) (new : A) (q : ℕ × Gen) (steps : List (Step (ℕ × Gen))) : Type 0 where
+    pub taken : TakesSteps state interlinks old new q steps
+    pub turns : (p : ℕ × Gen) → HasTurn steps p → change ≡ gives_turn q p
+    pub leaves : (p : ℕ × Gen) → Leaves steps p → TakesAway change q p
+
+  -- Each change takes steps in each queue.
+  abbrev pub CallsTakeSteps : Type 0
+  CallsTakeSteps = (old new : A) (change : Change Gen) (q : ℕ × Gen) → AllInLists state interlinks old → Makes old change new
+      → (steps : List (Step (ℕ × Gen))) × AreStepsOf old change new q steps
+
+  -- Fairness: between two turns that `next` gives to the task `x` of the queue of `q`, it gives one
+  -- to each other task that this queue had, unless a call takes that task away.
+  abbrev pub CallsAreFair : Type 0
+  CallsAreFair = (old new : A) (q x y : ℕ × Gen) (tasks : List (Item Gen T)) (changes : List (Change Gen))
+      → History old (gives_turn q x ∷ changes ++ gives_turn q x ∷ []) new
+      → IsList state interlinks old q tasks → IsAmong (pointers_of tasks) y → x ≢ y
+      → IsAmong changes (gives_turn q y) ⊎ OneTakesAway changes q y
