@@ -1,0 +1,19 @@
+//! A program that schedules tasks, which take turns by priority, block and are woken.
+#![tactic(auto)]
+
+mod line;
+mod refusal;
+mod scheduler;
+mod session;
+mod status;
+#[cfg(test)]
+mod tests;
+mod turns;
+
+use status::{Status, schedule_input};
+use std::io::{BufWriter, writer};
+
+fn main(rt: HostRuntime) -> Status {
+    let output = BufWriter::new(rt.alloc(), writer(&rt));
+    schedule_input(rt.alloc(), &mut rt.reader(), output, &mut rt.stderr())
+}

@@ -1,0 +1,24 @@
+//! Turns among several queues.
+
+ghost use Rattle.schedule.specs.LeastTurns.{TakesLeastTurn};
+
+use arena_ptr::PtrKey;
+use chain_traits::ChainArenaTrait;
+use run_queues::{Entry, RunQueues};
+
+/// Gives its turn to the first task of the first of the queues that has one, and returns the task.
+///
+/// Returns `None` and changes nothing if each queue is empty.
+pub fn next_of_first<P: PtrKey, T: Drop, A: ChainArenaTrait<P, Entry<T>> + Drop>(
+    queues: &mut RunQueues<P, T, A>,
+    ready: &[P],
+) -> Option<P>
+    ensures { TakesLeastTurn A.state A.interlinks P.key queues.old ready.now result queues.new }
+{
+    for queue in ready {
+        if let Some(task) = queues.next(*queue) {
+            return Some(task);
+        }
+    }
+    None
+}
