@@ -1,11 +1,14 @@
 -- The effect on lists of a new list, a new value and a removal.
 use Rattle.std.proofs.Common.{◌≡◌, ◌≢◌, ℕ, inl, inr, ⊎_elim, List, [], ◌∷◌, ◌++◌, map, Option, None, Some, refl, sym, ap, ◌∙◌, subst}
-use Rattle.std.specs.Prelude.{is_some, true, IfNone, OnErr, OnSome, Result, Ok, Err}
+use Rattle.std.specs.Prelude.{is_some, true, IfNone, OnErr, OnSome, Result, Ok, Err, IfSome}
+use Rattle.std.specs.Borrow.{MutBor}
+use Rattle.std.specs.Option.{option_copied_mut}
 use Rattle.std.proofs.lemmas.Bool.{cases_eq}
 use Rattle.arena_core.specs.PointerKinds.{PointerKind}
 use Rattle.arena_core.specs.declared.errors.ReallocationError.{ReallocationError}
 use Rattle.chain_laws.specs.Chains.{LinkMap, cyclic, IsChain, IsMember}
-use Rattle.arena_traits.specs.Entries.{ArenaView, ArenaState}
+use Rattle.chain_laws.proofs.InterlinkLemmas.Inverses.{one_some}
+use Rattle.arena_traits.specs.Entries.{ArenaView, ArenaState, view_with_value}
 use Rattle.arena_traits.specs.CallOutcomes.{ReplacesValue}
 use Rattle.arena_traits.specs.Growth.{IsGrowthResult, RefusesOneMore, GrowsForOneMore}
 use Rattle.arena_traits.proofs.EntryChangeLemmas.{values_elsewhere}
@@ -17,7 +20,7 @@ use Rattle.chain_lists.proofs.ListChangeLemmas.{stays}
 use Rattle.chain_lists.proofs.ValueWriteLemmas.{has_new_value}
 use Rattle.linked_lists.specs.declared.entry.Entry.{Entry}
 use Rattle.linked_lists.specs.declared.entry.Entry.TheVariants as entries
-use Rattle.linked_lists.specs.LinkedLists.{as_item, ring_of, IsItem, EachInList, IsListStarted, CreatesList, ValueBecomes, ReplacesItem, LeavesList, RemovesListItem}
+use Rattle.linked_lists.specs.LinkedLists.{as_item, ring_of, HasItem, IsItem, EachInList, IsListStarted, CreatesList, ValueBecomes, ReplacesItem, LeavesList, RemovesListItem}
 use Rattle.linked_lists.specs.RingCalls.{value_in}
 use Rattle.linked_lists.proofs.ListLemmas.{ring_parts, ring_has, ring_member, ring_more, keeps_others, each_kept, place_of, item_valid, head_or_item}
 use Rattle.linked_lists.proofs.InsertionLemmas.{has_item}
@@ -129,3 +132,27 @@ module _ {A Gen T : Type 0} {view : A → ArenaView Gen (Entry T)} {entry : A �
               (among-parts before ((pointers.key p, t) ∷ after) i has))
               (ring_member h (before ++ (pointers.key p, t) ∷ after) i among),
         )
+
+-- A value is written through a reference.
+module _ {A Gen T : Type 0} {view : A → ArenaView Gen (Entry T)} {entry : A → ℕ → Option (Gen × Entry T)} (state : (a : A) → ArenaState (view a) (entry a)) (interlinks : A → LinkMap) (old new : A) (p : ℕ × Gen) (item : IsItem (entry old) p) where
+  pub written : (t : T) → view new ≡ view_with_value (view old) p.0 (entries.Item t) → interlinks new ≡ interlinks old → ValueBecomes state interlinks old new p t
+  written t is same = new_value state interlinks old new p t (has_new_value state interlinks cyclic (λ l. refl) old new p.0 (entries.Item t) is p.1 same)
+
+  pub each_written : EachInList state interlinks old → (v : Entry T) (t : T) → v ≡ entries.Item t → view new ≡ view_with_value (view old) p.0 v → interlinks new ≡ interlinks old → EachInList state interlinks new
+  each_written each v t is_item is same = each_replaced state interlinks old new p each t (Some item.value) item (
+    item.stored,
+    written t (subst (λ (u : Entry T). view new ≡ view_with_value (view old) p.0 u) is_item is) same,
+  )
+
+-- A reference to a value is read.
+pub read_through : {T : Type 0} (X : T → Type 0) (o : Option (MutBor T)) (t : T) → option_copied_mut o ≡ Some t → X t → (is_some o ≡ true) × IfSome o (λ b. X b.now)
+read_through X None t is x = absurd (let none = is in cc)
+read_through X (Some b) t is x = (refl, subst X (sym (one_some is)) x)
+
+pub on_any : {R X : Type 0} (o : Option R) → X → OnSome o X
+on_any None x = tt
+on_any (Some r) x = x
+
+-- An entry of an item holds its value.
+pub same_value : {Gen T : Type 0} (entry : ℕ → Option (Gen × Entry T)) (p : ℕ × Gen) (v : Entry T) (t : T) → entry p.0 ≡ Some (p.1, v) → HasItem entry p t → v ≡ entries.Item t
+same_value {Gen} {T} entry p v t at item = ap (λ (e : Gen × Entry T). e.1) (one_some (sym at ∙ item))

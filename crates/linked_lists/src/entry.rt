@@ -1,6 +1,9 @@
 //! The values that linked lists store in an arena.
 
-ghost use Rattle.std.specs.Prelude.{◌≡◌};
+ghost use Rattle.std.specs.Prelude.{◌≡◌, Some};
+ghost use Rattle.std.specs.Borrow.{LendsIf, sem};
+ghost use Rattle.std.specs.Option.{option_copied_mut};
+ghost use Rattle.linked_lists.specs.declared.entry.Entry.TheVariants as entries;
 ghost use Rattle.linked_lists.specs.RingCalls.{value_in};
 
 /// The value of a link: the head of a list, or an item.
@@ -10,6 +13,22 @@ pub enum Entry<T: Drop> {
     Head,
     /// An item with its value.
     Item(T),
+}
+
+impl<T: Drop> Entry<T> {
+    ghost use Rattle.linked_lists.specs.contracts.entry.Entry.{the_row};
+
+    // Returns a mutable reference to the value of an item, and `None` for a head.
+    pub(crate) fn value_mut(&mut self) -> Option<&mut T>
+        ensures* writes_back { sem 𝓛 (LendsIf (the_row T.row) T.row self.entry result
+            (λ w. entries.Item w) self.old) }
+        ensures value { option_copied_mut result ≡ value_in (Some self.old) }
+    {
+        match self {
+            Entry::Item(value) => Some(value),
+            Entry::Head => None,
+        }
+    }
 }
 
 // Returns the value of an item, and `None` for a head.

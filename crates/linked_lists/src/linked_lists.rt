@@ -1,10 +1,12 @@
 //! Linked lists, whose links are all stored in one arena.
 
-ghost use Rattle.std.specs.Prelude.{◌≡◌, ◌↔◌, List, [], ◌∷◌, ◌++◌, IsTrue, IsSome, IfSome, IfOk, None, Some};
+ghost use Rattle.std.specs.Prelude.{◌≡◌, ◌↔◌, List, [], ◌∷◌, ◌++◌, IsTrue, IsSome, IfSome, IfNone, IfOk, OnSome, None, Some};
+ghost use Rattle.std.specs.Borrow.{LendsSo, sem};
 ghost use Rattle.arena_traits.specs.Arena.{IsValid};
 ghost use Rattle.arena_traits.specs.Entries.{IsNew};
+ghost use Rattle.chain_lists.specs.Rows.{chain_members};
 ghost use Rattle.chain_lists.specs.Sizes.{ReservesMore, CountsEntries, ReportsCapacity};
-ghost use Rattle.linked_lists.specs.LinkedLists.{AllInLists, IsHandle, IsItem, ReadsValue, ReadsFirst, ReadsLast, ReadsNext, ReadsPrev, ReadsHandle, ListsItems, CreatesList, PushesFront, PushesBack, InsertsAfterItem, InsertsBeforeItem, RemovesListItem, ReplacesItem, MovesToFront, MovesToBack, MovesAfterItem, AppendsList, SplitsOff, RemovesList};
+ghost use Rattle.linked_lists.specs.LinkedLists.{AllInLists, IsHandle, HasItem, IsItem, ValueBecomes, ReadsValue, ReadsFirst, ReadsLast, ReadsNext, ReadsPrev, ReadsHandle, ListsItems, CreatesList, PushesFront, PushesBack, InsertsAfterItem, InsertsBeforeItem, RemovesListItem, ReplacesItem, MovesToFront, MovesToBack, MovesAfterItem, AppendsList, SplitsOff, RemovesList};
 ghost use Rattle.linked_lists.specs.RingCalls.{KeepsItemOnly, EndsList, EndsListOf, EmptiesList};
 
 use crate::entry::{Entry, value_of};
@@ -44,6 +46,8 @@ impl<P: PtrKey, T: Drop, A: ChainArenaTrait<P, Entry<T>> + Drop> Model for Linke
 }
 
 impl<P: PtrKey, T: Drop, A: ChainArenaTrait<P, Entry<T>> + Drop> LinkedLists<P, T, A> {
+    ghost use Rattle.linked_lists.specs.contracts.linked_lists.LinkedLists.{the_row};
+
     /// Creates an empty collection of lists. It does not allocate.
     pub fn new(alloc: Global) -> Self
         ensures new { IsNew P.Gen.first (A.view result) }
@@ -303,6 +307,40 @@ impl<P: PtrKey, T: Drop, A: ChainArenaTrait<P, Entry<T>> + Drop> LinkedLists<P, 
             return Err(ChainInsertionError::FailedLinkRequirement);
         }
         put_before(&mut self.arena, p, Entry::Item(value))
+    }
+
+    // Returns `Some` if `p` is the pointer of an item.
+    fn checked_item(&self, p: P) -> Option<()>
+        ensures some { OnSome result (IsItem (A.entry self.now) (P.key p)) }
+        ensures none { IfNone result (IsItem (A.entry self.now) (P.key p) → ⊥) }
+    {
+        if self.is_item(p) { Some(()) } else { None }
+    }
+
+    /// Returns a mutable reference to the value of an item, or `None` if `p` is not an item.
+    ///
+    /// Writing through the reference keeps all pointers and the order of each list.
+    pub fn get_mut(&mut self, p: P) -> Option<&mut T>
+        ensures* writes_back { sem 𝓛 (LendsSo
+            (the_row P.row T.row A.row P.Inx.row P.Gen.row P.Inx.Word.row
+            A.ChainPtrAdvancer.row A.PtrAdvancer.row P.PtrKey P.Inx.InxKey P.Gen.GenKey
+            (chain_members A.interlinks A.walker A.inserts A.connects A.breaks_prev
+            A.breaks_next A.exchanges A.reverses A.moves A.splices A.compresses_canonically)
+            A.ArenaTrait A.PtrAdvancer.Advancer A.ChainPtrAdvancer.Advancer)
+            T.row self.entry result
+            (λ new t. OnSome result
+            (ValueBecomes A.state A.interlinks self.old new (P.key p) t))
+            (λ new. (IsItem (A.entry self.old) (P.key p) → ⊥) → new ≡ self.old)) }
+        ensures some { IsSome result ↔ IsItem (A.entry self.old) (P.key p) }
+        ensures value { IfSome result (λ t. HasItem (A.entry self.old) (P.key p) t.now) }
+    {
+        match self.checked_item(p) {
+            Some(()) => match self.arena.get_mut(p) {
+                Some(entry) => entry.value_mut(),
+                None => None,
+            },
+            None => None,
+        }
     }
 
     /// Replaces the value of an item and returns the former one.

@@ -1,4 +1,4 @@
-//! Insertions and removals in the rings of an arena of links.
+//! Insertions, removals and reads in the rings of an arena of links.
 
 ghost use Rattle.std.specs.Prelude.{◌≡◌, ◌↔◌, IsTrue};
 ghost use Rattle.chain_laws.specs.Chains.{cyclic};
