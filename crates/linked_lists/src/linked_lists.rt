@@ -361,8 +361,8 @@ impl<P: PtrKey, T: Drop, A: ChainArenaTrait<P, Entry<T>> + Drop> LinkedLists<P, 
     /// The other items keep their order, and the capacity stays the same. Returns `None` and
     /// changes nothing if `p` is not an item.
     pub fn remove(&mut self, p: P) -> Option<T>
-        ensures { RemovesListItem A.state A.interlinks ⟦<P as AnyPointer>⟧.pointers self.old p result
-            self.new }
+        ensures { RemovesListItem A.state A.interlinks ⟦<P as AnyPointer>⟧.pointers self.old p
+            result self.new }
     {
         if !self.is_item(p) {
             return None;

@@ -33,8 +33,8 @@ enum Op {
     Reserve,
 }
 
-// A call, a position, a value or another position, whether the call succeeds, and then the values of
-// the queues as digits, with a 9 in front of each queue.
+// A call, a position, a value or another position, whether the call succeeds, and then the values
+// of the queues as digits, with a 9 in front of each queue.
 type Row = (Op, usize, u32, bool, u64);
 
 const TURNS: [Row; 24] = [

@@ -1,8 +1,8 @@
 //! Linked lists over a chain arena, whose growth is refused now and then.
 //!
-//! The rows of a table are calls with what becomes of the lists. A call that fails is made once more,
-//! since it may have been refused memory; the lists show whether the refusal changed them. A table is
-//! run once more if the memory for its own lists is refused.
+//! The rows of a table are calls with what becomes of the lists. A call that fails is made once
+//! more, since it may have been refused memory; the lists show whether the refusal changed them. A
+//! table is run once more if the memory for its own lists is refused.
 
 use arena_base::ArenaSlot;
 use arena_ptr::{ChunkStack, HeapStack, LimitedStack, PtrKey, SlotStack, ToolPtr};
@@ -25,8 +25,10 @@ enum Op {
     Front,
     After,
     Before,
-    // The value of an item is replaced, or the item with this value removed.
+    // The value of an item is replaced, by `replace` or by `get_mut`, or the item with this value
+    // removed.
     Replace,
+    Write,
     Remove,
     // An item is moved to the end or the start of a list, or behind an item.
     ToBack,
@@ -41,11 +43,11 @@ enum Op {
     Reserve,
 }
 
-// A call, a position, a value or another position, whether the call succeeds, and then the values of
-// the lists as digits, with a 9 in front of each list.
+// A call, a position, a value or another position, whether the call succeeds, and then the values
+// of the lists as digits, with a 9 in front of each list.
 type Row = (Op, usize, u32, bool, u64);
 
-const MOVES: [Row; 22] = [
+const MOVES: [Row; 24] = [
     (Op::New, 0, 0, true, 9),
     (Op::Back, 0, 2, true, 92),
     (Op::Front, 0, 1, true, 912),
@@ -53,6 +55,7 @@ const MOVES: [Row; 22] = [
     (Op::Back, 1, 5, true, 912_95),
     (Op::After, 1, 7, true, 9172_95),
     (Op::Before, 2, 6, true, 9172_965),
+    (Op::Write, 3, 4, true, 9142_965),
     (Op::Replace, 3, 3, true, 9132_965),
     (Op::ToBack, 1, 0, true, 9321_965),
     (Op::ToBack, 1, 0, true, 9321_965),
@@ -66,6 +69,7 @@ const MOVES: [Row; 22] = [
     (Op::Remove, 3, 3, true, 95216_9),
     (Op::Remove, 3, 3, false, 95216_9),
     (Op::After, 3, 8, false, 95216_9),
+    (Op::Write, 3, 8, false, 95216_9),
     (Op::ToBack, 3, 1, false, 95216_9),
     (Op::ToBack, 0, 2, false, 95216_9),
 ];
@@ -252,12 +256,23 @@ fn is_changed<P: PtrKey, A: ChainArenaTrait<P, Entry<u32>> + Drop>(
     let p = pointer_at(&made.items, position);
     match op {
         Op::Replace => lists.replace(p, value).is_some(),
+        Op::Write => is_written(lists.get_mut(p), value),
         Op::Remove => lists.remove(p) == Some(value),
         Op::Reserve => lists.reserve(position).is_ok() && lists.capacity() >= position,
         _ => match lists.list_of(p) {
             Some(h) => h.is_same(pointer_at(&made.handles, usize::try_from(value).unwrap_or(9))),
             None => false,
         },
+    }
+}
+
+fn is_written(place: Option<&mut u32>, value: u32) -> bool {
+    match place {
+        Some(place) => {
+            *place = value;
+            true
+        }
+        None => false,
     }
 }
 
