@@ -25,6 +25,8 @@ enum Op {
     // The first task, or all tasks, of the first queue are moved to the second one.
     WakeOne,
     WakeAll,
+    // A queue of this many tasks is removed.
+    Remove,
     // The task with this value is canceled, or gets this value.
     Cancel,
     Replace,
@@ -37,7 +39,7 @@ enum Op {
 // of the queues as digits, with a 9 in front of each queue.
 type Row = (Op, usize, u32, bool, u64);
 
-const TURNS: [Row; 24] = [
+const TURNS: [Row; 27] = [
     (Op::New, 0, 0, true, 9),
     (Op::New, 0, 0, true, 9_9),
     (Op::Spawn, 0, 1, true, 91_9),
@@ -62,6 +64,9 @@ const TURNS: [Row; 24] = [
     (Op::Next, 7, 0, false, 951_9),
     (Op::Spawn, 7, 4, false, 951_9),
     (Op::Reserve, 9, 0, true, 951_9),
+    (Op::Remove, 0, 2, true, 9),
+    (Op::Remove, 0, 0, false, 9),
+    (Op::Of, 1, 0, false, 9),
 ];
 
 // The queues and the tasks so far.
@@ -156,6 +161,10 @@ fn is_changed<P: PtrKey, A: ChainArenaTrait<P, Entry<u32>> + Drop>(
     match row.0 {
         Op::Cancel => queues.is_task(p) && queues.cancel(p) == Some(row.2) && !queues.is_task(p),
         Op::Replace => queues.replace(p, row.2).is_some(),
+        Op::Remove => {
+            let removed = queues.remove_queue(pointer_at(&made.queues, row.1));
+            removed == Some(position_of(row.2))
+        }
         Op::Of => queues.is_queue(q) && is_it(queues.queue_of(p), q),
         _ => queues.reserve(row.1).is_ok() && queues.capacity() >= row.1,
     }

@@ -34,6 +34,8 @@ enum Op {
     ToBack,
     ToFront,
     Behind,
+    // A list of this many items is removed.
+    RemoveList,
     // The items of the second list come behind those of the first.
     Append,
     // The items from this one on come to a new list.
@@ -74,7 +76,7 @@ const MOVES: [Row; 24] = [
     (Op::ToBack, 0, 2, false, 95216_9),
 ];
 
-const PARTS: [Row; 16] = [
+const PARTS: [Row; 20] = [
     (Op::New, 0, 0, true, 9),
     (Op::Reserve, 7, 0, true, 9),
     (Op::Back, 0, 1, true, 91),
@@ -91,6 +93,10 @@ const PARTS: [Row; 16] = [
     (Op::Split, 5, 0, false, 9231_9_9),
     (Op::Back, 3, 8, false, 9231_9_9),
     (Op::Front, 2, 4, true, 9231_9_94),
+    (Op::RemoveList, 0, 3, true, 9_94),
+    (Op::RemoveList, 0, 0, false, 9_94),
+    (Op::Back, 0, 8, false, 9_94),
+    (Op::RemoveList, 1, 0, true, 94),
 ];
 
 // No ninth link is added, be it a head or an item.
@@ -258,6 +264,10 @@ fn is_changed<P: PtrKey, A: ChainArenaTrait<P, Entry<u32>> + Drop>(
         Op::Replace => lists.replace(p, value).is_some(),
         Op::Write => is_written(lists.get_mut(p), value),
         Op::Remove => lists.remove(p) == Some(value),
+        Op::RemoveList => {
+            let h = pointer_at(&made.handles, position);
+            lists.remove_list(h) == Some(usize::try_from(value).unwrap_or(0))
+        }
         Op::Reserve => lists.reserve(position).is_ok() && lists.capacity() >= position,
         _ => match lists.list_of(p) {
             Some(h) => h.is_same(pointer_at(&made.handles, usize::try_from(value).unwrap_or(9))),

@@ -7,10 +7,14 @@ use Rattle.linked_lists.specs.declared.entry.Entry.{Entry}
 use Rattle.linked_lists.specs.LinkedLists.{pointers_of}
 use Rattle.run_queues.specs.Turns.{Step, turn, leave, IsAmong, IsRun, HasTurn, Leaves}
 use Rattle.run_queues.specs.RunQueues.{TakesSteps}
-use Rattle.run_queues.specs.Histories.{Change, gives_turn, OneTakesAway, History, CallsAreFair}
+use Rattle.run_queues.specs.Histories.{Change, creates, spawns, gives_turn, moves, wakes_one, wakes_all, replaces, cancels, removes, grows, TakesAway, OneTakesAway, History, CallsAreFair}
 use Rattle.run_queues.proofs.TurnLemmas.{among-parts}
 use Rattle.run_queues.proofs.FairnessLemmas.{queue_fair}
 use Rattle.run_queues.proofs.StepLemmas.{steps_of, turn_steps}
+
+-- The queue of a removal.
+queue_of_removal : {Gen : Type 0} (l q : ℕ × Gen) → removes l ≡ removes q → l ≡ q
+queue_of_removal l q same = cc
 
 -- One run after another.
 run_on : {K : Type 0} (first second : List (Step K)) (old mid new : List K) → IsRun first old mid → IsRun second mid new → IsRun (first ++ second) old new
@@ -32,30 +36,50 @@ module _ {A Gen T : Type 0} {view : A → ArenaView Gen (Entry T)} {entry : A �
     turns : (p : ℕ × Gen) → HasTurn steps p → IsAmong changes (gives_turn q p)
     leaves : (p : ℕ × Gen) → Leaves steps p → OneTakesAway changes q p
 
-  until : (old new : A) (q x : ℕ × Gen) (changes : List (Change Gen)) → History state interlinks pointers old (changes ++ gives_turn q x ∷ []) new → StepsUntil old changes new q x
-  until old new q x [] past = record {
+  -- A change removes the queue of `q`, or not.
+  removed_or_kept : (change : Change Gen) (q : ℕ × Gen) → ((p : ℕ × Gen) → TakesAway change q p) ⊎ (change ≡ removes q → ⊥)
+  removed_or_kept (creates h) q = inr (λ same. absurd (cc))
+  removed_or_kept (spawns h p) q = inr (λ same. absurd (cc))
+  removed_or_kept (gives_turn h p) q = inr (λ same. absurd (cc))
+  removed_or_kept (moves p h) q = inr (λ same. absurd (cc))
+  removed_or_kept (wakes_one l h p) q = inr (λ same. absurd (cc))
+  removed_or_kept (wakes_all l h) q = inr (λ same. absurd (cc))
+  removed_or_kept (replaces p) q = inr (λ same. absurd (cc))
+  removed_or_kept (cancels p) q = inr (λ same. absurd (cc))
+  removed_or_kept (removes l) q = ⊎_elim (λ same. inl (λ p. same)) (λ other. inr (λ same. other (queue_of_removal l q same))) (decide l q)
+  removed_or_kept grows q = inr (λ same. absurd (cc))
+
+  until : (old new : A) (q x : ℕ × Gen) (changes : List (Change Gen)) → History state interlinks pointers old (changes ++ gives_turn q x ∷ []) new → StepsUntil old changes new q x ⊎ ((p : ℕ × Gen) → OneTakesAway changes q p)
+  until old new q x [] past = inl (record {
     steps = [];
     taken = subst (λ (a : A). TakesSteps state interlinks old a q (turn x ∷ [])) (sym past.3) (turn_steps state interlinks pointers decide old past.1 past.0 q x past.2);
     turns = λ p h. absurd h;
     leaves = λ p h. absurd h;
-  }
-  until old new q x (change ∷ changes) past =
+  })
+  until old new q x (change ∷ changes) past = ⊎_elim
+      (λ away. inr (λ p. inl (away p)))
+      (λ keeps.
       let mid = past.1 in
-      let now = steps_of state interlinks pointers decide old mid change q past.0 past.2 in
-      let later = until mid new q x changes past.3 in
-      record {
+      let now = steps_of state interlinks pointers decide old mid change q past.0 past.2 keeps in
+      ⊎_elim
+      (λ later. inl (record {
         steps = now.0 ++ later.steps;
         taken = subst (TakesSteps state interlinks old new q) (sym (append_assoc now.0 later.steps (turn x ∷ []))) (steps_on old mid new q now.0 (later.steps ++ turn x ∷ []) now.1.taken later.taken);
         turns = λ p h. ⊎_elim (λ here. inl (now.1.turns p here)) (λ there. inr (later.turns p there)) (among-parts now.0 later.steps (turn p) h);
         leaves = λ p h. ⊎_elim (λ here. inl (now.1.leaves p here)) (λ there. inr (later.leaves p there)) (among-parts now.0 later.steps (leave p) h);
-      }
+      }))
+      (λ away. inr (λ p. inr (away p)))
+      (until mid new q x changes past.3))
+      (removed_or_kept change q)
 
   pub calls_fair : CallsAreFair state interlinks pointers
   calls_fair old new q x y tasks changes past is among other =
       let mid = past.1 in
       let first = turn_steps state interlinks pointers decide old mid past.0 q x past.2 in
-      let rest = until mid new q x changes past.3 in
       ⊎_elim
+      (λ rest. ⊎_elim
       (λ turns. inl (rest.turns y turns))
       (λ leaves. inr (rest.leaves y leaves))
-      (queue_fair state interlinks decide old new q x y tasks rest.steps is (steps_on old mid new q (turn x ∷ []) (rest.steps ++ turn x ∷ []) first rest.taken) among other)
+      (queue_fair state interlinks decide old new q x y tasks rest.steps is (steps_on old mid new q (turn x ∷ []) (rest.steps ++ turn x ∷ []) first rest.taken) among other))
+      (λ away. inr (away y))
+      (until mid new q x changes past.3)

@@ -10,7 +10,7 @@ use Rattle.linked_lists.specs.declared.entry.Entry.{Entry}
 use Rattle.linked_lists.specs.LinkedLists.{pointers_of, ring_of, IsHandle, HasItem, IsList, AllInLists, Becomes, GrowsAtEnd, ValueBecomes, LeavesList, IsItemMoved, IsAppended, AtEnd}
 use Rattle.run_queues.specs.Turns.{Step, turn, come, leave, IsRun, HasTurn}
 use Rattle.run_queues.specs.RunQueues.{IsTurnTaken, TakesSteps}
-use Rattle.run_queues.specs.Histories.{Change, creates, spawns, gives_turn, moves, wakes_one, wakes_all, replaces, cancels, grows, TakesAway, AreStepsOf, CallsTakeSteps}
+use Rattle.run_queues.specs.Histories.{Change, creates, spawns, gives_turn, moves, wakes_one, wakes_all, replaces, cancels, removes, grows, TakesAway, AreStepsOf, CallsTakeSteps}
 
 -- The task of a step.
 leave_of : {K : Type 0} (x y : K) → leave x ≡ leave y → x ≡ y
@@ -187,12 +187,13 @@ module _ {A Gen T : Type 0} {view : A → ArenaView Gen (Entry T)} {entry : A �
 
   -- The steps of each change.
   pub steps_of : CallsTakeSteps state interlinks pointers
-  steps_of old new (creates h) q all is = by_none old new (creates h) q (no_step old new q (λ tasks was. is.others q tasks tt was))
-  steps_of old new (spawns h p) q all is = by_spawn old new (spawns h p) q all h p is.1 is.0 is.2.list
-  steps_of old new (gives_turn h p) q all is = by_turn old new (gives_turn h p) q all h p (λ same. ap (λ (i : ℕ × Gen). gives_turn i p) same) is
-  steps_of old new (moves p k) q all is = by_move old new (moves p k) q all p k is.0.value (λ r same. same) is.0.stored is.1 is.2
-  steps_of old new (wakes_one l k p) q all is = by_move old new (wakes_one l k p) q all p k is.first.value (λ r same. same) is.first.list.are_stored.1.0 is.queue is.moved
-  steps_of old new (wakes_all l k) q all is = by_append old new (wakes_all l k) q all k l (λ p same. same) is.0 is.1 is.3
-  steps_of old new (replaces p) q all is = by_value old new (replaces p) q all p is.0 is.1 is.2 is.3
-  steps_of old new (cancels p) q all is = by_removal old new (cancels p) q all p is.0 (λ r same. same) is.1
-  steps_of old new grows q all is = by_none old new grows q (no_step old new q (λ tasks was. stays state interlinks cyclic old new is.0 (ring_of q tasks) was.are_stored (subst (λ (l : LinkMap). IsChain l (cyclic (indexes (ring_of q tasks)))) (sym is.1) was.chain)))
+  steps_of old new (creates h) q all is keeps = by_none old new (creates h) q (no_step old new q (λ tasks was. is.others q tasks tt was))
+  steps_of old new (spawns h p) q all is keeps = by_spawn old new (spawns h p) q all h p is.1 is.0 is.2.list
+  steps_of old new (gives_turn h p) q all is keeps = by_turn old new (gives_turn h p) q all h p (λ same. ap (λ (i : ℕ × Gen). gives_turn i p) same) is
+  steps_of old new (moves p k) q all is keeps = by_move old new (moves p k) q all p k is.0.value (λ r same. same) is.0.stored is.1 is.2
+  steps_of old new (wakes_one l k p) q all is keeps = by_move old new (wakes_one l k p) q all p k is.first.value (λ r same. same) is.first.list.are_stored.1.0 is.queue is.moved
+  steps_of old new (wakes_all l k) q all is keeps = by_append old new (wakes_all l k) q all k l (λ p same. same) is.0 is.1 is.3
+  steps_of old new (replaces p) q all is keeps = by_value old new (replaces p) q all p is.0 is.1 is.2 is.3
+  steps_of old new (cancels p) q all is keeps = by_removal old new (cancels p) q all p is.0 (λ r same. same) is.1
+  steps_of old new (removes l) q all is keeps = by_none old new (removes l) q (no_step old new q (λ tasks was. is.1.others q tasks ((λ same. keeps (ap removes (sym same))), tt) was))
+  steps_of old new grows q all is keeps = by_none old new grows q (no_step old new q (λ tasks was. stays state interlinks cyclic old new is.0 (ring_of q tasks) was.are_stored (subst (λ (l : LinkMap). IsChain l (cyclic (indexes (ring_of q tasks)))) (sym is.1) was.chain)))

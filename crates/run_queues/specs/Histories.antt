@@ -1,13 +1,15 @@
 -- Calls on queues, one after another, and the steps that they make in each queue.
-use Rattle.std.specs.Prelude.{◌≡◌, ◌≢◌, ◌⊎◌, ℕ, List, [], ◌∷◌, ◌++◌, Option}
+use Rattle.std.specs.Prelude.{◌≡◌, ◌≢◌, ◌⊎◌, ℕ, List, [], ◌∷◌, ◌++◌, Option, Some, Result, Ok}
+use Rattle.arena_core.specs.declared.errors.ReallocationError.{ReallocationError}
 use Rattle.arena_core.specs.PointerKinds.{PointerKind}
 use Rattle.chain_laws.specs.Chains.{LinkMap}
 use Rattle.arena_traits.specs.Entries.{ArenaView, ArenaState}
 use Rattle.chain_lists.specs.Lists.{Item}
+use Rattle.chain_lists.specs.Sizes.{ReservesMore}
 use Rattle.linked_lists.specs.declared.entry.Entry.{Entry}
-use Rattle.linked_lists.specs.LinkedLists.{pointers_of, IsHandle, HasItem, IsItem, IsList, AllInLists, IsListStarted, GrowsAtEnd, IsItemAdded, ValueBecomes, LeavesList, IsItemMoved, IsAppended, AtEnd}
+use Rattle.linked_lists.specs.LinkedLists.{pointers_of, IsHandle, HasItem, IsItem, IsList, AllInLists, IsListStarted, GrowsAtEnd, IsItemAdded, ValueBecomes, LeavesList, IsListRemoved, IsItemMoved, IsAppended, AtEnd, CreatesList, PushesBack, MovesToBack, AppendsList, ReplacesItem, RemovesListItem, RemovesList}
 use Rattle.run_queues.specs.Turns.{Step, IsAmong, HasTurn, Leaves}
-use Rattle.run_queues.specs.RunQueues.{IsTurnTaken, IsOneWoken, TakesSteps}
+use Rattle.run_queues.specs.RunQueues.{IsTurnTaken, IsOneWoken, TakesSteps, TakesTurn, WakesOne}
 
 -- A call that succeeded, with its queues and its task. Calls that fail change nothing.
 pub data Change (Gen : Type 0) : Type 0 where
@@ -19,6 +21,7 @@ pub data Change (Gen : Type 0) : Type 0 where
   wakes_all : (l q : ℕ × Gen) → Change Gen
   replaces : (p : ℕ × Gen) → Change Gen
   cancels : (p : ℕ × Gen) → Change Gen
+  removes : (q : ℕ × Gen) → Change Gen
   grows : Change Gen
 
 module _ {Gen : Type 0} where
@@ -32,6 +35,7 @@ module _ {Gen : Type 0} where
   TakesAway (wakes_all l h) q p = l ≡ q
   TakesAway (replaces r) q p = ⊥
   TakesAway (cancels r) q p = r ≡ p
+  TakesAway (removes l) q p = l ≡ q
   TakesAway grows q p = ⊥
 
   -- One of the changes can take `p` out of the queue of `q`.
@@ -51,7 +55,21 @@ module _ {A Gen T : Type 0} {view : A → ArenaView Gen (Entry T)} {entry : A �
   Makes old (wakes_all l q) new = IsHandle (entry old) q × IsHandle (entry old) l × (q ≢ l) × IsAppended state interlinks old new q l
   Makes old (replaces p) new = (t : T) × (former : T) × HasItem (entry old) p former × ValueBecomes state interlinks old new p t
   Makes old (cancels p) new = (t : T) × LeavesList state interlinks old new pointers p t
+  Makes old (removes q) new = (tasks : List (Item Gen T)) × IsListRemoved state interlinks old new pointers.following q tasks
   Makes old grows new = (entry new ≡ entry old) × (interlinks new ≡ interlinks old)
+
+  -- What the contract of each call states where it succeeds is a change.
+  pub record CallsMakeChanges : Type 0 where
+    pub new_queue : (greatest : ℕ) (old new : A) (q : P) → CreatesList state interlinks pointers.key greatest old (Ok q) new → Makes old (creates (pointers.key q)) new
+    pub spawn : (greatest : ℕ) (old new : A) (q p : P) (t : T) → PushesBack state interlinks pointers.key greatest old q t (Ok p) new → Makes old (spawns (pointers.key q) (pointers.key p)) new
+    pub next : (old new : A) (q p : P) → TakesTurn state interlinks pointers.key old q (Some p) new → Makes old (gives_turn (pointers.key q) (pointers.key p)) new
+    pub move_to : (old new : A) (p q : ℕ × Gen) → MovesToBack state interlinks old p q (Some tt) new → Makes old (moves p q) new
+    pub wake_one : (old new : A) (l q p : P) → WakesOne state interlinks pointers.key old l q (Some p) new → Makes old (wakes_one (pointers.key l) (pointers.key q) (pointers.key p)) new
+    pub wake_all : (old new : A) (l q : ℕ × Gen) → AppendsList state interlinks old q l (Some tt) new → Makes old (wakes_all l q) new
+    pub replace : (old new : A) (p : ℕ × Gen) (t former : T) → ReplacesItem state interlinks old p t (Some former) new → Makes old (replaces p) new
+    pub cancel : (old new : A) (p : P) (t : T) → RemovesListItem state interlinks pointers old p (Some t) new → Makes old (cancels (pointers.key p)) new
+    pub remove_queue : (old new : A) (q : ℕ × Gen) (n : ℕ) → RemovesList state interlinks pointers.following old q (Some n) new → Makes old (removes q) new
+    pub reserve : (greatest additional : ℕ) (old new : A) (done : Result Unit ReallocationError) → ReservesMore state interlinks greatest additional old done new → Makes old grows new
 
   -- Changes one after another. Before each, each task is in exactly one queue, as always.
   abbrev pub History : A → List (Change Gen) → A → Type 0
@@ -65,9 +83,9 @@ module _ {A Gen T : Type 0} {view : A → ArenaView Gen (Entry T)} {entry : A �
     pub turns : (p : ℕ × Gen) → HasTurn steps p → change ≡ gives_turn q p
     pub leaves : (p : ℕ × Gen) → Leaves steps p → TakesAway change q p
 
-  -- Each change takes steps in each queue.
+  -- Each change takes steps in each queue that it does not remove.
   abbrev pub CallsTakeSteps : Type 0
-  CallsTakeSteps = (old new : A) (change : Change Gen) (q : ℕ × Gen) → AllInLists state interlinks old → Makes old change new
+  CallsTakeSteps = (old new : A) (change : Change Gen) (q : ℕ × Gen) → AllInLists state interlinks old → Makes old change new → change ≢ removes q
       → (steps : List (Step (ℕ × Gen))) × AreStepsOf old change new q steps
 
   -- Fairness: between two turns that `next` gives to the task `x` of the queue of `q`, it gives one

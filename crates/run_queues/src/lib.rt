@@ -7,4 +7,6 @@
 mod run_queues;
 
 pub use linked_lists::Entry;
-pub use run_queues::{RunQueues, calls_are_fair, calls_take_steps, turns_are_fair};
+pub use run_queues::{
+    RunQueues, calls_are_fair, calls_make_changes, calls_take_steps, turns_are_fair,
+};

@@ -3,8 +3,8 @@
 ghost use Rattle.std.specs.Prelude.{◌≡◌, ◌↔◌, ℕ, [], IsTrue, IfSome, IfOk, IsSome, None, Some};
 ghost use Rattle.arena_traits.specs.Entries.{IsNew};
 ghost use Rattle.chain_lists.specs.Sizes.{ReservesMore, CountsEntries, ReportsCapacity};
-ghost use Rattle.linked_lists.specs.LinkedLists.{AllInLists, IsHandle, IsItem, ReadsValue, ReadsFirst, ReadsHandle, ListsItems, CreatesList, PushesBack, RemovesListItem, ReplacesItem, MovesToBack, AppendsList};
-ghost use Rattle.run_queues.specs.Histories.{CallsTakeSteps, CallsAreFair};
+ghost use Rattle.linked_lists.specs.LinkedLists.{AllInLists, IsHandle, IsItem, ReadsValue, ReadsFirst, ReadsHandle, ListsItems, CreatesList, PushesBack, RemovesListItem, ReplacesItem, MovesToBack, AppendsList, RemovesList};
+ghost use Rattle.run_queues.specs.Histories.{CallsMakeChanges, CallsTakeSteps, CallsAreFair};
 ghost use Rattle.run_queues.specs.RunQueues.{TakesTurn, WakesOne};
 ghost use Rattle.run_queues.specs.Turns.{TasksStayAhead, TurnsAreFair};
 
@@ -206,6 +206,17 @@ impl<P: PtrKey, T: Drop, A: ChainArenaTrait<P, Entry<T>> + Drop> RunQueues<P, T,
         self.lists.remove(task)
     }
 
+    /// Removes a queue, drops its tasks, and returns how many they were.
+    ///
+    /// All other queues and the capacity stay the same. Returns `None` and changes nothing if
+    /// `queue` is not a handle.
+    pub fn remove_queue(&mut self, queue: P) -> Option<usize>
+        ensures { RemovesList A.state A.interlinks P.Gen.following self.old (P.key queue) result
+            self.new }
+    {
+        self.lists.remove_list(queue)
+    }
+
     /// Gives the first task of a queue its turn: it becomes the last one, and its pointer is
     /// returned.
     ///
@@ -266,8 +277,15 @@ pub fn turns_are_fair<P: PtrKey>()
     ensures fair { TurnsAreFair (ℕ × P.Gen) }
 {}
 
+/// States that each call that succeeds makes a change, of those that the laws below are about.
+///
+/// This follows from the contracts of the calls. The function has no effect.
+pub fn calls_make_changes<P: PtrKey, T: Drop, A: ChainArenaTrait<P, Entry<T>>>()
+    ensures { CallsMakeChanges A.state A.interlinks ⟦<P as AnyPointer>⟧.pointers }
+{}
+
 /// States that each call takes steps in each queue: only `next` gives turns, and only `move_to`,
-/// `wake_one`, `wake_all` and `cancel` take tasks away.
+/// `wake_one`, `wake_all` and `cancel` take tasks away from a queue that is not removed.
 ///
 /// This follows from the contracts of the calls. The function has no effect.
 pub fn calls_take_steps<P: PtrKey, T: Drop, A: ChainArenaTrait<P, Entry<T>>>()
@@ -276,7 +294,7 @@ pub fn calls_take_steps<P: PtrKey, T: Drop, A: ChainArenaTrait<P, Entry<T>>>()
 
 /// States that calls are fair: between two turns that `next` gives to one task of a queue, it gives
 /// a turn to each other task that the queue had, whatever other calls come between. The exception is
-/// a task that a call moves, wakes or cancels.
+/// a task that a call moves, wakes or cancels, or removes with its queue.
 ///
 /// This follows from the contracts of the calls. The function has no effect.
 pub fn calls_are_fair<P: PtrKey, T: Drop, A: ChainArenaTrait<P, Entry<T>>>()
